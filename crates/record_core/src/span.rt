@@ -1,0 +1,36 @@
+//! Places in a text, and what a refusal says.
+
+ghost use Rattle.std.specs.Prelude.{◌≡◌};
+ghost use Rattle.record_core.specs.declared.span.Refusal.TheVariants.{NoMemory};
+
+use std::alloc::{AllocError, AllocFailed};
+
+/// A place in a text: byte offsets, the end left out.
+#[derive(Clone, Copy, Debug, PartialEq, Eq)]
+pub struct Span {
+    pub start: u32,
+    pub end: u32,
+}
+
+/// Why a text was refused: a numbered fault at its place, or want of memory.
+#[derive(Clone, Copy, Debug, PartialEq, Eq)]
+pub enum Refusal {
+    At { code: u8, span: Span },
+    NoMemory,
+}
+
+impl From<AllocError> for Refusal {
+    ghost from_gives = { λ _ r. r ≡ NoMemory };
+
+    fn from(_: AllocError) -> Refusal {
+        Refusal::NoMemory
+    }
+}
+
+impl<T: Drop> From<AllocFailed<T>> for Refusal {
+    ghost from_gives = { λ _ r. r ≡ NoMemory };
+
+    fn from(_: AllocFailed<T>) -> Refusal {
+        Refusal::NoMemory
+    }
+}
