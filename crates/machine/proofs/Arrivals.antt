@@ -1,0 +1,425 @@
+-- A commit of a message keeps what every reached world keeps.
+use Rattle.std.proofs.Common.{◌≡◌, ◌≢◌, ◌≤◌, ◌<◌, ℕ, zero, suc, ◌+◌, Bool, true, false, cond, eqb, List, [], ◌∷◌, ◌++◌, ◌⊎◌, inl, inr, refl, sym, ap, ◌∙◌, subst, ap₂, arith, append-nil}
+use Rattle.std.proofs.lemmas.Bool.Decides.{eqb_tells}
+use Rattle.semantics.specs.Multiset.{total, Record, count, end_to_end, ◌≈◌}
+use Rattle.semantics.specs.Place.{at_vertex}
+use Rattle.semantics.specs.Time.{Time, same_time, at_epoch}
+use Rattle.semantics.proofs.BagLaws.{≈-from}
+use Rattle.machine.specs.Network.{Role, Network, ins}
+use Rattle.machine.specs.Step.{Step, parcels, absorbed_by, absorbed_with, absorbed_after, emitted_by, emitted_after, asked, asked_by, asked_first, only_at, Allowed, after, MakesBy}
+use Rattle.machine.specs.Sums.{put, each, sum_below}
+use Rattle.machine.specs.World.{Message, Event, Hand, World, IsActive, message_place}
+use Rattle.machine.proofs.Commits.{once, way_after, vertex_after}
+use Rattle.semantics.proofs.BagLaws.{total-append}
+use Rattle.machine.proofs.Counting.{eqb_self, below_one, below_changed, count-append}
+use Rattle.machine.proofs.Kept.{History, carried, in_hand, under_way, wished, wish_in_hand, wishes, some, bit, made, Due, Kept, GoodMessage, GoodRequest, GoodHand}
+use Rattle.machine.proofs.Laws.{IsNetwork, AtHome, times_in}
+use Rattle.machine.proofs.NetFlow.{HasFlows}
+use Rattle.machine.proofs.Notices.{some_row}
+use Rattle.machine.proofs.Places.{same_time_tells, same_time_self, edge_not_vertex}
+use Rattle.machine.proofs.Progress.{put_tells, held_good}
+use Rattle.machine.proofs.Sending.{Parcel, parcels_good, fits_sent, each-append, each_more}
+use Rattle.machine.proofs.Steps.{good_of, settled_after, way_sent, sent_elsewhere}
+
+-- the message was processed
+abbrev pub done_after : History → ℕ → Message → ℕ → ℕ → Time → List Record
+done_after h k0 m k e t = h.done k e t ++ cond (eqb k k0) (cond (eqb m.edge e) (cond (same_time m.time t) m.records []) []) []
+
+abbrev pub history_done : History → ℕ → Message → History
+history_done h k0 m = record { done = done_after h k0 m; told = h.told }
+
+pub record DoneHere (h : History) (k0 : ℕ) (m : Message) (k e : ℕ) (t : Time) : Type 0 where
+  pub worker : k ≡ k0
+  pub edge : m.edge ≡ e
+  pub time : m.time ≡ t
+  pub is : done_after h k0 m k e t ≡ h.done k e t ++ m.records
+
+pub record DoneElsewhere (h : History) (k0 : ℕ) (m : Message) (k e : ℕ) (t : Time) : Type 0 where
+  pub other : k ≡ k0 → m.edge ≡ e → m.time ≡ t → ⊥
+  pub is : done_after h k0 m k e t ≡ h.done k e t
+
+pub done_tells : (h : History) (k0 : ℕ) (m : Message) (k e : ℕ) (t : Time) → DoneHere h k0 m k e t ⊎ DoneElsewhere h k0 m k e t
+done_tells h k0 m k e t = go (eqb_tells k k0) (eqb_tells m.edge e) (same_time_tells m.time t)
+  where
+    go : ((eqb k k0 ≡ true) × (k ≡ k0)) ⊎ ((eqb k k0 ≡ false) × (k ≢ k0)) → ((eqb m.edge e ≡ true) × (m.edge ≡ e)) ⊎ ((eqb m.edge e ≡ false) × (m.edge ≢ e)) → ((same_time m.time t ≡ true) × (m.time ≡ t)) ⊎ ((same_time m.time t ≡ false) × (m.time ≢ t)) → DoneHere h k0 m k e t ⊎ DoneElsewhere h k0 m k e t
+    go (inl (a, b)) (inl (c, d)) (inl (x, y)) = inl (record { worker = b; edge = d; time = y; is = rw (a, c, x) refl })
+    go (inl (a, b)) (inl (c, d)) (inr (x, y)) = inr (record { other = λ _ _ z. y z; is = rw (a, c, x) (append-nil (h.done k e t)) })
+    go (inl (a, b)) (inr (c, d)) s = inr (record { other = λ _ z _. d z; is = rw (a, c) (append-nil (h.done k e t)) })
+    go (inr (a, b)) r s = inr (record { other = λ z _ _. b z; is = rw a (append-nil (h.done k e t)) })
+
+pub record AbsorbedHere (w : World) (k0 v0 p0 : ℕ) (t0 : Time) (records : List Record) (k v p : ℕ) (t : Time) : Type 0 where
+  pub worker : k ≡ k0
+  pub vertex : v0 ≡ v
+  pub port : p0 ≡ p
+  pub time : t0 ≡ t
+  pub is : absorbed_with w k0 v0 p0 t0 records k v p t ≡ w.absorbed k v p t ++ records
+
+pub record AbsorbedElsewhere (w : World) (k0 v0 p0 : ℕ) (t0 : Time) (records : List Record) (k v p : ℕ) (t : Time) : Type 0 where
+  pub other : k ≡ k0 → v0 ≡ v → p0 ≡ p → t0 ≡ t → ⊥
+  pub is : absorbed_with w k0 v0 p0 t0 records k v p t ≡ w.absorbed k v p t
+
+pub absorbed_tells : (w : World) (k0 v0 p0 : ℕ) (t0 : Time) (records : List Record) (k v p : ℕ) (t : Time) → AbsorbedHere w k0 v0 p0 t0 records k v p t ⊎ AbsorbedElsewhere w k0 v0 p0 t0 records k v p t
+absorbed_tells w k0 v0 p0 t0 records k v p t = go (eqb_tells k k0) (eqb_tells v0 v) (eqb_tells p0 p) (same_time_tells t0 t)
+  where
+    go : ((eqb k k0 ≡ true) × (k ≡ k0)) ⊎ ((eqb k k0 ≡ false) × (k ≢ k0)) → ((eqb v0 v ≡ true) × (v0 ≡ v)) ⊎ ((eqb v0 v ≡ false) × (v0 ≢ v)) → ((eqb p0 p ≡ true) × (p0 ≡ p)) ⊎ ((eqb p0 p ≡ false) × (p0 ≢ p)) → ((same_time t0 t ≡ true) × (t0 ≡ t)) ⊎ ((same_time t0 t ≡ false) × (t0 ≢ t)) → AbsorbedHere w k0 v0 p0 t0 records k v p t ⊎ AbsorbedElsewhere w k0 v0 p0 t0 records k v p t
+    go (inl (a, b)) (inl (c, d)) (inl (i, j)) (inl (x, y)) = inl (record { worker = b; vertex = d; port = j; time = y; is = rw (a, c, i, x) refl })
+    go (inl (a, b)) (inl (c, d)) (inl (i, j)) (inr (x, y)) = inr (record { other = λ _ _ _ z. y z; is = rw (a, c, i, x) (append-nil (w.absorbed k v p t)) })
+    go (inl (a, b)) (inl (c, d)) (inr (i, j)) s = inr (record { other = λ _ _ z _. j z; is = rw (a, c, i) (append-nil (w.absorbed k v p t)) })
+    go (inl (a, b)) (inr (c, d)) r s = inr (record { other = λ _ z _ _. d z; is = rw (a, c) (append-nil (w.absorbed k v p t)) })
+    go (inr (a, b)) q r s = inr (record { other = λ z _ _ _. b z; is = rw a (append-nil (w.absorbed k v p t)) })
+
+keyed_absorbed : (role : Role) (w : World) (k0 v0 p0 : ℕ) (t0 : Time) (records : List Record) →
+    (((role ≡ Role.stateful) ⊎ (role ≡ Role.grouping)) × (absorbed_by role w k0 v0 p0 t0 records ≡ absorbed_with w k0 v0 p0 t0 records))
+    ⊎ ((((role ≡ Role.stateful) ⊎ (role ≡ Role.grouping)) → ⊥) × (absorbed_by role w k0 v0 p0 t0 records ≡ w.absorbed))
+keyed_absorbed Role.source w k0 v0 p0 t0 records = inr (λ s. neither s, refl)
+  where
+    neither : ((Role.source ≡ Role.stateful) ⊎ (Role.source ≡ Role.grouping)) → ⊥
+    neither (inl e) = absurd cc
+    neither (inr e) = absurd cc
+keyed_absorbed Role.stateless w k0 v0 p0 t0 records = inr (λ s. neither s, refl)
+  where
+    neither : ((Role.stateless ≡ Role.stateful) ⊎ (Role.stateless ≡ Role.grouping)) → ⊥
+    neither (inl e) = absurd cc
+    neither (inr e) = absurd cc
+keyed_absorbed Role.stateful w k0 v0 p0 t0 records = inl (inl refl, refl)
+keyed_absorbed Role.grouping w k0 v0 p0 t0 records = inl (inr refl, refl)
+keyed_absorbed Role.sink w k0 v0 p0 t0 records = inr (λ s. neither s, refl)
+  where
+    neither : ((Role.sink ≡ Role.stateful) ⊎ (Role.sink ≡ Role.grouping)) → ⊥
+    neither (inl e) = absurd cc
+    neither (inr e) = absurd cc
+
+sink_emitted : (role : Role) (w : World) (m : Message) (n : ℕ) →
+    ((role ≡ Role.sink) × (emitted_by role w m n ≡ w.emitted n ++ cond (same_time m.time (at_epoch n)) m.records [])) ⊎ ((role ≢ Role.sink) × (emitted_by role w m n ≡ w.emitted n))
+sink_emitted Role.source w m n = inr (λ e. cc, refl)
+sink_emitted Role.stateless w m n = inr (λ e. cc, refl)
+sink_emitted Role.stateful w m n = inr (λ e. cc, refl)
+sink_emitted Role.grouping w m n = inr (λ e. cc, refl)
+sink_emitted Role.sink w m n = inl (refl, refl)
+
+group_asked : (role : Role) (v : ℕ) (t : Time) (xs : List Record) → ((role ≡ Role.grouping) × (asked_by role v t xs ≡ asked_first v t xs)) ⊎ ((role ≢ Role.grouping) × (asked_by role v t xs ≡ []))
+group_asked Role.source v t xs = inr (λ e. cc, refl)
+group_asked Role.stateless v t xs = inr (λ e. cc, refl)
+group_asked Role.stateful v t xs = inr (λ e. cc, refl)
+group_asked Role.grouping v t xs = inl (refl, refl)
+group_asked Role.sink v t xs = inr (λ e. cc, refl)
+
+module _ (g : Network) (law : IsNetwork g) (w : World) (h : History) (keeps : Kept g w h) (flows : HasFlows g) (k0 : ℕ) (m : Message) (out : ℕ → List Record) (ok : Allowed g w (Step.commit k0 (Event.arrival m) out)) where
+  good_message : GoodMessage g k0 m
+  good_message = held_good g law w (good_of g law w h keeps) k0 (Event.arrival m) ok.0 ok.1
+
+  here : g.Fits (at_vertex (g.target m.edge) m.time)
+  here = law.fits_enter m.edge m.time good_message.0 good_message.3
+
+  edge_here : g.edge_into (g.target m.edge) (g.in_port m.edge) ≡ m.edge
+  edge_here = law.into_target m.edge good_message.0
+
+  vertex_of : (v p : ℕ) → p < g.ports v → m.edge ≡ g.edge_into v p → g.target m.edge ≡ v
+  vertex_of v p lp e = ap g.target e ∙ law.target_into v p lp
+
+  port_of : (v p : ℕ) → p < g.ports v → m.edge ≡ g.edge_into v p → g.in_port m.edge ≡ p
+  port_of v p lp e = ap g.in_port e ∙ law.port_into v p lp
+
+  -- nobody was told that nothing more comes
+  untold : g.role (g.target m.edge) ≡ Role.grouping → (k : ℕ) → k < g.workers → h.told k (g.target m.edge) m.time ≡ false
+  untold s k lk = go (h.told k (g.target m.edge) m.time) refl
+    where
+      go : (b : Bool) → h.told k (g.target m.edge) m.time ≡ b → h.told k (g.target m.edge) m.time ≡ false
+      go false e = e
+      go true e = absurd (edge_not_vertex m.edge (g.target m.edge) m.time m.time (keeps.settled k (g.target m.edge) m.time lk s (inl e) (message_place m) (IsActive.of_hand k0 false (Event.arrival m) ok.0 ok.1) (law.could_enter m.edge m.time good_message.0 good_message.3)))
+
+  counted_once : times_in m.time (g.times_before (g.target m.edge) (g.act (g.target m.edge) m.time)) ≡ 1
+  counted_once =
+      let r = some_row m.records good_message.1 in
+      let b = keeps.balance m.edge m.time r.0 good_message.0 in
+      let c : under_way w m.edge m.time r.0 k0 ≤ sum_below g.workers (under_way w m.edge m.time r.0) = below_one g.workers k0 (under_way w m.edge m.time r.0) ok.0 in
+      let d : in_hand m.edge m.time r.0 (w.hand k0) ≡ count r.0 m.records = ap (in_hand m.edge m.time r.0) ok.1 ∙ rw (eqb_self m.edge, same_time_self m.time) refl in
+      let l : 0 < count r.0 m.records = r.1 in
+      once g law w h keeps flows m.edge m.time r.0 good_message.0 good_message.3 (omega arith)
+
+  done_other : (k v p : ℕ) (t : Time) → ((k ≢ k0) ⊎ ((v ≢ g.target m.edge) ⊎ (t ≢ m.time))) → p < g.ports v → done_after h k0 m k (g.edge_into v p) t ≡ h.done k (g.edge_into v p) t
+  done_other k v p t ne lp = go (done_tells h k0 m k (g.edge_into v p) t) ne
+    where
+      go : DoneHere h k0 m k (g.edge_into v p) t ⊎ DoneElsewhere h k0 m k (g.edge_into v p) t → ((k ≢ k0) ⊎ ((v ≢ g.target m.edge) ⊎ (t ≢ m.time))) → done_after h k0 m k (g.edge_into v p) t ≡ h.done k (g.edge_into v p) t
+      go (inr x) ne = x.is
+      go (inl x) (inl a) = absurd (a x.worker)
+      go (inl x) (inr (inl a)) = absurd (a (sym (vertex_of v p lp x.edge)))
+      go (inl x) (inr (inr a)) = absurd (a (sym x.time))
+
+  rest : (k v q : ℕ) (t : Time) (r : Record) → ((k ≢ k0) ⊎ ((v ≢ g.target m.edge) ⊎ (t ≢ m.time))) → made g (history_done h k0 m) v q t r k ≡ made g h v q t r k
+  rest k v q t r ne = ap (λ n. cond (h.told k v t) n 0) ((law.op_same v q t (λ p. done_after h k0 m k (g.edge_into v p) t) (λ p. h.done k (g.edge_into v p) t) (λ p lp. ≈-from (done_other k v p t ne lp))).counts r)
+
+  -- what the workers have processed
+  done_sum : (e : ℕ) (t : Time) (r : Record) → sum_below g.workers (λ k. count r (done_after h k0 m k e t)) ≡ sum_below g.workers (λ k. count r (h.done k e t)) + carried e t r m
+  done_sum e t r =
+      let a : sum_below g.workers (λ k. count r (done_after h k0 m k e t)) + count r (h.done k0 e t) ≡ sum_below g.workers (λ k. count r (h.done k e t)) + count r (done_after h k0 m k0 e t) =
+      below_changed g.workers k0 (λ k. count r (h.done k e t)) (λ k. count r (done_after h k0 m k e t)) ok.0 (λ j lj ne. other j ne (done_tells h k0 m j e t)) in
+      let b : count r (done_after h k0 m k0 e t) ≡ count r (h.done k0 e t) + carried e t r m = here (eqb m.edge e) (same_time m.time t) in
+      omega arith
+    where
+      other : (j : ℕ) → j ≢ k0 → DoneHere h k0 m j e t ⊎ DoneElsewhere h k0 m j e t → count r (done_after h k0 m j e t) ≡ count r (h.done j e t)
+      other j ne (inl x) = absurd (ne x.worker)
+      other j ne (inr x) = ap (count r) x.is
+
+      here : (b c : Bool) → count r (h.done k0 e t ++ cond (eqb k0 k0) (cond b (cond c m.records []) []) []) ≡ count r (h.done k0 e t) + cond b (cond c (count r m.records) 0) 0
+      here true true = rw (eqb_self k0) (count-append r (h.done k0 e t) m.records)
+      here true false = rw (eqb_self k0) (count-append r (h.done k0 e t) [])
+      here false c = rw (eqb_self k0) (count-append r (h.done k0 e t) [])
+
+  shards_after : (k v p : ℕ) (t : Time) → k < g.workers → p < g.ports v → (g.role v ≡ Role.stateful) ⊎ (g.role v ≡ Role.grouping) → absorbed_after g w k0 (Event.arrival m) k v p t ≡ done_after h k0 m k (g.edge_into v p) t
+  shards_after k v p t lk lp s = go (keyed_absorbed (g.role (g.target m.edge)) w k0 (g.target m.edge) (g.in_port m.edge) m.time m.records)
+    where
+      both : AbsorbedHere w k0 (g.target m.edge) (g.in_port m.edge) m.time m.records k v p t ⊎ AbsorbedElsewhere w k0 (g.target m.edge) (g.in_port m.edge) m.time m.records k v p t
+          → DoneHere h k0 m k (g.edge_into v p) t ⊎ DoneElsewhere h k0 m k (g.edge_into v p) t → absorbed_with w k0 (g.target m.edge) (g.in_port m.edge) m.time m.records k v p t ≡ done_after h k0 m k (g.edge_into v p) t
+      both (inl x) (inl y) = x.is ∙ ap (λ z. z ++ m.records) (keeps.shards k v p t lk lp s) ∙ sym y.is
+      both (inl x) (inr y) = absurd (y.other x.worker (sym edge_here ∙ ap₂ g.edge_into x.vertex x.port) x.time)
+      both (inr x) (inl y) = absurd (x.other y.worker (vertex_of v p lp y.edge) (port_of v p lp y.edge) y.time)
+      both (inr x) (inr y) = x.is ∙ keeps.shards k v p t lk lp s ∙ sym y.is
+
+      plain : (((g.role (g.target m.edge) ≡ Role.stateful) ⊎ (g.role (g.target m.edge) ≡ Role.grouping)) → ⊥) → DoneHere h k0 m k (g.edge_into v p) t ⊎ DoneElsewhere h k0 m k (g.edge_into v p) t → w.absorbed k v p t ≡ done_after h k0 m k (g.edge_into v p) t
+      plain never (inl y) = absurd (never (subst (λ (x : ℕ). (g.role x ≡ Role.stateful) ⊎ (g.role x ≡ Role.grouping)) (sym (vertex_of v p lp y.edge)) s))
+      plain never (inr y) = keeps.shards k v p t lk lp s ∙ sym y.is
+
+      go : ((((g.role (g.target m.edge)) ≡ Role.stateful) ⊎ ((g.role (g.target m.edge)) ≡ Role.grouping)) × (absorbed_by (g.role (g.target m.edge)) w k0 (g.target m.edge) (g.in_port m.edge) m.time m.records ≡ absorbed_with w k0 (g.target m.edge) (g.in_port m.edge) m.time m.records))
+          ⊎ (((((g.role (g.target m.edge)) ≡ Role.stateful) ⊎ ((g.role (g.target m.edge)) ≡ Role.grouping)) → ⊥) × (absorbed_by (g.role (g.target m.edge)) w k0 (g.target m.edge) (g.in_port m.edge) m.time m.records ≡ w.absorbed)) → absorbed_after g w k0 (Event.arrival m) k v p t ≡ done_after h k0 m k (g.edge_into v p) t
+      go (inl (a, b)) = ap (λ f. f k v p t) b ∙ both (absorbed_tells w k0 (g.target m.edge) (g.in_port m.edge) m.time m.records k v p t) (done_tells h k0 m k (g.edge_into v p) t)
+      go (inr (a, b)) = ap (λ f. f k v p t) b ∙ plain a (done_tells h k0 m k (g.edge_into v p) t)
+
+  told_same : (q : ℕ) (r : Record) → h.told k0 (g.target m.edge) m.time ≡ true → made g h (g.target m.edge) q m.time r k0 ≡ count r (g.op (g.target m.edge) q m.time (ins g (h.done k0) (g.target m.edge) m.time))
+  told_same q r e = ap (λ b. cond b (count r (g.op (g.target m.edge) q m.time (ins g (h.done k0) (g.target m.edge) m.time))) 0) e
+
+  told_more : (q : ℕ) (r : Record) → h.told k0 (g.target m.edge) m.time ≡ true → made g (history_done h k0 m) (g.target m.edge) q m.time r k0 ≡ count r (g.op (g.target m.edge) q m.time (ins g (done_after h k0 m k0) (g.target m.edge) m.time))
+  told_more q r e = ap (λ b. cond b (count r (g.op (g.target m.edge) q m.time (ins g (done_after h k0 m k0) (g.target m.edge) m.time))) 0) e
+
+  always : g.role (g.target m.edge) ≢ Role.grouping → h.told k0 (g.target m.edge) m.time ≡ true
+  always s = keeps.always_told k0 (g.target m.edge) m.time s
+
+  -- at a port: what was there, and the message
+  done_split : (p : ℕ) → p < g.ports (g.target m.edge) → (done_after h k0 m k0 (g.edge_into (g.target m.edge) p) m.time) ≈ (([] ++ h.done k0 (g.edge_into (g.target m.edge) p) m.time) ++ only_at (g.in_port m.edge) m.records p)
+  done_split p lp = record { counts = λ r. go r (done_tells h k0 m k0 (g.edge_into (g.target m.edge) p) m.time) (eqb_tells p (g.in_port m.edge)) }
+    where
+      go : (r : Record) → DoneHere h k0 m k0 (g.edge_into (g.target m.edge) p) m.time ⊎ DoneElsewhere h k0 m k0 (g.edge_into (g.target m.edge) p) m.time → ((eqb p (g.in_port m.edge) ≡ true) × (p ≡ g.in_port m.edge)) ⊎ ((eqb p (g.in_port m.edge) ≡ false) × (p ≢ g.in_port m.edge)) → count r (done_after h k0 m k0 (g.edge_into (g.target m.edge) p) m.time) ≡ count r (h.done k0 (g.edge_into (g.target m.edge) p) m.time ++ only_at (g.in_port m.edge) m.records p)
+      go r (inl x) (inl (a, b)) = ap (count r) (x.is ∙ ap (λ z. h.done k0 (g.edge_into (g.target m.edge) p) m.time ++ z) (rw a refl))
+      go r (inl x) (inr (a, b)) = absurd (b (sym (port_of (g.target m.edge) p lp x.edge)))
+      go r (inr x) (inl (a, b)) = absurd (x.other refl (sym edge_here ∙ ap (g.edge_into (g.target m.edge)) (sym b)) refl)
+      go r (inr x) (inr (a, b)) = ap (count r) (x.is ∙ sym (append-nil (h.done k0 (g.edge_into (g.target m.edge) p) m.time)) ∙ ap (λ z. h.done k0 (g.edge_into (g.target m.edge) p) m.time ++ z) (rw a refl))
+
+  two_parts : ℕ → ℕ → List Record
+  two_parts zero p = h.done k0 (g.edge_into (g.target m.edge) p) m.time
+  two_parts (suc k) p = only_at (g.in_port m.edge) m.records p
+
+  gain_stateless : g.role (g.target m.edge) ≡ Role.stateless → MakesBy Role.stateless g w k0 m out → (q : ℕ) (r : Record) → made g (history_done h k0 m) (g.target m.edge) q m.time r k0 ≡ made g h (g.target m.edge) q m.time r k0 + count r (out q)
+  unfolding two_parts
+  gain_stateless s makes q r =
+      let told : h.told k0 (g.target m.edge) m.time ≡ true = always (λ e. let x : Role.stateless ≡ Role.grouping = sym s ∙ e in cc) in
+      let a = told_same q r told in
+      let b = told_more q r told in
+      let c = (makes q).counts r in
+      let d : count r (g.op (g.target m.edge) q m.time (λ p. end_to_end (λ k. two_parts k p) 2)) ≡ (0 + count r (g.op (g.target m.edge) q m.time (two_parts 0))) + count r (g.op (g.target m.edge) q m.time (two_parts 1)) =
+      law.op_stateless (g.target m.edge) q m.time two_parts 2 s r in
+      let f : count r (g.op (g.target m.edge) q m.time (ins g (done_after h k0 m k0) (g.target m.edge) m.time)) ≡ count r (g.op (g.target m.edge) q m.time (λ p. end_to_end (λ k. two_parts k p) 2)) =
+      (law.op_same (g.target m.edge) q m.time (ins g (done_after h k0 m k0) (g.target m.edge) m.time) (λ p. end_to_end (λ k. two_parts k p) 2) done_split).counts r in
+      omega arith
+
+  gain_stateful : g.role (g.target m.edge) ≡ Role.stateful → MakesBy Role.stateful g w k0 m out → (q : ℕ) (r : Record) → made g (history_done h k0 m) (g.target m.edge) q m.time r k0 ≡ made g h (g.target m.edge) q m.time r k0 + count r (out q)
+  gain_stateful s makes q r =
+      let told : h.told k0 (g.target m.edge) m.time ≡ true = always (λ e. let x : Role.stateful ≡ Role.grouping = sym s ∙ e in cc) in
+      let a = told_same q r told in
+      let b = told_more q r told in
+      let before : List Record = g.op (g.target m.edge) q m.time (λ p. w.absorbed k0 (g.target m.edge) p m.time) in
+      let c : count r (out q ++ before) ≡ count r (g.op (g.target m.edge) q m.time (λ p. absorbed_after g w k0 (Event.arrival m) k0 (g.target m.edge) p m.time)) = (makes q).counts r in
+      let d : count r (out q ++ before) ≡ count r (out q) + count r before = count-append r (out q) before in
+      let e : count r before ≡ count r (g.op (g.target m.edge) q m.time (ins g (h.done k0) (g.target m.edge) m.time)) =
+      (law.op_same (g.target m.edge) q m.time (λ p. w.absorbed k0 (g.target m.edge) p m.time) (ins g (h.done k0) (g.target m.edge) m.time) (λ p lp. ≈-from (keeps.shards k0 (g.target m.edge) p m.time ok.0 lp (inl s)))).counts r in
+      let f : count r (g.op (g.target m.edge) q m.time (λ p. absorbed_after g w k0 (Event.arrival m) k0 (g.target m.edge) p m.time)) ≡ count r (g.op (g.target m.edge) q m.time (ins g (done_after h k0 m k0) (g.target m.edge) m.time)) =
+      (law.op_same (g.target m.edge) q m.time (λ p. absorbed_after g w k0 (Event.arrival m) k0 (g.target m.edge) p m.time) (ins g (done_after h k0 m k0) (g.target m.edge) m.time) (λ p lp. ≈-from (shards_after k0 (g.target m.edge) p m.time ok.0 lp (inl s)))).counts r in
+      omega arith
+
+  gain_grouping : g.role (g.target m.edge) ≡ Role.grouping → MakesBy Role.grouping g w k0 m out → (q : ℕ) (r : Record) → made g (history_done h k0 m) (g.target m.edge) q m.time r k0 ≡ made g h (g.target m.edge) q m.time r k0 + count r (out q)
+  gain_grouping s makes q r =
+      let u = untold s k0 ok.0 in
+      let a : made g h (g.target m.edge) q m.time r k0 ≡ 0 = ap (λ b. cond b (count r (g.op (g.target m.edge) q m.time (ins g (h.done k0) (g.target m.edge) m.time))) 0) u in
+      let b : made g (history_done h k0 m) (g.target m.edge) q m.time r k0 ≡ 0 = ap (λ b. cond b (count r (g.op (g.target m.edge) q m.time (ins g (done_after h k0 m k0) (g.target m.edge) m.time))) 0) u in
+      let c : count r (out q) ≡ 0 = ap (count r) (makes q) in
+      omega arith
+
+  gain : (q : ℕ) (r : Record) → g.role (g.target m.edge) ≢ Role.sink → made g (history_done h k0 m) (g.target m.edge) q m.time r k0 ≡ made g h (g.target m.edge) q m.time r k0 + count r (out q)
+  gain q r ns = go (g.role (g.target m.edge)) refl ok.2
+    where
+      go : (role : Role) → g.role (g.target m.edge) ≡ role → MakesBy role g w k0 m out → made g (history_done h k0 m) (g.target m.edge) q m.time r k0 ≡ made g h (g.target m.edge) q m.time r k0 + count r (out q)
+      go Role.source e makes = absurd makes
+      go Role.stateless e makes = gain_stateless e makes q r
+      go Role.stateful e makes = gain_stateful e makes q r
+      go Role.grouping e makes = gain_grouping e makes q r
+      go Role.sink e makes = absurd (ns e)
+
+  -- what the output emits
+  emits : (n : ℕ) (r : Record) → count r (emitted_after g w (Event.arrival m) n) ≡ count r (w.emitted n) + carried (g.edge_into g.output 0) (at_epoch n) r m
+  emits n r = go (sink_emitted (g.role (g.target m.edge)) w m n) (eqb_tells m.edge (g.edge_into g.output 0))
+    where
+      out_port : 0 < g.ports g.output
+      out_port = let o : g.ports g.output ≡ 1 = law.output_port in omega arith
+
+      sink_edge : g.role (g.target m.edge) ≡ Role.sink → m.edge ≡ g.edge_into g.output 0
+      sink_edge s =
+          let v : g.target m.edge ≡ g.output = law.only_output m.edge good_message.0 s in
+          let p : g.in_port m.edge < g.ports (g.target m.edge) = law.target_ports m.edge good_message.0 in
+          let o : g.ports (g.target m.edge) ≡ 1 = ap g.ports v ∙ law.output_port in
+          let z : g.in_port m.edge ≡ 0 = omega arith in
+          sym edge_here ∙ ap₂ g.edge_into v z
+
+      here : (c : Bool) → count r (w.emitted n ++ cond c m.records []) ≡ count r (w.emitted n) + cond c (count r m.records) 0
+      here true = count-append r (w.emitted n) m.records
+      here false = count-append r (w.emitted n) []
+
+      go : ((g.role (g.target m.edge) ≡ Role.sink) × (emitted_by (g.role (g.target m.edge)) w m n ≡ w.emitted n ++ cond (same_time m.time (at_epoch n)) m.records [])) ⊎ ((g.role (g.target m.edge) ≢ Role.sink) × (emitted_by (g.role (g.target m.edge)) w m n ≡ w.emitted n))
+          → ((eqb m.edge (g.edge_into g.output 0) ≡ true) × (m.edge ≡ g.edge_into g.output 0)) ⊎ ((eqb m.edge (g.edge_into g.output 0) ≡ false) × (m.edge ≢ g.edge_into g.output 0)) → count r (emitted_after g w (Event.arrival m) n) ≡ count r (w.emitted n) + carried (g.edge_into g.output 0) (at_epoch n) r m
+      go (inl (a, b)) (inl (c, d)) = ap (count r) b ∙ here (same_time m.time (at_epoch n)) ∙ rw c refl
+      go (inl (a, b)) (inr (c, d)) = absurd (d (sink_edge a))
+      go (inr (a, b)) (inl (c, d)) = absurd (a (ap g.role (vertex_of g.output 0 out_port d) ∙ law.output_sink))
+      go (inr (a, b)) (inr (c, d)) = ap (count r) b ∙ (let z : carried (g.edge_into g.output 0) (at_epoch n) r m ≡ 0 = rw c refl in omega arith)
+
+  some_append : (xs ys : List Record) → 0 < some ys → some (xs ++ ys) ≡ 1
+  some_append [] [] l = absurd (omega arith)
+  some_append [] (y ∷ ys) l = refl
+  some_append (x ∷ xs) ys l = refl
+
+  abbrev at_any : List Record
+  at_any = end_to_end (λ p. w.absorbed k0 (g.target m.edge) p m.time) (g.ports (g.target m.edge))
+
+  -- a group has one port
+  any_is : g.role (g.target m.edge) ≡ Role.grouping → at_any ≡ w.absorbed k0 (g.target m.edge) (g.in_port m.edge) m.time
+  any_is s =
+      let o : g.ports (g.target m.edge) ≡ 1 = law.one_port (g.target m.edge) s in
+      let p : g.in_port m.edge < g.ports (g.target m.edge) = law.target_ports m.edge good_message.0 in
+      let z : 0 ≡ g.in_port m.edge = omega arith in
+      ap (end_to_end (λ p. w.absorbed k0 (g.target m.edge) p m.time)) o ∙ ap (λ p. w.absorbed k0 (g.target m.edge) p m.time) z
+
+  -- what is asked for, and what was processed
+  wish : (v : ℕ) (t : Time) → g.role v ≡ Role.grouping → total (wished v t) (asked g w k0 (Event.arrival m)) + some (h.done k0 (g.edge_into v 0) t) ≡ some (done_after h k0 m k0 (g.edge_into v 0) t)
+  wish v t s = go (group_asked (g.role (g.target m.edge)) (g.target m.edge) m.time at_any) (done_tells h k0 m k0 (g.edge_into v 0) t)
+    where
+      port : 0 < g.ports v
+      port = let o : g.ports v ≡ 1 = law.one_port v s in omega arith
+
+      first_in : (xs : List Record) → g.target m.edge ≡ v → m.time ≡ t → total (wished v t) (asked_first (g.target m.edge) m.time xs) + some xs ≡ 1
+      first_in [] a b = rw (a, b, eqb_self v, same_time_self t) refl
+      first_in (x ∷ xs) a b = omega arith
+
+      first_out : (xs : List Record) → ((g.target m.edge ≡ v) → m.time ≡ t → ⊥) → total (wished v t) (asked_first (g.target m.edge) m.time xs) ≡ 0
+      first_out (x ∷ xs) never = refl
+      first_out [] never = at (eqb_tells (g.target m.edge) v) (same_time_tells m.time t)
+        where
+          at : ((eqb (g.target m.edge) v ≡ true) × (g.target m.edge ≡ v)) ⊎ ((eqb (g.target m.edge) v ≡ false) × (g.target m.edge ≢ v)) → ((same_time m.time t ≡ true) × (m.time ≡ t)) ⊎ ((same_time m.time t ≡ false) × (m.time ≢ t)) → total (wished v t) (asked_first (g.target m.edge) m.time []) ≡ 0
+          at (inl (a, b)) (inl (c, d)) = absurd (never b d)
+          at (inl (a, b)) (inr (c, d)) = rw (a, c) refl
+          at (inr (a, b)) z = rw a refl
+
+      go : ((g.role (g.target m.edge) ≡ Role.grouping) × (asked g w k0 (Event.arrival m) ≡ asked_first (g.target m.edge) m.time at_any)) ⊎ ((g.role (g.target m.edge) ≢ Role.grouping) × (asked g w k0 (Event.arrival m) ≡ []))
+          → DoneHere h k0 m k0 (g.edge_into v 0) t ⊎ DoneElsewhere h k0 m k0 (g.edge_into v 0) t → total (wished v t) (asked g w k0 (Event.arrival m)) + some (h.done k0 (g.edge_into v 0) t) ≡ some (done_after h k0 m k0 (g.edge_into v 0) t)
+      go (inl (a, b)) (inl x) =
+          let c : at_any ≡ h.done k0 (g.edge_into v 0) t =
+          any_is a ∙ keeps.shards k0 (g.target m.edge) (g.in_port m.edge) m.time ok.0 (law.target_ports m.edge good_message.0) (inr a) ∙ ap₂ (h.done k0) (edge_here ∙ x.edge) x.time in
+          let d : total (wished v t) (asked g w k0 (Event.arrival m)) ≡ total (wished v t) (asked_first (g.target m.edge) m.time (h.done k0 (g.edge_into v 0) t)) = ap (λ z. total (wished v t) z) (b ∙ ap (asked_first (g.target m.edge) m.time) c) in
+          let f = first_in (h.done k0 (g.edge_into v 0) t) (vertex_of v 0 port x.edge) x.time in
+          let i : some (done_after h k0 m k0 (g.edge_into v 0) t) ≡ 1 = ap some x.is ∙ some_append (h.done k0 (g.edge_into v 0) t) m.records good_message.1 in
+          omega arith
+      go (inr (a, b)) (inl x) = absurd (a (ap g.role (vertex_of v 0 port x.edge) ∙ s))
+      go (inl (a, b)) (inr x) =
+          let d : total (wished v t) (asked g w k0 (Event.arrival m)) ≡ total (wished v t) (asked_first (g.target m.edge) m.time at_any) = ap (λ z. total (wished v t) z) b in
+          let f = first_out at_any (λ e u.
+          let o : g.ports (g.target m.edge) ≡ 1 = law.one_port (g.target m.edge) a in
+          let p : g.in_port m.edge < g.ports (g.target m.edge) = law.target_ports m.edge good_message.0 in
+          let z : g.in_port m.edge ≡ 0 = omega arith in
+          x.other refl (sym edge_here ∙ ap₂ g.edge_into e z) u) in
+          let i : some (done_after h k0 m k0 (g.edge_into v 0) t) ≡ some (h.done k0 (g.edge_into v 0) t) = ap some x.is in
+          omega arith
+      go (inr (a, b)) (inr x) =
+          let d : total (wished v t) (asked g w k0 (Event.arrival m)) ≡ 0 = ap (λ z. total (wished v t) z) b in
+          let i : some (done_after h k0 m k0 (g.edge_into v 0) t) ≡ some (h.done k0 (g.edge_into v 0) t) = ap some x.is in
+          omega arith
+
+  asked_good : each (GoodRequest g) (asked g w k0 (Event.arrival m))
+  asked_good = go (group_asked (g.role (g.target m.edge)) (g.target m.edge) m.time at_any)
+    where
+      first : g.role (g.target m.edge) ≡ Role.grouping → (xs : List Record) → each (GoodRequest g) (asked_first (g.target m.edge) m.time xs)
+      first s [] = ((s, here), tt)
+      first s (x ∷ xs) = tt
+
+      go : ((g.role (g.target m.edge) ≡ Role.grouping) × (asked g w k0 (Event.arrival m) ≡ asked_first (g.target m.edge) m.time at_any)) ⊎ ((g.role (g.target m.edge) ≢ Role.grouping) × (asked g w k0 (Event.arrival m) ≡ [])) → each (GoodRequest g) (asked g w k0 (Event.arrival m))
+      go (inl (a, b)) = subst (each (GoodRequest g)) (sym b) (first a at_any)
+      go (inr (a, b)) = subst (each (GoodRequest g)) (sym b) tt
+
+  pub keep_arrival : Kept g (after g w (Step.commit k0 (Event.arrival m) out)) (history_done h k0 m)
+  keep_arrival =
+      record {
+        balance = λ e t r le.
+            let a = way_sent g law w h keeps k0 (g.target m.edge) (g.act (g.target m.edge) m.time) out e t r ok.0 le in
+            let b = keeps.balance e t r le in
+            let c : sum_below g.workers (under_way (after g w (Step.commit k0 (Event.arrival m) out)) e t r) + carried e t r m ≡ sum_below g.workers (under_way w e t r) + sum_below g.workers (λ k. total (carried e t r) (parcels g k0 (g.target m.edge) (g.act (g.target m.edge) m.time) out k g.edges)) = way_after g law w h keeps k0 (Event.arrival m) out ok e t r in
+            let d = done_sum e t r in
+            omega arith;
+        from_input = λ e t le s. record { counts = λ r. sent_elsewhere g law w h keeps (g.target m.edge) (g.act (g.target m.edge) m.time) out e t r (λ x. law.no_source_target m.edge good_message.0 (sym (ap g.role x) ∙ s)) ∙ (keeps.from_input e t le s).counts r };
+        from_vertex = λ e u r le fits s. vertex_after g law w h keeps k0 (Event.arrival m) out ok (history_done h k0 m) counted_once rest gain e u r le fits s;
+        notices = λ k v t lk s. notices k v t lk s (put_tells w.hand k0 Hand.empty k) (put_tells w.requests k0 (w.requests k0 ++ asked g w k0 (Event.arrival m)) k) (done_tells h k0 m k (g.edge_into v 0) t);
+        always_told = keeps.always_told;
+        settled = λ k v t lk s due. settled_after g law w h keeps (Step.commit k0 (Event.arrival m) out) ok k v t lk s (was_due k v t due (put_tells w.hand k0 Hand.empty k));
+        at_home = λ k e t lk le s. home k e t lk le s (done_tells h k0 m k e t);
+        good_mail = λ k lk. each-append (GoodMessage g k) (w.mail k) _ (keeps.good_mail k lk) (each_more (Parcel g (g.target m.edge) (g.act (g.target m.edge) m.time) k) (GoodMessage g k) _ (λ m p. p.good) (parcels_good g law k0 (g.target m.edge) (g.act (g.target m.edge) m.time) out k g.edges (fits_sent g law (g.target m.edge) m.time here) (omega arith)));
+        good_requests = λ k lk. requests k lk (put_tells w.requests k0 (w.requests k0 ++ asked g w k0 (Event.arrival m)) k);
+        good_hand = λ k lk. good k lk (put_tells w.hand k0 Hand.empty k);
+        shards = λ k v p t lk lp s. shards_after k v p t lk lp s;
+        output = λ n r. let a = emits n r in let b = keeps.output n r in let c = done_sum (g.edge_into g.output 0) (at_epoch n) r in omega arith;
+      }
+    where
+      notices : (k v : ℕ) (t : Time) → k < g.workers → g.role v ≡ Role.grouping → ((k ≡ k0) × (put w.hand k0 Hand.empty k ≡ Hand.empty)) ⊎ ((k ≢ k0) × (put w.hand k0 Hand.empty k ≡ w.hand k))
+          → ((k ≡ k0) × (put w.requests k0 (w.requests k0 ++ asked g w k0 (Event.arrival m)) k ≡ w.requests k0 ++ asked g w k0 (Event.arrival m))) ⊎ ((k ≢ k0) × (put w.requests k0 (w.requests k0 ++ asked g w k0 (Event.arrival m)) k ≡ w.requests k))
+          → DoneHere h k0 m k (g.edge_into v 0) t ⊎ DoneElsewhere h k0 m k (g.edge_into v 0) t
+          → wishes (after g w (Step.commit k0 (Event.arrival m) out)) v t k + bit (h.told k v t) ≡ some (done_after h k0 m k (g.edge_into v 0) t)
+      notices k v t lk s (inl (a, b)) (inl (c, d)) x =
+          let i = keeps.notices k v t lk s in
+          let j : wish_in_hand v t (w.hand k) ≡ 0 = ap (wish_in_hand v t) (ap w.hand a ∙ ok.1) in
+          let l : wish_in_hand v t (put w.hand k0 Hand.empty k) ≡ 0 = ap (wish_in_hand v t) b in
+          let n : total (wished v t) (put w.requests k0 (w.requests k0 ++ asked g w k0 (Event.arrival m)) k) ≡ total (wished v t) (w.requests k0) + total (wished v t) (asked g w k0 (Event.arrival m)) = ap (λ z. total (wished v t) z) d ∙ total-append (wished v t) (w.requests k0) (asked g w k0 (Event.arrival m)) in
+          let q : total (wished v t) (w.requests k) ≡ total (wished v t) (w.requests k0) = ap (λ z. total (wished v t) (w.requests z)) a in
+          let f = wish v t s in
+          let y : some (done_after h k0 m k (g.edge_into v 0) t) ≡ some (done_after h k0 m k0 (g.edge_into v 0) t) = ap (λ z. some (done_after h k0 m z (g.edge_into v 0) t)) a in
+          let z : some (h.done k (g.edge_into v 0) t) ≡ some (h.done k0 (g.edge_into v 0) t) = ap (λ z. some (h.done z (g.edge_into v 0) t)) a in
+          omega arith
+      notices k v t lk s (inl (a, b)) (inr (c, d)) x = absurd (c a)
+      notices k v t lk s (inr (a, b)) (inl (c, d)) x = absurd (a c)
+      notices k v t lk s (inr (a, b)) (inr (c, d)) (inl x) = absurd (a x.worker)
+      notices k v t lk s (inr (a, b)) (inr (c, d)) (inr x) =
+          let i = keeps.notices k v t lk s in
+          let l : wish_in_hand v t (put w.hand k0 Hand.empty k) ≡ wish_in_hand v t (w.hand k) = ap (wish_in_hand v t) b in
+          let n : total (wished v t) (put w.requests k0 (w.requests k0 ++ asked g w k0 (Event.arrival m)) k) ≡ total (wished v t) (w.requests k) = ap (λ z. total (wished v t) z) d in
+          let y : some (done_after h k0 m k (g.edge_into v 0) t) ≡ some (h.done k (g.edge_into v 0) t) = ap some x.is in
+          omega arith
+
+      was_due : (k v : ℕ) (t : Time) → Due (after g w (Step.commit k0 (Event.arrival m) out)) (history_done h k0 m) k v t → ((k ≡ k0) × (put w.hand k0 Hand.empty k ≡ Hand.empty)) ⊎ ((k ≢ k0) × (put w.hand k0 Hand.empty k ≡ w.hand k)) → Due w h k v t
+      was_due k v t (inl told) z = inl told
+      was_due k v t (inr wish) (inl (x, y)) = absurd (let a : wish_in_hand v t (put w.hand k0 Hand.empty k) ≡ 0 = ap (wish_in_hand v t) y in omega arith)
+      was_due k v t (inr wish) (inr (x, y)) = let a : wish_in_hand v t (put w.hand k0 Hand.empty k) ≡ wish_in_hand v t (w.hand k) = ap (wish_in_hand v t) y in inr (omega arith)
+
+      some_of : (r : Record) (xs ys : List Record) → 0 < count r (xs ++ ys) → (n : ℕ) → count r ys ≡ n → (0 < count r xs) ⊎ (0 < count r ys)
+      some_of r xs ys l zero e = inl (let a = count-append r xs ys in omega arith)
+      some_of r xs ys l (suc n) e = inr (omega arith)
+
+      home : (k e : ℕ) (t : Time) → k < g.workers → e < g.edges → (g.role (g.target e) ≡ Role.stateful) ⊎ (g.role (g.target e) ≡ Role.grouping) → DoneHere h k0 m k e t ⊎ DoneElsewhere h k0 m k e t → AtHome g k e (done_after h k0 m k e t)
+      home k e t lk le s (inr x) = subst (AtHome g k e) (sym x.is) (keeps.at_home k e t lk le s)
+      home k e t lk le s (inl x) = subst (AtHome g k e) (sym x.is) (λ r l. either r (some_of r (h.done k e t) m.records l (count r m.records) refl))
+        where
+          at_k0 : AtHome g k0 m.edge m.records
+          at_k0 = good_message.2 (subst (λ (z : ℕ). (g.role (g.target z) ≡ Role.stateful) ⊎ (g.role (g.target z) ≡ Role.grouping)) (sym x.edge) s)
+
+          either : (r : Record) → (0 < count r (h.done k e t)) ⊎ (0 < count r m.records) → (sender : ℕ) → g.home sender e r ≡ k
+          either r (inl l) = keeps.at_home k e t lk le s r l
+          either r (inr l) = λ sender. ap (λ z. g.home sender z r) (sym x.edge) ∙ at_k0 r l sender ∙ sym x.worker
+
+      requests : (k : ℕ) → k < g.workers → ((k ≡ k0) × (put w.requests k0 (w.requests k0 ++ asked g w k0 (Event.arrival m)) k ≡ w.requests k0 ++ asked g w k0 (Event.arrival m))) ⊎ ((k ≢ k0) × (put w.requests k0 (w.requests k0 ++ asked g w k0 (Event.arrival m)) k ≡ w.requests k)) → each (GoodRequest g) (put w.requests k0 (w.requests k0 ++ asked g w k0 (Event.arrival m)) k)
+      requests k lk (inl (a, b)) = subst (each (GoodRequest g)) (sym b) (each-append (GoodRequest g) (w.requests k0) (asked g w k0 (Event.arrival m)) (keeps.good_requests k0 ok.0) asked_good)
+      requests k lk (inr (a, b)) = subst (each (GoodRequest g)) (sym b) (keeps.good_requests k lk)
+
+      good : (k : ℕ) → k < g.workers → ((k ≡ k0) × (put w.hand k0 Hand.empty k ≡ Hand.empty)) ⊎ ((k ≢ k0) × (put w.hand k0 Hand.empty k ≡ w.hand k)) → GoodHand g k (put w.hand k0 Hand.empty k)
+      good k lk (inl (x, y)) = subst (GoodHand g k) (sym y) tt
+      good k lk (inr (x, y)) = subst (GoodHand g k) (sym y) (keeps.good_hand k lk)

@@ -1,0 +1,532 @@
+-- The network of a dataflow graph keeps the laws of networks, and has flows.
+use Rattle.std.proofs.Common.{◌≡◌, ◌≢◌, ◌≤◌, ◌<◌, ℕ, zero, suc, ◌+◌, ◌-◌, nat_lt, nat_eq, Bool, true, false, cond, List, [], ◌∷◌, ◌++◌, ◌⊎◌, inl, inr, refl, sym, ap, ◌∙◌, subst, arith, map, flat_map, length, slice_index_or, Option, Some, None, ltb-true, ltb-false}
+use Rattle.std.proofs.Math.Nat.{mod-lt}
+use Rattle.std.specs.List.{AllByRecursion}
+use Rattle.semantics.specs.Multiset.{Record, same, one_if, total, count, end_to_end, ◌≈◌, IsPartOf}
+use Rattle.semantics.specs.Could.{Fits, PathStep}
+use Rattle.semantics.specs.Cut.{route_key, IsCut}
+use Rattle.semantics.specs.Dataflow.{Goes, IsDataflow}
+use Rattle.semantics.specs.Edges.{edge_flow, edge_count, target, in_port, edge_into, feeds}
+use Rattle.semantics.specs.Flow.{Inputs, Flow, sent_by, sends, leaves, IsPlace, IsFlow}
+use Rattle.semantics.specs.Graph.{Kind, action, ends_turn, Vertex, Graph, no_vertex, vertex, in_ports, is_input, input_count, output_number}
+use Rattle.semantics.specs.Op.{op}
+use Rattle.semantics.specs.Place.{Location}
+use Rattle.semantics.specs.Route.{route, home_by, home}
+use Rattle.semantics.specs.Time.{Time, last, deeper, outer, Action, after, sources, below, turn_count, same_counters, same_time, at_epoch}
+use Rattle.semantics.proofs.BagLaws.{Decides-same, ≈-refl, ≈-trans, ≈-from, total-append, empty_from_same, count_here}
+use Rattle.semantics.proofs.CheckLaws.{Grows, op_part, Among, Defined, sources_all, Reached, sources_only}
+use Rattle.semantics.proofs.CouldLaws.{step_fits, at_most_refl, could_self, could_on, could_founded}
+use Rattle.semantics.proofs.EdgeLaws.{entered, into}
+use Rattle.semantics.proofs.FlowLaws.{op_same, one_flow}
+use Rattle.semantics.proofs.LawLaws.{op_nothing, op_cut}
+use Rattle.semantics.proofs.RankLaws.{StepRises, step_rises, rises_from_nested}
+use Rattle.semantics.proofs.TimeLaws.{last-deeper}
+use Rattle.machine.specs.Engine.{role_of, network}
+use Rattle.machine.specs.Network.{Role, Network, ins}
+use Rattle.machine.specs.Sums.{sum_below}
+use Rattle.semantics.proofs.BagLaws.{total-append}
+use Rattle.machine.proofs.Counting.{count-append, counted-end_to_end, total_same}
+use Rattle.machine.proofs.Laws.{IsNetwork, times_in, all_parts, CutByKey}
+use Rattle.machine.proofs.NetFlow.{IsNetFlow, HasFlows}
+use Rattle.machine.proofs.Places.{same_time_tells, same_time_self}
+
+-- ---- roles
+
+role_source : (k : Kind) → role_of k ≡ Role.source → k ≡ Kind.input
+role_source Kind.input e = refl
+role_source Kind.output e = absurd cc
+role_source Kind.concat e = absurd cc
+role_source Kind.distinct e = absurd cc
+role_source Kind.ingress e = absurd cc
+role_source Kind.egress e = absurd cc
+role_source Kind.feedback e = absurd cc
+role_source (Kind.select ss) e = absurd cc
+role_source (Kind.filter c) e = absurd cc
+role_source (Kind.join ps) e = absurd cc
+role_source (Kind.group ks as') e = absurd cc
+role_source (Kind.gate n) e = absurd cc
+role_source (Kind.hold n) e = absurd cc
+
+role_sink : (k : Kind) → role_of k ≡ Role.sink → k ≡ Kind.output
+role_sink Kind.input e = absurd cc
+role_sink Kind.output e = refl
+role_sink Kind.concat e = absurd cc
+role_sink Kind.distinct e = absurd cc
+role_sink Kind.ingress e = absurd cc
+role_sink Kind.egress e = absurd cc
+role_sink Kind.feedback e = absurd cc
+role_sink (Kind.select ss) e = absurd cc
+role_sink (Kind.filter c) e = absurd cc
+role_sink (Kind.join ps) e = absurd cc
+role_sink (Kind.group ks as') e = absurd cc
+role_sink (Kind.gate n) e = absurd cc
+role_sink (Kind.hold n) e = absurd cc
+
+role_grouping : (k : Kind) → role_of k ≡ Role.grouping → in_ports k ≡ 1
+role_grouping Kind.input e = absurd cc
+role_grouping Kind.output e = refl
+role_grouping Kind.concat e = absurd cc
+role_grouping Kind.distinct e = refl
+role_grouping Kind.ingress e = refl
+role_grouping Kind.egress e = refl
+role_grouping Kind.feedback e = refl
+role_grouping (Kind.select ss) e = refl
+role_grouping (Kind.filter c) e = refl
+role_grouping (Kind.join ps) e = absurd cc
+role_grouping (Kind.group ks as') e = refl
+role_grouping (Kind.gate n) e = refl
+role_grouping (Kind.hold n) e = refl
+
+role_grows : (k : Kind) → role_of k ≢ Role.grouping → Grows k
+role_grows (Kind.group ks as') n = absurd (n refl)
+role_grows Kind.input n = tt
+role_grows Kind.output n = tt
+role_grows Kind.concat n = tt
+role_grows Kind.distinct n = tt
+role_grows Kind.ingress n = tt
+role_grows Kind.egress n = tt
+role_grows Kind.feedback n = tt
+role_grows (Kind.select ss) n = tt
+role_grows (Kind.filter c) n = tt
+role_grows (Kind.join ps) n = tt
+role_grows (Kind.gate m) n = tt
+role_grows (Kind.hold m) n = tt
+
+abbrev HasKeys : Kind → Type 0
+HasKeys k = (role_of k ≡ Role.stateful) ⊎ (role_of k ≡ Role.grouping)
+
+neither : (r : Role) → r ≡ Role.stateless → (r ≡ Role.stateful) ⊎ (r ≡ Role.grouping) → ⊥
+neither r e (inl h) = let x : Role.stateless ≡ Role.stateful = sym e ∙ h in cc
+neither r e (inr h) = let x : Role.stateless ≡ Role.grouping = sym e ∙ h in cc
+
+source_no_keys : (k : Kind) → k ≡ Kind.input → HasKeys k → ⊥
+source_no_keys k e (inl h) = let x : Role.source ≡ Role.stateful = sym (ap role_of e) ∙ h in cc
+source_no_keys k e (inr h) = let x : Role.source ≡ Role.grouping = sym (ap role_of e) ∙ h in cc
+
+sink_no_keys : (k : Kind) → k ≡ Kind.output → HasKeys k → ⊥
+sink_no_keys k e (inl h) = let x : Role.sink ≡ Role.stateful = sym (ap role_of e) ∙ h in cc
+sink_no_keys k e (inr h) = let x : Role.sink ≡ Role.grouping = sym (ap role_of e) ∙ h in cc
+
+has_route_key : (k : Kind) → HasKeys k → (port : ℕ) → (key : Record → Record) × (route_key k port ≡ Some key)
+has_route_key (Kind.join ps) h zero = (_, refl)
+has_route_key (Kind.join ps) h (suc port) = (_, refl)
+has_route_key (Kind.group ks as') h port = (_, refl)
+has_route_key Kind.distinct h port = (_, refl)
+has_route_key Kind.input h port = absurd (source_no_keys Kind.input refl h)
+has_route_key Kind.output h port = absurd (sink_no_keys Kind.output refl h)
+has_route_key Kind.concat h port = absurd (neither Role.stateless refl h)
+has_route_key Kind.ingress h port = absurd (neither Role.stateless refl h)
+has_route_key Kind.egress h port = absurd (neither Role.stateless refl h)
+has_route_key Kind.feedback h port = absurd (neither Role.stateless refl h)
+has_route_key (Kind.select ss) h port = absurd (neither Role.stateless refl h)
+has_route_key (Kind.filter c) h port = absurd (neither Role.stateless refl h)
+has_route_key (Kind.gate n) h port = absurd (neither Role.stateless refl h)
+has_route_key (Kind.hold n) h port = absurd (neither Role.stateless refl h)
+
+no_route_key : (k : Kind) → role_of k ≡ Role.stateless → (port : ℕ) (key : Record → Record) → route_key k port ≡ Some key → ⊥
+no_route_key (Kind.join ps) h port key e = cc
+no_route_key (Kind.group ks as') h port key e = cc
+no_route_key Kind.distinct h port key e = cc
+no_route_key Kind.input h port key e = cc
+no_route_key Kind.output h port key e = cc
+no_route_key Kind.concat h port key e = cc
+no_route_key Kind.ingress h port key e = cc
+no_route_key Kind.egress h port key e = cc
+no_route_key Kind.feedback h port key e = cc
+no_route_key (Kind.select ss) h port key e = cc
+no_route_key (Kind.filter c) h port key e = cc
+no_route_key (Kind.gate n) h port key e = cc
+no_route_key (Kind.hold n) h port key e = cc
+
+-- ---- vertices
+
+known_or_none : (g : Graph) (v : ℕ) → (v < length g) ⊎ (vertex g v ≡ no_vertex)
+unfolding vertex
+known_or_none [] v = inr refl
+known_or_none (x ∷ g) zero = inl (omega arith)
+known_or_none (x ∷ g) (suc v) = go (known_or_none g v)
+  where
+    go : (v < length g) ⊎ (slice_index_or g v no_vertex ≡ no_vertex) → (suc v < suc (length g)) ⊎ (slice_index_or g v no_vertex ≡ no_vertex)
+    go (inl l) = inl (omega arith)
+    go (inr e) = inr e
+
+known_kind : (g : Graph) (v : ℕ) → (vertex g v).kind ≢ Kind.output → v < length g
+known_kind g v n = go (known_or_none g v)
+  where
+    go : (v < length g) ⊎ (vertex g v ≡ no_vertex) → v < length g
+    go (inl l) = l
+    go (inr e) = absurd (n (ap (λ (x : Vertex). x.kind) e))
+
+is_input_kind : (k : Kind) → is_input k ≡ true → k ≡ Kind.input
+is_input_kind Kind.input e = refl
+is_input_kind Kind.output e = absurd cc
+is_input_kind Kind.concat e = absurd cc
+is_input_kind Kind.distinct e = absurd cc
+is_input_kind Kind.ingress e = absurd cc
+is_input_kind Kind.egress e = absurd cc
+is_input_kind Kind.feedback e = absurd cc
+is_input_kind (Kind.select ss) e = absurd cc
+is_input_kind (Kind.filter c) e = absurd cc
+is_input_kind (Kind.join ps) e = absurd cc
+is_input_kind (Kind.group ks as') e = absurd cc
+is_input_kind (Kind.gate n) e = absurd cc
+is_input_kind (Kind.hold n) e = absurd cc
+
+input_kind : (g : Graph) (i : ℕ) → i < input_count g → (vertex g i).kind ≡ Kind.input
+unfolding vertex
+input_kind [] i l = absurd (omega arith)
+input_kind (x ∷ g) i l = go (is_input x.kind) refl (λ j m. input_kind g j m) i l
+  where
+    go : (b : Bool) → is_input x.kind ≡ b → ((j : ℕ) → j < input_count g → (slice_index_or g j no_vertex).kind ≡ Kind.input) → (i : ℕ) → i < cond b (suc (input_count g)) 0 → (slice_index_or (x ∷ g) i no_vertex).kind ≡ Kind.input
+    go true e ih zero l = is_input_kind x.kind e
+    go true e ih (suc i) l = ih i (omega arith)
+    go false e ih i l = absurd (omega arith)
+
+goes_up : (loops : ℕ → List ℕ) (v w : ℕ) (a : Action) → Goes loops v w a → a ≡ Action.stay → v < w
+goes_up loops v w a (Goes.same_loop e h) s = h
+goes_up loops v w a (Goes.into_loop e q h) s = absurd cc
+goes_up loops v w a (Goes.out_of_loop e h) s = absurd cc
+goes_up loops v w a (Goes.round_loop e h) s = absurd cc
+
+goes_flat : (loops : ℕ → List ℕ) (v w : ℕ) (a : Action) → Goes loops v w a → a ≡ Action.stay → loops w ≡ loops v
+goes_flat loops v w a (Goes.same_loop e h) s = e
+goes_flat loops v w a (Goes.into_loop e q h) s = absurd cc
+goes_flat loops v w a (Goes.out_of_loop e h) s = absurd cc
+goes_flat loops v w a (Goes.round_loop e h) s = absurd cc
+
+goes_reached : (loops : ℕ → List ℕ) (v w : ℕ) (a : Action) → Goes loops v w a → (u : Time) → length u.counters ≡ length (loops w) → Reached a u
+goes_reached loops v w a (Goes.same_loop e h) u l = tt
+goes_reached loops v w a (Goes.into_loop e q h) u l = deep (loops v) (loops w) e q (length u.counters) l
+  where
+    deep : (es ds : List ℕ) (e : ℕ) → ds ≡ es ++ (e ∷ []) → (n : ℕ) → n ≡ length ds → 0 < n
+    deep [] ds e q n l = let k : length ds ≡ 1 = ap length q in omega arith
+    deep (x ∷ es) ds e q n l = let k : length ds ≡ suc (length (es ++ (e ∷ []))) = ap length q in omega arith
+goes_reached loops v w a (Goes.out_of_loop e h) u l = tt
+goes_reached loops v w a (Goes.round_loop e h) u l = let k : length (loops w) ≡ length (loops v) = ap length e in omega arith
+
+-- ---- the times that an action's value comes from
+
+among_times : (t : Time) (ts : List Time) → Among t ts → 0 < times_in t ts
+among_times t [] h = absurd h
+among_times t (x ∷ ts) (inl e) = let k : cond {A = ℕ} (same_time t x) 1 0 ≡ 1 = ap (λ b. cond {A = ℕ} b 1 0) (ap (same_time t) e ∙ same_time_self t) in omega arith
+among_times t (x ∷ ts) (inr h) = let k = among_times t ts h in omega arith
+
+times_among : (t : Time) (ts : List Time) → 0 < times_in t ts → Among t ts
+times_among t [] h = absurd (omega arith)
+times_among t (x ∷ ts) h = go (same_time_tells t x) (times_among t ts)
+  where
+    go : ((same_time t x ≡ true) × (t ≡ x)) ⊎ ((same_time t x ≡ false) × (t ≢ x)) → (0 < times_in t ts → Among t ts) → (x ≡ t) ⊎ Among t ts
+    go (inl (a, b)) ih = inl (sym b)
+    go (inr (a, b)) ih = let k : cond {A = ℕ} (same_time t x) 1 0 ≡ 0 = ap (λ b. cond {A = ℕ} b 1 0) a in inr (ih (omega arith))
+
+among_all : (P : Time → Type 0) (t : Time) (ts : List Time) → AllByRecursion P ts → Among t ts → P t
+among_all P t [] a h = absurd h
+among_all P t (x ∷ ts) a (inl e) = subst P e a.0
+among_all P t (x ∷ ts) a (inr h) = among_all P t ts a.1 h
+
+abbrev OnceAtMost : Time → List Time → Type 0
+OnceAtMost t ts = (times_in t ts ≡ 0) ⊎ (times_in t ts ≡ 1)
+
+once_one : (t x : Time) → OnceAtMost t (x ∷ [])
+once_one t x = go (same_time t x)
+  where
+    go : (b : Bool) → (cond {A = ℕ} b 1 0 + 0 ≡ 0) ⊎ (cond {A = ℕ} b 1 0 + 0 ≡ 1)
+    go true = inr refl
+    go false = inl refl
+
+once_cond : (t x : Time) (b : Bool) → OnceAtMost t (cond b (x ∷ []) [])
+once_cond t x true = once_one t x
+once_cond t x false = inl refl
+
+map-append : (u : Time) (xs ys : List ℕ) → map (deeper u) (xs ++ ys) ≡ map (deeper u) xs ++ map (deeper u) ys
+map-append u [] ys = refl
+map-append u (x ∷ xs) ys = ap (λ z. deeper u x ∷ z) (map-append u xs ys)
+
+times_push : (t u : Time) (n : ℕ) → times_in t (map (deeper u) (below n ++ (n ∷ []))) ≡ times_in t (map (deeper u) (below n)) + times_in t (deeper u n ∷ [])
+times_push t u n = ap (times_in t) (map-append u (below n) (n ∷ [])) ∙ total-append (λ x. cond (same_time t x) 1 0) (map (deeper u) (below n)) (deeper u n ∷ [])
+
+none_below : (t u : Time) (m n : ℕ) → n ≤ m → t ≡ deeper u m → times_in t (map (deeper u) (below n)) ≡ 0
+none_below t u m zero l e = refl
+none_below t u m (suc n) l e = go (same_time_tells t (deeper u n)) (none_below t u m n (omega arith) e) (times_push t u n)
+  where
+    go : ((same_time t (deeper u n) ≡ true) × (t ≡ deeper u n)) ⊎ ((same_time t (deeper u n) ≡ false) × (t ≢ deeper u n)) → times_in t (map (deeper u) (below n)) ≡ 0 → times_in t (map (deeper u) (below n ++ (n ∷ []))) ≡ times_in t (map (deeper u) (below n)) + times_in t (deeper u n ∷ []) → times_in t (map (deeper u) (below n ++ (n ∷ []))) ≡ 0
+    go (inl (a, b)) ih p =
+        let x : last t.counters ≡ m = ap (λ (z : Time). last z.counters) e ∙ last-deeper u m in
+        let y : last t.counters ≡ n = ap (λ (z : Time). last z.counters) b ∙ last-deeper u n in
+        absurd (omega arith)
+    go (inr (a, b)) ih p = let k : cond {A = ℕ} (same_time t (deeper u n)) 1 0 ≡ 0 = ap (λ b. cond {A = ℕ} b 1 0) a in omega arith
+
+once_below : (t u : Time) (n : ℕ) → OnceAtMost t (map (deeper u) (below n))
+once_below t u zero = inl refl
+once_below t u (suc n) = go (same_time_tells t (deeper u n)) (once_below t u n) (times_push t u n)
+  where
+    go : ((same_time t (deeper u n) ≡ true) × (t ≡ deeper u n)) ⊎ ((same_time t (deeper u n) ≡ false) × (t ≢ deeper u n)) → OnceAtMost t (map (deeper u) (below n)) → times_in t (map (deeper u) (below n ++ (n ∷ []))) ≡ times_in t (map (deeper u) (below n)) + times_in t (deeper u n ∷ []) → (times_in t (map (deeper u) (below n ++ (n ∷ []))) ≡ 0) ⊎ (times_in t (map (deeper u) (below n ++ (n ∷ []))) ≡ 1)
+    go (inl (a, b)) ih p =
+        let z = none_below t u n n (omega arith) b in
+        let k : cond {A = ℕ} (same_time t (deeper u n)) 1 0 ≡ 1 = ap (λ b. cond {A = ℕ} b 1 0) a in inr (omega arith)
+    go (inr (a, b)) (inl z) p = let k : cond {A = ℕ} (same_time t (deeper u n)) 1 0 ≡ 0 = ap (λ b. cond {A = ℕ} b 1 0) a in inl (omega arith)
+    go (inr (a, b)) (inr z) p = let k : cond {A = ℕ} (same_time t (deeper u n)) 1 0 ≡ 0 = ap (λ b. cond {A = ℕ} b 1 0) a in inr (omega arith)
+
+sources_once : (a : Action) (t u : Time) → OnceAtMost t (sources a u)
+sources_once Action.stay t u = once_one t u
+sources_once Action.enter t u = once_cond t (outer u) (nat_eq (last u.counters) 0)
+sources_once Action.leave t u = once_below t u turn_count
+sources_once Action.next t u = once_cond t (deeper (outer u) (last u.counters - 1)) (nat_lt 0 (last u.counters))
+
+-- a time that its action's value doesn't count is that of a turn over the limit
+uncounted : (k : Kind) (t : Time) → (ends_turn k ≡ true → 0 < length t.counters) → times_in t (sources (action k) (after (action k) t)) ≡ 0 → (ends_turn k ≡ true) × (turn_count ≤ last t.counters)
+uncounted k t inside none = go k inside (λ d. let x = among_times t (sources (action k) (after (action k) t)) (sources_all (action k) t (after (action k) t) d refl) in omega arith)
+  where
+    over_limit : 0 < length t.counters → (b : Bool) → nat_lt (last t.counters) turn_count ≡ b → ((0 < length t.counters) × (last t.counters < turn_count) → ⊥) → turn_count ≤ last t.counters
+    over_limit l true e f = absurd (f (l, ltb-true (last t.counters) turn_count e))
+    over_limit l false e f = ltb-false (last t.counters) turn_count e
+
+    go : (k : Kind) → (ends_turn k ≡ true → 0 < length t.counters) → (Defined (action k) t → ⊥) → (ends_turn k ≡ true) × (turn_count ≤ last t.counters)
+    go Kind.egress i f = (refl, over_limit (i refl) (nat_lt (last t.counters) turn_count) refl f)
+    go Kind.feedback i f = absurd (f (i refl))
+    go Kind.input i f = absurd (f tt)
+    go Kind.output i f = absurd (f tt)
+    go Kind.concat i f = absurd (f tt)
+    go Kind.distinct i f = absurd (f tt)
+    go Kind.ingress i f = absurd (f tt)
+    go (Kind.select ss) i f = absurd (f tt)
+    go (Kind.filter c) i f = absurd (f tt)
+    go (Kind.join ps) i f = absurd (f tt)
+    go (Kind.group ks as') i f = absurd (f tt)
+    go (Kind.gate n) i f = absurd (f tt)
+    go (Kind.hold n) i f = absurd (f tt)
+
+-- ---- counts
+
+count-flat_map : (h : Time → List Record) (r : Record) (ts : List Time) → count r (flat_map h ts) ≡ total (λ t. count r (h t)) ts
+count-flat_map h r [] = refl
+count-flat_map h r (t ∷ ts) = count-append r (h t) (flat_map h ts) ∙ ap (λ n. count r (h t) + n) (count-flat_map h r ts)
+
+-- a key that is there is a record's
+keyed_record : (f : Record → Record) (k : Record) (xs : List Record) → 0 < count k (map f xs) → (r : Record) × (0 < count r xs) × (f r ≡ k)
+keyed_record f k [] h = absurd (omega arith)
+keyed_record f k (x ∷ xs) h = go (same (f x) k) refl (keyed_record f k xs)
+  where
+    go : (b : Bool) → same (f x) k ≡ b → (0 < count k (map f xs) → (r : Record) × (0 < count r xs) × (f r ≡ k)) → (r : Record) × (0 < count r (x ∷ xs)) × (f r ≡ k)
+    go true e ih = (x, count_here x xs, (Decides-same (f x) k).0 e)
+    go false e ih =
+        let n : one_if (same (f x) k) ≡ 0 = ap one_if e in
+        let s : (r : Record) × (0 < count r xs) × (f r ≡ k) = ih (omega arith) in
+        let l = s.1 in
+        (s.0, omega arith, s.2)
+
+-- ---- the laws
+
+home_below : (key : Option (Record → Record)) (b : Bool) (workers sender : ℕ) (r : Record) → sender < workers → home_by key b workers sender r < workers
+unfolding route
+home_below (Some key) b workers sender r l = mod-lt _ (let z : 0 < workers = omega arith in z)
+home_below None true workers sender r l = mod-lt _ (let z : 0 < workers = omega arith in z)
+home_below None false workers sender r l = l
+
+module _ (g : Graph) (flows : IsDataflow g) (workers : ℕ) (some : 0 < workers) where
+  abbrev net : Network
+  net = network g workers
+
+  abbrev kind : ℕ → Kind
+  kind v = (vertex g v).kind
+
+  full : (v : ℕ) → v < length g → length (vertex g v).ins ≡ in_ports (kind v)
+  full v l = flows.wired.full v l
+
+  goes_at : (e : ℕ) → e < edge_count g → Goes flows.loops (feeds g e).vertex (target g e) (action (kind (feeds g e).vertex))
+  goes_at e l = let k = entered g e l in flows.nested.goes (target g e) (in_port g e) k.known k.port
+
+  feeder_known : (e : ℕ) → e < edge_count g → (feeds g e).vertex < length g
+  feeder_known e l = let k = entered g e l in flows.wired.fed (target g e) (in_port g e) k.known k.port
+
+  no_source_target : (e : ℕ) → e < edge_count g → role_of (kind (target g e)) ≢ Role.source
+  no_source_target e l s =
+      let k = entered g e l in
+      let p = k.port in
+      let z : length (vertex g (target g e)).ins ≡ 0 = full (target g e) k.known ∙ ap in_ports (role_source (kind (target g e)) s) in
+      omega arith
+
+  no_sink_source : (e : ℕ) → e < edge_count g → role_of (kind (feeds g e).vertex) ≢ Role.sink
+  no_sink_source e l s =
+      let o = role_sink (kind (feeds g e).vertex) s in
+      let v : (feeds g e).vertex ≡ output_number g = flows.shaped.output_last (feeds g e).vertex (feeder_known e l) o in
+      let up : (feeds g e).vertex < target g e = goes_up flows.loops (feeds g e).vertex (target g e) _ (goes_at e l) (ap action o) in
+      let k = (entered g e l).known in
+      omega arith
+
+  grouping_known : (v : ℕ) → HasKeys (kind v) → v < length g
+  grouping_known v h = known_kind g v (λ e. sink_no_keys (kind v) e h)
+
+  output_known : output_number g < length g
+  output_known = let s = flows.shaped.some in omega arith
+
+  home_keyed : (e : ℕ) (k : ℕ) (r : Record) (key : Record → Record) → route_key (kind (target g e)) (in_port g e) ≡ Some key → home g workers k e r ≡ route (key r) workers
+  home_keyed e k r key s = ap (λ x. home_by x (is_input (kind (feeds g e).vertex)) workers k r) s
+
+  by_key : (k j e : ℕ) (r : Record) → HasKeys (kind (target g e)) → home g workers k e r ≡ home g workers j e r
+  by_key k j e r h =
+      let s : (key : Record → Record) × (route_key (kind (target g e)) (in_port g e) ≡ Some key) = has_route_key (kind (target g e)) h (in_port g e) in
+      home_keyed e k r s.0 s.1 ∙ sym (home_keyed e j r s.0 s.1)
+
+  -- op reads the ports alone
+  op_alike : (v q : ℕ) (t : Time) (a b : ℕ → List Record) → ((p : ℕ) → p < length (vertex g v).ins → a p ≈ b p) → op (kind v) t a q ≈ op (kind v) t b q
+  op_alike v q t a b h = go (known_or_none g v)
+    where
+      go : (v < length g) ⊎ (vertex g v ≡ no_vertex) → op (kind v) t a q ≈ op (kind v) t b q
+      go (inl l) = op_same (kind v) t a b q (λ i m. h i (omega (arith, full v l, m)))
+      go (inr e) = subst (λ (x : Vertex). op x.kind t a q ≈ op x.kind t b q) (sym e) (≈-refl [])
+
+  op_more : (v q : ℕ) (t : Time) (a b : ℕ → List Record) → role_of (kind v) ≢ Role.grouping → ((p : ℕ) → p < length (vertex g v).ins → IsPartOf (a p) (b p)) → IsPartOf (op (kind v) t a q) (op (kind v) t b q)
+  op_more v q t a b n h = go (known_or_none g v)
+    where
+      go : (v < length g) ⊎ (vertex g v ≡ no_vertex) → IsPartOf (op (kind v) t a q) (op (kind v) t b q)
+      go (inl l) = op_part (kind v) (role_grows (kind v) n) t a b q (λ i m. h i (omega (arith, full v l, m)))
+      go (inr e) = subst (λ (x : Vertex). IsPartOf (op x.kind t a q) (op x.kind t b q)) (sym e) (record { within = λ r. omega arith })
+
+  op_stateless : (v q : ℕ) (t : Time) (part : ℕ → ℕ → List Record) (n : ℕ) → role_of (kind v) ≡ Role.stateless → (r : Record) → count r (op (kind v) t (λ p. end_to_end (λ k. part k p) n) q) ≡ sum_below n (λ k. count r (op (kind v) t (part k) q))
+  op_stateless v q t part n s r =
+      let c : IsCut (kind v) part n = record { apart = λ i j li lj ne p p' lp lq f h e k. absurd (no_route_key (kind v) s p f e) } in
+      (op_cut (kind v) t part n q c).counts r ∙ counted-end_to_end (λ k. op (kind v) t (part k) q) n r
+
+  op_keyed : (v q : ℕ) (t : Time) (part : ℕ → ℕ → List Record) → HasKeys (kind v) → CutByKey net v part → (r : Record) → count r (op (kind v) t (all_parts net part) q) ≡ sum_below workers (λ k. count r (op (kind v) t (part k) q))
+  op_keyed v q t part h cut r =
+      (op_cut (kind v) t part workers q (record { apart = λ i j li lj ne p p' lp lq f f' e e'. record { never = λ k a b. ne (at i p f k li (ports p lp) e a ∙ sym (at j p' f' k lj (ports p' lq) e' b)) } })).counts r
+      ∙ counted-end_to_end (λ k. op (kind v) t (part k) q) workers r
+    where
+      ports : (p : ℕ) → p < in_ports (kind v) → p < length (vertex g v).ins
+      ports p l = omega (arith, full v (grouping_known v h), l)
+
+      -- the worker of a key is where its records are
+      at : (i p : ℕ) (f : Record → Record) (k : Record) → i < workers → p < length (vertex g v).ins → route_key (kind v) p ≡ Some f → 0 < count k (map f (part i p)) → i ≡ route k workers
+      at i p f k li lp e c =
+          let s : (r : Record) × (0 < count r (part i p)) × (f r ≡ k) = keyed_record f k (part i p) c in
+          let w = into g v p lp in
+          let e' : route_key (kind (target g (edge_into g v p))) (in_port g (edge_into g v p)) ≡ Some f = ap (λ x. route_key (kind x) (in_port g (edge_into g v p))) w.vertex ∙ ap (route_key (kind v)) w.port ∙ e in
+          sym (cut i p li lp s.0 s.1 0) ∙ home_keyed (edge_into g v p) 0 s.0 f e' ∙ ap (λ z. route z workers) s.2
+
+  depth_home : (v : ℕ) → v < length g → length (flows.loops v) ≡ (vertex g v).depth
+  depth_home v l = flows.nested.homes v l
+
+  fits_back : (e : ℕ) (t u : Time) → e < edge_count g → Fits g (Location.edge e) u → 0 < times_in t (sources (action (kind (feeds g e).vertex)) u) → Fits g (Location.vertex (feeds g e).vertex) t
+  fits_back e t u l f h =
+      let k = entered g e l in
+      let s : StepRises flows.loops (feeds g e).vertex (target g e) u t =
+      among_all (StepRises flows.loops (feeds g e).vertex (target g e) u) t (sources (action (kind (feeds g e).vertex)) u)
+      (step_rises flows.loops (feeds g e).vertex (target g e) (action (kind (feeds g e).vertex)) (goes_at e l) u (f.1 ∙ sym (depth_home (target g e) k.known)))
+      (times_among t (sources (action (kind (feeds g e).vertex)) u) h) in
+      (feeder_known e l, s.0 ∙ depth_home (feeds g e).vertex (feeder_known e l))
+
+  before_acts : (e : ℕ) (t u : Time) → e < edge_count g → Fits g (Location.edge e) u → 0 < times_in t (sources (action (kind (feeds g e).vertex)) u) → after (action (kind (feeds g e).vertex)) t ≡ u
+  before_acts e t u l f h =
+      sources_only (action (kind (feeds g e).vertex)) t u
+      (goes_reached flows.loops (feeds g e).vertex (target g e) (action (kind (feeds g e).vertex)) (goes_at e l) u (f.1 ∙ sym (depth_home (target g e) (entered g e l).known)))
+      (times_among t (sources (action (kind (feeds g e).vertex)) u) h)
+
+  fits_enter : (e : ℕ) (t : Time) → e < edge_count g → Fits g (Location.edge e) t → Fits g (Location.vertex (target g e)) t
+  fits_enter e t l f = step_fits g flows.loops flows.wired flows.nested (PathStep.enters e) t l f
+
+  fits_leave : (e : ℕ) (t : Time) → e < edge_count g → Fits g (Location.vertex (feeds g e).vertex) t → Fits g (Location.edge e) (after (action (kind (feeds g e).vertex)) t)
+  fits_leave e t l f = step_fits g flows.loops flows.wired flows.nested (PathStep.leaves e) t l f
+
+  fits_source : (v n : ℕ) → role_of (kind v) ≡ Role.source → Fits g (Location.vertex v) (at_epoch n)
+  fits_source v n s =
+      let i = role_source (kind v) s in
+      let l : v < length g = known_kind g v (λ e. let x : Kind.input ≡ Kind.output = sym i ∙ e in cc) in
+      (l, sym (flows.shaped.flat v l (inl i)))
+
+  pub network_is : IsNetwork net
+  network_is =
+      record {
+        target_ports = λ e l. (entered g e l).port;
+        into_target = λ e l. (entered g e l).back;
+        into_is_edge = λ v p l. (into g v p l).edge;
+        target_into = λ v p l. (into g v p l).vertex;
+        port_into = λ v p l. (into g v p l).port;
+        no_source_target = no_source_target;
+        no_sink_source = no_sink_source;
+        one_port = λ v s. full v (grouping_known v (inr s)) ∙ role_grouping (kind v) s;
+        output_port = full (output_number g) output_known ∙ ap in_ports flows.shaped.has_output;
+        only_output = λ e l s. flows.shaped.output_last (target g e) (entered g e l).known (role_sink (kind (target g e)) s);
+        output_sink = ap role_of flows.shaped.has_output;
+        input_is_source = λ i l. ap role_of (input_kind g i l);
+        source_is_input = λ v s. flows.shaped.inputs_first v (fits_source v 0 s).0 (role_source (kind v) s);
+        has_worker = some;
+        routed = λ k e r l. home_below (route_key (kind (target g e)) (in_port g e)) (is_input (kind (feeds g e).vertex)) workers k r l;
+        by_key = by_key;
+        source_act = λ v t s. ap (λ x. after (action x) t) (role_source (kind v) s);
+        before_once = λ v t u. sources_once (action (kind v)) t u;
+        before_acts = before_acts;
+        op_same = op_alike;
+        op_nothing = λ v q t a h. empty_from_same _ (≈-trans (op_alike v q t a (λ p. []) (λ p l. ≈-from (h p l))) (≈-from (op_nothing (kind v) t q)));
+        op_stateless = op_stateless;
+        op_cut = op_keyed;
+        op_more = op_more;
+        fits_enter = fits_enter;
+        fits_into = λ v p t l f. let w = into g v p l in (w.edge, f.1 ∙ sym (ap (λ x. (vertex g x).depth) w.vertex));
+        fits_leave = fits_leave;
+        fits_back = fits_back;
+        fits_source = fits_source;
+        fits_output = λ n. (output_known, sym (flows.shaped.flat (output_number g) output_known (inr flows.shaped.has_output)));
+        could_self = λ p f. could_self g flows.loops flows.wired flows.nested p f;
+        could_on = λ p q s a b. could_on g flows.loops flows.wired flows.nested p q s a b;
+        could_fits = λ p q a. a.ends;
+        could_enter = λ e t l f. record { starts = f; ends = fits_enter e t l f; path = PathStep.enters e ∷ []; leads = (l, refl, refl); in_time = at_most_refl t };
+        could_leave = λ e t l f. record { starts = f; ends = fits_leave e t l f; path = PathStep.leaves e ∷ []; leads = (l, refl, refl); in_time = at_most_refl _ };
+        could_later = λ v n s. record { starts = fits_source v n s; ends = fits_source v (n + 1) s; path = []; leads = refl; in_time = record { epochs = omega arith; counters = inl refl } };
+        founded = λ p. could_founded g flows.loops flows.wired flows.nested p;
+      }
+
+  -- ---- the flow
+
+  place_at : (e : ℕ) (t : Time) → e < edge_count g → Fits g (Location.edge e) t → IsPlace g (target g e) (in_port g e) t
+  place_at e t l f = let k = entered g e l in record { is_vertex = k.known; is_port = k.port; has_depth = f.1 }
+
+  not_input_sends : (inputs : Inputs) (k : Kind) (f : Flow) (v out : ℕ) (u : Time) → role_of k ≢ Role.source → sends inputs k f v out u ≡ sent_by k f v out u
+  not_input_sends inputs Kind.input f v out u n = absurd (n refl)
+  not_input_sends inputs Kind.output f v out u n = refl
+  not_input_sends inputs Kind.concat f v out u n = refl
+  not_input_sends inputs Kind.distinct f v out u n = refl
+  not_input_sends inputs Kind.ingress f v out u n = refl
+  not_input_sends inputs Kind.egress f v out u n = refl
+  not_input_sends inputs Kind.feedback f v out u n = refl
+  not_input_sends inputs (Kind.select ss) f v out u n = refl
+  not_input_sends inputs (Kind.filter c) f v out u n = refl
+  not_input_sends inputs (Kind.join ps) f v out u n = refl
+  not_input_sends inputs (Kind.group ks as') f v out u n = refl
+  not_input_sends inputs (Kind.gate m) f v out u n = refl
+  not_input_sends inputs (Kind.hold m) f v out u n = refl
+
+  no_turns : (fed : Inputs) (i epoch : ℕ) (turns : List ℕ) → length turns ≡ 0 → fed i epoch ≡ cond (same_counters turns []) (fed i epoch) []
+  no_turns fed i epoch [] l = refl
+  no_turns fed i epoch (c ∷ cs) l = absurd (omega arith)
+
+  pub net_flow : (fed : Inputs) (f : Flow) → IsFlow g fed f → IsNetFlow net fed (edge_flow g f)
+  unfolding leaves
+  net_flow fed f is =
+      record {
+        from_input = λ e t l fits s.
+            let i = role_source (kind (feeds g e).vertex) s in
+            let flat : length t.counters ≡ 0 =
+            fits.1 ∙ sym (depth_home (target g e) (entered g e l).known)
+            ∙ ap length (goes_flat flows.loops (feeds g e).vertex (target g e) _ (goes_at e l) (ap action i))
+            ∙ depth_home (feeds g e).vertex (feeder_known e l) ∙ flows.shaped.flat (feeds g e).vertex (feeder_known e l) (inl i) in
+            ≈-trans (is.equations (target g e) (in_port g e) t (place_at e t l fits))
+            (≈-from (ap (λ k. sends fed k f (feeds g e).vertex (feeds g e).out t) i ∙ no_turns fed (feeds g e).vertex t.epoch t.counters flat));
+        from_vertex = λ e u l fits s r.
+            (is.equations (target g e) (in_port g e) u (place_at e u l fits)).counts r
+            ∙ ap (count r) (not_input_sends fed (kind (feeds g e).vertex) f (feeds g e).vertex (feeds g e).out u s)
+            ∙ count-flat_map (λ t. op (kind (feeds g e).vertex) t (λ i. f (feeds g e).vertex i t) (feeds g e).out) r (sources (action (kind (feeds g e).vertex)) u)
+            ∙ total_same _ _ (sources (action (kind (feeds g e).vertex)) u) (λ t.
+            (op_alike (feeds g e).vertex (feeds g e).out t (λ i. f (feeds g e).vertex i t) (ins net (edge_flow g f) (feeds g e).vertex t) (λ p lp.
+            let w = into g (feeds g e).vertex p lp in
+            ≈-from (ap (λ x. f x p t) (sym w.vertex) ∙ ap (λ x. f (target g (edge_into g (feeds g e).vertex p)) x t) (sym w.port)))).counts r);
+        within = λ e t l fits none.
+            let k = (entered g e l).known in
+            let x = uncounted (kind (target g e)) t (λ h. let d = flows.shaped.inside (target g e) k h in omega (arith, fits.1, d)) none in
+            empty_from_same _ (flows.quiet.quiet fed f is (target g e) (in_port g e) t (place_at e t l fits) x.0 x.1);
+      }
+
+  pub net_flows : HasFlows net
+  net_flows fed =
+      let one = one_flow g flows.loops flows.wired (rises_from_nested g flows.loops flows.nested flows.wired) fed in
+      (edge_flow g one.flow, net_flow fed one.flow one.is_only.is_flow)

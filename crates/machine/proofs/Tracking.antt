@@ -1,0 +1,63 @@
+-- What a tracker and a view of the active places may rest on, for the graph of a program.
+use Rattle.std.proofs.Common.{◌≡◌, ◌<◌, ◌+◌, ◌↔◌, ℕ, Bool, List}
+use Rattle.semantics.specs.Multiset.{◌≈◌, IsPartOf}
+use Rattle.semantics.specs.Time.{Time}
+use Rattle.semantics.specs.Graph.{Graph}
+use Rattle.semantics.specs.Flow.{Flow, IsFlow}
+use Rattle.semantics.specs.Place.{Place, Location, on_edge}
+use Rattle.semantics.specs.Edges.{edge_count, edge_flow}
+use Rattle.semantics.specs.Could.{Fits}
+use Rattle.semantics.specs.Dataflow.{IsDataflow}
+use Rattle.machine.specs.World.{World, IsActive, NoneBefore, NoOtherBefore, Passed}
+use Rattle.machine.specs.Step.{Step, Allowed, after}
+use Rattle.machine.specs.Engine.{network}
+use Rattle.machine.specs.Headline.{IsRunOn}
+use Rattle.machine.specs.Active.{active_count, step_adds, step_removes}
+use Rattle.machine.specs.Views.{AppliesInOrder, SeesNoneBefore, SeesNoOtherBefore}
+use Rattle.machine.proofs.Laws.{IsNetwork}
+use Rattle.machine.proofs.NetFlow.{HasFlows}
+use Rattle.machine.proofs.Kept.{Headline}
+use Rattle.machine.proofs.Engine.{network_is, net_flow, net_flows}
+use Rattle.machine.proofs.Active.{counted, active, count_step}
+use Rattle.machine.proofs.Runs.{keep_reached, every_run_keeps, passed_stays_on}
+use Rattle.machine.proofs.Logs.{view_sound}
+
+module _ (g : Graph) (flows : IsDataflow g) (workers : ℕ) (some : 0 < workers) where
+  pub active_counts : (w : World) (place : Place) → IsActive (network g workers) w place ↔ (0 < active_count (network g workers) w place)
+  active_counts w place = (counted (network g workers) (network_is g flows workers some) w place, active (network g workers) (network_is g flows workers some) w place)
+
+  pub count_after : (w : World) (step : Step) → Allowed (network g workers) w step → (place : Place)
+      → active_count (network g workers) (after (network g workers) w step) place + step_removes (network g workers) w step place ≡ active_count (network g workers) w place + step_adds (network g workers) w step place
+  count_after w step ok place = count_step (network g workers) (network_is g flows workers some) w step ok place
+
+module _ (g : Graph) (workers : ℕ) (steps : List Step) (w : World) (is : IsRunOn g workers steps w) where
+  laws : IsNetwork (network g workers)
+  laws = network_is g is.flows workers is.some
+
+  have_flows : HasFlows (network g workers)
+  have_flows = net_flows g is.flows workers is.some
+
+  -- of a flow on what was fed
+  pub kept : (f : Flow) → IsFlow g w.fed f → Headline (network g workers) w (edge_flow g f)
+  kept f h = every_run_keeps (network g workers) laws have_flows w (steps, is.run) (edge_flow g f) (net_flow g is.flows workers is.some w.fed f h)
+
+  pub sent_part : (f : Flow) → IsFlow g w.fed f → (edge : ℕ) (t : Time) → edge < edge_count g → Fits g (Location.edge edge) t → IsPartOf (w.sent edge t) (edge_flow g f edge t)
+  sent_part f h edge t l fits = (kept f h).part edge t l fits
+
+  pub sent_whole : (f : Flow) → IsFlow g w.fed f → (edge : ℕ) (t : Time) → edge < edge_count g → Fits g (Location.edge edge) t → NoneBefore (network g workers) w (on_edge edge t) → w.sent edge t ≈ edge_flow g f edge t
+  sent_whole f h edge t l fits none = (kept f h).whole edge t l fits none
+
+  pub passed_stays : (step : Step) → Allowed (network g workers) w step → (epoch : ℕ) → Passed (network g workers) w epoch → Passed (network g workers) (after (network g workers) w step) epoch
+  passed_stays step ok epoch passed = passed_stays_on (network g workers) laws have_flows w (steps, is.run) step ok epoch passed
+
+  module _ (flags : List Bool) (order : AppliesInOrder (network g workers) steps flags) (place : Place) where
+    sound : (SeesNoneBefore (network g workers) steps flags place → NoneBefore (network g workers) w place) × (SeesNoOtherBefore (network g workers) steps flags place → NoOtherBefore (network g workers) w place)
+    sound =
+        let kept = keep_reached (network g workers) laws have_flows w (steps, is.run) in
+        view_sound (network g workers) laws have_flows steps flags w is.run kept.0 kept.1 order place
+
+    pub view_none : SeesNoneBefore (network g workers) steps flags place → NoneBefore (network g workers) w place
+    view_none = sound.0
+
+    pub view_no_other : SeesNoOtherBefore (network g workers) steps flags place → NoOtherBefore (network g workers) w place
+    view_no_other = sound.1

@@ -1,0 +1,158 @@
+-- The graph of a relation and of a program.
+use Rattle.std.specs.Prelude.{ℕ, suc, ◌+◌, Bool, cond, not, List, [], ◌∷◌, ◌++◌, map, filter, length}
+use Rattle.semantics.specs.Graph.{Kind, Port, no_port, Vertex, Graph}
+use Rattle.semantics.specs.Meaning.{same_name}
+use Rattle.semantics.specs.Query.{Name, Rel, Input, Let, Program}
+
+-- ---- names
+
+-- y is another name than x
+abbrev pub other_than : Name → Name → Bool
+other_than x y = not (same_name x y)
+
+-- the names that occur free, in order, with repeats
+abbrev pub free : Rel → List Name
+free (Rel.named x) = x ∷ []
+free (Rel.select r ss) = free r
+free (Rel.filter r c) = free r
+free (Rel.concat p q) = free p ++ free q
+free (Rel.join p q ps) = free p ++ free q
+free (Rel.group r ks as') = free r
+free (Rel.distinct r) = free r
+free (Rel.iterate n x r b) = free r ++ filter (other_than x) (free b)
+
+-- each name once, where it occurs first
+abbrev pub firsts : List Name → List Name
+firsts [] = []
+firsts (x ∷ xs) = x ∷ filter (other_than x) (firsts xs)
+
+-- the names that a loop's body takes from outside
+abbrev pub carried : Name → Rel → List Name
+carried x b = firsts (filter (other_than x) (free b))
+
+-- ---- the vertices that a relation makes, and the port that it gives
+
+-- the port that each name stands for
+abbrev pub Ports : Type 0
+Ports = Name → Port
+
+-- x stands for p, and the others for what they stood for
+abbrev pub stands_for : Name → Port → Ports → Ports
+stands_for x p ports y = cond (same_name x y) p (ports y)
+
+-- a port by its numbers
+abbrev pub port : ℕ → ℕ → Port
+port v out = record { vertex = v; out = out }
+
+-- a vertex by its parts
+abbrev pub fed_by : Kind → ℕ → List Port → Vertex
+fed_by kind depth ins = record { kind = kind; depth = depth; ins = ins }
+
+-- for each carried name: ingress, concat, hold and feedback, from number k on; d is the depth outside
+abbrev pub carry : ℕ → Ports → ℕ → ℕ → List Name → List Vertex
+carry n ports d k [] = []
+carry n ports d k (y ∷ ys) =
+    fed_by Kind.ingress d (ports y ∷ [])
+    ∷ fed_by Kind.concat (suc d) (port k 0 ∷ port (suc (suc (suc k))) 0 ∷ [])
+    ∷ fed_by (Kind.hold n) (suc d) (port (suc k) 0 ∷ [])
+    ∷ fed_by Kind.feedback (suc d) (port (suc (suc k)) 1 ∷ [])
+    ∷ carry n ports d (suc (suc (suc (suc k)))) ys
+
+-- each carried name stands for its hold
+abbrev pub held : Ports → ℕ → List Name → Ports
+held ports k [] = ports
+held ports k (y ∷ ys) = stands_for y (port (suc (suc k)) 0) (held ports (suc (suc (suc (suc k)))) ys)
+
+-- the vertices made, and the port that the relation gives
+pub record Lowered : Type 0 where
+  pub made : List Vertex
+  pub gives : Port
+
+-- a vertex after those of its relation
+abbrev pub then_one : ℕ → Lowered → Kind → ℕ → Lowered
+then_one k r kind d = record { made = r.made ++ (fed_by kind d (r.gives ∷ []) ∷ []); gives = port (k + length r.made) 0 }
+
+abbrev pub then_two : ℕ → Lowered → Lowered → Kind → ℕ → Lowered
+then_two k p q kind d = record { made = p.made ++ (q.made ++ (fed_by kind d (p.gives ∷ q.gives ∷ []) ∷ [])); gives = port (k + length p.made + length q.made) 0 }
+
+-- a loop after its start r; k is the number of its first vertex, ys are the names that it carries, b is its body
+abbrev pub looped : ℕ → ℕ → Lowered → Ports → ℕ → List Name → Lowered → Lowered
+looped n k r ports d ys b =
+    let first = suc (suc (suc k)) + length (carry n ports d (suc (suc (suc k))) ys) in
+    let last = first + length b.made in
+    record {
+      made = fed_by Kind.ingress d (r.gives ∷ [])
+          ∷ fed_by Kind.concat (suc d) (port k 0 ∷ port last 0 ∷ [])
+          ∷ fed_by (Kind.gate n) (suc d) (port (suc k) 0 ∷ [])
+          ∷ (carry n ports d (suc (suc (suc k))) ys
+          ++ (b.made
+          ++ (fed_by Kind.feedback (suc d) (b.gives ∷ [])
+          ∷ fed_by Kind.egress (suc d) (port (suc (suc k)) 1 ∷ [])
+          ∷ [])));
+      gives = port (suc last) 0;
+    }
+
+-- a loop after its start
+abbrev pub after_start : Lowered → Lowered → Lowered
+after_start r l = record { made = r.made ++ l.made; gives = l.gives }
+
+-- of a relation at depth d, from number k on
+unfoldable pub lower : Rel → Ports → ℕ → ℕ → Lowered
+lower (Rel.named x) ports d k = record { made = []; gives = ports x }
+lower (Rel.select r ss) ports d k = then_one k (lower r ports d k) (Kind.select ss) d
+lower (Rel.filter r c) ports d k = then_one k (lower r ports d k) (Kind.filter c) d
+lower (Rel.concat p q) ports d k =
+    let l = lower p ports d k in
+    then_two k l (lower q ports d (k + length l.made)) Kind.concat d
+lower (Rel.join p q ps) ports d k =
+    let l = lower p ports d k in
+    then_two k l (lower q ports d (k + length l.made)) (Kind.join ps) d
+lower (Rel.group r ks as') ports d k = then_one k (lower r ports d k) (Kind.group ks as') d
+lower (Rel.distinct r) ports d k = then_one k (lower r ports d k) Kind.distinct d
+lower (Rel.iterate n x r b) ports d k =
+    let start = lower r ports d k in
+    let loop = k + length start.made in
+    let outside = suc (suc (suc loop)) in
+    let ys = carried x b in
+    let inside = stands_for x (port (suc (suc loop)) 0) (held ports outside ys) in
+    after_start start (looped n loop start ports d ys (lower b inside (suc d) (outside + length (carry n ports d outside ys))))
+
+-- ---- programs
+
+-- a vertex for each input
+abbrev pub input_vertices : List Input → List Vertex
+input_vertices as' = map (λ a. fed_by Kind.input 0 []) as'
+
+-- each input's name stands for its vertex; the first is the number i
+abbrev pub input_ports : List Input → ℕ → Ports
+input_ports [] i x = no_port
+input_ports (a ∷ as') i x = stands_for a.name (port i 0) (input_ports as' (suc i)) x
+
+-- the vertices made, and what the names then stand for
+pub record LoweredLets : Type 0 where
+  pub made : List Vertex
+  pub ports : Ports
+
+-- each let in order
+unfoldable pub lower_lets : List Let → Ports → ℕ → LoweredLets
+lower_lets [] ports k = record { made = []; ports = ports }
+lower_lets (a ∷ as') ports k =
+    let r = lower a.value ports 0 k in
+    let rest = lower_lets as' (stands_for a.name r.gives ports) (k + length r.made) in
+    record { made = r.made ++ rest.made; ports = rest.ports }
+
+-- the lets of a program
+abbrev pub lets_of : Program → LoweredLets
+lets_of p = lower_lets p.lets (input_ports p.inputs 0) (length p.inputs)
+
+-- the output of a program
+abbrev pub output_of : Program → Lowered
+output_of p = lower p.output (lets_of p).ports 0 (length p.inputs + length (lets_of p).made)
+
+-- the graph of a program
+unfoldable pub lowered : Program → Graph
+lowered p = input_vertices p.inputs ++ ((lets_of p).made ++ ((output_of p).made ++ (fed_by Kind.output 0 ((output_of p).gives ∷ []) ∷ [])))
+
+-- the number of the output vertex, the last
+abbrev pub output_vertex : Program → ℕ
+output_vertex p = length p.inputs + length (lets_of p).made + length (output_of p).made

@@ -1,0 +1,134 @@
+-- What scalars, conditions and relations mean.
+use Rattle.std.specs.Prelude.{ℕ, zero, suc, ◌-◌, ◌^◌, Bool, cond, not, ◌&&◌, ◌||◌, List, [], ◌∷◌, ◌++◌, map, filter, flat_map, ℤ, pos, negsuc, ◌+ℤ◌, ◌-ℤ◌, ◌*ℤ◌, neg_ℤ, slice_index_or, nat_eq}
+use Rattle.std.specs.Cmp.Lexicographic.{pointwise}
+use Rattle.std.specs.Ordering.{int_eq}
+use Rattle.std.specs.Int.RustNames.{int_lt, int_le}
+use Rattle.std.specs.Int.{int_wrap, int_min, int_max}
+use mir.Syntax.{w64}
+use Rattle.semantics.specs.Multiset.{Record, same, total, each_once}
+use Rattle.semantics.specs.Query.{Scalar, Comparison, Cond, Agg, Name, Pair, Rel, Input, Let, Program}
+
+-- a field by its number
+abbrev pub field : ℕ → Record → ℤ
+field c r = slice_index_or r c (pos 0)
+
+-- the whole number, without bound
+abbrev pub exact : Scalar → Record → ℤ
+exact (Scalar.column c) r = field c r
+exact (Scalar.literal z) r = z
+exact (Scalar.plus s t) r = exact s r +ℤ exact t r
+exact (Scalar.minus s t) r = exact s r -ℤ exact t r
+exact (Scalar.times s t) r = exact s r *ℤ exact t r
+exact (Scalar.negation s) r = neg_ℤ (exact s r)
+
+-- brought to 64 bits
+abbrev pub value : Scalar → Record → ℤ
+value s r = int_wrap w64 (exact s r)
+
+-- how a comparison comes out
+abbrev pub compares : Comparison → ℤ → ℤ → Bool
+compares Comparison.equal a b = int_eq a b
+compares Comparison.not_equal a b = not (int_eq a b)
+compares Comparison.less a b = int_lt a b
+compares Comparison.at_most a b = int_le a b
+compares Comparison.greater a b = int_lt b a
+compares Comparison.at_least a b = int_le b a
+
+-- the condition is true of the record
+abbrev pub holds : Cond → Record → Bool
+holds (Cond.compare c s t) r = compares c (value s r) (value t r)
+holds (Cond.conjunction c d) r = holds c r && holds d r
+holds (Cond.disjunction c d) r = holds c r || holds d r
+holds (Cond.negation c) r = not (holds c r)
+
+-- those columns, in that order
+abbrev pub pick : List ℕ → Record → Record
+pick cs r = map (λ c. field c r) cs
+
+-- from the last record on, each taken into b
+abbrev pub gather : {B : Type 0} → (Record → B → B) → B → List Record → B
+gather f b [] = b
+gather f b (x ∷ xs) = f x (gather f b xs)
+
+-- an aggregate over records, with repeats
+abbrev pub aggregate : Agg → List Record → ℤ
+aggregate Agg.count rs = int_wrap w64 (pos (total (λ r. 1) rs))
+aggregate (Agg.sum c) rs = int_wrap w64 (gather (λ r n. field c r +ℤ n) (pos 0) rs)
+aggregate (Agg.min c) rs = gather (λ r n. int_min (field c r) n) (pos (2 ^ 63 - 1)) rs
+aggregate (Agg.max c) rs = gather (λ r n. int_max (field c r) n) (negsuc (2 ^ 63 - 1)) rs
+
+-- ---- the forms, on multisets
+
+-- each record's scalars
+abbrev pub selected : List Scalar → List Record → List Record
+selected ss xs = map (λ r. map (λ s. value s r) ss) xs
+
+-- the records at which the condition is true
+abbrev pub kept : Cond → List Record → List Record
+kept c xs = filter (holds c) xs
+
+-- the left columns of pairs
+abbrev pub lefts : List Pair → List ℕ
+lefts ps = map (λ p. p.left) ps
+
+-- the right columns of pairs
+abbrev pub rights : List Pair → List ℕ
+rights ps = map (λ p. p.right) ps
+
+-- each a with each b that agrees with it, a's fields first
+abbrev pub paired : List Pair → List Record → List Record → List Record
+paired ps xs ys = flat_map (λ a. map (λ b. a ++ b) (filter (λ b. same (pick (lefts ps) a) (pick (rights ps) b)) ys)) xs
+
+-- the records with that key
+abbrev pub with_key : List ℕ → Record → List Record → List Record
+with_key ks k xs = filter (λ r. same (pick ks r) k) xs
+
+-- a record for each key that is present
+abbrev pub grouped : List ℕ → List Agg → List Record → List Record
+grouped ks as' xs = map (λ k. k ++ map (λ a. aggregate a (with_key ks k xs)) as') (each_once (map (pick ks) xs))
+
+-- ---- relations
+
+-- what each name means
+abbrev pub Names : Type 0
+Names = Name → List Record
+
+-- the names are equal
+abbrev pub same_name : Name → Name → Bool
+same_name x y = pointwise nat_eq x y
+
+-- x means xs, and the others what they meant
+abbrev pub bind : Name → List Record → Names → Names
+bind x xs names y = cond (same_name x y) xs (names y)
+
+-- n times
+abbrev pub repeated : {A : Type 0} → (A → A) → ℕ → A → A
+repeated f zero a = a
+repeated f (suc n) a = f (repeated f n a)
+
+-- what a relation means, where the names mean that
+unfoldable pub meaning : Rel → Names → List Record
+meaning (Rel.named x) names = names x
+meaning (Rel.select r ss) names = selected ss (meaning r names)
+meaning (Rel.filter r c) names = kept c (meaning r names)
+meaning (Rel.concat p q) names = meaning p names ++ meaning q names
+meaning (Rel.join p q ps) names = paired ps (meaning p names) (meaning q names)
+meaning (Rel.group r ks as') names = grouped ks as' (meaning r names)
+meaning (Rel.distinct r) names = each_once (meaning r names)
+meaning (Rel.iterate n x r b) names = repeated (λ xs. meaning b (bind x xs names)) n (meaning r names)
+
+-- ---- programs, for the multisets of one epoch
+
+-- each input's name means its records; the first is the number i
+abbrev pub input_names : List Input → ℕ → (ℕ → List Record) → Names
+input_names [] i records x = []
+input_names (a ∷ as') i records x = bind a.name (records i) (input_names as' (suc i) records) x
+
+-- after each let, its name means its relation
+unfoldable pub let_names : List Let → Names → Names
+let_names [] names = names
+let_names (a ∷ as') names = let_names as' (bind a.name (meaning a.value names) names)
+
+-- what a program means on the records of its inputs
+unfoldable pub program_meaning : Program → (ℕ → List Record) → List Record
+program_meaning p records = meaning p.output (let_names p.lets (input_names p.inputs 0 records))

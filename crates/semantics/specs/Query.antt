@@ -1,0 +1,60 @@
+-- The trees of a query, without spans.
+use Rattle.std.specs.Prelude.{ℕ, ℤ, List}
+
+-- what is computed of a record
+pub data Scalar : Type 0 where
+  column : ℕ → Scalar
+  literal : ℤ → Scalar
+  plus minus times : Scalar → Scalar → Scalar
+  negation : Scalar → Scalar
+
+-- how two scalars are compared
+pub data Comparison : Type 0 where
+  equal not_equal less at_most greater at_least : Comparison
+
+-- conditions on a record
+pub data Cond : Type 0 where
+  compare : Comparison → Scalar → Scalar → Cond
+  conjunction disjunction : Cond → Cond → Cond
+  negation : Cond → Cond
+
+-- aggregates of a group; a number is a column
+pub data Agg : Type 0 where
+  count : Agg
+  sum min max : ℕ → Agg
+
+-- the bytes of a name
+abbrev pub Name : Type 0
+Name = List ℕ
+
+-- a pair of columns of a join
+pub record Pair : Type 0 where
+  pub left : ℕ
+  pub right : ℕ
+
+-- relations
+pub data Rel : Type 0 where
+  named : Name → Rel
+  select : Rel → List Scalar → Rel
+  filter : Rel → Cond → Rel
+  concat : Rel → Rel → Rel
+  join : Rel → Rel → List Pair → Rel
+  group : Rel → List ℕ → List Agg → Rel
+  distinct : Rel → Rel
+  iterate : ℕ → Name → Rel → Rel → Rel
+
+-- an input and its arity
+pub record Input : Type 0 where
+  pub name : Name
+  pub arity : ℕ
+
+-- a named relation
+pub record Let : Type 0 where
+  pub name : Name
+  pub value : Rel
+
+-- inputs, named relations in order, and what is put out
+pub record Program : Type 0 where
+  pub inputs : List Input
+  pub lets : List Let
+  pub output : Rel

@@ -1,0 +1,27 @@
+-- The worker to which a record goes.
+use Rattle.std.specs.Prelude.{ℕ, ◌+◌, ◌*◌, ◌%◌, ◌^◌, Bool, true, false, [], ◌∷◌, Option, Some, None}
+use Rattle.std.specs.Int.{cast_unsigned}
+use mir.Syntax.{w64}
+use Rattle.semantics.specs.Multiset.{Record}
+use Rattle.semantics.specs.Graph.{is_input, Graph, vertex}
+use Rattle.semantics.specs.Cut.{route_key}
+use Rattle.semantics.specs.Edges.{target, in_port, feeds}
+
+-- each field read as an unsigned number of 64 bits
+abbrev pub hash_from : ℕ → Record → ℕ
+hash_from h [] = h
+hash_from h (v ∷ vs) = hash_from ((31 * h + cast_unsigned w64 v) % 2 ^ 64) vs
+
+-- the worker of a key, out of `workers`
+unfoldable pub route : Record → ℕ → ℕ
+route key workers = hash_from 7 key % workers
+
+-- by the key, where the edge's target has one; else by the whole record out of an input; else at the sender's
+abbrev pub home_by : Option (Record → Record) → (from_input : Bool) → (workers sender : ℕ) → Record → ℕ
+home_by (Some key) from_input workers sender r = route (key r) workers
+home_by None true workers sender r = route r workers
+home_by None false workers sender r = sender
+
+-- where a record goes on an edge
+abbrev pub home : Graph → (workers sender edge : ℕ) → Record → ℕ
+home g workers sender e r = home_by (route_key (vertex g (target g e)).kind (in_port g e)) (is_input (vertex g (feeds g e).vertex).kind) workers sender r

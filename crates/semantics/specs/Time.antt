@@ -1,0 +1,86 @@
+-- Times: an epoch and the counters of the loops around a place, outermost first.
+use Rattle.std.specs.Prelude.{◌≡◌, ◌⊎◌, ℕ, zero, suc, ◌-◌, ◌≤◌, nat_lt, nat_eq, Bool, true, false, cond, ◌&&◌, ◌||◌, List, [], ◌∷◌, ◌++◌, map}
+use Rattle.std.specs.Cmp.Lexicographic.{pointwise}
+
+-- the counters stand outermost first
+pub record Time : Type 0 where
+  pub epoch : ℕ
+  pub counters : List ℕ
+
+-- the last of c and those after it
+abbrev pub last_from : ℕ → List ℕ → ℕ
+last_from c [] = c
+last_from c (d ∷ ds) = last_from d ds
+
+-- all of c and those after it, but the last
+abbrev pub front_from : ℕ → List ℕ → List ℕ
+front_from c [] = []
+front_from c (d ∷ ds) = c ∷ front_from d ds
+
+-- the last counter, 0 where there is none
+abbrev pub last : List ℕ → ℕ
+last cs = last_from 0 cs
+
+-- all but the last
+abbrev pub front : List ℕ → List ℕ
+front [] = []
+front (c ∷ cs) = front_from c cs
+
+-- with another counter
+abbrev pub deeper : Time → ℕ → Time
+deeper t c = record { epoch = t.epoch; counters = t.counters ++ (c ∷ []) }
+
+-- without the last counter
+abbrev pub outer : Time → Time
+outer t = record { epoch = t.epoch; counters = front t.counters }
+
+-- what a vertex does to times: nothing, into a loop, out of it, or to its next turn
+pub data Action : Type 0 where
+  stay enter leave next : Action
+
+-- where an action takes a time
+abbrev pub after : Action → Time → Time
+after Action.stay t = t
+after Action.enter t = deeper t 0
+after Action.leave t = outer t
+after Action.next t = deeper (outer t) (suc (last t.counters))
+
+-- the number of values that a counter has at an egress: 0 to 1024
+unfoldable pub turn_count : ℕ
+turn_count = 1025
+
+-- the numbers below n
+abbrev pub below : ℕ → List ℕ
+below zero = []
+below (suc n) = below n ++ (n ∷ [])
+
+-- the times that an action takes to u; at a leave, those whose last counter is at most 1024
+abbrev pub sources : Action → Time → List Time
+sources Action.stay u = u ∷ []
+sources Action.enter u = cond (nat_eq (last u.counters) 0) (outer u ∷ []) []
+sources Action.leave u = map (deeper u) (below turn_count)
+sources Action.next u = cond (nat_lt 0 (last u.counters)) (deeper (outer u) (last u.counters - 1) ∷ []) []
+
+-- the counters are equal
+abbrev pub same_counters : List ℕ → List ℕ → Bool
+same_counters cs ds = pointwise nat_eq cs ds
+
+-- the times are equal
+abbrev pub same_time : Time → Time → Bool
+same_time t u = nat_eq t.epoch u.epoch && same_counters t.counters u.counters
+
+-- the time of an epoch, outside all loops
+abbrev pub at_epoch : ℕ → Time
+at_epoch n = record { epoch = n; counters = [] }
+
+-- xs stands before ys, lexicographically
+abbrev pub lex_lt : List ℕ → List ℕ → Bool
+lex_lt [] [] = false
+lex_lt [] (y ∷ ys) = true
+lex_lt (x ∷ xs) [] = false
+lex_lt (x ∷ xs) (y ∷ ys) = nat_lt x y || (nat_eq x y && lex_lt xs ys)
+
+-- the epochs, and the counters lexicographically
+pub record IsAtMost (t u : Time) : Type 0 where
+  pub epochs : t.epoch ≤ u.epoch
+  pub counters : (t.counters ≡ u.counters) ⊎ (lex_lt t.counters u.counters ≡ true)
