@@ -1,0 +1,20 @@
+//! The trees of a query, under the caller's allocator.
+//!
+//! Nodes carry the place that they were read from. Children lie in boxes and vectors of the tree's own allocator `A`, any
+//! allocator that is `Copy`. Contracts see a tree as plain data with spans (`specs/`), whatever its allocator, and its meaning is
+//! that of the query without spans (crate `semantics`).
+//!
+//! The contract for the layers above: a tree's value is the same under every allocator, and scalars and conditions evaluate to
+//! their meaning. Below stand `record_core` and `semantics`; the parser makes trees, typing checks them, the normaliser rewrites
+//! them, lowering reads them.
+#![tactic(auto)]
+
+mod scalar;
+mod condition;
+mod relation;
+mod program;
+
+pub use condition::{Comparison, Cond, Connective};
+pub use program::{Input, Let, Program};
+pub use relation::{Agg, Column, Pair, Rel};
+pub use scalar::{Operator, Scalar};
