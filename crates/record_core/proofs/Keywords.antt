@@ -1,0 +1,47 @@
+-- The table of keywords: where each stands, and what a search through a part of it tells.
+use Rattle.std.proofs.Common.{◌≡◌, ◌≢◌, ◌<◌, ◌+◌, ◌∙◌, ℕ, List, true, false, Some, refl, sym, ap, arith, get_or, inl, inr}
+use Rattle.std.specs.Prelude.{slice_get}
+use Rattle.std.specs.Str.{bytes_eq}
+use Rattle.std.proofs.lemmas.Option.{get_or_from_slice_get}
+use Rattle.std.proofs.lemmas.Bool.{cases_lt}
+use Rattle.std.proofs.lemmas.Slice.Eq.{bytes_eq-Decides}
+use Rattle.record_core.specs.declared.keyword.Keyword.{Keyword}
+use Rattle.record_core.specs.declared.keyword.Keyword.TheVariants.{Input, Let, Output, Select, Where, Concat, Join, Group, Distinct, Iterate, Count, Sum, Min, Max, And, Or, Not, Epoch}
+use Rattle.record_core.specs.declared.keyword.TheConstants.{KEYWORDS}
+use Rattle.record_core.specs.Names.{keyword_text}
+
+differs : (a b : List ℕ) → bytes_eq a b ≡ false → a ≡ b → ⊥
+differs a b f e = let t : bytes_eq a b ≡ true = (bytes_eq-Decides a b).1 e in cc
+
+-- one more keyword isn't the word
+pub not_there : (ks : List Keyword) (word text : List ℕ) (n : ℕ) → ((k : Keyword) (i : ℕ) → i < n → slice_get ks i ≡ Some k → word ≢ keyword_text k)
+    → text ≡ keyword_text (get_or ks n Input) → bytes_eq text word ≡ false
+    → (k : Keyword) (i : ℕ) → i < n + 1 → slice_get ks i ≡ Some k → word ≢ keyword_text k
+not_there ks word text n before e f k i lt at is = elim (cases_lt i n) [
+  | inl less ↦ before k i less at is
+  | inr ge ↦
+      let same : i ≡ n = omega arith in
+      let here : get_or ks i Input ≡ k = get_or_from_slice_get ks i k Input at in
+      differs text word f (e ∙ ap (λ (j : ℕ). keyword_text (get_or ks j Input)) (sym same) ∙ ap keyword_text here ∙ sym is)
+]
+
+-- where a keyword stands in the table
+pub place : (k : Keyword) → (i : ℕ) × (i < 18) × (slice_get KEYWORDS i ≡ Some k)
+place Input = (0, omega arith, refl)
+place Let = (1, omega arith, refl)
+place Output = (2, omega arith, refl)
+place Select = (3, omega arith, refl)
+place Where = (4, omega arith, refl)
+place Concat = (5, omega arith, refl)
+place Join = (6, omega arith, refl)
+place Group = (7, omega arith, refl)
+place Distinct = (8, omega arith, refl)
+place Iterate = (9, omega arith, refl)
+place Count = (10, omega arith, refl)
+place Sum = (11, omega arith, refl)
+place Min = (12, omega arith, refl)
+place Max = (13, omega arith, refl)
+place And = (14, omega arith, refl)
+place Or = (15, omega arith, refl)
+place Not = (16, omega arith, refl)
+place Epoch = (17, omega arith, refl)
