@@ -27,4 +27,6 @@ pub mod LoweredPrograms
 pub mod LoweredLoops
 pub mod QuietEnds
 pub mod LoweredDataflow
+pub mod TypedPorts
+pub mod FieldsKept
 pub mod WorkedExamples

@@ -48,3 +48,11 @@ module _ {P : Type 0} (rank : P → List ℕ) (n : ℕ) (Valid : P → Type 0) (
     | Acc.intro xs (k → ih) ↦ λ p e v. ≈-trans (ef p v) (≈-trans (agree f h p v (λ q w l.
         ih (rank q) (subst (Under n (rank q)) e (and_from (is_before (rank q) (rank p)) (nat_le (length (rank q)) n) l (le-leb (length (rank q)) n (short q w)))) q refl w)) (≈-sym (eh p v)))
   ]) p refl v
+
+-- what holds wherever it holds at all of lower rank holds
+module _ {P : Type 0} (rank : P → List ℕ) (n : ℕ) (Valid : P → Type 0) (short : (p : P) → Valid p → length (rank p) ≤ n) (C : P → Type 0) (step : (p : P) → Valid p → ((q : P) → Valid q → is_before (rank q) (rank p) ≡ true → C q) → C p) where
+  pub by_rank : (p : P) → Valid p → C p
+  by_rank p v = (elim ((under_well_founded n).apply (rank p)) as (λ xs a. (p : P) → rank p ≡ xs → Valid p → C p) [
+    | Acc.intro xs (k → ih) ↦ λ p e v. step p v (λ q w l.
+        ih (rank q) (subst (Under n (rank q)) e (and_from (is_before (rank q) (rank p)) (nat_le (length (rank q)) n) l (le-leb (length (rank q)) n (short q w)))) q refl w)
+  ]) p refl v

@@ -11,6 +11,7 @@ pub mod Kinds
 pub mod Graph
 pub mod Op
 pub mod Shard
+pub mod PortArity
 pub mod Flow
 pub mod Dataflow
 pub mod Lower
