@@ -2,15 +2,15 @@
 use Rattle.std.proofs.Common.{◌≡◌, ℕ, zero, suc, ◌+◌, ◌*◌, ◌≤◌, ◌<◌, nat_le, true, false, List, [], ◌∷◌, ◌++◌, length, refl, sym, ap, ap₂, subst, ◌∙◌, arith, le-leb, length-append, inl, inr, ◌⊎◌}
 use Rattle.std.proofs.lemmas.Bool.{and_from, true≢false}
 use mathlib.Core.WellFounded.{Acc}
-use Rattle.semantics.specs.Could.{IsTimeAt, PathStep, step_edge, step_from, step_to, step_time, IsPath, path_time, CouldResultIn, Location, Pointstamp}
-use Rattle.semantics.specs.Dataflow.{IsWired, Goes, IsNested}
+use Rattle.semantics.specs.Could.{at_vertex, IsTimeAt, PathStep, step_edge, step_from, step_to, step_time, IsPath, path_time, CouldResultIn, Location, Pointstamp}
+use Rattle.semantics.specs.Dataflow.{IsDataflow, IsWired, Goes, IsNested}
 use Rattle.semantics.specs.Graph.{edge_count, target, in_port, edge_source, Graph, vertex}
 use Rattle.semantics.specs.Kinds.{action}
 use Rattle.semantics.specs.Rank.{woven, rank}
-use Rattle.semantics.specs.Time.{Time, last_from, front_from, last, front, Action, after_action, is_before, IsAtMost}
+use Rattle.semantics.specs.Time.{at_epoch, Time, last_from, front_from, last, front, Action, after_action, is_before, IsAtMost}
 use Rattle.semantics.proofs.EdgeNumbers.{entered}
 use Rattle.semantics.proofs.OneFlow.{vertex_rank, edge_rank, longest_rank, lex_head, lex_tail, lex_trans, woven_lower, edge_below, length-woven}
-use Rattle.semantics.proofs.LexicographicOrder.{lex_cases, Under, under_well_founded}
+use Rattle.semantics.proofs.LexicographicOrder.{lex_not_self, lex_cases, Under, under_well_founded}
 use Rattle.semantics.proofs.QuietEnds.{turn_of, length-outer}
 use Rattle.semantics.proofs.RankRises.{lex_behind, leave_rank, lex_epoch}
 
@@ -288,3 +288,41 @@ module _ (g : Graph) (loops : ℕ → List ℕ) (wired : IsWired g) (nested : Is
           under q p (inr x) h {xs} e ih = ih (rank_at q.location q.time)
               (and_from (is_before (rank_at q.location q.time) xs) (nat_le (length (rank_at q.location q.time)) longest_rank) (subst (λ zs. is_before (rank_at q.location q.time) zs ≡ true) e x) (le-leb (length (rank_at q.location q.time)) longest_rank (rank_short q.location q.time h.0.starts)))
               q refl
+
+-- ---- of a dataflow graph
+
+module _ (g : Graph) (d : IsDataflow g) where
+  -- the rank rises along each step of a path
+  pub rank_along : (s : PathStep) (t : Time) → step_edge s < edge_count g → IsTimeAt g (step_from g s) t
+      → is_before (rank g d.loops (record { time = t; location = step_from g s })) (rank g d.loops (record { time = step_time g s t; location = step_to g s })) ≡ true
+  rank_along s t l f = step_rise g d.loops d.wired d.nested s t l f
+
+  -- and so to whatever else a pointstamp could result in
+  pub rank_onward : (p q : Pointstamp) → CouldResultIn g p q → (p ≡ q) ⊎ (is_before (rank g d.loops p) (rank g d.loops q) ≡ true)
+  rank_onward p q a = could_rises g d.loops d.wired d.nested p q a
+
+  pub could_itself : (p : Pointstamp) → IsTimeAt g p.location p.time → CouldResultIn g p p
+  could_itself p f = could_self g d.loops d.wired d.nested p f
+
+  pub could_onward : (p q s : Pointstamp) → CouldResultIn g p q → CouldResultIn g q s → CouldResultIn g p s
+  could_onward p q s a b = could_on g d.loops d.wired d.nested p q s a b
+
+  -- no two pointstamps could result in each other
+  pub could_once : (p q : Pointstamp) → CouldResultIn g p q → CouldResultIn g q p → p ≡ q
+  could_once p q a b = go (rank_onward p q a) (rank_onward q p b)
+    where
+      of : Pointstamp → List ℕ
+      of x = rank g d.loops x
+
+      go : (p ≡ q) ⊎ (is_before (of p) (of q) ≡ true) → (q ≡ p) ⊎ (is_before (of q) (of p) ≡ true) → p ≡ q
+      go (inl e) s = e
+      go (inr x) (inl e) = sym e
+      go (inr x) (inr y) = absurd (lex_not_self (of p) (lex_trans (of p) (of q) (of p) x y))
+
+  -- paths keep to the depths of locations
+  pub path_depth : (path : List PathStep) (l m : Location) (t : Time) → IsPath g l path m → IsTimeAt g l t → IsTimeAt g m (path_time g path t)
+  path_depth path l m t h f = path_fits g d.loops d.wired d.nested path l m t h f
+
+-- at a seal, an input's next epoch
+pub rank_sealed : (g : Graph) (loops : ℕ → List ℕ) (v n : ℕ) → is_before (rank g loops (at_vertex v (at_epoch n))) (rank g loops (at_vertex v (at_epoch (n + 1)))) ≡ true
+rank_sealed g loops v n = lex_head n (n + 1) (woven (loops v) [] (2 * v + 1)) (woven (loops v) [] (2 * v + 1)) (omega arith)

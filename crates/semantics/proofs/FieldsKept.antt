@@ -1,9 +1,9 @@
 -- Vertices keep to the arities of their ports; so in a flow on inputs of the right arities each edge's records have their port's.
 use Rattle.std.proofs.Common.{◌≡◌, ℕ, zero, suc, ◌+◌, ◌*◌, ◌≤◌, ◌<◌, nat_lt, nat_eq, Bool, true, false, cond, List, [], ◌∷◌, ◌++◌, map, filter, flat_map, length, refl, sym, ap, subst, ◌∙◌, arith, length-append}
 use Rattle.std.specs.List.{AllByRecursion}
-use Rattle.semantics.specs.Multiset.{Record, same, one_if, count, ◌≈◌, each_once}
-use Rattle.semantics.specs.Query.{Scalar, Cond, Agg, Pair}
-use Rattle.semantics.specs.Meaning.{project, left_columns, right_columns, value, holds, selected, kept, paired, grouped, aggregate, with_key}
+use Rattle.semantics.specs.Multiset.{Record, same, one_if, count, each_once}
+use Rattle.semantics.specs.Query.{Scalar, Agg, Pair}
+use Rattle.semantics.specs.Meaning.{project, left_columns, right_columns, value, holds, paired, grouped, aggregate, with_key}
 use Rattle.semantics.specs.Time.{Time, last, times_before, is_before}
 use Rattle.semantics.specs.Kinds.{Kind, action, in_ports}
 use Rattle.semantics.specs.Graph.{Graph, vertex, source}

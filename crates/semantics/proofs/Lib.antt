@@ -3,7 +3,7 @@ pub mod Permutations
 pub mod LeastAndGreatest
 pub mod DistinctAndGroups
 pub mod KeyedParts
-pub mod JoinCounts
+pub mod CountsOfForms
 pub mod MeaningOfMultisets
 pub mod RulesKeepMeaning
 pub mod FusedSelects
@@ -29,4 +29,5 @@ pub mod QuietEnds
 pub mod LoweredDataflow
 pub mod TypedPorts
 pub mod FieldsKept
-pub mod WorkedExamples
+pub mod ExampleMeanings
+pub mod ExampleGraphs

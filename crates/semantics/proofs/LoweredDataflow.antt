@@ -1,12 +1,13 @@
 -- The graph of a well-typed program is a dataflow graph.
-use Rattle.std.proofs.Common.{◌≡◌, ℕ, zero, suc, ◌+◌, ◌<◌, Bool, true, false, List, [], ◌∷◌, ◌++◌, length, slice_index_or, refl, sym, ap, subst, ◌∙◌, arith, append_assoc, length-append, inl, inr, ◌⊎◌}
+use Rattle.std.proofs.Common.{◌≤◌, ◌≡◌, ℕ, zero, suc, ◌+◌, ◌<◌, Bool, true, false, List, [], ◌∷◌, ◌++◌, length, slice_index_or, refl, sym, ap, subst, ◌∙◌, arith, append_assoc, length-append, inl, inr, ◌⊎◌}
 use Rattle.std.proofs.lemmas.Bool.{true≢false}
 use Rattle.std.specs.List.{AllByRecursion}
 use Rattle.semantics.specs.FreeNames.{carried}
 use Rattle.semantics.specs.Multiset.{◌≈◌}
 use Rattle.semantics.specs.Meaning.{program_meaning}
-use Rattle.semantics.specs.Time.{at_epoch}
-use Rattle.semantics.specs.Flow.{Inputs, Flow, IsFlow}
+use Rattle.semantics.specs.Time.{last, turn_count, Time, at_epoch}
+use Rattle.semantics.specs.Flow.{IsEdgeTime, HasOneFlow, Inputs, Flow, IsFlow}
+use Rattle.semantics.proofs.RankRises.{dataflow_one_flow}
 use Rattle.semantics.proofs.MultisetSums.{≈-trans, ≈-from}
 use Rattle.semantics.specs.Dataflow.{IsShaped, IsDataflow}
 use Rattle.semantics.specs.Kinds.{Kind, ends_turn, is_input}
@@ -230,3 +231,9 @@ typed_dataflow p n t = lowered_dataflow p (typed_fits p n t)
 -- the edge into the output has the program's meaning
 pub typed_means : (p : Program) (n : ℕ) (inputs : Inputs) (f : Flow) (epoch : ℕ) → WellTyped p n → IsFlow (lowered p) inputs f → f (output_number (lowered p)) 0 (at_epoch epoch) ≈ program_meaning p (λ i. inputs i epoch)
 typed_means p n inputs f epoch t h = ≈-trans (≈-from (ap (λ v. f v 0 (at_epoch epoch)) (output_is_last p))) (lowered_means p (typed_fits p n t) inputs f h epoch)
+
+pub typed_one_flow : (p : Program) (n : ℕ) (inputs : Inputs) → WellTyped p n → HasOneFlow (lowered p) inputs
+typed_one_flow p n inputs t = dataflow_one_flow (lowered p) (typed_dataflow p n t) inputs
+
+pub typed_quiet : (p : Program) (n : ℕ) (inputs : Inputs) (f : Flow) (w i : ℕ) (u : Time) → WellTyped p n → IsFlow (lowered p) inputs f → IsEdgeTime (lowered p) w i u → ends_turn (vertex (lowered p) w).kind ≡ true → turn_count ≤ last u.counters → f w i u ≈ []
+typed_quiet p n inputs f w i u t h at e o = lowered_quiet p (typed_fits p n t) inputs f h w i u at e o

@@ -1,11 +1,11 @@
 -- A meaning is of multisets: it depends on the counts of what the names mean alone.
 use Rattle.std.proofs.Common.{ℕ, zero, suc, List, [], ◌∷◌, true, false, Bool, cond}
 use Rattle.semantics.specs.Multiset.{Record, ◌≈◌}
-use Rattle.semantics.specs.Query.{Name, Rel, Input, Let, Program}
+use Rattle.semantics.specs.Query.{Scalar, Cond, Name, Rel, Input, Let, Program}
 use Rattle.semantics.specs.Time.{at_epoch}
 use Rattle.semantics.specs.Kinds.{Kind}
 use Rattle.semantics.specs.Op.{op}
-use Rattle.semantics.specs.Meaning.{meaning, Names, bind, repeated, same_name, input_names, let_names, program_meaning}
+use Rattle.semantics.specs.Meaning.{selected, kept, meaning, Names, bind, repeated, same_name, input_names, let_names, program_meaning}
 use Rattle.semantics.proofs.MultisetSums.{append_same, ≈-refl}
 use Rattle.semantics.proofs.KeyedParts.{paired_same}
 use Rattle.semantics.proofs.OneFlow.{op_same}
@@ -51,3 +51,11 @@ let_same (l ∷ as') a b h = let_same as' (bind l.name (meaning l.value a) a) (b
 pub program_same : (p : Program) (xs ys : ℕ → List Record) → ((i : ℕ) → xs i ≈ ys i) → program_meaning p xs ≈ program_meaning p ys
 unfolding program_meaning
 program_same p xs ys h = meaning_same p.output _ _ (let_same p.lets _ _ (input_same p.inputs 0 xs ys h))
+
+-- ---- the forms of one relation
+
+pub selected_same : (ss : List Scalar) (xs ys : List Record) → xs ≈ ys → selected ss xs ≈ selected ss ys
+selected_same ss xs ys e = by_op (Kind.select ss) xs ys e
+
+pub kept_same : (c : Cond) (xs ys : List Record) → xs ≈ ys → kept c xs ≈ kept c ys
+kept_same c xs ys e = by_op (Kind.filter c) xs ys e

@@ -1,7 +1,7 @@
 -- More in gives more out, but at a group.
-use Rattle.std.proofs.Common.{ℕ, zero, suc, ◌+◌, ◌<◌, nat_lt, nat_eq, Bool, true, false, cond, List, [], map, arith}
+use Rattle.std.proofs.Common.{refl, ◌≡◌, ℕ, zero, suc, ◌+◌, ◌<◌, nat_lt, nat_eq, Bool, true, false, cond, List, [], map, arith}
 use Rattle.semantics.specs.Multiset.{Record, IsPartOf}
-use Rattle.semantics.specs.Kinds.{Kind, in_ports}
+use Rattle.semantics.specs.Kinds.{Role, role, Kind, in_ports}
 use Rattle.semantics.specs.Meaning.{selected, kept, value, holds}
 use Rattle.semantics.specs.Op.{op}
 use Rattle.semantics.specs.Time.{Time, last}
@@ -36,3 +36,22 @@ op_part (Kind.gate n) w t xs ys zero h = cond_part (nat_lt (last t.counters) n) 
 op_part (Kind.gate n) w t xs ys (suc out) h = cond_part (nat_eq (last t.counters) n) (xs 0) (ys 0) (h 0 (omega arith))
 op_part (Kind.hold n) w t xs ys zero h = cond_part (nat_lt (last t.counters) n) (xs 0) (ys 0) (h 0 (omega arith))
 op_part (Kind.hold n) w t xs ys (suc out) h = cond_part (nat_lt (last t.counters + 1) n) (xs 0) (ys 0) (h 0 (omega arith))
+
+-- but at a vertex that waits for its notification
+pub op_more : (kind : Kind) → (role kind ≡ Role.notified → ⊥) → (t : Time) (xs ys : ℕ → List Record) (out : ℕ) → ((i : ℕ) → i < in_ports kind → IsPartOf (xs i) (ys i)) → IsPartOf (op kind t xs out) (op kind t ys out)
+op_more kind n t xs ys out h = op_part kind (grows kind n) t xs ys out h
+  where
+    grows : (kind : Kind) → (role kind ≡ Role.notified → ⊥) → Grows kind
+    grows (Kind.group ks as') n = absurd (n refl)
+    grows Kind.input n = tt
+    grows Kind.output n = tt
+    grows (Kind.select ss) n = tt
+    grows (Kind.filter c) n = tt
+    grows Kind.concat n = tt
+    grows (Kind.join ps) n = tt
+    grows Kind.distinct n = tt
+    grows Kind.ingress n = tt
+    grows Kind.egress n = tt
+    grows Kind.feedback n = tt
+    grows (Kind.gate m) n = tt
+    grows (Kind.hold m) n = tt

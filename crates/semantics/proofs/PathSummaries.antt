@@ -1,14 +1,12 @@
 -- A path takes a time where its summary does.
-use Rattle.std.proofs.Common.{◌≡◌, ℕ, zero, suc, ◌+◌, ◌-◌, ◌≤◌, ◌<◌, List, [], ◌∷◌, ◌++◌, take, length, refl, sym, ap, ap₂, subst, ◌∙◌, arith, append_assoc, append-nil, length-append, true, inl, inr, ◌⊎◌}
-use Rattle.semantics.specs.Time.{is_before, Time, last_from, front_from, last, front, Action, after_action}
+use Rattle.std.proofs.Common.{◌≡◌, ℕ, zero, suc, ◌+◌, ◌-◌, ◌≤◌, ◌<◌, List, [], ◌∷◌, ◌++◌, take, length, refl, sym, ap, ap₂, subst, ◌∙◌, arith, append_assoc, append-nil, length-append}
+use Rattle.semantics.specs.Time.{Time, last_from, front_from, last, front, Action, after_action}
 use Rattle.semantics.specs.Kinds.{action}
 use Rattle.semantics.specs.Graph.{Graph, vertex, target, in_port, edge_source}
 use Rattle.semantics.specs.Dataflow.{IsDataflow, IsWired, Goes, IsNested}
-use Rattle.semantics.specs.Could.{Location, Pointstamp, CouldResultIn, IsTimeAt, PathStep, IsPath, path_time}
+use Rattle.semantics.specs.Could.{Location, IsTimeAt, PathStep, IsPath, path_time}
 use Rattle.semantics.proofs.EdgeNumbers.{entered}
-use Rattle.semantics.proofs.CouldRises.{step_fits, rank_at, could_rises}
-use Rattle.semantics.proofs.OneFlow.{lex_trans}
-use Rattle.semantics.proofs.LexicographicOrder.{lex_not_self}
+use Rattle.semantics.proofs.CouldRises.{step_fits}
 use Rattle.semantics.specs.Summary.{then_path, summary_of, Summary, raised_from, raised, applied, left_by, turned_by, then_action}
 
 -- ---- the ends of lists
@@ -188,15 +186,3 @@ module _ (g : Graph) (loops : ℕ → List ℕ) (wired : IsWired g) (nested : Is
 pub typed_summary : (g : Graph) → IsDataflow g → (path : List PathStep) (l m : Location) (t : Time) → IsPath g l path m → IsTimeAt g l t
     → path_time g path t ≡ record { epoch = t.epoch; counters = applied (summary_of g (length t.counters) path) t.counters }
 typed_summary g flows path l m t h fits = path_summary g flows.loops flows.wired flows.nested path l m t h fits
-
--- no two pointstamps could result in each other
-pub typed_rises : (g : Graph) → IsDataflow g → (p q : Pointstamp) → CouldResultIn g p q → CouldResultIn g q p → p ≡ q
-typed_rises g flows p q a b = go (could_rises g flows.loops flows.wired flows.nested p q a) (could_rises g flows.loops flows.wired flows.nested q p b)
-  where
-    rank : Pointstamp → List ℕ
-    rank x = rank_at g flows.loops flows.wired flows.nested x.location x.time
-
-    go : (p ≡ q) ⊎ (is_before (rank p) (rank q) ≡ true) → (q ≡ p) ⊎ (is_before (rank q) (rank p) ≡ true) → p ≡ q
-    go (inl e) s = e
-    go (inr x) (inl e) = sym e
-    go (inr x) (inr y) = absurd (lex_not_self (rank p) (lex_trans (rank p) (rank q) (rank p) x y))

@@ -1,11 +1,12 @@
 -- A program's graph is wired, and the rank rises along its steps.
 use Rattle.std.proofs.Common.{◌≡◌, ℕ, suc, ◌+◌, ◌*◌, ◌-◌, ◌<◌, nat_lt, Bool, true, false, cond, List, [], ◌∷◌, ◌++◌, map, length, refl, sym, ap, subst, ◌∙◌, arith, length-append, ltb-true}
 use Rattle.std.specs.List.{AllByRecursion}
-use Rattle.semantics.specs.Dataflow.{IsWired, Goes, IsNested}
+use Rattle.semantics.specs.Flow.{Inputs, HasOneFlow}
+use Rattle.semantics.specs.Dataflow.{IsDataflow, IsWired, Goes, IsNested}
 use Rattle.semantics.specs.Kinds.{action}
 use Rattle.semantics.specs.Graph.{Graph, vertex, source}
 use Rattle.semantics.specs.Rank.{woven}
-use Rattle.semantics.proofs.OneFlow.{vertex_rank, edge_rank, Rises, lex_head, lex_tail, woven_lower}
+use Rattle.semantics.proofs.OneFlow.{one_flow, vertex_rank, edge_rank, Rises, lex_head, lex_tail, woven_lower}
 use Rattle.semantics.specs.Time.{Time, last_from, front_from, last, deeper, outer, in_first_turn, turn_count, below, Action, times_before, is_before}
 
 -- ---- single steps
@@ -93,3 +94,7 @@ rises_from_nested g loops nested wired = record {
       (nested.homes v (wired.fed w i p.is_vertex p.is_port))
       (step_rises loops v w (action (vertex g v).kind) (nested.goes w i p.is_vertex p.is_port) u (p.has_depth ∙ sym (nested.homes w p.is_vertex)));
 }
+
+-- each dataflow graph has one flow
+pub dataflow_one_flow : (g : Graph) → IsDataflow g → (inputs : Inputs) → HasOneFlow g inputs
+dataflow_one_flow g d inputs = one_flow g d.loops d.wired (rises_from_nested g d.loops d.nested d.wired) inputs

@@ -5,9 +5,9 @@ use Rattle.std.proofs.lemmas.Int.{ints, int_wrap-add_left, int_wrap-add_right, i
 use mir.Syntax.{w64}
 use Rattle.semantics.specs.FreeNames.{free, other_than, IsAmong}
 use Rattle.semantics.specs.Multiset.{Record, one_if, count, each_once}
-use Rattle.semantics.specs.Meaning.{field, exact, value, holds, selected, kept, same_name, Names, bind, repeated, meaning, let_names, paired, grouped}
+use Rattle.semantics.specs.Meaning.{field, exact, value, holds, selected, kept, same_name, Names, bind, repeated, meaning, let_names, input_names, program_meaning, paired, grouped}
 use Rattle.semantics.specs.Normal.{replaced, Reaches}
-use Rattle.semantics.specs.Query.{Scalar, Cond, Name, Rel, Let}
+use Rattle.semantics.specs.Query.{Scalar, Cond, Name, Rel, Input, Let}
 use Rattle.semantics.proofs.LoweredRelations.{Has_left, Has_right, Has_other, Decides-same_name}
 use Rattle.semantics.proofs.DistinctAndGroups.{count-distinct}
 
@@ -146,3 +146,36 @@ unreached_let a as' out names n = meaning-reached as' out (bind a.name (meaning 
     go : (y : Name) → Reaches y as' out → (t : Bool) → same_name a.name y ≡ t → cond t (meaning a.value names) (names y) ≡ names y
     go y j true e = absurd (n (subst (λ w. Reaches w as' out) (sym ((Decides-same_name a.name y).0 e)) j))
     go y j false e = refl
+
+-- lets one after the other
+let_names-append : (as' bs : List Let) (names : Names) → let_names (as' ++ bs) names ≡ let_names bs (let_names as' names)
+unfolding let_names
+let_names-append [] bs names = refl
+let_names-append (a ∷ as') bs names = let_names-append as' bs (bind a.name (meaning a.value names) names)
+
+-- ---- the rules, on relations and programs
+
+pub rule_where : (r : Rel) (c d : Cond) (names : Names) → meaning (Rel.filter (Rel.filter r c) d) names ≡ meaning (Rel.filter r (Cond.conjunction c d)) names
+unfolding meaning
+rule_where r c d names = where_where c d (meaning r names)
+
+pub rule_select : (r : Rel) (ss ts : List Scalar) (names : Names) → meaning (Rel.select (Rel.select r ss) ts) names ≡ meaning (Rel.select r (map (replaced ss) ts)) names
+unfolding meaning
+rule_select r ss ts names = select_select ss ts (meaning r names)
+
+pub rule_distinct : (r : Rel) (names : Names) → meaning (Rel.distinct (Rel.distinct r)) names ≡ meaning (Rel.distinct r) names
+unfolding meaning
+rule_distinct r names = distinct_distinct (meaning r names)
+
+pub rule_no_turns : (x : Name) (r b : Rel) (names : Names) → meaning (Rel.iterate 0 x r b) names ≡ meaning r names
+unfolding meaning
+rule_no_turns x r b names = refl
+
+pub rule_let : (inputs : List Input) (before : List Let) (a : Let) (after : List Let) (out : Rel) (records : ℕ → List Record) → (Reaches a.name after out → ⊥)
+    → program_meaning (record { inputs = inputs; lets = before ++ (a ∷ after); output = out }) records ≡ program_meaning (record { inputs = inputs; lets = before ++ after; output = out }) records
+unfolding program_meaning
+rule_let inputs before a after out records n =
+    let names = input_names inputs 0 records in
+    ap (meaning out) (let_names-append before (a ∷ after) names)
+    ∙ unreached_let a after out (let_names before names) n
+    ∙ sym (ap (meaning out) (let_names-append before after names))

@@ -1,20 +1,16 @@
 -- The times before u are those that the action takes to u.
 use Rattle.std.proofs.Common.{◌≡◌, ℕ, zero, suc, ◌-◌, ◌<◌, nat_lt, nat_eq, Bool, true, false, cond, List, [], ◌∷◌, ◌++◌, map, length, refl, sym, ap, ap₂, subst, ◌∙◌, arith, inl, inr, ◌⊎◌, eqb-true, ltb-true, lt-ltb}
 use Rattle.std.proofs.lemmas.Bool.{true≢false, eqb-false}
-use Rattle.semantics.specs.Time.{in_first_turn, last_from, Time, last, deeper, outer, Action, after_action, times_before, below, turn_count}
+use Rattle.semantics.specs.Time.{IsOneOf, IsTaken, in_first_turn, last_from, Time, last, deeper, outer, Action, after_action, times_before, below, turn_count}
 use Rattle.semantics.proofs.QuietEnds.{turn_of}
 use Rattle.semantics.proofs.VertexFlows.{first_turn-push, last-deeper, outer-deeper}
 
+-- the words of the specs, under the names that the engine's proofs cite
 abbrev pub Among : Time → List Time → Type 0
-Among t [] = ⊥
-Among t (x ∷ xs) = (x ≡ t) ⊎ Among t xs
+Among t ts = IsOneOf t ts
 
--- where an action is defined: a counter to drop or to raise, and at a leave one that an egress adds up
 abbrev pub Defined : Action → Time → Type 0
-Defined Action.stay t = Unit {0}
-Defined Action.enter t = Unit {0}
-Defined Action.leave t = (0 < length t.counters) × (last t.counters < turn_count)
-Defined Action.next t = 0 < length t.counters
+Defined a t = IsTaken a t
 
 abbrev Has_number : ℕ → List ℕ → Type 0
 Has_number c [] = ⊥
@@ -104,3 +100,18 @@ times_before_only Action.next t u r h =
     ap (λ x. deeper (outer x) (suc (last x.counters))) (sym k.1)
     ∙ ap₂ deeper (outer-deeper (outer u) (last u.counters - 1)) (let e : suc (last (deeper (outer u) (last u.counters - 1)).counters) ≡ last u.counters = omega arith in e)
     ∙ turn_split u r
+
+-- each time before u is taken to u
+pub times_before_taken : (a : Action) (t u : Time) → IsOneOf t (times_before a u) → after_action a t ≡ u
+times_before_taken Action.stay t u h = times_before_only Action.stay t u tt h
+times_before_taken Action.leave t u h = times_before_only Action.leave t u tt h
+times_before_taken Action.enter t u h = go u.counters refl
+  where
+    go : (cs : List ℕ) → u.counters ≡ cs → after_action Action.enter t ≡ u
+    go [] e = absurd (subst (λ ds. IsOneOf t (cond (in_first_turn ds) (outer u ∷ []) [])) e h)
+    go (c ∷ cs) e = times_before_only Action.enter t u (subst (λ ds. 0 < length ds) (sym e) (omega arith)) h
+times_before_taken Action.next t u h = go u.counters refl
+  where
+    go : (cs : List ℕ) → u.counters ≡ cs → after_action Action.next t ≡ u
+    go [] e = absurd (subst (λ ds. IsOneOf t (cond (nat_lt 0 (last ds)) (deeper (outer u) (last u.counters - 1) ∷ []) [])) e h)
+    go (c ∷ cs) e = times_before_only Action.next t u (subst (λ ds. 0 < length ds) (sym e) (omega arith)) h

@@ -1,16 +1,16 @@
 -- The ports of a well-typed program's graph have their arities.
-use Rattle.std.proofs.Common.{◌≡◌, ℕ, zero, suc, ◌+◌, ◌≤◌, ◌<◌, Bool, true, false, cond, List, [], ◌∷◌, ◌++◌, map, filter, length, slice_index_or, Some, None, refl, sym, ap, ap₂, subst, ◌∙◌, arith, length-append, append_assoc, inl, inr, ◌⊎◌, le_refl}
+use Rattle.std.proofs.Common.{◌≡◌, ℕ, zero, suc, ◌+◌, ◌<◌, Bool, true, false, cond, List, [], ◌∷◌, ◌++◌, map, filter, length, slice_index_or, Some, None, refl, sym, ap, ap₂, subst, ◌∙◌, arith, length-append, append_assoc, inl, inr, ◌⊎◌}
 use Rattle.std.proofs.lemmas.Bool.{true≢false}
 use Rattle.std.specs.List.{AllByRecursion}
 use Rattle.semantics.specs.FreeNames.{IsAmong, other_than, free, carried}
-use Rattle.semantics.specs.Graph.{Port, Vertex, Graph, no_vertex, no_port, vertex, source, output_number}
+use Rattle.semantics.specs.Graph.{Port, Vertex, no_vertex, no_port, vertex, source, output_number}
 use Rattle.semantics.specs.Kinds.{Kind}
 use Rattle.semantics.specs.Lower.{Ports, stands_for, port, new_vertex, carry, carried_ports, Lowered, lower, looped, input_vertices, input_ports, lower_lets, lets_of, output_of, lowered}
 use Rattle.semantics.specs.Meaning.{same_name}
 use Rattle.semantics.specs.PortArity.{PortsFit, IsTyped, Arities, with_arity, rel_arity, carry_arities, made_arities, input_arities, let_arities, lets_made_arities, program_arities}
 use Rattle.semantics.specs.Query.{Name, Pair, Rel, Input, Let, Program}
 use Rattle.semantics.specs.Typing.{IsArity, ScalarFits, CondFits, AggFits, Scope, lookup, entry, HasArity, InputsFit, after_inputs, RestFits, WellTyped}
-use Rattle.semantics.proofs.FittingPrograms.{LetsFit, FitsIn, names_after, input_list, IsFitting}
+use Rattle.semantics.proofs.FittingPrograms.{LetsFit, names_after, input_list, IsFitting}
 use Rattle.semantics.proofs.LoweredRelations.{Has_left, Has_right, Has_other, Has_firsts, Decides-same_name}
 use Rattle.semantics.proofs.LoweredPrograms.{length-input_vertices, output_vertex}
 use Rattle.semantics.proofs.LoweredDataflow.{output_is_last}
@@ -366,7 +366,7 @@ module _ (arity : ℕ → ℕ) where
       let of' = with_arity a.name (rel_arity a.value of) of in
       let here : Typed k r t.0 = relation_typed a.value scope of 0 t.0 t.1 agrees ports k (listed_left k (made_arities a.value of) _ h) (λ y j. names y (m.0.known y j)) in
       let later : AfterLets as' of' (stands_for a.name r.gives ports) (k + length r.made) (a.name ∷ xs) out n = lets_typed as' out n (a.name ∷ xs) (entry a.name t.0 ∷ scope) of' (stands_for a.name r.gives ports) (k + length r.made) m.1 t.3 (agrees_more scope of a.name t.0 (rel_arity a.value of) e agrees)
-          (listed_right k (length r.made) (made_arities a.value of) _ (length-made_arities a.value of ports 0 k) h) (λ y j. go y r t.0 here e (same_name a.name y) refl j) in
+      (listed_right k (length r.made) (made_arities a.value of) _ (length-made_arities a.value of ports 0 k) h) (λ y j. go y r t.0 here e (same_name a.name y) refl j) in
       record { all = all_typed-append k r.made _ here.all later.all; names = later.names; scope = later.scope; agrees = later.agrees; output = later.output }
     where
       go : (y : Name) (r : Lowered) (m : ℕ) → Typed k r m → rel_arity a.value of ≡ m → (b : Bool) → same_name a.name y ≡ b → (a.name ≡ y) ⊎ IsAmong y xs → NameOf (cond b r.gives (ports y)) (cond b (rel_arity a.value of) (of y))

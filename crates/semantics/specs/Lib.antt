@@ -19,3 +19,4 @@ pub mod Could
 pub mod Summary
 pub mod Rank
 pub mod Route
+pub mod Examples

@@ -1,5 +1,5 @@
 -- The graph of a relation and of a program.
-use Rattle.std.specs.Prelude.{ℕ, suc, ◌+◌, cond, List, [], ◌∷◌, ◌++◌, map, filter, length}
+use Rattle.std.specs.Prelude.{ℕ, suc, ◌+◌, cond, List, [], ◌∷◌, ◌++◌, map, length}
 use Rattle.semantics.specs.Kinds.{Kind}
 use Rattle.semantics.specs.Graph.{Port, no_port, Vertex, Graph}
 use Rattle.semantics.specs.FreeNames.{carried}

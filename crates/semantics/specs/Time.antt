@@ -1,5 +1,5 @@
 -- Times: an epoch and the counters of the loops around a pointstamp, outermost first.
-use Rattle.std.specs.Prelude.{◌≡◌, ◌⊎◌, ℕ, zero, suc, ◌-◌, ◌≤◌, nat_lt, nat_eq, Bool, true, false, cond, ◌&&◌, ◌||◌, List, [], ◌∷◌, ◌++◌, map}
+use Rattle.std.specs.Prelude.{◌≡◌, ◌⊎◌, ℕ, zero, suc, ◌-◌, ◌≤◌, ◌<◌, nat_lt, nat_eq, Bool, true, false, cond, ◌&&◌, ◌||◌, List, [], ◌∷◌, ◌++◌, map, length}
 use Rattle.std.specs.Cmp.Lexicographic.{pointwise}
 use Rattle.semantics.specs.Limits.{max_turns}
 
@@ -66,6 +66,18 @@ times_before Action.stay u = u ∷ []
 times_before Action.enter u = cond (in_first_turn u.counters) (outer u ∷ []) []
 times_before Action.leave u = map (deeper u) (below turn_count)
 times_before Action.next u = cond (nat_lt 0 (last u.counters)) (deeper (outer u) (last u.counters - 1) ∷ []) []
+
+-- t is one of the times
+abbrev pub IsOneOf : Time → List Time → Type 0
+IsOneOf t [] = ⊥
+IsOneOf t (u ∷ us) = (u ≡ t) ⊎ IsOneOf t us
+
+-- the times that an action takes somewhere: a leave and a next need a counter, which at a leave is at most the limit of turns
+abbrev pub IsTaken : Action → Time → Type 0
+IsTaken Action.stay t = Unit {0}
+IsTaken Action.enter t = Unit {0}
+IsTaken Action.leave t = (0 < length t.counters) × (last t.counters < turn_count)
+IsTaken Action.next t = 0 < length t.counters
 
 -- the counters are equal
 abbrev pub same_counters : List ℕ → List ℕ → Bool

@@ -1,10 +1,10 @@
--- The counts of a join are products.
-use Rattle.std.proofs.Common.{◌≡◌, ℕ, ◌*◌, ◌<◌, Bool, true, false, cond, List, [], ◌∷◌, ◌++◌, length, refl, sym, ap, ap₂, ◌∙◌, arith}
+-- The counts of what each form means: those of a join are products.
+use Rattle.std.proofs.Common.{map, subst, ◌+◌, ◌≡◌, ℕ, ◌*◌, ◌<◌, Bool, true, false, cond, List, [], ◌∷◌, ◌++◌, length, refl, sym, ap, ap₂, ◌∙◌, arith}
 use Rattle.std.proofs.lemmas.Bool.{true≢false, false_from_ne_true}
 use Rattle.semantics.specs.Multiset.{Record, same, one_if, total, count}
-use Rattle.semantics.specs.Meaning.{project, left_columns, right_columns, paired}
-use Rattle.semantics.specs.Query.{Pair}
-use Rattle.semantics.proofs.MultisetSums.{Decides-same, same-refl, total_present, total_none, total-alike}
+use Rattle.semantics.specs.Meaning.{project, left_columns, right_columns, paired, selected, kept, value, holds}
+use Rattle.semantics.specs.Query.{Scalar, Cond, Pair}
+use Rattle.semantics.proofs.MultisetSums.{Decides-same, same-refl, total_present, total_none, total-alike, total-map, total-append}
 use Rattle.semantics.proofs.KeyedParts.{pair_adds, count-paired}
 
 append_cancel : (a x b y : Record) → length a ≡ length x → a ++ b ≡ x ++ y → (a ≡ x) × (b ≡ y)
@@ -71,3 +71,24 @@ count-join ps xs ys a b h =
     ∙ scaled (λ x. one_if (same x a)) n xs
     ∙ ap (λ m. count a xs * m) (total-if t (λ y. one_if (same y b)) ys)
     ∙ times_if t (count a xs) (count b ys)
+
+-- ---- the other forms
+
+pub count-selected : (ss : List Scalar) (xs : List Record) (s : Record) → count s (selected ss xs) ≡ total (λ r. one_if (same (map (λ t. value t r) ss) s)) xs
+count-selected ss xs s = total-map (λ x. one_if (same x s)) (λ r. map (λ t. value t r) ss) xs
+
+pub count-kept : (c : Cond) (xs : List Record) (r : Record) → count r (kept c xs) ≡ cond (holds c r) (count r xs) 0
+count-kept c [] r = sym (cond_none (holds c r))
+count-kept c (x ∷ xs) r = go (same x r) (holds c x) refl refl (count-kept c xs r)
+  where
+    moved : (b : Bool) → same x r ≡ true → holds c x ≡ b → holds c r ≡ b
+    moved b e k = subst (λ z. holds c z ≡ b) ((Decides-same x r).0 e) k
+
+    go : (s h : Bool) → same x r ≡ s → holds c x ≡ h → count r (kept c xs) ≡ cond (holds c r) (count r xs) 0 → count r (cond h (x ∷ kept c xs) (kept c xs)) ≡ cond (holds c r) (one_if s + count r xs) 0
+    go true true e k ih = ap (λ n. one_if n + count r (kept c xs)) e ∙ (let a : count r (kept c xs) ≡ count r xs = ih ∙ ap (λ b. cond b (count r xs) 0) (moved true e k) in omega (arith, a)) ∙ sym (ap (λ b. cond b (1 + count r xs) 0) (moved true e k))
+    go true false e k ih = ih ∙ ap (λ b. cond b (count r xs) 0) (moved false e k) ∙ sym (ap (λ b. cond b (1 + count r xs) 0) (moved false e k))
+    go false true e k ih = ap (λ n. one_if n + count r (kept c xs)) e ∙ (let z : 0 + count r (kept c xs) ≡ count r (kept c xs) = omega arith in z) ∙ ih ∙ ap (λ n. cond (holds c r) n 0) (let z : count r xs ≡ 0 + count r xs = omega arith in z)
+    go false false e k ih = ih ∙ ap (λ n. cond (holds c r) n 0) (let z : count r xs ≡ 0 + count r xs = omega arith in z)
+
+pub count-concat : (xs ys : List Record) (r : Record) → count r (xs ++ ys) ≡ count r xs + count r ys
+count-concat xs ys r = total-append (λ x. one_if (same x r)) xs ys
