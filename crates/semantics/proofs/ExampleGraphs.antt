@@ -1,0 +1,62 @@
+-- The graphs of the example programs, vertex by vertex, by computation.
+use Rattle.std.proofs.Common.{◌≡◌, [], ◌∷◌, refl}
+use Rattle.semantics.specs.Kinds.{Kind}
+use Rattle.semantics.specs.Lower.{lower, lower_lets, lowered, port, new_vertex}
+use Rattle.semantics.specs.Examples.{first_plus_1, two_turns, outer_name, outer_name_in_loops}
+
+pub graph_of_two_turns : lowered two_turns ≡
+    new_vertex Kind.input 0 []
+    ∷ new_vertex Kind.ingress 0 (port 0 0 ∷ [])
+    ∷ new_vertex Kind.concat 1 (port 1 0 ∷ port 5 0 ∷ [])
+    ∷ new_vertex (Kind.gate 2) 1 (port 2 0 ∷ [])
+    ∷ new_vertex (Kind.select first_plus_1) 1 (port 3 0 ∷ [])
+    ∷ new_vertex Kind.feedback 1 (port 4 0 ∷ [])
+    ∷ new_vertex Kind.egress 1 (port 3 1 ∷ [])
+    ∷ new_vertex Kind.output 0 (port 6 0 ∷ [])
+    ∷ []
+unfolding lowered lower lower_lets
+graph_of_two_turns = refl
+
+pub graph_of_outer_name : lowered outer_name ≡
+    new_vertex Kind.input 0 []
+    ∷ new_vertex Kind.input 0 []
+    ∷ new_vertex Kind.ingress 0 (port 0 0 ∷ [])
+    ∷ new_vertex Kind.concat 1 (port 2 0 ∷ port 9 0 ∷ [])
+    ∷ new_vertex (Kind.gate 2) 1 (port 3 0 ∷ [])
+    ∷ new_vertex Kind.ingress 0 (port 1 0 ∷ [])
+    ∷ new_vertex Kind.concat 1 (port 5 0 ∷ port 8 0 ∷ [])
+    ∷ new_vertex (Kind.hold 2) 1 (port 6 0 ∷ [])
+    ∷ new_vertex Kind.feedback 1 (port 7 1 ∷ [])
+    ∷ new_vertex Kind.feedback 1 (port 7 0 ∷ [])
+    ∷ new_vertex Kind.egress 1 (port 4 1 ∷ [])
+    ∷ new_vertex Kind.output 0 (port 10 0 ∷ [])
+    ∷ []
+unfolding lowered lower lower_lets
+graph_of_outer_name = refl
+
+pub graph_of_loops : lowered outer_name_in_loops ≡
+    new_vertex Kind.input 0 []
+    ∷ new_vertex Kind.input 0 []
+    ∷ new_vertex Kind.ingress 0 (port 0 0 ∷ [])
+    ∷ new_vertex Kind.concat 1 (port 2 0 ∷ port 19 0 ∷ [])
+    ∷ new_vertex (Kind.gate 2) 1 (port 3 0 ∷ [])
+    ∷ new_vertex Kind.ingress 0 (port 1 0 ∷ [])
+    ∷ new_vertex Kind.concat 1 (port 5 0 ∷ port 8 0 ∷ [])
+    ∷ new_vertex (Kind.hold 2) 1 (port 6 0 ∷ [])
+    ∷ new_vertex Kind.feedback 1 (port 7 1 ∷ [])
+    ∷ new_vertex Kind.ingress 1 (port 4 0 ∷ [])
+    ∷ new_vertex Kind.concat 2 (port 9 0 ∷ port 17 0 ∷ [])
+    ∷ new_vertex (Kind.gate 1) 2 (port 10 0 ∷ [])
+    ∷ new_vertex Kind.ingress 1 (port 7 0 ∷ [])
+    ∷ new_vertex Kind.concat 2 (port 12 0 ∷ port 15 0 ∷ [])
+    ∷ new_vertex (Kind.hold 1) 2 (port 13 0 ∷ [])
+    ∷ new_vertex Kind.feedback 2 (port 14 1 ∷ [])
+    ∷ new_vertex Kind.concat 2 (port 11 0 ∷ port 14 0 ∷ [])
+    ∷ new_vertex Kind.feedback 2 (port 16 0 ∷ [])
+    ∷ new_vertex Kind.egress 2 (port 11 1 ∷ [])
+    ∷ new_vertex Kind.feedback 1 (port 18 0 ∷ [])
+    ∷ new_vertex Kind.egress 1 (port 4 1 ∷ [])
+    ∷ new_vertex Kind.output 0 (port 20 0 ∷ [])
+    ∷ []
+unfolding lowered lower lower_lets
+graph_of_loops = refl

@@ -1,0 +1,14 @@
+use Rattle.semantics.proofs.LoweredDataflow.{typed_dataflow, typed_one_flow, typed_means, typed_quiet}
+use Rattle.semantics.proofs.graphs.law_program.Goals as goal
+
+pub returns-clause-dataflow : goal.returns-clause-dataflow
+returns-clause-dataflow c = typed_dataflow
+
+pub returns-clause-one_flow : goal.returns-clause-one_flow
+returns-clause-one_flow c = typed_one_flow
+
+pub returns-clause-meaning : goal.returns-clause-meaning
+returns-clause-meaning c = typed_means
+
+pub returns-clause-quiet : goal.returns-clause-quiet
+returns-clause-quiet c = typed_quiet

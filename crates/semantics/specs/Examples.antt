@@ -1,0 +1,93 @@
+-- Small programs whose meanings and graphs are computed, as checks of the definitions.
+use Rattle.std.specs.Prelude.{ℕ, ℤ, List, [], ◌∷◌, pos}
+use Rattle.semantics.specs.Multiset.{Record}
+use Rattle.semantics.specs.Query.{Name, Scalar, Comparison, Cond, Agg, Rel, Input, Program}
+
+-- the names `a`, `b`, `e`, `x` and `y`
+abbrev pub name_a : Name
+name_a = 97 ∷ []
+
+abbrev pub name_b : Name
+name_b = 98 ∷ []
+
+abbrev pub name_e : Name
+name_e = 101 ∷ []
+
+abbrev pub name_x : Name
+name_x = 120 ∷ []
+
+abbrev pub name_y : Name
+name_y = 121 ∷ []
+
+-- an input of that name and arity
+abbrev pub input_of : Name → ℕ → Input
+input_of x n = record { name = x; arity = n }
+
+-- a record of one, of two and of three fields
+abbrev pub one_field : ℤ → Record
+one_field m = m ∷ []
+
+abbrev pub two_fields : ℕ → ℕ → Record
+two_fields m n = pos m ∷ pos n ∷ []
+
+abbrev pub three_fields : ℤ → ℤ → ℤ → Record
+three_fields l m n = l ∷ m ∷ n ∷ []
+
+-- a query of one input
+abbrev pub query_on : Input → Rel → Program
+query_on i r = record { inputs = i ∷ []; lets = []; output = r }
+
+-- a query of the inputs `a` and `b`, of one field each
+abbrev pub query_on_a_and_b : Rel → Program
+query_on_a_and_b r = record { inputs = input_of name_a 1 ∷ input_of name_b 1 ∷ []; lets = []; output = r }
+
+-- #0 + 1
+abbrev pub first_plus_1 : List Scalar
+first_plus_1 = Scalar.plus (Scalar.column 0) (Scalar.literal (pos 1)) ∷ []
+
+-- input a/1; output concat(a, a);
+abbrev pub twice : Program
+twice = query_on (input_of name_a 1) (Rel.concat (Rel.named name_a) (Rel.named name_a))
+
+-- input a/2; output group(a; #0; sum #1, count);
+abbrev pub sums_by_key : Program
+sums_by_key = query_on (input_of name_a 2) (Rel.group (Rel.named name_a) (0 ∷ []) (Agg.sum 1 ∷ Agg.count ∷ []))
+
+-- input e/2; output iterate(3; x = e; distinct(concat(x, select(join(x, e; #1 = #0); #0, #3))));
+abbrev pub reachability : Program
+reachability =
+    query_on (input_of name_e 2)
+    (Rel.iterate 3 name_x (Rel.named name_e)
+    (Rel.distinct
+    (Rel.concat (Rel.named name_x)
+    (Rel.select (Rel.join (Rel.named name_x) (Rel.named name_e) (record { left = 1; right = 0 } ∷ []))
+    (Scalar.column 0 ∷ Scalar.column 3 ∷ [])))))
+
+-- input a/1; output iterate(0; x = a; where(x; #0 < 0));
+abbrev pub no_turns : Program
+no_turns =
+    query_on (input_of name_a 1)
+    (Rel.iterate 0 name_x (Rel.named name_a)
+    (Rel.filter (Rel.named name_x) (Cond.compare Comparison.less (Scalar.column 0) (Scalar.literal (pos 0)))))
+
+-- input a/1; input b/1; output iterate(2; x = a; b);
+abbrev pub outer_name : Program
+outer_name = query_on_a_and_b (Rel.iterate 2 name_x (Rel.named name_a) (Rel.named name_b))
+
+-- input a/1; output iterate(2; x = a; iterate(3; y = x; select(y; #0 + 1)));
+abbrev pub loop_in_loop : Program
+loop_in_loop =
+    query_on (input_of name_a 1)
+    (Rel.iterate 2 name_x (Rel.named name_a)
+    (Rel.iterate 3 name_y (Rel.named name_x) (Rel.select (Rel.named name_y) first_plus_1)))
+
+-- input a/1; output iterate(2; x = a; select(x; #0 + 1));
+abbrev pub two_turns : Program
+two_turns = query_on (input_of name_a 1) (Rel.iterate 2 name_x (Rel.named name_a) (Rel.select (Rel.named name_x) first_plus_1))
+
+-- input a/1; input b/1; output iterate(2; x = a; iterate(1; y = x; concat(y, b)));
+abbrev pub outer_name_in_loops : Program
+outer_name_in_loops =
+    query_on_a_and_b
+    (Rel.iterate 2 name_x (Rel.named name_a)
+    (Rel.iterate 1 name_y (Rel.named name_x) (Rel.concat (Rel.named name_y) (Rel.named name_b))))

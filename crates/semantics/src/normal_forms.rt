@@ -1,0 +1,50 @@
+ghost use Rattle.std.specs.Prelude.{◌≡◌, ◌≤◌, ◌++◌, List, ℕ, ◌∷◌, map, ℤ, ◌+ℤ◌, ◌-ℤ◌, ◌*ℤ◌, neg_ℤ};
+ghost use Rattle.std.specs.Int.{int_wrap};
+ghost use mir.Syntax.{w64};
+ghost use Rattle.semantics.specs.Multiset.{Record};
+ghost use Rattle.semantics.specs.Query.{Scalar, Cond, Name, Rel, Input, Let, Program};
+ghost use Rattle.semantics.specs.Meaning.{value, Names, meaning, program_meaning};
+ghost use Rattle.semantics.specs.Size.{rel_size};
+ghost use Rattle.semantics.specs.Normal.{UsesOnce, replaced, Reaches};
+
+/// Folding of literals keeps a scalar's value.
+pub fn law_folding()
+    ensures plus { (a b : ℤ) (r : Record) →
+        value (Scalar.literal (int_wrap w64 (a +ℤ b))) r ≡ value (Scalar.plus (Scalar.literal a) (Scalar.literal b)) r }
+    ensures minus { (a b : ℤ) (r : Record) →
+        value (Scalar.literal (int_wrap w64 (a -ℤ b))) r ≡ value (Scalar.minus (Scalar.literal a) (Scalar.literal b)) r }
+    ensures times { (a b : ℤ) (r : Record) →
+        value (Scalar.literal (int_wrap w64 (a *ℤ b))) r ≡ value (Scalar.times (Scalar.literal a) (Scalar.literal b)) r }
+    ensures negation { (a : ℤ) (r : Record) →
+        value (Scalar.literal (int_wrap w64 (neg_ℤ a))) r ≡ value (Scalar.negation (Scalar.literal a)) r }
+{}
+
+/// A scalar's value is that of its parts' values, so that a part may be replaced by one of the same value.
+pub fn law_parts_of_scalars()
+    ensures plus { (s t : Scalar) (r : Record) → value (Scalar.plus s t) r ≡ int_wrap w64 (value s r +ℤ value t r) }
+    ensures minus { (s t : Scalar) (r : Record) → value (Scalar.minus s t) r ≡ int_wrap w64 (value s r -ℤ value t r) }
+    ensures times { (s t : Scalar) (r : Record) → value (Scalar.times s t) r ≡ int_wrap w64 (value s r *ℤ value t r) }
+    ensures negation { (s : Scalar) (r : Record) → value (Scalar.negation s) r ≡ int_wrap w64 (neg_ℤ (value s r)) }
+{}
+
+/// Each rule on relations keeps the meaning, as the same list, and where it could grow a tree it doesn't: a `select` of a
+/// `select` becomes one only where the outer scalars together use each column at most once.
+pub fn law_rules()
+    ensures where_of_where { (r : Rel) (c d : Cond) (names : Names) →
+        meaning (Rel.filter (Rel.filter r c) d) names ≡ meaning (Rel.filter r (Cond.conjunction c d)) names }
+    ensures select_of_select { (r : Rel) (ss ts : List Scalar) (names : Names) →
+        meaning (Rel.select (Rel.select r ss) ts) names ≡ meaning (Rel.select r (map (replaced ss) ts)) names }
+    ensures no_larger { (r : Rel) (ss ts : List Scalar) → UsesOnce ts →
+        rel_size (Rel.select r (map (replaced ss) ts)) ≤ rel_size (Rel.select (Rel.select r ss) ts) }
+    ensures distinct_of_distinct { (r : Rel) (names : Names) →
+        meaning (Rel.distinct (Rel.distinct r)) names ≡ meaning (Rel.distinct r) names }
+    ensures loop_of_no_turns { (x : Name) (r b : Rel) (names : Names) → meaning (Rel.iterate 0 x r b) names ≡ meaning r names }
+{}
+
+/// A let that the output doesn't reach, directly or through later lets, may be dropped.
+pub fn law_unreached_let()
+    ensures { (inputs : List Input) (before : List Let) (a : Let) (after : List Let) (out : Rel) (records : ℕ → List Record) →
+        (Reaches a.name after out → ⊥) →
+        program_meaning (record { inputs = inputs; lets = before ++ (a ∷ after); output = out }) records
+        ≡ program_meaning (record { inputs = inputs; lets = before ++ after; output = out }) records }
+{}

@@ -1,0 +1,16 @@
+ghost use Rattle.std.specs.Prelude.{◌≡◌, ◌⊎◌, ◌<◌, ◌≤◌, ℕ, List, length};
+ghost use Rattle.semantics.specs.Time.{Time, Action, after_action, times_before, IsOneOf, IsTaken, IsAtMost};
+
+/// The order of times: each is at most itself, the order goes onward, and an action keeps the order of times of one depth.
+pub fn law_order()
+    ensures itself { (t : Time) → IsAtMost t t }
+    ensures onward { (t u v : Time) → IsAtMost t u → IsAtMost u v → IsAtMost t v }
+    ensures after_action { (a : Action) (t u : Time) → length t.counters ≡ length u.counters → IsAtMost t u →
+        IsAtMost (after_action a t) (after_action a u) }
+{}
+
+/// The times before u are those that the action takes to u.
+pub fn law_times_before()
+    ensures all { (a : Action) (t u : Time) → IsTaken a t → after_action a t ≡ u → IsOneOf t (times_before a u) }
+    ensures only { (a : Action) (t u : Time) → IsOneOf t (times_before a u) → after_action a t ≡ u }
+{}

@@ -1,0 +1,23 @@
+ghost use Rattle.std.specs.Prelude.{◌≡◌, ◌<◌, ℕ, List, []};
+ghost use Rattle.semantics.specs.Multiset.{Record, ◌≈◌, IsPartOf, end_to_end};
+ghost use Rattle.semantics.specs.Time.{Time};
+ghost use Rattle.semantics.specs.Kinds.{Kind, in_ports, role, Role};
+ghost use Rattle.semantics.specs.Op.{op, IsSum, IsCut};
+ghost use Rattle.semantics.specs.PortArity.{HaveFields, PortsFit};
+
+/// The laws of the equation of a vertex: nothing in gives nothing out; where the inputs are cut into parts with no route key in
+/// two parts (for a kind without route key, cut in any way), the results of the parts add up; equal multisets in give equal
+/// multisets out; more in gives more out, but at a vertex that waits for its notification; and records of the right arities
+/// give records of the right arity.
+pub fn law_vertex()
+    ensures nothing { (kind : Kind) (t : Time) (out : ℕ) → op kind t (λ p. []) out ≡ [] }
+    ensures parts { (kind : Kind) (t : Time) (ins : ℕ → List Record) (parts : ℕ → ℕ → List Record) (n out : ℕ) →
+        IsSum kind ins parts n → IsCut kind parts n →
+        op kind t ins out ≈ end_to_end (λ w. op kind t (parts w) out) n }
+    ensures equal { (kind : Kind) (t : Time) (xs ys : ℕ → List Record) (out : ℕ) →
+        ((i : ℕ) → i < in_ports kind → xs i ≈ ys i) → op kind t xs out ≈ op kind t ys out }
+    ensures more { (kind : Kind) → (role kind ≡ Role.notified → ⊥) → (t : Time) (xs ys : ℕ → List Record) (out : ℕ) →
+        ((i : ℕ) → i < in_ports kind → IsPartOf (xs i) (ys i)) → IsPartOf (op kind t xs out) (op kind t ys out) }
+    ensures fields { (kind : Kind) (arity : ℕ → ℕ) (n : ℕ) → PortsFit kind arity n → (t : Time) (ins : ℕ → List Record) →
+        ((i : ℕ) → i < in_ports kind → HaveFields (arity i) (ins i)) → (out : ℕ) → HaveFields n (op kind t ins out) }
+{}
