@@ -25,6 +25,7 @@ pub enum Keyword {
     Not,
     Epoch,
 }
+
 const KEYWORDS: [Keyword; 18] = [
     Keyword::Input,
     Keyword::Let,

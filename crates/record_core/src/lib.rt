@@ -14,3 +14,5 @@ pub use name::Name;
 pub use record::{MAX_FIELDS, Record};
 pub use span::{Refusal, Span};
 
+#[cfg(test)]
+mod tests;

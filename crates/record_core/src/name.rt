@@ -11,8 +11,8 @@ ghost use Rattle.std.specs.Str.{bytes_eq};
 ghost use Rattle.std.proofs.Common.{rules};
 ghost use Rattle.record_core.specs.Names.{IsName, begins_name, is_name_byte};
 
-use arrayvec::ArrayVec;
 use crate::keyword::Keyword;
+use arrayvec::ArrayVec;
 use std::alloc::AllocError;
 use std::cmp::Ordering;
 use std::hash::{Hash, Hasher};
@@ -149,7 +149,5 @@ fn begins(bytes: &[u8]) -> bool
 fn goes_on(bytes: &[u8]) -> bool
     ensures { result ≡ list_all is_name_byte bytes.now }
 {
-    bytes
-        .iter()
-        .all(|b| b.is_ascii_lowercase() || b.is_ascii_digit() || *b == b'_')
+    bytes.iter().all(|b| b.is_ascii_lowercase() || b.is_ascii_digit() || *b == b'_')
 }
