@@ -1,5 +1,5 @@
 -- The table of keywords: where each stands, and what a search through a part of it tells.
-use Rattle.std.proofs.Common.{◌≡◌, ◌≢◌, ◌<◌, ◌+◌, ◌∙◌, ℕ, List, true, false, Some, refl, sym, ap, arith, get_or, inl, inr}
+use Rattle.std.proofs.Common.{◌≡◌, ◌≢◌, ◌<◌, ◌+◌, ◌∙◌, ℕ, List, [], ◌∷◌, true, false, Some, refl, sym, ap, arith, get_or, inl, inr, cond}
 use Rattle.std.specs.Prelude.{slice_get}
 use Rattle.std.specs.Str.{bytes_eq}
 use Rattle.std.proofs.lemmas.Option.{get_or_from_slice_get}
@@ -45,3 +45,32 @@ place And = (14, omega arith, refl)
 place Or = (15, omega arith, refl)
 place Not = (16, omega arith, refl)
 place Epoch = (17, omega arith, refl)
+
+-- the first keyword of a table with a spelling
+abbrev keyword_at : List ℕ → List Keyword → Keyword
+keyword_at word [] = Input
+keyword_at word (k ∷ ks) = cond (bytes_eq word (keyword_text k)) k (keyword_at word ks)
+
+found_back : (k : Keyword) → keyword_at (keyword_text k) KEYWORDS ≡ k
+found_back Input = refl
+found_back Let = refl
+found_back Output = refl
+found_back Select = refl
+found_back Where = refl
+found_back Concat = refl
+found_back Join = refl
+found_back Group = refl
+found_back Distinct = refl
+found_back Iterate = refl
+found_back Count = refl
+found_back Sum = refl
+found_back Min = refl
+found_back Max = refl
+found_back And = refl
+found_back Or = refl
+found_back Not = refl
+found_back Epoch = refl
+
+-- no two keywords are spelled alike
+pub keyword_text-injective : (j k : Keyword) → keyword_text j ≡ keyword_text k → j ≡ k
+keyword_text-injective j k e = sym (found_back j) ∙ ap (λ (word : List ℕ). keyword_at word KEYWORDS) e ∙ found_back k

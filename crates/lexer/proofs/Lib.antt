@@ -1,0 +1,5 @@
+pub mod Marks
+pub mod Lexemes
+pub mod Spelled
+pub mod Nexts
+pub mod Unique

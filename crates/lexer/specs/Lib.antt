@@ -1,0 +1,4 @@
+pub mod Marks
+pub mod Lexemes
+pub mod Tokens
+pub mod Faults

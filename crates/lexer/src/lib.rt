@@ -1,0 +1,16 @@
+//! From the bytes of a query to its tokens.
+//!
+//! The contract for the layers above: `lex` is `Ok` only with the tokens of the text, at each place the longest, and only white
+//! space between them; no other list is one. A numbered refusal is the first fault of the text, with its code and place, and a
+//! text that is refused so has no tokens. The parser stands above, `record_core` and `decimal` below.
+#![tactic(auto)]
+
+mod mark;
+mod token;
+mod lexeme;
+mod spelling;
+mod lexing;
+
+pub use lexing::{MAX_LENGTH, lex};
+pub use mark::Mark;
+pub use token::{Token, TokenKind};
