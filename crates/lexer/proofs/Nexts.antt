@@ -1,12 +1,12 @@
 -- What comes next in the text.
 use Rattle.std.proofs.Common.{◌≡◌, ◌<◌, ◌≤◌, ◌+◌, ◌-◌, ℕ, zero, suc, List, [], ◌∷◌, ◌++◌, length, take, drop, true, refl, sym, subst, arith, get_or, inr}
 use Rattle.std.specs.Bool.{IsTrue}
-use Rattle.std.specs.List.{list_all}
+use Rattle.std.specs.List.{All, list_all}
 use Rattle.std.proofs.lemmas.List.{length-drop, take_all}
 use Rattle.lexer.specs.declared.token.Token.{Token}
 use Rattle.lexer.specs.declared.token.TokenKind.{TokenKind}
 use Rattle.lexer.specs.Lexemes.{is_space, shape_of, IsLexeme, IsLongest}
-use Rattle.lexer.specs.Tokens.{Spells, IsNext, LexesTo}
+use Rattle.lexer.specs.Tokens.{Spells, IsNext, IsPlaced, LexesTo}
 use Rattle.lexer.specs.Faults.{IsMisspelled, IsFault, fault_code}
 
 -- `&text[at..]`
@@ -64,3 +64,9 @@ next_ends text at t le next =
 pub goes_on : (text : List ℕ) (at : ℕ) (ts : List Token) (mid : ℕ) (t : Token) → LexesTo text at ts mid → IsNext text mid t → LexesTo text at (ts ++ t ∷ []) t.span.end
 goes_on text at [] mid t so_far next = (subst (λ (i : ℕ). IsNext text i t) (sym so_far) next, refl)
 goes_on text at (u ∷ us) mid t so_far next = (so_far.0, goes_on text u.span.end us mid t so_far.1 next)
+
+-- each token is in its place
+pub placed : (text : List ℕ) (at : ℕ) (ts : List Token) (stop : ℕ) → at ≤ length text → LexesTo text at ts stop → All (IsPlaced text) ts
+placed text at [] stop le tokens k d lt = absurd (omega arith)
+placed text at (t ∷ ts) stop le tokens zero d lt = record { order = tokens.0.order; within = (next_ends text at t le tokens.0).1; spelled = tokens.0.spelled }
+placed text at (t ∷ ts) stop le tokens (suc k) d lt = placed text t.span.end ts stop (next_ends text at t le tokens.0).1 tokens.1 k d (omega arith)

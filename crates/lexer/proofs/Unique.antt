@@ -18,7 +18,7 @@ use Rattle.record_core.specs.declared.span.Refusal.TheVariants.{At, NoMemory}
 use Rattle.lexer.specs.declared.lexeme.Shape.TheVariants.{Sign}
 use Rattle.lexer.specs.Lexemes.{is_space, shape_of, HasShape, IsLexeme, IsLongest}
 use Rattle.lexer.specs.Tokens.{Spells, IsNext, LexesTo, Lexes}
-use Rattle.lexer.specs.Faults.{IsStray, IsMisspelled, IsFault, Refuses}
+use Rattle.lexer.specs.Faults.{IsStray, IsMisspelled, IsFault, Refuses, fault_code}
 use Rattle.lexer.specs.declared.mark.TheConstants.{MARKS}
 use Rattle.record_core.proofs.Keywords.{keyword_text-injective}
 use Rattle.lexer.proofs.Lexemes.{each_at}
@@ -230,4 +230,59 @@ refused_none text NoMemory us r memory q = memory refl
 refused_none text (At code span) us r memory q = elim r [
   | inl long ↦ let short = q.short in let l = long.0 in absurd (omega arith)
   | inr fault ↦ fault_none text 0 fault.1 us fault.2 q.stop code span.start span.end fault.3 fault.4 q.tokens q.rest
+]
+
+-- one first fault
+fault_one : (text : List ℕ) (at c s e d u f : ℕ) → IsFault text at c s e → IsFault text at d u f → (d ≡ c) × (u ≡ s) × (f ≡ e)
+fault_one text at c s e d u f p q =
+    let start : u ≡ s = begun_one text at u s (begun_fault text at d u f q) (begun_fault text at c s e p) in
+    let order = p.order in
+    let order-2 = q.order in
+    elim p.what [
+      | inl a ↦ elim q.what [
+        | inl b ↦ (b.0 ∙ sym a.0, start, b.1 ∙ ap (λ (i : ℕ). i + 1) start ∙ sym a.1)
+        | inr b ↦
+            let longest : IsLongest (drop s text) (f - u) = subst (λ (i : ℕ). IsLongest (drop i text) (f - u)) start b.1.longest in
+            absurd (a.2.none (f - u) longest.within longest.lexeme)
+      ]
+      | inr a ↦ elim q.what [
+        | inl b ↦
+            let stray : IsStray (drop s text) = subst (λ (i : ℕ). IsStray (drop i text)) start b.2 in
+            absurd (stray.none (e - s) a.1.longest.within a.1.longest.lexeme)
+        | inr b ↦
+            let longest : IsLongest (drop s text) (f - u) = subst (λ (i : ℕ). IsLongest (drop i text) (f - u)) start b.1.longest in
+            let size : f - u ≡ e - s = longest_one (drop s text) (f - u) (e - s) longest a.1.longest in
+            (b.0 ∙ ap (λ (i : ℕ). fault_code (shape_of (get_or text i 0))) start ∙ sym a.0, start, omega arith)
+      ]
+    ]
+
+faults_one : (text : List ℕ) (at : ℕ) (ts us : List Token) (p q c s e d u f : ℕ) → LexesTo text at ts p → IsFault text p c s e → LexesTo text at us q → IsFault text q d u f → (d ≡ c) × (u ≡ s) × (f ≡ e)
+faults_one text at [] [] p q c s e d u f a x b y = fault_one text at c s e d u f (subst (λ (i : ℕ). IsFault text i c s e) (sym a) x) (subst (λ (i : ℕ). IsFault text i d u f) (sym b) y)
+faults_one text at [] (v ∷ us) p q c s e d u f a x b y = absurd (next_fault text at v c s e b.0 (subst (λ (i : ℕ). IsFault text i c s e) (sym a) x))
+faults_one text at (t ∷ ts) [] p q c s e d u f a x b y = absurd (next_fault text at t d u f a.0 (subst (λ (i : ℕ). IsFault text i d u f) (sym b) y))
+faults_one text at (t ∷ ts) (v ∷ us) p q c s e d u f a x b y =
+    let same : v ≡ t = next_one text at v t b.0 a.0 in
+    let rest : LexesTo text t.span.end us q = subst (λ (z : Token). LexesTo text z.span.end us q) same b.1 in
+    faults_one text t.span.end ts us p q c s e d u f a.1 x rest y
+
+abbrev told : ℕ → ℕ → ℕ → Refusal
+told code start end = At code (record { start = start; end = end })
+
+same_told : (c s e d u f : ℕ) → d ≡ c → u ≡ s → f ≡ e → told d u f ≡ told c s e
+same_told c s e d u f code start end = ap (λ (i : ℕ). told i u f) code ∙ ap (λ (i : ℕ). told c i f) start ∙ ap (λ (i : ℕ). told c s i) end
+
+pub refused_one : (text : List ℕ) (e f : Refusal) → (e ≡ NoMemory → ⊥) → (f ≡ NoMemory → ⊥) → Refuses text e → Refuses text f → f ≡ e
+refused_one text NoMemory f memory memory-2 p q = absurd (memory refl)
+refused_one text (At c s) NoMemory memory memory-2 p q = absurd (memory-2 refl)
+refused_one text (At c s) (At d u) memory memory-2 p q = elim p [
+  | inl long ↦ elim q [
+    | inl also ↦ same_told c s.start s.end d u.start u.end (also.1 ∙ sym long.1) (also.2 ∙ sym long.2) (also.3 ∙ sym long.3)
+    | inr fault ↦ let l = long.0 in let short = fault.0 in absurd (omega arith)
+  ]
+  | inr fault ↦ elim q [
+    | inl long ↦ let l = long.0 in let short = fault.0 in absurd (omega arith)
+    | inr other ↦
+        let same = faults_one text 0 fault.1 other.1 fault.2 other.2 c s.start s.end d u.start u.end fault.3 fault.4 other.3 other.4 in
+        same_told c s.start s.end d u.start u.end same.0 same.1 same.2
+  ]
 ]

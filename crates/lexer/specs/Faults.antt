@@ -1,6 +1,6 @@
 -- The first fault of a text.
 use Rattle.std.specs.Prelude.{◌≡◌, ⊤, ℕ, ◌+◌, ◌-◌, ◌<◌, ◌≤◌, IsTrue, IsFalse, List, length, take, drop, slice_index, Option, Some, None, ◌⊎◌}
-use Rattle.std.specs.List.{list_all}
+use Rattle.std.specs.List.{list_all, slice_range}
 use Rattle.record_core.specs.declared.span.Refusal.{Refusal}
 use Rattle.record_core.specs.declared.span.Refusal.TheVariants.{At, NoMemory}
 use Rattle.lexer.specs.declared.token.Token.{Token}
@@ -31,7 +31,7 @@ fault_code Sign = 1
 -- from at on the text has white space, and then this fault
 pub record IsFault (text : List ℕ) (at code start end : ℕ) : Type 0 where
   pub after : at ≤ start
-  pub spaces : IsTrue (list_all is_space (take (start - at) (drop at text)))
+  pub spaces : IsTrue (list_all is_space (slice_range text at start))
   pub order : start < end
   pub what : ((code ≡ 1) × (end ≡ start + 1) × IsStray (drop start text))
     ⊎ ((code ≡ fault_code (shape_of (slice_index text start))) × IsMisspelled (drop start text) (end - start))

@@ -1,6 +1,6 @@
 -- The tokens of a text: at each place the longest, and only white space between them.
-use Rattle.std.specs.Prelude.{◌≡◌, ℕ, ◌-◌, ◌<◌, ◌≤◌, ◌^◌, IsTrue, List, [], ◌∷◌, length, take, drop, decimal, codes, ◌++◌}
-use Rattle.std.specs.List.{list_all}
+use Rattle.std.specs.Prelude.{◌≡◌, ℕ, ◌-◌, ◌<◌, ◌≤◌, ◌^◌, IsTrue, List, [], ◌∷◌, length, drop, decimal, codes, ◌++◌}
+use Rattle.std.specs.List.{list_all, slice_range}
 use Rattle.record_core.specs.Names.{keyword_text, IsName}
 use Rattle.lexer.specs.declared.token.Token.{Token}
 use Rattle.lexer.specs.declared.token.TokenKind.{TokenKind}
@@ -19,10 +19,16 @@ Spells word (kind.Keyword k) = word ≡ keyword_text k
 -- from at on the text has white space, and then this token
 pub record IsNext (text : List ℕ) (at : ℕ) (t : Token) : Type 0 where
   pub after : at ≤ t.span.start
-  pub spaces : IsTrue (list_all is_space (take (t.span.start - at) (drop at text)))
+  pub spaces : IsTrue (list_all is_space (slice_range text at t.span.start))
   pub order : t.span.start < t.span.end
   pub longest : IsLongest (drop t.span.start text) (t.span.end - t.span.start)
-  pub spelled : Spells (take (t.span.end - t.span.start) (drop t.span.start text)) t.kind
+  pub spelled : Spells (slice_range text t.span.start t.span.end) t.kind
+
+-- the token lies in the text, and the slice at its span spells it
+pub record IsPlaced (text : List ℕ) (t : Token) : Type 0 where
+  pub order : t.span.start < t.span.end
+  pub within : t.span.end ≤ length text
+  pub spelled : Spells (slice_range text t.span.start t.span.end) t.kind
 
 -- from at up to stop the text has just these tokens
 abbrev pub LexesTo : List ℕ → ℕ → List Token → ℕ → Type 0

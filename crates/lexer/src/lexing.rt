@@ -1,9 +1,11 @@
 //! From bytes to tokens.
 
 ghost use Rattle.std.specs.Prelude.{◌≡◌, ◌≢◌, List, ◌<◌, ◌≤◌, ◌^◌, length, IfOk, IfErr};
+ghost use Rattle.std.specs.List.{All};
+ghost use Rattle.record_core.specs.declared.span.Refusal.{Refusal};
 ghost use Rattle.lexer.specs.declared.token.Token.{Token};
 ghost use Rattle.lexer.specs.Lexemes.{shape_of};
-ghost use Rattle.lexer.specs.Tokens.{Lexes, max_length};
+ghost use Rattle.lexer.specs.Tokens.{IsPlaced, Lexes, max_length};
 ghost use Rattle.lexer.specs.Faults.{Begins, Stops, Refuses, fault_code};
 
 use crate::lexeme::{Class, Shape, lexeme_len, run, shape_at};
@@ -28,8 +30,12 @@ pub fn lex<A: Allocator>(alloc: A, text: &[u8]) -> Result<Vec<Token, A>, Refusal
     ensures tokens { IfOk result (λ v. Lexes text.now v.items) }
     // The text has no others.
     ensures only { IfOk result (λ v. (ts : List Token) → Lexes text.now ts → ts ≡ v.items) }
+    // Each lies in the text, and its span's slice spells it: at a name, a slice that is a name.
+    ensures placed { IfOk result (λ v. All (IsPlaced text.now) v.items) }
     // A refusal tells the first fault.
     ensures refused { IfErr result (λ e. Refuses text.now e) }
+    // The text has no other first fault.
+    ensures first { IfErr result (λ e. e ≢ Refusal.NoMemory → (f : Refusal) → f ≢ Refusal.NoMemory → Refuses text.now f → f ≡ e) }
     // A text that is refused, but for memory, has no tokens.
     ensures none { IfErr result (λ e. e ≢ Refusal.NoMemory → (ts : List Token) → ¬ (Lexes text.now ts)) }
 {
