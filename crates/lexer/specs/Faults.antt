@@ -34,7 +34,7 @@ pub record IsFault (text : List ℕ) (at code start end : ℕ) : Type 0 where
   pub spaces : IsTrue (list_all is_space (slice_range text at start))
   pub order : start < end
   pub what : ((code ≡ 1) × (end ≡ start + 1) × IsStray (drop start text))
-    ⊎ ((code ≡ fault_code (shape_of (slice_index text start))) × IsMisspelled (drop start text) (end - start))
+      ⊎ ((code ≡ fault_code (shape_of (slice_index text start))) × IsMisspelled (drop start text) (end - start))
 
 -- Why a text is refused: it is too long, or has tokens up to a fault. Want of memory may come at any text.
 abbrev pub Refuses : List ℕ → Refusal → Type 0

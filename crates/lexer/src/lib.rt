@@ -5,12 +5,15 @@
 //! text that is refused so has no tokens. The parser stands above, `record_core` and `decimal` below.
 #![tactic(auto)]
 
-mod mark;
-mod token;
 mod lexeme;
-mod spelling;
 mod lexing;
+mod mark;
+mod spelling;
+mod token;
 
 pub use lexing::{MAX_LENGTH, lex};
 pub use mark::Mark;
 pub use token::{Token, TokenKind};
+
+#[cfg(test)]
+mod tests;
