@@ -2,20 +2,21 @@
 use Rattle.std.proofs.Common.{◌≡◌, ◌≢◌, ◌≤◌, ◌<◌, ℕ, zero, suc, ◌+◌, Bool, true, false, cond, eqb, List, [], ◌∷◌, ◌++◌, ◌⊎◌, inl, inr, refl, sym, ap, ◌∙◌, subst, ap₂, arith, append-nil}
 use Rattle.std.proofs.lemmas.Bool.Decides.{eqb_tells}
 use Rattle.semantics.specs.Multiset.{total, Record, count, end_to_end, ◌≈◌}
-use Rattle.semantics.specs.Place.{at_vertex}
+use Rattle.semantics.specs.Could.{at_vertex}
 use Rattle.semantics.specs.Time.{Time, same_time, at_epoch}
-use Rattle.semantics.proofs.BagLaws.{≈-from}
-use Rattle.machine.specs.Network.{Role, Network, ins}
-use Rattle.machine.specs.Step.{Step, parcels, absorbed_by, absorbed_with, absorbed_after, emitted_by, emitted_after, asked, asked_by, asked_first, only_at, Allowed, after, MakesBy}
+use Rattle.semantics.proofs.MultisetSums.{≈-from, total-append}
+use Rattle.semantics.specs.Kinds.{Role}
+use Rattle.machine.specs.Network.{Network, ins}
+use Rattle.machine.specs.Step.{Step, parcels, absorbed_by, absorbed_with, absorbed_after, emitted_by, emitted_after, asked, asked_by, asked_first, Allowed, after_step, MakesBy}
+use Rattle.semantics.specs.Shard.{only_at}
 use Rattle.machine.specs.Sums.{put, each, sum_below}
-use Rattle.machine.specs.World.{Message, Event, Hand, World, IsActive, message_place}
+use Rattle.machine.specs.World.{Message, Event, Held, World, IsActive, message_pointstamp}
 use Rattle.machine.proofs.Commits.{once, way_after, vertex_after}
-use Rattle.semantics.proofs.BagLaws.{total-append}
 use Rattle.machine.proofs.Counting.{eqb_self, below_one, below_changed, count-append}
 use Rattle.machine.proofs.Kept.{History, carried, in_hand, under_way, wished, wish_in_hand, wishes, some, bit, made, Due, Kept, GoodMessage, GoodRequest, GoodHand}
 use Rattle.machine.proofs.Laws.{IsNetwork, AtHome, times_in}
 use Rattle.machine.proofs.NetFlow.{HasFlows}
-use Rattle.machine.proofs.Notices.{some_row}
+use Rattle.machine.proofs.Notifications.{some_row}
 use Rattle.machine.proofs.Places.{same_time_tells, same_time_self, edge_not_vertex}
 use Rattle.machine.proofs.Progress.{put_tells, held_good}
 use Rattle.machine.proofs.Sending.{Parcel, parcels_good, fits_sent, each-append, each_more}
@@ -69,46 +70,46 @@ absorbed_tells w k0 v0 p0 t0 records k v p t = go (eqb_tells k k0) (eqb_tells v0
     go (inr (a, b)) q r s = inr (record { other = λ z _ _ _. b z; is = rw a (append-nil (w.absorbed k v p t)) })
 
 keyed_absorbed : (role : Role) (w : World) (k0 v0 p0 : ℕ) (t0 : Time) (records : List Record) →
-    (((role ≡ Role.stateful) ⊎ (role ≡ Role.grouping)) × (absorbed_by role w k0 v0 p0 t0 records ≡ absorbed_with w k0 v0 p0 t0 records))
-    ⊎ ((((role ≡ Role.stateful) ⊎ (role ≡ Role.grouping)) → ⊥) × (absorbed_by role w k0 v0 p0 t0 records ≡ w.absorbed))
-keyed_absorbed Role.source w k0 v0 p0 t0 records = inr (λ s. neither s, refl)
+    (((role ≡ Role.stateful) ⊎ (role ≡ Role.notified)) × (absorbed_by role w k0 v0 p0 t0 records ≡ absorbed_with w k0 v0 p0 t0 records))
+    ⊎ ((((role ≡ Role.stateful) ⊎ (role ≡ Role.notified)) → ⊥) × (absorbed_by role w k0 v0 p0 t0 records ≡ w.absorbed))
+keyed_absorbed Role.input w k0 v0 p0 t0 records = inr (λ s. neither s, refl)
   where
-    neither : ((Role.source ≡ Role.stateful) ⊎ (Role.source ≡ Role.grouping)) → ⊥
+    neither : ((Role.input ≡ Role.stateful) ⊎ (Role.input ≡ Role.notified)) → ⊥
     neither (inl e) = absurd cc
     neither (inr e) = absurd cc
 keyed_absorbed Role.stateless w k0 v0 p0 t0 records = inr (λ s. neither s, refl)
   where
-    neither : ((Role.stateless ≡ Role.stateful) ⊎ (Role.stateless ≡ Role.grouping)) → ⊥
+    neither : ((Role.stateless ≡ Role.stateful) ⊎ (Role.stateless ≡ Role.notified)) → ⊥
     neither (inl e) = absurd cc
     neither (inr e) = absurd cc
 keyed_absorbed Role.stateful w k0 v0 p0 t0 records = inl (inl refl, refl)
-keyed_absorbed Role.grouping w k0 v0 p0 t0 records = inl (inr refl, refl)
-keyed_absorbed Role.sink w k0 v0 p0 t0 records = inr (λ s. neither s, refl)
+keyed_absorbed Role.notified w k0 v0 p0 t0 records = inl (inr refl, refl)
+keyed_absorbed Role.output w k0 v0 p0 t0 records = inr (λ s. neither s, refl)
   where
-    neither : ((Role.sink ≡ Role.stateful) ⊎ (Role.sink ≡ Role.grouping)) → ⊥
+    neither : ((Role.output ≡ Role.stateful) ⊎ (Role.output ≡ Role.notified)) → ⊥
     neither (inl e) = absurd cc
     neither (inr e) = absurd cc
 
 sink_emitted : (role : Role) (w : World) (m : Message) (n : ℕ) →
-    ((role ≡ Role.sink) × (emitted_by role w m n ≡ w.emitted n ++ cond (same_time m.time (at_epoch n)) m.records [])) ⊎ ((role ≢ Role.sink) × (emitted_by role w m n ≡ w.emitted n))
-sink_emitted Role.source w m n = inr (λ e. cc, refl)
+    ((role ≡ Role.output) × (emitted_by role w m n ≡ w.emitted n ++ cond (same_time m.time (at_epoch n)) m.records [])) ⊎ ((role ≢ Role.output) × (emitted_by role w m n ≡ w.emitted n))
+sink_emitted Role.input w m n = inr (λ e. cc, refl)
 sink_emitted Role.stateless w m n = inr (λ e. cc, refl)
 sink_emitted Role.stateful w m n = inr (λ e. cc, refl)
-sink_emitted Role.grouping w m n = inr (λ e. cc, refl)
-sink_emitted Role.sink w m n = inl (refl, refl)
+sink_emitted Role.notified w m n = inr (λ e. cc, refl)
+sink_emitted Role.output w m n = inl (refl, refl)
 
-group_asked : (role : Role) (v : ℕ) (t : Time) (xs : List Record) → ((role ≡ Role.grouping) × (asked_by role v t xs ≡ asked_first v t xs)) ⊎ ((role ≢ Role.grouping) × (asked_by role v t xs ≡ []))
-group_asked Role.source v t xs = inr (λ e. cc, refl)
+group_asked : (role : Role) (v : ℕ) (t : Time) (xs : List Record) → ((role ≡ Role.notified) × (asked_by role v t xs ≡ asked_first v t xs)) ⊎ ((role ≢ Role.notified) × (asked_by role v t xs ≡ []))
+group_asked Role.input v t xs = inr (λ e. cc, refl)
 group_asked Role.stateless v t xs = inr (λ e. cc, refl)
 group_asked Role.stateful v t xs = inr (λ e. cc, refl)
-group_asked Role.grouping v t xs = inl (refl, refl)
-group_asked Role.sink v t xs = inr (λ e. cc, refl)
+group_asked Role.notified v t xs = inl (refl, refl)
+group_asked Role.output v t xs = inr (λ e. cc, refl)
 
 module _ (g : Network) (law : IsNetwork g) (w : World) (h : History) (keeps : Kept g w h) (flows : HasFlows g) (k0 : ℕ) (m : Message) (out : ℕ → List Record) (ok : Allowed g w (Step.commit k0 (Event.arrival m) out)) where
   good_message : GoodMessage g k0 m
   good_message = held_good g law w (good_of g law w h keeps) k0 (Event.arrival m) ok.0 ok.1
 
-  here : g.Fits (at_vertex (g.target m.edge) m.time)
+  here : g.IsPointstamp (at_vertex (g.target m.edge) m.time)
   here = law.fits_enter m.edge m.time good_message.0 good_message.3
 
   edge_here : g.edge_into (g.target m.edge) (g.in_port m.edge) ≡ m.edge
@@ -121,19 +122,19 @@ module _ (g : Network) (law : IsNetwork g) (w : World) (h : History) (keeps : Ke
   port_of v p lp e = ap g.in_port e ∙ law.port_into v p lp
 
   -- nobody was told that nothing more comes
-  untold : g.role (g.target m.edge) ≡ Role.grouping → (k : ℕ) → k < g.workers → h.told k (g.target m.edge) m.time ≡ false
+  untold : g.role (g.target m.edge) ≡ Role.notified → (k : ℕ) → k < g.workers → h.told k (g.target m.edge) m.time ≡ false
   untold s k lk = go (h.told k (g.target m.edge) m.time) refl
     where
       go : (b : Bool) → h.told k (g.target m.edge) m.time ≡ b → h.told k (g.target m.edge) m.time ≡ false
       go false e = e
-      go true e = absurd (edge_not_vertex m.edge (g.target m.edge) m.time m.time (keeps.settled k (g.target m.edge) m.time lk s (inl e) (message_place m) (IsActive.of_hand k0 false (Event.arrival m) ok.0 ok.1) (law.could_enter m.edge m.time good_message.0 good_message.3)))
+      go true e = absurd (edge_not_vertex m.edge (g.target m.edge) m.time m.time (keeps.settled k (g.target m.edge) m.time lk s (inl e) (message_pointstamp m) (IsActive.of_held k0 false (Event.arrival m) ok.0 ok.1) (law.could_enter m.edge m.time good_message.0 good_message.3)))
 
   counted_once : times_in m.time (g.times_before (g.target m.edge) (g.act (g.target m.edge) m.time)) ≡ 1
   counted_once =
       let r = some_row m.records good_message.1 in
       let b = keeps.balance m.edge m.time r.0 good_message.0 in
       let c : under_way w m.edge m.time r.0 k0 ≤ sum_below g.workers (under_way w m.edge m.time r.0) = below_one g.workers k0 (under_way w m.edge m.time r.0) ok.0 in
-      let d : in_hand m.edge m.time r.0 (w.hand k0) ≡ count r.0 m.records = ap (in_hand m.edge m.time r.0) ok.1 ∙ rw (eqb_self m.edge, same_time_self m.time) refl in
+      let d : in_hand m.edge m.time r.0 (w.held k0) ≡ count r.0 m.records = ap (in_hand m.edge m.time r.0) ok.1 ∙ rw (eqb_self m.edge, same_time_self m.time) refl in
       let l : 0 < count r.0 m.records = r.1 in
       once g law w h keeps flows m.edge m.time r.0 good_message.0 good_message.3 (omega arith)
 
@@ -166,7 +167,7 @@ module _ (g : Network) (law : IsNetwork g) (w : World) (h : History) (keeps : Ke
       here true false = rw (eqb_self k0) (count-append r (h.done k0 e t) [])
       here false c = rw (eqb_self k0) (count-append r (h.done k0 e t) [])
 
-  shards_after : (k v p : ℕ) (t : Time) → k < g.workers → p < g.ports v → (g.role v ≡ Role.stateful) ⊎ (g.role v ≡ Role.grouping) → absorbed_after g w k0 (Event.arrival m) k v p t ≡ done_after h k0 m k (g.edge_into v p) t
+  shards_after : (k v p : ℕ) (t : Time) → k < g.workers → p < g.ports v → (g.role v ≡ Role.stateful) ⊎ (g.role v ≡ Role.notified) → absorbed_after g w k0 (Event.arrival m) k v p t ≡ done_after h k0 m k (g.edge_into v p) t
   shards_after k v p t lk lp s = go (keyed_absorbed (g.role (g.target m.edge)) w k0 (g.target m.edge) (g.in_port m.edge) m.time m.records)
     where
       both : AbsorbedHere w k0 (g.target m.edge) (g.in_port m.edge) m.time m.records k v p t ⊎ AbsorbedElsewhere w k0 (g.target m.edge) (g.in_port m.edge) m.time m.records k v p t
@@ -176,12 +177,12 @@ module _ (g : Network) (law : IsNetwork g) (w : World) (h : History) (keeps : Ke
       both (inr x) (inl y) = absurd (x.other y.worker (vertex_of v p lp y.edge) (port_of v p lp y.edge) y.time)
       both (inr x) (inr y) = x.is ∙ keeps.shards k v p t lk lp s ∙ sym y.is
 
-      plain : (((g.role (g.target m.edge) ≡ Role.stateful) ⊎ (g.role (g.target m.edge) ≡ Role.grouping)) → ⊥) → DoneHere h k0 m k (g.edge_into v p) t ⊎ DoneElsewhere h k0 m k (g.edge_into v p) t → w.absorbed k v p t ≡ done_after h k0 m k (g.edge_into v p) t
-      plain never (inl y) = absurd (never (subst (λ (x : ℕ). (g.role x ≡ Role.stateful) ⊎ (g.role x ≡ Role.grouping)) (sym (vertex_of v p lp y.edge)) s))
+      plain : (((g.role (g.target m.edge) ≡ Role.stateful) ⊎ (g.role (g.target m.edge) ≡ Role.notified)) → ⊥) → DoneHere h k0 m k (g.edge_into v p) t ⊎ DoneElsewhere h k0 m k (g.edge_into v p) t → w.absorbed k v p t ≡ done_after h k0 m k (g.edge_into v p) t
+      plain never (inl y) = absurd (never (subst (λ (x : ℕ). (g.role x ≡ Role.stateful) ⊎ (g.role x ≡ Role.notified)) (sym (vertex_of v p lp y.edge)) s))
       plain never (inr y) = keeps.shards k v p t lk lp s ∙ sym y.is
 
-      go : ((((g.role (g.target m.edge)) ≡ Role.stateful) ⊎ ((g.role (g.target m.edge)) ≡ Role.grouping)) × (absorbed_by (g.role (g.target m.edge)) w k0 (g.target m.edge) (g.in_port m.edge) m.time m.records ≡ absorbed_with w k0 (g.target m.edge) (g.in_port m.edge) m.time m.records))
-          ⊎ (((((g.role (g.target m.edge)) ≡ Role.stateful) ⊎ ((g.role (g.target m.edge)) ≡ Role.grouping)) → ⊥) × (absorbed_by (g.role (g.target m.edge)) w k0 (g.target m.edge) (g.in_port m.edge) m.time m.records ≡ w.absorbed)) → absorbed_after g w k0 (Event.arrival m) k v p t ≡ done_after h k0 m k (g.edge_into v p) t
+      go : ((((g.role (g.target m.edge)) ≡ Role.stateful) ⊎ ((g.role (g.target m.edge)) ≡ Role.notified)) × (absorbed_by (g.role (g.target m.edge)) w k0 (g.target m.edge) (g.in_port m.edge) m.time m.records ≡ absorbed_with w k0 (g.target m.edge) (g.in_port m.edge) m.time m.records))
+          ⊎ (((((g.role (g.target m.edge)) ≡ Role.stateful) ⊎ ((g.role (g.target m.edge)) ≡ Role.notified)) → ⊥) × (absorbed_by (g.role (g.target m.edge)) w k0 (g.target m.edge) (g.in_port m.edge) m.time m.records ≡ w.absorbed)) → absorbed_after g w k0 (Event.arrival m) k v p t ≡ done_after h k0 m k (g.edge_into v p) t
       go (inl (a, b)) = ap (λ f. f k v p t) b ∙ both (absorbed_tells w k0 (g.target m.edge) (g.in_port m.edge) m.time m.records k v p t) (done_tells h k0 m k (g.edge_into v p) t)
       go (inr (a, b)) = ap (λ f. f k v p t) b ∙ plain a (done_tells h k0 m k (g.edge_into v p) t)
 
@@ -191,7 +192,7 @@ module _ (g : Network) (law : IsNetwork g) (w : World) (h : History) (keeps : Ke
   told_more : (q : ℕ) (r : Record) → h.told k0 (g.target m.edge) m.time ≡ true → made g (history_done h k0 m) (g.target m.edge) q m.time r k0 ≡ count r (g.op (g.target m.edge) q m.time (ins g (done_after h k0 m k0) (g.target m.edge) m.time))
   told_more q r e = ap (λ b. cond b (count r (g.op (g.target m.edge) q m.time (ins g (done_after h k0 m k0) (g.target m.edge) m.time))) 0) e
 
-  always : g.role (g.target m.edge) ≢ Role.grouping → h.told k0 (g.target m.edge) m.time ≡ true
+  always : g.role (g.target m.edge) ≢ Role.notified → h.told k0 (g.target m.edge) m.time ≡ true
   always s = keeps.always_told k0 (g.target m.edge) m.time s
 
   -- at a port: what was there, and the message
@@ -211,7 +212,7 @@ module _ (g : Network) (law : IsNetwork g) (w : World) (h : History) (keeps : Ke
   gain_stateless : g.role (g.target m.edge) ≡ Role.stateless → MakesBy Role.stateless g w k0 m out → (q : ℕ) (r : Record) → made g (history_done h k0 m) (g.target m.edge) q m.time r k0 ≡ made g h (g.target m.edge) q m.time r k0 + count r (out q)
   unfolding two_parts
   gain_stateless s makes q r =
-      let told : h.told k0 (g.target m.edge) m.time ≡ true = always (λ e. let x : Role.stateless ≡ Role.grouping = sym s ∙ e in cc) in
+      let told : h.told k0 (g.target m.edge) m.time ≡ true = always (λ e. let x : Role.stateless ≡ Role.notified = sym s ∙ e in cc) in
       let a = told_same q r told in
       let b = told_more q r told in
       let c = (makes q).counts r in
@@ -223,7 +224,7 @@ module _ (g : Network) (law : IsNetwork g) (w : World) (h : History) (keeps : Ke
 
   gain_stateful : g.role (g.target m.edge) ≡ Role.stateful → MakesBy Role.stateful g w k0 m out → (q : ℕ) (r : Record) → made g (history_done h k0 m) (g.target m.edge) q m.time r k0 ≡ made g h (g.target m.edge) q m.time r k0 + count r (out q)
   gain_stateful s makes q r =
-      let told : h.told k0 (g.target m.edge) m.time ≡ true = always (λ e. let x : Role.stateful ≡ Role.grouping = sym s ∙ e in cc) in
+      let told : h.told k0 (g.target m.edge) m.time ≡ true = always (λ e. let x : Role.stateful ≡ Role.notified = sym s ∙ e in cc) in
       let a = told_same q r told in
       let b = told_more q r told in
       let before : List Record = g.op (g.target m.edge) q m.time (λ p. w.absorbed k0 (g.target m.edge) p m.time) in
@@ -235,7 +236,7 @@ module _ (g : Network) (law : IsNetwork g) (w : World) (h : History) (keeps : Ke
       (law.op_same (g.target m.edge) q m.time (λ p. absorbed_after g w k0 (Event.arrival m) k0 (g.target m.edge) p m.time) (ins g (done_after h k0 m k0) (g.target m.edge) m.time) (λ p lp. ≈-from (shards_after k0 (g.target m.edge) p m.time ok.0 lp (inl s)))).counts r in
       omega arith
 
-  gain_grouping : g.role (g.target m.edge) ≡ Role.grouping → MakesBy Role.grouping g w k0 m out → (q : ℕ) (r : Record) → made g (history_done h k0 m) (g.target m.edge) q m.time r k0 ≡ made g h (g.target m.edge) q m.time r k0 + count r (out q)
+  gain_grouping : g.role (g.target m.edge) ≡ Role.notified → MakesBy Role.notified g w k0 m out → (q : ℕ) (r : Record) → made g (history_done h k0 m) (g.target m.edge) q m.time r k0 ≡ made g h (g.target m.edge) q m.time r k0 + count r (out q)
   gain_grouping s makes q r =
       let u = untold s k0 ok.0 in
       let a : made g h (g.target m.edge) q m.time r k0 ≡ 0 = ap (λ b. cond b (count r (g.op (g.target m.edge) q m.time (ins g (h.done k0) (g.target m.edge) m.time))) 0) u in
@@ -243,15 +244,15 @@ module _ (g : Network) (law : IsNetwork g) (w : World) (h : History) (keeps : Ke
       let c : count r (out q) ≡ 0 = ap (count r) (makes q) in
       omega arith
 
-  gain : (q : ℕ) (r : Record) → g.role (g.target m.edge) ≢ Role.sink → made g (history_done h k0 m) (g.target m.edge) q m.time r k0 ≡ made g h (g.target m.edge) q m.time r k0 + count r (out q)
+  gain : (q : ℕ) (r : Record) → g.role (g.target m.edge) ≢ Role.output → made g (history_done h k0 m) (g.target m.edge) q m.time r k0 ≡ made g h (g.target m.edge) q m.time r k0 + count r (out q)
   gain q r ns = go (g.role (g.target m.edge)) refl ok.2
     where
       go : (role : Role) → g.role (g.target m.edge) ≡ role → MakesBy role g w k0 m out → made g (history_done h k0 m) (g.target m.edge) q m.time r k0 ≡ made g h (g.target m.edge) q m.time r k0 + count r (out q)
-      go Role.source e makes = absurd makes
+      go Role.input e makes = absurd makes
       go Role.stateless e makes = gain_stateless e makes q r
       go Role.stateful e makes = gain_stateful e makes q r
-      go Role.grouping e makes = gain_grouping e makes q r
-      go Role.sink e makes = absurd (ns e)
+      go Role.notified e makes = gain_grouping e makes q r
+      go Role.output e makes = absurd (ns e)
 
   -- what the output emits
   emits : (n : ℕ) (r : Record) → count r (emitted_after g w (Event.arrival m) n) ≡ count r (w.emitted n) + carried (g.edge_into g.output 0) (at_epoch n) r m
@@ -260,7 +261,7 @@ module _ (g : Network) (law : IsNetwork g) (w : World) (h : History) (keeps : Ke
       out_port : 0 < g.ports g.output
       out_port = let o : g.ports g.output ≡ 1 = law.output_port in omega arith
 
-      sink_edge : g.role (g.target m.edge) ≡ Role.sink → m.edge ≡ g.edge_into g.output 0
+      sink_edge : g.role (g.target m.edge) ≡ Role.output → m.edge ≡ g.edge_into g.output 0
       sink_edge s =
           let v : g.target m.edge ≡ g.output = law.only_output m.edge good_message.0 s in
           let p : g.in_port m.edge < g.ports (g.target m.edge) = law.target_ports m.edge good_message.0 in
@@ -272,7 +273,7 @@ module _ (g : Network) (law : IsNetwork g) (w : World) (h : History) (keeps : Ke
       here true = count-append r (w.emitted n) m.records
       here false = count-append r (w.emitted n) []
 
-      go : ((g.role (g.target m.edge) ≡ Role.sink) × (emitted_by (g.role (g.target m.edge)) w m n ≡ w.emitted n ++ cond (same_time m.time (at_epoch n)) m.records [])) ⊎ ((g.role (g.target m.edge) ≢ Role.sink) × (emitted_by (g.role (g.target m.edge)) w m n ≡ w.emitted n))
+      go : ((g.role (g.target m.edge) ≡ Role.output) × (emitted_by (g.role (g.target m.edge)) w m n ≡ w.emitted n ++ cond (same_time m.time (at_epoch n)) m.records [])) ⊎ ((g.role (g.target m.edge) ≢ Role.output) × (emitted_by (g.role (g.target m.edge)) w m n ≡ w.emitted n))
           → ((eqb m.edge (g.edge_into g.output 0) ≡ true) × (m.edge ≡ g.edge_into g.output 0)) ⊎ ((eqb m.edge (g.edge_into g.output 0) ≡ false) × (m.edge ≢ g.edge_into g.output 0)) → count r (emitted_after g w (Event.arrival m) n) ≡ count r (w.emitted n) + carried (g.edge_into g.output 0) (at_epoch n) r m
       go (inl (a, b)) (inl (c, d)) = ap (count r) b ∙ here (same_time m.time (at_epoch n)) ∙ rw c refl
       go (inl (a, b)) (inr (c, d)) = absurd (d (sink_edge a))
@@ -288,7 +289,7 @@ module _ (g : Network) (law : IsNetwork g) (w : World) (h : History) (keeps : Ke
   at_any = end_to_end (λ p. w.absorbed k0 (g.target m.edge) p m.time) (g.ports (g.target m.edge))
 
   -- a group has one port
-  any_is : g.role (g.target m.edge) ≡ Role.grouping → at_any ≡ w.absorbed k0 (g.target m.edge) (g.in_port m.edge) m.time
+  any_is : g.role (g.target m.edge) ≡ Role.notified → at_any ≡ w.absorbed k0 (g.target m.edge) (g.in_port m.edge) m.time
   any_is s =
       let o : g.ports (g.target m.edge) ≡ 1 = law.one_port (g.target m.edge) s in
       let p : g.in_port m.edge < g.ports (g.target m.edge) = law.target_ports m.edge good_message.0 in
@@ -296,7 +297,7 @@ module _ (g : Network) (law : IsNetwork g) (w : World) (h : History) (keeps : Ke
       ap (end_to_end (λ p. w.absorbed k0 (g.target m.edge) p m.time)) o ∙ ap (λ p. w.absorbed k0 (g.target m.edge) p m.time) z
 
   -- what is asked for, and what was processed
-  wish : (v : ℕ) (t : Time) → g.role v ≡ Role.grouping → total (wished v t) (asked g w k0 (Event.arrival m)) + some (h.done k0 (g.edge_into v 0) t) ≡ some (done_after h k0 m k0 (g.edge_into v 0) t)
+  wish : (v : ℕ) (t : Time) → g.role v ≡ Role.notified → total (wished v t) (asked g w k0 (Event.arrival m)) + some (h.done k0 (g.edge_into v 0) t) ≡ some (done_after h k0 m k0 (g.edge_into v 0) t)
   wish v t s = go (group_asked (g.role (g.target m.edge)) (g.target m.edge) m.time at_any) (done_tells h k0 m k0 (g.edge_into v 0) t)
     where
       port : 0 < g.ports v
@@ -315,7 +316,7 @@ module _ (g : Network) (law : IsNetwork g) (w : World) (h : History) (keeps : Ke
           at (inl (a, b)) (inr (c, d)) = rw (a, c) refl
           at (inr (a, b)) z = rw a refl
 
-      go : ((g.role (g.target m.edge) ≡ Role.grouping) × (asked g w k0 (Event.arrival m) ≡ asked_first (g.target m.edge) m.time at_any)) ⊎ ((g.role (g.target m.edge) ≢ Role.grouping) × (asked g w k0 (Event.arrival m) ≡ []))
+      go : ((g.role (g.target m.edge) ≡ Role.notified) × (asked g w k0 (Event.arrival m) ≡ asked_first (g.target m.edge) m.time at_any)) ⊎ ((g.role (g.target m.edge) ≢ Role.notified) × (asked g w k0 (Event.arrival m) ≡ []))
           → DoneHere h k0 m k0 (g.edge_into v 0) t ⊎ DoneElsewhere h k0 m k0 (g.edge_into v 0) t → total (wished v t) (asked g w k0 (Event.arrival m)) + some (h.done k0 (g.edge_into v 0) t) ≡ some (done_after h k0 m k0 (g.edge_into v 0) t)
       go (inl (a, b)) (inl x) =
           let c : at_any ≡ h.done k0 (g.edge_into v 0) t =
@@ -342,44 +343,44 @@ module _ (g : Network) (law : IsNetwork g) (w : World) (h : History) (keeps : Ke
   asked_good : each (GoodRequest g) (asked g w k0 (Event.arrival m))
   asked_good = go (group_asked (g.role (g.target m.edge)) (g.target m.edge) m.time at_any)
     where
-      first : g.role (g.target m.edge) ≡ Role.grouping → (xs : List Record) → each (GoodRequest g) (asked_first (g.target m.edge) m.time xs)
+      first : g.role (g.target m.edge) ≡ Role.notified → (xs : List Record) → each (GoodRequest g) (asked_first (g.target m.edge) m.time xs)
       first s [] = ((s, here), tt)
       first s (x ∷ xs) = tt
 
-      go : ((g.role (g.target m.edge) ≡ Role.grouping) × (asked g w k0 (Event.arrival m) ≡ asked_first (g.target m.edge) m.time at_any)) ⊎ ((g.role (g.target m.edge) ≢ Role.grouping) × (asked g w k0 (Event.arrival m) ≡ [])) → each (GoodRequest g) (asked g w k0 (Event.arrival m))
+      go : ((g.role (g.target m.edge) ≡ Role.notified) × (asked g w k0 (Event.arrival m) ≡ asked_first (g.target m.edge) m.time at_any)) ⊎ ((g.role (g.target m.edge) ≢ Role.notified) × (asked g w k0 (Event.arrival m) ≡ [])) → each (GoodRequest g) (asked g w k0 (Event.arrival m))
       go (inl (a, b)) = subst (each (GoodRequest g)) (sym b) (first a at_any)
       go (inr (a, b)) = subst (each (GoodRequest g)) (sym b) tt
 
-  pub keep_arrival : Kept g (after g w (Step.commit k0 (Event.arrival m) out)) (history_done h k0 m)
+  pub keep_arrival : Kept g (after_step g w (Step.commit k0 (Event.arrival m) out)) (history_done h k0 m)
   keep_arrival =
       record {
         balance = λ e t r le.
             let a = way_sent g law w h keeps k0 (g.target m.edge) (g.act (g.target m.edge) m.time) out e t r ok.0 le in
             let b = keeps.balance e t r le in
-            let c : sum_below g.workers (under_way (after g w (Step.commit k0 (Event.arrival m) out)) e t r) + carried e t r m ≡ sum_below g.workers (under_way w e t r) + sum_below g.workers (λ k. total (carried e t r) (parcels g k0 (g.target m.edge) (g.act (g.target m.edge) m.time) out k g.edges)) = way_after g law w h keeps k0 (Event.arrival m) out ok e t r in
+            let c : sum_below g.workers (under_way (after_step g w (Step.commit k0 (Event.arrival m) out)) e t r) + carried e t r m ≡ sum_below g.workers (under_way w e t r) + sum_below g.workers (λ k. total (carried e t r) (parcels g k0 (g.target m.edge) (g.act (g.target m.edge) m.time) out k g.edges)) = way_after g law w h keeps k0 (Event.arrival m) out ok e t r in
             let d = done_sum e t r in
             omega arith;
         from_input = λ e t le s. record { counts = λ r. sent_elsewhere g law w h keeps (g.target m.edge) (g.act (g.target m.edge) m.time) out e t r (λ x. law.no_source_target m.edge good_message.0 (sym (ap g.role x) ∙ s)) ∙ (keeps.from_input e t le s).counts r };
         from_vertex = λ e u r le fits s. vertex_after g law w h keeps k0 (Event.arrival m) out ok (history_done h k0 m) counted_once rest gain e u r le fits s;
-        notices = λ k v t lk s. notices k v t lk s (put_tells w.hand k0 Hand.empty k) (put_tells w.requests k0 (w.requests k0 ++ asked g w k0 (Event.arrival m)) k) (done_tells h k0 m k (g.edge_into v 0) t);
+        notices = λ k v t lk s. notices k v t lk s (put_tells w.held k0 Held.nothing k) (put_tells w.requests k0 (w.requests k0 ++ asked g w k0 (Event.arrival m)) k) (done_tells h k0 m k (g.edge_into v 0) t);
         always_told = keeps.always_told;
-        settled = λ k v t lk s due. settled_after g law w h keeps (Step.commit k0 (Event.arrival m) out) ok k v t lk s (was_due k v t due (put_tells w.hand k0 Hand.empty k));
+        settled = λ k v t lk s due. settled_after g law w h keeps (Step.commit k0 (Event.arrival m) out) ok k v t lk s (was_due k v t due (put_tells w.held k0 Held.nothing k));
         at_home = λ k e t lk le s. home k e t lk le s (done_tells h k0 m k e t);
         good_mail = λ k lk. each-append (GoodMessage g k) (w.mail k) _ (keeps.good_mail k lk) (each_more (Parcel g (g.target m.edge) (g.act (g.target m.edge) m.time) k) (GoodMessage g k) _ (λ m p. p.good) (parcels_good g law k0 (g.target m.edge) (g.act (g.target m.edge) m.time) out k g.edges (fits_sent g law (g.target m.edge) m.time here) (omega arith)));
         good_requests = λ k lk. requests k lk (put_tells w.requests k0 (w.requests k0 ++ asked g w k0 (Event.arrival m)) k);
-        good_hand = λ k lk. good k lk (put_tells w.hand k0 Hand.empty k);
+        good_hand = λ k lk. good k lk (put_tells w.held k0 Held.nothing k);
         shards = λ k v p t lk lp s. shards_after k v p t lk lp s;
         output = λ n r. let a = emits n r in let b = keeps.output n r in let c = done_sum (g.edge_into g.output 0) (at_epoch n) r in omega arith;
       }
     where
-      notices : (k v : ℕ) (t : Time) → k < g.workers → g.role v ≡ Role.grouping → ((k ≡ k0) × (put w.hand k0 Hand.empty k ≡ Hand.empty)) ⊎ ((k ≢ k0) × (put w.hand k0 Hand.empty k ≡ w.hand k))
+      notices : (k v : ℕ) (t : Time) → k < g.workers → g.role v ≡ Role.notified → ((k ≡ k0) × (put w.held k0 Held.nothing k ≡ Held.nothing)) ⊎ ((k ≢ k0) × (put w.held k0 Held.nothing k ≡ w.held k))
           → ((k ≡ k0) × (put w.requests k0 (w.requests k0 ++ asked g w k0 (Event.arrival m)) k ≡ w.requests k0 ++ asked g w k0 (Event.arrival m))) ⊎ ((k ≢ k0) × (put w.requests k0 (w.requests k0 ++ asked g w k0 (Event.arrival m)) k ≡ w.requests k))
           → DoneHere h k0 m k (g.edge_into v 0) t ⊎ DoneElsewhere h k0 m k (g.edge_into v 0) t
-          → wishes (after g w (Step.commit k0 (Event.arrival m) out)) v t k + bit (h.told k v t) ≡ some (done_after h k0 m k (g.edge_into v 0) t)
+          → wishes (after_step g w (Step.commit k0 (Event.arrival m) out)) v t k + bit (h.told k v t) ≡ some (done_after h k0 m k (g.edge_into v 0) t)
       notices k v t lk s (inl (a, b)) (inl (c, d)) x =
           let i = keeps.notices k v t lk s in
-          let j : wish_in_hand v t (w.hand k) ≡ 0 = ap (wish_in_hand v t) (ap w.hand a ∙ ok.1) in
-          let l : wish_in_hand v t (put w.hand k0 Hand.empty k) ≡ 0 = ap (wish_in_hand v t) b in
+          let j : wish_in_hand v t (w.held k) ≡ 0 = ap (wish_in_hand v t) (ap w.held a ∙ ok.1) in
+          let l : wish_in_hand v t (put w.held k0 Held.nothing k) ≡ 0 = ap (wish_in_hand v t) b in
           let n : total (wished v t) (put w.requests k0 (w.requests k0 ++ asked g w k0 (Event.arrival m)) k) ≡ total (wished v t) (w.requests k0) + total (wished v t) (asked g w k0 (Event.arrival m)) = ap (λ z. total (wished v t) z) d ∙ total-append (wished v t) (w.requests k0) (asked g w k0 (Event.arrival m)) in
           let q : total (wished v t) (w.requests k) ≡ total (wished v t) (w.requests k0) = ap (λ z. total (wished v t) (w.requests z)) a in
           let f = wish v t s in
@@ -391,26 +392,26 @@ module _ (g : Network) (law : IsNetwork g) (w : World) (h : History) (keeps : Ke
       notices k v t lk s (inr (a, b)) (inr (c, d)) (inl x) = absurd (a x.worker)
       notices k v t lk s (inr (a, b)) (inr (c, d)) (inr x) =
           let i = keeps.notices k v t lk s in
-          let l : wish_in_hand v t (put w.hand k0 Hand.empty k) ≡ wish_in_hand v t (w.hand k) = ap (wish_in_hand v t) b in
+          let l : wish_in_hand v t (put w.held k0 Held.nothing k) ≡ wish_in_hand v t (w.held k) = ap (wish_in_hand v t) b in
           let n : total (wished v t) (put w.requests k0 (w.requests k0 ++ asked g w k0 (Event.arrival m)) k) ≡ total (wished v t) (w.requests k) = ap (λ z. total (wished v t) z) d in
           let y : some (done_after h k0 m k (g.edge_into v 0) t) ≡ some (h.done k (g.edge_into v 0) t) = ap some x.is in
           omega arith
 
-      was_due : (k v : ℕ) (t : Time) → Due (after g w (Step.commit k0 (Event.arrival m) out)) (history_done h k0 m) k v t → ((k ≡ k0) × (put w.hand k0 Hand.empty k ≡ Hand.empty)) ⊎ ((k ≢ k0) × (put w.hand k0 Hand.empty k ≡ w.hand k)) → Due w h k v t
+      was_due : (k v : ℕ) (t : Time) → Due (after_step g w (Step.commit k0 (Event.arrival m) out)) (history_done h k0 m) k v t → ((k ≡ k0) × (put w.held k0 Held.nothing k ≡ Held.nothing)) ⊎ ((k ≢ k0) × (put w.held k0 Held.nothing k ≡ w.held k)) → Due w h k v t
       was_due k v t (inl told) z = inl told
-      was_due k v t (inr wish) (inl (x, y)) = absurd (let a : wish_in_hand v t (put w.hand k0 Hand.empty k) ≡ 0 = ap (wish_in_hand v t) y in omega arith)
-      was_due k v t (inr wish) (inr (x, y)) = let a : wish_in_hand v t (put w.hand k0 Hand.empty k) ≡ wish_in_hand v t (w.hand k) = ap (wish_in_hand v t) y in inr (omega arith)
+      was_due k v t (inr wish) (inl (x, y)) = absurd (let a : wish_in_hand v t (put w.held k0 Held.nothing k) ≡ 0 = ap (wish_in_hand v t) y in omega arith)
+      was_due k v t (inr wish) (inr (x, y)) = let a : wish_in_hand v t (put w.held k0 Held.nothing k) ≡ wish_in_hand v t (w.held k) = ap (wish_in_hand v t) y in inr (omega arith)
 
       some_of : (r : Record) (xs ys : List Record) → 0 < count r (xs ++ ys) → (n : ℕ) → count r ys ≡ n → (0 < count r xs) ⊎ (0 < count r ys)
       some_of r xs ys l zero e = inl (let a = count-append r xs ys in omega arith)
       some_of r xs ys l (suc n) e = inr (omega arith)
 
-      home : (k e : ℕ) (t : Time) → k < g.workers → e < g.edges → (g.role (g.target e) ≡ Role.stateful) ⊎ (g.role (g.target e) ≡ Role.grouping) → DoneHere h k0 m k e t ⊎ DoneElsewhere h k0 m k e t → AtHome g k e (done_after h k0 m k e t)
+      home : (k e : ℕ) (t : Time) → k < g.workers → e < g.edges → (g.role (g.target e) ≡ Role.stateful) ⊎ (g.role (g.target e) ≡ Role.notified) → DoneHere h k0 m k e t ⊎ DoneElsewhere h k0 m k e t → AtHome g k e (done_after h k0 m k e t)
       home k e t lk le s (inr x) = subst (AtHome g k e) (sym x.is) (keeps.at_home k e t lk le s)
       home k e t lk le s (inl x) = subst (AtHome g k e) (sym x.is) (λ r l. either r (some_of r (h.done k e t) m.records l (count r m.records) refl))
         where
           at_k0 : AtHome g k0 m.edge m.records
-          at_k0 = good_message.2 (subst (λ (z : ℕ). (g.role (g.target z) ≡ Role.stateful) ⊎ (g.role (g.target z) ≡ Role.grouping)) (sym x.edge) s)
+          at_k0 = good_message.2 (subst (λ (z : ℕ). (g.role (g.target z) ≡ Role.stateful) ⊎ (g.role (g.target z) ≡ Role.notified)) (sym x.edge) s)
 
           either : (r : Record) → (0 < count r (h.done k e t)) ⊎ (0 < count r m.records) → (sender : ℕ) → g.home sender e r ≡ k
           either r (inl l) = keeps.at_home k e t lk le s r l
@@ -420,6 +421,6 @@ module _ (g : Network) (law : IsNetwork g) (w : World) (h : History) (keeps : Ke
       requests k lk (inl (a, b)) = subst (each (GoodRequest g)) (sym b) (each-append (GoodRequest g) (w.requests k0) (asked g w k0 (Event.arrival m)) (keeps.good_requests k0 ok.0) asked_good)
       requests k lk (inr (a, b)) = subst (each (GoodRequest g)) (sym b) (keeps.good_requests k lk)
 
-      good : (k : ℕ) → k < g.workers → ((k ≡ k0) × (put w.hand k0 Hand.empty k ≡ Hand.empty)) ⊎ ((k ≢ k0) × (put w.hand k0 Hand.empty k ≡ w.hand k)) → GoodHand g k (put w.hand k0 Hand.empty k)
+      good : (k : ℕ) → k < g.workers → ((k ≡ k0) × (put w.held k0 Held.nothing k ≡ Held.nothing)) ⊎ ((k ≢ k0) × (put w.held k0 Held.nothing k ≡ w.held k)) → GoodHand g k (put w.held k0 Held.nothing k)
       good k lk (inl (x, y)) = subst (GoodHand g k) (sym y) tt
       good k lk (inr (x, y)) = subst (GoodHand g k) (sym y) (keeps.good_hand k lk)

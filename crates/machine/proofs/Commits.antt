@@ -2,13 +2,14 @@
 use Rattle.std.proofs.Common.{◌≡◌, ◌≢◌, ◌≤◌, ◌<◌, ℕ, ◌+◌, ◌*◌, true, false, cond, eqb, List, [], ◌⊎◌, inl, inr, sym, ap, ◌∙◌, subst, arith}
 use Rattle.std.proofs.lemmas.Bool.Decides.{eqb_tells}
 use Rattle.semantics.specs.Multiset.{total, Record, count}
-use Rattle.semantics.specs.Place.{on_edge}
+use Rattle.semantics.specs.Could.{on_edge}
 use Rattle.semantics.specs.Time.{Time, same_time}
-use Rattle.machine.specs.Network.{Role, Network}
-use Rattle.machine.specs.Step.{event_vertex, event_time, Step, parcels, sent_after, Allowed, after}
+use Rattle.semantics.specs.Kinds.{Role}
+use Rattle.machine.specs.Network.{Network}
+use Rattle.machine.specs.Step.{event_vertex, event_time, Step, parcels, sent_after, Allowed, after_step}
 use Rattle.machine.specs.Sums.{put, sum_below}
-use Rattle.machine.specs.World.{Event, Hand, World}
-use Rattle.semantics.proofs.BagLaws.{total-append}
+use Rattle.machine.specs.World.{Event, Held, World}
+use Rattle.semantics.proofs.MultisetSums.{total-append}
 use Rattle.machine.proofs.Counting.{below_same, below_add, below_changed, count-append}
 use Rattle.machine.proofs.Derived.{headline}
 use Rattle.machine.proofs.Kept.{History, carried, carried_by, in_hand, under_way, some, made, Kept}
@@ -20,7 +21,7 @@ use Rattle.machine.proofs.Steps.{sent_elsewhere}
 
 module _ (g : Network) (law : IsNetwork g) (w : World) (h : History) (keeps : Kept g w h) where
   -- records that were sent lie within what the vertex's times count
-  pub once : HasFlows g → (e : ℕ) (t : Time) (r : Record) → e < g.edges → g.Fits (on_edge e t) → 0 < count r (w.sent e t) → times_in t (g.times_before (g.target e) (g.act (g.target e) t)) ≡ 1
+  pub once : HasFlows g → (e : ℕ) (t : Time) (r : Record) → e < g.edges → g.IsPointstamp (on_edge e t) → 0 < count r (w.sent e t) → times_in t (g.times_before (g.target e) (g.act (g.target e) t)) ≡ 1
   once flows e t r le fits some = go (law.before_once (g.target e) t (g.act (g.target e) t))
     where
       go : (times_in t (g.times_before (g.target e) (g.act (g.target e) t)) ≡ 0) ⊎ (times_in t (g.times_before (g.target e) (g.act (g.target e) t)) ≡ 1) → times_in t (g.times_before (g.target e) (g.act (g.target e) t)) ≡ 1
@@ -32,28 +33,28 @@ module _ (g : Network) (law : IsNetwork g) (w : World) (h : History) (keeps : Ke
           absurd (omega arith)
 
   module _ (k0 : ℕ) (event : Event) (out : ℕ → List Record) (ok : Allowed g w (Step.commit k0 event out)) where
-    -- the hand gives up its records, and the parcels come
-    pub way_after : (e : ℕ) (t : Time) (r : Record) → sum_below g.workers (under_way (after g w (Step.commit k0 event out)) e t r) + carried_by e t r event
+    -- what was held is given up, and the parcels come
+    pub way_after : (e : ℕ) (t : Time) (r : Record) → sum_below g.workers (under_way (after_step g w (Step.commit k0 event out)) e t r) + carried_by e t r event
         ≡ sum_below g.workers (under_way w e t r) + sum_below g.workers (λ k. total (carried e t r) (parcels g k0 (event_vertex g event) (g.act (event_vertex g event) (event_time event)) out k g.edges))
     way_after e t r =
-        let a : sum_below g.workers (under_way (after g w (Step.commit k0 event out)) e t r) ≡ sum_below g.workers (λ k. (total (carried e t r) (w.mail k) + in_hand e t r (put w.hand k0 Hand.empty k)) + total (carried e t r) (parcels g k0 (event_vertex g event) (g.act (event_vertex g event) (event_time event)) out k g.edges)) =
+        let a : sum_below g.workers (under_way (after_step g w (Step.commit k0 event out)) e t r) ≡ sum_below g.workers (λ k. (total (carried e t r) (w.mail k) + in_hand e t r (put w.held k0 Held.nothing k)) + total (carried e t r) (parcels g k0 (event_vertex g event) (g.act (event_vertex g event) (event_time event)) out k g.edges)) =
         below_same g.workers _ _ (λ k lk. let o = total-append (carried e t r) (w.mail k) (parcels g k0 (event_vertex g event) (g.act (event_vertex g event) (event_time event)) out k g.edges) in omega arith) in
-        let b = below_add g.workers (λ k. total (carried e t r) (w.mail k) + in_hand e t r (put w.hand k0 Hand.empty k)) (λ k. total (carried e t r) (parcels g k0 (event_vertex g event) (g.act (event_vertex g event) (event_time event)) out k g.edges)) in
-        let c : sum_below g.workers (λ k. total (carried e t r) (w.mail k) + in_hand e t r (put w.hand k0 Hand.empty k)) + (total (carried e t r) (w.mail k0) + in_hand e t r (w.hand k0)) ≡ sum_below g.workers (under_way w e t r) + (total (carried e t r) (w.mail k0) + in_hand e t r (put w.hand k0 Hand.empty k0)) =
-        below_changed g.workers k0 (under_way w e t r) (λ k. total (carried e t r) (w.mail k) + in_hand e t r (put w.hand k0 Hand.empty k)) ok.0 (λ j lj ne. other j ne (put_tells w.hand k0 Hand.empty j)) in
-        let d : in_hand e t r (w.hand k0) ≡ carried_by e t r event = ap (in_hand e t r) ok.1 in
-        let f : in_hand e t r (put w.hand k0 Hand.empty k0) ≡ 0 = ap (in_hand e t r) (put_here w.hand k0 Hand.empty) in
+        let b = below_add g.workers (λ k. total (carried e t r) (w.mail k) + in_hand e t r (put w.held k0 Held.nothing k)) (λ k. total (carried e t r) (parcels g k0 (event_vertex g event) (g.act (event_vertex g event) (event_time event)) out k g.edges)) in
+        let c : sum_below g.workers (λ k. total (carried e t r) (w.mail k) + in_hand e t r (put w.held k0 Held.nothing k)) + (total (carried e t r) (w.mail k0) + in_hand e t r (w.held k0)) ≡ sum_below g.workers (under_way w e t r) + (total (carried e t r) (w.mail k0) + in_hand e t r (put w.held k0 Held.nothing k0)) =
+        below_changed g.workers k0 (under_way w e t r) (λ k. total (carried e t r) (w.mail k) + in_hand e t r (put w.held k0 Held.nothing k)) ok.0 (λ j lj ne. other j ne (put_tells w.held k0 Held.nothing j)) in
+        let d : in_hand e t r (w.held k0) ≡ carried_by e t r event = ap (in_hand e t r) ok.1 in
+        let f : in_hand e t r (put w.held k0 Held.nothing k0) ≡ 0 = ap (in_hand e t r) (put_here w.held k0 Held.nothing) in
         omega arith
       where
-        other : (j : ℕ) → j ≢ k0 → ((j ≡ k0) × (put w.hand k0 Hand.empty j ≡ Hand.empty)) ⊎ ((j ≢ k0) × (put w.hand k0 Hand.empty j ≡ w.hand j)) → total (carried e t r) (w.mail j) + in_hand e t r (put w.hand k0 Hand.empty j) ≡ under_way w e t r j
+        other : (j : ℕ) → j ≢ k0 → ((j ≡ k0) × (put w.held k0 Held.nothing j ≡ Held.nothing)) ⊎ ((j ≢ k0) × (put w.held k0 Held.nothing j ≡ w.held j)) → total (carried e t r) (w.mail j) + in_hand e t r (put w.held k0 Held.nothing j) ≡ under_way w e t r j
         other j ne (inl (x, y)) = absurd (ne x)
         other j ne (inr (x, y)) = ap (λ z. total (carried e t r) (w.mail j) + in_hand e t r z) y
 
     -- what the vertices have made, if only this worker's part of this vertex made more, at this time
     pub vertex_after : (h' : History) → (once : times_in (event_time event) (g.times_before (event_vertex g event) (g.act (event_vertex g event) (event_time event))) ≡ 1)
         → ((k v q : ℕ) (t : Time) (r : Record) → ((k ≢ k0) ⊎ ((v ≢ event_vertex g event) ⊎ (t ≢ event_time event))) → made g h' v q t r k ≡ made g h v q t r k)
-        → ((q : ℕ) (r : Record) → g.role (event_vertex g event) ≢ Role.sink → made g h' (event_vertex g event) q (event_time event) r k0 ≡ made g h (event_vertex g event) q (event_time event) r k0 + count r (out q))
-        → (e : ℕ) (u : Time) (r : Record) → e < g.edges → g.Fits (on_edge e u) → g.role (g.source e) ≢ Role.source →
+        → ((q : ℕ) (r : Record) → g.role (event_vertex g event) ≢ Role.output → made g h' (event_vertex g event) q (event_time event) r k0 ≡ made g h (event_vertex g event) q (event_time event) r k0 + count r (out q))
+        → (e : ℕ) (u : Time) (r : Record) → e < g.edges → g.IsPointstamp (on_edge e u) → g.role (g.source e) ≢ Role.input →
         count r (sent_after g w (event_vertex g event) (g.act (event_vertex g event) (event_time event)) out e u) ≡ total (λ t. sum_below g.workers (made g h' (g.source e) (g.out_port e) t r)) (g.times_before (g.source e) u)
     vertex_after h' one rest gain e u r le fits s = go (eqb_tells (g.source e) (event_vertex g event))
       where

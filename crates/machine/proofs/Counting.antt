@@ -3,7 +3,7 @@ use Rattle.std.proofs.Common.{◌≡◌, ◌≢◌, ◌≤◌, ◌<◌, ℕ, zer
 use Rattle.std.proofs.lemmas.Bool.Decides.{eqb_tells, nat_tests}
 use Rattle.semantics.specs.Multiset.{total, same, Record, count, end_to_end}
 use Rattle.semantics.specs.Time.{same_counters}
-use Rattle.semantics.proofs.BagLaws.{Decides-same}
+use Rattle.semantics.proofs.MultisetSums.{Decides-same}
 use Rattle.machine.specs.Sums.{sum_below}
 
 -- the test of two lists, with what it tells

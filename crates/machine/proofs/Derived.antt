@@ -3,11 +3,12 @@ use Rattle.std.proofs.Common.{◌≡◌, ◌≢◌, ◌≤◌, ◌<◌, ℕ, ◌
 use Rattle.std.proofs.lemmas.Bool.Decides.{eqb_tells}
 use mathlib.Core.WellFounded.{Acc}
 use Rattle.semantics.specs.Multiset.{total, Record, count, ◌≈◌, IsPartOf, end_to_end}
-use Rattle.semantics.specs.Place.{Place, on_edge, at_vertex}
+use Rattle.semantics.specs.Could.{Pointstamp, on_edge, at_vertex}
 use Rattle.semantics.specs.Time.{Time, same_time, at_epoch}
-use Rattle.machine.specs.Network.{Role, Network, ins}
+use Rattle.semantics.specs.Kinds.{Role}
+use Rattle.machine.specs.Network.{Network, ins}
 use Rattle.machine.specs.Sums.{sum_below}
-use Rattle.machine.specs.World.{Message, Request, Event, Hand, World, IsActive, NoneBefore, message_place, request_place}
+use Rattle.machine.specs.World.{Message, Request, Event, Held, World, IsActive, NoneBefore, message_pointstamp, request_pointstamp}
 use Rattle.machine.proofs.Counting.{below_same, below_more, below_zero, counted-end_to_end}
 use Rattle.machine.proofs.Kept.{History, carried, carried_by, in_hand, under_way, wished, wished_by, wish_in_hand, wishes, some, bit, made, Due, Kept, Headline}
 use Rattle.machine.proofs.Laws.{Lower, times_in, IsNetwork, all_parts, CutByKey}
@@ -16,85 +17,85 @@ use Rattle.machine.proofs.Places.{same_time_tells, total_zero, total_times, tota
 use Rattle.machine.proofs.Rank.{could_back, lower}
 
 -- a message of this edge and time is there, or nothing is carried
-pub carried_place : (e : ℕ) (t : Time) (r : Record) (m : Message) → (carried e t r m ≡ 0) ⊎ (message_place m ≡ on_edge e t)
+pub carried_place : (e : ℕ) (t : Time) (r : Record) (m : Message) → (carried e t r m ≡ 0) ⊎ (message_pointstamp m ≡ on_edge e t)
 carried_place e t r m = go (eqb_tells m.edge e) (same_time_tells m.time t)
   where
-    go : ((eqb m.edge e ≡ true) × (m.edge ≡ e)) ⊎ ((eqb m.edge e ≡ false) × (m.edge ≢ e)) → ((same_time m.time t ≡ true) × (m.time ≡ t)) ⊎ ((same_time m.time t ≡ false) × (m.time ≢ t)) → (carried e t r m ≡ 0) ⊎ (message_place m ≡ on_edge e t)
+    go : ((eqb m.edge e ≡ true) × (m.edge ≡ e)) ⊎ ((eqb m.edge e ≡ false) × (m.edge ≢ e)) → ((same_time m.time t ≡ true) × (m.time ≡ t)) ⊎ ((same_time m.time t ≡ false) × (m.time ≢ t)) → (carried e t r m ≡ 0) ⊎ (message_pointstamp m ≡ on_edge e t)
     go (inl (a, b)) (inl (c, d)) = inr (λ i. on_edge (b i) (d i))
     go (inl (a, b)) (inr (c, d)) = inl (rw (a, c) refl)
     go (inr (a, b)) s = inl (rw a refl)
 
-pub wished_place : (v : ℕ) (t : Time) (n : Request) → (wished v t n ≡ 0) ⊎ (request_place n ≡ at_vertex v t)
+pub wished_place : (v : ℕ) (t : Time) (n : Request) → (wished v t n ≡ 0) ⊎ (request_pointstamp n ≡ at_vertex v t)
 wished_place v t n = go (eqb_tells n.vertex v) (same_time_tells n.time t)
   where
-    go : ((eqb n.vertex v ≡ true) × (n.vertex ≡ v)) ⊎ ((eqb n.vertex v ≡ false) × (n.vertex ≢ v)) → ((same_time n.time t ≡ true) × (n.time ≡ t)) ⊎ ((same_time n.time t ≡ false) × (n.time ≢ t)) → (wished v t n ≡ 0) ⊎ (request_place n ≡ at_vertex v t)
+    go : ((eqb n.vertex v ≡ true) × (n.vertex ≡ v)) ⊎ ((eqb n.vertex v ≡ false) × (n.vertex ≢ v)) → ((same_time n.time t ≡ true) × (n.time ≡ t)) ⊎ ((same_time n.time t ≡ false) × (n.time ≢ t)) → (wished v t n ≡ 0) ⊎ (request_pointstamp n ≡ at_vertex v t)
     go (inl (a, b)) (inl (c, d)) = inr (λ i. at_vertex (b i) (d i))
     go (inl (a, b)) (inr (c, d)) = inl (rw (a, c) refl)
     go (inr (a, b)) s = inl (rw a refl)
 
 module _ (g : Network) (law : IsNetwork g) (w : World) where
-  -- nothing is under way on an edge in which no active place could result
-  pub nothing_under_way : (e : ℕ) (t : Time) (r : Record) → g.Fits (on_edge e t) → NoneBefore g w (on_edge e t) → sum_below g.workers (under_way w e t r) ≡ 0
+  -- nothing is under way on an edge in which no active pointstamp could result
+  pub nothing_under_way : (e : ℕ) (t : Time) (r : Record) → g.IsPointstamp (on_edge e t) → NoneBefore g w (on_edge e t) → sum_below g.workers (under_way w e t r) ≡ 0
   nothing_under_way e t r fits none = below_zero g.workers (under_way w e t r) (λ k l. worker k l)
     where
-      not_here : (p : Place) → IsActive g w p → p ≡ on_edge e t → ⊥
-      not_here p a s = none p a (subst (λ (q : Place). g.Could q (on_edge e t)) (sym s) (law.could_self (on_edge e t) fits))
+      not_here : (p : Pointstamp) → IsActive g w p → p ≡ on_edge e t → ⊥
+      not_here p a s = none p a (subst (λ (q : Pointstamp). g.Could q (on_edge e t)) (sym s) (law.could_self (on_edge e t) fits))
 
-      message : (k at : ℕ) (m : Message) → k < g.workers → slice_get (w.mail k) at ≡ Some m → (carried e t r m ≡ 0) ⊎ (message_place m ≡ on_edge e t) → carried e t r m ≡ 0
+      message : (k at : ℕ) (m : Message) → k < g.workers → slice_get (w.mail k) at ≡ Some m → (carried e t r m ≡ 0) ⊎ (message_pointstamp m ≡ on_edge e t) → carried e t r m ≡ 0
       message k at m l s (inl z) = z
-      message k at m l s (inr p) = absurd (not_here (message_place m) (IsActive.of_mail k at m l s) p)
+      message k at m l s (inr p) = absurd (not_here (message_pointstamp m) (IsActive.of_mail k at m l s) p)
 
-      event : (k : ℕ) (up : Bool) (x : Event) → k < g.workers → w.hand k ≡ Hand.holds up x → carried_by e t r x ≡ 0
-      event k up (Event.notice n) l s = refl
+      event : (k : ℕ) (up : Bool) (x : Event) → k < g.workers → w.held k ≡ Held.holding up x → carried_by e t r x ≡ 0
+      event k up (Event.notification n) l s = refl
       event k up (Event.arrival m) l s = held (carried_place e t r m)
         where
-          held : (carried e t r m ≡ 0) ⊎ (message_place m ≡ on_edge e t) → carried e t r m ≡ 0
+          held : (carried e t r m ≡ 0) ⊎ (message_pointstamp m ≡ on_edge e t) → carried e t r m ≡ 0
           held (inl z) = z
-          held (inr p) = absurd (not_here (message_place m) (IsActive.of_hand k up (Event.arrival m) l s) p)
+          held (inr p) = absurd (not_here (message_pointstamp m) (IsActive.of_held k up (Event.arrival m) l s) p)
 
-      hand : (k : ℕ) (x : Hand) → k < g.workers → w.hand k ≡ x → in_hand e t r x ≡ 0
-      hand k Hand.empty l s = refl
-      hand k (Hand.holds up x) l s = event k up x l s
+      hand : (k : ℕ) (x : Held) → k < g.workers → w.held k ≡ x → in_hand e t r x ≡ 0
+      hand k Held.nothing l s = refl
+      hand k (Held.holding up x) l s = event k up x l s
 
       worker : (k : ℕ) → k < g.workers → under_way w e t r k ≡ 0
       worker k l =
           let a : total (carried e t r) (w.mail k) ≡ 0 = total_zero (w.mail k) (carried e t r) (λ at m s. message k at m l s (carried_place e t r m)) in
-          let b : in_hand e t r (w.hand k) ≡ 0 = hand k (w.hand k) l refl in
+          let b : in_hand e t r (w.held k) ≡ 0 = hand k (w.held k) l refl in
           omega arith
 
-  -- nobody waits for a notice of a vertex and time in which no active place could result
-  pub nothing_wished : (v : ℕ) (t : Time) → ((p : Place) → IsActive g w p → p ≡ at_vertex v t → ⊥) → (k : ℕ) → k < g.workers → wishes w v t k ≡ 0
+  -- nobody waits for a notification of a vertex and time in which no active pointstamp could result
+  pub nothing_wished : (v : ℕ) (t : Time) → ((p : Pointstamp) → IsActive g w p → p ≡ at_vertex v t → ⊥) → (k : ℕ) → k < g.workers → wishes w v t k ≡ 0
   nothing_wished v t not_here k l =
       let a : total (wished v t) (w.requests k) ≡ 0 = total_zero (w.requests k) (wished v t) (λ at n s. request at n s (wished_place v t n)) in
-      let b : wish_in_hand v t (w.hand k) ≡ 0 = hand (w.hand k) refl in
+      let b : wish_in_hand v t (w.held k) ≡ 0 = hand (w.held k) refl in
       omega arith
     where
-      request : (at : ℕ) (n : Request) → slice_get (w.requests k) at ≡ Some n → (wished v t n ≡ 0) ⊎ (request_place n ≡ at_vertex v t) → wished v t n ≡ 0
+      request : (at : ℕ) (n : Request) → slice_get (w.requests k) at ≡ Some n → (wished v t n ≡ 0) ⊎ (request_pointstamp n ≡ at_vertex v t) → wished v t n ≡ 0
       request at n s (inl z) = z
-      request at n s (inr p) = absurd (not_here (request_place n) (IsActive.of_request k at n l s) p)
+      request at n s (inr p) = absurd (not_here (request_pointstamp n) (IsActive.of_request k at n l s) p)
 
-      event : (up : Bool) (x : Event) → w.hand k ≡ Hand.holds up x → wished_by v t x ≡ 0
+      event : (up : Bool) (x : Event) → w.held k ≡ Held.holding up x → wished_by v t x ≡ 0
       event up (Event.arrival m) s = refl
-      event up (Event.notice n) s = held (wished_place v t n)
+      event up (Event.notification n) s = held (wished_place v t n)
         where
-          held : (wished v t n ≡ 0) ⊎ (request_place n ≡ at_vertex v t) → wished v t n ≡ 0
+          held : (wished v t n ≡ 0) ⊎ (request_pointstamp n ≡ at_vertex v t) → wished v t n ≡ 0
           held (inl z) = z
-          held (inr p) = absurd (not_here (request_place n) (IsActive.of_hand k up (Event.notice n) l s) p)
+          held (inr p) = absurd (not_here (request_pointstamp n) (IsActive.of_held k up (Event.notification n) l s) p)
 
-      hand : (x : Hand) → w.hand k ≡ x → wish_in_hand v t x ≡ 0
-      hand Hand.empty s = refl
-      hand (Hand.holds up x) s = event up x s
+      hand : (x : Held) → w.held k ≡ x → wish_in_hand v t x ≡ 0
+      hand Held.nothing s = refl
+      hand (Held.holding up x) s = event up x s
 
 module _ (g : Network) (law : IsNetwork g) (w : World) (h : History) (keeps : Kept g w h) where
-  -- what the workers' parts have made is Op of their sum, where each group with something has its notice
-  pub parts_make : (v q : ℕ) (t : Time) (r : Record) → g.role v ≢ Role.source → g.role v ≢ Role.sink
+  -- what the workers' parts have made is Op of their sum, where each group with something has its notification
+  pub parts_make : (v q : ℕ) (t : Time) (r : Record) → g.role v ≢ Role.input → g.role v ≢ Role.output
       → sum_below g.workers (λ k. count r (g.op v q t (ins g (h.done k) v t))) ≡ count r (g.op v q t (all_parts g (λ k p. h.done k (g.edge_into v p) t)))
   parts_make v q t r a b = go (inner_kind (g.role v) a b)
     where
-      cut : (g.role v ≡ Role.stateful) ⊎ (g.role v ≡ Role.grouping) → CutByKey g v (λ k p. h.done k (g.edge_into v p) t)
-      cut s k p lk lp = keeps.at_home k (g.edge_into v p) t lk (law.into_is_edge v p lp) (subst (λ (x : ℕ). (g.role x ≡ Role.stateful) ⊎ (g.role x ≡ Role.grouping)) (sym (law.target_into v p lp)) s)
+      cut : (g.role v ≡ Role.stateful) ⊎ (g.role v ≡ Role.notified) → CutByKey g v (λ k p. h.done k (g.edge_into v p) t)
+      cut s k p lk lp = keeps.at_home k (g.edge_into v p) t lk (law.into_is_edge v p lp) (subst (λ (x : ℕ). (g.role x ≡ Role.stateful) ⊎ (g.role x ≡ Role.notified)) (sym (law.target_into v p lp)) s)
 
-      go : (g.role v ≡ Role.stateless) ⊎ ((g.role v ≡ Role.stateful) ⊎ (g.role v ≡ Role.grouping)) → sum_below g.workers (λ k. count r (g.op v q t (ins g (h.done k) v t))) ≡ count r (g.op v q t (all_parts g (λ k p. h.done k (g.edge_into v p) t)))
+      go : (g.role v ≡ Role.stateless) ⊎ ((g.role v ≡ Role.stateful) ⊎ (g.role v ≡ Role.notified)) → sum_below g.workers (λ k. count r (g.op v q t (ins g (h.done k) v t))) ≡ count r (g.op v q t (all_parts g (λ k p. h.done k (g.edge_into v p) t)))
       go (inl s) = sym (law.op_stateless v q t (λ k p. h.done k (g.edge_into v p) t) g.workers s r)
       go (inr s) = sym (law.op_cut v q t (λ k p. h.done k (g.edge_into v p) t) s (cut s) r)
 
@@ -107,14 +108,14 @@ module _ (g : Network) (law : IsNetwork g) (w : World) (h : History) (keeps : Ke
       go false e = rw e (omega arith)
 
   -- a group without a wish has made what its part has
-  pub made_all : (v q : ℕ) (t : Time) (r : Record) (k : ℕ) → k < g.workers → (g.role v ≡ Role.grouping → wishes w v t k ≡ 0) → made g h v q t r k ≡ count r (g.op v q t (ins g (h.done k) v t))
+  pub made_all : (v q : ℕ) (t : Time) (r : Record) (k : ℕ) → k < g.workers → (g.role v ≡ Role.notified → wishes w v t k ≡ 0) → made g h v q t r k ≡ count r (g.op v q t (ins g (h.done k) v t))
   made_all v q t r k l none = go (h.told k v t) refl (is_grouping (g.role v))
     where
       empty : (xs : List Record) → some xs ≡ 0 → xs ≡ []
       empty [] e = refl
       empty (x ∷ xs) e = absurd cc
 
-      go : (b : Bool) → h.told k v t ≡ b → (g.role v ≡ Role.grouping) ⊎ (g.role v ≢ Role.grouping) → made g h v q t r k ≡ count r (g.op v q t (ins g (h.done k) v t))
+      go : (b : Bool) → h.told k v t ≡ b → (g.role v ≡ Role.notified) ⊎ (g.role v ≢ Role.notified) → made g h v q t r k ≡ count r (g.op v q t (ins g (h.done k) v t))
       go true e s = rw e refl
       go false e (inr s) = absurd (let x : h.told k v t ≡ true = keeps.always_told k v t s in let y : true ≡ false = sym x ∙ e in cc)
       go false e (inl s) =
@@ -127,71 +128,71 @@ module _ (g : Network) (law : IsNetwork g) (w : World) (h : History) (keeps : Ke
 
   module _ (flow : ℕ → Time → List Record) (flows : IsNetFlow g w.fed flow) where
     -- what is no longer under way was processed
-    pub processed : (e : ℕ) (t : Time) → e < g.edges → g.Fits (on_edge e t) → NoneBefore g w (on_edge e t) → (w.sent e t) ≈ (flow e t) → (r : Record) → sum_below g.workers (λ k. count r (h.done k e t)) ≡ count r (flow e t)
+    pub processed : (e : ℕ) (t : Time) → e < g.edges → g.IsPointstamp (on_edge e t) → NoneBefore g w (on_edge e t) → (w.sent e t) ≈ (flow e t) → (r : Record) → sum_below g.workers (λ k. count r (h.done k e t)) ≡ count r (flow e t)
     processed e t l fits none s r =
         let b : count r (w.sent e t) ≡ sum_below g.workers (λ k. count r (h.done k e t)) + sum_below g.workers (under_way w e t r) = keeps.balance e t r l in
         let z : sum_below g.workers (under_way w e t r) ≡ 0 = nothing_under_way g law w e t r fits none in
         let f : count r (w.sent e t) ≡ count r (flow e t) = s.counts r in
         omega arith
 
-    pub none_through : (e : ℕ) (t u : Time) → e < g.edges → g.Fits (at_vertex (g.source e) t) → g.act (g.source e) t ≡ u → NoneBefore g w (on_edge e u) → NoneBefore g w (at_vertex (g.source e) t)
+    pub none_through : (e : ℕ) (t u : Time) → e < g.edges → g.IsPointstamp (at_vertex (g.source e) t) → g.act (g.source e) t ≡ u → NoneBefore g w (on_edge e u) → NoneBefore g w (at_vertex (g.source e) t)
     none_through e t u l fits a none q active c = none q active (law.could_on q (at_vertex (g.source e) t) (on_edge e u) c (subst (λ (x : Time). g.Could (at_vertex (g.source e) t) (on_edge e x)) a (law.could_leave e t l fits)))
 
-    pub none_before_edge : (v p : ℕ) (t : Time) → p < g.ports v → g.Fits (at_vertex v t) → NoneBefore g w (at_vertex v t) → NoneBefore g w (on_edge (g.edge_into v p) t)
+    pub none_before_edge : (v p : ℕ) (t : Time) → p < g.ports v → g.IsPointstamp (at_vertex v t) → NoneBefore g w (at_vertex v t) → NoneBefore g w (on_edge (g.edge_into v p) t)
     none_before_edge v p t lp fits none q active c = none q active (law.could_on q (on_edge (g.edge_into v p) t) (at_vertex v t) c (subst (λ (x : ℕ). g.Could (on_edge (g.edge_into v p) t) (at_vertex x t)) (law.target_into v p lp) (law.could_enter (g.edge_into v p) t (law.into_is_edge v p lp) (law.fits_into v p t lp fits))))
 
     -- a vertex all of whose in ports were processed in full has made what the flow has
-    pub vertex_whole : (v q : ℕ) (t : Time) (r : Record) → g.role v ≢ Role.source → g.role v ≢ Role.sink
+    pub vertex_whole : (v q : ℕ) (t : Time) (r : Record) → g.role v ≢ Role.input → g.role v ≢ Role.output
         → ((p : ℕ) → p < g.ports v → (s : Record) → sum_below g.workers (λ k. count s (h.done k (g.edge_into v p) t)) ≡ count s (flow (g.edge_into v p) t))
         → sum_below g.workers (λ k. count r (g.op v q t (ins g (h.done k) v t))) ≡ count r (g.op v q t (ins g flow v t))
     vertex_whole v q t r a b all =
         parts_make v q t r a b
         ∙ (law.op_same v q t (all_parts g (λ k p. h.done k (g.edge_into v p) t)) (ins g flow v t) (λ p lp. record { counts = λ s. counted-end_to_end (λ k. h.done k (g.edge_into v p) t) g.workers s ∙ all p lp s })).counts r
 
-    abbrev WholeBelow : Place → ℕ → Type 0
-    WholeBelow p v = (p' : ℕ) (t' : Time) → Lower g (on_edge (g.edge_into v p') t') p → g.edge_into v p' < g.edges → g.Fits (on_edge (g.edge_into v p') t') → NoneBefore g w (on_edge (g.edge_into v p') t') → (w.sent (g.edge_into v p') t') ≈ (flow (g.edge_into v p') t')
+    abbrev WholeBelow : Pointstamp → ℕ → Type 0
+    WholeBelow p v = (p' : ℕ) (t' : Time) → Lower g (on_edge (g.edge_into v p') t') p → g.edge_into v p' < g.edges → g.IsPointstamp (on_edge (g.edge_into v p') t') → NoneBefore g w (on_edge (g.edge_into v p') t') → (w.sent (g.edge_into v p') t') ≈ (flow (g.edge_into v p') t')
 
-    -- sent is equal to the flow at a place in which no active place could result
-    pub whole_at : (p : Place) → Acc (Lower g) p → (e : ℕ) (t : Time) → p ≡ on_edge e t → e < g.edges → g.Fits (on_edge e t) → NoneBefore g w (on_edge e t) → (w.sent e t) ≈ (flow e t)
+    -- sent is equal to the flow at a pointstamp in which no active pointstamp could result
+    pub whole_at : (p : Pointstamp) → Acc (Lower g) p → (e : ℕ) (t : Time) → p ≡ on_edge e t → e < g.edges → g.IsPointstamp (on_edge e t) → NoneBefore g w (on_edge e t) → (w.sent e t) ≈ (flow e t)
     whole_at p (Acc.intro x low) e u is l fits none = record { counts = λ r. go r (is_source (g.role (g.source e))) (λ p' t' a. whole_at (on_edge (g.edge_into (g.source e) p') t') (low (on_edge (g.edge_into (g.source e) p') t') a) (g.edge_into (g.source e) p') t' refl) }
       where
-        at : (r : Record) → g.role (g.source e) ≢ Role.source → WholeBelow p (g.source e) → (t : Time) → 0 < times_in t (g.times_before (g.source e) u) → sum_below g.workers (made g h (g.source e) (g.out_port e) t r) ≡ count r (g.op (g.source e) (g.out_port e) t (ins g flow (g.source e) t))
+        at : (r : Record) → g.role (g.source e) ≢ Role.input → WholeBelow p (g.source e) → (t : Time) → 0 < times_in t (g.times_before (g.source e) u) → sum_below g.workers (made g h (g.source e) (g.out_port e) t r) ≡ count r (g.op (g.source e) (g.out_port e) t (ins g flow (g.source e) t))
         at r s ih t in_list =
             let a : g.act (g.source e) t ≡ u = law.before_acts e t u l fits in_list in
-            let ft : g.Fits (at_vertex (g.source e) t) = law.fits_back e t u l fits in_list in
+            let ft : g.IsPointstamp (at_vertex (g.source e) t) = law.fits_back e t u l fits in_list in
             let nv : NoneBefore g w (at_vertex (g.source e) t) = none_through e t u l ft a none in
             let m : sum_below g.workers (made g h (g.source e) (g.out_port e) t r) ≡ sum_below g.workers (λ k. count r (g.op (g.source e) (g.out_port e) t (ins g (h.done k) (g.source e) t))) =
-            below_same g.workers _ _ (λ k lk. made_all (g.source e) (g.out_port e) t r k lk (λ _. nothing_wished g law w (g.source e) t (λ q active c. nv q active (subst (λ (x : Place). g.Could x (at_vertex (g.source e) t)) (sym c) (law.could_self (at_vertex (g.source e) t) ft))) k lk)) in
+            below_same g.workers _ _ (λ k lk. made_all (g.source e) (g.out_port e) t r k lk (λ _. nothing_wished g law w (g.source e) t (λ q active c. nv q active (subst (λ (x : Pointstamp). g.Could x (at_vertex (g.source e) t)) (sym c) (law.could_self (at_vertex (g.source e) t) ft))) k lk)) in
             m ∙ vertex_whole (g.source e) (g.out_port e) t r s (law.no_sink_source e l) (λ p' lp s'.
             let ne : NoneBefore g w (on_edge (g.edge_into (g.source e) p') t) = none_before_edge (g.source e) p' t lp ft nv in
-            let fe : g.Fits (on_edge (g.edge_into (g.source e) p') t) = law.fits_into (g.source e) p' t lp ft in
+            let fe : g.IsPointstamp (on_edge (g.edge_into (g.source e) p') t) = law.fits_into (g.source e) p' t lp ft in
             let le : g.edge_into (g.source e) p' < g.edges = law.into_is_edge (g.source e) p' lp in
-            processed (g.edge_into (g.source e) p') t le fe ne (ih p' t (subst (λ (x : Place). Lower g (on_edge (g.edge_into (g.source e) p') t) x) (ap (on_edge e) a ∙ sym is) (lower g law p' e t l lp ft)) le fe ne) s')
+            processed (g.edge_into (g.source e) p') t le fe ne (ih p' t (subst (λ (x : Pointstamp). Lower g (on_edge (g.edge_into (g.source e) p') t) x) (ap (on_edge e) a ∙ sym is) (lower g law p' e t l lp ft)) le fe ne) s')
 
-        go : (r : Record) → (g.role (g.source e) ≡ Role.source) ⊎ (g.role (g.source e) ≢ Role.source) → WholeBelow p (g.source e) → count r (w.sent e u) ≡ count r (flow e u)
+        go : (r : Record) → (g.role (g.source e) ≡ Role.input) ⊎ (g.role (g.source e) ≢ Role.input) → WholeBelow p (g.source e) → count r (w.sent e u) ≡ count r (flow e u)
         go r (inl s) ih = (keeps.from_input e u l s).counts r ∙ sym ((flows.from_input e u l fits s).counts r)
         go r (inr s) ih = keeps.from_vertex e u r l fits s ∙ total_times (g.times_before (g.source e) u) _ _ (at r s ih) ∙ sym (flows.from_vertex e u l fits s r)
 
-    pub whole : (e : ℕ) (t : Time) → e < g.edges → g.Fits (on_edge e t) → NoneBefore g w (on_edge e t) → (w.sent e t) ≈ (flow e t)
+    pub whole : (e : ℕ) (t : Time) → e < g.edges → g.IsPointstamp (on_edge e t) → NoneBefore g w (on_edge e t) → (w.sent e t) ≈ (flow e t)
     whole e t l fits none = whole_at (on_edge e t) (law.founded (on_edge e t)) e t refl l fits none
 
-    abbrev PartBelow : Place → ℕ → Type 0
-    PartBelow p v = (p' : ℕ) (t' : Time) → Lower g (on_edge (g.edge_into v p') t') p → g.edge_into v p' < g.edges → g.Fits (on_edge (g.edge_into v p') t') → IsPartOf (w.sent (g.edge_into v p') t') (flow (g.edge_into v p') t')
+    abbrev PartBelow : Pointstamp → ℕ → Type 0
+    PartBelow p v = (p' : ℕ) (t' : Time) → Lower g (on_edge (g.edge_into v p') t') p → g.edge_into v p' < g.edges → g.IsPointstamp (on_edge (g.edge_into v p') t') → IsPartOf (w.sent (g.edge_into v p') t') (flow (g.edge_into v p') t')
 
-    -- a group that has its notice at some worker has all that it will ever have
-    pub none_before_told : (v : ℕ) (t : Time) (k : ℕ) → k < g.workers → g.Fits (at_vertex v t) → g.role v ≡ Role.grouping → Due w h k v t → (p : ℕ) → p < g.ports v → NoneBefore g w (on_edge (g.edge_into v p) t)
+    -- a group that has its notification at some worker has all that it will ever have
+    pub none_before_told : (v : ℕ) (t : Time) (k : ℕ) → k < g.workers → g.IsPointstamp (at_vertex v t) → g.role v ≡ Role.notified → Due w h k v t → (p : ℕ) → p < g.ports v → NoneBefore g w (on_edge (g.edge_into v p) t)
     none_before_told v t k lk fits s due p lp q active c =
         let le : g.edge_into v p < g.edges = law.into_is_edge v p lp in
         let enter : g.Could (on_edge (g.edge_into v p) t) (at_vertex v t) = subst (λ (x : ℕ). g.Could (on_edge (g.edge_into v p) t) (at_vertex x t)) (law.target_into v p lp) (law.could_enter (g.edge_into v p) t le (law.fits_into v p t lp fits)) in
         let is : q ≡ at_vertex v t = keeps.settled k v t lk s due q active (law.could_on q (on_edge (g.edge_into v p) t) (at_vertex v t) c enter) in
-        let back : g.Could (at_vertex v t) (on_edge (g.edge_into v p) t) = subst (λ (x : Place). g.Could x (on_edge (g.edge_into v p) t)) is c in
+        let back : g.Could (at_vertex v t) (on_edge (g.edge_into v p) t) = subst (λ (x : Pointstamp). g.Could x (on_edge (g.edge_into v p) t)) is c in
         edge_not_vertex (g.edge_into v p) v t t (could_back g law (on_edge (g.edge_into v p) t) (at_vertex v t) enter back)
 
     -- sent is part of the flow
-    pub part_at : (p : Place) → Acc (Lower g) p → (e : ℕ) (t : Time) → p ≡ on_edge e t → e < g.edges → g.Fits (on_edge e t) → IsPartOf (w.sent e t) (flow e t)
+    pub part_at : (p : Pointstamp) → Acc (Lower g) p → (e : ℕ) (t : Time) → p ≡ on_edge e t → e < g.edges → g.IsPointstamp (on_edge e t) → IsPartOf (w.sent e t) (flow e t)
     part_at p (Acc.intro x low) e u is l fits = record { within = λ r. go r (is_source (g.role (g.source e))) (λ p' t' a. part_at (on_edge (g.edge_into (g.source e) p') t') (low (on_edge (g.edge_into (g.source e) p') t') a) (g.edge_into (g.source e) p') t' refl) }
       where
-        monotone : (r : Record) → g.role (g.source e) ≢ Role.source → g.role (g.source e) ≢ Role.grouping → PartBelow p (g.source e) → (t : Time) → g.Fits (at_vertex (g.source e) t) → g.act (g.source e) t ≡ u → sum_below g.workers (made g h (g.source e) (g.out_port e) t r) ≤ count r (g.op (g.source e) (g.out_port e) t (ins g flow (g.source e) t))
+        monotone : (r : Record) → g.role (g.source e) ≢ Role.input → g.role (g.source e) ≢ Role.notified → PartBelow p (g.source e) → (t : Time) → g.IsPointstamp (at_vertex (g.source e) t) → g.act (g.source e) t ≡ u → sum_below g.workers (made g h (g.source e) (g.out_port e) t r) ≤ count r (g.op (g.source e) (g.out_port e) t (ins g flow (g.source e) t))
         monotone r s sg ih t ft a =
             let m : sum_below g.workers (made g h (g.source e) (g.out_port e) t r) ≤ sum_below g.workers (λ k. count r (g.op (g.source e) (g.out_port e) t (ins g (h.done k) (g.source e) t))) =
             below_more g.workers _ _ (λ k lk. made_le (g.source e) (g.out_port e) t r k) in
@@ -201,14 +202,14 @@ module _ (g : Network) (law : IsNetwork g) (w : World) (h : History) (keeps : Ke
             (law.op_more (g.source e) (g.out_port e) t (all_parts g (λ k p. h.done k (g.edge_into (g.source e) p) t)) (ins g flow (g.source e) t) sg (λ p' lp. record {
               within = λ s'.
                   let le : g.edge_into (g.source e) p' < g.edges = law.into_is_edge (g.source e) p' lp in
-                  let i : count s' (w.sent (g.edge_into (g.source e) p') t) ≤ count s' (flow (g.edge_into (g.source e) p') t) = (ih p' t (subst (λ (x : Place). Lower g (on_edge (g.edge_into (g.source e) p') t) x) (ap (on_edge e) a ∙ sym is) (lower g law p' e t l lp ft)) le (law.fits_into (g.source e) p' t lp ft)).within s' in
+                  let i : count s' (w.sent (g.edge_into (g.source e) p') t) ≤ count s' (flow (g.edge_into (g.source e) p') t) = (ih p' t (subst (λ (x : Pointstamp). Lower g (on_edge (g.edge_into (g.source e) p') t) x) (ap (on_edge e) a ∙ sym is) (lower g law p' e t l lp ft)) le (law.fits_into (g.source e) p' t lp ft)).within s' in
                   let b : count s' (w.sent (g.edge_into (g.source e) p') t) ≡ sum_below g.workers (λ k. count s' (h.done k (g.edge_into (g.source e) p') t)) + sum_below g.workers (under_way w (g.edge_into (g.source e) p') t s') = keeps.balance (g.edge_into (g.source e) p') t s' le in
                   let c : count s' (end_to_end (λ k. h.done k (g.edge_into (g.source e) p') t) g.workers) ≡ sum_below g.workers (λ k. count s' (h.done k (g.edge_into (g.source e) p') t)) = counted-end_to_end (λ k. h.done k (g.edge_into (g.source e) p') t) g.workers s' in
                   omega arith;
             })).within r in
             omega arith
 
-        grouping : (r : Record) → g.role (g.source e) ≢ Role.source → g.role (g.source e) ≡ Role.grouping → (t : Time) → g.Fits (at_vertex (g.source e) t) → ((k : ℕ) × (k < g.workers) × (h.told k (g.source e) t ≡ true)) ⊎ ((k : ℕ) → k < g.workers → h.told k (g.source e) t ≡ false) → sum_below g.workers (made g h (g.source e) (g.out_port e) t r) ≤ count r (g.op (g.source e) (g.out_port e) t (ins g flow (g.source e) t))
+        grouping : (r : Record) → g.role (g.source e) ≢ Role.input → g.role (g.source e) ≡ Role.notified → (t : Time) → g.IsPointstamp (at_vertex (g.source e) t) → ((k : ℕ) × (k < g.workers) × (h.told k (g.source e) t ≡ true)) ⊎ ((k : ℕ) → k < g.workers → h.told k (g.source e) t ≡ false) → sum_below g.workers (made g h (g.source e) (g.out_port e) t r) ≤ count r (g.op (g.source e) (g.out_port e) t (ins g flow (g.source e) t))
         grouping r s sg t ft (inr nobody) =
             let z : sum_below g.workers (made g h (g.source e) (g.out_port e) t r) ≡ 0 = below_zero g.workers _ (λ k lk. rw (nobody k lk) refl) in
             omega arith
@@ -219,11 +220,11 @@ module _ (g : Network) (law : IsNetwork g) (w : World) (h : History) (keeps : Ke
             vertex_whole (g.source e) (g.out_port e) t r s (law.no_sink_source e l) (λ p' lp s'.
             let le : g.edge_into (g.source e) p' < g.edges = law.into_is_edge (g.source e) p' lp in
             let ne : NoneBefore g w (on_edge (g.edge_into (g.source e) p') t) = none_before_told (g.source e) t k lk ft sg (inl told) p' lp in
-            let fe : g.Fits (on_edge (g.edge_into (g.source e) p') t) = law.fits_into (g.source e) p' t lp ft in
+            let fe : g.IsPointstamp (on_edge (g.edge_into (g.source e) p') t) = law.fits_into (g.source e) p' t lp ft in
             processed (g.edge_into (g.source e) p') t le fe ne (whole (g.edge_into (g.source e) p') t le fe ne) s') in
             omega arith
 
-        go : (r : Record) → (g.role (g.source e) ≡ Role.source) ⊎ (g.role (g.source e) ≢ Role.source) → PartBelow p (g.source e) → count r (w.sent e u) ≤ count r (flow e u)
+        go : (r : Record) → (g.role (g.source e) ≡ Role.input) ⊎ (g.role (g.source e) ≢ Role.input) → PartBelow p (g.source e) → count r (w.sent e u) ≤ count r (flow e u)
         go r (inl s) ih = let a : count r (w.sent e u) ≡ count r (flow e u) = (keeps.from_input e u l s).counts r ∙ sym ((flows.from_input e u l fits s).counts r) in omega arith
         go r (inr s) ih =
             let a : count r (w.sent e u) ≡ total (λ t. sum_below g.workers (made g h (g.source e) (g.out_port e) t r)) (g.times_before (g.source e) u) = keeps.from_vertex e u r l fits s in
@@ -232,7 +233,7 @@ module _ (g : Network) (law : IsNetwork g) (w : World) (h : History) (keeps : Ke
             let c : count r (flow e u) ≡ total (λ t. count r (g.op (g.source e) (g.out_port e) t (ins g flow (g.source e) t))) (g.times_before (g.source e) u) = flows.from_vertex e u l fits s r in
             omega arith
           where
-            at : (t : Time) → g.Fits (at_vertex (g.source e) t) → g.act (g.source e) t ≡ u → (g.role (g.source e) ≡ Role.grouping) ⊎ (g.role (g.source e) ≢ Role.grouping) → sum_below g.workers (made g h (g.source e) (g.out_port e) t r) ≤ count r (g.op (g.source e) (g.out_port e) t (ins g flow (g.source e) t))
+            at : (t : Time) → g.IsPointstamp (at_vertex (g.source e) t) → g.act (g.source e) t ≡ u → (g.role (g.source e) ≡ Role.notified) ⊎ (g.role (g.source e) ≢ Role.notified) → sum_below g.workers (made g h (g.source e) (g.out_port e) t r) ≤ count r (g.op (g.source e) (g.out_port e) t (ins g flow (g.source e) t))
             at t ft a (inl sg) = grouping r s sg t ft (some_below g.workers (λ k. h.told k (g.source e) t))
             at t ft a (inr sg) = monotone r s sg ih t ft a
 
@@ -261,5 +262,5 @@ module _ (g : Network) (law : IsNetwork g) (w : World) (h : History) (keeps : Ke
         out_edge : g.edge_into g.output 0 < g.edges
         out_edge = law.into_is_edge g.output 0 out_port
 
-        out_fits : (n : ℕ) → g.Fits (on_edge (g.edge_into g.output 0) (at_epoch n))
+        out_fits : (n : ℕ) → g.IsPointstamp (on_edge (g.edge_into g.output 0) (at_epoch n))
         out_fits n = law.fits_into g.output 0 (at_epoch n) out_port (law.fits_output n)

@@ -3,28 +3,26 @@ use Rattle.std.proofs.Common.{◌≡◌, ◌≢◌, ◌≤◌, ◌<◌, ℕ, zer
 use Rattle.std.proofs.Math.Nat.{mod-lt}
 use Rattle.std.specs.List.{AllByRecursion}
 use Rattle.semantics.specs.Multiset.{Record, same, one_if, total, count, end_to_end, ◌≈◌, IsPartOf}
-use Rattle.semantics.specs.Could.{Fits, PathStep}
-use Rattle.semantics.specs.Cut.{route_key, IsCut}
+use Rattle.semantics.specs.Could.{IsTimeAt, PathStep, Location}
+use Rattle.semantics.specs.Kinds.{route_key, Kind, action, ends_turn, in_ports, is_input, role, Role}
+use Rattle.semantics.specs.Op.{IsCut, op}
 use Rattle.semantics.specs.Dataflow.{Goes, IsDataflow}
-use Rattle.semantics.specs.Edges.{edge_flow, edge_count, target, in_port, edge_into, feeds}
-use Rattle.semantics.specs.Flow.{Inputs, Flow, sent_by, sends, leaves, IsPlace, IsFlow}
-use Rattle.semantics.specs.Graph.{Kind, action, ends_turn, Vertex, Graph, no_vertex, vertex, in_ports, is_input, input_count, output_number}
-use Rattle.semantics.specs.Op.{op}
-use Rattle.semantics.specs.Place.{Location}
+use Rattle.semantics.specs.Flow.{edge_flow, Inputs, Flow, sent_by, sent_or_fed, port_flow, IsEdgeTime, IsFlow}
+use Rattle.semantics.specs.Graph.{edge_count, target, in_port, edge_into, edge_source, Vertex, Graph, no_vertex, vertex, input_count, output_number}
 use Rattle.semantics.specs.Route.{route, home_by, home}
-use Rattle.semantics.specs.Time.{Time, last, deeper, outer, Action, after, sources, below, turn_count, same_counters, same_time, at_epoch}
-use Rattle.semantics.proofs.BagLaws.{Decides-same, ≈-refl, ≈-trans, ≈-from, total-append, empty_from_same, count_here}
-use Rattle.semantics.proofs.CheckLaws.{Grows, op_part, Among, Defined, sources_all, Reached, sources_only}
-use Rattle.semantics.proofs.CouldLaws.{step_fits, at_most_refl, could_self, could_on, could_founded}
-use Rattle.semantics.proofs.EdgeLaws.{entered, into}
-use Rattle.semantics.proofs.FlowLaws.{op_same, one_flow}
-use Rattle.semantics.proofs.LawLaws.{op_nothing, op_cut}
-use Rattle.semantics.proofs.RankLaws.{StepRises, step_rises, rises_from_nested}
-use Rattle.semantics.proofs.TimeLaws.{last-deeper}
-use Rattle.machine.specs.Engine.{role_of, network}
-use Rattle.machine.specs.Network.{Role, Network, ins}
+use Rattle.semantics.specs.Time.{Time, last, deeper, outer, Action, after_action, times_before, below, turn_count, same_counters, same_time, at_epoch}
+use Rattle.semantics.proofs.MultisetSums.{Decides-same, ≈-refl, ≈-trans, ≈-from, total-append, empty_from_same, count_here}
+use Rattle.semantics.proofs.MonotoneVertices.{Grows, op_part}
+use Rattle.semantics.proofs.TimesBefore.{Among, Defined, times_before_all, Reached, times_before_only}
+use Rattle.semantics.proofs.CouldRises.{step_fits, at_most_refl, could_self, could_on, could_founded}
+use Rattle.semantics.proofs.EdgeNumbers.{entered, into}
+use Rattle.semantics.proofs.OneFlow.{op_same, one_flow}
+use Rattle.semantics.proofs.VertexLaws.{op_nothing, op_cut}
+use Rattle.semantics.proofs.RankRises.{StepRises, step_rises, rises_from_nested}
+use Rattle.semantics.proofs.VertexFlows.{last-deeper}
+use Rattle.machine.specs.Engine.{network}
+use Rattle.machine.specs.Network.{Network, ins}
 use Rattle.machine.specs.Sums.{sum_below}
-use Rattle.semantics.proofs.BagLaws.{total-append}
 use Rattle.machine.proofs.Counting.{count-append, counted-end_to_end, total_same}
 use Rattle.machine.proofs.Laws.{IsNetwork, times_in, all_parts, CutByKey}
 use Rattle.machine.proofs.NetFlow.{IsNetFlow, HasFlows}
@@ -32,7 +30,7 @@ use Rattle.machine.proofs.Places.{same_time_tells, same_time_self}
 
 -- ---- roles
 
-role_source : (k : Kind) → role_of k ≡ Role.source → k ≡ Kind.input
+role_source : (k : Kind) → role k ≡ Role.input → k ≡ Kind.input
 role_source Kind.input e = refl
 role_source Kind.output e = absurd cc
 role_source Kind.concat e = absurd cc
@@ -47,7 +45,7 @@ role_source (Kind.group ks as') e = absurd cc
 role_source (Kind.gate n) e = absurd cc
 role_source (Kind.hold n) e = absurd cc
 
-role_sink : (k : Kind) → role_of k ≡ Role.sink → k ≡ Kind.output
+role_sink : (k : Kind) → role k ≡ Role.output → k ≡ Kind.output
 role_sink Kind.input e = absurd cc
 role_sink Kind.output e = refl
 role_sink Kind.concat e = absurd cc
@@ -62,7 +60,7 @@ role_sink (Kind.group ks as') e = absurd cc
 role_sink (Kind.gate n) e = absurd cc
 role_sink (Kind.hold n) e = absurd cc
 
-role_grouping : (k : Kind) → role_of k ≡ Role.grouping → in_ports k ≡ 1
+role_grouping : (k : Kind) → role k ≡ Role.notified → in_ports k ≡ 1
 role_grouping Kind.input e = absurd cc
 role_grouping Kind.output e = refl
 role_grouping Kind.concat e = absurd cc
@@ -77,7 +75,7 @@ role_grouping (Kind.group ks as') e = refl
 role_grouping (Kind.gate n) e = refl
 role_grouping (Kind.hold n) e = refl
 
-role_grows : (k : Kind) → role_of k ≢ Role.grouping → Grows k
+role_grows : (k : Kind) → role k ≢ Role.notified → Grows k
 role_grows (Kind.group ks as') n = absurd (n refl)
 role_grows Kind.input n = tt
 role_grows Kind.output n = tt
@@ -93,19 +91,19 @@ role_grows (Kind.gate m) n = tt
 role_grows (Kind.hold m) n = tt
 
 abbrev HasKeys : Kind → Type 0
-HasKeys k = (role_of k ≡ Role.stateful) ⊎ (role_of k ≡ Role.grouping)
+HasKeys k = (role k ≡ Role.stateful) ⊎ (role k ≡ Role.notified)
 
-neither : (r : Role) → r ≡ Role.stateless → (r ≡ Role.stateful) ⊎ (r ≡ Role.grouping) → ⊥
+neither : (r : Role) → r ≡ Role.stateless → (r ≡ Role.stateful) ⊎ (r ≡ Role.notified) → ⊥
 neither r e (inl h) = let x : Role.stateless ≡ Role.stateful = sym e ∙ h in cc
-neither r e (inr h) = let x : Role.stateless ≡ Role.grouping = sym e ∙ h in cc
+neither r e (inr h) = let x : Role.stateless ≡ Role.notified = sym e ∙ h in cc
 
 source_no_keys : (k : Kind) → k ≡ Kind.input → HasKeys k → ⊥
-source_no_keys k e (inl h) = let x : Role.source ≡ Role.stateful = sym (ap role_of e) ∙ h in cc
-source_no_keys k e (inr h) = let x : Role.source ≡ Role.grouping = sym (ap role_of e) ∙ h in cc
+source_no_keys k e (inl h) = let x : Role.input ≡ Role.stateful = sym (ap role e) ∙ h in cc
+source_no_keys k e (inr h) = let x : Role.input ≡ Role.notified = sym (ap role e) ∙ h in cc
 
 sink_no_keys : (k : Kind) → k ≡ Kind.output → HasKeys k → ⊥
-sink_no_keys k e (inl h) = let x : Role.sink ≡ Role.stateful = sym (ap role_of e) ∙ h in cc
-sink_no_keys k e (inr h) = let x : Role.sink ≡ Role.grouping = sym (ap role_of e) ∙ h in cc
+sink_no_keys k e (inl h) = let x : Role.output ≡ Role.stateful = sym (ap role e) ∙ h in cc
+sink_no_keys k e (inr h) = let x : Role.output ≡ Role.notified = sym (ap role e) ∙ h in cc
 
 has_route_key : (k : Kind) → HasKeys k → (port : ℕ) → (key : Record → Record) × (route_key k port ≡ Some key)
 has_route_key (Kind.join ps) h zero = (_, refl)
@@ -123,7 +121,7 @@ has_route_key (Kind.filter c) h port = absurd (neither Role.stateless refl h)
 has_route_key (Kind.gate n) h port = absurd (neither Role.stateless refl h)
 has_route_key (Kind.hold n) h port = absurd (neither Role.stateless refl h)
 
-no_route_key : (k : Kind) → role_of k ≡ Role.stateless → (port : ℕ) (key : Record → Record) → route_key k port ≡ Some key → ⊥
+no_route_key : (k : Kind) → role k ≡ Role.stateless → (port : ℕ) (key : Record → Record) → route_key k port ≡ Some key → ⊥
 no_route_key (Kind.join ps) h port key e = cc
 no_route_key (Kind.group ks as') h port key e = cc
 no_route_key Kind.distinct h port key e = cc
@@ -267,15 +265,15 @@ once_below t u (suc n) = go (same_time_tells t (deeper u n)) (once_below t u n) 
     go (inr (a, b)) (inl z) p = let k : cond {A = ℕ} (same_time t (deeper u n)) 1 0 ≡ 0 = ap (λ b. cond {A = ℕ} b 1 0) a in inl (omega arith)
     go (inr (a, b)) (inr z) p = let k : cond {A = ℕ} (same_time t (deeper u n)) 1 0 ≡ 0 = ap (λ b. cond {A = ℕ} b 1 0) a in inr (omega arith)
 
-sources_once : (a : Action) (t u : Time) → OnceAtMost t (sources a u)
+sources_once : (a : Action) (t u : Time) → OnceAtMost t (times_before a u)
 sources_once Action.stay t u = once_one t u
 sources_once Action.enter t u = once_cond t (outer u) (nat_eq (last u.counters) 0)
 sources_once Action.leave t u = once_below t u turn_count
 sources_once Action.next t u = once_cond t (deeper (outer u) (last u.counters - 1)) (nat_lt 0 (last u.counters))
 
 -- a time that its action's value doesn't count is that of a turn over the limit
-uncounted : (k : Kind) (t : Time) → (ends_turn k ≡ true → 0 < length t.counters) → times_in t (sources (action k) (after (action k) t)) ≡ 0 → (ends_turn k ≡ true) × (turn_count ≤ last t.counters)
-uncounted k t inside none = go k inside (λ d. let x = among_times t (sources (action k) (after (action k) t)) (sources_all (action k) t (after (action k) t) d refl) in omega arith)
+uncounted : (k : Kind) (t : Time) → (ends_turn k ≡ true → 0 < length t.counters) → times_in t (times_before (action k) (after_action (action k) t)) ≡ 0 → (ends_turn k ≡ true) × (turn_count ≤ last t.counters)
+uncounted k t inside none = go k inside (λ d. let x = among_times t (times_before (action k) (after_action (action k) t)) (times_before_all (action k) t (after_action (action k) t) d refl) in omega arith)
   where
     over_limit : 0 < length t.counters → (b : Bool) → nat_lt (last t.counters) turn_count ≡ b → ((0 < length t.counters) × (last t.counters < turn_count) → ⊥) → turn_count ≤ last t.counters
     over_limit l true e f = absurd (f (l, ltb-true (last t.counters) turn_count e))
@@ -333,24 +331,24 @@ module _ (g : Graph) (flows : IsDataflow g) (workers : ℕ) (some : 0 < workers)
   full : (v : ℕ) → v < length g → length (vertex g v).ins ≡ in_ports (kind v)
   full v l = flows.wired.full v l
 
-  goes_at : (e : ℕ) → e < edge_count g → Goes flows.loops (feeds g e).vertex (target g e) (action (kind (feeds g e).vertex))
+  goes_at : (e : ℕ) → e < edge_count g → Goes flows.loops (edge_source g e).vertex (target g e) (action (kind (edge_source g e).vertex))
   goes_at e l = let k = entered g e l in flows.nested.goes (target g e) (in_port g e) k.known k.port
 
-  feeder_known : (e : ℕ) → e < edge_count g → (feeds g e).vertex < length g
+  feeder_known : (e : ℕ) → e < edge_count g → (edge_source g e).vertex < length g
   feeder_known e l = let k = entered g e l in flows.wired.fed (target g e) (in_port g e) k.known k.port
 
-  no_source_target : (e : ℕ) → e < edge_count g → role_of (kind (target g e)) ≢ Role.source
+  no_source_target : (e : ℕ) → e < edge_count g → role (kind (target g e)) ≢ Role.input
   no_source_target e l s =
       let k = entered g e l in
       let p = k.port in
       let z : length (vertex g (target g e)).ins ≡ 0 = full (target g e) k.known ∙ ap in_ports (role_source (kind (target g e)) s) in
       omega arith
 
-  no_sink_source : (e : ℕ) → e < edge_count g → role_of (kind (feeds g e).vertex) ≢ Role.sink
+  no_sink_source : (e : ℕ) → e < edge_count g → role (kind (edge_source g e).vertex) ≢ Role.output
   no_sink_source e l s =
-      let o = role_sink (kind (feeds g e).vertex) s in
-      let v : (feeds g e).vertex ≡ output_number g = flows.shaped.output_last (feeds g e).vertex (feeder_known e l) o in
-      let up : (feeds g e).vertex < target g e = goes_up flows.loops (feeds g e).vertex (target g e) _ (goes_at e l) (ap action o) in
+      let o = role_sink (kind (edge_source g e).vertex) s in
+      let v : (edge_source g e).vertex ≡ output_number g = flows.shaped.output_last (edge_source g e).vertex (feeder_known e l) o in
+      let up : (edge_source g e).vertex < target g e = goes_up flows.loops (edge_source g e).vertex (target g e) _ (goes_at e l) (ap action o) in
       let k = (entered g e l).known in
       omega arith
 
@@ -361,7 +359,7 @@ module _ (g : Graph) (flows : IsDataflow g) (workers : ℕ) (some : 0 < workers)
   output_known = let s = flows.shaped.some in omega arith
 
   home_keyed : (e : ℕ) (k : ℕ) (r : Record) (key : Record → Record) → route_key (kind (target g e)) (in_port g e) ≡ Some key → home g workers k e r ≡ route (key r) workers
-  home_keyed e k r key s = ap (λ x. home_by x (is_input (kind (feeds g e).vertex)) workers k r) s
+  home_keyed e k r key s = ap (λ x. home_by x (is_input (kind (edge_source g e).vertex)) workers k r) s
 
   by_key : (k j e : ℕ) (r : Record) → HasKeys (kind (target g e)) → home g workers k e r ≡ home g workers j e r
   by_key k j e r h =
@@ -376,14 +374,14 @@ module _ (g : Graph) (flows : IsDataflow g) (workers : ℕ) (some : 0 < workers)
       go (inl l) = op_same (kind v) t a b q (λ i m. h i (omega (arith, full v l, m)))
       go (inr e) = subst (λ (x : Vertex). op x.kind t a q ≈ op x.kind t b q) (sym e) (≈-refl [])
 
-  op_more : (v q : ℕ) (t : Time) (a b : ℕ → List Record) → role_of (kind v) ≢ Role.grouping → ((p : ℕ) → p < length (vertex g v).ins → IsPartOf (a p) (b p)) → IsPartOf (op (kind v) t a q) (op (kind v) t b q)
+  op_more : (v q : ℕ) (t : Time) (a b : ℕ → List Record) → role (kind v) ≢ Role.notified → ((p : ℕ) → p < length (vertex g v).ins → IsPartOf (a p) (b p)) → IsPartOf (op (kind v) t a q) (op (kind v) t b q)
   op_more v q t a b n h = go (known_or_none g v)
     where
       go : (v < length g) ⊎ (vertex g v ≡ no_vertex) → IsPartOf (op (kind v) t a q) (op (kind v) t b q)
       go (inl l) = op_part (kind v) (role_grows (kind v) n) t a b q (λ i m. h i (omega (arith, full v l, m)))
       go (inr e) = subst (λ (x : Vertex). IsPartOf (op x.kind t a q) (op x.kind t b q)) (sym e) (record { within = λ r. omega arith })
 
-  op_stateless : (v q : ℕ) (t : Time) (part : ℕ → ℕ → List Record) (n : ℕ) → role_of (kind v) ≡ Role.stateless → (r : Record) → count r (op (kind v) t (λ p. end_to_end (λ k. part k p) n) q) ≡ sum_below n (λ k. count r (op (kind v) t (part k) q))
+  op_stateless : (v q : ℕ) (t : Time) (part : ℕ → ℕ → List Record) (n : ℕ) → role (kind v) ≡ Role.stateless → (r : Record) → count r (op (kind v) t (λ p. end_to_end (λ k. part k p) n) q) ≡ sum_below n (λ k. count r (op (kind v) t (part k) q))
   op_stateless v q t part n s r =
       let c : IsCut (kind v) part n = record { apart = λ i j li lj ne p p' lp lq f h e k. absurd (no_route_key (kind v) s p f e) } in
       (op_cut (kind v) t part n q c).counts r ∙ counted-end_to_end (λ k. op (kind v) t (part k) q) n r
@@ -407,28 +405,28 @@ module _ (g : Graph) (flows : IsDataflow g) (workers : ℕ) (some : 0 < workers)
   depth_home : (v : ℕ) → v < length g → length (flows.loops v) ≡ (vertex g v).depth
   depth_home v l = flows.nested.homes v l
 
-  fits_back : (e : ℕ) (t u : Time) → e < edge_count g → Fits g (Location.edge e) u → 0 < times_in t (sources (action (kind (feeds g e).vertex)) u) → Fits g (Location.vertex (feeds g e).vertex) t
+  fits_back : (e : ℕ) (t u : Time) → e < edge_count g → IsTimeAt g (Location.edge e) u → 0 < times_in t (times_before (action (kind (edge_source g e).vertex)) u) → IsTimeAt g (Location.vertex (edge_source g e).vertex) t
   fits_back e t u l f h =
       let k = entered g e l in
-      let s : StepRises flows.loops (feeds g e).vertex (target g e) u t =
-      among_all (StepRises flows.loops (feeds g e).vertex (target g e) u) t (sources (action (kind (feeds g e).vertex)) u)
-      (step_rises flows.loops (feeds g e).vertex (target g e) (action (kind (feeds g e).vertex)) (goes_at e l) u (f.1 ∙ sym (depth_home (target g e) k.known)))
-      (times_among t (sources (action (kind (feeds g e).vertex)) u) h) in
-      (feeder_known e l, s.0 ∙ depth_home (feeds g e).vertex (feeder_known e l))
+      let s : StepRises flows.loops (edge_source g e).vertex (target g e) u t =
+      among_all (StepRises flows.loops (edge_source g e).vertex (target g e) u) t (times_before (action (kind (edge_source g e).vertex)) u)
+      (step_rises flows.loops (edge_source g e).vertex (target g e) (action (kind (edge_source g e).vertex)) (goes_at e l) u (f.1 ∙ sym (depth_home (target g e) k.known)))
+      (times_among t (times_before (action (kind (edge_source g e).vertex)) u) h) in
+      (feeder_known e l, s.0 ∙ depth_home (edge_source g e).vertex (feeder_known e l))
 
-  before_acts : (e : ℕ) (t u : Time) → e < edge_count g → Fits g (Location.edge e) u → 0 < times_in t (sources (action (kind (feeds g e).vertex)) u) → after (action (kind (feeds g e).vertex)) t ≡ u
+  before_acts : (e : ℕ) (t u : Time) → e < edge_count g → IsTimeAt g (Location.edge e) u → 0 < times_in t (times_before (action (kind (edge_source g e).vertex)) u) → after_action (action (kind (edge_source g e).vertex)) t ≡ u
   before_acts e t u l f h =
-      sources_only (action (kind (feeds g e).vertex)) t u
-      (goes_reached flows.loops (feeds g e).vertex (target g e) (action (kind (feeds g e).vertex)) (goes_at e l) u (f.1 ∙ sym (depth_home (target g e) (entered g e l).known)))
-      (times_among t (sources (action (kind (feeds g e).vertex)) u) h)
+      times_before_only (action (kind (edge_source g e).vertex)) t u
+      (goes_reached flows.loops (edge_source g e).vertex (target g e) (action (kind (edge_source g e).vertex)) (goes_at e l) u (f.1 ∙ sym (depth_home (target g e) (entered g e l).known)))
+      (times_among t (times_before (action (kind (edge_source g e).vertex)) u) h)
 
-  fits_enter : (e : ℕ) (t : Time) → e < edge_count g → Fits g (Location.edge e) t → Fits g (Location.vertex (target g e)) t
+  fits_enter : (e : ℕ) (t : Time) → e < edge_count g → IsTimeAt g (Location.edge e) t → IsTimeAt g (Location.vertex (target g e)) t
   fits_enter e t l f = step_fits g flows.loops flows.wired flows.nested (PathStep.enters e) t l f
 
-  fits_leave : (e : ℕ) (t : Time) → e < edge_count g → Fits g (Location.vertex (feeds g e).vertex) t → Fits g (Location.edge e) (after (action (kind (feeds g e).vertex)) t)
+  fits_leave : (e : ℕ) (t : Time) → e < edge_count g → IsTimeAt g (Location.vertex (edge_source g e).vertex) t → IsTimeAt g (Location.edge e) (after_action (action (kind (edge_source g e).vertex)) t)
   fits_leave e t l f = step_fits g flows.loops flows.wired flows.nested (PathStep.leaves e) t l f
 
-  fits_source : (v n : ℕ) → role_of (kind v) ≡ Role.source → Fits g (Location.vertex v) (at_epoch n)
+  fits_source : (v n : ℕ) → role (kind v) ≡ Role.input → IsTimeAt g (Location.vertex v) (at_epoch n)
   fits_source v n s =
       let i = role_source (kind v) s in
       let l : v < length g = known_kind g v (λ e. let x : Kind.input ≡ Kind.output = sym i ∙ e in cc) in
@@ -447,13 +445,13 @@ module _ (g : Graph) (flows : IsDataflow g) (workers : ℕ) (some : 0 < workers)
         one_port = λ v s. full v (grouping_known v (inr s)) ∙ role_grouping (kind v) s;
         output_port = full (output_number g) output_known ∙ ap in_ports flows.shaped.has_output;
         only_output = λ e l s. flows.shaped.output_last (target g e) (entered g e l).known (role_sink (kind (target g e)) s);
-        output_sink = ap role_of flows.shaped.has_output;
-        input_is_source = λ i l. ap role_of (input_kind g i l);
+        output_sink = ap role flows.shaped.has_output;
+        input_is_source = λ i l. ap role (input_kind g i l);
         source_is_input = λ v s. flows.shaped.inputs_first v (fits_source v 0 s).0 (role_source (kind v) s);
         has_worker = some;
-        routed = λ k e r l. home_below (route_key (kind (target g e)) (in_port g e)) (is_input (kind (feeds g e).vertex)) workers k r l;
+        routed = λ k e r l. home_below (route_key (kind (target g e)) (in_port g e)) (is_input (kind (edge_source g e).vertex)) workers k r l;
         by_key = by_key;
-        source_act = λ v t s. ap (λ x. after (action x) t) (role_source (kind v) s);
+        source_act = λ v t s. ap (λ x. after_action (action x) t) (role_source (kind v) s);
         before_once = λ v t u. sources_once (action (kind v)) t u;
         before_acts = before_acts;
         op_same = op_alike;
@@ -478,10 +476,10 @@ module _ (g : Graph) (flows : IsDataflow g) (workers : ℕ) (some : 0 < workers)
 
   -- ---- the flow
 
-  place_at : (e : ℕ) (t : Time) → e < edge_count g → Fits g (Location.edge e) t → IsPlace g (target g e) (in_port g e) t
+  place_at : (e : ℕ) (t : Time) → e < edge_count g → IsTimeAt g (Location.edge e) t → IsEdgeTime g (target g e) (in_port g e) t
   place_at e t l f = let k = entered g e l in record { is_vertex = k.known; is_port = k.port; has_depth = f.1 }
 
-  not_input_sends : (inputs : Inputs) (k : Kind) (f : Flow) (v out : ℕ) (u : Time) → role_of k ≢ Role.source → sends inputs k f v out u ≡ sent_by k f v out u
+  not_input_sends : (inputs : Inputs) (k : Kind) (f : Flow) (v out : ℕ) (u : Time) → role k ≢ Role.input → sent_or_fed inputs k f v out u ≡ sent_by k f v out u
   not_input_sends inputs Kind.input f v out u n = absurd (n refl)
   not_input_sends inputs Kind.output f v out u n = refl
   not_input_sends inputs Kind.concat f v out u n = refl
@@ -501,25 +499,25 @@ module _ (g : Graph) (flows : IsDataflow g) (workers : ℕ) (some : 0 < workers)
   no_turns fed i epoch (c ∷ cs) l = absurd (omega arith)
 
   pub net_flow : (fed : Inputs) (f : Flow) → IsFlow g fed f → IsNetFlow net fed (edge_flow g f)
-  unfolding leaves
+  unfolding port_flow
   net_flow fed f is =
       record {
         from_input = λ e t l fits s.
-            let i = role_source (kind (feeds g e).vertex) s in
+            let i = role_source (kind (edge_source g e).vertex) s in
             let flat : length t.counters ≡ 0 =
             fits.1 ∙ sym (depth_home (target g e) (entered g e l).known)
-            ∙ ap length (goes_flat flows.loops (feeds g e).vertex (target g e) _ (goes_at e l) (ap action i))
-            ∙ depth_home (feeds g e).vertex (feeder_known e l) ∙ flows.shaped.flat (feeds g e).vertex (feeder_known e l) (inl i) in
+            ∙ ap length (goes_flat flows.loops (edge_source g e).vertex (target g e) _ (goes_at e l) (ap action i))
+            ∙ depth_home (edge_source g e).vertex (feeder_known e l) ∙ flows.shaped.flat (edge_source g e).vertex (feeder_known e l) (inl i) in
             ≈-trans (is.equations (target g e) (in_port g e) t (place_at e t l fits))
-            (≈-from (ap (λ k. sends fed k f (feeds g e).vertex (feeds g e).out t) i ∙ no_turns fed (feeds g e).vertex t.epoch t.counters flat));
+            (≈-from (ap (λ k. sent_or_fed fed k f (edge_source g e).vertex (edge_source g e).out t) i ∙ no_turns fed (edge_source g e).vertex t.epoch t.counters flat));
         from_vertex = λ e u l fits s r.
             (is.equations (target g e) (in_port g e) u (place_at e u l fits)).counts r
-            ∙ ap (count r) (not_input_sends fed (kind (feeds g e).vertex) f (feeds g e).vertex (feeds g e).out u s)
-            ∙ count-flat_map (λ t. op (kind (feeds g e).vertex) t (λ i. f (feeds g e).vertex i t) (feeds g e).out) r (sources (action (kind (feeds g e).vertex)) u)
-            ∙ total_same _ _ (sources (action (kind (feeds g e).vertex)) u) (λ t.
-            (op_alike (feeds g e).vertex (feeds g e).out t (λ i. f (feeds g e).vertex i t) (ins net (edge_flow g f) (feeds g e).vertex t) (λ p lp.
-            let w = into g (feeds g e).vertex p lp in
-            ≈-from (ap (λ x. f x p t) (sym w.vertex) ∙ ap (λ x. f (target g (edge_into g (feeds g e).vertex p)) x t) (sym w.port)))).counts r);
+            ∙ ap (count r) (not_input_sends fed (kind (edge_source g e).vertex) f (edge_source g e).vertex (edge_source g e).out u s)
+            ∙ count-flat_map (λ t. op (kind (edge_source g e).vertex) t (λ i. f (edge_source g e).vertex i t) (edge_source g e).out) r (times_before (action (kind (edge_source g e).vertex)) u)
+            ∙ total_same _ _ (times_before (action (kind (edge_source g e).vertex)) u) (λ t.
+            (op_alike (edge_source g e).vertex (edge_source g e).out t (λ i. f (edge_source g e).vertex i t) (ins net (edge_flow g f) (edge_source g e).vertex t) (λ p lp.
+            let w = into g (edge_source g e).vertex p lp in
+            ≈-from (ap (λ x. f x p t) (sym w.vertex) ∙ ap (λ x. f (target g (edge_into g (edge_source g e).vertex p)) x t) (sym w.port)))).counts r);
         within = λ e t l fits none.
             let k = (entered g e l).known in
             let x = uncounted (kind (target g e)) t (λ h. let d = flows.shaped.inside (target g e) k h in omega (arith, fits.1, d)) none in

@@ -3,18 +3,16 @@ use Rattle.std.proofs.Common.{◌≡◌, ℕ, zero, suc, List, [], ◌∷◌, po
 use Rattle.semantics.specs.Multiset.{Record, ◌≈◌}
 use Rattle.semantics.specs.Query.{Program, Rel}
 use Rattle.semantics.specs.Time.{at_epoch}
-use Rattle.semantics.specs.Place.{Place}
+use Rattle.semantics.specs.Could.{Pointstamp}
 use Rattle.semantics.specs.Graph.{vertex, source}
 use Rattle.semantics.specs.Lower.{lowered, lower, lower_lets}
 use Rattle.semantics.specs.Typing.{WellTyped, HasArity}
 use Rattle.semantics.specs.Route.{route}
 use Rattle.machine.specs.Network.{Network}
 use Rattle.machine.specs.World.{World, opening, Message, Event, IsActive, Passed}
-use Rattle.machine.specs.Step.{Step, after}
-use Rattle.machine.specs.Run.{Run}
-use Rattle.machine.specs.Headline.{IsRunOf, meant}
+use Rattle.machine.specs.Step.{Step, after_step}
+use Rattle.machine.specs.Engine.{Run, IsRunOf, meant, network}
 use Rattle.machine.proofs.Headline.{emitted_whole}
-use Rattle.machine.specs.Engine.{network}
 
 abbrev plain : Program
 plain = record { inputs = record { name = 97 ∷ []; arity = 1 } ∷ []; lets = []; output = Rel.named (97 ∷ []) }
@@ -36,7 +34,7 @@ abbrev steps : List Step
 steps = Step.feed 0 five ∷ Step.claim_message 0 0 fed ∷ Step.commit 0 (Event.arrival fed) (λ q. []) ∷ Step.close 0 ∷ []
 
 abbrev in_the_end : World
-in_the_end = after one (after one (after one (after one opening (Step.feed 0 five)) (Step.claim_message 0 0 fed)) (Step.commit 0 (Event.arrival fed) (λ q. []))) (Step.close 0)
+in_the_end = after_step one (after_step one (after_step one (after_step one opening (Step.feed 0 five)) (Step.claim_message 0 0 fed)) (Step.commit 0 (Event.arrival fed) (λ q. []))) (Step.close 0)
 
 a_run : Run one opening steps in_the_end
 unfolding lowered lower lower_lets vertex source route
@@ -47,7 +45,7 @@ unfolding lowered lower lower_lets vertex source route
 emitted = refl
 
 -- nothing is active in the end, so every epoch has passed
-idle : (q : Place) → IsActive one in_the_end q → ⊥
+idle : (q : Pointstamp) → IsActive one in_the_end q → ⊥
 unfolding lowered lower lower_lets vertex source route
 idle q (IsActive.of_input zero k c) = absurd cc
 idle q (IsActive.of_input (suc zero) k c) = absurd cc
@@ -59,8 +57,8 @@ idle q (IsActive.of_mail zero at m l e) = absurd (nothing at e)
 idle q (IsActive.of_mail (suc k) at m l e) = absurd (omega arith)
 idle q (IsActive.of_request zero at n l e) = absurd cc
 idle q (IsActive.of_request (suc k) at n l e) = absurd (omega arith)
-idle q (IsActive.of_hand zero up event l e) = absurd cc
-idle q (IsActive.of_hand (suc k) up event l e) = absurd (omega arith)
+idle q (IsActive.of_held zero up event l e) = absurd cc
+idle q (IsActive.of_held (suc k) up event l e) = absurd (omega arith)
 
 passed : Passed one in_the_end 0
 passed q active could = idle q active

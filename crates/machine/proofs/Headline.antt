@@ -3,26 +3,24 @@ use Rattle.std.proofs.Common.{◌≤◌, ℕ, List, ap, ◌∙◌, subst, arith}
 use Rattle.semantics.specs.Multiset.{IsPartOf, ◌≈◌, count}
 use Rattle.semantics.specs.Query.{Program}
 use Rattle.semantics.specs.Time.{at_epoch}
-use Rattle.semantics.specs.Graph.{output_number}
-use Rattle.semantics.specs.Flow.{Flow, IsFlow}
-use Rattle.semantics.specs.Edges.{in_port, edge_into, edge_flow}
-use Rattle.semantics.specs.Lower.{lowered, output_vertex}
-use Rattle.semantics.proofs.Scope.{Fits}
-use Rattle.semantics.proofs.BagLaws.{≈-trans, ≈-from}
-use Rattle.semantics.proofs.TypingLaws.{typed_fits}
-use Rattle.semantics.proofs.ProgramLaws.{lowered_means}
-use Rattle.semantics.proofs.ShapeLaws.{lowered_dataflow, output_is_last}
-use Rattle.semantics.proofs.SoundLaws.{lowered_has_one_flow}
-use Rattle.semantics.proofs.EdgeLaws.{into}
+use Rattle.semantics.specs.Graph.{output_number, in_port, edge_into}
+use Rattle.semantics.specs.Flow.{Flow, IsFlow, edge_flow}
+use Rattle.semantics.specs.Lower.{lowered}
+use Rattle.semantics.proofs.LoweredPrograms.{output_vertex, lowered_means}
+use Rattle.semantics.proofs.FittingPrograms.{IsFitting}
+use Rattle.semantics.proofs.MultisetSums.{≈-trans, ≈-from}
+use Rattle.semantics.proofs.TypedPrograms.{typed_fits}
+use Rattle.semantics.proofs.LoweredDataflow.{lowered_dataflow, output_is_last}
+use Rattle.semantics.proofs.LoweredLoops.{lowered_has_one_flow}
+use Rattle.semantics.proofs.EdgeNumbers.{into}
 use Rattle.machine.specs.World.{World, Passed}
 use Rattle.machine.specs.Step.{Step}
-use Rattle.machine.specs.Engine.{engine}
-use Rattle.machine.specs.Headline.{IsRunOf, IsRunOn, meant}
+use Rattle.machine.specs.Engine.{engine, IsRunOf, IsRunOn, meant}
 use Rattle.machine.proofs.Engine.{network_is}
 use Rattle.machine.proofs.Tracking.{kept}
 
 module _ (p : Program) (workers : ℕ) (steps : List Step) (w : World) (is : IsRunOf p workers steps w) where
-  fits : Fits p
+  fits : IsFitting p
   fits = typed_fits p is.arity is.typed
 
   pub run_on : IsRunOn (lowered p) workers steps w

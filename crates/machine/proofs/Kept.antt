@@ -2,48 +2,49 @@
 use Rattle.std.specs.Prelude.{◌≡◌, ◌≢◌, ◌<◌, ℕ, ◌+◌, Bool, true, false, cond, ◌==◌, List, [], ◌∷◌, ◌⊎◌}
 use Rattle.semantics.specs.Multiset.{total, Record, count, ◌≈◌, IsPartOf}
 use Rattle.semantics.specs.Time.{Time, same_time, at_epoch}
-use Rattle.semantics.specs.Place.{on_edge, at_vertex}
+use Rattle.semantics.specs.Could.{on_edge, at_vertex}
 use Rattle.machine.specs.Sums.{sum_below, each}
-use Rattle.machine.specs.Network.{Role, Network, ins}
-use Rattle.machine.specs.World.{Message, Request, Event, Hand, World, NoneBefore, NoOtherBefore, Passed, message_place, request_place}
+use Rattle.semantics.specs.Kinds.{Role}
+use Rattle.machine.specs.Network.{Network, ins}
+use Rattle.machine.specs.World.{Message, Request, Event, Held, World, NoneBefore, NoOtherBefore, Passed, message_pointstamp, request_pointstamp}
 use Rattle.machine.proofs.Laws.{AtHome}
 use Rattle.machine.proofs.NetFlow.{fed_at}
 
--- What the world doesn't tell: what each worker has processed, by edge and time, and which of its notices it has processed.
+-- What the world doesn't tell: what each worker has processed, by edge and time, and which of its notifications it has processed.
 pub record History : Type 0 where
   pub done : ℕ → ℕ → Time → List Record
   pub told : ℕ → ℕ → Time → Bool
 
--- how often a row is in a message, if that is on this edge at this time
+-- how often a record is in a message, if that is on this edge at this time
 abbrev pub carried : ℕ → Time → Record → Message → ℕ
 carried e t r m = cond (m.edge == e) (cond (same_time m.time t) (count r m.records) 0) 0
 
 abbrev pub carried_by : ℕ → Time → Record → Event → ℕ
 carried_by e t r (Event.arrival m) = carried e t r m
-carried_by e t r (Event.notice n) = 0
+carried_by e t r (Event.notification n) = 0
 
-abbrev pub in_hand : ℕ → Time → Record → Hand → ℕ
-in_hand e t r Hand.empty = 0
-in_hand e t r (Hand.holds up event) = carried_by e t r event
+abbrev pub in_hand : ℕ → Time → Record → Held → ℕ
+in_hand e t r Held.nothing = 0
+in_hand e t r (Held.holding up event) = carried_by e t r event
 
 -- under way to one worker
 abbrev pub under_way : World → ℕ → Time → Record → ℕ → ℕ
-under_way w e t r k = total (carried e t r) (w.mail k) + in_hand e t r (w.hand k)
+under_way w e t r k = total (carried e t r) (w.mail k) + in_hand e t r (w.held k)
 
--- one request or notice of this vertex and time
+-- one request or notification of this vertex and time
 abbrev pub wished : ℕ → Time → Request → ℕ
 wished v t n = cond (n.vertex == v) (cond (same_time n.time t) 1 0) 0
 
 abbrev pub wished_by : ℕ → Time → Event → ℕ
 wished_by v t (Event.arrival m) = 0
-wished_by v t (Event.notice n) = wished v t n
+wished_by v t (Event.notification n) = wished v t n
 
-abbrev pub wish_in_hand : ℕ → Time → Hand → ℕ
-wish_in_hand v t Hand.empty = 0
-wish_in_hand v t (Hand.holds up event) = wished_by v t event
+abbrev pub wish_in_hand : ℕ → Time → Held → ℕ
+wish_in_hand v t Held.nothing = 0
+wish_in_hand v t (Held.holding up event) = wished_by v t event
 
 abbrev pub wishes : World → ℕ → Time → ℕ → ℕ
-wishes w v t k = total (wished v t) (w.requests k) + wish_in_hand v t (w.hand k)
+wishes w v t k = total (wished v t) (w.requests k) + wish_in_hand v t (w.held k)
 
 -- 1 where there is something
 abbrev pub some : List Record → ℕ
@@ -59,48 +60,48 @@ abbrev pub made : Network → History → ℕ → ℕ → Time → Record → �
 made g h v q t r k = cond (h.told k v t) (count r (g.op v q t (ins g (h.done k) v t))) 0
 
 abbrev pub GoodMessage : Network → ℕ → Message → Type 0
-GoodMessage g k m = (m.edge < g.edges) × (0 < some m.records) × (g.role (g.target m.edge) ≡ Role.stateful ⊎ g.role (g.target m.edge) ≡ Role.grouping → AtHome g k m.edge m.records) × g.Fits (message_place m)
+GoodMessage g k m = (m.edge < g.edges) × (0 < some m.records) × (g.role (g.target m.edge) ≡ Role.stateful ⊎ g.role (g.target m.edge) ≡ Role.notified → AtHome g k m.edge m.records) × g.IsPointstamp (message_pointstamp m)
 
 abbrev pub GoodRequest : Network → Request → Type 0
-GoodRequest g n = (g.role n.vertex ≡ Role.grouping) × g.Fits (request_place n)
+GoodRequest g n = (g.role n.vertex ≡ Role.notified) × g.IsPointstamp (request_pointstamp n)
 
 abbrev pub GoodEvent : Network → ℕ → Event → Type 0
 GoodEvent g k (Event.arrival m) = GoodMessage g k m
-GoodEvent g k (Event.notice n) = GoodRequest g n
+GoodEvent g k (Event.notification n) = GoodRequest g n
 
-abbrev pub GoodHand : Network → ℕ → Hand → Type 0
-GoodHand g k Hand.empty = Unit {0}
-GoodHand g k (Hand.holds up event) = GoodEvent g k event
+abbrev pub GoodHand : Network → ℕ → Held → Type 0
+GoodHand g k Held.nothing = Unit {0}
+GoodHand g k (Held.holding up event) = GoodEvent g k event
 
--- the worker's notice was processed or is in its hand
+-- the worker's notification was processed, or the worker holds it
 abbrev pub Due : World → History → ℕ → ℕ → Time → Type 0
-Due w h k v t = h.told k v t ≡ true ⊎ 0 < wish_in_hand v t (w.hand k)
+Due w h k v t = h.told k v t ≡ true ⊎ 0 < wish_in_hand v t (w.held k)
 
 pub record Kept (g : Network) (w : World) (h : History) : Type 0 where
   -- what was sent on an edge was processed, or is under way
   pub balance : (e : ℕ) (t : Time) (r : Record) → e < g.edges → count r (w.sent e t) ≡ sum_below g.workers (λ k. count r (h.done k e t)) + sum_below g.workers (under_way w e t r)
   -- an input sent what was fed
-  pub from_input : (e : ℕ) (t : Time) → e < g.edges → g.role (g.source e) ≡ Role.source → (w.sent e t) ≈ (fed_at w.fed (g.source e) t)
+  pub from_input : (e : ℕ) (t : Time) → e < g.edges → g.role (g.source e) ≡ Role.input → (w.sent e t) ≈ (fed_at w.fed (g.source e) t)
   -- another vertex sent what its workers' parts have made
-  pub from_vertex : (e : ℕ) (u : Time) (r : Record) → e < g.edges → g.Fits (on_edge e u) → g.role (g.source e) ≢ Role.source →
+  pub from_vertex : (e : ℕ) (u : Time) (r : Record) → e < g.edges → g.IsPointstamp (on_edge e u) → g.role (g.source e) ≢ Role.input →
       count r (w.sent e u) ≡ total (λ t. sum_below g.workers (made g h (g.source e) (g.out_port e) t r)) (g.times_before (g.source e) u)
-  -- a group waits for its notice, exactly where it absorbed something and had none yet; all others are never told anything
-  pub notices : (k v : ℕ) (t : Time) → k < g.workers → g.role v ≡ Role.grouping → wishes w v t k + bit (h.told k v t) ≡ some (h.done k (g.edge_into v 0) t)
-  pub always_told : (k v : ℕ) (t : Time) → g.role v ≢ Role.grouping → h.told k v t ≡ true
-  -- no more comes to a group that has its notice
-  pub settled : (k v : ℕ) (t : Time) → k < g.workers → g.role v ≡ Role.grouping → Due w h k v t → NoOtherBefore g w (at_vertex v t)
-  pub at_home : (k e : ℕ) (t : Time) → k < g.workers → e < g.edges → g.role (g.target e) ≡ Role.stateful ⊎ g.role (g.target e) ≡ Role.grouping → AtHome g k e (h.done k e t)
+  -- a group waits for its notification, exactly where it absorbed something and had none yet; all others are never told anything
+  pub notices : (k v : ℕ) (t : Time) → k < g.workers → g.role v ≡ Role.notified → wishes w v t k + bit (h.told k v t) ≡ some (h.done k (g.edge_into v 0) t)
+  pub always_told : (k v : ℕ) (t : Time) → g.role v ≢ Role.notified → h.told k v t ≡ true
+  -- no more comes to a group that has its notification
+  pub settled : (k v : ℕ) (t : Time) → k < g.workers → g.role v ≡ Role.notified → Due w h k v t → NoOtherBefore g w (at_vertex v t)
+  pub at_home : (k e : ℕ) (t : Time) → k < g.workers → e < g.edges → g.role (g.target e) ≡ Role.stateful ⊎ g.role (g.target e) ≡ Role.notified → AtHome g k e (h.done k e t)
   pub good_mail : (k : ℕ) → k < g.workers → each (GoodMessage g k) (w.mail k)
   pub good_requests : (k : ℕ) → k < g.workers → each (GoodRequest g) (w.requests k)
-  pub good_hand : (k : ℕ) → k < g.workers → GoodHand g k (w.hand k)
+  pub good_hand : (k : ℕ) → k < g.workers → GoodHand g k (w.held k)
   -- what the shards hold is what was processed
-  pub shards : (k v p : ℕ) (t : Time) → k < g.workers → p < g.ports v → g.role v ≡ Role.stateful ⊎ g.role v ≡ Role.grouping → w.absorbed k v p t ≡ h.done k (g.edge_into v p) t
+  pub shards : (k v p : ℕ) (t : Time) → k < g.workers → p < g.ports v → g.role v ≡ Role.stateful ⊎ g.role v ≡ Role.notified → w.absorbed k v p t ≡ h.done k (g.edge_into v p) t
   -- what was emitted is what the output processed
   pub output : (n : ℕ) (r : Record) → count r (w.emitted n) ≡ sum_below g.workers (λ k. count r (h.done k (g.edge_into g.output 0) (at_epoch n)))
 
 -- the headline's parts, at a world whose inputs' records have this flow
 pub record Headline (g : Network) (w : World) (flow : ℕ → Time → List Record) : Type 0 where
-  pub part : (e : ℕ) (t : Time) → e < g.edges → g.Fits (on_edge e t) → IsPartOf (w.sent e t) (flow e t)
-  pub whole : (e : ℕ) (t : Time) → e < g.edges → g.Fits (on_edge e t) → NoneBefore g w (on_edge e t) → (w.sent e t) ≈ (flow e t)
+  pub part : (e : ℕ) (t : Time) → e < g.edges → g.IsPointstamp (on_edge e t) → IsPartOf (w.sent e t) (flow e t)
+  pub whole : (e : ℕ) (t : Time) → e < g.edges → g.IsPointstamp (on_edge e t) → NoneBefore g w (on_edge e t) → (w.sent e t) ≈ (flow e t)
   pub emitted_part : (n : ℕ) → IsPartOf (w.emitted n) (flow (g.edge_into g.output 0) (at_epoch n))
   pub emitted_whole : (n : ℕ) → Passed g w n → (w.emitted n) ≈ (flow (g.edge_into g.output 0) (at_epoch n))

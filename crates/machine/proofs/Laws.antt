@@ -3,9 +3,10 @@ use Rattle.std.specs.Prelude.{◌≡◌, ◌≢◌, ◌<◌, ℕ, ◌+◌, cond,
 use mathlib.Core.WellFounded.{Acc}
 use Rattle.semantics.specs.Multiset.{total, Record, count, end_to_end, ◌≈◌, IsPartOf}
 use Rattle.semantics.specs.Time.{Time, same_time, at_epoch}
-use Rattle.semantics.specs.Place.{Place, on_edge, at_vertex}
+use Rattle.semantics.specs.Could.{Pointstamp, on_edge, at_vertex}
 use Rattle.machine.specs.Sums.{sum_below}
-use Rattle.machine.specs.Network.{Role, Network}
+use Rattle.semantics.specs.Kinds.{Role}
+use Rattle.machine.specs.Network.{Network}
 
 -- t is in the list exactly once
 abbrev pub times_in : Time → List Time → ℕ
@@ -23,8 +24,8 @@ AtHome g k e records = (r : Record) → 0 < count r records → (sender : ℕ) �
 abbrev pub CutByKey : Network → ℕ → (ℕ → ℕ → List Record) → Type 0
 CutByKey g v part = (k p : ℕ) → k < g.workers → p < g.ports v → AtHome g k (g.edge_into v p) (part k p)
 
--- another place, that could result in q
-abbrev pub Lower : Network → Place → Place → Type 0
+-- another pointstamp, that could result in q
+abbrev pub Lower : Network → Pointstamp → Pointstamp → Type 0
 Lower g p q = g.Could p q × (p ≢ q)
 
 pub record IsNetwork (g : Network) : Type 0 where
@@ -34,44 +35,44 @@ pub record IsNetwork (g : Network) : Type 0 where
   pub into_is_edge : (v p : ℕ) → p < g.ports v → g.edge_into v p < g.edges
   pub target_into : (v p : ℕ) → p < g.ports v → g.target (g.edge_into v p) ≡ v
   pub port_into : (v p : ℕ) → p < g.ports v → g.in_port (g.edge_into v p) ≡ p
-  pub no_source_target : (e : ℕ) → e < g.edges → g.role (g.target e) ≢ Role.source
-  pub no_sink_source : (e : ℕ) → e < g.edges → g.role (g.source e) ≢ Role.sink
-  pub one_port : (v : ℕ) → g.role v ≡ Role.grouping → g.ports v ≡ 1
+  pub no_source_target : (e : ℕ) → e < g.edges → g.role (g.target e) ≢ Role.input
+  pub no_sink_source : (e : ℕ) → e < g.edges → g.role (g.source e) ≢ Role.output
+  pub one_port : (v : ℕ) → g.role v ≡ Role.notified → g.ports v ≡ 1
   pub output_port : g.ports g.output ≡ 1
-  pub only_output : (e : ℕ) → e < g.edges → g.role (g.target e) ≡ Role.sink → g.target e ≡ g.output
-  pub output_sink : g.role g.output ≡ Role.sink
-  pub input_is_source : (i : ℕ) → i < g.inputs → g.role i ≡ Role.source
-  pub source_is_input : (i : ℕ) → g.role i ≡ Role.source → i < g.inputs
+  pub only_output : (e : ℕ) → e < g.edges → g.role (g.target e) ≡ Role.output → g.target e ≡ g.output
+  pub output_sink : g.role g.output ≡ Role.output
+  pub input_is_source : (i : ℕ) → i < g.inputs → g.role i ≡ Role.input
+  pub source_is_input : (i : ℕ) → g.role i ≡ Role.input → i < g.inputs
   pub has_worker : 0 < g.workers
   pub routed : (k e : ℕ) (r : Record) → k < g.workers → g.home k e r < g.workers
-  -- a row goes by key alone, where the vertex has keys
-  pub by_key : (k j e : ℕ) (r : Record) → (g.role (g.target e) ≡ Role.stateful) ⊎ (g.role (g.target e) ≡ Role.grouping) → g.home k e r ≡ g.home j e r
-  pub source_act : (v : ℕ) (t : Time) → g.role v ≡ Role.source → g.act v t ≡ t
+  -- a record goes by key alone, where the vertex has keys
+  pub by_key : (k j e : ℕ) (r : Record) → (g.role (g.target e) ≡ Role.stateful) ⊎ (g.role (g.target e) ≡ Role.notified) → g.home k e r ≡ g.home j e r
+  pub source_act : (v : ℕ) (t : Time) → g.role v ≡ Role.input → g.act v t ≡ t
   -- each time is once among those that its action's value comes from, or never
   pub before_once : (v : ℕ) (t u : Time) → times_in t (g.times_before v u) ≡ 0 ⊎ times_in t (g.times_before v u) ≡ 1
-  pub before_acts : (e : ℕ) (t u : Time) → e < g.edges → g.Fits (on_edge e u) → 0 < times_in t (g.times_before (g.source e) u) → g.act (g.source e) t ≡ u
+  pub before_acts : (e : ℕ) (t u : Time) → e < g.edges → g.IsPointstamp (on_edge e u) → 0 < times_in t (g.times_before (g.source e) u) → g.act (g.source e) t ≡ u
   -- op is of multisets, below its ports
   pub op_same : (v q : ℕ) (t : Time) (a b : ℕ → List Record) → ((p : ℕ) → p < g.ports v → (a p) ≈ (b p)) → (g.op v q t a) ≈ (g.op v q t b)
   -- nothing in gives nothing out
   pub op_nothing : (v q : ℕ) (t : Time) (a : ℕ → List Record) → ((p : ℕ) → p < g.ports v → a p ≡ []) → g.op v q t a ≡ []
   -- parts without a common key, or of a vertex without keys
   pub op_stateless : (v q : ℕ) (t : Time) (part : ℕ → ℕ → List Record) (n : ℕ) → g.role v ≡ Role.stateless → (r : Record) → count r (g.op v q t (λ p. end_to_end (λ k. part k p) n)) ≡ sum_below n (λ k. count r (g.op v q t (part k)))
-  pub op_cut : (v q : ℕ) (t : Time) (part : ℕ → ℕ → List Record) → g.role v ≡ Role.stateful ⊎ g.role v ≡ Role.grouping → CutByKey g v part → (r : Record) → count r (g.op v q t (all_parts g part)) ≡ sum_below g.workers (λ k. count r (g.op v q t (part k)))
+  pub op_cut : (v q : ℕ) (t : Time) (part : ℕ → ℕ → List Record) → g.role v ≡ Role.stateful ⊎ g.role v ≡ Role.notified → CutByKey g v part → (r : Record) → count r (g.op v q t (all_parts g part)) ≡ sum_below g.workers (λ k. count r (g.op v q t (part k)))
   -- more in gives more out
-  pub op_more : (v q : ℕ) (t : Time) (a b : ℕ → List Record) → g.role v ≢ Role.grouping → ((p : ℕ) → p < g.ports v → IsPartOf (a p) (b p)) → IsPartOf (g.op v q t a) (g.op v q t b)
+  pub op_more : (v q : ℕ) (t : Time) (a b : ℕ → List Record) → g.role v ≢ Role.notified → ((p : ℕ) → p < g.ports v → IsPartOf (a p) (b p)) → IsPartOf (g.op v q t a) (g.op v q t b)
   -- depths
-  pub fits_enter : (e : ℕ) (t : Time) → e < g.edges → g.Fits (on_edge e t) → g.Fits (at_vertex (g.target e) t)
-  pub fits_into : (v p : ℕ) (t : Time) → p < g.ports v → g.Fits (at_vertex v t) → g.Fits (on_edge (g.edge_into v p) t)
-  pub fits_leave : (e : ℕ) (t : Time) → e < g.edges → g.Fits (at_vertex (g.source e) t) → g.Fits (on_edge e (g.act (g.source e) t))
-  pub fits_back : (e : ℕ) (t u : Time) → e < g.edges → g.Fits (on_edge e u) → 0 < times_in t (g.times_before (g.source e) u) → g.Fits (at_vertex (g.source e) t)
-  pub fits_source : (v n : ℕ) → g.role v ≡ Role.source → g.Fits (at_vertex v (at_epoch n))
-  pub fits_output : (n : ℕ) → g.Fits (at_vertex g.output (at_epoch n))
+  pub fits_enter : (e : ℕ) (t : Time) → e < g.edges → g.IsPointstamp (on_edge e t) → g.IsPointstamp (at_vertex (g.target e) t)
+  pub fits_into : (v p : ℕ) (t : Time) → p < g.ports v → g.IsPointstamp (at_vertex v t) → g.IsPointstamp (on_edge (g.edge_into v p) t)
+  pub fits_leave : (e : ℕ) (t : Time) → e < g.edges → g.IsPointstamp (at_vertex (g.source e) t) → g.IsPointstamp (on_edge e (g.act (g.source e) t))
+  pub fits_back : (e : ℕ) (t u : Time) → e < g.edges → g.IsPointstamp (on_edge e u) → 0 < times_in t (g.times_before (g.source e) u) → g.IsPointstamp (at_vertex (g.source e) t)
+  pub fits_source : (v n : ℕ) → g.role v ≡ Role.input → g.IsPointstamp (at_vertex v (at_epoch n))
+  pub fits_output : (n : ℕ) → g.IsPointstamp (at_vertex g.output (at_epoch n))
   -- could result in
-  pub could_self : (p : Place) → g.Fits p → g.Could p p
-  pub could_on : (p q s : Place) → g.Could p q → g.Could q s → g.Could p s
-  pub could_fits : (p q : Place) → g.Could p q → g.Fits q
-  pub could_enter : (e : ℕ) (t : Time) → e < g.edges → g.Fits (on_edge e t) → g.Could (on_edge e t) (at_vertex (g.target e) t)
-  pub could_leave : (e : ℕ) (t : Time) → e < g.edges → g.Fits (at_vertex (g.source e) t) → g.Could (at_vertex (g.source e) t) (on_edge e (g.act (g.source e) t))
-  pub could_later : (v n : ℕ) → g.role v ≡ Role.source → g.Could (at_vertex v (at_epoch n)) (at_vertex v (at_epoch (n + 1)))
+  pub could_self : (p : Pointstamp) → g.IsPointstamp p → g.Could p p
+  pub could_on : (p q s : Pointstamp) → g.Could p q → g.Could q s → g.Could p s
+  pub could_fits : (p q : Pointstamp) → g.Could p q → g.IsPointstamp q
+  pub could_enter : (e : ℕ) (t : Time) → e < g.edges → g.IsPointstamp (on_edge e t) → g.Could (on_edge e t) (at_vertex (g.target e) t)
+  pub could_leave : (e : ℕ) (t : Time) → e < g.edges → g.IsPointstamp (at_vertex (g.source e) t) → g.Could (at_vertex (g.source e) t) (on_edge e (g.act (g.source e) t))
+  pub could_later : (v n : ℕ) → g.role v ≡ Role.input → g.Could (at_vertex v (at_epoch n)) (at_vertex v (at_epoch (n + 1)))
   -- there is no descent without end
-  pub founded : (p : Place) → Acc (Lower g) p
+  pub founded : (p : Pointstamp) → Acc (Lower g) p

@@ -1,10 +1,10 @@
--- Times, places and kinds.
+-- Times, pointstamps and kinds.
 use Rattle.std.proofs.Common.{◌≡◌, ◌≢◌, ◌≤◌, ◌<◌, ℕ, zero, suc, ◌+◌, ◌*◌, Bool, true, false, eqb, List, [], ◌∷◌, ◌⊎◌, inl, inr, refl, sym, ap, ◌∙◌, arith, slice_get, Some}
 use Rattle.std.proofs.lemmas.Bool.Decides.{eqb_tells}
 use Rattle.semantics.specs.Multiset.{total}
-use Rattle.semantics.specs.Place.{Place, on_edge, at_vertex, Location}
+use Rattle.semantics.specs.Could.{Pointstamp, on_edge, at_vertex, Location}
 use Rattle.semantics.specs.Time.{Time, same_counters, same_time}
-use Rattle.machine.specs.Network.{Role}
+use Rattle.semantics.specs.Kinds.{Role}
 use Rattle.machine.proofs.Counting.{same_list_tells, same_list_self, eqb_self}
 use Rattle.machine.proofs.Laws.{times_in}
 
@@ -47,30 +47,30 @@ total_times_changed (u ∷ ts) t f f' h = go (same_time_tells t u) (total_times_
     go (inl (a, b)) ih = let p : f u ≡ f t = ap f (sym b) in let q : f' u ≡ f' t = ap f' (sym b) in rw a (grind arith)
     go (inr (a, b)) ih = let p : f' u ≡ f u = h u (λ e. b (sym e)) in rw a (grind arith)
 
-pub is_source : (k : Role) → (k ≡ Role.source) ⊎ (k ≢ Role.source)
-is_source Role.source = inl refl
+pub is_source : (k : Role) → (k ≡ Role.input) ⊎ (k ≢ Role.input)
+is_source Role.input = inl refl
 is_source Role.stateless = inr (λ e. cc)
 is_source Role.stateful = inr (λ e. cc)
-is_source Role.grouping = inr (λ e. cc)
-is_source Role.sink = inr (λ e. cc)
+is_source Role.notified = inr (λ e. cc)
+is_source Role.output = inr (λ e. cc)
 
-pub is_grouping : (k : Role) → (k ≡ Role.grouping) ⊎ (k ≢ Role.grouping)
-is_grouping Role.source = inr (λ e. cc)
+pub is_grouping : (k : Role) → (k ≡ Role.notified) ⊎ (k ≢ Role.notified)
+is_grouping Role.input = inr (λ e. cc)
 is_grouping Role.stateless = inr (λ e. cc)
 is_grouping Role.stateful = inr (λ e. cc)
-is_grouping Role.grouping = inl refl
-is_grouping Role.sink = inr (λ e. cc)
+is_grouping Role.notified = inl refl
+is_grouping Role.output = inr (λ e. cc)
 
 -- a kind that is neither source nor sink
-pub inner_kind : (k : Role) → k ≢ Role.source → k ≢ Role.sink → (k ≡ Role.stateless) ⊎ ((k ≡ Role.stateful) ⊎ (k ≡ Role.grouping))
-inner_kind Role.source a b = absurd (a refl)
+pub inner_kind : (k : Role) → k ≢ Role.input → k ≢ Role.output → (k ≡ Role.stateless) ⊎ ((k ≡ Role.stateful) ⊎ (k ≡ Role.notified))
+inner_kind Role.input a b = absurd (a refl)
 inner_kind Role.stateless a b = inl refl
 inner_kind Role.stateful a b = inr (inl refl)
-inner_kind Role.grouping a b = inr (inr refl)
-inner_kind Role.sink a b = absurd (b refl)
+inner_kind Role.notified a b = inr (inr refl)
+inner_kind Role.output a b = absurd (b refl)
 
 pub edge_not_vertex : (e v : ℕ) (t u : Time) → on_edge e t ≢ at_vertex v u
-edge_not_vertex e v t u h = let l : Location.edge e ≡ Location.vertex v = ap (λ (p : Place). p.location) h in absurd cc
+edge_not_vertex e v t u h = let l : Location.edge e ≡ Location.vertex v = ap (λ (p : Pointstamp). p.location) h in absurd cc
 
 -- one of the numbers below n passes, or none does
 pub some_below : (n : ℕ) (f : ℕ → Bool) → ((k : ℕ) × (k < n) × (f k ≡ true)) ⊎ ((k : ℕ) → k < n → f k ≡ false)
@@ -86,7 +86,7 @@ some_below (suc n) f = go (f n) refl (some_below n f)
         at k l (inl (a, b)) = ap f b ∙ e
         at k l (inr (a, b)) = none k (omega arith)
 
--- two places are the same or not
+-- two pointstamps are the same or not
 pub location_same : (l m : Location) → (l ≡ m) ⊎ (l ≢ m)
 location_same (Location.edge e) (Location.edge f) = go (eqb_tells e f)
   where
@@ -101,10 +101,10 @@ location_same (Location.vertex v) (Location.vertex u) = go (eqb_tells v u)
     go (inl (a, b)) = inl (ap Location.vertex b)
     go (inr (a, b)) = inr (λ h. b cc)
 
-pub place_same : (p q : Place) → (p ≡ q) ⊎ (p ≢ q)
+pub place_same : (p q : Pointstamp) → (p ≡ q) ⊎ (p ≢ q)
 place_same p q = go (same_time_tells p.time q.time) (location_same p.location q.location)
   where
     go : ((same_time p.time q.time ≡ true) × (p.time ≡ q.time)) ⊎ ((same_time p.time q.time ≡ false) × (p.time ≢ q.time)) → (p.location ≡ q.location) ⊎ (p.location ≢ q.location) → (p ≡ q) ⊎ (p ≢ q)
     go (inl (a, b)) (inl c) = inl (λ i. record { time = b i; location = c i })
-    go (inl (a, b)) (inr c) = inr (λ h. c (ap (λ (x : Place). x.location) h))
-    go (inr (a, b)) s = inr (λ h. b (ap (λ (x : Place). x.time) h))
+    go (inl (a, b)) (inr c) = inr (λ h. c (ap (λ (x : Pointstamp). x.location) h))
+    go (inr (a, b)) s = inr (λ h. b (ap (λ (x : Pointstamp). x.time) h))

@@ -2,9 +2,10 @@
 use Rattle.std.proofs.Common.{◌≡◌, ◌≢◌, ◌<◌, ℕ, ◌+◌, Bool, true, false, cond, List, [], ◌∷◌, ◌++◌, ◌⊎◌, inl, inr, refl, sym, ap, ◌∙◌, subst, arith}
 use Rattle.semantics.specs.Multiset.{total, Record, count}
 use Rattle.semantics.specs.Time.{Time, same_counters}
-use Rattle.machine.specs.Network.{Role, Network}
-use Rattle.machine.specs.Run.{Run, Reached}
-use Rattle.machine.specs.Step.{Step, Allowed, after}
+use Rattle.semantics.specs.Kinds.{Role}
+use Rattle.machine.specs.Network.{Network}
+use Rattle.machine.specs.Engine.{Run, Reached}
+use Rattle.machine.specs.Step.{Step, Allowed, after_step}
 use Rattle.machine.specs.Sums.{sum_below}
 use Rattle.machine.specs.World.{Event, World, opening}
 use Rattle.machine.proofs.Arrivals.{history_done, keep_arrival}
@@ -13,27 +14,27 @@ use Rattle.machine.proofs.Derived.{headline}
 use Rattle.machine.proofs.Kept.{History, under_way, bit, made, Kept}
 use Rattle.machine.proofs.Laws.{IsNetwork}
 use Rattle.machine.proofs.NetFlow.{HasFlows}
-use Rattle.machine.proofs.Notices.{history_told, keep_notice}
+use Rattle.machine.proofs.Notifications.{history_told, keep_notice}
 use Rattle.machine.proofs.Progress.{passed_stays}
 use Rattle.machine.proofs.Steps.{good_of, keep_feed, keep_seal, keep_close, keep_claim_message, keep_claim_request, keep_abandon}
-use Rattle.machine.proofs.Theorem.{EveryRunKeeps, PassedStays}
+use Rattle.machine.proofs.RunTheorems.{EveryRunKeeps, PassedStays}
 
 pub not_group : Role → Bool
-not_group Role.source = true
+not_group Role.input = true
 not_group Role.stateless = true
 not_group Role.stateful = true
-not_group Role.grouping = false
-not_group Role.sink = true
+not_group Role.notified = false
+not_group Role.output = true
 
-is_told : (k : Role) → k ≢ Role.grouping → not_group k ≡ true
+is_told : (k : Role) → k ≢ Role.notified → not_group k ≡ true
 unfolding not_group
-is_told Role.source s = refl
+is_told Role.input s = refl
 is_told Role.stateless s = refl
 is_told Role.stateful s = refl
-is_told Role.grouping s = absurd (s refl)
-is_told Role.sink s = refl
+is_told Role.notified s = absurd (s refl)
+is_told Role.output s = refl
 
-is_untold : (k : Role) → k ≡ Role.grouping → not_group k ≡ false
+is_untold : (k : Role) → k ≡ Role.notified → not_group k ≡ false
 unfolding not_group
 is_untold k e = ap not_group e
 
@@ -75,25 +76,25 @@ keep_opening g law =
     nothing true r = refl
     nothing false r = refl
 
-    not_due : (v : ℕ) → g.role v ≡ Role.grouping → (not_group (g.role v) ≡ true) ⊎ (0 < 0) → ⊥
+    not_due : (v : ℕ) → g.role v ≡ Role.notified → (not_group (g.role v) ≡ true) ⊎ (0 < 0) → ⊥
     not_due v s (inl e) = let x : false ≡ true = sym (is_untold (g.role v) s) ∙ e in absurd cc
     not_due v s (inr l) = omega arith
 
-pub keep_step : (g : Network) → IsNetwork g → HasFlows g → (w : World) (h : History) → Kept g w h → (step : Step) → Allowed g w step → (h' : History) × Kept g (after g w step) h'
+pub keep_step : (g : Network) → IsNetwork g → HasFlows g → (w : World) (h : History) → Kept g w h → (step : Step) → Allowed g w step → (h' : History) × Kept g (after_step g w step) h'
 keep_step g law flows w h keeps (Step.feed i r) ok = (h, keep_feed g law w h keeps i r ok)
 keep_step g law flows w h keeps (Step.seal i) ok = (h, keep_seal g law w h keeps i ok)
 keep_step g law flows w h keeps (Step.close i) ok = (h, keep_close g law w h keeps i ok)
 keep_step g law flows w h keeps (Step.claim_message k at m) ok = (h, keep_claim_message g law w h keeps k at m ok)
 keep_step g law flows w h keeps (Step.claim_request k at n) ok = (h, keep_claim_request g law w h keeps k at n ok)
 keep_step g law flows w h keeps (Step.commit k (Event.arrival m) out) ok = (history_done h k m, keep_arrival g law w h keeps flows k m out ok)
-keep_step g law flows w h keeps (Step.commit k (Event.notice n) out) ok = (history_told h k n, keep_notice g law w h keeps flows k n out ok)
+keep_step g law flows w h keeps (Step.commit k (Event.notification n) out) ok = (history_told h k n, keep_notice g law w h keeps flows k n out ok)
 keep_step g law flows w h keeps (Step.abandon k event) ok = (h, keep_abandon g law w h keeps k event ok)
 
 keep_run : (g : Network) → IsNetwork g → HasFlows g → (steps : List Step) (w w' : World) (h : History) → Kept g w h → Run g w steps w' → (h' : History) × Kept g w' h'
 keep_run g law flows [] w w' h keeps run = (h, subst (λ (x : World). Kept g x h) run keeps)
 keep_run g law flows (step ∷ steps) w w' h keeps run =
     let next = keep_step g law flows w h keeps step run.0 in
-    keep_run g law flows steps (after g w step) w' next.0 next.1 run.1
+    keep_run g law flows steps (after_step g w step) w' next.0 next.1 run.1
 
 pub keep_reached : (g : Network) → IsNetwork g → HasFlows g → (w : World) → Reached g w → (h : History) × Kept g w h
 keep_reached g law flows w reached = keep_run g law flows reached.0 opening w (start g) (keep_opening g law) reached.1
@@ -104,12 +105,12 @@ every_run_keeps g law flows w reached flow is = let k = keep_reached g law flows
 pub passed_stays_on : PassedStays
 passed_stays_on g law flows w reached step ok n = let k = keep_reached g law flows w reached in passed_stays g law w (good_of g law w k.0 k.1) step ok n
 
-run_more : (g : Network) (steps : List Step) (w w' : World) (step : Step) → Run g w steps w' → Allowed g w' step → Run g w (steps ++ step ∷ []) (after g w' step)
-run_more g [] w w' step run ok = (subst (λ (x : World). Allowed g x step) (sym run) ok, ap (λ x. after g x step) run)
-run_more g (s ∷ steps) w w' step run ok = (run.0, run_more g steps (after g w s) w' step run.1 ok)
+run_more : (g : Network) (steps : List Step) (w w' : World) (step : Step) → Run g w steps w' → Allowed g w' step → Run g w (steps ++ step ∷ []) (after_step g w' step)
+run_more g [] w w' step run ok = (subst (λ (x : World). Allowed g x step) (sym run) ok, ap (λ x. after_step g x step) run)
+run_more g (s ∷ steps) w w' step run ok = (run.0, run_more g steps (after_step g w s) w' step run.1 ok)
 
 -- a run goes on by a step
-pub reached_more : (g : Network) (w : World) (step : Step) → Reached g w → Allowed g w step → Reached g (after g w step)
+pub reached_more : (g : Network) (w : World) (step : Step) → Reached g w → Allowed g w step → Reached g (after_step g w step)
 reached_more g w step reached ok = (reached.0 ++ step ∷ [], run_more g reached.0 opening w step reached.1 ok)
 
 pub reached_opening : (g : Network) → Reached g opening

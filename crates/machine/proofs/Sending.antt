@@ -2,13 +2,14 @@
 use Rattle.std.proofs.Common.{◌≡◌, ◌≢◌, ◌≤◌, ◌<◌, ℕ, zero, suc, ◌+◌, Bool, true, false, cond, ◌==◌, eqb, List, [], ◌∷◌, ◌++◌, ◌⊎◌, inl, inr, refl, sym, ap, ◌∙◌, subst, arith, slice_get, remove, Some, filter}
 use Rattle.std.proofs.lemmas.Bool.Decides.{eqb_tells}
 use Rattle.semantics.specs.Multiset.{total, same, Record, count}
-use Rattle.semantics.specs.Place.{on_edge, at_vertex}
+use Rattle.semantics.specs.Could.{on_edge, at_vertex}
 use Rattle.semantics.specs.Time.{Time, same_time, at_epoch}
-use Rattle.machine.specs.Network.{Role, Network}
+use Rattle.semantics.specs.Kinds.{Role}
+use Rattle.machine.specs.Network.{Network}
 use Rattle.machine.specs.Step.{as_message, parcels}
 use Rattle.machine.specs.Sums.{sum_below, each}
 use Rattle.machine.specs.World.{Message}
-use Rattle.semantics.proofs.BagLaws.{total-append}
+use Rattle.semantics.proofs.MultisetSums.{total-append}
 use Rattle.machine.proofs.Counting.{same_tells, eqb_self, below_same, below_zero, below_changed}
 use Rattle.machine.proofs.Kept.{carried, some, GoodMessage}
 use Rattle.machine.proofs.Laws.{IsNetwork}
@@ -42,7 +43,7 @@ below_cond n h c l =
     other j ne (inl (a, b)) = absurd (ne b)
     other j ne (inr (a, b)) = rw a refl
 
--- every row goes to one worker
+-- every record goes to one worker
 pub below_kept : (n : ℕ) (home : Record → ℕ) (r : Record) (xs : List Record) → home r < n → sum_below n (λ k. count r (filter (λ x. home x == k) xs)) ≡ count r xs
 below_kept n home r xs l =
     below_same n _ _ (λ k lk. count-filter (λ x. home x == k) r xs) ∙ below_cond n (home r) (count r xs) l
@@ -153,13 +154,13 @@ eqb_is a b e = go (eqb_tells a b)
     go (inl s) = s.1
     go (inr s) = absurd (let z : true ≡ false = sym e ∙ s.0 in cc)
 
-as_message_parcel : (g : Network) (law : IsNetwork g) (sender v : ℕ) (u : Time) (to e : ℕ) (records : List Record) → e < g.edges → g.source e ≡ v → g.Fits (on_edge e u) →
+as_message_parcel : (g : Network) (law : IsNetwork g) (sender v : ℕ) (u : Time) (to e : ℕ) (records : List Record) → e < g.edges → g.source e ≡ v → g.IsPointstamp (on_edge e u) →
     ((r : Record) → 0 < count r records → g.home sender e r ≡ to) → each (Parcel g v u to) (as_message e u records)
 as_message_parcel g law sender v u to e [] le s fits home = tt
 as_message_parcel g law sender v u to e (x ∷ xs) le s fits home =
     (record { good = (le, omega arith, λ keyed r some other. law.by_key other sender e r keyed ∙ home r some, fits); from = s; when = refl }, tt)
 
-pub parcels_good : (g : Network) (law : IsNetwork g) (sender v : ℕ) (u : Time) (out : ℕ → List Record) (to n : ℕ) → ((e : ℕ) → e < g.edges → g.source e ≡ v → g.Fits (on_edge e u)) → n ≤ g.edges → each (Parcel g v u to) (parcels g sender v u out to n)
+pub parcels_good : (g : Network) (law : IsNetwork g) (sender v : ℕ) (u : Time) (out : ℕ → List Record) (to n : ℕ) → ((e : ℕ) → e < g.edges → g.source e ≡ v → g.IsPointstamp (on_edge e u)) → n ≤ g.edges → each (Parcel g v u to) (parcels g sender v u out to n)
 parcels_good g law sender v u out to zero fits l = tt
 parcels_good g law sender v u out to (suc n) fits l =
     each-append (Parcel g v u to) (parcels g sender v u out to n) _ (parcels_good g law sender v u out to n fits (omega arith)) (go (eqb_tells (g.source n) v))
@@ -173,8 +174,8 @@ parcels_good g law sender v u out to (suc n) fits l =
     go (inr (a, b)) = rw a tt
 
 -- what a vertex sends fits, where its time does
-pub fits_sent : (g : Network) (law : IsNetwork g) (v : ℕ) (t : Time) → g.Fits (at_vertex v t) → (e : ℕ) → e < g.edges → g.source e ≡ v → g.Fits (on_edge e (g.act v t))
-fits_sent g law v t fits e le s = subst (λ (x : ℕ). g.Fits (on_edge e (g.act x t))) s (law.fits_leave e t le (subst (λ (x : ℕ). g.Fits (at_vertex x t)) (sym s) fits))
+pub fits_sent : (g : Network) (law : IsNetwork g) (v : ℕ) (t : Time) → g.IsPointstamp (at_vertex v t) → (e : ℕ) → e < g.edges → g.source e ≡ v → g.IsPointstamp (on_edge e (g.act v t))
+fits_sent g law v t fits e le s = subst (λ (x : ℕ). g.IsPointstamp (on_edge e (g.act x t))) s (law.fits_leave e t le (subst (λ (x : ℕ). g.IsPointstamp (at_vertex x t)) (sym s) fits))
 
-pub fits_fed : (g : Network) (law : IsNetwork g) (i n : ℕ) → g.role i ≡ Role.source → (e : ℕ) → e < g.edges → g.source e ≡ i → g.Fits (on_edge e (at_epoch n))
-fits_fed g law i n s e le is = subst (λ (x : Time). g.Fits (on_edge e x)) (law.source_act i (at_epoch n) s) (fits_sent g law i (at_epoch n) (law.fits_source i n s) e le is)
+pub fits_fed : (g : Network) (law : IsNetwork g) (i n : ℕ) → g.role i ≡ Role.input → (e : ℕ) → e < g.edges → g.source e ≡ i → g.IsPointstamp (on_edge e (at_epoch n))
+fits_fed g law i n s e le is = subst (λ (x : Time). g.IsPointstamp (on_edge e x)) (law.source_act i (at_epoch n) s) (fits_sent g law i (at_epoch n) (law.fits_source i n s) e le is)

@@ -1,17 +1,14 @@
--- What a tracker and a view of the active places may rest on, for the graph of a program.
+-- What a tracker and a view of the active pointstamps may rest on, for the graph of a program.
 use Rattle.std.proofs.Common.{◌≡◌, ◌<◌, ◌+◌, ◌↔◌, ℕ, Bool, List}
 use Rattle.semantics.specs.Multiset.{◌≈◌, IsPartOf}
 use Rattle.semantics.specs.Time.{Time}
-use Rattle.semantics.specs.Graph.{Graph}
-use Rattle.semantics.specs.Flow.{Flow, IsFlow}
-use Rattle.semantics.specs.Place.{Place, Location, on_edge}
-use Rattle.semantics.specs.Edges.{edge_count, edge_flow}
-use Rattle.semantics.specs.Could.{Fits}
+use Rattle.semantics.specs.Graph.{Graph, edge_count}
+use Rattle.semantics.specs.Flow.{Flow, IsFlow, edge_flow}
+use Rattle.semantics.specs.Could.{Pointstamp, Location, on_edge, IsTimeAt}
 use Rattle.semantics.specs.Dataflow.{IsDataflow}
 use Rattle.machine.specs.World.{World, IsActive, NoneBefore, NoOtherBefore, Passed}
-use Rattle.machine.specs.Step.{Step, Allowed, after}
-use Rattle.machine.specs.Engine.{network}
-use Rattle.machine.specs.Headline.{IsRunOn}
+use Rattle.machine.specs.Step.{Step, Allowed, after_step}
+use Rattle.machine.specs.Engine.{network, IsRunOn}
 use Rattle.machine.specs.Active.{active_count, step_adds, step_removes}
 use Rattle.machine.specs.Views.{AppliesInOrder, SeesNoneBefore, SeesNoOtherBefore}
 use Rattle.machine.proofs.Laws.{IsNetwork}
@@ -23,12 +20,12 @@ use Rattle.machine.proofs.Runs.{keep_reached, every_run_keeps, passed_stays_on}
 use Rattle.machine.proofs.Logs.{view_sound}
 
 module _ (g : Graph) (flows : IsDataflow g) (workers : ℕ) (some : 0 < workers) where
-  pub active_counts : (w : World) (place : Place) → IsActive (network g workers) w place ↔ (0 < active_count (network g workers) w place)
-  active_counts w place = (counted (network g workers) (network_is g flows workers some) w place, active (network g workers) (network_is g flows workers some) w place)
+  pub active_counts : (w : World) (pointstamp : Pointstamp) → IsActive (network g workers) w pointstamp ↔ (0 < active_count (network g workers) w pointstamp)
+  active_counts w pointstamp = (counted (network g workers) (network_is g flows workers some) w pointstamp, active (network g workers) (network_is g flows workers some) w pointstamp)
 
-  pub count_after : (w : World) (step : Step) → Allowed (network g workers) w step → (place : Place)
-      → active_count (network g workers) (after (network g workers) w step) place + step_removes (network g workers) w step place ≡ active_count (network g workers) w place + step_adds (network g workers) w step place
-  count_after w step ok place = count_step (network g workers) (network_is g flows workers some) w step ok place
+  pub count_after : (w : World) (step : Step) → Allowed (network g workers) w step → (pointstamp : Pointstamp)
+      → active_count (network g workers) (after_step (network g workers) w step) pointstamp + step_removes (network g workers) w step pointstamp ≡ active_count (network g workers) w pointstamp + step_adds (network g workers) w step pointstamp
+  count_after w step ok pointstamp = count_step (network g workers) (network_is g flows workers some) w step ok pointstamp
 
 module _ (g : Graph) (workers : ℕ) (steps : List Step) (w : World) (is : IsRunOn g workers steps w) where
   laws : IsNetwork (network g workers)
@@ -41,23 +38,23 @@ module _ (g : Graph) (workers : ℕ) (steps : List Step) (w : World) (is : IsRun
   pub kept : (f : Flow) → IsFlow g w.fed f → Headline (network g workers) w (edge_flow g f)
   kept f h = every_run_keeps (network g workers) laws have_flows w (steps, is.run) (edge_flow g f) (net_flow g is.flows workers is.some w.fed f h)
 
-  pub sent_part : (f : Flow) → IsFlow g w.fed f → (edge : ℕ) (t : Time) → edge < edge_count g → Fits g (Location.edge edge) t → IsPartOf (w.sent edge t) (edge_flow g f edge t)
+  pub sent_part : (f : Flow) → IsFlow g w.fed f → (edge : ℕ) (t : Time) → edge < edge_count g → IsTimeAt g (Location.edge edge) t → IsPartOf (w.sent edge t) (edge_flow g f edge t)
   sent_part f h edge t l fits = (kept f h).part edge t l fits
 
-  pub sent_whole : (f : Flow) → IsFlow g w.fed f → (edge : ℕ) (t : Time) → edge < edge_count g → Fits g (Location.edge edge) t → NoneBefore (network g workers) w (on_edge edge t) → w.sent edge t ≈ edge_flow g f edge t
+  pub sent_whole : (f : Flow) → IsFlow g w.fed f → (edge : ℕ) (t : Time) → edge < edge_count g → IsTimeAt g (Location.edge edge) t → NoneBefore (network g workers) w (on_edge edge t) → w.sent edge t ≈ edge_flow g f edge t
   sent_whole f h edge t l fits none = (kept f h).whole edge t l fits none
 
-  pub passed_stays : (step : Step) → Allowed (network g workers) w step → (epoch : ℕ) → Passed (network g workers) w epoch → Passed (network g workers) (after (network g workers) w step) epoch
+  pub passed_stays : (step : Step) → Allowed (network g workers) w step → (epoch : ℕ) → Passed (network g workers) w epoch → Passed (network g workers) (after_step (network g workers) w step) epoch
   passed_stays step ok epoch passed = passed_stays_on (network g workers) laws have_flows w (steps, is.run) step ok epoch passed
 
-  module _ (flags : List Bool) (order : AppliesInOrder (network g workers) steps flags) (place : Place) where
-    sound : (SeesNoneBefore (network g workers) steps flags place → NoneBefore (network g workers) w place) × (SeesNoOtherBefore (network g workers) steps flags place → NoOtherBefore (network g workers) w place)
+  module _ (flags : List Bool) (order : AppliesInOrder (network g workers) steps flags) (pointstamp : Pointstamp) where
+    sound : (SeesNoneBefore (network g workers) steps flags pointstamp → NoneBefore (network g workers) w pointstamp) × (SeesNoOtherBefore (network g workers) steps flags pointstamp → NoOtherBefore (network g workers) w pointstamp)
     sound =
         let kept = keep_reached (network g workers) laws have_flows w (steps, is.run) in
-        view_sound (network g workers) laws have_flows steps flags w is.run kept.0 kept.1 order place
+        view_sound (network g workers) laws have_flows steps flags w is.run kept.0 kept.1 order pointstamp
 
-    pub view_none : SeesNoneBefore (network g workers) steps flags place → NoneBefore (network g workers) w place
+    pub view_none : SeesNoneBefore (network g workers) steps flags pointstamp → NoneBefore (network g workers) w pointstamp
     view_none = sound.0
 
-    pub view_no_other : SeesNoOtherBefore (network g workers) steps flags place → NoOtherBefore (network g workers) w place
+    pub view_no_other : SeesNoOtherBefore (network g workers) steps flags pointstamp → NoOtherBefore (network g workers) w pointstamp
     view_no_other = sound.1

@@ -1,17 +1,9 @@
 -- A network: the vertices and edges of a graph, with the worker to which a record goes.
 use Rattle.std.specs.Prelude.{ℕ, List}
 use Rattle.semantics.specs.Multiset.{Record}
+use Rattle.semantics.specs.Kinds.{Role}
 use Rattle.semantics.specs.Time.{Time}
-use Rattle.semantics.specs.Place.{Place}
-
--- How a vertex answers: a source has no in port; a stateless vertex sends what Op makes of a message;
--- a stateful one sends what Op gains by it; a group sends at its notification; a sink sends nothing.
-pub data Role : Type 0 where
-  source : Role
-  stateless : Role
-  stateful : Role
-  grouping : Role
-  sink : Role
+use Rattle.semantics.specs.Could.{Pointstamp}
 
 -- what the engine needs to know of a graph
 pub record Network : Type 1 where
@@ -32,11 +24,11 @@ pub record Network : Type 1 where
   pub times_before : ℕ → Time → List Time
   -- what a vertex makes at a time, for an out port, of what its in ports have
   pub op : (vertex out : ℕ) → Time → (ins : ℕ → List Record) → List Record
-  -- the worker to which a row goes on an edge, from a worker
+  -- the worker to which a record goes on an edge, from a worker
   pub home : (sender edge : ℕ) → Record → ℕ
   -- the location is the graph's, and the time has its depth
-  pub Fits : Place → Type 0
-  pub Could : Place → Place → Type 0
+  pub IsPointstamp : Pointstamp → Type 0
+  pub Could : Pointstamp → Pointstamp → Type 0
   pub output : ℕ
 
 -- what the in ports of a vertex have at a time, where edges have these

@@ -1,10 +1,12 @@
 -- The steps that the engine may take, and what each leaves.
 use Rattle.std.specs.Prelude.{◌≡◌, ◌<◌, ℕ, zero, suc, ◌+◌, true, false, cond, ◌==◌, List, [], ◌∷◌, ◌++◌, slice_get, remove, Some, filter}
-use Rattle.semantics.specs.Multiset.{Record, ◌≈◌, end_to_end}
+use Rattle.semantics.specs.Multiset.{Record, end_to_end}
 use Rattle.semantics.specs.Time.{Time, same_time, at_epoch}
 use Rattle.machine.specs.Sums.{put}
-use Rattle.machine.specs.Network.{Role, Network}
-use Rattle.machine.specs.World.{Message, Request, Event, Hand, World, NoOtherBefore, request_place}
+use Rattle.semantics.specs.Kinds.{Role}
+use Rattle.semantics.specs.Shard.{SendsBy, SendsAtNotification}
+use Rattle.machine.specs.Network.{Network}
+use Rattle.machine.specs.World.{Message, Request, Event, Held, World, NoOtherBefore, request_pointstamp}
 
 -- the event is named in the step, so that what a step leaves is a function of it
 pub data Step : Type 0 where
@@ -44,15 +46,15 @@ absorbed_with w k v p t records k' v' p' t' =
 
 -- by the kind of the vertex that a message comes to
 abbrev pub absorbed_by : Role → World → ℕ → ℕ → ℕ → Time → List Record → ℕ → ℕ → ℕ → Time → List Record
-absorbed_by Role.source w k v p t records = w.absorbed
+absorbed_by Role.input w k v p t records = w.absorbed
 absorbed_by Role.stateless w k v p t records = w.absorbed
 absorbed_by Role.stateful w k v p t records = absorbed_with w k v p t records
-absorbed_by Role.grouping w k v p t records = absorbed_with w k v p t records
-absorbed_by Role.sink w k v p t records = w.absorbed
+absorbed_by Role.notified w k v p t records = absorbed_with w k v p t records
+absorbed_by Role.output w k v p t records = w.absorbed
 
--- a message that is processed is absorbed; a notice is not
+-- a message that is processed is absorbed; a notification is not
 abbrev pub absorbed_after : Network → World → ℕ → Event → ℕ → ℕ → ℕ → Time → List Record
-absorbed_after g w k (Event.notice n) = w.absorbed
+absorbed_after g w k (Event.notification n) = w.absorbed
 absorbed_after g w k (Event.arrival m) = absorbed_by (g.role (g.target m.edge)) w k (g.target m.edge) (g.in_port m.edge) m.time m.records
 
 -- a request where a group's shard had absorbed nothing, at any port
@@ -62,54 +64,41 @@ asked_first v t (r ∷ records) = []
 
 -- only a group asks
 abbrev pub asked_by : Role → ℕ → Time → List Record → List Request
-asked_by Role.source v t absorbed = []
+asked_by Role.input v t absorbed = []
 asked_by Role.stateless v t absorbed = []
 asked_by Role.stateful v t absorbed = []
-asked_by Role.grouping v t absorbed = asked_first v t absorbed
-asked_by Role.sink v t absorbed = []
+asked_by Role.notified v t absorbed = asked_first v t absorbed
+asked_by Role.output v t absorbed = []
 
 -- the requests that an event makes
 abbrev pub asked : Network → World → ℕ → Event → List Request
-asked g w k (Event.notice n) = []
+asked g w k (Event.notification n) = []
 asked g w k (Event.arrival m) = asked_by (g.role (g.target m.edge)) (g.target m.edge) m.time (end_to_end (λ p. w.absorbed k (g.target m.edge) p m.time) (g.ports (g.target m.edge)))
 
 -- only the output emits
 abbrev pub emitted_by : Role → World → Message → ℕ → List Record
-emitted_by Role.source w m n = w.emitted n
+emitted_by Role.input w m n = w.emitted n
 emitted_by Role.stateless w m n = w.emitted n
 emitted_by Role.stateful w m n = w.emitted n
-emitted_by Role.grouping w m n = w.emitted n
-emitted_by Role.sink w m n = w.emitted n ++ cond (same_time m.time (at_epoch n)) m.records []
+emitted_by Role.notified w m n = w.emitted n
+emitted_by Role.output w m n = w.emitted n ++ cond (same_time m.time (at_epoch n)) m.records []
 
 -- what was emitted, by epoch, with a message that is processed
 abbrev pub emitted_after : Network → World → Event → ℕ → List Record
-emitted_after g w (Event.notice n) = w.emitted
+emitted_after g w (Event.notification n) = w.emitted
 emitted_after g w (Event.arrival m) = emitted_by (g.role (g.target m.edge)) w m
 
 -- where an event is processed
 abbrev pub event_vertex : Network → Event → ℕ
 event_vertex g (Event.arrival m) = g.target m.edge
-event_vertex g (Event.notice n) = n.vertex
+event_vertex g (Event.notification n) = n.vertex
 
 -- when
 abbrev pub event_time : Event → Time
 event_time (Event.arrival m) = m.time
-event_time (Event.notice n) = n.time
+event_time (Event.notification n) = n.time
 
--- these records at one port, and nothing at the others
-abbrev pub only_at : ℕ → List Record → ℕ → List Record
-only_at p records p' = cond (p' == p) records []
-
--- what a shard sends for records that come to a port: `op` is its vertex's equation at the time, `before` what it had absorbed
--- there by port, and `now` what it then has
-abbrev pub SendsBy : Role → (op : ℕ → (ℕ → List Record) → List Record) → (before now : ℕ → List Record) → (port : ℕ) → List Record → (out : ℕ → List Record) → Type 0
-SendsBy Role.source op before now port records out = ⊥
-SendsBy Role.stateless op before now port records out = (q : ℕ) → (out q) ≈ (op q (only_at port records))
--- what is gained
-SendsBy Role.stateful op before now port records out = (q : ℕ) → (out q ++ op q before) ≈ (op q now)
-SendsBy Role.grouping op before now port records out = (q : ℕ) → out q ≡ []
-SendsBy Role.sink op before now port records out = (q : ℕ) → out q ≡ []
-
+-- what the vertex of a message sends for it, as multisets, by its role
 abbrev pub MakesBy : Role → Network → World → ℕ → Message → (ℕ → List Record) → Type 0
 MakesBy role g w k m out =
     SendsBy role (λ q. g.op (g.target m.edge) q m.time) (λ p. w.absorbed k (g.target m.edge) p m.time)
@@ -117,16 +106,16 @@ MakesBy role g w k m out =
 
 -- what the vertex sends, as multisets
 abbrev pub Makes : Network → World → ℕ → Event → (ℕ → List Record) → Type 0
-Makes g w k (Event.notice n) out = (q : ℕ) → (out q) ≈ (g.op n.vertex q n.time (λ p. w.absorbed k n.vertex p n.time))
+Makes g w k (Event.notification n) out = SendsAtNotification (λ q. g.op n.vertex q n.time) (λ p. w.absorbed k n.vertex p n.time) out
 Makes g w k (Event.arrival m) out = MakesBy (g.role (g.target m.edge)) g w k m out
 
 -- the input may still be fed
 abbrev pub InputOpen : Network → World → ℕ → Type 0
-InputOpen g w i = (g.role i ≡ Role.source) × (w.closed i ≡ false) × (w.stopped ≡ false)
+InputOpen g w i = (g.role i ≡ Role.input) × (w.closed i ≡ false) × (w.stopped ≡ false)
 
 -- the worker holds nothing, and the board runs
 abbrev pub MayClaim : Network → World → ℕ → Type 0
-MayClaim g w k = (k < g.workers) × (w.hand k ≡ Hand.empty) × (w.stopped ≡ false)
+MayClaim g w k = (k < g.workers) × (w.held k ≡ Held.nothing) × (w.stopped ≡ false)
 
 -- when a step may be taken
 abbrev pub Allowed : Network → World → Step → Type 0
@@ -134,31 +123,31 @@ Allowed g w (Step.feed i r) = InputOpen g w i
 Allowed g w (Step.seal i) = InputOpen g w i
 Allowed g w (Step.close i) = InputOpen g w i
 Allowed g w (Step.claim_message k at m) = MayClaim g w k × (slice_get (w.mail k) at ≡ Some m)
-Allowed g w (Step.claim_request k at n) = MayClaim g w k × (slice_get (w.requests k) at ≡ Some n) × NoOtherBefore g w (request_place n)
-Allowed g w (Step.commit k event out) = (k < g.workers) × (w.hand k ≡ Hand.holds false event) × Makes g w k event out
-Allowed g w (Step.abandon k event) = (k < g.workers) × (w.hand k ≡ Hand.holds false event)
+Allowed g w (Step.claim_request k at n) = MayClaim g w k × (slice_get (w.requests k) at ≡ Some n) × NoOtherBefore g w (request_pointstamp n)
+Allowed g w (Step.commit k event out) = (k < g.workers) × (w.held k ≡ Held.holding false event) × Makes g w k event out
+Allowed g w (Step.abandon k event) = (k < g.workers) × (w.held k ≡ Held.holding false event)
 
 -- what a step leaves
-abbrev pub after : Network → World → Step → World
-after g w (Step.feed i r) =
+abbrev pub after_step : Network → World → Step → World
+after_step g w (Step.feed i r) =
     record w {
       fed = put w.fed i (put (w.fed i) (w.open_epoch i) (w.fed i (w.open_epoch i) ++ r ∷ []));
       mail = mail_after g w 0 i (at_epoch (w.open_epoch i)) (λ q. r ∷ []);
       sent = sent_after g w i (at_epoch (w.open_epoch i)) (λ q. r ∷ []);
     }
-after g w (Step.seal i) = record w { open_epoch = put w.open_epoch i (w.open_epoch i + 1) }
-after g w (Step.close i) = record w { closed = put w.closed i true }
-after g w (Step.claim_message k at m) =
-    record w { mail = put w.mail k (remove (w.mail k) at); hand = put w.hand k (Hand.holds false (Event.arrival m)) }
-after g w (Step.claim_request k at n) =
-    record w { requests = put w.requests k (remove (w.requests k) at); hand = put w.hand k (Hand.holds false (Event.notice n)) }
-after g w (Step.commit k event out) =
+after_step g w (Step.seal i) = record w { open_epoch = put w.open_epoch i (w.open_epoch i + 1) }
+after_step g w (Step.close i) = record w { closed = put w.closed i true }
+after_step g w (Step.claim_message k at m) =
+    record w { mail = put w.mail k (remove (w.mail k) at); held = put w.held k (Held.holding false (Event.arrival m)) }
+after_step g w (Step.claim_request k at n) =
+    record w { requests = put w.requests k (remove (w.requests k) at); held = put w.held k (Held.holding false (Event.notification n)) }
+after_step g w (Step.commit k event out) =
     record w {
-      hand = put w.hand k Hand.empty;
+      held = put w.held k Held.nothing;
       absorbed = absorbed_after g w k event;
       requests = put w.requests k (w.requests k ++ asked g w k event);
       mail = mail_after g w k (event_vertex g event) (g.act (event_vertex g event) (event_time event)) out;
       sent = sent_after g w (event_vertex g event) (g.act (event_vertex g event) (event_time event)) out;
       emitted = emitted_after g w event;
     }
-after g w (Step.abandon k event) = record w { hand = put w.hand k (Hand.holds true event); stopped = true }
+after_step g w (Step.abandon k event) = record w { held = put w.held k (Held.holding true event); stopped = true }

@@ -1,9 +1,10 @@
--- What the engine's state is to its model, and which places are active in it.
+-- What the engine's state is to its model, and which pointstamps are active in it.
 use Rattle.std.specs.Prelude.{◌≡◌, ℕ, ◌<◌, Bool, false, List, [], slice_get, Some}
 use Rattle.semantics.specs.Multiset.{Record}
 use Rattle.semantics.specs.Time.{Time, at_epoch}
-use Rattle.semantics.specs.Place.{Place, on_edge, at_vertex}
-use Rattle.machine.specs.Network.{Network, Role}
+use Rattle.semantics.specs.Could.{Pointstamp, on_edge, at_vertex, NoneOf, NoOtherOf}
+use Rattle.machine.specs.Network.{Network}
+use Rattle.semantics.specs.Kinds.{Role}
 
 -- records on their way to a worker
 pub record Message : Type 0 where
@@ -19,12 +20,12 @@ pub record Request : Type 0 where
 -- what a worker processes
 pub data Event : Type 0 where
   arrival : Message → Event
-  notice : Request → Event
+  notification : Request → Event
 
 -- what a worker holds: nothing, or an event, perhaps given up
-pub data Hand : Type 0 where
-  empty : Hand
-  holds : (given_up : Bool) → Event → Hand
+pub data Held : Type 0 where
+  nothing : Held
+  holding : (given_up : Bool) → Event → Held
 
 -- the engine's state
 pub record World : Type 0 where
@@ -35,7 +36,7 @@ pub record World : Type 0 where
   -- of each worker
   pub mail : (worker : ℕ) → List Message
   pub requests : (worker : ℕ) → List Request
-  pub hand : (worker : ℕ) → Hand
+  pub held : (worker : ℕ) → Held
   -- by worker, vertex, port and time, of vertices with a state
   pub absorbed : (worker vertex port : ℕ) → Time → List Record
   -- by edge and time, of the model alone
@@ -53,7 +54,7 @@ opening =
       closed = λ i. false;
       mail = λ k. [];
       requests = λ k. [];
-      hand = λ k. Hand.empty;
+      held = λ k. Held.nothing;
       absorbed = λ k v p t. [];
       sent = λ e t. [];
       emitted = λ n. [];
@@ -61,39 +62,31 @@ opening =
     }
 
 -- a message is on its edge
-abbrev pub message_place : Message → Place
-message_place m = on_edge m.edge m.time
+abbrev pub message_pointstamp : Message → Pointstamp
+message_pointstamp m = on_edge m.edge m.time
 
 -- a request is at its vertex
-abbrev pub request_place : Request → Place
-request_place n = at_vertex n.vertex n.time
+abbrev pub request_pointstamp : Request → Pointstamp
+request_pointstamp n = at_vertex n.vertex n.time
 
 -- where an event is
-abbrev pub event_place : Event → Place
-event_place (Event.arrival m) = message_place m
-event_place (Event.notice n) = request_place n
+abbrev pub event_pointstamp : Event → Pointstamp
+event_pointstamp (Event.arrival m) = message_pointstamp m
+event_pointstamp (Event.notification n) = request_pointstamp n
 
--- the place is active
-pub data IsActive (g : Network) (w : World) : Place → Type 0 where
-  of_input : (i : ℕ) → g.role i ≡ Role.source → w.closed i ≡ false → IsActive g w (at_vertex i (at_epoch (w.open_epoch i)))
-  of_mail : (k at : ℕ) (m : Message) → k < g.workers → slice_get (w.mail k) at ≡ Some m → IsActive g w (message_place m)
-  of_request : (k at : ℕ) (n : Request) → k < g.workers → slice_get (w.requests k) at ≡ Some n → IsActive g w (request_place n)
-  of_hand : (k : ℕ) (up : Bool) (event : Event) → k < g.workers → w.hand k ≡ Hand.holds up event → IsActive g w (event_place event)
+-- the pointstamp is active
+pub data IsActive (g : Network) (w : World) : Pointstamp → Type 0 where
+  of_input : (i : ℕ) → g.role i ≡ Role.input → w.closed i ≡ false → IsActive g w (at_vertex i (at_epoch (w.open_epoch i)))
+  of_mail : (k at : ℕ) (m : Message) → k < g.workers → slice_get (w.mail k) at ≡ Some m → IsActive g w (message_pointstamp m)
+  of_request : (k at : ℕ) (n : Request) → k < g.workers → slice_get (w.requests k) at ≡ Some n → IsActive g w (request_pointstamp n)
+  of_held : (k : ℕ) (up : Bool) (event : Event) → k < g.workers → w.held k ≡ Held.holding up event → IsActive g w (event_pointstamp event)
 
--- none of these places could result in p
-abbrev pub NoneOf : (could : Place → Place → Type 0) → (Place → Type 0) → Place → Type 0
-NoneOf could these p = (q : Place) → these q → could q p → ⊥
-
--- none of these places that is different from p could result in it
-abbrev pub NoOtherOf : (could : Place → Place → Type 0) → (Place → Type 0) → Place → Type 0
-NoOtherOf could these p = (q : Place) → these q → could q p → q ≡ p
-
--- no active place could result in it
-abbrev pub NoneBefore : Network → World → Place → Type 0
+-- no active pointstamp could result in it
+abbrev pub NoneBefore : Network → World → Pointstamp → Type 0
 NoneBefore g w p = NoneOf g.Could (IsActive g w) p
 
--- no active place that is different from it could result in it
-abbrev pub NoOtherBefore : Network → World → Place → Type 0
+-- no active pointstamp that is different from it could result in it
+abbrev pub NoOtherBefore : Network → World → Pointstamp → Type 0
 NoOtherBefore g w p = NoOtherOf g.Could (IsActive g w) p
 
 -- nothing more can come to the output for the epoch

@@ -2,17 +2,14 @@ ghost use Rattle.std.specs.Prelude.{◌≡◌, ◌<◌, ◌+◌, ◌↔◌, ℕ,
 ghost use Rattle.semantics.specs.Multiset.{◌≈◌, IsPartOf};
 ghost use Rattle.semantics.specs.Query.{Program};
 ghost use Rattle.semantics.specs.Time.{Time};
-ghost use Rattle.semantics.specs.Graph.{Graph};
-ghost use Rattle.semantics.specs.Flow.{Flow, IsFlow};
-ghost use Rattle.semantics.specs.Place.{Location, Place, on_edge};
-ghost use Rattle.semantics.specs.Edges.{edge_count, edge_flow};
-ghost use Rattle.semantics.specs.Could.{Fits};
+ghost use Rattle.semantics.specs.Graph.{Graph, edge_count};
+ghost use Rattle.semantics.specs.Flow.{Flow, IsFlow, edge_flow};
+ghost use Rattle.semantics.specs.Could.{Location, Pointstamp, on_edge, IsTimeAt};
 ghost use Rattle.semantics.specs.Dataflow.{IsDataflow};
 ghost use Rattle.machine.specs.World.{World, IsActive, NoneBefore, NoOtherBefore, Passed};
-ghost use Rattle.machine.specs.Step.{Step, Allowed, MayClaim, after};
-ghost use Rattle.machine.specs.Engine.{network, engine};
+ghost use Rattle.machine.specs.Step.{Step, Allowed, MayClaim, after_step};
+ghost use Rattle.machine.specs.Engine.{network, engine, IsRunOf, IsRunOn, meant};
 ghost use Rattle.machine.specs.Choices.{Chooses};
-ghost use Rattle.machine.specs.Headline.{IsRunOf, IsRunOn, meant};
 ghost use Rattle.machine.specs.Active.{active_count, step_adds, step_removes};
 ghost use Rattle.machine.specs.Views.{AppliesInOrder, SeesNoneBefore, SeesNoOtherBefore};
 
@@ -33,49 +30,49 @@ pub fn law_passed()
     ensures { (g : Graph) (workers : ℕ) (steps : List Step) (w : World) →
         IsRunOn g workers steps w → (step : Step) → Allowed (network g workers) w step →
         (epoch : ℕ) → Passed (network g workers) w epoch →
-        Passed (network g workers) (after (network g workers) w step) epoch }
+        Passed (network g workers) (after_step (network g workers) w step) epoch }
 {}
 
-/// What was sent on an edge is part of the flow on what was fed, and is all of it where no active place could result.
+/// What was sent on an edge is part of the flow on what was fed, and is all of it where no active pointstamp could result.
 #[tactic(auto, using(crate::proofs::Tracking::sent_part, crate::proofs::Tracking::sent_whole))]
 pub fn law_sent()
     ensures part { (g : Graph) (workers : ℕ) (steps : List Step) (w : World) →
         IsRunOn g workers steps w → (flow : Flow) → IsFlow g w.fed flow →
-        (edge : ℕ) (t : Time) → edge < edge_count g → Fits g (Location.edge edge) t →
+        (edge : ℕ) (t : Time) → edge < edge_count g → IsTimeAt g (Location.edge edge) t →
         IsPartOf (w.sent edge t) (edge_flow g flow edge t) }
     ensures whole { (g : Graph) (workers : ℕ) (steps : List Step) (w : World) →
         IsRunOn g workers steps w → (flow : Flow) → IsFlow g w.fed flow →
-        (edge : ℕ) (t : Time) → edge < edge_count g → Fits g (Location.edge edge) t →
+        (edge : ℕ) (t : Time) → edge < edge_count g → IsTimeAt g (Location.edge edge) t →
         NoneBefore (network g workers) w (on_edge edge t) →
         w.sent edge t ≈ edge_flow g flow edge t }
 {}
 
-/// A place is active exactly where its count is above 0, and a step changes the counts by what it adds and removes.
+/// A pointstamp is active exactly where its count is above 0, and a step changes the counts by what it adds and removes.
 #[tactic(auto, using(crate::proofs::Tracking::active_counts, crate::proofs::Tracking::count_after))]
 pub fn law_active()
     ensures counts { (g : Graph) → IsDataflow g → (workers : ℕ) → 0 < workers →
-        (w : World) (place : Place) →
-        IsActive (network g workers) w place ↔ (0 < active_count (network g workers) w place) }
+        (w : World) (pointstamp : Pointstamp) →
+        IsActive (network g workers) w pointstamp ↔ (0 < active_count (network g workers) w pointstamp) }
     ensures step { (g : Graph) → IsDataflow g → (workers : ℕ) → 0 < workers →
-        (w : World) (step : Step) → Allowed (network g workers) w step → (place : Place) →
-        active_count (network g workers) (after (network g workers) w step) place
-        + step_removes (network g workers) w step place
-        ≡ active_count (network g workers) w place + step_adds (network g workers) w step place }
+        (w : World) (step : Step) → Allowed (network g workers) w step → (pointstamp : Pointstamp) →
+        active_count (network g workers) (after_step (network g workers) w step) pointstamp
+        + step_removes (network g workers) w step pointstamp
+        ≡ active_count (network g workers) w pointstamp + step_adds (network g workers) w step pointstamp }
 {}
 
-/// A worker that has applied any part of the changes, each sender's in order, sees that no active place could result in a
-/// place only where that is so in the world.
+/// A worker that has applied any part of the changes, each sender's in order, sees that no active pointstamp could result in a
+/// pointstamp only where that is so in the world.
 pub fn law_view()
     ensures none { (g : Graph) (workers : ℕ) (steps : List Step) (w : World) →
         IsRunOn g workers steps w →
-        (flags : List Bool) → AppliesInOrder (network g workers) steps flags → (place : Place) →
-        SeesNoneBefore (network g workers) steps flags place →
-        NoneBefore (network g workers) w place }
+        (flags : List Bool) → AppliesInOrder (network g workers) steps flags → (pointstamp : Pointstamp) →
+        SeesNoneBefore (network g workers) steps flags pointstamp →
+        NoneBefore (network g workers) w pointstamp }
     ensures no_other { (g : Graph) (workers : ℕ) (steps : List Step) (w : World) →
         IsRunOn g workers steps w →
-        (flags : List Bool) → AppliesInOrder (network g workers) steps flags → (place : Place) →
-        SeesNoOtherBefore (network g workers) steps flags place →
-        NoOtherBefore (network g workers) w place }
+        (flags : List Bool) → AppliesInOrder (network g workers) steps flags → (pointstamp : Pointstamp) →
+        SeesNoOtherBefore (network g workers) steps flags pointstamp →
+        NoOtherBefore (network g workers) w pointstamp }
 {}
 
 /// A worker's choice may be taken.

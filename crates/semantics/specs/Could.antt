@@ -1,14 +1,33 @@
--- Which place could result in which.
+-- Pointstamps, and which could result in which. (Naiad, SOSP 2013, section 2.3.)
 use Rattle.std.specs.Prelude.{◌≡◌, ℕ, ◌<◌, List, [], ◌∷◌, length}
-use Rattle.semantics.specs.Time.{Time, after, IsAtMost}
-use Rattle.semantics.specs.Graph.{action, Graph, vertex}
-use Rattle.semantics.specs.Place.{Location, Place}
-use Rattle.semantics.specs.Edges.{edge_count, target, feeds}
+use Rattle.semantics.specs.Time.{Time, after_action, IsAtMost}
+use Rattle.semantics.specs.Kinds.{action}
+use Rattle.semantics.specs.Graph.{Graph, vertex as vertex_of, edge_count, target, edge_source}
+
+-- on the edge, or at the vertex, of that number
+pub data Location : Type 0 where
+  edge : ℕ → Location
+  vertex : ℕ → Location
+
+-- a time with a location
+pub record Pointstamp : Type 0 where
+  pub time : Time
+  pub location : Location
+
+-- on an edge, at a time
+abbrev pub on_edge : ℕ → Time → Pointstamp
+on_edge e t = record { time = t; location = Location.edge e }
+
+-- at a vertex, at a time
+abbrev pub at_vertex : ℕ → Time → Pointstamp
+at_vertex v t = record { time = t; location = Location.vertex v }
 
 -- the graph has the location, and the time has its depth
-abbrev pub Fits : Graph → Location → Time → Type 0
-Fits g (Location.edge e) t = (e < edge_count g) × (length t.counters ≡ (vertex g (target g e)).depth)
-Fits g (Location.vertex v) t = (v < length g) × (length t.counters ≡ (vertex g v).depth)
+abbrev pub IsTimeAt : Graph → Location → Time → Type 0
+IsTimeAt g (Location.edge e) t = (e < edge_count g) × (length t.counters ≡ (vertex_of g (target g e)).depth)
+IsTimeAt g (Location.vertex v) t = (v < length g) × (length t.counters ≡ (vertex_of g v).depth)
+
+-- ---- paths
 
 -- by the number of an edge: from it to the vertex that it enters; from the vertex that it leaves to it
 pub data PathStep : Type 0 where
@@ -22,7 +41,7 @@ step_edge (PathStep.leaves e) = e
 -- where a step starts
 abbrev pub step_from : Graph → PathStep → Location
 step_from g (PathStep.enters e) = Location.edge e
-step_from g (PathStep.leaves e) = Location.vertex (feeds g e).vertex
+step_from g (PathStep.leaves e) = Location.vertex (edge_source g e).vertex
 
 -- where it ends
 abbrev pub step_to : Graph → PathStep → Location
@@ -32,7 +51,7 @@ step_to g (PathStep.leaves e) = Location.edge e
 -- a vertex's action is taken on the way out
 abbrev pub step_time : Graph → PathStep → Time → Time
 step_time g (PathStep.enters e) t = t
-step_time g (PathStep.leaves e) t = after (action (vertex g (feeds g e).vertex).kind) t
+step_time g (PathStep.leaves e) t = after_action (action (vertex_of g (edge_source g e).vertex).kind) t
 
 -- the steps lead from l to m
 abbrev pub IsPath : Graph → Location → List PathStep → Location → Type 0
@@ -44,18 +63,20 @@ abbrev pub path_time : Graph → List PathStep → Time → Time
 path_time g [] t = t
 path_time g (s ∷ path) t = path_time g path (step_time g s t)
 
--- some path takes p's time to one at or before q's
-pub record CouldResultIn (g : Graph) (p q : Place) : Type 0 where
-  pub starts : Fits g p.location p.time
-  pub ends : Fits g q.location q.time
+-- some path, perhaps of no steps, takes p's time to one at or before q's
+pub record CouldResultIn (g : Graph) (p q : Pointstamp) : Type 0 where
+  pub starts : IsTimeAt g p.location p.time
+  pub ends : IsTimeAt g q.location q.time
   pub path : List PathStep
   pub leads : IsPath g p.location path q.location
   pub in_time : IsAtMost (path_time g path p.time) q.time
 
--- none of these places could result in p
-abbrev pub NoneOf : Graph → (Place → Type 0) → Place → Type 0
-NoneOf g these p = (q : Place) → these q → CouldResultIn g q p → ⊥
+-- ---- frontiers, over any set of pointstamps and any such relation
 
--- none of these places that is different from p could result in it
-abbrev pub NoOtherOf : Graph → (Place → Type 0) → Place → Type 0
-NoOtherOf g these p = (q : Place) → these q → CouldResultIn g q p → q ≡ p
+-- none of these could result in p
+abbrev pub NoneOf : (could : Pointstamp → Pointstamp → Type 0) → (these : Pointstamp → Type 0) → Pointstamp → Type 0
+NoneOf could these p = (q : Pointstamp) → these q → could q p → ⊥
+
+-- none of these that is different from p could result in it
+abbrev pub NoOtherOf : (could : Pointstamp → Pointstamp → Type 0) → (these : Pointstamp → Type 0) → Pointstamp → Type 0
+NoOtherOf could these p = (q : Pointstamp) → these q → could q p → q ≡ p

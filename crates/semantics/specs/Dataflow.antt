@@ -1,15 +1,17 @@
 -- What the graph of each well-typed program is.
 use Rattle.std.specs.Prelude.{◌≡◌, ◌⊎◌, ℕ, ◌≤◌, ◌<◌, true, List, [], ◌∷◌, ◌++◌, length}
+use Rattle.semantics.specs.Limits.{max_loops}
 use Rattle.semantics.specs.Multiset.{◌≈◌}
 use Rattle.semantics.specs.Time.{Time, Action, last, turn_count}
-use Rattle.semantics.specs.Graph.{Kind, action, ends_turn, in_ports, Graph, vertex, source, input_count, output_number}
-use Rattle.semantics.specs.Flow.{IsPlace, Inputs, Flow, IsFlow}
+use Rattle.semantics.specs.Kinds.{Kind, action, ends_turn, in_ports}
+use Rattle.semantics.specs.Graph.{Graph, vertex, source, input_count, output_number}
+use Rattle.semantics.specs.Flow.{IsEdgeTime, Inputs, Flow, IsFlow}
 
 -- each in port is fed by a vertex of the graph
 pub record IsWired (g : Graph) : Type 0 where
   pub full : (v : ℕ) → v < length g → length (vertex g v).ins ≡ in_ports (vertex g v).kind
   pub fed : (w i : ℕ) → w < length g → i < length (vertex g w).ins → (source g w i).vertex < length g
-  pub shallow : (v : ℕ) → v < length g → (vertex g v).depth ≤ 8
+  pub shallow : (v : ℕ) → v < length g → (vertex g v).depth ≤ max_loops
 
 -- An edge from v to w stays in v's loop, or goes into a loop, out of one or round it. `loops v` are the egresses of the
 -- loops that v stands in, outermost first.
@@ -36,7 +38,7 @@ pub record IsShaped (g : Graph) : Type 0 where
 
 -- nothing comes to the end of a turn over the limit
 pub record IsQuiet (g : Graph) : Type 0 where
-  pub quiet : (inputs : Inputs) (f : Flow) → IsFlow g inputs f → (w i : ℕ) (u : Time) → IsPlace g w i u → ends_turn (vertex g w).kind ≡ true → turn_count ≤ last u.counters → f w i u ≈ []
+  pub quiet : (inputs : Inputs) (f : Flow) → IsFlow g inputs f → (w i : ℕ) (u : Time) → IsEdgeTime g w i u → ends_turn (vertex g w).kind ≡ true → turn_count ≤ last u.counters → f w i u ≈ []
 
 -- what the graph of each well-typed program is
 pub record IsDataflow (g : Graph) : Type 0 where

@@ -1,9 +1,9 @@
 -- The equations of a flow: no order, messages or workers.
 use Rattle.std.specs.Prelude.{◌≡◌, ℕ, ◌<◌, List, flat_map, length}
-use Rattle.std.specs.List.{AllByRecursion}
 use Rattle.semantics.specs.Multiset.{Record, ◌≈◌}
-use Rattle.semantics.specs.Time.{Time, sources}
-use Rattle.semantics.specs.Graph.{Kind, action, in_ports, Port, Graph, vertex, source}
+use Rattle.semantics.specs.Time.{Time, times_before}
+use Rattle.semantics.specs.Kinds.{Kind, action}
+use Rattle.semantics.specs.Graph.{Port, Graph, vertex, source, target, in_port}
 use Rattle.semantics.specs.Op.{op}
 
 -- the records of each input at each epoch
@@ -16,38 +16,37 @@ Flow = (vertex port : ℕ) → Time → List Record
 
 -- what a vertex of that kind sends from a port at u: the sum over the times that its action takes to u
 abbrev pub sent_by : Kind → Flow → ℕ → ℕ → Time → List Record
-sent_by kind f v out u = flat_map (λ t. op kind t (λ i. f v i t) out) (sources (action kind) u)
+sent_by kind f v out u = flat_map (λ t. op kind t (λ i. f v i t) out) (times_before (action kind) u)
 
 -- an input sends its records
-abbrev pub sends : Inputs → Kind → Flow → ℕ → ℕ → Time → List Record
-sends inputs Kind.input f v out u = inputs v u.epoch
-sends inputs kind f v out u = sent_by kind f v out u
+abbrev pub sent_or_fed : Inputs → Kind → Flow → ℕ → ℕ → Time → List Record
+sent_or_fed inputs Kind.input f v out u = inputs v u.epoch
+sent_or_fed inputs kind f v out u = sent_by kind f v out u
 
 -- what leaves a port at u
-unfoldable pub leaves : Graph → Inputs → Flow → Port → Time → List Record
-leaves g inputs f p u = sends inputs (vertex g p.vertex).kind f p.vertex p.out u
+unfoldable pub port_flow : Graph → Inputs → Flow → Port → Time → List Record
+port_flow g inputs f p u = sent_or_fed inputs (vertex g p.vertex).kind f p.vertex p.out u
 
 -- an edge of the graph and a time of its depth
-pub record IsPlace (g : Graph) (w i : ℕ) (u : Time) : Type 0 where
+pub record IsEdgeTime (g : Graph) (w i : ℕ) (u : Time) : Type 0 where
   pub is_vertex : w < length g
   pub is_port : i < length (vertex g w).ins
   pub has_depth : length u.counters ≡ (vertex g w).depth
 
 -- each edge has at each time what leaves the port that it comes from
 pub record IsFlow (g : Graph) (inputs : Inputs) (f : Flow) : Type 0 where
-  pub equations : (w i : ℕ) (u : Time) → IsPlace g w i u → f w i u ≈ leaves g inputs f (source g w i) u
+  pub equations : (w i : ℕ) (u : Time) → IsEdgeTime g w i u → f w i u ≈ port_flow g inputs f (source g w i) u
 
 -- f is the only flow, up to the order of its lists
 pub record IsOnlyFlow (g : Graph) (inputs : Inputs) (f : Flow) : Type 0 where
   pub is_flow : IsFlow g inputs f
-  pub only : (h : Flow) → IsFlow g inputs h → (w i : ℕ) (u : Time) → IsPlace g w i u → h w i u ≈ f w i u
+  pub only : (h : Flow) → IsFlow g inputs h → (w i : ℕ) (u : Time) → IsEdgeTime g w i u → h w i u ≈ f w i u
 
 -- there is exactly one flow
 pub record HasOneFlow (g : Graph) (inputs : Inputs) : Type 0 where
   pub flow : Flow
   pub is_only : IsOnlyFlow g inputs flow
 
--- a set of places that holds whatever its equations read, and at which two inputs have the same records
-pub record IsLocal (g : Graph) (inputs inputs' : Inputs) (Q : ℕ → ℕ → Time → Type 0) : Type 0 where
-  pub reads : (w i : ℕ) (u : Time) → IsPlace g w i u → Q w i u → AllByRecursion (λ t. (j : ℕ) → j < in_ports (vertex g (source g w i).vertex).kind → Q (source g w i).vertex j t) (sources (action (vertex g (source g w i).vertex).kind) u)
-  pub same : (w i : ℕ) (u : Time) → IsPlace g w i u → Q w i u → (vertex g (source g w i).vertex).kind ≡ Kind.input → inputs (source g w i).vertex u.epoch ≈ inputs' (source g w i).vertex u.epoch
+-- what a flow has on an edge, by its number
+abbrev pub edge_flow : Graph → Flow → (edge : ℕ) → Time → List Record
+edge_flow g f e t = f (target g e) (in_port g e) t

@@ -1,29 +1,6 @@
--- Graphs: vertices by number, each with the ports that feed it.
-use Rattle.std.specs.Prelude.{ℕ, suc, ◌-◌, Bool, true, false, cond, List, [], ◌∷◌, length, slice_index_or}
-use Rattle.semantics.specs.Query.{Scalar, Cond, Agg, Pair}
-use Rattle.semantics.specs.Time.{Action}
-
--- the kinds of vertices
-pub data Kind : Type 0 where
-  input output concat distinct ingress egress feedback : Kind
-  select : List Scalar → Kind
-  filter : Cond → Kind
-  join : List Pair → Kind
-  group : List ℕ → List Agg → Kind
-  gate hold : ℕ → Kind
-
--- what a kind does to the time of what passes it
-abbrev pub action : Kind → Action
-action Kind.ingress = Action.enter
-action Kind.egress = Action.leave
-action Kind.feedback = Action.next
-action _ = Action.stay
-
--- the kinds at which a turn ends
-abbrev pub ends_turn : Kind → Bool
-ends_turn Kind.feedback = true
-ends_turn Kind.egress = true
-ends_turn _ = false
+-- Dataflow graphs: vertices by number, each with the ports that feed it. (Naiad, SOSP 2013, section 2.1.)
+use Rattle.std.specs.Prelude.{ℕ, zero, suc, ◌+◌, ◌-◌, nat_lt, cond, List, [], ◌∷◌, length, slice_index_or}
+use Rattle.semantics.specs.Kinds.{Kind, is_input}
 
 -- an out port of a vertex
 pub record Port : Type 0 where
@@ -36,7 +13,7 @@ pub record Vertex : Type 0 where
   pub depth : ℕ
   pub ins : List Port
 
--- the vertices by number; an edge is named by the vertex that it enters and the in port
+-- the vertices by number
 abbrev pub Graph : Type 0
 Graph = List Vertex
 
@@ -52,23 +29,6 @@ no_port = record { vertex = 0; out = 0 }
 unfoldable pub vertex : Graph → ℕ → Vertex
 vertex g v = slice_index_or g v no_vertex
 
--- the port that feeds an in port of w
-unfoldable pub source : Graph → ℕ → ℕ → Port
-unfolding vertex
-source g w i = slice_index_or (vertex g w).ins i no_port
-
--- how many in ports a kind has
-abbrev pub in_ports : Kind → ℕ
-in_ports Kind.input = 0
-in_ports Kind.concat = 2
-in_ports (Kind.join ps) = 2
-in_ports _ = 1
-
--- the kind is an input
-abbrev pub is_input : Kind → Bool
-is_input Kind.input = true
-is_input _ = false
-
 -- the vertices before the first that is no input
 abbrev pub input_count : Graph → ℕ
 input_count [] = 0
@@ -77,3 +37,35 @@ input_count (x ∷ g) = cond (is_input x.kind) (suc (input_count g)) 0
 -- the last vertex
 abbrev pub output_number : Graph → ℕ
 output_number g = length g - 1
+
+-- ---- edges: an edge is the vertex that it enters with the in port, or a number, in the order of these two
+
+-- the port where the edge into an in port of w begins
+unfoldable pub source : Graph → (w port : ℕ) → Port
+unfolding vertex
+source g w i = slice_index_or (vertex g w).ins i no_port
+
+-- the number of edges
+abbrev pub edge_count : Graph → ℕ
+edge_count [] = 0
+edge_count (x ∷ g) = length x.ins + edge_count g
+
+-- the vertex that an edge enters
+abbrev pub target : Graph → (edge : ℕ) → ℕ
+target [] e = 0
+target (x ∷ g) e = cond (nat_lt e (length x.ins)) 0 (suc (target g (e - length x.ins)))
+
+-- the in port by which it enters
+abbrev pub in_port : Graph → (edge : ℕ) → ℕ
+in_port [] e = 0
+in_port (x ∷ g) e = cond (nat_lt e (length x.ins)) e (in_port g (e - length x.ins))
+
+-- the edge into an in port of a vertex
+abbrev pub edge_into : Graph → (vertex port : ℕ) → ℕ
+edge_into [] v p = p
+edge_into (x ∷ g) zero p = p
+edge_into (x ∷ g) (suc v) p = length x.ins + edge_into g v p
+
+-- the port where an edge begins
+abbrev pub edge_source : Graph → (edge : ℕ) → Port
+edge_source g e = source g (target g e) (in_port g e)

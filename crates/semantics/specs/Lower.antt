@@ -1,6 +1,7 @@
 -- The graph of a relation and of a program.
 use Rattle.std.specs.Prelude.{ℕ, suc, ◌+◌, Bool, cond, not, List, [], ◌∷◌, ◌++◌, map, filter, length}
-use Rattle.semantics.specs.Graph.{Kind, Port, no_port, Vertex, Graph}
+use Rattle.semantics.specs.Kinds.{Kind}
+use Rattle.semantics.specs.Graph.{Port, no_port, Vertex, Graph}
 use Rattle.semantics.specs.Meaning.{same_name}
 use Rattle.semantics.specs.Query.{Name, Rel, Input, Let, Program}
 
@@ -45,23 +46,23 @@ abbrev pub port : ℕ → ℕ → Port
 port v out = record { vertex = v; out = out }
 
 -- a vertex by its parts
-abbrev pub fed_by : Kind → ℕ → List Port → Vertex
-fed_by kind depth ins = record { kind = kind; depth = depth; ins = ins }
+abbrev pub new_vertex : Kind → ℕ → List Port → Vertex
+new_vertex kind depth ins = record { kind = kind; depth = depth; ins = ins }
 
 -- for each carried name: ingress, concat, hold and feedback, from number k on; d is the depth outside
 abbrev pub carry : ℕ → Ports → ℕ → ℕ → List Name → List Vertex
 carry n ports d k [] = []
 carry n ports d k (y ∷ ys) =
-    fed_by Kind.ingress d (ports y ∷ [])
-    ∷ fed_by Kind.concat (suc d) (port k 0 ∷ port (suc (suc (suc k))) 0 ∷ [])
-    ∷ fed_by (Kind.hold n) (suc d) (port (suc k) 0 ∷ [])
-    ∷ fed_by Kind.feedback (suc d) (port (suc (suc k)) 1 ∷ [])
+    new_vertex Kind.ingress d (ports y ∷ [])
+    ∷ new_vertex Kind.concat (suc d) (port k 0 ∷ port (suc (suc (suc k))) 0 ∷ [])
+    ∷ new_vertex (Kind.hold n) (suc d) (port (suc k) 0 ∷ [])
+    ∷ new_vertex Kind.feedback (suc d) (port (suc (suc k)) 1 ∷ [])
     ∷ carry n ports d (suc (suc (suc (suc k)))) ys
 
 -- each carried name stands for its hold
-abbrev pub held : Ports → ℕ → List Name → Ports
-held ports k [] = ports
-held ports k (y ∷ ys) = stands_for y (port (suc (suc k)) 0) (held ports (suc (suc (suc (suc k)))) ys)
+abbrev pub carried_ports : Ports → ℕ → List Name → Ports
+carried_ports ports k [] = ports
+carried_ports ports k (y ∷ ys) = stands_for y (port (suc (suc k)) 0) (carried_ports ports (suc (suc (suc (suc k)))) ys)
 
 -- the vertices made, and the port that the relation gives
 pub record Lowered : Type 0 where
@@ -70,10 +71,10 @@ pub record Lowered : Type 0 where
 
 -- a vertex after those of its relation
 abbrev pub then_one : ℕ → Lowered → Kind → ℕ → Lowered
-then_one k r kind d = record { made = r.made ++ (fed_by kind d (r.gives ∷ []) ∷ []); gives = port (k + length r.made) 0 }
+then_one k r kind d = record { made = r.made ++ (new_vertex kind d (r.gives ∷ []) ∷ []); gives = port (k + length r.made) 0 }
 
 abbrev pub then_two : ℕ → Lowered → Lowered → Kind → ℕ → Lowered
-then_two k p q kind d = record { made = p.made ++ (q.made ++ (fed_by kind d (p.gives ∷ q.gives ∷ []) ∷ [])); gives = port (k + length p.made + length q.made) 0 }
+then_two k p q kind d = record { made = p.made ++ (q.made ++ (new_vertex kind d (p.gives ∷ q.gives ∷ []) ∷ [])); gives = port (k + length p.made + length q.made) 0 }
 
 -- a loop after its start r; k is the number of its first vertex, ys are the names that it carries, b is its body
 abbrev pub looped : ℕ → ℕ → Lowered → Ports → ℕ → List Name → Lowered → Lowered
@@ -81,13 +82,13 @@ looped n k r ports d ys b =
     let first = suc (suc (suc k)) + length (carry n ports d (suc (suc (suc k))) ys) in
     let last = first + length b.made in
     record {
-      made = fed_by Kind.ingress d (r.gives ∷ [])
-          ∷ fed_by Kind.concat (suc d) (port k 0 ∷ port last 0 ∷ [])
-          ∷ fed_by (Kind.gate n) (suc d) (port (suc k) 0 ∷ [])
+      made = new_vertex Kind.ingress d (r.gives ∷ [])
+          ∷ new_vertex Kind.concat (suc d) (port k 0 ∷ port last 0 ∷ [])
+          ∷ new_vertex (Kind.gate n) (suc d) (port (suc k) 0 ∷ [])
           ∷ (carry n ports d (suc (suc (suc k))) ys
           ++ (b.made
-          ++ (fed_by Kind.feedback (suc d) (b.gives ∷ [])
-          ∷ fed_by Kind.egress (suc d) (port (suc (suc k)) 1 ∷ [])
+          ++ (new_vertex Kind.feedback (suc d) (b.gives ∷ [])
+          ∷ new_vertex Kind.egress (suc d) (port (suc (suc k)) 1 ∷ [])
           ∷ [])));
       gives = port (suc last) 0;
     }
@@ -114,14 +115,14 @@ lower (Rel.iterate n x r b) ports d k =
     let loop = k + length start.made in
     let outside = suc (suc (suc loop)) in
     let ys = carried x b in
-    let inside = stands_for x (port (suc (suc loop)) 0) (held ports outside ys) in
+    let inside = stands_for x (port (suc (suc loop)) 0) (carried_ports ports outside ys) in
     after_start start (looped n loop start ports d ys (lower b inside (suc d) (outside + length (carry n ports d outside ys))))
 
 -- ---- programs
 
 -- a vertex for each input
 abbrev pub input_vertices : List Input → List Vertex
-input_vertices as' = map (λ a. fed_by Kind.input 0 []) as'
+input_vertices as' = map (λ a. new_vertex Kind.input 0 []) as'
 
 -- each input's name stands for its vertex; the first is the number i
 abbrev pub input_ports : List Input → ℕ → Ports
@@ -151,8 +152,4 @@ output_of p = lower p.output (lets_of p).ports 0 (length p.inputs + length (lets
 
 -- the graph of a program
 unfoldable pub lowered : Program → Graph
-lowered p = input_vertices p.inputs ++ ((lets_of p).made ++ ((output_of p).made ++ (fed_by Kind.output 0 ((output_of p).gives ∷ []) ∷ [])))
-
--- the number of the output vertex, the last
-abbrev pub output_vertex : Program → ℕ
-output_vertex p = length p.inputs + length (lets_of p).made + length (output_of p).made
+lowered p = input_vertices p.inputs ++ ((lets_of p).made ++ ((output_of p).made ++ (new_vertex Kind.output 0 ((output_of p).gives ∷ []) ∷ [])))

@@ -42,20 +42,20 @@ holds (Cond.disjunction c d) r = holds c r || holds d r
 holds (Cond.negation c) r = not (holds c r)
 
 -- those columns, in that order
-abbrev pub pick : List ℕ → Record → Record
-pick cs r = map (λ c. field c r) cs
+abbrev pub project : List ℕ → Record → Record
+project cs r = map (λ c. field c r) cs
 
 -- from the last record on, each taken into b
-abbrev pub gather : {B : Type 0} → (Record → B → B) → B → List Record → B
-gather f b [] = b
-gather f b (x ∷ xs) = f x (gather f b xs)
+abbrev pub folded : {B : Type 0} → (Record → B → B) → B → List Record → B
+folded f b [] = b
+folded f b (x ∷ xs) = f x (folded f b xs)
 
 -- an aggregate over records, with repeats
 abbrev pub aggregate : Agg → List Record → ℤ
 aggregate Agg.count rs = int_wrap w64 (pos (total (λ r. 1) rs))
-aggregate (Agg.sum c) rs = int_wrap w64 (gather (λ r n. field c r +ℤ n) (pos 0) rs)
-aggregate (Agg.min c) rs = gather (λ r n. int_min (field c r) n) (pos (2 ^ 63 - 1)) rs
-aggregate (Agg.max c) rs = gather (λ r n. int_max (field c r) n) (negsuc (2 ^ 63 - 1)) rs
+aggregate (Agg.sum c) rs = int_wrap w64 (folded (λ r n. field c r +ℤ n) (pos 0) rs)
+aggregate (Agg.min c) rs = folded (λ r n. int_min (field c r) n) (pos (2 ^ 63 - 1)) rs
+aggregate (Agg.max c) rs = folded (λ r n. int_max (field c r) n) (negsuc (2 ^ 63 - 1)) rs
 
 -- ---- the forms, on multisets
 
@@ -68,24 +68,24 @@ abbrev pub kept : Cond → List Record → List Record
 kept c xs = filter (holds c) xs
 
 -- the left columns of pairs
-abbrev pub lefts : List Pair → List ℕ
-lefts ps = map (λ p. p.left) ps
+abbrev pub left_columns : List Pair → List ℕ
+left_columns ps = map (λ p. p.left) ps
 
 -- the right columns of pairs
-abbrev pub rights : List Pair → List ℕ
-rights ps = map (λ p. p.right) ps
+abbrev pub right_columns : List Pair → List ℕ
+right_columns ps = map (λ p. p.right) ps
 
 -- each a with each b that agrees with it, a's fields first
 abbrev pub paired : List Pair → List Record → List Record → List Record
-paired ps xs ys = flat_map (λ a. map (λ b. a ++ b) (filter (λ b. same (pick (lefts ps) a) (pick (rights ps) b)) ys)) xs
+paired ps xs ys = flat_map (λ a. map (λ b. a ++ b) (filter (λ b. same (project (left_columns ps) a) (project (right_columns ps) b)) ys)) xs
 
 -- the records with that key
 abbrev pub with_key : List ℕ → Record → List Record → List Record
-with_key ks k xs = filter (λ r. same (pick ks r) k) xs
+with_key ks k xs = filter (λ r. same (project ks r) k) xs
 
 -- a record for each key that is present
 abbrev pub grouped : List ℕ → List Agg → List Record → List Record
-grouped ks as' xs = map (λ k. k ++ map (λ a. aggregate a (with_key ks k xs)) as') (each_once (map (pick ks) xs))
+grouped ks as' xs = map (λ k. k ++ map (λ a. aggregate a (with_key ks k xs)) as') (each_once (map (project ks) xs))
 
 -- ---- relations
 

@@ -1,12 +1,12 @@
 -- The equation of a vertex at one time: from a multiset for each in port to one for each out port.
-use Rattle.std.specs.Prelude.{ℕ, zero, suc, ◌+◌, nat_lt, nat_eq, cond, List, [], ◌++◌}
-use Rattle.semantics.specs.Multiset.{Record, each_once}
+use Rattle.std.specs.Prelude.{◌≡◌, ℕ, zero, suc, ◌+◌, ◌<◌, nat_lt, nat_eq, cond, List, [], ◌++◌, map, Some}
+use Rattle.semantics.specs.Multiset.{Record, count, ◌≈◌, each_once, end_to_end}
 use Rattle.semantics.specs.Meaning.{selected, kept, paired, grouped}
 use Rattle.semantics.specs.Time.{Time, last}
-use Rattle.semantics.specs.Graph.{Kind}
+use Rattle.semantics.specs.Kinds.{Kind, in_ports, route_key}
 
 -- from a multiset for each in port to one for each out port
-abbrev pub op : Kind → Time → (ℕ → List Record) → ℕ → List Record
+abbrev pub op : Kind → Time → (ins : ℕ → List Record) → (out : ℕ) → List Record
 op Kind.input t ins out = []
 op Kind.output t ins out = []
 op (Kind.select ss) t ins out = selected ss (ins 0)
@@ -22,3 +22,19 @@ op (Kind.gate n) t ins zero = cond (nat_lt (last t.counters) n) (ins 0) []
 op (Kind.gate n) t ins (suc out) = cond (nat_eq (last t.counters) n) (ins 0) []
 op (Kind.hold n) t ins zero = cond (nat_lt (last t.counters) n) (ins 0) []
 op (Kind.hold n) t ins (suc out) = cond (nat_lt (last t.counters + 1) n) (ins 0) []
+
+-- ---- inputs that are cut by route keys
+
+-- no key of xs by f is a key of ys by g
+pub record HasNoCommonKey (f g : Record → Record) (xs ys : List Record) : Type 0 where
+  pub never : (k : Record) → 0 < count k (map f xs) → 0 < count k (map g ys) → ⊥
+
+-- no route key is in two of the parts below n: `parts w` are the records of the part w at each port
+pub record IsCut (kind : Kind) (parts : ℕ → ℕ → List Record) (n : ℕ) : Type 0 where
+  pub apart : (v w : ℕ) → v < n → w < n → (v ≡ w → ⊥) → (i j : ℕ) → i < in_ports kind → j < in_ports kind →
+      (f g : Record → Record) → route_key kind i ≡ Some f → route_key kind j ≡ Some g →
+      HasNoCommonKey f g (parts v i) (parts w j)
+
+-- the parts sum to what comes in
+pub record IsSum (kind : Kind) (ins : ℕ → List Record) (parts : ℕ → ℕ → List Record) (n : ℕ) : Type 0 where
+  pub sums : (i : ℕ) → i < in_ports kind → ins i ≈ end_to_end (λ w. parts w i) n

@@ -1,9 +1,6 @@
--- Ranks of places, and graphs along whose steps the rank rises.
-use Rattle.std.specs.Prelude.{◌≡◌, ℕ, ◌+◌, ◌*◌, true, List, [], ◌∷◌, length}
-use Rattle.std.specs.List.{AllByRecursion}
-use Rattle.semantics.specs.Time.{Time, sources, lex_lt}
-use Rattle.semantics.specs.Graph.{action, Graph, vertex, source}
-use Rattle.semantics.specs.Flow.{IsPlace}
+-- Ranks of pointstamps, and graphs along whose steps the rank rises.
+use Rattle.std.specs.Prelude.{ℕ, ◌+◌, ◌*◌, List, [], ◌∷◌}
+use Rattle.semantics.specs.Time.{Time}
 
 -- An edge that enters v has the position 2v, v has 2v + 1, a loop seen from outside has that of its egress.
 -- the loops around a position and their counters, by turns, outermost first, then the position; a loop is given by its egress
@@ -19,7 +16,3 @@ vertex_rank loops v t = t.epoch ∷ woven (loops v) t.counters (2 * v + 1)
 -- of an edge that enters w
 abbrev pub edge_rank : (ℕ → List ℕ) → ℕ → Time → List ℕ
 edge_rank loops w t = t.epoch ∷ woven (loops w) t.counters (2 * w)
-
--- along each step from a vertex to an edge, the time keeps to its vertex's depth, and the rank rises
-pub record Rises (g : Graph) (loops : ℕ → List ℕ) : Type 0 where
-  pub steps : (w i : ℕ) (u : Time) → IsPlace g w i u → AllByRecursion (λ t. (length t.counters ≡ (vertex g (source g w i).vertex).depth) × (lex_lt (vertex_rank loops (source g w i).vertex t) (edge_rank loops w u) ≡ true)) (sources (action (vertex g (source g w i).vertex).kind) u)

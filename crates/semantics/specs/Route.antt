@@ -3,9 +3,8 @@ use Rattle.std.specs.Prelude.{ℕ, ◌+◌, ◌*◌, ◌%◌, ◌^◌, Bool, tru
 use Rattle.std.specs.Int.{cast_unsigned}
 use mir.Syntax.{w64}
 use Rattle.semantics.specs.Multiset.{Record}
-use Rattle.semantics.specs.Graph.{is_input, Graph, vertex}
-use Rattle.semantics.specs.Cut.{route_key}
-use Rattle.semantics.specs.Edges.{target, in_port, feeds}
+use Rattle.semantics.specs.Kinds.{is_input, route_key}
+use Rattle.semantics.specs.Graph.{Graph, vertex, target, in_port, edge_source}
 
 -- each field read as an unsigned number of 64 bits
 abbrev pub hash_from : ℕ → Record → ℕ
@@ -24,4 +23,4 @@ home_by None false workers sender r = sender
 
 -- where a record goes on an edge
 abbrev pub home : Graph → (workers sender edge : ℕ) → Record → ℕ
-home g workers sender e r = home_by (route_key (vertex g (target g e)).kind (in_port g e)) (is_input (vertex g (feeds g e).vertex).kind) workers sender r
+home g workers sender e r = home_by (route_key (vertex g (target g e)).kind (in_port g e)) (is_input (vertex g (edge_source g e).vertex).kind) workers sender r

@@ -1,6 +1,7 @@
--- Times: an epoch and the counters of the loops around a place, outermost first.
+-- Times: an epoch and the counters of the loops around a pointstamp, outermost first.
 use Rattle.std.specs.Prelude.{◌≡◌, ◌⊎◌, ℕ, zero, suc, ◌-◌, ◌≤◌, nat_lt, nat_eq, Bool, true, false, cond, ◌&&◌, ◌||◌, List, [], ◌∷◌, ◌++◌, map}
 use Rattle.std.specs.Cmp.Lexicographic.{pointwise}
+use Rattle.semantics.specs.Limits.{max_turns}
 
 -- the counters stand outermost first
 pub record Time : Type 0 where
@@ -39,27 +40,27 @@ pub data Action : Type 0 where
   stay enter leave next : Action
 
 -- where an action takes a time
-abbrev pub after : Action → Time → Time
-after Action.stay t = t
-after Action.enter t = deeper t 0
-after Action.leave t = outer t
-after Action.next t = deeper (outer t) (suc (last t.counters))
+abbrev pub after_action : Action → Time → Time
+after_action Action.stay t = t
+after_action Action.enter t = deeper t 0
+after_action Action.leave t = outer t
+after_action Action.next t = deeper (outer t) (suc (last t.counters))
 
--- the number of values that a counter has at an egress: 0 to 1024
+-- the number of values that a counter has at an egress: 0 to the limit of turns
 unfoldable pub turn_count : ℕ
-turn_count = 1025
+turn_count = suc max_turns
 
 -- the numbers below n
 abbrev pub below : ℕ → List ℕ
 below zero = []
 below (suc n) = below n ++ (n ∷ [])
 
--- the times that an action takes to u; at a leave, those whose last counter is at most 1024
-abbrev pub sources : Action → Time → List Time
-sources Action.stay u = u ∷ []
-sources Action.enter u = cond (nat_eq (last u.counters) 0) (outer u ∷ []) []
-sources Action.leave u = map (deeper u) (below turn_count)
-sources Action.next u = cond (nat_lt 0 (last u.counters)) (deeper (outer u) (last u.counters - 1) ∷ []) []
+-- the times that an action takes to u; at a leave, those whose last counter is at most the limit of turns
+abbrev pub times_before : Action → Time → List Time
+times_before Action.stay u = u ∷ []
+times_before Action.enter u = cond (nat_eq (last u.counters) 0) (outer u ∷ []) []
+times_before Action.leave u = map (deeper u) (below turn_count)
+times_before Action.next u = cond (nat_lt 0 (last u.counters)) (deeper (outer u) (last u.counters - 1) ∷ []) []
 
 -- the counters are equal
 abbrev pub same_counters : List ℕ → List ℕ → Bool
@@ -74,13 +75,13 @@ abbrev pub at_epoch : ℕ → Time
 at_epoch n = record { epoch = n; counters = [] }
 
 -- xs stands before ys, lexicographically
-abbrev pub lex_lt : List ℕ → List ℕ → Bool
-lex_lt [] [] = false
-lex_lt [] (y ∷ ys) = true
-lex_lt (x ∷ xs) [] = false
-lex_lt (x ∷ xs) (y ∷ ys) = nat_lt x y || (nat_eq x y && lex_lt xs ys)
+abbrev pub is_before : List ℕ → List ℕ → Bool
+is_before [] [] = false
+is_before [] (y ∷ ys) = true
+is_before (x ∷ xs) [] = false
+is_before (x ∷ xs) (y ∷ ys) = nat_lt x y || (nat_eq x y && is_before xs ys)
 
 -- the epochs, and the counters lexicographically
 pub record IsAtMost (t u : Time) : Type 0 where
   pub epochs : t.epoch ≤ u.epoch
-  pub counters : (t.counters ≡ u.counters) ⊎ (lex_lt t.counters u.counters ≡ true)
+  pub counters : (t.counters ≡ u.counters) ⊎ (is_before t.counters u.counters ≡ true)

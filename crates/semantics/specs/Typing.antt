@@ -1,6 +1,7 @@
 -- Well-typed relations and programs: each case asks what a refusal denies.
 use Rattle.std.specs.Prelude.{◌≡◌, ℕ, suc, ◌+◌, ◌≤◌, ◌<◌, cond, List, [], ◌∷◌, length, Option, Some, None}
 use Rattle.std.specs.List.{AllByRecursion}
+use Rattle.semantics.specs.Limits.{max_fields, max_inputs, max_turns, max_loops}
 use Rattle.semantics.specs.Meaning.{same_name}
 use Rattle.semantics.specs.Query.{Scalar, Cond, Agg, Name, Pair, Rel, Input, Let, Program}
 
@@ -22,9 +23,9 @@ lookup (e ∷ es) x = cond (same_name e.name x) (Some e.arity) (lookup es x)
 abbrev pub entry : Name → ℕ → Entry
 entry x n = record { name = x; arity = n }
 
--- 1 to 16 fields
+-- as many fields as a record may have
 abbrev pub IsArity : ℕ → Type 0
-IsArity n = (0 < n) × (n ≤ 16)
+IsArity n = (0 < n) × (n ≤ max_fields)
 
 -- each column is below n
 abbrev pub ScalarFits : ℕ → Scalar → Type 0
@@ -58,7 +59,7 @@ HasArity (Rel.concat p q) scope d n = HasArity p scope d n × HasArity q scope d
 HasArity (Rel.join p q ps) scope d n = (l : ℕ) × (m : ℕ) × HasArity p scope d l × HasArity q scope d m × AllByRecursion (λ (x : Pair). (x.left < l) × (x.right < m)) ps × (n ≡ l + m) × IsArity n
 HasArity (Rel.group r ks as') scope d n = (m : ℕ) × HasArity r scope d m × AllByRecursion (λ k. k < m) ks × AllByRecursion (AggFits m) as' × (n ≡ length ks + length as') × IsArity n
 HasArity (Rel.distinct r) scope d n = HasArity r scope d n
-HasArity (Rel.iterate k x r b) scope d n = (k ≤ 1024) × (d < 8) × HasArity r scope d n × (lookup scope x ≡ None) × HasArity b (entry x n ∷ scope) (suc d) n
+HasArity (Rel.iterate k x r b) scope d n = (k ≤ max_turns) × (d < max_loops) × HasArity r scope d n × (lookup scope x ≡ None) × HasArity b (entry x n ∷ scope) (suc d) n
 
 -- inputs in order, each name new
 abbrev pub InputsFit : Scope → List Input → Type 0
@@ -77,6 +78,6 @@ RestFits scope (a ∷ as') out n = (m : ℕ) × HasArity a.value scope 0 m × (l
 
 -- the program is well typed, and its output has that arity
 pub record WellTyped (p : Program) (n : ℕ) : Type 0 where
-  pub few : length p.inputs ≤ 16
+  pub few : length p.inputs ≤ max_inputs
   pub inputs : InputsFit [] p.inputs
   pub rest : RestFits (after_inputs [] p.inputs) p.lets p.output n

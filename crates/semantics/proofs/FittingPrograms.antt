@@ -1,0 +1,57 @@
+-- What the check of a program leaves for its graph to rest on.
+use Rattle.std.specs.Prelude.{◌≡◌, ◌⊎◌, ℕ, suc, ◌≤◌, ◌<◌, List, [], ◌∷◌, map}
+use Rattle.semantics.specs.Limits.{max_loops}
+use Rattle.semantics.specs.Query.{Name, Rel, Input, Let, Program}
+use Rattle.semantics.specs.Time.{turn_count}
+use Rattle.semantics.specs.Lower.{free}
+
+-- y is one of the names
+abbrev pub Has : Name → List Name → Type 0
+Has y [] = ⊥
+Has y (x ∷ xs) = (x ≡ y) ⊎ Has y xs
+
+-- each name that occurs free is known
+abbrev pub Known : List Name → Rel → Type 0
+Known xs r = (y : Name) → Has y (free r) → Has y xs
+
+-- no loop has more turns than an egress adds up
+abbrev pub Limited : Rel → Type 0
+Limited (Rel.named x) = Unit {0}
+Limited (Rel.select r ss) = Limited r
+Limited (Rel.filter r c) = Limited r
+Limited (Rel.concat p q) = Limited p × Limited q
+Limited (Rel.join p q ps) = Limited p × Limited q
+Limited (Rel.group r ks as') = Limited r
+Limited (Rel.distinct r) = Limited r
+Limited (Rel.iterate n x r b) = (n < turn_count) × Limited r × Limited b
+
+-- at most 8 loops inside one another, where d are already open
+abbrev pub Nested : ℕ → Rel → Type 0
+Nested d (Rel.named x) = Unit {0}
+Nested d (Rel.select r ss) = Nested d r
+Nested d (Rel.filter r c) = Nested d r
+Nested d (Rel.concat p q) = Nested d p × Nested d q
+Nested d (Rel.join p q ps) = Nested d p × Nested d q
+Nested d (Rel.group r ks as') = Nested d r
+Nested d (Rel.distinct r) = Nested d r
+Nested d (Rel.iterate n x r b) = Nested d r × (suc d ≤ max_loops) × Nested (suc d) b
+
+pub record FitsIn (xs : List Name) (r : Rel) : Type 0 where
+  pub known : Known xs r
+  pub limited : Limited r
+  pub nested : Nested 0 r
+
+abbrev pub LetsFit : List Name → List Let → Type 0
+LetsFit xs [] = Unit {0}
+LetsFit xs (a ∷ as') = FitsIn xs a.value × LetsFit (a.name ∷ xs) as'
+
+abbrev pub names_after : List Name → List Let → List Name
+names_after xs [] = xs
+names_after xs (a ∷ as') = names_after (a.name ∷ xs) as'
+
+abbrev pub input_list : List Input → List Name
+input_list as' = map (λ a. a.name) as'
+
+pub record IsFitting (p : Program) : Type 0 where
+  pub lets : LetsFit (input_list p.inputs) p.lets
+  pub output : FitsIn (names_after (input_list p.inputs) p.lets) p.output

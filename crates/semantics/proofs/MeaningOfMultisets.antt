@@ -1,0 +1,53 @@
+-- A meaning is of multisets: it depends on the counts of what the names mean alone.
+use Rattle.std.proofs.Common.{ℕ, zero, suc, List, [], ◌∷◌, true, false, Bool, cond}
+use Rattle.semantics.specs.Multiset.{Record, ◌≈◌}
+use Rattle.semantics.specs.Query.{Name, Rel, Input, Let, Program}
+use Rattle.semantics.specs.Time.{at_epoch}
+use Rattle.semantics.specs.Kinds.{Kind}
+use Rattle.semantics.specs.Op.{op}
+use Rattle.semantics.specs.Meaning.{meaning, Names, bind, repeated, same_name, input_names, let_names, program_meaning}
+use Rattle.semantics.proofs.MultisetSums.{append_same, ≈-refl}
+use Rattle.semantics.proofs.KeyedParts.{paired_same}
+use Rattle.semantics.proofs.OneFlow.{op_same}
+
+abbrev Alike : Names → Names → Type 0
+Alike a b = (x : Name) → a x ≈ b x
+
+bind_same : (x : Name) (xs ys : List Record) (a b : Names) → xs ≈ ys → Alike a b → Alike (bind x xs a) (bind x ys b)
+bind_same x xs ys a b e h y = by (same_name x y)
+  where
+    by : (c : Bool) → cond c xs (a y) ≈ cond c ys (b y)
+    by true = e
+    by false = h y
+
+turns_same : (f g : List Record → List Record) → ((xs ys : List Record) → xs ≈ ys → f xs ≈ g ys) → (n : ℕ) (xs ys : List Record) → xs ≈ ys → repeated f n xs ≈ repeated g n ys
+turns_same f g h zero xs ys e = e
+turns_same f g h (suc n) xs ys e = h (repeated f n xs) (repeated g n ys) (turns_same f g h n xs ys e)
+
+by_op : (kind : Kind) (xs ys : List Record) → xs ≈ ys → op kind (at_epoch 0) (λ i. xs) 0 ≈ op kind (at_epoch 0) (λ i. ys) 0
+by_op kind xs ys e = op_same kind (at_epoch 0) (λ i. xs) (λ i. ys) 0 (λ i l. e)
+
+pub meaning_same : (r : Rel) (a b : Names) → Alike a b → meaning r a ≈ meaning r b
+unfolding meaning
+meaning_same (Rel.named x) a b h = h x
+meaning_same (Rel.select r ss) a b h = by_op (Kind.select ss) (meaning r a) (meaning r b) (meaning_same r a b h)
+meaning_same (Rel.filter r c) a b h = by_op (Kind.filter c) (meaning r a) (meaning r b) (meaning_same r a b h)
+meaning_same (Rel.concat p q) a b h = append_same (meaning p a) (meaning p b) (meaning q a) (meaning q b) (meaning_same p a b h) (meaning_same q a b h)
+meaning_same (Rel.join p q ps) a b h = paired_same ps (meaning p a) (meaning p b) (meaning q a) (meaning q b) (meaning_same p a b h) (meaning_same q a b h)
+meaning_same (Rel.group r ks as') a b h = by_op (Kind.group ks as') (meaning r a) (meaning r b) (meaning_same r a b h)
+meaning_same (Rel.distinct r) a b h = by_op Kind.distinct (meaning r a) (meaning r b) (meaning_same r a b h)
+meaning_same (Rel.iterate n x r body) a b h =
+    turns_same (λ xs. meaning body (bind x xs a)) (λ xs. meaning body (bind x xs b)) (λ xs ys e. meaning_same body (bind x xs a) (bind x ys b) (bind_same x xs ys a b e h)) n (meaning r a) (meaning r b) (meaning_same r a b h)
+
+input_same : (as' : List Input) (i : ℕ) (xs ys : ℕ → List Record) → ((i : ℕ) → xs i ≈ ys i) → Alike (input_names as' i xs) (input_names as' i ys)
+input_same [] i xs ys h x = ≈-refl []
+input_same (a ∷ as') i xs ys h y = bind_same a.name (xs i) (ys i) (input_names as' (suc i) xs) (input_names as' (suc i) ys) (h i) (input_same as' (suc i) xs ys h) y
+
+let_same : (as' : List Let) (a b : Names) → Alike a b → Alike (let_names as' a) (let_names as' b)
+unfolding let_names
+let_same [] a b h = h
+let_same (l ∷ as') a b h = let_same as' (bind l.name (meaning l.value a) a) (bind l.name (meaning l.value b) b) (bind_same l.name (meaning l.value a) (meaning l.value b) a b (meaning_same l.value a b h) h)
+
+pub program_same : (p : Program) (xs ys : ℕ → List Record) → ((i : ℕ) → xs i ≈ ys i) → program_meaning p xs ≈ program_meaning p ys
+unfolding program_meaning
+program_same p xs ys h = meaning_same p.output _ _ (let_same p.lets _ _ (input_same p.inputs 0 xs ys h))

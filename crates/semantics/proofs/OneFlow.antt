@@ -1,0 +1,146 @@
+-- A graph along whose steps the rank rises has one flow.
+use Rattle.std.proofs.Common.{◌≡◌, ℕ, zero, suc, ◌+◌, ◌*◌, ◌≤◌, ◌<◌, nat_lt, nat_eq, Bool, true, false, cond, ◌&&◌, List, [], ◌∷◌, map, flat_map, length, refl, sym, ◌∙◌, arith, lt-ltb, eq-eqb, inl, inr, ◌⊎◌}
+use Rattle.std.proofs.lemmas.Bool.{and_from, or_left, or_right, true≢false}
+use Rattle.std.specs.List.{AllByRecursion}
+use Rattle.semantics.specs.Multiset.{Record, ◌≈◌}
+use Rattle.semantics.specs.Dataflow.{IsWired}
+use Rattle.semantics.specs.Flow.{IsEdgeTime, Inputs, Flow, sent_by, sent_or_fed, port_flow, HasOneFlow}
+use Rattle.semantics.specs.Kinds.{Kind, action, in_ports}
+use Rattle.semantics.specs.Graph.{Graph, vertex, source}
+use Rattle.semantics.specs.Meaning.{holds, value}
+use Rattle.semantics.specs.Op.{op}
+use Rattle.semantics.specs.Rank.{woven, vertex_rank, edge_rank}
+use Rattle.semantics.specs.Time.{Time, times_before, last, is_before}
+use Rattle.semantics.proofs.MultisetSums.{≈-refl, append_same, linear_same, map_linear, filter_linear}
+use Rattle.semantics.proofs.KeyedParts.{paired_same}
+use Rattle.semantics.proofs.RecursiveEquations.{one_solution, solution, solution_solves}
+use Rattle.semantics.proofs.LexicographicOrder.{lex_cases}
+use Rattle.semantics.proofs.DistinctAndGroups.{distinct_same, grouped_same}
+
+-- along each step from a vertex to an edge, the time keeps to its vertex's depth, and the rank rises
+pub record Rises (g : Graph) (loops : ℕ → List ℕ) : Type 0 where
+  pub steps : (w i : ℕ) (u : Time) → IsEdgeTime g w i u → AllByRecursion (λ t. (length t.counters ≡ (vertex g (source g w i).vertex).depth) × (is_before (vertex_rank loops (source g w i).vertex t) (edge_rank loops w u) ≡ true)) (times_before (action (vertex g (source g w i).vertex).kind) u)
+
+-- ---- order of ranks
+
+pub lex_head : (x y : ℕ) (xs ys : List ℕ) → x < y → is_before (x ∷ xs) (y ∷ ys) ≡ true
+lex_head x y xs ys h = or_left (nat_lt x y) (nat_eq x y && is_before xs ys) (lt-ltb x y h)
+
+pub lex_tail : (x y : ℕ) (xs ys : List ℕ) → x ≡ y → is_before xs ys ≡ true → is_before (x ∷ xs) (y ∷ ys) ≡ true
+lex_tail x y xs ys e h = or_right (nat_lt x y) (nat_eq x y && is_before xs ys) (and_from (nat_eq x y) (is_before xs ys) (eq-eqb x y e) h)
+
+pub lex_trans : (xs ys zs : List ℕ) → is_before xs ys ≡ true → is_before ys zs ≡ true → is_before xs zs ≡ true
+lex_trans [] [] zs h k = absurd (true≢false (sym h))
+lex_trans [] (y ∷ ys) [] h k = k
+lex_trans [] (y ∷ ys) (z ∷ zs) h k = refl
+lex_trans (x ∷ xs) [] zs h k = absurd (true≢false (sym h))
+lex_trans (x ∷ xs) (y ∷ ys) [] h k = k
+lex_trans (x ∷ xs) (y ∷ ys) (z ∷ zs) h k = go (lex_cases x y xs ys h) (lex_cases y z ys zs k) (lex_trans xs ys zs)
+  where
+    go : (x < y) ⊎ ((x ≡ y) × (is_before xs ys ≡ true)) → (y < z) ⊎ ((y ≡ z) × (is_before ys zs ≡ true)) → (is_before xs ys ≡ true → is_before ys zs ≡ true → is_before xs zs ≡ true) → is_before (x ∷ xs) (z ∷ zs) ≡ true
+    go (inl a) (inl b) t = lex_head x z xs zs (omega arith)
+    go (inl a) (inr b) t = lex_head x z xs zs (let e = b.0 in omega arith)
+    go (inr a) (inl b) t = lex_head x z xs zs (let e = a.0 in omega arith)
+    go (inr a) (inr b) t = lex_tail x z xs zs (a.0 ∙ b.0) (t a.1 b.1)
+
+pub woven_lower : (es cs : List ℕ) (p q : ℕ) → p < q → is_before (woven es cs p) (woven es cs q) ≡ true
+woven_lower [] cs p q h = lex_head p q [] [] h
+woven_lower (e ∷ es) [] p q h = lex_head p q [] [] h
+woven_lower (e ∷ es) (c ∷ cs) p q h = lex_tail (2 * e + 1) (2 * e + 1) (c ∷ woven es cs p) (c ∷ woven es cs q) refl (lex_tail c c (woven es cs p) (woven es cs q) refl (woven_lower es cs p q h))
+
+pub edge_below : (loops : ℕ → List ℕ) (v : ℕ) (t : Time) → is_before (edge_rank loops v t) (vertex_rank loops v t) ≡ true
+edge_below loops v t = lex_tail t.epoch t.epoch (woven (loops v) t.counters (2 * v)) (woven (loops v) t.counters (2 * v + 1)) refl (woven_lower (loops v) t.counters (2 * v) (2 * v + 1) (omega arith))
+
+pub length-woven : (es cs : List ℕ) (p : ℕ) → length (woven es cs p) ≤ 2 * length cs + 1
+length-woven [] cs p = omega arith
+length-woven (e ∷ es) [] p = omega arith
+length-woven (e ∷ es) (c ∷ cs) p = omega (arith, length-woven es cs p)
+
+cond_same : (b : Bool) (xs ys : List Record) → xs ≈ ys → cond b xs [] ≈ cond b ys []
+cond_same true xs ys h = h
+cond_same false xs ys h = ≈-refl []
+
+-- ---- the equation of a vertex reads its in ports, at one time
+
+pub op_same : (kind : Kind) (t : Time) (xs ys : ℕ → List Record) (out : ℕ) → ((i : ℕ) → i < in_ports kind → xs i ≈ ys i) → op kind t xs out ≈ op kind t ys out
+op_same Kind.input t xs ys out h = ≈-refl []
+op_same Kind.output t xs ys out h = ≈-refl []
+op_same Kind.concat t xs ys out h = append_same (xs 0) (ys 0) (xs 1) (ys 1) (h 0 (omega arith)) (h 1 (omega arith))
+op_same Kind.distinct t xs ys out h = distinct_same (xs 0) (ys 0) (h 0 (omega arith))
+op_same Kind.ingress t xs ys out h = h 0 (omega arith)
+op_same Kind.egress t xs ys out h = h 0 (omega arith)
+op_same Kind.feedback t xs ys out h = h 0 (omega arith)
+op_same (Kind.select ss) t xs ys out h = linear_same (map (λ r. map (λ s. value s r) ss)) (map_linear (λ r. map (λ s. value s r) ss)) (xs 0) (ys 0) (h 0 (omega arith))
+op_same (Kind.filter c) t xs ys out h = linear_same _ (filter_linear (holds c)) (xs 0) (ys 0) (h 0 (omega arith))
+op_same (Kind.join ps) t xs ys out h = paired_same ps (xs 0) (ys 0) (xs 1) (ys 1) (h 0 (omega arith)) (h 1 (omega arith))
+op_same (Kind.group ks as') t xs ys out h = grouped_same ks as' (xs 0) (ys 0) (h 0 (omega arith))
+op_same (Kind.gate n) t xs ys zero h = cond_same (nat_lt (last t.counters) n) (xs 0) (ys 0) (h 0 (omega arith))
+op_same (Kind.gate n) t xs ys (suc out) h = cond_same (nat_eq (last t.counters) n) (xs 0) (ys 0) (h 0 (omega arith))
+op_same (Kind.hold n) t xs ys zero h = cond_same (nat_lt (last t.counters) n) (xs 0) (ys 0) (h 0 (omega arith))
+op_same (Kind.hold n) t xs ys (suc out) h = cond_same (nat_lt (last t.counters + 1) n) (xs 0) (ys 0) (h 0 (omega arith))
+
+pub flat_same : (f h : Time → List Record) (P : Time → Type 0) (ts : List Time) → AllByRecursion P ts → ((t : Time) → P t → f t ≈ h t) → flat_map f ts ≈ flat_map h ts
+flat_same f h P [] a k = ≈-refl []
+flat_same f h P (t ∷ ts) a k = append_same (f t) (h t) (flat_map f ts) (flat_map h ts) (k t a.0) (flat_same f h P ts a.1 k)
+
+sends_same : (inputs : Inputs) (kind : Kind) (f h : Flow) (v out : ℕ) (u : Time) → sent_by kind f v out u ≈ sent_by kind h v out u → sent_or_fed inputs kind f v out u ≈ sent_or_fed inputs kind h v out u
+sends_same inputs Kind.input f h v out u k = ≈-refl (inputs v u.epoch)
+sends_same inputs Kind.output f h v out u k = k
+sends_same inputs Kind.concat f h v out u k = k
+sends_same inputs Kind.distinct f h v out u k = k
+sends_same inputs Kind.ingress f h v out u k = k
+sends_same inputs Kind.egress f h v out u k = k
+sends_same inputs Kind.feedback f h v out u k = k
+sends_same inputs (Kind.select ss) f h v out u k = k
+sends_same inputs (Kind.filter c) f h v out u k = k
+sends_same inputs (Kind.join ps) f h v out u k = k
+sends_same inputs (Kind.group ks as') f h v out u k = k
+sends_same inputs (Kind.gate n) f h v out u k = k
+sends_same inputs (Kind.hold n) f h v out u k = k
+
+-- ---- the theorem
+
+pub record EdgeTime : Type 0 where
+  pub into : ℕ
+  pub port : ℕ
+  pub time : Time
+
+module _ (g : Graph) (loops : ℕ → List ℕ) (wired : IsWired g) (rises : Rises g loops) (inputs : Inputs) where
+  abbrev rank : EdgeTime → List ℕ
+  rank p = edge_rank loops p.into p.time
+
+  abbrev Valid : EdgeTime → Type 0
+  Valid p = IsEdgeTime g p.into p.port p.time
+
+  abbrev eqn : (EdgeTime → List Record) → EdgeTime → List Record
+  eqn f p = port_flow g inputs (λ w i u. f (record { into = w; port = i; time = u })) (source g p.into p.port) p.time
+
+  short : (p : EdgeTime) → Valid p → length (rank p) ≤ 18
+  short p v = omega (arith, length-woven (loops p.into) p.time.counters (2 * p.into), wired.shallow p.into v.is_vertex, v.has_depth)
+
+  reads : (f h : EdgeTime → List Record) (p : EdgeTime) → Valid p → ((q : EdgeTime) → Valid q → is_before (rank q) (rank p) ≡ true → f q ≈ h q) → eqn f p ≈ eqn h p
+  unfolding port_flow
+  reads f h p v k =
+      let s = source g p.into p.port in
+      let x = vertex g s.vertex in
+      sends_same inputs x.kind _ _ s.vertex s.out p.time
+      (flat_same _ _ _ (times_before (action x.kind) p.time) (rises.steps p.into p.port p.time v) (λ t a.
+      op_same x.kind t _ _ s.out (λ i l.
+      let known : s.vertex < length g = wired.fed p.into p.port v.is_vertex v.is_port in
+      k (record { into = s.vertex; port = i; time = t })
+      (record { is_vertex = known; is_port = omega (arith, wired.full s.vertex known, l); has_depth = a.0 })
+      (lex_trans (edge_rank loops s.vertex t) (vertex_rank loops s.vertex t) (rank p) (edge_below loops s.vertex t) a.1))))
+
+  abbrev at : Flow → EdgeTime → List Record
+  at f p = f p.into p.port p.time
+
+  pub one_flow : HasOneFlow g inputs
+  one_flow =
+      let f : Flow = λ w i u. solution rank 18 Valid short eqn reads (record { into = w; port = i; time = u }) in
+      record {
+        flow = f;
+        is_only = record {
+          is_flow = record { equations = λ w i u v. solution_solves rank 18 Valid short eqn reads (record { into = w; port = i; time = u }) v };
+          only = λ h ih w i u v. one_solution rank 18 Valid short eqn reads (at h) (at f) (λ p v. ih.equations p.into p.port p.time v) (λ p v. solution_solves rank 18 Valid short eqn reads p v) (record { into = w; port = i; time = u }) v;
+        };
+      }

@@ -1,0 +1,163 @@
+-- The rules of the normaliser keep the meaning.
+use Rattle.std.proofs.Common.{◌≡◌, ℕ, zero, suc, nat_lt, Bool, true, false, cond, ◌&&◌, List, [], ◌∷◌, ◌++◌, map, filter, slice_index_or, refl, sym, ap, ap₂, subst, ◌∙◌, arith, inl, ℤ, pos, ◌+ℤ◌, ◌-ℤ◌, ◌*ℤ◌, neg_ℤ}
+use Rattle.std.specs.Int.{int_wrap}
+use Rattle.std.proofs.lemmas.Int.{ints, int_wrap-add_left, int_wrap-add_right, int_wrap-sub_right, int_wrap-mul_left, int_wrap-mul_right}
+use mir.Syntax.{w64}
+use Rattle.semantics.specs.Multiset.{Record, one_if, count, each_once}
+use Rattle.semantics.specs.Lower.{free, other_than}
+use Rattle.semantics.specs.Meaning.{field, exact, value, holds, selected, kept, same_name, Names, bind, repeated, meaning, let_names, paired, grouped}
+use Rattle.semantics.specs.Query.{Scalar, Cond, Name, Rel, Let}
+use Rattle.semantics.proofs.LoweredRelations.{Has_left, Has_right, Has_other, Decides-same_name}
+use Rattle.semantics.proofs.DistinctAndGroups.{count-distinct}
+use Rattle.semantics.proofs.FittingPrograms.{Has}
+
+-- ---- scalars: the value of a sum is that of its parts' values
+
+pub value-plus : (s t : Scalar) (r : Record) → value (Scalar.plus s t) r ≡ int_wrap w64 (value s r +ℤ value t r)
+value-plus s t r = sym (int_wrap-add_left w64 (exact s r) (value t r) ∙ int_wrap-add_right w64 (exact s r) (exact t r))
+
+minus_as_plus : (a b : ℤ) → a -ℤ b ≡ a +ℤ neg_ℤ b
+minus_as_plus a b = omega (arith, ints)
+
+pub value-minus : (s t : Scalar) (r : Record) → value (Scalar.minus s t) r ≡ int_wrap w64 (value s r -ℤ value t r)
+value-minus s t r = sym (
+    ap (int_wrap w64) (minus_as_plus (value s r) (value t r))
+    ∙ int_wrap-add_left w64 (exact s r) (neg_ℤ (value t r))
+    ∙ ap (int_wrap w64) (sym (minus_as_plus (exact s r) (value t r)))
+    ∙ int_wrap-sub_right w64 (exact s r) (exact t r))
+
+pub value-times : (s t : Scalar) (r : Record) → value (Scalar.times s t) r ≡ int_wrap w64 (value s r *ℤ value t r)
+value-times s t r = sym (int_wrap-mul_left w64 (exact s r) (value t r) ∙ int_wrap-mul_right w64 (exact s r) (exact t r))
+
+neg_as_minus : (a : ℤ) → neg_ℤ a ≡ pos 0 -ℤ a
+neg_as_minus a = omega (arith, ints)
+
+pub value-negated : (s : Scalar) (r : Record) → value (Scalar.negation s) r ≡ int_wrap w64 (neg_ℤ (value s r))
+value-negated s r = ap (int_wrap w64) (neg_as_minus (exact s r)) ∙ sym (ap (int_wrap w64) (neg_as_minus (value s r)) ∙ int_wrap-sub_right w64 (pos 0) (exact s r))
+
+zero_plus : (a : ℤ) → pos 0 +ℤ a ≡ a
+zero_plus a = omega (arith, ints)
+
+wrap_twice : (a : ℤ) → int_wrap w64 (int_wrap w64 a) ≡ int_wrap w64 a
+wrap_twice a = ap (int_wrap w64) (sym (zero_plus (int_wrap w64 a))) ∙ int_wrap-add_right w64 (pos 0) a ∙ ap (int_wrap w64) (zero_plus a)
+
+-- folding of literals: two of them
+pub fold-plus : (a b : ℤ) (r : Record) → value (Scalar.literal (int_wrap w64 (a +ℤ b))) r ≡ value (Scalar.plus (Scalar.literal a) (Scalar.literal b)) r
+fold-plus a b r = wrap_twice (a +ℤ b)
+
+pub fold-minus : (a b : ℤ) (r : Record) → value (Scalar.literal (int_wrap w64 (a -ℤ b))) r ≡ value (Scalar.minus (Scalar.literal a) (Scalar.literal b)) r
+fold-minus a b r = wrap_twice (a -ℤ b)
+
+pub fold-times : (a b : ℤ) (r : Record) → value (Scalar.literal (int_wrap w64 (a *ℤ b))) r ≡ value (Scalar.times (Scalar.literal a) (Scalar.literal b)) r
+fold-times a b r = wrap_twice (a *ℤ b)
+
+pub fold-negated : (a : ℤ) (r : Record) → value (Scalar.literal (int_wrap w64 (neg_ℤ a))) r ≡ value (Scalar.negation (Scalar.literal a)) r
+fold-negated a r = wrap_twice (neg_ℤ a)
+
+-- ---- where of where
+
+pub where_where : (c d : Cond) (xs : List Record) → kept d (kept c xs) ≡ kept (Cond.conjunction c d) xs
+where_where c d [] = refl
+where_where c d (x ∷ xs) = go (holds c x) (holds d x) refl (where_where c d xs)
+  where
+    go : (p q : Bool) → holds d x ≡ q → kept d (kept c xs) ≡ kept (Cond.conjunction c d) xs → kept d (cond p (x ∷ kept c xs) (kept c xs)) ≡ cond (p && holds d x) (x ∷ kept (Cond.conjunction c d) xs) (kept (Cond.conjunction c d) xs)
+    go true q e ih = ap (λ l. cond (holds d x) (x ∷ l) l) ih
+    go false q e ih = ih
+
+-- ---- select of select: each column of t is replaced by the scalar that it names
+
+abbrev pub put : List Scalar → Scalar → Scalar
+put ss (Scalar.column c) = slice_index_or ss c (Scalar.literal (pos 0))
+put ss (Scalar.literal z) = Scalar.literal z
+put ss (Scalar.plus s t) = Scalar.plus (put ss s) (put ss t)
+put ss (Scalar.minus s t) = Scalar.minus (put ss s) (put ss t)
+put ss (Scalar.times s t) = Scalar.times (put ss s) (put ss t)
+put ss (Scalar.negation s) = Scalar.negation (put ss s)
+
+zero_wraps : int_wrap w64 (pos 0) ≡ pos 0
+unfolding int_wrap
+zero_wraps = refl
+
+field-map : (ss : List Scalar) (c : ℕ) (r : Record) → field c (map (λ s. value s r) ss) ≡ value (slice_index_or ss c (Scalar.literal (pos 0))) r
+field-map [] c r = sym zero_wraps
+field-map (s ∷ ss) zero r = refl
+field-map (s ∷ ss) (suc c) r = field-map ss c r
+
+pub value-put : (ss : List Scalar) (t : Scalar) (r : Record) → value t (map (λ s. value s r) ss) ≡ value (put ss t) r
+value-put ss (Scalar.column c) r = ap (int_wrap w64) (field-map ss c r) ∙ wrap_twice (exact (slice_index_or ss c (Scalar.literal (pos 0))) r)
+value-put ss (Scalar.literal z) r = refl
+value-put ss (Scalar.plus s t) r = value-plus s t (map (λ s. value s r) ss) ∙ ap₂ (λ a b. int_wrap w64 (a +ℤ b)) (value-put ss s r) (value-put ss t r) ∙ sym (value-plus (put ss s) (put ss t) r)
+value-put ss (Scalar.minus s t) r = value-minus s t (map (λ s. value s r) ss) ∙ ap₂ (λ a b. int_wrap w64 (a -ℤ b)) (value-put ss s r) (value-put ss t r) ∙ sym (value-minus (put ss s) (put ss t) r)
+value-put ss (Scalar.times s t) r = value-times s t (map (λ s. value s r) ss) ∙ ap₂ (λ a b. int_wrap w64 (a *ℤ b)) (value-put ss s r) (value-put ss t r) ∙ sym (value-times (put ss s) (put ss t) r)
+value-put ss (Scalar.negation s) r = value-negated s (map (λ s. value s r) ss) ∙ ap (λ a. int_wrap w64 (neg_ℤ a)) (value-put ss s r) ∙ sym (value-negated (put ss s) r)
+
+map-map_scalars : (ss ts : List Scalar) (r : Record) → map (λ t. value t (map (λ s. value s r) ss)) ts ≡ map (λ s. value s r) (map (put ss) ts)
+map-map_scalars ss [] r = refl
+map-map_scalars ss (t ∷ ts) r = ap₂ (λ a l. a ∷ l) (value-put ss t r) (map-map_scalars ss ts r)
+
+pub select_select : (ss ts : List Scalar) (xs : List Record) → selected ts (selected ss xs) ≡ selected (map (put ss) ts) xs
+select_select ss ts [] = refl
+select_select ss ts (x ∷ xs) = ap₂ (λ a l. a ∷ l) (map-map_scalars ss ts x) (select_select ss ts xs)
+
+-- ---- distinct of distinct
+
+pub distinct_distinct : (xs : List Record) → each_once (each_once xs) ≡ each_once xs
+distinct_distinct [] = refl
+distinct_distinct (x ∷ xs) = go (nat_lt 0 (count x xs)) refl (distinct_distinct xs)
+  where
+    go : (b : Bool) → nat_lt 0 (count x xs) ≡ b → each_once (each_once xs) ≡ each_once xs → each_once (cond b (each_once xs) (x ∷ each_once xs)) ≡ cond b (each_once xs) (x ∷ each_once xs)
+    go true e ih = ih
+    go false e ih =
+        let none : count x (each_once xs) ≡ 0 = count-distinct x xs ∙ ap one_if e in
+        ap (λ n. cond (nat_lt 0 n) (each_once (each_once xs)) (x ∷ each_once (each_once xs))) none ∙ ap (λ l. x ∷ l) ih
+
+-- ---- unreached lets: a relation looks at its free names alone
+
+turns-same : (f g : List Record → List Record) → ((xs : List Record) → f xs ≡ g xs) → (n : ℕ) (xs ys : List Record) → xs ≡ ys → repeated f n xs ≡ repeated g n ys
+turns-same f g h zero xs ys e = e
+turns-same f g h (suc n) xs ys e = h (repeated f n xs) ∙ ap g (turns-same f g h n xs ys e)
+
+pub meaning-free : (r : Rel) (names names' : Names) → ((y : Name) → Has y (free r) → names y ≡ names' y) → meaning r names ≡ meaning r names'
+unfolding meaning
+meaning-free (Rel.named x) names names' h = h x (inl refl)
+meaning-free (Rel.select r ss) names names' h = ap (selected ss) (meaning-free r names names' h)
+meaning-free (Rel.filter r c) names names' h = ap (kept c) (meaning-free r names names' h)
+meaning-free (Rel.concat p q) names names' h = ap₂ (λ a b. a ++ b) (meaning-free p names names' (λ y j. h y (Has_left y (free p) (free q) j))) (meaning-free q names names' (λ y j. h y (Has_right y (free p) (free q) j)))
+meaning-free (Rel.join p q ps) names names' h = ap₂ (paired ps) (meaning-free p names names' (λ y j. h y (Has_left y (free p) (free q) j))) (meaning-free q names names' (λ y j. h y (Has_right y (free p) (free q) j)))
+meaning-free (Rel.group r ks as') names names' h = ap (grouped ks as') (meaning-free r names names' h)
+meaning-free (Rel.distinct r) names names' h = ap each_once (meaning-free r names names' h)
+meaning-free (Rel.iterate n x r b) names names' h =
+    turns-same (λ xs. meaning b (bind x xs names)) (λ xs. meaning b (bind x xs names')) (λ xs. meaning-free b (bind x xs names) (bind x xs names') (λ y j. go xs y (same_name x y) refl j)) n (meaning r names) (meaning r names')
+    (meaning-free r names names' (λ y j. h y (Has_left y (free r) (filter (other_than x) (free b)) j)))
+  where
+    go : (xs : List Record) (y : Name) (t : Bool) → same_name x y ≡ t → Has y (free b) → cond t xs (names y) ≡ cond t xs (names' y)
+    go xs y true e j = refl
+    go xs y false e j = h y (Has_right y (free r) (filter (other_than x) (free b)) (Has_other x y (free b) e j))
+
+-- x occurs in none of the lets
+abbrev pub Unused : Name → List Let → Type 0
+Unused x [] = Unit {0}
+Unused x (a ∷ as') = (Has x (free a.value) → ⊥) × Unused x as'
+
+-- names that agree but at x, before and after lets that do not use x
+pub let_names-unused : (x : Name) (as' : List Let) (names names' : Names) → Unused x as' → ((y : Name) → same_name x y ≡ false → names y ≡ names' y) → (y : Name) → same_name x y ≡ false → let_names as' names y ≡ let_names as' names' y
+unfolding let_names
+let_names-unused x [] names names' u h y n = h y n
+let_names-unused x (a ∷ as') names names' u h y n =
+    let e : meaning a.value names ≡ meaning a.value names' = meaning-free a.value names names' (λ z j. h z (not_x z j (same_name x z) refl)) in
+    let_names-unused x as' (bind a.name (meaning a.value names) names) (bind a.name (meaning a.value names') names') u.1
+    (λ z m. ap₂ (λ l w. cond (same_name a.name z) l w) e (h z m)) y n
+  where
+    not_x : (z : Name) → Has z (free a.value) → (t : Bool) → same_name x z ≡ t → same_name x z ≡ false
+    not_x z j true q = absurd (u.0 (subst (λ w. Has w (free a.value)) (sym ((Decides-same_name x z).0 q)) j))
+    not_x z j false q = q
+
+-- an unreached let: a first let that is used neither by the later ones nor by the output
+pub unused_let : (a : Let) (as' : List Let) (out : Rel) (names : Names) → Unused a.name as' → (Has a.name (free out) → ⊥) → meaning out (let_names (a ∷ as') names) ≡ meaning out (let_names as' names)
+unfolding let_names
+unused_let a as' out names u n = meaning-free out (let_names as' (bind a.name (meaning a.value names) names)) (let_names as' names) (λ y j.
+    let_names-unused a.name as' (bind a.name (meaning a.value names) names) names u (λ z m. ap (λ t. cond t (meaning a.value names) (names z)) m) y (other y j (same_name a.name y) refl))
+  where
+    other : (y : Name) → Has y (free out) → (t : Bool) → same_name a.name y ≡ t → same_name a.name y ≡ false
+    other y j true q = absurd (n (subst (λ w. Has w (free out)) (sym ((Decides-same_name a.name y).0 q)) j))
+    other y j false q = q

@@ -1,0 +1,125 @@
+-- Counters at the end of a time, and what vertices of each kind send in a flow.
+use Rattle.std.proofs.Common.{◌≡◌, ℕ, suc, ◌+◌, ◌-◌, ◌<◌, nat_lt, nat_eq, Bool, true, false, cond, List, [], ◌∷◌, ◌++◌, map, flat_map, length, slice_index_or, refl, sym, ap, ap₂, subst, ◌∙◌, arith, append-nil, lt-ltb, le-ltb, eq-eqb, ne_eqb, length-append}
+use Rattle.semantics.specs.Multiset.{Record, ◌≈◌}
+use Rattle.semantics.specs.Flow.{Inputs, Flow, IsFlow, sent_or_fed, port_flow}
+use Rattle.semantics.specs.Kinds.{Kind}
+use Rattle.semantics.specs.Graph.{Port, Vertex, Graph, no_port, vertex, source}
+use Rattle.semantics.specs.Lower.{port, new_vertex}
+use Rattle.semantics.specs.Meaning.{selected}
+use Rattle.semantics.specs.Query.{Scalar}
+use Rattle.semantics.specs.Time.{Time, last_from, front_from, last, front, deeper, outer, turn_count, below}
+use Rattle.semantics.proofs.MultisetSums.{≈-refl, ≈-trans, ≈-from, append_same}
+
+-- ---- the last counter
+
+last_from-push : (b : ℕ) (ts : List ℕ) (c : ℕ) → last_from b (ts ++ (c ∷ [])) ≡ c
+last_from-push b [] c = refl
+last_from-push b (d ∷ ds) c = last_from-push d ds c
+
+front_from-push : (b : ℕ) (ts : List ℕ) (c : ℕ) → front_from b (ts ++ (c ∷ [])) ≡ b ∷ ts
+front_from-push b [] c = refl
+front_from-push b (d ∷ ds) c = ap (λ l. b ∷ l) (front_from-push d ds c)
+
+front-push : (ts : List ℕ) (c : ℕ) → front (ts ++ (c ∷ [])) ≡ ts
+front-push [] c = refl
+front-push (d ∷ ds) c = front_from-push d ds c
+
+pub last-deeper : (u : Time) (c : ℕ) → last (u.counters ++ (c ∷ [])) ≡ c
+last-deeper u c = last_from-push 0 u.counters c
+
+pub outer-deeper : (u : Time) (c : ℕ) → outer (deeper u c) ≡ u
+outer-deeper u c = ap (λ (ts : List ℕ). record { epoch = u.epoch; counters = ts }) (front-push u.counters c)
+
+pub length-deeper : (u : Time) (c : ℕ) → length (deeper u c).counters ≡ suc (length u.counters)
+length-deeper u c = omega (arith, length-append u.counters (c ∷ []))
+
+-- ---- what vertices send
+
+-- that vertex stands at that number
+pub record IsAt (g : Graph) (w : ℕ) (v : Vertex) : Type 0 where
+  pub is : vertex g w ≡ v
+  pub known : w < length g
+
+module _ (g : Graph) (inputs : Inputs) (f : Flow) (flow : IsFlow g inputs f) where
+  abbrev out : Port → Time → List Record
+  out p u = port_flow g inputs f p u
+
+  pub edge_at : (w : ℕ) (v : Vertex) → IsAt g w v → (i : ℕ) (u : Time) → i < length v.ins → length u.counters ≡ v.depth → f w i u ≈ out (slice_index_or v.ins i no_port) u
+  unfolding source
+  edge_at w v at i u l d =
+      subst (λ (x : Vertex). f w i u ≈ out (slice_index_or x.ins i no_port) u) at.is
+      (flow.equations w i u (record { is_vertex = at.known; is_port = subst (λ (x : Vertex). i < length x.ins) (sym at.is) l; has_depth = subst (λ (x : Vertex). length u.counters ≡ x.depth) (sym at.is) d }))
+
+  pub out_at : (w o : ℕ) (v : Vertex) (u : Time) → IsAt g w v → out (port w o) u ≡ sent_or_fed inputs v.kind f w o u
+  unfolding port_flow
+  out_at w o v u at = ap (λ (x : Vertex). sent_or_fed inputs x.kind f w o u) at.is
+
+  -- the first and only in port
+  in_first : (w : ℕ) (kind : Kind) (d : ℕ) (p : Port) (u : Time) → IsAt g w (new_vertex kind d (p ∷ [])) → length u.counters ≡ d → f w 0 u ≈ out p u
+  in_first w kind d p u at l = edge_at w (new_vertex kind d (p ∷ [])) at 0 u (omega arith) l
+
+  pub out_select : (w d : ℕ) (p : Port) (ss : List Scalar) (u : Time) → IsAt g w (new_vertex (Kind.select ss) d (p ∷ [])) → length u.counters ≡ d → out (port w 0) u ≈ selected ss (f w 0 u)
+  out_select w d p ss u at l = ≈-from (out_at w 0 (new_vertex (Kind.select ss) d (p ∷ [])) u at ∙ append-nil (selected ss (f w 0 u)))
+
+  -- ---- the vertices of a loop, for u the time outside
+
+  pub out_ingress_first : (w d : ℕ) (p : Port) (u : Time) → IsAt g w (new_vertex Kind.ingress d (p ∷ [])) → length u.counters ≡ d → out (port w 0) (deeper u 0) ≈ out p u
+  out_ingress_first w d p u at l =
+      ≈-trans (≈-from (out_at w 0 (new_vertex Kind.ingress d (p ∷ [])) (deeper u 0) at
+      ∙ ap (λ b. flat_map (λ t. f w 0 t) (cond b (outer (deeper u 0) ∷ []) [])) (eq-eqb (last (u.counters ++ (0 ∷ []))) 0 (last-deeper u 0))
+      ∙ append-nil (f w 0 (outer (deeper u 0)))
+      ∙ ap (f w 0) (outer-deeper u 0)))
+      (in_first w Kind.ingress d p u at l)
+
+  pub out_ingress_later : (w d : ℕ) (p : Port) (u : Time) (c : ℕ) → IsAt g w (new_vertex Kind.ingress d (p ∷ [])) → out (port w 0) (deeper u (suc c)) ≈ []
+  out_ingress_later w d p u c at = ≈-from (out_at w 0 (new_vertex Kind.ingress d (p ∷ [])) (deeper u (suc c)) at
+      ∙ ap (λ b. flat_map (λ t. f w 0 t) (cond b (outer (deeper u (suc c)) ∷ []) [])) (ne_eqb (last (u.counters ++ (suc c ∷ []))) 0 (λ e. let k = last-deeper u (suc c) in omega arith)))
+
+  pub out_feedback_first : (w d : ℕ) (p : Port) (u : Time) → IsAt g w (new_vertex Kind.feedback d (p ∷ [])) → out (port w 0) (deeper u 0) ≈ []
+  out_feedback_first w d p u at = ≈-from (out_at w 0 (new_vertex Kind.feedback d (p ∷ [])) (deeper u 0) at
+      ∙ ap (λ b. flat_map (λ t. f w 0 t) (cond b (deeper (outer (deeper u 0)) (last (u.counters ++ (0 ∷ [])) - 1) ∷ []) [])) (le-ltb 0 (last (u.counters ++ (0 ∷ []))) (let k = last-deeper u 0 in omega arith)))
+
+  pub out_feedback_later : (w d : ℕ) (p : Port) (u : Time) (c : ℕ) → IsAt g w (new_vertex Kind.feedback (suc d) (p ∷ [])) → length u.counters ≡ d → out (port w 0) (deeper u (suc c)) ≈ out p (deeper u c)
+  out_feedback_later w d p u c at l =
+      let v = deeper u (suc c) in
+      ≈-trans (≈-from (out_at w 0 (new_vertex Kind.feedback (suc d) (p ∷ [])) v at
+      ∙ ap (λ b. flat_map (λ t. f w 0 t) (cond b (deeper (outer v) (last v.counters - 1) ∷ []) [])) (lt-ltb 0 (last v.counters) (let k = last-deeper u (suc c) in omega arith))
+      ∙ append-nil (f w 0 (deeper (outer v) (last v.counters - 1)))
+      ∙ ap₂ (λ a b. f w 0 (deeper a b)) (outer-deeper u (suc c)) (let k = last-deeper u (suc c) in omega arith)))
+      (in_first w Kind.feedback (suc d) p (deeper u c) at (length-deeper u c ∙ ap suc l))
+
+  pub out_two : (w d : ℕ) (p q : Port) (u : Time) → IsAt g w (new_vertex Kind.concat d (p ∷ q ∷ [])) → length u.counters ≡ d → out (port w 0) u ≈ (out p u ++ out q u)
+  out_two w d p q u at l = ≈-trans (≈-from (out_at w 0 (new_vertex Kind.concat d (p ∷ q ∷ [])) u at ∙ append-nil (f w 0 u ++ f w 1 u)))
+      (append_same (f w 0 u) (out p u) (f w 1 u) (out q u) (edge_at w (new_vertex Kind.concat d (p ∷ q ∷ [])) at 0 u (omega arith) l) (edge_at w (new_vertex Kind.concat d (p ∷ q ∷ [])) at 1 u (omega arith) l))
+
+  cond_in : (b : Bool) (xs ys : List Record) → xs ≈ ys → (cond b xs [] ++ []) ≈ cond b ys []
+  cond_in true xs ys h = ≈-trans (≈-from (append-nil xs)) h
+  cond_in false xs ys h = ≈-refl []
+
+  -- at a gate, by the counter
+  pub out_gate_round : (w d n : ℕ) (p : Port) (u : Time) (c : ℕ) → IsAt g w (new_vertex (Kind.gate n) (suc d) (p ∷ [])) → length u.counters ≡ d → out (port w 0) (deeper u c) ≈ cond (nat_lt c n) (out p (deeper u c)) []
+  out_gate_round w d n p u c at l = ≈-trans (≈-from (out_at w 0 (new_vertex (Kind.gate n) (suc d) (p ∷ [])) (deeper u c) at ∙ ap (λ k. cond (nat_lt k n) (f w 0 (deeper u c)) [] ++ []) (last-deeper u c)))
+      (cond_in (nat_lt c n) (f w 0 (deeper u c)) (out p (deeper u c)) (in_first w (Kind.gate n) (suc d) p (deeper u c) at (length-deeper u c ∙ ap suc l)))
+
+  pub out_gate_done : (w d n : ℕ) (p : Port) (u : Time) (c : ℕ) → IsAt g w (new_vertex (Kind.gate n) (suc d) (p ∷ [])) → length u.counters ≡ d → out (port w 1) (deeper u c) ≈ cond (nat_eq c n) (out p (deeper u c)) []
+  out_gate_done w d n p u c at l = ≈-trans (≈-from (out_at w 1 (new_vertex (Kind.gate n) (suc d) (p ∷ [])) (deeper u c) at ∙ ap (λ k. cond (nat_eq k n) (f w 0 (deeper u c)) [] ++ []) (last-deeper u c)))
+      (cond_in (nat_eq c n) (f w 0 (deeper u c)) (out p (deeper u c)) (in_first w (Kind.gate n) (suc d) p (deeper u c) at (length-deeper u c ∙ ap suc l)))
+
+  pub out_hold_round : (w d n : ℕ) (p : Port) (u : Time) (c : ℕ) → IsAt g w (new_vertex (Kind.hold n) (suc d) (p ∷ [])) → length u.counters ≡ d → out (port w 0) (deeper u c) ≈ cond (nat_lt c n) (out p (deeper u c)) []
+  out_hold_round w d n p u c at l = ≈-trans (≈-from (out_at w 0 (new_vertex (Kind.hold n) (suc d) (p ∷ [])) (deeper u c) at ∙ ap (λ k. cond (nat_lt k n) (f w 0 (deeper u c)) [] ++ []) (last-deeper u c)))
+      (cond_in (nat_lt c n) (f w 0 (deeper u c)) (out p (deeper u c)) (in_first w (Kind.hold n) (suc d) p (deeper u c) at (length-deeper u c ∙ ap suc l)))
+
+  pub out_hold_next : (w d n : ℕ) (p : Port) (u : Time) (c : ℕ) → IsAt g w (new_vertex (Kind.hold n) (suc d) (p ∷ [])) → length u.counters ≡ d → out (port w 1) (deeper u c) ≈ cond (nat_lt (c + 1) n) (out p (deeper u c)) []
+  out_hold_next w d n p u c at l = ≈-trans (≈-from (out_at w 1 (new_vertex (Kind.hold n) (suc d) (p ∷ [])) (deeper u c) at ∙ ap (λ k. cond (nat_lt (k + 1) n) (f w 0 (deeper u c)) [] ++ []) (last-deeper u c)))
+      (cond_in (nat_lt (c + 1) n) (f w 0 (deeper u c)) (out p (deeper u c)) (in_first w (Kind.hold n) (suc d) p (deeper u c) at (length-deeper u c ∙ ap suc l)))
+
+  -- what enters an egress, over all counters
+  out_egress_upto : (w d : ℕ) (p : Port) (u : Time) → IsAt g w (new_vertex Kind.egress (suc d) (p ∷ [])) → length u.counters ≡ d → (n : ℕ) → flat_map (λ t. f w 0 t) (map (deeper u) (below n)) ≈ flat_map (λ c. out p (deeper u c)) (below n)
+  out_egress_upto w d p u at l n = go (below n)
+    where
+      go : (cs : List ℕ) → flat_map (λ t. f w 0 t) (map (deeper u) cs) ≈ flat_map (λ c. out p (deeper u c)) cs
+      go [] = ≈-refl []
+      go (c ∷ cs) = append_same (f w 0 (deeper u c)) (out p (deeper u c)) (flat_map (λ t. f w 0 t) (map (deeper u) cs)) (flat_map (λ c. out p (deeper u c)) cs) (in_first w Kind.egress (suc d) p (deeper u c) at (length-deeper u c ∙ ap suc l)) (go cs)
+
+  pub out_egress : (w d : ℕ) (p : Port) (u : Time) → IsAt g w (new_vertex Kind.egress (suc d) (p ∷ [])) → length u.counters ≡ d → out (port w 0) u ≈ flat_map (λ c. out p (deeper u c)) (below turn_count)
+  out_egress w d p u at l = ≈-trans (≈-from (out_at w 0 (new_vertex Kind.egress (suc d) (p ∷ [])) u at)) (out_egress_upto w d p u at l turn_count)

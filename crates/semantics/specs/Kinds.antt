@@ -1,0 +1,135 @@
+-- The kinds of vertices, and a table of what each is to the graph: its ports, what it does to times, its route keys, its role.
+-- (Naiad, SOSP 2013, sections 2.1 and 2.2: vertices, and the ingress, egress and feedback vertices of a loop context.)
+use Rattle.std.specs.Prelude.{ℕ, zero, suc, Bool, true, false, List, Option, Some, None}
+use Rattle.semantics.specs.Query.{Scalar, Cond, Agg, Pair}
+use Rattle.semantics.specs.Multiset.{Record}
+use Rattle.semantics.specs.Meaning.{project, left_columns, right_columns}
+use Rattle.semantics.specs.Time.{Action}
+
+-- A gate has the number of turns of its loop, and so has a hold, which keeps a name from outside for each turn.
+pub data Kind : Type 0 where
+  input output concat distinct ingress egress feedback : Kind
+  select : List Scalar → Kind
+  filter : Cond → Kind
+  join : List Pair → Kind
+  group : List ℕ → List Agg → Kind
+  gate hold : ℕ → Kind
+
+-- how many in ports a kind has
+abbrev pub in_ports : Kind → ℕ
+in_ports Kind.input = 0
+in_ports Kind.output = 1
+in_ports (Kind.select ss) = 1
+in_ports (Kind.filter c) = 1
+in_ports Kind.concat = 2
+in_ports (Kind.join ps) = 2
+in_ports (Kind.group ks as') = 1
+in_ports Kind.distinct = 1
+in_ports Kind.ingress = 1
+in_ports Kind.egress = 1
+in_ports Kind.feedback = 1
+in_ports (Kind.gate n) = 1
+in_ports (Kind.hold n) = 1
+
+-- how many out ports a kind has
+abbrev pub out_ports : Kind → ℕ
+out_ports Kind.input = 1
+out_ports Kind.output = 0
+out_ports (Kind.select ss) = 1
+out_ports (Kind.filter c) = 1
+out_ports Kind.concat = 1
+out_ports (Kind.join ps) = 1
+out_ports (Kind.group ks as') = 1
+out_ports Kind.distinct = 1
+out_ports Kind.ingress = 1
+out_ports Kind.egress = 1
+out_ports Kind.feedback = 1
+out_ports (Kind.gate n) = 2
+out_ports (Kind.hold n) = 2
+
+-- what a kind does to the time of what passes it, on the way out
+abbrev pub action : Kind → Action
+action Kind.input = Action.stay
+action Kind.output = Action.stay
+action (Kind.select ss) = Action.stay
+action (Kind.filter c) = Action.stay
+action Kind.concat = Action.stay
+action (Kind.join ps) = Action.stay
+action (Kind.group ks as') = Action.stay
+action Kind.distinct = Action.stay
+action Kind.ingress = Action.enter
+action Kind.egress = Action.leave
+action Kind.feedback = Action.next
+action (Kind.gate n) = Action.stay
+action (Kind.hold n) = Action.stay
+
+-- the route key of a record that comes in at a port, for the kinds whose equal keys must meet on one worker
+abbrev pub route_key : Kind → (port : ℕ) → Option (Record → Record)
+route_key Kind.input port = None
+route_key Kind.output port = None
+route_key (Kind.select ss) port = None
+route_key (Kind.filter c) port = None
+route_key Kind.concat port = None
+route_key (Kind.join ps) zero = Some (project (left_columns ps))
+route_key (Kind.join ps) (suc port) = Some (project (right_columns ps))
+route_key (Kind.group ks as') port = Some (project ks)
+route_key Kind.distinct port = Some (λ r. r)
+route_key Kind.ingress port = None
+route_key Kind.egress port = None
+route_key Kind.feedback port = None
+route_key (Kind.gate n) port = None
+route_key (Kind.hold n) port = None
+
+-- a turn of a loop ends there: what comes in leaves the loop, or goes into its next turn
+abbrev pub ends_turn : Kind → Bool
+ends_turn Kind.input = false
+ends_turn Kind.output = false
+ends_turn (Kind.select ss) = false
+ends_turn (Kind.filter c) = false
+ends_turn Kind.concat = false
+ends_turn (Kind.join ps) = false
+ends_turn (Kind.group ks as') = false
+ends_turn Kind.distinct = false
+ends_turn Kind.ingress = false
+ends_turn Kind.egress = true
+ends_turn Kind.feedback = true
+ends_turn (Kind.gate n) = false
+ends_turn (Kind.hold n) = false
+
+-- the kind is an input
+abbrev pub is_input : Kind → Bool
+is_input Kind.input = true
+is_input Kind.output = false
+is_input (Kind.select ss) = false
+is_input (Kind.filter c) = false
+is_input Kind.concat = false
+is_input (Kind.join ps) = false
+is_input (Kind.group ks as') = false
+is_input Kind.distinct = false
+is_input Kind.ingress = false
+is_input Kind.egress = false
+is_input Kind.feedback = false
+is_input (Kind.gate n) = false
+is_input (Kind.hold n) = false
+
+-- How a vertex answers what comes in. An input has no in port. A stateless vertex sends what its equation makes of each
+-- message; a stateful one absorbs the message, and sends what its equation gains by it; a notified one absorbs it, and sends
+-- when it is told that no more can come at that time; an output sends nothing.
+pub data Role : Type 0 where
+  input stateless stateful notified output : Role
+
+-- how each kind answers
+abbrev pub role : Kind → Role
+role Kind.input = Role.input
+role Kind.output = Role.output
+role (Kind.select ss) = Role.stateless
+role (Kind.filter c) = Role.stateless
+role Kind.concat = Role.stateless
+role (Kind.join ps) = Role.stateful
+role (Kind.group ks as') = Role.notified
+role Kind.distinct = Role.stateful
+role Kind.ingress = Role.stateless
+role Kind.egress = Role.stateless
+role Kind.feedback = Role.stateless
+role (Kind.gate n) = Role.stateless
+role (Kind.hold n) = Role.stateless

@@ -1,0 +1,32 @@
+-- What one worker's shard of a vertex sends and asks for.
+use Rattle.std.specs.Prelude.{◌≡◌, ℕ, Bool, true, false, cond, ◌==◌, List, [], ◌∷◌, ◌++◌}
+use Rattle.semantics.specs.Multiset.{Record, ◌≈◌}
+use Rattle.semantics.specs.Kinds.{Role}
+
+-- these records at one port, and nothing at the others
+abbrev pub only_at : ℕ → List Record → ℕ → List Record
+only_at p records p' = cond (p' == p) records []
+
+-- What a shard sends for records that come to a port: `op` is its vertex's equation at the time, `before` what it had absorbed
+-- there by port, `now` what it then has, and `out` what it sends by out port. An input is sent nothing.
+abbrev pub SendsBy : Role → (op : (out : ℕ) → (ins : ℕ → List Record) → List Record) → (before now : (port : ℕ) → List Record) → (port : ℕ) → List Record → (out : ℕ → List Record) → Type 0
+SendsBy Role.input op before now port records out = ⊥
+SendsBy Role.stateless op before now port records out = (q : ℕ) → out q ≈ op q (only_at port records)
+-- what is gained
+SendsBy Role.stateful op before now port records out = (q : ℕ) → (out q ++ op q before) ≈ op q now
+SendsBy Role.notified op before now port records out = (q : ℕ) → out q ≡ []
+SendsBy Role.output op before now port records out = (q : ℕ) → out q ≡ []
+
+-- what a shard sends at its notification, of all that it absorbed at that time
+abbrev pub SendsAtNotification : (op : (out : ℕ) → (ins : ℕ → List Record) → List Record) → (absorbed : (port : ℕ) → List Record) → (out : ℕ → List Record) → Type 0
+SendsAtNotification op absorbed out = (q : ℕ) → out q ≈ op q absorbed
+
+-- a shard asks for a notification by the first records that it absorbs at a time; `before` is what it had absorbed there at all
+-- its ports
+abbrev pub asks : Role → (before : List Record) → Bool
+asks Role.input before = false
+asks Role.stateless before = false
+asks Role.stateful before = false
+asks Role.notified [] = true
+asks Role.notified (r ∷ records) = false
+asks Role.output before = false
