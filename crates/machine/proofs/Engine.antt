@@ -10,7 +10,7 @@ use Rattle.semantics.specs.Dataflow.{Goes, IsDataflow}
 use Rattle.semantics.specs.Flow.{edge_flow, Inputs, Flow, sent_by, sent_or_fed, port_flow, IsEdgeTime, IsFlow}
 use Rattle.semantics.specs.Graph.{edge_count, target, in_port, edge_into, edge_source, Vertex, Graph, no_vertex, vertex, input_count, output_number}
 use Rattle.semantics.specs.Route.{route, home_by, home}
-use Rattle.semantics.specs.Time.{Time, last, deeper, outer, Action, after_action, times_before, below, turn_count, same_counters, same_time, at_epoch}
+use Rattle.semantics.specs.Time.{in_first_turn, Time, last, deeper, outer, Action, after_action, times_before, below, turn_count, same_counters, same_time, at_epoch}
 use Rattle.semantics.proofs.MultisetSums.{Decides-same, ≈-refl, ≈-trans, ≈-from, total-append, empty_from_same, count_here}
 use Rattle.semantics.proofs.MonotoneVertices.{Grows, op_part}
 use Rattle.semantics.proofs.TimesBefore.{Among, Defined, times_before_all, Reached, times_before_only}
@@ -267,7 +267,7 @@ once_below t u (suc n) = go (same_time_tells t (deeper u n)) (once_below t u n) 
 
 sources_once : (a : Action) (t u : Time) → OnceAtMost t (times_before a u)
 sources_once Action.stay t u = once_one t u
-sources_once Action.enter t u = once_cond t (outer u) (nat_eq (last u.counters) 0)
+sources_once Action.enter t u = once_cond t (outer u) (in_first_turn u.counters)
 sources_once Action.leave t u = once_below t u turn_count
 sources_once Action.next t u = once_cond t (deeper (outer u) (last u.counters - 1)) (nat_lt 0 (last u.counters))
 

@@ -5,7 +5,7 @@ use Rattle.std.specs.List.{AllByRecursion}
 use Rattle.semantics.specs.Limits.{max_loops}
 use Rattle.semantics.specs.Dataflow.{IsWired, Goes, IsNested}
 use Rattle.semantics.specs.Flow.{Inputs, HasOneFlow}
-use Rattle.semantics.specs.Kinds.{Kind, action, in_ports}
+use Rattle.semantics.specs.Kinds.{Kind, action, in_ports, out_ports}
 use Rattle.semantics.specs.Graph.{Port, Vertex, Graph, no_vertex, no_port, vertex, source}
 use Rattle.semantics.specs.Lower.{other_than, free, firsts, carried, Ports, stands_for, port, new_vertex, carry, carried_ports, Lowered, lower, looped, input_vertices, input_ports, lower_lets, lets_of, output_of, lowered}
 use Rattle.semantics.specs.Meaning.{same_name}
@@ -24,7 +24,7 @@ pub record SoundAs (g : Graph) (loops : ℕ → List ℕ) (w : ℕ) (v : Vertex)
   pub full : length v.ins ≡ in_ports v.kind
   pub home : length (loops w) ≡ v.depth
   pub shallow : v.depth ≤ max_loops
-  pub edges : AllByRecursion (λ (p : Port). (p.vertex < length g) × Goes loops p.vertex w (action (vertex g p.vertex).kind)) v.ins
+  pub edges : AllByRecursion (λ (p : Port). (p.vertex < length g) × (p.out < out_ports (vertex g p.vertex).kind) × Goes loops p.vertex w (action (vertex g p.vertex).kind)) v.ins
 
 abbrev pub AllSound : Graph → (ℕ → List ℕ) → ℕ → List Vertex → Type 0
 AllSound g loops k [] = Unit {0}
@@ -50,15 +50,15 @@ module _ (g : Graph) (loops : ℕ → List ℕ) where
     unfolding vertex
     sound_at w l = subst (λ n. SoundAs g loops n (slice_index_or g w no_vertex)) (omega arith) (all_sound_at 0 g sound w l)
 
-    edge_sound : (w i : ℕ) → w < length g → i < length (vertex g w).ins → ((source g w i).vertex < length g) × Goes loops (source g w i).vertex w (action (vertex g (source g w i).vertex).kind)
+    edge_sound : (w i : ℕ) → w < length g → i < length (vertex g w).ins → ((source g w i).vertex < length g) × ((source g w i).out < out_ports (vertex g (source g w i).vertex).kind) × Goes loops (source g w i).vertex w (action (vertex g (source g w i).vertex).kind)
     unfolding source
     edge_sound w i l m = all_at _ (vertex g w).ins i (sound_at w l).edges m
 
     pub wired_from_sound : IsWired g
-    wired_from_sound = record { full = λ v l. (sound_at v l).full; fed = λ w i l m. (edge_sound w i l m).0; shallow = λ v l. (sound_at v l).shallow }
+    wired_from_sound = record { full = λ v l. (sound_at v l).full; fed = λ w i l m. (edge_sound w i l m).0; from_port = λ w i l m. (edge_sound w i l m).1; shallow = λ v l. (sound_at v l).shallow }
 
     pub nested_from_sound : IsNested g loops
-    nested_from_sound = record { homes = λ v l. (sound_at v l).home; goes = λ w i l m. (edge_sound w i l m).1 }
+    nested_from_sound = record { homes = λ v l. (sound_at v l).home; goes = λ w i l m. (edge_sound w i l m).2 }
 
 -- ---- the loops of the vertices that a relation makes
 
@@ -151,53 +151,54 @@ module _ (g : Graph) (loops : ℕ → List ℕ) where
   -- a port below k whose edges are among those of `here`
   pub record Avail (p : Port) (here : List ℕ) (k : ℕ) : Type 0 where
     pub below : p.vertex < k
+    pub is_out : p.out < out_ports (vertex g p.vertex).kind
     pub exits : Exits loops p.vertex here (action (vertex g p.vertex).kind)
 
   avail_later : (p : Port) (here : List ℕ) (k m : ℕ) → k ≤ m → Avail p here k → Avail p here m
-  avail_later p here k m l a = record { below = let b = a.below in omega arith; exits = a.exits }
+  avail_later p here k m l a = record { below = let b = a.below in omega arith; is_out = a.is_out; exits = a.exits }
 
-  avail_here : (w o : ℕ) (v : Vertex) (here : List ℕ) (k : ℕ) → IsAt g w v → action v.kind ≡ Action.stay → loops w ≡ here → w < k → Avail (port w o) here k
-  avail_here w o v here k at e h l = record { below = l; exits = subst (λ (x : Vertex). Exits loops w here (action x.kind)) (sym at.is) (subst (Exits loops w here) (sym e) (Exits.plain h)) }
+  avail_here : (w o : ℕ) (v : Vertex) (here : List ℕ) (k : ℕ) → IsAt g w v → o < out_ports v.kind → action v.kind ≡ Action.stay → loops w ≡ here → w < k → Avail (port w o) here k
+  avail_here w o v here k at n e h l = record { below = l; is_out = subst (λ (x : Vertex). o < out_ports x.kind) (sym at.is) n; exits = subst (λ (x : Vertex). Exits loops w here (action x.kind)) (sym at.is) (subst (Exits loops w here) (sym e) (Exits.plain h)) }
 
-  avail_outward : (w o : ℕ) (v : Vertex) (here : List ℕ) (k : ℕ) → IsAt g w v → action v.kind ≡ Action.leave → loops w ≡ here ++ (w ∷ []) → w < k → Avail (port w o) here k
-  avail_outward w o v here k at e h l = record { below = l; exits = subst (λ (x : Vertex). Exits loops w here (action x.kind)) (sym at.is) (subst (Exits loops w here) (sym e) (Exits.outward h)) }
+  avail_outward : (w o : ℕ) (v : Vertex) (here : List ℕ) (k : ℕ) → IsAt g w v → o < out_ports v.kind → action v.kind ≡ Action.leave → loops w ≡ here ++ (w ∷ []) → w < k → Avail (port w o) here k
+  avail_outward w o v here k at n e h l = record { below = l; is_out = subst (λ (x : Vertex). o < out_ports x.kind) (sym at.is) n; exits = subst (λ (x : Vertex). Exits loops w here (action x.kind)) (sym at.is) (subst (Exits loops w here) (sym e) (Exits.outward h)) }
 
   -- an edge from an available port
-  edge_from : (p : Port) (here : List ℕ) (k w : ℕ) → Avail p here k → loops w ≡ here → k ≤ w → w < length g → (p.vertex < length g) × Goes loops p.vertex w (action (vertex g p.vertex).kind)
-  edge_from p here k w a h l m = (let b = a.below in omega arith, exits_step loops p.vertex w here (action (vertex g p.vertex).kind) a.exits h (let b = a.below in omega arith))
+  edge_from : (p : Port) (here : List ℕ) (k w : ℕ) → Avail p here k → loops w ≡ here → k ≤ w → w < length g → (p.vertex < length g) × (p.out < out_ports (vertex g p.vertex).kind) × Goes loops p.vertex w (action (vertex g p.vertex).kind)
+  edge_from p here k w a h l m = (let b = a.below in omega arith, a.is_out, exits_step loops p.vertex w here (action (vertex g p.vertex).kind) a.exits h (let b = a.below in omega arith))
 
   -- an edge from a vertex that is at hand
-  edge_of : (v w : ℕ) (x : Vertex) (a : Action) → IsAt g v x → action x.kind ≡ a → Goes loops v w a → (v < length g) × Goes loops v w (action (vertex g v).kind)
-  edge_of v w x a at e s = (at.known, subst (λ (y : Vertex). Goes loops v w (action y.kind)) (sym at.is) (subst (Goes loops v w) (sym e) s))
+  edge_of : (v o w : ℕ) (x : Vertex) (a : Action) → IsAt g v x → o < out_ports x.kind → action x.kind ≡ a → Goes loops v w a → (v < length g) × (o < out_ports (vertex g v).kind) × Goes loops v w (action (vertex g v).kind)
+  edge_of v o w x a at n e s = (at.known, subst (λ (y : Vertex). o < out_ports y.kind) (sym at.is) n, subst (λ (y : Vertex). Goes loops v w (action y.kind)) (sym at.is) (subst (Goes loops v w) (sym e) s))
 
   abbrev SoundClaim : ℕ → Rel → Type 0
-  SoundClaim d r = (ports : Ports) (k : ℕ) (here : List ℕ) → Stands g k (lower r ports d k).made → Homed loops k (homes r ports d k here) → length here ≡ d → d ≤ 8 → ((y : Name) → Has y (free r) → Avail (ports y) here k) → AllSound g loops k (lower r ports d k).made × Avail (lower r ports d k).gives here (k + length (lower r ports d k).made)
+  SoundClaim d r = (ports : Ports) (k : ℕ) (here : List ℕ) → Stands g k (lower r ports d k).made → Homed loops k (homes r ports d k here) → length here ≡ d → d ≤ max_loops → ((y : Name) → Has y (free r) → Avail (ports y) here k) → AllSound g loops k (lower r ports d k).made × Avail (lower r ports d k).gives here (k + length (lower r ports d k).made)
 
-  one_sound : (ports : Ports) (d k : ℕ) (here : List ℕ) (kind : Kind) (r : Lowered) (hs : List (List ℕ)) → length hs ≡ length r.made → 1 ≡ in_ports kind → action kind ≡ Action.stay → length here ≡ d → d ≤ 8
+  one_sound : (ports : Ports) (d k : ℕ) (here : List ℕ) (kind : Kind) (r : Lowered) (hs : List (List ℕ)) → length hs ≡ length r.made → 1 ≡ in_ports kind → 1 ≡ out_ports kind → action kind ≡ Action.stay → length here ≡ d → d ≤ max_loops
       → Stands g k (r.made ++ (new_vertex kind d (r.gives ∷ []) ∷ [])) → Homed loops k (hs ++ (here ∷ []))
       → AllSound g loops k r.made × Avail r.gives here (k + length r.made)
       → AllSound g loops k (r.made ++ (new_vertex kind d (r.gives ∷ []) ∷ [])) × Avail (port (k + length r.made) 0) here (k + length (r.made ++ (new_vertex kind d (r.gives ∷ []) ∷ [])))
-  one_sound ports d k here kind r hs n i e l m s h ih =
+  one_sound ports d k here kind r hs n i o e l m s h ih =
       let w = k + length r.made in
       let v = new_vertex kind d (r.gives ∷ []) in
       let at : IsAt g w v = (stands_right g k r.made (v ∷ []) s).0 in
       let at_home : loops w ≡ here = (homed_right loops k (length r.made) hs (here ∷ []) n h).0 in
       let sound : SoundAs g loops w v = record { full = i; home = ap length at_home ∙ l; shallow = m; edges = (edge_from r.gives here w w ih.1 at_home (le_refl w) at.known, tt) } in
-      (all_sound-append g loops k r.made (v ∷ []) ih.0 (sound, tt), avail_here w 0 v here (k + length (r.made ++ (v ∷ []))) at e at_home (omega (arith, length-append r.made (v ∷ []))))
+      (all_sound-append g loops k r.made (v ∷ []) ih.0 (sound, tt), avail_here w 0 v here (k + length (r.made ++ (v ∷ []))) at (omega arith) e at_home (omega (arith, length-append r.made (v ∷ []))))
 
-  two_sound : (ports : Ports) (d k : ℕ) (here : List ℕ) (kind : Kind) (r q : Lowered) (hs js : List (List ℕ)) → length hs ≡ length r.made → length js ≡ length q.made → 2 ≡ in_ports kind → action kind ≡ Action.stay → length here ≡ d → d ≤ 8
+  two_sound : (ports : Ports) (d k : ℕ) (here : List ℕ) (kind : Kind) (r q : Lowered) (hs js : List (List ℕ)) → length hs ≡ length r.made → length js ≡ length q.made → 2 ≡ in_ports kind → 1 ≡ out_ports kind → action kind ≡ Action.stay → length here ≡ d → d ≤ max_loops
       → Stands g k (r.made ++ (q.made ++ (new_vertex kind d (r.gives ∷ q.gives ∷ []) ∷ []))) → Homed loops k (hs ++ (js ++ (here ∷ [])))
       → AllSound g loops k r.made × Avail r.gives here (k + length r.made)
       → AllSound g loops (k + length r.made) q.made × Avail q.gives here (k + length r.made + length q.made)
       → AllSound g loops k (r.made ++ (q.made ++ (new_vertex kind d (r.gives ∷ q.gives ∷ []) ∷ []))) × Avail (port (k + length r.made + length q.made) 0) here (k + length (r.made ++ (q.made ++ (new_vertex kind d (r.gives ∷ q.gives ∷ []) ∷ []))))
-  two_sound ports d k here kind r q hs js n n' i e l m s h ih ih' =
+  two_sound ports d k here kind r q hs js n n' i o e l m s h ih ih' =
       let w = k + length r.made + length q.made in
       let v = new_vertex kind d (r.gives ∷ q.gives ∷ []) in
       let at : IsAt g w v = (stands_right g (k + length r.made) q.made (v ∷ []) (stands_right g k r.made (q.made ++ (v ∷ [])) s)).0 in
       let at_home : loops w ≡ here = (homed_right loops (k + length r.made) (length q.made) js (here ∷ []) n' (homed_right loops k (length r.made) hs (js ++ (here ∷ [])) n h)).0 in
       let sound : SoundAs g loops w v = record { full = i; home = ap length at_home ∙ l; shallow = m; edges = (edge_from r.gives here (k + length r.made) w ih.1 at_home (omega arith) at.known, (edge_from q.gives here w w ih'.1 at_home (le_refl w) at.known, tt)) } in (
         all_sound-append g loops k r.made (q.made ++ (v ∷ [])) ih.0 (all_sound-append g loops (k + length r.made) q.made (v ∷ []) ih'.0 (sound, tt)),
-        avail_here w 0 v here (k + length (r.made ++ (q.made ++ (v ∷ [])))) at e at_home (omega (arith, length-append r.made (q.made ++ (v ∷ [])), length-append q.made (v ∷ []))),
+        avail_here w 0 v here (k + length (r.made ++ (q.made ++ (v ∷ [])))) at (omega arith) e at_home (omega (arith, length-append r.made (q.made ++ (v ∷ [])), length-append q.made (v ∷ []))),
       )
 
   -- ---- what a loop carries
@@ -236,14 +237,14 @@ module _ (g : Graph) (loops : ℕ → List ℕ) where
             home = ap length h1 ∙ deep;
             shallow = m;
             edges = (
-              edge_of k (suc k) _ Action.enter s.0 refl (Goes.into_loop eg (h1 ∙ ap (λ x. x ++ (eg ∷ [])) (sym h0)) (omega arith)),
-              (edge_of (suc (suc (suc k))) (suc k) _ Action.next s.1.1.1.0 refl (Goes.round_loop (h1 ∙ sym h3) (omega (arith, ap length h3))), tt),
+              edge_of k 0 (suc k) _ Action.enter s.0 (omega arith) refl (Goes.into_loop eg (h1 ∙ ap (λ x. x ++ (eg ∷ [])) (sym h0)) (omega arith)),
+              (edge_of (suc (suc (suc k))) 0 (suc k) _ Action.next s.1.1.1.0 (omega arith) refl (Goes.round_loop (h1 ∙ sym h3) (omega (arith, ap length h3))), tt),
             );
           },
           (
-            record { full = refl; home = ap length h2 ∙ deep; shallow = m; edges = (edge_of (suc k) (suc (suc k)) _ Action.stay s.1.0 refl (Goes.same_loop (h2 ∙ sym h1) (omega arith)), tt) },
+            record { full = refl; home = ap length h2 ∙ deep; shallow = m; edges = (edge_of (suc k) 0 (suc (suc k)) _ Action.stay s.1.0 (omega arith) refl (Goes.same_loop (h2 ∙ sym h1) (omega arith)), tt) },
             (
-              record { full = refl; home = ap length h3 ∙ deep; shallow = m; edges = (edge_of (suc (suc k)) (suc (suc (suc k))) _ Action.stay s.1.1.0 refl (Goes.same_loop (h3 ∙ sym h2) (omega arith)), tt) },
+              record { full = refl; home = ap length h3 ∙ deep; shallow = m; edges = (edge_of (suc (suc k)) 1 (suc (suc (suc k))) _ Action.stay s.1.1.0 (omega arith) refl (Goes.same_loop (h3 ∙ sym h2) (omega arith)), tt) },
               carry_sound n ports d (suc (suc (suc (suc k)))) eg here ys s.1.1.1.1 h.1.1.1.1 l m (omega arith) (λ z j. avail_later (ports z) here k (suc (suc (suc (suc k)))) (omega arith) (avail z (inr j))),
             ),
           ),
@@ -255,7 +256,7 @@ module _ (g : Graph) (loops : ℕ → List ℕ) where
   held_avail n ports d k m here in' (x ∷ xs) s h b y j = go (same_name x y) refl j (held_avail n ports d (suc (suc (suc (suc k)))) m here in' xs s.1.1.1.1 h.1.1.1.1 (omega arith) y)
     where
       go : (t : Bool) → same_name x y ≡ t → (x ≡ y) ⊎ Has y xs → (Has y xs → Avail (carried_ports ports (suc (suc (suc (suc k)))) xs y) in' m) → Avail (cond t (port (suc (suc k)) 0) (carried_ports ports (suc (suc (suc (suc k)))) xs y)) in' m
-      go true q i f = avail_here (suc (suc k)) 0 _ in' m s.1.1.0 refl h.1.1.0 (omega arith)
+      go true q i f = avail_here (suc (suc k)) 0 _ in' m s.1.1.0 (omega arith) refl h.1.1.0 (omega arith)
       go false q (inl e) f = absurd (true≢false (sym ((Decides-same_name x y).1 e) ∙ q))
       go false q (inr i) f = f i
 
@@ -329,7 +330,7 @@ module _ (g : Graph) (loops : ℕ → List ℕ) where
       inside_avail y j = go (same_name x y) refl
         where
           go : (t : Bool) → same_name x y ≡ t → Avail (cond t (port gate 0) (carried_ports ports (suc gate) ys y)) in' first
-          go true q = avail_here gate 0 _ in' first in_loop.1.1.0 refl home_loop.1.1.0 (omega arith)
+          go true q = avail_here gate 0 _ in' first in_loop.1.1.0 (omega arith) refl home_loop.1.1.0 (omega arith)
           go false q = held_avail n ports d (suc gate) first here in' ys (stands_left g (suc gate) cs (body.made ++ ends) in_loop.1.1.1) (homed_left loops (suc gate) (carry_homes here in' ys) _ home_loop.1.1.1) (le_refl first) y (Has_firsts y (filter (other_than x) (free b)) (Has_other x y (free b) q j))
 
       start_sound : AllSound g loops k start.made × Avail start.gives here loop
@@ -341,7 +342,7 @@ module _ (g : Graph) (loops : ℕ → List ℕ) where
       ends_sound : AllSound g loops back ends
       ends_sound = (
         record { full = refl; home = ap length home_back.0 ∙ deep; shallow = m; edges = (edge_from body.gives in' back back body_sound.1 home_back.0 (le_refl back) at_back.0.known, tt) },
-        (record { full = refl; home = ap length home_back.1.0 ∙ deep; shallow = m; edges = (edge_of gate (suc back) _ Action.stay in_loop.1.1.0 refl (Goes.same_loop (home_back.1.0 ∙ sym home_loop.1.1.0) (omega arith)), tt) }, tt),
+        (record { full = refl; home = ap length home_back.1.0 ∙ deep; shallow = m; edges = (edge_of gate 1 (suc back) _ Action.stay in_loop.1.1.0 (omega arith) refl (Goes.same_loop (home_back.1.0 ∙ sym home_loop.1.1.0) (omega arith)), tt) }, tt),
       )
 
       loop_all : AllSound g loops loop made
@@ -353,12 +354,12 @@ module _ (g : Graph) (loops : ℕ → List ℕ) where
             home = ap length home_loop.1.0 ∙ deep;
             shallow = m;
             edges = (
-              edge_of loop (suc loop) _ Action.enter in_loop.0 refl (Goes.into_loop (suc back) (home_loop.1.0 ∙ ap (λ z. z ++ (suc back ∷ [])) (sym home_loop.0)) (omega arith)),
-              (edge_of back (suc loop) _ Action.next at_back.0 refl (Goes.round_loop (home_loop.1.0 ∙ sym home_back.0) (omega (arith, ap length home_back.0, deep))), tt),
+              edge_of loop 0 (suc loop) _ Action.enter in_loop.0 (omega arith) refl (Goes.into_loop (suc back) (home_loop.1.0 ∙ ap (λ z. z ++ (suc back ∷ [])) (sym home_loop.0)) (omega arith)),
+              (edge_of back 0 (suc loop) _ Action.next at_back.0 (omega arith) refl (Goes.round_loop (home_loop.1.0 ∙ sym home_back.0) (omega (arith, ap length home_back.0, deep))), tt),
             );
           },
           (
-            record { full = refl; home = ap length home_loop.1.1.0 ∙ deep; shallow = m; edges = (edge_of (suc loop) gate _ Action.stay in_loop.1.0 refl (Goes.same_loop (home_loop.1.1.0 ∙ sym home_loop.1.0) (omega arith)), tt) },
+            record { full = refl; home = ap length home_loop.1.1.0 ∙ deep; shallow = m; edges = (edge_of (suc loop) 0 gate _ Action.stay in_loop.1.0 (omega arith) refl (Goes.same_loop (home_loop.1.1.0 ∙ sym home_loop.1.0) (omega arith)), tt) },
             all_sound-append g loops (suc gate) cs (body.made ++ ends)
                 (carry_sound n ports d (suc gate) (suc back) here ys (stands_left g (suc gate) cs (body.made ++ ends) in_loop.1.1.1) (homed_left loops (suc gate) (carry_homes here in' ys) _ home_loop.1.1.1) l m (omega arith) carried_avail)
                 (all_sound-append g loops first body.made ends body_sound.0 ends_sound),
@@ -370,35 +371,35 @@ module _ (g : Graph) (loops : ℕ → List ℕ) where
       all_sound = all_sound-append g loops k start.made made start_sound.0 loop_all
 
       gives : Avail (port (suc back) 0) here (k + length (start.made ++ made))
-      gives = avail_outward (suc back) 0 _ here (k + length (start.made ++ made)) at_back.1.0 refl home_back.1.0 (omega (arith, length-append start.made made, length-append cs (body.made ++ ends), length-append body.made ends))
+      gives = avail_outward (suc back) 0 _ here (k + length (start.made ++ made)) at_back.1.0 (omega arith) refl home_back.1.0 (omega (arith, length-append start.made made, length-append cs (body.made ++ ends), length-append body.made ends))
 
   pub relation_sound : (r : Rel) (d : ℕ) → Nested d r → SoundClaim d r
   unfolding lower homes
   relation_sound (Rel.named x) d t ports k here s h l m avail = (tt, avail_later (ports x) here k (k + 0) (omega arith) (avail x (inl refl)))
   relation_sound (Rel.select r ss) d t ports k here s h l m avail =
       let a = lower r ports d k in
-      one_sound ports d k here (Kind.select ss) a (homes r ports d k here) (length-homes r ports d k here) refl refl l m s h (relation_sound r d t ports k here (stands_left g k a.made _ s) (homed_left loops k (homes r ports d k here) _ h) l m avail)
+      one_sound ports d k here (Kind.select ss) a (homes r ports d k here) (length-homes r ports d k here) refl refl refl l m s h (relation_sound r d t ports k here (stands_left g k a.made _ s) (homed_left loops k (homes r ports d k here) _ h) l m avail)
   relation_sound (Rel.filter r c) d t ports k here s h l m avail =
       let a = lower r ports d k in
-      one_sound ports d k here (Kind.filter c) a (homes r ports d k here) (length-homes r ports d k here) refl refl l m s h (relation_sound r d t ports k here (stands_left g k a.made _ s) (homed_left loops k (homes r ports d k here) _ h) l m avail)
+      one_sound ports d k here (Kind.filter c) a (homes r ports d k here) (length-homes r ports d k here) refl refl refl l m s h (relation_sound r d t ports k here (stands_left g k a.made _ s) (homed_left loops k (homes r ports d k here) _ h) l m avail)
   relation_sound (Rel.group r ks as') d t ports k here s h l m avail =
       let a = lower r ports d k in
-      one_sound ports d k here (Kind.group ks as') a (homes r ports d k here) (length-homes r ports d k here) refl refl l m s h (relation_sound r d t ports k here (stands_left g k a.made _ s) (homed_left loops k (homes r ports d k here) _ h) l m avail)
+      one_sound ports d k here (Kind.group ks as') a (homes r ports d k here) (length-homes r ports d k here) refl refl refl l m s h (relation_sound r d t ports k here (stands_left g k a.made _ s) (homed_left loops k (homes r ports d k here) _ h) l m avail)
   relation_sound (Rel.distinct r) d t ports k here s h l m avail =
       let a = lower r ports d k in
-      one_sound ports d k here Kind.distinct a (homes r ports d k here) (length-homes r ports d k here) refl refl l m s h (relation_sound r d t ports k here (stands_left g k a.made _ s) (homed_left loops k (homes r ports d k here) _ h) l m avail)
+      one_sound ports d k here Kind.distinct a (homes r ports d k here) (length-homes r ports d k here) refl refl refl l m s h (relation_sound r d t ports k here (stands_left g k a.made _ s) (homed_left loops k (homes r ports d k here) _ h) l m avail)
   relation_sound (Rel.concat p q) d t ports k here s h l m avail =
       let a = lower p ports d k in
       let e = k + length a.made in
       let b = lower q ports d e in
-      two_sound ports d k here Kind.concat a b (homes p ports d k here) (homes q ports d e here) (length-homes p ports d k here) (length-homes q ports d e here) refl refl l m s h
+      two_sound ports d k here Kind.concat a b (homes p ports d k here) (homes q ports d e here) (length-homes p ports d k here) (length-homes q ports d e here) refl refl refl l m s h
       (relation_sound p d t.0 ports k here (stands_left g k a.made _ s) (homed_left loops k (homes p ports d k here) _ h) l m (λ y j. avail y (Has_left y (free p) (free q) j)))
       (relation_sound q d t.1 ports e here (stands_left g e b.made _ (stands_right g k a.made _ s)) (homed_left loops e (homes q ports d e here) _ (homed_right loops k (length a.made) (homes p ports d k here) _ (length-homes p ports d k here) h)) l m (λ y j. avail_later (ports y) here k e (omega arith) (avail y (Has_right y (free p) (free q) j))))
   relation_sound (Rel.join p q ps) d t ports k here s h l m avail =
       let a = lower p ports d k in
       let e = k + length a.made in
       let b = lower q ports d e in
-      two_sound ports d k here (Kind.join ps) a b (homes p ports d k here) (homes q ports d e here) (length-homes p ports d k here) (length-homes q ports d e here) refl refl l m s h
+      two_sound ports d k here (Kind.join ps) a b (homes p ports d k here) (homes q ports d e here) (length-homes p ports d k here) (length-homes q ports d e here) refl refl refl l m s h
       (relation_sound p d t.0 ports k here (stands_left g k a.made _ s) (homed_left loops k (homes p ports d k here) _ h) l m (λ y j. avail y (Has_left y (free p) (free q) j)))
       (relation_sound q d t.1 ports e here (stands_left g e b.made _ (stands_right g k a.made _ s)) (homed_left loops e (homes q ports d e here) _ (homed_right loops k (length a.made) (homes p ports d k here) _ (length-homes p ports d k here) h)) l m (λ y j. avail_later (ports y) here k e (omega arith) (avail y (Has_right y (free p) (free q) j))))
   relation_sound (Rel.iterate n x r b) d t ports k here s h l m avail =
@@ -415,7 +416,7 @@ module _ (g : Graph) (loops : ℕ → List ℕ) where
   inputs_avail (a ∷ as') i m s h l y j = go (same_name a.name y) refl j (inputs_avail as' (suc i) m s.1 h.1 (omega arith) y)
     where
       go : (t : Bool) → same_name a.name y ≡ t → (a.name ≡ y) ⊎ Has y (input_list as') → (Has y (input_list as') → Avail (input_ports as' (suc i) y) [] m) → Avail (cond t (port i 0) (input_ports as' (suc i) y)) [] m
-      go true q k f = avail_here i 0 _ [] m s.0 refl h.0 (omega arith)
+      go true q k f = avail_here i 0 _ [] m s.0 (omega arith) refl h.0 (omega arith)
       go false q (inl e) f = absurd (true≢false (sym ((Decides-same_name a.name y).1 e) ∙ q))
       go false q (inr k) f = f k
 

@@ -1,12 +1,12 @@
 -- A program's graph is wired, and the rank rises along its steps.
-use Rattle.std.proofs.Common.{◌≡◌, ℕ, suc, ◌+◌, ◌*◌, ◌-◌, ◌<◌, nat_lt, nat_eq, Bool, true, false, cond, List, [], ◌∷◌, ◌++◌, map, length, refl, sym, ap, subst, ◌∙◌, arith, length-append, ltb-true}
+use Rattle.std.proofs.Common.{◌≡◌, ℕ, suc, ◌+◌, ◌*◌, ◌-◌, ◌<◌, nat_lt, Bool, true, false, cond, List, [], ◌∷◌, ◌++◌, map, length, refl, sym, ap, subst, ◌∙◌, arith, length-append, ltb-true}
 use Rattle.std.specs.List.{AllByRecursion}
 use Rattle.semantics.specs.Dataflow.{IsWired, Goes, IsNested}
 use Rattle.semantics.specs.Kinds.{action}
 use Rattle.semantics.specs.Graph.{Graph, vertex, source}
 use Rattle.semantics.specs.Rank.{woven, vertex_rank, edge_rank}
 use Rattle.semantics.proofs.OneFlow.{Rises, lex_head, lex_tail, woven_lower}
-use Rattle.semantics.specs.Time.{Time, last_from, front_from, last, deeper, outer, turn_count, below, Action, times_before, is_before}
+use Rattle.semantics.specs.Time.{Time, last_from, front_from, last, deeper, outer, in_first_turn, turn_count, below, Action, times_before, is_before}
 
 -- ---- single steps
 
@@ -78,7 +78,7 @@ next_times loops v w (x ∷ es) q q' h ep (c ∷ cs) l k = (
 
 pub step_rises : (loops : ℕ → List ℕ) (v w : ℕ) (a : Action) → Goes loops v w a → (u : Time) → length u.counters ≡ length (loops w) → AllByRecursion (StepRises loops v w u) (times_before a u)
 step_rises loops v w a (Goes.same_loop e h) u l = ((l ∙ ap length e, lex_epoch u.epoch (woven (loops v) u.counters (2 * v + 1)) (woven (loops w) u.counters (2 * w)) (subst (λ es. is_before (woven (loops v) u.counters (2 * v + 1)) (woven es u.counters (2 * w)) ≡ true) (sym e) (woven_lower (loops v) u.counters (2 * v + 1) (2 * w) (omega arith)))), tt)
-step_rises loops v w a (Goes.into_loop e q h) u l = all_cond (StepRises loops v w u) (nat_eq (last u.counters) 0) (outer u) (λ k. enter_times loops v w e q h u.epoch u.counters l)
+step_rises loops v w a (Goes.into_loop e q h) u l = all_cond (StepRises loops v w u) (in_first_turn u.counters) (outer u) (λ k. enter_times loops v w e q h u.epoch u.counters l)
 step_rises loops v w a (Goes.out_of_loop e h) u l = all_map (StepRises loops v w u) (deeper u) (λ c. (
   omega (arith, length-append u.counters (c ∷ []), l, ap length e, length-append (loops w) (v ∷ [])),
   lex_epoch u.epoch (woven (loops v) (u.counters ++ (c ∷ [])) (2 * v + 1)) (woven (loops w) u.counters (2 * w)) (subst (λ es. is_before (woven es (u.counters ++ (c ∷ [])) (2 * v + 1)) (woven (loops w) u.counters (2 * w)) ≡ true) (sym e) (leave_rank (loops w) u.counters v w c l h)),

@@ -1,9 +1,9 @@
 -- The times before u are those that the action takes to u.
-use Rattle.std.proofs.Common.{◌≡◌, ℕ, zero, suc, ◌-◌, ◌<◌, nat_lt, nat_eq, Bool, true, false, cond, List, [], ◌∷◌, ◌++◌, map, length, refl, sym, ap, ap₂, subst, ◌∙◌, arith, inl, inr, ◌⊎◌, eqb-true, ltb-true, eq-eqb, lt-ltb}
+use Rattle.std.proofs.Common.{◌≡◌, ℕ, zero, suc, ◌-◌, ◌<◌, nat_lt, nat_eq, Bool, true, false, cond, List, [], ◌∷◌, ◌++◌, map, length, refl, sym, ap, ap₂, subst, ◌∙◌, arith, inl, inr, ◌⊎◌, eqb-true, ltb-true, lt-ltb}
 use Rattle.std.proofs.lemmas.Bool.{true≢false, eqb-false}
-use Rattle.semantics.specs.Time.{Time, last, deeper, outer, Action, after_action, times_before, below, turn_count}
+use Rattle.semantics.specs.Time.{in_first_turn, last_from, Time, last, deeper, outer, Action, after_action, times_before, below, turn_count}
 use Rattle.semantics.proofs.QuietEnds.{turn_of}
-use Rattle.semantics.proofs.VertexFlows.{last-deeper, outer-deeper}
+use Rattle.semantics.proofs.VertexFlows.{first_turn-push, last-deeper, outer-deeper}
 
 abbrev pub Among : Time → List Time → Type 0
 Among t [] = ⊥
@@ -58,7 +58,7 @@ among_cond t x false e h = absurd (true≢false (sym e))
 pub times_before_all : (a : Action) (t u : Time) → Defined a t → after_action a t ≡ u → Among t (times_before a u)
 times_before_all Action.stay t u d e = inl (sym e)
 times_before_all Action.enter t u d e = subst (λ v. Among t (times_before Action.enter v)) e
-    (among_cond t (outer (deeper t 0)) (nat_eq (last (t.counters ++ (0 ∷ []))) 0) (eq-eqb (last (t.counters ++ (0 ∷ []))) 0 (last-deeper t 0)) (outer-deeper t 0))
+    (among_cond t (outer (deeper t 0)) (in_first_turn (t.counters ++ (0 ∷ []))) (first_turn-push t.counters 0) (outer-deeper t 0))
 times_before_all Action.leave t u d e = subst (λ v. Among t (times_before Action.leave v)) e
     (subst (λ x. Among x (map (deeper (outer t)) (below turn_count))) (turn_split t d.0) (among_deeper (outer t) (last t.counters) (below turn_count) (number_below (last t.counters) turn_count d.1)))
 times_before_all Action.next t u d e = subst (λ v. Among t (times_before Action.next v)) e
@@ -84,12 +84,16 @@ Reached Action.leave u = Unit {0}
 Reached Action.enter u = 0 < length u.counters
 Reached Action.next u = 0 < length u.counters
 
+first_turn_last : (cs : List ℕ) → in_first_turn cs ≡ true → last cs ≡ 0
+first_turn_last [] e = absurd (true≢false (sym e))
+first_turn_last (c ∷ cs) e = eqb-true (last_from c cs) 0 e
+
 pub times_before_only : (a : Action) (t u : Time) → Reached a u → Among t (times_before a u) → after_action a t ≡ u
 times_before_only Action.stay t u r (inl e) = sym e
 times_before_only Action.stay t u r (inr h) = absurd h
 times_before_only Action.enter t u r h =
-    let k = among_cond_back t (outer u) (nat_eq (last u.counters) 0) h in
-    ap (λ x. deeper x 0) (sym k.1) ∙ ap (deeper (outer u)) (sym (eqb-true (last u.counters) 0 k.0)) ∙ turn_split u r
+    let k = among_cond_back t (outer u) (in_first_turn u.counters) h in
+    ap (λ x. deeper x 0) (sym k.1) ∙ ap (deeper (outer u)) (sym (first_turn_last u.counters k.0)) ∙ turn_split u r
 times_before_only Action.leave t u r h =
     let k = among_map_back u t (below turn_count) h in
     ap outer (sym k.1) ∙ outer-deeper u k.0

@@ -1,5 +1,5 @@
 -- Counters at the end of a time, and what vertices of each kind send in a flow.
-use Rattle.std.proofs.Common.{◌≡◌, ℕ, suc, ◌+◌, ◌-◌, ◌<◌, nat_lt, nat_eq, Bool, true, false, cond, List, [], ◌∷◌, ◌++◌, map, flat_map, length, slice_index_or, refl, sym, ap, ap₂, subst, ◌∙◌, arith, append-nil, lt-ltb, le-ltb, eq-eqb, ne_eqb, length-append}
+use Rattle.std.proofs.Common.{◌≡◌, ℕ, suc, ◌+◌, ◌-◌, ◌<◌, nat_lt, nat_eq, Bool, true, false, cond, List, [], ◌∷◌, ◌++◌, map, flat_map, length, slice_index_or, refl, sym, ap, ap₂, subst, ◌∙◌, arith, append-nil, lt-ltb, le-ltb, ne_eqb, length-append}
 use Rattle.semantics.specs.Multiset.{Record, ◌≈◌}
 use Rattle.semantics.specs.Flow.{Inputs, Flow, IsFlow, sent_or_fed, port_flow}
 use Rattle.semantics.specs.Kinds.{Kind}
@@ -7,7 +7,7 @@ use Rattle.semantics.specs.Graph.{Port, Vertex, Graph, no_port, vertex, source}
 use Rattle.semantics.specs.Lower.{port, new_vertex}
 use Rattle.semantics.specs.Meaning.{selected}
 use Rattle.semantics.specs.Query.{Scalar}
-use Rattle.semantics.specs.Time.{Time, last_from, front_from, last, front, deeper, outer, turn_count, below}
+use Rattle.semantics.specs.Time.{Time, last_from, front_from, last, front, deeper, outer, in_first_turn, turn_count, below}
 use Rattle.semantics.proofs.MultisetSums.{≈-refl, ≈-trans, ≈-from, append_same}
 
 -- ---- the last counter
@@ -23,6 +23,10 @@ front_from-push b (d ∷ ds) c = ap (λ l. b ∷ l) (front_from-push d ds c)
 front-push : (ts : List ℕ) (c : ℕ) → front (ts ++ (c ∷ [])) ≡ ts
 front-push [] c = refl
 front-push (d ∷ ds) c = front_from-push d ds c
+
+pub first_turn-push : (cs : List ℕ) (c : ℕ) → in_first_turn (cs ++ (c ∷ [])) ≡ nat_eq c 0
+first_turn-push [] c = refl
+first_turn-push (d ∷ ds) c = ap (λ n. nat_eq n 0) (last_from-push d ds c)
 
 pub last-deeper : (u : Time) (c : ℕ) → last (u.counters ++ (c ∷ [])) ≡ c
 last-deeper u c = last_from-push 0 u.counters c
@@ -66,14 +70,14 @@ module _ (g : Graph) (inputs : Inputs) (f : Flow) (flow : IsFlow g inputs f) whe
   pub out_ingress_first : (w d : ℕ) (p : Port) (u : Time) → IsAt g w (new_vertex Kind.ingress d (p ∷ [])) → length u.counters ≡ d → out (port w 0) (deeper u 0) ≈ out p u
   out_ingress_first w d p u at l =
       ≈-trans (≈-from (out_at w 0 (new_vertex Kind.ingress d (p ∷ [])) (deeper u 0) at
-      ∙ ap (λ b. flat_map (λ t. f w 0 t) (cond b (outer (deeper u 0) ∷ []) [])) (eq-eqb (last (u.counters ++ (0 ∷ []))) 0 (last-deeper u 0))
+      ∙ ap (λ b. flat_map (λ t. f w 0 t) (cond b (outer (deeper u 0) ∷ []) [])) (first_turn-push u.counters 0)
       ∙ append-nil (f w 0 (outer (deeper u 0)))
       ∙ ap (f w 0) (outer-deeper u 0)))
       (in_first w Kind.ingress d p u at l)
 
   pub out_ingress_later : (w d : ℕ) (p : Port) (u : Time) (c : ℕ) → IsAt g w (new_vertex Kind.ingress d (p ∷ [])) → out (port w 0) (deeper u (suc c)) ≈ []
   out_ingress_later w d p u c at = ≈-from (out_at w 0 (new_vertex Kind.ingress d (p ∷ [])) (deeper u (suc c)) at
-      ∙ ap (λ b. flat_map (λ t. f w 0 t) (cond b (outer (deeper u (suc c)) ∷ []) [])) (ne_eqb (last (u.counters ++ (suc c ∷ []))) 0 (λ e. let k = last-deeper u (suc c) in omega arith)))
+      ∙ ap (λ b. flat_map (λ t. f w 0 t) (cond b (outer (deeper u (suc c)) ∷ []) [])) (first_turn-push u.counters (suc c) ∙ ne_eqb (suc c) 0 (λ e. omega arith)))
 
   pub out_feedback_first : (w d : ℕ) (p : Port) (u : Time) → IsAt g w (new_vertex Kind.feedback d (p ∷ [])) → out (port w 0) (deeper u 0) ≈ []
   out_feedback_first w d p u at = ≈-from (out_at w 0 (new_vertex Kind.feedback d (p ∷ [])) (deeper u 0) at

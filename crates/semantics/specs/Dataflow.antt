@@ -3,14 +3,15 @@ use Rattle.std.specs.Prelude.{◌≡◌, ◌⊎◌, ℕ, ◌≤◌, ◌<◌, tru
 use Rattle.semantics.specs.Limits.{max_loops}
 use Rattle.semantics.specs.Multiset.{◌≈◌}
 use Rattle.semantics.specs.Time.{Time, Action, last, turn_count}
-use Rattle.semantics.specs.Kinds.{Kind, action, ends_turn, in_ports}
+use Rattle.semantics.specs.Kinds.{Kind, action, ends_turn, in_ports, out_ports}
 use Rattle.semantics.specs.Graph.{Graph, vertex, source, input_count, output_number}
 use Rattle.semantics.specs.Flow.{IsEdgeTime, Inputs, Flow, IsFlow}
 
--- each in port is fed by a vertex of the graph
+-- each in port is fed by an out port of a vertex of the graph
 pub record IsWired (g : Graph) : Type 0 where
   pub full : (v : ℕ) → v < length g → length (vertex g v).ins ≡ in_ports (vertex g v).kind
   pub fed : (w i : ℕ) → w < length g → i < length (vertex g w).ins → (source g w i).vertex < length g
+  pub from_port : (w i : ℕ) → w < length g → i < length (vertex g w).ins → (source g w i).out < out_ports (vertex g (source g w i).vertex).kind
   pub shallow : (v : ℕ) → v < length g → (vertex g v).depth ≤ max_loops
 
 -- An edge from v to w stays in v's loop, or goes into a loop, out of one or round it. `loops v` are the egresses of the

@@ -50,6 +50,11 @@ after_action Action.next t = deeper (outer t) (suc (last t.counters))
 unfoldable pub turn_count : ℕ
 turn_count = suc max_turns
 
+-- the first turn of the innermost loop: the last counter is 0; no turn of any loop where there is no counter
+abbrev pub in_first_turn : List ℕ → Bool
+in_first_turn [] = false
+in_first_turn (c ∷ cs) = nat_eq (last_from c cs) 0
+
 -- the numbers below n
 abbrev pub below : ℕ → List ℕ
 below zero = []
@@ -58,7 +63,7 @@ below (suc n) = below n ++ (n ∷ [])
 -- the times that an action takes to u; at a leave, those whose last counter is at most the limit of turns
 abbrev pub times_before : Action → Time → List Time
 times_before Action.stay u = u ∷ []
-times_before Action.enter u = cond (nat_eq (last u.counters) 0) (outer u ∷ []) []
+times_before Action.enter u = cond (in_first_turn u.counters) (outer u ∷ []) []
 times_before Action.leave u = map (deeper u) (below turn_count)
 times_before Action.next u = cond (nat_lt 0 (last u.counters)) (deeper (outer u) (last u.counters - 1) ∷ []) []
 
