@@ -6,10 +6,10 @@ use Rattle.semantics.specs.Could.{IsTimeAt, PathStep, step_edge, step_from, step
 use Rattle.semantics.specs.Dataflow.{IsWired, Goes, IsNested}
 use Rattle.semantics.specs.Graph.{edge_count, target, in_port, edge_source, Graph, vertex}
 use Rattle.semantics.specs.Kinds.{action}
-use Rattle.semantics.specs.Rank.{woven, vertex_rank, edge_rank}
+use Rattle.semantics.specs.Rank.{woven, rank}
 use Rattle.semantics.specs.Time.{Time, last_from, front_from, last, front, Action, after_action, is_before, IsAtMost}
 use Rattle.semantics.proofs.EdgeNumbers.{entered}
-use Rattle.semantics.proofs.OneFlow.{lex_head, lex_tail, lex_trans, woven_lower, edge_below, length-woven}
+use Rattle.semantics.proofs.OneFlow.{vertex_rank, edge_rank, longest_rank, lex_head, lex_tail, lex_trans, woven_lower, edge_below, length-woven}
 use Rattle.semantics.proofs.LexicographicOrder.{lex_cases, Under, under_well_founded}
 use Rattle.semantics.proofs.QuietEnds.{turn_of, length-outer}
 use Rattle.semantics.proofs.RankRises.{lex_behind, leave_rank, lex_epoch}
@@ -178,9 +178,8 @@ later_rises es p t u l m h = go (same_or_less t.epoch u.epoch h.epochs) h.counte
 -- ---- paths
 
 module _ (g : Graph) (loops : ℕ → List ℕ) (wired : IsWired g) (nested : IsNested g loops) where
-  pub rank_at : Location → Time → List ℕ
-  rank_at (Location.edge e) t = edge_rank loops (target g e) t
-  rank_at (Location.vertex v) t = vertex_rank loops v t
+  abbrev pub rank_at : Location → Time → List ℕ
+  rank_at l t = rank g loops (record { time = t; location = l })
 
   abbrev goes_along : (e : ℕ) → e < edge_count g → Goes loops (edge_source g e).vertex (target g e) (action (vertex g (edge_source g e).vertex).kind)
   goes_along e l = let k = entered g e l in nested.goes (target g e) (in_port g e) k.known k.port
@@ -191,7 +190,6 @@ module _ (g : Graph) (loops : ℕ → List ℕ) (wired : IsWired g) (nested : Is
       (l, depth_after loops (edge_source g e).vertex (target g e) _ (goes_along e l) t (f.1 ∙ sym (nested.homes (edge_source g e).vertex f.0)) ∙ nested.homes (target g e) (entered g e l).known)
 
   pub step_rise : (s : PathStep) (t : Time) → step_edge s < edge_count g → IsTimeAt g (step_from g s) t → is_before (rank_at (step_from g s) t) (rank_at (step_to g s) (step_time g s t)) ≡ true
-  unfolding rank_at
   step_rise (PathStep.enters e) t l f = edge_below loops (target g e) t
   step_rise (PathStep.leaves e) t l f = rise_after loops (edge_source g e).vertex (target g e) _ (goes_along e l) t (f.1 ∙ sym (nested.homes (edge_source g e).vertex f.0))
 
@@ -254,7 +252,6 @@ module _ (g : Graph) (loops : ℕ → List ℕ) (wired : IsWired g) (nested : Is
   could_self p f = record { starts = f; ends = f; path = []; leads = refl; in_time = at_most_refl p.time }
 
   rank_later : (l : Location) (t u : Time) → IsTimeAt g l t → IsTimeAt g l u → IsAtMost t u → (t ≡ u) ⊎ (is_before (rank_at l t) (rank_at l u) ≡ true)
-  unfolding rank_at
   rank_later (Location.edge e) t u f h k = let n = (entered g e f.0).known in later_rises (loops (target g e)) (2 * target g e) t u (f.1 ∙ sym (nested.homes (target g e) n)) (h.1 ∙ sym (nested.homes (target g e) n)) k
   rank_later (Location.vertex v) t u f h k = later_rises (loops v) (2 * v + 1) t u (f.1 ∙ sym (nested.homes v f.0)) (h.1 ∙ sym (nested.homes v f.0)) k
 
@@ -273,22 +270,21 @@ module _ (g : Graph) (loops : ℕ → List ℕ) (wired : IsWired g) (nested : Is
       go (inr x) (inl y) = inr (subst (λ (t : Time). is_before (rank_at p.location p.time) (rank_at q.location t) ≡ true) y x)
       go (inr x) (inr y) = inr (lex_trans (rank_at p.location p.time) (rank_at q.location last) (rank_at q.location q.time) x y)
 
-  rank_short : (l : Location) (t : Time) → IsTimeAt g l t → length (rank_at l t) ≤ 18
-  unfolding rank_at
+  rank_short : (l : Location) (t : Time) → IsTimeAt g l t → length (rank_at l t) ≤ longest_rank
   rank_short (Location.edge e) t f = omega (arith, length-woven (loops (target g e)) t.counters (2 * target g e), wired.shallow (target g e) (entered g e f.0).known, f.1)
   rank_short (Location.vertex v) t f = omega (arith, length-woven (loops v) t.counters (2 * v + 1), wired.shallow v f.0, f.1)
 
   -- no descent without end
   pub could_founded : (p : Pointstamp) → Acc (λ q s. CouldResultIn g q s × (q ≡ s → ⊥)) p
-  could_founded p = go (rank_at p.location p.time) ((under_well_founded 18).apply (rank_at p.location p.time)) p refl
+  could_founded p = go (rank_at p.location p.time) ((under_well_founded longest_rank).apply (rank_at p.location p.time)) p refl
     where
-      go : (xs : List ℕ) → Acc (Under 18) xs → (p : Pointstamp) → rank_at p.location p.time ≡ xs → Acc (λ q s. CouldResultIn g q s × (q ≡ s → ⊥)) p
+      go : (xs : List ℕ) → Acc (Under longest_rank) xs → (p : Pointstamp) → rank_at p.location p.time ≡ xs → Acc (λ q s. CouldResultIn g q s × (q ≡ s → ⊥)) p
       go xs a = elim a as (λ xs a. (p : Pointstamp) → rank_at p.location p.time ≡ xs → Acc (λ q s. CouldResultIn g q s × (q ≡ s → ⊥)) p) [
         | Acc.intro xs (low → ih) ↦ λ p e. Acc.intro p (λ q h. under q p (could_rises q p h.0) h e ih)
       ]
         where
-          under : (q p : Pointstamp) → (q ≡ p) ⊎ (is_before (rank_at q.location q.time) (rank_at p.location p.time) ≡ true) → CouldResultIn g q p × (q ≡ p → ⊥) → {xs : List ℕ} → rank_at p.location p.time ≡ xs → ((ys : List ℕ) → Under 18 ys xs → (s : Pointstamp) → rank_at s.location s.time ≡ ys → Acc (λ q s. CouldResultIn g q s × (q ≡ s → ⊥)) s) → Acc (λ q s. CouldResultIn g q s × (q ≡ s → ⊥)) q
+          under : (q p : Pointstamp) → (q ≡ p) ⊎ (is_before (rank_at q.location q.time) (rank_at p.location p.time) ≡ true) → CouldResultIn g q p × (q ≡ p → ⊥) → {xs : List ℕ} → rank_at p.location p.time ≡ xs → ((ys : List ℕ) → Under longest_rank ys xs → (s : Pointstamp) → rank_at s.location s.time ≡ ys → Acc (λ q s. CouldResultIn g q s × (q ≡ s → ⊥)) s) → Acc (λ q s. CouldResultIn g q s × (q ≡ s → ⊥)) q
           under q p (inl x) h e ih = absurd (h.1 x)
           under q p (inr x) h {xs} e ih = ih (rank_at q.location q.time)
-              (and_from (is_before (rank_at q.location q.time) xs) (nat_le (length (rank_at q.location q.time)) 18) (subst (λ zs. is_before (rank_at q.location q.time) zs ≡ true) e x) (le-leb (length (rank_at q.location q.time)) 18 (rank_short q.location q.time h.0.starts)))
+              (and_from (is_before (rank_at q.location q.time) xs) (nat_le (length (rank_at q.location q.time)) longest_rank) (subst (λ zs. is_before (rank_at q.location q.time) zs ≡ true) e x) (le-leb (length (rank_at q.location q.time)) longest_rank (rank_short q.location q.time h.0.starts)))
               q refl

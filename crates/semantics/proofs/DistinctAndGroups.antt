@@ -1,12 +1,13 @@
 -- The laws of the forms of a query.
-use Rattle.std.proofs.Common.{◌≡◌, ℕ, ◌+◌, ◌≤◌, ◌<◌, ◌-◌, ◌^◌, nat_lt, Bool, true, false, cond, List, [], ◌∷◌, ◌++◌, map, filter, ℤ, pos, negsuc, ◌+ℤ◌, refl, sym, ap, subst, ◌∙◌, arith, ltb-true, ltb-false, lt-ltb, le-ltb}
+use Rattle.std.proofs.Common.{◌≡◌, ℕ, ◌+◌, ◌≤◌, ◌<◌, nat_lt, Bool, true, false, cond, List, [], ◌∷◌, ◌++◌, map, filter, ℤ, pos, ◌+ℤ◌, refl, sym, ap, subst, ◌∙◌, arith, ltb-true, ltb-false, lt-ltb, le-ltb}
 use mathlib.Core.Path.{fun_ext}
-use Rattle.std.proofs.lemmas.Int.{ints, clamps}
-use Rattle.std.specs.Int.{int_wrap, int_min, int_max}
+use Rattle.std.proofs.lemmas.Int.{ints}
+use Rattle.std.specs.Int.{int_wrap}
 use mir.Syntax.{w64}
 use Rattle.semantics.specs.Multiset.{Record, same, one_if, total, count, ◌≈◌, IsPartOf, each_once}
 use Rattle.semantics.specs.Meaning.{field, aggregate, project, with_key, grouped}
 use Rattle.semantics.specs.Query.{Agg}
+use Rattle.semantics.proofs.LeastAndGreatest.{least_same, greatest_same}
 use Rattle.semantics.proofs.MultisetSums.{Decides-same, total-same, same_from_parts, part_left, part_right, total-map, linear_same, map_linear, filter_linear, gather-same}
 
 -- ---- each_once
@@ -53,20 +54,14 @@ distinct_same xs ys h = same_from_parts (distinct_part xs ys (part_left h)) (dis
 
 -- ---- aggregates and groups
 
-min_swaps : (a b c : ℤ) → int_min a (int_min b c) ≡ int_min b (int_min a c)
-min_swaps a b c = omega (arith, ints, clamps)
-
-max_swaps : (a b c : ℤ) → int_max a (int_max b c) ≡ int_max b (int_max a c)
-max_swaps a b c = omega (arith, ints, clamps)
-
 plus_swaps : (a b c : ℤ) → a +ℤ (b +ℤ c) ≡ b +ℤ (a +ℤ c)
 plus_swaps a b c = omega (arith, ints)
 
 pub aggregate-same : (a : Agg) (xs ys : List Record) → xs ≈ ys → aggregate a xs ≡ aggregate a ys
 aggregate-same Agg.count xs ys h = ap (λ n. int_wrap w64 (pos n)) (total-same (λ r. 1) xs ys h)
 aggregate-same (Agg.sum c) xs ys h = ap (int_wrap w64) (gather-same (λ r n. field c r +ℤ n) (pos 0) (λ x y n. plus_swaps (field c x) (field c y) n) xs ys h)
-aggregate-same (Agg.min c) xs ys h = gather-same (λ r n. int_min (field c r) n) (pos (2 ^ 63 - 1)) (λ x y n. min_swaps (field c x) (field c y) n) xs ys h
-aggregate-same (Agg.max c) xs ys h = gather-same (λ r n. int_max (field c r) n) (negsuc (2 ^ 63 - 1)) (λ x y n. max_swaps (field c x) (field c y) n) xs ys h
+aggregate-same (Agg.min c) xs ys h = least_same c xs ys h
+aggregate-same (Agg.max c) xs ys h = greatest_same c xs ys h
 
 -- the record of one key
 abbrev pub row : List ℕ → List Agg → List Record → Record → Record

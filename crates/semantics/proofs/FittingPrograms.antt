@@ -1,18 +1,13 @@
 -- What the check of a program leaves for its graph to rest on.
-use Rattle.std.specs.Prelude.{◌≡◌, ◌⊎◌, ℕ, suc, ◌≤◌, ◌<◌, List, [], ◌∷◌, map}
+use Rattle.std.specs.Prelude.{ℕ, suc, ◌≤◌, ◌<◌, List, [], ◌∷◌, map}
+use Rattle.semantics.specs.FreeNames.{free, IsAmong}
 use Rattle.semantics.specs.Limits.{max_loops}
 use Rattle.semantics.specs.Query.{Name, Rel, Input, Let, Program}
 use Rattle.semantics.specs.Time.{turn_count}
-use Rattle.semantics.specs.Lower.{free}
-
--- y is one of the names
-abbrev pub Has : Name → List Name → Type 0
-Has y [] = ⊥
-Has y (x ∷ xs) = (x ≡ y) ⊎ Has y xs
 
 -- each name that occurs free is known
 abbrev pub Known : List Name → Rel → Type 0
-Known xs r = (y : Name) → Has y (free r) → Has y xs
+Known xs r = (y : Name) → IsAmong y (free r) → IsAmong y xs
 
 -- no loop has more turns than an egress adds up
 abbrev pub Limited : Rel → Type 0

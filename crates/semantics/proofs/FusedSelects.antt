@@ -4,8 +4,7 @@ use Rattle.std.proofs.lemmas.Bool.Decides.{nat_tests}
 use Rattle.semantics.specs.Multiset.{one_if}
 use Rattle.semantics.specs.Query.{Scalar, Rel}
 use Rattle.semantics.specs.Size.{scalar_size, scalars_size, rel_size}
-use Rattle.semantics.specs.Normal.{uses, uses_all, use_count, UsesOnce}
-use Rattle.semantics.proofs.RulesKeepMeaning.{put}
+use Rattle.semantics.specs.Normal.{replaced, uses, uses_all, use_count, UsesOnce}
 
 -- the sizes of what the columns are replaced by
 abbrev weights : List Scalar → List ℕ → ℕ
@@ -16,17 +15,17 @@ weights-append : (ss : List Scalar) (cs ds : List ℕ) → weights ss (cs ++ ds)
 weights-append ss [] ds = omega arith
 weights-append ss (c ∷ cs) ds = omega (arith, weights-append ss cs ds)
 
-size-put : (ss : List Scalar) (t : Scalar) → scalar_size (put ss t) + length (uses t) ≡ scalar_size t + weights ss (uses t)
-size-put ss (Scalar.column c) = omega arith
-size-put ss (Scalar.literal z) = refl
-size-put ss (Scalar.plus s t) = omega (arith, size-put ss s, size-put ss t, weights-append ss (uses s) (uses t), length-append (uses s) (uses t))
-size-put ss (Scalar.minus s t) = omega (arith, size-put ss s, size-put ss t, weights-append ss (uses s) (uses t), length-append (uses s) (uses t))
-size-put ss (Scalar.times s t) = omega (arith, size-put ss s, size-put ss t, weights-append ss (uses s) (uses t), length-append (uses s) (uses t))
-size-put ss (Scalar.negation s) = omega (arith, size-put ss s)
+size-replaced : (ss : List Scalar) (t : Scalar) → scalar_size (replaced ss t) + length (uses t) ≡ scalar_size t + weights ss (uses t)
+size-replaced ss (Scalar.column c) = omega arith
+size-replaced ss (Scalar.literal z) = refl
+size-replaced ss (Scalar.plus s t) = omega (arith, size-replaced ss s, size-replaced ss t, weights-append ss (uses s) (uses t), length-append (uses s) (uses t))
+size-replaced ss (Scalar.minus s t) = omega (arith, size-replaced ss s, size-replaced ss t, weights-append ss (uses s) (uses t), length-append (uses s) (uses t))
+size-replaced ss (Scalar.times s t) = omega (arith, size-replaced ss s, size-replaced ss t, weights-append ss (uses s) (uses t), length-append (uses s) (uses t))
+size-replaced ss (Scalar.negation s) = omega (arith, size-replaced ss s)
 
-size-put_all : (ss ts : List Scalar) → scalars_size (map (put ss) ts) + length (uses_all ts) ≡ scalars_size ts + weights ss (uses_all ts)
-size-put_all ss [] = refl
-size-put_all ss (t ∷ ts) = omega (arith, size-put ss t, size-put_all ss ts, weights-append ss (uses t) (uses_all ts), length-append (uses t) (uses_all ts))
+size-replaced_all : (ss ts : List Scalar) → scalars_size (map (replaced ss) ts) + length (uses_all ts) ≡ scalars_size ts + weights ss (uses_all ts)
+size-replaced_all ss [] = refl
+size-replaced_all ss (t ∷ ts) = omega (arith, size-replaced ss t, size-replaced_all ss ts, weights-append ss (uses t) (uses_all ts), length-append (uses t) (uses_all ts))
 
 -- one lower, without the zeros
 abbrev preds : List ℕ → List ℕ
@@ -66,5 +65,5 @@ weights_le [] (c ∷ cs) h = omega (arith, weights_le [] cs (λ d. omega (arith,
 weights_le (s ∷ ss) cs h =
     omega (arith, weights-preds s ss cs, weights_le ss (preds cs) (λ c. omega (arith, times-preds c cs, h (suc c))), length-preds cs, at_most_once (use_count 0 cs) (scalar_size s) (h 0))
 
-pub size-select_select : (r : Rel) (ss ts : List Scalar) → UsesOnce ts → rel_size (Rel.select r (map (put ss) ts)) ≤ rel_size (Rel.select (Rel.select r ss) ts)
-size-select_select r ss ts h = omega (arith, size-put_all ss ts, weights_le ss (uses_all ts) h)
+pub size-select_select : (r : Rel) (ss ts : List Scalar) → UsesOnce ts → rel_size (Rel.select r (map (replaced ss) ts)) ≤ rel_size (Rel.select (Rel.select r ss) ts)
+size-select_select r ss ts h = omega (arith, size-replaced_all ss ts, weights_le ss (uses_all ts) h)

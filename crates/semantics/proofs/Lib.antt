@@ -1,9 +1,9 @@
 pub mod MultisetSums
 pub mod Permutations
+pub mod LeastAndGreatest
 pub mod DistinctAndGroups
 pub mod KeyedParts
 pub mod JoinCounts
-pub mod LeastField
 pub mod MeaningOfMultisets
 pub mod RulesKeepMeaning
 pub mod FusedSelects

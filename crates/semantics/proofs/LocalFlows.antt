@@ -6,8 +6,7 @@ use Rattle.semantics.specs.Time.{Time, times_before, is_before}
 use Rattle.semantics.specs.Kinds.{Kind, action, in_ports}
 use Rattle.semantics.specs.Graph.{Graph, vertex, source}
 use Rattle.semantics.specs.Flow.{IsEdgeTime, Inputs, Flow, IsFlow, sent_by, sent_or_fed, port_flow}
-use Rattle.semantics.specs.Rank.{vertex_rank, edge_rank}
-use Rattle.semantics.proofs.OneFlow.{Rises, EdgeTime, lex_trans, edge_below, length-woven, op_same, flat_same}
+use Rattle.semantics.proofs.OneFlow.{vertex_rank, edge_rank, longest_rank, Rises, EdgeTime, lex_trans, edge_below, length-woven, op_same, flat_same}
 use Rattle.semantics.specs.Dataflow.{IsWired}
 use Rattle.semantics.proofs.RecursiveEquations.{like_solutions}
 
@@ -45,7 +44,7 @@ module _ (g : Graph) (loops : ℕ → List ℕ) (wired : IsWired g) (rises : Ris
   abbrev eqn : Inputs → (EdgeTime → List Record) → EdgeTime → List Record
   eqn k f p = port_flow g k (λ w i u. f (record { into = w; port = i; time = u })) (source g p.into p.port) p.time
 
-  short : (p : EdgeTime) → Valid p → length (rank p) ≤ 18
+  short : (p : EdgeTime) → Valid p → length (rank p) ≤ longest_rank
   short p v = let q = v.0 in omega (arith, length-woven (loops p.into) p.time.counters (2 * p.into), wired.shallow p.into q.is_vertex, q.has_depth)
 
   agree : (f h : EdgeTime → List Record) (p : EdgeTime) → Valid p → ((q : EdgeTime) → Valid q → is_before (rank q) (rank p) ≡ true → f q ≈ h q) → eqn inputs f p ≈ eqn inputs' h p
@@ -66,4 +65,4 @@ module _ (g : Graph) (loops : ℕ → List ℕ) (wired : IsWired g) (rises : Ris
 
   -- flows on inputs that agree where Q has them agree on Q
   pub flow_local : (f h : Flow) → IsFlow g inputs f → IsFlow g inputs' h → (w i : ℕ) (u : Time) → IsEdgeTime g w i u → Q w i u → f w i u ≈ h w i u
-  flow_local f h ef eh w i u v q = like_solutions rank 18 Valid short (eqn inputs) (eqn inputs') agree (at f) (at h) (λ p v. ef.equations p.into p.port p.time v.0) (λ p v. eh.equations p.into p.port p.time v.0) (record { into = w; port = i; time = u }) (v, q)
+  flow_local f h ef eh w i u v q = like_solutions rank longest_rank Valid short (eqn inputs) (eqn inputs') agree (at f) (at h) (λ p v. ef.equations p.into p.port p.time v.0) (λ p v. eh.equations p.into p.port p.time v.0) (record { into = w; port = i; time = u }) (v, q)

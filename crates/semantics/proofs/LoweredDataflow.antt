@@ -2,6 +2,7 @@
 use Rattle.std.proofs.Common.{◌≡◌, ℕ, zero, suc, ◌+◌, ◌<◌, Bool, true, false, List, [], ◌∷◌, ◌++◌, length, slice_index_or, refl, sym, ap, subst, ◌∙◌, arith, append_assoc, length-append, inl, inr, ◌⊎◌}
 use Rattle.std.proofs.lemmas.Bool.{true≢false}
 use Rattle.std.specs.List.{AllByRecursion}
+use Rattle.semantics.specs.FreeNames.{carried}
 use Rattle.semantics.specs.Multiset.{◌≈◌}
 use Rattle.semantics.specs.Meaning.{program_meaning}
 use Rattle.semantics.specs.Time.{at_epoch}
@@ -11,7 +12,7 @@ use Rattle.semantics.specs.Dataflow.{IsShaped, IsDataflow}
 use Rattle.semantics.specs.Kinds.{Kind, ends_turn, is_input}
 use Rattle.semantics.specs.Graph.{Vertex, Graph, no_vertex, vertex, input_count, output_number}
 use Rattle.semantics.proofs.LoweredPrograms.{output_vertex, at_length, length-input_vertices, lowered_means}
-use Rattle.semantics.specs.Lower.{carried, Ports, stands_for, port, new_vertex, carry, carried_ports, lower, input_vertices, input_ports, lower_lets, lets_of, output_of, lowered}
+use Rattle.semantics.specs.Lower.{Ports, stands_for, port, new_vertex, carry, carried_ports, lower, input_vertices, input_ports, lower_lets, lets_of, output_of, lowered}
 use Rattle.semantics.specs.Query.{Name, Rel, Input, Let, Program}
 use Rattle.semantics.specs.Typing.{WellTyped}
 use Rattle.semantics.proofs.TypedPrograms.{typed_fits}

@@ -2,12 +2,13 @@
 use Rattle.std.proofs.Common.{◌≡◌, ℕ, zero, suc, ◌+◌, ◌≤◌, ◌<◌, Bool, true, false, cond, List, [], ◌∷◌, ◌++◌, map, filter, length, slice_index_or, refl, sym, ap, subst, ◌∙◌, arith, length-append, append_assoc, inl, inr, ◌⊎◌, le_refl}
 use Rattle.std.proofs.lemmas.Bool.{true≢false}
 use Rattle.std.specs.List.{AllByRecursion}
+use Rattle.semantics.specs.FreeNames.{other_than, free, firsts, carried, IsAmong}
 use Rattle.semantics.specs.Limits.{max_loops}
 use Rattle.semantics.specs.Dataflow.{IsWired, Goes, IsNested}
 use Rattle.semantics.specs.Flow.{Inputs, HasOneFlow}
 use Rattle.semantics.specs.Kinds.{Kind, action, in_ports, out_ports}
 use Rattle.semantics.specs.Graph.{Port, Vertex, Graph, no_vertex, no_port, vertex, source}
-use Rattle.semantics.specs.Lower.{other_than, free, firsts, carried, Ports, stands_for, port, new_vertex, carry, carried_ports, Lowered, lower, looped, input_vertices, input_ports, lower_lets, lets_of, output_of, lowered}
+use Rattle.semantics.specs.Lower.{Ports, stands_for, port, new_vertex, carry, carried_ports, Lowered, lower, looped, input_vertices, input_ports, lower_lets, lets_of, output_of, lowered}
 use Rattle.semantics.specs.Meaning.{same_name}
 use Rattle.semantics.specs.Query.{Name, Rel, Input, Let, Program}
 use Rattle.semantics.specs.Time.{Action}
@@ -15,7 +16,7 @@ use Rattle.semantics.proofs.OneFlow.{one_flow}
 use Rattle.semantics.proofs.LoweredRelations.{Has_left, Has_right, Has_other, Has_firsts, Stands, stands_left, stands_right, Decides-same_name}
 use Rattle.semantics.proofs.LoweredPrograms.{stands_whole, length-input_vertices}
 use Rattle.semantics.proofs.RankRises.{rises_from_nested}
-use Rattle.semantics.proofs.FittingPrograms.{Has, Nested, LetsFit, names_after, input_list, IsFitting}
+use Rattle.semantics.proofs.FittingPrograms.{Nested, LetsFit, names_after, input_list, IsFitting}
 use Rattle.semantics.proofs.VertexFlows.{IsAt}
 
 -- ---- vertices that are wired, in the loops that they are said to be in
@@ -172,7 +173,7 @@ module _ (g : Graph) (loops : ℕ → List ℕ) where
   edge_of v o w x a at n e s = (at.known, subst (λ (y : Vertex). o < out_ports y.kind) (sym at.is) n, subst (λ (y : Vertex). Goes loops v w (action y.kind)) (sym at.is) (subst (Goes loops v w) (sym e) s))
 
   abbrev SoundClaim : ℕ → Rel → Type 0
-  SoundClaim d r = (ports : Ports) (k : ℕ) (here : List ℕ) → Stands g k (lower r ports d k).made → Homed loops k (homes r ports d k here) → length here ≡ d → d ≤ max_loops → ((y : Name) → Has y (free r) → Avail (ports y) here k) → AllSound g loops k (lower r ports d k).made × Avail (lower r ports d k).gives here (k + length (lower r ports d k).made)
+  SoundClaim d r = (ports : Ports) (k : ℕ) (here : List ℕ) → Stands g k (lower r ports d k).made → Homed loops k (homes r ports d k here) → length here ≡ d → d ≤ max_loops → ((y : Name) → IsAmong y (free r) → Avail (ports y) here k) → AllSound g loops k (lower r ports d k).made × Avail (lower r ports d k).gives here (k + length (lower r ports d k).made)
 
   one_sound : (ports : Ports) (d k : ℕ) (here : List ℕ) (kind : Kind) (r : Lowered) (hs : List (List ℕ)) → length hs ≡ length r.made → 1 ≡ in_ports kind → 1 ≡ out_ports kind → action kind ≡ Action.stay → length here ≡ d → d ≤ max_loops
       → Stands g k (r.made ++ (new_vertex kind d (r.gives ∷ []) ∷ [])) → Homed loops k (hs ++ (here ∷ []))
@@ -203,25 +204,25 @@ module _ (g : Graph) (loops : ℕ → List ℕ) where
 
   -- ---- what a loop carries
 
-  Has_cond_back : (y x : Name) (b : Bool) (xs : List Name) → Has y (cond b (x ∷ xs) xs) → (x ≡ y) ⊎ Has y xs
+  Has_cond_back : (y x : Name) (b : Bool) (xs : List Name) → IsAmong y (cond b (x ∷ xs) xs) → (x ≡ y) ⊎ IsAmong y xs
   Has_cond_back y x true xs h = h
   Has_cond_back y x false xs h = inr h
 
-  Has_filter_back : (x y : Name) (ys : List Name) → Has y (filter (other_than x) ys) → Has y ys
+  Has_filter_back : (x y : Name) (ys : List Name) → IsAmong y (filter (other_than x) ys) → IsAmong y ys
   Has_filter_back x y [] h = h
   Has_filter_back x y (z ∷ zs) h = go (Has_cond_back y z (other_than x z) (filter (other_than x) zs) h) (Has_filter_back x y zs)
     where
-      go : (z ≡ y) ⊎ Has y (filter (other_than x) zs) → (Has y (filter (other_than x) zs) → Has y zs) → (z ≡ y) ⊎ Has y zs
+      go : (z ≡ y) ⊎ IsAmong y (filter (other_than x) zs) → (IsAmong y (filter (other_than x) zs) → IsAmong y zs) → (z ≡ y) ⊎ IsAmong y zs
       go (inl e) f = inl e
       go (inr k) f = inr (f k)
 
-  Has_firsts_back : (y : Name) (ys : List Name) → Has y (firsts ys) → Has y ys
+  Has_firsts_back : (y : Name) (ys : List Name) → IsAmong y (firsts ys) → IsAmong y ys
   Has_firsts_back y [] h = h
   Has_firsts_back y (x ∷ xs) (inl e) = inl e
   Has_firsts_back y (x ∷ xs) (inr h) = inr (Has_firsts_back y xs (Has_filter_back x y (firsts xs) h))
 
   -- a loop's number is above those of the vertices of its block
-  carry_sound : (n : ℕ) (ports : Ports) (d k eg : ℕ) (here : List ℕ) (ys : List Name) → Stands g k (carry n ports d k ys) → Homed loops k (carry_homes here (here ++ (eg ∷ [])) ys) → length here ≡ d → suc d ≤ max_loops → k + length (carry n ports d k ys) ≤ eg → ((y : Name) → Has y ys → Avail (ports y) here k) → AllSound g loops k (carry n ports d k ys)
+  carry_sound : (n : ℕ) (ports : Ports) (d k eg : ℕ) (here : List ℕ) (ys : List Name) → Stands g k (carry n ports d k ys) → Homed loops k (carry_homes here (here ++ (eg ∷ [])) ys) → length here ≡ d → suc d ≤ max_loops → k + length (carry n ports d k ys) ≤ eg → ((y : Name) → IsAmong y ys → Avail (ports y) here k) → AllSound g loops k (carry n ports d k ys)
   carry_sound n ports d k eg here [] s h l m b avail = tt
   carry_sound n ports d k eg here (y ∷ ys) s h l m b avail =
       let in' = here ++ (eg ∷ []) in
@@ -251,16 +252,16 @@ module _ (g : Graph) (loops : ℕ → List ℕ) where
         ),
       )
 
-  held_avail : (n : ℕ) (ports : Ports) (d k m : ℕ) (here in' : List ℕ) (ys : List Name) → Stands g k (carry n ports d k ys) → Homed loops k (carry_homes here in' ys) → k + length (carry n ports d k ys) ≤ m → (y : Name) → Has y ys → Avail (carried_ports ports k ys y) in' m
+  held_avail : (n : ℕ) (ports : Ports) (d k m : ℕ) (here in' : List ℕ) (ys : List Name) → Stands g k (carry n ports d k ys) → Homed loops k (carry_homes here in' ys) → k + length (carry n ports d k ys) ≤ m → (y : Name) → IsAmong y ys → Avail (carried_ports ports k ys y) in' m
   held_avail n ports d k m here in' [] s h b y j = absurd j
   held_avail n ports d k m here in' (x ∷ xs) s h b y j = go (same_name x y) refl j (held_avail n ports d (suc (suc (suc (suc k)))) m here in' xs s.1.1.1.1 h.1.1.1.1 (omega arith) y)
     where
-      go : (t : Bool) → same_name x y ≡ t → (x ≡ y) ⊎ Has y xs → (Has y xs → Avail (carried_ports ports (suc (suc (suc (suc k)))) xs y) in' m) → Avail (cond t (port (suc (suc k)) 0) (carried_ports ports (suc (suc (suc (suc k)))) xs y)) in' m
+      go : (t : Bool) → same_name x y ≡ t → (x ≡ y) ⊎ IsAmong y xs → (IsAmong y xs → Avail (carried_ports ports (suc (suc (suc (suc k)))) xs y) in' m) → Avail (cond t (port (suc (suc k)) 0) (carried_ports ports (suc (suc (suc (suc k)))) xs y)) in' m
       go true q i f = avail_here (suc (suc k)) 0 _ in' m s.1.1.0 (omega arith) refl h.1.1.0 (omega arith)
       go false q (inl e) f = absurd (true≢false (sym ((Decides-same_name x y).1 e) ∙ q))
       go false q (inr i) f = f i
 
-  loop_sound : (n : ℕ) (x : Name) (r b : Rel) → (d : ℕ) → SoundClaim d r → SoundClaim (suc d) b → (ports : Ports) (k : ℕ) (here : List ℕ) → suc d ≤ max_loops → Stands g k (lower (Rel.iterate n x r b) ports d k).made → Homed loops k (homes (Rel.iterate n x r b) ports d k here) → length here ≡ d → ((y : Name) → Has y (free (Rel.iterate n x r b)) → Avail (ports y) here k) → AllSound g loops k (lower (Rel.iterate n x r b) ports d k).made × Avail (lower (Rel.iterate n x r b) ports d k).gives here (k + length (lower (Rel.iterate n x r b) ports d k).made)
+  loop_sound : (n : ℕ) (x : Name) (r b : Rel) → (d : ℕ) → SoundClaim d r → SoundClaim (suc d) b → (ports : Ports) (k : ℕ) (here : List ℕ) → suc d ≤ max_loops → Stands g k (lower (Rel.iterate n x r b) ports d k).made → Homed loops k (homes (Rel.iterate n x r b) ports d k here) → length here ≡ d → ((y : Name) → IsAmong y (free (Rel.iterate n x r b)) → Avail (ports y) here k) → AllSound g loops k (lower (Rel.iterate n x r b) ports d k).made × Avail (lower (Rel.iterate n x r b) ports d k).gives here (k + length (lower (Rel.iterate n x r b) ports d k).made)
   unfolding lower homes
   loop_sound n x r b d start_claim body_claim ports k here m s h l avail = (all_sound, gives)
     where
@@ -323,10 +324,10 @@ module _ (g : Graph) (loops : ℕ → List ℕ) where
       home_back : Homed loops back (in' ∷ in' ∷ [])
       home_back = homed_right loops first (length body.made) (homes b inside (suc d) first in') _ (length-homes b inside (suc d) first in') home_first
 
-      carried_avail : (y : Name) → Has y ys → Avail (ports y) here (suc gate)
+      carried_avail : (y : Name) → IsAmong y ys → Avail (ports y) here (suc gate)
       carried_avail y j = avail_later (ports y) here k (suc gate) (omega arith) (avail y (Has_right y (free r) (filter (other_than x) (free b)) (Has_firsts_back y (filter (other_than x) (free b)) j)))
 
-      inside_avail : (y : Name) → Has y (free b) → Avail (inside y) in' first
+      inside_avail : (y : Name) → IsAmong y (free b) → Avail (inside y) in' first
       inside_avail y j = go (same_name x y) refl
         where
           go : (t : Bool) → same_name x y ≡ t → Avail (cond t (port gate 0) (carried_ports ports (suc gate) ys y)) in' first
@@ -411,11 +412,11 @@ module _ (g : Graph) (loops : ℕ → List ℕ) where
   inputs_sound [] i h = tt
   inputs_sound (a ∷ as') i h = (record { full = refl; home = ap length h.0; shallow = omega arith; edges = tt }, inputs_sound as' (suc i) h.1)
 
-  inputs_avail : (as' : List Input) (i m : ℕ) → Stands g i (input_vertices as') → Homed loops i (map (λ a. []) as') → i + length as' ≤ m → (y : Name) → Has y (input_list as') → Avail (input_ports as' i y) [] m
+  inputs_avail : (as' : List Input) (i m : ℕ) → Stands g i (input_vertices as') → Homed loops i (map (λ a. []) as') → i + length as' ≤ m → (y : Name) → IsAmong y (input_list as') → Avail (input_ports as' i y) [] m
   inputs_avail [] i m s h l y j = absurd j
   inputs_avail (a ∷ as') i m s h l y j = go (same_name a.name y) refl j (inputs_avail as' (suc i) m s.1 h.1 (omega arith) y)
     where
-      go : (t : Bool) → same_name a.name y ≡ t → (a.name ≡ y) ⊎ Has y (input_list as') → (Has y (input_list as') → Avail (input_ports as' (suc i) y) [] m) → Avail (cond t (port i 0) (input_ports as' (suc i) y)) [] m
+      go : (t : Bool) → same_name a.name y ≡ t → (a.name ≡ y) ⊎ IsAmong y (input_list as') → (IsAmong y (input_list as') → Avail (input_ports as' (suc i) y) [] m) → Avail (cond t (port i 0) (input_ports as' (suc i) y)) [] m
       go true q k f = avail_here i 0 _ [] m s.0 (omega arith) refl h.0 (omega arith)
       go false q (inl e) f = absurd (true≢false (sym ((Decides-same_name a.name y).1 e) ∙ q))
       go false q (inr k) f = f k
@@ -433,7 +434,7 @@ length-lets_homes (a ∷ as') ports k =
     omega (arith, length-homes a.value ports 0 k [], length-lets_homes as' (stands_for a.name r.gives ports) (k + length r.made), length-append (homes a.value ports 0 k []) (lets_homes as' (stands_for a.name r.gives ports) (k + length r.made)), length-append r.made rest.made)
 
 module _ (g : Graph) (loops : ℕ → List ℕ) where
-  lets_sound : (as' : List Let) (xs : List Name) (ports : Ports) (k : ℕ) → LetsFit xs as' → Stands g k (lower_lets as' ports k).made → Homed loops k (lets_homes as' ports k) → ((y : Name) → Has y xs → Avail g loops (ports y) [] k) → AllSound g loops k (lower_lets as' ports k).made × ((y : Name) → Has y (names_after xs as') → Avail g loops ((lower_lets as' ports k).ports y) [] (k + length (lower_lets as' ports k).made))
+  lets_sound : (as' : List Let) (xs : List Name) (ports : Ports) (k : ℕ) → LetsFit xs as' → Stands g k (lower_lets as' ports k).made → Homed loops k (lets_homes as' ports k) → ((y : Name) → IsAmong y xs → Avail g loops (ports y) [] k) → AllSound g loops k (lower_lets as' ports k).made × ((y : Name) → IsAmong y (names_after xs as') → Avail g loops ((lower_lets as' ports k).ports y) [] (k + length (lower_lets as' ports k).made))
   unfolding lower_lets lets_homes
   lets_sound [] xs ports k m s h avail = (tt, λ y j. avail_later g loops (ports y) [] k (k + 0) (omega arith) (avail y j))
   lets_sound (a ∷ as') xs ports k m s h avail =
@@ -447,7 +448,7 @@ module _ (g : Graph) (loops : ℕ → List ℕ) where
         λ y j. avail_later g loops (rest.ports y) [] (k + length r.made + length rest.made) (k + length (r.made ++ rest.made)) (omega (arith, length-append r.made rest.made)) (later.1 y j),
       )
     where
-      go : (y : Name) (r : Lowered) (t : Bool) → same_name a.name y ≡ t → (a.name ≡ y) ⊎ Has y xs → Avail g loops r.gives [] (k + length r.made) → Avail g loops (cond t r.gives (ports y)) [] (k + length r.made)
+      go : (y : Name) (r : Lowered) (t : Bool) → same_name a.name y ≡ t → (a.name ≡ y) ⊎ IsAmong y xs → Avail g loops r.gives [] (k + length r.made) → Avail g loops (cond t r.gives (ports y)) [] (k + length r.made)
       go y r true q j f = f
       go y r false q (inl e) f = absurd (true≢false (sym ((Decides-same_name a.name y).1 e) ∙ q))
       go y r false q (inr j) f = avail_later g loops (ports y) [] k (k + length r.made) (omega arith) (avail y j)
@@ -541,7 +542,7 @@ program_sound p fits =
     home_end : loops (m + length outs) ≡ []
     home_end = (homed_right loops m (length outs) (output_homes p) ([] ∷ []) (length-homes p.output (lets_of p).ports 0 m []) home_out).0
 
-    sound_lets : AllSound g loops n lets × ((y : Name) → Has y (names_after (input_list p.inputs) p.lets) → Avail g loops ((lets_of p).ports y) [] m)
+    sound_lets : AllSound g loops n lets × ((y : Name) → IsAmong y (names_after (input_list p.inputs) p.lets) → Avail g loops ((lets_of p).ports y) [] m)
     sound_lets = lets_sound g loops p.lets (input_list p.inputs) (input_ports p.inputs 0) n fits.lets (stands_left g n lets (outs ++ (end ∷ [])) st_lets) (homed_left loops n hlets (output_homes p ++ ([] ∷ [])) home_lets)
         (inputs_avail g loops p.inputs 0 n (stands_left g 0 ins (lets ++ (outs ++ (end ∷ []))) (stands_whole g)) home_inputs (omega arith))
 

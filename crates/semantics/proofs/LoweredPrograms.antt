@@ -1,6 +1,7 @@
 -- In any flow of a program's graph, the edge into the output vertex has the program's meaning.
 use Rattle.std.proofs.Common.{◌≡◌, ℕ, suc, ◌+◌, Bool, true, false, cond, List, [], ◌∷◌, ◌++◌, length, slice_index_or, refl, sym, ap, subst, ◌∙◌, arith, append_assoc, length-append, inl, inr, ◌⊎◌}
 use Rattle.std.proofs.lemmas.Bool.{true≢false}
+use Rattle.semantics.specs.FreeNames.{IsAmong}
 use Rattle.semantics.specs.Multiset.{Record, ◌≈◌}
 use Rattle.semantics.specs.Flow.{Inputs, Flow, IsFlow, port_flow}
 use Rattle.semantics.specs.Kinds.{Kind}
@@ -11,7 +12,7 @@ use Rattle.semantics.specs.Query.{Name, Input, Let, Program}
 use Rattle.semantics.specs.Time.{Time}
 use Rattle.semantics.proofs.MultisetSums.{≈-trans, ≈-from}
 use Rattle.semantics.proofs.LoweredRelations.{Stands, stands_left, stands_right, Agree, lower_means, Decides-same_name}
-use Rattle.semantics.proofs.FittingPrograms.{Has, LetsFit, names_after, input_list, IsFitting}
+use Rattle.semantics.proofs.FittingPrograms.{LetsFit, names_after, input_list, IsFitting}
 use Rattle.semantics.proofs.VertexFlows.{out_at, edge_at}
 
 -- the number of the output vertex, the last
@@ -47,11 +48,11 @@ module _ (g : Graph) (inputs : Inputs) (f : Flow) (flow : IsFlow g inputs f) whe
   inputs_agree [] i e s y h = absurd h
   inputs_agree (a ∷ as') i e s y h = go (same_name a.name y) refl (inputs_agree as' (suc i) e s.1 y)
     where
-      go : (b : Bool) → same_name a.name y ≡ b → (Has y (input_list as') → out (input_ports as' (suc i) y) (record { epoch = e; counters = [] }) ≈ input_names as' (suc i) (λ j. inputs j e) y) → out (cond b (port i 0) (input_ports as' (suc i) y)) (record { epoch = e; counters = [] }) ≈ cond b (inputs i e) (input_names as' (suc i) (λ j. inputs j e) y)
+      go : (b : Bool) → same_name a.name y ≡ b → (IsAmong y (input_list as') → out (input_ports as' (suc i) y) (record { epoch = e; counters = [] }) ≈ input_names as' (suc i) (λ j. inputs j e) y) → out (cond b (port i 0) (input_ports as' (suc i) y)) (record { epoch = e; counters = [] }) ≈ cond b (inputs i e) (input_names as' (suc i) (λ j. inputs j e) y)
       go true q ih = ≈-from (out_at g inputs f flow i 0 (new_vertex Kind.input 0 []) (record { epoch = e; counters = [] }) s.0)
       go false q ih = ih (rest h)
         where
-          rest : (a.name ≡ y) ⊎ Has y (input_list as') → Has y (input_list as')
+          rest : (a.name ≡ y) ⊎ IsAmong y (input_list as') → IsAmong y (input_list as')
           rest (inl k) = absurd (true≢false (sym ((Decides-same_name a.name y).1 k) ∙ q))
           rest (inr k) = k
 
@@ -63,7 +64,7 @@ module _ (g : Graph) (inputs : Inputs) (f : Flow) (flow : IsFlow g inputs f) whe
       lets_agree as' (a.name ∷ xs) (stands_for a.name r.gives ports) (k + length r.made) (bind a.name (meaning a.value names) names) u m.1
       (stands_right g k r.made (lower_lets as' (stands_for a.name r.gives ports) (k + length r.made)).made s) l (λ y h. go y (same_name a.name y) refl h)
     where
-      go : (y : Name) (b : Bool) → same_name a.name y ≡ b → (a.name ≡ y) ⊎ Has y xs → out (cond b (lower a.value ports 0 k).gives (ports y)) u ≈ cond b (meaning a.value names) (names y)
+      go : (y : Name) (b : Bool) → same_name a.name y ≡ b → (a.name ≡ y) ⊎ IsAmong y xs → out (cond b (lower a.value ports 0 k).gives (ports y)) u ≈ cond b (meaning a.value names) (names y)
       go y true q h = lower_means g inputs f flow a.value m.0.limited ports 0 k names u (stands_left g k (lower a.value ports 0 k).made _ s) l (λ z j. agree z (m.0.known z j))
       go y false q (inl e) = absurd (true≢false (sym ((Decides-same_name a.name y).1 e) ∙ q))
       go y false q (inr h) = agree y h

@@ -5,18 +5,19 @@ use Rattle.std.proofs.lemmas.Bool.Decides.{Decides-eqb}
 use Rattle.std.proofs.lemmas.List.Concat.{flat_map-append}
 use mathlib.Core.Path.{fun_ext}
 use Rattle.std.specs.Cmp.Lexicographic.{pointwise_decides}
+use Rattle.semantics.specs.FreeNames.{other_than, free, firsts, carried, IsAmong}
 use Rattle.semantics.specs.Multiset.{Record, ◌≈◌, each_once}
 use Rattle.semantics.specs.Flow.{Inputs, Flow, IsFlow, port_flow}
 use Rattle.semantics.specs.Kinds.{Kind}
 use Rattle.semantics.specs.Graph.{Port, Vertex, Graph}
-use Rattle.semantics.specs.Lower.{other_than, free, firsts, carried, Ports, stands_for, port, new_vertex, carry, carried_ports, Lowered, looped, lower}
+use Rattle.semantics.specs.Lower.{Ports, stands_for, port, new_vertex, carry, carried_ports, Lowered, looped, lower}
 use Rattle.semantics.specs.Meaning.{selected, kept, paired, grouped, same_name, Names, bind, repeated, meaning, holds, value}
 use Rattle.semantics.specs.Query.{Name, Pair, Rel}
 use Rattle.semantics.specs.Time.{Time, deeper, turn_count, below}
 use Rattle.semantics.proofs.MultisetSums.{≈-refl, ≈-trans, ≈-from, append_same, linear_same, map_linear, filter_linear}
 use Rattle.semantics.proofs.KeyedParts.{paired_same}
 use Rattle.semantics.proofs.DistinctAndGroups.{distinct_same, grouped_same}
-use Rattle.semantics.proofs.FittingPrograms.{Has, Limited}
+use Rattle.semantics.proofs.FittingPrograms.{Limited}
 use Rattle.semantics.proofs.VertexFlows.{IsAt, length-deeper, out_at, edge_at, out_ingress_first, out_ingress_later, out_feedback_first, out_feedback_later, out_two, out_gate_round, out_gate_done, out_hold_round, out_hold_next, out_egress}
 
 -- ---- names
@@ -24,30 +25,30 @@ use Rattle.semantics.proofs.VertexFlows.{IsAt, length-deeper, out_at, edge_at, o
 pub Decides-same_name : (x y : Name) → Decides (same_name x y) (x ≡ y)
 Decides-same_name = pointwise_decides (λ x y. Decides-eqb x y)
 
-pub Has_left : (y : Name) (xs ys : List Name) → Has y xs → Has y (xs ++ ys)
+pub Has_left : (y : Name) (xs ys : List Name) → IsAmong y xs → IsAmong y (xs ++ ys)
 Has_left y [] ys h = absurd h
 Has_left y (x ∷ xs) ys (inl e) = inl e
 Has_left y (x ∷ xs) ys (inr h) = inr (Has_left y xs ys h)
 
-pub Has_right : (y : Name) (xs ys : List Name) → Has y ys → Has y (xs ++ ys)
+pub Has_right : (y : Name) (xs ys : List Name) → IsAmong y ys → IsAmong y (xs ++ ys)
 Has_right y [] ys h = h
 Has_right y (x ∷ xs) ys h = inr (Has_right y xs ys h)
 
-Has_cond : (y x : Name) (b : Bool) (xs : List Name) → Has y xs → Has y (cond b (x ∷ xs) xs)
+Has_cond : (y x : Name) (b : Bool) (xs : List Name) → IsAmong y xs → IsAmong y (cond b (x ∷ xs) xs)
 Has_cond y x true xs h = inr h
 Has_cond y x false xs h = h
 
-pub Has_other : (x y : Name) (ys : List Name) → same_name x y ≡ false → Has y ys → Has y (filter (other_than x) ys)
+pub Has_other : (x y : Name) (ys : List Name) → same_name x y ≡ false → IsAmong y ys → IsAmong y (filter (other_than x) ys)
 Has_other x y [] n h = absurd h
-Has_other x y (z ∷ zs) n (inl e) = subst (λ b. Has y (cond (not b) (z ∷ filter (other_than x) zs) (filter (other_than x) zs))) (sym (subst (λ w. same_name x w ≡ false) (sym e) n)) (inl e)
+Has_other x y (z ∷ zs) n (inl e) = subst (λ b. IsAmong y (cond (not b) (z ∷ filter (other_than x) zs) (filter (other_than x) zs))) (sym (subst (λ w. same_name x w ≡ false) (sym e) n)) (inl e)
 Has_other x y (z ∷ zs) n (inr h) = Has_cond y z (other_than x z) (filter (other_than x) zs) (Has_other x y zs n h)
 
-pub Has_firsts : (y : Name) (ys : List Name) → Has y ys → Has y (firsts ys)
+pub Has_firsts : (y : Name) (ys : List Name) → IsAmong y ys → IsAmong y (firsts ys)
 Has_firsts y [] h = h
 Has_firsts y (x ∷ xs) (inl e) = inl e
 Has_firsts y (x ∷ xs) (inr h) = go (same_name x y) refl (Has_firsts y xs h)
   where
-    go : (b : Bool) → same_name x y ≡ b → Has y (firsts xs) → (x ≡ y) ⊎ Has y (filter (other_than x) (firsts xs))
+    go : (b : Bool) → same_name x y ≡ b → IsAmong y (firsts xs) → (x ≡ y) ⊎ IsAmong y (filter (other_than x) (firsts xs))
     go true e k = inl ((Decides-same_name x y).0 e)
     go false e k = inr (Has_other x y (firsts xs) e k)
 
@@ -71,7 +72,7 @@ module _ (g : Graph) (inputs : Inputs) (f : Flow) (flow : IsFlow g inputs f) whe
 
   -- the names among ys stand at u for what they mean
   abbrev pub Agree : List Name → Ports → Time → Names → Type 0
-  Agree ys ports u names = (y : Name) → Has y ys → out (ports y) u ≈ names y
+  Agree ys ports u names = (y : Name) → IsAmong y ys → out (ports y) u ≈ names y
 
   -- ---- a loop's merge of an ingress and a feedback
 
@@ -106,7 +107,7 @@ module _ (g : Graph) (inputs : Inputs) (f : Flow) (flow : IsFlow g inputs f) whe
   abbrev pub until : ℕ → ℕ → List Record → List Record
   until n c xs = cond (nat_lt c n) xs []
 
-  pub held_port : (d n : ℕ) (ports : Ports) (k : ℕ) (ys : List Name) (u : Time) (y : Name) (c : ℕ) → Stands g k (carry n ports d k ys) → length u.counters ≡ d → Has y ys → out (carried_ports ports k ys y) (deeper u c) ≈ until n c (out (ports y) u)
+  pub held_port : (d n : ℕ) (ports : Ports) (k : ℕ) (ys : List Name) (u : Time) (y : Name) (c : ℕ) → Stands g k (carry n ports d k ys) → length u.counters ≡ d → IsAmong y ys → out (carried_ports ports k ys y) (deeper u c) ≈ until n c (out (ports y) u)
   held_port d n ports k [] u y c s l h = absurd h
   held_port d n ports k (x ∷ xs) u y c s l h = go (same_name x y) refl (held_port d n ports (suc (suc (suc (suc k)))) xs u y c s.1.1.1.1 l)
     where
@@ -118,11 +119,11 @@ module _ (g : Graph) (inputs : Inputs) (f : Flow) (flow : IsFlow g inputs f) whe
           at true e = held_turn d k n (ports x) u (record { enters = s.0; merges = s.1.0; returns = s.1.1.1.0 }) s.1.1.0 l c (ltb-true c n e)
           at false e = ≈-refl []
 
-      go : (b : Bool) → same_name x y ≡ b → (Has y xs → out (carried_ports ports (suc (suc (suc (suc k)))) xs y) (deeper u c) ≈ until n c (out (ports y) u)) → out (cond b (port (suc (suc k)) 0) (carried_ports ports (suc (suc (suc (suc k)))) xs y)) (deeper u c) ≈ until n c (out (ports y) u)
+      go : (b : Bool) → same_name x y ≡ b → (IsAmong y xs → out (carried_ports ports (suc (suc (suc (suc k)))) xs y) (deeper u c) ≈ until n c (out (ports y) u)) → out (cond b (port (suc (suc k)) 0) (carried_ports ports (suc (suc (suc (suc k)))) xs y)) (deeper u c) ≈ until n c (out (ports y) u)
       go true e ih = subst (λ z. out (port (suc (suc k)) 0) (deeper u c) ≈ until n c (out (ports z) u)) ((Decides-same_name x y).0 e) here
       go false e ih = ih (rest h)
         where
-          rest : (x ≡ y) ⊎ Has y xs → Has y xs
+          rest : (x ≡ y) ⊎ IsAmong y xs → IsAmong y xs
           rest (inl q) = absurd (true≢false (sym ((Decides-same_name x y).1 q) ∙ e))
           rest (inr q) = q
 
@@ -255,7 +256,7 @@ module _ (g : Graph) (inputs : Inputs) (f : Flow) (flow : IsFlow g inputs f) whe
           go : (t : Bool) → same_name x y ≡ t → out (cond t (port gate 0) (carried_ports ports (suc gate) ys y)) (deeper u c) ≈ cond (nat_lt c n) (cond t (value_at c) (names y)) []
           go true q = ≈-trans (out_gate_round g inputs f flow gate d n (port (suc loop) 0) u c in_loop.1.1.0 l) (gated (nat_lt c n) refl)
           go false q =
-              let other : Has y (filter (other_than x) (free b)) = Has_other x y (free b) q h in
+              let other : IsAmong y (filter (other_than x) (free b)) = Has_other x y (free b) q h in
               ≈-trans (held_port d n ports (suc gate) ys u y c (stands_left g (suc gate) (carry n ports d (suc gate) ys) _ in_loop.1.1.1) l (Has_firsts y (filter (other_than x) (free b)) other))
               (outside (nat_lt c n) (agree y (Has_right y (free r) (filter (other_than x) (free b)) other)))
 

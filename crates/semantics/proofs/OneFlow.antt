@@ -2,6 +2,7 @@
 use Rattle.std.proofs.Common.{◌≡◌, ℕ, zero, suc, ◌+◌, ◌*◌, ◌≤◌, ◌<◌, nat_lt, nat_eq, Bool, true, false, cond, ◌&&◌, List, [], ◌∷◌, map, flat_map, length, refl, sym, ◌∙◌, arith, lt-ltb, eq-eqb, inl, inr, ◌⊎◌}
 use Rattle.std.proofs.lemmas.Bool.{and_from, or_left, or_right, true≢false}
 use Rattle.std.specs.List.{AllByRecursion}
+use Rattle.semantics.specs.Limits.{max_loops}
 use Rattle.semantics.specs.Multiset.{Record, ◌≈◌}
 use Rattle.semantics.specs.Dataflow.{IsWired}
 use Rattle.semantics.specs.Flow.{IsEdgeTime, Inputs, Flow, sent_by, sent_or_fed, port_flow, HasOneFlow}
@@ -9,13 +10,27 @@ use Rattle.semantics.specs.Kinds.{Kind, action, in_ports}
 use Rattle.semantics.specs.Graph.{Graph, vertex, source}
 use Rattle.semantics.specs.Meaning.{holds, value}
 use Rattle.semantics.specs.Op.{op}
-use Rattle.semantics.specs.Rank.{woven, vertex_rank, edge_rank}
+use Rattle.semantics.specs.Rank.{woven}
 use Rattle.semantics.specs.Time.{Time, times_before, last, is_before}
 use Rattle.semantics.proofs.MultisetSums.{≈-refl, append_same, linear_same, map_linear, filter_linear}
 use Rattle.semantics.proofs.KeyedParts.{paired_same}
 use Rattle.semantics.proofs.RecursiveEquations.{one_solution, solution, solution_solves}
 use Rattle.semantics.proofs.LexicographicOrder.{lex_cases}
 use Rattle.semantics.proofs.DistinctAndGroups.{distinct_same, grouped_same}
+
+-- ---- ranks, by the vertex that an edge enters
+
+-- of a vertex; `loops v` are the egresses of the loops that v stands in, outermost first
+abbrev pub vertex_rank : (ℕ → List ℕ) → ℕ → Time → List ℕ
+vertex_rank loops v t = t.epoch ∷ woven (loops v) t.counters (2 * v + 1)
+
+-- of an edge that enters w
+abbrev pub edge_rank : (ℕ → List ℕ) → ℕ → Time → List ℕ
+edge_rank loops w t = t.epoch ∷ woven (loops w) t.counters (2 * w)
+
+-- the fields of a rank, at most
+abbrev pub longest_rank : ℕ
+longest_rank = 2 * max_loops + 2
 
 -- along each step from a vertex to an edge, the time keeps to its vertex's depth, and the rank rises
 pub record Rises (g : Graph) (loops : ℕ → List ℕ) : Type 0 where
@@ -115,7 +130,7 @@ module _ (g : Graph) (loops : ℕ → List ℕ) (wired : IsWired g) (rises : Ris
   abbrev eqn : (EdgeTime → List Record) → EdgeTime → List Record
   eqn f p = port_flow g inputs (λ w i u. f (record { into = w; port = i; time = u })) (source g p.into p.port) p.time
 
-  short : (p : EdgeTime) → Valid p → length (rank p) ≤ 18
+  short : (p : EdgeTime) → Valid p → length (rank p) ≤ longest_rank
   short p v = omega (arith, length-woven (loops p.into) p.time.counters (2 * p.into), wired.shallow p.into v.is_vertex, v.has_depth)
 
   reads : (f h : EdgeTime → List Record) (p : EdgeTime) → Valid p → ((q : EdgeTime) → Valid q → is_before (rank q) (rank p) ≡ true → f q ≈ h q) → eqn f p ≈ eqn h p
@@ -136,11 +151,11 @@ module _ (g : Graph) (loops : ℕ → List ℕ) (wired : IsWired g) (rises : Ris
 
   pub one_flow : HasOneFlow g inputs
   one_flow =
-      let f : Flow = λ w i u. solution rank 18 Valid short eqn reads (record { into = w; port = i; time = u }) in
+      let f : Flow = λ w i u. solution rank longest_rank Valid short eqn reads (record { into = w; port = i; time = u }) in
       record {
         flow = f;
         is_only = record {
-          is_flow = record { equations = λ w i u v. solution_solves rank 18 Valid short eqn reads (record { into = w; port = i; time = u }) v };
-          only = λ h ih w i u v. one_solution rank 18 Valid short eqn reads (at h) (at f) (λ p v. ih.equations p.into p.port p.time v) (λ p v. solution_solves rank 18 Valid short eqn reads p v) (record { into = w; port = i; time = u }) v;
+          is_flow = record { equations = λ w i u v. solution_solves rank longest_rank Valid short eqn reads (record { into = w; port = i; time = u }) v };
+          only = λ h ih w i u v. one_solution rank longest_rank Valid short eqn reads (at h) (at f) (λ p v. ih.equations p.into p.port p.time v) (λ p v. solution_solves rank longest_rank Valid short eqn reads p v) (record { into = w; port = i; time = u }) v;
         };
       }

@@ -2,18 +2,19 @@
 use Rattle.std.proofs.Common.{◌≡◌, ℕ, zero, suc, ◌+◌, ◌≤◌, ◌<◌, nat_lt, Bool, true, false, cond, List, [], ◌∷◌, ◌++◌, filter, length, slice_index_or, refl, sym, ap, subst, ◌∙◌, arith, le-ltb, ne_eqb}
 use Rattle.std.proofs.lemmas.Bool.{true≢false}
 use Rattle.std.specs.List.{AllByRecursion}
+use Rattle.semantics.specs.FreeNames.{other_than, free, carried, IsAmong}
 use Rattle.semantics.specs.Multiset.{Record, ◌≈◌}
 use Rattle.semantics.specs.Flow.{IsEdgeTime, Inputs, Flow, IsFlow, port_flow}
 use Rattle.semantics.specs.Kinds.{Kind, ends_turn}
 use Rattle.semantics.specs.Graph.{Port, Vertex, Graph, no_vertex, no_port, vertex, source}
-use Rattle.semantics.specs.Lower.{other_than, free, carried, Ports, stands_for, port, new_vertex, carry, carried_ports, Lowered, lower, looped, input_vertices, input_ports, lower_lets, lets_of, output_of, lowered}
+use Rattle.semantics.specs.Lower.{Ports, stands_for, port, new_vertex, carry, carried_ports, Lowered, lower, looped, input_vertices, input_ports, lower_lets, lets_of, output_of, lowered}
 use Rattle.semantics.specs.Meaning.{same_name}
 use Rattle.semantics.specs.Query.{Name, Rel, Input, Let, Program}
 use Rattle.semantics.specs.Time.{Time, last_from, front_from, last, front, deeper, outer, turn_count}
 use Rattle.semantics.proofs.MultisetSums.{≈-trans, ≈-from}
 use Rattle.semantics.proofs.LoweredRelations.{Has_other, Has_firsts, Stands, stands_left, stands_right, held_port, meaning_none, lower_means}
 use Rattle.semantics.proofs.LoweredPrograms.{stands_whole}
-use Rattle.semantics.proofs.FittingPrograms.{Has, Limited, LetsFit, IsFitting}
+use Rattle.semantics.proofs.FittingPrograms.{Limited, LetsFit, IsFitting}
 use Rattle.semantics.proofs.VertexFlows.{length-deeper, out_gate_round, out_gate_done, out_hold_next}
 
 -- a time inside a loop is that of a turn
@@ -136,7 +137,7 @@ module _ (g : Graph) (inputs : Inputs) (f : Flow) (flow : IsFlow g inputs f) whe
       stands_body : Stands g first body.made
       stands_body = stands_left g first body.made ends (stands_right g (suc gate) cs (body.made ++ ends) in_loop.1.1.1)
 
-      inside_quiet : (u : Time) (c : ℕ) → length u.counters ≡ d → turn_count ≤ c → (y : Name) → Has y (free b) → out (inside y) (deeper u c) ≈ []
+      inside_quiet : (u : Time) (c : ℕ) → length u.counters ≡ d → turn_count ≤ c → (y : Name) → IsAmong y (free b) → out (inside y) (deeper u c) ≈ []
       inside_quiet u c l t y j = go (same_name x y) refl
         where
           over : nat_lt c n ≡ false

@@ -4,8 +4,8 @@ use Rattle.std.specs.List.{AllByRecursion}
 use Rattle.semantics.specs.Dataflow.{IsWired, Goes, IsNested}
 use Rattle.semantics.specs.Kinds.{action}
 use Rattle.semantics.specs.Graph.{Graph, vertex, source}
-use Rattle.semantics.specs.Rank.{woven, vertex_rank, edge_rank}
-use Rattle.semantics.proofs.OneFlow.{Rises, lex_head, lex_tail, woven_lower}
+use Rattle.semantics.specs.Rank.{woven}
+use Rattle.semantics.proofs.OneFlow.{vertex_rank, edge_rank, Rises, lex_head, lex_tail, woven_lower}
 use Rattle.semantics.specs.Time.{Time, last_from, front_from, last, deeper, outer, in_first_turn, turn_count, below, Action, times_before, is_before}
 
 -- ---- single steps

@@ -1,15 +1,15 @@
 -- The rules of the normaliser keep the meaning.
-use Rattle.std.proofs.Common.{◌≡◌, ℕ, zero, suc, nat_lt, Bool, true, false, cond, ◌&&◌, List, [], ◌∷◌, ◌++◌, map, filter, slice_index_or, refl, sym, ap, ap₂, subst, ◌∙◌, arith, inl, ℤ, pos, ◌+ℤ◌, ◌-ℤ◌, ◌*ℤ◌, neg_ℤ}
+use Rattle.std.proofs.Common.{inr, ◌≡◌, ℕ, zero, suc, nat_lt, Bool, true, false, cond, ◌&&◌, List, [], ◌∷◌, ◌++◌, map, filter, slice_index_or, refl, sym, ap, ap₂, subst, ◌∙◌, arith, inl, ℤ, pos, ◌+ℤ◌, ◌-ℤ◌, ◌*ℤ◌, neg_ℤ}
 use Rattle.std.specs.Int.{int_wrap}
 use Rattle.std.proofs.lemmas.Int.{ints, int_wrap-add_left, int_wrap-add_right, int_wrap-sub_right, int_wrap-mul_left, int_wrap-mul_right}
 use mir.Syntax.{w64}
+use Rattle.semantics.specs.FreeNames.{free, other_than, IsAmong}
 use Rattle.semantics.specs.Multiset.{Record, one_if, count, each_once}
-use Rattle.semantics.specs.Lower.{free, other_than}
 use Rattle.semantics.specs.Meaning.{field, exact, value, holds, selected, kept, same_name, Names, bind, repeated, meaning, let_names, paired, grouped}
+use Rattle.semantics.specs.Normal.{replaced, Reaches}
 use Rattle.semantics.specs.Query.{Scalar, Cond, Name, Rel, Let}
 use Rattle.semantics.proofs.LoweredRelations.{Has_left, Has_right, Has_other, Decides-same_name}
 use Rattle.semantics.proofs.DistinctAndGroups.{count-distinct}
-use Rattle.semantics.proofs.FittingPrograms.{Has}
 
 -- ---- scalars: the value of a sum is that of its parts' values
 
@@ -66,14 +66,6 @@ where_where c d (x ∷ xs) = go (holds c x) (holds d x) refl (where_where c d xs
 
 -- ---- select of select: each column of t is replaced by the scalar that it names
 
-abbrev pub put : List Scalar → Scalar → Scalar
-put ss (Scalar.column c) = slice_index_or ss c (Scalar.literal (pos 0))
-put ss (Scalar.literal z) = Scalar.literal z
-put ss (Scalar.plus s t) = Scalar.plus (put ss s) (put ss t)
-put ss (Scalar.minus s t) = Scalar.minus (put ss s) (put ss t)
-put ss (Scalar.times s t) = Scalar.times (put ss s) (put ss t)
-put ss (Scalar.negation s) = Scalar.negation (put ss s)
-
 zero_wraps : int_wrap w64 (pos 0) ≡ pos 0
 unfolding int_wrap
 zero_wraps = refl
@@ -83,19 +75,19 @@ field-map [] c r = sym zero_wraps
 field-map (s ∷ ss) zero r = refl
 field-map (s ∷ ss) (suc c) r = field-map ss c r
 
-pub value-put : (ss : List Scalar) (t : Scalar) (r : Record) → value t (map (λ s. value s r) ss) ≡ value (put ss t) r
-value-put ss (Scalar.column c) r = ap (int_wrap w64) (field-map ss c r) ∙ wrap_twice (exact (slice_index_or ss c (Scalar.literal (pos 0))) r)
-value-put ss (Scalar.literal z) r = refl
-value-put ss (Scalar.plus s t) r = value-plus s t (map (λ s. value s r) ss) ∙ ap₂ (λ a b. int_wrap w64 (a +ℤ b)) (value-put ss s r) (value-put ss t r) ∙ sym (value-plus (put ss s) (put ss t) r)
-value-put ss (Scalar.minus s t) r = value-minus s t (map (λ s. value s r) ss) ∙ ap₂ (λ a b. int_wrap w64 (a -ℤ b)) (value-put ss s r) (value-put ss t r) ∙ sym (value-minus (put ss s) (put ss t) r)
-value-put ss (Scalar.times s t) r = value-times s t (map (λ s. value s r) ss) ∙ ap₂ (λ a b. int_wrap w64 (a *ℤ b)) (value-put ss s r) (value-put ss t r) ∙ sym (value-times (put ss s) (put ss t) r)
-value-put ss (Scalar.negation s) r = value-negated s (map (λ s. value s r) ss) ∙ ap (λ a. int_wrap w64 (neg_ℤ a)) (value-put ss s r) ∙ sym (value-negated (put ss s) r)
+pub value-replaced : (ss : List Scalar) (t : Scalar) (r : Record) → value t (map (λ s. value s r) ss) ≡ value (replaced ss t) r
+value-replaced ss (Scalar.column c) r = ap (int_wrap w64) (field-map ss c r) ∙ wrap_twice (exact (slice_index_or ss c (Scalar.literal (pos 0))) r)
+value-replaced ss (Scalar.literal z) r = refl
+value-replaced ss (Scalar.plus s t) r = value-plus s t (map (λ s. value s r) ss) ∙ ap₂ (λ a b. int_wrap w64 (a +ℤ b)) (value-replaced ss s r) (value-replaced ss t r) ∙ sym (value-plus (replaced ss s) (replaced ss t) r)
+value-replaced ss (Scalar.minus s t) r = value-minus s t (map (λ s. value s r) ss) ∙ ap₂ (λ a b. int_wrap w64 (a -ℤ b)) (value-replaced ss s r) (value-replaced ss t r) ∙ sym (value-minus (replaced ss s) (replaced ss t) r)
+value-replaced ss (Scalar.times s t) r = value-times s t (map (λ s. value s r) ss) ∙ ap₂ (λ a b. int_wrap w64 (a *ℤ b)) (value-replaced ss s r) (value-replaced ss t r) ∙ sym (value-times (replaced ss s) (replaced ss t) r)
+value-replaced ss (Scalar.negation s) r = value-negated s (map (λ s. value s r) ss) ∙ ap (λ a. int_wrap w64 (neg_ℤ a)) (value-replaced ss s r) ∙ sym (value-negated (replaced ss s) r)
 
-map-map_scalars : (ss ts : List Scalar) (r : Record) → map (λ t. value t (map (λ s. value s r) ss)) ts ≡ map (λ s. value s r) (map (put ss) ts)
+map-map_scalars : (ss ts : List Scalar) (r : Record) → map (λ t. value t (map (λ s. value s r) ss)) ts ≡ map (λ s. value s r) (map (replaced ss) ts)
 map-map_scalars ss [] r = refl
-map-map_scalars ss (t ∷ ts) r = ap₂ (λ a l. a ∷ l) (value-put ss t r) (map-map_scalars ss ts r)
+map-map_scalars ss (t ∷ ts) r = ap₂ (λ a l. a ∷ l) (value-replaced ss t r) (map-map_scalars ss ts r)
 
-pub select_select : (ss ts : List Scalar) (xs : List Record) → selected ts (selected ss xs) ≡ selected (map (put ss) ts) xs
+pub select_select : (ss ts : List Scalar) (xs : List Record) → selected ts (selected ss xs) ≡ selected (map (replaced ss) ts) xs
 select_select ss ts [] = refl
 select_select ss ts (x ∷ xs) = ap₂ (λ a l. a ∷ l) (map-map_scalars ss ts x) (select_select ss ts xs)
 
@@ -111,13 +103,13 @@ distinct_distinct (x ∷ xs) = go (nat_lt 0 (count x xs)) refl (distinct_distinc
         let none : count x (each_once xs) ≡ 0 = count-distinct x xs ∙ ap one_if e in
         ap (λ n. cond (nat_lt 0 n) (each_once (each_once xs)) (x ∷ each_once (each_once xs))) none ∙ ap (λ l. x ∷ l) ih
 
--- ---- unreached lets: a relation looks at its free names alone
+-- ---- a relation looks at its free names alone
 
 turns-same : (f g : List Record → List Record) → ((xs : List Record) → f xs ≡ g xs) → (n : ℕ) (xs ys : List Record) → xs ≡ ys → repeated f n xs ≡ repeated g n ys
 turns-same f g h zero xs ys e = e
 turns-same f g h (suc n) xs ys e = h (repeated f n xs) ∙ ap g (turns-same f g h n xs ys e)
 
-pub meaning-free : (r : Rel) (names names' : Names) → ((y : Name) → Has y (free r) → names y ≡ names' y) → meaning r names ≡ meaning r names'
+pub meaning-free : (r : Rel) (names names' : Names) → ((y : Name) → IsAmong y (free r) → names y ≡ names' y) → meaning r names ≡ meaning r names'
 unfolding meaning
 meaning-free (Rel.named x) names names' h = h x (inl refl)
 meaning-free (Rel.select r ss) names names' h = ap (selected ss) (meaning-free r names names' h)
@@ -130,34 +122,27 @@ meaning-free (Rel.iterate n x r b) names names' h =
     turns-same (λ xs. meaning b (bind x xs names)) (λ xs. meaning b (bind x xs names')) (λ xs. meaning-free b (bind x xs names) (bind x xs names') (λ y j. go xs y (same_name x y) refl j)) n (meaning r names) (meaning r names')
     (meaning-free r names names' (λ y j. h y (Has_left y (free r) (filter (other_than x) (free b)) j)))
   where
-    go : (xs : List Record) (y : Name) (t : Bool) → same_name x y ≡ t → Has y (free b) → cond t xs (names y) ≡ cond t xs (names' y)
+    go : (xs : List Record) (y : Name) (t : Bool) → same_name x y ≡ t → IsAmong y (free b) → cond t xs (names y) ≡ cond t xs (names' y)
     go xs y true e j = refl
     go xs y false e j = h y (Has_right y (free r) (filter (other_than x) (free b)) (Has_other x y (free b) e j))
 
--- x occurs in none of the lets
-abbrev pub Unused : Name → List Let → Type 0
-Unused x [] = Unit {0}
-Unused x (a ∷ as') = (Has x (free a.value) → ⊥) × Unused x as'
+-- ---- unreached lets
 
--- names that agree but at x, before and after lets that do not use x
-pub let_names-unused : (x : Name) (as' : List Let) (names names' : Names) → Unused x as' → ((y : Name) → same_name x y ≡ false → names y ≡ names' y) → (y : Name) → same_name x y ≡ false → let_names as' names y ≡ let_names as' names' y
+-- names that agree where the output reaches them give it one meaning
+pub meaning-reached : (as' : List Let) (out : Rel) (names names' : Names) → ((y : Name) → Reaches y as' out → names y ≡ names' y) → meaning out (let_names as' names) ≡ meaning out (let_names as' names')
 unfolding let_names
-let_names-unused x [] names names' u h y n = h y n
-let_names-unused x (a ∷ as') names names' u h y n =
-    let e : meaning a.value names ≡ meaning a.value names' = meaning-free a.value names names' (λ z j. h z (not_x z j (same_name x z) refl)) in
-    let_names-unused x as' (bind a.name (meaning a.value names) names) (bind a.name (meaning a.value names') names') u.1
-    (λ z m. ap₂ (λ l w. cond (same_name a.name z) l w) e (h z m)) y n
+meaning-reached [] out names names' h = meaning-free out names names' h
+meaning-reached (a ∷ as') out names names' h = meaning-reached as' out (bind a.name (meaning a.value names) names) (bind a.name (meaning a.value names') names') (λ y j. go y j (same_name a.name y) refl)
   where
-    not_x : (z : Name) → Has z (free a.value) → (t : Bool) → same_name x z ≡ t → same_name x z ≡ false
-    not_x z j true q = absurd (u.0 (subst (λ w. Has w (free a.value)) (sym ((Decides-same_name x z).0 q)) j))
-    not_x z j false q = q
+    go : (y : Name) → Reaches y as' out → (t : Bool) → same_name a.name y ≡ t → cond t (meaning a.value names) (names y) ≡ cond t (meaning a.value names') (names' y)
+    go y j true e = meaning-free a.value names names' (λ z k. h z (inr (k, subst (λ w. Reaches w as' out) (sym ((Decides-same_name a.name y).0 e)) j)))
+    go y j false e = h y (inl j)
 
--- an unreached let: a first let that is used neither by the later ones nor by the output
-pub unused_let : (a : Let) (as' : List Let) (out : Rel) (names : Names) → Unused a.name as' → (Has a.name (free out) → ⊥) → meaning out (let_names (a ∷ as') names) ≡ meaning out (let_names as' names)
+-- a first let that the output doesn't reach may be dropped
+pub unreached_let : (a : Let) (as' : List Let) (out : Rel) (names : Names) → (Reaches a.name as' out → ⊥) → meaning out (let_names (a ∷ as') names) ≡ meaning out (let_names as' names)
 unfolding let_names
-unused_let a as' out names u n = meaning-free out (let_names as' (bind a.name (meaning a.value names) names)) (let_names as' names) (λ y j.
-    let_names-unused a.name as' (bind a.name (meaning a.value names) names) names u (λ z m. ap (λ t. cond t (meaning a.value names) (names z)) m) y (other y j (same_name a.name y) refl))
+unreached_let a as' out names n = meaning-reached as' out (bind a.name (meaning a.value names) names) names (λ y j. go y j (same_name a.name y) refl)
   where
-    other : (y : Name) → Has y (free out) → (t : Bool) → same_name a.name y ≡ t → same_name a.name y ≡ false
-    other y j true q = absurd (n (subst (λ w. Has w (free out)) (sym ((Decides-same_name a.name y).0 q)) j))
-    other y j false q = q
+    go : (y : Name) → Reaches y as' out → (t : Bool) → same_name a.name y ≡ t → cond t (meaning a.value names) (names y) ≡ names y
+    go y j true e = absurd (n (subst (λ w. Reaches w as' out) (sym ((Decides-same_name a.name y).0 e)) j))
+    go y j false e = refl

@@ -1,55 +1,55 @@
 -- A well-typed program fits: its names are known, and its loops are limited.
 use Rattle.std.proofs.Common.{◌≡◌, ℕ, suc, ◌≤◌, ◌<◌, Bool, true, false, cond, not, List, [], ◌∷◌, ◌++◌, filter, Some, refl, sym, subst, ◌∙◌, arith, inl, inr, ◌⊎◌}
 use Rattle.std.proofs.lemmas.Bool.{true≢false}
+use Rattle.semantics.specs.FreeNames.{free, other_than, IsAmong}
 use Rattle.semantics.specs.Limits.{max_turns}
-use Rattle.semantics.specs.Lower.{free, other_than}
 use Rattle.semantics.specs.Meaning.{same_name}
 use Rattle.semantics.specs.Query.{Name, Rel, Input, Let, Program}
 use Rattle.semantics.specs.Time.{turn_count}
 use Rattle.semantics.specs.Typing.{Scope, lookup, entry, HasArity, after_inputs, RestFits, WellTyped}
 use Rattle.semantics.proofs.LoweredRelations.{Decides-same_name}
-use Rattle.semantics.proofs.FittingPrograms.{Has, Known, Limited, Nested, FitsIn, LetsFit, names_after, input_list, IsFitting}
+use Rattle.semantics.proofs.FittingPrograms.{Known, Limited, Nested, FitsIn, LetsFit, names_after, input_list, IsFitting}
 
 -- xs has every name of the scope
 abbrev Covers : Scope → List Name → Type 0
-Covers scope xs = (y : Name) (n : ℕ) → lookup scope y ≡ Some n → Has y xs
+Covers scope xs = (y : Name) (n : ℕ) → lookup scope y ≡ Some n → IsAmong y xs
 
-Has_append_cases : (y : Name) (xs ys : List Name) → Has y (xs ++ ys) → Has y xs ⊎ Has y ys
+Has_append_cases : (y : Name) (xs ys : List Name) → IsAmong y (xs ++ ys) → IsAmong y xs ⊎ IsAmong y ys
 Has_append_cases y [] ys h = inr h
 Has_append_cases y (x ∷ xs) ys (inl e) = inl (inl e)
 Has_append_cases y (x ∷ xs) ys (inr h) = go (Has_append_cases y xs ys h)
   where
-    go : Has y xs ⊎ Has y ys → ((x ≡ y) ⊎ Has y xs) ⊎ Has y ys
+    go : IsAmong y xs ⊎ IsAmong y ys → ((x ≡ y) ⊎ IsAmong y xs) ⊎ IsAmong y ys
     go (inl k) = inl (inr k)
     go (inr k) = inr k
 
 -- what a filter of names keeps
-Has_kept : (x y : Name) (ys : List Name) → Has y (filter (other_than x) ys) → Has y ys × (same_name x y ≡ false)
+Has_kept : (x y : Name) (ys : List Name) → IsAmong y (filter (other_than x) ys) → IsAmong y ys × (same_name x y ≡ false)
 Has_kept x y [] h = absurd h
 Has_kept x y (z ∷ zs) h = go (same_name x z) refl h (Has_kept x y zs)
   where
-    go : (b : Bool) → same_name x z ≡ b → Has y (cond (not b) (z ∷ filter (other_than x) zs) (filter (other_than x) zs)) → (Has y (filter (other_than x) zs) → Has y zs × (same_name x y ≡ false)) → ((z ≡ y) ⊎ Has y zs) × (same_name x y ≡ false)
+    go : (b : Bool) → same_name x z ≡ b → IsAmong y (cond (not b) (z ∷ filter (other_than x) zs) (filter (other_than x) zs)) → (IsAmong y (filter (other_than x) zs) → IsAmong y zs × (same_name x y ≡ false)) → ((z ≡ y) ⊎ IsAmong y zs) × (same_name x y ≡ false)
     go true e k ih = let r = ih k in (inr r.0, r.1)
     go false e (inl q) ih = (inl q, subst (λ w. same_name x w ≡ false) q e)
     go false e (inr k) ih = let r = ih k in (inr r.0, r.1)
 
-both : (p q : List Name) (xs : List Name) → ((y : Name) → Has y p → Has y xs) → ((y : Name) → Has y q → Has y xs) → (y : Name) → Has y (p ++ q) → Has y xs
+both : (p q : List Name) (xs : List Name) → ((y : Name) → IsAmong y p → IsAmong y xs) → ((y : Name) → IsAmong y q → IsAmong y xs) → (y : Name) → IsAmong y (p ++ q) → IsAmong y xs
 both p q xs f g y h = go (Has_append_cases y p q h)
   where
-    go : Has y p ⊎ Has y q → Has y xs
+    go : IsAmong y p ⊎ IsAmong y q → IsAmong y xs
     go (inl k) = f y k
     go (inr k) = g y k
 
 covers_more : (scope : Scope) (xs : List Name) (x : Name) (n : ℕ) → Covers scope xs → Covers (entry x n ∷ scope) (x ∷ xs)
 covers_more scope xs x n c y m h = go (same_name x y) refl h
   where
-    go : (b : Bool) → same_name x y ≡ b → cond b (Some n) (lookup scope y) ≡ Some m → (x ≡ y) ⊎ Has y xs
+    go : (b : Bool) → same_name x y ≡ b → cond b (Some n) (lookup scope y) ≡ Some m → (x ≡ y) ⊎ IsAmong y xs
     go true e k = inl ((Decides-same_name x y).0 e)
     go false e k = inr (c y m k)
 
 pub typed_known : (r : Rel) (scope : Scope) (d n : ℕ) (xs : List Name) → HasArity r scope d n → Covers scope xs → Known xs r
 unfolding HasArity
-typed_known (Rel.named x) scope d n xs t c y (inl e) = subst (λ z. Has z xs) e (c x n t)
+typed_known (Rel.named x) scope d n xs t c y (inl e) = subst (λ z. IsAmong z xs) e (c x n t)
 typed_known (Rel.named x) scope d n xs t c y (inr h) = absurd h
 typed_known (Rel.select r ss) scope d n xs t c y h = typed_known r scope d t.0 xs t.1 c y h
 typed_known (Rel.filter r k) scope d n xs t c y h = typed_known r scope d n xs t.0 c y h
@@ -61,7 +61,7 @@ typed_known (Rel.iterate k x r b) scope d n xs t c y h =
     both (free r) (filter (other_than x) (free b)) xs (typed_known r scope d n xs t.2 c)
     (λ y h. let a = Has_kept x y (free b) h in inner y a.1 (typed_known b (entry x n ∷ scope) (suc d) n (x ∷ xs) t.4 (covers_more scope xs x n c) y a.0)) y h
   where
-    inner : (y : Name) → same_name x y ≡ false → (x ≡ y) ⊎ Has y xs → Has y xs
+    inner : (y : Name) → same_name x y ≡ false → (x ≡ y) ⊎ IsAmong y xs → IsAmong y xs
     inner y e (inl q) = absurd (true≢false (sym ((Decides-same_name x y).1 q) ∙ e))
     inner y e (inr h) = h
 
@@ -100,11 +100,11 @@ rest_fits (a ∷ as') out scope n xs t c =
     let later = rest_fits as' out (entry a.name t.0 ∷ scope) n (a.name ∷ xs) t.3 (covers_more scope xs a.name t.0 c) in
     ((fits_in a.value scope t.0 xs t.1 c, later.0), later.1)
 
-inputs_fit : (as' : List Input) (scope : Scope) (xs : List Name) (all : List Name) → Covers scope xs → ((y : Name) → Has y xs ⊎ Has y (input_list as') → Has y all) → Covers (after_inputs scope as') all
+inputs_fit : (as' : List Input) (scope : Scope) (xs : List Name) (all : List Name) → Covers scope xs → ((y : Name) → IsAmong y xs ⊎ IsAmong y (input_list as') → IsAmong y all) → Covers (after_inputs scope as') all
 inputs_fit [] scope xs all c f y n h = f y (inl (c y n h))
 inputs_fit (a ∷ as') scope xs all c f y n h = inputs_fit as' (entry a.name a.arity ∷ scope) (a.name ∷ xs) all (covers_more scope xs a.name a.arity c) (λ z k. f z (go z k)) y n h
   where
-    go : (z : Name) → ((a.name ≡ z) ⊎ Has z xs) ⊎ Has z (input_list as') → Has z xs ⊎ ((a.name ≡ z) ⊎ Has z (input_list as'))
+    go : (z : Name) → ((a.name ≡ z) ⊎ IsAmong z xs) ⊎ IsAmong z (input_list as') → IsAmong z xs ⊎ ((a.name ≡ z) ⊎ IsAmong z (input_list as'))
     go z (inl (inl e)) = inr (inl e)
     go z (inl (inr k)) = inl k
     go z (inr k) = inr (inr k)
@@ -119,6 +119,6 @@ typed_fits p n t =
     let r = rest_fits p.lets p.output (after_inputs [] p.inputs) n (input_list p.inputs) t.rest c in
     record { lets = r.0; output = r.1 }
   where
-    only : (y : Name) → Has y [] ⊎ Has y (input_list p.inputs) → Has y (input_list p.inputs)
+    only : (y : Name) → IsAmong y [] ⊎ IsAmong y (input_list p.inputs) → IsAmong y (input_list p.inputs)
     only y (inl h) = absurd h
     only y (inr h) = h

@@ -2,6 +2,7 @@ pub mod Limits
 pub mod Multiset
 pub mod Query
 pub mod Meaning
+pub mod FreeNames
 pub mod Size
 pub mod Normal
 pub mod Typing

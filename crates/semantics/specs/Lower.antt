@@ -1,35 +1,10 @@
 -- The graph of a relation and of a program.
-use Rattle.std.specs.Prelude.{ℕ, suc, ◌+◌, Bool, cond, not, List, [], ◌∷◌, ◌++◌, map, filter, length}
+use Rattle.std.specs.Prelude.{ℕ, suc, ◌+◌, cond, List, [], ◌∷◌, ◌++◌, map, filter, length}
 use Rattle.semantics.specs.Kinds.{Kind}
 use Rattle.semantics.specs.Graph.{Port, no_port, Vertex, Graph}
+use Rattle.semantics.specs.FreeNames.{carried}
 use Rattle.semantics.specs.Meaning.{same_name}
 use Rattle.semantics.specs.Query.{Name, Rel, Input, Let, Program}
-
--- ---- names
-
--- y is another name than x
-abbrev pub other_than : Name → Name → Bool
-other_than x y = not (same_name x y)
-
--- the names that occur free, in order, with repeats
-abbrev pub free : Rel → List Name
-free (Rel.named x) = x ∷ []
-free (Rel.select r ss) = free r
-free (Rel.filter r c) = free r
-free (Rel.concat p q) = free p ++ free q
-free (Rel.join p q ps) = free p ++ free q
-free (Rel.group r ks as') = free r
-free (Rel.distinct r) = free r
-free (Rel.iterate n x r b) = free r ++ filter (other_than x) (free b)
-
--- each name once, where it occurs first
-abbrev pub firsts : List Name → List Name
-firsts [] = []
-firsts (x ∷ xs) = x ∷ filter (other_than x) (firsts xs)
-
--- the names that a loop's body takes from outside
-abbrev pub carried : Name → Rel → List Name
-carried x b = firsts (filter (other_than x) (free b))
 
 -- ---- the vertices that a relation makes, and the port that it gives
 

@@ -1,5 +1,5 @@
 -- What scalars, conditions and relations mean.
-use Rattle.std.specs.Prelude.{ℕ, zero, suc, ◌-◌, ◌^◌, Bool, cond, not, ◌&&◌, ◌||◌, List, [], ◌∷◌, ◌++◌, map, filter, flat_map, ℤ, pos, negsuc, ◌+ℤ◌, ◌-ℤ◌, ◌*ℤ◌, neg_ℤ, slice_index_or, nat_eq}
+use Rattle.std.specs.Prelude.{ℕ, zero, suc, Bool, cond, not, ◌&&◌, ◌||◌, List, [], ◌∷◌, ◌++◌, map, filter, flat_map, ℤ, pos, ◌+ℤ◌, ◌-ℤ◌, ◌*ℤ◌, neg_ℤ, slice_index_or, nat_eq}
 use Rattle.std.specs.Cmp.Lexicographic.{pointwise}
 use Rattle.std.specs.Ordering.{int_eq}
 use Rattle.std.specs.Int.RustNames.{int_lt, int_le}
@@ -50,12 +50,22 @@ abbrev pub folded : {B : Type 0} → (Record → B → B) → B → List Record 
 folded f b [] = b
 folded f b (x ∷ xs) = f x (folded f b xs)
 
--- an aggregate over records, with repeats
+-- z and the numbers after it, taken together by f
+abbrev pub reduced_from : (ℤ → ℤ → ℤ) → ℤ → List ℤ → ℤ
+reduced_from f z [] = z
+reduced_from f z (w ∷ ws) = f z (reduced_from f w ws)
+
+-- numbers taken together by f, without a start value; 0 where there is none
+abbrev pub reduced : (ℤ → ℤ → ℤ) → List ℤ → ℤ
+reduced f [] = pos 0
+reduced f (z ∷ zs) = reduced_from f z zs
+
+-- an aggregate over records, with repeats (LINQ: Count, Sum, Min, Max; here counts and sums wrap at 64 bits)
 abbrev pub aggregate : Agg → List Record → ℤ
 aggregate Agg.count rs = int_wrap w64 (pos (total (λ r. 1) rs))
 aggregate (Agg.sum c) rs = int_wrap w64 (folded (λ r n. field c r +ℤ n) (pos 0) rs)
-aggregate (Agg.min c) rs = folded (λ r n. int_min (field c r) n) (pos (2 ^ 63 - 1)) rs
-aggregate (Agg.max c) rs = folded (λ r n. int_max (field c r) n) (negsuc (2 ^ 63 - 1)) rs
+aggregate (Agg.min c) rs = reduced int_min (map (field c) rs)
+aggregate (Agg.max c) rs = reduced int_max (map (field c) rs)
 
 -- ---- the forms, on multisets
 

@@ -1,12 +1,15 @@
--- Trees to which no rule of the normaliser applies.
-use Rattle.std.specs.Prelude.{◌≡◌, ℕ, ◌+◌, ◌≤◌, nat_eq, List, [], ◌∷◌, ◌++◌}
+-- The rules of the normaliser, and the trees to which none of them applies: literals are folded, a `where` of a `where`
+-- becomes one, so does a `select` of a `select` that copies no scalar, a `distinct` of a `distinct` and a loop of no turns
+-- become what they hold, and a let that the output doesn't reach is dropped.
+use Rattle.std.specs.Prelude.{◌≡◌, ◌⊎◌, ℕ, ◌+◌, ◌≤◌, nat_eq, List, [], ◌∷◌, ◌++◌, slice_index_or, pos}
 use Rattle.std.specs.List.{AllByRecursion}
 use Rattle.semantics.specs.Multiset.{one_if}
-use Rattle.semantics.specs.Query.{Scalar, Cond, Rel}
+use Rattle.semantics.specs.Query.{Name, Scalar, Cond, Rel, Let, Program}
+use Rattle.semantics.specs.FreeNames.{free, IsAmong}
 
--- ---- the columns that scalars use, with repeats
+-- ---- select of select
 
--- the columns of a scalar
+-- the columns of a scalar, with repeats
 abbrev pub uses : Scalar → List ℕ
 uses (Scalar.column c) = c ∷ []
 uses (Scalar.literal z) = []
@@ -25,16 +28,41 @@ abbrev pub use_count : ℕ → List ℕ → ℕ
 use_count c [] = 0
 use_count c (d ∷ ds) = one_if (nat_eq c d) + use_count c ds
 
--- all together use each column at most once
+-- all together use each column at most once, so that no scalar that replaces a column is copied
 abbrev pub UsesOnce : List Scalar → Type 0
 UsesOnce ss = (c : ℕ) → use_count c (uses_all ss) ≤ 1
+
+-- each column is replaced by the scalar of ss that it names
+abbrev pub replaced : List Scalar → Scalar → Scalar
+replaced ss (Scalar.column c) = slice_index_or ss c (Scalar.literal (pos 0))
+replaced ss (Scalar.literal z) = Scalar.literal z
+replaced ss (Scalar.plus s t) = Scalar.plus (replaced ss s) (replaced ss t)
+replaced ss (Scalar.minus s t) = Scalar.minus (replaced ss s) (replaced ss t)
+replaced ss (Scalar.times s t) = Scalar.times (replaced ss s) (replaced ss t)
+replaced ss (Scalar.negation s) = Scalar.negation (replaced ss s)
+
+-- ---- unreached lets
+
+-- x is used by the output, or by a let that is itself reached
+abbrev pub Reaches : (x : Name) → (later : List Let) → (output : Rel) → Type 0
+Reaches x [] out = IsAmong x (free out)
+Reaches x (a ∷ as') out = Reaches x as' out ⊎ (IsAmong x (free a.value) × Reaches a.name as' out)
+
+-- every let is reached
+abbrev pub AllReached : List Let → Rel → Type 0
+AllReached [] out = Unit {0}
+AllReached (a ∷ as') out = Reaches a.name as' out × AllReached as' out
 
 -- ---- no rule applies
 
 -- the scalar is a literal
 abbrev pub IsLiteral : Scalar → Type 0
+IsLiteral (Scalar.column c) = ⊥
 IsLiteral (Scalar.literal z) = Unit {0}
-IsLiteral _ = ⊥
+IsLiteral (Scalar.plus s t) = ⊥
+IsLiteral (Scalar.minus s t) = ⊥
+IsLiteral (Scalar.times s t) = ⊥
+IsLiteral (Scalar.negation s) = ⊥
 
 -- no literals in it can be folded
 abbrev pub NormalScalar : Scalar → Type 0
@@ -54,20 +82,38 @@ NormalCond (Cond.negation c) = NormalCond c
 
 -- the relation is a `where`
 abbrev pub IsFilter : Rel → Type 0
+IsFilter (Rel.named x) = ⊥
+IsFilter (Rel.select r ss) = ⊥
 IsFilter (Rel.filter r c) = Unit {0}
-IsFilter _ = ⊥
+IsFilter (Rel.concat p q) = ⊥
+IsFilter (Rel.join p q ps) = ⊥
+IsFilter (Rel.group r ks as') = ⊥
+IsFilter (Rel.distinct r) = ⊥
+IsFilter (Rel.iterate n x r b) = ⊥
 
 -- the relation is a `select`
 abbrev pub IsSelect : Rel → Type 0
+IsSelect (Rel.named x) = ⊥
 IsSelect (Rel.select r ss) = Unit {0}
-IsSelect _ = ⊥
+IsSelect (Rel.filter r c) = ⊥
+IsSelect (Rel.concat p q) = ⊥
+IsSelect (Rel.join p q ps) = ⊥
+IsSelect (Rel.group r ks as') = ⊥
+IsSelect (Rel.distinct r) = ⊥
+IsSelect (Rel.iterate n x r b) = ⊥
 
 -- the relation is a `distinct`
 abbrev pub IsDistinct : Rel → Type 0
+IsDistinct (Rel.named x) = ⊥
+IsDistinct (Rel.select r ss) = ⊥
+IsDistinct (Rel.filter r c) = ⊥
+IsDistinct (Rel.concat p q) = ⊥
+IsDistinct (Rel.join p q ps) = ⊥
+IsDistinct (Rel.group r ks as') = ⊥
 IsDistinct (Rel.distinct r) = Unit {0}
-IsDistinct _ = ⊥
+IsDistinct (Rel.iterate n x r b) = ⊥
 
--- no rule on scalars and relations applies anywhere
+-- no rule on scalars and relations applies anywhere in it
 abbrev pub NormalRel : Rel → Type 0
 NormalRel (Rel.named x) = Unit {0}
 NormalRel (Rel.select r ss) = NormalRel r × AllByRecursion NormalScalar ss × (IsSelect r → UsesOnce ss → ⊥)
@@ -77,3 +123,9 @@ NormalRel (Rel.join p q ps) = NormalRel p × NormalRel q
 NormalRel (Rel.group r ks as') = NormalRel r
 NormalRel (Rel.distinct r) = NormalRel r × (IsDistinct r → ⊥)
 NormalRel (Rel.iterate n x r b) = NormalRel r × NormalRel b × (n ≡ 0 → ⊥)
+
+-- no rule applies anywhere in the program, and every let is reached
+pub record NormalProgram (p : Program) : Type 0 where
+  pub lets : AllByRecursion (λ (a : Let). NormalRel a.value) p.lets
+  pub output : NormalRel p.output
+  pub reached : AllReached p.lets p.output
