@@ -69,11 +69,12 @@ impl<A: Allocator> Cond<A> {
         ensures moved { result ≡ self.old }
         ensures left { plain_cond (cond_tree self.new) ≡ query.Cond.compare query.Comparison.equal (query.Scalar.literal (pos 0)) (query.Scalar.literal (pos 0)) }
     {
-        let zero = Scalar::Literal(NOWHERE, 0);
-        let nought = Scalar::Literal(NOWHERE, 0);
-        mem::replace(
-            self,
-            Cond::Compare(NOWHERE, Comparison::Equal, zero, nought),
-        )
+        let zeros = Cond::Compare(
+            NOWHERE,
+            Comparison::Equal,
+            Scalar::Literal(NOWHERE, 0),
+            Scalar::Literal(NOWHERE, 0),
+        );
+        mem::replace(self, zeros)
     }
 }
