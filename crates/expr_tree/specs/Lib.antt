@@ -1,5 +1,3 @@
 pub mod Trees
 pub mod Views
 pub mod Plain
-pub mod Size
-pub mod Depth

@@ -2,7 +2,7 @@
 //! before. A node alone has the depth 1.
 
 ghost use Rattle.std.specs.Prelude.{◌≡◌, ◌-◌, ◌^◌, map, min};
-ghost use Rattle.expr_tree.specs.Depth as depth;
+ghost use Rattle.semantics.specs.Size as semantics;
 ghost use Rattle.expr_tree.specs.Plain.{plain_cond, plain_rel, plain_scalar};
 ghost use Rattle.expr_tree.specs.Views.{cond_tree, rel_tree, scalar_tree};
 
@@ -13,11 +13,11 @@ use std::alloc::Allocator;
 
 /// The depth of a relation.
 pub fn rel_depth<A: Allocator>(relation: &Rel<A>) -> u64
-    ensures { result ≡ min (depth.rel_depth (plain_rel (rel_tree relation.now))) (2 ^ 64 - 1) }
+    ensures { result ≡ min (semantics.rel_depth (plain_rel (rel_tree relation.now))) (2 ^ 64 - 1) }
 {
     match relation {
         Rel::Named(_, _) => 1,
-        Rel::Select(_, of, scalars) => rel_depth(of).max(deepest_scalar(scalars)).saturating_add(1),
+        Rel::Select(_, of, scalars) => rel_depth(of).max(scalars_depth(scalars)).saturating_add(1),
         Rel::Where(_, of, condition) => rel_depth(of).max(cond_depth(condition)).saturating_add(1),
         Rel::Concat(_, left, right) => rel_depth(left).max(rel_depth(right)).saturating_add(1),
         Rel::Join(_, left, right, _) => rel_depth(left).max(rel_depth(right)).saturating_add(1),
@@ -30,7 +30,7 @@ pub fn rel_depth<A: Allocator>(relation: &Rel<A>) -> u64
 
 /// The depth of a condition.
 pub fn cond_depth<A: Allocator>(condition: &Cond<A>) -> u64
-    ensures { result ≡ min (depth.cond_depth (plain_cond (cond_tree condition.now))) (2 ^ 64 - 1) }
+    ensures { result ≡ min (semantics.cond_depth (plain_cond (cond_tree condition.now))) (2 ^ 64 - 1) }
 {
     match condition {
         Cond::Compare(_, _, left, right) => scalar_depth(left)
@@ -45,7 +45,7 @@ pub fn cond_depth<A: Allocator>(condition: &Cond<A>) -> u64
 
 /// The depth of a scalar.
 pub fn scalar_depth<A: Allocator>(scalar: &Scalar<A>) -> u64
-    ensures { result ≡ min (depth.scalar_depth (plain_scalar (scalar_tree scalar.now))) (2 ^ 64 - 1) }
+    ensures { result ≡ min (semantics.scalar_depth (plain_scalar (scalar_tree scalar.now))) (2 ^ 64 - 1) }
 {
     match scalar {
         Scalar::Literal(_, _) => 1,
@@ -58,8 +58,8 @@ pub fn scalar_depth<A: Allocator>(scalar: &Scalar<A>) -> u64
 }
 
 /// The greatest of the scalars' depths, 0 where there is none.
-fn deepest_scalar<A: Allocator>(scalars: &Vec<Scalar<A>, A>) -> u64
-    ensures { result ≡ min (depth.greatest (map depth.scalar_depth (map plain_scalar (map scalar_tree scalars.now.items)))) (2 ^ 64 - 1) }
+fn scalars_depth<A: Allocator>(scalars: &Vec<Scalar<A>, A>) -> u64
+    ensures { result ≡ min (semantics.scalars_depth (map plain_scalar (map scalar_tree scalars.now.items))) (2 ^ 64 - 1) }
 {
     let mut deepest = 0u64;
     for scalar in scalars {

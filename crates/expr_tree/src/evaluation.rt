@@ -72,10 +72,12 @@ pub fn holds<A: Allocator>(condition: &Cond<A>, record: &Record) -> bool
             let y = eval_scalar(right, record);
             compare(*comparison, x, y)
         }
-        Cond::Logical(_, Connective::And, left, right) => holds(left, record)
-            && holds(right, record),
-        Cond::Logical(_, Connective::Or, left, right) => holds(left, record)
-            || holds(right, record),
+        Cond::Logical(_, Connective::And, left, right) => {
+            holds(left, record) && holds(right, record)
+        }
+        Cond::Logical(_, Connective::Or, left, right) => {
+            holds(left, record) || holds(right, record)
+        }
         Cond::Not(_, inner) => !holds(inner, record),
     }
 }

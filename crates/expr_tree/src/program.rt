@@ -1,9 +1,8 @@
 //! Programs: inputs, named relations, one output.
 
 ghost use Rattle.std.specs.Prelude.{◌≡◌, ◌-◌, ◌^◌, IfOk, min};
-ghost use Rattle.expr_tree.specs.Depth.{program_depth};
+ghost use Rattle.semantics.specs.Size.{program_depth, program_size};
 ghost use Rattle.expr_tree.specs.Plain.{plain_program};
-ghost use Rattle.expr_tree.specs.Size.{program_size};
 ghost use Rattle.expr_tree.specs.Views.{program_tree};
 
 use crate::copy::{copy_inputs, copy_lets, copy_rel};

@@ -3,7 +3,7 @@
 //! A group's keys, a join's pairs and an aggregate's column are no nodes.
 
 ghost use Rattle.std.specs.Prelude.{◌≡◌, ◌-◌, ◌^◌, map, min};
-ghost use Rattle.semantics.specs.Normal as semantics;
+ghost use Rattle.semantics.specs.Size as semantics;
 ghost use Rattle.expr_tree.specs.Plain.{plain_cond, plain_rel, plain_scalar};
 ghost use Rattle.expr_tree.specs.Views.{cond_tree, rel_tree, scalar_tree};
 

@@ -1,5 +1,5 @@
 use Rattle.std.proofs.Common.{◌≡◌, ◌^◌, ◌-◌, map, take, min}
-use Rattle.semantics.specs.Normal.{scalars_size}
+use Rattle.semantics.specs.Size.{scalars_size}
 use Rattle.expr_tree.specs.Plain.{plain_scalar}
 use Rattle.expr_tree.specs.Views.{scalar_tree}
 use Rattle.expr_tree.proofs.size.scalars_size.Given as goal
