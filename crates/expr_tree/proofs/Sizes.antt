@@ -1,0 +1,40 @@
+-- Sizes and depths of lists with one more item, and of groups.
+use Rattle.std.proofs.Common.{◌≡◌, suc, ◌+◌, ◌≤◌, max, List, [], ◌∷◌, ◌++◌, arith}
+use Rattle.semantics.specs.Query.{Scalar, Rel, Agg, Let}
+use Rattle.semantics.specs.Size.{scalar_size, scalars_size, rel_size, lets_size, scalar_depth, scalars_depth, aggs_depth, rel_depth, lets_depth}
+
+-- the size of scalars with one more
+pub scalars_size-push : (ss : List Scalar) (s : Scalar) → scalars_size (ss ++ s ∷ []) ≡ scalars_size ss + scalar_size s
+scalars_size-push [] s = omega arith
+scalars_size-push (t ∷ ts) s = omega (arith, scalars_size-push ts s)
+
+-- the size of lets with one more
+pub lets_size-push : (ls : List Let) (l : Let) → lets_size (ls ++ l ∷ []) ≡ suc (lets_size ls + rel_size l.value)
+lets_size-push [] l = omega arith
+lets_size-push (m ∷ ms) l = omega (arith, lets_size-push ms l)
+
+-- the depth of scalars with one more
+pub scalars_depth-push : (ss : List Scalar) (s : Scalar) → scalars_depth (ss ++ s ∷ []) ≡ max (scalars_depth ss) (scalar_depth s)
+scalars_depth-push [] s = omega arith
+scalars_depth-push (t ∷ ts) s = omega (arith, scalars_depth-push ts s)
+
+-- the depth of lets with one more
+pub lets_depth-push : (ls : List Let) (l : Let) → lets_depth (ls ++ l ∷ []) ≡ max (lets_depth ls) (rel_depth l.value)
+lets_depth-push [] l = omega arith
+lets_depth-push (m ∷ ms) l = omega (arith, lets_depth-push ms l)
+
+-- a relation is a node at least
+pub rel_depth-positive : (r : Rel) → 1 ≤ rel_depth r
+rel_depth-positive (Rel.named x) = omega arith
+rel_depth-positive (Rel.select r ss) = omega arith
+rel_depth-positive (Rel.filter r c) = omega arith
+rel_depth-positive (Rel.concat p q) = omega arith
+rel_depth-positive (Rel.join p q ps) = omega arith
+rel_depth-positive (Rel.group r ks as') = omega arith
+rel_depth-positive (Rel.distinct r) = omega arith
+rel_depth-positive (Rel.iterate n x r b) = omega arith
+
+-- aggregates are at most 1 deep
+pub aggs_depth-le : (gs : List Agg) → aggs_depth gs ≤ 1
+aggs_depth-le [] = omega arith
+aggs_depth-le (g ∷ gs) = omega arith

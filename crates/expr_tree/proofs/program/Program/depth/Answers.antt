@@ -1,0 +1,7 @@
+use Rattle.std.proofs.Common.{arith}
+use Rattle.std.proofs.lemmas.Grind.{common_steps}
+use Rattle.expr_tree.proofs.Sizes.{lets_depth-push}
+use Rattle.expr_tree.proofs.program.Program.depth.Goals as goal
+
+pub loop-item-preserved : goal.loop-item-preserved
+loop-item-preserved g c = grind (arith, common_steps, lets_depth-push)
