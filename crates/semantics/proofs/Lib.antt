@@ -6,6 +6,7 @@ pub mod KeyedParts
 pub mod CountsOfForms
 pub mod MeaningOfMultisets
 pub mod RulesKeepMeaning
+pub mod RulesKeepArity
 pub mod FusedSelects
 pub mod LexicographicOrder
 pub mod TimesBefore
