@@ -5,6 +5,7 @@ pub mod DistinctAndGroups
 pub mod KeyedParts
 pub mod CountsOfForms
 pub mod MeaningOfMultisets
+pub mod NamesAmong
 pub mod RulesKeepMeaning
 pub mod RulesKeepArity
 pub mod FusedSelects
@@ -13,14 +14,12 @@ pub mod TimesBefore
 pub mod EdgeNumbers
 pub mod RecursiveEquations
 pub mod OneFlow
-pub mod LocalFlows
 pub mod VertexLaws
 pub mod MonotoneVertices
 pub mod VertexFlows
 pub mod RankRises
 pub mod CouldRises
 pub mod PathSummaries
-pub mod LoopPaths
 pub mod FittingPrograms
 pub mod TypedPrograms
 pub mod LoweredRelations
@@ -32,3 +31,4 @@ pub mod TypedPorts
 pub mod FieldsKept
 pub mod ExampleMeanings
 pub mod ExampleGraphs
+pub mod ExamplePointstamps

@@ -1,13 +1,13 @@
 -- The rules of the normaliser keep a relation's arity, and a program well typed.
-use Rattle.std.proofs.Common.{◌≡◌, ℕ, zero, suc, ◌<◌, Bool, true, false, cond, List, [], ◌∷◌, ◌++◌, map, length, slice_index_or, pos, Some, None, refl, sym, subst, ◌∙◌, arith, ap, inl, inr, ◌⊎◌}
+use Rattle.std.proofs.Common.{◌≡◌, ℕ, zero, suc, ◌<◌, Bool, true, false, cond, List, [], ◌∷◌, ◌++◌, map, length, slice_index_or, pos, Some, None, refl, sym, subst, ◌∙◌, arith, ap, inl, inr}
 use Rattle.std.specs.List.{AllByRecursion}
+use Rattle.semantics.proofs.NamesAmong.{Decides-same_name, among_left, among_right, among_others}
 use Rattle.semantics.specs.Multiset.{IsAmong}
 use Rattle.semantics.specs.Meaning.{same_name}
-use Rattle.semantics.specs.FreeNames.{free, other_than}
-use Rattle.semantics.specs.Query.{Scalar, Cond, Name, Rel, Input, Let, Program}
+use Rattle.semantics.specs.FreeNames.{free}
+use Rattle.semantics.specs.Query.{Scalar, Cond, Name, Rel, Input, Let}
 use Rattle.semantics.specs.Typing.{ScalarFits, Scope, lookup, entry, HasArity, after_inputs, RestFits, WellTyped}
 use Rattle.semantics.specs.Normal.{replaced, Reaches, AllReached}
-use Rattle.semantics.proofs.LoweredRelations.{Has_left, Has_right, Has_other, Decides-same_name}
 
 -- ---- the rules on relations
 
@@ -56,21 +56,21 @@ unfolding HasArity
 arity_free (Rel.named x) scope scope' l n h none t = sym (h x (inl refl)) ∙ t
 arity_free (Rel.select r ss) scope scope' l n h none t = (t.0, arity_free r scope scope' l t.0 h none t.1, t.2, t.3, t.4)
 arity_free (Rel.filter r c) scope scope' l n h none t = (arity_free r scope scope' l n h none t.0, t.1)
-arity_free (Rel.concat p q) scope scope' l n h none t = (arity_free p scope scope' l n (λ y j. h y (Has_left y (free p) (free q) j)) none t.0, arity_free q scope scope' l n (λ y j. h y (Has_right y (free p) (free q) j)) none t.1)
-arity_free (Rel.join p q ps) scope scope' l n h none t = (t.0, t.1, arity_free p scope scope' l t.0 (λ y j. h y (Has_left y (free p) (free q) j)) none t.2, arity_free q scope scope' l t.1 (λ y j. h y (Has_right y (free p) (free q) j)) none t.3, t.4, t.5, t.6)
+arity_free (Rel.concat p q) scope scope' l n h none t = (arity_free p scope scope' l n (λ y j. h y (among_left y (free p) (free q) j)) none t.0, arity_free q scope scope' l n (λ y j. h y (among_right y (free p) (free q) j)) none t.1)
+arity_free (Rel.join p q ps) scope scope' l n h none t = (t.0, t.1, arity_free p scope scope' l t.0 (λ y j. h y (among_left y (free p) (free q) j)) none t.2, arity_free q scope scope' l t.1 (λ y j. h y (among_right y (free p) (free q) j)) none t.3, t.4, t.5, t.6)
 arity_free (Rel.group r ks as') scope scope' l n h none t = (t.0, arity_free r scope scope' l t.0 h none t.1, t.2, t.3, t.4, t.5)
 arity_free (Rel.distinct r) scope scope' l n h none t = arity_free r scope scope' l n h none t
 arity_free (Rel.iterate k x r b) scope scope' l n h none t = (
   t.0,
   t.1,
-  arity_free r scope scope' l n (λ y j. h y (Has_left y (free r) _ j)) none t.2,
+  arity_free r scope scope' l n (λ y j. h y (among_left y (free r) _ j)) none t.2,
   none x t.3,
   arity_free b (entry x n ∷ scope) (entry x n ∷ scope') (suc l) n (λ y j. agree y j (same_name x y) refl) (λ y. absent y (same_name x y)) t.4,
 )
   where
     agree : (y : Name) → IsAmong y (free b) → (q : Bool) → same_name x y ≡ q → cond q (Some n) (lookup scope y) ≡ cond q (Some n) (lookup scope' y)
     agree y j true e = refl
-    agree y j false e = h y (Has_right y (free r) _ (Has_other x y (free b) e j))
+    agree y j false e = h y (among_right y (free r) _ (among_others x y (free b) e j))
 
     absent : (y : Name) (q : Bool) → cond q (Some n) (lookup scope y) ≡ None → cond q (Some n) (lookup scope' y) ≡ None
     absent y true e = e
