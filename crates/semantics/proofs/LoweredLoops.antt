@@ -2,20 +2,21 @@
 use Rattle.std.proofs.Common.{◌≡◌, ℕ, zero, suc, ◌+◌, ◌≤◌, ◌<◌, Bool, true, false, cond, List, [], ◌∷◌, ◌++◌, map, filter, length, slice_index_or, refl, sym, ap, subst, ◌∙◌, arith, length-append, append_assoc, inl, inr, ◌⊎◌, le_refl}
 use Rattle.std.proofs.lemmas.Bool.{true≢false}
 use Rattle.std.specs.List.{AllByRecursion}
+use Rattle.semantics.proofs.NamesAmong.{Decides-same_name, among_left, among_right, among_others, among_firsts, from_firsts}
 use Rattle.semantics.specs.Multiset.{IsAmong}
-use Rattle.semantics.specs.FreeNames.{other_than, free, firsts, carried}
+use Rattle.semantics.specs.FreeNames.{other_than, free, carried}
 use Rattle.semantics.specs.Limits.{max_loops}
 use Rattle.semantics.specs.Dataflow.{IsWired, Goes, IsNested}
 use Rattle.semantics.specs.Flow.{Inputs, HasOneFlow}
 use Rattle.semantics.specs.Kinds.{Kind, action, in_ports, out_ports}
-use Rattle.semantics.specs.Graph.{Port, Vertex, Graph, no_vertex, no_port, vertex, source}
+use Rattle.semantics.specs.Graph.{Port, Vertex, Graph, no_vertex, vertex, source}
 use Rattle.semantics.specs.Lower.{Ports, stands_for, port, new_vertex, carry, carried_ports, Lowered, lower, looped, input_vertices, input_ports, lower_lets, lets_of, output_of, lowered}
 use Rattle.semantics.specs.Meaning.{same_name}
 use Rattle.semantics.specs.Query.{Name, Rel, Input, Let, Program}
 use Rattle.semantics.specs.Time.{Action}
 use Rattle.semantics.proofs.OneFlow.{one_flow}
-use Rattle.semantics.proofs.LoweredRelations.{Has_left, Has_right, Has_other, Has_firsts, Stands, stands_left, stands_right, Decides-same_name}
-use Rattle.semantics.proofs.LoweredPrograms.{stands_whole, length-input_vertices}
+use Rattle.semantics.proofs.LoweredRelations.{Stands, stands_left, stands_right}
+use Rattle.semantics.proofs.LoweredPrograms.{all_at, stands_whole, length-input_vertices}
 use Rattle.semantics.proofs.RankRises.{rises_from_nested}
 use Rattle.semantics.proofs.FittingPrograms.{Nested, LetsFit, names_after, input_list, IsFitting}
 use Rattle.semantics.proofs.VertexFlows.{IsAt}
@@ -41,11 +42,6 @@ module _ (g : Graph) (loops : ℕ → List ℕ) where
   all_sound_at k [] s i l = absurd (omega arith)
   all_sound_at k (v ∷ vs) s zero l = subst (λ n. SoundAs g loops n v) (omega arith) s.0
   all_sound_at k (v ∷ vs) s (suc i) l = subst (λ n. SoundAs g loops n (slice_index_or vs i no_vertex)) (omega arith) (all_sound_at (suc k) vs s.1 i (omega arith))
-
-  all_at : (P : Port → Type 0) (ps : List Port) (i : ℕ) → AllByRecursion P ps → i < length ps → P (slice_index_or ps i no_port)
-  all_at P [] i a l = absurd (omega arith)
-  all_at P (p ∷ ps) zero a l = a.0
-  all_at P (p ∷ ps) (suc i) a l = all_at P ps i a.1 (omega arith)
 
   module _ (sound : AllSound g loops 0 g) where
     sound_at : (w : ℕ) → w < length g → SoundAs g loops w (vertex g w)
@@ -91,11 +87,15 @@ length-carry_homes : (n : ℕ) (ports : Ports) (d k : ℕ) (here in' : List ℕ)
 length-carry_homes n ports d k here in' [] = refl
 length-carry_homes n ports d k here in' (y ∷ ys) = ap (λ m. suc (suc (suc (suc m)))) (length-carry_homes n ports d (suc (suc (suc (suc k)))) here in' ys)
 
-one_longer : (hs : List (List ℕ)) (h : List ℕ) (vs : List Vertex) (v : Vertex) → length hs ≡ length vs → length (hs ++ (h ∷ [])) ≡ length (vs ++ (v ∷ []))
+pub one_longer : {X Y : Type 0} (hs : List X) (h : X) (vs : List Y) (v : Y) → length hs ≡ length vs → length (hs ++ (h ∷ [])) ≡ length (vs ++ (v ∷ []))
 one_longer hs h vs v e = omega (arith, length-append hs (h ∷ []), length-append vs (v ∷ []))
 
-two_longer : (hs js : List (List ℕ)) (h : List ℕ) (vs ws : List Vertex) (v : Vertex) → length hs ≡ length vs → length js ≡ length ws → length (hs ++ (js ++ (h ∷ []))) ≡ length (vs ++ (ws ++ (v ∷ [])))
+pub two_longer : {X Y : Type 0} (hs js : List X) (h : X) (vs ws : List Y) (v : Y) → length hs ≡ length vs → length js ≡ length ws → length (hs ++ (js ++ (h ∷ []))) ≡ length (vs ++ (ws ++ (v ∷ [])))
 two_longer hs js h vs ws v e k = omega (arith, one_longer js h ws v k, length-append hs (js ++ (h ∷ [])), length-append vs (ws ++ (v ∷ [])))
+
+pub loop_longer : {X Y : Type 0} (hs : List X) (vs : List Y) (js : List X) (ws : List Y) (is : List X) (us : List Y) (a b c d e : X) (p q r s t : Y) → length hs ≡ length vs → length js ≡ length ws → length is ≡ length us → length (hs ++ (a ∷ b ∷ c ∷ (js ++ (is ++ (d ∷ e ∷ []))))) ≡ length (vs ++ (p ∷ q ∷ r ∷ (ws ++ (us ++ (s ∷ t ∷ [])))))
+loop_longer hs vs js ws is us a b c d e p q r s t k l m =
+    omega (arith, length-append hs (a ∷ b ∷ c ∷ (js ++ (is ++ (d ∷ e ∷ [])))), length-append vs (p ∷ q ∷ r ∷ (ws ++ (us ++ (s ∷ t ∷ [])))), length-append js (is ++ (d ∷ e ∷ [])), length-append ws (us ++ (s ∷ t ∷ [])), length-append is (d ∷ e ∷ []), length-append us (s ∷ t ∷ []))
 
 pub length-homes : (r : Rel) (ports : Ports) (d k : ℕ) (here : List ℕ) → length (homes r ports d k here) ≡ length (lower r ports d k).made
 unfolding homes lower
@@ -120,10 +120,6 @@ length-homes (Rel.iterate n x r b) ports d k here =
     let e2 = length-homes b inside (suc d) first in' in
     let e3 = length-carry_homes n ports d outside here in' ys in
     loop_longer (homes r ports d k here) start.made (carry_homes here in' ys) cs (homes b inside (suc d) first in') body.made here in' in' in' in' _ _ _ _ _ e1 e3 e2
-  where
-    loop_longer : (hs : List (List ℕ)) (vs : List Vertex) (js : List (List ℕ)) (ws : List Vertex) (is : List (List ℕ)) (us : List Vertex) (a b c d e : List ℕ) (p q r s t : Vertex) → length hs ≡ length vs → length js ≡ length ws → length is ≡ length us → length (hs ++ (a ∷ b ∷ c ∷ (js ++ (is ++ (d ∷ e ∷ []))))) ≡ length (vs ++ (p ∷ q ∷ r ∷ (ws ++ (us ++ (s ∷ t ∷ [])))))
-    loop_longer hs vs js ws is us a b c d e p q r s t k l m =
-        omega (arith, length-append hs (a ∷ b ∷ c ∷ (js ++ (is ++ (d ∷ e ∷ [])))), length-append vs (p ∷ q ∷ r ∷ (ws ++ (us ++ (s ∷ t ∷ [])))), length-append js (is ++ (d ∷ e ∷ [])), length-append ws (us ++ (s ∷ t ∷ [])), length-append is (d ∷ e ∷ []), length-append us (s ∷ t ∷ []))
 
 -- ---- each vertex of a relation is sound
 
@@ -204,23 +200,6 @@ module _ (g : Graph) (loops : ℕ → List ℕ) where
       )
 
   -- ---- what a loop carries
-
-  Has_cond_back : (y x : Name) (b : Bool) (xs : List Name) → IsAmong y (cond b (x ∷ xs) xs) → (x ≡ y) ⊎ IsAmong y xs
-  Has_cond_back y x true xs h = h
-  Has_cond_back y x false xs h = inr h
-
-  Has_filter_back : (x y : Name) (ys : List Name) → IsAmong y (filter (other_than x) ys) → IsAmong y ys
-  Has_filter_back x y [] h = h
-  Has_filter_back x y (z ∷ zs) h = go (Has_cond_back y z (other_than x z) (filter (other_than x) zs) h) (Has_filter_back x y zs)
-    where
-      go : (z ≡ y) ⊎ IsAmong y (filter (other_than x) zs) → (IsAmong y (filter (other_than x) zs) → IsAmong y zs) → (z ≡ y) ⊎ IsAmong y zs
-      go (inl e) f = inl e
-      go (inr k) f = inr (f k)
-
-  Has_firsts_back : (y : Name) (ys : List Name) → IsAmong y (firsts ys) → IsAmong y ys
-  Has_firsts_back y [] h = h
-  Has_firsts_back y (x ∷ xs) (inl e) = inl e
-  Has_firsts_back y (x ∷ xs) (inr h) = inr (Has_firsts_back y xs (Has_filter_back x y (firsts xs) h))
 
   -- a loop's number is above those of the vertices of its block
   carry_sound : (n : ℕ) (ports : Ports) (d k eg : ℕ) (here : List ℕ) (ys : List Name) → Stands g k (carry n ports d k ys) → Homed loops k (carry_homes here (here ++ (eg ∷ [])) ys) → length here ≡ d → suc d ≤ max_loops → k + length (carry n ports d k ys) ≤ eg → ((y : Name) → IsAmong y ys → Avail (ports y) here k) → AllSound g loops k (carry n ports d k ys)
@@ -326,17 +305,17 @@ module _ (g : Graph) (loops : ℕ → List ℕ) where
       home_back = homed_right loops first (length body.made) (homes b inside (suc d) first in') _ (length-homes b inside (suc d) first in') home_first
 
       carried_avail : (y : Name) → IsAmong y ys → Avail (ports y) here (suc gate)
-      carried_avail y j = avail_later (ports y) here k (suc gate) (omega arith) (avail y (Has_right y (free r) (filter (other_than x) (free b)) (Has_firsts_back y (filter (other_than x) (free b)) j)))
+      carried_avail y j = avail_later (ports y) here k (suc gate) (omega arith) (avail y (among_right y (free r) (filter (other_than x) (free b)) (from_firsts y (filter (other_than x) (free b)) j)))
 
       inside_avail : (y : Name) → IsAmong y (free b) → Avail (inside y) in' first
       inside_avail y j = go (same_name x y) refl
         where
           go : (t : Bool) → same_name x y ≡ t → Avail (cond t (port gate 0) (carried_ports ports (suc gate) ys y)) in' first
           go true q = avail_here gate 0 _ in' first in_loop.1.1.0 (omega arith) refl home_loop.1.1.0 (omega arith)
-          go false q = held_avail n ports d (suc gate) first here in' ys (stands_left g (suc gate) cs (body.made ++ ends) in_loop.1.1.1) (homed_left loops (suc gate) (carry_homes here in' ys) _ home_loop.1.1.1) (le_refl first) y (Has_firsts y (filter (other_than x) (free b)) (Has_other x y (free b) q j))
+          go false q = held_avail n ports d (suc gate) first here in' ys (stands_left g (suc gate) cs (body.made ++ ends) in_loop.1.1.1) (homed_left loops (suc gate) (carry_homes here in' ys) _ home_loop.1.1.1) (le_refl first) y (among_firsts y (filter (other_than x) (free b)) (among_others x y (free b) q j))
 
       start_sound : AllSound g loops k start.made × Avail start.gives here loop
-      start_sound = start_claim ports k here (stands_left g k start.made made s) (homed_left loops k (homes r ports d k here) _ h) l (omega arith) (λ y j. avail y (Has_left y (free r) _ j))
+      start_sound = start_claim ports k here (stands_left g k start.made made s) (homed_left loops k (homes r ports d k here) _ h) l (omega arith) (λ y j. avail y (among_left y (free r) _ j))
 
       body_sound : AllSound g loops first body.made × Avail body.gives in' back
       body_sound = body_claim inside first in' (stands_left g first body.made ends at_first) (homed_left loops first (homes b inside (suc d) first in') _ home_first) deep m inside_avail
@@ -395,15 +374,15 @@ module _ (g : Graph) (loops : ℕ → List ℕ) where
       let e = k + length a.made in
       let b = lower q ports d e in
       two_sound ports d k here Kind.concat a b (homes p ports d k here) (homes q ports d e here) (length-homes p ports d k here) (length-homes q ports d e here) refl refl refl l m s h
-      (relation_sound p d t.0 ports k here (stands_left g k a.made _ s) (homed_left loops k (homes p ports d k here) _ h) l m (λ y j. avail y (Has_left y (free p) (free q) j)))
-      (relation_sound q d t.1 ports e here (stands_left g e b.made _ (stands_right g k a.made _ s)) (homed_left loops e (homes q ports d e here) _ (homed_right loops k (length a.made) (homes p ports d k here) _ (length-homes p ports d k here) h)) l m (λ y j. avail_later (ports y) here k e (omega arith) (avail y (Has_right y (free p) (free q) j))))
+      (relation_sound p d t.0 ports k here (stands_left g k a.made _ s) (homed_left loops k (homes p ports d k here) _ h) l m (λ y j. avail y (among_left y (free p) (free q) j)))
+      (relation_sound q d t.1 ports e here (stands_left g e b.made _ (stands_right g k a.made _ s)) (homed_left loops e (homes q ports d e here) _ (homed_right loops k (length a.made) (homes p ports d k here) _ (length-homes p ports d k here) h)) l m (λ y j. avail_later (ports y) here k e (omega arith) (avail y (among_right y (free p) (free q) j))))
   relation_sound (Rel.join p q ps) d t ports k here s h l m avail =
       let a = lower p ports d k in
       let e = k + length a.made in
       let b = lower q ports d e in
       two_sound ports d k here (Kind.join ps) a b (homes p ports d k here) (homes q ports d e here) (length-homes p ports d k here) (length-homes q ports d e here) refl refl refl l m s h
-      (relation_sound p d t.0 ports k here (stands_left g k a.made _ s) (homed_left loops k (homes p ports d k here) _ h) l m (λ y j. avail y (Has_left y (free p) (free q) j)))
-      (relation_sound q d t.1 ports e here (stands_left g e b.made _ (stands_right g k a.made _ s)) (homed_left loops e (homes q ports d e here) _ (homed_right loops k (length a.made) (homes p ports d k here) _ (length-homes p ports d k here) h)) l m (λ y j. avail_later (ports y) here k e (omega arith) (avail y (Has_right y (free p) (free q) j))))
+      (relation_sound p d t.0 ports k here (stands_left g k a.made _ s) (homed_left loops k (homes p ports d k here) _ h) l m (λ y j. avail y (among_left y (free p) (free q) j)))
+      (relation_sound q d t.1 ports e here (stands_left g e b.made _ (stands_right g k a.made _ s)) (homed_left loops e (homes q ports d e here) _ (homed_right loops k (length a.made) (homes p ports d k here) _ (length-homes p ports d k here) h)) l m (λ y j. avail_later (ports y) here k e (omega arith) (avail y (among_right y (free p) (free q) j))))
   relation_sound (Rel.iterate n x r b) d t ports k here s h l m avail =
       loop_sound n x r b d (relation_sound r d t.0) (relation_sound b (suc d) t.2) ports k here t.1 s h l avail
 

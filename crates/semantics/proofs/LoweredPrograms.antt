@@ -1,22 +1,30 @@
 -- In any flow of a program's graph, the edge into the output vertex has the program's meaning.
-use Rattle.std.proofs.Common.{◌≡◌, ℕ, suc, ◌+◌, Bool, true, false, cond, List, [], ◌∷◌, ◌++◌, length, slice_index_or, refl, sym, ap, subst, ◌∙◌, arith, append_assoc, length-append, inl, inr, ◌⊎◌}
+use Rattle.std.proofs.Common.{◌<◌, ◌≡◌, ℕ, zero, suc, ◌+◌, Bool, true, false, cond, List, [], ◌∷◌, ◌++◌, length, slice_index_or, refl, sym, ap, subst, ◌∙◌, arith, append_assoc, length-append, inl, inr, ◌⊎◌}
+use Rattle.std.specs.List.{AllByRecursion}
 use Rattle.std.proofs.lemmas.Bool.{true≢false}
+use Rattle.semantics.proofs.NamesAmong.{Decides-same_name}
 use Rattle.semantics.specs.Multiset.{IsAmong, Record, ◌≈◌}
 use Rattle.semantics.specs.Flow.{Inputs, Flow, IsFlow, port_flow}
 use Rattle.semantics.specs.Kinds.{Kind}
-use Rattle.semantics.specs.Graph.{Port, Vertex, Graph, no_vertex, vertex}
+use Rattle.semantics.specs.Graph.{no_port, Port, Vertex, Graph, no_vertex, vertex}
 use Rattle.semantics.specs.Lower.{Ports, stands_for, port, new_vertex, lower, input_vertices, input_ports, lower_lets, lets_of, output_of, lowered}
 use Rattle.semantics.specs.Meaning.{same_name, Names, bind, meaning, input_names, let_names, program_meaning}
 use Rattle.semantics.specs.Query.{Name, Input, Let, Program}
 use Rattle.semantics.specs.Time.{Time}
 use Rattle.semantics.proofs.MultisetSums.{≈-trans, ≈-from}
-use Rattle.semantics.proofs.LoweredRelations.{Stands, stands_left, stands_right, Agree, lower_means, Decides-same_name}
+use Rattle.semantics.proofs.LoweredRelations.{Stands, stands_left, stands_right, Agree, lower_means}
 use Rattle.semantics.proofs.FittingPrograms.{LetsFit, names_after, input_list, IsFitting}
 use Rattle.semantics.proofs.VertexFlows.{out_at, edge_at}
 
 -- the number of the output vertex, the last
 abbrev pub output_vertex : Program → ℕ
 output_vertex p = length p.inputs + length (lets_of p).made + length (output_of p).made
+
+-- what holds of all ports holds of each
+pub all_at : (P : Port → Type 0) (ps : List Port) (i : ℕ) → AllByRecursion P ps → i < length ps → P (slice_index_or ps i no_port)
+all_at P [] i a l = absurd (omega arith)
+all_at P (p ∷ ps) zero a l = a.0
+all_at P (p ∷ ps) (suc i) a l = all_at P ps i a.1 (omega arith)
 
 -- a list's part stands where it stands
 pub at_length : (vs ws : List Vertex) (v : Vertex) → slice_index_or (vs ++ (v ∷ ws)) (length vs) no_vertex ≡ v

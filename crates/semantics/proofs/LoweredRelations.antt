@@ -1,56 +1,23 @@
 -- In any flow of the graph of a relation, the port that the relation gives has its meaning.
-use Rattle.std.proofs.Common.{◌≡◌, ℕ, zero, suc, ◌+◌, ◌≤◌, ◌<◌, nat_lt, nat_eq, Bool, true, false, cond, not, List, [], ◌∷◌, ◌++◌, map, filter, flat_map, length, refl, sym, ap, ap₂, subst, ◌∙◌, arith, append-nil, ltb-true, ltb-false, eqb-true, lt-ltb, le-ltb, ne_eqb, inl, inr, ◌⊎◌, Decides}
+use Rattle.std.proofs.Common.{◌≡◌, ℕ, zero, suc, ◌+◌, ◌≤◌, ◌<◌, nat_lt, nat_eq, Bool, true, false, cond, List, [], ◌∷◌, ◌++◌, map, filter, flat_map, length, refl, sym, ap, ap₂, subst, ◌∙◌, arith, append-nil, ltb-true, ltb-false, eqb-true, lt-ltb, le-ltb, ne_eqb, inl, inr, ◌⊎◌}
 use Rattle.std.proofs.lemmas.Bool.{true≢false, eqb-false}
-use Rattle.std.proofs.lemmas.Bool.Decides.{Decides-eqb}
 use Rattle.std.proofs.lemmas.List.Concat.{flat_map-append}
 use mathlib.Core.Path.{fun_ext}
-use Rattle.std.specs.Cmp.Lexicographic.{pointwise_decides}
-use Rattle.semantics.specs.FreeNames.{other_than, free, firsts, carried}
+use Rattle.semantics.proofs.NamesAmong.{Decides-same_name, among_left, among_right, among_others, among_firsts}
+use Rattle.semantics.specs.FreeNames.{other_than, free, carried}
 use Rattle.semantics.specs.Multiset.{IsAmong, Record, ◌≈◌, each_once}
 use Rattle.semantics.specs.Flow.{Inputs, Flow, IsFlow, port_flow}
 use Rattle.semantics.specs.Kinds.{Kind}
 use Rattle.semantics.specs.Graph.{Port, Vertex, Graph}
 use Rattle.semantics.specs.Lower.{Ports, stands_for, port, new_vertex, carry, carried_ports, Lowered, looped, lower}
 use Rattle.semantics.specs.Meaning.{selected, kept, paired, grouped, same_name, Names, bind, repeated, meaning, holds, value}
-use Rattle.semantics.specs.Query.{Name, Pair, Rel}
+use Rattle.semantics.specs.Query.{Name, Rel}
 use Rattle.semantics.specs.Time.{Time, deeper, turn_count, below}
 use Rattle.semantics.proofs.MultisetSums.{≈-refl, ≈-trans, ≈-from, append_same, linear_same, map_linear, filter_linear}
 use Rattle.semantics.proofs.KeyedParts.{paired_same}
 use Rattle.semantics.proofs.DistinctAndGroups.{distinct_same, grouped_same}
 use Rattle.semantics.proofs.FittingPrograms.{Limited}
 use Rattle.semantics.proofs.VertexFlows.{IsAt, length-deeper, out_at, edge_at, out_ingress_first, out_ingress_later, out_feedback_first, out_feedback_later, out_two, out_gate_round, out_gate_done, out_hold_round, out_hold_next, out_egress}
-
--- ---- names
-
-pub Decides-same_name : (x y : Name) → Decides (same_name x y) (x ≡ y)
-Decides-same_name = pointwise_decides (λ x y. Decides-eqb x y)
-
-pub Has_left : (y : Name) (xs ys : List Name) → IsAmong y xs → IsAmong y (xs ++ ys)
-Has_left y [] ys h = absurd h
-Has_left y (x ∷ xs) ys (inl e) = inl e
-Has_left y (x ∷ xs) ys (inr h) = inr (Has_left y xs ys h)
-
-pub Has_right : (y : Name) (xs ys : List Name) → IsAmong y ys → IsAmong y (xs ++ ys)
-Has_right y [] ys h = h
-Has_right y (x ∷ xs) ys h = inr (Has_right y xs ys h)
-
-Has_cond : (y x : Name) (b : Bool) (xs : List Name) → IsAmong y xs → IsAmong y (cond b (x ∷ xs) xs)
-Has_cond y x true xs h = inr h
-Has_cond y x false xs h = h
-
-pub Has_other : (x y : Name) (ys : List Name) → same_name x y ≡ false → IsAmong y ys → IsAmong y (filter (other_than x) ys)
-Has_other x y [] n h = absurd h
-Has_other x y (z ∷ zs) n (inl e) = subst (λ b. IsAmong y (cond (not b) (z ∷ filter (other_than x) zs) (filter (other_than x) zs))) (sym (subst (λ w. same_name x w ≡ false) (sym e) n)) (inl e)
-Has_other x y (z ∷ zs) n (inr h) = Has_cond y z (other_than x z) (filter (other_than x) zs) (Has_other x y zs n h)
-
-pub Has_firsts : (y : Name) (ys : List Name) → IsAmong y ys → IsAmong y (firsts ys)
-Has_firsts y [] h = h
-Has_firsts y (x ∷ xs) (inl e) = inl e
-Has_firsts y (x ∷ xs) (inr h) = go (same_name x y) refl (Has_firsts y xs h)
-  where
-    go : (b : Bool) → same_name x y ≡ b → IsAmong y (firsts xs) → (x ≡ y) ⊎ IsAmong y (filter (other_than x) (firsts xs))
-    go true e k = inl ((Decides-same_name x y).0 e)
-    go false e k = inr (Has_other x y (firsts xs) e k)
 
 -- ---- vertices in a row
 
@@ -156,9 +123,6 @@ module _ (g : Graph) (inputs : Inputs) (f : Flow) (flow : IsFlow g inputs f) whe
   turns_none step e zero = refl
   turns_none step e (suc n) = ap step (turns_none step e n) ∙ e
 
-  paired_none : (ps : List Pair) (xs : List Record) → paired ps [] xs ≡ []
-  paired_none ps xs = refl
-
   pub meaning_none : (r : Rel) (names : Names) → ((y : Name) → names y ≡ []) → meaning r names ≡ []
   unfolding meaning
   meaning_none (Rel.named x) names e = e x
@@ -256,13 +220,13 @@ module _ (g : Graph) (inputs : Inputs) (f : Flow) (flow : IsFlow g inputs f) whe
           go : (t : Bool) → same_name x y ≡ t → out (cond t (port gate 0) (carried_ports ports (suc gate) ys y)) (deeper u c) ≈ cond (nat_lt c n) (cond t (value_at c) (names y)) []
           go true q = ≈-trans (out_gate_round g inputs f flow gate d n (port (suc loop) 0) u c in_loop.1.1.0 l) (gated (nat_lt c n) refl)
           go false q =
-              let other : IsAmong y (filter (other_than x) (free b)) = Has_other x y (free b) q h in
-              ≈-trans (held_port d n ports (suc gate) ys u y c (stands_left g (suc gate) (carry n ports d (suc gate) ys) _ in_loop.1.1.1) l (Has_firsts y (filter (other_than x) (free b)) other))
-              (outside (nat_lt c n) (agree y (Has_right y (free r) (filter (other_than x) (free b)) other)))
+              let other : IsAmong y (filter (other_than x) (free b)) = among_others x y (free b) q h in
+              ≈-trans (held_port d n ports (suc gate) ys u y c (stands_left g (suc gate) (carry n ports d (suc gate) ys) _ in_loop.1.1.1) l (among_firsts y (filter (other_than x) (free b)) other))
+              (outside (nat_lt c n) (agree y (among_right y (free r) (filter (other_than x) (free b)) other)))
 
       merged : (c : ℕ) → out (port (suc loop) 0) (deeper u c) ≈ cond (nat_lt c (suc n)) (value_at c) []
       merged zero = ≈-trans (merge_first d loop (suc loop) back start.gives body.gives u merge l)
-          (≈-trans (start_claim ports d k names u (stands_left g k start.made _ s) l (λ y h. agree y (Has_left y (free r) _ h)))
+          (≈-trans (start_claim ports d k names u (stands_left g k start.made _ s) l (λ y h. agree y (among_left y (free r) _ h)))
           (≈-from (ap (λ t. cond t (value_at 0) []) (sym (lt-ltb 0 (suc n) (omega arith))))))
       merged (suc c) = ≈-trans (merge_later d loop (suc loop) back start.gives body.gives u c merge l)
           (≈-trans (body_claim inside (suc d) first (names_at c) (deeper u c) (stands_left g first body.made _ at_first) (length-deeper u c ∙ ap suc l) (agree_in c (merged c)))
@@ -314,15 +278,15 @@ module _ (g : Graph) (inputs : Inputs) (f : Flow) (flow : IsFlow g inputs f) whe
       let b = lower q ports d (k + length a.made) in
       let at : IsAt g (k + length a.made + length b.made) (new_vertex Kind.concat d (a.gives ∷ b.gives ∷ [])) = last_two k a.made b.made _ s in
       two_claim (λ xs ys. xs ++ ys) (λ xs xs' ys ys' h h'. append_same xs xs' ys ys' h h') (k + length a.made + length b.made) d Kind.concat a.gives b.gives u (meaning p names) (meaning q names) at l (out_at g inputs f flow (k + length a.made + length b.made) 0 _ u at)
-      (lower_means p m.0 ports d k names u (stands_left g k a.made _ s) l (λ y h. agree y (Has_left y (free p) (free q) h)))
-      (lower_means q m.1 ports d (k + length a.made) names u (stands_left g (k + length a.made) b.made _ (stands_right g k a.made _ s)) l (λ y h. agree y (Has_right y (free p) (free q) h)))
+      (lower_means p m.0 ports d k names u (stands_left g k a.made _ s) l (λ y h. agree y (among_left y (free p) (free q) h)))
+      (lower_means q m.1 ports d (k + length a.made) names u (stands_left g (k + length a.made) b.made _ (stands_right g k a.made _ s)) l (λ y h. agree y (among_right y (free p) (free q) h)))
   lower_means (Rel.join p q ps) m ports d k names u s l agree =
       let a = lower p ports d k in
       let b = lower q ports d (k + length a.made) in
       let at : IsAt g (k + length a.made + length b.made) (new_vertex (Kind.join ps) d (a.gives ∷ b.gives ∷ [])) = last_two k a.made b.made _ s in
       two_claim (paired ps) (paired_same ps) (k + length a.made + length b.made) d (Kind.join ps) a.gives b.gives u (meaning p names) (meaning q names) at l (out_at g inputs f flow (k + length a.made + length b.made) 0 _ u at)
-      (lower_means p m.0 ports d k names u (stands_left g k a.made _ s) l (λ y h. agree y (Has_left y (free p) (free q) h)))
-      (lower_means q m.1 ports d (k + length a.made) names u (stands_left g (k + length a.made) b.made _ (stands_right g k a.made _ s)) l (λ y h. agree y (Has_right y (free p) (free q) h)))
+      (lower_means p m.0 ports d k names u (stands_left g k a.made _ s) l (λ y h. agree y (among_left y (free p) (free q) h)))
+      (lower_means q m.1 ports d (k + length a.made) names u (stands_left g (k + length a.made) b.made _ (stands_right g k a.made _ s)) l (λ y h. agree y (among_right y (free p) (free q) h)))
   lower_means (Rel.group r ks as') m ports d k names u s l agree =
       let a = lower r ports d k in
       let at : IsAt g (k + length a.made) (new_vertex (Kind.group ks as') d (a.gives ∷ [])) = last_one k a.made _ s in

@@ -124,9 +124,6 @@ map_linear h f = (λ x. f (h x), total-map f h)
 pub filter_linear : (p : Record → Bool) → IsLinear (filter p)
 filter_linear p f = (λ x. cond (p x) (f x) 0, total-filter f p)
 
-pub flat_map_linear : (h : Record → List Record) → IsLinear (flat_map h)
-flat_map_linear h f = (λ x. total f (h x), total-flat_map f h)
-
 -- sums
 pub append_part : (xs ys us vs : List Record) → IsPartOf xs ys → IsPartOf us vs → IsPartOf (xs ++ us) (ys ++ vs)
 append_part xs ys us vs p q = record { within = λ r. omega (arith, p.within r, q.within r, total-append (λ x. one_if (same x r)) xs us, total-append (λ x. one_if (same x r)) ys vs) }

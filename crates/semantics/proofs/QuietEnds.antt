@@ -2,18 +2,19 @@
 use Rattle.std.proofs.Common.{◌≡◌, ℕ, zero, suc, ◌+◌, ◌≤◌, ◌<◌, nat_lt, Bool, true, false, cond, List, [], ◌∷◌, ◌++◌, filter, length, slice_index_or, refl, sym, ap, subst, ◌∙◌, arith, le-ltb, ne_eqb}
 use Rattle.std.proofs.lemmas.Bool.{true≢false}
 use Rattle.std.specs.List.{AllByRecursion}
+use Rattle.semantics.proofs.NamesAmong.{among_others, among_firsts}
 use Rattle.semantics.specs.FreeNames.{other_than, free, carried}
 use Rattle.semantics.specs.Multiset.{IsAmong, Record, ◌≈◌}
 use Rattle.semantics.specs.Flow.{IsEdgeTime, Inputs, Flow, IsFlow, port_flow}
 use Rattle.semantics.specs.Kinds.{Kind, ends_turn}
-use Rattle.semantics.specs.Graph.{Port, Vertex, Graph, no_vertex, no_port, vertex, source}
+use Rattle.semantics.specs.Graph.{Port, Vertex, Graph, no_vertex, vertex, source}
 use Rattle.semantics.specs.Lower.{Ports, stands_for, port, new_vertex, carry, carried_ports, Lowered, lower, looped, input_vertices, input_ports, lower_lets, lets_of, output_of, lowered}
 use Rattle.semantics.specs.Meaning.{same_name}
 use Rattle.semantics.specs.Query.{Name, Rel, Input, Let, Program}
 use Rattle.semantics.specs.Time.{Time, last_from, front_from, last, front, deeper, outer, turn_count}
 use Rattle.semantics.proofs.MultisetSums.{≈-trans, ≈-from}
-use Rattle.semantics.proofs.LoweredRelations.{Has_other, Has_firsts, Stands, stands_left, stands_right, held_port, meaning_none, lower_means}
-use Rattle.semantics.proofs.LoweredPrograms.{stands_whole}
+use Rattle.semantics.proofs.LoweredRelations.{Stands, stands_left, stands_right, held_port, meaning_none, lower_means}
+use Rattle.semantics.proofs.LoweredPrograms.{length-input_vertices, all_at, stands_whole}
 use Rattle.semantics.proofs.FittingPrograms.{Limited, LetsFit, IsFitting}
 use Rattle.semantics.proofs.VertexFlows.{length-deeper, out_gate_round, out_gate_done, out_hold_next}
 
@@ -145,7 +146,7 @@ module _ (g : Graph) (inputs : Inputs) (f : Flow) (flow : IsFlow g inputs f) whe
 
           go : (q : Bool) → same_name x y ≡ q → out (cond q (port gate 0) (carried_ports ports (suc gate) ys y)) (deeper u c) ≈ []
           go true e = ≈-trans (out_gate_round g inputs f flow gate d n (port (suc loop) 0) u c in_loop.1.1.0 l) (≈-from (ap (λ q. cond q (out (port (suc loop) 0) (deeper u c)) []) over))
-          go false e = ≈-trans (held_port g inputs f flow d n ports (suc gate) ys u y c (stands_left g (suc gate) cs (body.made ++ ends) in_loop.1.1.1) l (Has_firsts y (filter (other_than x) (free b)) (Has_other x y (free b) e j))) (≈-from (ap (λ q. cond q (out (ports y) u) []) over))
+          go false e = ≈-trans (held_port g inputs f flow d n ports (suc gate) ys u y c (stands_left g (suc gate) cs (body.made ++ ends) in_loop.1.1.1) l (among_firsts y (filter (other_than x) (free b)) (among_others x y (free b) e j))) (≈-from (ap (λ q. cond q (out (ports y) u) []) over))
 
   pub relation_quiet : (r : Rel) → Limited r → QuietClaim r
   unfolding lower
@@ -181,11 +182,6 @@ module _ (g : Graph) (inputs : Inputs) (f : Flow) (flow : IsFlow g inputs f) whe
   quiet_at (v ∷ vs) s zero l = s.0
   quiet_at (v ∷ vs) s (suc w) l = quiet_at vs s.1 w (omega arith)
 
-  all_at : (P : Port → Type 0) (ps : List Port) (i : ℕ) → AllByRecursion P ps → i < length ps → P (slice_index_or ps i no_port)
-  all_at P [] i a l = absurd (omega arith)
-  all_at P (p ∷ ps) zero a l = a.0
-  all_at P (p ∷ ps) (suc i) a l = all_at P ps i a.1 (omega arith)
-
   quiet_edge : AllQuiet g → (w i : ℕ) (u : Time) → IsEdgeTime g w i u → ends_turn (vertex g w).kind ≡ true → turn_count ≤ last u.counters → f w i u ≈ []
   unfolding vertex source
   quiet_edge s w i u p e m = ≈-trans (flow.equations w i u p) (all_at (λ q. out q u ≈ []) (vertex g w).ins i ((quiet_at g s w p.is_vertex).quiet e u p.has_depth m) p.is_port)
@@ -199,12 +195,8 @@ lowered_quiet p fits inputs f flow =
     let lets = (lets_of p).made in
     let outs = (output_of p).made in
     let end : List Vertex = new_vertex Kind.output 0 ((output_of p).gives ∷ []) ∷ [] in
-    let st_lets : Stands g n (lets ++ (outs ++ end)) = subst (λ k. Stands g k (lets ++ (outs ++ end))) (omega (arith, length-inputs p.inputs)) (stands_right g 0 ins (lets ++ (outs ++ end)) (stands_whole g)) in
+    let st_lets : Stands g n (lets ++ (outs ++ end)) = subst (λ k. Stands g k (lets ++ (outs ++ end))) (omega (arith, length-input_vertices p.inputs)) (stands_right g 0 ins (lets ++ (outs ++ end)) (stands_whole g)) in
     quiet_edge g inputs f flow
     (all_quiet-append g inputs f flow ins (lets ++ (outs ++ end)) (inputs_quiet g inputs f flow p.inputs)
     (all_quiet-append g inputs f flow lets (outs ++ end) (lets_quiet g inputs f flow p.lets _ (input_ports p.inputs 0) n fits.lets (stands_left g n lets (outs ++ end) st_lets))
     (one_quiet g inputs f flow outs _ (relation_quiet g inputs f flow p.output fits.output.limited (lets_of p).ports 0 (n + length lets) (stands_left g (n + length lets) outs end (stands_right g n lets (outs ++ end) st_lets))) refl)))
-  where
-    length-inputs : (as' : List Input) → length (input_vertices as') ≡ length as'
-    length-inputs [] = refl
-    length-inputs (a ∷ as') = ap suc (length-inputs as')

@@ -39,16 +39,6 @@ module _ {P : Type 0} (rank : P → List ℕ) (n : ℕ) (Valid : P → Type 0) (
   solution_solves p v = ≈-trans (≈-from (ap (λ k. k p) (fix-eq (under_well_founded n) build (rank p))))
       (reads (λ q. choose (under n (rank q) (rank p)) (λ e. solution q) []) solution p v (λ q w l. ≈-from (choose_yes (under n (rank q) (rank p)) (solution q) [] (is_under q (rank p) w l))))
 
--- two systems of equations that agree wherever their solutions agree below
-module _ {P : Type 0} (rank : P → List ℕ) (n : ℕ) (Valid : P → Type 0) (short : (p : P) → Valid p → length (rank p) ≤ n)
-    (eqn eqn' : (P → List Record) → P → List Record)
-    (agree : (f h : P → List Record) (p : P) → Valid p → ((q : P) → Valid q → is_before (rank q) (rank p) ≡ true → f q ≈ h q) → eqn f p ≈ eqn' h p) where
-  pub like_solutions : (f h : P → List Record) → ((p : P) → Valid p → f p ≈ eqn f p) → ((p : P) → Valid p → h p ≈ eqn' h p) → (p : P) → Valid p → f p ≈ h p
-  like_solutions f h ef eh p v = (elim ((under_well_founded n).apply (rank p)) as (λ xs a. (p : P) → rank p ≡ xs → Valid p → f p ≈ h p) [
-    | Acc.intro xs (k → ih) ↦ λ p e v. ≈-trans (ef p v) (≈-trans (agree f h p v (λ q w l.
-        ih (rank q) (subst (Under n (rank q)) e (and_from (is_before (rank q) (rank p)) (nat_le (length (rank q)) n) l (le-leb (length (rank q)) n (short q w)))) q refl w)) (≈-sym (eh p v)))
-  ]) p refl v
-
 -- what holds wherever it holds at all of lower rank holds
 module _ {P : Type 0} (rank : P → List ℕ) (n : ℕ) (Valid : P → Type 0) (short : (p : P) → Valid p → length (rank p) ≤ n) (C : P → Type 0) (step : (p : P) → Valid p → ((q : P) → Valid q → is_before (rank q) (rank p) ≡ true → C q) → C p) where
   pub by_rank : (p : P) → Valid p → C p

@@ -3,12 +3,12 @@ use Rattle.std.proofs.Common.{inr, ◌≡◌, ℕ, zero, suc, nat_lt, Bool, true
 use Rattle.std.specs.Int.{int_wrap}
 use Rattle.std.proofs.lemmas.Int.{ints, int_wrap-add_left, int_wrap-add_right, int_wrap-sub_right, int_wrap-mul_left, int_wrap-mul_right}
 use mir.Syntax.{w64}
+use Rattle.semantics.proofs.NamesAmong.{Decides-same_name, among_left, among_right, among_others}
 use Rattle.semantics.specs.FreeNames.{free, other_than}
 use Rattle.semantics.specs.Multiset.{IsAmong, Record, one_if, count, each_once}
 use Rattle.semantics.specs.Meaning.{field, exact, value, holds, selected, kept, same_name, Names, bind, repeated, meaning, let_names, input_names, program_meaning, paired, grouped}
 use Rattle.semantics.specs.Normal.{replaced, Reaches}
 use Rattle.semantics.specs.Query.{Scalar, Cond, Name, Rel, Input, Let}
-use Rattle.semantics.proofs.LoweredRelations.{Has_left, Has_right, Has_other, Decides-same_name}
 use Rattle.semantics.proofs.DistinctAndGroups.{count-distinct}
 
 -- ---- scalars: the value of a sum is that of its parts' values
@@ -114,17 +114,17 @@ unfolding meaning
 meaning-free (Rel.named x) names names' h = h x (inl refl)
 meaning-free (Rel.select r ss) names names' h = ap (selected ss) (meaning-free r names names' h)
 meaning-free (Rel.filter r c) names names' h = ap (kept c) (meaning-free r names names' h)
-meaning-free (Rel.concat p q) names names' h = ap₂ (λ a b. a ++ b) (meaning-free p names names' (λ y j. h y (Has_left y (free p) (free q) j))) (meaning-free q names names' (λ y j. h y (Has_right y (free p) (free q) j)))
-meaning-free (Rel.join p q ps) names names' h = ap₂ (paired ps) (meaning-free p names names' (λ y j. h y (Has_left y (free p) (free q) j))) (meaning-free q names names' (λ y j. h y (Has_right y (free p) (free q) j)))
+meaning-free (Rel.concat p q) names names' h = ap₂ (λ a b. a ++ b) (meaning-free p names names' (λ y j. h y (among_left y (free p) (free q) j))) (meaning-free q names names' (λ y j. h y (among_right y (free p) (free q) j)))
+meaning-free (Rel.join p q ps) names names' h = ap₂ (paired ps) (meaning-free p names names' (λ y j. h y (among_left y (free p) (free q) j))) (meaning-free q names names' (λ y j. h y (among_right y (free p) (free q) j)))
 meaning-free (Rel.group r ks as') names names' h = ap (grouped ks as') (meaning-free r names names' h)
 meaning-free (Rel.distinct r) names names' h = ap each_once (meaning-free r names names' h)
 meaning-free (Rel.iterate n x r b) names names' h =
     turns-same (λ xs. meaning b (bind x xs names)) (λ xs. meaning b (bind x xs names')) (λ xs. meaning-free b (bind x xs names) (bind x xs names') (λ y j. go xs y (same_name x y) refl j)) n (meaning r names) (meaning r names')
-    (meaning-free r names names' (λ y j. h y (Has_left y (free r) (filter (other_than x) (free b)) j)))
+    (meaning-free r names names' (λ y j. h y (among_left y (free r) (filter (other_than x) (free b)) j)))
   where
     go : (xs : List Record) (y : Name) (t : Bool) → same_name x y ≡ t → IsAmong y (free b) → cond t xs (names y) ≡ cond t xs (names' y)
     go xs y true e j = refl
-    go xs y false e j = h y (Has_right y (free r) (filter (other_than x) (free b)) (Has_other x y (free b) e j))
+    go xs y false e j = h y (among_right y (free r) (filter (other_than x) (free b)) (among_others x y (free b) e j))
 
 -- ---- unreached lets
 

@@ -2,6 +2,7 @@
 use Rattle.std.proofs.Common.{◌≡◌, ℕ, zero, suc, ◌+◌, ◌<◌, Bool, true, false, cond, List, [], ◌∷◌, ◌++◌, map, filter, length, slice_index_or, Some, None, refl, sym, ap, ap₂, subst, ◌∙◌, arith, length-append, append_assoc, inl, inr, ◌⊎◌}
 use Rattle.std.proofs.lemmas.Bool.{true≢false}
 use Rattle.std.specs.List.{AllByRecursion}
+use Rattle.semantics.proofs.NamesAmong.{Decides-same_name, among_left, among_right, among_others, among_firsts, from_firsts}
 use Rattle.semantics.specs.Multiset.{IsAmong}
 use Rattle.semantics.specs.FreeNames.{other_than, free, carried}
 use Rattle.semantics.specs.Graph.{Port, Vertex, no_vertex, no_port, vertex, source, output_number}
@@ -12,18 +13,12 @@ use Rattle.semantics.specs.PortArity.{PortsFit, IsTyped, Arities, with_arity, re
 use Rattle.semantics.specs.Query.{Name, Pair, Rel, Input, Let, Program}
 use Rattle.semantics.specs.Typing.{IsArity, ScalarFits, CondFits, AggFits, Scope, lookup, entry, HasArity, InputsFit, after_inputs, RestFits, WellTyped}
 use Rattle.semantics.proofs.FittingPrograms.{LetsFit, names_after, input_list, IsFitting}
-use Rattle.semantics.proofs.LoweredRelations.{Has_left, Has_right, Has_other, Has_firsts, Decides-same_name}
+use Rattle.semantics.proofs.LoweredLoops.{one_longer, two_longer, loop_longer}
 use Rattle.semantics.proofs.LoweredPrograms.{length-input_vertices, output_vertex}
 use Rattle.semantics.proofs.LoweredDataflow.{output_is_last}
 use Rattle.semantics.proofs.TypedPrograms.{typed_fits}
 
 -- ---- as many arities as vertices
-
-one_longer : (hs : List ℕ) (h : ℕ) (vs : List Vertex) (v : Vertex) → length hs ≡ length vs → length (hs ++ (h ∷ [])) ≡ length (vs ++ (v ∷ []))
-one_longer hs h vs v e = omega (arith, length-append hs (h ∷ []), length-append vs (v ∷ []))
-
-two_longer : (hs js : List ℕ) (h : ℕ) (vs ws : List Vertex) (v : Vertex) → length hs ≡ length vs → length js ≡ length ws → length (hs ++ (js ++ (h ∷ []))) ≡ length (vs ++ (ws ++ (v ∷ [])))
-two_longer hs js h vs ws v e k = omega (arith, one_longer js h ws v k, length-append hs (js ++ (h ∷ [])), length-append vs (ws ++ (v ∷ [])))
 
 length-carry_arities : (of : Arities) (n : ℕ) (ports : Ports) (d k : ℕ) (ys : List Name) → length (carry_arities of ys) ≡ length (carry n ports d k ys)
 length-carry_arities of n ports d k [] = refl
@@ -47,10 +42,6 @@ length-made_arities (Rel.iterate n x r b) of ports d k =
     let body = lower b inside (suc d) (outside + length cs) in
     loop_longer (made_arities r of) start.made (carry_arities of ys) cs (made_arities b (with_arity x (rel_arity r of) of)) body.made _ _ _ _ _ _ _ _ _ _
     (length-made_arities r of ports d k) (length-carry_arities of n ports d outside ys) (length-made_arities b (with_arity x (rel_arity r of) of) inside (suc d) (outside + length cs))
-  where
-    loop_longer : (hs : List ℕ) (vs : List Vertex) (js : List ℕ) (ws : List Vertex) (is : List ℕ) (us : List Vertex) (a b c d e : ℕ) (p q r s t : Vertex) → length hs ≡ length vs → length js ≡ length ws → length is ≡ length us → length (hs ++ (a ∷ b ∷ c ∷ (js ++ (is ++ (d ∷ e ∷ []))))) ≡ length (vs ++ (p ∷ q ∷ r ∷ (ws ++ (us ++ (s ∷ t ∷ [])))))
-    loop_longer hs vs js ws is us a b c d e p q r s t k l m =
-        omega (arith, length-append hs (a ∷ b ∷ c ∷ (js ++ (is ++ (d ∷ e ∷ [])))), length-append vs (p ∷ q ∷ r ∷ (ws ++ (us ++ (s ∷ t ∷ [])))), length-append js (is ++ (d ∷ e ∷ [])), length-append ws (us ++ (s ∷ t ∷ [])), length-append is (d ∷ e ∷ []), length-append us (s ∷ t ∷ []))
 
 -- ---- names in scope
 
@@ -173,15 +164,6 @@ module _ (arity : ℕ → ℕ) where
   abbrev Claim : Rel → Type 0
   Claim r = (scope : Scope) (of : Arities) (d n : ℕ) → HasArity r scope d n → Agrees scope of → (ports : Ports) (k : ℕ) → Listed k (made_arities r of) → ((y : Name) → IsAmong y (free r) → NameOf (ports y) (of y)) → Typed k (lower r ports d k) n
 
-  back_among : (x y : Name) (ys : List Name) → IsAmong y (filter (other_than x) ys) → IsAmong y ys
-  back_among x y [] h = h
-  back_among x y (z ∷ zs) h = go (other_than x z) h (back_among x y zs)
-    where
-      go : (b : Bool) → IsAmong y (cond b (z ∷ filter (other_than x) zs) (filter (other_than x) zs)) → (IsAmong y (filter (other_than x) zs) → IsAmong y zs) → (z ≡ y) ⊎ IsAmong y zs
-      go true (inl e) f = inl e
-      go true (inr i) f = inr (f i)
-      go false i f = inr (f i)
-
   loop_typed : (m : ℕ) (x : Name) (r b : Rel) → Claim r → Claim b → Claim (Rel.iterate m x r b)
   unfolding HasArity made_arities lower
   loop_typed m x r b start_claim body_claim scope of d n t agrees ports k h names = record { all = all_typed-append k start.made made start_typed.all all; gives = at_end; fields = start_typed.fields }
@@ -242,15 +224,10 @@ module _ (arity : ℕ → ℕ) where
       from_back = listed_right first (length body.made) in_body _ (length-made_arities b (with_arity x a of) inside (suc d) first) from_first
 
       start_typed : Typed k start n
-      start_typed = start_claim scope of d n t.2 agrees ports k (listed_left k (made_arities r of) _ h) (λ y j. names y (Has_left y (free r) _ j))
+      start_typed = start_claim scope of d n t.2 agrees ports k (listed_left k (made_arities r of) _ h) (λ y j. names y (among_left y (free r) _ j))
 
       outer_names : (y : Name) → IsAmong y ys → NameOf (ports y) (of y)
-      outer_names y j = names y (Has_right y (free r) (filter (other_than x) (free b)) (back_firsts y (filter (other_than x) (free b)) j))
-        where
-          back_firsts : (y : Name) (zs : List Name) → IsAmong y (Rattle.semantics.specs.FreeNames.firsts zs) → IsAmong y zs
-          back_firsts y [] j = j
-          back_firsts y (z ∷ zs) (inl e) = inl e
-          back_firsts y (z ∷ zs) (inr j) = inr (back_firsts y zs (back_among z y (Rattle.semantics.specs.FreeNames.firsts zs) j))
+      outer_names y j = names y (among_right y (free r) (filter (other_than x) (free b)) (from_firsts y (filter (other_than x) (free b)) j))
 
       at_gate : arity gate ≡ a
       at_gate = from_loop.1.1.0
@@ -260,7 +237,7 @@ module _ (arity : ℕ → ℕ) where
         where
           go : (q : Bool) → same_name x y ≡ q → NameOf (cond q (port gate 0) (carried_ports ports (suc gate) ys y)) (cond q a (of y))
           go true e = record { has = at_gate; fields = subst IsArity (sym is) start_typed.fields }
-          go false e = carried_name ports of (suc gate) ys (listed_left (suc gate) (carry_arities of ys) _ from_loop.1.1.1) outer_names y (Has_firsts y (filter (other_than x) (free b)) (Has_other x y (free b) e j))
+          go false e = carried_name ports of (suc gate) ys (listed_left (suc gate) (carry_arities of ys) _ from_loop.1.1.1) outer_names y (among_firsts y (filter (other_than x) (free b)) (among_others x y (free b) e j))
 
       body_typed : Typed first body n
       body_typed = body_claim (entry x n ∷ scope) (with_arity x a of) (suc d) n t.4 (agrees_more scope of x n a is agrees) inside first (listed_left first in_body _ from_first) inner_names
@@ -305,15 +282,15 @@ module _ (arity : ℕ → ℕ) where
   relation_typed (Rel.concat p q) scope of d n t agrees ports k h names =
       let a = lower p ports d k in
       let e : rel_arity p of ≡ n = rel_arity_typed p scope of d n t.0 agrees in
-      let left = relation_typed p scope of d n t.0 agrees ports k (listed_left k (made_arities p of) _ h) (λ y j. names y (Has_left y (free p) (free q) j)) in
-      let right = relation_typed q scope of d n t.1 agrees ports (k + length a.made) (listed_left (k + length a.made) (made_arities q of) _ (listed_right k (length a.made) (made_arities p of) _ (length-made_arities p of ports d k) h)) (λ y j. names y (Has_right y (free p) (free q) j)) in
+      let left = relation_typed p scope of d n t.0 agrees ports k (listed_left k (made_arities p of) _ h) (λ y j. names y (among_left y (free p) (free q) j)) in
+      let right = relation_typed q scope of d n t.1 agrees ports (k + length a.made) (listed_left (k + length a.made) (made_arities q of) _ (listed_right k (length a.made) (made_arities p of) _ (length-made_arities p of ports d k) h)) (λ y j. names y (among_right y (free p) (free q) j)) in
       two_typed k n n n a (lower q ports d (k + length a.made)) Kind.concat d (made_arities p of) (made_arities q of) left right (length-made_arities p of ports d k) (length-made_arities q of ports d (k + length a.made)) (subst (λ z. Listed k (made_arities p of ++ (made_arities q of ++ (z ∷ [])))) e h)
       (λ ins x y. (sym x, sym y)) left.fields
   relation_typed (Rel.join p q ps) scope of d n t agrees ports k h names =
       let a = lower p ports d k in
       let e : rel_arity p of + rel_arity q of ≡ n = rel_arity_typed (Rel.join p q ps) scope of d n t agrees in
-      let left = relation_typed p scope of d t.0 t.2 agrees ports k (listed_left k (made_arities p of) _ h) (λ y j. names y (Has_left y (free p) (free q) j)) in
-      let right = relation_typed q scope of d t.1 t.3 agrees ports (k + length a.made) (listed_left (k + length a.made) (made_arities q of) _ (listed_right k (length a.made) (made_arities p of) _ (length-made_arities p of ports d k) h)) (λ y j. names y (Has_right y (free p) (free q) j)) in
+      let left = relation_typed p scope of d t.0 t.2 agrees ports k (listed_left k (made_arities p of) _ h) (λ y j. names y (among_left y (free p) (free q) j)) in
+      let right = relation_typed q scope of d t.1 t.3 agrees ports (k + length a.made) (listed_left (k + length a.made) (made_arities q of) _ (listed_right k (length a.made) (made_arities p of) _ (length-made_arities p of ports d k) h)) (λ y j. names y (among_right y (free p) (free q) j)) in
       two_typed k t.0 t.1 n a (lower q ports d (k + length a.made)) (Kind.join ps) d (made_arities p of) (made_arities q of) left right (length-made_arities p of ports d k) (length-made_arities q of ports d (k + length a.made)) (subst (λ z. Listed k (made_arities p of ++ (made_arities q of ++ (z ∷ [])))) e h)
       (λ ins x y. (subst (λ l. AllByRecursion (λ (z : Pair). (z.left < l) × (z.right < ins 1)) ps) (sym x) (subst (λ m. AllByRecursion (λ (z : Pair). (z.left < t.0) × (z.right < m)) ps) (sym y) t.4), t.5 ∙ ap₂ (λ l m. l + m) (sym x) (sym y))) t.6
   relation_typed (Rel.group r ks as') scope of d n t agrees ports k h names =

@@ -1,6 +1,7 @@
 -- A well-typed program fits: its names are known, and its loops are limited.
 use Rattle.std.proofs.Common.{◌≡◌, ℕ, suc, ◌≤◌, ◌<◌, Bool, true, false, cond, not, List, [], ◌∷◌, ◌++◌, filter, Some, refl, sym, subst, ◌∙◌, arith, inl, inr, ◌⊎◌}
 use Rattle.std.proofs.lemmas.Bool.{true≢false}
+use Rattle.semantics.proofs.NamesAmong.{Decides-same_name}
 use Rattle.semantics.specs.Multiset.{IsAmong}
 use Rattle.semantics.specs.FreeNames.{free, other_than}
 use Rattle.semantics.specs.Limits.{max_turns}
@@ -8,26 +9,25 @@ use Rattle.semantics.specs.Meaning.{same_name}
 use Rattle.semantics.specs.Query.{Name, Rel, Input, Let, Program}
 use Rattle.semantics.specs.Time.{turn_count}
 use Rattle.semantics.specs.Typing.{Scope, lookup, entry, HasArity, after_inputs, RestFits, WellTyped}
-use Rattle.semantics.proofs.LoweredRelations.{Decides-same_name}
 use Rattle.semantics.proofs.FittingPrograms.{Known, Limited, Nested, FitsIn, LetsFit, names_after, input_list, IsFitting}
 
 -- xs has every name of the scope
 abbrev Covers : Scope → List Name → Type 0
 Covers scope xs = (y : Name) (n : ℕ) → lookup scope y ≡ Some n → IsAmong y xs
 
-Has_append_cases : (y : Name) (xs ys : List Name) → IsAmong y (xs ++ ys) → IsAmong y xs ⊎ IsAmong y ys
-Has_append_cases y [] ys h = inr h
-Has_append_cases y (x ∷ xs) ys (inl e) = inl (inl e)
-Has_append_cases y (x ∷ xs) ys (inr h) = go (Has_append_cases y xs ys h)
+among_append : (y : Name) (xs ys : List Name) → IsAmong y (xs ++ ys) → IsAmong y xs ⊎ IsAmong y ys
+among_append y [] ys h = inr h
+among_append y (x ∷ xs) ys (inl e) = inl (inl e)
+among_append y (x ∷ xs) ys (inr h) = go (among_append y xs ys h)
   where
     go : IsAmong y xs ⊎ IsAmong y ys → ((x ≡ y) ⊎ IsAmong y xs) ⊎ IsAmong y ys
     go (inl k) = inl (inr k)
     go (inr k) = inr k
 
 -- what a filter of names keeps
-Has_kept : (x y : Name) (ys : List Name) → IsAmong y (filter (other_than x) ys) → IsAmong y ys × (same_name x y ≡ false)
-Has_kept x y [] h = absurd h
-Has_kept x y (z ∷ zs) h = go (same_name x z) refl h (Has_kept x y zs)
+from_others_apart : (x y : Name) (ys : List Name) → IsAmong y (filter (other_than x) ys) → IsAmong y ys × (same_name x y ≡ false)
+from_others_apart x y [] h = absurd h
+from_others_apart x y (z ∷ zs) h = go (same_name x z) refl h (from_others_apart x y zs)
   where
     go : (b : Bool) → same_name x z ≡ b → IsAmong y (cond (not b) (z ∷ filter (other_than x) zs) (filter (other_than x) zs)) → (IsAmong y (filter (other_than x) zs) → IsAmong y zs × (same_name x y ≡ false)) → ((z ≡ y) ⊎ IsAmong y zs) × (same_name x y ≡ false)
     go true e k ih = let r = ih k in (inr r.0, r.1)
@@ -35,7 +35,7 @@ Has_kept x y (z ∷ zs) h = go (same_name x z) refl h (Has_kept x y zs)
     go false e (inr k) ih = let r = ih k in (inr r.0, r.1)
 
 both : (p q : List Name) (xs : List Name) → ((y : Name) → IsAmong y p → IsAmong y xs) → ((y : Name) → IsAmong y q → IsAmong y xs) → (y : Name) → IsAmong y (p ++ q) → IsAmong y xs
-both p q xs f g y h = go (Has_append_cases y p q h)
+both p q xs f g y h = go (among_append y p q h)
   where
     go : IsAmong y p ⊎ IsAmong y q → IsAmong y xs
     go (inl k) = f y k
@@ -60,7 +60,7 @@ typed_known (Rel.group r ks as') scope d n xs t c y h = typed_known r scope d t.
 typed_known (Rel.distinct r) scope d n xs t c y h = typed_known r scope d n xs t c y h
 typed_known (Rel.iterate k x r b) scope d n xs t c y h =
     both (free r) (filter (other_than x) (free b)) xs (typed_known r scope d n xs t.2 c)
-    (λ y h. let a = Has_kept x y (free b) h in inner y a.1 (typed_known b (entry x n ∷ scope) (suc d) n (x ∷ xs) t.4 (covers_more scope xs x n c) y a.0)) y h
+    (λ y h. let a = from_others_apart x y (free b) h in inner y a.1 (typed_known b (entry x n ∷ scope) (suc d) n (x ∷ xs) t.4 (covers_more scope xs x n c) y a.0)) y h
   where
     inner : (y : Name) → same_name x y ≡ false → (x ≡ y) ⊎ IsAmong y xs → IsAmong y xs
     inner y e (inl q) = absurd (true≢false (sym ((Decides-same_name x y).1 q) ∙ e))

@@ -5,8 +5,6 @@ use Rattle.semantics.specs.Flow.{Inputs, Flow, IsFlow, sent_or_fed, port_flow}
 use Rattle.semantics.specs.Kinds.{Kind}
 use Rattle.semantics.specs.Graph.{Port, Vertex, Graph, no_port, vertex, source}
 use Rattle.semantics.specs.Lower.{port, new_vertex}
-use Rattle.semantics.specs.Meaning.{selected}
-use Rattle.semantics.specs.Query.{Scalar}
 use Rattle.semantics.specs.Time.{Time, last_from, front_from, last, front, deeper, outer, in_first_turn, turn_count, below}
 use Rattle.semantics.proofs.MultisetSums.{≈-refl, ≈-trans, ≈-from, append_same}
 
@@ -61,9 +59,6 @@ module _ (g : Graph) (inputs : Inputs) (f : Flow) (flow : IsFlow g inputs f) whe
   -- the first and only in port
   in_first : (w : ℕ) (kind : Kind) (d : ℕ) (p : Port) (u : Time) → IsAt g w (new_vertex kind d (p ∷ [])) → length u.counters ≡ d → f w 0 u ≈ out p u
   in_first w kind d p u at l = edge_at w (new_vertex kind d (p ∷ [])) at 0 u (omega arith) l
-
-  pub out_select : (w d : ℕ) (p : Port) (ss : List Scalar) (u : Time) → IsAt g w (new_vertex (Kind.select ss) d (p ∷ [])) → length u.counters ≡ d → out (port w 0) u ≈ selected ss (f w 0 u)
-  out_select w d p ss u at l = ≈-from (out_at w 0 (new_vertex (Kind.select ss) d (p ∷ [])) u at ∙ append-nil (selected ss (f w 0 u)))
 
   -- ---- the vertices of a loop, for u the time outside
 

@@ -1,6 +1,7 @@
 -- Small programs whose meanings and graphs are computed, as checks of the definitions.
 use Rattle.std.specs.Prelude.{ℕ, ℤ, List, [], ◌∷◌, pos}
 use Rattle.semantics.specs.Multiset.{Record}
+use Rattle.semantics.specs.Time.{Time}
 use Rattle.semantics.specs.Query.{Name, Scalar, Comparison, Cond, Agg, Rel, Input, Program}
 
 -- the names `a`, `b`, `e`, `x` and `y`
@@ -91,3 +92,7 @@ outer_name_in_loops =
     query_on_a_and_b
     (Rel.iterate 2 name_x (Rel.named name_a)
     (Rel.iterate 1 name_y (Rel.named name_x) (Rel.concat (Rel.named name_y) (Rel.named name_b))))
+
+-- a time in one loop, in epoch 0
+abbrev pub turn : ℕ → Time
+turn c = record { epoch = 0; counters = c ∷ [] }

@@ -3,9 +3,11 @@ ghost use Rattle.semantics.specs.Multiset.{Record, ◌≈◌};
 ghost use Rattle.semantics.specs.Query.{Program};
 ghost use Rattle.semantics.specs.Meaning.{program_meaning};
 ghost use Rattle.semantics.specs.Typing.{WellTyped};
+ghost use Rattle.semantics.specs.Time.{at_epoch};
+ghost use Rattle.semantics.specs.Could.{at_vertex, CouldResultIn};
 ghost use Rattle.semantics.specs.Kinds.{Kind};
 ghost use Rattle.semantics.specs.Lower.{lowered, port, new_vertex};
-ghost use Rattle.semantics.specs.Examples.{one_field, two_fields, three_fields, first_plus_1, twice, sums_by_key, reachability, no_turns, outer_name, loop_in_loop, two_turns, outer_name_in_loops};
+ghost use Rattle.semantics.specs.Examples.{one_field, two_fields, three_fields, first_plus_1, twice, sums_by_key, reachability, no_turns, outer_name, loop_in_loop, two_turns, outer_name_in_loops, turn};
 
 /// What small programs mean: `a` twice is each record twice; a sum wraps at 64 bits; the edges 1-2, 2-3 and 3-4 give all pairs
 /// that are connected by up to four of them; a loop of no turns gives its start; a loop whose body is a name from outside
@@ -77,4 +79,13 @@ pub fn law_graphs()
         ∷ new_vertex Kind.egress 1 (port 4 1 ∷ [])
         ∷ new_vertex Kind.output 0 (port 20 0 ∷ [])
         ∷ [] }
+{}
+
+/// In the graph of `two_turns`: the gate (vertex 3) at one turn could result in itself, in the concat (vertex 2) at the next turn
+/// and in the output (vertex 7), but not in the concat at the same turn.
+pub fn law_could_result_in()
+    ensures itself { CouldResultIn (lowered two_turns) (at_vertex 3 (turn 1)) (at_vertex 3 (turn 1)) }
+    ensures round { CouldResultIn (lowered two_turns) (at_vertex 3 (turn 1)) (at_vertex 2 (turn 2)) }
+    ensures out { CouldResultIn (lowered two_turns) (at_vertex 3 (turn 1)) (at_vertex 7 (at_epoch 0)) }
+    ensures not_back { CouldResultIn (lowered two_turns) (at_vertex 3 (turn 1)) (at_vertex 2 (turn 1)) → ⊥ }
 {}

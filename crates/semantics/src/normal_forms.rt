@@ -5,7 +5,8 @@ ghost use Rattle.semantics.specs.Multiset.{Record};
 ghost use Rattle.semantics.specs.Query.{Scalar, Cond, Name, Rel, Input, Let, Program};
 ghost use Rattle.semantics.specs.Meaning.{value, Names, meaning, program_meaning};
 ghost use Rattle.semantics.specs.Size.{rel_size};
-ghost use Rattle.semantics.specs.Normal.{UsesOnce, replaced, Reaches};
+ghost use Rattle.semantics.specs.Normal.{UsesOnce, replaced, Reaches, AllReached};
+ghost use Rattle.semantics.specs.Typing.{Scope, HasArity, WellTyped};
 
 /// Folding of literals keeps a scalar's value.
 pub fn law_folding()
@@ -47,4 +48,27 @@ pub fn law_unreached_let()
         (Reaches a.name after out → ⊥) →
         program_meaning (record { inputs = inputs; lets = before ++ (a ∷ after); output = out }) records
         ≡ program_meaning (record { inputs = inputs; lets = before ++ after; output = out }) records }
+{}
+
+/// Each rule on relations keeps the arity.
+pub fn law_rules_keep_arity()
+    ensures where_of_where { (r : Rel) (c d : Cond) (scope : Scope) (loops n : ℕ) →
+        HasArity (Rel.filter (Rel.filter r c) d) scope loops n →
+        HasArity (Rel.filter r (Cond.conjunction c d)) scope loops n }
+    ensures select_of_select { (r : Rel) (ss ts : List Scalar) (scope : Scope) (loops n : ℕ) →
+        HasArity (Rel.select (Rel.select r ss) ts) scope loops n →
+        HasArity (Rel.select r (map (replaced ss) ts)) scope loops n }
+    ensures distinct_of_distinct { (r : Rel) (scope : Scope) (loops n : ℕ) →
+        HasArity (Rel.distinct (Rel.distinct r)) scope loops n → HasArity (Rel.distinct r) scope loops n }
+    ensures loop_of_no_turns { (x : Name) (r b : Rel) (scope : Scope) (loops n : ℕ) →
+        HasArity (Rel.iterate 0 x r b) scope loops n → HasArity r scope loops n }
+{}
+
+/// A program stays well typed without a let that the output doesn't reach, where the lets after that one are reached: so
+/// unreached lets are dropped from the last to the first.
+pub fn law_unreached_let_keeps_arity()
+    ensures { (inputs : List Input) (before : List Let) (a : Let) (after : List Let) (out : Rel) (n : ℕ) →
+        AllReached after out → (Reaches a.name after out → ⊥) →
+        WellTyped (record { inputs = inputs; lets = before ++ (a ∷ after); output = out }) n →
+        WellTyped (record { inputs = inputs; lets = before ++ after; output = out }) n }
 {}
