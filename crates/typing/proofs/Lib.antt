@@ -1,0 +1,3 @@
+pub mod Beyond
+pub mod Named
+pub mod Verdict

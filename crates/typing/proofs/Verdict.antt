@@ -1,0 +1,80 @@
+-- What the checks say, computed: the arity, or the first fault.
+use Rattle.std.proofs.Common.{◌≡◌, ℕ, suc, ◌+◌, Bool, cond, nat_lt, nat_le, nat_eq, ◌&&◌, List, [], ◌∷◌, length, map, flat_map, Option, None, Some, Result, Ok, Err}
+use Rattle.record_core.specs.declared.span.Span.{Span}
+use Rattle.record_core.specs.declared.span.Refusal.{Refusal}
+use Rattle.record_core.specs.declared.span.Refusal.TheVariants.{At, NoMemory}
+use Rattle.expr_tree.specs.declared.program.Input.{Input}
+use Rattle.expr_tree.specs.Trees.{RelTree, LetTree, ProgramTree}
+use Rattle.expr_tree.specs.Plain.{plain_input}
+use Rattle.semantics.specs.Typing.{Scope, lookup, entry, after_inputs}
+use Rattle.typing.specs.declared.refusals.TheConstants.{UNKNOWN_NAME, NAME_TAKEN, NO_SUCH_COLUMN, ARITIES_DIFFER, BODY_DIFFERS, BAD_ARITY, TOO_MANY_TURNS, TOO_DEEP, TOO_MANY_INPUTS}
+use Rattle.typing.specs.Columns.{first_beyond, scalar_columns, cond_columns, pair_columns, key_columns, agg_columns}
+use Rattle.typing.specs.Fault.{Fault, fault, span_of}
+
+-- what follows once a relation has its arity
+abbrev pub chain : Result ℕ Fault → (ℕ → Result ℕ Fault) → Result ℕ Fault
+chain (Ok n) k = k n
+chain (Err f) k = Err f
+
+-- what follows once no column is beyond
+abbrev pub within : Option Span → Result ℕ Fault → Result ℕ Fault
+within None v = v
+within (Some at) v = Err (fault NO_SUCH_COLUMN at)
+
+-- what follows once the name is free
+abbrev pub unless_taken : Option ℕ → Span → Result ℕ Fault → Result ℕ Fault
+unless_taken None s v = v
+unless_taken (Some k) s v = Err (fault NAME_TAKEN s)
+
+-- a name's arity
+abbrev pub known : Option ℕ → Span → Result ℕ Fault
+known None s = Err (fault UNKNOWN_NAME s)
+known (Some n) s = Ok n
+
+-- 1 to 16
+abbrev pub is_arity : ℕ → Bool
+is_arity n = nat_lt 0 n && nat_le n 16
+
+-- an arity of a form at that place
+abbrev pub sized : Span → ℕ → Result ℕ Fault
+sized s n = cond (is_arity n) (Ok n) (Err (fault BAD_ARITY s))
+
+-- of a relation
+abbrev pub verdict : RelTree → Scope → ℕ → Result ℕ Fault
+verdict (RelTree.named s x) scope d = known (lookup scope x) s
+verdict (RelTree.select s r ts) scope d = chain (verdict r scope d) (λ m. within (first_beyond (flat_map (scalar_columns m) ts)) (sized s (length ts)))
+verdict (RelTree.filter s r c) scope d = chain (verdict r scope d) (λ m. within (first_beyond (cond_columns m c)) (Ok m))
+verdict (RelTree.concat s p q) scope d = chain (verdict p scope d) (λ l. chain (verdict q scope d) (λ m. cond (nat_eq l m) (Ok l) (Err (fault ARITIES_DIFFER s))))
+verdict (RelTree.join s p q ps) scope d = chain (verdict p scope d) (λ l. chain (verdict q scope d) (λ m. within (first_beyond (flat_map (pair_columns l m) ps)) (sized s (l + m))))
+verdict (RelTree.group s r ks gs) scope d = chain (verdict r scope d) (λ m. within (first_beyond (flat_map (key_columns m) ks)) (within (first_beyond (flat_map (agg_columns m) gs)) (sized s (length ks + length gs))))
+verdict (RelTree.distinct s r) scope d = verdict r scope d
+verdict (RelTree.iterate s t n u x r b) scope d =
+    cond (nat_le n 1024)
+      (cond (nat_lt d 8)
+        (chain (verdict r scope d) (λ m. unless_taken (lookup scope x) u (chain (verdict b (entry x m ∷ scope) (suc d)) (λ k. cond (nat_eq k m) (Ok m) (Err (fault BODY_DIFFERS (span_of b)))))))
+        (Err (fault TOO_DEEP s)))
+      (Err (fault TOO_MANY_TURNS t))
+
+-- of lets and the output
+abbrev pub rest_verdict : List LetTree → RelTree → Scope → Result ℕ Fault
+rest_verdict [] out scope = verdict out scope 0
+rest_verdict (l ∷ ls) out scope = chain (verdict l.relation scope 0) (λ m. unless_taken (lookup scope l.name) l.name_span (rest_verdict ls out (entry l.name m ∷ scope)))
+
+-- of inputs, and what follows
+abbrev pub inputs_verdict : List Input → Scope → (Scope → Result ℕ Fault) → Result ℕ Fault
+inputs_verdict [] scope k = k scope
+inputs_verdict (i ∷ is) scope k =
+    unless_taken (lookup scope i.name) i.name_span
+      (cond (is_arity i.arity)
+        (cond (nat_lt (length scope) 16) (inputs_verdict is (entry i.name i.arity ∷ scope) k) (Err (fault TOO_MANY_INPUTS i.name_span)))
+        (Err (fault BAD_ARITY i.arity_span)))
+
+-- of a program
+abbrev pub program_verdict : ProgramTree → Result ℕ Fault
+program_verdict p = inputs_verdict p.inputs [] (rest_verdict p.lets p.output)
+
+-- the result tells what the checks say, or that there was no memory
+abbrev pub Tells : Result ℕ Refusal → Result ℕ Fault → Type 0
+Tells (Ok n) v = v ≡ Ok n
+Tells (Err (At c s)) v = v ≡ Err (fault c s)
+Tells (Err NoMemory) v = Unit {0}

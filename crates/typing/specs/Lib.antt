@@ -1,0 +1,4 @@
+pub mod Scope
+pub mod Columns
+pub mod Fault
+pub mod FirstFault
