@@ -1,3 +1,3 @@
 pub mod Beyond
 pub mod Named
-pub mod Verdict
+pub mod Parts

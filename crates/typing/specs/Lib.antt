@@ -2,3 +2,4 @@ pub mod Scope
 pub mod Columns
 pub mod Fault
 pub mod FirstFault
+pub mod Verdict

@@ -10,7 +10,7 @@
 mod refusals;
 mod columns;
 mod names;
-//mod relation;
+mod relation;
 //mod typed;
 //mod program;
 //mod laws;

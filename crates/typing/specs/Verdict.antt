@@ -1,5 +1,6 @@
--- What the checks say, computed: the arity, or the first fault.
-use Rattle.std.proofs.Common.{◌≡◌, ℕ, suc, ◌+◌, Bool, cond, nat_lt, nat_le, nat_eq, ◌&&◌, List, [], ◌∷◌, length, map, flat_map, Option, None, Some, Result, Ok, Err}
+-- What the checks say, computed: the arity, or the first fault. Only the clauses inside this crate cite it; `check` is stated
+-- by what is well typed and what a first fault is.
+use Rattle.std.specs.Prelude.{◌≡◌, ℕ, suc, ◌+◌, Bool, cond, nat_lt, nat_le, nat_eq, ◌&&◌, List, [], ◌∷◌, length, map, flat_map, Option, None, Some, Result, Ok, Err}
 use Rattle.record_core.specs.declared.span.Span.{Span}
 use Rattle.record_core.specs.declared.span.Refusal.{Refusal}
 use Rattle.record_core.specs.declared.span.Refusal.TheVariants.{At, NoMemory}
