@@ -1,5 +1,5 @@
 -- A table of names shows the scope of its entries.
-use Rattle.std.proofs.Common.{◌≡◌, ℕ, ◌≤◌, ◌<◌, ◌↔◌, length, IsSome, option_to_list, Bool, true, false, cond, nat_eq, List, [], ◌∷◌, ◌++◌, Option, None, Some, IfSome, refl, sym, ◌∙◌, ap, subst, arith, drop, true≢false}
+use Rattle.std.proofs.Common.{◌≡◌, ℕ, ◌≤◌, ◌<◌, ◌↔◌, length, length-append, IsSome, option_to_list, Bool, true, false, cond, nat_eq, List, [], ◌∷◌, ◌++◌, Option, None, Some, IfSome, refl, sym, ◌∙◌, ap, subst, arith, drop, true≢false}
 use Rattle.std.specs.List.{AllByRecursion, IsDistinct}
 use Rattle.std.specs.Map.{keys_of}
 use Rattle.std.specs.Map as table
@@ -92,3 +92,8 @@ scope_forgotten es fs (Some e) h k = rw (h, scope_declared fs e.0 e.1)
 scope_forgotten [] [] None h k = refl
 scope_forgotten (e ∷ es) fs None h k = absurd (not_some (k.1 (omega arith)))
 scope_forgotten [] (f ∷ fs) None h k = absurd (cc)
+
+-- as many names as entries
+pub length-scope_of : (es : List (List ℕ × ℕ)) → length (scope_of es) ≡ length es
+length-scope_of [] = refl
+length-scope_of (e ∷ es) = length-append (scope_of es) (entry e.0 e.1 ∷ []) ∙ rw (length-scope_of es) (omega arith)

@@ -1,6 +1,8 @@
 -- The first check that fails: a case for each check, which says what passed before it.
 use Rattle.std.specs.Prelude.{◌≡◌, ◌≢◌, ℕ, suc, ◌+◌, ◌≤◌, ◌<◌, List, [], ◌∷◌, length, map, flat_map, Some, None}
 use Rattle.record_core.specs.declared.span.Span.{Span}
+use Rattle.record_core.specs.declared.span.Refusal.{Refusal}
+use Rattle.record_core.specs.declared.span.Refusal.TheVariants.{At, NoMemory}
 use Rattle.expr_tree.specs.declared.relation.Column.{Column}
 use Rattle.expr_tree.specs.declared.relation.Pair.{Pair}
 use Rattle.expr_tree.specs.declared.relation.Agg.{Agg}
@@ -65,3 +67,8 @@ pub data RestFault : List LetTree → RelTree → Scope → Fault → Type 0 whe
 pub data FirstFault : ProgramTree → Fault → Type 0 where
   input : {p : ProgramTree} {f : Fault} → InputFault p.inputs [] f → FirstFault p f
   rest : {p : ProgramTree} {f : Fault} → length p.inputs ≤ 16 → InputsFit [] (map plain_input p.inputs) → RestFault p.lets p.output (after_inputs [] (map plain_input p.inputs)) f → FirstFault p f
+
+-- a numbered refusal is the first fault of the program; want of memory says nothing of it
+abbrev pub Told : ProgramTree → Refusal → Type 0
+Told p (At code span) = FirstFault p (fault code span)
+Told p NoMemory = Unit {0}

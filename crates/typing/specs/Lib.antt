@@ -3,3 +3,4 @@ pub mod Columns
 pub mod Fault
 pub mod FirstFault
 pub mod Verdict
+pub mod Shown

@@ -6,24 +6,23 @@ use Rattle.record_core.specs.declared.span.Refusal.{Refusal}
 use Rattle.record_core.specs.declared.span.Refusal.TheVariants.{At, NoMemory}
 use Rattle.expr_tree.specs.declared.program.Input.{Input}
 use Rattle.expr_tree.specs.Trees.{RelTree, LetTree, ProgramTree}
-use Rattle.expr_tree.specs.Plain.{plain_input}
-use Rattle.semantics.specs.Typing.{Scope, lookup, entry, after_inputs}
+use Rattle.semantics.specs.Typing.{Scope, lookup, entry}
 use Rattle.typing.specs.declared.refusals.TheConstants.{UNKNOWN_NAME, NAME_TAKEN, NO_SUCH_COLUMN, ARITIES_DIFFER, BODY_DIFFERS, BAD_ARITY, TOO_MANY_TURNS, TOO_DEEP, TOO_MANY_INPUTS}
 use Rattle.typing.specs.Columns.{first_beyond, scalar_columns, cond_columns, pair_columns, key_columns, agg_columns}
 use Rattle.typing.specs.Fault.{Fault, fault, span_of}
 
--- what follows once a relation has its arity
-abbrev pub chain : Result ℕ Fault → (ℕ → Result ℕ Fault) → Result ℕ Fault
+-- what follows once the checks before it passed
+abbrev pub chain : {X Y : Type 0} → Result X Fault → (X → Result Y Fault) → Result Y Fault
 chain (Ok n) k = k n
 chain (Err f) k = Err f
 
 -- what follows once no column is beyond
-abbrev pub within : Option Span → Result ℕ Fault → Result ℕ Fault
+abbrev pub within : {X : Type 0} → Option Span → Result X Fault → Result X Fault
 within None v = v
 within (Some at) v = Err (fault NO_SUCH_COLUMN at)
 
 -- what follows once the name is free
-abbrev pub unless_taken : Option ℕ → Span → Result ℕ Fault → Result ℕ Fault
+abbrev pub unless_taken : {X : Type 0} → Option ℕ → Span → Result X Fault → Result X Fault
 unless_taken None s v = v
 unless_taken (Some k) s v = Err (fault NAME_TAKEN s)
 
@@ -56,26 +55,33 @@ verdict (RelTree.iterate s t n u x r b) scope d =
         (Err (fault TOO_DEEP s)))
       (Err (fault TOO_MANY_TURNS t))
 
--- of lets and the output
-abbrev pub rest_verdict : List LetTree → RelTree → Scope → Result ℕ Fault
-rest_verdict [] out scope = verdict out scope 0
-rest_verdict (l ∷ ls) out scope = chain (verdict l.relation scope 0) (λ m. unless_taken (lookup scope l.name) l.name_span (rest_verdict ls out (entry l.name m ∷ scope)))
-
--- of inputs, and what follows
-abbrev pub inputs_verdict : List Input → Scope → (Scope → Result ℕ Fault) → Result ℕ Fault
-inputs_verdict [] scope k = k scope
-inputs_verdict (i ∷ is) scope k =
+-- of an input: the scope after it
+abbrev pub input_verdict : Input → Scope → Result Scope Fault
+input_verdict i scope =
     unless_taken (lookup scope i.name) i.name_span
       (cond (is_arity i.arity)
-        (cond (nat_lt (length scope) 16) (inputs_verdict is (entry i.name i.arity ∷ scope) k) (Err (fault TOO_MANY_INPUTS i.name_span)))
+        (cond (nat_lt (length scope) 16) (Ok (entry i.name i.arity ∷ scope)) (Err (fault TOO_MANY_INPUTS i.name_span)))
         (Err (fault BAD_ARITY i.arity_span)))
 
--- of a program
-abbrev pub program_verdict : ProgramTree → Result ℕ Fault
-program_verdict p = inputs_verdict p.inputs [] (rest_verdict p.lets p.output)
+-- of a let: the scope after it
+abbrev pub let_verdict : LetTree → Scope → Result Scope Fault
+let_verdict l scope = chain (verdict l.relation scope 0) (λ m. unless_taken (lookup scope l.name) l.name_span (Ok (entry l.name m ∷ scope)))
 
--- the result tells what the checks say, or that there was no memory
+-- of items in order
+abbrev pub each : {X : Type 0} → (X → Scope → Result Scope Fault) → List X → Scope → Result Scope Fault
+each step [] scope = Ok scope
+each step (x ∷ xs) scope = chain (step x scope) (each step xs)
+
+-- of a program: its output's arity
+abbrev pub program_verdict : ProgramTree → Result ℕ Fault
+program_verdict p = chain (each input_verdict p.inputs []) (λ s. chain (each let_verdict p.lets s) (λ t. verdict p.output t 0))
+
+-- the refusal tells what the checks say, or that there was no memory
+abbrev pub Says : {X : Type 0} → Refusal → Result X Fault → Type 0
+Says (At c s) v = v ≡ Err (fault c s)
+Says NoMemory v = Unit {0}
+
+-- the answer is what the checks say
 abbrev pub Tells : Result ℕ Refusal → Result ℕ Fault → Type 0
 Tells (Ok n) v = v ≡ Ok n
-Tells (Err (At c s)) v = v ≡ Err (fault c s)
-Tells (Err NoMemory) v = Unit {0}
+Tells (Err e) v = Says e v

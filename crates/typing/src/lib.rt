@@ -11,8 +11,8 @@ mod refusals;
 mod columns;
 mod names;
 mod relation;
-//mod typed;
-//mod program;
+mod typed;
+mod program;
 //mod laws;
 
 //pub use program::check;

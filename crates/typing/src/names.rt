@@ -1,6 +1,6 @@
 //! The names in scope.
 
-ghost use Rattle.std.specs.Prelude.{◌≡◌, ◌≤◌, ◌∷◌, [], None, drop, IfSome, OnOk, OnErr};
+ghost use Rattle.std.specs.Prelude.{◌≡◌, ◌≤◌, ◌∷◌, [], None, drop, length, IfSome, OnOk, OnErr};
 ghost use Rattle.semantics.specs.Typing.{lookup, entry};
 
 use arrayvec::ArrayVec;
@@ -70,6 +70,13 @@ impl Names {
         Names {
             table: IndexMap::new(alloc),
         }
+    }
+
+    /// How many names are in scope.
+    pub(crate) fn len(&self) -> usize
+        ensures { result ≡ length self.now }
+    {
+        self.table.len()
     }
 
     /// The arity of a name in scope.

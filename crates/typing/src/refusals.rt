@@ -1,5 +1,10 @@
 //! The codes of the refusals, with the place that each tells.
 
+ghost use Rattle.std.specs.Prelude.{◌≡◌};
+ghost use Rattle.record_core.specs.declared.span.Refusal.TheVariants.{At};
+
+use record_core::{Refusal, Span};
+
 /// A name that isn't in scope: `output b;` where nothing is called `b`. Told at the name.
 pub const UNKNOWN_NAME: u8 = 11;
 /// A name that is in scope and is declared again. Told at the second declaration's name.
@@ -18,3 +23,10 @@ pub const TOO_MANY_TURNS: u8 = 17;
 pub const TOO_DEEP: u8 = 18;
 /// An input after 16 others. Told at its name.
 pub const TOO_MANY_INPUTS: u8 = 19;
+
+/// A refusal with its place.
+pub(crate) fn at(code: u8, span: Span) -> Refusal
+    ensures { result ≡ At code span }
+{
+    Refusal::At { code, span }
+}

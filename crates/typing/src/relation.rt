@@ -9,17 +9,10 @@ ghost use Rattle.typing.specs.Verdict.{verdict, sized, Tells};
 
 use crate::columns::{in_aggs, in_cond, in_keys, in_pairs, in_scalars};
 use crate::names::Names;
-use crate::refusals::*;
+use crate::refusals::{ARITIES_DIFFER, BAD_ARITY, BODY_DIFFERS, NAME_TAKEN, NO_SUCH_COLUMN, TOO_DEEP, TOO_MANY_TURNS, UNKNOWN_NAME, at};
 use expr_tree::Rel;
 use record_core::{Refusal, Span};
 use std::alloc::Allocator;
-
-/// A refusal with its place.
-fn at(code: u8, span: Span) -> Refusal
-    ensures { result ≡ At code span }
-{
-    Refusal::At { code, span }
-}
 
 /// Refused where a column is beyond.
 fn within(beyond: Option<Span>) -> Result<(), Refusal>
