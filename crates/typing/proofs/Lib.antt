@@ -6,3 +6,4 @@ pub mod Chains
 pub mod Decided
 pub mod Faults
 pub mod Programs
+pub mod Decisions

@@ -107,7 +107,7 @@ told_rest_fault (l ∷ ls) out scope f h =
 
 -- the whole program
 pub program_typed_told : (p : ProgramTree) (n : ℕ) → WellTyped (plain_program p) n → program_verdict p ≡ Ok n
-program_typed_told p n h = rw (inputs_told p.inputs [] h.inputs (subst (λ k. k ≤ 16) (length-map p.inputs plain_input) h.few)) (rest_told p.lets p.output (after_inputs [] (map plain_input p.inputs)) n h.rest)
+program_typed_told p n h = rw (inputs_told p.inputs [] h.inputs (let k = subst (λ m. m ≤ 16) (length-map p.inputs plain_input) h.few in omega arith)) (rest_told p.lets p.output (after_inputs [] (map plain_input p.inputs)) n h.rest)
 
 pub program_told_typed : (p : ProgramTree) (n : ℕ) → program_verdict p ≡ Ok n → WellTyped (plain_program p) n
 program_told_typed p n h =

@@ -13,7 +13,7 @@ mod names;
 mod relation;
 mod typed;
 mod program;
-//mod laws;
+pub mod laws;
 
-//pub use program::check;
-//pub use typed::Typed;
+pub use program::check;
+pub use typed::Typed;

@@ -2,11 +2,14 @@
 
 ghost use Rattle.std.specs.Prelude.{◌≡◌, [], map, Ok, IfOk, IfErr, OnOk};
 ghost use Rattle.expr_tree.specs.Views.{let_tree, program_tree};
+ghost use Rattle.typing.specs.FirstFault.{Told};
+ghost use Rattle.typing.specs.Shown.{typed_program};
 ghost use Rattle.typing.specs.Verdict.{input_verdict, let_verdict, each, program_verdict, Says, Tells};
 
 use crate::names::Names;
 use crate::refusals::{BAD_ARITY, NAME_TAKEN, TOO_MANY_INPUTS, at};
 use crate::relation::arity_of;
+use crate::typed::Typed;
 use expr_tree::{Input, Let, Program};
 use record_core::Refusal;
 use std::alloc::{Allocator, Global};
@@ -72,4 +75,18 @@ fn output_arity<A: Allocator>(alloc: Global, program: &Program<A>) -> Result<u64
     declare_inputs(&mut names, &program.inputs)?;
     declare_lets(&mut names, &program.lets)?;
     arity_of(&mut names, &program.output, 0)
+}
+
+/// The program typed, or back whole with its first fault.
+///
+/// The table of the names in scope takes memory; without it the refusal is `NoMemory`.
+pub fn check<A: Allocator>(alloc: Global, program: Program<A>) -> Result<Typed<A>, (Program<A>, Refusal)>
+    ensures typed { IfOk result (λ t. typed_program t ≡ program_tree program) }
+    ensures fault { IfErr result (λ e. Told (program_tree program) e.1) }
+    ensures whole { IfErr result (λ e. e.0 ≡ program) }
+{
+    match output_arity(alloc, &program) {
+        Ok(arity) => Ok(Typed::new(program, arity)),
+        Err(refusal) => Err((program, refusal)),
+    }
 }
