@@ -9,6 +9,7 @@ use Rattle.expr_tree.specs.declared.relation.Agg.{Agg}
 use Rattle.expr_tree.specs.declared.program.Input.{Input}
 use Rattle.expr_tree.specs.Trees.{ScalarTree, CondTree, RelTree, LetTree, ProgramTree}
 use Rattle.expr_tree.specs.Plain.{plain_rel, plain_input}
+use Rattle.semantics.specs.Limits.{max_inputs, max_turns, max_loops}
 use Rattle.semantics.specs.Typing.{Scope, lookup, entry, IsArity, HasArity, InputsFit, after_inputs}
 use Rattle.typing.specs.declared.refusals.TheConstants.{UNKNOWN_NAME, NAME_TAKEN, NO_SUCH_COLUMN, ARITIES_DIFFER, BODY_DIFFERS, BAD_ARITY, TOO_MANY_TURNS, TOO_DEEP, TOO_MANY_INPUTS}
 use Rattle.typing.specs.Columns.{first_beyond, scalar_columns, cond_columns, pair_columns, key_columns, agg_columns}
@@ -42,19 +43,19 @@ pub data FaultIn : RelTree → Scope → ℕ → Fault → Type 0 where
   -- distinct: its relation
   distinct_part : {s : Span} {r : RelTree} {scope : Scope} {d : ℕ} {f : Fault} → FaultIn r scope d f → FaultIn (RelTree.distinct s r) scope d f
   -- iterate: the turns, the depth, the start, the variable, the body, the body's arity
-  iterate_turns : {s t u : Span} {n : ℕ} {x : List ℕ} {r b : RelTree} {scope : Scope} {d : ℕ} → 1024 < n → FaultIn (RelTree.iterate s t n u x r b) scope d (fault TOO_MANY_TURNS t)
-  iterate_depth : {s t u : Span} {n : ℕ} {x : List ℕ} {r b : RelTree} {scope : Scope} {d : ℕ} → n ≤ 1024 → 8 ≤ d → FaultIn (RelTree.iterate s t n u x r b) scope d (fault TOO_DEEP s)
-  iterate_start : {s t u : Span} {n : ℕ} {x : List ℕ} {r b : RelTree} {scope : Scope} {d : ℕ} {f : Fault} → n ≤ 1024 → d < 8 → FaultIn r scope d f → FaultIn (RelTree.iterate s t n u x r b) scope d f
-  iterate_variable : {s t u : Span} {n : ℕ} {x : List ℕ} {r b : RelTree} {scope : Scope} {d : ℕ} (m k : ℕ) → n ≤ 1024 → d < 8 → HasArity (plain_rel r) scope d m → lookup scope x ≡ Some k → FaultIn (RelTree.iterate s t n u x r b) scope d (fault NAME_TAKEN u)
-  iterate_body : {s t u : Span} {n : ℕ} {x : List ℕ} {r b : RelTree} {scope : Scope} {d : ℕ} {f : Fault} (m : ℕ) → n ≤ 1024 → d < 8 → HasArity (plain_rel r) scope d m → lookup scope x ≡ None → FaultIn b (entry x m ∷ scope) (suc d) f → FaultIn (RelTree.iterate s t n u x r b) scope d f
-  iterate_arity : {s t u : Span} {n : ℕ} {x : List ℕ} {r b : RelTree} {scope : Scope} {d : ℕ} (m k : ℕ) → n ≤ 1024 → d < 8 → HasArity (plain_rel r) scope d m → lookup scope x ≡ None → HasArity (plain_rel b) (entry x m ∷ scope) (suc d) k → k ≢ m → FaultIn (RelTree.iterate s t n u x r b) scope d (fault BODY_DIFFERS (span_of b))
+  iterate_turns : {s t u : Span} {n : ℕ} {x : List ℕ} {r b : RelTree} {scope : Scope} {d : ℕ} → max_turns < n → FaultIn (RelTree.iterate s t n u x r b) scope d (fault TOO_MANY_TURNS t)
+  iterate_depth : {s t u : Span} {n : ℕ} {x : List ℕ} {r b : RelTree} {scope : Scope} {d : ℕ} → n ≤ max_turns → max_loops ≤ d → FaultIn (RelTree.iterate s t n u x r b) scope d (fault TOO_DEEP s)
+  iterate_start : {s t u : Span} {n : ℕ} {x : List ℕ} {r b : RelTree} {scope : Scope} {d : ℕ} {f : Fault} → n ≤ max_turns → d < max_loops → FaultIn r scope d f → FaultIn (RelTree.iterate s t n u x r b) scope d f
+  iterate_variable : {s t u : Span} {n : ℕ} {x : List ℕ} {r b : RelTree} {scope : Scope} {d : ℕ} (m k : ℕ) → n ≤ max_turns → d < max_loops → HasArity (plain_rel r) scope d m → lookup scope x ≡ Some k → FaultIn (RelTree.iterate s t n u x r b) scope d (fault NAME_TAKEN u)
+  iterate_body : {s t u : Span} {n : ℕ} {x : List ℕ} {r b : RelTree} {scope : Scope} {d : ℕ} {f : Fault} (m : ℕ) → n ≤ max_turns → d < max_loops → HasArity (plain_rel r) scope d m → lookup scope x ≡ None → FaultIn b (entry x m ∷ scope) (suc d) f → FaultIn (RelTree.iterate s t n u x r b) scope d f
+  iterate_arity : {s t u : Span} {n : ℕ} {x : List ℕ} {r b : RelTree} {scope : Scope} {d : ℕ} (m k : ℕ) → n ≤ max_turns → d < max_loops → HasArity (plain_rel r) scope d m → lookup scope x ≡ None → HasArity (plain_rel b) (entry x m ∷ scope) (suc d) k → k ≢ m → FaultIn (RelTree.iterate s t n u x r b) scope d (fault BODY_DIFFERS (span_of b))
 
 -- the first fault of inputs that follow those in the scope: of each its name, its arity, its number
 pub data InputFault : List Input → Scope → Fault → Type 0 where
   taken : {i : Input} {rest : List Input} {scope : Scope} (k : ℕ) → lookup scope i.name ≡ Some k → InputFault (i ∷ rest) scope (fault NAME_TAKEN i.name_span)
   bad_arity : {i : Input} {rest : List Input} {scope : Scope} → lookup scope i.name ≡ None → ¬ IsArity i.arity → InputFault (i ∷ rest) scope (fault BAD_ARITY i.arity_span)
-  too_many : {i : Input} {rest : List Input} {scope : Scope} → lookup scope i.name ≡ None → IsArity i.arity → 16 ≤ length scope → InputFault (i ∷ rest) scope (fault TOO_MANY_INPUTS i.name_span)
-  later : {i : Input} {rest : List Input} {scope : Scope} {f : Fault} → lookup scope i.name ≡ None → IsArity i.arity → length scope < 16 → InputFault rest (entry i.name i.arity ∷ scope) f → InputFault (i ∷ rest) scope f
+  too_many : {i : Input} {rest : List Input} {scope : Scope} → lookup scope i.name ≡ None → IsArity i.arity → max_inputs ≤ length scope → InputFault (i ∷ rest) scope (fault TOO_MANY_INPUTS i.name_span)
+  later : {i : Input} {rest : List Input} {scope : Scope} {f : Fault} → lookup scope i.name ≡ None → IsArity i.arity → length scope < max_inputs → InputFault rest (entry i.name i.arity ∷ scope) f → InputFault (i ∷ rest) scope f
 
 -- the first fault of lets, then of the output: of each let its relation, its name
 pub data RestFault : List LetTree → RelTree → Scope → Fault → Type 0 where
@@ -66,7 +67,7 @@ pub data RestFault : List LetTree → RelTree → Scope → Fault → Type 0 whe
 -- the first fault of a program
 pub data FirstFault : ProgramTree → Fault → Type 0 where
   input : {p : ProgramTree} {f : Fault} → InputFault p.inputs [] f → FirstFault p f
-  rest : {p : ProgramTree} {f : Fault} → length p.inputs ≤ 16 → InputsFit [] (map plain_input p.inputs) → RestFault p.lets p.output (after_inputs [] (map plain_input p.inputs)) f → FirstFault p f
+  rest : {p : ProgramTree} {f : Fault} → length p.inputs ≤ max_inputs → InputsFit [] (map plain_input p.inputs) → RestFault p.lets p.output (after_inputs [] (map plain_input p.inputs)) f → FirstFault p f
 
 -- a numbered refusal is the first fault of the program; want of memory says nothing of it
 abbrev pub Told : ProgramTree → Refusal → Type 0

@@ -17,3 +17,6 @@ pub mod laws;
 
 pub use program::check;
 pub use typed::Typed;
+
+#[cfg(test)]
+mod tests;

@@ -3,46 +3,15 @@
 ghost use Rattle.std.specs.Prelude.{◌≡◌, ◌≤◌, ◌∷◌, [], None, drop, length, IfSome, OnOk, OnErr};
 ghost use Rattle.semantics.specs.Typing.{lookup, entry};
 
-use arrayvec::ArrayVec;
 use indexmap::IndexMap;
 use record_core::Name;
 use std::alloc::{AllocError, Global};
-use std::hash::{Hash, Hasher};
 use std::marker::Model;
-
-/// A name as a key of the table.
-#[derive(Clone, Drop, PartialEq, Eq, Hash)]
-struct Key {
-    bytes: ArrayVec<u8, 32>,
-}
-
-impl Model for Key {
-    ghost use Rattle.std.specs.Prelude.{◌≤◌, List, ℕ, length};
-
-    ghost Value = { List ℕ };
-
-    ghost view = { λ k. k.bytes.items };
-
-    ghost inverse = { λ xs. record { bytes = record { items = xs } } };
-
-    ghost invariant = { λ k. length k.bytes.items ≤ 32 };
-}
-
-/// The key of a name.
-fn key_of(name: &Name) -> Key
-    ensures { result ≡ name.now }
-{
-    let mut bytes = ArrayVec::new();
-    match bytes.try_extend_from_slice(name.bytes()) {
-        Ok(()) => Key { bytes },
-        Err(_) => unreachable!(),
-    }
-}
 
 /// The names in scope with their arities, each found in constant time. The name declared last is the first forgotten.
 #[derive(Drop)]
 pub(crate) struct Names {
-    table: IndexMap<Key, u64>,
+    table: IndexMap<Name, u64>,
 }
 
 impl Model for Names {
@@ -84,7 +53,7 @@ impl Names {
         ensures value { result ≡ lookup self.now name.now }
         ensures small { IfSome result (λ n. n ≤ 16) }
     {
-        match self.table.get(&key_of(name)) {
+        match self.table.get(name) {
             Some(arity) => Some(*arity),
             None => None,
         }
@@ -97,7 +66,7 @@ impl Names {
         ensures ok { OnOk result (self.new ≡ entry name.now arity ∷ self.old) }
         ensures err { OnErr result (self.new ≡ self.old) }
     {
-        self.table.insert(key_of(name), arity)?;
+        self.table.insert(name.copied(), arity)?;
         Ok(())
     }
 
