@@ -1,0 +1,10 @@
+use Rattle.expr_tree.specs.Views.{program_tree}
+use Rattle.typing.proofs.Programs.{program_told_typed}
+use Rattle.typing.proofs.Decisions.{says_told}
+use Rattle.typing.proofs.program.check.Goals as goal
+
+pub new-requires : goal.new-requires
+new-requires g c = program_told_typed (program_tree c.args.program) c.in-Ok.arity c.in-Ok.ensures.told
+
+pub returns-in-Err-clause-fault : goal.returns-in-Err-clause-fault
+returns-in-Err-clause-fault g c = says_told (program_tree c.args.program) c.in-Err.refusal c.in-Err.ensures.told

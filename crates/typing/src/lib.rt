@@ -1,0 +1,22 @@
+//! Names, arities and loops of a query, checked.
+//!
+//! `check` takes a program and gives it back typed, or whole with the first of its faults in the order of the checks: the
+//! inputs, the lets, the output, each relation from its parts to itself.
+//!
+//! The contract for the layers above: a `Typed` is well typed, with the arities that it shows. Below stand `expr_tree`, whose
+//! trees are checked, and `semantics`, which says what is well typed; the normaliser and lowering take a `Typed`.
+#![tactic(auto)]
+
+mod refusals;
+mod columns;
+mod names;
+mod relation;
+mod typed;
+mod program;
+pub mod laws;
+
+pub use program::check;
+pub use typed::Typed;
+
+#[cfg(test)]
+mod tests;

@@ -1,0 +1,32 @@
+//! The codes of the refusals, with the place that each tells.
+
+ghost use Rattle.std.specs.Prelude.{◌≡◌};
+ghost use Rattle.record_core.specs.declared.span.Refusal.TheVariants.{At};
+
+use record_core::{Refusal, Span};
+
+/// A name that isn't in scope: `output b;` where nothing is called `b`. Told at the name.
+pub const UNKNOWN_NAME: u8 = 11;
+/// A name that is in scope and is declared again. Told at the second declaration's name.
+pub const NAME_TAKEN: u8 = 12;
+/// A column that its relation hasn't. Told at the column.
+pub const NO_SUCH_COLUMN: u8 = 13;
+/// Two relations of different arities end to end. Told at the whole `concat`.
+pub const ARITIES_DIFFER: u8 = 14;
+/// A loop's body of another arity than its start. Told at the body.
+pub const BODY_DIFFERS: u8 = 15;
+/// An arity of 0 or over 16. Told at the number of an input, else at the whole form.
+pub const BAD_ARITY: u8 = 16;
+/// Over 1024 turns. Told at their number.
+pub const TOO_MANY_TURNS: u8 = 17;
+/// A loop in the bodies of 8 others. Told at the whole loop.
+pub const TOO_DEEP: u8 = 18;
+/// An input after 16 others. Told at its name.
+pub const TOO_MANY_INPUTS: u8 = 19;
+
+/// A refusal with its place.
+pub(crate) fn at(code: u8, span: Span) -> Refusal
+    ensures { result ≡ At code span }
+{
+    Refusal::At { code, span }
+}
