@@ -6,7 +6,6 @@ use Rattle.expr_tree.specs.declared.condition.Comparison as declared_comparison
 use Rattle.expr_tree.specs.declared.condition.Comparison.TheVariants as comparison
 use Rattle.expr_tree.specs.declared.condition.Connective.{Connective}
 use Rattle.expr_tree.specs.declared.condition.Connective.TheVariants as connective
-use Rattle.expr_tree.specs.declared.relation.Column.{Column}
 use Rattle.expr_tree.specs.declared.relation.Pair as declared_pair
 use Rattle.expr_tree.specs.declared.relation.Agg as declared_agg
 use Rattle.expr_tree.specs.declared.relation.Agg.TheVariants as agg

@@ -9,12 +9,14 @@
 //! them, lowering reads them.
 #![tactic(auto)]
 
-mod scalar;
 mod condition;
-mod relation;
+mod evaluation;
 mod program;
+mod relation;
+mod scalar;
 
 pub use condition::{Comparison, Cond, Connective};
+pub use evaluation::{eval_scalar, holds, negated, operate};
 pub use program::{Input, Let, Program};
 pub use relation::{Agg, Column, Pair, Rel};
 pub use scalar::{Operator, Scalar};
