@@ -1,3 +1,5 @@
 pub mod Trees
 pub mod Views
 pub mod Plain
+pub mod Size
+pub mod Depth

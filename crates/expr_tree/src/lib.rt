@@ -10,13 +10,18 @@
 #![tactic(auto)]
 
 mod condition;
-mod evaluation;
 mod program;
 mod relation;
 mod scalar;
 
+mod copy;
+mod evaluation;
+mod no_memory;
+
 pub use condition::{Comparison, Cond, Connective};
+pub use copy::{copy_cond, copy_rel, copy_scalar};
 pub use evaluation::{eval_scalar, holds, negated, operate};
+pub use no_memory::NoMemory;
 pub use program::{Input, Let, Program};
 pub use relation::{Agg, Column, Pair, Rel};
 pub use scalar::{Operator, Scalar};

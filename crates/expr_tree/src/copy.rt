@@ -1,0 +1,215 @@
+//! Copies of trees under another allocator: the same tree with the same spans.
+
+ghost use Rattle.std.specs.Prelude.{◌≡◌, IfOk, map};
+ghost use Rattle.expr_tree.specs.Views.{cond_tree, let_tree, program_tree, rel_tree, scalar_tree};
+
+use crate::condition::Cond;
+use crate::no_memory::NoMemory;
+use crate::program::{Input, Let, Program};
+use crate::relation::Rel;
+use crate::scalar::Scalar;
+use record_core::Name;
+use std::alloc::Allocator;
+
+impl<A: Allocator> Program<A> {
+    /// The same program, with the same spans, under the allocator `alloc`, which alone gives the memory.
+    pub fn copy_in<B: Allocator + Copy>(&self, alloc: B) -> Result<Program<B>, NoMemory>
+        ensures { IfOk result (λ copy. program_tree copy ≡ program_tree self.now) }
+    {
+        let inputs = copy_inputs(alloc, &self.inputs)?;
+        let lets = copy_lets(alloc, &self.lets)?;
+        let output = Box::new(alloc, copy_rel(alloc, &self.output)?)?;
+        Ok(Program {
+            inputs,
+            lets,
+            output,
+        })
+    }
+}
+
+/// The same scalar, with the same spans, under the allocator `alloc`, which alone gives the memory.
+pub fn copy_scalar<A: Allocator, B: Allocator + Copy>(
+    alloc: B,
+    scalar: &Scalar<A>,
+) -> Result<Scalar<B>, NoMemory>
+    ensures { IfOk result (λ copy. scalar_tree copy ≡ scalar_tree scalar.now) }
+{
+    match scalar {
+        Scalar::Literal(span, number) => Ok(Scalar::Literal(*span, *number)),
+        Scalar::Column(span, column) => Ok(Scalar::Column(*span, *column)),
+        Scalar::Binary(span, operator, left, right) => {
+            let left = Box::new(alloc, copy_scalar(alloc, left)?)?;
+            let right = Box::new(alloc, copy_scalar(alloc, right)?)?;
+            Ok(Scalar::Binary(*span, *operator, left, right))
+        }
+        Scalar::Negate(span, inner) => {
+            let inner = Box::new(alloc, copy_scalar(alloc, inner)?)?;
+            Ok(Scalar::Negate(*span, inner))
+        }
+    }
+}
+
+/// The same condition, with the same spans, under the allocator `alloc`, which alone gives the memory.
+pub fn copy_cond<A: Allocator, B: Allocator + Copy>(
+    alloc: B,
+    condition: &Cond<A>,
+) -> Result<Cond<B>, NoMemory>
+    ensures { IfOk result (λ copy. cond_tree copy ≡ cond_tree condition.now) }
+{
+    match condition {
+        Cond::Compare(span, comparison, left, right) => {
+            let left = copy_scalar(alloc, left)?;
+            let right = copy_scalar(alloc, right)?;
+            Ok(Cond::Compare(*span, *comparison, left, right))
+        }
+        Cond::Logical(span, connective, left, right) => {
+            let left = Box::new(alloc, copy_cond(alloc, left)?)?;
+            let right = Box::new(alloc, copy_cond(alloc, right)?)?;
+            Ok(Cond::Logical(*span, *connective, left, right))
+        }
+        Cond::Not(span, inner) => {
+            let inner = Box::new(alloc, copy_cond(alloc, inner)?)?;
+            Ok(Cond::Not(*span, inner))
+        }
+    }
+}
+
+/// The same relation, with the same spans, under the allocator `alloc`, which alone gives the memory.
+pub fn copy_rel<A: Allocator, B: Allocator + Copy>(
+    alloc: B,
+    relation: &Rel<A>,
+) -> Result<Rel<B>, NoMemory>
+    ensures { IfOk result (λ copy. rel_tree copy ≡ rel_tree relation.now) }
+{
+    match relation {
+        Rel::Named(span, name) => Ok(Rel::Named(*span, copy_name(name))),
+        Rel::Select(span, of, scalars) => {
+            let of = Box::new(alloc, copy_rel(alloc, of)?)?;
+            let scalars = copy_scalars(alloc, scalars)?;
+            Ok(Rel::Select(*span, of, scalars))
+        }
+        Rel::Where(span, of, condition) => {
+            let of = Box::new(alloc, copy_rel(alloc, of)?)?;
+            let condition = copy_cond(alloc, condition)?;
+            Ok(Rel::Where(*span, of, condition))
+        }
+        Rel::Concat(span, left, right) => {
+            let left = Box::new(alloc, copy_rel(alloc, left)?)?;
+            let right = Box::new(alloc, copy_rel(alloc, right)?)?;
+            Ok(Rel::Concat(*span, left, right))
+        }
+        Rel::Join(span, left, right, pairs) => {
+            let left = Box::new(alloc, copy_rel(alloc, left)?)?;
+            let right = Box::new(alloc, copy_rel(alloc, right)?)?;
+            let pairs = copy_values(alloc, pairs)?;
+            Ok(Rel::Join(*span, left, right, pairs))
+        }
+        Rel::Group(span, of, keys, aggregates) => {
+            let of = Box::new(alloc, copy_rel(alloc, of)?)?;
+            let keys = copy_values(alloc, keys)?;
+            let aggregates = copy_values(alloc, aggregates)?;
+            Ok(Rel::Group(*span, of, keys, aggregates))
+        }
+        Rel::Distinct(span, of) => {
+            let of = Box::new(alloc, copy_rel(alloc, of)?)?;
+            Ok(Rel::Distinct(*span, of))
+        }
+        Rel::Iterate {
+            span,
+            turns_span,
+            turns,
+            name_span,
+            name,
+            start,
+            body,
+        } => {
+            let start = Box::new(alloc, copy_rel(alloc, start)?)?;
+            let body = Box::new(alloc, copy_rel(alloc, body)?)?;
+            Ok(Rel::Iterate {
+                span: *span,
+                turns_span: *turns_span,
+                turns: *turns,
+                name_span: *name_span,
+                name: copy_name(name),
+                start,
+                body,
+            })
+        }
+    }
+}
+
+/// The same name. It lies inline, so no memory is taken.
+fn copy_name(name: &Name) -> Name
+    ensures { result ≡ name.now }
+{
+    match name.clone() {
+        Ok(copy) => copy,
+        Err(_) => unreachable!(),
+    }
+}
+
+/// The same values, in order.
+fn copy_values<T: Copy, A: Allocator, B: Allocator + Copy>(
+    alloc: B,
+    values: &Vec<T, A>,
+) -> Result<Vec<T, B>, NoMemory>
+    ensures { IfOk result (λ copy. copy.items ≡ values.now.items) }
+{
+    let mut copy = Vec::new(alloc);
+    for value in values {
+        copy.push(*value)?;
+    }
+    Ok(copy)
+}
+
+/// The same scalars, in order.
+fn copy_scalars<A: Allocator, B: Allocator + Copy>(
+    alloc: B,
+    scalars: &Vec<Scalar<A>, A>,
+) -> Result<Vec<Scalar<B>, B>, NoMemory>
+    ensures { IfOk result (λ copy. map scalar_tree copy.items ≡ map scalar_tree scalars.now.items) }
+{
+    let mut copy = Vec::new(alloc);
+    for scalar in scalars {
+        copy.push(copy_scalar(alloc, scalar)?)?;
+    }
+    Ok(copy)
+}
+
+/// The same inputs, in order.
+fn copy_inputs<A: Allocator, B: Allocator + Copy>(
+    alloc: B,
+    inputs: &Vec<Input, A>,
+) -> Result<Vec<Input, B>, NoMemory>
+    ensures { IfOk result (λ copy. copy.items ≡ inputs.now.items) }
+{
+    let mut copy = Vec::new(alloc);
+    for input in inputs {
+        copy.push(Input {
+            name_span: input.name_span,
+            name: copy_name(&input.name),
+            arity_span: input.arity_span,
+            arity: input.arity,
+        })?;
+    }
+    Ok(copy)
+}
+
+/// The same named relations, in order.
+fn copy_lets<A: Allocator, B: Allocator + Copy>(
+    alloc: B,
+    lets: &Vec<Let<A>, A>,
+) -> Result<Vec<Let<B>, B>, NoMemory>
+    ensures { IfOk result (λ copy. map let_tree copy.items ≡ map let_tree lets.now.items) }
+{
+    let mut copy = Vec::new(alloc);
+    for item in lets {
+        let relation = Box::new(alloc, copy_rel(alloc, &item.relation)?)?;
+        copy.push(Let {
+            name_span: item.name_span,
+            name: copy_name(&item.name),
+            relation,
+        })?;
+    }
+    Ok(copy)
+}
