@@ -1,31 +1,15 @@
 //! Copies of trees under another allocator: the same tree with the same spans.
 
 ghost use Rattle.std.specs.Prelude.{◌≡◌, IfOk, map};
-ghost use Rattle.expr_tree.specs.Views.{cond_tree, let_tree, program_tree, rel_tree, scalar_tree};
+ghost use Rattle.expr_tree.specs.Views.{cond_tree, let_tree, rel_tree, scalar_tree};
 
 use crate::condition::Cond;
 use crate::no_memory::NoMemory;
-use crate::program::{Input, Let, Program};
+use crate::program::{Input, Let};
 use crate::relation::Rel;
 use crate::scalar::Scalar;
 use record_core::Name;
 use std::alloc::Allocator;
-
-impl<A: Allocator> Program<A> {
-    /// The same program, with the same spans, under the allocator `alloc`, which alone gives the memory.
-    pub fn copy_in<B: Allocator + Copy>(&self, alloc: B) -> Result<Program<B>, NoMemory>
-        ensures { IfOk result (λ copy. program_tree copy ≡ program_tree self.now) }
-    {
-        let inputs = copy_inputs(alloc, &self.inputs)?;
-        let lets = copy_lets(alloc, &self.lets)?;
-        let output = Box::new(alloc, copy_rel(alloc, &self.output)?)?;
-        Ok(Program {
-            inputs,
-            lets,
-            output,
-        })
-    }
-}
 
 /// The same scalar, with the same spans, under the allocator `alloc`, which alone gives the memory.
 pub fn copy_scalar<A: Allocator, B: Allocator + Copy>(
@@ -177,7 +161,7 @@ fn copy_scalars<A: Allocator, B: Allocator + Copy>(
 }
 
 /// The same inputs, in order.
-fn copy_inputs<A: Allocator, B: Allocator + Copy>(
+pub(crate) fn copy_inputs<A: Allocator, B: Allocator + Copy>(
     alloc: B,
     inputs: &Vec<Input, A>,
 ) -> Result<Vec<Input, B>, NoMemory>
@@ -196,7 +180,7 @@ fn copy_inputs<A: Allocator, B: Allocator + Copy>(
 }
 
 /// The same named relations, in order.
-fn copy_lets<A: Allocator, B: Allocator + Copy>(
+pub(crate) fn copy_lets<A: Allocator, B: Allocator + Copy>(
     alloc: B,
     lets: &Vec<Let<A>, A>,
 ) -> Result<Vec<Let<B>, B>, NoMemory>

@@ -15,13 +15,17 @@ mod relation;
 mod scalar;
 
 mod copy;
+mod depth;
 mod evaluation;
 mod no_memory;
+mod size;
 
 pub use condition::{Comparison, Cond, Connective};
 pub use copy::{copy_cond, copy_rel, copy_scalar};
+pub use depth::{cond_depth, rel_depth, scalar_depth};
 pub use evaluation::{eval_scalar, holds, negated, operate};
 pub use no_memory::NoMemory;
 pub use program::{Input, Let, Program};
 pub use relation::{Agg, Column, Pair, Rel};
 pub use scalar::{Operator, Scalar};
+pub use size::{cond_size, rel_size, scalar_size};

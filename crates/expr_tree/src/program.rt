@@ -1,6 +1,16 @@
 //! Programs: inputs, named relations, one output.
 
+ghost use Rattle.std.specs.Prelude.{◌≡◌, ◌-◌, ◌^◌, IfOk, min};
+ghost use Rattle.expr_tree.specs.Depth.{program_depth};
+ghost use Rattle.expr_tree.specs.Plain.{plain_program};
+ghost use Rattle.expr_tree.specs.Size.{program_size};
+ghost use Rattle.expr_tree.specs.Views.{program_tree};
+
+use crate::copy::{copy_inputs, copy_lets, copy_rel};
+use crate::depth::rel_depth;
+use crate::no_memory::NoMemory;
 use crate::relation::Rel;
+use crate::size::rel_size;
 use record_core::{Name, Span};
 use std::alloc::Allocator;
 
@@ -27,4 +37,42 @@ pub struct Program<A: Allocator> {
     pub inputs: Vec<Input, A>,
     pub lets: Vec<Let<A>, A>,
     pub output: Box<Rel<A>, A>,
+}
+
+impl<A: Allocator> Program<A> {
+    /// The same program, with the same spans, under the allocator `alloc`, which alone gives the memory.
+    pub fn copy_in<B: Allocator + Copy>(&self, alloc: B) -> Result<Program<B>, NoMemory>
+        ensures { IfOk result (λ copy. program_tree copy ≡ program_tree self.now) }
+    {
+        let inputs = copy_inputs(alloc, &self.inputs)?;
+        let lets = copy_lets(alloc, &self.lets)?;
+        let output = Box::new(alloc, copy_rel(alloc, &self.output)?)?;
+        Ok(Program {
+            inputs,
+            lets,
+            output,
+        })
+    }
+
+    /// The size; at most 18446744073709551615, which stands for every greater number too. No memory is taken.
+    pub fn size(&self) -> u64
+        ensures { result ≡ min (program_size (plain_program (program_tree self.now))) (2 ^ 64 - 1) }
+    {
+        let mut size = 0u64;
+        for item in &self.lets {
+            size = size.saturating_add(rel_size(&item.relation)).saturating_add(1);
+        }
+        size.saturating_add(rel_size(&self.output))
+    }
+
+    /// The depth; at most 18446744073709551615, which stands for every greater number too. No memory is taken.
+    pub fn depth(&self) -> u64
+        ensures { result ≡ min (program_depth (plain_program (program_tree self.now))) (2 ^ 64 - 1) }
+    {
+        let mut deepest = 0u64;
+        for item in &self.lets {
+            deepest = deepest.max(rel_depth(&item.relation));
+        }
+        deepest.max(rel_depth(&self.output))
+    }
 }
