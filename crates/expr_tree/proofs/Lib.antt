@@ -1,2 +1,3 @@
 pub mod Wraps
 pub mod Sizes
+pub mod Fronts

@@ -18,6 +18,7 @@ mod copy;
 mod depth;
 mod evaluation;
 mod no_memory;
+mod sameness;
 mod size;
 
 pub use condition::{Comparison, Cond, Connective};
@@ -27,5 +28,6 @@ pub use evaluation::{eval_scalar, holds, negated, operate};
 pub use no_memory::NoMemory;
 pub use program::{Input, Let, Program};
 pub use relation::{Agg, Column, Pair, Rel};
+pub use sameness::{same, same_cond, same_rel, same_scalar};
 pub use scalar::{Operator, Scalar};
 pub use size::{cond_size, rel_size, scalar_size};

@@ -1,0 +1,184 @@
+//! Whether two trees are the same query: equal but for spans, whatever their allocators.
+
+ghost use Rattle.std.specs.Prelude.{◌≡◌, ◌↔◌, IsTrue, map};
+ghost use Rattle.expr_tree.specs.Plain.{plain_agg, plain_cond, plain_input, plain_let, plain_pair, plain_program, plain_rel, plain_scalar};
+ghost use Rattle.expr_tree.specs.Views.{cond_tree, let_tree, program_tree, rel_tree, scalar_tree};
+
+use crate::condition::Cond;
+use crate::program::{Input, Let, Program};
+use crate::relation::{Agg, Column, Pair, Rel};
+use crate::scalar::Scalar;
+use record_core::Name;
+use std::alloc::Allocator;
+
+/// Whether two programs are equal, spans aside. No memory is taken.
+pub fn same<A: Allocator, B: Allocator>(left: &Program<A>, right: &Program<B>) -> bool
+    ensures { IsTrue result ↔ (plain_program (program_tree left.now) ≡ plain_program (program_tree right.now)) }
+{
+    same_inputs(&left.inputs, &right.inputs)
+        && same_lets(&left.lets, &right.lets)
+        && same_rel(&left.output, &right.output)
+}
+
+/// Whether two relations are equal, spans aside. No memory is taken.
+pub fn same_rel<A: Allocator, B: Allocator>(left: &Rel<A>, right: &Rel<B>) -> bool
+    ensures { IsTrue result ↔ (plain_rel (rel_tree left.now) ≡ plain_rel (rel_tree right.now)) }
+{
+    match (left, right) {
+        (Rel::Named(_, x), Rel::Named(_, y)) => same_name(x, y),
+        (Rel::Select(_, p, ss), Rel::Select(_, q, ts)) => same_rel(p, q) && same_scalars(ss, ts),
+        (Rel::Where(_, p, c), Rel::Where(_, q, d)) => same_rel(p, q) && same_cond(c, d),
+        (Rel::Concat(_, p, q), Rel::Concat(_, r, s)) => same_rel(p, r) && same_rel(q, s),
+        (Rel::Join(_, p, q, xs), Rel::Join(_, r, s, ys)) => {
+            same_rel(p, r) && same_rel(q, s) && same_pairs(xs, ys)
+        }
+        (Rel::Group(_, p, ks, gs), Rel::Group(_, q, ls, hs)) => {
+            same_rel(p, q) && same_columns(ks, ls) && same_aggs(gs, hs)
+        }
+        (Rel::Distinct(_, p), Rel::Distinct(_, q)) => same_rel(p, q),
+        (
+            Rel::Iterate {
+                turns: m,
+                name: x,
+                start: p,
+                body: b,
+                ..
+            },
+            Rel::Iterate {
+                turns: n,
+                name: y,
+                start: q,
+                body: c,
+                ..
+            },
+        ) => *m == *n && same_name(x, y) && same_rel(p, q) && same_rel(b, c),
+        _ => false,
+    }
+}
+
+/// Whether two conditions are equal, spans aside. No memory is taken.
+pub fn same_cond<A: Allocator, B: Allocator>(left: &Cond<A>, right: &Cond<B>) -> bool
+    ensures { IsTrue result ↔ (plain_cond (cond_tree left.now) ≡ plain_cond (cond_tree right.now)) }
+{
+    match (left, right) {
+        (Cond::Compare(_, o, a, b), Cond::Compare(_, p, c, d)) => {
+            *o == *p && same_scalar(a, c) && same_scalar(b, d)
+        }
+        (Cond::Logical(_, o, a, b), Cond::Logical(_, p, c, d)) => {
+            *o == *p && same_cond(a, c) && same_cond(b, d)
+        }
+        (Cond::Not(_, a), Cond::Not(_, b)) => same_cond(a, b),
+        _ => false,
+    }
+}
+
+/// Whether two scalars are equal, spans aside. No memory is taken.
+pub fn same_scalar<A: Allocator, B: Allocator>(left: &Scalar<A>, right: &Scalar<B>) -> bool
+    ensures { IsTrue result ↔ (plain_scalar (scalar_tree left.now) ≡ plain_scalar (scalar_tree right.now)) }
+{
+    match (left, right) {
+        (Scalar::Literal(_, x), Scalar::Literal(_, y)) => *x == *y,
+        (Scalar::Column(_, x), Scalar::Column(_, y)) => *x == *y,
+        (Scalar::Binary(_, o, a, b), Scalar::Binary(_, p, c, d)) => {
+            *o == *p && same_scalar(a, c) && same_scalar(b, d)
+        }
+        (Scalar::Negate(_, a), Scalar::Negate(_, b)) => same_scalar(a, b),
+        _ => false,
+    }
+}
+
+/// Whether two names are equal.
+fn same_name(left: &Name, right: &Name) -> bool
+    ensures { IsTrue result ↔ (left.now ≡ right.now) }
+{
+    *left == *right
+}
+
+/// Whether the scalars are equal, one by one.
+fn same_scalars<A: Allocator, B: Allocator>(left: &[Scalar<A>], right: &[Scalar<B>]) -> bool
+    ensures { IsTrue result ↔ (map plain_scalar (map scalar_tree left.now) ≡ map plain_scalar (map scalar_tree right.now)) }
+{
+    match (left, right) {
+        ([], []) => true,
+        ([x, xs @ ..], [y, ys @ ..]) => same_scalar(x, y) && same_scalars(xs, ys),
+        _ => false,
+    }
+}
+
+/// Whether the columns are equal, one by one.
+fn same_columns(left: &[Column], right: &[Column]) -> bool
+    ensures { IsTrue result ↔ (map (λ k. k.index) left.now ≡ map (λ k. k.index) right.now) }
+{
+    match (left, right) {
+        ([], []) => true,
+        ([x, xs @ ..], [y, ys @ ..]) => x.index == y.index && same_columns(xs, ys),
+        _ => false,
+    }
+}
+
+/// Whether the pairs are equal, one by one.
+fn same_pairs(left: &[Pair], right: &[Pair]) -> bool
+    ensures { IsTrue result ↔ (map plain_pair left.now ≡ map plain_pair right.now) }
+{
+    match (left, right) {
+        ([], []) => true,
+        ([x, xs @ ..], [y, ys @ ..]) => {
+            x.left.index == y.left.index
+                && x.right.index == y.right.index
+                && same_pairs(xs, ys)
+        }
+        _ => false,
+    }
+}
+
+/// Whether two aggregates are equal.
+fn same_agg(left: Agg, right: Agg) -> bool
+    ensures { IsTrue result ↔ (plain_agg left ≡ plain_agg right) }
+{
+    match (left, right) {
+        (Agg::Count(_), Agg::Count(_)) => true,
+        (Agg::Sum(_, x), Agg::Sum(_, y)) => x.index == y.index,
+        (Agg::Min(_, x), Agg::Min(_, y)) => x.index == y.index,
+        (Agg::Max(_, x), Agg::Max(_, y)) => x.index == y.index,
+        _ => false,
+    }
+}
+
+/// Whether the aggregates are equal, one by one.
+fn same_aggs(left: &[Agg], right: &[Agg]) -> bool
+    ensures { IsTrue result ↔ (map plain_agg left.now ≡ map plain_agg right.now) }
+{
+    match (left, right) {
+        ([], []) => true,
+        ([x, xs @ ..], [y, ys @ ..]) => same_agg(*x, *y) && same_aggs(xs, ys),
+        _ => false,
+    }
+}
+
+/// Whether the inputs are equal, one by one.
+fn same_inputs(left: &[Input], right: &[Input]) -> bool
+    ensures { IsTrue result ↔ (map plain_input left.now ≡ map plain_input right.now) }
+{
+    match (left, right) {
+        ([], []) => true,
+        ([x, xs @ ..], [y, ys @ ..]) => {
+            x.arity == y.arity && same_name(&x.name, &y.name) && same_inputs(xs, ys)
+        }
+        _ => false,
+    }
+}
+
+/// Whether the named relations are equal, one by one.
+fn same_lets<A: Allocator, B: Allocator>(left: &[Let<A>], right: &[Let<B>]) -> bool
+    ensures { IsTrue result ↔ (map plain_let (map let_tree left.now) ≡ map plain_let (map let_tree right.now)) }
+{
+    match (left, right) {
+        ([], []) => true,
+        ([x, xs @ ..], [y, ys @ ..]) => {
+            same_name(&x.name, &y.name)
+                && same_rel(&x.relation, &y.relation)
+                && same_lets(xs, ys)
+        }
+        _ => false,
+    }
+}
