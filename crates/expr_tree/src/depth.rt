@@ -33,8 +33,12 @@ pub fn cond_depth<A: Allocator>(condition: &Cond<A>) -> u64
     ensures { result ≡ min (depth.cond_depth (plain_cond (cond_tree condition.now))) (2 ^ 64 - 1) }
 {
     match condition {
-        Cond::Compare(_, _, left, right) => scalar_depth(left).max(scalar_depth(right)).saturating_add(1),
-        Cond::Logical(_, _, left, right) => cond_depth(left).max(cond_depth(right)).saturating_add(1),
+        Cond::Compare(_, _, left, right) => scalar_depth(left)
+            .max(scalar_depth(right))
+            .saturating_add(1),
+        Cond::Logical(_, _, left, right) => cond_depth(left)
+            .max(cond_depth(right))
+            .saturating_add(1),
         Cond::Not(_, inner) => cond_depth(inner).saturating_add(1),
     }
 }
@@ -46,7 +50,9 @@ pub fn scalar_depth<A: Allocator>(scalar: &Scalar<A>) -> u64
     match scalar {
         Scalar::Literal(_, _) => 1,
         Scalar::Column(_, _) => 1,
-        Scalar::Binary(_, _, left, right) => scalar_depth(left).max(scalar_depth(right)).saturating_add(1),
+        Scalar::Binary(_, _, left, right) => scalar_depth(left)
+            .max(scalar_depth(right))
+            .saturating_add(1),
         Scalar::Negate(_, inner) => scalar_depth(inner).saturating_add(1),
     }
 }

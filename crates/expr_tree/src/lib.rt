@@ -10,15 +10,14 @@
 #![tactic(auto)]
 
 mod condition;
-mod program;
-mod relation;
-mod scalar;
-
 mod copy;
 mod depth;
 mod evaluation;
 mod no_memory;
+mod program;
+mod relation;
 mod sameness;
+mod scalar;
 mod size;
 
 pub use condition::{Comparison, Cond, Connective};

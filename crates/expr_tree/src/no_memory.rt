@@ -1,5 +1,9 @@
 //! The want of memory.
 
+ghost use Rattle.std.specs.Prelude.{◌≡◌};
+ghost use Rattle.record_core.specs.declared.span.Refusal.TheVariants as refusal;
+
+use record_core::Refusal;
 use std::alloc::{AllocError, AllocFailed};
 
 /// An allocator refused a growth.
@@ -15,5 +19,13 @@ impl From<AllocError> for NoMemory {
 impl<T: Drop> From<AllocFailed<T>> for NoMemory {
     fn from(_: AllocFailed<T>) -> NoMemory {
         NoMemory
+    }
+}
+
+impl From<NoMemory> for Refusal {
+    ghost from_gives = { λ _ r. r ≡ refusal.NoMemory };
+
+    fn from(_: NoMemory) -> Refusal {
+        Refusal::NoMemory
     }
 }

@@ -60,7 +60,9 @@ impl<A: Allocator> Program<A> {
     {
         let mut size = 0u64;
         for item in &self.lets {
-            size = size.saturating_add(rel_size(&item.relation)).saturating_add(1);
+            size = size
+                .saturating_add(rel_size(&item.relation))
+                .saturating_add(1);
         }
         size.saturating_add(rel_size(&self.output))
     }

@@ -123,9 +123,7 @@ fn same_pairs(left: &[Pair], right: &[Pair]) -> bool
     match (left, right) {
         ([], []) => true,
         ([x, xs @ ..], [y, ys @ ..]) => {
-            x.left.index == y.left.index
-                && x.right.index == y.right.index
-                && same_pairs(xs, ys)
+            x.left.index == y.left.index && x.right.index == y.right.index && same_pairs(xs, ys)
         }
         _ => false,
     }
@@ -175,9 +173,7 @@ fn same_lets<A: Allocator, B: Allocator>(left: &[Let<A>], right: &[Let<B>]) -> b
     match (left, right) {
         ([], []) => true,
         ([x, xs @ ..], [y, ys @ ..]) => {
-            same_name(&x.name, &y.name)
-                && same_rel(&x.relation, &y.relation)
-                && same_lets(xs, ys)
+            same_name(&x.name, &y.name) && same_rel(&x.relation, &y.relation) && same_lets(xs, ys)
         }
         _ => false,
     }

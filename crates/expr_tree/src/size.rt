@@ -18,13 +18,25 @@ pub fn rel_size<A: Allocator>(relation: &Rel<A>) -> u64
 {
     match relation {
         Rel::Named(_, _) => 1,
-        Rel::Select(_, of, scalars) => rel_size(of).saturating_add(scalars_size(scalars)).saturating_add(1),
-        Rel::Where(_, of, condition) => rel_size(of).saturating_add(cond_size(condition)).saturating_add(1),
-        Rel::Concat(_, left, right) => rel_size(left).saturating_add(rel_size(right)).saturating_add(1),
-        Rel::Join(_, left, right, _) => rel_size(left).saturating_add(rel_size(right)).saturating_add(1),
-        Rel::Group(_, of, _, aggregates) => rel_size(of).saturating_add(aggregates.len() as u64).saturating_add(1),
+        Rel::Select(_, of, scalars) => rel_size(of)
+            .saturating_add(scalars_size(scalars))
+            .saturating_add(1),
+        Rel::Where(_, of, condition) => rel_size(of)
+            .saturating_add(cond_size(condition))
+            .saturating_add(1),
+        Rel::Concat(_, left, right) => rel_size(left)
+            .saturating_add(rel_size(right))
+            .saturating_add(1),
+        Rel::Join(_, left, right, _) => rel_size(left)
+            .saturating_add(rel_size(right))
+            .saturating_add(1),
+        Rel::Group(_, of, _, aggregates) => rel_size(of)
+            .saturating_add(aggregates.len() as u64)
+            .saturating_add(1),
         Rel::Distinct(_, of) => rel_size(of).saturating_add(1),
-        Rel::Iterate { start, body, .. } => rel_size(start).saturating_add(rel_size(body)).saturating_add(1),
+        Rel::Iterate { start, body, .. } => rel_size(start)
+            .saturating_add(rel_size(body))
+            .saturating_add(1),
     }
 }
 
@@ -33,8 +45,12 @@ pub fn cond_size<A: Allocator>(condition: &Cond<A>) -> u64
     ensures { result ≡ min (semantics.cond_size (plain_cond (cond_tree condition.now))) (2 ^ 64 - 1) }
 {
     match condition {
-        Cond::Compare(_, _, left, right) => scalar_size(left).saturating_add(scalar_size(right)).saturating_add(1),
-        Cond::Logical(_, _, left, right) => cond_size(left).saturating_add(cond_size(right)).saturating_add(1),
+        Cond::Compare(_, _, left, right) => scalar_size(left)
+            .saturating_add(scalar_size(right))
+            .saturating_add(1),
+        Cond::Logical(_, _, left, right) => cond_size(left)
+            .saturating_add(cond_size(right))
+            .saturating_add(1),
         Cond::Not(_, inner) => cond_size(inner).saturating_add(1),
     }
 }
@@ -46,7 +62,9 @@ pub fn scalar_size<A: Allocator>(scalar: &Scalar<A>) -> u64
     match scalar {
         Scalar::Literal(_, _) => 1,
         Scalar::Column(_, _) => 1,
-        Scalar::Binary(_, _, left, right) => scalar_size(left).saturating_add(scalar_size(right)).saturating_add(1),
+        Scalar::Binary(_, _, left, right) => scalar_size(left)
+            .saturating_add(scalar_size(right))
+            .saturating_add(1),
         Scalar::Negate(_, inner) => scalar_size(inner).saturating_add(1),
     }
 }
