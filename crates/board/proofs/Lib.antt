@@ -1,0 +1,4 @@
+pub mod Through
+pub mod Places
+pub mod Balance
+pub mod Kept
