@@ -1,5 +1,5 @@
 -- Lists of lists by epoch.
-use Rattle.std.proofs.Common.{◌≡◌, ◌≢◌, ℕ, zero, suc, ◌+◌, ◌<◌, Bool, true, false, cond, List, [], ◌∷◌, ◌++◌, length, refl, sym, ap, ◌∙◌, arith, slice_index_or, append-nil}
+use Rattle.std.proofs.Common.{◌≡◌, ◌≢◌, ℕ, zero, suc, ◌+◌, ◌<◌, ◌≤◌, Bool, true, false, cond, List, [], ◌∷◌, ◌++◌, length, refl, sym, ap, ◌∙◌, arith, slice_index_or, slice_set, append-nil}
 use Rattle.semantics.specs.Multiset.{Record, count}
 use Rattle.board.specs.Step.{more_at}
 
@@ -37,3 +37,22 @@ at-empty [] zero = refl
 at-empty [] (suc k) = refl
 at-empty (x ∷ xs) zero = refl
 at-empty (x ∷ xs) (suc k) = at-empty xs k
+
+-- where the entry isn't there, an empty list at the end makes no difference
+pub more-empty : (e : ℕ) (rs : List Record) (xs : List (List Record)) → length xs ≤ e → more_at e rs (xs ++ [] ∷ []) ≡ more_at e rs xs
+more-empty zero rs [] l = refl
+more-empty zero rs (x ∷ xs) l = absurd (omega arith)
+more-empty (suc e) rs [] l = refl
+more-empty (suc e) rs (x ∷ xs) l = ap (λ z. x ∷ z) (more-empty e rs xs (omega arith))
+
+pub more-new : (e : ℕ) (rs : List Record) (xs : List (List Record)) → length xs ≡ e → more_at e rs xs ≡ xs ++ rs ∷ []
+more-new zero rs [] l = refl
+more-new zero rs (x ∷ xs) l = absurd (omega arith)
+more-new (suc e) rs [] l = absurd (omega arith)
+more-new (suc e) rs (x ∷ xs) l = ap (λ z. x ∷ z) (more-new e rs xs (omega arith))
+
+-- where it is there, it is set
+pub more-set : (e : ℕ) (rs d : List Record) (xs : List (List Record)) → e < length xs → more_at e rs xs ≡ slice_set xs e (slice_index_or xs e d ++ rs)
+more-set e rs d [] l = absurd (omega arith)
+more-set zero rs d (x ∷ xs) l = refl
+more-set (suc e) rs d (x ∷ xs) l = ap (λ z. x ∷ z) (more-set e rs d xs (omega arith))

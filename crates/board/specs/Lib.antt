@@ -2,5 +2,8 @@ pub mod Chain
 pub mod World
 pub mod Step
 pub mod Run
-pub mod Fits
 pub mod Headline
+pub mod Fits
+pub mod Views
+pub mod GraphInvariant
+pub mod Refusals

@@ -1,0 +1,57 @@
+//! Graphs that are one chain.
+
+ghost use Rattle.std.specs.Prelude.{◌≡◌, ◌<◌, ◌↔◌, ◌==◌, IsTrue, ℕ, length, map, slice_get, option_copied};
+ghost use Rattle.expr_tree.specs.Plain.{plain_input};
+ghost use Rattle.board.specs.Views.{chain_of, plain_vertex};
+ghost use Rattle.board.specs.Chain.{input_number};
+ghost use Rattle.board.specs.Step.{arity_at, vertex_at};
+
+use crate::vertex::Vertex;
+use expr_tree::Input;
+use record_core::Name;
+use std::alloc::Global;
+use std::marker::Model;
+
+/// A graph that is one chain, from an input over its vertices to the output. It owns its scalars and conditions.
+#[derive(Drop)]
+pub struct Graph {
+    inputs: Vec<Input>,
+    name: Name,
+    source: usize,
+    vertices: Vec<Vertex>,
+}
+
+impl Model for Graph {
+    ghost use Rattle.board.specs.Views.{GraphParts, chain_of};
+    ghost use Rattle.board.specs.GraphInvariant.{IsGraph};
+    ghost use Rattle.expr_tree.specs.contracts.scalar.Scalar as scalar;
+    ghost use Rattle.expr_tree.specs.contracts.condition.Cond as condition;
+    ghost use Rattle.std.specs.contracts.alloc.Global as heap;
+    ghost use Rattle.std.specs.contracts.impls.GlobalAllocator.TheImpl as allocates;
+    ghost use Rattle.std.specs.Coded.{codes};
+
+    ghost Value = { GraphParts };
+
+    ghost coded = { Prim.hlevel (codes, (scalar.the_row heap.the_row allocates.ghosts).coded, (condition.the_row heap.the_row allocates.ghosts).coded) };
+
+    ghost view = { λ g. record { inputs = g.inputs.items; name = g.name; vertices = g.vertices.items } };
+
+    ghost invariant = { λ g. IsGraph (chain_of (record { inputs = g.inputs.items; name = g.name; vertices = g.vertices.items })) g.source };
+}
+
+impl Graph {
+    /// The inputs in order, with their names and arities.
+    pub fn inputs(&self) -> &[Input]
+        ensures { map plain_input result.now ≡ (chain_of self.now).inputs }
+    {
+        &self.inputs
+    }
+
+    /// The number of the input that the chain begins at.
+    pub fn source(&self) -> usize
+        ensures number { result ≡ input_number (chain_of self.now).inputs (chain_of self.now).name }
+        ensures there { result < length (chain_of self.now).inputs }
+    {
+        self.source
+    }
+}
