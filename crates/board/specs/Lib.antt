@@ -6,4 +6,10 @@ pub mod Headline
 pub mod Fits
 pub mod Views
 pub mod GraphInvariant
+pub mod Shown
+pub mod Events
+pub mod Home
 pub mod Refusals
+pub mod ChainQuery
+pub mod Commits
+pub mod Claims

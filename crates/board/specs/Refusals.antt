@@ -1,11 +1,11 @@
 -- Which refusal a call answers: the first that applies.
-use Rattle.std.specs.Prelude.{◌≡◌, ℕ, ◌==◌, nat_lt, Bool, true, false, cond, List, length, Option, Some, None, Result, Ok, Err}
+use Rattle.std.specs.Prelude.{◌≡◌, ℕ, ◌==◌, nat_lt, not, Bool, true, false, cond, List, length, Option, Some, None, Result, Ok, Err}
 use Rattle.std.specs.List.{list_all}
 use Rattle.semantics.specs.Multiset.{Record}
 use Rattle.board.specs.declared.refusal.StepRefusal.{StepRefusal}
 use Rattle.board.specs.declared.refusal.StepRefusal.TheVariants as refusal
 use Rattle.board.specs.Chain.{Chain}
-use Rattle.board.specs.World.{World, input_at, open_epoch}
+use Rattle.board.specs.World.{World, Held, input_at, open_epoch}
 use Rattle.board.specs.Step.{arity_at}
 
 -- the number that the command line and the texts use
@@ -37,6 +37,15 @@ feed_refusal c w i rs = first (input_refusal w i) (cond (list_all (λ (r : Recor
 -- of a seal: then, the last epoch
 abbrev pub seal_refusal : World → ℕ → Option StepRefusal
 seal_refusal w i = first (input_refusal w i) (cond (open_epoch (input_at w i) == 4294967295) (Some refusal.LastEpoch) None)
+
+-- an event is held that isn't given up
+abbrev pub is_holding : Option Held → Bool
+is_holding None = false
+is_holding (Some h) = not h.given_up
+
+-- of giving an event up
+abbrev pub abandon_refusal : World → Option StepRefusal
+abandon_refusal w = cond (is_holding w.held) None (Some refusal.NotHeld)
 
 -- this refusal is answered; where there is none, Ok, or the want of memory
 abbrev pub Answers : {T : Type 0} → Option StepRefusal → Result T StepRefusal → Type 0

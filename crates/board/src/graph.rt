@@ -1,9 +1,11 @@
 //! Graphs that are one chain.
 
-ghost use Rattle.std.specs.Prelude.{◌≡◌, ◌<◌, ◌↔◌, ◌==◌, IsTrue, ℕ, length, map, slice_get, option_copied};
+ghost use Rattle.std.specs.Prelude.{◌≡◌, ◌<◌, ◌↔◌, ◌==◌, IsTrue, ℕ, length, map, slice_get, option_copied, ◌≢◌, MatchBool};
 ghost use Rattle.expr_tree.specs.Plain.{plain_input};
 ghost use Rattle.board.specs.Views.{chain_of, plain_vertex};
+ghost use Rattle.std.specs.Option.{option_map};
 ghost use Rattle.board.specs.Chain.{input_number};
+ghost use Rattle.board.specs.Fits.{ChainFits};
 ghost use Rattle.board.specs.Step.{arity_at, vertex_at};
 
 use crate::vertex::Vertex;
@@ -15,10 +17,10 @@ use std::marker::Model;
 /// A graph that is one chain, from an input over its vertices to the output. It owns its scalars and conditions.
 #[derive(Drop)]
 pub struct Graph {
-    inputs: Vec<Input>,
-    name: Name,
-    source: usize,
-    vertices: Vec<Vertex>,
+    pub(crate) inputs: Vec<Input>,
+    pub(crate) name: Name,
+    pub(crate) source: usize,
+    pub(crate) vertices: Vec<Vertex>,
 }
 
 impl Model for Graph {
@@ -53,5 +55,41 @@ impl Graph {
         ensures there { result < length (chain_of self.now).inputs }
     {
         self.source
+    }
+
+    /// The number of fields of an input's records; 0 where there is no such input.
+    pub(crate) fn arity(&self, input: usize) -> u64
+        ensures { result ≡ arity_at (chain_of self.now).inputs input }
+    {
+        if input < self.inputs.len() {
+            self.inputs[input].arity
+        } else {
+            0
+        }
+    }
+
+    /// The vertex that an edge enters; `None` is the output.
+    pub(crate) fn vertex(&self, edge: usize) -> Option<&Vertex>
+        ensures { option_map plain_vertex (option_copied result) ≡ vertex_at (chain_of self.now) edge }
+    {
+        self.vertices.get(edge)
+    }
+
+    /// Records that reach a vertex can go into it.
+    pub(crate) fn fits(&self)
+        ensures { ∥ ChainFits (chain_of self.now) ∥₁ }
+    {
+        let _ = &self.source;
+    }
+}
+
+/// Whether an edge enters equal vertices in two graphs, spans aside. No memory is taken.
+pub(crate) fn same_vertex_at(a: &Graph, b: &Graph, edge: usize) -> bool
+    ensures { MatchBool result (vertex_at (chain_of a.now) edge ≡ vertex_at (chain_of b.now) edge) (vertex_at (chain_of a.now) edge ≢ vertex_at (chain_of b.now) edge) }
+{
+    match (a.vertex(edge), b.vertex(edge)) {
+        (None, None) => true,
+        (Some(v), Some(w)) => v.same(w),
+        _ => false,
     }
 }

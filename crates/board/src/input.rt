@@ -1,6 +1,6 @@
 //! The state of an input.
 
-ghost use Rattle.std.specs.Prelude.{◌≡◌, ◌++◌, ◌∷◌, [], length, true, false, IfOk, IfErr, OnOk, OnErr};
+ghost use Rattle.std.specs.Prelude.{◌≡◌, ◌++◌, ◌∷◌, [], ◌<◌, length, true, false, IfOk, IfErr, OnOk, OnErr};
 ghost use Rattle.board.specs.World as world;
 
 use crate::epochs::Epochs;
@@ -18,11 +18,14 @@ pub struct InputState {
 }
 
 impl Model for InputState {
+    ghost use Rattle.std.specs.Prelude.{◌≤◌, length};
     ghost use Rattle.board.specs.World as world;
 
     ghost Value = { world.InputState };
 
     ghost view = { λ i. record { sealed = i.sealed; latest = i.latest; closed = i.closed } };
+
+    ghost invariant = { λ i. length i.sealed ≤ 4294967295 };
 }
 
 impl InputState {
@@ -44,10 +47,10 @@ impl InputState {
     }
 
     /// The open epoch: the number of seals.
-    pub fn open_epoch(&self) -> usize
+    pub fn open_epoch(&self) -> u32
         ensures { result ≡ world.open_epoch self.now }
     {
-        self.sealed.len()
+        self.sealed.len() as u32
     }
 
     /// The records fed at an epoch.
@@ -74,6 +77,7 @@ impl InputState {
 
     /// Ends the open epoch, or changes nothing where there is no memory.
     pub fn seal(&mut self, alloc: Global) -> Result<(), AllocError>
+        requires { world.open_epoch self.old < 4294967295 }
         ensures ok { OnOk result (self.new ≡ record self.old { sealed = self.old.sealed ++ self.old.latest ∷ []; latest = [] }) }
         ensures err { OnErr result (self.new ≡ self.old) }
     {

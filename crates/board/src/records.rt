@@ -90,3 +90,22 @@ pub fn all_have(records: &[Record], arity: u64) -> bool
 {
     records.iter().all(|r| r.fields().len() as u64 == arity)
 }
+
+/// A copy of a record. No memory is taken.
+pub fn copy_record(item: &Record) -> Record
+    ensures { result ≡ item.now }
+{
+    match item.clone() {
+        Ok(copy) => copy,
+        Err(_) => unreachable!(),
+    }
+}
+
+/// One record alone.
+pub fn one(alloc: Global, item: Record) -> Result<Records, AllocError>
+    ensures { IfOk result (λ records. records ≡ item ∷ []) }
+{
+    let mut list = Vec::with_capacity(alloc, 1)?;
+    list.push_reserved(item);
+    Ok(Records::from_vec(list))
+}
