@@ -6,3 +6,4 @@ pub mod Sizes
 pub mod Fitting
 pub mod Typed
 pub mod Boards
+pub mod States

@@ -1,7 +1,9 @@
 -- Lists of lists by epoch.
-use Rattle.std.proofs.Common.{◌≡◌, ◌≢◌, ℕ, zero, suc, ◌+◌, ◌<◌, ◌≤◌, Bool, true, false, cond, List, [], ◌∷◌, ◌++◌, length, refl, sym, ap, ◌∙◌, arith, slice_index_or, slice_set, append-nil}
+use Rattle.std.proofs.Common.{◌≡◌, ◌≢◌, ℕ, zero, suc, ◌+◌, ◌<◌, ◌≤◌, Bool, true, false, cond, List, [], ◌∷◌, ◌++◌, length, refl, sym, ap, ◌∙◌, arith, slice_index_or, slice_set, slice_get, take, map, Option, None, append-nil}
 use Rattle.semantics.specs.Multiset.{Record, count}
-use Rattle.board.specs.Step.{more_at}
+use Rattle.expr_tree.specs.declared.program.Input.{Input}
+use Rattle.expr_tree.specs.Plain.{plain_input}
+use Rattle.board.specs.Step.{more_at, arity_at}
 
 -- the epochs are equal
 abbrev pub is : ℕ → ℕ → Bool
@@ -56,3 +58,38 @@ pub more-set : (e : ℕ) (rs d : List Record) (xs : List (List Record)) → e < 
 more-set e rs d [] l = absurd (omega arith)
 more-set zero rs d (x ∷ xs) l = refl
 more-set (suc e) rs d (x ∷ xs) l = ap (λ z. x ∷ z) (more-set e rs d xs (omega arith))
+
+-- the number of fields of an input by its place
+pub arity-there : (as' : List Input) (i : ℕ) (a : Input) → i < length as' → a ≡ slice_index_or as' i a → a.arity ≡ arity_at (map plain_input as') i
+arity-there [] i a l e = absurd (omega arith)
+arity-there (b ∷ bs) zero a l e = ap (λ (z : Input). z.arity) e
+arity-there (b ∷ bs) (suc i) a l e = arity-there bs i a (omega arith) e
+
+pub arity-none : (as' : List Input) (i : ℕ) → length as' ≤ i → 0 ≡ arity_at (map plain_input as') i
+arity-none [] i l = refl
+arity-none (b ∷ bs) zero l = absurd (omega arith)
+arity-none (b ∷ bs) (suc i) l = arity-none bs i (omega arith)
+
+-- nothing lies behind the end
+pub get-none : {X Y : Type 0} (f : X → Y) (xs : List X) (k : ℕ) → length xs ≤ k → slice_get (map f xs) k ≡ None
+get-none f [] k l = none k
+  where
+    none : (n : ℕ) → slice_get (map f []) n ≡ None
+    none zero = refl
+    none (suc n) = refl
+get-none f (x ∷ xs) zero l = absurd (omega arith)
+get-none f (x ∷ xs) (suc k) l = get-none f xs k (omega arith)
+
+pub get-some : {X Y : Type 0} (f : X → Y) (xs : List X) (k : ℕ) → k < length xs → slice_get (map f xs) k ≢ None
+get-some f [] k l e = absurd (omega arith)
+get-some f (x ∷ xs) zero l e = cc
+get-some f (x ∷ xs) (suc k) l e = get-some f xs k (omega arith) e
+
+-- the list up to an entry, and that entry
+pub map_take : {X Y : Type 0} (f : X → Y) (xs : List X) (k : ℕ) (x : X) → k < length xs → x ≡ slice_index_or xs k x → map f (take (k + 1) xs) ≡ map f (take k xs) ++ f x ∷ []
+map_take {X = X} {Y = Y} f xs k x l e = let n : k + 1 ≡ suc k = omega arith in rw n (go xs k l e)
+  where
+    go : (ys : List X) (j : ℕ) → j < length ys → x ≡ slice_index_or ys j x → map f (take (suc j) ys) ≡ map f (take j ys) ++ f x ∷ []
+    go [] j h q = absurd (omega arith)
+    go (y ∷ ys) zero h q = ap (λ z. f z ∷ []) (sym q)
+    go (y ∷ ys) (suc j) h q = ap (λ l. f y ∷ l) (go ys j (omega arith) q)

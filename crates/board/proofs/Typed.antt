@@ -10,6 +10,10 @@ use Rattle.board.specs.declared.vertex.Vertex as declared_vertex
 use Rattle.board.specs.Views.{plain_vertex}
 use Rattle.board.proofs.Through.{map-append}
 use Rattle.board.specs.Step.{arity_at}
+use Rattle.std.proofs.Math.Logic.{∥∥₁_elim, ∥∥₁_map}
+use Rattle.std.proofs.Math.Bridge.{le_prop}
+use Rattle.board.specs.ChainQuery.{IsWellTyped}
+use Rattle.board.specs.GraphInvariant.{IsGraph}
 use Rattle.board.specs.Fits.{VertexFits, VerticesFit, ChainFits}
 
 pub relation-append : (r : Rel) (vs ws : List Vertex) → relation r (vs ++ ws) ≡ relation (relation r vs) ws
@@ -67,3 +71,25 @@ chain_typed c n w =
 -- a vertex more
 pub relation_more : (r : Rel) (xs : List declared_vertex.Vertex) (v : declared_vertex.Vertex) → relation r (map plain_vertex (xs ++ v ∷ [])) ≡ relation (relation r (map plain_vertex xs)) (plain_vertex v ∷ [])
 relation_more r xs v = ap (relation r) (map-append plain_vertex xs (v ∷ [])) ∙ relation-append r (map plain_vertex xs) (plain_vertex v ∷ [])
+
+-- the chain of a well-typed program fits
+pub graph_made : (c : Chain) (p : Program) (source : ℕ) → query_of c ≡ p → source ≡ input_number c.inputs c.name → IsWellTyped p → IsGraph c source
+graph_made c p source same numbered typed =
+    let own : IsWellTyped (query_of c) = subst IsWellTyped (sym same) typed in
+    record {
+      numbered = numbered;
+      there = ∥∥₁_elim own (λ a b. le_prop a b) (λ w. rw numbered (chain_typed c w.0 w.1).0);
+      fits = ∥∥₁_map own (λ w. (chain_typed c w.0 w.1).1);
+    }
+
+-- programs that are equal part by part
+pub same_program : (p q : Program) → p.lets ≡ q.lets → p.inputs ≡ q.inputs → p.output ≡ q.output → p ≡ q
+same_program p q lets inputs output =
+    ap (λ (x : List Let). let z : Program = record { inputs = p.inputs; lets = x; output = p.output } in z) lets
+    ∙ ap (λ (x : List Input). let z : Program = record { inputs = x; lets = q.lets; output = p.output } in z) inputs
+    ∙ ap (λ (x : Rel). let z : Program = record { inputs = q.inputs; lets = q.lets; output = x } in z) output
+
+-- a list of no length
+pub nil : {X : Type 0} (xs : List X) → length xs ≡ 0 → xs ≡ []
+nil [] e = refl
+nil (x ∷ xs) e = absurd (omega arith)

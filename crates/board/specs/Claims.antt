@@ -15,7 +15,7 @@ all_closed w = list_all (λ (i : InputState). i.closed) w.inputs
 -- the world isn't stopped, and worker 0, the only one, holds nothing and has no message
 pub record HasNoWork (w : World) (worker : ℕ) : Type 0 where
   pub runs : w.stopped ≡ false
-  pub worker : worker ≡ 0
+  pub there : worker ≡ 0
   pub free : w.held ≡ None
   pub mailbox : w.mailbox ≡ []
 

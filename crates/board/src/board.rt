@@ -123,10 +123,9 @@ impl Board {
             return Claimed::Work(self.state.claim());
         }
         if self.state.all_closed() {
-            Claimed::Drained
-        } else {
-            Claimed::Idle
+            return Claimed::Drained;
         }
+        Claimed::Idle
     }
 
     /// Ends an event that the worker holds. A stopped board takes it too.

@@ -1,6 +1,6 @@
 //! Graphs that are one chain.
 
-ghost use Rattle.std.specs.Prelude.{◌≡◌, ◌<◌, ◌↔◌, ◌==◌, IsTrue, ℕ, length, map, slice_get, option_copied, ◌≢◌, MatchBool};
+ghost use Rattle.std.specs.Prelude.{◌≡◌, ◌<◌, ◌↔◌, ◌==◌, IsTrue, ℕ, length, map, slice_get, option_copied, ◌≢◌, ◌^◌, MatchBool, None};
 ghost use Rattle.expr_tree.specs.Plain.{plain_input};
 ghost use Rattle.board.specs.Views.{chain_of, plain_vertex};
 ghost use Rattle.std.specs.Option.{option_map};
@@ -73,6 +73,13 @@ impl Graph {
         ensures { option_map plain_vertex (option_copied result) ≡ vertex_at (chain_of self.now) edge }
     {
         self.vertices.get(edge)
+    }
+
+    /// Whether an edge enters the output.
+    pub(crate) fn is_output(&self, edge: usize) -> bool
+        ensures { MatchBool result (vertex_at (chain_of self.now) edge ≡ None) ((edge < 2 ^ 63) × (vertex_at (chain_of self.now) edge ≢ None)) }
+    {
+        edge >= self.vertices.len()
     }
 
     /// Records that reach a vertex can go into it.

@@ -298,7 +298,7 @@ impl State {
             goes_on,
             goes_out,
         } = done;
-        if graph.vertex(edge).is_none() {
+        if graph.is_output(edge) {
             return match self.emit(epoch, goes_out) {
                 Ok(()) => Ok(()),
                 Err(goes_out) => Err(Done {

@@ -94,7 +94,7 @@ fn select_all(alloc: Global, scalars: &[Scalar<Global>], records: &[Record]) -> 
 {
     let mut list = Vec::with_capacity(alloc, records.len())?;
     for item in records {
-        list.push_reserved(selected_record(scalars, item));
+        list.push(selected_record(scalars, item))?;
     }
     Ok(Records::from_vec(list))
 }
