@@ -7,3 +7,4 @@ pub mod Fitting
 pub mod Typed
 pub mod Boards
 pub mod States
+pub mod Fronts

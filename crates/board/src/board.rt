@@ -71,7 +71,7 @@ impl Board {
         Ok(())
     }
 
-    /// Feeds records to an input at its open epoch, as one message. They aren't looked at one by one again.
+    /// Feeds records to an input at its open epoch, as one message.
     pub fn feed_all(&mut self, input: u32, items: Vec<Record>) -> Result<(), StepRefusal>
         ensures step { OnOk result (Goes self.old (Action.feed input items.items) self.new) }
         ensures refused { OnErr result (self.new ≡ self.old) }

@@ -49,6 +49,15 @@ impl Graph {
         &self.inputs
     }
 
+    /// Whether two graphs are equal, the places of their nodes in the query's text aside. No memory is taken.
+    pub fn same(&self, other: &Graph) -> bool
+        ensures { IsTrue result ↔ (chain_of self.now ≡ chain_of other.now) }
+    {
+        same_inputs(&self.inputs, &other.inputs)
+            && same_name(&self.name, &other.name)
+            && same_vertices(&self.vertices, &other.vertices)
+    }
+
     /// The number of the input that the chain begins at.
     pub fn source(&self) -> usize
         ensures number { result ≡ input_number (chain_of self.now).inputs (chain_of self.now).name }
@@ -97,6 +106,37 @@ pub(crate) fn same_vertex_at(a: &Graph, b: &Graph, edge: usize) -> bool
     match (a.vertex(edge), b.vertex(edge)) {
         (None, None) => true,
         (Some(v), Some(w)) => v.same(w),
+        _ => false,
+    }
+}
+
+/// Whether two names are equal.
+fn same_name(left: &Name, right: &Name) -> bool
+    ensures { IsTrue result ↔ (left.now ≡ right.now) }
+{
+    *left == *right
+}
+
+/// Whether the inputs are equal, one by one.
+fn same_inputs(left: &[Input], right: &[Input]) -> bool
+    ensures { IsTrue result ↔ (map plain_input left.now ≡ map plain_input right.now) }
+{
+    match (left, right) {
+        ([], []) => true,
+        ([x, xs @ ..], [y, ys @ ..]) => {
+            x.arity == y.arity && same_name(&x.name, &y.name) && same_inputs(xs, ys)
+        }
+        _ => false,
+    }
+}
+
+/// Whether the vertices are equal, one by one.
+fn same_vertices(left: &[Vertex], right: &[Vertex]) -> bool
+    ensures { IsTrue result ↔ (map plain_vertex left.now ≡ map plain_vertex right.now) }
+{
+    match (left, right) {
+        ([], []) => true,
+        ([x, xs @ ..], [y, ys @ ..]) => x.same(y) && same_vertices(xs, ys),
         _ => false,
     }
 }
