@@ -1,0 +1,15 @@
+pub mod Chain
+pub mod World
+pub mod Step
+pub mod Run
+pub mod Headline
+pub mod Fits
+pub mod Views
+pub mod GraphInvariant
+pub mod Shown
+pub mod Events
+pub mod Home
+pub mod Refusals
+pub mod ChainQuery
+pub mod Commits
+pub mod Claims
