@@ -1,5 +1,5 @@
 -- The counts of what each form means: those of a join are products.
-use Rattle.std.proofs.Common.{map, subst, ◌+◌, ◌≡◌, ℕ, ◌*◌, ◌<◌, Bool, true, false, cond, List, [], ◌∷◌, ◌++◌, length, refl, sym, ap, ap₂, ◌∙◌, arith}
+use Rattle.std.proofs.Common.{filter, map, subst, ◌+◌, ◌≡◌, ℕ, ◌*◌, ◌<◌, Bool, true, false, cond, List, [], ◌∷◌, ◌++◌, length, refl, sym, ap, ap₂, ◌∙◌, arith}
 use Rattle.std.proofs.lemmas.Bool.{true≢false, false_from_ne_true}
 use Rattle.semantics.specs.Multiset.{Record, same, one_if, total, count}
 use Rattle.semantics.specs.Meaning.{project, left_columns, right_columns, paired, selected, kept, value, holds}
@@ -77,18 +77,21 @@ count-join ps xs ys a b h =
 pub count-selected : (ss : List Scalar) (xs : List Record) (s : Record) → count s (selected ss xs) ≡ total (λ r. one_if (same (map (λ t. value t r) ss) s)) xs
 count-selected ss xs s = total-map (λ x. one_if (same x s)) (λ r. map (λ t. value t r) ss) xs
 
-pub count-kept : (c : Cond) (xs : List Record) (r : Record) → count r (kept c xs) ≡ cond (holds c r) (count r xs) 0
-count-kept c [] r = sym (cond_none (holds c r))
-count-kept c (x ∷ xs) r = go (same x r) (holds c x) refl refl (count-kept c xs r)
+pub count-filter : (p : Record → Bool) (xs : List Record) (r : Record) → count r (filter p xs) ≡ cond (p r) (count r xs) 0
+count-filter p [] r = sym (cond_none (p r))
+count-filter p (x ∷ xs) r = go (same x r) (p x) refl refl (count-filter p xs r)
   where
-    moved : (b : Bool) → same x r ≡ true → holds c x ≡ b → holds c r ≡ b
-    moved b e k = subst (λ z. holds c z ≡ b) ((Decides-same x r).0 e) k
+    moved : (b : Bool) → same x r ≡ true → p x ≡ b → p r ≡ b
+    moved b e k = subst (λ z. p z ≡ b) ((Decides-same x r).0 e) k
 
-    go : (s h : Bool) → same x r ≡ s → holds c x ≡ h → count r (kept c xs) ≡ cond (holds c r) (count r xs) 0 → count r (cond h (x ∷ kept c xs) (kept c xs)) ≡ cond (holds c r) (one_if s + count r xs) 0
-    go true true e k ih = ap (λ n. one_if n + count r (kept c xs)) e ∙ (let a : count r (kept c xs) ≡ count r xs = ih ∙ ap (λ b. cond b (count r xs) 0) (moved true e k) in omega (arith, a)) ∙ sym (ap (λ b. cond b (1 + count r xs) 0) (moved true e k))
+    go : (s h : Bool) → same x r ≡ s → p x ≡ h → count r (filter p xs) ≡ cond (p r) (count r xs) 0 → count r (cond h (x ∷ filter p xs) (filter p xs)) ≡ cond (p r) (one_if s + count r xs) 0
+    go true true e k ih = ap (λ n. one_if n + count r (filter p xs)) e ∙ (let a : count r (filter p xs) ≡ count r xs = ih ∙ ap (λ b. cond b (count r xs) 0) (moved true e k) in omega (arith, a)) ∙ sym (ap (λ b. cond b (1 + count r xs) 0) (moved true e k))
     go true false e k ih = ih ∙ ap (λ b. cond b (count r xs) 0) (moved false e k) ∙ sym (ap (λ b. cond b (1 + count r xs) 0) (moved false e k))
-    go false true e k ih = ap (λ n. one_if n + count r (kept c xs)) e ∙ (let z : 0 + count r (kept c xs) ≡ count r (kept c xs) = omega arith in z) ∙ ih ∙ ap (λ n. cond (holds c r) n 0) (let z : count r xs ≡ 0 + count r xs = omega arith in z)
-    go false false e k ih = ih ∙ ap (λ n. cond (holds c r) n 0) (let z : count r xs ≡ 0 + count r xs = omega arith in z)
+    go false true e k ih = ap (λ n. one_if n + count r (filter p xs)) e ∙ (let z : 0 + count r (filter p xs) ≡ count r (filter p xs) = omega arith in z) ∙ ih ∙ ap (λ n. cond (p r) n 0) (let z : count r xs ≡ 0 + count r xs = omega arith in z)
+    go false false e k ih = ih ∙ ap (λ n. cond (p r) n 0) (let z : count r xs ≡ 0 + count r xs = omega arith in z)
+
+pub count-kept : (c : Cond) (xs : List Record) (r : Record) → count r (kept c xs) ≡ cond (holds c r) (count r xs) 0
+count-kept c xs r = count-filter (holds c) xs r
 
 pub count-concat : (xs ys : List Record) (r : Record) → count r (xs ++ ys) ≡ count r xs + count r ys
 count-concat xs ys r = total-append (λ x. one_if (same x r)) xs ys

@@ -15,7 +15,9 @@ pub mod EdgeNumbers
 pub mod RecursiveEquations
 pub mod OneFlow
 pub mod VertexLaws
+pub mod RoutedParts
 pub mod MonotoneVertices
+pub mod ShardsSend
 pub mod VertexFlows
 pub mod RankRises
 pub mod CouldRises

@@ -1,8 +1,9 @@
 ghost use Rattle.std.specs.Prelude.{◌≡◌, ◌<◌, ℕ, List, []};
-ghost use Rattle.semantics.specs.Multiset.{Record, ◌≈◌, IsPartOf, end_to_end};
+ghost use Rattle.semantics.specs.Multiset.{Record, ◌≈◌, IsPartOf, end_to_end, less};
 ghost use Rattle.semantics.specs.Time.{Time};
 ghost use Rattle.semantics.specs.Kinds.{Kind, in_ports, role, Role};
 ghost use Rattle.semantics.specs.Op.{op, IsSum, IsCut};
+ghost use Rattle.semantics.specs.Shard.{SendsBy};
 ghost use Rattle.semantics.specs.PortArity.{HaveFields, PortsFit};
 
 /// The laws of the equation of a vertex: nothing in gives nothing out; where the inputs are cut into parts with no route key in
@@ -20,4 +21,17 @@ pub fn law_vertex()
         ((i : ℕ) → i < in_ports kind → IsPartOf (xs i) (ys i)) → IsPartOf (op kind t xs out) (op kind t ys out) }
     ensures fields { (kind : Kind) (arity : ℕ → ℕ) (n : ℕ) → PortsFit kind arity n → (t : Time) (ins : ℕ → List Record) →
         ((i : ℕ) → i < in_ports kind → HaveFields (arity i) (ins i)) → (out : ℕ) → HaveFields n (op kind t ins out) }
+{}
+
+/// Whatever a stateful shard had absorbed and then has, it can send what is gained; and what it may send is one multiset for
+/// each out port.
+pub fn law_stateful_shard()
+    ensures gained { (kind : Kind) → role kind ≡ Role.stateful → (t : Time) (before now : ℕ → List Record) →
+        ((i : ℕ) → i < in_ports kind → IsPartOf (before i) (now i)) → (port : ℕ) (records : List Record) →
+        SendsBy (role kind) (λ q ins. op kind t ins q) before now port records
+        (λ q. less (op kind t now q) (op kind t before q)) }
+    ensures alone { (op : ℕ → (ℕ → List Record) → List Record) (before now : ℕ → List Record) (port : ℕ) (records : List Record)
+        (out other : ℕ → List Record) →
+        SendsBy Role.stateful op before now port records out → SendsBy Role.stateful op before now port records other →
+        (q : ℕ) → out q ≈ other q }
 {}
