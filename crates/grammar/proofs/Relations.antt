@@ -1,0 +1,55 @@
+-- No tokens begin with two relations.
+use Rattle.std.proofs.Common.{◌≡◌, ℕ, suc, max, List, ◌∷◌, refl, ap, sym, ◌∙◌}
+use Rattle.record_core.specs.declared.span.Span.{Span}
+use Rattle.expr_tree.specs.Trees.{RelTree}
+use Rattle.lexer.specs.declared.token.Token.{Token}
+use Rattle.grammar.specs.Tokens.{reaching}
+use Rattle.grammar.specs.Phrases.{Agree, IsOne}
+use Rattle.grammar.specs.Scalars.{ScalarAt}
+use Rattle.grammar.specs.Relations.{Reads, named, select, filter, concat, join, group, distinct, iterate, PairAt, ColumnAt, AggAt}
+use Rattle.grammar.proofs.Tokens.{first_one, rest_one}
+use Rattle.grammar.proofs.Scalars.{one_scalar}
+use Rattle.grammar.proofs.Conditions.{one_condition}
+use Rattle.grammar.proofs.Phrases.{one_list, one_column, one_pair, one_agg}
+
+pub one_reading : {text : List ℕ} {ts us vs : List Token} {x y : RelTree} {h k : ℕ} → Reads text ts x h us → Reads text ts y k vs → Agree x y h k us vs
+one_reading (named d) (named e) = record { value = refl; height = refl; left = refl }
+one_reading (select {s = s} d r) (select e t) =
+    let a = one_reading d e in
+    let b = one_list ScalarAt one_scalar _ _ _ _ _ _ _ r (rw (← rest_one a.left) at t) in
+    let q = ap (λ (t : Token). reaching s t.span) (first_one b.left) in
+    record { value = cc (a.value, b.value, q); height = cc (a.height, b.height); left = rest_one b.left }
+one_reading (filter {s = s} d r) (filter e t) =
+    let a = one_reading d e in
+    let b = one_condition _ _ _ _ _ _ _ r (rw (← rest_one a.left) at t) in
+    let q = ap (λ (t : Token). reaching s t.span) (first_one b.left) in
+    record { value = cc (a.value, b.value, q); height = cc (a.height, b.height); left = rest_one b.left }
+one_reading (concat {s = s} d r) (concat e t) =
+    let a = one_reading d e in
+    let b = one_reading r (rw (← rest_one a.left) at t) in
+    let q = ap (λ (t : Token). reaching s t.span) (first_one b.left) in
+    record { value = cc (a.value, b.value, q); height = cc (a.height, b.height); left = rest_one b.left }
+one_reading (join {s = s} d r f) (join e t g) =
+    let a = one_reading d e in
+    let b = one_reading r (rw (← rest_one a.left) at t) in
+    let c = one_list PairAt one_pair _ _ _ _ _ _ _ f (rw (← rest_one b.left) at g) in
+    let q = ap (λ (t : Token). reaching s t.span) (first_one c.left) in
+    record { value = cc (a.value, b.value, c.value, q); height = cc (a.height, b.height, c.height); left = rest_one c.left }
+one_reading (group {s = s} d r f) (group e t g) =
+    let a = one_reading d e in
+    let b = one_list ColumnAt one_column _ _ _ _ _ _ _ r (rw (← rest_one a.left) at t) in
+    let c = one_list AggAt one_agg _ _ _ _ _ _ _ f (rw (← rest_one b.left) at g) in
+    let q = ap (λ (t : Token). reaching s t.span) (first_one c.left) in
+    record { value = cc (a.value, b.value, c.value, q); height = cc (a.height, b.height, c.height); left = rest_one c.left }
+one_reading (distinct {s = s} d) (distinct e) =
+    let a = one_reading d e in
+    let q = ap (λ (t : Token). reaching s t.span) (first_one a.left) in
+    record { value = cc (a.value, q); height = cc a.height; left = rest_one a.left }
+one_reading (iterate {s = s} n i d r) (iterate m j e t) =
+    let a = one_reading d e in
+    let b = one_reading r (rw (← rest_one a.left) at t) in
+    let q = ap (λ (t : Token). reaching s t.span) (first_one b.left) in
+    record { value = cc (a.value, b.value, q); height = cc (a.height, b.height); left = rest_one b.left }
+
+pub one_relation : (text : List ℕ) → IsOne (Reads text)
+one_relation text ts us vs x y h k d e = one_reading d e

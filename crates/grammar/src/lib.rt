@@ -1,0 +1,15 @@
+//! The grammar of queries: definitions and laws, no program code.
+//!
+//! Each class of phrases is a relation between tokens and trees (`specs/`), whose constructors stand beside their lines of the
+//! grammar: scalars, conditions, relations, programs. A relation says what the tokens begin with, which tree that is, how high it
+//! is, and which tokens are left.
+//!
+//! The contract for the layers above: no tokens are read in two ways. Below stand `lexer` with the tokens and `expr_tree` with
+//! the trees; the parser reads by these relations, and the writer writes by them.
+#![tactic(auto)]
+
+mod laws;
+mod level;
+
+pub use laws::{one_condition, one_program, one_relation, one_scalar, one_text};
+pub use level::{ConnectiveLevel, OperatorLevel};

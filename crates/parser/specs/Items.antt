@@ -1,0 +1,28 @@
+-- Inputs and named relations after their keywords.
+use Rattle.std.specs.Prelude.{ℕ, ◌<◌, ◌^◌, ◌≡◌, List, ◌∷◌}
+use Rattle.record_core.specs.declared.span.Span.{Span}
+use Rattle.lexer.specs.declared.token.Token.{Token}
+use Rattle.lexer.specs.declared.token.TokenKind.TheVariants as kind
+use Rattle.lexer.specs.declared.mark.Mark.TheVariants as mark
+use Rattle.expr_tree.specs.declared.program.Input.{Input}
+use Rattle.expr_tree.specs.Trees.{LetTree}
+use Rattle.grammar.specs.Tokens.{token, mark_at}
+use Rattle.grammar.specs.Relations.{piece, IsNameAt}
+use Rattle.grammar.specs.Relations as relation
+use Rattle.grammar.specs.Programs.{Inputs}
+
+-- NAME "/" NUMBER ";"
+abbrev pub Declares : List ℕ → List Token → Input → List Token → Type 0
+Declares text ts i us = (p : Span) × (q : Span) × (i.arity < 2 ^ 63) × IsNameAt text i.name_span × (i.name ≡ piece text i.name_span) × (ts ≡ token kind.Name i.name_span ∷ mark_at mark.Slash p ∷ token (kind.Number i.arity) i.arity_span ∷ mark_at mark.Semicolon q ∷ us)
+
+-- no such declaration comes next
+abbrev pub NoDeclaration : List ℕ → List Token → Type 0
+NoDeclaration text ts = (i : Input) (us : List Token) → Declares text ts i us → ⊥
+
+-- no inputs come next, not even none
+abbrev pub NoInputs : List ℕ → List Token → Type 0
+NoInputs text ts = (is : List Input) (us : List Token) → Inputs text ts is us → ⊥
+
+-- NAME "=" rel ";"
+abbrev pub Binds : List ℕ → List Token → LetTree → ℕ → List Token → Type 0
+Binds text ts l h us = (p : Span) × (q : Span) × (vs : List Token) × IsNameAt text l.name_span × (l.name ≡ piece text l.name_span) × (ts ≡ token kind.Name l.name_span ∷ mark_at mark.Equal p ∷ vs) × relation.Reads text vs l.relation h (mark_at mark.Semicolon q ∷ us)

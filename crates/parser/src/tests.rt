@@ -1,0 +1,271 @@
+use super::*;
+use bumpalo::Bump;
+use expr_tree::{Comparison, Cond, Connective, Operator, Rel, Scalar};
+use linked_list_allocator::LocalHeap;
+use record_core::{Refusal, Span};
+use std::alloc::{AllocError, Allocator, Global};
+use std::test::Fail;
+
+fn at(code: u8, start: u32, end: u32) -> Refusal {
+    Refusal::At {
+        code,
+        span: Span { start, end },
+    }
+}
+
+#[test]
+fn refusals(rt: HostRuntime) {
+    let rows: [(&[u8], u8, u32, u32); 34] = [
+        (b"input a/1 output a;!", 1, 19, 20),
+        (b"input A/1; output a;", 1, 6, 7),
+        (b"input a/1; output a; #", 1, 21, 22),
+        (b"input a/01; output a;", 2, 8, 10),
+        (b"output select(a; #00, 01);", 2, 17, 20),
+        (b"output select(a; 9223372036854775808);", 2, 17, 36),
+        (b"input abcdefghijklmnopqrstuvwxyz0123456/1;", 3, 6, 39),
+        (b"output abcdefghijklmnopqrstuvwxyz0123456;", 3, 7, 40),
+        (b"let abcdefghijklmnopqrstuvwxyz_012345 = ", 3, 4, 37),
+        (b"", 4, 0, 0),
+        (b" \n", 4, 2, 2),
+        (b"input a/1; output a", 4, 19, 19),
+        (b"input a/1; output a\n", 4, 20, 20),
+        (b"input a/1 output a;", 4, 10, 16),
+        (b"input a/1; output a; output a;", 4, 21, 27),
+        (b"input a/1; output a;;", 4, 20, 21),
+        (b"output a; let b = a;", 4, 10, 13),
+        (b"let a = b; input c/1; output a;", 4, 11, 16),
+        (b"input input/1; output a;", 4, 6, 11),
+        (b"input a/#1; output a;", 4, 8, 10),
+        (b"let a / b; output a;", 4, 6, 7),
+        (b"output select[a; #0];", 4, 13, 14),
+        (b"output select(a; );", 4, 17, 18),
+        (b"output select(a; #0 #1);", 4, 20, 22),
+        (b"output select(a; - -1);", 4, 19, 20),
+        (b"output where(a; not #0 = 1);", 4, 20, 22),
+        (b"output where(a; (#0 = 1));", 4, 20, 21),
+        (b"output where(a; #0 = 1 = 2);", 4, 23, 24),
+        (b"output concat(a; b);", 4, 15, 16),
+        (b"output join(a, b; #0 < #1);", 4, 21, 22),
+        (b"output group(a; #0; sum);", 4, 23, 24),
+        (b"output group(a; #0; count #0);", 4, 26, 28),
+        (b"output iterate(#1; x = a; x);", 4, 15, 17),
+        (b"output epoch;", 4, 7, 12),
+    ];
+    for (text, code, start, end) in rows {
+        assert_eq!(rt;
+            parse(rt.alloc(), text).err(),
+            Some(at(code, start, end)),
+            "{text:?}"
+        );
+    }
+}
+
+/// `head`, then so many times `open`, `middle`, so many times `close`, `tail`.
+fn nested(
+    alloc: Global,
+    head: &[u8],
+    count: u32,
+    open: &[u8],
+    middle: &[u8],
+    close: &[u8],
+    tail: &[u8],
+) -> Result<Vec<u8>, AllocError> {
+    let mut text = Vec::new(alloc);
+    text.extend_from_slice(head)?;
+    for _ in 0..count {
+        text.extend_from_slice(open)?;
+    }
+    text.extend_from_slice(middle)?;
+    for _ in 0..count {
+        text.extend_from_slice(close)?;
+    }
+    text.extend_from_slice(tail)?;
+    Ok(text)
+}
+
+#[test]
+fn heights(rt: HostRuntime) -> Result<(), Fail> {
+    let select = b"input a/1; output select(a; ".as_slice();
+    let filter = b"input a/1; output where(a; ".as_slice();
+    let output = b"input a/1; output ".as_slice();
+    let rows: [(&[u8], u32, &[u8], &[u8], &[u8], Option<Refusal>); 13] = [
+        (select, 62, b"(", b"1", b")", None),
+        (select, 63, b"(", b"1", b")", Some(at(5, 18, 24))),
+        (select, 64, b"(", b"1", b")", Some(at(5, 91, 92))),
+        (select, 62, b"1+", b"1", b"", None),
+        (select, 63, b"1+", b"1", b"", Some(at(5, 18, 24))),
+        (select, 64, b"1+", b"1", b"", Some(at(5, 155, 156))),
+        (select, 62, b"-(", b"1", b")", Some(at(5, 88, 89))),
+        (filter, 61, b"not[", b"1=1", b"]", None),
+        (filter, 62, b"not[", b"1=1", b"]", Some(at(5, 18, 23))),
+        (filter, 63, b"not[", b"1=1", b"]", Some(at(5, 27, 30))),
+        (filter, 64, b"not[", b"1=1", b"]", Some(at(5, 282, 283))),
+        (output, 63, b"distinct(", b"a", b")", None),
+        (output, 65, b"distinct(", b"a", b")", Some(at(5, 602, 603))),
+    ];
+    for (head, count, open, middle, close, refusal) in rows {
+        let tail = if open == b"distinct(".as_slice() {
+            b";".as_slice()
+        } else {
+            b");".as_slice()
+        };
+        let text = nested(rt.alloc(), head, count, open, middle, close, tail)?;
+        assert_eq!(rt;
+            parse(rt.alloc(), text.as_slice()).err(),
+            refusal,
+            "{count} {open:?}"
+        );
+    }
+    Ok(())
+}
+
+#[test]
+fn long_texts(rt: HostRuntime) -> Result<(), Fail> {
+    let fits = nested(
+        rt.alloc(),
+        b"input a/1; output a;",
+        1_048_556,
+        b" ",
+        b"",
+        b"",
+        b"",
+    )?;
+    assert!(rt; parse(rt.alloc(), fits.as_slice()).is_ok());
+    for head in [
+        b"input a/1; output a;".as_slice(),
+        b"!".as_slice(),
+        b"output".as_slice(),
+    ] {
+        let text = nested(rt.alloc(), head, 1_048_577, b" ", b"", b"", b"")?;
+        assert_eq!(rt;
+            parse(rt.alloc(), text.as_slice()).err(),
+            Some(at(6, 1_048_576, 1_048_576))
+        );
+    }
+    Ok(())
+}
+
+#[test]
+fn beginnings(rt: HostRuntime) {
+    let text = b"input a/2; output where(select(a; #1 + 1, #0); #0 < 10);".as_slice();
+    assert!(rt; parse(rt.alloc(), text).is_ok());
+    for end in 0..text.len() {
+        let refusal = parse(rt.alloc(), &text[..end]).err();
+        assert!(rt;
+            matches!(refusal, Some(Refusal::At { code: 1 | 4, .. })),
+            "{end}"
+        );
+    }
+}
+
+type Nodes = Vec<(&'static str, u32, u32), Global>;
+
+fn scalar_nodes<A: Allocator>(nodes: &mut Nodes, scalar: &Scalar<A>) -> Result<(), AllocError> {
+    match scalar {
+        Scalar::Literal(span, number) => {
+            let name = match *number {
+                1 => "1",
+                2 => "2",
+                3 => "3",
+                _ => "number",
+            };
+            nodes.push((name, span.start, span.end))?;
+        }
+        Scalar::Column(span, _) => nodes.push(("column", span.start, span.end))?,
+        Scalar::Binary(span, operator, left, right) => {
+            let name = match operator {
+                Operator::Add => "+",
+                Operator::Subtract => "-",
+                Operator::Multiply => "*",
+            };
+            nodes.push((name, span.start, span.end))?;
+            scalar_nodes(nodes, left)?;
+            scalar_nodes(nodes, right)?;
+        }
+        Scalar::Negate(span, inner) => {
+            nodes.push(("negation", span.start, span.end))?;
+            scalar_nodes(nodes, inner)?;
+        }
+    }
+    Ok(())
+}
+
+fn cond_nodes<A: Allocator>(nodes: &mut Nodes, condition: &Cond<A>) -> Result<(), AllocError> {
+    match condition {
+        Cond::Compare(span, comparison, left, right) => {
+            let name = match comparison {
+                Comparison::Less => "<",
+                Comparison::AtLeast => ">=",
+                _ => "comparison",
+            };
+            nodes.push((name, span.start, span.end))?;
+            scalar_nodes(nodes, left)?;
+            scalar_nodes(nodes, right)?;
+        }
+        Cond::Logical(span, connective, left, right) => {
+            let name = match connective {
+                Connective::And => "and",
+                Connective::Or => "or",
+            };
+            nodes.push((name, span.start, span.end))?;
+            cond_nodes(nodes, left)?;
+            cond_nodes(nodes, right)?;
+        }
+        Cond::Not(span, inner) => {
+            nodes.push(("not", span.start, span.end))?;
+            cond_nodes(nodes, inner)?;
+        }
+    }
+    Ok(())
+}
+
+// Each node before its parts.
+#[test]
+fn nodes_with_spans(rt: HostRuntime) -> Result<(), Fail> {
+    let text = b"input a/1;output where(a;not[#0<1]and(1+#0)*2>=-3);".as_slice();
+    let program = parse(rt.alloc(), text)?;
+    let mut nodes = Vec::new(rt.alloc());
+    match &*program.output {
+        Rel::Where(span, inner, condition) => {
+            nodes.push(("where", span.start, span.end))?;
+            assert!(rt; matches!(&**inner, Rel::Named(Span { start: 23, end: 24 }, _)));
+            cond_nodes(&mut nodes, condition)?;
+        }
+        _ => nodes.push(("other", 0, 0))?,
+    }
+    let expected: [(&'static str, u32, u32); 14] = [
+        ("where", 17, 50),
+        ("and", 25, 49),
+        ("not", 25, 34),
+        ("<", 29, 33),
+        ("column", 29, 31),
+        ("1", 32, 33),
+        (">=", 37, 49),
+        ("*", 37, 45),
+        ("+", 38, 42),
+        ("1", 38, 39),
+        ("column", 40, 42),
+        ("2", 44, 45),
+        ("negation", 47, 49),
+        ("3", 48, 49),
+    ];
+    assert_eq!(rt; nodes.as_slice(), expected.as_slice());
+    Ok(())
+}
+
+const REACH: &[u8] =
+    b"input e/2; output iterate(3; x = e; distinct(concat(x, select(join(x, e; #1 = #0); #0, #3))));";
+
+#[test]
+fn allocators(rt: HostRuntime) -> Result<(), Fail> {
+    assert!(rt; parse(rt.alloc(), REACH).is_ok());
+    let arena = Bump::new(rt.alloc());
+    assert!(rt; parse(&arena, REACH).is_ok());
+    let large = LocalHeap::new(rt.alloc(), 65_536)?;
+    assert!(rt; parse(&large, REACH).is_ok());
+    assert_eq!(rt; large.used(), 0);
+    let small = LocalHeap::new(rt.alloc(), 64)?;
+    assert_eq!(rt; parse(&small, REACH).err(), Some(Refusal::NoMemory));
+    assert!(rt; parse(rt.alloc(), REACH).is_ok());
+    Ok(())
+}
