@@ -1,5 +1,5 @@
 -- Nothing is lost and nothing is made: what was emitted and what is under way is what the query means on what was fed.
-use Rattle.std.proofs.Common.{◌≡◌, ◌≢◌, ℕ, zero, suc, ◌+◌, ◌==◌, ◌<◌, eqb, Bool, true, false, cond, List, [], ◌∷◌, ◌++◌, ◌⊎◌, inl, inr, length, refl, sym, ap, subst, ◌∙◌, arith, Option, Some, None, slice_get, slice_index_or, slice_set, drop, remove, replicate, get_or-set_same, get_or-set_other, length-append}
+use Rattle.std.proofs.Common.{◌≡◌, ◌≢◌, ℕ, zero, suc, ◌+◌, ◌<◌, eqb, Bool, true, false, cond, List, [], ◌∷◌, ◌++◌, ◌⊎◌, inl, inr, length, refl, sym, ap, subst, ◌∙◌, arith, Option, Some, None, slice_get, slice_index_or, slice_set, drop, remove, replicate, get_or-set_same, get_or-set_other}
 use Rattle.std.proofs.lemmas.Bool.Decides.{eqb_tells}
 use Rattle.semantics.specs.Multiset.{Record, total, count}
 use Rattle.semantics.proofs.BagLaws.{total-append}
@@ -99,10 +99,10 @@ pub balanced_opening : (c : Chain) → Balanced c (opening c)
 balanced_opening c = record {
   inputs = length-replicate (length c.inputs) fresh;
   balance = λ e r.
-    let f : fed_at (opening c) (source c) e ≡ [] = fed_opening (length c.inputs) (source c) e in
-    let t : count r (through c.vertices (fed_at (opening c) (source c) e)) ≡ 0 = ap (λ l. count r (through c.vertices l)) f ∙ ap (count r) (through-nil c.vertices) in
-    let n : count r (emitted_at (opening c) e) ≡ 0 = ap (count r) (index-nil {X = List Record} e []) in
-    omega arith;
+      let f : fed_at (opening c) (source c) e ≡ [] = fed_opening (length c.inputs) (source c) e in
+      let t : count r (through c.vertices (fed_at (opening c) (source c) e)) ≡ 0 = ap (λ l. count r (through c.vertices l)) f ∙ ap (count r) (through-nil c.vertices) in
+      let n : count r (emitted_at (opening c) e) ≡ 0 = ap (count r) (index-nil {X = List Record} e []) in
+      omega arith;
 }
 
 -- a step that leaves what was fed, what was emitted and how much is under way
@@ -114,10 +114,10 @@ balanced_same : (c : Chain) (w v : World) → length v.inputs ≡ length w.input
 balanced_same c w v n fed out way b = record {
   inputs = n ∙ b.inputs;
   balance = λ e r.
-    ap (λ l. count r l + under_way c e r v) (out e)
-    ∙ ap (λ k. count r (emitted_at w e) + k) (way e r)
-    ∙ b.balance e r
-    ∙ ap (λ l. count r (through c.vertices l)) (sym (fed e));
+      ap (λ l. count r l + under_way c e r v) (out e)
+      ∙ ap (λ k. count r (emitted_at w e) + k) (way e r)
+      ∙ b.balance e r
+      ∙ ap (λ l. count r (through c.vertices l)) (sym (fed e));
 }
 
 pub balanced_seal : (c : Chain) (w : World) (i : ℕ) → TakesInput w i → Balanced c w → Balanced c (after_seal w i)
@@ -137,8 +137,8 @@ pub balanced_claim : (c : Chain) (w : World) (k : ℕ) (m : Message) → w.held 
 balanced_claim c w k m free at b =
     balanced_same c w (after_claim w k m) refl (λ e. refl) (λ e. refl)
     (λ e r.
-      let h : held_weight c e r w.held ≡ 0 = ap (held_weight c e r) free in
-      omega (arith, total-remove (weight c e r) w.mailbox k m at))
+    let h : held_weight c e r w.held ≡ 0 = ap (held_weight c e r) free in
+    omega (arith, total-remove (weight c e r) w.mailbox k m at))
     b
 
 pub balanced_abandon : (c : Chain) (w : World) (m : Message) → Holds w m → Balanced c w → Balanced c (after_abandon w m)
@@ -150,7 +150,7 @@ balanced_abandon c w m has b =
 -- what a commit sends and emits is what the message will give
 commit_gives : (c : Chain) (es : List (List Record)) (m : Message) (e : ℕ) (r : Record) (v : Option Vertex) → vertex_at c m.edge ≡ v
     → count r (slice_index_or (emitted_after v m.epoch m.records es) e []) + total (weight c e r) (message (m.edge + 1) m.epoch (sent v m.records))
-      ≡ count r (slice_index_or es e []) + weight c e r m
+    ≡ count r (slice_index_or es e []) + weight c e r m
 commit_gives c es m e r None at =
     let d : drop m.edge c.vertices ≡ [] = drop_none c.vertices m.edge at in
     let p : weight c e r m ≡ count r (cond (is m.epoch e) m.records []) = ap (λ l. count r (cond (is m.epoch e) (through l m.records) [])) d in
@@ -160,17 +160,17 @@ commit_gives c es m e r (Some v) at =
     let d : drop m.edge c.vertices ≡ v ∷ drop (suc m.edge) c.vertices = drop_some c.vertices m.edge v at in
     let n : suc m.edge ≡ m.edge + 1 = omega arith in
     let p : weight c e r m ≡ coming c e r (m.edge + 1) m.epoch (applied v m.records) =
-      ap (λ l. count r (cond (is m.epoch e) (through l m.records) [])) d
-      ∙ ap (λ k. coming c e r k m.epoch (applied v m.records)) n in
+    ap (λ l. count r (cond (is m.epoch e) (through l m.records) [])) d
+    ∙ ap (λ k. coming c e r k m.epoch (applied v m.records)) n in
     omega (arith, total-message c e r (m.edge + 1) m.epoch (applied v m.records))
 
 pub balanced_commit : (c : Chain) (w : World) (m : Message) → Holds w m → Balanced c w → Balanced c (after_commit c w m)
 balanced_commit c w m has b = record {
   inputs = b.inputs;
   balance = λ e r.
-    let v = vertex_at c m.edge in
-    let h : held_weight c e r w.held ≡ weight c e r m = ap (held_weight c e r) has in
-    omega (arith, b.balance e r, commit_gives c w.emitted m e r v refl, total-append (weight c e r) w.mailbox (message (m.edge + 1) m.epoch (sent v m.records)));
+      let v = vertex_at c m.edge in
+      let h : held_weight c e r w.held ≡ weight c e r m = ap (held_weight c e r) has in
+      omega (arith, b.balance e r, commit_gives c w.emitted m e r v refl, total-append (weight c e r) w.mailbox (message (m.edge + 1) m.epoch (sent v m.records)));
 }
 
 through-cond : (vs : List Vertex) (b : Bool) (rs : List Record) → through vs (cond b rs []) ≡ cond b (through vs rs) []
@@ -182,21 +182,21 @@ feed_source : (c : Chain) (w : World) (i : ℕ) (rs : List Record) → TakesInpu
 feed_source c w i rs t test is_source b = record {
   inputs = length-set w.inputs i _ ∙ b.inputs;
   balance = λ e r.
-    let v = after_feed c w i rs in
-    let s = input_at w i in
-    let here : fed_at v i e ≡ fed_at w i e ++ cond (is (open_epoch s) e) rs [] =
+      let v = after_feed c w i rs in
+      let s = input_at w i in
+      let here : fed_at v i e ≡ fed_at w i e ++ cond (is (open_epoch s) e) rs [] =
       fed_here w i e (record s { latest = s.latest ++ rs }) t.1 ∙ at-last s.sealed s.latest rs e in
-    let P : ℕ → Type 0 = λ k. fed_at v k e ≡ fed_at w k e ++ cond (is (open_epoch s) e) rs [] in
-    let there : fed_at v (source c) e ≡ fed_at w (source c) e ++ cond (is (open_epoch s) e) rs [] = subst P is_source here in
-    let goes : through c.vertices (fed_at v (source c) e) ≡ through c.vertices (fed_at w (source c) e) ++ cond (is (open_epoch s) e) (through c.vertices rs) [] =
+      let P : ℕ → Type 0 = λ k. fed_at v k e ≡ fed_at w k e ++ cond (is (open_epoch s) e) rs [] in
+      let there : fed_at v (source c) e ≡ fed_at w (source c) e ++ cond (is (open_epoch s) e) rs [] = subst P is_source here in
+      let goes : through c.vertices (fed_at v (source c) e) ≡ through c.vertices (fed_at w (source c) e) ++ cond (is (open_epoch s) e) (through c.vertices rs) [] =
       ap (through c.vertices) there
       ∙ through-append c.vertices (fed_at w (source c) e) (cond (is (open_epoch s) e) rs [])
       ∙ ap (λ l. through c.vertices (fed_at w (source c) e) ++ l) (through-cond c.vertices (is (open_epoch s) e) rs) in
-    let counted : count r (through c.vertices (fed_at v (source c) e)) ≡ count r (through c.vertices (fed_at w (source c) e)) + coming c e r 0 (open_epoch s) rs =
+      let counted : count r (through c.vertices (fed_at v (source c) e)) ≡ count r (through c.vertices (fed_at w (source c) e)) + coming c e r 0 (open_epoch s) rs =
       ap (count r) goes ∙ count-append r (through c.vertices (fed_at w (source c) e)) (cond (is (open_epoch s) e) (through c.vertices rs) []) in
-    let arrives : total (weight c e r) v.mailbox ≡ total (weight c e r) (w.mailbox ++ message 0 (open_epoch s) rs) =
+      let arrives : total (weight c e r) v.mailbox ≡ total (weight c e r) (w.mailbox ++ message 0 (open_epoch s) rs) =
       ap (λ z. total (weight c e r) (w.mailbox ++ cond z (message 0 (open_epoch s) rs) [])) test in
-    omega (arith, b.balance e r, counted, arrives, total-append (weight c e r) w.mailbox (message 0 (open_epoch s) rs), total-message c e r 0 (open_epoch s) rs);
+      omega (arith, b.balance e r, counted, arrives, total-append (weight c e r) w.mailbox (message 0 (open_epoch s) rs), total-message c e r 0 (open_epoch s) rs);
 }
 
 -- what is fed to another input goes nowhere
@@ -206,10 +206,10 @@ feed_other c w i rs test other b =
     (λ e. fed_other w i (source c) e _ (λ q. other (sym q)))
     (λ e. refl)
     (λ e r.
-      let s = input_at w i in
-      let arrives : total (weight c e r) (after_feed c w i rs).mailbox ≡ total (weight c e r) (w.mailbox ++ []) =
-        ap (λ z. total (weight c e r) (w.mailbox ++ cond z (message 0 (open_epoch s) rs) [])) test in
-      omega (arith, arrives, total-append (weight c e r) w.mailbox []))
+    let s = input_at w i in
+    let arrives : total (weight c e r) (after_feed c w i rs).mailbox ≡ total (weight c e r) (w.mailbox ++ []) =
+    ap (λ z. total (weight c e r) (w.mailbox ++ cond z (message 0 (open_epoch s) rs) [])) test in
+    omega (arith, arrives, total-append (weight c e r) w.mailbox []))
     b
 
 pub balanced_feed : (c : Chain) (w : World) (i : ℕ) (rs : List Record) → TakesInput w i → Balanced c w → Balanced c (after_feed c w i rs)

@@ -1,15 +1,14 @@
 -- What the calls of a board rest on: what a call that isn't refused may rely on, and what each step keeps.
-use Rattle.std.proofs.Common.{◌≡◌, ◌≢◌, ℕ, ◌+◌, ◌==◌, ◌<◌, Bool, true, false, cond, not, nat_lt, List, [], ◌∷◌, length, refl, sym, ap, subst, ◌∙◌, arith, Option, Some, None, Result, Ok, Err, IfSome, slice_get}
+use Rattle.std.proofs.Common.{◌≡◌, ℕ, ◌==◌, ◌<◌, Bool, true, false, cond, not, nat_lt, List, [], ◌∷◌, length, refl, sym, ap, subst, ◌∙◌, arith, Option, Some, None, Result, Ok, Err, IfSome, slice_get}
 use Rattle.std.specs.List.{AllByRecursion, list_all}
-use Rattle.std.proofs.lemmas.Bool.Decides.{eqb_tells}
 use Rattle.semantics.specs.Multiset.{Record}
 use Rattle.board.specs.declared.refusal.StepRefusal.{StepRefusal}
 use Rattle.board.specs.declared.refusal.StepRefusal.TheVariants as refusal
 use Rattle.board.specs.Chain.{Chain}
-use Rattle.board.specs.World.{World, Message, Held, input_at, open_epoch}
+use Rattle.board.specs.World.{World, Message, Held, input_at}
 use Rattle.board.specs.Step.{Action, Step, TakesInput, Holds, vertex_at, arity_at, after_feed, after_seal, after_close, after_claim, after_commit, after_abandon}
 use Rattle.board.specs.Run.{IsReached}
-use Rattle.board.specs.Refusals.{input_refusal, feed_refusal, seal_refusal, first, AnswersOnly, is_holding}
+use Rattle.board.specs.Refusals.{input_refusal, feed_refusal, first, AnswersOnly, is_holding}
 use Rattle.board.specs.Shown.{Shown, Goes, IsKept, KeepsFed}
 use Rattle.board.specs.Events.{Job, HoldsJob}
 use Rattle.board.specs.Commits.{Commits, CommitsExactly}

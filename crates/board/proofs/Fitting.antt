@@ -1,5 +1,5 @@
 -- What can go into a vertex can go in in one way alone; and each message's records can go into its vertex.
-use Rattle.std.proofs.Common.{◌≡◌, ℕ, ◌<◌, ◌≤◌, List, [], ◌∷◌, length, refl, sym, ap, subst, Option, Some, None, slice_get}
+use Rattle.std.proofs.Common.{◌≡◌, ℕ, List, [], ◌∷◌, length, refl, sym, subst, Option, Some, None, slice_get}
 use Rattle.std.proofs.Math.Logic.{∥∥₁_elim}
 use Rattle.std.proofs.Math.Bridge.{le_prop}
 use mathlib.Core.HLevel.{×_prop, Unit-prop}
@@ -12,7 +12,7 @@ use Rattle.board.specs.World.{Message, World}
 use Rattle.board.specs.Step.{vertex_at}
 use Rattle.board.specs.Run.{IsReached}
 use Rattle.board.specs.Fits.{VertexFits, ChainFits, RecordFits}
-use Rattle.board.proofs.Sizes.{Sized, fields_at, arity_of, vertex_fits, all_at, MessageSized, run_sized}
+use Rattle.board.proofs.Sizes.{Sized, arity_of, vertex_fits, all_at, MessageSized, run_sized}
 
 one_scalar : (n : ℕ) (s : Scalar) → IsProp (ScalarFits n s)
 one_scalar n (Scalar.column c) = λ a b. le_prop a b

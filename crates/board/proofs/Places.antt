@@ -1,6 +1,6 @@
 -- Lists of lists by epoch.
-use Rattle.std.proofs.Common.{◌≡◌, ◌≢◌, ℕ, zero, suc, ◌+◌, ◌<◌, ◌≤◌, Bool, true, false, cond, List, [], ◌∷◌, ◌++◌, length, refl, sym, ap, ◌∙◌, arith, slice_index_or, slice_set, slice_get, take, map, Option, None, append-nil}
-use Rattle.semantics.specs.Multiset.{Record, count}
+use Rattle.std.proofs.Common.{◌≡◌, ◌≢◌, ℕ, zero, suc, ◌+◌, ◌<◌, ◌≤◌, Bool, true, false, cond, List, [], ◌∷◌, ◌++◌, length, refl, sym, ap, ◌∙◌, arith, slice_index_or, slice_set, slice_get, take, map, None, append-nil}
+use Rattle.semantics.specs.Multiset.{Record}
 use Rattle.expr_tree.specs.declared.program.Input.{Input}
 use Rattle.expr_tree.specs.Plain.{plain_input}
 use Rattle.board.specs.Step.{more_at, arity_at}

@@ -1,15 +1,14 @@
 -- Each message's records have the number of fields that reaches its edge, so they can go into its vertex.
-use Rattle.std.proofs.Common.{◌≡◌, ◌≢◌, ℕ, zero, suc, ◌+◌, ◌==◌, ◌<◌, eqb, Bool, true, false, cond, List, [], ◌∷◌, ◌++◌, ◌⊎◌, inl, inr, length, map, filter, refl, sym, ap, subst, ◌∙◌, arith, Option, Some, None, slice_get, remove, take, drop}
+use Rattle.std.proofs.Common.{◌≡◌, ◌≢◌, ℕ, zero, suc, ◌+◌, ◌==◌, eqb, Bool, true, false, cond, List, [], ◌∷◌, ◌++◌, ◌⊎◌, inl, inr, length, map, refl, sym, ap, subst, ◌∙◌, arith, Option, Some, None, slice_get, remove}
 use Rattle.std.proofs.lemmas.Bool.Decides.{eqb_tells}
-use Rattle.std.proofs.Math.Logic.{∥∥₁_elim}
 use Rattle.std.specs.List.{AllByRecursion}
 use Rattle.semantics.specs.Multiset.{Record}
 use Rattle.semantics.specs.Meaning.{holds}
-use Rattle.board.specs.Chain.{Vertex, Chain, input_number, applied, sent}
+use Rattle.board.specs.Chain.{Vertex, Chain, applied, sent}
 use Rattle.board.specs.World.{Message, Held, World, input_at, open_epoch, opening}
 use Rattle.board.specs.Step.{Action, Step, Holds, message, vertex_at, arity_at, after_feed, after_claim, after_commit, after_abandon}
-use Rattle.board.specs.Run.{Run, IsReached}
-use Rattle.board.specs.Fits.{VertexFits, VerticesFit, ChainFits, RecordFits, fields_after}
+use Rattle.board.specs.Run.{Run}
+use Rattle.board.specs.Fits.{VertexFits, VerticesFit, fields_after}
 use Rattle.board.proofs.Balance.{source}
 
 -- the number of fields on an edge, of n on the first
@@ -115,7 +114,7 @@ sent_sized c m None e h = tt
 sent_sized c m (Some v) e h =
     let n : suc m.edge ≡ m.edge + 1 = omega arith in
     let f : fields_after (fields_at (arity_of c) c.vertices m.edge) v ≡ fields_at (arity_of c) c.vertices (m.edge + 1) =
-      sym (fields_next (arity_of c) c.vertices m.edge v e) ∙ ap (fields_at (arity_of c) c.vertices) n in
+    sym (fields_next (arity_of c) c.vertices m.edge v e) ∙ ap (fields_at (arity_of c) c.vertices) n in
     subst (λ k. Sized k (applied v m.records)) f (applied_sized v _ m.records h)
 
 sized_commit : (c : Chain) (w : World) (m : Message) → Holds w m → WorldSized c w → WorldSized c (after_commit c w m)

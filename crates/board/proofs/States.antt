@@ -1,5 +1,5 @@
 -- What a feed makes of the world, put together from its parts.
-use Rattle.std.proofs.Common.{◌≡◌, ◌≢◌, ℕ, zero, suc, ◌+◌, ◌==◌, ◌<◌, Bool, true, false, cond, List, [], ◌∷◌, ◌++◌, length, refl, sym, ap, ap₂, subst, ◌∙◌, arith, slice_index_or, slice_set, eq-eqb}
+use Rattle.std.proofs.Common.{◌≡◌, ◌≢◌, ℕ, zero, suc, ◌==◌, ◌<◌, true, cond, List, [], ◌∷◌, ◌++◌, length, refl, sym, ap, ap₂, ◌∙◌, arith, slice_index_or, slice_set, eq-eqb}
 use Rattle.semantics.specs.Multiset.{Record}
 use Rattle.board.specs.Chain.{Chain, input_number}
 use Rattle.board.specs.World.{World, InputState, Message, input_at, open_epoch}
@@ -26,8 +26,8 @@ pub fed_source : (c : Chain) (w : World) (i e : ℕ) (rs : List Record) (s : Inp
 fed_source c w i e rs s box source some state epoch mail =
     let test : (i == input_number c.inputs c.name) ≡ true = eq-eqb i (input_number c.inputs c.name) source in
     let sent : box ≡ w.mailbox ++ cond (i == input_number c.inputs c.name) (message 0 (open_epoch (input_at w i)) rs) [] =
-      mail
-      ∙ ap (λ n. w.mailbox ++ record { edge = 0; epoch = n; records = rs } ∷ []) epoch
-      ∙ ap (λ (l : List Message). w.mailbox ++ l) (sym (one_message 0 (open_epoch (input_at w i)) rs some))
-      ∙ ap (λ b. w.mailbox ++ cond b (message 0 (open_epoch (input_at w i)) rs) []) (sym test) in
+    mail
+    ∙ ap (λ n. w.mailbox ++ record { edge = 0; epoch = n; records = rs } ∷ []) epoch
+    ∙ ap (λ (l : List Message). w.mailbox ++ l) (sym (one_message 0 (open_epoch (input_at w i)) rs some))
+    ∙ ap (λ b. w.mailbox ++ cond b (message 0 (open_epoch (input_at w i)) rs) []) (sym test) in
     ap₂ (λ (x : InputState) (b : List Message). record w { inputs = slice_set w.inputs i x; mailbox = b }) state sent

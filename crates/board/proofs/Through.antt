@@ -1,8 +1,8 @@
 -- What a chain makes of records, and that it is what its query means.
-use Rattle.std.proofs.Common.{◌≡◌, ℕ, zero, suc, ◌+◌, Bool, true, false, cond, List, [], ◌∷◌, ◌++◌, length, map, filter, refl, sym, ap, ◌∙◌, arith, Option, Some, None, slice_get, drop}
+use Rattle.std.proofs.Common.{◌≡◌, ℕ, zero, suc, ◌+◌, Bool, true, false, List, [], ◌∷◌, ◌++◌, length, map, filter, refl, sym, ap, ◌∙◌, arith, Some, None, slice_get, drop}
 use Rattle.semantics.specs.Multiset.{Record}
-use Rattle.semantics.specs.Query.{Scalar, Cond, Name, Rel, Input, Let, Program}
-use Rattle.semantics.specs.Meaning.{meaning, selected, kept, Names, same_name, input_names, let_names, program_meaning}
+use Rattle.semantics.specs.Query.{Name, Rel, Input}
+use Rattle.semantics.specs.Meaning.{meaning, Names, same_name, input_names, let_names, program_meaning}
 use Rattle.board.specs.Chain.{Vertex, Chain, input_number, applied, relation, query_of}
 
 -- records through vertices

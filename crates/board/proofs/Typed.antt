@@ -1,9 +1,8 @@
 -- A well-typed chain's vertices fit the records of its input.
-use Rattle.std.proofs.Common.{◌≡◌, ◌≢◌, ℕ, zero, suc, ◌+◌, ◌<◌, Bool, true, false, cond, List, [], ◌∷◌, ◌++◌, length, map, refl, sym, ap, subst, ◌∙◌, arith, Option, Some, None}
-use Rattle.std.specs.List.{AllByRecursion}
-use Rattle.semantics.specs.Query.{Scalar, Cond, Name, Rel, Input, Let, Program}
+use Rattle.std.proofs.Common.{◌≡◌, ℕ, ◌<◌, Bool, true, false, cond, List, [], ◌∷◌, ◌++◌, length, map, refl, sym, ap, subst, ◌∙◌, arith, Some, None}
+use Rattle.semantics.specs.Query.{Name, Rel, Input, Let, Program}
 use Rattle.semantics.specs.Meaning.{same_name}
-use Rattle.semantics.specs.Typing.{Scope, Entry, entry, lookup, HasArity, InputsFit, after_inputs, RestFits, WellTyped, IsArity, ScalarFits}
+use Rattle.semantics.specs.Typing.{Scope, entry, lookup, HasArity, InputsFit, after_inputs, WellTyped, IsArity}
 use Rattle.semantics.proofs.LowerLaws.{Decides-same_name}
 use Rattle.board.specs.Chain.{Vertex, Chain, input_number, relation, query_of}
 use Rattle.board.specs.declared.vertex.Vertex as declared_vertex
@@ -14,7 +13,7 @@ use Rattle.std.proofs.Math.Logic.{∥∥₁_elim, ∥∥₁_map}
 use Rattle.std.proofs.Math.Bridge.{le_prop}
 use Rattle.board.specs.ChainQuery.{IsWellTyped}
 use Rattle.board.specs.GraphInvariant.{IsGraph}
-use Rattle.board.specs.Fits.{VertexFits, VerticesFit, ChainFits}
+use Rattle.board.specs.Fits.{VerticesFit, ChainFits}
 
 pub relation-append : (r : Rel) (vs ws : List Vertex) → relation r (vs ++ ws) ≡ relation (relation r vs) ws
 relation-append r [] ws = refl

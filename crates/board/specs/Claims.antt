@@ -1,10 +1,10 @@
 -- What a claim answers.
-use Rattle.std.specs.Prelude.{◌≡◌, ◌≢◌, ◌⊎◌, ℕ, Bool, true, false, List, [], Option, Some, None}
+use Rattle.std.specs.Prelude.{◌≡◌, ◌≢◌, ◌⊎◌, ℕ, Bool, true, false, [], None}
 use Rattle.std.specs.List.{list_all}
 use Rattle.board.specs.Step.{Action}
-use Rattle.board.specs.World.{World, InputState, Held}
+use Rattle.board.specs.World.{World, InputState}
 use Rattle.board.specs.Shown.{Shown, Goes}
-use Rattle.board.specs.Events.{Job, HoldsJob}
+use Rattle.board.specs.Events.{HoldsJob}
 use Rattle.board.specs.declared.event.Claimed.{Claimed}
 use Rattle.board.specs.declared.event.Claimed.TheVariants.{Stopped, Busy, Work, Drained, Idle}
 

@@ -1,7 +1,7 @@
 -- What a commit answers.
-use Rattle.std.specs.Prelude.{◌≡◌, ◌+◌, ◌++◌, Option, Some, None, Result, Ok, Err}
-use Rattle.board.specs.Chain.{Vertex, sent}
-use Rattle.board.specs.World.{World, Message}
+use Rattle.std.specs.Prelude.{◌≡◌, ◌+◌, ◌++◌, Result, Ok, Err}
+use Rattle.board.specs.Chain.{sent}
+use Rattle.board.specs.World.{World}
 use Rattle.board.specs.Step.{Action, message, emitted_after, after_commit}
 use Rattle.board.specs.Views.{chain_of}
 use Rattle.board.specs.Shown.{Shown, Goes}

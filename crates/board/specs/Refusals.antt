@@ -1,5 +1,5 @@
 -- Which refusal a call answers: the first that applies.
-use Rattle.std.specs.Prelude.{◌≡◌, ℕ, ◌==◌, nat_lt, not, Bool, true, false, cond, List, length, Option, Some, None, Result, Ok, Err}
+use Rattle.std.specs.Prelude.{◌≡◌, ℕ, ◌==◌, nat_lt, not, Bool, false, cond, List, length, Option, Some, None, Result, Ok, Err}
 use Rattle.std.specs.List.{list_all}
 use Rattle.semantics.specs.Multiset.{Record}
 use Rattle.board.specs.declared.refusal.StepRefusal.{StepRefusal}

@@ -1,5 +1,5 @@
 -- Runs of the engine.
-use Rattle.std.specs.Prelude.{◌≡◌, List, [], ◌∷◌, Option, None}
+use Rattle.std.specs.Prelude.{◌≡◌, List, [], ◌∷◌, None}
 use Rattle.board.specs.Chain.{Chain}
 use Rattle.board.specs.World.{World, opening}
 use Rattle.board.specs.Step.{Action, Step}

@@ -1,6 +1,5 @@
 -- What a board shows.
-use Rattle.std.specs.Prelude.{◌≡◌, ℕ}
-use Rattle.board.specs.Chain.{Chain}
+use Rattle.std.specs.Prelude.{◌≡◌}
 use Rattle.board.specs.Views.{GraphParts, chain_of}
 use Rattle.board.specs.World.{World}
 use Rattle.board.specs.Step.{Action, Step}

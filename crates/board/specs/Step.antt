@@ -1,10 +1,10 @@
 -- The steps of the engine on a chain.
-use Rattle.std.specs.Prelude.{◌≡◌, ℕ, zero, suc, ◌+◌, ◌==◌, ◌<◌, Bool, true, false, cond, List, [], ◌∷◌, ◌++◌, length, Option, Some, None, slice_get, slice_set, remove}
+use Rattle.std.specs.Prelude.{◌≡◌, ℕ, zero, suc, ◌+◌, ◌==◌, ◌<◌, true, false, cond, List, [], ◌∷◌, ◌++◌, length, Option, Some, None, slice_get, slice_set, remove}
 use Rattle.std.specs.List.{AllByRecursion}
 use Rattle.semantics.specs.Multiset.{Record}
 use Rattle.semantics.specs.Query.{Input}
 use Rattle.board.specs.Chain.{Vertex, Chain, input_number, sent}
-use Rattle.board.specs.World.{InputState, Message, Held, World, input_at, open_epoch}
+use Rattle.board.specs.World.{InputState, Message, World, input_at, open_epoch}
 
 -- one call that changes the world
 pub data Action : Type 0 where

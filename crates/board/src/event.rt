@@ -155,7 +155,12 @@ impl Done {
 }
 
 /// What the vertex that the edge enters sends on of records, and what it emits.
-fn outcome(alloc: Global, graph: &Graph, edge: usize, records: &Records) -> Result<(Option<Parcel>, Records), AllocError>
+fn outcome(
+    alloc: Global,
+    graph: &Graph,
+    edge: usize,
+    records: &Records,
+) -> Result<(Option<Parcel>, Records), AllocError>
     requires { AllByRecursion (RecordFits (vertex_at (chain_of graph.now) edge)) records.now }
     ensures { IfOk result (λ made. IsOutcome (vertex_at (chain_of graph.now) edge) records.now made.0 made.1) }
 {

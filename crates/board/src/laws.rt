@@ -6,5 +6,4 @@ ghost use Rattle.board.specs.Headline.{EveryRunKeeps};
 /// it once nothing is under way.
 pub fn law_headline()
     ensures { EveryRunKeeps }
-{
-}
+{}

@@ -9,19 +9,19 @@
 //! `expr_tree`; the console runs a board until it is drained.
 #![tactic(auto)]
 
-mod vertex;
-mod graph;
-mod making;
-mod refusal;
-mod records;
-mod epochs;
-mod input;
-mod parcel;
-mod message;
-mod event;
-mod state;
 mod board;
+mod epochs;
+mod event;
+mod graph;
+mod input;
 mod laws;
+mod making;
+mod message;
+mod parcel;
+mod records;
+mod refusal;
+mod state;
+mod vertex;
 
 pub use board::Board;
 pub use event::{Claimed, CommitRefusal, Done, Work};
@@ -30,6 +30,3 @@ pub use laws::law_headline;
 pub use making::ChainFault;
 pub use refusal::StepRefusal;
 pub use vertex::Vertex;
-
-#[cfg(test)]
-mod tests;

@@ -98,10 +98,7 @@ fn copy_scalars<A: Allocator>(
 }
 
 /// The same inputs, in order.
-fn copy_inputs<A: Allocator>(
-    alloc: Global,
-    inputs: &Vec<Input, A>,
-) -> Result<Vec<Input>, NoMemory>
+fn copy_inputs<A: Allocator>(alloc: Global, inputs: &Vec<Input, A>) -> Result<Vec<Input>, NoMemory>
     ensures { IfOk result (λ copy. copy.items ≡ inputs.now.items) }
 {
     let mut copy = Vec::with_capacity(alloc, inputs.len())?;

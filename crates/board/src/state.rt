@@ -334,7 +334,12 @@ impl State {
     }
 
     /// Puts a parcel, where there is one, into the mailbox.
-    fn post(&mut self, edge: usize, epoch: u32, parcel: Option<Parcel>) -> Result<(), Option<Parcel>>
+    fn post(
+        &mut self,
+        edge: usize,
+        epoch: u32,
+        parcel: Option<Parcel>,
+    ) -> Result<(), Option<Parcel>>
         ensures ok { OnOk result (self.new ≡ record self.old { world = record self.old.world { mailbox = self.old.world.mailbox ++ posted edge epoch parcel } }) }
         ensures err { OnErr result (self.new ≡ self.old) }
         ensures back { IfErr result (λ back. back ≡ parcel) }

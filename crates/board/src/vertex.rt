@@ -12,8 +12,8 @@ ghost use Rattle.board.specs.Chain as chain;
 ghost use Rattle.board.specs.Views.{plain_vertex};
 ghost use Rattle.board.specs.Fits.{VertexFits};
 
-use arrayvec::ArrayVec;
 use crate::records::{Records, copy_record};
+use arrayvec::ArrayVec;
 use expr_tree::{Cond, Scalar, eval_scalar, holds, same_cond, same_scalar};
 use record_core::Record;
 use std::alloc::{AllocError, Global};
@@ -88,7 +88,11 @@ fn selected_record(scalars: &[Scalar<Global>], item: &Record) -> Record
 }
 
 /// Each record's scalars.
-fn select_all(alloc: Global, scalars: &[Scalar<Global>], records: &[Record]) -> Result<Records, AllocError>
+fn select_all(
+    alloc: Global,
+    scalars: &[Scalar<Global>],
+    records: &[Record],
+) -> Result<Records, AllocError>
     requires { AllByRecursion (λ (r : multiset.Record). VertexFits (length r) (chain.Vertex.select (map plain_scalar (map scalar_tree scalars.now)))) records.now }
     ensures { IfOk result (λ made. made ≡ meaning.selected (map plain_scalar (map scalar_tree scalars.now)) records.now) }
 {
@@ -100,7 +104,11 @@ fn select_all(alloc: Global, scalars: &[Scalar<Global>], records: &[Record]) -> 
 }
 
 /// The records at which the condition holds.
-fn keep_where(alloc: Global, condition: &Cond<Global>, records: &[Record]) -> Result<Records, AllocError>
+fn keep_where(
+    alloc: Global,
+    condition: &Cond<Global>,
+    records: &[Record],
+) -> Result<Records, AllocError>
     requires { AllByRecursion (λ (r : multiset.Record). CondFits (length r) (plain_cond (cond_tree condition.now))) records.now }
     ensures { IfOk result (λ made. made ≡ meaning.kept (plain_cond (cond_tree condition.now)) records.now) }
 {

@@ -6,10 +6,10 @@ use Rattle.board.proofs.epochs.pad.Goals as goal
 pub loop-k-preserved : goal.loop-k-preserved
 loop-k-preserved c = record {
   same = λ rs.
-    let short : length c.loop-k.lists.items ≤ c.args.len = omega arith in
-    let items : c.push_reserved.new.self.items ≡ c.loop-k.lists.items ++ [] ∷ [] =
+      let short : length c.loop-k.lists.items ≤ c.args.len = omega arith in
+      let items : c.push_reserved.new.self.items ≡ c.loop-k.lists.items ++ [] ∷ [] =
       c.push_reserved.ensures.items ∙ ap (λ (x : List (List ℤ)). c.loop-k.lists.items ++ x ∷ []) c.new.ensures in
-    ap (more_at c.args.len rs) items ∙ more-empty c.args.len rs c.loop-k.lists.items short ∙ c.loop-k.invariant.same rs;
+      ap (more_at c.args.len rs) items ∙ more-empty c.args.len rs c.loop-k.lists.items short ∙ c.loop-k.invariant.same rs;
   len = omega arith;
   capacity = omega arith;
 }

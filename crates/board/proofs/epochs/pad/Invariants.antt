@@ -1,4 +1,4 @@
-use Rattle.std.proofs.Common.{◌≡◌, ◌<◌, ℤ, List, vec_len, vec_capacity}
+use Rattle.std.proofs.Common.{◌≡◌, ℤ, List, vec_len, vec_capacity}
 use Rattle.board.specs.Step.{more_at}
 use Rattle.board.proofs.epochs.pad.Given as goal
 

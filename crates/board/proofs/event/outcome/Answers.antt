@@ -1,4 +1,4 @@
-use Rattle.std.proofs.Common.{◌≡◌, ◌∙◌, refl, sym, ap, ap₂, subst, arith, [], ◌∷◌, List, ℤ, map, length, Option}
+use Rattle.std.proofs.Common.{sym, subst, Option}
 use Rattle.std.specs.List.{AllByRecursion}
 use Rattle.board.specs.Chain.{Vertex}
 use Rattle.board.specs.Fits.{RecordFits}

@@ -1,4 +1,4 @@
-use Rattle.std.proofs.Common.{◌≡◌, ◌∙◌, refl, sym, ap, ap₂, subst, arith, [], ◌∷◌, List, ℤ, map, length, Option}
+use Rattle.std.proofs.Common.{◌≡◌, ◌∙◌, sym, ap, ap₂, map}
 use Rattle.semantics.specs.Query as query
 use Rattle.expr_tree.specs.Plain.{plain_rel, plain_scalar, plain_cond}
 use Rattle.expr_tree.specs.Views.{rel_tree, scalar_tree, cond_tree}
@@ -19,5 +19,5 @@ returns-in_ok-push-in-Where g t c =
     let name = query.Rel.named c.in_ok-name-in-Where.name in
     let inner : plain_rel (rel_tree c.in-Where.inner.value) ≡ relation name (map plain_vertex c.copy_chain-in-Where.new.vertices.items) = rw c.deref-in-Where.ensures at c.in_ok-name-in-Where.ensures in
     let condition : plain_cond (cond_tree c.in-Where.condition) ≡ plain_cond (cond_tree c.in_ok-condition-in-Where.condition.value) =
-      ap plain_cond (sym (ap cond_tree c.in_ok-condition-in-Where.ensures.ok ∙ c.in_ok-copy_cond-in-Where.ensures)) in
+    ap plain_cond (sym (ap cond_tree c.in_ok-condition-in-Where.ensures.ok ∙ c.in_ok-copy_cond-in-Where.ensures)) in
     rw (c.in-Where.is, c.in_ok-push-in-Where.ensures.items) (ap₂ query.Rel.filter inner condition ∙ sym (relation_more name c.copy_chain-in-Where.new.vertices.items _))

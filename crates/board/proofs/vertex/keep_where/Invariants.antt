@@ -1,4 +1,4 @@
-use Rattle.std.proofs.Common.{◌≡◌, take, filter}
+use Rattle.std.proofs.Common.{◌≡◌, take}
 use Rattle.semantics.specs.Meaning.{kept}
 use Rattle.expr_tree.specs.Plain.{plain_cond}
 use Rattle.expr_tree.specs.Views.{cond_tree}

@@ -1,5 +1,5 @@
-use Rattle.std.proofs.Common.{◌≡◌, ◌∙◌, refl, sym, ap, ap₂, subst, arith, [], ◌∷◌, List, ℤ, map, length, Option}
-use Rattle.std.proofs.Common.{◌<◌, ◌++◌}
+use Rattle.std.proofs.Common.{◌∙◌, sym, ap₂, [], ◌∷◌, List, map}
+use Rattle.std.proofs.Common.{◌++◌}
 use Rattle.semantics.specs.Multiset.{Record}
 use Rattle.semantics.specs.Meaning.{value}
 use Rattle.expr_tree.specs.Plain.{plain_scalar}

@@ -1,4 +1,4 @@
-use Rattle.std.proofs.Common.{◌≡◌, ◌∙◌, refl, sym, ap, subst, arith, [], ◌∷◌, List, ℤ, map, length}
+use Rattle.std.proofs.Common.{subst}
 use Rattle.board.specs.Shown.{Shown, Goes}
 use Rattle.board.specs.Fits.{ChainFits}
 use Rattle.board.specs.Step.{Action}
@@ -21,8 +21,7 @@ invariant_of-self c =
 
 pub returns-then-has_message-clause-claims : goal.returns-then-has_message-clause-claims
 returns-then-has_message-clause-claims c =
-    let P : Shown → Type 0 = λ s. Goes s (Action.claim 0) c.claim.new.self in
-    (
+    let P : Shown → Type 0 = λ s. Goes s (Action.claim 0) c.claim.new.self in (
       c.if-worker-ne0.false,
       (0, subst P c.self.view_is (claim_goes c.self.inside.state c.claim.new.self c.claim.result.0 (cc) c.if-not-is_free.ensures c.claim.ensures.message c.claim.ensures.state)),
       claim_holds c.self.inside.state c.claim.new.self c.claim.result.0 c.claim.ensures.graph c.claim.ensures.state,

@@ -1,4 +1,3 @@
-use Rattle.std.proofs.Common.{◌≡◌, ◌∙◌, refl, sym, ap, subst, arith, [], ◌∷◌, List, ℤ}
 use Rattle.board.proofs.Boards.{commit_kept, commit_commits, commit_fed}
 use Rattle.board.proofs.board.Board.commit.Goals as goal
 

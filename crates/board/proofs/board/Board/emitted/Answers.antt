@@ -1,4 +1,4 @@
-use Rattle.std.proofs.Common.{◌≡◌, ◌∙◌, refl, sym, ap, subst, arith, [], ◌∷◌, List, ℤ}
+use Rattle.std.proofs.Common.{subst}
 use Rattle.board.specs.Shown.{Shown}
 use Rattle.board.specs.Headline.{Headline}
 use Rattle.board.specs.Views.{chain_of}

@@ -1,4 +1,3 @@
-use Rattle.std.proofs.Common.{◌≡◌, ◌∙◌, refl, sym, ap, subst, arith, [], ◌∷◌, List, ℤ}
 use Rattle.board.proofs.Boards.{abandon_goes, abandon_kept}
 use Rattle.board.proofs.board.Board.give_up.Goals as goal
 

@@ -1,4 +1,3 @@
-use Rattle.std.proofs.Common.{◌≡◌, ◌∙◌, refl, sym, ap, subst, arith, [], ◌∷◌, List, ℤ}
 use Rattle.board.proofs.Boards.{answered, kept_if, seal_step}
 use Rattle.board.specs.Step.{Action, after_seal}
 use Rattle.board.specs.Views.{chain_of}

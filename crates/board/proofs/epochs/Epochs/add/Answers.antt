@@ -1,4 +1,4 @@
-use Rattle.std.proofs.Common.{◌≡◌, ◌∙◌, ◌++◌, ◌∷◌, [], ◌<◌, List, ℤ, length, slice_index_or, slice_set, refl, sym, ap, arith, vec_len}
+use Rattle.std.proofs.Common.{◌≡◌, ◌∙◌, ◌++◌, ◌<◌, List, ℤ, length, slice_set, sym, ap, arith}
 use Rattle.std.proofs.lemmas.Result.{on_ok_weaker}
 use Rattle.board.specs.Step.{more_at}
 use Rattle.board.proofs.Places.{more-set, more-new}
@@ -8,12 +8,12 @@ pub returns-then-at-len-clause-ok : goal.returns-then-at-len-clause-ok
 returns-then-at-len-clause-ok c =
     on_ok_weaker c.append.result
     (λ is.
-      let there : c.args.epoch < length c.self.inside.lists.items = omega arith in
-      let e : c.append.new.self ≡ c.index_mut.result.now ++ c.args.records = is in
-      rw e (
-        ap (λ (y : List (List ℤ)). slice_set c.self.inside.lists.items c.args.epoch (y ++ c.args.records)) c.index_mut.ensures.value
-        ∙ sym (more-set c.args.epoch c.args.records c.index_mut.result.now c.self.inside.lists.items there)
-        ∙ ap (more_at c.args.epoch c.args.records) c.self.view_is))
+    let there : c.args.epoch < length c.self.inside.lists.items = omega arith in
+    let e : c.append.new.self ≡ c.index_mut.result.now ++ c.args.records = is in
+    rw e (
+    ap (λ (y : List (List ℤ)). slice_set c.self.inside.lists.items c.args.epoch (y ++ c.args.records)) c.index_mut.ensures.value
+    ∙ sym (more-set c.args.epoch c.args.records c.index_mut.result.now c.self.inside.lists.items there)
+    ∙ ap (more_at c.args.epoch c.args.records) c.self.view_is))
     c.append.ensures.ok
 
 pub returns-clause-ok : goal.returns-clause-ok

@@ -1,9 +1,6 @@
-use Rattle.std.proofs.Common.{◌≡◌, ◌∙◌, refl, sym, ap, subst, arith, [], ◌∷◌, List, ℤ}
+use Rattle.std.proofs.Common.{arith}
 use Rattle.board.proofs.Places.{arity-there, arity-none}
-use Rattle.board.specs.Views.{GraphParts}
-use Rattle.board.specs.Step.{arity_at}
-use Rattle.expr_tree.specs.Plain.{plain_input}
-use Rattle.std.proofs.Common.{map, length, ◌<◌, ◌≤◌}
+use Rattle.std.proofs.Common.{length, ◌<◌, ◌≤◌}
 use Rattle.board.proofs.graph.Graph.arity.Goals as goal
 
 pub returns-then-input-len : goal.returns-then-input-len

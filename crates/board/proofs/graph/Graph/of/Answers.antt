@@ -1,10 +1,10 @@
-use Rattle.std.proofs.Common.{◌≡◌, ◌∙◌, refl, sym, ap, ap₂, subst, arith, [], ◌∷◌, List, ℤ, map, length, Option}
-use Rattle.std.proofs.Common.{rules, vec_len}
+use Rattle.std.proofs.Common.{◌≡◌, ◌∙◌, sym, ap, arith, [], map}
+use Rattle.std.proofs.Common.{vec_len}
 use Rattle.semantics.specs.Query as query
-use Rattle.expr_tree.specs.Plain.{plain_program, plain_input, plain_rel, plain_let}
-use Rattle.expr_tree.specs.Views.{program_tree, rel_tree, let_tree}
-use Rattle.board.specs.Chain.{query_of, relation}
-use Rattle.board.specs.Views.{chain_of, plain_vertex}
+use Rattle.expr_tree.specs.Plain.{plain_input, plain_rel, plain_let}
+use Rattle.expr_tree.specs.Views.{rel_tree, let_tree}
+use Rattle.board.specs.Chain.{relation}
+use Rattle.board.specs.Views.{plain_vertex}
 use Rattle.board.proofs.Typed.{graph_made, same_program, nil}
 use Rattle.board.proofs.Boards.{eq_true}
 use Rattle.board.proofs.graph.Graph.of.Goals as goal

@@ -1,4 +1,3 @@
-use Rattle.std.proofs.Common.{◌≡◌, ◌∙◌, refl, sym, ap, subst, arith, [], ◌∷◌, List, ℤ, map, length}
 use Rattle.board.proofs.vertex.Vertex.apply.Goals as goal
 
 pub select_all-requires : goal.select_all-requires
