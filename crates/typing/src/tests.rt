@@ -56,7 +56,12 @@ fn over_a(alloc: Global, arity: u64, output: Rel<Global>) -> Result<Program<Glob
 }
 
 /// `select(RELATION; #COLUMN)`, the column at 28..30.
-fn selected(alloc: Global, span: Span, relation: Rel<Global>, column: u64) -> Result<Rel<Global>, Fail> {
+fn selected(
+    alloc: Global,
+    span: Span,
+    relation: Rel<Global>,
+    column: u64,
+) -> Result<Rel<Global>, Fail> {
     let mut scalars = Vec::new(alloc);
     scalars.push(Scalar::Column(at(28, 30), column))?;
     Ok(Rel::select(alloc, span, relation, scalars)?)
@@ -153,7 +158,14 @@ fn arities_that_differ(rt: HostRuntime) -> Result<(), Fail> {
 
 /// `output iterate(TURNS; x = a; x);`
 fn turns(alloc: Global, turns: u64) -> Result<Program<Global>, Fail> {
-    let output = looped(alloc, at(18, 42), turns, b"x", named(36, b"a")?, named(39, b"x")?)?;
+    let output = looped(
+        alloc,
+        at(18, 42),
+        turns,
+        b"x",
+        named(36, b"a")?,
+        named(39, b"x")?,
+    )?;
     over_a(alloc, 1, output)
 }
 
@@ -173,7 +185,14 @@ fn too_many_turns(rt: HostRuntime) -> Result<(), Fail> {
 
 /// `output iterate(1; x = x; a);`
 fn own_start(alloc: Global) -> Result<Program<Global>, Fail> {
-    let output = looped(alloc, at(18, 39), 1, b"x", named(33, b"x")?, named(36, b"a")?)?;
+    let output = looped(
+        alloc,
+        at(18, 39),
+        1,
+        b"x",
+        named(33, b"x")?,
+        named(36, b"a")?,
+    )?;
     over_a(alloc, 1, output)
 }
 
@@ -206,7 +225,12 @@ fn an_input_of_arity_0_before_an_unknown_name(rt: HostRuntime) -> Result<(), Fai
 }
 
 /// `input a/1; let NAME = RELATION; output OUTPUT;`, the let's name at 15..16.
-fn with_let(alloc: Global, name: &[u8], relation: Rel<Global>, output: Rel<Global>) -> Result<Program<Global>, Fail> {
+fn with_let(
+    alloc: Global,
+    name: &[u8],
+    relation: Rel<Global>,
+    output: Rel<Global>,
+) -> Result<Program<Global>, Fail> {
     let mut program = over_a(alloc, 1, output)?;
     let name = word(name)?;
     let relation = Box::new(alloc, relation)?;
@@ -234,14 +258,24 @@ fn a_let_in_its_own_relation(rt: HostRuntime) -> Result<(), Fail> {
 
 #[test]
 fn a_variable_called_like_a_later_let(rt: HostRuntime) -> Result<(), Fail> {
-    let program = with_let(rt.alloc(), b"b", turned(rt.alloc(), b"b")?, named(29, b"b")?)?;
+    let program = with_let(
+        rt.alloc(),
+        b"b",
+        turned(rt.alloc(), b"b")?,
+        named(29, b"b")?,
+    )?;
     assert_eq!(rt; refused(rt.alloc(), program), None);
     Ok(())
 }
 
 #[test]
 fn a_variable_called_like_an_earlier_let(rt: HostRuntime) -> Result<(), Fail> {
-    let program = with_let(rt.alloc(), b"b", named(19, b"a")?, turned(rt.alloc(), b"b")?)?;
+    let program = with_let(
+        rt.alloc(),
+        b"b",
+        named(19, b"a")?,
+        turned(rt.alloc(), b"b")?,
+    )?;
     assert_eq!(rt; refused(rt.alloc(), program), told(12, 31, 32));
     Ok(())
 }
@@ -293,7 +327,14 @@ fn nine_loops(rt: HostRuntime) -> Result<(), Fail> {
 
 #[test]
 fn eight_loops_in_a_start(rt: HostRuntime) -> Result<(), Fail> {
-    let output = looped(rt.alloc(), at(18, 28), 1, b"x", nested(rt.alloc(), 8)?, named(26, b"x")?)?;
+    let output = looped(
+        rt.alloc(),
+        at(18, 28),
+        1,
+        b"x",
+        nested(rt.alloc(), 8)?,
+        named(26, b"x")?,
+    )?;
     let program = over_a(rt.alloc(), 1, output)?;
     assert_eq!(rt; refused(rt.alloc(), program), None);
     Ok(())
