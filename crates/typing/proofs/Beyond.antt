@@ -1,5 +1,5 @@
 -- The first column beyond, of lists end to end.
-use Rattle.std.proofs.Common.{◌≡◌, ℕ, suc, ◌+◌, ◌<◌, Bool, true, false, cond, nat_lt, List, [], ◌∷◌, ◌++◌, length, map, flat_map, drop, get_or, Option, None, Some, refl, sym, ◌∙◌, ap, subst, arith, drop-cons, add-one}
+use Rattle.std.proofs.Common.{◌≡◌, ℕ, suc, ◌+◌, ◌<◌, Bool, true, false, cond, nat_lt, List, [], ◌∷◌, ◌++◌, length, map, flat_map, drop, get_or, None, Some, refl, drop-cons, add-one}
 use Rattle.record_core.specs.declared.span.Span.{Span}
 use Rattle.typing.specs.Columns.{ColumnUse, first_beyond}
 

@@ -1,5 +1,5 @@
 -- What an outcome of a chain of checks says of its parts.
-use Rattle.std.proofs.Common.{◌≡◌, ◌≢◌, ℕ, ◌<◌, ◌≤◌, Bool, true, false, cond, nat_lt, nat_le, nat_eq, ◌&&◌, Option, None, Some, Result, Ok, Err, ◌⊎◌, inl, inr, refl, sym, ◌∙◌, ap, arith, eq-eqb}
+use Rattle.std.proofs.Common.{◌≡◌, ◌≢◌, ℕ, ◌<◌, ◌≤◌, Bool, true, false, cond, nat_lt, nat_le, nat_eq, ◌&&◌, Option, None, Some, Result, Ok, Err, refl, arith, eq-eqb}
 use Rattle.std.proofs.lemmas.Bool.{ltb-true, lt-ltb, leb-true, le-leb, eqb-true}
 use Rattle.record_core.specs.declared.span.Span.{Span}
 use Rattle.semantics.specs.Typing.{IsArity}
@@ -77,8 +77,8 @@ sized_is_ok s n m h = let k = test_is_ok (is_arity n) (Ok n) (fault BAD_ARITY s)
 pub sized_is_err : (s : Span) (n : ℕ) (f : Fault) → sized s n ≡ Err f → (IsArity n → ⊥) × (fault BAD_ARITY s ≡ f)
 sized_is_err s n f h =
     test_is_err (is_arity n) (Ok n) (fault BAD_ARITY s) f ((IsArity n → ⊥) × (fault BAD_ARITY s ≡ f)) h
-      (λ e k. (false_arity n e, k))
-      (λ e k. absurd (cc))
+    (λ e k. (false_arity n e, k))
+    (λ e k. absurd (cc))
 
 pub differ_false : (a b : ℕ) → a ≢ b → nat_eq a b ≡ false
 differ_false a b h = go (nat_eq a b) refl

@@ -1,18 +1,16 @@
 -- A relation has an arity exactly where the checks say so, and a first fault exactly where they say that.
-use Rattle.std.proofs.Common.{◌≡◌, ℕ, suc, ◌+◌, ◌<◌, ◌≤◌, Bool, true, false, cond, nat_lt, nat_le, nat_eq, List, [], ◌∷◌, length, map, flat_map, Option, None, Some, Result, Ok, Err, ◌⊎◌, inl, inr, refl, sym, ◌∙◌, ap, subst, arith, eq-eqb}
+use Rattle.std.proofs.Common.{◌≡◌, ℕ, suc, ◌+◌, cond, nat_lt, nat_le, nat_eq, ◌∷◌, length, flat_map, None, Ok, Err, refl, sym, ◌∙◌, ap, subst, eq-eqb}
 use Rattle.std.proofs.lemmas.Bool.{ltb-true, lt-ltb, leb-true, le-leb, eqb-true}
 use Rattle.std.proofs.lemmas.List.{length-map}
-use Rattle.record_core.specs.declared.span.Span.{Span}
 use Rattle.expr_tree.specs.Trees.{RelTree}
-use Rattle.expr_tree.specs.Plain.{plain_scalar, plain_cond, plain_pair, plain_agg, plain_rel}
+use Rattle.expr_tree.specs.Plain.{plain_scalar, plain_agg, plain_rel}
 use Rattle.semantics.specs.Typing.{Scope, lookup, entry, IsArity, HasArity}
-use Rattle.typing.specs.declared.refusals.TheConstants.{UNKNOWN_NAME, NAME_TAKEN, NO_SUCH_COLUMN, ARITIES_DIFFER, BODY_DIFFERS, BAD_ARITY, TOO_MANY_TURNS, TOO_DEEP, TOO_MANY_INPUTS}
+use Rattle.typing.specs.declared.refusals.TheConstants.{ARITIES_DIFFER, BODY_DIFFERS, TOO_MANY_TURNS, TOO_DEEP}
 use Rattle.typing.specs.Columns.{scalar_columns, cond_columns, pair_columns, key_columns, agg_columns, first_beyond}
-use Rattle.typing.specs.Fault.{Fault, fault, span_of}
-use Rattle.typing.specs.FirstFault.{FaultIn}
-use Rattle.typing.specs.Verdict.{chain, within, unless_taken, known, is_arity, sized, verdict}
+use Rattle.typing.specs.Fault.{fault, span_of}
+use Rattle.typing.specs.Verdict.{chain, within, unless_taken, known, sized, verdict}
 use Rattle.typing.proofs.Fits.{scalars_fit, scalars_none, cond_fits, cond_none, pairs_fit, pairs_none, keys_fit, keys_none, aggs_fit, aggs_none}
-use Rattle.typing.proofs.Chains.{chain_is_ok, chain_is_err, within_is_ok, within_is_err, unless_is_ok, unless_is_err, test_is_ok, test_is_err, known_is_ok, known_is_err, sized_is_ok, sized_is_err, arity_true, arity_false}
+use Rattle.typing.proofs.Chains.{chain_is_ok, within_is_ok, unless_is_ok, test_is_ok, known_is_ok, sized_is_ok, arity_true}
 
 -- what has an arity passes
 pub typed_told : (r : RelTree) (scope : Scope) (d n : ℕ) → HasArity (plain_rel r) scope d n → verdict r scope d ≡ Ok n
@@ -75,6 +73,10 @@ told_typed (RelTree.iterate s t k u x r b) scope d n h =
     let g = chain_is_ok (verdict b (entry x e.0 ∷ scope) (suc d)) (turned e.0) n f.1 in
     let i = test_is_ok (nat_eq g.0 e.0) (Ok e.0) (fault BODY_DIFFERS (span_of b)) n g.2 in
     let j : e.0 ≡ n = cc in
-    let l = eqb-true g.0 e.0 i.0 in
-    (leb-true k 1024 a.0, ltb-true d 8 c.0, told_typed r scope d n (e.1 ∙ ap Ok j), f.0,
-     told_typed b (entry x n ∷ scope) (suc d) n (subst (λ m. verdict b (entry x m ∷ scope) (suc d) ≡ Ok m) j (g.1 ∙ ap Ok l)))
+    let l = eqb-true g.0 e.0 i.0 in (
+      leb-true k 1024 a.0,
+      ltb-true d 8 c.0,
+      told_typed r scope d n (e.1 ∙ ap Ok j),
+      f.0,
+      told_typed b (entry x n ∷ scope) (suc d) n (subst (λ m. verdict b (entry x m ∷ scope) (suc d) ≡ Ok m) j (g.1 ∙ ap Ok l)),
+    )

@@ -51,5 +51,5 @@ outcome_of v n e = ap outcome e
 pub well_typed : (p : ProgramTree) (n : ℕ) → ∥ WellTyped (plain_program p) n ∥₁ → WellTyped (plain_program p) n
 well_typed p n h =
     program_told_typed p n
-      (outcome_ok (program_verdict p) n
-        (∥∥₁_elim h (ℕ_set (outcome (program_verdict p)) (suc n)) (λ k. outcome_of (program_verdict p) n (program_typed_told p n k))))
+    (outcome_ok (program_verdict p) n
+    (∥∥₁_elim h (ℕ_set (outcome (program_verdict p)) (suc n)) (λ k. outcome_of (program_verdict p) n (program_typed_told p n k))))

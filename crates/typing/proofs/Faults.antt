@@ -1,16 +1,14 @@
 -- A relation has a first fault exactly where the checks tell it.
-use Rattle.std.proofs.Common.{◌≡◌, ◌≢◌, ℕ, suc, ◌+◌, ◌<◌, ◌≤◌, Bool, true, false, cond, nat_lt, nat_le, nat_eq, List, [], ◌∷◌, length, map, flat_map, Option, None, Some, Result, Ok, Err, ◌⊎◌, inl, inr, refl, sym, ◌∙◌, ap, subst, arith, eq-eqb}
-use Rattle.std.proofs.lemmas.Bool.{ltb-true, lt-ltb, leb-true, le-leb, leb-false, ltb-false, eqb-true}
-use Rattle.record_core.specs.declared.span.Span.{Span}
+use Rattle.std.proofs.Common.{◌≡◌, ℕ, suc, ◌+◌, cond, nat_lt, nat_le, nat_eq, ◌∷◌, length, flat_map, Ok, Err, ap, subst}
+use Rattle.std.proofs.lemmas.Bool.{ltb-true, lt-ltb, leb-true, le-leb, leb-false, ltb-false}
 use Rattle.expr_tree.specs.Trees.{RelTree}
-use Rattle.expr_tree.specs.Plain.{plain_rel}
-use Rattle.semantics.specs.Typing.{Scope, lookup, entry, IsArity, HasArity}
-use Rattle.typing.specs.declared.refusals.TheConstants.{UNKNOWN_NAME, NAME_TAKEN, NO_SUCH_COLUMN, ARITIES_DIFFER, BODY_DIFFERS, BAD_ARITY, TOO_MANY_TURNS, TOO_DEEP, TOO_MANY_INPUTS}
+use Rattle.semantics.specs.Typing.{Scope, lookup, entry}
+use Rattle.typing.specs.declared.refusals.TheConstants.{UNKNOWN_NAME, ARITIES_DIFFER, BODY_DIFFERS, TOO_MANY_TURNS, TOO_DEEP}
 use Rattle.typing.specs.Columns.{scalar_columns, cond_columns, pair_columns, key_columns, agg_columns, first_beyond}
 use Rattle.typing.specs.Fault.{Fault, fault, span_of}
 use Rattle.typing.specs.FirstFault.{FaultIn}
-use Rattle.typing.specs.Verdict.{chain, within, unless_taken, known, is_arity, sized, verdict}
-use Rattle.typing.proofs.Chains.{chain_is_ok, chain_is_err, within_is_ok, within_is_err, unless_is_ok, unless_is_err, test_is_ok, test_is_err, known_is_ok, known_is_err, sized_is_ok, sized_is_err, arity_true, arity_false, differ_false, above_false, least_false, false_differ}
+use Rattle.typing.specs.Verdict.{chain, within, unless_taken, known, sized, verdict}
+use Rattle.typing.proofs.Chains.{chain_is_err, within_is_err, unless_is_err, test_is_err, known_is_err, sized_is_err, arity_false, differ_false, above_false, least_false, false_differ}
 use Rattle.typing.proofs.Decided.{typed_told, told_typed}
 
 -- a first fault is told
@@ -50,48 +48,48 @@ told_fault (RelTree.select s r ts) scope d f h =
     let G = FaultIn (RelTree.select s r ts) scope d in
     let next = λ (m : ℕ). within (first_beyond (flat_map (scalar_columns m) ts)) (sized s (length ts)) in
     chain_is_err (verdict r scope d) next f (G f) h
-      (λ e. FaultIn.select_part (told_fault r scope d f e))
-      (λ m e k. within_is_err (first_beyond (flat_map (scalar_columns m) ts)) (sized s (length ts)) f (G f) k
-        (λ at b i. subst G i (FaultIn.select_column m (told_typed r scope d m e) b))
-        (λ b i. let j = sized_is_err s (length ts) f i in subst G j.1 (FaultIn.select_arity m (told_typed r scope d m e) b j.0)))
+    (λ e. FaultIn.select_part (told_fault r scope d f e))
+    (λ m e k. within_is_err (first_beyond (flat_map (scalar_columns m) ts)) (sized s (length ts)) f (G f) k
+    (λ at b i. subst G i (FaultIn.select_column m (told_typed r scope d m e) b))
+    (λ b i. let j = sized_is_err s (length ts) f i in subst G j.1 (FaultIn.select_arity m (told_typed r scope d m e) b j.0)))
 told_fault (RelTree.filter s r c) scope d f h =
     let G = FaultIn (RelTree.filter s r c) scope d in
     let next = λ (m : ℕ). within (first_beyond (cond_columns m c)) (Ok m) in
     chain_is_err (verdict r scope d) next f (G f) h
-      (λ e. FaultIn.filter_part (told_fault r scope d f e))
-      (λ m e k. within_is_err (first_beyond (cond_columns m c)) (Ok m) f (G f) k
-        (λ at b i. subst G i (FaultIn.filter_column m (told_typed r scope d m e) b))
-        (λ b i. absurd (cc)))
+    (λ e. FaultIn.filter_part (told_fault r scope d f e))
+    (λ m e k. within_is_err (first_beyond (cond_columns m c)) (Ok m) f (G f) k
+    (λ at b i. subst G i (FaultIn.filter_column m (told_typed r scope d m e) b))
+    (λ b i. absurd (cc)))
 told_fault (RelTree.concat s p q) scope d f h =
     let G = FaultIn (RelTree.concat s p q) scope d in
     let last = λ (l m : ℕ). cond (nat_eq l m) (Ok l) (Err (fault ARITIES_DIFFER s)) in
     chain_is_err (verdict p scope d) (λ l. chain (verdict q scope d) (last l)) f (G f) h
-      (λ e. FaultIn.concat_left (told_fault p scope d f e))
-      (λ l e k. chain_is_err (verdict q scope d) (last l) f (G f) k
-        (λ i. FaultIn.concat_right l (told_typed p scope d l e) (told_fault q scope d f i))
-        (λ m i j. test_is_err (nat_eq l m) (Ok l) (fault ARITIES_DIFFER s) f (G f) j
-          (λ a b. subst G b (FaultIn.concat_arity l m (told_typed p scope d l e) (told_typed q scope d m i) (false_differ l m a)))
-          (λ a b. absurd (cc))))
+    (λ e. FaultIn.concat_left (told_fault p scope d f e))
+    (λ l e k. chain_is_err (verdict q scope d) (last l) f (G f) k
+    (λ i. FaultIn.concat_right l (told_typed p scope d l e) (told_fault q scope d f i))
+    (λ m i j. test_is_err (nat_eq l m) (Ok l) (fault ARITIES_DIFFER s) f (G f) j
+    (λ a b. subst G b (FaultIn.concat_arity l m (told_typed p scope d l e) (told_typed q scope d m i) (false_differ l m a)))
+    (λ a b. absurd (cc))))
 told_fault (RelTree.join s p q ps) scope d f h =
     let G = FaultIn (RelTree.join s p q ps) scope d in
     let last = λ (l m : ℕ). within (first_beyond (flat_map (pair_columns l m) ps)) (sized s (l + m)) in
     chain_is_err (verdict p scope d) (λ l. chain (verdict q scope d) (last l)) f (G f) h
-      (λ e. FaultIn.join_left (told_fault p scope d f e))
-      (λ l e k. chain_is_err (verdict q scope d) (last l) f (G f) k
-        (λ i. FaultIn.join_right l (told_typed p scope d l e) (told_fault q scope d f i))
-        (λ m i j. within_is_err (first_beyond (flat_map (pair_columns l m) ps)) (sized s (l + m)) f (G f) j
-          (λ at a b. subst G b (FaultIn.join_column l m (told_typed p scope d l e) (told_typed q scope d m i) a))
-          (λ a b. let c = sized_is_err s (l + m) f b in subst G c.1 (FaultIn.join_arity l m (told_typed p scope d l e) (told_typed q scope d m i) a c.0))))
+    (λ e. FaultIn.join_left (told_fault p scope d f e))
+    (λ l e k. chain_is_err (verdict q scope d) (last l) f (G f) k
+    (λ i. FaultIn.join_right l (told_typed p scope d l e) (told_fault q scope d f i))
+    (λ m i j. within_is_err (first_beyond (flat_map (pair_columns l m) ps)) (sized s (l + m)) f (G f) j
+    (λ at a b. subst G b (FaultIn.join_column l m (told_typed p scope d l e) (told_typed q scope d m i) a))
+    (λ a b. let c = sized_is_err s (l + m) f b in subst G c.1 (FaultIn.join_arity l m (told_typed p scope d l e) (told_typed q scope d m i) a c.0))))
 told_fault (RelTree.group s r ks gs) scope d f h =
     let G = FaultIn (RelTree.group s r ks gs) scope d in
     let last = λ (m : ℕ). within (first_beyond (flat_map (agg_columns m) gs)) (sized s (length ks + length gs)) in
     chain_is_err (verdict r scope d) (λ m. within (first_beyond (flat_map (key_columns m) ks)) (last m)) f (G f) h
-      (λ e. FaultIn.group_part (told_fault r scope d f e))
-      (λ m e k. within_is_err (first_beyond (flat_map (key_columns m) ks)) (last m) f (G f) k
-        (λ at a b. subst G b (FaultIn.group_key m (told_typed r scope d m e) a))
-        (λ a b. within_is_err (first_beyond (flat_map (agg_columns m) gs)) (sized s (length ks + length gs)) f (G f) b
-          (λ at i j. subst G j (FaultIn.group_column m (told_typed r scope d m e) a i))
-          (λ i j. let c = sized_is_err s (length ks + length gs) f j in subst G c.1 (FaultIn.group_arity m (told_typed r scope d m e) a i c.0))))
+    (λ e. FaultIn.group_part (told_fault r scope d f e))
+    (λ m e k. within_is_err (first_beyond (flat_map (key_columns m) ks)) (last m) f (G f) k
+    (λ at a b. subst G b (FaultIn.group_key m (told_typed r scope d m e) a))
+    (λ a b. within_is_err (first_beyond (flat_map (agg_columns m) gs)) (sized s (length ks + length gs)) f (G f) b
+    (λ at i j. subst G j (FaultIn.group_column m (told_typed r scope d m e) a i))
+    (λ i j. let c = sized_is_err s (length ks + length gs) f j in subst G c.1 (FaultIn.group_arity m (told_typed r scope d m e) a i c.0))))
 told_fault (RelTree.distinct s r) scope d f h = FaultIn.distinct_part (told_fault r scope d f h)
 told_fault (RelTree.iterate s t n u x r b) scope d f h =
     let G = FaultIn (RelTree.iterate s t n u x r b) scope d in
@@ -99,15 +97,15 @@ told_fault (RelTree.iterate s t n u x r b) scope d f h =
     let inner = λ (m : ℕ). chain (verdict b (entry x m ∷ scope) (suc d)) (last m) in
     let next = λ (m : ℕ). unless_taken (lookup scope x) u (inner m) in
     test_is_err (nat_le n 1024) (cond (nat_lt d 8) (chain (verdict r scope d) next) (Err (fault TOO_DEEP s))) (fault TOO_MANY_TURNS t) f (G f) h
-      (λ e k. subst G k (FaultIn.iterate_turns (leb-false n 1024 e)))
-      (λ few k. test_is_err (nat_lt d 8) (chain (verdict r scope d) next) (fault TOO_DEEP s) f (G f) k
-        (λ e i. subst G i (FaultIn.iterate_depth (leb-true n 1024 few) (ltb-false d 8 e)))
-        (λ shallow i. chain_is_err (verdict r scope d) next f (G f) i
-          (λ e. FaultIn.iterate_start (leb-true n 1024 few) (ltb-true d 8 shallow) (told_fault r scope d f e))
-          (λ m e j. unless_is_err (lookup scope x) u (inner m) f (G f) j
-            (λ k a c. subst G c (FaultIn.iterate_variable m k (leb-true n 1024 few) (ltb-true d 8 shallow) (told_typed r scope d m e) a))
-            (λ free c. chain_is_err (verdict b (entry x m ∷ scope) (suc d)) (last m) f (G f) c
-              (λ a. FaultIn.iterate_body m (leb-true n 1024 few) (ltb-true d 8 shallow) (told_typed r scope d m e) free (told_fault b (entry x m ∷ scope) (suc d) f a))
-              (λ k a c. test_is_err (nat_eq k m) (Ok m) (fault BODY_DIFFERS (span_of b)) f (G f) c
-                (λ no i. subst G i (FaultIn.iterate_arity m k (leb-true n 1024 few) (ltb-true d 8 shallow) (told_typed r scope d m e) free (told_typed b (entry x m ∷ scope) (suc d) k a) (false_differ k m no)))
-                (λ yes i. absurd (cc)))))))
+    (λ e k. subst G k (FaultIn.iterate_turns (leb-false n 1024 e)))
+    (λ few k. test_is_err (nat_lt d 8) (chain (verdict r scope d) next) (fault TOO_DEEP s) f (G f) k
+    (λ e i. subst G i (FaultIn.iterate_depth (leb-true n 1024 few) (ltb-false d 8 e)))
+    (λ shallow i. chain_is_err (verdict r scope d) next f (G f) i
+    (λ e. FaultIn.iterate_start (leb-true n 1024 few) (ltb-true d 8 shallow) (told_fault r scope d f e))
+    (λ m e j. unless_is_err (lookup scope x) u (inner m) f (G f) j
+    (λ k a c. subst G c (FaultIn.iterate_variable m k (leb-true n 1024 few) (ltb-true d 8 shallow) (told_typed r scope d m e) a))
+    (λ free c. chain_is_err (verdict b (entry x m ∷ scope) (suc d)) (last m) f (G f) c
+    (λ a. FaultIn.iterate_body m (leb-true n 1024 few) (ltb-true d 8 shallow) (told_typed r scope d m e) free (told_fault b (entry x m ∷ scope) (suc d) f a))
+    (λ k a c. test_is_err (nat_eq k m) (Ok m) (fault BODY_DIFFERS (span_of b)) f (G f) c
+    (λ no i. subst G i (FaultIn.iterate_arity m k (leb-true n 1024 few) (ltb-true d 8 shallow) (told_typed r scope d m e) free (told_typed b (entry x m ∷ scope) (suc d) k a) (false_differ k m no)))
+    (λ yes i. absurd (cc)))))))

@@ -1,9 +1,9 @@
 -- What the checks say of a part is said of the whole.
-use Rattle.std.proofs.Common.{◌≡◌, ℕ, suc, ◌+◌, ◌<◌, List, ◌∷◌, length, map, drop, get_or, ap, Result, Ok, Err, drop-cons, add-one, subst}
+use Rattle.std.proofs.Common.{◌≡◌, ℕ, suc, ◌+◌, ◌<◌, List, length, map, drop, get_or, ap, Result, Ok, drop-cons, add-one}
 use Rattle.record_core.specs.declared.span.Refusal.{Refusal}
 use Rattle.record_core.specs.declared.span.Refusal.TheVariants.{At, NoMemory}
 use Rattle.semantics.specs.Typing.{Scope}
-use Rattle.typing.specs.Fault.{Fault, fault}
+use Rattle.typing.specs.Fault.{Fault}
 use Rattle.typing.specs.Verdict.{chain, each, Says}
 
 pub chain_ok : {X Y : Type 0} (v : Result X Fault) (k : X → Result Y Fault) (x : X) → v ≡ Ok x → chain v k ≡ k x

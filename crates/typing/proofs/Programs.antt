@@ -1,15 +1,14 @@
 -- A program is well typed exactly where the checks say so, and has a first fault exactly where they tell it.
-use Rattle.std.proofs.Common.{◌≡◌, ℕ, suc, ◌+◌, ◌<◌, ◌≤◌, Bool, true, false, cond, nat_lt, List, [], ◌∷◌, length, map, Option, None, Some, Result, Ok, Err, refl, sym, ◌∙◌, ap, subst, arith}
+use Rattle.std.proofs.Common.{◌≡◌, ℕ, ◌+◌, ◌<◌, ◌≤◌, cond, nat_lt, List, [], ◌∷◌, length, map, None, Result, Ok, Err, refl, sym, subst, arith}
 use Rattle.std.proofs.lemmas.Bool.{ltb-true, lt-ltb, ltb-false}
 use Rattle.std.proofs.lemmas.List.{length-map}
-use Rattle.record_core.specs.declared.span.Span.{Span}
 use Rattle.expr_tree.specs.declared.program.Input.{Input}
 use Rattle.expr_tree.specs.Trees.{RelTree, LetTree, ProgramTree}
 use Rattle.expr_tree.specs.Plain.{plain_rel, plain_input, plain_let, plain_program}
 use Rattle.semantics.specs.Typing.{Scope, lookup, entry, IsArity, HasArity, InputsFit, after_inputs, RestFits, WellTyped}
-use Rattle.typing.specs.declared.refusals.TheConstants.{NAME_TAKEN, BAD_ARITY, TOO_MANY_INPUTS}
+use Rattle.typing.specs.declared.refusals.TheConstants.{BAD_ARITY, TOO_MANY_INPUTS}
 use Rattle.typing.specs.Fault.{Fault, fault}
-use Rattle.typing.specs.FirstFault.{FaultIn, InputFault, RestFault, FirstFault}
+use Rattle.typing.specs.FirstFault.{InputFault, RestFault, FirstFault}
 use Rattle.typing.specs.Verdict.{chain, unless_taken, is_arity, verdict, input_verdict, let_verdict, each, program_verdict}
 use Rattle.typing.proofs.Chains.{chain_is_ok, chain_is_err, unless_is_ok, unless_is_err, test_is_ok, test_is_err, arity_true, true_arity, arity_false, false_arity, least_false}
 use Rattle.typing.proofs.Decided.{typed_told, told_typed}
@@ -49,14 +48,14 @@ told_input (i ∷ is) scope f h =
     let G = InputFault (i ∷ is) scope in
     let few = cond (nat_lt (length scope) 16) (Ok (entry i.name i.arity ∷ scope)) (Err (fault TOO_MANY_INPUTS i.name_span)) in
     chain_is_err (input_verdict i scope) (each input_verdict is) f (G f) h
-      (λ e. unless_is_err (lookup scope i.name) i.name_span (cond (is_arity i.arity) few (Err (fault BAD_ARITY i.arity_span))) f (G f) e
-        (λ k a b. subst G b (InputFault.taken k a))
-        (λ free k. test_is_err (is_arity i.arity) few (fault BAD_ARITY i.arity_span) f (G f) k
-          (λ a b. subst G b (InputFault.bad_arity free (false_arity i.arity a)))
-          (λ fits b. test_is_err (nat_lt (length scope) 16) (Ok (entry i.name i.arity ∷ scope)) (fault TOO_MANY_INPUTS i.name_span) f (G f) b
-            (λ a c. subst G c (InputFault.too_many free (true_arity i.arity fits) (ltb-false (length scope) 16 a)))
-            (λ a c. absurd (cc)))))
-      (λ t e k. let p = input_passed i scope t e in InputFault.later p.0 p.1 p.2 (told_input is (entry i.name i.arity ∷ scope) f (subst (λ s. each input_verdict is s ≡ Err f) (sym p.3) k)))
+    (λ e. unless_is_err (lookup scope i.name) i.name_span (cond (is_arity i.arity) few (Err (fault BAD_ARITY i.arity_span))) f (G f) e
+    (λ k a b. subst G b (InputFault.taken k a))
+    (λ free k. test_is_err (is_arity i.arity) few (fault BAD_ARITY i.arity_span) f (G f) k
+    (λ a b. subst G b (InputFault.bad_arity free (false_arity i.arity a)))
+    (λ fits b. test_is_err (nat_lt (length scope) 16) (Ok (entry i.name i.arity ∷ scope)) (fault TOO_MANY_INPUTS i.name_span) f (G f) b
+    (λ a c. subst G c (InputFault.too_many free (true_arity i.arity fits) (ltb-false (length scope) 16 a)))
+    (λ a c. absurd (cc)))))
+    (λ t e k. let p = input_passed i scope t e in InputFault.later p.0 p.1 p.2 (told_input is (entry i.name i.arity ∷ scope) f (subst (λ s. each input_verdict is s ≡ Err f) (sym p.3) k)))
 
 -- the lets, then the output
 abbrev rest : List LetTree → RelTree → Scope → Result ℕ Fault
@@ -93,17 +92,17 @@ told_rest_fault (l ∷ ls) out scope f h =
     let G = RestFault (l ∷ ls) out scope in
     let next = λ (m : ℕ). unless_taken (lookup scope l.name) l.name_span (Ok (entry l.name m ∷ scope)) in
     chain_is_err (each let_verdict (l ∷ ls) scope) (λ t. verdict out t 0) f (G f) h
-      (λ e. chain_is_err (let_verdict l scope) (each let_verdict ls) f (G f) e
-        (λ a. chain_is_err (verdict l.relation scope 0) next f (G f) a
-          (λ b. RestFault.relation (told_fault l.relation scope 0 f b))
-          (λ m b c. unless_is_err (lookup scope l.name) l.name_span (Ok (entry l.name m ∷ scope)) f (G f) c
-            (λ k i j. subst G j (RestFault.taken m k (told_typed l.relation scope 0 m b) i))
-            (λ i j. absurd (cc))))
-        (λ t a b. let c = let_passed l scope t a in RestFault.later c.0 c.1 c.2 (told_rest_fault ls out (entry l.name c.0 ∷ scope) f (rw (c.3, b)))))
-      (λ t e k.
-        let b = chain_is_ok (let_verdict l scope) (each let_verdict ls) t e in
-        let c = let_passed l scope b.0 b.1 in
-        RestFault.later c.0 c.1 c.2 (told_rest_fault ls out (entry l.name c.0 ∷ scope) f (rw (c.3, b.2) k)))
+    (λ e. chain_is_err (let_verdict l scope) (each let_verdict ls) f (G f) e
+    (λ a. chain_is_err (verdict l.relation scope 0) next f (G f) a
+    (λ b. RestFault.relation (told_fault l.relation scope 0 f b))
+    (λ m b c. unless_is_err (lookup scope l.name) l.name_span (Ok (entry l.name m ∷ scope)) f (G f) c
+    (λ k i j. subst G j (RestFault.taken m k (told_typed l.relation scope 0 m b) i))
+    (λ i j. absurd (cc))))
+    (λ t a b. let c = let_passed l scope t a in RestFault.later c.0 c.1 c.2 (told_rest_fault ls out (entry l.name c.0 ∷ scope) f (rw (c.3, b)))))
+    (λ t e k.
+    let b = chain_is_ok (let_verdict l scope) (each let_verdict ls) t e in
+    let c = let_passed l scope b.0 b.1 in
+    RestFault.later c.0 c.1 c.2 (told_rest_fault ls out (entry l.name c.0 ∷ scope) f (rw (c.3, b.2) k)))
 
 -- the whole program
 pub program_typed_told : (p : ProgramTree) (n : ℕ) → WellTyped (plain_program p) n → program_verdict p ≡ Ok n
@@ -116,7 +115,7 @@ program_told_typed p n h =
     record {
       few = rw (length-map p.inputs plain_input) (let k = b.1 in omega arith);
       inputs = b.0;
-      rest = told_rest p.lets p.output (after_inputs [] (map plain_input p.inputs)) n (rw b.2 a.2)
+      rest = told_rest p.lets p.output (after_inputs [] (map plain_input p.inputs)) n (rw b.2 a.2);
     }
 
 pub program_fault_told : {p : ProgramTree} {f : Fault} → FirstFault p f → program_verdict p ≡ Err f
@@ -126,7 +125,7 @@ program_fault_told (FirstFault.rest {p = p} few h k) = rw (inputs_told p.inputs 
 pub program_told_fault : (p : ProgramTree) (f : Fault) → program_verdict p ≡ Err f → FirstFault p f
 program_told_fault p f h =
     chain_is_err (each input_verdict p.inputs []) (rest p.lets p.output) f (FirstFault p f) h
-      (λ e. FirstFault.input (told_input p.inputs [] f e))
-      (λ t e k.
-        let b = told_inputs p.inputs [] t (omega arith) e in
-        FirstFault.rest (let i = b.1 in omega arith) b.0 (told_rest_fault p.lets p.output (after_inputs [] (map plain_input p.inputs)) f (rw b.2 k)))
+    (λ e. FirstFault.input (told_input p.inputs [] f e))
+    (λ t e k.
+    let b = told_inputs p.inputs [] t (omega arith) e in
+    FirstFault.rest (let i = b.1 in omega arith) b.0 (told_rest_fault p.lets p.output (after_inputs [] (map plain_input p.inputs)) f (rw b.2 k)))

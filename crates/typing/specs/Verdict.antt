@@ -1,6 +1,6 @@
 -- What the checks say, computed: the arity, or the first fault. Only the clauses inside this crate cite it; `check` is stated
 -- by what is well typed and what a first fault is.
-use Rattle.std.specs.Prelude.{◌≡◌, ℕ, suc, ◌+◌, Bool, cond, nat_lt, nat_le, nat_eq, ◌&&◌, List, [], ◌∷◌, length, map, flat_map, Option, None, Some, Result, Ok, Err}
+use Rattle.std.specs.Prelude.{◌≡◌, ℕ, suc, ◌+◌, Bool, cond, nat_lt, nat_le, nat_eq, ◌&&◌, List, [], ◌∷◌, length, flat_map, Option, None, Some, Result, Ok, Err}
 use Rattle.record_core.specs.declared.span.Span.{Span}
 use Rattle.record_core.specs.declared.span.Refusal.{Refusal}
 use Rattle.record_core.specs.declared.span.Refusal.TheVariants.{At, NoMemory}
@@ -50,18 +50,18 @@ verdict (RelTree.group s r ks gs) scope d = chain (verdict r scope d) (λ m. wit
 verdict (RelTree.distinct s r) scope d = verdict r scope d
 verdict (RelTree.iterate s t n u x r b) scope d =
     cond (nat_le n 1024)
-      (cond (nat_lt d 8)
-        (chain (verdict r scope d) (λ m. unless_taken (lookup scope x) u (chain (verdict b (entry x m ∷ scope) (suc d)) (λ k. cond (nat_eq k m) (Ok m) (Err (fault BODY_DIFFERS (span_of b)))))))
-        (Err (fault TOO_DEEP s)))
-      (Err (fault TOO_MANY_TURNS t))
+    (cond (nat_lt d 8)
+    (chain (verdict r scope d) (λ m. unless_taken (lookup scope x) u (chain (verdict b (entry x m ∷ scope) (suc d)) (λ k. cond (nat_eq k m) (Ok m) (Err (fault BODY_DIFFERS (span_of b)))))))
+    (Err (fault TOO_DEEP s)))
+    (Err (fault TOO_MANY_TURNS t))
 
 -- of an input: the scope after it
 abbrev pub input_verdict : Input → Scope → Result Scope Fault
 input_verdict i scope =
     unless_taken (lookup scope i.name) i.name_span
-      (cond (is_arity i.arity)
-        (cond (nat_lt (length scope) 16) (Ok (entry i.name i.arity ∷ scope)) (Err (fault TOO_MANY_INPUTS i.name_span)))
-        (Err (fault BAD_ARITY i.arity_span)))
+    (cond (is_arity i.arity)
+    (cond (nat_lt (length scope) 16) (Ok (entry i.name i.arity ∷ scope)) (Err (fault TOO_MANY_INPUTS i.name_span)))
+    (Err (fault BAD_ARITY i.arity_span)))
 
 -- of a let: the scope after it
 abbrev pub let_verdict : LetTree → Scope → Result Scope Fault

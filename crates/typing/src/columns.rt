@@ -100,7 +100,11 @@ fn in_agg(agg: &Agg, arity: u64) -> Option<Span>
 {
     match agg {
         Agg::Count(_) => None,
-        Agg::Sum(_, column) | Agg::Min(_, column) | Agg::Max(_, column) => beyond(column.span, column.index, arity),
+        Agg::Sum(_, column) | Agg::Min(_, column) | Agg::Max(_, column) => beyond(
+            column.span,
+            column.index,
+            arity,
+        ),
     }
 }
 

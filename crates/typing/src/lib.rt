@@ -7,13 +7,13 @@
 //! trees are checked, and `semantics`, which says what is well typed; the normaliser and lowering take a `Typed`.
 #![tactic(auto)]
 
-mod refusals;
 mod columns;
+pub mod laws;
 mod names;
+mod program;
+mod refusals;
 mod relation;
 mod typed;
-mod program;
-pub mod laws;
 
 pub use program::check;
 pub use typed::Typed;

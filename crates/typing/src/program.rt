@@ -80,7 +80,10 @@ fn output_arity<A: Allocator>(alloc: Global, program: &Program<A>) -> Result<u64
 /// The program typed, or back whole with its first fault.
 ///
 /// The table of the names in scope takes memory; without it the refusal is `NoMemory`.
-pub fn check<A: Allocator>(alloc: Global, program: Program<A>) -> Result<Typed<A>, (Program<A>, Refusal)>
+pub fn check<A: Allocator>(
+    alloc: Global,
+    program: Program<A>,
+) -> Result<Typed<A>, (Program<A>, Refusal)>
     ensures typed { IfOk result (λ t. typed_program t ≡ program_tree program) }
     ensures fault { IfErr result (λ e. Told (program_tree program) e.1) }
     ensures whole { IfErr result (λ e. e.0 ≡ program) }

@@ -9,7 +9,10 @@ ghost use Rattle.typing.specs.Verdict.{verdict, sized, Tells};
 
 use crate::columns::{in_aggs, in_cond, in_keys, in_pairs, in_scalars};
 use crate::names::Names;
-use crate::refusals::{ARITIES_DIFFER, BAD_ARITY, BODY_DIFFERS, NAME_TAKEN, NO_SUCH_COLUMN, TOO_DEEP, TOO_MANY_TURNS, UNKNOWN_NAME, at};
+use crate::refusals::{
+    ARITIES_DIFFER, BAD_ARITY, BODY_DIFFERS, NAME_TAKEN, NO_SUCH_COLUMN, TOO_DEEP, TOO_MANY_TURNS,
+    UNKNOWN_NAME, at,
+};
 use expr_tree::Rel;
 use record_core::{Refusal, Span};
 use std::alloc::Allocator;
@@ -52,7 +55,11 @@ fn place<A: Allocator>(relation: &Rel<A>) -> Span
 }
 
 /// The arity of a relation in the bodies of that many loops.
-pub(crate) fn arity_of<A: Allocator>(names: &mut Names, relation: &Rel<A>, depth: u32) -> Result<u64, Refusal>
+pub(crate) fn arity_of<A: Allocator>(
+    names: &mut Names,
+    relation: &Rel<A>,
+    depth: u32,
+) -> Result<u64, Refusal>
     requires { depth ≤ 8 }
     ensures told { Tells result (verdict (rel_tree relation.now) names.old depth) }
     ensures small { IfOk result (λ n. n ≤ 16) }
@@ -92,7 +99,15 @@ pub(crate) fn arity_of<A: Allocator>(names: &mut Names, relation: &Rel<A>, depth
             form_arity(*span, keys.len(), aggs.len())
         }
         Rel::Distinct(_, relation) => arity_of(names, relation, depth),
-        Rel::Iterate { span, turns_span, turns, name_span, name, start, body } => {
+        Rel::Iterate {
+            span,
+            turns_span,
+            turns,
+            name_span,
+            name,
+            start,
+            body,
+        } => {
             if *turns > 1024 {
                 return Err(at(TOO_MANY_TURNS, *turns_span));
             }

@@ -1,5 +1,4 @@
 use Rattle.std.proofs.Common.{◌≡◌, flat_map, drop}
-
 use Rattle.typing.specs.Columns.{agg_columns, first_beyond}
 use Rattle.typing.proofs.columns.in_aggs.Given as goal
 

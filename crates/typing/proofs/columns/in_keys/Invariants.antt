@@ -1,5 +1,4 @@
 use Rattle.std.proofs.Common.{◌≡◌, flat_map, drop}
-
 use Rattle.typing.specs.Columns.{key_columns, first_beyond}
 use Rattle.typing.proofs.columns.in_keys.Given as goal
 

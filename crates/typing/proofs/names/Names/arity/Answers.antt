@@ -1,7 +1,5 @@
-use Rattle.std.proofs.Common.{◌≡◌, None, Some, sym, ◌∙◌, ap}
-use Rattle.std.specs.Map as table
+use Rattle.std.proofs.Common.{sym, ◌∙◌, ap}
 use Rattle.std.specs.Option.{option_copied}
-use Rattle.semantics.specs.Meaning.{same_name}
 use Rattle.typing.proofs.Named.{lookup_seen, small_at}
 use Rattle.typing.proofs.names.Names.arity.Goals as goal
 

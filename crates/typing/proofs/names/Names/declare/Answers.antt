@@ -1,9 +1,7 @@
-use Rattle.std.proofs.Common.{◌≡◌, ℕ, List, [], ◌∷◌, ◌++◌, None, sym, ◌∙◌, ap, subst}
-use Rattle.std.specs.List.{AllByRecursion}
+use Rattle.std.proofs.Common.{◌≡◌, None, sym, ◌∙◌, ap}
 use Rattle.indexmap.specs.IndexMap.{get}
 use Rattle.indexmap.proofs.CallerLemmas.{insert_entry-new}
 use Rattle.semantics.specs.Meaning.{same_name}
-use Rattle.semantics.specs.Typing.{entry}
 use Rattle.typing.specs.Scope.{scope_of}
 use Rattle.typing.proofs.Named.{lookup_seen, scope_declared, small_declared}
 use Rattle.typing.proofs.names.Names.declare.Goals as goal
