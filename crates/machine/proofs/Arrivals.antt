@@ -6,19 +6,23 @@ use Rattle.semantics.specs.Could.{at_vertex}
 use Rattle.semantics.specs.Time.{Time, same_time, at_epoch}
 use Rattle.semantics.proofs.MultisetSums.{≈-from, total-append}
 use Rattle.semantics.specs.Kinds.{Role}
-use Rattle.machine.specs.Network.{Network, ins}
-use Rattle.machine.specs.Step.{Step, parcels, absorbed_by, absorbed_with, absorbed_after, emitted_by, emitted_after, asked, asked_by, asked_first, Allowed, after_step, MakesBy}
+use Rattle.machine.specs.Network.{Network}
+use Rattle.machine.specs.World.{Message, Event, Held, World}
+use Rattle.machine.specs.Active.{sum_below, IsActive, message_pointstamp}
+use Rattle.machine.specs.Sending.{parcels}
+use Rattle.machine.specs.Processing.{absorbed_by, absorbed_with, absorbed_after, emitted_by, emitted_after, asked, MakesBy}
+use Rattle.machine.specs.Step.{Step, Allowed, after_step, put}
+use Rattle.machine.proofs.NetFlow.{ins}
+use Rattle.machine.proofs.Kept.{each}
 use Rattle.semantics.specs.Shard.{only_at}
-use Rattle.machine.specs.Sums.{put, each, sum_below}
-use Rattle.machine.specs.World.{Message, Event, Held, World, IsActive, message_pointstamp}
 use Rattle.machine.proofs.Commits.{once, way_after, vertex_after}
 use Rattle.machine.proofs.Counting.{eqb_self, below_one, below_changed, count-append}
 use Rattle.machine.proofs.Kept.{History, carried, in_hand, under_way, wished, wish_in_hand, wishes, some, bit, made, Due, Kept, GoodMessage, GoodRequest, GoodHand}
-use Rattle.machine.proofs.Laws.{IsNetwork, AtHome, times_in}
+use Rattle.machine.proofs.Laws.{IsNetwork, IsOutput, AtHome, times_in}
 use Rattle.machine.proofs.NetFlow.{HasFlows}
 use Rattle.machine.proofs.Notifications.{some_row}
 use Rattle.machine.proofs.Places.{same_time_tells, same_time_self, edge_not_vertex}
-use Rattle.machine.proofs.Progress.{put_tells, held_good}
+use Rattle.machine.proofs.Progress.{put_tells, held_good, asked_first, asked_by}
 use Rattle.machine.proofs.Sending.{Parcel, parcels_good, fits_sent, each-append, each_more}
 use Rattle.machine.proofs.Steps.{good_of, settled_after, way_sent, sent_elsewhere}
 
@@ -90,13 +94,13 @@ keyed_absorbed Role.output w k0 v0 p0 t0 records = inr (λ s. neither s, refl)
     neither (inl e) = absurd cc
     neither (inr e) = absurd cc
 
-sink_emitted : (role : Role) (w : World) (m : Message) (n : ℕ) →
-    ((role ≡ Role.output) × (emitted_by role w m n ≡ w.emitted n ++ cond (same_time m.time (at_epoch n)) m.records [])) ⊎ ((role ≢ Role.output) × (emitted_by role w m n ≡ w.emitted n))
-sink_emitted Role.input w m n = inr (λ e. cc, refl)
-sink_emitted Role.stateless w m n = inr (λ e. cc, refl)
-sink_emitted Role.stateful w m n = inr (λ e. cc, refl)
-sink_emitted Role.notified w m n = inr (λ e. cc, refl)
-sink_emitted Role.output w m n = inl (refl, refl)
+sink_emitted : (role : Role) (w : World) (v : ℕ) (t : Time) (records : List Record) (v' n : ℕ) →
+    ((role ≡ Role.output) × (emitted_by role w v t records v' n ≡ w.emitted v' n ++ cond (eqb v v') (cond (same_time t (at_epoch n)) records []) [])) ⊎ ((role ≢ Role.output) × (emitted_by role w v t records v' n ≡ w.emitted v' n))
+sink_emitted Role.input w v t records v' n = inr (λ e. cc, refl)
+sink_emitted Role.stateless w v t records v' n = inr (λ e. cc, refl)
+sink_emitted Role.stateful w v t records v' n = inr (λ e. cc, refl)
+sink_emitted Role.notified w v t records v' n = inr (λ e. cc, refl)
+sink_emitted Role.output w v t records v' n = inl (refl, refl)
 
 group_asked : (role : Role) (v : ℕ) (t : Time) (xs : List Record) → ((role ≡ Role.notified) × (asked_by role v t xs ≡ asked_first v t xs)) ⊎ ((role ≢ Role.notified) × (asked_by role v t xs ≡ []))
 group_asked Role.input v t xs = inr (λ e. cc, refl)
@@ -254,31 +258,35 @@ module _ (g : Network) (law : IsNetwork g) (w : World) (h : History) (keeps : Ke
       go Role.notified e makes = gain_grouping e makes q r
       go Role.output e makes = absurd (ns e)
 
-  -- what the output emits
-  emits : (n : ℕ) (r : Record) → count r (emitted_after g w (Event.arrival m) n) ≡ count r (w.emitted n) + carried (g.edge_into g.output 0) (at_epoch n) r m
-  emits n r = go (sink_emitted (g.role (g.target m.edge)) w m n) (eqb_tells m.edge (g.edge_into g.output 0))
+  -- what an output emits
+  emits : (v n : ℕ) (r : Record) → IsOutput g v → count r (emitted_after g w (Event.arrival m) v n) ≡ count r (w.emitted v n) + carried (g.edge_into v 0) (at_epoch n) r m
+  emits v n r is = go (sink_emitted (g.role (g.target m.edge)) w (g.target m.edge) m.time m.records v n) (eqb_tells m.edge (g.edge_into v 0)) (eqb_tells (g.target m.edge) v)
     where
-      out_port : 0 < g.ports g.output
-      out_port = let o : g.ports g.output ≡ 1 = law.output_port in omega arith
-
-      sink_edge : g.role (g.target m.edge) ≡ Role.output → m.edge ≡ g.edge_into g.output 0
-      sink_edge s =
-          let v : g.target m.edge ≡ g.output = law.only_output m.edge good_message.0 s in
+      sink_edge : g.target m.edge ≡ v → m.edge ≡ g.edge_into v 0
+      sink_edge e =
           let p : g.in_port m.edge < g.ports (g.target m.edge) = law.target_ports m.edge good_message.0 in
-          let o : g.ports (g.target m.edge) ≡ 1 = ap g.ports v ∙ law.output_port in
+          let o : g.ports (g.target m.edge) ≡ 1 = ap g.ports e ∙ law.output_port v is in
           let z : g.in_port m.edge ≡ 0 = omega arith in
-          sym edge_here ∙ ap₂ g.edge_into v z
+          sym edge_here ∙ ap₂ g.edge_into e z
 
-      here : (c : Bool) → count r (w.emitted n ++ cond c m.records []) ≡ count r (w.emitted n) + cond c (count r m.records) 0
-      here true = count-append r (w.emitted n) m.records
-      here false = count-append r (w.emitted n) []
+      here : (c : Bool) → count r (w.emitted v n ++ cond c m.records []) ≡ count r (w.emitted v n) + cond c (count r m.records) 0
+      here true = count-append r (w.emitted v n) m.records
+      here false = count-append r (w.emitted v n) []
 
-      go : ((g.role (g.target m.edge) ≡ Role.output) × (emitted_by (g.role (g.target m.edge)) w m n ≡ w.emitted n ++ cond (same_time m.time (at_epoch n)) m.records [])) ⊎ ((g.role (g.target m.edge) ≢ Role.output) × (emitted_by (g.role (g.target m.edge)) w m n ≡ w.emitted n))
-          → ((eqb m.edge (g.edge_into g.output 0) ≡ true) × (m.edge ≡ g.edge_into g.output 0)) ⊎ ((eqb m.edge (g.edge_into g.output 0) ≡ false) × (m.edge ≢ g.edge_into g.output 0)) → count r (emitted_after g w (Event.arrival m) n) ≡ count r (w.emitted n) + carried (g.edge_into g.output 0) (at_epoch n) r m
-      go (inl (a, b)) (inl (c, d)) = ap (count r) b ∙ here (same_time m.time (at_epoch n)) ∙ rw c refl
-      go (inl (a, b)) (inr (c, d)) = absurd (d (sink_edge a))
-      go (inr (a, b)) (inl (c, d)) = absurd (a (ap g.role (vertex_of g.output 0 out_port d) ∙ law.output_sink))
-      go (inr (a, b)) (inr (c, d)) = ap (count r) b ∙ (let z : carried (g.edge_into g.output 0) (at_epoch n) r m ≡ 0 = rw c refl in omega arith)
+      nothing : eqb m.edge (g.edge_into v 0) ≡ false → count r (w.emitted v n) ≡ count r (w.emitted v n) + carried (g.edge_into v 0) (at_epoch n) r m
+      nothing c = let z : carried (g.edge_into v 0) (at_epoch n) r m ≡ 0 = rw c refl in omega arith
+
+      go : ((g.role (g.target m.edge) ≡ Role.output) × (emitted_by (g.role (g.target m.edge)) w (g.target m.edge) m.time m.records v n ≡ w.emitted v n ++ cond (eqb (g.target m.edge) v) (cond (same_time m.time (at_epoch n)) m.records []) []))
+          ⊎ ((g.role (g.target m.edge) ≢ Role.output) × (emitted_by (g.role (g.target m.edge)) w (g.target m.edge) m.time m.records v n ≡ w.emitted v n))
+          → ((eqb m.edge (g.edge_into v 0) ≡ true) × (m.edge ≡ g.edge_into v 0)) ⊎ ((eqb m.edge (g.edge_into v 0) ≡ false) × (m.edge ≢ g.edge_into v 0))
+          → ((eqb (g.target m.edge) v ≡ true) × (g.target m.edge ≡ v)) ⊎ ((eqb (g.target m.edge) v ≡ false) × (g.target m.edge ≢ v))
+          → count r (emitted_after g w (Event.arrival m) v n) ≡ count r (w.emitted v n) + carried (g.edge_into v 0) (at_epoch n) r m
+      go (inl (a, b)) (inl (c, d)) (inl (x, y)) = ap (count r) (b ∙ ap (λ z. w.emitted v n ++ cond z (cond (same_time m.time (at_epoch n)) m.records []) []) x) ∙ here (same_time m.time (at_epoch n)) ∙ rw c refl
+      go (inl (a, b)) (inl (c, d)) (inr (x, y)) = absurd (y (vertex_of v 0 is.1 d))
+      go (inl (a, b)) (inr (c, d)) (inl (x, y)) = absurd (d (sink_edge y))
+      go (inl (a, b)) (inr (c, d)) (inr (x, y)) = ap (count r) (b ∙ ap (λ z. w.emitted v n ++ cond z (cond (same_time m.time (at_epoch n)) m.records []) []) x ∙ append-nil (w.emitted v n)) ∙ nothing c
+      go (inr (a, b)) (inl (c, d)) z = absurd (a (ap g.role (vertex_of v 0 is.1 d) ∙ is.0))
+      go (inr (a, b)) (inr (c, d)) z = ap (count r) b ∙ nothing c
 
   some_append : (xs ys : List Record) → 0 < some ys → some (xs ++ ys) ≡ 1
   some_append [] [] l = absurd (omega arith)
@@ -370,7 +378,7 @@ module _ (g : Network) (law : IsNetwork g) (w : World) (h : History) (keeps : Ke
         good_requests = λ k lk. requests k lk (put_tells w.requests k0 (w.requests k0 ++ asked g w k0 (Event.arrival m)) k);
         good_hand = λ k lk. good k lk (put_tells w.held k0 Held.nothing k);
         shards = λ k v p t lk lp s. shards_after k v p t lk lp s;
-        output = λ n r. let a = emits n r in let b = keeps.output n r in let c = done_sum (g.edge_into g.output 0) (at_epoch n) r in omega arith;
+        output = λ v n r is. let a = emits v n r is in let b = keeps.output v n r is in let c = done_sum (g.edge_into v 0) (at_epoch n) r in omega arith;
       }
     where
       notices : (k v : ℕ) (t : Time) → k < g.workers → g.role v ≡ Role.notified → ((k ≡ k0) × (put w.held k0 Held.nothing k ≡ Held.nothing)) ⊎ ((k ≢ k0) × (put w.held k0 Held.nothing k ≡ w.held k))

@@ -6,9 +6,11 @@ use Rattle.semantics.specs.Could.{on_edge}
 use Rattle.semantics.specs.Time.{Time, same_time}
 use Rattle.semantics.specs.Kinds.{Role}
 use Rattle.machine.specs.Network.{Network}
-use Rattle.machine.specs.Step.{event_vertex, event_time, Step, parcels, sent_after, Allowed, after_step}
-use Rattle.machine.specs.Sums.{put, sum_below}
 use Rattle.machine.specs.World.{Event, Held, World}
+use Rattle.machine.specs.Active.{sum_below}
+use Rattle.machine.specs.Sending.{parcels, sent_after}
+use Rattle.machine.specs.Processing.{event_vertex, event_time}
+use Rattle.machine.specs.Step.{Step, Allowed, after_step, put}
 use Rattle.semantics.proofs.MultisetSums.{total-append}
 use Rattle.machine.proofs.Counting.{below_same, below_add, below_changed, count-append}
 use Rattle.machine.proofs.Derived.{headline}

@@ -6,12 +6,14 @@ use Rattle.semantics.specs.Multiset.{total, Record, count, ◌≈◌, IsPartOf, 
 use Rattle.semantics.specs.Could.{Pointstamp, on_edge, at_vertex}
 use Rattle.semantics.specs.Time.{Time, same_time, at_epoch}
 use Rattle.semantics.specs.Kinds.{Role}
-use Rattle.machine.specs.Network.{Network, ins}
-use Rattle.machine.specs.Sums.{sum_below}
-use Rattle.machine.specs.World.{Message, Request, Event, Held, World, IsActive, NoneBefore, message_pointstamp, request_pointstamp}
+use Rattle.machine.specs.Network.{Network}
+use Rattle.machine.specs.World.{Message, Request, Event, Held, World}
+use Rattle.machine.specs.Active.{sum_below, IsActive, message_pointstamp, request_pointstamp}
+use Rattle.machine.specs.Frontier.{NoneBefore}
+use Rattle.machine.proofs.NetFlow.{ins}
 use Rattle.machine.proofs.Counting.{below_same, below_more, below_zero, counted-end_to_end}
 use Rattle.machine.proofs.Kept.{History, carried, carried_by, in_hand, under_way, wished, wished_by, wish_in_hand, wishes, some, bit, made, Due, Kept, Headline}
-use Rattle.machine.proofs.Laws.{Lower, times_in, IsNetwork, all_parts, CutByKey}
+use Rattle.machine.proofs.Laws.{Lower, times_in, IsNetwork, IsOutput, all_parts, CutByKey}
 use Rattle.machine.proofs.NetFlow.{IsNetFlow}
 use Rattle.machine.proofs.Places.{same_time_tells, total_zero, total_times, total_times_more, is_source, is_grouping, inner_kind, edge_not_vertex, some_below}
 use Rattle.machine.proofs.Rank.{could_back, lower}
@@ -242,25 +244,22 @@ module _ (g : Network) (law : IsNetwork g) (w : World) (h : History) (keeps : Ke
         record {
           part = λ e t l fits. part_at (on_edge e t) (law.founded (on_edge e t)) e t refl l fits;
           whole = whole;
-          emitted_part = λ n. record {
+          emitted_part = λ v n is. record {
             within = λ r.
-                let s : count r (w.sent (g.edge_into g.output 0) (at_epoch n)) ≤ count r (flow (g.edge_into g.output 0) (at_epoch n)) = (part_at (on_edge (g.edge_into g.output 0) (at_epoch n)) (law.founded _) (g.edge_into g.output 0) (at_epoch n) refl out_edge (out_fits n)).within r in
-                let b : count r (w.sent (g.edge_into g.output 0) (at_epoch n)) ≡ sum_below g.workers (λ k. count r (h.done k (g.edge_into g.output 0) (at_epoch n))) + sum_below g.workers (under_way w (g.edge_into g.output 0) (at_epoch n) r) = keeps.balance (g.edge_into g.output 0) (at_epoch n) r out_edge in
-                let c : count r (w.emitted n) ≡ sum_below g.workers (λ k. count r (h.done k (g.edge_into g.output 0) (at_epoch n))) = keeps.output n r in
+                let s : count r (w.sent (g.edge_into v 0) (at_epoch n)) ≤ count r (flow (g.edge_into v 0) (at_epoch n)) = (part_at (on_edge (g.edge_into v 0) (at_epoch n)) (law.founded _) (g.edge_into v 0) (at_epoch n) refl (out_edge v is) (out_fits v n is)).within r in
+                let b : count r (w.sent (g.edge_into v 0) (at_epoch n)) ≡ sum_below g.workers (λ k. count r (h.done k (g.edge_into v 0) (at_epoch n))) + sum_below g.workers (under_way w (g.edge_into v 0) (at_epoch n) r) = keeps.balance (g.edge_into v 0) (at_epoch n) r (out_edge v is) in
+                let c : count r (w.emitted v n) ≡ sum_below g.workers (λ k. count r (h.done k (g.edge_into v 0) (at_epoch n))) = keeps.output v n r is in
                 omega arith;
           };
-          emitted_whole = λ n passed. record {
+          emitted_whole = λ v n is passed. record {
             counts = λ r.
-                let none : NoneBefore g w (on_edge (g.edge_into g.output 0) (at_epoch n)) = none_before_edge g.output 0 (at_epoch n) out_port (law.fits_output n) passed in
-                keeps.output n r ∙ processed (g.edge_into g.output 0) (at_epoch n) out_edge (out_fits n) none (whole (g.edge_into g.output 0) (at_epoch n) out_edge (out_fits n) none) r;
+                let none : NoneBefore g w (on_edge (g.edge_into v 0) (at_epoch n)) = none_before_edge v 0 (at_epoch n) is.1 (law.fits_output v n is) passed in
+                keeps.output v n r is ∙ processed (g.edge_into v 0) (at_epoch n) (out_edge v is) (out_fits v n is) none (whole (g.edge_into v 0) (at_epoch n) (out_edge v is) (out_fits v n is) none) r;
           };
         }
       where
-        out_port : 0 < g.ports g.output
-        out_port = let o : g.ports g.output ≡ 1 = law.output_port in omega arith
+        out_edge : (v : ℕ) → IsOutput g v → g.edge_into v 0 < g.edges
+        out_edge v is = law.into_is_edge v 0 is.1
 
-        out_edge : g.edge_into g.output 0 < g.edges
-        out_edge = law.into_is_edge g.output 0 out_port
-
-        out_fits : (n : ℕ) → g.IsPointstamp (on_edge (g.edge_into g.output 0) (at_epoch n))
-        out_fits n = law.fits_into g.output 0 (at_epoch n) out_port (law.fits_output n)
+        out_fits : (v n : ℕ) → IsOutput g v → g.IsPointstamp (on_edge (g.edge_into v 0) (at_epoch n))
+        out_fits v n is = law.fits_into v 0 (at_epoch n) is.1 (law.fits_output v n is)

@@ -20,11 +20,12 @@ use Rattle.semantics.proofs.OneFlow.{op_same, one_flow}
 use Rattle.semantics.proofs.VertexLaws.{op_nothing, op_cut}
 use Rattle.semantics.proofs.RankRises.{StepRises, step_rises, rises_from_nested}
 use Rattle.semantics.proofs.VertexFlows.{last-deeper}
+use Rattle.machine.specs.Network.{Network}
+use Rattle.machine.specs.Active.{sum_below}
 use Rattle.machine.specs.Engine.{network}
-use Rattle.machine.specs.Network.{Network, ins}
-use Rattle.machine.specs.Sums.{sum_below}
+use Rattle.machine.proofs.NetFlow.{ins}
 use Rattle.machine.proofs.Counting.{count-append, counted-end_to_end, total_same}
-use Rattle.machine.proofs.Laws.{IsNetwork, times_in, all_parts, CutByKey}
+use Rattle.machine.proofs.Laws.{IsOutput, IsNetwork, times_in, all_parts, CutByKey}
 use Rattle.machine.proofs.NetFlow.{IsNetFlow, HasFlows}
 use Rattle.machine.proofs.Places.{same_time_tells, same_time_self}
 
@@ -355,8 +356,20 @@ module _ (g : Graph) (flows : IsDataflow g) (workers : ℕ) (some : 0 < workers)
   grouping_known : (v : ℕ) → HasKeys (kind v) → v < length g
   grouping_known v h = known_kind g v (λ e. sink_no_keys (kind v) e h)
 
-  output_known : output_number g < length g
-  output_known = let s = flows.shaped.some in omega arith
+  -- the output's vertex
+  pub output_is : IsOutput net (output_number g)
+  output_is =
+      let s = flows.shaped.some in
+      let p : length (vertex g (output_number g)).ins ≡ 1 = full (output_number g) (omega arith) ∙ ap in_ports flows.shaped.has_output in
+      (ap role flows.shaped.has_output, omega arith)
+
+  -- beyond the last vertex there are no ports
+  has_port : (v : ℕ) → 0 < length (vertex g v).ins → v < length g
+  has_port v l = by (known_or_none g v)
+    where
+      by : (v < length g) ⊎ (vertex g v ≡ no_vertex) → v < length g
+      by (inl x) = x
+      by (inr e) = absurd (let z : length (vertex g v).ins ≡ 0 = ap (λ (x : Vertex). length x.ins) e in omega arith)
 
   home_keyed : (e : ℕ) (k : ℕ) (r : Record) (key : Record → Record) → route_key (kind (target g e)) (in_port g e) ≡ Some key → home g workers k e r ≡ route (key r) workers
   home_keyed e k r key s = ap (λ x. home_by x (is_input (kind (edge_source g e).vertex)) workers k r) s
@@ -443,9 +456,7 @@ module _ (g : Graph) (flows : IsDataflow g) (workers : ℕ) (some : 0 < workers)
         no_source_target = no_source_target;
         no_sink_source = no_sink_source;
         one_port = λ v s. full v (grouping_known v (inr s)) ∙ role_grouping (kind v) s;
-        output_port = full (output_number g) output_known ∙ ap in_ports flows.shaped.has_output;
-        only_output = λ e l s. flows.shaped.output_last (target g e) (entered g e l).known (role_sink (kind (target g e)) s);
-        output_sink = ap role flows.shaped.has_output;
+        output_port = λ v is. full v (has_port v is.1) ∙ ap in_ports (role_sink (kind v) is.0);
         input_is_source = λ i l. ap role (input_kind g i l);
         source_is_input = λ v s. flows.shaped.inputs_first v (fits_source v 0 s).0 (role_source (kind v) s);
         has_worker = some;
@@ -464,7 +475,7 @@ module _ (g : Graph) (flows : IsDataflow g) (workers : ℕ) (some : 0 < workers)
         fits_leave = fits_leave;
         fits_back = fits_back;
         fits_source = fits_source;
-        fits_output = λ n. (output_known, sym (flows.shaped.flat (output_number g) output_known (inr flows.shaped.has_output)));
+        fits_output = λ v n is. (has_port v is.1, sym (flows.shaped.flat v (has_port v is.1) (inr (role_sink (kind v) is.0))));
         could_self = λ p f. could_self g flows.loops flows.wired flows.nested p f;
         could_on = λ p q s a b. could_on g flows.loops flows.wired flows.nested p q s a b;
         could_fits = λ p q a. a.ends;

@@ -9,9 +9,13 @@ use Rattle.semantics.specs.Lower.{lowered, lower, lower_lets}
 use Rattle.semantics.specs.Typing.{WellTyped, HasArity}
 use Rattle.semantics.specs.Route.{route}
 use Rattle.machine.specs.Network.{Network}
-use Rattle.machine.specs.World.{World, opening, Message, Event, IsActive, Passed}
+use Rattle.machine.specs.World.{World, opening, Message, Event}
+use Rattle.machine.specs.Active.{IsActive}
+use Rattle.machine.specs.Frontier.{Passed}
 use Rattle.machine.specs.Step.{Step, after_step}
-use Rattle.machine.specs.Engine.{Run, IsRunOf, meant, network}
+use Rattle.machine.specs.Run.{Run}
+use Rattle.machine.specs.Engine.{network}
+use Rattle.machine.specs.Headline.{output_of, IsRunOf, meant}
 use Rattle.machine.proofs.Headline.{emitted_whole}
 
 abbrev plain : Program
@@ -31,16 +35,16 @@ abbrev fed : Message
 fed = record { edge = 0; time = at_epoch 0; records = five ∷ [] }
 
 abbrev steps : List Step
-steps = Step.feed 0 five ∷ Step.claim_message 0 0 fed ∷ Step.commit 0 (Event.arrival fed) (λ q. []) ∷ Step.close 0 ∷ []
+steps = Step.feed 0 (five ∷ []) ∷ Step.claim_message 0 0 fed ∷ Step.commit 0 (Event.arrival fed) (λ q. []) ∷ Step.close 0 ∷ []
 
 abbrev in_the_end : World
-in_the_end = after_step one (after_step one (after_step one (after_step one opening (Step.feed 0 five)) (Step.claim_message 0 0 fed)) (Step.commit 0 (Event.arrival fed) (λ q. []))) (Step.close 0)
+in_the_end = after_step one (after_step one (after_step one (after_step one opening (Step.feed 0 (five ∷ []))) (Step.claim_message 0 0 fed)) (Step.commit 0 (Event.arrival fed) (λ q. []))) (Step.close 0)
 
 a_run : Run one opening steps in_the_end
 unfolding lowered lower lower_lets vertex source route
-a_run = ((refl, refl, refl), (((omega arith, refl, refl), refl), ((omega arith, refl, λ q. refl), ((refl, refl, refl), refl))))
+a_run = (((refl, refl, refl), omega arith), (((omega arith, refl, refl), refl), ((omega arith, refl, λ q. refl), ((refl, refl, refl), refl))))
 
-emitted : in_the_end.emitted 0 ≡ five ∷ []
+emitted : in_the_end.emitted 1 0 ≡ five ∷ []
 unfolding lowered lower lower_lets vertex source route
 emitted = refl
 
@@ -60,12 +64,13 @@ idle q (IsActive.of_request (suc k) at n l e) = absurd (omega arith)
 idle q (IsActive.of_held zero up event l e) = absurd cc
 idle q (IsActive.of_held (suc k) up event l e) = absurd (omega arith)
 
-passed : Passed one in_the_end 0
+passed : Passed one in_the_end 1 0
 passed q active could = idle q active
 
 is_run : IsRunOf plain 1 steps in_the_end
 is_run = record { arity = 1; typed = plain_typed; some = omega arith; run = a_run }
 
 -- so the headline speaks of this world: what was emitted is all that the program means
-all_of_it : in_the_end.emitted 0 ≈ meant plain in_the_end 0
+all_of_it : in_the_end.emitted (output_of plain) 0 ≈ meant plain in_the_end 0
+unfolding lowered lower_lets lower
 all_of_it = emitted_whole plain 1 steps in_the_end is_run 0 passed

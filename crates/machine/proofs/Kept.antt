@@ -3,12 +3,19 @@ use Rattle.std.specs.Prelude.{◌≡◌, ◌≢◌, ◌<◌, ℕ, ◌+◌, Bool,
 use Rattle.semantics.specs.Multiset.{total, Record, count, ◌≈◌, IsPartOf}
 use Rattle.semantics.specs.Time.{Time, same_time, at_epoch}
 use Rattle.semantics.specs.Could.{on_edge, at_vertex}
-use Rattle.machine.specs.Sums.{sum_below, each}
+use Rattle.machine.specs.Network.{Network}
+use Rattle.machine.specs.World.{Message, Request, Event, Held, World}
+use Rattle.machine.specs.Active.{sum_below, message_pointstamp, request_pointstamp}
+use Rattle.machine.specs.Frontier.{NoneBefore, NoOtherBefore, Passed}
+use Rattle.machine.proofs.NetFlow.{ins}
 use Rattle.semantics.specs.Kinds.{Role}
-use Rattle.machine.specs.Network.{Network, ins}
-use Rattle.machine.specs.World.{Message, Request, Event, Held, World, NoneBefore, NoOtherBefore, Passed, message_pointstamp, request_pointstamp}
-use Rattle.machine.proofs.Laws.{AtHome}
+use Rattle.machine.proofs.Laws.{AtHome, IsOutput}
 use Rattle.machine.proofs.NetFlow.{fed_at}
+
+-- each element has P
+abbrev pub each : {X : Type 0} → (X → Type 0) → List X → Type 0
+each P [] = Unit {0}
+each P (x ∷ xs) = P x × each P xs
 
 -- What the world doesn't tell: what each worker has processed, by edge and time, and which of its notifications it has processed.
 pub record History : Type 0 where
@@ -96,12 +103,12 @@ pub record Kept (g : Network) (w : World) (h : History) : Type 0 where
   pub good_hand : (k : ℕ) → k < g.workers → GoodHand g k (w.held k)
   -- what the shards hold is what was processed
   pub shards : (k v p : ℕ) (t : Time) → k < g.workers → p < g.ports v → g.role v ≡ Role.stateful ⊎ g.role v ≡ Role.notified → w.absorbed k v p t ≡ h.done k (g.edge_into v p) t
-  -- what was emitted is what the output processed
-  pub output : (n : ℕ) (r : Record) → count r (w.emitted n) ≡ sum_below g.workers (λ k. count r (h.done k (g.edge_into g.output 0) (at_epoch n)))
+  -- what was emitted is what the output vertices processed
+  pub output : (v n : ℕ) (r : Record) → IsOutput g v → count r (w.emitted v n) ≡ sum_below g.workers (λ k. count r (h.done k (g.edge_into v 0) (at_epoch n)))
 
 -- the headline's parts, at a world whose inputs' records have this flow
 pub record Headline (g : Network) (w : World) (flow : ℕ → Time → List Record) : Type 0 where
   pub part : (e : ℕ) (t : Time) → e < g.edges → g.IsPointstamp (on_edge e t) → IsPartOf (w.sent e t) (flow e t)
   pub whole : (e : ℕ) (t : Time) → e < g.edges → g.IsPointstamp (on_edge e t) → NoneBefore g w (on_edge e t) → (w.sent e t) ≈ (flow e t)
-  pub emitted_part : (n : ℕ) → IsPartOf (w.emitted n) (flow (g.edge_into g.output 0) (at_epoch n))
-  pub emitted_whole : (n : ℕ) → Passed g w n → (w.emitted n) ≈ (flow (g.edge_into g.output 0) (at_epoch n))
+  pub emitted_part : (v n : ℕ) → IsOutput g v → IsPartOf (w.emitted v n) (flow (g.edge_into v 0) (at_epoch n))
+  pub emitted_whole : (v n : ℕ) → IsOutput g v → Passed g w v n → (w.emitted v n) ≈ (flow (g.edge_into v 0) (at_epoch n))

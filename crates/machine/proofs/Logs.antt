@@ -3,14 +3,17 @@ use Rattle.std.proofs.Common.{◌≡◌, ◌≢◌, ◌<◌, ℕ, zero, suc, ◌
 use Rattle.semantics.specs.Multiset.{total, Record}
 use Rattle.semantics.specs.Could.{Pointstamp, on_edge, at_vertex}
 use Rattle.semantics.specs.Time.{Time, at_epoch}
-use Rattle.machine.specs.Active.{one_if_same, active_count, parcel_count, step_adds, step_removes, step_sender}
-use Rattle.semantics.specs.Kinds.{Role}
 use Rattle.machine.specs.Network.{Network}
-use Rattle.machine.specs.Engine.{Run}
-use Rattle.machine.specs.Step.{event_vertex, event_time, Step, parcels, asked, Allowed, after_step}
-use Rattle.machine.specs.Sums.{put}
+use Rattle.machine.specs.World.{Request, Event, World, opening}
+use Rattle.machine.specs.Active.{one_if_same, active_count, IsActive, message_pointstamp, request_pointstamp, event_pointstamp}
+use Rattle.machine.specs.Frontier.{NoneBefore, NoOtherBefore}
+use Rattle.machine.specs.Sending.{parcels}
+use Rattle.machine.specs.Processing.{event_vertex, event_time, asked}
+use Rattle.machine.specs.Step.{Step, Allowed, after_step, put}
+use Rattle.machine.specs.Run.{Run}
+use Rattle.machine.specs.Changes.{parcel_count, step_adds, step_removes, step_sender}
 use Rattle.machine.specs.Views.{Changes, all_adds, all_removes, IsThere, InOrder, ViewNoneBefore, ViewNoOtherBefore, log_of}
-use Rattle.machine.specs.World.{Request, Event, World, opening, IsActive, NoneBefore, NoOtherBefore, message_pointstamp, request_pointstamp, event_pointstamp}
+use Rattle.semantics.specs.Kinds.{Role}
 use Rattle.machine.proofs.Active.{one_is, one_self, below_some, total_some, counted, count_step}
 use Rattle.machine.proofs.Batches.{RemovedOrThere, Justified, IsLog}
 use Rattle.machine.proofs.Kept.{History, Kept, GoodEvent}
@@ -47,12 +50,12 @@ module _ (g : Network) (law : IsNetwork g) (w : World) (good : Good g w) where
       let c'' = subst (λ (x : Time). g.Could (at_vertex v t) (on_edge b.1.edge x)) (sym p.when) c' in
       (b.1.edge, b.1.time, is, subst (λ (x : Pointstamp). g.Could (at_vertex v t) x) (sym is) c'')
 
-  from_feed : (i : ℕ) (r : Record) → Allowed g w (Step.feed i r) → (q : Pointstamp) → 0 < step_adds g w (Step.feed i r) q → (p : Pointstamp) × Lower g p q × g.Could p q × From g w (Step.feed i r) p
-  from_feed i r ok q l =
+  from_feed : (i : ℕ) (rs : List Record) → Allowed g w (Step.feed i rs) → (q : Pointstamp) → 0 < step_adds g w (Step.feed i rs) q → (p : Pointstamp) × Lower g p q × g.Could p q × From g w (Step.feed i rs) p
+  from_feed i rs ok q l =
       let u : Time = at_epoch (w.open_epoch i) in
-      let l' : 0 < parcel_count g 0 i (g.act i u) (λ q. r ∷ []) q = subst (λ (x : Time). 0 < parcel_count g 0 i x (λ q. r ∷ []) q) (sym (law.source_act i u ok.0)) l in
-      let a = sent_from 0 i u (λ q. r ∷ []) (law.fits_source i (w.open_epoch i) ok.0) q l' in
-      (at_vertex i u, higher (at_vertex i u) q a.3 (λ e. edge_not_vertex a.0 i a.1 u (sym (e ∙ a.2))), a.3, inr (refl, (i, ok.0, ok.1, refl)))
+      let l' : 0 < parcel_count g 0 i (g.act i u) (λ q. rs) q = subst (λ (x : Time). 0 < parcel_count g 0 i x (λ q. rs) q) (sym (law.source_act i u ok.0.0)) l in
+      let a = sent_from 0 i u (λ q. rs) (law.fits_source i (w.open_epoch i) ok.0.0) q l' in
+      (at_vertex i u, higher (at_vertex i u) q a.3 (λ e. edge_not_vertex a.0 i a.1 u (sym (e ∙ a.2))), a.3, inr (refl, (i, ok.0.0, ok.0.1, refl)))
 
   from_seal : (i : ℕ) → Allowed g w (Step.seal i) → (q : Pointstamp) → 0 < step_adds g w (Step.seal i) q → (p : Pointstamp) × Lower g p q × g.Could p q × From g w (Step.seal i) p
   from_seal i ok q l =
@@ -96,7 +99,7 @@ module _ (g : Network) (law : IsNetwork g) (w : World) (good : Good g w) where
           (event_pointstamp event, subst (λ (x : Pointstamp). Lower g (event_pointstamp event) x) (sym is) (request event b.0 b.1 b.2 (asked_place g law w good k event b.0 b.1 b.2) reach), subst (λ (x : Pointstamp). g.Could (event_pointstamp event) x) (sym is) reach, inl gone)
 
   from_step : (step : Step) → Allowed g w step → (q : Pointstamp) → 0 < step_adds g w step q → (p : Pointstamp) × Lower g p q × g.Could p q × From g w step p
-  from_step (Step.feed i r) ok q l = from_feed i r ok q l
+  from_step (Step.feed i rs) ok q l = from_feed i rs ok q l
   from_step (Step.seal i) ok q l = from_seal i ok q l
   from_step (Step.close i) ok q l = absurd (omega arith)
   from_step (Step.claim_message k at m) ok q l = absurd (omega arith)

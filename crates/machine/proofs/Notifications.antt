@@ -6,10 +6,13 @@ use Rattle.semantics.specs.Could.{at_vertex}
 use Rattle.semantics.specs.Time.{Time, same_time}
 use Rattle.semantics.proofs.MultisetSums.{same-refl, ≈-from}
 use Rattle.semantics.specs.Kinds.{Role}
-use Rattle.machine.specs.Network.{Network, ins}
-use Rattle.machine.specs.Step.{Step, parcels, Allowed, after_step}
-use Rattle.machine.specs.Sums.{put, each, sum_below}
+use Rattle.machine.specs.Network.{Network}
 use Rattle.machine.specs.World.{Request, Event, Held, World}
+use Rattle.machine.specs.Active.{sum_below}
+use Rattle.machine.specs.Sending.{parcels}
+use Rattle.machine.specs.Step.{Step, Allowed, after_step, put}
+use Rattle.machine.proofs.NetFlow.{ins}
+use Rattle.machine.proofs.Kept.{each}
 use Rattle.machine.proofs.Commits.{once, way_after, vertex_after}
 use Rattle.machine.proofs.Counting.{eqb_self, below_one}
 use Rattle.machine.proofs.Kept.{History, carried, under_way, wished, wish_in_hand, wishes, some, bit, made, Due, Kept, GoodMessage, GoodRequest, GoodHand}

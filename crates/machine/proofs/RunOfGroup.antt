@@ -11,11 +11,14 @@ use Rattle.semantics.specs.Route.{route}
 use Rattle.semantics.proofs.MultisetSums.{less-append, ≈-refl, total-append}
 use Rattle.semantics.proofs.CouldRises.{at_most_refl}
 use Rattle.machine.specs.Network.{Network}
-use Rattle.semantics.specs.Kinds.{Role}
-use Rattle.machine.specs.World.{World, opening, Message, Event, Request, IsActive, NoOtherBefore}
-use Rattle.machine.specs.Step.{Step, after_step, Allowed, Makes, MakesBy, absorbed_after, absorbed_by}
-use Rattle.machine.proofs.Laws.{IsNetwork}
+use Rattle.machine.specs.World.{World, opening, Message, Event, Request}
+use Rattle.machine.specs.Active.{IsActive}
+use Rattle.machine.specs.Frontier.{NoOtherBefore}
+use Rattle.machine.specs.Processing.{Makes, MakesBy, absorbed_after, absorbed_by}
+use Rattle.machine.specs.Step.{Step, after_step, Allowed}
 use Rattle.machine.specs.Engine.{network}
+use Rattle.semantics.specs.Kinds.{Role}
+use Rattle.machine.proofs.Laws.{IsNetwork}
 
 abbrev counting : Program
 counting = record { inputs = record { name = 97 ∷ []; arity = 1 } ∷ []; lets = []; output = Rel.group (Rel.named (97 ∷ [])) (0 ∷ []) (Agg.count ∷ []) }
@@ -27,9 +30,9 @@ abbrev five : Record
 five = pos 5 ∷ []
 
 -- a record without fields may be fed to an input of arity 1
-empty_fed : Allowed one opening (Step.feed 0 [])
+empty_fed : Allowed one opening (Step.feed 0 ([] ∷ []))
 unfolding lowered lower lower_lets vertex source route
-empty_fed = (refl, refl, refl)
+empty_fed = ((refl, refl, refl), omega arith)
 
 abbrev fed : Message
 fed = record { edge = 0; time = at_epoch 0; records = five ∷ [] }
@@ -38,7 +41,7 @@ abbrev wish : Request
 wish = record { vertex = 1; time = at_epoch 0 }
 
 abbrev w1 : World
-w1 = after_step one opening (Step.feed 0 five)
+w1 = after_step one opening (Step.feed 0 (five ∷ []))
 
 abbrev w2 : World
 w2 = after_step one w1 (Step.claim_message 0 0 fed)

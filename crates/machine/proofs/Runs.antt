@@ -4,10 +4,10 @@ use Rattle.semantics.specs.Multiset.{total, Record, count}
 use Rattle.semantics.specs.Time.{Time, same_counters}
 use Rattle.semantics.specs.Kinds.{Role}
 use Rattle.machine.specs.Network.{Network}
-use Rattle.machine.specs.Engine.{Run, Reached}
-use Rattle.machine.specs.Step.{Step, Allowed, after_step}
-use Rattle.machine.specs.Sums.{sum_below}
 use Rattle.machine.specs.World.{Event, World, opening}
+use Rattle.machine.specs.Active.{sum_below}
+use Rattle.machine.specs.Step.{Step, Allowed, after_step}
+use Rattle.machine.specs.Run.{Run, Reached}
 use Rattle.machine.proofs.Arrivals.{history_done, keep_arrival}
 use Rattle.machine.proofs.Counting.{below_zero}
 use Rattle.machine.proofs.Derived.{headline}
@@ -69,7 +69,7 @@ keep_opening g law =
       good_requests = λ k lk. tt;
       good_hand = λ k lk. tt;
       shards = λ k v p t lk lp s. refl;
-      output = λ n r. sym (below_zero g.workers _ (λ k lk. refl));
+      output = λ v n r is. sym (below_zero g.workers _ (λ k lk. refl));
     }
   where
     nothing : (b : Bool) (r : Record) → 0 ≡ count r (cond {A = List Record} b [] [])
@@ -81,7 +81,7 @@ keep_opening g law =
     not_due v s (inr l) = omega arith
 
 pub keep_step : (g : Network) → IsNetwork g → HasFlows g → (w : World) (h : History) → Kept g w h → (step : Step) → Allowed g w step → (h' : History) × Kept g (after_step g w step) h'
-keep_step g law flows w h keeps (Step.feed i r) ok = (h, keep_feed g law w h keeps i r ok)
+keep_step g law flows w h keeps (Step.feed i rs) ok = (h, keep_feed g law w h keeps i rs ok)
 keep_step g law flows w h keeps (Step.seal i) ok = (h, keep_seal g law w h keeps i ok)
 keep_step g law flows w h keeps (Step.close i) ok = (h, keep_close g law w h keeps i ok)
 keep_step g law flows w h keeps (Step.claim_message k at m) ok = (h, keep_claim_message g law w h keeps k at m ok)
@@ -103,7 +103,7 @@ pub every_run_keeps : EveryRunKeeps
 every_run_keeps g law flows w reached flow is = let k = keep_reached g law flows w reached in headline g law w k.0 k.1 flow is
 
 pub passed_stays_on : PassedStays
-passed_stays_on g law flows w reached step ok n = let k = keep_reached g law flows w reached in passed_stays g law w (good_of g law w k.0 k.1) step ok n
+passed_stays_on g law flows w reached step ok v n = let k = keep_reached g law flows w reached in passed_stays g law w (good_of g law w k.0 k.1) step ok v n
 
 run_more : (g : Network) (steps : List Step) (w w' : World) (step : Step) → Run g w steps w' → Allowed g w' step → Run g w (steps ++ step ∷ []) (after_step g w' step)
 run_more g [] w w' step run ok = (subst (λ (x : World). Allowed g x step) (sym run) ok, ap (λ x. after_step g x step) run)

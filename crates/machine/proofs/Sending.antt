@@ -6,9 +6,10 @@ use Rattle.semantics.specs.Could.{on_edge, at_vertex}
 use Rattle.semantics.specs.Time.{Time, same_time, at_epoch}
 use Rattle.semantics.specs.Kinds.{Role}
 use Rattle.machine.specs.Network.{Network}
-use Rattle.machine.specs.Step.{as_message, parcels}
-use Rattle.machine.specs.Sums.{sum_below, each}
 use Rattle.machine.specs.World.{Message}
+use Rattle.machine.specs.Active.{sum_below}
+use Rattle.machine.specs.Sending.{as_message, parcels}
+use Rattle.machine.proofs.Kept.{each}
 use Rattle.semantics.proofs.MultisetSums.{total-append}
 use Rattle.machine.proofs.Counting.{same_tells, eqb_self, below_same, below_zero, below_changed}
 use Rattle.machine.proofs.Kept.{carried, some, GoodMessage}

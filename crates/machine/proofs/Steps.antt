@@ -6,9 +6,12 @@ use Rattle.semantics.specs.Could.{Pointstamp, at_vertex}
 use Rattle.semantics.specs.Time.{Time, same_counters, same_time, at_epoch}
 use Rattle.semantics.specs.Kinds.{Role}
 use Rattle.machine.specs.Network.{Network}
-use Rattle.machine.specs.Step.{Step, parcels, sent_after, Allowed, after_step}
-use Rattle.machine.specs.Sums.{put, each, sum_below}
-use Rattle.machine.specs.World.{Message, Request, Event, Held, World, NoOtherBefore, request_pointstamp}
+use Rattle.machine.specs.World.{Message, Request, Event, Held, World}
+use Rattle.machine.specs.Active.{sum_below, request_pointstamp}
+use Rattle.machine.specs.Frontier.{NoOtherBefore}
+use Rattle.machine.specs.Sending.{parcels, sent_after}
+use Rattle.machine.specs.Step.{Step, Allowed, after_step, put}
+use Rattle.machine.proofs.Kept.{each}
 use Rattle.semantics.proofs.MultisetSums.{total-append}
 use Rattle.machine.proofs.Counting.{below_same, below_add, total-remove, count-append}
 use Rattle.machine.proofs.Derived.{wished_place}
@@ -18,21 +21,21 @@ use Rattle.machine.proofs.NetFlow.{fed_at}
 use Rattle.machine.proofs.Progress.{Good, under_step, no_other_under, put_tells}
 use Rattle.machine.proofs.Sending.{Parcel, parcels_good, fits_fed, each_at, each-append, each_more, each-remove, sends_all}
 
-fed_more : (r row : Record) (f : ℕ → List Record) (n now : ℕ) (turns : List ℕ) →
-    count r (cond (same_counters turns []) (f now) []) + count r (cond (eqb n now && same_counters [] turns) (row ∷ []) []) ≡ count r (cond (same_counters turns []) (put f n (f n ++ row ∷ []) now) [])
-fed_more r row f n now [] = go (eqb_tells n now) (put_tells f n (f n ++ row ∷ []) now)
+fed_more : (r : Record) (rows : List Record) (f : ℕ → List Record) (n now : ℕ) (turns : List ℕ) →
+    count r (cond (same_counters turns []) (f now) []) + count r (cond (eqb n now && same_counters [] turns) (rows) []) ≡ count r (cond (same_counters turns []) (put f n (f n ++ rows) now) [])
+fed_more r rows f n now [] = go (eqb_tells n now) (put_tells f n (f n ++ rows) now)
   where
-    go : ((eqb n now ≡ true) × (n ≡ now)) ⊎ ((eqb n now ≡ false) × (n ≢ now)) → ((now ≡ n) × (put f n (f n ++ row ∷ []) now ≡ f n ++ row ∷ [])) ⊎ ((now ≢ n) × (put f n (f n ++ row ∷ []) now ≡ f now)) → count r (f now) + count r (cond (eqb n now && true) (row ∷ []) []) ≡ count r (put f n (f n ++ row ∷ []) now)
+    go : ((eqb n now ≡ true) × (n ≡ now)) ⊎ ((eqb n now ≡ false) × (n ≢ now)) → ((now ≡ n) × (put f n (f n ++ rows) now ≡ f n ++ rows)) ⊎ ((now ≢ n) × (put f n (f n ++ rows) now ≡ f now)) → count r (f now) + count r (cond (eqb n now && true) (rows) []) ≡ count r (put f n (f n ++ rows) now)
     go (inl (a, b)) (inl (c, d)) =
-        let x : count r (put f n (f n ++ row ∷ []) now) ≡ count r (f n) + count r (row ∷ []) = ap (count r) d ∙ count-append r (f n) (row ∷ []) in
+        let x : count r (put f n (f n ++ rows) now) ≡ count r (f n) + count r (rows) = ap (count r) d ∙ count-append r (f n) (rows) in
         let y : count r (f n) ≡ count r (f now) = ap (λ z. count r (f z)) b in
         rw a (omega arith)
     go (inl (a, b)) (inr (c, d)) = absurd (c (sym b))
     go (inr (a, b)) (inl (c, d)) = absurd (b (sym c))
-    go (inr (a, b)) (inr (c, d)) = let x : count r (put f n (f n ++ row ∷ []) now) ≡ count r (f now) = ap (count r) d in rw a (omega arith)
-fed_more r row f n now (x ∷ xs) = go (eqb n now)
+    go (inr (a, b)) (inr (c, d)) = let x : count r (put f n (f n ++ rows) now) ≡ count r (f now) = ap (count r) d in rw a (omega arith)
+fed_more r rows f n now (x ∷ xs) = go (eqb n now)
   where
-    go : (b : Bool) → 0 + count r (cond (b && false) (row ∷ []) []) ≡ count r []
+    go : (b : Bool) → 0 + count r (cond (b && false) (rows) []) ≡ count r []
     go true = omega arith
     go false = omega arith
 
@@ -236,23 +239,23 @@ module _ (g : Network) (law : IsNetwork g) (w : World) (h : History) (keeps : Ke
       go (inl (a, b)) = absurd (ne b)
       go (inr (a, b)) = rw a (count-append r (w.sent e t) [] ∙ omega arith)
 
-  pub keep_feed : (i : ℕ) (row : Record) → Allowed g w (Step.feed i row) → Kept g (after_step g w (Step.feed i row)) h
-  keep_feed i row ok =
+  pub keep_feed : (i : ℕ) (rows : List Record) → Allowed g w (Step.feed i rows) → Kept g (after_step g w (Step.feed i rows)) h
+  keep_feed i rows ok =
       record {
         balance = λ e t r le.
-            let a = way_sent 0 i (at_epoch (w.open_epoch i)) (λ q. row ∷ []) e t r worker le in
+            let a = way_sent 0 i (at_epoch (w.open_epoch i)) (λ q. rows) e t r worker le in
             let b = keeps.balance e t r le in
-            let c : sum_below g.workers (under_way (after_step g w (Step.feed i row)) e t r) ≡ sum_below g.workers (λ k. under_way w e t r k + total (carried e t r) (parcels g 0 i (at_epoch (w.open_epoch i)) (λ q. row ∷ []) k g.edges)) =
-            below_same g.workers _ _ (λ k lk. let o = total-append (carried e t r) (w.mail k) (parcels g 0 i (at_epoch (w.open_epoch i)) (λ q. row ∷ []) k g.edges) in omega arith) in
-            let d = below_add g.workers (under_way w e t r) (λ k. total (carried e t r) (parcels g 0 i (at_epoch (w.open_epoch i)) (λ q. row ∷ []) k g.edges)) in
+            let c : sum_below g.workers (under_way (after_step g w (Step.feed i rows)) e t r) ≡ sum_below g.workers (λ k. under_way w e t r k + total (carried e t r) (parcels g 0 i (at_epoch (w.open_epoch i)) (λ q. rows) k g.edges)) =
+            below_same g.workers _ _ (λ k lk. let o = total-append (carried e t r) (w.mail k) (parcels g 0 i (at_epoch (w.open_epoch i)) (λ q. rows) k g.edges) in omega arith) in
+            let d = below_add g.workers (under_way w e t r) (λ k. total (carried e t r) (parcels g 0 i (at_epoch (w.open_epoch i)) (λ q. rows) k g.edges)) in
             omega arith;
         from_input = λ e t le s. record { counts = λ r. input e t le s r (eqb_tells (g.source e) i) };
-        from_vertex = λ e u r le fits s. sent_elsewhere i (at_epoch (w.open_epoch i)) (λ q. row ∷ []) e u r (λ x. s (ap g.role x ∙ ok.0)) ∙ keeps.from_vertex e u r le fits s;
+        from_vertex = λ e u r le fits s. sent_elsewhere i (at_epoch (w.open_epoch i)) (λ q. rows) e u r (λ x. s (ap g.role x ∙ ok.0.0)) ∙ keeps.from_vertex e u r le fits s;
         notices = keeps.notices;
         always_told = keeps.always_told;
-        settled = settled_after (Step.feed i row) ok;
+        settled = settled_after (Step.feed i rows) ok;
         at_home = keeps.at_home;
-        good_mail = λ k lk. each-append (GoodMessage g k) (w.mail k) _ (keeps.good_mail k lk) (each_more (Parcel g i (at_epoch (w.open_epoch i)) k) (GoodMessage g k) _ (λ m p. p.good) (parcels_good g law 0 i (at_epoch (w.open_epoch i)) (λ q. row ∷ []) k g.edges (fits_fed g law i (w.open_epoch i) ok.0) (omega arith)));
+        good_mail = λ k lk. each-append (GoodMessage g k) (w.mail k) _ (keeps.good_mail k lk) (each_more (Parcel g i (at_epoch (w.open_epoch i)) k) (GoodMessage g k) _ (λ m p. p.good) (parcels_good g law 0 i (at_epoch (w.open_epoch i)) (λ q. rows) k g.edges (fits_fed g law i (w.open_epoch i) ok.0.0) (omega arith)));
         good_requests = keeps.good_requests;
         good_hand = keeps.good_hand;
         shards = keeps.shards;
@@ -262,10 +265,10 @@ module _ (g : Network) (law : IsNetwork g) (w : World) (h : History) (keeps : Ke
       worker : 0 < g.workers
       worker = law.has_worker
 
-      input : (e : ℕ) (t : Time) → e < g.edges → g.role (g.source e) ≡ Role.input → (r : Record) → ((eqb (g.source e) i ≡ true) × (g.source e ≡ i)) ⊎ ((eqb (g.source e) i ≡ false) × (g.source e ≢ i)) → count r (sent_after g w i (at_epoch (w.open_epoch i)) (λ q. row ∷ []) e t) ≡ count r (fed_at (put w.fed i (put (w.fed i) (w.open_epoch i) (w.fed i (w.open_epoch i) ++ row ∷ []))) (g.source e) t)
+      input : (e : ℕ) (t : Time) → e < g.edges → g.role (g.source e) ≡ Role.input → (r : Record) → ((eqb (g.source e) i ≡ true) × (g.source e ≡ i)) ⊎ ((eqb (g.source e) i ≡ false) × (g.source e ≢ i)) → count r (sent_after g w i (at_epoch (w.open_epoch i)) (λ q. rows) e t) ≡ count r (fed_at (put w.fed i (put (w.fed i) (w.open_epoch i) (w.fed i (w.open_epoch i) ++ rows))) (g.source e) t)
       input e t le s r (inr (a, b)) = rw a (count-append r (w.sent e t) [] ∙ (let x = (keeps.from_input e t le s).counts r in omega arith))
       input e t le s r (inl (a, b)) =
           let x : count r (w.sent e t) ≡ count r (cond (same_counters t.counters []) (w.fed (g.source e) t.epoch) []) = (keeps.from_input e t le s).counts r in
           let y : count r (cond (same_counters t.counters []) (w.fed (g.source e) t.epoch) []) ≡ count r (cond (same_counters t.counters []) (w.fed i t.epoch) []) = ap (λ j. count r (cond (same_counters t.counters []) (w.fed j t.epoch) [])) b in
-          let z = fed_more r row (w.fed i) (w.open_epoch i) t.epoch t.counters in
-          rw a (count-append r (w.sent e t) _ ∙ ap (λ n. n + count r (cond (same_time (at_epoch (w.open_epoch i)) t) (row ∷ []) [])) (x ∙ y) ∙ z)
+          let z = fed_more r rows (w.fed i) (w.open_epoch i) t.epoch t.counters in
+          rw a (count-append r (w.sent e t) _ ∙ ap (λ n. n + count r (cond (same_time (at_epoch (w.open_epoch i)) t) (rows) [])) (x ∙ y) ∙ z)

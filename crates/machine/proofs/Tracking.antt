@@ -6,10 +6,13 @@ use Rattle.semantics.specs.Graph.{Graph, edge_count}
 use Rattle.semantics.specs.Flow.{Flow, IsFlow, edge_flow}
 use Rattle.semantics.specs.Could.{Pointstamp, Location, on_edge, IsTimeAt}
 use Rattle.semantics.specs.Dataflow.{IsDataflow}
-use Rattle.machine.specs.World.{World, IsActive, NoneBefore, NoOtherBefore, Passed}
+use Rattle.machine.specs.World.{World}
+use Rattle.machine.specs.Active.{IsActive, active_count}
+use Rattle.machine.specs.Frontier.{NoneBefore, NoOtherBefore, Passed}
 use Rattle.machine.specs.Step.{Step, Allowed, after_step}
-use Rattle.machine.specs.Engine.{network, IsRunOn}
-use Rattle.machine.specs.Active.{active_count, step_adds, step_removes}
+use Rattle.machine.specs.Engine.{network}
+use Rattle.machine.specs.Headline.{IsRunOn}
+use Rattle.machine.specs.Changes.{step_adds, step_removes}
 use Rattle.machine.specs.Views.{AppliesInOrder, SeesNoneBefore, SeesNoOtherBefore}
 use Rattle.machine.proofs.Laws.{IsNetwork}
 use Rattle.machine.proofs.NetFlow.{HasFlows}
@@ -44,8 +47,8 @@ module _ (g : Graph) (workers : ℕ) (steps : List Step) (w : World) (is : IsRun
   pub sent_whole : (f : Flow) → IsFlow g w.fed f → (edge : ℕ) (t : Time) → edge < edge_count g → IsTimeAt g (Location.edge edge) t → NoneBefore (network g workers) w (on_edge edge t) → w.sent edge t ≈ edge_flow g f edge t
   sent_whole f h edge t l fits none = (kept f h).whole edge t l fits none
 
-  pub passed_stays : (step : Step) → Allowed (network g workers) w step → (epoch : ℕ) → Passed (network g workers) w epoch → Passed (network g workers) (after_step (network g workers) w step) epoch
-  passed_stays step ok epoch passed = passed_stays_on (network g workers) laws have_flows w (steps, is.run) step ok epoch passed
+  pub passed_stays : (step : Step) → Allowed (network g workers) w step → (output epoch : ℕ) → Passed (network g workers) w output epoch → Passed (network g workers) (after_step (network g workers) w step) output epoch
+  passed_stays step ok output epoch passed = passed_stays_on (network g workers) laws have_flows w (steps, is.run) step ok output epoch passed
 
   module _ (flags : List Bool) (order : AppliesInOrder (network g workers) steps flags) (pointstamp : Pointstamp) where
     sound : (SeesNoneBefore (network g workers) steps flags pointstamp → NoneBefore (network g workers) w pointstamp) × (SeesNoOtherBefore (network g workers) steps flags pointstamp → NoOtherBefore (network g workers) w pointstamp)

@@ -4,8 +4,9 @@ use Rattle.semantics.specs.Multiset.{total}
 use Rattle.semantics.specs.Could.{Pointstamp, NoneOf, NoOtherOf}
 use Rattle.machine.specs.Network.{Network}
 use Rattle.machine.specs.World.{World, opening}
+use Rattle.machine.specs.Active.{active_count}
 use Rattle.machine.specs.Step.{Step, after_step}
-use Rattle.machine.specs.Active.{active_count, step_adds, step_removes, step_sender}
+use Rattle.machine.specs.Changes.{step_adds, step_removes, step_sender}
 
 -- one step's changes: which sender made them, how often each pointstamp is added and removed, and whether the viewer has applied them
 pub record Changes : Type 0 where

@@ -6,11 +6,14 @@ ghost use Rattle.semantics.specs.Graph.{Graph, edge_count};
 ghost use Rattle.semantics.specs.Flow.{Flow, IsFlow, edge_flow};
 ghost use Rattle.semantics.specs.Could.{Location, Pointstamp, on_edge, IsTimeAt};
 ghost use Rattle.semantics.specs.Dataflow.{IsDataflow};
-ghost use Rattle.machine.specs.World.{World, IsActive, NoneBefore, NoOtherBefore, Passed};
+ghost use Rattle.machine.specs.World.{World};
+ghost use Rattle.machine.specs.Active.{IsActive, active_count};
+ghost use Rattle.machine.specs.Frontier.{NoneBefore, NoOtherBefore, Passed};
 ghost use Rattle.machine.specs.Step.{Step, Allowed, MayClaim, after_step};
-ghost use Rattle.machine.specs.Engine.{network, engine, IsRunOf, IsRunOn, meant};
+ghost use Rattle.machine.specs.Engine.{network, engine};
+ghost use Rattle.machine.specs.Headline.{output_of, IsRunOf, IsRunOn, meant};
+ghost use Rattle.machine.specs.Changes.{step_adds, step_removes};
 ghost use Rattle.machine.specs.Choices.{Chooses};
-ghost use Rattle.machine.specs.Active.{active_count, step_adds, step_removes};
 ghost use Rattle.machine.specs.Views.{AppliesInOrder, SeesNoneBefore, SeesNoOtherBefore};
 
 /// For every well-typed query, every number of workers and every list of steps, the records emitted for an epoch are
@@ -19,18 +22,18 @@ ghost use Rattle.machine.specs.Views.{AppliesInOrder, SeesNoneBefore, SeesNoOthe
 pub fn law_headline()
     ensures part { (p : Program) (workers : ℕ) (steps : List Step) (w : World) →
         IsRunOf p workers steps w → (epoch : ℕ) →
-        IsPartOf (w.emitted epoch) (meant p w epoch) }
+        IsPartOf (w.emitted (output_of p) epoch) (meant p w epoch) }
     ensures whole { (p : Program) (workers : ℕ) (steps : List Step) (w : World) →
-        IsRunOf p workers steps w → (epoch : ℕ) → Passed (engine p workers) w epoch →
-        w.emitted epoch ≈ meant p w epoch }
+        IsRunOf p workers steps w → (epoch : ℕ) → Passed (engine p workers) w (output_of p) epoch →
+        w.emitted (output_of p) epoch ≈ meant p w epoch }
 {}
 
 /// An epoch that has passed stays so by every step.
 pub fn law_passed()
     ensures { (g : Graph) (workers : ℕ) (steps : List Step) (w : World) →
         IsRunOn g workers steps w → (step : Step) → Allowed (network g workers) w step →
-        (epoch : ℕ) → Passed (network g workers) w epoch →
-        Passed (network g workers) (after_step (network g workers) w step) epoch }
+        (output epoch : ℕ) → Passed (network g workers) w output epoch →
+        Passed (network g workers) (after_step (network g workers) w step) output epoch }
 {}
 
 /// What was sent on an edge is part of the flow on what was fed, and is all of it where no active pointstamp could result.
