@@ -487,7 +487,7 @@ module _ (g : Graph) (flows : IsDataflow g) (workers : ℕ) (some : 0 < workers)
 
   -- ---- the flow
 
-  place_at : (e : ℕ) (t : Time) → e < edge_count g → IsTimeAt g (Location.edge e) t → IsEdgeTime g (target g e) (in_port g e) t
+  pub place_at : (e : ℕ) (t : Time) → e < edge_count g → IsTimeAt g (Location.edge e) t → IsEdgeTime g (target g e) (in_port g e) t
   place_at e t l f = let k = entered g e l in record { is_vertex = k.known; is_port = k.port; has_depth = f.1 }
 
   not_input_sends : (inputs : Inputs) (k : Kind) (f : Flow) (v out : ℕ) (u : Time) → role k ≢ Role.input → sent_or_fed inputs k f v out u ≡ sent_by k f v out u

@@ -117,39 +117,3 @@ made q = ≈-refl answer
 sends : w6.mail 0 ≡ record { edge = 1; time = at_epoch 0; records = answer } ∷ []
 unfolding lowered lower lower_lets vertex source route
 sends = refl
-
-grows : (r : Role) (w : World) (k v p : ℕ) (t : Time) (records : List Record) (k' v' p' : ℕ) (t' : Time) → IsPartOf (w.absorbed k' v' p' t') (absorbed_by r w k v p t records k' v' p' t')
-grows Role.input w k v p t records k' v' p' t' = record { within = λ r. omega arith }
-grows Role.stateless w k v p t records k' v' p' t' = record { within = λ r. omega arith }
-grows Role.output w k v p t records k' v' p' t' = record { within = λ r. omega arith }
-grows Role.stateful w k v p t records k' v' p' t' = record { within = λ r. let a = total-append (λ x. one_if (same x r)) (w.absorbed k' v' p' t') (cond (k' == k) (cond (v == v') (cond (p == p') (cond (same_time t t') records []) []) []) []) in omega arith }
-grows Role.notified w k v p t records k' v' p' t' = record { within = λ r. let a = total-append (λ x. one_if (same x r)) (w.absorbed k' v' p' t') (cond (k' == k) (cond (v == v') (cond (p == p') (cond (same_time t t') records []) []) []) []) in omega arith }
-
--- each held message can be committed, whatever the world
-can : (g : Network) (law : IsNetwork g) (w : World) (k : ℕ) (m : Message) → g.role (g.target m.edge) ≡ Role.stateful → (out : ℕ → List Record) × Makes g w k (Event.arrival m) out
-can g law w k m is = go (g.role (g.target m.edge)) refl is
-  where
-    go : (r : Role) → g.role (g.target m.edge) ≡ r → r ≡ Role.stateful → (out : ℕ → List Record) × MakesBy r g w k m out
-    go Role.input e is = absurd cc
-    go Role.stateless e is = absurd cc
-    go Role.notified e is = absurd cc
-    go Role.output e is = absurd cc
-    go Role.stateful e is = ((λ q. less (after_op q) (before_op q)), λ q. less-append (after_op q) (before_op q) (law.op_more (g.target m.edge) q m.time before now (λ is. no is) part))
-      where
-        before : ℕ → List Record
-        before p = w.absorbed k (g.target m.edge) p m.time
-
-        now : ℕ → List Record
-        now p = absorbed_after g w k (Event.arrival m) k (g.target m.edge) p m.time
-
-        before_op : ℕ → List Record
-        before_op q = g.op (g.target m.edge) q m.time before
-
-        after_op : ℕ → List Record
-        after_op q = g.op (g.target m.edge) q m.time now
-
-        no : g.role (g.target m.edge) ≡ Role.notified → ⊥
-        no is = cc
-
-        part : (p : ℕ) → p < g.ports (g.target m.edge) → IsPartOf (before p) (now p)
-        part p l = grows (g.role (g.target m.edge)) w k (g.target m.edge) (g.in_port m.edge) m.time m.records k (g.target m.edge) p m.time

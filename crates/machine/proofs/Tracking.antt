@@ -31,10 +31,10 @@ module _ (g : Graph) (flows : IsDataflow g) (workers : ℕ) (some : 0 < workers)
   count_after w step ok pointstamp = count_step (network g workers) (network_is g flows workers some) w step ok pointstamp
 
 module _ (g : Graph) (workers : ℕ) (steps : List Step) (w : World) (is : IsRunOn g workers steps w) where
-  laws : IsNetwork (network g workers)
+  pub laws : IsNetwork (network g workers)
   laws = network_is g is.flows workers is.some
 
-  have_flows : HasFlows (network g workers)
+  pub have_flows : HasFlows (network g workers)
   have_flows = net_flows g is.flows workers is.some
 
   -- of a flow on what was fed
