@@ -13,14 +13,12 @@ use Rattle.machine.specs.Step.{Step, Allowed, after_step}
 use Rattle.machine.specs.Engine.{network}
 use Rattle.machine.specs.Headline.{IsRunOn}
 use Rattle.machine.specs.Changes.{step_adds, step_removes}
-use Rattle.machine.specs.Views.{AppliesInOrder, SeesNoneBefore, SeesNoOtherBefore}
 use Rattle.machine.proofs.Laws.{IsNetwork}
 use Rattle.machine.proofs.NetFlow.{HasFlows}
 use Rattle.machine.proofs.Kept.{Headline}
 use Rattle.machine.proofs.Engine.{network_is, net_flow, net_flows}
 use Rattle.machine.proofs.Active.{counted, active, count_step}
 use Rattle.machine.proofs.Runs.{keep_reached, every_run_keeps, passed_stays_on}
-use Rattle.machine.proofs.Logs.{view_sound}
 
 module _ (g : Graph) (flows : IsDataflow g) (workers : ℕ) (some : 0 < workers) where
   pub active_counts : (w : World) (pointstamp : Pointstamp) → IsActive (network g workers) w pointstamp ↔ (0 < active_count (network g workers) w pointstamp)
@@ -49,15 +47,3 @@ module _ (g : Graph) (workers : ℕ) (steps : List Step) (w : World) (is : IsRun
 
   pub passed_stays : (step : Step) → Allowed (network g workers) w step → (output epoch : ℕ) → Passed (network g workers) w output epoch → Passed (network g workers) (after_step (network g workers) w step) output epoch
   passed_stays step ok output epoch passed = passed_stays_on (network g workers) laws have_flows w (steps, is.run) step ok output epoch passed
-
-  module _ (flags : List Bool) (order : AppliesInOrder (network g workers) steps flags) (pointstamp : Pointstamp) where
-    sound : (SeesNoneBefore (network g workers) steps flags pointstamp → NoneBefore (network g workers) w pointstamp) × (SeesNoOtherBefore (network g workers) steps flags pointstamp → NoOtherBefore (network g workers) w pointstamp)
-    sound =
-        let kept = keep_reached (network g workers) laws have_flows w (steps, is.run) in
-        view_sound (network g workers) laws have_flows steps flags w is.run kept.0 kept.1 order pointstamp
-
-    pub view_none : SeesNoneBefore (network g workers) steps flags pointstamp → NoneBefore (network g workers) w pointstamp
-    view_none = sound.0
-
-    pub view_no_other : SeesNoOtherBefore (network g workers) steps flags pointstamp → NoOtherBefore (network g workers) w pointstamp
-    view_no_other = sound.1

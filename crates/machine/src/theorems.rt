@@ -14,7 +14,7 @@ ghost use Rattle.machine.specs.Engine.{network, engine};
 ghost use Rattle.machine.specs.Headline.{output_of, IsRunOf, IsRunOn, meant};
 ghost use Rattle.machine.specs.Changes.{step_adds, step_removes};
 ghost use Rattle.machine.specs.Choices.{Chooses};
-ghost use Rattle.machine.specs.Views.{AppliesInOrder, SeesNoneBefore, SeesNoOtherBefore};
+ghost use Rattle.machine.specs.RunViews.{AppliesInOrder, SeesNoneBefore, SeesNoOtherBefore};
 
 /// For every well-typed query, every number of workers and every list of steps, the records emitted for an epoch are
 /// part of the multiset that the query's tree means on the records fed for that epoch, and are all of it once the output
