@@ -38,7 +38,7 @@ not_empty [] x = absurd (omega arith)
 not_empty (r ∷ records) x = omega arith
 
 module _ (g : Graph) (workers : ℕ) (steps : List Step) (w : World) (is : IsRunOn g workers steps w) where
-  keeps : (h : History) × Kept (network g workers) w h
+  pub keeps : (h : History) × Kept (network g workers) w h
   keeps = keep_reached (network g workers) (laws g workers steps w is) (have_flows g workers steps w is) w (steps, is.run)
 
   -- what is under way to a worker was sent
@@ -79,7 +79,7 @@ module _ (g : Graph) (workers : ℕ) (steps : List Step) (w : World) (is : IsRun
   pub mail_sent : (k at : ℕ) (m : Message) → k < workers → slice_get (w.mail k) at ≡ Some m → (r : Record) → count r m.records ≤ count r (w.sent m.edge m.time)
   mail_sent k at m l there = way_part k m l (mail_good k at m l there) (λ r. let c = total_one (carried m.edge m.time r) (w.mail k) at m there in omega arith)
 
-  held_good : (k : ℕ) (up : Bool) (event : Event) → k < workers → w.held k ≡ Held.holding up event → GoodEvent (network g workers) k event
+  pub held_good : (k : ℕ) (up : Bool) (event : Event) → k < workers → w.held k ≡ Held.holding up event → GoodEvent (network g workers) k event
   held_good k up event l there = subst (GoodHand (network g workers) k) there (keeps.1.good_hand k l)
 
   -- and so was what is held

@@ -244,7 +244,3 @@ module _ (g : Network) (law : IsNetwork g) (w : World) (good : Good g w) where
   under_step (Step.claim_request k at n) ok = under_claim_request k at n ok
   under_step (Step.commit k event out) ok = under_commit k event out ok
   under_step (Step.abandon k event) ok = under_abandon k event ok
-
-  -- what has passed stays passed
-  pub passed_stays : (step : Step) → Allowed g w step → (v n : ℕ) → Passed g w v n → Passed g (after_step g w step) v n
-  passed_stays step ok v n = none_before_under g law w (after_step g w step) (under_step step ok) (at_vertex v (at_epoch n))

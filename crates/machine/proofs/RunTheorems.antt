@@ -14,7 +14,3 @@ use Rattle.machine.proofs.Kept.{Headline}
 -- at every world at the end of a run, whatever was sent is part of the flow, and all of it where nothing more can come
 abbrev pub EveryRunKeeps : Type 1
 EveryRunKeeps = (g : Network) → IsNetwork g → HasFlows g → (w : World) → Reached g w → (flow : ℕ → Time → List Record) → IsNetFlow g w.fed flow → Headline g w flow
-
--- an epoch that has passed stays passed
-abbrev pub PassedStays : Type 1
-PassedStays = (g : Network) → IsNetwork g → HasFlows g → (w : World) → Reached g w → (step : Step) → Allowed g w step → (v n : ℕ) → Passed g w v n → Passed g (after_step g w step) v n

@@ -15,9 +15,8 @@ use Rattle.machine.proofs.Kept.{History, under_way, bit, made, Kept}
 use Rattle.machine.proofs.Laws.{IsNetwork}
 use Rattle.machine.proofs.NetFlow.{HasFlows}
 use Rattle.machine.proofs.Notifications.{history_told, keep_notice}
-use Rattle.machine.proofs.Progress.{passed_stays}
 use Rattle.machine.proofs.Steps.{good_of, keep_feed, keep_seal, keep_close, keep_claim_message, keep_claim_request, keep_abandon}
-use Rattle.machine.proofs.RunTheorems.{EveryRunKeeps, PassedStays}
+use Rattle.machine.proofs.RunTheorems.{EveryRunKeeps}
 
 pub not_group : Role → Bool
 not_group Role.input = true
@@ -101,9 +100,6 @@ keep_reached g law flows w reached = keep_run g law flows reached.0 opening w (s
 
 pub every_run_keeps : EveryRunKeeps
 every_run_keeps g law flows w reached flow is = let k = keep_reached g law flows w reached in headline g law w k.0 k.1 flow is
-
-pub passed_stays_on : PassedStays
-passed_stays_on g law flows w reached step ok v n = let k = keep_reached g law flows w reached in passed_stays g law w (good_of g law w k.0 k.1) step ok v n
 
 run_more : (g : Network) (steps : List Step) (w w' : World) (step : Step) → Run g w steps w' → Allowed g w' step → Run g w (steps ++ step ∷ []) (after_step g w' step)
 run_more g [] w w' step run ok = (subst (λ (x : World). Allowed g x step) (sym run) ok, ap (λ x. after_step g x step) run)

@@ -1,10 +1,11 @@
 -- What lies in mailboxes, in requests and in workers' hands: it fits the graph.
 use Rattle.std.specs.Prelude.{◌≡◌, ℕ, ◌<◌, true, length}
 use Rattle.semantics.specs.Time.{last, turn_count}
-use Rattle.semantics.specs.Kinds.{Role, role, ends_turn}
+use Rattle.semantics.specs.Kinds.{Kind, Role, role, ends_turn}
 use Rattle.semantics.specs.Graph.{Graph, vertex, target}
 use Rattle.semantics.specs.Could.{Location, IsTimeAt}
-use Rattle.machine.specs.World.{Message, Request, Event}
+use Rattle.semantics.specs.PortArity.{HaveFields}
+use Rattle.machine.specs.World.{Message, Request, Event, World}
 
 pub record IsGoodMessage (g : Graph) (m : Message) : Type 0 where
   -- the graph has its edge, and its time has the edge's depth
@@ -22,3 +23,7 @@ pub record IsGoodRequest (g : Graph) (n : Request) : Type 0 where
 abbrev pub IsGoodEvent : Graph → Event → Type 0
 IsGoodEvent g (Event.arrival m) = IsGoodMessage g m
 IsGoodEvent g (Event.notification n) = IsGoodRequest g n
+
+-- each record that was fed has its input's arity
+abbrev pub FedFits : Graph → (arity : (vertex : ℕ) → ℕ) → World → Type 0
+FedFits g arity w = (v epoch : ℕ) → v < length g → (vertex g v).kind ≡ Kind.input → HaveFields (arity v) (w.fed v epoch)
