@@ -75,7 +75,7 @@ module _ (g : Network) (law : IsNetwork g) (w : World) where
   pub counted : (p : Pointstamp) → IsActive g w p → 0 < active_count g w p
   counted p (IsActive.of_input i s e) =
       let a : open_input_count w (at_vertex i (at_epoch (w.open_epoch i))) i ≡ 1 = ap (λ b. cond b 0 (one_if_same (at_vertex i (at_epoch (w.open_epoch i))) (at_vertex i (at_epoch (w.open_epoch i))))) e ∙ one_self (at_vertex i (at_epoch (w.open_epoch i))) in
-      let b = below_one g.inputs i (open_input_count w (at_vertex i (at_epoch (w.open_epoch i)))) (law.source_is_input i s) in
+      let b = below_one g.inputs i (open_input_count w (at_vertex i (at_epoch (w.open_epoch i)))) (law.role_is_input i s) in
       omega arith
   counted p (IsActive.of_mail k at m lk s) =
       let a : one_if_same (message_pointstamp m) (message_pointstamp m) ≤ total (λ x. one_if_same (message_pointstamp m) (message_pointstamp x)) (w.mail k) = total_one (λ x. one_if_same (message_pointstamp m) (message_pointstamp x)) (w.mail k) at m s in
@@ -101,7 +101,7 @@ module _ (g : Network) (law : IsNetwork g) (w : World) where
       input i li s true e = absurd (let z : open_input_count w p i ≡ 0 = rw e refl in omega arith)
       input i li s false e =
           let z : open_input_count w p i ≡ one_if_same p (at_vertex i (at_epoch (w.open_epoch i))) = rw e refl in
-          subst (IsActive g w) (sym (one_is p (at_vertex i (at_epoch (w.open_epoch i))) (omega arith))) (IsActive.of_input i (law.input_is_source i li) e)
+          subst (IsActive g w) (sym (one_is p (at_vertex i (at_epoch (w.open_epoch i))) (omega arith))) (IsActive.of_input i (law.input_has_role i li) e)
 
       held : (k : ℕ) → k < g.workers → (x : Held) → w.held k ≡ x → 0 < held_count p x → IsActive g w p
       held k lk Held.nothing e s = absurd (omega arith)
@@ -216,8 +216,8 @@ module _ (g : Network) (law : IsNetwork g) (w : World) where
   -- each step changes the count by what it adds and removes
   pub count_step : (step : Step) → Allowed g w step → (p : Pointstamp) → active_count g (after_step g w step) p + step_removes g w step p ≡ active_count g w p + step_adds g w step p
   count_step (Step.feed i rs) ok p = count_feed i rs p
-  count_step (Step.seal i) ok p = count_seal i (law.source_is_input i ok.0) ok.1 p
-  count_step (Step.close i) ok p = count_close i (law.source_is_input i ok.0) ok.1 p
+  count_step (Step.seal i) ok p = count_seal i (law.role_is_input i ok.0) ok.1 p
+  count_step (Step.close i) ok p = count_close i (law.role_is_input i ok.0) ok.1 p
   count_step (Step.claim_message k at m) ok p = count_claim_message k at m ok p
   count_step (Step.claim_request k at n) ok p = count_claim_request k at n ok p
   count_step (Step.commit k event out) ok p = count_commit k event out ok p

@@ -1,5 +1,5 @@
 -- A held event can always be committed.
-use Rattle.std.proofs.Common.{◌≡◌, ◌≢◌, ◌<◌, ◌+◌, ℕ, List, [], ◌∷◌, false, refl, sym, ap, ◌∙◌, arith, cond, ◌==◌}
+use Rattle.std.proofs.Common.{◌≡◌, ◌≢◌, ◌<◌, ℕ, List, [], false, refl, sym, ◌∙◌, arith, cond, ◌==◌}
 use Rattle.semantics.specs.Multiset.{Record, less, IsPartOf, one_if, same}
 use Rattle.semantics.specs.Time.{Time, same_time}
 use Rattle.semantics.specs.Kinds.{Role}
@@ -40,7 +40,7 @@ module _ (g : Network) (law : IsNetwork g) (w : World) (k : ℕ) where
       part p l = grows (g.role (g.target m.edge)) w k (g.target m.edge) (g.in_port m.edge) m.time m.records k (g.target m.edge) p m.time
 
       go : (r : Role) → g.role (g.target m.edge) ≡ r → (out : ℕ → List Record) × MakesBy r g w k m out
-      go Role.input e = absurd (law.no_source_target m.edge l e)
+      go Role.input e = absurd (law.no_input_target m.edge l e)
       go Role.stateless e = ((λ q. g.op (g.target m.edge) q m.time (only_at (g.in_port m.edge) m.records)), λ q. ≈-refl (g.op (g.target m.edge) q m.time (only_at (g.in_port m.edge) m.records)))
       go Role.stateful e = ((λ q. less (after_op q) (before_op q)), λ q. less-append (after_op q) (before_op q) (law.op_more (g.target m.edge) q m.time before now not_notified part))
         where

@@ -1,12 +1,10 @@
 -- Nothing is active in a drained world, and only there.
-use Rattle.std.proofs.Common.{◌≡◌, ◌⊎◌, inl, inr, ◌≤◌, ◌<◌, ◌↔◌, ℕ, zero, suc, Bool, true, false, List, [], ◌∷◌, Some, refl, sym, ap, ◌∙◌, subst, arith, slice_get}
+use Rattle.std.proofs.Common.{◌≡◌, ◌<◌, ℕ, zero, Bool, true, false, List, [], ◌∷◌, Some, refl, sym, ap, ◌∙◌, slice_get}
 use Rattle.semantics.specs.Could.{Pointstamp, at_vertex}
 use Rattle.semantics.specs.Time.{at_epoch}
-use Rattle.semantics.specs.Kinds.{Role}
 use Rattle.machine.specs.Network.{Network}
-use Rattle.machine.specs.World.{World, Message, Request, Event, Held}
+use Rattle.machine.specs.World.{World, Message, Request, Held}
 use Rattle.machine.specs.Active.{IsActive, message_pointstamp, request_pointstamp, event_pointstamp}
-use Rattle.machine.specs.Frontier.{NoneBefore}
 use Rattle.machine.specs.Drained.{IsDrained}
 use Rattle.machine.proofs.Laws.{IsNetwork}
 
@@ -16,7 +14,7 @@ module _ (g : Network) (law : IsNetwork g) (w : World) where
   none_in (y ∷ xs) at x e s = cc
 
   pub idle : IsDrained g w → (p : Pointstamp) → IsActive g w p → ⊥
-  idle is p (IsActive.of_input i s e) = let z : true ≡ false = sym (is.closed i (law.source_is_input i s)) ∙ e in cc
+  idle is p (IsActive.of_input i s e) = let z : true ≡ false = sym (is.closed i (law.role_is_input i s)) ∙ e in cc
   idle is p (IsActive.of_mail k at m l s) = none_in (w.mail k) at m (is.mail k l) s
   idle is p (IsActive.of_request k at n l s) = none_in (w.requests k) at n (is.requests k l) s
   idle is p (IsActive.of_held k up event l s) = let z : Held.nothing ≡ Held.holding up event = sym (is.held k l) ∙ s in cc
@@ -32,7 +30,7 @@ module _ (g : Network) (law : IsNetwork g) (w : World) where
     where
       shut : (i : ℕ) → i < g.inputs → (b : Bool) → w.closed i ≡ b → w.closed i ≡ true
       shut i l true e = e
-      shut i l false e = absurd (none (at_vertex i (at_epoch (w.open_epoch i))) (IsActive.of_input i (law.input_is_source i l) e))
+      shut i l false e = absurd (none (at_vertex i (at_epoch (w.open_epoch i))) (IsActive.of_input i (law.input_has_role i l) e))
 
       boxes : (k : ℕ) → k < g.workers → (xs : List Message) → w.mail k ≡ xs → w.mail k ≡ []
       boxes k l [] e = e

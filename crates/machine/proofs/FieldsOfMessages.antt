@@ -1,5 +1,5 @@
 -- What is fed with its input's arity stays of the arity of each port.
-use Rattle.std.proofs.Common.{◌≡◌, ◌⊎◌, ◌≤◌, ◌<◌, ◌∙◌, ◌+◌, ℕ, Bool, List, Some, refl, sym, ap, subst, arith, length, slice_get}
+use Rattle.std.proofs.Common.{◌≡◌, ◌⊎◌, ◌≤◌, ◌<◌, ◌∙◌, ◌+◌, ℕ, Bool, List, Some, sym, ap, subst, arith, length, slice_get}
 use Rattle.semantics.specs.Multiset.{Record, count}
 use Rattle.semantics.specs.Time.{Time, at_epoch}
 use Rattle.semantics.specs.Kinds.{Kind, Role, role}
@@ -13,7 +13,6 @@ use Rattle.semantics.proofs.RankRises.{dataflow_one_flow}
 use Rattle.machine.specs.World.{World, Message, Event, Held}
 use Rattle.machine.specs.Active.{sum_below}
 use Rattle.machine.specs.Step.{Step}
-use Rattle.machine.specs.Engine.{network}
 use Rattle.machine.specs.Headline.{IsRunOn}
 use Rattle.machine.proofs.Counting.{below_one}
 use Rattle.machine.proofs.Engine.{place_at, output_is, network_is}

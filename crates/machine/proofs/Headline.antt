@@ -1,5 +1,5 @@
 -- The headline, for programs.
-use Rattle.std.proofs.Common.{◌≤◌, ℕ, List, ap, ◌∙◌, subst, arith}
+use Rattle.std.proofs.Common.{◌≤◌, ℕ, List, ap, ◌∙◌, subst}
 use Rattle.semantics.specs.Multiset.{IsPartOf, ◌≈◌, count}
 use Rattle.semantics.specs.Query.{Program}
 use Rattle.semantics.specs.Time.{at_epoch}

@@ -1,6 +1,6 @@
 -- What lies in mailboxes, in requests and in workers' hands fits the graph.
 use Rattle.std.proofs.Common.{◌≡◌, ◌≢◌, ◌⊎◌, inl, inr, ◌≤◌, ◌<◌, ℕ, List, [], ◌∷◌, Some, refl, arith, ap, subst, slice_get, length, true, false, Bool}
-use Rattle.semantics.specs.Multiset.{Record, count, same, one_if, total}
+use Rattle.semantics.specs.Multiset.{Record, count, same, one_if}
 use Rattle.semantics.specs.Time.{last, turn_count}
 use Rattle.semantics.specs.Kinds.{ends_turn}
 use Rattle.semantics.specs.Graph.{Graph, vertex, target, in_port}
@@ -15,7 +15,7 @@ use Rattle.semantics.proofs.OneFlow.{one_flow}
 use Rattle.semantics.proofs.RankRises.{rises_from_nested}
 use Rattle.machine.proofs.Counting.{below_one, total_one, eqb_self, same_tells}
 use Rattle.machine.proofs.Engine.{place_at}
-use Rattle.machine.proofs.Kept.{History, Kept, GoodMessage, GoodRequest, GoodEvent, GoodHand, carried, in_hand, under_way, some}
+use Rattle.machine.proofs.Kept.{History, Kept, GoodMessage, GoodRequest, GoodEvent, GoodHeld, carried, held_records, under_way, some}
 use Rattle.machine.proofs.Places.{same_time_self}
 use Rattle.machine.proofs.Runs.{keep_reached}
 use Rattle.machine.proofs.Sending.{each_at}
@@ -80,11 +80,11 @@ module _ (g : Graph) (workers : ℕ) (steps : List Step) (w : World) (is : IsRun
   mail_sent k at m l there = way_part k m l (mail_good k at m l there) (λ r. let c = total_one (carried m.edge m.time r) (w.mail k) at m there in omega arith)
 
   pub held_good : (k : ℕ) (up : Bool) (event : Event) → k < workers → w.held k ≡ Held.holding up event → GoodEvent (network g workers) k event
-  held_good k up event l there = subst (GoodHand (network g workers) k) there (keeps.1.good_hand k l)
+  held_good k up event l there = subst (GoodHeld (network g workers) k) there (keeps.1.good_held k l)
 
   -- and so was what is held
   pub held_sent : (k : ℕ) (up : Bool) (m : Message) → k < workers → w.held k ≡ Held.holding up (Event.arrival m) → (r : Record) → count r m.records ≤ count r (w.sent m.edge m.time)
-  held_sent k up m l there = way_part k m l (held_good k up (Event.arrival m) l there) (λ r. let c : in_hand m.edge m.time r (w.held k) ≡ carried m.edge m.time r m = ap (in_hand m.edge m.time r) there in omega arith)
+  held_sent k up m l there = way_part k m l (held_good k up (Event.arrival m) l there) (λ r. let c : held_records m.edge m.time r (w.held k) ≡ carried m.edge m.time r m = ap (held_records m.edge m.time r) there in omega arith)
 
   pub messages : (k at : ℕ) (m : Message) → k < workers → slice_get (w.mail k) at ≡ Some m → IsGoodMessage g m
   messages k at m l there = good_message k m (mail_good k at m l there) (mail_sent k at m l there)

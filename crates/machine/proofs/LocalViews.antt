@@ -1,20 +1,19 @@
 -- What a viewer lets through, the true pointstamps let through: over a graph, for changes of any caller, and for those of a run.
-use Rattle.std.proofs.Common.{◌≡◌, ◌≢◌, ◌≤◌, ◌<◌, ◌+◌, ℕ, zero, suc, Bool, true, false, List, [], ◌∷◌, ◌++◌, ◌⊎◌, inl, inr, refl, sym, ap, ap₂, subst, arith}
+use Rattle.std.proofs.Common.{◌≡◌, ◌≤◌, ◌<◌, ◌+◌, ℕ, zero, suc, Bool, true, false, List, [], ◌∷◌, ◌++◌, refl, ap, arith}
 use Rattle.semantics.specs.Multiset.{total}
 use Rattle.semantics.specs.Graph.{Graph, input_count}
 use Rattle.semantics.specs.Could.{Pointstamp, CouldResultIn, NoneOf, NoOtherOf}
 use Rattle.semantics.proofs.MultisetSums.{total-append}
-use Rattle.machine.specs.Network.{Network}
 use Rattle.machine.specs.World.{World, opening}
-use Rattle.machine.specs.Active.{IsActive, active_count}
+use Rattle.machine.specs.Active.{active_count}
 use Rattle.machine.specs.Frontier.{NoneBefore, NoOtherBefore}
 use Rattle.machine.specs.Step.{Step, Allowed}
 use Rattle.machine.specs.Engine.{network}
 use Rattle.machine.specs.Headline.{IsRunOn}
-use Rattle.machine.specs.Views.{Changes, when, all_adds, all_removes, seen_adds, seen_removes, IsSeen, IsThere, AllApplied, AppliesMore}
+use Rattle.machine.specs.Views.{Changes, when, IsSeen, IsThere, AllApplied, AppliesMore}
 use Rattle.machine.specs.Posting.{MayPost, ArePosted, IsView}
 use Rattle.machine.specs.RunViews.{changes_of, log_of, AppliesInOrder, SeesNoneBefore, SeesNoOtherBefore}
-use Rattle.machine.proofs.Batches.{IsLog}
+use Rattle.machine.proofs.JustifiedLogs.{IsLog}
 use Rattle.machine.proofs.Engine.{network_is}
 use Rattle.machine.proofs.Laws.{IsNetwork}
 use Rattle.machine.proofs.Logs.{may_post, posted, is_there, is_active}
@@ -22,7 +21,7 @@ use Rattle.machine.proofs.Posted.{posted_is_log}
 use Rattle.machine.proofs.Runs.{keep_reached}
 use Rattle.machine.proofs.Steps.{good_of}
 use Rattle.machine.proofs.Tracking.{laws, have_flows}
-use Rattle.machine.proofs.Views.{when_le, total_when, view_none_before, view_no_other_before, view_stays}
+use Rattle.machine.proofs.Views.{when_le, view_none_before, view_no_other_before, view_stays}
 
 same_total : (f : Changes → ℕ) (log : List Changes) → AllApplied log → total (λ b. when b.applied (f b)) log ≡ total f log
 same_total f [] a = refl

@@ -1,15 +1,14 @@
 -- The log of a run justifies each pointstamp that a step makes active.
-use Rattle.std.proofs.Common.{◌≡◌, ◌≢◌, ◌≤◌, ◌<◌, ℕ, zero, suc, ◌+◌, Bool, true, false, List, [], ◌∷◌, ◌⊎◌, inl, inr, refl, sym, ap, ◌∙◌, subst, arith, slice_get, Some}
+use Rattle.std.proofs.Common.{◌≡◌, ◌≢◌, ◌≤◌, ◌<◌, ℕ, zero, suc, ◌+◌, Bool, false, List, [], ◌∷◌, ◌⊎◌, inl, inr, refl, sym, ap, ◌∙◌, subst, arith, slice_get, Some}
 use Rattle.semantics.specs.Multiset.{total, Record}
 use Rattle.semantics.specs.Could.{Pointstamp, Location, on_edge, at_vertex}
 use Rattle.semantics.specs.Time.{Time, at_epoch}
 use Rattle.machine.specs.Network.{Network}
 use Rattle.machine.specs.World.{Request, Event, World, opening}
 use Rattle.machine.specs.Active.{one_if_same, active_count, IsActive, message_pointstamp, request_pointstamp, event_pointstamp}
-use Rattle.machine.specs.Frontier.{NoneBefore, NoOtherBefore}
 use Rattle.machine.specs.Sending.{parcels}
 use Rattle.machine.specs.Processing.{event_vertex, event_time, asked}
-use Rattle.machine.specs.Step.{Step, Allowed, after_step, put}
+use Rattle.machine.specs.Step.{Step, Allowed, after_step}
 use Rattle.machine.specs.Run.{Run}
 use Rattle.machine.specs.Changes.{parcel_count, step_adds, step_removes, step_sender}
 use Rattle.machine.specs.Views.{all_adds, all_removes, IsThere}
@@ -22,7 +21,7 @@ use Rattle.machine.proofs.Kept.{History, Kept, GoodEvent}
 use Rattle.machine.proofs.Laws.{Lower, IsNetwork}
 use Rattle.machine.proofs.NetFlow.{HasFlows}
 use Rattle.machine.proofs.Places.{edge_not_vertex}
-use Rattle.machine.proofs.Progress.{Good, active_fits, put_tells, reaches_vertex, vertex_fits, held_good, asked_place}
+use Rattle.machine.proofs.Progress.{Good, reaches_vertex, vertex_fits, held_good, asked_place}
 use Rattle.machine.proofs.Rank.{lower_through}
 use Rattle.machine.proofs.Runs.{keep_step, keep_opening, start}
 use Rattle.machine.proofs.Sending.{Parcel, parcels_good, fits_sent, each_at}
@@ -54,9 +53,9 @@ module _ (g : Network) (law : IsNetwork g) (w : World) (good : Good g w) where
   from_feed : (i : ℕ) (rs : List Record) → Allowed g w (Step.feed i rs) → (q : Pointstamp) → 0 < step_adds g w (Step.feed i rs) q → (p : Pointstamp) × Lower g p q × g.Could p q × From g w (Step.feed i rs) p
   from_feed i rs ok q l =
       let u : Time = at_epoch (w.open_epoch i) in
-      let l' : 0 < parcel_count g 0 i (g.act i u) (λ q. rs) q = subst (λ (x : Time). 0 < parcel_count g 0 i x (λ q. rs) q) (sym (law.source_act i u ok.0.0)) l in
-      let a = sent_from 0 i u (λ q. rs) (law.fits_source i (w.open_epoch i) ok.0.0) q l' in
-      (at_vertex i u, higher (at_vertex i u) q a.3 (λ e. edge_not_vertex a.0 i a.1 u (sym (e ∙ a.2))), a.3, inr (refl, (i, law.source_is_input i ok.0.0, refl), counted g law w (at_vertex i u) (IsActive.of_input i ok.0.0 ok.0.1)))
+      let l' : 0 < parcel_count g 0 i (g.act i u) (λ q. rs) q = subst (λ (x : Time). 0 < parcel_count g 0 i x (λ q. rs) q) (sym (law.input_act i u ok.0.0)) l in
+      let a = sent_from 0 i u (λ q. rs) (law.fits_input i (w.open_epoch i) ok.0.0) q l' in
+      (at_vertex i u, higher (at_vertex i u) q a.3 (λ e. edge_not_vertex a.0 i a.1 u (sym (e ∙ a.2))), a.3, inr (refl, (i, law.role_is_input i ok.0.0, refl), counted g law w (at_vertex i u) (IsActive.of_input i ok.0.0 ok.0.1)))
 
   from_seal : (i : ℕ) → Allowed g w (Step.seal i) → (q : Pointstamp) → 0 < step_adds g w (Step.seal i) q → (p : Pointstamp) × Lower g p q × g.Could p q × From g w (Step.seal i) p
   from_seal i ok q l =
@@ -136,7 +135,7 @@ module _ (g : Network) (law : IsNetwork g) (w : World) (good : Good g w) where
       input v u p ne at is =
           let z : Location.vertex v ≡ Location.vertex at.0 = sym (ap (λ (x : Pointstamp). x.location) is) ∙ at.2 in
           let e : v ≡ at.0 = cc in
-          ne (ap g.role e ∙ law.input_is_source at.0 at.1)
+          ne (ap g.role e ∙ law.input_has_role at.0 at.1)
 
       removed : (k : ℕ) (event : Event) → GoodEvent g k event → (p : Pointstamp) → AtInput g.inputs p → p ≡ event_pointstamp event → ⊥
       removed k (Event.arrival m) fine p at is = elsewhere p m.edge m.time at is
@@ -146,7 +145,7 @@ module _ (g : Network) (law : IsNetwork g) (w : World) (good : Good g w) where
       requested k (Event.notification n) fine p at l = omega arith
       requested k (Event.arrival m) fine p at l =
           let b = total_some (asked g w k (Event.arrival m)) (λ n. one_if_same p (request_pointstamp n)) l in
-          input (g.target m.edge) m.time p (law.no_source_target m.edge fine.0) at (one_is p (request_pointstamp b.1) b.3 ∙ asked_place g law w good k (Event.arrival m) b.0 b.1 b.2)
+          input (g.target m.edge) m.time p (law.no_input_target m.edge fine.0) at (one_is p (request_pointstamp b.1) b.3 ∙ asked_place g law w good k (Event.arrival m) b.0 b.1 b.2)
 
       by_commit : (k : ℕ) (event : Event) (out : ℕ → List Record) → Allowed g w (Step.commit k event out) → (p : Pointstamp) → AtInput g.inputs p → (a b : ℕ)
           → parcel_count g k (event_vertex g event) (g.act (event_vertex g event) (event_time event)) out p ≡ a → total (λ n. one_if_same p (request_pointstamp n)) (asked g w k event) ≡ b

@@ -1,25 +1,22 @@
 -- What has passed stays so, and the number of passed epochs is one and doesn't fall.
-use Rattle.std.proofs.Common.{◌≡◌, ◌≢◌, ◌⊎◌, inl, inr, ◌≤◌, ◌<◌, ◌+◌, ◌↔◌, ℕ, false, List, [], refl, sym, ap, ◌∙◌, subst, arith}
+use Rattle.std.proofs.Common.{◌≡◌, ◌≢◌, ◌⊎◌, inl, inr, ◌≤◌, ◌<◌, ◌+◌, ◌↔◌, ℕ, false, List, ap, arith}
 use Rattle.semantics.specs.Multiset.{Record}
 use Rattle.semantics.specs.Graph.{Graph}
 use Rattle.semantics.specs.Could.{Pointstamp, at_vertex}
 use Rattle.semantics.specs.Time.{at_epoch}
-use Rattle.semantics.specs.Kinds.{Role}
 use Rattle.semantics.specs.Dataflow.{IsDataflow}
 use Rattle.machine.specs.Network.{Network}
-use Rattle.machine.specs.World.{World, Event, Held, opening}
+use Rattle.machine.specs.World.{World, Event, Held}
 use Rattle.machine.specs.Active.{IsActive}
-use Rattle.machine.specs.Frontier.{NoneBefore, NoOtherBefore, Passed, PassedBelow, SealedTo, IsPassedCount}
+use Rattle.machine.specs.Frontier.{NoneBefore, NoOtherBefore, Passed, SealedTo, IsPassedCount}
 use Rattle.machine.specs.Drained.{IsDrained}
 use Rattle.machine.specs.Step.{Step, Allowed, after_step, put}
-use Rattle.machine.specs.Run.{Reached}
 use Rattle.machine.specs.Engine.{network}
 use Rattle.machine.specs.Headline.{IsRunOn}
 use Rattle.machine.proofs.CommitsPossible.{can_commit}
 use Rattle.machine.proofs.DrainedWorlds.{idle, drained}
 use Rattle.machine.proofs.Engine.{network_is}
 use Rattle.machine.proofs.InTransit.{held_good}
-use Rattle.machine.proofs.Laws.{IsNetwork}
 use Rattle.machine.proofs.Progress.{put_tells, under_step, none_before_under, no_other_under}
 use Rattle.machine.proofs.Runs.{keep_reached}
 use Rattle.machine.proofs.Steps.{good_of}

@@ -4,17 +4,14 @@ use Rattle.semantics.specs.Multiset.{total}
 use Rattle.semantics.specs.Could.{Pointstamp}
 use Rattle.machine.specs.Network.{Network}
 use Rattle.machine.specs.Views.{Changes, all_adds, all_removes, IsThere}
-use Rattle.machine.specs.Posting.{AtInput, MayPost, content_after, ArePosted}
-use Rattle.machine.proofs.Batches.{RemovedOrThere, Justified, IsLog}
+use Rattle.machine.specs.Posting.{AtInput, content_after, ArePosted}
+use Rattle.machine.proofs.JustifiedLogs.{RemovedOrThere, Justified, IsLog}
 use Rattle.machine.proofs.Laws.{Lower}
 
 pub posted_same : (could : Pointstamp → Pointstamp → Type 0) (inputs feeder : ℕ) (first first' : Pointstamp → ℕ) (log : List Changes) → ((p : Pointstamp) → first p ≡ first' p) → ArePosted could inputs feeder first log → ArePosted could inputs feeder first' log
 posted_same could inputs feeder first first' log h posted = subst (λ (f : Pointstamp → ℕ). ArePosted could inputs feeder f log) (λ i p. h p i) posted
 
 module _ (g : Network) where
-  Posted : (Pointstamp → ℕ) → List Changes → Type 0
-  Posted first log = ArePosted g.Could g.inputs g.workers first log
-
   covered : (first : Pointstamp → ℕ) (log : List Changes) → ArePosted g.Could g.inputs g.workers first log → (p : Pointstamp) → all_removes log p ≤ all_adds first log p
   covered first [] posted p = omega arith
   covered first (b ∷ log) posted p =

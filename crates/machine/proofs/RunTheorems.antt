@@ -4,8 +4,6 @@ use Rattle.semantics.specs.Multiset.{Record}
 use Rattle.semantics.specs.Time.{Time}
 use Rattle.machine.specs.Network.{Network}
 use Rattle.machine.specs.World.{World}
-use Rattle.machine.specs.Frontier.{Passed}
-use Rattle.machine.specs.Step.{Step, Allowed, after_step}
 use Rattle.machine.specs.Run.{Reached}
 use Rattle.machine.proofs.Laws.{IsNetwork}
 use Rattle.machine.proofs.NetFlow.{IsNetFlow, HasFlows}

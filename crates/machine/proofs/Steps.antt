@@ -15,7 +15,7 @@ use Rattle.machine.proofs.Kept.{each}
 use Rattle.semantics.proofs.MultisetSums.{total-append}
 use Rattle.machine.proofs.Counting.{below_same, below_add, total-remove, count-append}
 use Rattle.machine.proofs.Derived.{wished_place}
-use Rattle.machine.proofs.Kept.{History, carried, in_hand, under_way, wished, wish_in_hand, wishes, some, bit, Due, Kept, GoodMessage, GoodRequest, GoodEvent, GoodHand}
+use Rattle.machine.proofs.Kept.{History, carried, held_records, under_way, wished, held_wish, wishes, some, bit, Due, Kept, GoodMessage, GoodRequest, GoodEvent, GoodHeld}
 use Rattle.machine.proofs.Laws.{IsNetwork}
 use Rattle.machine.proofs.NetFlow.{fed_at}
 use Rattle.machine.proofs.Progress.{Good, under_step, no_other_under, put_tells}
@@ -41,7 +41,7 @@ fed_more r rows f n now (x ∷ xs) = go (eqb n now)
 
 module _ (g : Network) (law : IsNetwork g) (w : World) (h : History) (keeps : Kept g w h) where
   pub good_of : Good g w
-  good_of = record { mail = keeps.good_mail; requests = keeps.good_requests; held = keeps.good_hand }
+  good_of = record { mail = keeps.good_mail; requests = keeps.good_requests; held = keeps.good_held }
 
   pub settled_after : (step : Step) → Allowed g w step → (k v : ℕ) (t : Time) → k < g.workers → g.role v ≡ Role.notified → Due w h k v t → NoOtherBefore g (after_step g w step) (at_vertex v t)
   settled_after step ok k v t lk s due = no_other_under g law w (after_step g w step) (under_step g law w good_of step ok) (at_vertex v t) (keeps.settled k v t lk s due)
@@ -52,13 +52,13 @@ module _ (g : Network) (law : IsNetwork g) (w : World) (h : History) (keeps : Ke
         balance = keeps.balance;
         from_input = keeps.from_input;
         from_vertex = keeps.from_vertex;
-        notices = keeps.notices;
+        notifications = keeps.notifications;
         always_told = keeps.always_told;
         settled = settled_after (Step.seal i) ok;
         at_home = keeps.at_home;
         good_mail = keeps.good_mail;
         good_requests = keeps.good_requests;
-        good_hand = keeps.good_hand;
+        good_held = keeps.good_held;
         shards = keeps.shards;
         output = keeps.output;
       }
@@ -69,13 +69,13 @@ module _ (g : Network) (law : IsNetwork g) (w : World) (h : History) (keeps : Ke
         balance = keeps.balance;
         from_input = keeps.from_input;
         from_vertex = keeps.from_vertex;
-        notices = keeps.notices;
+        notifications = keeps.notifications;
         always_told = keeps.always_told;
         settled = settled_after (Step.close i) ok;
         at_home = keeps.at_home;
         good_mail = keeps.good_mail;
         good_requests = keeps.good_requests;
-        good_hand = keeps.good_hand;
+        good_held = keeps.good_held;
         shards = keeps.shards;
         output = keeps.output;
       }
@@ -87,13 +87,13 @@ module _ (g : Network) (law : IsNetwork g) (w : World) (h : History) (keeps : Ke
         balance = λ e t r le. keeps.balance e t r le ∙ ap (λ n. sum_below g.workers (λ k. count r (h.done k e t)) + n) (below_same g.workers _ _ (λ k lk. sym (way e t r k)));
         from_input = keeps.from_input;
         from_vertex = keeps.from_vertex;
-        notices = λ k v t lk s. ap (λ n. total (wished v t) (w.requests k) + n + bit (h.told k v t)) (wish v t k) ∙ keeps.notices k v t lk s;
+        notifications = λ k v t lk s. ap (λ n. total (wished v t) (w.requests k) + n + bit (h.told k v t)) (wish v t k) ∙ keeps.notifications k v t lk s;
         always_told = keeps.always_told;
         settled = λ k v t lk s due. settled_after (Step.abandon k0 event) ok k v t lk s (was_due k v t due);
         at_home = keeps.at_home;
         good_mail = keeps.good_mail;
         good_requests = keeps.good_requests;
-        good_hand = good;
+        good_held = good;
         shards = keeps.shards;
         output = keeps.output;
       }
@@ -101,27 +101,27 @@ module _ (g : Network) (law : IsNetwork g) (w : World) (h : History) (keeps : Ke
       way : (e : ℕ) (t : Time) (r : Record) (k : ℕ) → under_way (after_step g w (Step.abandon k0 event)) e t r k ≡ under_way w e t r k
       way e t r k = go (put_tells w.held k0 (Held.holding true event) k)
         where
-          go : ((k ≡ k0) × (put w.held k0 (Held.holding true event) k ≡ Held.holding true event)) ⊎ ((k ≢ k0) × (put w.held k0 (Held.holding true event) k ≡ w.held k)) → total (carried e t r) (w.mail k) + in_hand e t r (put w.held k0 (Held.holding true event) k) ≡ total (carried e t r) (w.mail k) + in_hand e t r (w.held k)
-          go (inl (x, y)) = ap (λ z. total (carried e t r) (w.mail k) + in_hand e t r z) y ∙ sym (ap (λ z. total (carried e t r) (w.mail k) + in_hand e t r z) (ap w.held x ∙ ok.1))
-          go (inr (x, y)) = ap (λ z. total (carried e t r) (w.mail k) + in_hand e t r z) y
+          go : ((k ≡ k0) × (put w.held k0 (Held.holding true event) k ≡ Held.holding true event)) ⊎ ((k ≢ k0) × (put w.held k0 (Held.holding true event) k ≡ w.held k)) → total (carried e t r) (w.mail k) + held_records e t r (put w.held k0 (Held.holding true event) k) ≡ total (carried e t r) (w.mail k) + held_records e t r (w.held k)
+          go (inl (x, y)) = ap (λ z. total (carried e t r) (w.mail k) + held_records e t r z) y ∙ sym (ap (λ z. total (carried e t r) (w.mail k) + held_records e t r z) (ap w.held x ∙ ok.1))
+          go (inr (x, y)) = ap (λ z. total (carried e t r) (w.mail k) + held_records e t r z) y
 
-      wish : (v : ℕ) (t : Time) (k : ℕ) → wish_in_hand v t (put w.held k0 (Held.holding true event) k) ≡ wish_in_hand v t (w.held k)
+      wish : (v : ℕ) (t : Time) (k : ℕ) → held_wish v t (put w.held k0 (Held.holding true event) k) ≡ held_wish v t (w.held k)
       wish v t k = go (put_tells w.held k0 (Held.holding true event) k)
         where
-          go : ((k ≡ k0) × (put w.held k0 (Held.holding true event) k ≡ Held.holding true event)) ⊎ ((k ≢ k0) × (put w.held k0 (Held.holding true event) k ≡ w.held k)) → wish_in_hand v t (put w.held k0 (Held.holding true event) k) ≡ wish_in_hand v t (w.held k)
-          go (inl (x, y)) = ap (wish_in_hand v t) y ∙ sym (ap (wish_in_hand v t) (ap w.held x ∙ ok.1))
-          go (inr (x, y)) = ap (wish_in_hand v t) y
+          go : ((k ≡ k0) × (put w.held k0 (Held.holding true event) k ≡ Held.holding true event)) ⊎ ((k ≢ k0) × (put w.held k0 (Held.holding true event) k ≡ w.held k)) → held_wish v t (put w.held k0 (Held.holding true event) k) ≡ held_wish v t (w.held k)
+          go (inl (x, y)) = ap (held_wish v t) y ∙ sym (ap (held_wish v t) (ap w.held x ∙ ok.1))
+          go (inr (x, y)) = ap (held_wish v t) y
 
       was_due : (k v : ℕ) (t : Time) → Due (after_step g w (Step.abandon k0 event)) h k v t → Due w h k v t
       was_due k v t (inl x) = inl x
       was_due k v t (inr x) = let y = wish v t k in inr (omega arith)
 
-      good : (k : ℕ) → k < g.workers → GoodHand g k (put w.held k0 (Held.holding true event) k)
+      good : (k : ℕ) → k < g.workers → GoodHeld g k (put w.held k0 (Held.holding true event) k)
       good k lk = go (put_tells w.held k0 (Held.holding true event) k)
         where
-          go : ((k ≡ k0) × (put w.held k0 (Held.holding true event) k ≡ Held.holding true event)) ⊎ ((k ≢ k0) × (put w.held k0 (Held.holding true event) k ≡ w.held k)) → GoodHand g k (put w.held k0 (Held.holding true event) k)
-          go (inl (x, y)) = let z : GoodEvent g k event = subst (GoodHand g k) (ap w.held x ∙ ok.1) (keeps.good_hand k lk) in subst (GoodHand g k) (sym y) z
-          go (inr (x, y)) = subst (GoodHand g k) (sym y) (keeps.good_hand k lk)
+          go : ((k ≡ k0) × (put w.held k0 (Held.holding true event) k ≡ Held.holding true event)) ⊎ ((k ≢ k0) × (put w.held k0 (Held.holding true event) k ≡ w.held k)) → GoodHeld g k (put w.held k0 (Held.holding true event) k)
+          go (inl (x, y)) = let z : GoodEvent g k event = subst (GoodHeld g k) (ap w.held x ∙ ok.1) (keeps.good_held k lk) in subst (GoodHeld g k) (sym y) z
+          go (inr (x, y)) = subst (GoodHeld g k) (sym y) (keeps.good_held k lk)
 
   pub keep_claim_message : (k at : ℕ) (m : Message) → Allowed g w (Step.claim_message k at m) → Kept g (after_step g w (Step.claim_message k at m)) h
   keep_claim_message k0 at m ok =
@@ -129,13 +129,13 @@ module _ (g : Network) (law : IsNetwork g) (w : World) (h : History) (keeps : Ke
         balance = λ e t r le. keeps.balance e t r le ∙ ap (λ n. sum_below g.workers (λ k. count r (h.done k e t)) + n) (below_same g.workers _ _ (λ k lk. sym (way e t r k (put_tells w.mail k0 (remove (w.mail k0) at) k) (put_tells w.held k0 (Held.holding false (Event.arrival m)) k))));
         from_input = keeps.from_input;
         from_vertex = keeps.from_vertex;
-        notices = λ k v t lk s. ap (λ n. total (wished v t) (w.requests k) + n + bit (h.told k v t)) (wish v t k (put_tells w.held k0 (Held.holding false (Event.arrival m)) k)) ∙ keeps.notices k v t lk s;
+        notifications = λ k v t lk s. ap (λ n. total (wished v t) (w.requests k) + n + bit (h.told k v t)) (wish v t k (put_tells w.held k0 (Held.holding false (Event.arrival m)) k)) ∙ keeps.notifications k v t lk s;
         always_told = keeps.always_told;
         settled = λ k v t lk s due. settled_after (Step.claim_message k0 at m) ok k v t lk s (was_due k v t due);
         at_home = keeps.at_home;
         good_mail = λ k lk. mails k lk (put_tells w.mail k0 (remove (w.mail k0) at) k);
         good_requests = keeps.good_requests;
-        good_hand = λ k lk. good k lk (put_tells w.held k0 (Held.holding false (Event.arrival m)) k);
+        good_held = λ k lk. good k lk (put_tells w.held k0 (Held.holding false (Event.arrival m)) k);
         shards = keeps.shards;
         output = keeps.output;
       }
@@ -145,16 +145,16 @@ module _ (g : Network) (law : IsNetwork g) (w : World) (h : History) (keeps : Ke
           let a : total (carried e t r) (put w.mail k0 (remove (w.mail k0) at) k) ≡ total (carried e t r) (remove (w.mail k0) at) = ap (λ ms. total (carried e t r) ms) y in
           let b : total (carried e t r) (remove (w.mail k0) at) + carried e t r m ≡ total (carried e t r) (w.mail k0) = total-remove (carried e t r) (w.mail k0) at m ok.1 in
           let c : total (carried e t r) (w.mail k) ≡ total (carried e t r) (w.mail k0) = ap (λ j. total (carried e t r) (w.mail j)) x in
-          let d : in_hand e t r (put w.held k0 (Held.holding false (Event.arrival m)) k) ≡ carried e t r m = ap (in_hand e t r) y' in
-          let f : in_hand e t r (w.held k) ≡ 0 = ap (in_hand e t r) (ap w.held x ∙ ok.0.1) in
+          let d : held_records e t r (put w.held k0 (Held.holding false (Event.arrival m)) k) ≡ carried e t r m = ap (held_records e t r) y' in
+          let f : held_records e t r (w.held k) ≡ 0 = ap (held_records e t r) (ap w.held x ∙ ok.0.1) in
           omega arith
       way e t r k (inl (x, y)) (inr (x', y')) = absurd (x' x)
       way e t r k (inr (x, y)) (inl (x', y')) = absurd (x x')
-      way e t r k (inr (x, y)) (inr (x', y')) = ap₂ (λ ms z. total (carried e t r) ms + in_hand e t r z) y y'
+      way e t r k (inr (x, y)) (inr (x', y')) = ap₂ (λ ms z. total (carried e t r) ms + held_records e t r z) y y'
 
-      wish : (v : ℕ) (t : Time) (k : ℕ) → ((k ≡ k0) × (put w.held k0 (Held.holding false (Event.arrival m)) k ≡ Held.holding false (Event.arrival m))) ⊎ ((k ≢ k0) × (put w.held k0 (Held.holding false (Event.arrival m)) k ≡ w.held k)) → wish_in_hand v t (put w.held k0 (Held.holding false (Event.arrival m)) k) ≡ wish_in_hand v t (w.held k)
-      wish v t k (inl (x, y)) = ap (wish_in_hand v t) y ∙ sym (ap (wish_in_hand v t) (ap w.held x ∙ ok.0.1))
-      wish v t k (inr (x, y)) = ap (wish_in_hand v t) y
+      wish : (v : ℕ) (t : Time) (k : ℕ) → ((k ≡ k0) × (put w.held k0 (Held.holding false (Event.arrival m)) k ≡ Held.holding false (Event.arrival m))) ⊎ ((k ≢ k0) × (put w.held k0 (Held.holding false (Event.arrival m)) k ≡ w.held k)) → held_wish v t (put w.held k0 (Held.holding false (Event.arrival m)) k) ≡ held_wish v t (w.held k)
+      wish v t k (inl (x, y)) = ap (held_wish v t) y ∙ sym (ap (held_wish v t) (ap w.held x ∙ ok.0.1))
+      wish v t k (inr (x, y)) = ap (held_wish v t) y
 
       was_due : (k v : ℕ) (t : Time) → Due (after_step g w (Step.claim_message k0 at m)) h k v t → Due w h k v t
       was_due k v t (inl x) = inl x
@@ -164,11 +164,11 @@ module _ (g : Network) (law : IsNetwork g) (w : World) (h : History) (keeps : Ke
       mails k lk (inl (x, y)) = subst (each (GoodMessage g k)) (ap (λ j. remove (w.mail j) at) x ∙ sym y) (each-remove (GoodMessage g k) (w.mail k) at (keeps.good_mail k lk))
       mails k lk (inr (x, y)) = subst (each (GoodMessage g k)) (sym y) (keeps.good_mail k lk)
 
-      good : (k : ℕ) → k < g.workers → ((k ≡ k0) × (put w.held k0 (Held.holding false (Event.arrival m)) k ≡ Held.holding false (Event.arrival m))) ⊎ ((k ≢ k0) × (put w.held k0 (Held.holding false (Event.arrival m)) k ≡ w.held k)) → GoodHand g k (put w.held k0 (Held.holding false (Event.arrival m)) k)
+      good : (k : ℕ) → k < g.workers → ((k ≡ k0) × (put w.held k0 (Held.holding false (Event.arrival m)) k ≡ Held.holding false (Event.arrival m))) ⊎ ((k ≢ k0) × (put w.held k0 (Held.holding false (Event.arrival m)) k ≡ w.held k)) → GoodHeld g k (put w.held k0 (Held.holding false (Event.arrival m)) k)
       good k lk (inl (x, y)) =
           let z : GoodMessage g k m = each_at (GoodMessage g k) (w.mail k) at m (keeps.good_mail k lk) (ap (λ j. slice_get (w.mail j) at) x ∙ ok.1) in
-          subst (GoodHand g k) (sym y) z
-      good k lk (inr (x, y)) = subst (GoodHand g k) (sym y) (keeps.good_hand k lk)
+          subst (GoodHeld g k) (sym y) z
+      good k lk (inr (x, y)) = subst (GoodHeld g k) (sym y) (keeps.good_held k lk)
 
   pub keep_claim_request : (k at : ℕ) (n : Request) → Allowed g w (Step.claim_request k at n) → Kept g (after_step g w (Step.claim_request k at n)) h
   keep_claim_request k0 at n ok =
@@ -176,32 +176,32 @@ module _ (g : Network) (law : IsNetwork g) (w : World) (h : History) (keeps : Ke
         balance = λ e t r le. keeps.balance e t r le ∙ ap (λ n. sum_below g.workers (λ k. count r (h.done k e t)) + n) (below_same g.workers _ _ (λ k lk. sym (way e t r k (put_tells w.held k0 (Held.holding false (Event.notification n)) k))));
         from_input = keeps.from_input;
         from_vertex = keeps.from_vertex;
-        notices = λ k v t lk s. ap (λ n. n + bit (h.told k v t)) (wish v t k (put_tells w.requests k0 (remove (w.requests k0) at) k) (put_tells w.held k0 (Held.holding false (Event.notification n)) k)) ∙ keeps.notices k v t lk s;
+        notifications = λ k v t lk s. ap (λ n. n + bit (h.told k v t)) (wish v t k (put_tells w.requests k0 (remove (w.requests k0) at) k) (put_tells w.held k0 (Held.holding false (Event.notification n)) k)) ∙ keeps.notifications k v t lk s;
         always_told = keeps.always_told;
         settled = λ k v t lk s due. settled k v t lk s due (put_tells w.held k0 (Held.holding false (Event.notification n)) k);
         at_home = keeps.at_home;
         good_mail = keeps.good_mail;
         good_requests = λ k lk. requests k lk (put_tells w.requests k0 (remove (w.requests k0) at) k);
-        good_hand = λ k lk. good k lk (put_tells w.held k0 (Held.holding false (Event.notification n)) k);
+        good_held = λ k lk. good k lk (put_tells w.held k0 (Held.holding false (Event.notification n)) k);
         shards = keeps.shards;
         output = keeps.output;
       }
     where
       way : (e : ℕ) (t : Time) (r : Record) (k : ℕ) → ((k ≡ k0) × (put w.held k0 (Held.holding false (Event.notification n)) k ≡ Held.holding false (Event.notification n))) ⊎ ((k ≢ k0) × (put w.held k0 (Held.holding false (Event.notification n)) k ≡ w.held k)) → under_way (after_step g w (Step.claim_request k0 at n)) e t r k ≡ under_way w e t r k
-      way e t r k (inl (x, y)) = ap (λ z. total (carried e t r) (w.mail k) + in_hand e t r z) y ∙ sym (ap (λ z. total (carried e t r) (w.mail k) + in_hand e t r z) (ap w.held x ∙ ok.0.1))
-      way e t r k (inr (x, y)) = ap (λ z. total (carried e t r) (w.mail k) + in_hand e t r z) y
+      way e t r k (inl (x, y)) = ap (λ z. total (carried e t r) (w.mail k) + held_records e t r z) y ∙ sym (ap (λ z. total (carried e t r) (w.mail k) + held_records e t r z) (ap w.held x ∙ ok.0.1))
+      way e t r k (inr (x, y)) = ap (λ z. total (carried e t r) (w.mail k) + held_records e t r z) y
 
       wish : (v : ℕ) (t : Time) (k : ℕ) → ((k ≡ k0) × (put w.requests k0 (remove (w.requests k0) at) k ≡ remove (w.requests k0) at)) ⊎ ((k ≢ k0) × (put w.requests k0 (remove (w.requests k0) at) k ≡ w.requests k)) → ((k ≡ k0) × (put w.held k0 (Held.holding false (Event.notification n)) k ≡ Held.holding false (Event.notification n))) ⊎ ((k ≢ k0) × (put w.held k0 (Held.holding false (Event.notification n)) k ≡ w.held k)) → wishes (after_step g w (Step.claim_request k0 at n)) v t k ≡ wishes w v t k
       wish v t k (inl (x, y)) (inl (x', y')) =
           let a : total (wished v t) (put w.requests k0 (remove (w.requests k0) at) k) ≡ total (wished v t) (remove (w.requests k0) at) = ap (λ ms. total (wished v t) ms) y in
           let b : total (wished v t) (remove (w.requests k0) at) + wished v t n ≡ total (wished v t) (w.requests k0) = total-remove (wished v t) (w.requests k0) at n ok.1 in
           let c : total (wished v t) (w.requests k) ≡ total (wished v t) (w.requests k0) = ap (λ j. total (wished v t) (w.requests j)) x in
-          let d : wish_in_hand v t (put w.held k0 (Held.holding false (Event.notification n)) k) ≡ wished v t n = ap (wish_in_hand v t) y' in
-          let f : wish_in_hand v t (w.held k) ≡ 0 = ap (wish_in_hand v t) (ap w.held x ∙ ok.0.1) in
+          let d : held_wish v t (put w.held k0 (Held.holding false (Event.notification n)) k) ≡ wished v t n = ap (held_wish v t) y' in
+          let f : held_wish v t (w.held k) ≡ 0 = ap (held_wish v t) (ap w.held x ∙ ok.0.1) in
           omega arith
       wish v t k (inl (x, y)) (inr (x', y')) = absurd (x' x)
       wish v t k (inr (x, y)) (inl (x', y')) = absurd (x x')
-      wish v t k (inr (x, y)) (inr (x', y')) = ap₂ (λ ms z. total (wished v t) ms + wish_in_hand v t z) y y'
+      wish v t k (inr (x, y)) (inr (x', y')) = ap₂ (λ ms z. total (wished v t) ms + held_wish v t z) y y'
 
       newly : (v : ℕ) (t : Time) → 0 < wished v t n → (wished v t n ≡ 0) ⊎ (request_pointstamp n ≡ at_vertex v t) → NoOtherBefore g w (at_vertex v t)
       newly v t some (inl z) = absurd (omega arith)
@@ -210,21 +210,21 @@ module _ (g : Network) (law : IsNetwork g) (w : World) (h : History) (keeps : Ke
       settled : (k v : ℕ) (t : Time) → k < g.workers → g.role v ≡ Role.notified → Due (after_step g w (Step.claim_request k0 at n)) h k v t → ((k ≡ k0) × (put w.held k0 (Held.holding false (Event.notification n)) k ≡ Held.holding false (Event.notification n))) ⊎ ((k ≢ k0) × (put w.held k0 (Held.holding false (Event.notification n)) k ≡ w.held k)) → NoOtherBefore g (after_step g w (Step.claim_request k0 at n)) (at_vertex v t)
       settled k v t lk s (inl told) z = settled_after (Step.claim_request k0 at n) ok k v t lk s (inl told)
       settled k v t lk s (inr wish) (inl (x, y)) =
-          let a : wish_in_hand v t (put w.held k0 (Held.holding false (Event.notification n)) k) ≡ wished v t n = ap (wish_in_hand v t) y in
+          let a : held_wish v t (put w.held k0 (Held.holding false (Event.notification n)) k) ≡ wished v t n = ap (held_wish v t) y in
           no_other_under g law w (after_step g w (Step.claim_request k0 at n)) (under_step g law w good_of (Step.claim_request k0 at n) ok) (at_vertex v t) (newly v t (omega arith) (wished_place v t n))
       settled k v t lk s (inr wish) (inr (x, y)) =
-          let a : wish_in_hand v t (put w.held k0 (Held.holding false (Event.notification n)) k) ≡ wish_in_hand v t (w.held k) = ap (wish_in_hand v t) y in
+          let a : held_wish v t (put w.held k0 (Held.holding false (Event.notification n)) k) ≡ held_wish v t (w.held k) = ap (held_wish v t) y in
           settled_after (Step.claim_request k0 at n) ok k v t lk s (inr (omega arith))
 
       requests : (k : ℕ) → k < g.workers → ((k ≡ k0) × (put w.requests k0 (remove (w.requests k0) at) k ≡ remove (w.requests k0) at)) ⊎ ((k ≢ k0) × (put w.requests k0 (remove (w.requests k0) at) k ≡ w.requests k)) → each (GoodRequest g) (put w.requests k0 (remove (w.requests k0) at) k)
       requests k lk (inl (x, y)) = subst (each (GoodRequest g)) (ap (λ j. remove (w.requests j) at) x ∙ sym y) (each-remove (GoodRequest g) (w.requests k) at (keeps.good_requests k lk))
       requests k lk (inr (x, y)) = subst (each (GoodRequest g)) (sym y) (keeps.good_requests k lk)
 
-      good : (k : ℕ) → k < g.workers → ((k ≡ k0) × (put w.held k0 (Held.holding false (Event.notification n)) k ≡ Held.holding false (Event.notification n))) ⊎ ((k ≢ k0) × (put w.held k0 (Held.holding false (Event.notification n)) k ≡ w.held k)) → GoodHand g k (put w.held k0 (Held.holding false (Event.notification n)) k)
+      good : (k : ℕ) → k < g.workers → ((k ≡ k0) × (put w.held k0 (Held.holding false (Event.notification n)) k ≡ Held.holding false (Event.notification n))) ⊎ ((k ≢ k0) × (put w.held k0 (Held.holding false (Event.notification n)) k ≡ w.held k)) → GoodHeld g k (put w.held k0 (Held.holding false (Event.notification n)) k)
       good k lk (inl (x, y)) =
           let z : GoodRequest g n = each_at (GoodRequest g) (w.requests k) at n (keeps.good_requests k lk) (ap (λ j. slice_get (w.requests j) at) x ∙ ok.1) in
-          subst (GoodHand g k) (sym y) z
-      good k lk (inr (x, y)) = subst (GoodHand g k) (sym y) (keeps.good_hand k lk)
+          subst (GoodHeld g k) (sym y) z
+      good k lk (inr (x, y)) = subst (GoodHeld g k) (sym y) (keeps.good_held k lk)
 
   -- what is sent is under way
   pub way_sent : (sender v : ℕ) (u : Time) (out : ℕ → List Record) (e : ℕ) (t : Time) (r : Record) → sender < g.workers → e < g.edges →
@@ -251,13 +251,13 @@ module _ (g : Network) (law : IsNetwork g) (w : World) (h : History) (keeps : Ke
             omega arith;
         from_input = λ e t le s. record { counts = λ r. input e t le s r (eqb_tells (g.source e) i) };
         from_vertex = λ e u r le fits s. sent_elsewhere i (at_epoch (w.open_epoch i)) (λ q. rows) e u r (λ x. s (ap g.role x ∙ ok.0.0)) ∙ keeps.from_vertex e u r le fits s;
-        notices = keeps.notices;
+        notifications = keeps.notifications;
         always_told = keeps.always_told;
         settled = settled_after (Step.feed i rows) ok;
         at_home = keeps.at_home;
         good_mail = λ k lk. each-append (GoodMessage g k) (w.mail k) _ (keeps.good_mail k lk) (each_more (Parcel g i (at_epoch (w.open_epoch i)) k) (GoodMessage g k) _ (λ m p. p.good) (parcels_good g law 0 i (at_epoch (w.open_epoch i)) (λ q. rows) k g.edges (fits_fed g law i (w.open_epoch i) ok.0.0) (omega arith)));
         good_requests = keeps.good_requests;
-        good_hand = keeps.good_hand;
+        good_held = keeps.good_held;
         shards = keeps.shards;
         output = keeps.output;
       }

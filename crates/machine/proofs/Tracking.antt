@@ -1,5 +1,5 @@
 -- What a tracker and a view of the active pointstamps may rest on, for the graph of a program.
-use Rattle.std.proofs.Common.{◌≡◌, ◌<◌, ◌+◌, ◌↔◌, ℕ, Bool, List}
+use Rattle.std.proofs.Common.{◌≡◌, ◌<◌, ◌+◌, ◌↔◌, ℕ, List}
 use Rattle.semantics.specs.Multiset.{◌≈◌, IsPartOf}
 use Rattle.semantics.specs.Time.{Time}
 use Rattle.semantics.specs.Graph.{Graph, edge_count}

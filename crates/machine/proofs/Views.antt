@@ -5,7 +5,7 @@ use Rattle.semantics.specs.Multiset.{total}
 use Rattle.semantics.specs.Could.{Pointstamp, NoneOf, NoOtherOf}
 use Rattle.machine.specs.Network.{Network}
 use Rattle.machine.specs.Views.{Changes, when, all_adds, seen_adds, seen_removes, IsSeen, IsThere, NoneApplied, InOrder}
-use Rattle.machine.proofs.Batches.{RemovedOrThere, Justified, IsLog}
+use Rattle.machine.proofs.JustifiedLogs.{RemovedOrThere, Justified, IsLog}
 use Rattle.machine.proofs.Laws.{Lower, IsNetwork}
 use Rattle.machine.proofs.Rank.{could_back}
 

@@ -1,26 +1,24 @@
 -- Small runs, by computation.
-use Rattle.std.proofs.Common.{◌≡◌, ◌≤◌, ◌<◌, ◌++◌, ℕ, zero, suc, true, false, List, [], ◌∷◌, pos, Some, refl, sym, ap, ◌∙◌, subst, arith, slice_get}
+use Rattle.std.proofs.Common.{◌≡◌, ◌≤◌, ℕ, zero, suc, true, false, List, [], ◌∷◌, pos, Some, refl, ap, ◌∙◌, arith, slice_get}
 use Rattle.std.specs.Int.{int_wrap}
-use Rattle.semantics.specs.Multiset.{Record, ◌≈◌}
-use Rattle.semantics.specs.Time.{Time, Action, after_action, IsAtMost, at_epoch}
+use Rattle.semantics.specs.Multiset.{◌≈◌}
+use Rattle.semantics.specs.Time.{Time, Action, after_action, at_epoch}
 use Rattle.semantics.specs.Kinds.{action}
 use Rattle.semantics.specs.Graph.{Graph, vertex, source, edge_source}
 use Rattle.semantics.specs.Could.{Pointstamp, Location, at_vertex, on_edge, PathStep, step_time, path_time, CouldResultIn}
+use Rattle.semantics.specs.Meaning.{program_meaning, meaning, let_names}
 use Rattle.semantics.specs.Typing.{WellTyped, HasArity}
 use Rattle.semantics.specs.Lower.{lowered, lower, lower_lets}
 use Rattle.semantics.specs.Route.{route}
 use Rattle.semantics.specs.Examples.{one_field, two_fields}
 use Rattle.semantics.proofs.CouldRises.{at_most_refl}
 use Rattle.semantics.proofs.MultisetSums.{≈-refl}
-use Rattle.machine.specs.Network.{Network}
-use Rattle.machine.specs.World.{Message, Request, Event, Held, World, opening}
+use Rattle.machine.specs.World.{Event, Held, opening}
 use Rattle.machine.specs.Active.{IsActive}
 use Rattle.machine.specs.Frontier.{NoOtherBefore, Passed}
 use Rattle.machine.specs.Step.{Step, Allowed}
-use Rattle.machine.specs.Run.{Run}
-use Rattle.machine.specs.Engine.{engine}
 use Rattle.machine.specs.Headline.{IsRunOf, meant, output_of}
-use Rattle.machine.specs.WorkedRuns.{after_steps, message_on, nothing_sent, copying, copier, the_five, one_record, one_record_sealed, given_up, counting, counter, three_fed, to_worker_0, to_worker_1, both_absorbed, the_request, absorbed_and_sealed, first_notified, counts_of_0, first_committed}
+use Rattle.machine.specs.WorkedRuns.{after_steps, message_on, copying, copier, the_five, one_fed, one_record, one_record_sealed, given_up, counting, counter, three_fed, to_worker_0, to_worker_1, both_absorbed, the_request, absorbed_and_sealed, first_notified, first_committed}
 
 -- ---- paths keep the epoch
 
@@ -82,6 +80,17 @@ one_record_passed q (IsActive.of_request zero at n l e) could = absurd (nothing_
 one_record_passed q (IsActive.of_request (suc k) at n l e) could = absurd (omega arith)
 one_record_passed q (IsActive.of_held zero up event l e) could = absurd cc
 one_record_passed q (IsActive.of_held (suc k) up event l e) could = absurd (omega arith)
+
+pub fed_run : IsRunOf copying 1 one_fed (after_steps copier opening one_fed)
+unfolding lowered lower lower_lets vertex source route
+fed_run = record { arity = 1; typed = typed; some = omega arith; run = (((refl, refl, refl), omega arith), refl) }
+
+pub fed_less : (after_steps copier opening one_fed).emitted (output_of copying) 0 ≈ meant copying (after_steps copier opening one_fed) 0 → ⊥
+unfolding program_meaning meaning let_names lowered lower lower_lets vertex source route
+fed_less same = differs (same.counts (one_field (pos 5)))
+  where
+    differs : ◌≡◌ {A = ℕ} 0 1 → ⊥
+    differs e = cc
 
 -- ---- an event that is given up
 

@@ -5,7 +5,7 @@ use Rattle.semantics.specs.Time.{at_epoch}
 use Rattle.semantics.specs.Query.{Agg, Rel, Program}
 use Rattle.semantics.specs.Examples.{name_a, input_of, one_field, two_fields, query_on}
 use Rattle.machine.specs.Network.{Network}
-use Rattle.machine.specs.World.{Message, Request, Event, World, opening}
+use Rattle.machine.specs.World.{Message, Request, Event, World}
 use Rattle.machine.specs.Step.{Step, after_step}
 use Rattle.machine.specs.Engine.{engine}
 
@@ -34,6 +34,10 @@ copier = engine copying 1
 -- the message of the record 5
 abbrev pub the_five : Message
 the_five = message_on 0 (one_field (pos 5) ∷ [])
+
+-- the record 5 is fed
+abbrev pub one_fed : List Step
+one_fed = Step.feed 0 (one_field (pos 5) ∷ []) ∷ []
 
 -- the record 5 is fed, and the output's worker takes and commits it
 abbrev pub one_record : List Step

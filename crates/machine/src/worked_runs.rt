@@ -1,14 +1,19 @@
-ghost use Rattle.std.specs.Prelude.{◌≡◌, List, [], ◌∷◌, pos};
+ghost use Rattle.std.specs.Prelude.{◌≡◌, [], ◌∷◌, pos};
+ghost use Rattle.semantics.specs.Multiset.{◌≈◌};
 ghost use Rattle.semantics.specs.Examples.{one_field, two_fields};
 ghost use Rattle.machine.specs.World.{opening};
 ghost use Rattle.machine.specs.Frontier.{Passed};
 ghost use Rattle.machine.specs.Step.{Step, Allowed};
-ghost use Rattle.machine.specs.Headline.{IsRunOf, output_of};
-ghost use Rattle.machine.specs.WorkedRuns.{after_steps, message_on, copying, copier, one_record, one_record_sealed, given_up, counting, counter, three_fed, to_worker_0, to_worker_1, both_absorbed, the_request, absorbed_and_sealed, first_notified, first_committed};
+ghost use Rattle.machine.specs.Headline.{IsRunOf, meant, output_of};
+ghost use Rattle.machine.specs.WorkedRuns.{after_steps, message_on, copying, copier, one_fed, one_record, one_record_sealed, given_up, counting, counter, three_fed, to_worker_0, to_worker_1, both_absorbed, the_request, absorbed_and_sealed, first_notified, first_committed};
 
-/// Of `input a/1; output a;` on one worker: the record 5 is fed, claimed and committed, and so emitted. The epoch has not passed
+/// Of `input a/1; output a;` on one worker: the record 5 is fed, and nothing emitted yet, so that what was emitted is not all that
+/// the query means; it is claimed and committed, and so emitted. The epoch has not passed
 /// then, since the input is open; it has once the input is sealed.
 pub fn law_one_record()
+    ensures run_fed { IsRunOf copying 1 one_fed (after_steps copier opening one_fed) }
+    ensures less { (after_steps copier opening one_fed).emitted (output_of copying) 0
+        ≈ meant copying (after_steps copier opening one_fed) 0 → ⊥ }
     ensures run { IsRunOf copying 1 one_record (after_steps copier opening one_record) }
     ensures emitted { (after_steps copier opening one_record).emitted (output_of copying) 0 ≡ one_field (pos 5) ∷ [] }
     ensures is_open { Passed copier (after_steps copier opening one_record) (output_of copying) 0 → ⊥ }
