@@ -176,15 +176,17 @@ module _ (g : Network) (law : IsNetwork g) (w : World) (good : Good g w) where
 pub posted_run : (g : Network) (law : IsNetwork g) → HasFlows g → (steps : List Step) (flags : List Bool) (w w' : World) (h : History) → Kept g w h → Run g w steps w' → ArePosted g.Could g.inputs g.workers (active_count g w) (log_of g w steps flags)
 posted_run g law flows [] flags w w' h keeps run = tt
 posted_run g law flows (step ∷ steps) [] w w' h keeps run =
-    let next = keep_step g law flows w h keeps step run.0 in
-    (may_post g law w (good_of g law w h keeps) step run.0 false,
-    posted_same g.Could g.inputs g.workers (active_count g (after_step g w step)) (content_after (active_count g w) (changes_of g w step false)) (log_of g (after_step g w step) steps [])
-    (λ p. sym (counts_after g law w (good_of g law w h keeps) step run.0 false p)) (posted_run g law flows steps [] (after_step g w step) w' next.0 next.1 run.1))
+    let next = keep_step g law flows w h keeps step run.0 in (
+      may_post g law w (good_of g law w h keeps) step run.0 false,
+      posted_same g.Could g.inputs g.workers (active_count g (after_step g w step)) (content_after (active_count g w) (changes_of g w step false)) (log_of g (after_step g w step) steps [])
+          (λ p. sym (counts_after g law w (good_of g law w h keeps) step run.0 false p)) (posted_run g law flows steps [] (after_step g w step) w' next.0 next.1 run.1),
+    )
 posted_run g law flows (step ∷ steps) (flag ∷ flags) w w' h keeps run =
-    let next = keep_step g law flows w h keeps step run.0 in
-    (may_post g law w (good_of g law w h keeps) step run.0 flag,
-    posted_same g.Could g.inputs g.workers (active_count g (after_step g w step)) (content_after (active_count g w) (changes_of g w step flag)) (log_of g (after_step g w step) steps flags)
-    (λ p. sym (counts_after g law w (good_of g law w h keeps) step run.0 flag p)) (posted_run g law flows steps flags (after_step g w step) w' next.0 next.1 run.1))
+    let next = keep_step g law flows w h keeps step run.0 in (
+      may_post g law w (good_of g law w h keeps) step run.0 flag,
+      posted_same g.Could g.inputs g.workers (active_count g (after_step g w step)) (content_after (active_count g w) (changes_of g w step flag)) (log_of g (after_step g w step) steps flags)
+          (λ p. sym (counts_after g law w (good_of g law w h keeps) step run.0 flag p)) (posted_run g law flows steps flags (after_step g w step) w' next.0 next.1 run.1),
+    )
 
 -- the active pointstamps are the first ones, and what was added, without what was removed
 active_total : (g : Network) (law : IsNetwork g) (steps : List Step) (flags : List Bool) (w w' : World) → Run g w steps w' → (p : Pointstamp) → active_count g w' p + all_removes (log_of g w steps flags) p ≡ all_adds (active_count g w) (log_of g w steps flags) p

@@ -57,7 +57,8 @@ put f k x j = cond (j == k) x (f j)
 abbrev pub fed_after : World → (input : ℕ) → List Record → (input epoch : ℕ) → List Record
 fed_after w i records = put w.fed i (put (w.fed i) (w.open_epoch i) (w.fed i (w.open_epoch i) ++ records))
 
--- the world after a step
+-- The world after a step. What is fed has no worker of its own: it goes by key or by the whole record, so that the sender 0 below
+-- is as good as any.
 abbrev pub after_step : Network → World → Step → World
 after_step g w (Step.feed i records) =
     record w {

@@ -28,9 +28,9 @@ pub fn law_posted()
     ensures step { (g : Graph) (workers : ℕ) (steps : List Step) (w : World) →
         IsRunOn g workers steps w → (step : Step) → Allowed (network g workers) w step → (applied : Bool) →
         MayPost (CouldResultIn g) (input_count g) workers (active_count (network g workers) w)
-            (changes_of (network g workers) w step applied) }
+        (changes_of (network g workers) w step applied) }
     ensures run { (g : Graph) (workers : ℕ) (steps : List Step) (w : World) →
         IsRunOn g workers steps w → (flags : List Bool) →
         ArePosted (CouldResultIn g) (input_count g) workers (active_count (network g workers) opening)
-            (log_of (network g workers) opening steps flags) }
+        (log_of (network g workers) opening steps flags) }
 {}

@@ -5,7 +5,8 @@ ghost use Rattle.machine.specs.World.{opening};
 ghost use Rattle.machine.specs.Frontier.{Passed};
 ghost use Rattle.machine.specs.Step.{Step, Allowed};
 ghost use Rattle.machine.specs.Headline.{IsRunOf, meant, output_of};
-ghost use Rattle.machine.specs.WorkedRuns.{after_steps, message_on, copying, copier, one_fed, one_record, one_record_sealed, given_up, counting, counter, three_fed, to_worker_0, to_worker_1, both_absorbed, the_request, absorbed_and_sealed, first_notified, first_committed};
+ghost use Rattle.machine.specs.WorkedRuns.{after_steps, message_on, copying, copier, one_fed, one_record, one_record_sealed, given_up};
+ghost use Rattle.machine.specs.WorkedRuns.{counting, counter, three_fed, to_worker_0, to_worker_1, both_absorbed, the_request, absorbed_and_sealed, first_notified, first_committed};
 
 /// Of `input a/1; output a;` on one worker: the record 5 is fed, and nothing emitted yet, so that what was emitted is not all that
 /// the query means; it is claimed and committed, and so emitted. The epoch has not passed
