@@ -4,11 +4,13 @@ use Rattle.std.proofs.lemmas.Bool.Decides.{eqb_tells}
 use Rattle.semantics.specs.Multiset.{total, Record}
 use Rattle.semantics.specs.Could.{Pointstamp, at_vertex, Location}
 use Rattle.semantics.specs.Time.{same_time, at_epoch}
-use Rattle.machine.specs.Active.{same_location, one_if_same, held_count, open_input_count, worker_count, active_count, step_adds, step_removes}
 use Rattle.machine.specs.Network.{Network}
-use Rattle.machine.specs.Step.{event_vertex, event_time, Step, parcels, asked, Allowed, after_step}
-use Rattle.machine.specs.Sums.{sum_below, put}
-use Rattle.machine.specs.World.{Message, Request, Event, Held, World, IsActive, message_pointstamp, request_pointstamp, event_pointstamp}
+use Rattle.machine.specs.World.{Message, Request, Event, Held, World}
+use Rattle.machine.specs.Active.{same_location, one_if_same, held_count, open_input_count, worker_count, active_count, sum_below, IsActive, message_pointstamp, request_pointstamp, event_pointstamp}
+use Rattle.machine.specs.Sending.{parcels}
+use Rattle.machine.specs.Processing.{event_vertex, event_time, asked}
+use Rattle.machine.specs.Step.{Step, Allowed, after_step, put}
+use Rattle.machine.specs.Changes.{step_adds, step_removes}
 use Rattle.semantics.proofs.MultisetSums.{total-append}
 use Rattle.machine.proofs.Counting.{below_same, below_add, below_one, below_changed, total-remove, total_one}
 use Rattle.machine.proofs.Laws.{IsNetwork}
@@ -73,7 +75,7 @@ module _ (g : Network) (law : IsNetwork g) (w : World) where
   pub counted : (p : Pointstamp) → IsActive g w p → 0 < active_count g w p
   counted p (IsActive.of_input i s e) =
       let a : open_input_count w (at_vertex i (at_epoch (w.open_epoch i))) i ≡ 1 = ap (λ b. cond b 0 (one_if_same (at_vertex i (at_epoch (w.open_epoch i))) (at_vertex i (at_epoch (w.open_epoch i))))) e ∙ one_self (at_vertex i (at_epoch (w.open_epoch i))) in
-      let b = below_one g.inputs i (open_input_count w (at_vertex i (at_epoch (w.open_epoch i)))) (law.source_is_input i s) in
+      let b = below_one g.inputs i (open_input_count w (at_vertex i (at_epoch (w.open_epoch i)))) (law.role_is_input i s) in
       omega arith
   counted p (IsActive.of_mail k at m lk s) =
       let a : one_if_same (message_pointstamp m) (message_pointstamp m) ≤ total (λ x. one_if_same (message_pointstamp m) (message_pointstamp x)) (w.mail k) = total_one (λ x. one_if_same (message_pointstamp m) (message_pointstamp x)) (w.mail k) at m s in
@@ -99,7 +101,7 @@ module _ (g : Network) (law : IsNetwork g) (w : World) where
       input i li s true e = absurd (let z : open_input_count w p i ≡ 0 = rw e refl in omega arith)
       input i li s false e =
           let z : open_input_count w p i ≡ one_if_same p (at_vertex i (at_epoch (w.open_epoch i))) = rw e refl in
-          subst (IsActive g w) (sym (one_is p (at_vertex i (at_epoch (w.open_epoch i))) (omega arith))) (IsActive.of_input i (law.input_is_source i li) e)
+          subst (IsActive g w) (sym (one_is p (at_vertex i (at_epoch (w.open_epoch i))) (omega arith))) (IsActive.of_input i (law.input_has_role i li) e)
 
       held : (k : ℕ) → k < g.workers → (x : Held) → w.held k ≡ x → 0 < held_count p x → IsActive g w p
       held k lk Held.nothing e s = absurd (omega arith)
@@ -114,11 +116,11 @@ module _ (g : Network) (law : IsNetwork g) (w : World) where
       go (suc n) e = let x = below_some g.inputs (open_input_count w p) (omega arith) in input x.0 x.1 x.2 (w.closed x.0) refl
       go zero e = let x = below_some g.workers (worker_count w p) (omega arith) in worker x.0 x.1 x.2 _ _ refl refl
 
-  count_feed : (i : ℕ) (r : Record) → (p : Pointstamp) → active_count g (after_step g w (Step.feed i r)) p + 0 ≡ active_count g w p + step_adds g w (Step.feed i r) p
-  count_feed i r p =
-      let a : sum_below g.workers (worker_count (after_step g w (Step.feed i r)) p) ≡ sum_below g.workers (λ k. worker_count w p k + total (λ m. one_if_same p (message_pointstamp m)) (parcels g 0 i (at_epoch (w.open_epoch i)) (λ q. r ∷ []) k g.edges)) =
-      below_same g.workers _ _ (λ k lk. let o = total-append (λ m. one_if_same p (message_pointstamp m)) (w.mail k) (parcels g 0 i (at_epoch (w.open_epoch i)) (λ q. r ∷ []) k g.edges) in omega arith) in
-      let b = below_add g.workers (worker_count w p) (λ k. total (λ m. one_if_same p (message_pointstamp m)) (parcels g 0 i (at_epoch (w.open_epoch i)) (λ q. r ∷ []) k g.edges)) in
+  count_feed : (i : ℕ) (rs : List Record) → (p : Pointstamp) → active_count g (after_step g w (Step.feed i rs)) p + 0 ≡ active_count g w p + step_adds g w (Step.feed i rs) p
+  count_feed i rs p =
+      let a : sum_below g.workers (worker_count (after_step g w (Step.feed i rs)) p) ≡ sum_below g.workers (λ k. worker_count w p k + total (λ m. one_if_same p (message_pointstamp m)) (parcels g 0 i (at_epoch (w.open_epoch i)) (λ q. rs) k g.edges)) =
+      below_same g.workers _ _ (λ k lk. let o = total-append (λ m. one_if_same p (message_pointstamp m)) (w.mail k) (parcels g 0 i (at_epoch (w.open_epoch i)) (λ q. rs) k g.edges) in omega arith) in
+      let b = below_add g.workers (worker_count w p) (λ k. total (λ m. one_if_same p (message_pointstamp m)) (parcels g 0 i (at_epoch (w.open_epoch i)) (λ q. rs) k g.edges)) in
       omega arith
 
   count_seal : (i : ℕ) → i < g.inputs → w.closed i ≡ false → (p : Pointstamp) → active_count g (after_step g w (Step.seal i)) p + step_removes g w (Step.seal i) p ≡ active_count g w p + step_adds g w (Step.seal i) p
@@ -213,9 +215,9 @@ module _ (g : Network) (law : IsNetwork g) (w : World) where
 
   -- each step changes the count by what it adds and removes
   pub count_step : (step : Step) → Allowed g w step → (p : Pointstamp) → active_count g (after_step g w step) p + step_removes g w step p ≡ active_count g w p + step_adds g w step p
-  count_step (Step.feed i r) ok p = count_feed i r p
-  count_step (Step.seal i) ok p = count_seal i (law.source_is_input i ok.0) ok.1 p
-  count_step (Step.close i) ok p = count_close i (law.source_is_input i ok.0) ok.1 p
+  count_step (Step.feed i rs) ok p = count_feed i rs p
+  count_step (Step.seal i) ok p = count_seal i (law.role_is_input i ok.0) ok.1 p
+  count_step (Step.close i) ok p = count_close i (law.role_is_input i ok.0) ok.1 p
   count_step (Step.claim_message k at m) ok p = count_claim_message k at m ok p
   count_step (Step.claim_request k at n) ok p = count_claim_request k at n ok p
   count_step (Step.commit k event out) ok p = count_commit k event out ok p

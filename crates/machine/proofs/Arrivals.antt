@@ -6,19 +6,23 @@ use Rattle.semantics.specs.Could.{at_vertex}
 use Rattle.semantics.specs.Time.{Time, same_time, at_epoch}
 use Rattle.semantics.proofs.MultisetSums.{≈-from, total-append}
 use Rattle.semantics.specs.Kinds.{Role}
-use Rattle.machine.specs.Network.{Network, ins}
-use Rattle.machine.specs.Step.{Step, parcels, absorbed_by, absorbed_with, absorbed_after, emitted_by, emitted_after, asked, asked_by, asked_first, Allowed, after_step, MakesBy}
+use Rattle.machine.specs.Network.{Network}
+use Rattle.machine.specs.World.{Message, Event, Held, World}
+use Rattle.machine.specs.Active.{sum_below, IsActive, message_pointstamp}
+use Rattle.machine.specs.Sending.{parcels}
+use Rattle.machine.specs.Processing.{absorbed_by, absorbed_with, absorbed_after, emitted_by, emitted_after, asked, MakesBy}
+use Rattle.machine.specs.Step.{Step, Allowed, after_step, put}
+use Rattle.machine.proofs.NetFlow.{ins}
+use Rattle.machine.proofs.Kept.{each}
 use Rattle.semantics.specs.Shard.{only_at}
-use Rattle.machine.specs.Sums.{put, each, sum_below}
-use Rattle.machine.specs.World.{Message, Event, Held, World, IsActive, message_pointstamp}
 use Rattle.machine.proofs.Commits.{once, way_after, vertex_after}
 use Rattle.machine.proofs.Counting.{eqb_self, below_one, below_changed, count-append}
-use Rattle.machine.proofs.Kept.{History, carried, in_hand, under_way, wished, wish_in_hand, wishes, some, bit, made, Due, Kept, GoodMessage, GoodRequest, GoodHand}
-use Rattle.machine.proofs.Laws.{IsNetwork, AtHome, times_in}
+use Rattle.machine.proofs.Kept.{History, carried, held_records, under_way, wished, held_wish, wishes, some, bit, made, Due, Kept, GoodMessage, GoodRequest, GoodHeld}
+use Rattle.machine.proofs.Laws.{IsNetwork, IsOutput, AtHome, times_in}
 use Rattle.machine.proofs.NetFlow.{HasFlows}
 use Rattle.machine.proofs.Notifications.{some_row}
 use Rattle.machine.proofs.Places.{same_time_tells, same_time_self, edge_not_vertex}
-use Rattle.machine.proofs.Progress.{put_tells, held_good}
+use Rattle.machine.proofs.Progress.{put_tells, held_good, asked_first, asked_by}
 use Rattle.machine.proofs.Sending.{Parcel, parcels_good, fits_sent, each-append, each_more}
 use Rattle.machine.proofs.Steps.{good_of, settled_after, way_sent, sent_elsewhere}
 
@@ -90,20 +94,20 @@ keyed_absorbed Role.output w k0 v0 p0 t0 records = inr (λ s. neither s, refl)
     neither (inl e) = absurd cc
     neither (inr e) = absurd cc
 
-sink_emitted : (role : Role) (w : World) (m : Message) (n : ℕ) →
-    ((role ≡ Role.output) × (emitted_by role w m n ≡ w.emitted n ++ cond (same_time m.time (at_epoch n)) m.records [])) ⊎ ((role ≢ Role.output) × (emitted_by role w m n ≡ w.emitted n))
-sink_emitted Role.input w m n = inr (λ e. cc, refl)
-sink_emitted Role.stateless w m n = inr (λ e. cc, refl)
-sink_emitted Role.stateful w m n = inr (λ e. cc, refl)
-sink_emitted Role.notified w m n = inr (λ e. cc, refl)
-sink_emitted Role.output w m n = inl (refl, refl)
+output_emitted : (role : Role) (w : World) (v : ℕ) (t : Time) (records : List Record) (v' n : ℕ) →
+    ((role ≡ Role.output) × (emitted_by role w v t records v' n ≡ w.emitted v' n ++ cond (eqb v v') (cond (same_time t (at_epoch n)) records []) [])) ⊎ ((role ≢ Role.output) × (emitted_by role w v t records v' n ≡ w.emitted v' n))
+output_emitted Role.input w v t records v' n = inr (λ e. cc, refl)
+output_emitted Role.stateless w v t records v' n = inr (λ e. cc, refl)
+output_emitted Role.stateful w v t records v' n = inr (λ e. cc, refl)
+output_emitted Role.notified w v t records v' n = inr (λ e. cc, refl)
+output_emitted Role.output w v t records v' n = inl (refl, refl)
 
-group_asked : (role : Role) (v : ℕ) (t : Time) (xs : List Record) → ((role ≡ Role.notified) × (asked_by role v t xs ≡ asked_first v t xs)) ⊎ ((role ≢ Role.notified) × (asked_by role v t xs ≡ []))
-group_asked Role.input v t xs = inr (λ e. cc, refl)
-group_asked Role.stateless v t xs = inr (λ e. cc, refl)
-group_asked Role.stateful v t xs = inr (λ e. cc, refl)
-group_asked Role.notified v t xs = inl (refl, refl)
-group_asked Role.output v t xs = inr (λ e. cc, refl)
+notified_asked : (role : Role) (v : ℕ) (t : Time) (xs : List Record) → ((role ≡ Role.notified) × (asked_by role v t xs ≡ asked_first v t xs)) ⊎ ((role ≢ Role.notified) × (asked_by role v t xs ≡ []))
+notified_asked Role.input v t xs = inr (λ e. cc, refl)
+notified_asked Role.stateless v t xs = inr (λ e. cc, refl)
+notified_asked Role.stateful v t xs = inr (λ e. cc, refl)
+notified_asked Role.notified v t xs = inl (refl, refl)
+notified_asked Role.output v t xs = inr (λ e. cc, refl)
 
 module _ (g : Network) (law : IsNetwork g) (w : World) (h : History) (keeps : Kept g w h) (flows : HasFlows g) (k0 : ℕ) (m : Message) (out : ℕ → List Record) (ok : Allowed g w (Step.commit k0 (Event.arrival m) out)) where
   good_message : GoodMessage g k0 m
@@ -134,7 +138,7 @@ module _ (g : Network) (law : IsNetwork g) (w : World) (h : History) (keeps : Ke
       let r = some_row m.records good_message.1 in
       let b = keeps.balance m.edge m.time r.0 good_message.0 in
       let c : under_way w m.edge m.time r.0 k0 ≤ sum_below g.workers (under_way w m.edge m.time r.0) = below_one g.workers k0 (under_way w m.edge m.time r.0) ok.0 in
-      let d : in_hand m.edge m.time r.0 (w.held k0) ≡ count r.0 m.records = ap (in_hand m.edge m.time r.0) ok.1 ∙ rw (eqb_self m.edge, same_time_self m.time) refl in
+      let d : held_records m.edge m.time r.0 (w.held k0) ≡ count r.0 m.records = ap (held_records m.edge m.time r.0) ok.1 ∙ rw (eqb_self m.edge, same_time_self m.time) refl in
       let l : 0 < count r.0 m.records = r.1 in
       once g law w h keeps flows m.edge m.time r.0 good_message.0 good_message.3 (omega arith)
 
@@ -254,31 +258,35 @@ module _ (g : Network) (law : IsNetwork g) (w : World) (h : History) (keeps : Ke
       go Role.notified e makes = gain_grouping e makes q r
       go Role.output e makes = absurd (ns e)
 
-  -- what the output emits
-  emits : (n : ℕ) (r : Record) → count r (emitted_after g w (Event.arrival m) n) ≡ count r (w.emitted n) + carried (g.edge_into g.output 0) (at_epoch n) r m
-  emits n r = go (sink_emitted (g.role (g.target m.edge)) w m n) (eqb_tells m.edge (g.edge_into g.output 0))
+  -- what an output emits
+  emits : (v n : ℕ) (r : Record) → IsOutput g v → count r (emitted_after g w (Event.arrival m) v n) ≡ count r (w.emitted v n) + carried (g.edge_into v 0) (at_epoch n) r m
+  emits v n r is = go (output_emitted (g.role (g.target m.edge)) w (g.target m.edge) m.time m.records v n) (eqb_tells m.edge (g.edge_into v 0)) (eqb_tells (g.target m.edge) v)
     where
-      out_port : 0 < g.ports g.output
-      out_port = let o : g.ports g.output ≡ 1 = law.output_port in omega arith
-
-      sink_edge : g.role (g.target m.edge) ≡ Role.output → m.edge ≡ g.edge_into g.output 0
-      sink_edge s =
-          let v : g.target m.edge ≡ g.output = law.only_output m.edge good_message.0 s in
+      output_edge : g.target m.edge ≡ v → m.edge ≡ g.edge_into v 0
+      output_edge e =
           let p : g.in_port m.edge < g.ports (g.target m.edge) = law.target_ports m.edge good_message.0 in
-          let o : g.ports (g.target m.edge) ≡ 1 = ap g.ports v ∙ law.output_port in
+          let o : g.ports (g.target m.edge) ≡ 1 = ap g.ports e ∙ law.output_port v is in
           let z : g.in_port m.edge ≡ 0 = omega arith in
-          sym edge_here ∙ ap₂ g.edge_into v z
+          sym edge_here ∙ ap₂ g.edge_into e z
 
-      here : (c : Bool) → count r (w.emitted n ++ cond c m.records []) ≡ count r (w.emitted n) + cond c (count r m.records) 0
-      here true = count-append r (w.emitted n) m.records
-      here false = count-append r (w.emitted n) []
+      here : (c : Bool) → count r (w.emitted v n ++ cond c m.records []) ≡ count r (w.emitted v n) + cond c (count r m.records) 0
+      here true = count-append r (w.emitted v n) m.records
+      here false = count-append r (w.emitted v n) []
 
-      go : ((g.role (g.target m.edge) ≡ Role.output) × (emitted_by (g.role (g.target m.edge)) w m n ≡ w.emitted n ++ cond (same_time m.time (at_epoch n)) m.records [])) ⊎ ((g.role (g.target m.edge) ≢ Role.output) × (emitted_by (g.role (g.target m.edge)) w m n ≡ w.emitted n))
-          → ((eqb m.edge (g.edge_into g.output 0) ≡ true) × (m.edge ≡ g.edge_into g.output 0)) ⊎ ((eqb m.edge (g.edge_into g.output 0) ≡ false) × (m.edge ≢ g.edge_into g.output 0)) → count r (emitted_after g w (Event.arrival m) n) ≡ count r (w.emitted n) + carried (g.edge_into g.output 0) (at_epoch n) r m
-      go (inl (a, b)) (inl (c, d)) = ap (count r) b ∙ here (same_time m.time (at_epoch n)) ∙ rw c refl
-      go (inl (a, b)) (inr (c, d)) = absurd (d (sink_edge a))
-      go (inr (a, b)) (inl (c, d)) = absurd (a (ap g.role (vertex_of g.output 0 out_port d) ∙ law.output_sink))
-      go (inr (a, b)) (inr (c, d)) = ap (count r) b ∙ (let z : carried (g.edge_into g.output 0) (at_epoch n) r m ≡ 0 = rw c refl in omega arith)
+      nothing : eqb m.edge (g.edge_into v 0) ≡ false → count r (w.emitted v n) ≡ count r (w.emitted v n) + carried (g.edge_into v 0) (at_epoch n) r m
+      nothing c = let z : carried (g.edge_into v 0) (at_epoch n) r m ≡ 0 = rw c refl in omega arith
+
+      go : ((g.role (g.target m.edge) ≡ Role.output) × (emitted_by (g.role (g.target m.edge)) w (g.target m.edge) m.time m.records v n ≡ w.emitted v n ++ cond (eqb (g.target m.edge) v) (cond (same_time m.time (at_epoch n)) m.records []) []))
+          ⊎ ((g.role (g.target m.edge) ≢ Role.output) × (emitted_by (g.role (g.target m.edge)) w (g.target m.edge) m.time m.records v n ≡ w.emitted v n))
+          → ((eqb m.edge (g.edge_into v 0) ≡ true) × (m.edge ≡ g.edge_into v 0)) ⊎ ((eqb m.edge (g.edge_into v 0) ≡ false) × (m.edge ≢ g.edge_into v 0))
+          → ((eqb (g.target m.edge) v ≡ true) × (g.target m.edge ≡ v)) ⊎ ((eqb (g.target m.edge) v ≡ false) × (g.target m.edge ≢ v))
+          → count r (emitted_after g w (Event.arrival m) v n) ≡ count r (w.emitted v n) + carried (g.edge_into v 0) (at_epoch n) r m
+      go (inl (a, b)) (inl (c, d)) (inl (x, y)) = ap (count r) (b ∙ ap (λ z. w.emitted v n ++ cond z (cond (same_time m.time (at_epoch n)) m.records []) []) x) ∙ here (same_time m.time (at_epoch n)) ∙ rw c refl
+      go (inl (a, b)) (inl (c, d)) (inr (x, y)) = absurd (y (vertex_of v 0 is.1 d))
+      go (inl (a, b)) (inr (c, d)) (inl (x, y)) = absurd (d (output_edge y))
+      go (inl (a, b)) (inr (c, d)) (inr (x, y)) = ap (count r) (b ∙ ap (λ z. w.emitted v n ++ cond z (cond (same_time m.time (at_epoch n)) m.records []) []) x ∙ append-nil (w.emitted v n)) ∙ nothing c
+      go (inr (a, b)) (inl (c, d)) z = absurd (a (ap g.role (vertex_of v 0 is.1 d) ∙ is.0))
+      go (inr (a, b)) (inr (c, d)) z = ap (count r) b ∙ nothing c
 
   some_append : (xs ys : List Record) → 0 < some ys → some (xs ++ ys) ≡ 1
   some_append [] [] l = absurd (omega arith)
@@ -298,7 +306,7 @@ module _ (g : Network) (law : IsNetwork g) (w : World) (h : History) (keeps : Ke
 
   -- what is asked for, and what was processed
   wish : (v : ℕ) (t : Time) → g.role v ≡ Role.notified → total (wished v t) (asked g w k0 (Event.arrival m)) + some (h.done k0 (g.edge_into v 0) t) ≡ some (done_after h k0 m k0 (g.edge_into v 0) t)
-  wish v t s = go (group_asked (g.role (g.target m.edge)) (g.target m.edge) m.time at_any) (done_tells h k0 m k0 (g.edge_into v 0) t)
+  wish v t s = go (notified_asked (g.role (g.target m.edge)) (g.target m.edge) m.time at_any) (done_tells h k0 m k0 (g.edge_into v 0) t)
     where
       port : 0 < g.ports v
       port = let o : g.ports v ≡ 1 = law.one_port v s in omega arith
@@ -341,7 +349,7 @@ module _ (g : Network) (law : IsNetwork g) (w : World) (h : History) (keeps : Ke
           omega arith
 
   asked_good : each (GoodRequest g) (asked g w k0 (Event.arrival m))
-  asked_good = go (group_asked (g.role (g.target m.edge)) (g.target m.edge) m.time at_any)
+  asked_good = go (notified_asked (g.role (g.target m.edge)) (g.target m.edge) m.time at_any)
     where
       first : g.role (g.target m.edge) ≡ Role.notified → (xs : List Record) → each (GoodRequest g) (asked_first (g.target m.edge) m.time xs)
       first s [] = ((s, here), tt)
@@ -360,47 +368,47 @@ module _ (g : Network) (law : IsNetwork g) (w : World) (h : History) (keeps : Ke
             let c : sum_below g.workers (under_way (after_step g w (Step.commit k0 (Event.arrival m) out)) e t r) + carried e t r m ≡ sum_below g.workers (under_way w e t r) + sum_below g.workers (λ k. total (carried e t r) (parcels g k0 (g.target m.edge) (g.act (g.target m.edge) m.time) out k g.edges)) = way_after g law w h keeps k0 (Event.arrival m) out ok e t r in
             let d = done_sum e t r in
             omega arith;
-        from_input = λ e t le s. record { counts = λ r. sent_elsewhere g law w h keeps (g.target m.edge) (g.act (g.target m.edge) m.time) out e t r (λ x. law.no_source_target m.edge good_message.0 (sym (ap g.role x) ∙ s)) ∙ (keeps.from_input e t le s).counts r };
+        from_input = λ e t le s. record { counts = λ r. sent_elsewhere g law w h keeps (g.target m.edge) (g.act (g.target m.edge) m.time) out e t r (λ x. law.no_input_target m.edge good_message.0 (sym (ap g.role x) ∙ s)) ∙ (keeps.from_input e t le s).counts r };
         from_vertex = λ e u r le fits s. vertex_after g law w h keeps k0 (Event.arrival m) out ok (history_done h k0 m) counted_once rest gain e u r le fits s;
-        notices = λ k v t lk s. notices k v t lk s (put_tells w.held k0 Held.nothing k) (put_tells w.requests k0 (w.requests k0 ++ asked g w k0 (Event.arrival m)) k) (done_tells h k0 m k (g.edge_into v 0) t);
+        notifications = λ k v t lk s. notifications k v t lk s (put_tells w.held k0 Held.nothing k) (put_tells w.requests k0 (w.requests k0 ++ asked g w k0 (Event.arrival m)) k) (done_tells h k0 m k (g.edge_into v 0) t);
         always_told = keeps.always_told;
         settled = λ k v t lk s due. settled_after g law w h keeps (Step.commit k0 (Event.arrival m) out) ok k v t lk s (was_due k v t due (put_tells w.held k0 Held.nothing k));
         at_home = λ k e t lk le s. home k e t lk le s (done_tells h k0 m k e t);
         good_mail = λ k lk. each-append (GoodMessage g k) (w.mail k) _ (keeps.good_mail k lk) (each_more (Parcel g (g.target m.edge) (g.act (g.target m.edge) m.time) k) (GoodMessage g k) _ (λ m p. p.good) (parcels_good g law k0 (g.target m.edge) (g.act (g.target m.edge) m.time) out k g.edges (fits_sent g law (g.target m.edge) m.time here) (omega arith)));
         good_requests = λ k lk. requests k lk (put_tells w.requests k0 (w.requests k0 ++ asked g w k0 (Event.arrival m)) k);
-        good_hand = λ k lk. good k lk (put_tells w.held k0 Held.nothing k);
+        good_held = λ k lk. good k lk (put_tells w.held k0 Held.nothing k);
         shards = λ k v p t lk lp s. shards_after k v p t lk lp s;
-        output = λ n r. let a = emits n r in let b = keeps.output n r in let c = done_sum (g.edge_into g.output 0) (at_epoch n) r in omega arith;
+        output = λ v n r is. let a = emits v n r is in let b = keeps.output v n r is in let c = done_sum (g.edge_into v 0) (at_epoch n) r in omega arith;
       }
     where
-      notices : (k v : ℕ) (t : Time) → k < g.workers → g.role v ≡ Role.notified → ((k ≡ k0) × (put w.held k0 Held.nothing k ≡ Held.nothing)) ⊎ ((k ≢ k0) × (put w.held k0 Held.nothing k ≡ w.held k))
+      notifications : (k v : ℕ) (t : Time) → k < g.workers → g.role v ≡ Role.notified → ((k ≡ k0) × (put w.held k0 Held.nothing k ≡ Held.nothing)) ⊎ ((k ≢ k0) × (put w.held k0 Held.nothing k ≡ w.held k))
           → ((k ≡ k0) × (put w.requests k0 (w.requests k0 ++ asked g w k0 (Event.arrival m)) k ≡ w.requests k0 ++ asked g w k0 (Event.arrival m))) ⊎ ((k ≢ k0) × (put w.requests k0 (w.requests k0 ++ asked g w k0 (Event.arrival m)) k ≡ w.requests k))
           → DoneHere h k0 m k (g.edge_into v 0) t ⊎ DoneElsewhere h k0 m k (g.edge_into v 0) t
           → wishes (after_step g w (Step.commit k0 (Event.arrival m) out)) v t k + bit (h.told k v t) ≡ some (done_after h k0 m k (g.edge_into v 0) t)
-      notices k v t lk s (inl (a, b)) (inl (c, d)) x =
-          let i = keeps.notices k v t lk s in
-          let j : wish_in_hand v t (w.held k) ≡ 0 = ap (wish_in_hand v t) (ap w.held a ∙ ok.1) in
-          let l : wish_in_hand v t (put w.held k0 Held.nothing k) ≡ 0 = ap (wish_in_hand v t) b in
+      notifications k v t lk s (inl (a, b)) (inl (c, d)) x =
+          let i = keeps.notifications k v t lk s in
+          let j : held_wish v t (w.held k) ≡ 0 = ap (held_wish v t) (ap w.held a ∙ ok.1) in
+          let l : held_wish v t (put w.held k0 Held.nothing k) ≡ 0 = ap (held_wish v t) b in
           let n : total (wished v t) (put w.requests k0 (w.requests k0 ++ asked g w k0 (Event.arrival m)) k) ≡ total (wished v t) (w.requests k0) + total (wished v t) (asked g w k0 (Event.arrival m)) = ap (λ z. total (wished v t) z) d ∙ total-append (wished v t) (w.requests k0) (asked g w k0 (Event.arrival m)) in
           let q : total (wished v t) (w.requests k) ≡ total (wished v t) (w.requests k0) = ap (λ z. total (wished v t) (w.requests z)) a in
           let f = wish v t s in
           let y : some (done_after h k0 m k (g.edge_into v 0) t) ≡ some (done_after h k0 m k0 (g.edge_into v 0) t) = ap (λ z. some (done_after h k0 m z (g.edge_into v 0) t)) a in
           let z : some (h.done k (g.edge_into v 0) t) ≡ some (h.done k0 (g.edge_into v 0) t) = ap (λ z. some (h.done z (g.edge_into v 0) t)) a in
           omega arith
-      notices k v t lk s (inl (a, b)) (inr (c, d)) x = absurd (c a)
-      notices k v t lk s (inr (a, b)) (inl (c, d)) x = absurd (a c)
-      notices k v t lk s (inr (a, b)) (inr (c, d)) (inl x) = absurd (a x.worker)
-      notices k v t lk s (inr (a, b)) (inr (c, d)) (inr x) =
-          let i = keeps.notices k v t lk s in
-          let l : wish_in_hand v t (put w.held k0 Held.nothing k) ≡ wish_in_hand v t (w.held k) = ap (wish_in_hand v t) b in
+      notifications k v t lk s (inl (a, b)) (inr (c, d)) x = absurd (c a)
+      notifications k v t lk s (inr (a, b)) (inl (c, d)) x = absurd (a c)
+      notifications k v t lk s (inr (a, b)) (inr (c, d)) (inl x) = absurd (a x.worker)
+      notifications k v t lk s (inr (a, b)) (inr (c, d)) (inr x) =
+          let i = keeps.notifications k v t lk s in
+          let l : held_wish v t (put w.held k0 Held.nothing k) ≡ held_wish v t (w.held k) = ap (held_wish v t) b in
           let n : total (wished v t) (put w.requests k0 (w.requests k0 ++ asked g w k0 (Event.arrival m)) k) ≡ total (wished v t) (w.requests k) = ap (λ z. total (wished v t) z) d in
           let y : some (done_after h k0 m k (g.edge_into v 0) t) ≡ some (h.done k (g.edge_into v 0) t) = ap some x.is in
           omega arith
 
       was_due : (k v : ℕ) (t : Time) → Due (after_step g w (Step.commit k0 (Event.arrival m) out)) (history_done h k0 m) k v t → ((k ≡ k0) × (put w.held k0 Held.nothing k ≡ Held.nothing)) ⊎ ((k ≢ k0) × (put w.held k0 Held.nothing k ≡ w.held k)) → Due w h k v t
       was_due k v t (inl told) z = inl told
-      was_due k v t (inr wish) (inl (x, y)) = absurd (let a : wish_in_hand v t (put w.held k0 Held.nothing k) ≡ 0 = ap (wish_in_hand v t) y in omega arith)
-      was_due k v t (inr wish) (inr (x, y)) = let a : wish_in_hand v t (put w.held k0 Held.nothing k) ≡ wish_in_hand v t (w.held k) = ap (wish_in_hand v t) y in inr (omega arith)
+      was_due k v t (inr wish) (inl (x, y)) = absurd (let a : held_wish v t (put w.held k0 Held.nothing k) ≡ 0 = ap (held_wish v t) y in omega arith)
+      was_due k v t (inr wish) (inr (x, y)) = let a : held_wish v t (put w.held k0 Held.nothing k) ≡ held_wish v t (w.held k) = ap (held_wish v t) y in inr (omega arith)
 
       some_of : (r : Record) (xs ys : List Record) → 0 < count r (xs ++ ys) → (n : ℕ) → count r ys ≡ n → (0 < count r xs) ⊎ (0 < count r ys)
       some_of r xs ys l zero e = inl (let a = count-append r xs ys in omega arith)
@@ -421,6 +429,6 @@ module _ (g : Network) (law : IsNetwork g) (w : World) (h : History) (keeps : Ke
       requests k lk (inl (a, b)) = subst (each (GoodRequest g)) (sym b) (each-append (GoodRequest g) (w.requests k0) (asked g w k0 (Event.arrival m)) (keeps.good_requests k0 ok.0) asked_good)
       requests k lk (inr (a, b)) = subst (each (GoodRequest g)) (sym b) (keeps.good_requests k lk)
 
-      good : (k : ℕ) → k < g.workers → ((k ≡ k0) × (put w.held k0 Held.nothing k ≡ Held.nothing)) ⊎ ((k ≢ k0) × (put w.held k0 Held.nothing k ≡ w.held k)) → GoodHand g k (put w.held k0 Held.nothing k)
-      good k lk (inl (x, y)) = subst (GoodHand g k) (sym y) tt
-      good k lk (inr (x, y)) = subst (GoodHand g k) (sym y) (keeps.good_hand k lk)
+      good : (k : ℕ) → k < g.workers → ((k ≡ k0) × (put w.held k0 Held.nothing k ≡ Held.nothing)) ⊎ ((k ≢ k0) × (put w.held k0 Held.nothing k ≡ w.held k)) → GoodHeld g k (put w.held k0 Held.nothing k)
+      good k lk (inl (x, y)) = subst (GoodHeld g k) (sym y) tt
+      good k lk (inr (x, y)) = subst (GoodHeld g k) (sym y) (keeps.good_held k lk)

@@ -6,13 +6,15 @@ use Rattle.semantics.specs.Could.{on_edge}
 use Rattle.semantics.specs.Time.{Time, same_time}
 use Rattle.semantics.specs.Kinds.{Role}
 use Rattle.machine.specs.Network.{Network}
-use Rattle.machine.specs.Step.{event_vertex, event_time, Step, parcels, sent_after, Allowed, after_step}
-use Rattle.machine.specs.Sums.{put, sum_below}
 use Rattle.machine.specs.World.{Event, Held, World}
+use Rattle.machine.specs.Active.{sum_below}
+use Rattle.machine.specs.Sending.{parcels, sent_after}
+use Rattle.machine.specs.Processing.{event_vertex, event_time}
+use Rattle.machine.specs.Step.{Step, Allowed, after_step, put}
 use Rattle.semantics.proofs.MultisetSums.{total-append}
 use Rattle.machine.proofs.Counting.{below_same, below_add, below_changed, count-append}
 use Rattle.machine.proofs.Derived.{headline}
-use Rattle.machine.proofs.Kept.{History, carried, carried_by, in_hand, under_way, some, made, Kept}
+use Rattle.machine.proofs.Kept.{History, carried, carried_by, held_records, under_way, some, made, Kept}
 use Rattle.machine.proofs.Laws.{IsNetwork, times_in}
 use Rattle.machine.proofs.NetFlow.{HasFlows}
 use Rattle.machine.proofs.Places.{same_time_tells, total_times, total_times_changed}
@@ -37,18 +39,18 @@ module _ (g : Network) (law : IsNetwork g) (w : World) (h : History) (keeps : Ke
     pub way_after : (e : ℕ) (t : Time) (r : Record) → sum_below g.workers (under_way (after_step g w (Step.commit k0 event out)) e t r) + carried_by e t r event
         ≡ sum_below g.workers (under_way w e t r) + sum_below g.workers (λ k. total (carried e t r) (parcels g k0 (event_vertex g event) (g.act (event_vertex g event) (event_time event)) out k g.edges))
     way_after e t r =
-        let a : sum_below g.workers (under_way (after_step g w (Step.commit k0 event out)) e t r) ≡ sum_below g.workers (λ k. (total (carried e t r) (w.mail k) + in_hand e t r (put w.held k0 Held.nothing k)) + total (carried e t r) (parcels g k0 (event_vertex g event) (g.act (event_vertex g event) (event_time event)) out k g.edges)) =
+        let a : sum_below g.workers (under_way (after_step g w (Step.commit k0 event out)) e t r) ≡ sum_below g.workers (λ k. (total (carried e t r) (w.mail k) + held_records e t r (put w.held k0 Held.nothing k)) + total (carried e t r) (parcels g k0 (event_vertex g event) (g.act (event_vertex g event) (event_time event)) out k g.edges)) =
         below_same g.workers _ _ (λ k lk. let o = total-append (carried e t r) (w.mail k) (parcels g k0 (event_vertex g event) (g.act (event_vertex g event) (event_time event)) out k g.edges) in omega arith) in
-        let b = below_add g.workers (λ k. total (carried e t r) (w.mail k) + in_hand e t r (put w.held k0 Held.nothing k)) (λ k. total (carried e t r) (parcels g k0 (event_vertex g event) (g.act (event_vertex g event) (event_time event)) out k g.edges)) in
-        let c : sum_below g.workers (λ k. total (carried e t r) (w.mail k) + in_hand e t r (put w.held k0 Held.nothing k)) + (total (carried e t r) (w.mail k0) + in_hand e t r (w.held k0)) ≡ sum_below g.workers (under_way w e t r) + (total (carried e t r) (w.mail k0) + in_hand e t r (put w.held k0 Held.nothing k0)) =
-        below_changed g.workers k0 (under_way w e t r) (λ k. total (carried e t r) (w.mail k) + in_hand e t r (put w.held k0 Held.nothing k)) ok.0 (λ j lj ne. other j ne (put_tells w.held k0 Held.nothing j)) in
-        let d : in_hand e t r (w.held k0) ≡ carried_by e t r event = ap (in_hand e t r) ok.1 in
-        let f : in_hand e t r (put w.held k0 Held.nothing k0) ≡ 0 = ap (in_hand e t r) (put_here w.held k0 Held.nothing) in
+        let b = below_add g.workers (λ k. total (carried e t r) (w.mail k) + held_records e t r (put w.held k0 Held.nothing k)) (λ k. total (carried e t r) (parcels g k0 (event_vertex g event) (g.act (event_vertex g event) (event_time event)) out k g.edges)) in
+        let c : sum_below g.workers (λ k. total (carried e t r) (w.mail k) + held_records e t r (put w.held k0 Held.nothing k)) + (total (carried e t r) (w.mail k0) + held_records e t r (w.held k0)) ≡ sum_below g.workers (under_way w e t r) + (total (carried e t r) (w.mail k0) + held_records e t r (put w.held k0 Held.nothing k0)) =
+        below_changed g.workers k0 (under_way w e t r) (λ k. total (carried e t r) (w.mail k) + held_records e t r (put w.held k0 Held.nothing k)) ok.0 (λ j lj ne. other j ne (put_tells w.held k0 Held.nothing j)) in
+        let d : held_records e t r (w.held k0) ≡ carried_by e t r event = ap (held_records e t r) ok.1 in
+        let f : held_records e t r (put w.held k0 Held.nothing k0) ≡ 0 = ap (held_records e t r) (put_here w.held k0 Held.nothing) in
         omega arith
       where
-        other : (j : ℕ) → j ≢ k0 → ((j ≡ k0) × (put w.held k0 Held.nothing j ≡ Held.nothing)) ⊎ ((j ≢ k0) × (put w.held k0 Held.nothing j ≡ w.held j)) → total (carried e t r) (w.mail j) + in_hand e t r (put w.held k0 Held.nothing j) ≡ under_way w e t r j
+        other : (j : ℕ) → j ≢ k0 → ((j ≡ k0) × (put w.held k0 Held.nothing j ≡ Held.nothing)) ⊎ ((j ≢ k0) × (put w.held k0 Held.nothing j ≡ w.held j)) → total (carried e t r) (w.mail j) + held_records e t r (put w.held k0 Held.nothing j) ≡ under_way w e t r j
         other j ne (inl (x, y)) = absurd (ne x)
-        other j ne (inr (x, y)) = ap (λ z. total (carried e t r) (w.mail j) + in_hand e t r z) y
+        other j ne (inr (x, y)) = ap (λ z. total (carried e t r) (w.mail j) + held_records e t r z) y
 
     -- what the vertices have made, if only this worker's part of this vertex made more, at this time
     pub vertex_after : (h' : History) → (once : times_in (event_time event) (g.times_before (event_vertex g event) (g.act (event_vertex g event) (event_time event))) ≡ 1)
@@ -74,7 +76,7 @@ module _ (g : Network) (law : IsNetwork g) (w : World) (h : History) (keeps : Ke
         go (inl (a, b)) =
             let grown : sum_below g.workers (made g h' v Q t0 r) + made g h v Q t0 r k0 ≡ sum_below g.workers (made g h v Q t0 r) + made g h' v Q t0 r k0 =
             below_changed g.workers k0 (made g h v Q t0 r) (made g h' v Q t0 r) ok.0 (λ j lj ne. rest j v Q t0 r (inl ne)) in
-            let more : made g h' v Q t0 r k0 ≡ made g h v Q t0 r k0 + count r (out Q) = gain Q r (λ x. law.no_sink_source e le (ap g.role b ∙ x)) in
+            let more : made g h' v Q t0 r k0 ≡ made g h v Q t0 r k0 + count r (out Q) = gain Q r (λ x. law.no_output_source e le (ap g.role b ∙ x)) in
             let old : count r (w.sent e u) ≡ total (λ t. sum_below g.workers (made g h v Q t r)) (g.times_before v u) =
             keeps.from_vertex e u r le fits s ∙ ap (λ x. total (λ t. sum_below g.workers (made g h x Q t r)) (g.times_before x u)) b in
             let change : total (λ t. sum_below g.workers (made g h' v Q t r)) (g.times_before v u) + times_in t0 (g.times_before v u) * sum_below g.workers (made g h v Q t0 r) ≡ total (λ t. sum_below g.workers (made g h v Q t r)) (g.times_before v u) + times_in t0 (g.times_before v u) * sum_below g.workers (made g h' v Q t0 r) =

@@ -4,7 +4,7 @@ use Rattle.std.proofs.lemmas.Bool.Decides.{eqb_tells, nat_tests}
 use Rattle.semantics.specs.Multiset.{total, same, Record, count, end_to_end}
 use Rattle.semantics.specs.Time.{same_counters}
 use Rattle.semantics.proofs.MultisetSums.{Decides-same}
-use Rattle.machine.specs.Sums.{sum_below}
+use Rattle.machine.specs.Active.{sum_below}
 
 -- the test of two lists, with what it tells
 pub same_list_tells : (xs ys : List ℕ) → ((same_counters xs ys ≡ true) × (xs ≡ ys)) ⊎ ((same_counters xs ys ≡ false) × (xs ≢ ys))

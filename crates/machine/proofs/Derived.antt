@@ -6,14 +6,16 @@ use Rattle.semantics.specs.Multiset.{total, Record, count, ◌≈◌, IsPartOf, 
 use Rattle.semantics.specs.Could.{Pointstamp, on_edge, at_vertex}
 use Rattle.semantics.specs.Time.{Time, same_time, at_epoch}
 use Rattle.semantics.specs.Kinds.{Role}
-use Rattle.machine.specs.Network.{Network, ins}
-use Rattle.machine.specs.Sums.{sum_below}
-use Rattle.machine.specs.World.{Message, Request, Event, Held, World, IsActive, NoneBefore, message_pointstamp, request_pointstamp}
+use Rattle.machine.specs.Network.{Network}
+use Rattle.machine.specs.World.{Message, Request, Event, Held, World}
+use Rattle.machine.specs.Active.{sum_below, IsActive, message_pointstamp, request_pointstamp}
+use Rattle.machine.specs.Frontier.{NoneBefore}
+use Rattle.machine.proofs.NetFlow.{ins}
 use Rattle.machine.proofs.Counting.{below_same, below_more, below_zero, counted-end_to_end}
-use Rattle.machine.proofs.Kept.{History, carried, carried_by, in_hand, under_way, wished, wished_by, wish_in_hand, wishes, some, bit, made, Due, Kept, Headline}
-use Rattle.machine.proofs.Laws.{Lower, times_in, IsNetwork, all_parts, CutByKey}
+use Rattle.machine.proofs.Kept.{History, carried, carried_by, held_records, under_way, wished, wished_by, held_wish, wishes, some, bit, made, Due, Kept, Headline}
+use Rattle.machine.proofs.Laws.{Lower, times_in, IsNetwork, IsOutput, all_parts, CutByKey}
 use Rattle.machine.proofs.NetFlow.{IsNetFlow}
-use Rattle.machine.proofs.Places.{same_time_tells, total_zero, total_times, total_times_more, is_source, is_grouping, inner_kind, edge_not_vertex, some_below}
+use Rattle.machine.proofs.Places.{same_time_tells, total_zero, total_times, total_times_more, is_input_role, is_notified_role, inner_kind, edge_not_vertex, some_below}
 use Rattle.machine.proofs.Rank.{could_back, lower}
 
 -- a message of this edge and time is there, or nothing is carried
@@ -53,21 +55,21 @@ module _ (g : Network) (law : IsNetwork g) (w : World) where
           held (inl z) = z
           held (inr p) = absurd (not_here (message_pointstamp m) (IsActive.of_held k up (Event.arrival m) l s) p)
 
-      hand : (k : ℕ) (x : Held) → k < g.workers → w.held k ≡ x → in_hand e t r x ≡ 0
+      hand : (k : ℕ) (x : Held) → k < g.workers → w.held k ≡ x → held_records e t r x ≡ 0
       hand k Held.nothing l s = refl
       hand k (Held.holding up x) l s = event k up x l s
 
       worker : (k : ℕ) → k < g.workers → under_way w e t r k ≡ 0
       worker k l =
           let a : total (carried e t r) (w.mail k) ≡ 0 = total_zero (w.mail k) (carried e t r) (λ at m s. message k at m l s (carried_place e t r m)) in
-          let b : in_hand e t r (w.held k) ≡ 0 = hand k (w.held k) l refl in
+          let b : held_records e t r (w.held k) ≡ 0 = hand k (w.held k) l refl in
           omega arith
 
   -- nobody waits for a notification of a vertex and time in which no active pointstamp could result
   pub nothing_wished : (v : ℕ) (t : Time) → ((p : Pointstamp) → IsActive g w p → p ≡ at_vertex v t → ⊥) → (k : ℕ) → k < g.workers → wishes w v t k ≡ 0
   nothing_wished v t not_here k l =
       let a : total (wished v t) (w.requests k) ≡ 0 = total_zero (w.requests k) (wished v t) (λ at n s. request at n s (wished_place v t n)) in
-      let b : wish_in_hand v t (w.held k) ≡ 0 = hand (w.held k) refl in
+      let b : held_wish v t (w.held k) ≡ 0 = hand (w.held k) refl in
       omega arith
     where
       request : (at : ℕ) (n : Request) → slice_get (w.requests k) at ≡ Some n → (wished v t n ≡ 0) ⊎ (request_pointstamp n ≡ at_vertex v t) → wished v t n ≡ 0
@@ -82,7 +84,7 @@ module _ (g : Network) (law : IsNetwork g) (w : World) where
           held (inl z) = z
           held (inr p) = absurd (not_here (request_pointstamp n) (IsActive.of_held k up (Event.notification n) l s) p)
 
-      hand : (x : Held) → w.held k ≡ x → wish_in_hand v t x ≡ 0
+      hand : (x : Held) → w.held k ≡ x → held_wish v t x ≡ 0
       hand Held.nothing s = refl
       hand (Held.holding up x) s = event up x s
 
@@ -109,7 +111,7 @@ module _ (g : Network) (law : IsNetwork g) (w : World) (h : History) (keeps : Ke
 
   -- a group without a wish has made what its part has
   pub made_all : (v q : ℕ) (t : Time) (r : Record) (k : ℕ) → k < g.workers → (g.role v ≡ Role.notified → wishes w v t k ≡ 0) → made g h v q t r k ≡ count r (g.op v q t (ins g (h.done k) v t))
-  made_all v q t r k l none = go (h.told k v t) refl (is_grouping (g.role v))
+  made_all v q t r k l none = go (h.told k v t) refl (is_notified_role (g.role v))
     where
       empty : (xs : List Record) → some xs ≡ 0 → xs ≡ []
       empty [] e = refl
@@ -119,7 +121,7 @@ module _ (g : Network) (law : IsNetwork g) (w : World) (h : History) (keeps : Ke
       go true e s = rw e refl
       go false e (inr s) = absurd (let x : h.told k v t ≡ true = keeps.always_told k v t s in let y : true ≡ false = sym x ∙ e in cc)
       go false e (inl s) =
-          let n : wishes w v t k + bit (h.told k v t) ≡ some (h.done k (g.edge_into v 0) t) = keeps.notices k v t l s in
+          let n : wishes w v t k + bit (h.told k v t) ≡ some (h.done k (g.edge_into v 0) t) = keeps.notifications k v t l s in
           let z : wishes w v t k ≡ 0 = none s in
           let y : bit (h.told k v t) ≡ 0 = ap bit e in
           let d : h.done k (g.edge_into v 0) t ≡ [] = empty (h.done k (g.edge_into v 0) t) (omega arith) in
@@ -154,7 +156,7 @@ module _ (g : Network) (law : IsNetwork g) (w : World) (h : History) (keeps : Ke
 
     -- sent is equal to the flow at a pointstamp in which no active pointstamp could result
     pub whole_at : (p : Pointstamp) → Acc (Lower g) p → (e : ℕ) (t : Time) → p ≡ on_edge e t → e < g.edges → g.IsPointstamp (on_edge e t) → NoneBefore g w (on_edge e t) → (w.sent e t) ≈ (flow e t)
-    whole_at p (Acc.intro x low) e u is l fits none = record { counts = λ r. go r (is_source (g.role (g.source e))) (λ p' t' a. whole_at (on_edge (g.edge_into (g.source e) p') t') (low (on_edge (g.edge_into (g.source e) p') t') a) (g.edge_into (g.source e) p') t' refl) }
+    whole_at p (Acc.intro x low) e u is l fits none = record { counts = λ r. go r (is_input_role (g.role (g.source e))) (λ p' t' a. whole_at (on_edge (g.edge_into (g.source e) p') t') (low (on_edge (g.edge_into (g.source e) p') t') a) (g.edge_into (g.source e) p') t' refl) }
       where
         at : (r : Record) → g.role (g.source e) ≢ Role.input → WholeBelow p (g.source e) → (t : Time) → 0 < times_in t (g.times_before (g.source e) u) → sum_below g.workers (made g h (g.source e) (g.out_port e) t r) ≡ count r (g.op (g.source e) (g.out_port e) t (ins g flow (g.source e) t))
         at r s ih t in_list =
@@ -163,7 +165,7 @@ module _ (g : Network) (law : IsNetwork g) (w : World) (h : History) (keeps : Ke
             let nv : NoneBefore g w (at_vertex (g.source e) t) = none_through e t u l ft a none in
             let m : sum_below g.workers (made g h (g.source e) (g.out_port e) t r) ≡ sum_below g.workers (λ k. count r (g.op (g.source e) (g.out_port e) t (ins g (h.done k) (g.source e) t))) =
             below_same g.workers _ _ (λ k lk. made_all (g.source e) (g.out_port e) t r k lk (λ _. nothing_wished g law w (g.source e) t (λ q active c. nv q active (subst (λ (x : Pointstamp). g.Could x (at_vertex (g.source e) t)) (sym c) (law.could_self (at_vertex (g.source e) t) ft))) k lk)) in
-            m ∙ vertex_whole (g.source e) (g.out_port e) t r s (law.no_sink_source e l) (λ p' lp s'.
+            m ∙ vertex_whole (g.source e) (g.out_port e) t r s (law.no_output_source e l) (λ p' lp s'.
             let ne : NoneBefore g w (on_edge (g.edge_into (g.source e) p') t) = none_before_edge (g.source e) p' t lp ft nv in
             let fe : g.IsPointstamp (on_edge (g.edge_into (g.source e) p') t) = law.fits_into (g.source e) p' t lp ft in
             let le : g.edge_into (g.source e) p' < g.edges = law.into_is_edge (g.source e) p' lp in
@@ -190,14 +192,14 @@ module _ (g : Network) (law : IsNetwork g) (w : World) (h : History) (keeps : Ke
 
     -- sent is part of the flow
     pub part_at : (p : Pointstamp) → Acc (Lower g) p → (e : ℕ) (t : Time) → p ≡ on_edge e t → e < g.edges → g.IsPointstamp (on_edge e t) → IsPartOf (w.sent e t) (flow e t)
-    part_at p (Acc.intro x low) e u is l fits = record { within = λ r. go r (is_source (g.role (g.source e))) (λ p' t' a. part_at (on_edge (g.edge_into (g.source e) p') t') (low (on_edge (g.edge_into (g.source e) p') t') a) (g.edge_into (g.source e) p') t' refl) }
+    part_at p (Acc.intro x low) e u is l fits = record { within = λ r. go r (is_input_role (g.role (g.source e))) (λ p' t' a. part_at (on_edge (g.edge_into (g.source e) p') t') (low (on_edge (g.edge_into (g.source e) p') t') a) (g.edge_into (g.source e) p') t' refl) }
       where
         monotone : (r : Record) → g.role (g.source e) ≢ Role.input → g.role (g.source e) ≢ Role.notified → PartBelow p (g.source e) → (t : Time) → g.IsPointstamp (at_vertex (g.source e) t) → g.act (g.source e) t ≡ u → sum_below g.workers (made g h (g.source e) (g.out_port e) t r) ≤ count r (g.op (g.source e) (g.out_port e) t (ins g flow (g.source e) t))
         monotone r s sg ih t ft a =
             let m : sum_below g.workers (made g h (g.source e) (g.out_port e) t r) ≤ sum_below g.workers (λ k. count r (g.op (g.source e) (g.out_port e) t (ins g (h.done k) (g.source e) t))) =
             below_more g.workers _ _ (λ k lk. made_le (g.source e) (g.out_port e) t r k) in
             let j : sum_below g.workers (λ k. count r (g.op (g.source e) (g.out_port e) t (ins g (h.done k) (g.source e) t))) ≡ count r (g.op (g.source e) (g.out_port e) t (all_parts g (λ k p. h.done k (g.edge_into (g.source e) p) t))) =
-            parts_make (g.source e) (g.out_port e) t r s (law.no_sink_source e l) in
+            parts_make (g.source e) (g.out_port e) t r s (law.no_output_source e l) in
             let o : count r (g.op (g.source e) (g.out_port e) t (all_parts g (λ k p. h.done k (g.edge_into (g.source e) p) t))) ≤ count r (g.op (g.source e) (g.out_port e) t (ins g flow (g.source e) t)) =
             (law.op_more (g.source e) (g.out_port e) t (all_parts g (λ k p. h.done k (g.edge_into (g.source e) p) t)) (ins g flow (g.source e) t) sg (λ p' lp. record {
               within = λ s'.
@@ -217,7 +219,7 @@ module _ (g : Network) (law : IsNetwork g) (w : World) (h : History) (keeps : Ke
             let m : sum_below g.workers (made g h (g.source e) (g.out_port e) t r) ≤ sum_below g.workers (λ k. count r (g.op (g.source e) (g.out_port e) t (ins g (h.done k) (g.source e) t))) =
             below_more g.workers _ _ (λ k' lk'. made_le (g.source e) (g.out_port e) t r k') in
             let v : sum_below g.workers (λ k. count r (g.op (g.source e) (g.out_port e) t (ins g (h.done k) (g.source e) t))) ≡ count r (g.op (g.source e) (g.out_port e) t (ins g flow (g.source e) t)) =
-            vertex_whole (g.source e) (g.out_port e) t r s (law.no_sink_source e l) (λ p' lp s'.
+            vertex_whole (g.source e) (g.out_port e) t r s (law.no_output_source e l) (λ p' lp s'.
             let le : g.edge_into (g.source e) p' < g.edges = law.into_is_edge (g.source e) p' lp in
             let ne : NoneBefore g w (on_edge (g.edge_into (g.source e) p') t) = none_before_told (g.source e) t k lk ft sg (inl told) p' lp in
             let fe : g.IsPointstamp (on_edge (g.edge_into (g.source e) p') t) = law.fits_into (g.source e) p' t lp ft in
@@ -229,7 +231,7 @@ module _ (g : Network) (law : IsNetwork g) (w : World) (h : History) (keeps : Ke
         go r (inr s) ih =
             let a : count r (w.sent e u) ≡ total (λ t. sum_below g.workers (made g h (g.source e) (g.out_port e) t r)) (g.times_before (g.source e) u) = keeps.from_vertex e u r l fits s in
             let b : total (λ t. sum_below g.workers (made g h (g.source e) (g.out_port e) t r)) (g.times_before (g.source e) u) ≤ total (λ t. count r (g.op (g.source e) (g.out_port e) t (ins g flow (g.source e) t))) (g.times_before (g.source e) u) =
-            total_times_more (g.times_before (g.source e) u) _ _ (λ t in_list. at t (law.fits_back e t u l fits in_list) (law.before_acts e t u l fits in_list) (is_grouping (g.role (g.source e)))) in
+            total_times_more (g.times_before (g.source e) u) _ _ (λ t in_list. at t (law.fits_back e t u l fits in_list) (law.before_acts e t u l fits in_list) (is_notified_role (g.role (g.source e)))) in
             let c : count r (flow e u) ≡ total (λ t. count r (g.op (g.source e) (g.out_port e) t (ins g flow (g.source e) t))) (g.times_before (g.source e) u) = flows.from_vertex e u l fits s r in
             omega arith
           where
@@ -242,25 +244,22 @@ module _ (g : Network) (law : IsNetwork g) (w : World) (h : History) (keeps : Ke
         record {
           part = λ e t l fits. part_at (on_edge e t) (law.founded (on_edge e t)) e t refl l fits;
           whole = whole;
-          emitted_part = λ n. record {
+          emitted_part = λ v n is. record {
             within = λ r.
-                let s : count r (w.sent (g.edge_into g.output 0) (at_epoch n)) ≤ count r (flow (g.edge_into g.output 0) (at_epoch n)) = (part_at (on_edge (g.edge_into g.output 0) (at_epoch n)) (law.founded _) (g.edge_into g.output 0) (at_epoch n) refl out_edge (out_fits n)).within r in
-                let b : count r (w.sent (g.edge_into g.output 0) (at_epoch n)) ≡ sum_below g.workers (λ k. count r (h.done k (g.edge_into g.output 0) (at_epoch n))) + sum_below g.workers (under_way w (g.edge_into g.output 0) (at_epoch n) r) = keeps.balance (g.edge_into g.output 0) (at_epoch n) r out_edge in
-                let c : count r (w.emitted n) ≡ sum_below g.workers (λ k. count r (h.done k (g.edge_into g.output 0) (at_epoch n))) = keeps.output n r in
+                let s : count r (w.sent (g.edge_into v 0) (at_epoch n)) ≤ count r (flow (g.edge_into v 0) (at_epoch n)) = (part_at (on_edge (g.edge_into v 0) (at_epoch n)) (law.founded _) (g.edge_into v 0) (at_epoch n) refl (out_edge v is) (out_fits v n is)).within r in
+                let b : count r (w.sent (g.edge_into v 0) (at_epoch n)) ≡ sum_below g.workers (λ k. count r (h.done k (g.edge_into v 0) (at_epoch n))) + sum_below g.workers (under_way w (g.edge_into v 0) (at_epoch n) r) = keeps.balance (g.edge_into v 0) (at_epoch n) r (out_edge v is) in
+                let c : count r (w.emitted v n) ≡ sum_below g.workers (λ k. count r (h.done k (g.edge_into v 0) (at_epoch n))) = keeps.output v n r is in
                 omega arith;
           };
-          emitted_whole = λ n passed. record {
+          emitted_whole = λ v n is passed. record {
             counts = λ r.
-                let none : NoneBefore g w (on_edge (g.edge_into g.output 0) (at_epoch n)) = none_before_edge g.output 0 (at_epoch n) out_port (law.fits_output n) passed in
-                keeps.output n r ∙ processed (g.edge_into g.output 0) (at_epoch n) out_edge (out_fits n) none (whole (g.edge_into g.output 0) (at_epoch n) out_edge (out_fits n) none) r;
+                let none : NoneBefore g w (on_edge (g.edge_into v 0) (at_epoch n)) = none_before_edge v 0 (at_epoch n) is.1 (law.fits_output v n is) passed in
+                keeps.output v n r is ∙ processed (g.edge_into v 0) (at_epoch n) (out_edge v is) (out_fits v n is) none (whole (g.edge_into v 0) (at_epoch n) (out_edge v is) (out_fits v n is) none) r;
           };
         }
       where
-        out_port : 0 < g.ports g.output
-        out_port = let o : g.ports g.output ≡ 1 = law.output_port in omega arith
+        out_edge : (v : ℕ) → IsOutput g v → g.edge_into v 0 < g.edges
+        out_edge v is = law.into_is_edge v 0 is.1
 
-        out_edge : g.edge_into g.output 0 < g.edges
-        out_edge = law.into_is_edge g.output 0 out_port
-
-        out_fits : (n : ℕ) → g.IsPointstamp (on_edge (g.edge_into g.output 0) (at_epoch n))
-        out_fits n = law.fits_into g.output 0 (at_epoch n) out_port (law.fits_output n)
+        out_fits : (v n : ℕ) → IsOutput g v → g.IsPointstamp (on_edge (g.edge_into v 0) (at_epoch n))
+        out_fits v n is = law.fits_into v 0 (at_epoch n) is.1 (law.fits_output v n is)

@@ -1,5 +1,5 @@
 -- The network of a dataflow graph keeps the laws of networks, and has flows.
-use Rattle.std.proofs.Common.{◌≡◌, ◌≢◌, ◌≤◌, ◌<◌, ℕ, zero, suc, ◌+◌, ◌-◌, nat_lt, nat_eq, Bool, true, false, cond, List, [], ◌∷◌, ◌++◌, ◌⊎◌, inl, inr, refl, sym, ap, ◌∙◌, subst, arith, map, flat_map, length, slice_index_or, Option, Some, None, ltb-true, ltb-false}
+use Rattle.std.proofs.Common.{◌≡◌, ◌≢◌, ◌≤◌, ◌<◌, ℕ, zero, suc, ◌+◌, ◌-◌, nat_lt, Bool, true, false, cond, List, [], ◌∷◌, ◌++◌, ◌⊎◌, inl, inr, refl, sym, ap, ◌∙◌, subst, arith, map, flat_map, length, slice_index_or, Option, Some, None, ltb-true, ltb-false}
 use Rattle.std.proofs.Math.Nat.{mod-lt}
 use Rattle.std.specs.List.{AllByRecursion}
 use Rattle.semantics.specs.Multiset.{Record, same, one_if, total, count, end_to_end, ◌≈◌, IsPartOf}
@@ -20,60 +20,61 @@ use Rattle.semantics.proofs.OneFlow.{op_same, one_flow}
 use Rattle.semantics.proofs.VertexLaws.{op_nothing, op_cut}
 use Rattle.semantics.proofs.RankRises.{StepRises, step_rises, rises_from_nested}
 use Rattle.semantics.proofs.VertexFlows.{last-deeper}
+use Rattle.machine.specs.Network.{Network}
+use Rattle.machine.specs.Active.{sum_below}
 use Rattle.machine.specs.Engine.{network}
-use Rattle.machine.specs.Network.{Network, ins}
-use Rattle.machine.specs.Sums.{sum_below}
+use Rattle.machine.proofs.NetFlow.{ins}
 use Rattle.machine.proofs.Counting.{count-append, counted-end_to_end, total_same}
-use Rattle.machine.proofs.Laws.{IsNetwork, times_in, all_parts, CutByKey}
+use Rattle.machine.proofs.Laws.{IsOutput, IsNetwork, times_in, all_parts, CutByKey}
 use Rattle.machine.proofs.NetFlow.{IsNetFlow, HasFlows}
 use Rattle.machine.proofs.Places.{same_time_tells, same_time_self}
 
 -- ---- roles
 
-role_source : (k : Kind) → role k ≡ Role.input → k ≡ Kind.input
-role_source Kind.input e = refl
-role_source Kind.output e = absurd cc
-role_source Kind.concat e = absurd cc
-role_source Kind.distinct e = absurd cc
-role_source Kind.ingress e = absurd cc
-role_source Kind.egress e = absurd cc
-role_source Kind.feedback e = absurd cc
-role_source (Kind.select ss) e = absurd cc
-role_source (Kind.filter c) e = absurd cc
-role_source (Kind.join ps) e = absurd cc
-role_source (Kind.group ks as') e = absurd cc
-role_source (Kind.gate n) e = absurd cc
-role_source (Kind.hold n) e = absurd cc
+role_input : (k : Kind) → role k ≡ Role.input → k ≡ Kind.input
+role_input Kind.input e = refl
+role_input Kind.output e = absurd cc
+role_input Kind.concat e = absurd cc
+role_input Kind.distinct e = absurd cc
+role_input Kind.ingress e = absurd cc
+role_input Kind.egress e = absurd cc
+role_input Kind.feedback e = absurd cc
+role_input (Kind.select ss) e = absurd cc
+role_input (Kind.filter c) e = absurd cc
+role_input (Kind.join ps) e = absurd cc
+role_input (Kind.group ks as') e = absurd cc
+role_input (Kind.gate n) e = absurd cc
+role_input (Kind.hold n) e = absurd cc
 
-role_sink : (k : Kind) → role k ≡ Role.output → k ≡ Kind.output
-role_sink Kind.input e = absurd cc
-role_sink Kind.output e = refl
-role_sink Kind.concat e = absurd cc
-role_sink Kind.distinct e = absurd cc
-role_sink Kind.ingress e = absurd cc
-role_sink Kind.egress e = absurd cc
-role_sink Kind.feedback e = absurd cc
-role_sink (Kind.select ss) e = absurd cc
-role_sink (Kind.filter c) e = absurd cc
-role_sink (Kind.join ps) e = absurd cc
-role_sink (Kind.group ks as') e = absurd cc
-role_sink (Kind.gate n) e = absurd cc
-role_sink (Kind.hold n) e = absurd cc
+role_output : (k : Kind) → role k ≡ Role.output → k ≡ Kind.output
+role_output Kind.input e = absurd cc
+role_output Kind.output e = refl
+role_output Kind.concat e = absurd cc
+role_output Kind.distinct e = absurd cc
+role_output Kind.ingress e = absurd cc
+role_output Kind.egress e = absurd cc
+role_output Kind.feedback e = absurd cc
+role_output (Kind.select ss) e = absurd cc
+role_output (Kind.filter c) e = absurd cc
+role_output (Kind.join ps) e = absurd cc
+role_output (Kind.group ks as') e = absurd cc
+role_output (Kind.gate n) e = absurd cc
+role_output (Kind.hold n) e = absurd cc
 
-role_grouping : (k : Kind) → role k ≡ Role.notified → in_ports k ≡ 1
-role_grouping Kind.input e = absurd cc
-role_grouping Kind.output e = refl
-role_grouping Kind.concat e = absurd cc
-role_grouping Kind.distinct e = refl
-role_grouping Kind.ingress e = refl
-role_grouping Kind.egress e = refl
-role_grouping Kind.feedback e = refl
-role_grouping (Kind.select ss) e = refl
-role_grouping (Kind.filter c) e = refl
-role_grouping (Kind.join ps) e = absurd cc
-role_grouping (Kind.group ks as') e = refl
-role_grouping (Kind.gate n) e = refl
-role_grouping (Kind.hold n) e = refl
+role_notified : (k : Kind) → role k ≡ Role.notified → in_ports k ≡ 1
+role_notified Kind.input e = absurd cc
+role_notified Kind.output e = refl
+role_notified Kind.concat e = absurd cc
+role_notified Kind.distinct e = refl
+role_notified Kind.ingress e = refl
+role_notified Kind.egress e = refl
+role_notified Kind.feedback e = refl
+role_notified (Kind.select ss) e = refl
+role_notified (Kind.filter c) e = refl
+role_notified (Kind.join ps) e = absurd cc
+role_notified (Kind.group ks as') e = refl
+role_notified (Kind.gate n) e = refl
+role_notified (Kind.hold n) e = refl
 
 role_grows : (k : Kind) → role k ≢ Role.notified → Grows k
 role_grows (Kind.group ks as') n = absurd (n refl)
@@ -101,9 +102,9 @@ source_no_keys : (k : Kind) → k ≡ Kind.input → HasKeys k → ⊥
 source_no_keys k e (inl h) = let x : Role.input ≡ Role.stateful = sym (ap role e) ∙ h in cc
 source_no_keys k e (inr h) = let x : Role.input ≡ Role.notified = sym (ap role e) ∙ h in cc
 
-sink_no_keys : (k : Kind) → k ≡ Kind.output → HasKeys k → ⊥
-sink_no_keys k e (inl h) = let x : Role.output ≡ Role.stateful = sym (ap role e) ∙ h in cc
-sink_no_keys k e (inr h) = let x : Role.output ≡ Role.notified = sym (ap role e) ∙ h in cc
+output_no_keys : (k : Kind) → k ≡ Kind.output → HasKeys k → ⊥
+output_no_keys k e (inl h) = let x : Role.output ≡ Role.stateful = sym (ap role e) ∙ h in cc
+output_no_keys k e (inr h) = let x : Role.output ≡ Role.notified = sym (ap role e) ∙ h in cc
 
 has_route_key : (k : Kind) → HasKeys k → (port : ℕ) → (key : Record → Record) × (route_key k port ≡ Some key)
 has_route_key (Kind.join ps) h zero = (_, refl)
@@ -111,7 +112,7 @@ has_route_key (Kind.join ps) h (suc port) = (_, refl)
 has_route_key (Kind.group ks as') h port = (_, refl)
 has_route_key Kind.distinct h port = (_, refl)
 has_route_key Kind.input h port = absurd (source_no_keys Kind.input refl h)
-has_route_key Kind.output h port = absurd (sink_no_keys Kind.output refl h)
+has_route_key Kind.output h port = absurd (output_no_keys Kind.output refl h)
 has_route_key Kind.concat h port = absurd (neither Role.stateless refl h)
 has_route_key Kind.ingress h port = absurd (neither Role.stateless refl h)
 has_route_key Kind.egress h port = absurd (neither Role.stateless refl h)
@@ -337,26 +338,38 @@ module _ (g : Graph) (flows : IsDataflow g) (workers : ℕ) (some : 0 < workers)
   feeder_known : (e : ℕ) → e < edge_count g → (edge_source g e).vertex < length g
   feeder_known e l = let k = entered g e l in flows.wired.fed (target g e) (in_port g e) k.known k.port
 
-  no_source_target : (e : ℕ) → e < edge_count g → role (kind (target g e)) ≢ Role.input
-  no_source_target e l s =
+  no_input_target : (e : ℕ) → e < edge_count g → role (kind (target g e)) ≢ Role.input
+  no_input_target e l s =
       let k = entered g e l in
       let p = k.port in
-      let z : length (vertex g (target g e)).ins ≡ 0 = full (target g e) k.known ∙ ap in_ports (role_source (kind (target g e)) s) in
+      let z : length (vertex g (target g e)).ins ≡ 0 = full (target g e) k.known ∙ ap in_ports (role_input (kind (target g e)) s) in
       omega arith
 
-  no_sink_source : (e : ℕ) → e < edge_count g → role (kind (edge_source g e).vertex) ≢ Role.output
-  no_sink_source e l s =
-      let o = role_sink (kind (edge_source g e).vertex) s in
+  no_output_source : (e : ℕ) → e < edge_count g → role (kind (edge_source g e).vertex) ≢ Role.output
+  no_output_source e l s =
+      let o = role_output (kind (edge_source g e).vertex) s in
       let v : (edge_source g e).vertex ≡ output_number g = flows.shaped.output_last (edge_source g e).vertex (feeder_known e l) o in
       let up : (edge_source g e).vertex < target g e = goes_up flows.loops (edge_source g e).vertex (target g e) _ (goes_at e l) (ap action o) in
       let k = (entered g e l).known in
       omega arith
 
-  grouping_known : (v : ℕ) → HasKeys (kind v) → v < length g
-  grouping_known v h = known_kind g v (λ e. sink_no_keys (kind v) e h)
+  keyed_known : (v : ℕ) → HasKeys (kind v) → v < length g
+  keyed_known v h = known_kind g v (λ e. output_no_keys (kind v) e h)
 
-  output_known : output_number g < length g
-  output_known = let s = flows.shaped.some in omega arith
+  -- the output's vertex
+  pub output_is : IsOutput net (output_number g)
+  output_is =
+      let s = flows.shaped.some in
+      let p : length (vertex g (output_number g)).ins ≡ 1 = full (output_number g) (omega arith) ∙ ap in_ports flows.shaped.has_output in
+      (ap role flows.shaped.has_output, omega arith)
+
+  -- beyond the last vertex there are no ports
+  has_port : (v : ℕ) → 0 < length (vertex g v).ins → v < length g
+  has_port v l = by (known_or_none g v)
+    where
+      by : (v < length g) ⊎ (vertex g v ≡ no_vertex) → v < length g
+      by (inl x) = x
+      by (inr e) = absurd (let z : length (vertex g v).ins ≡ 0 = ap (λ (x : Vertex). length x.ins) e in omega arith)
 
   home_keyed : (e : ℕ) (k : ℕ) (r : Record) (key : Record → Record) → route_key (kind (target g e)) (in_port g e) ≡ Some key → home g workers k e r ≡ route (key r) workers
   home_keyed e k r key s = ap (λ x. home_by x (is_input (kind (edge_source g e).vertex)) workers k r) s
@@ -392,7 +405,7 @@ module _ (g : Graph) (flows : IsDataflow g) (workers : ℕ) (some : 0 < workers)
       ∙ counted-end_to_end (λ k. op (kind v) t (part k) q) workers r
     where
       ports : (p : ℕ) → p < in_ports (kind v) → p < length (vertex g v).ins
-      ports p l = omega (arith, full v (grouping_known v h), l)
+      ports p l = omega (arith, full v (keyed_known v h), l)
 
       -- the worker of a key is where its records are
       at : (i p : ℕ) (f : Record → Record) (k : Record) → i < workers → p < length (vertex g v).ins → route_key (kind v) p ≡ Some f → 0 < count k (map f (part i p)) → i ≡ route k workers
@@ -426,9 +439,9 @@ module _ (g : Graph) (flows : IsDataflow g) (workers : ℕ) (some : 0 < workers)
   fits_leave : (e : ℕ) (t : Time) → e < edge_count g → IsTimeAt g (Location.vertex (edge_source g e).vertex) t → IsTimeAt g (Location.edge e) (after_action (action (kind (edge_source g e).vertex)) t)
   fits_leave e t l f = step_fits g flows.loops flows.wired flows.nested (PathStep.leaves e) t l f
 
-  fits_source : (v n : ℕ) → role (kind v) ≡ Role.input → IsTimeAt g (Location.vertex v) (at_epoch n)
-  fits_source v n s =
-      let i = role_source (kind v) s in
+  fits_input : (v n : ℕ) → role (kind v) ≡ Role.input → IsTimeAt g (Location.vertex v) (at_epoch n)
+  fits_input v n s =
+      let i = role_input (kind v) s in
       let l : v < length g = known_kind g v (λ e. let x : Kind.input ≡ Kind.output = sym i ∙ e in cc) in
       (l, sym (flows.shaped.flat v l (inl i)))
 
@@ -440,18 +453,16 @@ module _ (g : Graph) (flows : IsDataflow g) (workers : ℕ) (some : 0 < workers)
         into_is_edge = λ v p l. (into g v p l).edge;
         target_into = λ v p l. (into g v p l).vertex;
         port_into = λ v p l. (into g v p l).port;
-        no_source_target = no_source_target;
-        no_sink_source = no_sink_source;
-        one_port = λ v s. full v (grouping_known v (inr s)) ∙ role_grouping (kind v) s;
-        output_port = full (output_number g) output_known ∙ ap in_ports flows.shaped.has_output;
-        only_output = λ e l s. flows.shaped.output_last (target g e) (entered g e l).known (role_sink (kind (target g e)) s);
-        output_sink = ap role flows.shaped.has_output;
-        input_is_source = λ i l. ap role (input_kind g i l);
-        source_is_input = λ v s. flows.shaped.inputs_first v (fits_source v 0 s).0 (role_source (kind v) s);
+        no_input_target = no_input_target;
+        no_output_source = no_output_source;
+        one_port = λ v s. full v (keyed_known v (inr s)) ∙ role_notified (kind v) s;
+        output_port = λ v is. full v (has_port v is.1) ∙ ap in_ports (role_output (kind v) is.0);
+        input_has_role = λ i l. ap role (input_kind g i l);
+        role_is_input = λ v s. flows.shaped.inputs_first v (fits_input v 0 s).0 (role_input (kind v) s);
         has_worker = some;
         routed = λ k e r l. home_below (route_key (kind (target g e)) (in_port g e)) (is_input (kind (edge_source g e).vertex)) workers k r l;
         by_key = by_key;
-        source_act = λ v t s. ap (λ x. after_action (action x) t) (role_source (kind v) s);
+        input_act = λ v t s. ap (λ x. after_action (action x) t) (role_input (kind v) s);
         before_once = λ v t u. sources_once (action (kind v)) t u;
         before_acts = before_acts;
         op_same = op_alike;
@@ -463,20 +474,20 @@ module _ (g : Graph) (flows : IsDataflow g) (workers : ℕ) (some : 0 < workers)
         fits_into = λ v p t l f. let w = into g v p l in (w.edge, f.1 ∙ sym (ap (λ x. (vertex g x).depth) w.vertex));
         fits_leave = fits_leave;
         fits_back = fits_back;
-        fits_source = fits_source;
-        fits_output = λ n. (output_known, sym (flows.shaped.flat (output_number g) output_known (inr flows.shaped.has_output)));
+        fits_input = fits_input;
+        fits_output = λ v n is. (has_port v is.1, sym (flows.shaped.flat v (has_port v is.1) (inr (role_output (kind v) is.0))));
         could_self = λ p f. could_self g flows.loops flows.wired flows.nested p f;
         could_on = λ p q s a b. could_on g flows.loops flows.wired flows.nested p q s a b;
         could_fits = λ p q a. a.ends;
         could_enter = λ e t l f. record { starts = f; ends = fits_enter e t l f; path = PathStep.enters e ∷ []; leads = (l, refl, refl); in_time = at_most_refl t };
         could_leave = λ e t l f. record { starts = f; ends = fits_leave e t l f; path = PathStep.leaves e ∷ []; leads = (l, refl, refl); in_time = at_most_refl _ };
-        could_later = λ v n s. record { starts = fits_source v n s; ends = fits_source v (n + 1) s; path = []; leads = refl; in_time = record { epochs = omega arith; counters = inl refl } };
+        could_later = λ v n s. record { starts = fits_input v n s; ends = fits_input v (n + 1) s; path = []; leads = refl; in_time = record { epochs = omega arith; counters = inl refl } };
         founded = λ p. could_founded g flows.loops flows.wired flows.nested p;
       }
 
   -- ---- the flow
 
-  place_at : (e : ℕ) (t : Time) → e < edge_count g → IsTimeAt g (Location.edge e) t → IsEdgeTime g (target g e) (in_port g e) t
+  pub place_at : (e : ℕ) (t : Time) → e < edge_count g → IsTimeAt g (Location.edge e) t → IsEdgeTime g (target g e) (in_port g e) t
   place_at e t l f = let k = entered g e l in record { is_vertex = k.known; is_port = k.port; has_depth = f.1 }
 
   not_input_sends : (inputs : Inputs) (k : Kind) (f : Flow) (v out : ℕ) (u : Time) → role k ≢ Role.input → sent_or_fed inputs k f v out u ≡ sent_by k f v out u
@@ -503,7 +514,7 @@ module _ (g : Graph) (flows : IsDataflow g) (workers : ℕ) (some : 0 < workers)
   net_flow fed f is =
       record {
         from_input = λ e t l fits s.
-            let i = role_source (kind (edge_source g e).vertex) s in
+            let i = role_input (kind (edge_source g e).vertex) s in
             let flat : length t.counters ≡ 0 =
             fits.1 ∙ sym (depth_home (target g e) (entered g e l).known)
             ∙ ap length (goes_flat flows.loops (edge_source g e).vertex (target g e) _ (goes_at e l) (ap action i))

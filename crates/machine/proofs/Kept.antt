@@ -3,12 +3,19 @@ use Rattle.std.specs.Prelude.{◌≡◌, ◌≢◌, ◌<◌, ℕ, ◌+◌, Bool,
 use Rattle.semantics.specs.Multiset.{total, Record, count, ◌≈◌, IsPartOf}
 use Rattle.semantics.specs.Time.{Time, same_time, at_epoch}
 use Rattle.semantics.specs.Could.{on_edge, at_vertex}
-use Rattle.machine.specs.Sums.{sum_below, each}
+use Rattle.machine.specs.Network.{Network}
+use Rattle.machine.specs.World.{Message, Request, Event, Held, World}
+use Rattle.machine.specs.Active.{sum_below, message_pointstamp, request_pointstamp}
+use Rattle.machine.specs.Frontier.{NoneBefore, NoOtherBefore, Passed}
+use Rattle.machine.proofs.NetFlow.{ins}
 use Rattle.semantics.specs.Kinds.{Role}
-use Rattle.machine.specs.Network.{Network, ins}
-use Rattle.machine.specs.World.{Message, Request, Event, Held, World, NoneBefore, NoOtherBefore, Passed, message_pointstamp, request_pointstamp}
-use Rattle.machine.proofs.Laws.{AtHome}
+use Rattle.machine.proofs.Laws.{AtHome, IsOutput}
 use Rattle.machine.proofs.NetFlow.{fed_at}
+
+-- each element has P
+abbrev pub each : {X : Type 0} → (X → Type 0) → List X → Type 0
+each P [] = Unit {0}
+each P (x ∷ xs) = P x × each P xs
 
 -- What the world doesn't tell: what each worker has processed, by edge and time, and which of its notifications it has processed.
 pub record History : Type 0 where
@@ -23,13 +30,13 @@ abbrev pub carried_by : ℕ → Time → Record → Event → ℕ
 carried_by e t r (Event.arrival m) = carried e t r m
 carried_by e t r (Event.notification n) = 0
 
-abbrev pub in_hand : ℕ → Time → Record → Held → ℕ
-in_hand e t r Held.nothing = 0
-in_hand e t r (Held.holding up event) = carried_by e t r event
+abbrev pub held_records : ℕ → Time → Record → Held → ℕ
+held_records e t r Held.nothing = 0
+held_records e t r (Held.holding up event) = carried_by e t r event
 
 -- under way to one worker
 abbrev pub under_way : World → ℕ → Time → Record → ℕ → ℕ
-under_way w e t r k = total (carried e t r) (w.mail k) + in_hand e t r (w.held k)
+under_way w e t r k = total (carried e t r) (w.mail k) + held_records e t r (w.held k)
 
 -- one request or notification of this vertex and time
 abbrev pub wished : ℕ → Time → Request → ℕ
@@ -39,12 +46,12 @@ abbrev pub wished_by : ℕ → Time → Event → ℕ
 wished_by v t (Event.arrival m) = 0
 wished_by v t (Event.notification n) = wished v t n
 
-abbrev pub wish_in_hand : ℕ → Time → Held → ℕ
-wish_in_hand v t Held.nothing = 0
-wish_in_hand v t (Held.holding up event) = wished_by v t event
+abbrev pub held_wish : ℕ → Time → Held → ℕ
+held_wish v t Held.nothing = 0
+held_wish v t (Held.holding up event) = wished_by v t event
 
 abbrev pub wishes : World → ℕ → Time → ℕ → ℕ
-wishes w v t k = total (wished v t) (w.requests k) + wish_in_hand v t (w.held k)
+wishes w v t k = total (wished v t) (w.requests k) + held_wish v t (w.held k)
 
 -- 1 where there is something
 abbrev pub some : List Record → ℕ
@@ -69,13 +76,13 @@ abbrev pub GoodEvent : Network → ℕ → Event → Type 0
 GoodEvent g k (Event.arrival m) = GoodMessage g k m
 GoodEvent g k (Event.notification n) = GoodRequest g n
 
-abbrev pub GoodHand : Network → ℕ → Held → Type 0
-GoodHand g k Held.nothing = Unit {0}
-GoodHand g k (Held.holding up event) = GoodEvent g k event
+abbrev pub GoodHeld : Network → ℕ → Held → Type 0
+GoodHeld g k Held.nothing = Unit {0}
+GoodHeld g k (Held.holding up event) = GoodEvent g k event
 
 -- the worker's notification was processed, or the worker holds it
 abbrev pub Due : World → History → ℕ → ℕ → Time → Type 0
-Due w h k v t = h.told k v t ≡ true ⊎ 0 < wish_in_hand v t (w.held k)
+Due w h k v t = h.told k v t ≡ true ⊎ 0 < held_wish v t (w.held k)
 
 pub record Kept (g : Network) (w : World) (h : History) : Type 0 where
   -- what was sent on an edge was processed, or is under way
@@ -86,22 +93,22 @@ pub record Kept (g : Network) (w : World) (h : History) : Type 0 where
   pub from_vertex : (e : ℕ) (u : Time) (r : Record) → e < g.edges → g.IsPointstamp (on_edge e u) → g.role (g.source e) ≢ Role.input →
       count r (w.sent e u) ≡ total (λ t. sum_below g.workers (made g h (g.source e) (g.out_port e) t r)) (g.times_before (g.source e) u)
   -- a group waits for its notification, exactly where it absorbed something and had none yet; all others are never told anything
-  pub notices : (k v : ℕ) (t : Time) → k < g.workers → g.role v ≡ Role.notified → wishes w v t k + bit (h.told k v t) ≡ some (h.done k (g.edge_into v 0) t)
+  pub notifications : (k v : ℕ) (t : Time) → k < g.workers → g.role v ≡ Role.notified → wishes w v t k + bit (h.told k v t) ≡ some (h.done k (g.edge_into v 0) t)
   pub always_told : (k v : ℕ) (t : Time) → g.role v ≢ Role.notified → h.told k v t ≡ true
   -- no more comes to a group that has its notification
   pub settled : (k v : ℕ) (t : Time) → k < g.workers → g.role v ≡ Role.notified → Due w h k v t → NoOtherBefore g w (at_vertex v t)
   pub at_home : (k e : ℕ) (t : Time) → k < g.workers → e < g.edges → g.role (g.target e) ≡ Role.stateful ⊎ g.role (g.target e) ≡ Role.notified → AtHome g k e (h.done k e t)
   pub good_mail : (k : ℕ) → k < g.workers → each (GoodMessage g k) (w.mail k)
   pub good_requests : (k : ℕ) → k < g.workers → each (GoodRequest g) (w.requests k)
-  pub good_hand : (k : ℕ) → k < g.workers → GoodHand g k (w.held k)
+  pub good_held : (k : ℕ) → k < g.workers → GoodHeld g k (w.held k)
   -- what the shards hold is what was processed
   pub shards : (k v p : ℕ) (t : Time) → k < g.workers → p < g.ports v → g.role v ≡ Role.stateful ⊎ g.role v ≡ Role.notified → w.absorbed k v p t ≡ h.done k (g.edge_into v p) t
-  -- what was emitted is what the output processed
-  pub output : (n : ℕ) (r : Record) → count r (w.emitted n) ≡ sum_below g.workers (λ k. count r (h.done k (g.edge_into g.output 0) (at_epoch n)))
+  -- what was emitted is what the output vertices processed
+  pub output : (v n : ℕ) (r : Record) → IsOutput g v → count r (w.emitted v n) ≡ sum_below g.workers (λ k. count r (h.done k (g.edge_into v 0) (at_epoch n)))
 
 -- the headline's parts, at a world whose inputs' records have this flow
 pub record Headline (g : Network) (w : World) (flow : ℕ → Time → List Record) : Type 0 where
   pub part : (e : ℕ) (t : Time) → e < g.edges → g.IsPointstamp (on_edge e t) → IsPartOf (w.sent e t) (flow e t)
   pub whole : (e : ℕ) (t : Time) → e < g.edges → g.IsPointstamp (on_edge e t) → NoneBefore g w (on_edge e t) → (w.sent e t) ≈ (flow e t)
-  pub emitted_part : (n : ℕ) → IsPartOf (w.emitted n) (flow (g.edge_into g.output 0) (at_epoch n))
-  pub emitted_whole : (n : ℕ) → Passed g w n → (w.emitted n) ≈ (flow (g.edge_into g.output 0) (at_epoch n))
+  pub emitted_part : (v n : ℕ) → IsOutput g v → IsPartOf (w.emitted v n) (flow (g.edge_into v 0) (at_epoch n))
+  pub emitted_whole : (v n : ℕ) → IsOutput g v → Passed g w v n → (w.emitted v n) ≈ (flow (g.edge_into v 0) (at_epoch n))

@@ -4,9 +4,9 @@ use mathlib.Core.WellFounded.{Acc}
 use Rattle.semantics.specs.Multiset.{total, Record, count, end_to_end, ◌≈◌, IsPartOf}
 use Rattle.semantics.specs.Time.{Time, same_time, at_epoch}
 use Rattle.semantics.specs.Could.{Pointstamp, on_edge, at_vertex}
-use Rattle.machine.specs.Sums.{sum_below}
-use Rattle.semantics.specs.Kinds.{Role}
 use Rattle.machine.specs.Network.{Network}
+use Rattle.machine.specs.Active.{sum_below}
+use Rattle.semantics.specs.Kinds.{Role}
 
 -- t is in the list exactly once
 abbrev pub times_in : Time → List Time → ℕ
@@ -28,6 +28,10 @@ CutByKey g v part = (k p : ℕ) → k < g.workers → p < g.ports v → AtHome g
 abbrev pub Lower : Network → Pointstamp → Pointstamp → Type 0
 Lower g p q = g.Could p q × (p ≢ q)
 
+-- an output vertex of the graph; beyond the last vertex there are no ports
+abbrev pub IsOutput : Network → ℕ → Type 0
+IsOutput g v = (g.role v ≡ Role.output) × (0 < g.ports v)
+
 pub record IsNetwork (g : Network) : Type 0 where
   -- edges and ports
   pub target_ports : (e : ℕ) → e < g.edges → g.in_port e < g.ports (g.target e)
@@ -35,19 +39,17 @@ pub record IsNetwork (g : Network) : Type 0 where
   pub into_is_edge : (v p : ℕ) → p < g.ports v → g.edge_into v p < g.edges
   pub target_into : (v p : ℕ) → p < g.ports v → g.target (g.edge_into v p) ≡ v
   pub port_into : (v p : ℕ) → p < g.ports v → g.in_port (g.edge_into v p) ≡ p
-  pub no_source_target : (e : ℕ) → e < g.edges → g.role (g.target e) ≢ Role.input
-  pub no_sink_source : (e : ℕ) → e < g.edges → g.role (g.source e) ≢ Role.output
+  pub no_input_target : (e : ℕ) → e < g.edges → g.role (g.target e) ≢ Role.input
+  pub no_output_source : (e : ℕ) → e < g.edges → g.role (g.source e) ≢ Role.output
   pub one_port : (v : ℕ) → g.role v ≡ Role.notified → g.ports v ≡ 1
-  pub output_port : g.ports g.output ≡ 1
-  pub only_output : (e : ℕ) → e < g.edges → g.role (g.target e) ≡ Role.output → g.target e ≡ g.output
-  pub output_sink : g.role g.output ≡ Role.output
-  pub input_is_source : (i : ℕ) → i < g.inputs → g.role i ≡ Role.input
-  pub source_is_input : (i : ℕ) → g.role i ≡ Role.input → i < g.inputs
+  pub output_port : (v : ℕ) → IsOutput g v → g.ports v ≡ 1
+  pub input_has_role : (i : ℕ) → i < g.inputs → g.role i ≡ Role.input
+  pub role_is_input : (i : ℕ) → g.role i ≡ Role.input → i < g.inputs
   pub has_worker : 0 < g.workers
   pub routed : (k e : ℕ) (r : Record) → k < g.workers → g.home k e r < g.workers
   -- a record goes by key alone, where the vertex has keys
   pub by_key : (k j e : ℕ) (r : Record) → (g.role (g.target e) ≡ Role.stateful) ⊎ (g.role (g.target e) ≡ Role.notified) → g.home k e r ≡ g.home j e r
-  pub source_act : (v : ℕ) (t : Time) → g.role v ≡ Role.input → g.act v t ≡ t
+  pub input_act : (v : ℕ) (t : Time) → g.role v ≡ Role.input → g.act v t ≡ t
   -- each time is once among those that its action's value comes from, or never
   pub before_once : (v : ℕ) (t u : Time) → times_in t (g.times_before v u) ≡ 0 ⊎ times_in t (g.times_before v u) ≡ 1
   pub before_acts : (e : ℕ) (t u : Time) → e < g.edges → g.IsPointstamp (on_edge e u) → 0 < times_in t (g.times_before (g.source e) u) → g.act (g.source e) t ≡ u
@@ -65,8 +67,8 @@ pub record IsNetwork (g : Network) : Type 0 where
   pub fits_into : (v p : ℕ) (t : Time) → p < g.ports v → g.IsPointstamp (at_vertex v t) → g.IsPointstamp (on_edge (g.edge_into v p) t)
   pub fits_leave : (e : ℕ) (t : Time) → e < g.edges → g.IsPointstamp (at_vertex (g.source e) t) → g.IsPointstamp (on_edge e (g.act (g.source e) t))
   pub fits_back : (e : ℕ) (t u : Time) → e < g.edges → g.IsPointstamp (on_edge e u) → 0 < times_in t (g.times_before (g.source e) u) → g.IsPointstamp (at_vertex (g.source e) t)
-  pub fits_source : (v n : ℕ) → g.role v ≡ Role.input → g.IsPointstamp (at_vertex v (at_epoch n))
-  pub fits_output : (n : ℕ) → g.IsPointstamp (at_vertex g.output (at_epoch n))
+  pub fits_input : (v n : ℕ) → g.role v ≡ Role.input → g.IsPointstamp (at_vertex v (at_epoch n))
+  pub fits_output : (v n : ℕ) → IsOutput g v → g.IsPointstamp (at_vertex v (at_epoch n))
   -- could result in
   pub could_self : (p : Pointstamp) → g.IsPointstamp p → g.Could p p
   pub could_on : (p q s : Pointstamp) → g.Could p q → g.Could q s → g.Could p s

@@ -1,32 +1,35 @@
 -- The log of a run justifies each pointstamp that a step makes active.
-use Rattle.std.proofs.Common.{◌≡◌, ◌≢◌, ◌<◌, ℕ, zero, suc, ◌+◌, Bool, true, false, List, [], ◌∷◌, ◌⊎◌, inl, inr, refl, sym, ap, ◌∙◌, subst, arith, slice_get, Some}
+use Rattle.std.proofs.Common.{◌≡◌, ◌≢◌, ◌≤◌, ◌<◌, ℕ, zero, suc, ◌+◌, Bool, false, List, [], ◌∷◌, ◌⊎◌, inl, inr, refl, sym, ap, ◌∙◌, subst, arith, slice_get, Some}
 use Rattle.semantics.specs.Multiset.{total, Record}
-use Rattle.semantics.specs.Could.{Pointstamp, on_edge, at_vertex}
+use Rattle.semantics.specs.Could.{Pointstamp, Location, on_edge, at_vertex}
 use Rattle.semantics.specs.Time.{Time, at_epoch}
-use Rattle.machine.specs.Active.{one_if_same, active_count, parcel_count, step_adds, step_removes, step_sender}
-use Rattle.semantics.specs.Kinds.{Role}
 use Rattle.machine.specs.Network.{Network}
-use Rattle.machine.specs.Engine.{Run}
-use Rattle.machine.specs.Step.{event_vertex, event_time, Step, parcels, asked, Allowed, after_step}
-use Rattle.machine.specs.Sums.{put}
-use Rattle.machine.specs.Views.{Changes, all_adds, all_removes, IsThere, InOrder, ViewNoneBefore, ViewNoOtherBefore, log_of}
-use Rattle.machine.specs.World.{Request, Event, World, opening, IsActive, NoneBefore, NoOtherBefore, message_pointstamp, request_pointstamp, event_pointstamp}
-use Rattle.machine.proofs.Active.{one_is, one_self, below_some, total_some, counted, count_step}
-use Rattle.machine.proofs.Batches.{RemovedOrThere, Justified, IsLog}
+use Rattle.machine.specs.World.{Request, Event, World, opening}
+use Rattle.machine.specs.Active.{one_if_same, active_count, IsActive, message_pointstamp, request_pointstamp, event_pointstamp}
+use Rattle.machine.specs.Sending.{parcels}
+use Rattle.machine.specs.Processing.{event_vertex, event_time, asked}
+use Rattle.machine.specs.Step.{Step, Allowed, after_step}
+use Rattle.machine.specs.Run.{Run}
+use Rattle.machine.specs.Changes.{parcel_count, step_adds, step_removes, step_sender}
+use Rattle.machine.specs.Views.{all_adds, all_removes, IsThere}
+use Rattle.machine.specs.Posting.{AtInput, MayPost, content_after, ArePosted}
+use Rattle.machine.specs.RunViews.{changes_of, log_of}
+use Rattle.semantics.specs.Kinds.{Role}
+use Rattle.machine.proofs.Active.{one_tells, active, one_is, one_self, below_some, total_some, counted, count_step}
+use Rattle.machine.proofs.Posted.{posted_same}
 use Rattle.machine.proofs.Kept.{History, Kept, GoodEvent}
 use Rattle.machine.proofs.Laws.{Lower, IsNetwork}
 use Rattle.machine.proofs.NetFlow.{HasFlows}
 use Rattle.machine.proofs.Places.{edge_not_vertex}
-use Rattle.machine.proofs.Progress.{Good, active_fits, put_tells, reaches_vertex, vertex_fits, held_good, asked_place}
+use Rattle.machine.proofs.Progress.{Good, reaches_vertex, vertex_fits, held_good, asked_place}
 use Rattle.machine.proofs.Rank.{lower_through}
 use Rattle.machine.proofs.Runs.{keep_step, keep_opening, start}
 use Rattle.machine.proofs.Sending.{Parcel, parcels_good, fits_sent, each_at}
 use Rattle.machine.proofs.Steps.{good_of}
-use Rattle.machine.proofs.Views.{view_none_before, view_no_other_before}
 
--- a pointstamp that the step removes, or an input's that is active after it
+-- a pointstamp that the step removes, or, of the feeder's steps, an input's that is active
 abbrev From : Network → World → Step → Pointstamp → Type 0
-From g w step p = (0 < step_removes g w step p) ⊎ ((step_sender g step ≡ g.workers) × ((i : ℕ) × (g.role i ≡ Role.input) × ((after_step g w step).closed i ≡ false) × (p ≡ at_vertex i (at_epoch ((after_step g w step).open_epoch i)))))
+From g w step p = (0 < step_removes g w step p) ⊎ ((step_sender g step ≡ g.workers) × AtInput g.inputs p × (0 < active_count g w p))
 
 module _ (g : Network) (law : IsNetwork g) (w : World) (good : Good g w) where
   higher : (p q : Pointstamp) → g.Could p q → (p ≡ q → ⊥) → Lower g p q
@@ -47,12 +50,12 @@ module _ (g : Network) (law : IsNetwork g) (w : World) (good : Good g w) where
       let c'' = subst (λ (x : Time). g.Could (at_vertex v t) (on_edge b.1.edge x)) (sym p.when) c' in
       (b.1.edge, b.1.time, is, subst (λ (x : Pointstamp). g.Could (at_vertex v t) x) (sym is) c'')
 
-  from_feed : (i : ℕ) (r : Record) → Allowed g w (Step.feed i r) → (q : Pointstamp) → 0 < step_adds g w (Step.feed i r) q → (p : Pointstamp) × Lower g p q × g.Could p q × From g w (Step.feed i r) p
-  from_feed i r ok q l =
+  from_feed : (i : ℕ) (rs : List Record) → Allowed g w (Step.feed i rs) → (q : Pointstamp) → 0 < step_adds g w (Step.feed i rs) q → (p : Pointstamp) × Lower g p q × g.Could p q × From g w (Step.feed i rs) p
+  from_feed i rs ok q l =
       let u : Time = at_epoch (w.open_epoch i) in
-      let l' : 0 < parcel_count g 0 i (g.act i u) (λ q. r ∷ []) q = subst (λ (x : Time). 0 < parcel_count g 0 i x (λ q. r ∷ []) q) (sym (law.source_act i u ok.0)) l in
-      let a = sent_from 0 i u (λ q. r ∷ []) (law.fits_source i (w.open_epoch i) ok.0) q l' in
-      (at_vertex i u, higher (at_vertex i u) q a.3 (λ e. edge_not_vertex a.0 i a.1 u (sym (e ∙ a.2))), a.3, inr (refl, (i, ok.0, ok.1, refl)))
+      let l' : 0 < parcel_count g 0 i (g.act i u) (λ q. rs) q = subst (λ (x : Time). 0 < parcel_count g 0 i x (λ q. rs) q) (sym (law.input_act i u ok.0.0)) l in
+      let a = sent_from 0 i u (λ q. rs) (law.fits_input i (w.open_epoch i) ok.0.0) q l' in
+      (at_vertex i u, higher (at_vertex i u) q a.3 (λ e. edge_not_vertex a.0 i a.1 u (sym (e ∙ a.2))), a.3, inr (refl, (i, law.role_is_input i ok.0.0, refl), counted g law w (at_vertex i u) (IsActive.of_input i ok.0.0 ok.0.1)))
 
   from_seal : (i : ℕ) → Allowed g w (Step.seal i) → (q : Pointstamp) → 0 < step_adds g w (Step.seal i) q → (p : Pointstamp) × Lower g p q × g.Could p q × From g w (Step.seal i) p
   from_seal i ok q l =
@@ -96,7 +99,7 @@ module _ (g : Network) (law : IsNetwork g) (w : World) (good : Good g w) where
           (event_pointstamp event, subst (λ (x : Pointstamp). Lower g (event_pointstamp event) x) (sym is) (request event b.0 b.1 b.2 (asked_place g law w good k event b.0 b.1 b.2) reach), subst (λ (x : Pointstamp). g.Could (event_pointstamp event) x) (sym is) reach, inl gone)
 
   from_step : (step : Step) → Allowed g w step → (q : Pointstamp) → 0 < step_adds g w step q → (p : Pointstamp) × Lower g p q × g.Could p q × From g w step p
-  from_step (Step.feed i r) ok q l = from_feed i r ok q l
+  from_step (Step.feed i rs) ok q l = from_feed i rs ok q l
   from_step (Step.seal i) ok q l = from_seal i ok q l
   from_step (Step.close i) ok q l = absurd (omega arith)
   from_step (Step.claim_message k at m) ok q l = absurd (omega arith)
@@ -104,56 +107,86 @@ module _ (g : Network) (law : IsNetwork g) (w : World) (good : Good g w) where
   from_step (Step.commit k event out) ok q l = from_commit k event out ok q l
   from_step (Step.abandon k event) ok q l = absurd (omega arith)
 
-stays_one : (g : Network) (step : Step) (w : World) → Allowed g w step → (i : ℕ) → g.role i ≡ Role.input → w.closed i ≡ false → (p : Pointstamp) → p ≡ at_vertex i (at_epoch (w.open_epoch i))
-    → ((step_sender g step ≡ g.workers) × (0 < step_removes g w step p)) ⊎ (((after_step g w step).closed i ≡ false) × (p ≡ at_vertex i (at_epoch ((after_step g w step).open_epoch i))))
-stays_one g (Step.feed j r) w ok i s c p is = inr (c, is)
-stays_one g (Step.claim_message k at m) w ok i s c p is = inr (c, is)
-stays_one g (Step.claim_request k at n) w ok i s c p is = inr (c, is)
-stays_one g (Step.commit k event out) w ok i s c p is = inr (c, is)
-stays_one g (Step.abandon k event) w ok i s c p is = inr (c, is)
-stays_one g (Step.seal j) w ok i s c p is = go (put_tells w.open_epoch j (w.open_epoch j + 1) i)
-  where
-    go : ((i ≡ j) × (put w.open_epoch j (w.open_epoch j + 1) i ≡ w.open_epoch j + 1)) ⊎ ((i ≢ j) × (put w.open_epoch j (w.open_epoch j + 1) i ≡ w.open_epoch i)) → ((g.workers ≡ g.workers) × (0 < one_if_same p (at_vertex j (at_epoch (w.open_epoch j))))) ⊎ ((w.closed i ≡ false) × (p ≡ at_vertex i (at_epoch (put w.open_epoch j (w.open_epoch j + 1) i))))
-    go (inl (x, y)) = inl (refl, (let z : one_if_same p (at_vertex j (at_epoch (w.open_epoch j))) ≡ 1 = ap (λ o. one_if_same o (at_vertex j (at_epoch (w.open_epoch j)))) (is ∙ ap (λ n. at_vertex n (at_epoch (w.open_epoch n))) x) ∙ one_self (at_vertex j (at_epoch (w.open_epoch j))) in omega arith))
-    go (inr (x, y)) = inr (c, is ∙ ap (λ n. at_vertex i (at_epoch n)) (sym y))
-stays_one g (Step.close j) w ok i s c p is = go (put_tells w.closed j true i)
-  where
-    go : ((i ≡ j) × (put w.closed j true i ≡ true)) ⊎ ((i ≢ j) × (put w.closed j true i ≡ w.closed i)) → ((g.workers ≡ g.workers) × (0 < one_if_same p (at_vertex j (at_epoch (w.open_epoch j))))) ⊎ ((put w.closed j true i ≡ false) × (p ≡ at_vertex i (at_epoch (w.open_epoch i))))
-    go (inl (x, y)) = inl (refl, (let z : one_if_same p (at_vertex j (at_epoch (w.open_epoch j))) ≡ 1 = ap (λ o. one_if_same o (at_vertex j (at_epoch (w.open_epoch j)))) (is ∙ ap (λ n. at_vertex n (at_epoch (w.open_epoch n))) x) ∙ one_self (at_vertex j (at_epoch (w.open_epoch j))) in omega arith))
-    go (inr (x, y)) = inr (y ∙ c, is)
+  -- a step's changes may be posted
+  pub may_post : (step : Step) → Allowed g w step → (applied : Bool) → MayPost g.Could g.inputs g.workers (active_count g w) (changes_of g w step applied)
+  may_post step ok applied = record { there = λ p. there step ok p; justified = λ q l. go q (from_step step ok q l); feeder_only = λ p at l. feeder step ok p at l }
+    where
+      go : (q : Pointstamp) → (p : Pointstamp) × Lower g p q × g.Could p q × From g w step p → (p : Pointstamp) × (p ≢ q) × g.Could p q × From g w step p
+      go q (p, low, c, f) = (p, low.1, c, f)
 
--- an input's pointstamp stays until the feeder removes it
-input_stays : (g : Network) → (steps : List Step) (flags : List Bool) (w w' : World) → Run g w steps w' → (i : ℕ) → g.role i ≡ Role.input → w.closed i ≡ false → (p : Pointstamp) → p ≡ at_vertex i (at_epoch (w.open_epoch i))
-    → RemovedOrThere (IsActive g w') g.workers (log_of g w steps flags) p
-input_stays g [] flags w w' run i s c p is = subst (λ (x : World). IsActive g x p) run (subst (IsActive g w) (sym is) (IsActive.of_input i s c))
-input_stays g (step ∷ steps) [] w w' run i s c p is = go (stays_one g step w run.0 i s c p is) (input_stays g steps [] (after_step g w step) w' run.1 i s)
-  where
-    go : ((step_sender g step ≡ g.workers) × (0 < step_removes g w step p)) ⊎ (((after_step g w step).closed i ≡ false) × (p ≡ at_vertex i (at_epoch ((after_step g w step).open_epoch i))))
-        → ((after_step g w step).closed i ≡ false → (p : Pointstamp) → p ≡ at_vertex i (at_epoch ((after_step g w step).open_epoch i)) → RemovedOrThere (IsActive g w') g.workers (log_of g (after_step g w step) steps []) p)
-        → ((step_sender g step ≡ g.workers) × (0 < step_removes g w step p)) ⊎ RemovedOrThere (IsActive g w') g.workers (log_of g (after_step g w step) steps []) p
-    go (inl x) ih = inl x
-    go (inr (a, b)) ih = inr (ih a p b)
-input_stays g (step ∷ steps) (flag ∷ flags) w w' run i s c p is = go (stays_one g step w run.0 i s c p is) (input_stays g steps flags (after_step g w step) w' run.1 i s)
-  where
-    go : ((step_sender g step ≡ g.workers) × (0 < step_removes g w step p)) ⊎ (((after_step g w step).closed i ≡ false) × (p ≡ at_vertex i (at_epoch ((after_step g w step).open_epoch i))))
-        → ((after_step g w step).closed i ≡ false → (p : Pointstamp) → p ≡ at_vertex i (at_epoch ((after_step g w step).open_epoch i)) → RemovedOrThere (IsActive g w') g.workers (log_of g (after_step g w step) steps flags) p)
-        → ((step_sender g step ≡ g.workers) × (0 < step_removes g w step p)) ⊎ RemovedOrThere (IsActive g w') g.workers (log_of g (after_step g w step) steps flags) p
-    go (inl x) ih = inl x
-    go (inr (a, b)) ih = inr (ih a p b)
+      one : (p q : Pointstamp) → IsActive g w q → ((one_if_same p q ≡ 1) × (p ≡ q)) ⊎ ((one_if_same p q ≡ 0) × (p ≢ q)) → one_if_same p q ≤ active_count g w p
+      one p q a (inl (x, y)) = let c : 0 < active_count g w p = counted g law w p (subst (IsActive g w) (sym y) a) in omega arith
+      one p q a (inr (x, y)) = omega arith
 
-justify : (g : Network) (w : World) (step : Step) (steps : List Step) (flags : List Bool) (w' : World) → Run g (after_step g w step) steps w' → (q : Pointstamp)
-    → (p : Pointstamp) × Lower g p q × g.Could p q × From g w step p → (p : Pointstamp) × Lower g p q × g.Could p q × ((0 < step_removes g w step p) ⊎ ((step_sender g step ≡ g.workers) × RemovedOrThere (IsActive g w') g.workers (log_of g (after_step g w step) steps flags) p))
-justify g w step steps flags w' run q (p, low, c, inl x) = (p, low, c, inl x)
-justify g w step steps flags w' run q (p, low, c, inr x) = (p, low, c, inr (x.0, input_stays g steps flags (after_step g w step) w' run x.1.0 x.1.1 x.1.2 p x.1.3))
+      there : (step : Step) → Allowed g w step → (p : Pointstamp) → step_removes g w step p ≤ active_count g w p
+      there (Step.feed i rs) ok p = omega arith
+      there (Step.seal i) ok p = one p (at_vertex i (at_epoch (w.open_epoch i))) (IsActive.of_input i ok.0 ok.1) (one_tells p (at_vertex i (at_epoch (w.open_epoch i))))
+      there (Step.close i) ok p = one p (at_vertex i (at_epoch (w.open_epoch i))) (IsActive.of_input i ok.0 ok.1) (one_tells p (at_vertex i (at_epoch (w.open_epoch i))))
+      there (Step.claim_message k at m) ok p = omega arith
+      there (Step.claim_request k at n) ok p = omega arith
+      there (Step.commit k event out) ok p = one p (event_pointstamp event) (IsActive.of_held k false event ok.0 ok.1) (one_tells p (event_pointstamp event))
+      there (Step.abandon k event) ok p = omega arith
 
-justified_run : (g : Network) (law : IsNetwork g) → HasFlows g → (steps : List Step) (flags : List Bool) (w w' : World) (h : History) → Kept g w h → Run g w steps w' → Justified g g.workers (IsActive g w') (log_of g w steps flags)
-justified_run g law flows [] flags w w' h keeps run = tt
-justified_run g law flows (step ∷ steps) [] w w' h keeps run =
-    let next = keep_step g law flows w h keeps step run.0 in
-    (λ q l. justify g w step steps [] w' run.1 q (from_step g law w (good_of g law w h keeps) step run.0 q l), justified_run g law flows steps [] (after_step g w step) w' next.0 next.1 run.1)
-justified_run g law flows (step ∷ steps) (flag ∷ flags) w w' h keeps run =
-    let next = keep_step g law flows w h keeps step run.0 in
-    (λ q l. justify g w step steps flags w' run.1 q (from_step g law w (good_of g law w h keeps) step run.0 q l), justified_run g law flows steps flags (after_step g w step) w' next.0 next.1 run.1)
+      -- no event is at an input, and none comes there
+      elsewhere : (p : Pointstamp) (e : ℕ) (u : Time) → AtInput g.inputs p → p ≡ on_edge e u → ⊥
+      elsewhere p e u at is = let z : Location.edge e ≡ Location.vertex at.0 = sym (ap (λ (x : Pointstamp). x.location) is) ∙ at.2 in cc
+
+      input : (v : ℕ) (u : Time) (p : Pointstamp) → g.role v ≢ Role.input → AtInput g.inputs p → p ≡ at_vertex v u → ⊥
+      input v u p ne at is =
+          let z : Location.vertex v ≡ Location.vertex at.0 = sym (ap (λ (x : Pointstamp). x.location) is) ∙ at.2 in
+          let e : v ≡ at.0 = cc in
+          ne (ap g.role e ∙ law.input_has_role at.0 at.1)
+
+      removed : (k : ℕ) (event : Event) → GoodEvent g k event → (p : Pointstamp) → AtInput g.inputs p → p ≡ event_pointstamp event → ⊥
+      removed k (Event.arrival m) fine p at is = elsewhere p m.edge m.time at is
+      removed k (Event.notification n) fine p at is = input n.vertex n.time p (λ e. let z : Role.notified ≡ Role.input = sym fine.0 ∙ e in cc) at is
+
+      requested : (k : ℕ) (event : Event) → GoodEvent g k event → (p : Pointstamp) → AtInput g.inputs p → 0 < total (λ n. one_if_same p (request_pointstamp n)) (asked g w k event) → ⊥
+      requested k (Event.notification n) fine p at l = omega arith
+      requested k (Event.arrival m) fine p at l =
+          let b = total_some (asked g w k (Event.arrival m)) (λ n. one_if_same p (request_pointstamp n)) l in
+          input (g.target m.edge) m.time p (law.no_input_target m.edge fine.0) at (one_is p (request_pointstamp b.1) b.3 ∙ asked_place g law w good k (Event.arrival m) b.0 b.1 b.2)
+
+      by_commit : (k : ℕ) (event : Event) (out : ℕ → List Record) → Allowed g w (Step.commit k event out) → (p : Pointstamp) → AtInput g.inputs p → (a b : ℕ)
+          → parcel_count g k (event_vertex g event) (g.act (event_vertex g event) (event_time event)) out p ≡ a → total (λ n. one_if_same p (request_pointstamp n)) (asked g w k event) ≡ b
+          → 0 < a + b + one_if_same p (event_pointstamp event) → ⊥
+      by_commit k event out ok p at (suc a) b x y l =
+          let fine = held_good g law w good k event ok.0 ok.1 in
+          let s = sent_from k (event_vertex g event) (event_time event) out (vertex_fits g law w good k event fine) p (omega arith) in
+          elsewhere p s.0 s.1 at s.2
+      by_commit k event out ok p at zero (suc b) x y l = requested k event (held_good g law w good k event ok.0 ok.1) p at (omega arith)
+      by_commit k event out ok p at zero zero x y l = removed k event (held_good g law w good k event ok.0 ok.1) p at (one_is p (event_pointstamp event) (omega arith))
+
+      feeder : (step : Step) → Allowed g w step → (p : Pointstamp) → AtInput g.inputs p → 0 < step_adds g w step p + step_removes g w step p → step_sender g step ≡ g.workers
+      feeder (Step.feed i rs) ok p at l = refl
+      feeder (Step.seal i) ok p at l = refl
+      feeder (Step.close i) ok p at l = refl
+      feeder (Step.claim_message k place m) ok p at l = absurd (omega arith)
+      feeder (Step.claim_request k place n) ok p at l = absurd (omega arith)
+      feeder (Step.commit k event out) ok p at l = absurd (by_commit k event out ok p at _ _ refl refl l)
+      feeder (Step.abandon k event) ok p at l = absurd (omega arith)
+
+  -- and leave what is active after the step
+  pub counts_after : (step : Step) → Allowed g w step → (applied : Bool) → (p : Pointstamp) → content_after (active_count g w) (changes_of g w step applied) p ≡ active_count g (after_step g w step) p
+  counts_after step ok applied p =
+      let a : active_count g (after_step g w step) p + step_removes g w step p ≡ active_count g w p + step_adds g w step p = count_step g law w step ok p in
+      omega arith
+
+-- the changes of a run may be posted one after the other
+pub posted_run : (g : Network) (law : IsNetwork g) → HasFlows g → (steps : List Step) (flags : List Bool) (w w' : World) (h : History) → Kept g w h → Run g w steps w' → ArePosted g.Could g.inputs g.workers (active_count g w) (log_of g w steps flags)
+posted_run g law flows [] flags w w' h keeps run = tt
+posted_run g law flows (step ∷ steps) [] w w' h keeps run =
+    let next = keep_step g law flows w h keeps step run.0 in (
+      may_post g law w (good_of g law w h keeps) step run.0 false,
+      posted_same g.Could g.inputs g.workers (active_count g (after_step g w step)) (content_after (active_count g w) (changes_of g w step false)) (log_of g (after_step g w step) steps [])
+          (λ p. sym (counts_after g law w (good_of g law w h keeps) step run.0 false p)) (posted_run g law flows steps [] (after_step g w step) w' next.0 next.1 run.1),
+    )
+posted_run g law flows (step ∷ steps) (flag ∷ flags) w w' h keeps run =
+    let next = keep_step g law flows w h keeps step run.0 in (
+      may_post g law w (good_of g law w h keeps) step run.0 flag,
+      posted_same g.Could g.inputs g.workers (active_count g (after_step g w step)) (content_after (active_count g w) (changes_of g w step flag)) (log_of g (after_step g w step) steps flags)
+          (λ p. sym (counts_after g law w (good_of g law w h keeps) step run.0 flag p)) (posted_run g law flows steps flags (after_step g w step) w' next.0 next.1 run.1),
+    )
 
 -- the active pointstamps are the first ones, and what was added, without what was removed
 active_total : (g : Network) (law : IsNetwork g) (steps : List Step) (flags : List Bool) (w w' : World) → Run g w steps w' → (p : Pointstamp) → active_count g w' p + all_removes (log_of g w steps flags) p ≡ all_adds (active_count g w) (log_of g w steps flags) p
@@ -161,33 +194,13 @@ active_total g law [] flags w w' run p = let a : active_count g w p ≡ active_c
 active_total g law (step ∷ steps) [] w w' run p = let a = count_step g law w step run.0 p in let b = active_total g law steps [] (after_step g w step) w' run.1 p in omega arith
 active_total g law (step ∷ steps) (flag ∷ flags) w w' run p = let a = count_step g law w step run.0 p in let b = active_total g law steps flags (after_step g w step) w' run.1 p in omega arith
 
-removed_more : (there there' : Pointstamp → Type 0) (sender : ℕ) (log : List Changes) (p : Pointstamp) → ((q : Pointstamp) → there q → there' q) → RemovedOrThere there sender log p → RemovedOrThere there' sender log p
-removed_more there there' sender [] p f x = f p x
-removed_more there there' sender (b ∷ log) p f (inl x) = inl x
-removed_more there there' sender (b ∷ log) p f (inr x) = inr (removed_more there there' sender log p f x)
+module _ (g : Network) (law : IsNetwork g) (flows : HasFlows g) (steps : List Step) (flags : List Bool) (w : World) (run : Run g opening steps w) where
+  pub posted : ArePosted g.Could g.inputs g.workers (active_count g opening) (log_of g opening steps flags)
+  posted = posted_run g law flows steps flags opening w (start g) (keep_opening g law) run
 
-justified_more : (g : Network) (feeder : ℕ) (there there' : Pointstamp → Type 0) (log : List Changes) → ((q : Pointstamp) → there q → there' q) → Justified g feeder there log → Justified g feeder there' log
-justified_more g feeder there there' [] f x = tt
-justified_more g feeder there there' (b ∷ log) f x = (λ q l. go q (x.0 q l), justified_more g feeder there there' log f x.1)
-  where
-    go : (q : Pointstamp) → (p : Pointstamp) × Lower g p q × g.Could p q × ((0 < b.removes p) ⊎ ((b.sender ≡ feeder) × RemovedOrThere there feeder log p)) → (p : Pointstamp) × Lower g p q × g.Could p q × ((0 < b.removes p) ⊎ ((b.sender ≡ feeder) × RemovedOrThere there' feeder log p))
-    go q (p, low, c, inl y) = (p, low, c, inl y)
-    go q (p, low, c, inr (s, y)) = (p, low, c, inr (s, removed_more there there' feeder log p f y))
+  -- what is active is there by the changes, and the other way round
+  pub is_there : (q : Pointstamp) → IsActive g w q → IsThere (active_count g opening) (log_of g opening steps flags) q
+  is_there q x = let a = active_total g law steps flags opening w run q in let b = counted g law w q x in omega arith
 
-pub is_log : (g : Network) (law : IsNetwork g) → HasFlows g → (steps : List Step) (flags : List Bool) (w : World) → Run g opening steps w → IsLog g (active_count g opening) (log_of g opening steps flags)
-is_log g law flows steps flags w run =
-    record {
-      covered = λ p. let a = active_total g law steps flags opening w run p in omega arith;
-      justified = justified_more g g.workers (IsActive g w) _ (log_of g opening steps flags) (λ q x. let a = active_total g law steps flags opening w run q in let b = counted g law w q x in omega arith) (justified_run g law flows steps flags opening w (start g) (keep_opening g law) run);
-    }
-
--- what a view lets through, the world lets through
-pub view_sound : (g : Network) (law : IsNetwork g) → HasFlows g → (steps : List Step) (flags : List Bool) (w : World) → Run g opening steps w → (h : History) → Kept g w h → InOrder (log_of g opening steps flags)
-    → (p : Pointstamp) → (ViewNoneBefore g (active_count g opening) (log_of g opening steps flags) p → NoneBefore g w p) × (ViewNoOtherBefore g (active_count g opening) (log_of g opening steps flags) p → NoOtherBefore g w p)
-view_sound g law flows steps flags w run h keeps order p = (
-  λ none q x c. view_none_before g law (active_count g opening) (log_of g opening steps flags) (is_log g law flows steps flags w run) order p none q (active_fits g law w (good_of g law w h keeps) q x) (there q x) c,
-  λ none q x c. view_no_other_before g law (active_count g opening) (log_of g opening steps flags) (is_log g law flows steps flags w run) order p none q (active_fits g law w (good_of g law w h keeps) q x) (there q x) c,
-)
-  where
-    there : (q : Pointstamp) → IsActive g w q → IsThere (active_count g opening) (log_of g opening steps flags) q
-    there q x = let a = active_total g law steps flags opening w run q in let b = counted g law w q x in omega arith
+  pub is_active : (q : Pointstamp) → IsThere (active_count g opening) (log_of g opening steps flags) q → IsActive g w q
+  is_active q x = let a = active_total g law steps flags opening w run q in active g law w q (omega arith)

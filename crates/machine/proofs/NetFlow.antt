@@ -4,8 +4,12 @@ use Rattle.semantics.specs.Multiset.{total, Record, count, ◌≈◌}
 use Rattle.semantics.specs.Time.{Time, same_counters}
 use Rattle.semantics.specs.Could.{on_edge}
 use Rattle.semantics.specs.Kinds.{Role}
-use Rattle.machine.specs.Network.{Network, ins}
+use Rattle.machine.specs.Network.{Network}
 use Rattle.machine.proofs.Laws.{times_in}
+
+-- what the in ports of a vertex have at a time, where edges have these
+abbrev pub ins : Network → (ℕ → Time → List Record) → ℕ → Time → ℕ → List Record
+ins g edges v t p = edges (g.edge_into v p) t
 
 -- what an input has at a time
 abbrev pub fed_at : (ℕ → ℕ → List Record) → ℕ → Time → List Record

@@ -6,13 +6,16 @@ use Rattle.semantics.specs.Could.{at_vertex}
 use Rattle.semantics.specs.Time.{Time, same_time}
 use Rattle.semantics.proofs.MultisetSums.{same-refl, ≈-from}
 use Rattle.semantics.specs.Kinds.{Role}
-use Rattle.machine.specs.Network.{Network, ins}
-use Rattle.machine.specs.Step.{Step, parcels, Allowed, after_step}
-use Rattle.machine.specs.Sums.{put, each, sum_below}
+use Rattle.machine.specs.Network.{Network}
 use Rattle.machine.specs.World.{Request, Event, Held, World}
+use Rattle.machine.specs.Active.{sum_below}
+use Rattle.machine.specs.Sending.{parcels}
+use Rattle.machine.specs.Step.{Step, Allowed, after_step, put}
+use Rattle.machine.proofs.NetFlow.{ins}
+use Rattle.machine.proofs.Kept.{each}
 use Rattle.machine.proofs.Commits.{once, way_after, vertex_after}
 use Rattle.machine.proofs.Counting.{eqb_self, below_one}
-use Rattle.machine.proofs.Kept.{History, carried, under_way, wished, wish_in_hand, wishes, some, bit, made, Due, Kept, GoodMessage, GoodRequest, GoodHand}
+use Rattle.machine.proofs.Kept.{History, carried, under_way, wished, held_wish, wishes, some, bit, made, Due, Kept, GoodMessage, GoodRequest, GoodHeld}
 use Rattle.machine.proofs.Laws.{IsNetwork, times_in}
 use Rattle.machine.proofs.NetFlow.{HasFlows}
 use Rattle.machine.proofs.Places.{same_time_tells, same_time_self}
@@ -64,8 +67,8 @@ module _ (g : Network) (law : IsNetwork g) (w : World) (h : History) (keeps : Ke
   in_edge = law.into_is_edge n.vertex 0 in_port
 
   -- the worker had a wish, and was told nothing yet
-  wish_held : wish_in_hand n.vertex n.time (w.held k0) ≡ 1
-  wish_held = ap (wish_in_hand n.vertex n.time) ok.1 ∙ rw (eqb_self n.vertex, same_time_self n.time) refl
+  wish_held : held_wish n.vertex n.time (w.held k0) ≡ 1
+  wish_held = ap (held_wish n.vertex n.time) ok.1 ∙ rw (eqb_self n.vertex, same_time_self n.time) refl
 
   untold : h.told k0 n.vertex n.time ≡ false
   untold = go (h.told k0 n.vertex n.time) refl
@@ -73,7 +76,7 @@ module _ (g : Network) (law : IsNetwork g) (w : World) (h : History) (keeps : Ke
       go : (b : Bool) → h.told k0 n.vertex n.time ≡ b → h.told k0 n.vertex n.time ≡ false
       go false e = e
       go true e =
-          let a = keeps.notices k0 n.vertex n.time ok.0 group in
+          let a = keeps.notifications k0 n.vertex n.time ok.0 group in
           let b : bit (h.told k0 n.vertex n.time) ≡ 1 = ap bit e in
           let c = some_le (h.done k0 (g.edge_into n.vertex 0) n.time) in
           let d = wish_held in
@@ -81,7 +84,7 @@ module _ (g : Network) (law : IsNetwork g) (w : World) (h : History) (keeps : Ke
 
   counted_once : times_in n.time (g.times_before n.vertex (g.act n.vertex n.time)) ≡ 1
   counted_once =
-      let a = keeps.notices k0 n.vertex n.time ok.0 group in
+      let a = keeps.notifications k0 n.vertex n.time ok.0 group in
       let d = wish_held in
       let r = some_row (h.done k0 (g.edge_into n.vertex 0) n.time) (omega arith) in
       let b = keeps.balance (g.edge_into n.vertex 0) n.time r.0 in_edge in
@@ -111,8 +114,8 @@ module _ (g : Network) (law : IsNetwork g) (w : World) (h : History) (keeps : Ke
       (law.op_same n.vertex q n.time (λ p. w.absorbed k0 n.vertex p n.time) (ins g (h.done k0) n.vertex n.time) (λ p lp. ≈-from (keeps.shards k0 n.vertex p n.time ok.0 lp (inr group)))).counts r in
       omega arith
 
-  pub keep_notice : Kept g (after_step g w (Step.commit k0 (Event.notification n) out)) (history_told h k0 n)
-  keep_notice =
+  pub keep_notification : Kept g (after_step g w (Step.commit k0 (Event.notification n) out)) (history_told h k0 n)
+  keep_notification =
       record {
         balance = λ e t r le.
             let a = way_sent g law w h keeps k0 n.vertex (g.act n.vertex n.time) out e t r ok.0 le in
@@ -121,13 +124,13 @@ module _ (g : Network) (law : IsNetwork g) (w : World) (h : History) (keeps : Ke
             omega arith;
         from_input = λ e t le s. record { counts = λ r. sent_elsewhere g law w h keeps n.vertex (g.act n.vertex n.time) out e t r (λ x. let y : Role.input ≡ Role.notified = sym s ∙ ap g.role x ∙ group in absurd cc) ∙ (keeps.from_input e t le s).counts r };
         from_vertex = λ e u r le fits s. vertex_after g law w h keeps k0 (Event.notification n) out ok (history_told h k0 n) counted_once rest gain e u r le fits s;
-        notices = λ k v t lk s. wish k v t lk s (told_tells h k0 n k v t) (put_tells w.held k0 Held.nothing k) (put_tells w.requests k0 (w.requests k0 ++ []) k);
+        notifications = λ k v t lk s. wish k v t lk s (told_tells h k0 n k v t) (put_tells w.held k0 Held.nothing k) (put_tells w.requests k0 (w.requests k0 ++ []) k);
         always_told = λ k v t s. always k v t s (told_tells h k0 n k v t);
         settled = λ k v t lk s due. settled_after g law w h keeps (Step.commit k0 (Event.notification n) out) ok k v t lk s (was_due k v t due (told_tells h k0 n k v t) (put_tells w.held k0 Held.nothing k));
         at_home = keeps.at_home;
         good_mail = λ k lk. each-append (GoodMessage g k) (w.mail k) _ (keeps.good_mail k lk) (each_more (Parcel g n.vertex (g.act n.vertex n.time) k) (GoodMessage g k) _ (λ m p. p.good) (parcels_good g law k0 n.vertex (g.act n.vertex n.time) out k g.edges (fits_sent g law n.vertex n.time here) (omega arith)));
         good_requests = λ k lk. requests k lk (put_tells w.requests k0 (w.requests k0 ++ []) k);
-        good_hand = λ k lk. good k lk (put_tells w.held k0 Held.nothing k);
+        good_held = λ k lk. good k lk (put_tells w.held k0 Held.nothing k);
         shards = keeps.shards;
         output = keeps.output;
       }
@@ -143,11 +146,11 @@ module _ (g : Network) (law : IsNetwork g) (w : World) (h : History) (keeps : Ke
       was_due : (k v : ℕ) (t : Time) → Due (after_step g w (Step.commit k0 (Event.notification n) out)) (history_told h k0 n) k v t → Told k v t → ((k ≡ k0) × (put w.held k0 Held.nothing k ≡ Held.nothing)) ⊎ ((k ≢ k0) × (put w.held k0 Held.nothing k ≡ w.held k)) → Due w h k v t
       was_due k v t (inl told) (inr x) z = inl (sym x.1 ∙ told)
       was_due k v t (inl told) (inl x) z =
-          let a : wish_in_hand v t (w.held k) ≡ wish_in_hand v t (Held.holding false (Event.notification n)) = ap (wish_in_hand v t) (ap w.held x.0 ∙ ok.1) in
+          let a : held_wish v t (w.held k) ≡ held_wish v t (Held.holding false (Event.notification n)) = ap (held_wish v t) (ap w.held x.0 ∙ ok.1) in
           let b : wished v t n ≡ 1 = x.4 in
           inr (omega arith)
-      was_due k v t (inr wish) z (inl (x, y)) = absurd (let a : wish_in_hand v t (put w.held k0 Held.nothing k) ≡ 0 = ap (wish_in_hand v t) y in omega arith)
-      was_due k v t (inr wish) z (inr (x, y)) = let a : wish_in_hand v t (put w.held k0 Held.nothing k) ≡ wish_in_hand v t (w.held k) = ap (wish_in_hand v t) y in inr (omega arith)
+      was_due k v t (inr wish) z (inl (x, y)) = absurd (let a : held_wish v t (put w.held k0 Held.nothing k) ≡ 0 = ap (held_wish v t) y in omega arith)
+      was_due k v t (inr wish) z (inr (x, y)) = let a : held_wish v t (put w.held k0 Held.nothing k) ≡ held_wish v t (w.held k) = ap (held_wish v t) y in inr (omega arith)
 
       asked_none : (k : ℕ) → ((k ≡ k0) × (put w.requests k0 (w.requests k0 ++ []) k ≡ w.requests k0 ++ [])) ⊎ ((k ≢ k0) × (put w.requests k0 (w.requests k0 ++ []) k ≡ w.requests k)) → put w.requests k0 (w.requests k0 ++ []) k ≡ w.requests k
       asked_none k (inl (x, y)) = y ∙ append-nil (w.requests k0) ∙ sym (ap w.requests x)
@@ -157,9 +160,9 @@ module _ (g : Network) (law : IsNetwork g) (w : World) (h : History) (keeps : Ke
           → ((k ≡ k0) × (put w.requests k0 (w.requests k0 ++ []) k ≡ w.requests k0 ++ [])) ⊎ ((k ≢ k0) × (put w.requests k0 (w.requests k0 ++ []) k ≡ w.requests k))
           → wishes (after_step g w (Step.commit k0 (Event.notification n) out)) v t k + bit (told_after h k0 n k v t) ≡ some (h.done k (g.edge_into v 0) t)
       wish k v t lk s (inl x) (inl (c, d)) r =
-          let a = keeps.notices k v t lk s in
-          let b : wish_in_hand v t (w.held k) ≡ wished v t n = ap (wish_in_hand v t) (ap w.held c ∙ ok.1) in
-          let f : wish_in_hand v t (put w.held k0 Held.nothing k) ≡ 0 = ap (wish_in_hand v t) d in
+          let a = keeps.notifications k v t lk s in
+          let b : held_wish v t (w.held k) ≡ wished v t n = ap (held_wish v t) (ap w.held c ∙ ok.1) in
+          let f : held_wish v t (put w.held k0 Held.nothing k) ≡ 0 = ap (held_wish v t) d in
           let i : total (wished v t) (put w.requests k0 (w.requests k0 ++ []) k) ≡ total (wished v t) (w.requests k) = ap (λ z. total (wished v t) z) (asked_none k r) in
           let j : bit (told_after h k0 n k v t) ≡ 1 = ap bit x.3 in
           let y : wished v t n ≡ 1 = x.4 in
@@ -167,16 +170,16 @@ module _ (g : Network) (law : IsNetwork g) (w : World) (h : History) (keeps : Ke
           omega arith
       wish k v t lk s (inl x) (inr (c, d)) r = absurd (c x.0)
       wish k v t lk s (inr x) (inl (c, d)) r =
-          let a = keeps.notices k v t lk s in
-          let b : wish_in_hand v t (w.held k) ≡ wished v t n = ap (wish_in_hand v t) (ap w.held c ∙ ok.1) in
-          let f : wish_in_hand v t (put w.held k0 Held.nothing k) ≡ 0 = ap (wish_in_hand v t) d in
+          let a = keeps.notifications k v t lk s in
+          let b : held_wish v t (w.held k) ≡ wished v t n = ap (held_wish v t) (ap w.held c ∙ ok.1) in
+          let f : held_wish v t (put w.held k0 Held.nothing k) ≡ 0 = ap (held_wish v t) d in
           let i : total (wished v t) (put w.requests k0 (w.requests k0 ++ []) k) ≡ total (wished v t) (w.requests k) = ap (λ z. total (wished v t) z) (asked_none k r) in
           let j : bit (told_after h k0 n k v t) ≡ bit (h.told k v t) = ap bit x.1 in
           let y : wished v t n ≡ 0 = x.2 c in
           omega arith
       wish k v t lk s (inr x) (inr (c, d)) r =
-          let a = keeps.notices k v t lk s in
-          let f : wish_in_hand v t (put w.held k0 Held.nothing k) ≡ wish_in_hand v t (w.held k) = ap (wish_in_hand v t) d in
+          let a = keeps.notifications k v t lk s in
+          let f : held_wish v t (put w.held k0 Held.nothing k) ≡ held_wish v t (w.held k) = ap (held_wish v t) d in
           let i : total (wished v t) (put w.requests k0 (w.requests k0 ++ []) k) ≡ total (wished v t) (w.requests k) = ap (λ z. total (wished v t) z) (asked_none k r) in
           let j : bit (told_after h k0 n k v t) ≡ bit (h.told k v t) = ap bit x.1 in
           omega arith
@@ -184,6 +187,6 @@ module _ (g : Network) (law : IsNetwork g) (w : World) (h : History) (keeps : Ke
       requests : (k : ℕ) → k < g.workers → ((k ≡ k0) × (put w.requests k0 (w.requests k0 ++ []) k ≡ w.requests k0 ++ [])) ⊎ ((k ≢ k0) × (put w.requests k0 (w.requests k0 ++ []) k ≡ w.requests k)) → each (GoodRequest g) (put w.requests k0 (w.requests k0 ++ []) k)
       requests k lk r = subst (each (GoodRequest g)) (sym (asked_none k r)) (keeps.good_requests k lk)
 
-      good : (k : ℕ) → k < g.workers → ((k ≡ k0) × (put w.held k0 Held.nothing k ≡ Held.nothing)) ⊎ ((k ≢ k0) × (put w.held k0 Held.nothing k ≡ w.held k)) → GoodHand g k (put w.held k0 Held.nothing k)
-      good k lk (inl (x, y)) = subst (GoodHand g k) (sym y) tt
-      good k lk (inr (x, y)) = subst (GoodHand g k) (sym y) (keeps.good_hand k lk)
+      good : (k : ℕ) → k < g.workers → ((k ≡ k0) × (put w.held k0 Held.nothing k ≡ Held.nothing)) ⊎ ((k ≢ k0) × (put w.held k0 Held.nothing k ≡ w.held k)) → GoodHeld g k (put w.held k0 Held.nothing k)
+      good k lk (inl (x, y)) = subst (GoodHeld g k) (sym y) tt
+      good k lk (inr (x, y)) = subst (GoodHeld g k) (sym y) (keeps.good_held k lk)

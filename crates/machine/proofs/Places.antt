@@ -47,19 +47,19 @@ total_times_changed (u ∷ ts) t f f' h = go (same_time_tells t u) (total_times_
     go (inl (a, b)) ih = let p : f u ≡ f t = ap f (sym b) in let q : f' u ≡ f' t = ap f' (sym b) in rw a (grind arith)
     go (inr (a, b)) ih = let p : f' u ≡ f u = h u (λ e. b (sym e)) in rw a (grind arith)
 
-pub is_source : (k : Role) → (k ≡ Role.input) ⊎ (k ≢ Role.input)
-is_source Role.input = inl refl
-is_source Role.stateless = inr (λ e. cc)
-is_source Role.stateful = inr (λ e. cc)
-is_source Role.notified = inr (λ e. cc)
-is_source Role.output = inr (λ e. cc)
+pub is_input_role : (k : Role) → (k ≡ Role.input) ⊎ (k ≢ Role.input)
+is_input_role Role.input = inl refl
+is_input_role Role.stateless = inr (λ e. cc)
+is_input_role Role.stateful = inr (λ e. cc)
+is_input_role Role.notified = inr (λ e. cc)
+is_input_role Role.output = inr (λ e. cc)
 
-pub is_grouping : (k : Role) → (k ≡ Role.notified) ⊎ (k ≢ Role.notified)
-is_grouping Role.input = inr (λ e. cc)
-is_grouping Role.stateless = inr (λ e. cc)
-is_grouping Role.stateful = inr (λ e. cc)
-is_grouping Role.notified = inl refl
-is_grouping Role.output = inr (λ e. cc)
+pub is_notified_role : (k : Role) → (k ≡ Role.notified) ⊎ (k ≢ Role.notified)
+is_notified_role Role.input = inr (λ e. cc)
+is_notified_role Role.stateless = inr (λ e. cc)
+is_notified_role Role.stateful = inr (λ e. cc)
+is_notified_role Role.notified = inl refl
+is_notified_role Role.output = inr (λ e. cc)
 
 -- a kind that is neither source nor sink
 pub inner_kind : (k : Role) → k ≢ Role.input → k ≢ Role.output → (k ≡ Role.stateless) ⊎ ((k ≡ Role.stateful) ⊎ (k ≡ Role.notified))

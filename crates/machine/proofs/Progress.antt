@@ -1,16 +1,21 @@
 -- No step makes a pointstamp active in which no active pointstamp could have resulted before.
-use Rattle.std.proofs.Common.{◌≡◌, ◌≢◌, ◌<◌, ℕ, zero, suc, ◌+◌, true, false, eqb, List, [], ◌∷◌, ◌++◌, ◌⊎◌, inl, inr, refl, sym, ap, ◌∙◌, subst, arith, slice_get, remove, Some}
+use Rattle.std.proofs.Common.{◌≡◌, ◌≢◌, ◌<◌, ℕ, zero, suc, ◌+◌, true, false, cond, eqb, List, [], ◌∷◌, ◌++◌, ◌⊎◌, inl, inr, refl, sym, ap, ◌∙◌, subst, arith, slice_get, remove, Some}
 use Rattle.std.proofs.lemmas.Bool.Decides.{eqb_tells}
 use Rattle.semantics.specs.Multiset.{Record, end_to_end}
 use Rattle.semantics.specs.Could.{Pointstamp, on_edge, at_vertex}
 use Rattle.semantics.specs.Time.{Time, at_epoch}
 use Rattle.semantics.specs.Kinds.{Role}
+use Rattle.semantics.specs.Shard.{asks}
 use Rattle.machine.specs.Network.{Network}
-use Rattle.machine.specs.Step.{event_vertex, event_time, Step, parcels, asked, asked_first, InputOpen, Allowed, after_step}
-use Rattle.machine.specs.Sums.{put, each}
-use Rattle.machine.specs.World.{Message, Request, Event, Held, World, IsActive, NoneBefore, NoOtherBefore, Passed, message_pointstamp, request_pointstamp, event_pointstamp}
+use Rattle.machine.specs.World.{Message, Request, Event, Held, World}
+use Rattle.machine.specs.Active.{IsActive, message_pointstamp, request_pointstamp, event_pointstamp}
+use Rattle.machine.specs.Frontier.{NoneBefore, NoOtherBefore}
+use Rattle.machine.specs.Sending.{parcels}
+use Rattle.machine.specs.Processing.{event_vertex, event_time, asked}
+use Rattle.machine.specs.Step.{Step, InputOpen, Allowed, after_step, put}
+use Rattle.machine.proofs.Kept.{each}
 use Rattle.machine.proofs.Counting.{eqb_self}
-use Rattle.machine.proofs.Kept.{GoodMessage, GoodRequest, GoodEvent, GoodHand}
+use Rattle.machine.proofs.Kept.{GoodMessage, GoodRequest, GoodEvent, GoodHeld}
 use Rattle.machine.proofs.Laws.{IsNetwork}
 use Rattle.machine.proofs.Rank.{could_back}
 use Rattle.machine.proofs.Sending.{Parcel, parcels_good, fits_sent, fits_fed, each_at, slice_get-append, slice_get-remove}
@@ -28,6 +33,14 @@ no_other_under g law w w' under p none q active c =
     let is : u.0 ≡ p = none u.0 u.1 (law.could_on u.0 q p u.2 c) in
     could_back g law q p c (subst (λ (x : Pointstamp). g.Could x q) is u.2)
 
+-- the request that a notified vertex's shard makes where it had absorbed these
+abbrev pub asked_first : ℕ → Time → List Record → List Request
+asked_first v t before = cond (asks Role.notified before) (record { vertex = v; time = t } ∷ []) []
+
+-- by role
+abbrev pub asked_by : Role → ℕ → Time → List Record → List Request
+asked_by role v t before = cond (asks role before) (record { vertex = v; time = t } ∷ []) []
+
 -- one place of a function changes
 pub put_tells : {X : Type 0} (f : ℕ → X) (k : ℕ) (x : X) (j : ℕ) → ((j ≡ k) × (put f k x j ≡ x)) ⊎ ((j ≢ k) × (put f k x j ≡ f j))
 put_tells f k x j = go (eqb_tells j k)
@@ -43,7 +56,7 @@ put_here f k x = rw (eqb_self k) refl
 pub record Good (g : Network) (w : World) : Type 0 where
   pub mail : (k : ℕ) → k < g.workers → each (GoodMessage g k) (w.mail k)
   pub requests : (k : ℕ) → k < g.workers → each (GoodRequest g) (w.requests k)
-  pub held : (k : ℕ) → k < g.workers → GoodHand g k (w.held k)
+  pub held : (k : ℕ) → k < g.workers → GoodHeld g k (w.held k)
 
 module _ (g : Network) (law : IsNetwork g) (w : World) (good : Good g w) where
   event_fits : (k : ℕ) (event : Event) → GoodEvent g k event → g.IsPointstamp (event_pointstamp event)
@@ -51,10 +64,10 @@ module _ (g : Network) (law : IsNetwork g) (w : World) (good : Good g w) where
   event_fits k (Event.notification n) x = x.1
 
   pub active_fits : (p : Pointstamp) → IsActive g w p → g.IsPointstamp p
-  active_fits p (IsActive.of_input i a b) = law.fits_source i (w.open_epoch i) a
+  active_fits p (IsActive.of_input i a b) = law.fits_input i (w.open_epoch i) a
   active_fits p (IsActive.of_mail k at m lk s) = let x : GoodMessage g k m = each_at (GoodMessage g k) (w.mail k) at m (good.mail k lk) s in x.3
   active_fits p (IsActive.of_request k at n lk s) = let x : GoodRequest g n = each_at (GoodRequest g) (w.requests k) at n (good.requests k lk) s in x.1
-  active_fits p (IsActive.of_held k up event lk s) = event_fits k event (subst (GoodHand g k) s (good.held k lk))
+  active_fits p (IsActive.of_held k up event lk s) = event_fits k event (subst (GoodHeld g k) s (good.held k lk))
 
   stays : (p : Pointstamp) → IsActive g w p → (q : Pointstamp) × IsActive g w q × g.Could q p
   stays p a = (p, a, law.could_self p (active_fits p a))
@@ -73,24 +86,24 @@ module _ (g : Network) (law : IsNetwork g) (w : World) (good : Good g w) where
   vertex_fits k (Event.notification n) x = x.1
 
   pub held_good : (k : ℕ) (event : Event) → k < g.workers → w.held k ≡ Held.holding false event → GoodEvent g k event
-  held_good k event lk s = subst (GoodHand g k) s (good.held k lk)
+  held_good k event lk s = subst (GoodHeld g k) s (good.held k lk)
 
-  under_feed : (i : ℕ) (r : Record) → InputOpen g w i → Under g w (after_step g w (Step.feed i r))
-  under_feed i r ok q (IsActive.of_input j a b) = stays _ (IsActive.of_input j a b)
-  under_feed i r ok q (IsActive.of_request k at n lk s) = stays _ (IsActive.of_request k at n lk s)
-  under_feed i r ok q (IsActive.of_held k up event lk s) = stays _ (IsActive.of_held k up event lk s)
-  under_feed i r ok q (IsActive.of_mail k at m lk s) = go (slice_get-append (w.mail k) _ at m s)
+  under_feed : (i : ℕ) (rs : List Record) → InputOpen g w i → Under g w (after_step g w (Step.feed i rs))
+  under_feed i rs ok q (IsActive.of_input j a b) = stays _ (IsActive.of_input j a b)
+  under_feed i rs ok q (IsActive.of_request k at n lk s) = stays _ (IsActive.of_request k at n lk s)
+  under_feed i rs ok q (IsActive.of_held k up event lk s) = stays _ (IsActive.of_held k up event lk s)
+  under_feed i rs ok q (IsActive.of_mail k at m lk s) = go (slice_get-append (w.mail k) _ at m s)
     where
       u : Time
       u = at_epoch (w.open_epoch i)
 
-      go : (slice_get (w.mail k) at ≡ Some m) ⊎ ((to : ℕ) × (slice_get (parcels g 0 i u (λ q. r ∷ []) k g.edges) to ≡ Some m)) → (p : Pointstamp) × IsActive g w p × g.Could p (message_pointstamp m)
+      go : (slice_get (w.mail k) at ≡ Some m) ⊎ ((to : ℕ) × (slice_get (parcels g 0 i u (λ q. rs) k g.edges) to ≡ Some m)) → (p : Pointstamp) × IsActive g w p × g.Could p (message_pointstamp m)
       go (inl e) = stays (message_pointstamp m) (IsActive.of_mail k at m lk e)
       go (inr e) =
-          let p : Parcel g i u k m = each_at _ _ e.0 m (parcels_good g law 0 i u (λ q. r ∷ []) k g.edges (fits_fed g law i (w.open_epoch i) ok.0) (omega arith)) e.1 in
-          let c : g.Could (at_vertex (g.source m.edge) u) (on_edge m.edge (g.act (g.source m.edge) u)) = law.could_leave m.edge u p.good.0 (subst (λ (x : ℕ). g.IsPointstamp (at_vertex x u)) (sym p.from) (law.fits_source i (w.open_epoch i) ok.0)) in
+          let p : Parcel g i u k m = each_at _ _ e.0 m (parcels_good g law 0 i u (λ q. rs) k g.edges (fits_fed g law i (w.open_epoch i) ok.0) (omega arith)) e.1 in
+          let c : g.Could (at_vertex (g.source m.edge) u) (on_edge m.edge (g.act (g.source m.edge) u)) = law.could_leave m.edge u p.good.0 (subst (λ (x : ℕ). g.IsPointstamp (at_vertex x u)) (sym p.from) (law.fits_input i (w.open_epoch i) ok.0)) in
           let c' = subst (λ (x : ℕ). g.Could (at_vertex x u) (on_edge m.edge (g.act x u))) p.from c in
-          let c'' = subst (λ (x : Time). g.Could (at_vertex i u) (on_edge m.edge x)) (law.source_act i u ok.0 ∙ sym p.when) c' in
+          let c'' = subst (λ (x : Time). g.Could (at_vertex i u) (on_edge m.edge x)) (law.input_act i u ok.0 ∙ sym p.when) c' in
           (at_vertex i u, IsActive.of_input i ok.0 ok.1, c'')
 
   under_seal : (i : ℕ) → InputOpen g w i → Under g w (after_step g w (Step.seal i))
@@ -101,7 +114,7 @@ module _ (g : Network) (law : IsNetwork g) (w : World) (good : Good g w) where
     where
       go : ((j ≡ i) × (put w.open_epoch i (w.open_epoch i + 1) j ≡ w.open_epoch i + 1)) ⊎ ((j ≢ i) × (put w.open_epoch i (w.open_epoch i + 1) j ≡ w.open_epoch j)) → (p : Pointstamp) × IsActive g w p × g.Could p (at_vertex j (at_epoch (put w.open_epoch i (w.open_epoch i + 1) j)))
       go (inl (e, f)) = (at_vertex j (at_epoch (w.open_epoch j)), IsActive.of_input j a b, subst (λ (n : ℕ). g.Could (at_vertex j (at_epoch (w.open_epoch j))) (at_vertex j (at_epoch n))) (ap (λ x. w.open_epoch x + 1) e ∙ sym f) (law.could_later j (w.open_epoch j) a))
-      go (inr (e, f)) = (at_vertex j (at_epoch (w.open_epoch j)), IsActive.of_input j a b, subst (λ (n : ℕ). g.Could (at_vertex j (at_epoch (w.open_epoch j))) (at_vertex j (at_epoch n))) (sym f) (law.could_self (at_vertex j (at_epoch (w.open_epoch j))) (law.fits_source j (w.open_epoch j) a)))
+      go (inr (e, f)) = (at_vertex j (at_epoch (w.open_epoch j)), IsActive.of_input j a b, subst (λ (n : ℕ). g.Could (at_vertex j (at_epoch (w.open_epoch j))) (at_vertex j (at_epoch n))) (sym f) (law.could_self (at_vertex j (at_epoch (w.open_epoch j))) (law.fits_input j (w.open_epoch j) a)))
 
   under_close : (i : ℕ) → InputOpen g w i → Under g w (after_step g w (Step.close i))
   under_close i ok q (IsActive.of_mail k at m lk s) = stays _ (IsActive.of_mail k at m lk s)
@@ -224,14 +237,10 @@ module _ (g : Network) (law : IsNetwork g) (w : World) (good : Good g w) where
           (event_pointstamp event0, IsActive.of_held k0 false event0 ok.0 ok.1, law.could_on (event_pointstamp event0) (at_vertex v t) (message_pointstamp m) (reaches_vertex k0 event0 (held_good k0 event0 ok.0 ok.1)) c'')
 
   pub under_step : (step : Step) → Allowed g w step → Under g w (after_step g w step)
-  under_step (Step.feed i r) ok = under_feed i r ok
+  under_step (Step.feed i rs) ok = under_feed i rs ok.0
   under_step (Step.seal i) ok = under_seal i ok
   under_step (Step.close i) ok = under_close i ok
   under_step (Step.claim_message k at m) ok = under_claim_message k at m ok
   under_step (Step.claim_request k at n) ok = under_claim_request k at n ok
   under_step (Step.commit k event out) ok = under_commit k event out ok
   under_step (Step.abandon k event) ok = under_abandon k event ok
-
-  -- what has passed stays passed
-  pub passed_stays : (step : Step) → Allowed g w step → (n : ℕ) → Passed g w n → Passed g (after_step g w step) n
-  passed_stays step ok n = none_before_under g law w (after_step g w step) (under_step step ok) (at_vertex g.output (at_epoch n))

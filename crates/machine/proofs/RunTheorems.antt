@@ -3,9 +3,8 @@ use Rattle.std.specs.Prelude.{ℕ, List}
 use Rattle.semantics.specs.Multiset.{Record}
 use Rattle.semantics.specs.Time.{Time}
 use Rattle.machine.specs.Network.{Network}
-use Rattle.machine.specs.World.{World, Passed}
-use Rattle.machine.specs.Step.{Step, Allowed, after_step}
-use Rattle.machine.specs.Engine.{Reached}
+use Rattle.machine.specs.World.{World}
+use Rattle.machine.specs.Run.{Reached}
 use Rattle.machine.proofs.Laws.{IsNetwork}
 use Rattle.machine.proofs.NetFlow.{IsNetFlow, HasFlows}
 use Rattle.machine.proofs.Kept.{Headline}
@@ -13,11 +12,3 @@ use Rattle.machine.proofs.Kept.{Headline}
 -- at every world at the end of a run, whatever was sent is part of the flow, and all of it where nothing more can come
 abbrev pub EveryRunKeeps : Type 1
 EveryRunKeeps = (g : Network) → IsNetwork g → HasFlows g → (w : World) → Reached g w → (flow : ℕ → Time → List Record) → IsNetFlow g w.fed flow → Headline g w flow
-
--- an epoch that has passed stays passed
-abbrev pub PassedStays : Type 1
-PassedStays = (g : Network) → IsNetwork g → HasFlows g → (w : World) → Reached g w → (step : Step) → Allowed g w step → (n : ℕ) → Passed g w n → Passed g (after_step g w step) n
-
--- of one graph
-abbrev pub HeadlineOf : Network → World → Type 0
-HeadlineOf g w = (flow : ℕ → Time → List Record) → IsNetFlow g w.fed flow → Headline g w flow

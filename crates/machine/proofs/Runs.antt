@@ -4,45 +4,44 @@ use Rattle.semantics.specs.Multiset.{total, Record, count}
 use Rattle.semantics.specs.Time.{Time, same_counters}
 use Rattle.semantics.specs.Kinds.{Role}
 use Rattle.machine.specs.Network.{Network}
-use Rattle.machine.specs.Engine.{Run, Reached}
-use Rattle.machine.specs.Step.{Step, Allowed, after_step}
-use Rattle.machine.specs.Sums.{sum_below}
 use Rattle.machine.specs.World.{Event, World, opening}
+use Rattle.machine.specs.Active.{sum_below}
+use Rattle.machine.specs.Step.{Step, Allowed, after_step}
+use Rattle.machine.specs.Run.{Run, Reached}
 use Rattle.machine.proofs.Arrivals.{history_done, keep_arrival}
 use Rattle.machine.proofs.Counting.{below_zero}
 use Rattle.machine.proofs.Derived.{headline}
 use Rattle.machine.proofs.Kept.{History, under_way, bit, made, Kept}
 use Rattle.machine.proofs.Laws.{IsNetwork}
 use Rattle.machine.proofs.NetFlow.{HasFlows}
-use Rattle.machine.proofs.Notifications.{history_told, keep_notice}
-use Rattle.machine.proofs.Progress.{passed_stays}
-use Rattle.machine.proofs.Steps.{good_of, keep_feed, keep_seal, keep_close, keep_claim_message, keep_claim_request, keep_abandon}
-use Rattle.machine.proofs.RunTheorems.{EveryRunKeeps, PassedStays}
+use Rattle.machine.proofs.Notifications.{history_told, keep_notification}
+use Rattle.machine.proofs.Steps.{keep_feed, keep_seal, keep_close, keep_claim_message, keep_claim_request, keep_abandon}
+use Rattle.machine.proofs.RunTheorems.{EveryRunKeeps}
 
-pub not_group : Role → Bool
-not_group Role.input = true
-not_group Role.stateless = true
-not_group Role.stateful = true
-not_group Role.notified = false
-not_group Role.output = true
+pub not_notified_role : Role → Bool
+not_notified_role Role.input = true
+not_notified_role Role.stateless = true
+not_notified_role Role.stateful = true
+not_notified_role Role.notified = false
+not_notified_role Role.output = true
 
-is_told : (k : Role) → k ≢ Role.notified → not_group k ≡ true
-unfolding not_group
+is_told : (k : Role) → k ≢ Role.notified → not_notified_role k ≡ true
+unfolding not_notified_role
 is_told Role.input s = refl
 is_told Role.stateless s = refl
 is_told Role.stateful s = refl
 is_told Role.notified s = absurd (s refl)
 is_told Role.output s = refl
 
-is_untold : (k : Role) → k ≡ Role.notified → not_group k ≡ false
-unfolding not_group
-is_untold k e = ap not_group e
+is_untold : (k : Role) → k ≡ Role.notified → not_notified_role k ≡ false
+unfolding not_notified_role
+is_untold k e = ap not_notified_role e
 
 abbrev pub start : Network → History
-start g = record { done = λ k e t. []; told = λ k v t. not_group (g.role v) }
+start g = record { done = λ k e t. []; told = λ k v t. not_notified_role (g.role v) }
 
 made_nothing : (g : Network) → IsNetwork g → (v q : ℕ) (t : Time) (r : Record) (k : ℕ) → made g (start g) v q t r k ≡ 0
-made_nothing g law v q t r k = ap (λ n. cond (not_group (g.role v)) n 0) (ap (count r) (law.op_nothing v q t (λ p. []) (λ p lp. refl))) ∙ both (not_group (g.role v))
+made_nothing g law v q t r k = ap (λ n. cond (not_notified_role (g.role v)) n 0) (ap (count r) (law.op_nothing v q t (λ p. []) (λ p lp. refl))) ∙ both (not_notified_role (g.role v))
   where
     both : (b : Bool) → cond {A = ℕ} b 0 0 ≡ 0
     both true = refl
@@ -61,33 +60,33 @@ keep_opening g law =
           omega arith;
       from_input = λ e t le s. record { counts = λ r. nothing (same_counters t.counters []) r };
       from_vertex = λ e u r le fits s. sym (total_nothing (g.times_before (g.source e) u) _ (λ t. below_zero g.workers _ (λ k lk. made_nothing g law (g.source e) (g.out_port e) t r k)));
-      notices = λ k v t lk s. ap (λ b. 0 + bit b) (is_untold (g.role v) s);
+      notifications = λ k v t lk s. ap (λ b. 0 + bit b) (is_untold (g.role v) s);
       always_told = λ k v t s. is_told (g.role v) s;
       settled = λ k v t lk s due. absurd (not_due v s due);
       at_home = λ k e t lk le s r l. absurd (omega arith);
       good_mail = λ k lk. tt;
       good_requests = λ k lk. tt;
-      good_hand = λ k lk. tt;
+      good_held = λ k lk. tt;
       shards = λ k v p t lk lp s. refl;
-      output = λ n r. sym (below_zero g.workers _ (λ k lk. refl));
+      output = λ v n r is. sym (below_zero g.workers _ (λ k lk. refl));
     }
   where
     nothing : (b : Bool) (r : Record) → 0 ≡ count r (cond {A = List Record} b [] [])
     nothing true r = refl
     nothing false r = refl
 
-    not_due : (v : ℕ) → g.role v ≡ Role.notified → (not_group (g.role v) ≡ true) ⊎ (0 < 0) → ⊥
+    not_due : (v : ℕ) → g.role v ≡ Role.notified → (not_notified_role (g.role v) ≡ true) ⊎ (0 < 0) → ⊥
     not_due v s (inl e) = let x : false ≡ true = sym (is_untold (g.role v) s) ∙ e in absurd cc
     not_due v s (inr l) = omega arith
 
 pub keep_step : (g : Network) → IsNetwork g → HasFlows g → (w : World) (h : History) → Kept g w h → (step : Step) → Allowed g w step → (h' : History) × Kept g (after_step g w step) h'
-keep_step g law flows w h keeps (Step.feed i r) ok = (h, keep_feed g law w h keeps i r ok)
+keep_step g law flows w h keeps (Step.feed i rs) ok = (h, keep_feed g law w h keeps i rs ok)
 keep_step g law flows w h keeps (Step.seal i) ok = (h, keep_seal g law w h keeps i ok)
 keep_step g law flows w h keeps (Step.close i) ok = (h, keep_close g law w h keeps i ok)
 keep_step g law flows w h keeps (Step.claim_message k at m) ok = (h, keep_claim_message g law w h keeps k at m ok)
 keep_step g law flows w h keeps (Step.claim_request k at n) ok = (h, keep_claim_request g law w h keeps k at n ok)
 keep_step g law flows w h keeps (Step.commit k (Event.arrival m) out) ok = (history_done h k m, keep_arrival g law w h keeps flows k m out ok)
-keep_step g law flows w h keeps (Step.commit k (Event.notification n) out) ok = (history_told h k n, keep_notice g law w h keeps flows k n out ok)
+keep_step g law flows w h keeps (Step.commit k (Event.notification n) out) ok = (history_told h k n, keep_notification g law w h keeps flows k n out ok)
 keep_step g law flows w h keeps (Step.abandon k event) ok = (h, keep_abandon g law w h keeps k event ok)
 
 keep_run : (g : Network) → IsNetwork g → HasFlows g → (steps : List Step) (w w' : World) (h : History) → Kept g w h → Run g w steps w' → (h' : History) × Kept g w' h'
@@ -101,9 +100,6 @@ keep_reached g law flows w reached = keep_run g law flows reached.0 opening w (s
 
 pub every_run_keeps : EveryRunKeeps
 every_run_keeps g law flows w reached flow is = let k = keep_reached g law flows w reached in headline g law w k.0 k.1 flow is
-
-pub passed_stays_on : PassedStays
-passed_stays_on g law flows w reached step ok n = let k = keep_reached g law flows w reached in passed_stays g law w (good_of g law w k.0 k.1) step ok n
 
 run_more : (g : Network) (steps : List Step) (w w' : World) (step : Step) → Run g w steps w' → Allowed g w' step → Run g w (steps ++ step ∷ []) (after_step g w' step)
 run_more g [] w w' step run ok = (subst (λ (x : World). Allowed g x step) (sym run) ok, ap (λ x. after_step g x step) run)

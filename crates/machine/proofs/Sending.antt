@@ -6,9 +6,10 @@ use Rattle.semantics.specs.Could.{on_edge, at_vertex}
 use Rattle.semantics.specs.Time.{Time, same_time, at_epoch}
 use Rattle.semantics.specs.Kinds.{Role}
 use Rattle.machine.specs.Network.{Network}
-use Rattle.machine.specs.Step.{as_message, parcels}
-use Rattle.machine.specs.Sums.{sum_below, each}
 use Rattle.machine.specs.World.{Message}
+use Rattle.machine.specs.Active.{sum_below}
+use Rattle.machine.specs.Sending.{as_message, parcels}
+use Rattle.machine.proofs.Kept.{each}
 use Rattle.semantics.proofs.MultisetSums.{total-append}
 use Rattle.machine.proofs.Counting.{same_tells, eqb_self, below_same, below_zero, below_changed}
 use Rattle.machine.proofs.Kept.{carried, some, GoodMessage}
@@ -178,4 +179,4 @@ pub fits_sent : (g : Network) (law : IsNetwork g) (v : ℕ) (t : Time) → g.IsP
 fits_sent g law v t fits e le s = subst (λ (x : ℕ). g.IsPointstamp (on_edge e (g.act x t))) s (law.fits_leave e t le (subst (λ (x : ℕ). g.IsPointstamp (at_vertex x t)) (sym s) fits))
 
 pub fits_fed : (g : Network) (law : IsNetwork g) (i n : ℕ) → g.role i ≡ Role.input → (e : ℕ) → e < g.edges → g.source e ≡ i → g.IsPointstamp (on_edge e (at_epoch n))
-fits_fed g law i n s e le is = subst (λ (x : Time). g.IsPointstamp (on_edge e x)) (law.source_act i (at_epoch n) s) (fits_sent g law i (at_epoch n) (law.fits_source i n s) e le is)
+fits_fed g law i n s e le is = subst (λ (x : Time). g.IsPointstamp (on_edge e x)) (law.input_act i (at_epoch n) s) (fits_sent g law i (at_epoch n) (law.fits_input i n s) e le is)

@@ -2,21 +2,21 @@
 use Rattle.std.proofs.Common.{◌≡◌, ◌≤◌, ◌<◌, ℕ, zero, suc, Bool, true, false, List, [], ◌∷◌, ◌⊎◌, inl, inr, refl, ap, subst, arith}
 use mathlib.Core.WellFounded.{Acc}
 use Rattle.semantics.specs.Multiset.{total}
-use Rattle.semantics.specs.Could.{Pointstamp}
+use Rattle.semantics.specs.Could.{Pointstamp, NoneOf, NoOtherOf}
 use Rattle.machine.specs.Network.{Network}
-use Rattle.machine.specs.Views.{Changes, when, all_adds, seen_adds, seen_removes, IsSeen, IsThere, NoneApplied, InOrder, ViewNoneBefore, ViewNoOtherBefore}
-use Rattle.machine.proofs.Batches.{RemovedOrThere, Justified, IsLog}
+use Rattle.machine.specs.Views.{Changes, when, all_adds, seen_adds, seen_removes, IsSeen, IsThere, NoneApplied, InOrder}
+use Rattle.machine.proofs.JustifiedLogs.{RemovedOrThere, Justified, IsLog}
 use Rattle.machine.proofs.Laws.{Lower, IsNetwork}
 use Rattle.machine.proofs.Rank.{could_back}
 
 less_or_same : (m n : ℕ) → m ≤ n → (m < n) ⊎ (m ≡ n)
 less_or_same m n l = grind arith
 
-when_le : (b : Bool) (n : ℕ) → when b n ≤ n
+pub when_le : (b : Bool) (n : ℕ) → when b n ≤ n
 when_le true n = omega arith
 when_le false n = omega arith
 
-total_when : (log : List Changes) (f : Changes → ℕ) → total (λ b. when b.applied (f b)) log ≤ total f log
+pub total_when : (log : List Changes) (f : Changes → ℕ) → total (λ b. when b.applied (f b)) log ≤ total f log
 total_when [] f = omega arith
 total_when (b ∷ log) f = let a = when_le b.applied (f b) in let c = total_when log f in omega arith
 
@@ -85,17 +85,17 @@ module _ (g : Network) (law : IsNetwork g) (first : Pointstamp → ℕ) (log : L
       go (inl m) = seen_below q (law.founded q) m
       go (inr e) = (q, (let k = total_when log (λ b. b.removes q) in omega arith), law.could_self q fits)
 
-  pub view_none_before : (p : Pointstamp) → ViewNoneBefore g first log p → (q : Pointstamp) → g.IsPointstamp q → IsThere first log q → g.Could q p → ⊥
+  pub view_none_before : (p : Pointstamp) → NoneOf g.Could (IsSeen first log) p → (q : Pointstamp) → g.IsPointstamp q → IsThere first log q → g.Could q p → ⊥
   view_none_before p none q fits there c = let o = seen_before q fits there in none o.0 o.1 (law.could_on o.0 q p o.2 c)
 
-  pub view_no_other_before : (p : Pointstamp) → ViewNoOtherBefore g first log p → (q : Pointstamp) → g.IsPointstamp q → IsThere first log q → g.Could q p → q ≡ p
+  pub view_no_other_before : (p : Pointstamp) → NoOtherOf g.Could (IsSeen first log) p → (q : Pointstamp) → g.IsPointstamp q → IsThere first log q → g.Could q p → q ≡ p
   view_no_other_before p none q fits there c =
       let o = seen_before q fits there in
       let is : o.0 ≡ p = none o.0 o.1 (law.could_on o.0 q p o.2 c) in
       could_back g law q p c (subst (λ (x : Pointstamp). g.Could x q) is o.2)
 
-  -- (review) what a view lets through it lets through when more is applied
-  pub view_stays : (more : List Changes) → ((q : Pointstamp) → seen_adds first more q ≤ all_adds first log q) → ((q : Pointstamp) → seen_removes log q ≤ seen_removes more q) → (p : Pointstamp) → ViewNoneBefore g first log p → ViewNoneBefore g first more p
+  -- what a view lets through it lets through when more is applied
+  pub view_stays : (more : List Changes) → ((q : Pointstamp) → seen_adds first more q ≤ all_adds first log q) → ((q : Pointstamp) → seen_removes log q ≤ seen_removes more q) → (p : Pointstamp) → NoneOf g.Could (IsSeen first log) p → NoneOf g.Could (IsSeen first more) p
   view_stays more adds removes p none q seen c = go (less_or_same (seen_adds first log q) (all_adds first log q) (let k = total_when log (λ b. b.adds q) in omega arith))
     where
       go : (seen_adds first log q < all_adds first log q) ⊎ (seen_adds first log q ≡ all_adds first log q) → ⊥

@@ -1,36 +1,35 @@
--- A network: the vertices and edges of a graph, with the worker to which a record goes.
+-- A network: the vertices and edges of a dataflow graph, with the worker to which each record goes. It is what the engine needs
+-- to know of a graph. (Naiad, SOSP 2013, sections 2.1 and 3.1: the logical graph, and the workers that run it.)
 use Rattle.std.specs.Prelude.{ℕ, List}
 use Rattle.semantics.specs.Multiset.{Record}
 use Rattle.semantics.specs.Kinds.{Role}
 use Rattle.semantics.specs.Time.{Time}
 use Rattle.semantics.specs.Could.{Pointstamp}
 
--- what the engine needs to know of a graph
 pub record Network : Type 1 where
   pub workers : ℕ
   -- vertices below this are the inputs
   pub inputs : ℕ
   pub edges : ℕ
-  pub role : ℕ → Role
-  -- each edge leads from an out port of a vertex to an in port of a vertex, and is the only one there
+  -- how a vertex answers what comes in
+  pub role : (vertex : ℕ) → Role
+  -- each edge leads from an out port of a vertex to an in port of a vertex
   pub source : (edge : ℕ) → ℕ
-  pub out_port : ℕ → ℕ
-  pub target : ℕ → ℕ
-  pub in_port : ℕ → ℕ
-  pub ports : ℕ → ℕ
-  pub edge_into : ℕ → ℕ → ℕ
-  -- the action on a time, and the times that it takes to u
-  pub act : ℕ → Time → Time
-  pub times_before : ℕ → Time → List Time
+  pub out_port : (edge : ℕ) → ℕ
+  pub target : (edge : ℕ) → ℕ
+  pub in_port : (edge : ℕ) → ℕ
+  -- how many in ports a vertex has
+  pub ports : (vertex : ℕ) → ℕ
+  -- what a vertex does to the time of what it sends
+  pub act : (vertex : ℕ) → Time → Time
   -- what a vertex makes at a time, for an out port, of what its in ports have
   pub op : (vertex out : ℕ) → Time → (ins : ℕ → List Record) → List Record
   -- the worker to which a record goes on an edge, from a worker
   pub home : (sender edge : ℕ) → Record → ℕ
-  -- the location is the graph's, and the time has its depth
-  pub IsPointstamp : Pointstamp → Type 0
+  -- the first pointstamp could result in the second
   pub Could : Pointstamp → Pointstamp → Type 0
-  pub output : ℕ
-
--- what the in ports of a vertex have at a time, where edges have these
-abbrev pub ins : Network → (ℕ → Time → List Record) → ℕ → Time → ℕ → List Record
-ins g edges v t p = edges (g.edge_into v p) t
+  -- what proofs alone look at: the edge into an in port, the times that a vertex's action takes to this one, and that the
+  -- location is the graph's and the time has its depth
+  pub edge_into : (vertex port : ℕ) → ℕ
+  pub times_before : (vertex : ℕ) → Time → List Time
+  pub IsPointstamp : Pointstamp → Type 0

@@ -1,0 +1,49 @@
+ghost use Rattle.std.specs.Prelude.{◌≡◌, ◌<◌, ◌≤◌, ◌↔◌, ℕ, List};
+ghost use Rattle.semantics.specs.Graph.{Graph};
+ghost use Rattle.semantics.specs.Could.{Pointstamp};
+ghost use Rattle.semantics.specs.Dataflow.{IsDataflow};
+ghost use Rattle.machine.specs.World.{World};
+ghost use Rattle.machine.specs.Active.{IsActive};
+ghost use Rattle.machine.specs.Frontier.{IsPassedCount, NoOtherBefore, NoneBefore, Passed};
+ghost use Rattle.machine.specs.Drained.{IsDrained};
+ghost use Rattle.machine.specs.Step.{Allowed, Step, after_step};
+ghost use Rattle.machine.specs.Engine.{network};
+ghost use Rattle.machine.specs.Headline.{IsRunOn};
+
+/// Where no active pointstamp could result, or none but the pointstamp itself, that stays so by every step.
+pub fn law_frontier()
+    ensures none_before { (g : Graph) (workers : ℕ) (steps : List Step) (w : World) →
+        IsRunOn g workers steps w → (step : Step) → Allowed (network g workers) w step →
+        (pointstamp : Pointstamp) → NoneBefore (network g workers) w pointstamp →
+        NoneBefore (network g workers) (after_step (network g workers) w step) pointstamp }
+    ensures no_other_before { (g : Graph) (workers : ℕ) (steps : List Step) (w : World) →
+        IsRunOn g workers steps w → (step : Step) → Allowed (network g workers) w step →
+        (pointstamp : Pointstamp) → NoOtherBefore (network g workers) w pointstamp →
+        NoOtherBefore (network g workers) (after_step (network g workers) w step) pointstamp }
+{}
+
+/// An epoch that has passed at an output stays so by every step.
+pub fn law_passed()
+    ensures { (g : Graph) (workers : ℕ) (steps : List Step) (w : World) →
+        IsRunOn g workers steps w → (step : Step) → Allowed (network g workers) w step →
+        (output epoch : ℕ) → Passed (network g workers) w output epoch →
+        Passed (network g workers) (after_step (network g workers) w step) output epoch }
+{}
+
+/// The number of passed epochs is one, and doesn't fall by any step.
+pub fn law_passed_count()
+    ensures one { (g : Graph) (workers : ℕ) (w : World) (m n : ℕ) →
+        IsPassedCount (network g workers) w m → IsPassedCount (network g workers) w n → m ≡ n }
+    ensures stays { (g : Graph) (workers : ℕ) (steps : List Step) (w : World) →
+        IsRunOn g workers steps w → (step : Step) → Allowed (network g workers) w step → (m n : ℕ) →
+        IsPassedCount (network g workers) w m →
+        IsPassedCount (network g workers) (after_step (network g workers) w step) n → m ≤ n }
+{}
+
+/// A world is drained exactly where no pointstamp is active. Then every epoch has passed.
+pub fn law_drained()
+    ensures exact { (g : Graph) → IsDataflow g → (workers : ℕ) → 0 < workers → (w : World) →
+        IsDrained (network g workers) w ↔ ((pointstamp : Pointstamp) → IsActive (network g workers) w pointstamp → ⊥) }
+    ensures passed { (g : Graph) → IsDataflow g → (workers : ℕ) → 0 < workers → (w : World) →
+        IsDrained (network g workers) w → (output epoch : ℕ) → Passed (network g workers) w output epoch }
+{}

@@ -1,0 +1,45 @@
+ghost use Rattle.std.specs.Prelude.{◌≡◌, ◌⊎◌, ◌<◌, ℕ, Bool, List, Some, slice_get, length};
+ghost use Rattle.semantics.specs.Time.{Time};
+ghost use Rattle.semantics.specs.Kinds.{Role, role};
+ghost use Rattle.semantics.specs.Graph.{Graph, edge_source, output_number, source, vertex};
+ghost use Rattle.semantics.specs.Could.{IsTimeAt, Location};
+ghost use Rattle.semantics.specs.PortArity.{HaveFields, IsTyped};
+ghost use Rattle.machine.specs.World.{Event, Held, Message, Request, World};
+ghost use Rattle.machine.specs.Step.{Step};
+ghost use Rattle.machine.specs.Headline.{IsRunOn};
+ghost use Rattle.machine.specs.InTransit.{FedFits, IsGoodEvent, IsGoodMessage, IsGoodRequest};
+
+/// What lies in mailboxes, in requests and in workers' hands fits the graph.
+pub fn law_in_transit()
+    ensures messages { (g : Graph) (workers : ℕ) (steps : List Step) (w : World) →
+        IsRunOn g workers steps w → (worker at : ℕ) (m : Message) → worker < workers →
+        slice_get (w.mail worker) at ≡ Some m → IsGoodMessage g m }
+    ensures requests { (g : Graph) (workers : ℕ) (steps : List Step) (w : World) →
+        IsRunOn g workers steps w → (worker at : ℕ) (n : Request) → worker < workers →
+        slice_get (w.requests worker) at ≡ Some n → IsGoodRequest g n }
+    ensures held { (g : Graph) (workers : ℕ) (steps : List Step) (w : World) →
+        IsRunOn g workers steps w → (worker : ℕ) (given_up : Bool) (event : Event) → worker < workers →
+        w.held worker ≡ Held.holding given_up event → IsGoodEvent g event }
+{}
+
+/// Where each record that was fed has its input's arity, each record under way, absorbed or emitted has its port's.
+pub fn law_arities()
+    ensures messages { (g : Graph) (workers : ℕ) (steps : List Step) (w : World) →
+        IsRunOn g workers steps w → (arity : ℕ → ℕ) → IsTyped g arity → FedFits g arity w →
+        (worker at : ℕ) (m : Message) → worker < workers → slice_get (w.mail worker) at ≡ Some m →
+        HaveFields (arity (edge_source g m.edge).vertex) m.records }
+    ensures held { (g : Graph) (workers : ℕ) (steps : List Step) (w : World) →
+        IsRunOn g workers steps w → (arity : ℕ → ℕ) → IsTyped g arity → FedFits g arity w →
+        (worker : ℕ) (given_up : Bool) (m : Message) → worker < workers →
+        w.held worker ≡ Held.holding given_up (Event.arrival m) →
+        HaveFields (arity (edge_source g m.edge).vertex) m.records }
+    ensures absorbed { (g : Graph) (workers : ℕ) (steps : List Step) (w : World) →
+        IsRunOn g workers steps w → (arity : ℕ → ℕ) → IsTyped g arity → FedFits g arity w →
+        (worker v port : ℕ) (t : Time) → worker < workers → port < length (vertex g v).ins →
+        IsTimeAt g (Location.vertex v) t →
+        (role (vertex g v).kind ≡ Role.stateful) ⊎ (role (vertex g v).kind ≡ Role.notified) →
+        HaveFields (arity (source g v port).vertex) (w.absorbed worker v port t) }
+    ensures emitted { (g : Graph) (workers : ℕ) (steps : List Step) (w : World) →
+        IsRunOn g workers steps w → (arity : ℕ → ℕ) → IsTyped g arity → FedFits g arity w →
+        (epoch : ℕ) → HaveFields (arity (output_number g)) (w.emitted (output_number g) epoch) }
+{}

@@ -1,0 +1,14 @@
+ghost use Rattle.std.specs.Prelude.{ℕ};
+ghost use Rattle.semantics.specs.Graph.{Graph};
+ghost use Rattle.machine.specs.World.{World, opening};
+ghost use Rattle.machine.specs.Step.{Allowed, Step, after_step};
+ghost use Rattle.machine.specs.Run.{Reached};
+ghost use Rattle.machine.specs.Engine.{network};
+
+/// The opening world is at the end of a run, and so is what an allowed step leaves.
+pub fn law_reached()
+    ensures opening { (g : Graph) (workers : ℕ) → Reached (network g workers) opening }
+    ensures step { (g : Graph) (workers : ℕ) (w : World) (step : Step) →
+        Reached (network g workers) w → Allowed (network g workers) w step →
+        Reached (network g workers) (after_step (network g workers) w step) }
+{}
