@@ -8,3 +8,4 @@ pub mod Typed
 pub mod Boards
 pub mod States
 pub mod Fronts
+pub mod Examples
