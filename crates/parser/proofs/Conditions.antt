@@ -1,5 +1,5 @@
 -- The rules for conditions, at tokens that are known by an equation.
-use Rattle.std.proofs.Common.{◌≡◌, ◌≢◌, ℕ, ◌+◌, ◌<◌, ◌≤◌, suc, max, add-one, length, arith, ap, List, [], ◌∷◌, refl, sym, ◌∙◌, Option, Some, None}
+use Rattle.std.proofs.Common.{◌≡◌, ℕ, ◌+◌, ◌<◌, ◌≤◌, suc, max, add-one, arith, List, ◌∷◌, refl, sym, ◌∙◌, Some, None}
 use Rattle.record_core.specs.declared.span.Span.{Span}
 use Rattle.record_core.specs.declared.keyword.Keyword.TheVariants as keyword
 use Rattle.lexer.specs.declared.token.Token.{Token}
@@ -12,7 +12,7 @@ use Rattle.grammar.specs.declared.level.ConnectiveLevel.{ConnectiveLevel}
 use Rattle.grammar.specs.declared.level.ConnectiveLevel.TheVariants.{Conjunctions, Disjunctions}
 use Rattle.grammar.specs.Tokens.{reaching, mark_at, keyword_at, NoMark, NoKeyword}
 use Rattle.grammar.specs.Scalars as scalar
-use Rattle.grammar.specs.Conditions.{Part, Reads, Square, Single, Chain, Rest, square, negated, bracketed, compared, chain, stop, more, connective, operand, compares, NoConnective}
+use Rattle.grammar.specs.Conditions.{Reads, Square, Single, Chain, Rest, square, negated, bracketed, compared, chain, stop, more, connective, operand, compares}
 use Rattle.grammar.proofs.Tokens.{rest_one}
 use Rattle.grammar.proofs.Scalars as scalar_laws
 use Rattle.grammar.proofs.Conditions.{one_reading, grows, no_scalar}

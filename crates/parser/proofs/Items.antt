@@ -1,5 +1,5 @@
 -- Inputs and named relations, read one after the other.
-use Rattle.std.proofs.Common.{◌≡◌, ℕ, ◌+◌, ◌<◌, ◌≤◌, ◌^◌, max, arith, ap, ap₂, List, [], ◌∷◌, ◌++◌, append_assoc, append-nil, map, refl, sym, ◌∙◌}
+use Rattle.std.proofs.Common.{◌≡◌, ℕ, ◌<◌, ◌≤◌, ◌^◌, max, arith, ap, List, [], ◌∷◌, ◌++◌, append_assoc, append-nil, map, refl, sym, ◌∙◌}
 use Rattle.record_core.specs.declared.span.Span.{Span}
 use Rattle.record_core.specs.declared.keyword.Keyword.TheVariants as keyword
 use Rattle.lexer.specs.declared.token.Token.{Token}
@@ -14,7 +14,7 @@ use Rattle.grammar.specs.Relations as relation
 use Rattle.grammar.specs.Programs.{Inputs, no_input, input, Lets, no_let, binding}
 use Rattle.grammar.proofs.Tokens.{first_one, rest_one}
 use Rattle.grammar.proofs.Relations.{one_relation}
-use Rattle.parser.specs.Scanning.{NoName, NoNumber}
+use Rattle.parser.specs.Scanning.{NoName}
 use Rattle.parser.specs.Items.{Declares, NoDeclaration, NoInputs, Binds}
 
 made_input : Span → List ℕ → Span → ℕ → Input

@@ -1,5 +1,5 @@
 -- Lists of phrases, read one after the other.
-use Rattle.std.proofs.Common.{◌≡◌, ◌≢◌, ℕ, ◌+◌, ◌<◌, ◌≤◌, suc, max, arith, ap, List, [], ◌∷◌, ◌++◌, append_assoc, refl, sym, ◌∙◌}
+use Rattle.std.proofs.Common.{◌≡◌, ℕ, ◌≤◌, max, arith, ap, List, [], ◌∷◌, ◌++◌, append_assoc, refl, sym, ◌∙◌}
 use Rattle.record_core.specs.declared.span.Span.{Span}
 use Rattle.record_core.specs.declared.keyword.Keyword.{Keyword}
 use Rattle.record_core.specs.declared.keyword.Keyword.TheVariants as keyword
@@ -9,8 +9,8 @@ use Rattle.lexer.specs.declared.mark.Mark.TheVariants as mark
 use Rattle.lexer.specs.declared.token.TokenKind.TheVariants as kind
 use Rattle.expr_tree.specs.declared.relation.Agg.TheVariants.{Count, Sum, Min, Max}
 use Rattle.expr_tree.specs.declared.relation.Column.{Column}
-use Rattle.grammar.specs.Tokens.{token, mark_at, keyword_at, NoMark, NoKeyword}
-use Rattle.grammar.specs.Phrases.{Listed, one, more, Agree, IsOne, Unread, Ended}
+use Rattle.grammar.specs.Tokens.{mark_at, keyword_at, NoMark, NoKeyword}
+use Rattle.grammar.specs.Phrases.{Listed, one, more, IsOne, Unread, Ended}
 use Rattle.grammar.specs.Relations.{column_at, ColumnAt, PairAt, AggAt, AggOf}
 use Rattle.grammar.proofs.Tokens.{first_one, rest_one}
 use Rattle.parser.specs.Scanning.{NoColumn}

@@ -1,5 +1,5 @@
 -- Programs, at tokens that are known by an equation; and refusals.
-use Rattle.std.proofs.Common.{◌≡◌, ◌≢◌, ℕ, ◌<◌, ◌≤◌, max, arith, ap, List, [], ◌∷◌, length, Result, refl, sym, ◌∙◌, inl, inr}
+use Rattle.std.proofs.Common.{◌≡◌, ◌≢◌, ℕ, ◌<◌, max, arith, ap, List, [], ◌∷◌, length, Result, refl, sym, ◌∙◌, inl, inr}
 use Rattle.std.specs.Prelude.{IfErr}
 use Rattle.std.proofs.lemmas.Result.{IfErr-weaker}
 use Rattle.record_core.specs.declared.span.Span.{Span}
@@ -9,7 +9,6 @@ use Rattle.record_core.specs.declared.keyword.Keyword.TheVariants as keyword
 use Rattle.lexer.specs.declared.token.Token.{Token}
 use Rattle.lexer.specs.declared.mark.Mark.TheVariants as mark
 use Rattle.lexer.specs.Tokens.{Lexes}
-use Rattle.lexer.specs.Faults as lexis
 use Rattle.lexer.proofs.Unique.{lexes_one, refused_none}
 use Rattle.expr_tree.specs.declared.program.Input.{Input}
 use Rattle.expr_tree.specs.Trees.{RelTree, LetTree, ProgramTree}

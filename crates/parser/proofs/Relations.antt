@@ -1,17 +1,15 @@
 -- The forms of relations, at tokens that are known by an equation.
-use Rattle.std.proofs.Common.{◌≡◌, ◌≢◌, ℕ, ◌+◌, ◌<◌, ◌≤◌, ◌^◌, suc, max, add-one, length, arith, ap, List, [], ◌∷◌, refl, sym, ◌∙◌, Option, Some, None}
+use Rattle.std.proofs.Common.{◌≡◌, ℕ, ◌+◌, ◌<◌, ◌≤◌, ◌^◌, suc, max, add-one, arith, ap, List, ◌∷◌, refl, sym, ◌∙◌}
 use Rattle.record_core.specs.declared.span.Span.{Span}
-use Rattle.record_core.specs.declared.keyword.Keyword.TheVariants as keyword
 use Rattle.lexer.specs.declared.token.Token.{Token}
 use Rattle.lexer.specs.declared.token.TokenKind.TheVariants as kind
-use Rattle.lexer.specs.declared.mark.Mark.{Mark}
 use Rattle.lexer.specs.declared.mark.Mark.TheVariants as mark
 use Rattle.expr_tree.specs.Trees.{ScalarTree, CondTree, RelTree}
 use Rattle.expr_tree.specs.declared.relation.Agg.{Agg}
 use Rattle.expr_tree.specs.declared.relation.Column.{Column}
 use Rattle.expr_tree.specs.declared.relation.Pair.{Pair}
 use Rattle.grammar.specs.Tokens.{reaching, token, mark_at, NoMark}
-use Rattle.grammar.specs.Phrases.{Listed, Agree, IsOne, Unread, Ended}
+use Rattle.grammar.specs.Phrases.{Listed, IsOne, Unread, Ended}
 use Rattle.grammar.specs.Scalars.{ScalarAt}
 use Rattle.grammar.specs.Conditions.{ConditionAt}
 use Rattle.grammar.specs.Relations.{Reads, named, select, filter, concat, join, group, iterate, distinct, ColumnAt, PairAt, AggAt, IsNameAt, piece}

@@ -1,8 +1,7 @@
 -- The rules for scalars, at tokens that are known by an equation.
-use Rattle.std.proofs.Common.{◌≡◌, ◌≢◌, ℕ, ◌+◌, ◌<◌, ◌≤◌, ◌^◌, suc, max, add-one, length, arith, ap, ℤ, pos, List, [], ◌∷◌, refl, Option, Some, None}
+use Rattle.std.proofs.Common.{◌≡◌, ℕ, ◌+◌, ◌<◌, ◌≤◌, ◌^◌, suc, max, add-one, arith, ℤ, pos, List, ◌∷◌, refl, Some}
 use Rattle.record_core.specs.declared.span.Span.{Span}
 use Rattle.lexer.specs.declared.token.Token.{Token}
-use Rattle.lexer.specs.declared.token.TokenKind.{TokenKind}
 use Rattle.lexer.specs.declared.token.TokenKind.TheVariants as kind
 use Rattle.lexer.specs.declared.mark.Mark.TheVariants as mark
 use Rattle.expr_tree.specs.declared.scalar.Operator.{Operator}
@@ -10,7 +9,7 @@ use Rattle.expr_tree.specs.Trees.{ScalarTree}
 use Rattle.grammar.specs.declared.level.OperatorLevel.{OperatorLevel}
 use Rattle.grammar.specs.declared.level.OperatorLevel.TheVariants.{Products, Sums}
 use Rattle.grammar.specs.Tokens.{reaching, token, mark_at, NoMark}
-use Rattle.grammar.specs.Scalars.{Part, Reads, Atom, Unary, Chain, Rest, number, column, bracket, minus, plain, chain, stop, more, operator, operand, NoOperator}
+use Rattle.grammar.specs.Scalars.{Reads, Atom, Unary, Chain, Rest, number, column, bracket, minus, plain, chain, stop, more, operator, operand}
 use Rattle.grammar.proofs.Scalars.{one_reading, grows}
 use Rattle.parser.specs.Scanning.{NoNumber, NoColumn}
 use Rattle.parser.specs.Scalars.{Unread}

@@ -20,31 +20,6 @@ use lexer::{Mark, Token, TokenKind};
 use record_core::{Keyword, Span};
 use std::alloc::Allocator;
 
-/// Two conditions under a connective.
-fn logical<A: Allocator + Copy>(
-    alloc: A,
-    span: Span,
-    connective: Connective,
-    left: Cond<A>,
-    right: Cond<A>,
-) -> Result<Cond<A>, Fault>
-    ensures made { IfOk result (λ c. cond_tree c ≡ CondTree.logical span connective (cond_tree left) (cond_tree right)) }
-    ensures none { IfErr result (λ f. f ≡ NoMemory) }
-{
-    let left = Box::new(alloc, left)?;
-    let right = Box::new(alloc, right)?;
-    Ok(Cond::Logical(span, connective, left, right))
-}
-
-/// A condition under `not`.
-fn negation<A: Allocator + Copy>(alloc: A, span: Span, condition: Cond<A>) -> Result<Cond<A>, Fault>
-    ensures made { IfOk result (λ c. cond_tree c ≡ CondTree.negate span (cond_tree condition)) }
-    ensures none { IfErr result (λ f. f ≡ NoMemory) }
-{
-    let condition = Box::new(alloc, condition)?;
-    Ok(Cond::Not(span, condition))
-}
-
 /// Two scalars compared.
 fn comparison<A: Allocator>(
     span: Span,
@@ -179,7 +154,7 @@ fn parse_single<'a, A: Allocator + Copy>(
     if let Some((not, after)) = after_keyword(Keyword::Not, tokens) {
         let (condition, end, height, rest) = parse_square(alloc, not, after, room)?;
         let extent = spanning(not, end);
-        let condition = negation(alloc, extent, condition)?;
+        let condition = Cond::negate(alloc, extent, condition)?;
         return Ok((condition, extent, height, rest));
     }
     if let Some((open, _)) = after_mark(Mark::OpenSquare, tokens) {
@@ -233,7 +208,7 @@ pub fn parse_condition<'a, A: Allocator + Copy>(
         }
         height = most + 1;
         extent = spanning(extent, end);
-        left = logical(alloc, extent, connective, left, right)?;
+        left = Cond::logical(alloc, extent, connective, left, right)?;
         rest = others;
     }
     Ok((left, extent, height, rest))

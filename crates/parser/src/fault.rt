@@ -1,8 +1,9 @@
 //! Why no phrase was read.
 
 ghost use Rattle.std.specs.Prelude.{◌≡◌};
-ghost use Rattle.parser.specs.declared.fault.Fault.TheVariants.{NoMemory};
+ghost use Rattle.parser.specs.declared.fault.Fault.TheVariants as fault;
 
+use expr_tree::NoMemory;
 use record_core::Span;
 use std::alloc::{AllocError, AllocFailed};
 
@@ -20,7 +21,7 @@ pub enum Fault {
 }
 
 impl From<AllocError> for Fault {
-    ghost from_gives = { λ _ f. f ≡ NoMemory };
+    ghost from_gives = { λ _ f. f ≡ fault.NoMemory };
 
     fn from(_: AllocError) -> Fault {
         Fault::NoMemory
@@ -28,9 +29,17 @@ impl From<AllocError> for Fault {
 }
 
 impl<T: Drop> From<AllocFailed<T>> for Fault {
-    ghost from_gives = { λ _ f. f ≡ NoMemory };
+    ghost from_gives = { λ _ f. f ≡ fault.NoMemory };
 
     fn from(_: AllocFailed<T>) -> Fault {
+        Fault::NoMemory
+    }
+}
+
+impl From<NoMemory> for Fault {
+    ghost from_gives = { λ _ f. f ≡ fault.NoMemory };
+
+    fn from(_: NoMemory) -> Fault {
         Fault::NoMemory
     }
 }

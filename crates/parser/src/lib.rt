@@ -8,7 +8,6 @@
 //! `lexer`, `grammar` and `expr_tree`; typing checks what is read here.
 #![tactic(auto)]
 
-mod build;
 mod condition;
 mod fault;
 mod item;

@@ -1,17 +1,16 @@
 //! Relations from tokens.
 
 ghost use Rattle.std.specs.Prelude.{◌≡◌, ◌+◌, ◌<◌, ◌≤◌, ◌∷◌, length, IfOk, IfErr, MatchOption};
+ghost use Rattle.expr_tree.specs.Trees.{RelTree};
 ghost use Rattle.expr_tree.specs.Views.{rel_tree};
 ghost use Rattle.grammar.specs.Tokens.{mark_at};
 ghost use Rattle.grammar.specs.Phrases.{Ended, Unread};
 ghost use Rattle.grammar.specs.Relations.{Reads, piece};
+ghost use Rattle.parser.specs.declared.fault.Fault.TheVariants.{NoMemory};
 ghost use Rattle.parser.specs.declared.relation.Form.TheVariants as form;
 ghost use Rattle.parser.specs.Faults.{Denies};
 ghost use Rattle.parser.specs.Forms.{form_of, form_token, opened, NoForm, Heads, NoHead};
 
-use crate::build::{
-    LoopHead, concatenation, distinction, filtering, grouping, iteration, joining, selection,
-};
 use crate::fault::{Fault, MAX_HEIGHT};
 use crate::list::{
     parse_columns, parse_last_aggs, parse_last_condition, parse_last_pairs, parse_last_scalars,
@@ -19,7 +18,7 @@ use crate::list::{
 use crate::scan::{after_mark, after_name, after_number, front, spanning};
 use expr_tree::Rel;
 use lexer::{Mark, Token, TokenKind};
-use record_core::{Keyword, Span};
+use record_core::{Keyword, Name, Span};
 use std::alloc::Allocator;
 
 /// A form of relation, by its keyword.
@@ -39,6 +38,15 @@ pub enum Form {
 pub struct Opening {
     pub keyword: Span,
     pub bracket: Span,
+}
+
+/// What stands before the relations of a loop: the number of turns and the variable.
+#[derive(Drop)]
+pub struct LoopHead {
+    pub turns_span: Span,
+    pub turns: u64,
+    pub name_span: Span,
+    pub name: Name,
 }
 
 /// The form that a keyword begins.
@@ -99,6 +107,30 @@ fn parse_loop_head<'a>(text: &[u8], tokens: &'a [Token]) -> Result<(LoopHead, &'
     Ok((head, rest))
 }
 
+/// A loop, whose relations are moved into boxes.
+fn iteration<A: Allocator + Copy>(
+    alloc: A,
+    span: Span,
+    head: LoopHead,
+    start: Rel<A>,
+    body: Rel<A>,
+) -> Result<Rel<A>, Fault>
+    ensures made { IfOk result (λ r. rel_tree r ≡ RelTree.iterate span head.turns_span head.turns head.name_span head.name (rel_tree start) (rel_tree body)) }
+    ensures none { IfErr result (λ f. f ≡ NoMemory) }
+{
+    let start = Box::new(alloc, start)?;
+    let body = Box::new(alloc, body)?;
+    Ok(Rel::Iterate {
+        span,
+        turns_span: head.turns_span,
+        turns: head.turns,
+        name_span: head.name_span,
+        name: head.name,
+        start,
+        body,
+    })
+}
+
 /// A relation, and the mark after it.
 #[cycle(parse)]
 pub fn parse_rel_then<'a, A: Allocator + Copy>(
@@ -143,7 +175,7 @@ fn parse_select<'a, A: Allocator + Copy>(
         return Err(Fault::TooHigh(opening.keyword));
     }
     let span = spanning(opening.keyword, end);
-    let relation = selection(alloc, span, relation, scalars)?;
+    let relation = Rel::select(alloc, span, relation, scalars)?;
     Ok((relation, most + 1, rest))
 }
 
@@ -169,7 +201,7 @@ fn parse_where<'a, A: Allocator + Copy>(
         return Err(Fault::TooHigh(opening.keyword));
     }
     let span = spanning(opening.keyword, end);
-    let relation = filtering(alloc, span, relation, condition)?;
+    let relation = Rel::filter(alloc, span, relation, condition)?;
     Ok((relation, most + 1, rest))
 }
 
@@ -195,7 +227,7 @@ fn parse_concat<'a, A: Allocator + Copy>(
         return Err(Fault::TooHigh(opening.keyword));
     }
     let span = spanning(opening.keyword, end);
-    let relation = concatenation(alloc, span, left, right)?;
+    let relation = Rel::concat(alloc, span, left, right)?;
     Ok((relation, most + 1, rest))
 }
 
@@ -222,7 +254,7 @@ fn parse_join<'a, A: Allocator + Copy>(
         return Err(Fault::TooHigh(opening.keyword));
     }
     let span = spanning(opening.keyword, end);
-    let relation = joining(alloc, span, left, right, pairs)?;
+    let relation = Rel::join(alloc, span, left, right, pairs)?;
     Ok((relation, most + 1, rest))
 }
 
@@ -248,7 +280,7 @@ fn parse_group<'a, A: Allocator + Copy>(
         return Err(Fault::TooHigh(opening.keyword));
     }
     let span = spanning(opening.keyword, end);
-    let relation = grouping(alloc, span, relation, keys, aggs)?;
+    let relation = Rel::group(alloc, span, relation, keys, aggs)?;
     Ok((relation, height + 1, rest))
 }
 
@@ -278,7 +310,7 @@ fn parse_distinct<'a, A: Allocator + Copy>(
         return Err(Fault::TooHigh(opening.keyword));
     }
     let span = spanning(opening.keyword, end);
-    let relation = distinction(alloc, span, relation)?;
+    let relation = Rel::distinct(alloc, span, relation)?;
     Ok((relation, height + 1, rest))
 }
 

@@ -16,35 +16,6 @@ use lexer::{Mark, Token, TokenKind};
 use record_core::Span;
 use std::alloc::Allocator;
 
-/// Two scalars under an operator.
-fn binary<A: Allocator + Copy>(
-    alloc: A,
-    span: Span,
-    operator: Operator,
-    left: Scalar<A>,
-    right: Scalar<A>,
-) -> Result<Scalar<A>, Fault>
-    ensures made { IfOk result (λ s. scalar_tree s ≡ ScalarTree.binary span operator (scalar_tree left) (scalar_tree right)) }
-    ensures none { IfErr result (λ f. f ≡ NoMemory) }
-{
-    let left = Box::new(alloc, left)?;
-    let right = Box::new(alloc, right)?;
-    Ok(Scalar::Binary(span, operator, left, right))
-}
-
-/// A scalar under a minus.
-fn negation<A: Allocator + Copy>(
-    alloc: A,
-    span: Span,
-    scalar: Scalar<A>,
-) -> Result<Scalar<A>, Fault>
-    ensures made { IfOk result (λ s. scalar_tree s ≡ ScalarTree.negate span (scalar_tree scalar)) }
-    ensures none { IfErr result (λ f. f ≡ NoMemory) }
-{
-    let scalar = Box::new(alloc, scalar)?;
-    Ok(Scalar::Negate(span, scalar))
-}
-
 /// The operator of that level that a token is.
 fn operator_of(level: OperatorLevel, kind: TokenKind) -> Option<Operator>
     ensures { result ≡ operator level kind }
@@ -122,7 +93,7 @@ fn parse_unary<'a, A: Allocator + Copy>(
         return Err(Fault::TooHigh(minus));
     }
     let extent = spanning(minus, end);
-    let scalar = negation(alloc, extent, scalar)?;
+    let scalar = Scalar::negate(alloc, extent, scalar)?;
     Ok((scalar, extent, height + 1, rest))
 }
 
@@ -169,7 +140,7 @@ pub fn parse_chain<'a, A: Allocator + Copy>(
         }
         height = most + 1;
         extent = spanning(extent, end);
-        left = binary(alloc, extent, operator, left, right)?;
+        left = Scalar::binary(alloc, extent, operator, left, right)?;
         rest = others;
     }
     Ok((left, extent, height, rest))

@@ -142,6 +142,16 @@ fn long_texts(rt: HostRuntime) -> Result<(), Fail> {
             Some(at(6, 1_048_576, 1_048_576))
         );
     }
+    let scalars = nested(
+        rt.alloc(),
+        b"input a/1; output select(a; ",
+        500_000,
+        b"1,",
+        b"1",
+        b"",
+        b");",
+    )?;
+    assert!(rt; parse(rt.alloc(), scalars.as_slice()).is_ok());
     Ok(())
 }
 

@@ -28,7 +28,7 @@ parse_single-returns-in_err-condition-clause-denied g t c =
 
 pub parse_single-returns-in-Some-clause-found : goal.parse_single-returns-in-Some-clause-found
 parse_single-returns-in-Some-clause-found g t c =
-    negated_at _ _ _ _ _ _ _ _ _ c.in-Some.ensures c.in_ok-condition.ensures.found c.spanning-extent.ensures c.in_ok-condition-2.ensures.made
+    negated_at _ _ _ _ _ _ _ _ _ c.in-Some.ensures c.in_ok-condition.ensures.found c.spanning-extent.ensures c.in_ok-condition-2.ensures
 
 pub parse_single-returns-in-Some-after_mark-clause-found : goal.parse_single-returns-in-Some-after_mark-clause-found
 parse_single-returns-in-Some-after_mark-clause-found g t c =
@@ -62,7 +62,7 @@ pub parse_condition-loop-connective-preserved : goal.parse_condition-loop-connec
 parse_condition-loop-connective-preserved g t c =
     let o = ap (λ v. v + 1) c.max-most.ensures in
     record {
-      on = goes_on _ _ _ _ _ _ _ _ _ _ _ _ _ _ _ _ c.loop-connective.invariant.on c.in-Some.ensures.0 c.in-Some.ensures.1 c.in_ok-right.ensures.found c.spanning-extent.ensures c.in_ok-left-2.ensures.made o;
+      on = goes_on _ _ _ _ _ _ _ _ _ _ _ _ _ _ _ _ c.loop-connective.invariant.on c.in-Some.ensures.0 c.in-Some.ensures.1 c.in_ok-right.ensures.found c.spanning-extent.ensures c.in_ok-left-2.ensures o;
       shorter = shorter_at _ _ _ _ _ c.loop-connective.invariant.shorter c.in-Some.ensures.0 c.in_ok-right.ensures.shorter;
       low = omega arith;
       most = omega (arith, c.in_ok-right.ensures.low.1, c.loop-connective.invariant.most);

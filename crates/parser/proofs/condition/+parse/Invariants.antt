@@ -1,4 +1,4 @@
-use Rattle.std.proofs.Common.{ℕ, ◌+◌, ◌*◌, ◌<◌, ◌≤◌, List, length}
+use Rattle.std.proofs.Common.{◌+◌, ◌*◌, ◌<◌, ◌≤◌, length}
 use Rattle.expr_tree.specs.Views.{cond_tree}
 use Rattle.parser.proofs.Conditions.{GoesOn, steps}
 use Rattle.parser.proofs.condition.+parse.Given as goal

@@ -1,4 +1,4 @@
-use Rattle.std.proofs.Common.{arith, rules, refl, ap, ◌+◌, ◌≤◌}
+use Rattle.std.proofs.Common.{arith, rules, ap, ◌+◌}
 use Rattle.parser.proofs.Faults.{denied_with, passed_on}
 use Rattle.parser.proofs.Conditions.{no_left, no_comparison, no_right, high_compared, compared_at}
 use Rattle.parser.proofs.condition.parse_comparison.Goals as goal

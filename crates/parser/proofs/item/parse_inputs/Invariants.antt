@@ -1,4 +1,4 @@
-use Rattle.std.proofs.Common.{ℕ, List, length}
+use Rattle.std.proofs.Common.{length}
 use Rattle.parser.proofs.Items.{InputsOn}
 use Rattle.parser.proofs.item.parse_inputs.Given as goal
 

@@ -1,4 +1,4 @@
-use Rattle.std.proofs.Common.{arith, rules, ◌≡◌, map, max}
+use Rattle.std.proofs.Common.{arith, rules, ◌≡◌, max}
 use Rattle.std.proofs.lemmas.List.{map-append}
 use Rattle.expr_tree.specs.Views.{let_tree}
 use Rattle.grammar.specs.Phrases.{Unread}

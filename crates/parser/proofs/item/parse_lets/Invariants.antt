@@ -1,4 +1,4 @@
-use Rattle.std.proofs.Common.{ℕ, ◌≤◌, List, length, map}
+use Rattle.std.proofs.Common.{◌≤◌, length, map}
 use Rattle.expr_tree.specs.Views.{let_tree}
 use Rattle.parser.proofs.Items.{LetsOn}
 use Rattle.parser.proofs.item.parse_lets.Given as goal

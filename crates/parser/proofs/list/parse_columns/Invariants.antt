@@ -1,4 +1,4 @@
-use Rattle.std.proofs.Common.{ℕ, ◌≤◌, List, length}
+use Rattle.std.proofs.Common.{◌≤◌, length}
 use Rattle.grammar.specs.Relations.{ColumnAt}
 use Rattle.parser.proofs.Lists.{OnesOn}
 use Rattle.parser.proofs.list.parse_columns.Given as goal

@@ -1,4 +1,4 @@
-use Rattle.std.proofs.Common.{arith, rules, refl, ap, length}
+use Rattle.std.proofs.Common.{arith, ap, length}
 use Rattle.lexer.specs.declared.mark.Mark.TheVariants as mark
 use Rattle.grammar.specs.Relations.{PairAt}
 use Rattle.grammar.proofs.Phrases.{one_list, one_pair}

@@ -1,4 +1,4 @@
-use Rattle.std.proofs.Common.{ℕ, ◌≤◌, List, length}
+use Rattle.std.proofs.Common.{◌≤◌, length}
 use Rattle.grammar.specs.Relations.{PairAt}
 use Rattle.parser.proofs.Lists.{OnesOn}
 use Rattle.parser.proofs.list.parse_last_pairs.Given as goal

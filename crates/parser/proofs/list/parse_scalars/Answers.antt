@@ -1,6 +1,5 @@
-use Rattle.std.proofs.Common.{arith, rules, refl, ap, ◌≡◌, ◌∙◌, ◌+◌, ◌≤◌, ◌++◌, ◌∷◌, [], map, max, length}
+use Rattle.std.proofs.Common.{arith, rules, ap, ◌≡◌, max, length}
 use Rattle.std.proofs.lemmas.List.{map-append}
-use Rattle.expr_tree.specs.Views.{scalar_tree}
 use Rattle.grammar.specs.Scalars.{ScalarAt}
 use Rattle.grammar.proofs.Scalars.{one_scalar}
 use Rattle.parser.proofs.Faults.{denied_with, passed_on}

@@ -1,4 +1,4 @@
-use Rattle.std.proofs.Common.{ℕ, ◌≤◌, List, length, map}
+use Rattle.std.proofs.Common.{◌≤◌, length, map}
 use Rattle.expr_tree.specs.Views.{scalar_tree}
 use Rattle.grammar.specs.Scalars.{ScalarAt}
 use Rattle.parser.proofs.Lists.{ListOn}

@@ -1,6 +1,5 @@
 use Rattle.std.proofs.Common.{rules}
 use Rattle.lexer.specs.Tokens.{Lexes}
-use Rattle.parser.specs.Refusals.{Refuses}
 use Rattle.parser.proofs.Programs.{told, not_read, no_tokens}
 use Rattle.parser.proofs.program.parse.Goals as goal
 

@@ -1,4 +1,4 @@
-use Rattle.std.proofs.Common.{arith, rules, ap, max, ◌≡◌, ◌<◌, ◌≤◌, length}
+use Rattle.std.proofs.Common.{arith, rules, ap, ◌≡◌, ◌<◌, length}
 use Rattle.lexer.specs.declared.mark.Mark.TheVariants as mark
 use Rattle.expr_tree.specs.Views.{rel_tree}
 use Rattle.grammar.specs.Phrases.{Unread, Ended}

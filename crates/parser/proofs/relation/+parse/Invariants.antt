@@ -1,4 +1,4 @@
-use Rattle.std.proofs.Common.{ℕ, ◌+◌, ◌*◌}
+use Rattle.std.proofs.Common.{◌+◌, ◌*◌}
 use Rattle.parser.proofs.relation.+parse.Given as goal
 
 abbrev pub decreases-parse_rel : goal.decreases-parse_rel

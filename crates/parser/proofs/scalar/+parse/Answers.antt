@@ -51,7 +51,7 @@ parse_unary-returns-then-height-eq-MAX_HEIGHT-clause-denied g t c =
 
 pub parse_unary-returns-clause-found : goal.parse_unary-returns-clause-found
 parse_unary-returns-clause-found g t c =
-    minus_at _ _ _ _ _ _ _ _ _ _ c.in-Some.ensures c.in_ok-scalar.ensures.found c.spanning-extent.ensures c.in_ok-scalar-2.ensures.made refl
+    minus_at _ _ _ _ _ _ _ _ _ _ c.in-Some.ensures c.in_ok-scalar.ensures.found c.spanning-extent.ensures c.in_ok-scalar-2.ensures refl
 
 pub parse_chain-returns-in_err-left-clause-denied : goal.parse_chain-returns-in_err-left-clause-denied
 parse_chain-returns-in_err-left-clause-denied g t c =
@@ -77,7 +77,7 @@ pub parse_chain-loop-operator-preserved : goal.parse_chain-loop-operator-preserv
 parse_chain-loop-operator-preserved g t c =
     let o = ap (λ v. v + 1) c.max-most.ensures in
     record {
-      on = goes_on _ _ _ _ _ _ _ _ _ _ _ _ _ _ _ _ c.loop-operator.invariant.on c.in-Some.ensures.0 c.in-Some.ensures.1 c.in_ok-right.ensures.found c.spanning-extent.ensures c.in_ok-left-2.ensures.made o;
+      on = goes_on _ _ _ _ _ _ _ _ _ _ _ _ _ _ _ _ c.loop-operator.invariant.on c.in-Some.ensures.0 c.in-Some.ensures.1 c.in_ok-right.ensures.found c.spanning-extent.ensures c.in_ok-left-2.ensures o;
       shorter = shorter_at _ _ _ _ _ c.loop-operator.invariant.shorter c.in-Some.ensures.0 c.in_ok-right.ensures.shorter;
       low = omega arith;
       most = omega (arith, c.in_ok-right.ensures.low.1, c.loop-operator.invariant.most);

@@ -1,4 +1,4 @@
-use Rattle.std.proofs.Common.{ℕ, ◌+◌, ◌*◌, ◌<◌, ◌≤◌, List, length}
+use Rattle.std.proofs.Common.{◌+◌, ◌*◌, ◌<◌, ◌≤◌, length}
 use Rattle.expr_tree.specs.Views.{scalar_tree}
 use Rattle.parser.proofs.Scalars.{GoesOn, steps}
 use Rattle.parser.proofs.scalar.+parse.Given as goal
