@@ -13,11 +13,12 @@ use Rattle.machine.specs.Sending.{parcels}
 use Rattle.machine.specs.Processing.{absorbed_by, absorbed_with, absorbed_after, emitted_by, emitted_after, asked, MakesBy}
 use Rattle.machine.specs.Step.{Step, Allowed, after_step, put}
 use Rattle.machine.proofs.NetFlow.{ins}
-use Rattle.machine.proofs.Kept.{each}
+use Rattle.machine.proofs.Kept.{done_at, each}
 use Rattle.semantics.specs.Shard.{only_at}
 use Rattle.machine.proofs.Commits.{once, way_after, vertex_after}
 use Rattle.machine.proofs.Counting.{eqb_self, below_one, below_changed, count-append}
-use Rattle.machine.proofs.Kept.{History, carried, held_records, under_way, wished, held_wish, wishes, some, bit, made, Due, Kept, GoodMessage, GoodRequest, GoodHeld}
+use Rattle.machine.proofs.Kept.{done_at, History, carried, held_records, under_way, wished, held_wish, wishes, some, bit, made, Due, Kept, GoodMessage, GoodRequest, GoodHeld}
+use Rattle.machine.proofs.Ports.{end_same, some_append, some_of_port}
 use Rattle.machine.proofs.Laws.{IsNetwork, IsOutput, AtHome, times_in}
 use Rattle.machine.proofs.NetFlow.{HasFlows}
 use Rattle.machine.proofs.Notifications.{some_row}
@@ -288,29 +289,32 @@ module _ (g : Network) (law : IsNetwork g) (w : World) (h : History) (keeps : Ke
       go (inr (a, b)) (inl (c, d)) z = absurd (a (ap g.role (vertex_of v 0 is.1 d) ∙ is.0))
       go (inr (a, b)) (inr (c, d)) z = ap (count r) b ∙ nothing c
 
-  some_append : (xs ys : List Record) → 0 < some ys → some (xs ++ ys) ≡ 1
-  some_append [] [] l = absurd (omega arith)
-  some_append [] (y ∷ ys) l = refl
-  some_append (x ∷ xs) ys l = refl
-
   abbrev at_any : List Record
   at_any = end_to_end (λ p. w.absorbed k0 (g.target m.edge) p m.time) (g.ports (g.target m.edge))
 
-  -- a group has one port
-  any_is : g.role (g.target m.edge) ≡ Role.notified → at_any ≡ w.absorbed k0 (g.target m.edge) (g.in_port m.edge) m.time
-  any_is s =
-      let o : g.ports (g.target m.edge) ≡ 1 = law.one_port (g.target m.edge) s in
-      let p : g.in_port m.edge < g.ports (g.target m.edge) = law.target_ports m.edge good_message.0 in
-      let z : 0 ≡ g.in_port m.edge = omega arith in
-      ap (end_to_end (λ p. w.absorbed k0 (g.target m.edge) p m.time)) o ∙ ap (λ p. w.absorbed k0 (g.target m.edge) p m.time) z
+  any_is : g.role (g.target m.edge) ≡ Role.notified → at_any ≡ done_at g h k0 (g.target m.edge) m.time
+  any_is s = end_same (λ p. w.absorbed k0 (g.target m.edge) p m.time) (λ p. h.done k0 (g.edge_into (g.target m.edge) p) m.time) (g.ports (g.target m.edge)) (λ p lp. keeps.shards k0 (g.target m.edge) p m.time ok.0 lp (inr s))
+
+  -- at another vertex or time nothing more was processed
+  done_same : (k v : ℕ) (t : Time) → (k ≡ k0 → g.target m.edge ≡ v → m.time ≡ t → ⊥) → done_at g (history_done h k0 m) k v t ≡ done_at g h k v t
+  done_same k v t never = end_same (λ p. done_after h k0 m k (g.edge_into v p) t) (λ p. h.done k (g.edge_into v p) t) (g.ports v) (λ p lp. go p lp (done_tells h k0 m k (g.edge_into v p) t))
+    where
+      go : (p : ℕ) → p < g.ports v → DoneHere h k0 m k (g.edge_into v p) t ⊎ DoneElsewhere h k0 m k (g.edge_into v p) t → done_after h k0 m k (g.edge_into v p) t ≡ h.done k (g.edge_into v p) t
+      go p lp (inl x) = absurd (never x.worker (vertex_of v p lp x.edge) x.time)
+      go p lp (inr x) = x.is
+
+  -- at the message's own there is something now
+  done_some : (v : ℕ) (t : Time) → g.target m.edge ≡ v → m.time ≡ t → some (done_at g (history_done h k0 m) k0 v t) ≡ 1
+  done_some v t a b = some_of_port (λ p. done_after h k0 m k0 (g.edge_into v p) t) (g.ports v) (g.in_port m.edge) (subst (λ (x : ℕ). g.in_port m.edge < g.ports x) a (law.target_ports m.edge good_message.0)) (go (done_tells h k0 m k0 (g.edge_into v (g.in_port m.edge)) t))
+    where
+      go : DoneHere h k0 m k0 (g.edge_into v (g.in_port m.edge)) t ⊎ DoneElsewhere h k0 m k0 (g.edge_into v (g.in_port m.edge)) t → 0 < some (done_after h k0 m k0 (g.edge_into v (g.in_port m.edge)) t)
+      go (inl x) = let z : some (done_after h k0 m k0 (g.edge_into v (g.in_port m.edge)) t) ≡ 1 = ap some x.is ∙ some_append (h.done k0 (g.edge_into v (g.in_port m.edge)) t) m.records good_message.1 in omega arith
+      go (inr x) = absurd (x.other refl (sym edge_here ∙ ap (λ z. g.edge_into z (g.in_port m.edge)) a) b)
 
   -- what is asked for, and what was processed
-  wish : (v : ℕ) (t : Time) → g.role v ≡ Role.notified → total (wished v t) (asked g w k0 (Event.arrival m)) + some (h.done k0 (g.edge_into v 0) t) ≡ some (done_after h k0 m k0 (g.edge_into v 0) t)
-  wish v t s = go (notified_asked (g.role (g.target m.edge)) (g.target m.edge) m.time at_any) (done_tells h k0 m k0 (g.edge_into v 0) t)
+  wish : (v : ℕ) (t : Time) → g.role v ≡ Role.notified → total (wished v t) (asked g w k0 (Event.arrival m)) + some (done_at g h k0 v t) ≡ some (done_at g (history_done h k0 m) k0 v t)
+  wish v t s = go (notified_asked (g.role (g.target m.edge)) (g.target m.edge) m.time at_any) (eqb_tells (g.target m.edge) v) (same_time_tells m.time t)
     where
-      port : 0 < g.ports v
-      port = let o : g.ports v ≡ 1 = law.one_port v s in omega arith
-
       first_in : (xs : List Record) → g.target m.edge ≡ v → m.time ≡ t → total (wished v t) (asked_first (g.target m.edge) m.time xs) + some xs ≡ 1
       first_in [] a b = rw (a, b, eqb_self v, same_time_self t) refl
       first_in (x ∷ xs) a b = omega arith
@@ -324,28 +328,27 @@ module _ (g : Network) (law : IsNetwork g) (w : World) (h : History) (keeps : Ke
           at (inl (a, b)) (inr (c, d)) = rw (a, c) refl
           at (inr (a, b)) z = rw a refl
 
+      nothing : (g.target m.edge ≡ v → m.time ≡ t → ⊥) → ((g.role (g.target m.edge) ≡ Role.notified) × (asked g w k0 (Event.arrival m) ≡ asked_first (g.target m.edge) m.time at_any)) ⊎ ((g.role (g.target m.edge) ≢ Role.notified) × (asked g w k0 (Event.arrival m) ≡ [])) → total (wished v t) (asked g w k0 (Event.arrival m)) ≡ 0
+      nothing never (inl (a, b)) = ap (λ z. total (wished v t) z) b ∙ first_out at_any never
+      nothing never (inr (a, b)) = ap (λ z. total (wished v t) z) b
+
+      same : (g.target m.edge ≡ v → m.time ≡ t → ⊥) → ((g.role (g.target m.edge) ≡ Role.notified) × (asked g w k0 (Event.arrival m) ≡ asked_first (g.target m.edge) m.time at_any)) ⊎ ((g.role (g.target m.edge) ≢ Role.notified) × (asked g w k0 (Event.arrival m) ≡ [])) → total (wished v t) (asked g w k0 (Event.arrival m)) + some (done_at g h k0 v t) ≡ some (done_at g (history_done h k0 m) k0 v t)
+      same never x =
+          let a = nothing never x in
+          let b : some (done_at g (history_done h k0 m) k0 v t) ≡ some (done_at g h k0 v t) = ap some (done_same k0 v t (λ e. never)) in
+          omega arith
+
       go : ((g.role (g.target m.edge) ≡ Role.notified) × (asked g w k0 (Event.arrival m) ≡ asked_first (g.target m.edge) m.time at_any)) ⊎ ((g.role (g.target m.edge) ≢ Role.notified) × (asked g w k0 (Event.arrival m) ≡ []))
-          → DoneHere h k0 m k0 (g.edge_into v 0) t ⊎ DoneElsewhere h k0 m k0 (g.edge_into v 0) t → total (wished v t) (asked g w k0 (Event.arrival m)) + some (h.done k0 (g.edge_into v 0) t) ≡ some (done_after h k0 m k0 (g.edge_into v 0) t)
-      go (inl (a, b)) (inl x) =
-          let c : at_any ≡ h.done k0 (g.edge_into v 0) t =
-          any_is a ∙ keeps.shards k0 (g.target m.edge) (g.in_port m.edge) m.time ok.0 (law.target_ports m.edge good_message.0) (inr a) ∙ ap₂ (h.done k0) (edge_here ∙ x.edge) x.time in
-          let d : total (wished v t) (asked g w k0 (Event.arrival m)) ≡ total (wished v t) (asked_first (g.target m.edge) m.time (h.done k0 (g.edge_into v 0) t)) = ap (λ z. total (wished v t) z) (b ∙ ap (asked_first (g.target m.edge) m.time) c) in
-          let f = first_in (h.done k0 (g.edge_into v 0) t) (vertex_of v 0 port x.edge) x.time in
-          let i : some (done_after h k0 m k0 (g.edge_into v 0) t) ≡ 1 = ap some x.is ∙ some_append (h.done k0 (g.edge_into v 0) t) m.records good_message.1 in
-          omega arith
-      go (inr (a, b)) (inl x) = absurd (a (ap g.role (vertex_of v 0 port x.edge) ∙ s))
-      go (inl (a, b)) (inr x) =
-          let d : total (wished v t) (asked g w k0 (Event.arrival m)) ≡ total (wished v t) (asked_first (g.target m.edge) m.time at_any) = ap (λ z. total (wished v t) z) b in
-          let f = first_out at_any (λ e u.
-          let o : g.ports (g.target m.edge) ≡ 1 = law.one_port (g.target m.edge) a in
-          let p : g.in_port m.edge < g.ports (g.target m.edge) = law.target_ports m.edge good_message.0 in
-          let z : g.in_port m.edge ≡ 0 = omega arith in
-          x.other refl (sym edge_here ∙ ap₂ g.edge_into e z) u) in
-          let i : some (done_after h k0 m k0 (g.edge_into v 0) t) ≡ some (h.done k0 (g.edge_into v 0) t) = ap some x.is in
-          omega arith
-      go (inr (a, b)) (inr x) =
-          let d : total (wished v t) (asked g w k0 (Event.arrival m)) ≡ 0 = ap (λ z. total (wished v t) z) b in
-          let i : some (done_after h k0 m k0 (g.edge_into v 0) t) ≡ some (h.done k0 (g.edge_into v 0) t) = ap some x.is in
+          → ((eqb (g.target m.edge) v ≡ true) × (g.target m.edge ≡ v)) ⊎ ((eqb (g.target m.edge) v ≡ false) × (g.target m.edge ≢ v)) → ((same_time m.time t ≡ true) × (m.time ≡ t)) ⊎ ((same_time m.time t ≡ false) × (m.time ≢ t))
+          → total (wished v t) (asked g w k0 (Event.arrival m)) + some (done_at g h k0 v t) ≡ some (done_at g (history_done h k0 m) k0 v t)
+      go x (inr (c, d)) z = same (λ e f. d e) x
+      go x (inl (c, d)) (inr (i, j)) = same (λ e f. j f) x
+      go (inr (a, b)) (inl (c, d)) (inl (i, j)) = absurd (a (ap g.role d ∙ s))
+      go (inl (a, b)) (inl (c, d)) (inl (i, j)) =
+          let u : at_any ≡ done_at g h k0 v t = any_is a ∙ ap₂ (λ x y. done_at g h k0 x y) d j in
+          let n : total (wished v t) (asked g w k0 (Event.arrival m)) ≡ total (wished v t) (asked_first (g.target m.edge) m.time (done_at g h k0 v t)) = ap (λ z. total (wished v t) z) (b ∙ ap (asked_first (g.target m.edge) m.time) u) in
+          let f = first_in (done_at g h k0 v t) d j in
+          let y = done_some v t d j in
           omega arith
 
   asked_good : each (GoodRequest g) (asked g w k0 (Event.arrival m))
@@ -370,7 +373,7 @@ module _ (g : Network) (law : IsNetwork g) (w : World) (h : History) (keeps : Ke
             omega arith;
         from_input = λ e t le s. record { counts = λ r. sent_elsewhere g law w h keeps (g.target m.edge) (g.act (g.target m.edge) m.time) out e t r (λ x. law.no_input_target m.edge good_message.0 (sym (ap g.role x) ∙ s)) ∙ (keeps.from_input e t le s).counts r };
         from_vertex = λ e u r le fits s. vertex_after g law w h keeps k0 (Event.arrival m) out ok (history_done h k0 m) counted_once rest gain e u r le fits s;
-        notifications = λ k v t lk s. notifications k v t lk s (put_tells w.held k0 Held.nothing k) (put_tells w.requests k0 (w.requests k0 ++ asked g w k0 (Event.arrival m)) k) (done_tells h k0 m k (g.edge_into v 0) t);
+        notifications = λ k v t lk s. notifications k v t lk s (put_tells w.held k0 Held.nothing k) (put_tells w.requests k0 (w.requests k0 ++ asked g w k0 (Event.arrival m)) k);
         always_told = keeps.always_told;
         settled = λ k v t lk s due. settled_after g law w h keeps (Step.commit k0 (Event.arrival m) out) ok k v t lk s (was_due k v t due (put_tells w.held k0 Held.nothing k));
         at_home = λ k e t lk le s. home k e t lk le s (done_tells h k0 m k e t);
@@ -383,26 +386,24 @@ module _ (g : Network) (law : IsNetwork g) (w : World) (h : History) (keeps : Ke
     where
       notifications : (k v : ℕ) (t : Time) → k < g.workers → g.role v ≡ Role.notified → ((k ≡ k0) × (put w.held k0 Held.nothing k ≡ Held.nothing)) ⊎ ((k ≢ k0) × (put w.held k0 Held.nothing k ≡ w.held k))
           → ((k ≡ k0) × (put w.requests k0 (w.requests k0 ++ asked g w k0 (Event.arrival m)) k ≡ w.requests k0 ++ asked g w k0 (Event.arrival m))) ⊎ ((k ≢ k0) × (put w.requests k0 (w.requests k0 ++ asked g w k0 (Event.arrival m)) k ≡ w.requests k))
-          → DoneHere h k0 m k (g.edge_into v 0) t ⊎ DoneElsewhere h k0 m k (g.edge_into v 0) t
-          → wishes (after_step g w (Step.commit k0 (Event.arrival m) out)) v t k + bit (h.told k v t) ≡ some (done_after h k0 m k (g.edge_into v 0) t)
-      notifications k v t lk s (inl (a, b)) (inl (c, d)) x =
+          → wishes (after_step g w (Step.commit k0 (Event.arrival m) out)) v t k + bit (h.told k v t) ≡ some (done_at g (history_done h k0 m) k v t)
+      notifications k v t lk s (inl (a, b)) (inl (c, d)) =
           let i = keeps.notifications k v t lk s in
           let j : held_wish v t (w.held k) ≡ 0 = ap (held_wish v t) (ap w.held a ∙ ok.1) in
           let l : held_wish v t (put w.held k0 Held.nothing k) ≡ 0 = ap (held_wish v t) b in
           let n : total (wished v t) (put w.requests k0 (w.requests k0 ++ asked g w k0 (Event.arrival m)) k) ≡ total (wished v t) (w.requests k0) + total (wished v t) (asked g w k0 (Event.arrival m)) = ap (λ z. total (wished v t) z) d ∙ total-append (wished v t) (w.requests k0) (asked g w k0 (Event.arrival m)) in
           let q : total (wished v t) (w.requests k) ≡ total (wished v t) (w.requests k0) = ap (λ z. total (wished v t) (w.requests z)) a in
           let f = wish v t s in
-          let y : some (done_after h k0 m k (g.edge_into v 0) t) ≡ some (done_after h k0 m k0 (g.edge_into v 0) t) = ap (λ z. some (done_after h k0 m z (g.edge_into v 0) t)) a in
-          let z : some (h.done k (g.edge_into v 0) t) ≡ some (h.done k0 (g.edge_into v 0) t) = ap (λ z. some (h.done z (g.edge_into v 0) t)) a in
+          let y : some (done_at g (history_done h k0 m) k v t) ≡ some (done_at g (history_done h k0 m) k0 v t) = ap (λ z. some (done_at g (history_done h k0 m) z v t)) a in
+          let z : some (done_at g h k v t) ≡ some (done_at g h k0 v t) = ap (λ z. some (done_at g h z v t)) a in
           omega arith
-      notifications k v t lk s (inl (a, b)) (inr (c, d)) x = absurd (c a)
-      notifications k v t lk s (inr (a, b)) (inl (c, d)) x = absurd (a c)
-      notifications k v t lk s (inr (a, b)) (inr (c, d)) (inl x) = absurd (a x.worker)
-      notifications k v t lk s (inr (a, b)) (inr (c, d)) (inr x) =
+      notifications k v t lk s (inl (a, b)) (inr (c, d)) = absurd (c a)
+      notifications k v t lk s (inr (a, b)) (inl (c, d)) = absurd (a c)
+      notifications k v t lk s (inr (a, b)) (inr (c, d)) =
           let i = keeps.notifications k v t lk s in
           let l : held_wish v t (put w.held k0 Held.nothing k) ≡ held_wish v t (w.held k) = ap (held_wish v t) b in
           let n : total (wished v t) (put w.requests k0 (w.requests k0 ++ asked g w k0 (Event.arrival m)) k) ≡ total (wished v t) (w.requests k) = ap (λ z. total (wished v t) z) d in
-          let y : some (done_after h k0 m k (g.edge_into v 0) t) ≡ some (h.done k (g.edge_into v 0) t) = ap some x.is in
+          let y : some (done_at g (history_done h k0 m) k v t) ≡ some (done_at g h k v t) = ap some (done_same k v t (λ e _ _. a e)) in
           omega arith
 
       was_due : (k v : ℕ) (t : Time) → Due (after_step g w (Step.commit k0 (Event.arrival m) out)) (history_done h k0 m) k v t → ((k ≡ k0) × (put w.held k0 Held.nothing k ≡ Held.nothing)) ⊎ ((k ≢ k0) × (put w.held k0 Held.nothing k ≡ w.held k)) → Due w h k v t

@@ -82,10 +82,6 @@ pub total_same : {X : Type 0} (f f' : X → ℕ) (xs : List X) → ((x : X) → 
 total_same f f' [] h = refl
 total_same f f' (x ∷ xs) h = omega (arith, total_same f f' xs h, h x)
 
-pub total_more : {X : Type 0} (f f' : X → ℕ) (xs : List X) → ((x : X) → f x ≤ f' x) → total f xs ≤ total f' xs
-total_more f f' [] h = omega arith
-total_more f f' (x ∷ xs) h = omega (arith, total_more f f' xs h, h x)
-
 -- one taken out of a list
 pub total-remove : {X : Type 0} (f : X → ℕ) (xs : List X) (at : ℕ) (x : X) → slice_get xs at ≡ Some x → total f (remove xs at) + f x ≡ total f xs
 total-remove f [] at x e = absurd cc

@@ -12,7 +12,8 @@ use Rattle.machine.specs.Active.{sum_below, IsActive, message_pointstamp, reques
 use Rattle.machine.specs.Frontier.{NoneBefore}
 use Rattle.machine.proofs.NetFlow.{ins}
 use Rattle.machine.proofs.Counting.{below_same, below_more, below_zero, counted-end_to_end}
-use Rattle.machine.proofs.Kept.{History, carried, carried_by, held_records, under_way, wished, wished_by, held_wish, wishes, some, bit, made, Due, Kept, Headline}
+use Rattle.machine.proofs.Kept.{done_at, History, carried, carried_by, held_records, under_way, wished, wished_by, held_wish, wishes, some, bit, made, Due, Kept, Headline}
+use Rattle.machine.proofs.Ports.{each_empty}
 use Rattle.machine.proofs.Laws.{Lower, times_in, IsNetwork, IsOutput, all_parts, CutByKey}
 use Rattle.machine.proofs.NetFlow.{IsNetFlow}
 use Rattle.machine.proofs.Places.{same_time_tells, total_zero, total_times, total_times_more, is_input_role, is_notified_role, inner_kind, edge_not_vertex, some_below}
@@ -121,11 +122,11 @@ module _ (g : Network) (law : IsNetwork g) (w : World) (h : History) (keeps : Ke
       go true e s = rw e refl
       go false e (inr s) = absurd (let x : h.told k v t ≡ true = keeps.always_told k v t s in let y : true ≡ false = sym x ∙ e in cc)
       go false e (inl s) =
-          let n : wishes w v t k + bit (h.told k v t) ≡ some (h.done k (g.edge_into v 0) t) = keeps.notifications k v t l s in
+          let n : wishes w v t k + bit (h.told k v t) ≡ some (done_at g h k v t) = keeps.notifications k v t l s in
           let z : wishes w v t k ≡ 0 = none s in
           let y : bit (h.told k v t) ≡ 0 = ap bit e in
-          let d : h.done k (g.edge_into v 0) t ≡ [] = empty (h.done k (g.edge_into v 0) t) (omega arith) in
-          let o : g.op v q t (ins g (h.done k) v t) ≡ [] = law.op_nothing v q t (ins g (h.done k) v t) (λ p lp. let one : g.ports v ≡ 1 = law.one_port v s in let pz : p ≡ 0 = omega arith in ap (λ (x : ℕ). h.done k (g.edge_into v x) t) pz ∙ d) in
+          let d : done_at g h k v t ≡ [] = empty (done_at g h k v t) (omega arith) in
+          let o : g.op v q t (ins g (h.done k) v t) ≡ [] = law.op_nothing v q t (ins g (h.done k) v t) (λ p lp. each_empty (λ x. h.done k (g.edge_into v x) t) (g.ports v) d p lp) in
           rw e (sym (ap (count r) o))
 
   module _ (flow : ℕ → Time → List Record) (flows : IsNetFlow g w.fed flow) where

@@ -61,21 +61,6 @@ role_output (Kind.group ks as') e = absurd cc
 role_output (Kind.gate n) e = absurd cc
 role_output (Kind.hold n) e = absurd cc
 
-role_notified : (k : Kind) → role k ≡ Role.notified → in_ports k ≡ 1
-role_notified Kind.input e = absurd cc
-role_notified Kind.output e = refl
-role_notified Kind.concat e = absurd cc
-role_notified Kind.distinct e = refl
-role_notified Kind.ingress e = refl
-role_notified Kind.egress e = refl
-role_notified Kind.feedback e = refl
-role_notified (Kind.select ss) e = refl
-role_notified (Kind.filter c) e = refl
-role_notified (Kind.join ps) e = absurd cc
-role_notified (Kind.group ks as') e = refl
-role_notified (Kind.gate n) e = refl
-role_notified (Kind.hold n) e = refl
-
 role_grows : (k : Kind) → role k ≢ Role.notified → Grows k
 role_grows (Kind.group ks as') n = absurd (n refl)
 role_grows Kind.input n = tt
@@ -455,7 +440,6 @@ module _ (g : Graph) (flows : IsDataflow g) (workers : ℕ) (some : 0 < workers)
         port_into = λ v p l. (into g v p l).port;
         no_input_target = no_input_target;
         no_output_source = no_output_source;
-        one_port = λ v s. full v (keyed_known v (inr s)) ∙ role_notified (kind v) s;
         output_port = λ v is. full v (has_port v is.1) ∙ ap in_ports (role_output (kind v) is.0);
         input_has_role = λ i l. ap role (input_kind g i l);
         role_is_input = λ v s. flows.shaped.inputs_first v (fits_input v 0 s).0 (role_input (kind v) s);

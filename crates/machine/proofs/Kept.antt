@@ -1,6 +1,6 @@
 -- What every reached world keeps.
 use Rattle.std.specs.Prelude.{◌≡◌, ◌≢◌, ◌<◌, ℕ, ◌+◌, Bool, true, false, cond, ◌==◌, List, [], ◌∷◌, ◌⊎◌}
-use Rattle.semantics.specs.Multiset.{total, Record, count, ◌≈◌, IsPartOf}
+use Rattle.semantics.specs.Multiset.{end_to_end, total, Record, count, ◌≈◌, IsPartOf}
 use Rattle.semantics.specs.Time.{Time, same_time, at_epoch}
 use Rattle.semantics.specs.Could.{on_edge, at_vertex}
 use Rattle.machine.specs.Network.{Network}
@@ -80,6 +80,10 @@ abbrev pub GoodHeld : Network → ℕ → Held → Type 0
 GoodHeld g k Held.nothing = Unit {0}
 GoodHeld g k (Held.holding up event) = GoodEvent g k event
 
+-- what a worker has processed at a vertex and time, on all its ports
+abbrev pub done_at : Network → History → ℕ → ℕ → Time → List Record
+done_at g h k v t = end_to_end (λ p. h.done k (g.edge_into v p) t) (g.ports v)
+
 -- the worker's notification was processed, or the worker holds it
 abbrev pub Due : World → History → ℕ → ℕ → Time → Type 0
 Due w h k v t = h.told k v t ≡ true ⊎ 0 < held_wish v t (w.held k)
@@ -93,7 +97,7 @@ pub record Kept (g : Network) (w : World) (h : History) : Type 0 where
   pub from_vertex : (e : ℕ) (u : Time) (r : Record) → e < g.edges → g.IsPointstamp (on_edge e u) → g.role (g.source e) ≢ Role.input →
       count r (w.sent e u) ≡ total (λ t. sum_below g.workers (made g h (g.source e) (g.out_port e) t r)) (g.times_before (g.source e) u)
   -- a group waits for its notification, exactly where it absorbed something and had none yet; all others are never told anything
-  pub notifications : (k v : ℕ) (t : Time) → k < g.workers → g.role v ≡ Role.notified → wishes w v t k + bit (h.told k v t) ≡ some (h.done k (g.edge_into v 0) t)
+  pub notifications : (k v : ℕ) (t : Time) → k < g.workers → g.role v ≡ Role.notified → wishes w v t k + bit (h.told k v t) ≡ some (done_at g h k v t)
   pub always_told : (k v : ℕ) (t : Time) → g.role v ≢ Role.notified → h.told k v t ≡ true
   -- no more comes to a group that has its notification
   pub settled : (k v : ℕ) (t : Time) → k < g.workers → g.role v ≡ Role.notified → Due w h k v t → NoOtherBefore g w (at_vertex v t)

@@ -41,7 +41,6 @@ pub record IsNetwork (g : Network) : Type 0 where
   pub port_into : (v p : ℕ) → p < g.ports v → g.in_port (g.edge_into v p) ≡ p
   pub no_input_target : (e : ℕ) → e < g.edges → g.role (g.target e) ≢ Role.input
   pub no_output_source : (e : ℕ) → e < g.edges → g.role (g.source e) ≢ Role.output
-  pub one_port : (v : ℕ) → g.role v ≡ Role.notified → g.ports v ≡ 1
   pub output_port : (v : ℕ) → IsOutput g v → g.ports v ≡ 1
   pub input_has_role : (i : ℕ) → i < g.inputs → g.role i ≡ Role.input
   pub role_is_input : (i : ℕ) → g.role i ≡ Role.input → i < g.inputs

@@ -12,10 +12,11 @@ use Rattle.machine.specs.Active.{sum_below}
 use Rattle.machine.specs.Sending.{parcels}
 use Rattle.machine.specs.Step.{Step, Allowed, after_step, put}
 use Rattle.machine.proofs.NetFlow.{ins}
-use Rattle.machine.proofs.Kept.{each}
+use Rattle.machine.proofs.Kept.{done_at, each}
 use Rattle.machine.proofs.Commits.{once, way_after, vertex_after}
 use Rattle.machine.proofs.Counting.{eqb_self, below_one}
-use Rattle.machine.proofs.Kept.{History, carried, under_way, wished, held_wish, wishes, some, bit, made, Due, Kept, GoodMessage, GoodRequest, GoodHeld}
+use Rattle.machine.proofs.Kept.{done_at, History, carried, under_way, wished, held_wish, wishes, some, bit, made, Due, Kept, GoodMessage, GoodRequest, GoodHeld}
+use Rattle.machine.proofs.Ports.{port_of_some}
 use Rattle.machine.proofs.Laws.{IsNetwork, times_in}
 use Rattle.machine.proofs.NetFlow.{HasFlows}
 use Rattle.machine.proofs.Places.{same_time_tells, same_time_self}
@@ -60,12 +61,6 @@ module _ (g : Network) (law : IsNetwork g) (w : World) (h : History) (keeps : Ke
   here : g.IsPointstamp (at_vertex n.vertex n.time)
   here = let x : GoodRequest g n = held_good g law w (good_of g law w h keeps) k0 (Event.notification n) ok.0 ok.1 in x.1
 
-  in_port : 0 < g.ports n.vertex
-  in_port = let o : g.ports n.vertex ≡ 1 = law.one_port n.vertex group in omega arith
-
-  in_edge : g.edge_into n.vertex 0 < g.edges
-  in_edge = law.into_is_edge n.vertex 0 in_port
-
   -- the worker had a wish, and was told nothing yet
   wish_held : held_wish n.vertex n.time (w.held k0) ≡ 1
   wish_held = ap (held_wish n.vertex n.time) ok.1 ∙ rw (eqb_self n.vertex, same_time_self n.time) refl
@@ -78,7 +73,7 @@ module _ (g : Network) (law : IsNetwork g) (w : World) (h : History) (keeps : Ke
       go true e =
           let a = keeps.notifications k0 n.vertex n.time ok.0 group in
           let b : bit (h.told k0 n.vertex n.time) ≡ 1 = ap bit e in
-          let c = some_le (h.done k0 (g.edge_into n.vertex 0) n.time) in
+          let c = some_le (done_at g h k0 n.vertex n.time) in
           let d = wish_held in
           absurd (omega arith)
 
@@ -86,11 +81,14 @@ module _ (g : Network) (law : IsNetwork g) (w : World) (h : History) (keeps : Ke
   counted_once =
       let a = keeps.notifications k0 n.vertex n.time ok.0 group in
       let d = wish_held in
-      let r = some_row (h.done k0 (g.edge_into n.vertex 0) n.time) (omega arith) in
-      let b = keeps.balance (g.edge_into n.vertex 0) n.time r.0 in_edge in
-      let c : count r.0 (h.done k0 (g.edge_into n.vertex 0) n.time) ≤ sum_below g.workers (λ k. count r.0 (h.done k (g.edge_into n.vertex 0) n.time)) = below_one g.workers k0 _ ok.0 in
-      let l : 0 < count r.0 (h.done k0 (g.edge_into n.vertex 0) n.time) = r.1 in
-      subst (λ (v : ℕ). times_in n.time (g.times_before v (g.act v n.time)) ≡ 1) (law.target_into n.vertex 0 in_port) (once g law w h keeps flows (g.edge_into n.vertex 0) n.time r.0 in_edge (law.fits_into n.vertex 0 n.time in_port here) (omega arith))
+      let p = port_of_some (λ p. h.done k0 (g.edge_into n.vertex p) n.time) (g.ports n.vertex) (omega arith) in
+      let e : ℕ = g.edge_into n.vertex p.0 in
+      let is_edge : e < g.edges = law.into_is_edge n.vertex p.0 p.1 in
+      let r = some_row (h.done k0 e n.time) p.2 in
+      let b = keeps.balance e n.time r.0 is_edge in
+      let c : count r.0 (h.done k0 e n.time) ≤ sum_below g.workers (λ k. count r.0 (h.done k e n.time)) = below_one g.workers k0 _ ok.0 in
+      let l : 0 < count r.0 (h.done k0 e n.time) = r.1 in
+      subst (λ (v : ℕ). times_in n.time (g.times_before v (g.act v n.time)) ≡ 1) (law.target_into n.vertex p.0 p.1) (once g law w h keeps flows e n.time r.0 is_edge (law.fits_into n.vertex p.0 n.time p.1 here) (omega arith))
 
   rest : (k v q : ℕ) (t : Time) (r : Record) → ((k ≢ k0) ⊎ ((v ≢ n.vertex) ⊎ (t ≢ n.time))) → made g (history_told h k0 n) v q t r k ≡ made g h v q t r k
   rest k v q t r ne = go (told_tells h k0 n k v t) ne
@@ -158,7 +156,7 @@ module _ (g : Network) (law : IsNetwork g) (w : World) (h : History) (keeps : Ke
 
       wish : (k v : ℕ) (t : Time) → k < g.workers → g.role v ≡ Role.notified → Told k v t → ((k ≡ k0) × (put w.held k0 Held.nothing k ≡ Held.nothing)) ⊎ ((k ≢ k0) × (put w.held k0 Held.nothing k ≡ w.held k))
           → ((k ≡ k0) × (put w.requests k0 (w.requests k0 ++ []) k ≡ w.requests k0 ++ [])) ⊎ ((k ≢ k0) × (put w.requests k0 (w.requests k0 ++ []) k ≡ w.requests k))
-          → wishes (after_step g w (Step.commit k0 (Event.notification n) out)) v t k + bit (told_after h k0 n k v t) ≡ some (h.done k (g.edge_into v 0) t)
+          → wishes (after_step g w (Step.commit k0 (Event.notification n) out)) v t k + bit (told_after h k0 n k v t) ≡ some (done_at g h k v t)
       wish k v t lk s (inl x) (inl (c, d)) r =
           let a = keeps.notifications k v t lk s in
           let b : held_wish v t (w.held k) ≡ wished v t n = ap (held_wish v t) (ap w.held c ∙ ok.1) in
@@ -166,7 +164,7 @@ module _ (g : Network) (law : IsNetwork g) (w : World) (h : History) (keeps : Ke
           let i : total (wished v t) (put w.requests k0 (w.requests k0 ++ []) k) ≡ total (wished v t) (w.requests k) = ap (λ z. total (wished v t) z) (asked_none k r) in
           let j : bit (told_after h k0 n k v t) ≡ 1 = ap bit x.3 in
           let y : wished v t n ≡ 1 = x.4 in
-          let l = some_le (h.done k (g.edge_into v 0) t) in
+          let l = some_le (done_at g h k v t) in
           omega arith
       wish k v t lk s (inl x) (inr (c, d)) r = absurd (c x.0)
       wish k v t lk s (inr x) (inl (c, d)) r =

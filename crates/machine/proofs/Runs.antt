@@ -11,7 +11,8 @@ use Rattle.machine.specs.Run.{Run, Reached}
 use Rattle.machine.proofs.Arrivals.{history_done, keep_arrival}
 use Rattle.machine.proofs.Counting.{below_zero}
 use Rattle.machine.proofs.Derived.{headline}
-use Rattle.machine.proofs.Kept.{History, under_way, bit, made, Kept}
+use Rattle.machine.proofs.Kept.{some, History, under_way, bit, made, Kept}
+use Rattle.machine.proofs.Ports.{end_empty}
 use Rattle.machine.proofs.Laws.{IsNetwork}
 use Rattle.machine.proofs.NetFlow.{HasFlows}
 use Rattle.machine.proofs.Notifications.{history_told, keep_notification}
@@ -60,7 +61,7 @@ keep_opening g law =
           omega arith;
       from_input = λ e t le s. record { counts = λ r. nothing (same_counters t.counters []) r };
       from_vertex = λ e u r le fits s. sym (total_nothing (g.times_before (g.source e) u) _ (λ t. below_zero g.workers _ (λ k lk. made_nothing g law (g.source e) (g.out_port e) t r k)));
-      notifications = λ k v t lk s. ap (λ b. 0 + bit b) (is_untold (g.role v) s);
+      notifications = λ k v t lk s. ap (λ b. 0 + bit b) (is_untold (g.role v) s) ∙ sym (ap some (end_empty (g.ports v)));
       always_told = λ k v t s. is_told (g.role v) s;
       settled = λ k v t lk s due. absurd (not_due v s due);
       at_home = λ k e t lk le s r l. absurd (omega arith);
