@@ -2,7 +2,7 @@
 use Rattle.std.proofs.Common.{◌≡◌, ◌≢◌, ℕ, zero, suc, ◌+◌, ◌<◌, eqb, Bool, true, false, cond, List, [], ◌∷◌, ◌++◌, ◌⊎◌, inl, inr, length, refl, sym, ap, subst, ◌∙◌, arith, Option, Some, None, slice_get, slice_index_or, slice_set, drop, remove, replicate, get_or-set_same, get_or-set_other}
 use Rattle.std.proofs.lemmas.Bool.Decides.{eqb_tells}
 use Rattle.semantics.specs.Multiset.{Record, total, count}
-use Rattle.semantics.proofs.BagLaws.{total-append}
+use Rattle.semantics.proofs.MultisetSums.{total-append}
 use Rattle.board.specs.Chain.{Vertex, Chain, input_number, applied, sent}
 use Rattle.board.specs.World.{InputState, Message, Held, World, no_input, input_at, fed_at, emitted_at, records_at, open_epoch, opening}
 use Rattle.board.specs.Step.{Action, Step, TakesInput, Holds, message, more_at, emitted_after, vertex_at, with_input, after_feed, after_seal, after_close, after_claim, after_commit, after_abandon}

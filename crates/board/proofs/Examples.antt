@@ -3,7 +3,7 @@ use Rattle.std.proofs.Common.{◌≡◌, ◌≤◌, ◌<◌, Bool, true, cond, L
 use Rattle.semantics.specs.Query.{Scalar, Comparison, Cond, Name, Rel, Input, Program}
 use Rattle.semantics.specs.Meaning.{same_name}
 use Rattle.semantics.specs.Typing.{WellTyped, HasArity, IsArity, lookup, entry}
-use Rattle.semantics.proofs.LowerLaws.{Decides-same_name}
+use Rattle.semantics.proofs.NamesAmong.{Decides-same_name}
 use Rattle.board.specs.ChainQuery.{IsWellTyped}
 
 abbrev pub one_input : Name → Rel → Program

@@ -3,7 +3,7 @@ use Rattle.std.proofs.Common.{◌≡◌, ℕ, ◌<◌, Bool, true, false, cond, 
 use Rattle.semantics.specs.Query.{Name, Rel, Input, Let, Program}
 use Rattle.semantics.specs.Meaning.{same_name}
 use Rattle.semantics.specs.Typing.{Scope, entry, lookup, HasArity, InputsFit, after_inputs, WellTyped, IsArity}
-use Rattle.semantics.proofs.LowerLaws.{Decides-same_name}
+use Rattle.semantics.proofs.NamesAmong.{Decides-same_name}
 use Rattle.board.specs.Chain.{Vertex, Chain, input_number, relation, query_of}
 use Rattle.board.specs.declared.vertex.Vertex as declared_vertex
 use Rattle.board.specs.Views.{plain_vertex}

@@ -1,6 +1,6 @@
 use Rattle.std.proofs.lemmas.Bool.{cases_from_iff}
 use Rattle.std.proofs.lemmas.Slice.Eq.{slice_eq-Decides}
-use Rattle.semantics.proofs.BagLaws.{Decides-same}
+use Rattle.semantics.proofs.MultisetSums.{Decides-same}
 use Rattle.board.proofs.records.same_records.Goals as goal
 
 pub returns : goal.returns
