@@ -1,4 +1,4 @@
-use Rattle.std.proofs.Common.{◌∙◌, ◌≡◌, true, sym, ap, arith, rules}
+use Rattle.std.proofs.Common.{◌∙◌, ◌≡◌, true, arith, rules}
 use Rattle.std.proofs.lemmas.Fmt.{parse-decimal}
 use Rattle.decimal.proofs.Numbers.{utf8-decimal, may_begin, prints_so}
 use Rattle.decimal.proofs.numerals.number.Goals as goal
