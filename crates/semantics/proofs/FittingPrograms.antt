@@ -1,6 +1,7 @@
 -- What the check of a program leaves for its graph to rest on.
 use Rattle.std.specs.Prelude.{ℕ, suc, ◌≤◌, ◌<◌, List, [], ◌∷◌, map}
-use Rattle.semantics.specs.FreeNames.{free, IsAmong}
+use Rattle.semantics.specs.Multiset.{IsAmong}
+use Rattle.semantics.specs.FreeNames.{free}
 use Rattle.semantics.specs.Limits.{max_loops}
 use Rattle.semantics.specs.Query.{Name, Rel, Input, Let, Program}
 use Rattle.semantics.specs.Time.{turn_count}

@@ -2,7 +2,8 @@
 use Rattle.std.proofs.Common.{◌≡◌, ℕ, zero, suc, ◌+◌, ◌≤◌, ◌<◌, Bool, true, false, cond, List, [], ◌∷◌, ◌++◌, map, filter, length, slice_index_or, refl, sym, ap, subst, ◌∙◌, arith, length-append, append_assoc, inl, inr, ◌⊎◌, le_refl}
 use Rattle.std.proofs.lemmas.Bool.{true≢false}
 use Rattle.std.specs.List.{AllByRecursion}
-use Rattle.semantics.specs.FreeNames.{other_than, free, firsts, carried, IsAmong}
+use Rattle.semantics.specs.Multiset.{IsAmong}
+use Rattle.semantics.specs.FreeNames.{other_than, free, firsts, carried}
 use Rattle.semantics.specs.Limits.{max_loops}
 use Rattle.semantics.specs.Dataflow.{IsWired, Goes, IsNested}
 use Rattle.semantics.specs.Flow.{Inputs, HasOneFlow}

@@ -1,8 +1,7 @@
 -- In any flow of a program's graph, the edge into the output vertex has the program's meaning.
 use Rattle.std.proofs.Common.{◌≡◌, ℕ, suc, ◌+◌, Bool, true, false, cond, List, [], ◌∷◌, ◌++◌, length, slice_index_or, refl, sym, ap, subst, ◌∙◌, arith, append_assoc, length-append, inl, inr, ◌⊎◌}
 use Rattle.std.proofs.lemmas.Bool.{true≢false}
-use Rattle.semantics.specs.FreeNames.{IsAmong}
-use Rattle.semantics.specs.Multiset.{Record, ◌≈◌}
+use Rattle.semantics.specs.Multiset.{IsAmong, Record, ◌≈◌}
 use Rattle.semantics.specs.Flow.{Inputs, Flow, IsFlow, port_flow}
 use Rattle.semantics.specs.Kinds.{Kind}
 use Rattle.semantics.specs.Graph.{Port, Vertex, Graph, no_vertex, vertex}

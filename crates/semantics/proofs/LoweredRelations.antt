@@ -5,8 +5,8 @@ use Rattle.std.proofs.lemmas.Bool.Decides.{Decides-eqb}
 use Rattle.std.proofs.lemmas.List.Concat.{flat_map-append}
 use mathlib.Core.Path.{fun_ext}
 use Rattle.std.specs.Cmp.Lexicographic.{pointwise_decides}
-use Rattle.semantics.specs.FreeNames.{other_than, free, firsts, carried, IsAmong}
-use Rattle.semantics.specs.Multiset.{Record, ◌≈◌, each_once}
+use Rattle.semantics.specs.FreeNames.{other_than, free, firsts, carried}
+use Rattle.semantics.specs.Multiset.{IsAmong, Record, ◌≈◌, each_once}
 use Rattle.semantics.specs.Flow.{Inputs, Flow, IsFlow, port_flow}
 use Rattle.semantics.specs.Kinds.{Kind}
 use Rattle.semantics.specs.Graph.{Port, Vertex, Graph}

@@ -2,8 +2,8 @@
 use Rattle.std.proofs.Common.{◌≡◌, ℕ, zero, suc, ◌+◌, ◌≤◌, ◌<◌, nat_lt, Bool, true, false, cond, List, [], ◌∷◌, ◌++◌, filter, length, slice_index_or, refl, sym, ap, subst, ◌∙◌, arith, le-ltb, ne_eqb}
 use Rattle.std.proofs.lemmas.Bool.{true≢false}
 use Rattle.std.specs.List.{AllByRecursion}
-use Rattle.semantics.specs.FreeNames.{other_than, free, carried, IsAmong}
-use Rattle.semantics.specs.Multiset.{Record, ◌≈◌}
+use Rattle.semantics.specs.FreeNames.{other_than, free, carried}
+use Rattle.semantics.specs.Multiset.{IsAmong, Record, ◌≈◌}
 use Rattle.semantics.specs.Flow.{IsEdgeTime, Inputs, Flow, IsFlow, port_flow}
 use Rattle.semantics.specs.Kinds.{Kind, ends_turn}
 use Rattle.semantics.specs.Graph.{Port, Vertex, Graph, no_vertex, no_port, vertex, source}

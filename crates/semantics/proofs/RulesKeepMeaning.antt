@@ -3,8 +3,8 @@ use Rattle.std.proofs.Common.{inr, ◌≡◌, ℕ, zero, suc, nat_lt, Bool, true
 use Rattle.std.specs.Int.{int_wrap}
 use Rattle.std.proofs.lemmas.Int.{ints, int_wrap-add_left, int_wrap-add_right, int_wrap-sub_right, int_wrap-mul_left, int_wrap-mul_right}
 use mir.Syntax.{w64}
-use Rattle.semantics.specs.FreeNames.{free, other_than, IsAmong}
-use Rattle.semantics.specs.Multiset.{Record, one_if, count, each_once}
+use Rattle.semantics.specs.FreeNames.{free, other_than}
+use Rattle.semantics.specs.Multiset.{IsAmong, Record, one_if, count, each_once}
 use Rattle.semantics.specs.Meaning.{field, exact, value, holds, selected, kept, same_name, Names, bind, repeated, meaning, let_names, input_names, program_meaning, paired, grouped}
 use Rattle.semantics.specs.Normal.{replaced, Reaches}
 use Rattle.semantics.specs.Query.{Scalar, Cond, Name, Rel, Input, Let}

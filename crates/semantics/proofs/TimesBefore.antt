@@ -1,13 +1,14 @@
 -- The times before u are those that the action takes to u.
 use Rattle.std.proofs.Common.{◌≡◌, ℕ, zero, suc, ◌-◌, ◌<◌, nat_lt, nat_eq, Bool, true, false, cond, List, [], ◌∷◌, ◌++◌, map, length, refl, sym, ap, ap₂, subst, ◌∙◌, arith, inl, inr, ◌⊎◌, eqb-true, ltb-true, lt-ltb}
 use Rattle.std.proofs.lemmas.Bool.{true≢false, eqb-false}
-use Rattle.semantics.specs.Time.{IsOneOf, IsTaken, in_first_turn, last_from, Time, last, deeper, outer, Action, after_action, times_before, below, turn_count}
+use Rattle.semantics.specs.Multiset.{IsAmong}
+use Rattle.semantics.specs.Time.{IsTaken, in_first_turn, last_from, Time, last, deeper, outer, Action, after_action, times_before, below, turn_count}
 use Rattle.semantics.proofs.QuietEnds.{turn_of}
 use Rattle.semantics.proofs.VertexFlows.{first_turn-push, last-deeper, outer-deeper}
 
 -- the words of the specs, under the names that the engine's proofs cite
 abbrev pub Among : Time → List Time → Type 0
-Among t ts = IsOneOf t ts
+Among t ts = IsAmong t ts
 
 abbrev pub Defined : Action → Time → Type 0
 Defined a t = IsTaken a t
@@ -102,16 +103,16 @@ times_before_only Action.next t u r h =
     ∙ turn_split u r
 
 -- each time before u is taken to u
-pub times_before_taken : (a : Action) (t u : Time) → IsOneOf t (times_before a u) → after_action a t ≡ u
+pub times_before_taken : (a : Action) (t u : Time) → IsAmong t (times_before a u) → after_action a t ≡ u
 times_before_taken Action.stay t u h = times_before_only Action.stay t u tt h
 times_before_taken Action.leave t u h = times_before_only Action.leave t u tt h
 times_before_taken Action.enter t u h = go u.counters refl
   where
     go : (cs : List ℕ) → u.counters ≡ cs → after_action Action.enter t ≡ u
-    go [] e = absurd (subst (λ ds. IsOneOf t (cond (in_first_turn ds) (outer u ∷ []) [])) e h)
+    go [] e = absurd (subst (λ ds. IsAmong t (cond (in_first_turn ds) (outer u ∷ []) [])) e h)
     go (c ∷ cs) e = times_before_only Action.enter t u (subst (λ ds. 0 < length ds) (sym e) (omega arith)) h
 times_before_taken Action.next t u h = go u.counters refl
   where
     go : (cs : List ℕ) → u.counters ≡ cs → after_action Action.next t ≡ u
-    go [] e = absurd (subst (λ ds. IsOneOf t (cond (nat_lt 0 (last ds)) (deeper (outer u) (last u.counters - 1) ∷ []) [])) e h)
+    go [] e = absurd (subst (λ ds. IsAmong t (cond (nat_lt 0 (last ds)) (deeper (outer u) (last u.counters - 1) ∷ []) [])) e h)
     go (c ∷ cs) e = times_before_only Action.next t u (subst (λ ds. 0 < length ds) (sym e) (omega arith)) h

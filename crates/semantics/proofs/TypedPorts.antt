@@ -2,7 +2,8 @@
 use Rattle.std.proofs.Common.{◌≡◌, ℕ, zero, suc, ◌+◌, ◌<◌, Bool, true, false, cond, List, [], ◌∷◌, ◌++◌, map, filter, length, slice_index_or, Some, None, refl, sym, ap, ap₂, subst, ◌∙◌, arith, length-append, append_assoc, inl, inr, ◌⊎◌}
 use Rattle.std.proofs.lemmas.Bool.{true≢false}
 use Rattle.std.specs.List.{AllByRecursion}
-use Rattle.semantics.specs.FreeNames.{IsAmong, other_than, free, carried}
+use Rattle.semantics.specs.Multiset.{IsAmong}
+use Rattle.semantics.specs.FreeNames.{other_than, free, carried}
 use Rattle.semantics.specs.Graph.{Port, Vertex, no_vertex, no_port, vertex, source, output_number}
 use Rattle.semantics.specs.Kinds.{Kind}
 use Rattle.semantics.specs.Lower.{Ports, stands_for, port, new_vertex, carry, carried_ports, Lowered, lower, looped, input_vertices, input_ports, lower_lets, lets_of, output_of, lowered}

@@ -1,7 +1,8 @@
 -- A well-typed program fits: its names are known, and its loops are limited.
 use Rattle.std.proofs.Common.{◌≡◌, ℕ, suc, ◌≤◌, ◌<◌, Bool, true, false, cond, not, List, [], ◌∷◌, ◌++◌, filter, Some, refl, sym, subst, ◌∙◌, arith, inl, inr, ◌⊎◌}
 use Rattle.std.proofs.lemmas.Bool.{true≢false}
-use Rattle.semantics.specs.FreeNames.{free, other_than, IsAmong}
+use Rattle.semantics.specs.Multiset.{IsAmong}
+use Rattle.semantics.specs.FreeNames.{free, other_than}
 use Rattle.semantics.specs.Limits.{max_turns}
 use Rattle.semantics.specs.Meaning.{same_name}
 use Rattle.semantics.specs.Query.{Name, Rel, Input, Let, Program}

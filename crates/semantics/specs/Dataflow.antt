@@ -1,4 +1,4 @@
--- What the graph of each well-typed program is.
+-- Dataflow graphs: what the graph of each well-typed program is. (Naiad, SOSP 2013, section 2.1: loop contexts, properly nested.)
 use Rattle.std.specs.Prelude.{◌≡◌, ◌⊎◌, ℕ, ◌≤◌, ◌<◌, true, List, [], ◌∷◌, ◌++◌, length}
 use Rattle.semantics.specs.Limits.{max_loops}
 use Rattle.semantics.specs.Multiset.{◌≈◌}
@@ -9,9 +9,11 @@ use Rattle.semantics.specs.Flow.{IsEdgeTime, Inputs, Flow, IsFlow}
 
 -- each in port is fed by an out port of a vertex of the graph
 pub record IsWired (g : Graph) : Type 0 where
+  -- a vertex has the in ports of its kind
   pub full : (v : ℕ) → v < length g → length (vertex g v).ins ≡ in_ports (vertex g v).kind
   pub fed : (w i : ℕ) → w < length g → i < length (vertex g w).ins → (source g w i).vertex < length g
-  pub from_port : (w i : ℕ) → w < length g → i < length (vertex g w).ins → (source g w i).out < out_ports (vertex g (source g w i).vertex).kind
+  pub from_port : (w i : ℕ) → w < length g → i < length (vertex g w).ins →
+      (source g w i).out < out_ports (vertex g (source g w i).vertex).kind
   pub shallow : (v : ℕ) → v < length g → (vertex g v).depth ≤ max_loops
 
 -- An edge from v to w stays in v's loop, or goes into a loop, out of one or round it. `loops v` are the egresses of the
@@ -25,7 +27,8 @@ pub data Goes (loops : ℕ → List ℕ) (v w : ℕ) : Action → Type 0 where
 -- each edge keeps to the loops, and a vertex is as deep as it stands in loops
 pub record IsNested (g : Graph) (loops : ℕ → List ℕ) : Type 0 where
   pub homes : (v : ℕ) → v < length g → length (loops v) ≡ (vertex g v).depth
-  pub goes : (w i : ℕ) → w < length g → i < length (vertex g w).ins → Goes loops (source g w i).vertex w (action (vertex g (source g w i).vertex).kind)
+  pub goes : (w i : ℕ) → w < length g → i < length (vertex g w).ins →
+      Goes loops (source g w i).vertex w (action (vertex g (source g w i).vertex).kind)
 
 -- inputs first and the output last, both outside all loops
 pub record IsShaped (g : Graph) : Type 0 where
@@ -39,9 +42,10 @@ pub record IsShaped (g : Graph) : Type 0 where
 
 -- nothing comes to the end of a turn over the limit
 pub record IsQuiet (g : Graph) : Type 0 where
-  pub quiet : (inputs : Inputs) (f : Flow) → IsFlow g inputs f → (w i : ℕ) (u : Time) → IsEdgeTime g w i u → ends_turn (vertex g w).kind ≡ true → turn_count ≤ last u.counters → f w i u ≈ []
+  pub quiet : (inputs : Inputs) (f : Flow) → IsFlow g inputs f → (w i : ℕ) (u : Time) → IsEdgeTime g w i u →
+      ends_turn (vertex g w).kind ≡ true → turn_count ≤ last u.counters → f w i u ≈ []
 
--- what the graph of each well-typed program is
+-- wired, shaped, quiet, and nested by some loops
 pub record IsDataflow (g : Graph) : Type 0 where
   pub wired : IsWired g
   pub shaped : IsShaped g

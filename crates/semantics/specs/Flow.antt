@@ -1,4 +1,4 @@
--- The equations of a flow: no order, messages or workers.
+-- Flows: what each edge of a graph has at each time, by equations alone: no order, messages or workers.
 use Rattle.std.specs.Prelude.{◌≡◌, ℕ, ◌<◌, List, flat_map, length}
 use Rattle.semantics.specs.Multiset.{Record, ◌≈◌}
 use Rattle.semantics.specs.Time.{Time, times_before}
@@ -18,7 +18,7 @@ Flow = (vertex port : ℕ) → Time → List Record
 abbrev pub sent_by : Kind → Flow → ℕ → ℕ → Time → List Record
 sent_by kind f v out u = flat_map (λ t. op kind t (λ i. f v i t) out) (times_before (action kind) u)
 
--- an input sends its records
+-- what a vertex sends: an input its records, every other by its equation
 abbrev pub sent_or_fed : Inputs → Kind → Flow → ℕ → ℕ → Time → List Record
 sent_or_fed inputs Kind.input f v out u = inputs v u.epoch
 sent_or_fed inputs kind f v out u = sent_by kind f v out u

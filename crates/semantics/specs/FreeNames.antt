@@ -1,12 +1,7 @@
 -- The names that a relation takes from outside, in the order of the text.
-use Rattle.std.specs.Prelude.{◌≡◌, ◌⊎◌, Bool, not, List, [], ◌∷◌, ◌++◌, filter}
+use Rattle.std.specs.Prelude.{Bool, not, List, [], ◌∷◌, ◌++◌, filter}
 use Rattle.semantics.specs.Meaning.{same_name}
 use Rattle.semantics.specs.Query.{Name, Rel}
-
--- y is one of the names
-abbrev pub IsAmong : Name → List Name → Type 0
-IsAmong y [] = ⊥
-IsAmong y (x ∷ xs) = (x ≡ y) ⊎ IsAmong y xs
 
 -- y is another name than x
 abbrev pub other_than : Name → Name → Bool

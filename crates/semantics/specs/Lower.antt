@@ -1,4 +1,6 @@
--- The graph of a relation and of a program.
+-- The graph of a relation and of a program: vertices in the order in which they are made, and the port that a relation gives.
+-- A loop is an ingress, a concat, a gate and an egress, with a feedback from its body; each name that its body takes from
+-- outside goes round beside it, by a hold.
 use Rattle.std.specs.Prelude.{ℕ, suc, ◌+◌, cond, List, [], ◌∷◌, ◌++◌, map, length}
 use Rattle.semantics.specs.Kinds.{Kind}
 use Rattle.semantics.specs.Graph.{Port, no_port, Vertex, Graph}
@@ -17,15 +19,15 @@ abbrev pub stands_for : Name → Port → Ports → Ports
 stands_for x p ports y = cond (same_name x y) p (ports y)
 
 -- a port by its numbers
-abbrev pub port : ℕ → ℕ → Port
+abbrev pub port : (vertex out : ℕ) → Port
 port v out = record { vertex = v; out = out }
 
 -- a vertex by its parts
-abbrev pub new_vertex : Kind → ℕ → List Port → Vertex
+abbrev pub new_vertex : Kind → (depth : ℕ) → List Port → Vertex
 new_vertex kind depth ins = record { kind = kind; depth = depth; ins = ins }
 
 -- for each carried name: ingress, concat, hold and feedback, from number k on; d is the depth outside
-abbrev pub carry : ℕ → Ports → ℕ → ℕ → List Name → List Vertex
+abbrev pub carry : (turns : ℕ) → Ports → (d k : ℕ) → List Name → List Vertex
 carry n ports d k [] = []
 carry n ports d k (y ∷ ys) =
     new_vertex Kind.ingress d (ports y ∷ [])
@@ -35,7 +37,7 @@ carry n ports d k (y ∷ ys) =
     ∷ carry n ports d (suc (suc (suc (suc k)))) ys
 
 -- each carried name stands for its hold
-abbrev pub carried_ports : Ports → ℕ → List Name → Ports
+abbrev pub carried_ports : Ports → (k : ℕ) → List Name → Ports
 carried_ports ports k [] = ports
 carried_ports ports k (y ∷ ys) = stands_for y (port (suc (suc k)) 0) (carried_ports ports (suc (suc (suc (suc k)))) ys)
 
@@ -44,15 +46,20 @@ pub record Lowered : Type 0 where
   pub made : List Vertex
   pub gives : Port
 
--- a vertex after those of its relation
-abbrev pub then_one : ℕ → Lowered → Kind → ℕ → Lowered
+-- a vertex after those of its relation, whose first is the number k
+abbrev pub then_one : (k : ℕ) → Lowered → Kind → (d : ℕ) → Lowered
 then_one k r kind d = record { made = r.made ++ (new_vertex kind d (r.gives ∷ []) ∷ []); gives = port (k + length r.made) 0 }
 
-abbrev pub then_two : ℕ → Lowered → Lowered → Kind → ℕ → Lowered
-then_two k p q kind d = record { made = p.made ++ (q.made ++ (new_vertex kind d (p.gives ∷ q.gives ∷ []) ∷ [])); gives = port (k + length p.made + length q.made) 0 }
+-- a vertex after those of its two relations
+abbrev pub then_two : (k : ℕ) → Lowered → Lowered → Kind → (d : ℕ) → Lowered
+then_two k p q kind d =
+    record {
+      made = p.made ++ (q.made ++ (new_vertex kind d (p.gives ∷ q.gives ∷ []) ∷ []));
+      gives = port (k + length p.made + length q.made) 0;
+    }
 
 -- a loop after its start r; k is the number of its first vertex, ys are the names that it carries, b is its body
-abbrev pub looped : ℕ → ℕ → Lowered → Ports → ℕ → List Name → Lowered → Lowered
+abbrev pub looped : (turns k : ℕ) → Lowered → Ports → (d : ℕ) → List Name → Lowered → Lowered
 looped n k r ports d ys b =
     let first = suc (suc (suc k)) + length (carry n ports d (suc (suc (suc k))) ys) in
     let last = first + length b.made in
@@ -68,12 +75,12 @@ looped n k r ports d ys b =
       gives = port (suc last) 0;
     }
 
--- a loop after its start
+-- the vertices of a loop's start, and then the loop's
 abbrev pub after_start : Lowered → Lowered → Lowered
 after_start r l = record { made = r.made ++ l.made; gives = l.gives }
 
 -- of a relation at depth d, from number k on
-unfoldable pub lower : Rel → Ports → ℕ → ℕ → Lowered
+unfoldable pub lower : Rel → Ports → (d k : ℕ) → Lowered
 lower (Rel.named x) ports d k = record { made = []; gives = ports x }
 lower (Rel.select r ss) ports d k = then_one k (lower r ports d k) (Kind.select ss) d
 lower (Rel.filter r c) ports d k = then_one k (lower r ports d k) (Kind.filter c) d
@@ -100,7 +107,7 @@ abbrev pub input_vertices : List Input → List Vertex
 input_vertices as' = map (λ a. new_vertex Kind.input 0 []) as'
 
 -- each input's name stands for its vertex; the first is the number i
-abbrev pub input_ports : List Input → ℕ → Ports
+abbrev pub input_ports : List Input → (i : ℕ) → Ports
 input_ports [] i x = no_port
 input_ports (a ∷ as') i x = stands_for a.name (port i 0) (input_ports as' (suc i)) x
 
@@ -110,7 +117,7 @@ pub record LoweredLets : Type 0 where
   pub ports : Ports
 
 -- each let in order
-unfoldable pub lower_lets : List Let → Ports → ℕ → LoweredLets
+unfoldable pub lower_lets : List Let → Ports → (k : ℕ) → LoweredLets
 lower_lets [] ports k = record { made = []; ports = ports }
 lower_lets (a ∷ as') ports k =
     let r = lower a.value ports 0 k in
@@ -127,4 +134,6 @@ output_of p = lower p.output (lets_of p).ports 0 (length p.inputs + length (lets
 
 -- the graph of a program
 unfoldable pub lowered : Program → Graph
-lowered p = input_vertices p.inputs ++ ((lets_of p).made ++ ((output_of p).made ++ (new_vertex Kind.output 0 ((output_of p).gives ∷ []) ∷ [])))
+lowered p =
+    input_vertices p.inputs
+    ++ ((lets_of p).made ++ ((output_of p).made ++ (new_vertex Kind.output 0 ((output_of p).gives ∷ []) ∷ [])))

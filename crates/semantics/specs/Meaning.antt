@@ -1,4 +1,5 @@
--- What scalars, conditions and relations mean.
+-- What scalars, conditions, relations and programs mean. The forms have the meanings of LINQ's Enumerable, on multisets: no
+-- order, and sums that wrap at 64 bits. No time, graph or message occurs.
 use Rattle.std.specs.Prelude.{ℕ, zero, suc, Bool, cond, not, ◌&&◌, ◌||◌, List, [], ◌∷◌, ◌++◌, map, filter, flat_map, ℤ, pos, ◌+ℤ◌, ◌-ℤ◌, ◌*ℤ◌, neg_ℤ, slice_index_or, nat_eq}
 use Rattle.std.specs.Cmp.Lexicographic.{pointwise}
 use Rattle.std.specs.Ordering.{int_eq}
@@ -69,11 +70,11 @@ aggregate (Agg.max c) rs = reduced int_max (map (field c) rs)
 
 -- ---- the forms, on multisets
 
--- each record's scalars
+-- each record's scalars (LINQ: Select)
 abbrev pub selected : List Scalar → List Record → List Record
 selected ss xs = map (λ r. map (λ s. value s r) ss) xs
 
--- the records at which the condition is true
+-- the records at which the condition is true (LINQ: Where)
 abbrev pub kept : Cond → List Record → List Record
 kept c xs = filter (holds c) xs
 
@@ -85,7 +86,7 @@ left_columns ps = map (λ p. p.left) ps
 abbrev pub right_columns : List Pair → List ℕ
 right_columns ps = map (λ p. p.right) ps
 
--- each a with each b that agrees with it, a's fields first
+-- each a with each b that agrees with it in the columns of all pairs, a's fields first (LINQ: Join)
 abbrev pub paired : List Pair → List Record → List Record → List Record
 paired ps xs ys = flat_map (λ a. map (λ b. a ++ b) (filter (λ b. same (project (left_columns ps) a) (project (right_columns ps) b)) ys)) xs
 
@@ -93,7 +94,7 @@ paired ps xs ys = flat_map (λ a. map (λ b. a ++ b) (filter (λ b. same (projec
 abbrev pub with_key : List ℕ → Record → List Record → List Record
 with_key ks k xs = filter (λ r. same (project ks r) k) xs
 
--- a record for each key that is present
+-- a record for each key that is present: the key, then the aggregates of its records (LINQ: GroupBy)
 abbrev pub grouped : List ℕ → List Agg → List Record → List Record
 grouped ks as' xs = map (λ k. k ++ map (λ a. aggregate a (with_key ks k xs)) as') (each_once (map (project ks) xs))
 

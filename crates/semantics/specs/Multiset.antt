@@ -1,5 +1,5 @@
 -- Multisets of records: lists, compared by how often each record stands in them.
-use Rattle.std.specs.Prelude.{◌≡◌, ℕ, zero, suc, ◌+◌, ◌≤◌, nat_lt, Bool, true, false, cond, List, [], ◌∷◌, ◌++◌, ℤ}
+use Rattle.std.specs.Prelude.{◌≡◌, ◌⊎◌, ℕ, zero, suc, ◌+◌, ◌≤◌, nat_lt, Bool, true, false, cond, List, [], ◌∷◌, ◌++◌, ℤ}
 use Rattle.std.specs.Cmp.Lexicographic.{pointwise}
 use Rattle.std.specs.Ordering.{int_eq}
 
@@ -33,6 +33,11 @@ pub record ◌≈◌ (xs ys : List Record) : Type 0 where
 -- xs is part of ys
 pub record IsPartOf (xs ys : List Record) : Type 0 where
   pub within : (r : Record) → count r xs ≤ count r ys
+
+-- x is among the elements of a list
+abbrev pub IsAmong : {X : Type 0} → X → List X → Type 0
+IsAmong x [] = ⊥
+IsAmong x (y ∷ ys) = (y ≡ x) ⊎ IsAmong x ys
 
 -- each record that is present, once
 abbrev pub each_once : List Record → List Record

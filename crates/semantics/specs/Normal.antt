@@ -3,9 +3,9 @@
 -- become what they hold, and a let that the output doesn't reach is dropped.
 use Rattle.std.specs.Prelude.{◌≡◌, ◌⊎◌, ℕ, ◌+◌, ◌≤◌, nat_eq, List, [], ◌∷◌, ◌++◌, slice_index_or, pos}
 use Rattle.std.specs.List.{AllByRecursion}
-use Rattle.semantics.specs.Multiset.{one_if}
+use Rattle.semantics.specs.Multiset.{IsAmong, one_if}
 use Rattle.semantics.specs.Query.{Name, Scalar, Cond, Rel, Let, Program}
-use Rattle.semantics.specs.FreeNames.{free, IsAmong}
+use Rattle.semantics.specs.FreeNames.{free}
 
 -- ---- select of select
 

@@ -1,11 +1,12 @@
--- The equation of a vertex at one time: from a multiset for each in port to one for each out port.
+-- The equation of a vertex at one time: from a multiset for each in port to one for each out port. The vertices of a query's
+-- forms do what the forms mean; those of a loop go by the last counter.
 use Rattle.std.specs.Prelude.{◌≡◌, ℕ, zero, suc, ◌+◌, ◌<◌, nat_lt, nat_eq, cond, List, [], ◌++◌, map, Some}
 use Rattle.semantics.specs.Multiset.{Record, count, ◌≈◌, each_once, end_to_end}
 use Rattle.semantics.specs.Meaning.{selected, kept, paired, grouped}
 use Rattle.semantics.specs.Time.{Time, last}
 use Rattle.semantics.specs.Kinds.{Kind, in_ports, route_key}
 
--- from a multiset for each in port to one for each out port
+-- what a vertex of that kind makes of what its in ports have
 abbrev pub op : Kind → Time → (ins : ℕ → List Record) → (out : ℕ) → List Record
 op Kind.input t ins out = []
 op Kind.output t ins out = []

@@ -1,7 +1,8 @@
--- The trees of a query, without spans.
+-- The trees of a query, without the places of the text where they stand. The forms are LINQ's Select, Where, Concat, Join,
+-- GroupBy and Distinct, and a loop of a fixed number of turns.
 use Rattle.std.specs.Prelude.{ℕ, ℤ, List}
 
--- what is computed of a record
+-- what is computed of a record: a column, a number, or an operation on scalars
 pub data Scalar : Type 0 where
   column : ℕ → Scalar
   literal : ℤ → Scalar
@@ -32,7 +33,7 @@ pub record Pair : Type 0 where
   pub left : ℕ
   pub right : ℕ
 
--- relations
+-- Relations: a name, each form over the relations that it takes, and a loop: its turns, its variable, its start, its body.
 pub data Rel : Type 0 where
   named : Name → Rel
   select : Rel → List Scalar → Rel

@@ -1,4 +1,4 @@
--- The worker to which a record goes.
+-- The worker to which a record goes. (Naiad, SOSP 2013, section 3.1: exchange by a partitioning function.)
 use Rattle.std.specs.Prelude.{ℕ, ◌+◌, ◌*◌, ◌%◌, ◌^◌, Bool, true, false, [], ◌∷◌, Option, Some, None}
 use Rattle.std.specs.Int.{cast_unsigned}
 use mir.Syntax.{w64}
@@ -6,13 +6,13 @@ use Rattle.semantics.specs.Multiset.{Record}
 use Rattle.semantics.specs.Kinds.{is_input, route_key}
 use Rattle.semantics.specs.Graph.{Graph, vertex, target, in_port, edge_source}
 
--- each field read as an unsigned number of 64 bits
+-- 31 times the hash so far, and the field read as an unsigned number, modulo 2^64; field by field
 abbrev pub hash_from : ℕ → Record → ℕ
 hash_from h [] = h
 hash_from h (v ∷ vs) = hash_from ((31 * h + cast_unsigned w64 v) % 2 ^ 64) vs
 
 -- the worker of a key, out of `workers`
-unfoldable pub route : Record → ℕ → ℕ
+unfoldable pub route : (key : Record) → (workers : ℕ) → ℕ
 route key workers = hash_from 7 key % workers
 
 -- by the key, where the edge's target has one; else by the whole record out of an input; else at the sender's
@@ -23,4 +23,6 @@ home_by None false workers sender r = sender
 
 -- where a record goes on an edge
 abbrev pub home : Graph → (workers sender edge : ℕ) → Record → ℕ
-home g workers sender e r = home_by (route_key (vertex g (target g e)).kind (in_port g e)) (is_input (vertex g (edge_source g e).vertex).kind) workers sender r
+home g workers sender e r =
+    home_by (route_key (vertex g (target g e)).kind (in_port g e)) (is_input (vertex g (edge_source g e).vertex).kind) workers
+    sender r

@@ -1,4 +1,4 @@
--- What one worker's shard of a vertex sends and asks for.
+-- What one worker's shard of a vertex sends and asks for. (Naiad, SOSP 2013, section 2.2: messages and notifications.)
 use Rattle.std.specs.Prelude.{◌≡◌, ℕ, Bool, true, false, cond, ◌==◌, List, [], ◌∷◌, ◌++◌}
 use Rattle.semantics.specs.Multiset.{Record, ◌≈◌}
 use Rattle.semantics.specs.Kinds.{Role}
@@ -9,7 +9,8 @@ only_at p records p' = cond (p' == p) records []
 
 -- What a shard sends for records that come to a port: `op` is its vertex's equation at the time, `before` what it had absorbed
 -- there by port, `now` what it then has, and `out` what it sends by out port. An input is sent nothing.
-abbrev pub SendsBy : Role → (op : (out : ℕ) → (ins : ℕ → List Record) → List Record) → (before now : (port : ℕ) → List Record) → (port : ℕ) → List Record → (out : ℕ → List Record) → Type 0
+abbrev pub SendsBy : Role → (op : (out : ℕ) → (ins : ℕ → List Record) → List Record) → (before now : (port : ℕ) → List Record)
+    → (port : ℕ) → List Record → (out : ℕ → List Record) → Type 0
 SendsBy Role.input op before now port records out = ⊥
 SendsBy Role.stateless op before now port records out = (q : ℕ) → out q ≈ op q (only_at port records)
 -- what is gained
@@ -18,7 +19,8 @@ SendsBy Role.notified op before now port records out = (q : ℕ) → out q ≡ [
 SendsBy Role.output op before now port records out = (q : ℕ) → out q ≡ []
 
 -- what a shard sends at its notification, of all that it absorbed at that time
-abbrev pub SendsAtNotification : (op : (out : ℕ) → (ins : ℕ → List Record) → List Record) → (absorbed : (port : ℕ) → List Record) → (out : ℕ → List Record) → Type 0
+abbrev pub SendsAtNotification : (op : (out : ℕ) → (ins : ℕ → List Record) → List Record) → (absorbed : (port : ℕ) → List Record)
+    → (out : ℕ → List Record) → Type 0
 SendsAtNotification op absorbed out = (q : ℕ) → out q ≈ op q absorbed
 
 -- a shard asks for a notification by the first records that it absorbs at a time; `before` is what it had absorbed there at all

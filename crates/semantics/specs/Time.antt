@@ -1,9 +1,10 @@
--- Times: an epoch and the counters of the loops around a pointstamp, outermost first.
+-- Times: an epoch, and a counter for each loop around, outermost first; what vertices do to them, and their order.
+-- (Naiad, SOSP 2013, section 2.1: timestamps, and the ingress, egress and feedback vertices.)
 use Rattle.std.specs.Prelude.{◌≡◌, ◌⊎◌, ℕ, zero, suc, ◌-◌, ◌≤◌, ◌<◌, nat_lt, nat_eq, Bool, true, false, cond, ◌&&◌, ◌||◌, List, [], ◌∷◌, ◌++◌, map, length}
 use Rattle.std.specs.Cmp.Lexicographic.{pointwise}
 use Rattle.semantics.specs.Limits.{max_turns}
 
--- the counters stand outermost first
+-- an epoch of the inputs, and the turn of each loop around
 pub record Time : Type 0 where
   pub epoch : ℕ
   pub counters : List ℕ
@@ -67,11 +68,6 @@ times_before Action.enter u = cond (in_first_turn u.counters) (outer u ∷ []) [
 times_before Action.leave u = map (deeper u) (below turn_count)
 times_before Action.next u = cond (nat_lt 0 (last u.counters)) (deeper (outer u) (last u.counters - 1) ∷ []) []
 
--- t is one of the times
-abbrev pub IsOneOf : Time → List Time → Type 0
-IsOneOf t [] = ⊥
-IsOneOf t (u ∷ us) = (u ≡ t) ⊎ IsOneOf t us
-
 -- the times that an action takes somewhere: a leave and a next need a counter, which at a leave is at most the limit of turns
 abbrev pub IsTaken : Action → Time → Type 0
 IsTaken Action.stay t = Unit {0}
@@ -98,7 +94,7 @@ is_before [] (y ∷ ys) = true
 is_before (x ∷ xs) [] = false
 is_before (x ∷ xs) (y ∷ ys) = nat_lt x y || (nat_eq x y && is_before xs ys)
 
--- the epochs, and the counters lexicographically
+-- the epochs are in order, and the counters lexicographically
 pub record IsAtMost (t u : Time) : Type 0 where
   pub epochs : t.epoch ≤ u.epoch
   pub counters : (t.counters ≡ u.counters) ⊎ (is_before t.counters u.counters ≡ true)

@@ -1,4 +1,5 @@
--- Well-typed relations and programs: each case asks what a refusal denies.
+-- Well-typed relations and programs: each name is known, each column is there, arities agree, and limits are kept. What the
+-- check of a query refuses is what some case here asks.
 use Rattle.std.specs.Prelude.{◌≡◌, ℕ, suc, ◌+◌, ◌≤◌, ◌<◌, cond, List, [], ◌∷◌, length, Option, Some, None}
 use Rattle.std.specs.List.{AllByRecursion}
 use Rattle.semantics.specs.Limits.{max_fields, max_inputs, max_turns, max_loops}
@@ -51,15 +52,21 @@ AggFits n (Agg.min c) = c < n
 AggFits n (Agg.max c) = c < n
 
 -- the relation has the arity n in that scope, in the body of d loops
-unfoldable pub HasArity : Rel → Scope → ℕ → ℕ → Type 0
+unfoldable pub HasArity : Rel → Scope → (d n : ℕ) → Type 0
 HasArity (Rel.named x) scope d n = lookup scope x ≡ Some n
-HasArity (Rel.select r ss) scope d n = (m : ℕ) × HasArity r scope d m × AllByRecursion (ScalarFits m) ss × (n ≡ length ss) × IsArity n
+HasArity (Rel.select r ss) scope d n =
+    (m : ℕ) × HasArity r scope d m × AllByRecursion (ScalarFits m) ss × (n ≡ length ss) × IsArity n
 HasArity (Rel.filter r c) scope d n = HasArity r scope d n × CondFits n c
 HasArity (Rel.concat p q) scope d n = HasArity p scope d n × HasArity q scope d n
-HasArity (Rel.join p q ps) scope d n = (l : ℕ) × (m : ℕ) × HasArity p scope d l × HasArity q scope d m × AllByRecursion (λ (x : Pair). (x.left < l) × (x.right < m)) ps × (n ≡ l + m) × IsArity n
-HasArity (Rel.group r ks as') scope d n = (m : ℕ) × HasArity r scope d m × AllByRecursion (λ k. k < m) ks × AllByRecursion (AggFits m) as' × (n ≡ length ks + length as') × IsArity n
+HasArity (Rel.join p q ps) scope d n =
+    (l : ℕ) × (m : ℕ) × HasArity p scope d l × HasArity q scope d m
+    × AllByRecursion (λ (x : Pair). (x.left < l) × (x.right < m)) ps × (n ≡ l + m) × IsArity n
+HasArity (Rel.group r ks as') scope d n =
+    (m : ℕ) × HasArity r scope d m × AllByRecursion (λ k. k < m) ks × AllByRecursion (AggFits m) as'
+    × (n ≡ length ks + length as') × IsArity n
 HasArity (Rel.distinct r) scope d n = HasArity r scope d n
-HasArity (Rel.iterate k x r b) scope d n = (k ≤ max_turns) × (d < max_loops) × HasArity r scope d n × (lookup scope x ≡ None) × HasArity b (entry x n ∷ scope) (suc d) n
+HasArity (Rel.iterate k x r b) scope d n =
+    (k ≤ max_turns) × (d < max_loops) × HasArity r scope d n × (lookup scope x ≡ None) × HasArity b (entry x n ∷ scope) (suc d) n
 
 -- inputs in order, each name new
 abbrev pub InputsFit : Scope → List Input → Type 0
@@ -74,7 +81,8 @@ after_inputs scope (a ∷ as') = after_inputs (entry a.name a.arity ∷ scope) a
 -- lets in order, and the output, of arity n
 abbrev pub RestFits : Scope → List Let → Rel → ℕ → Type 0
 RestFits scope [] out n = HasArity out scope 0 n
-RestFits scope (a ∷ as') out n = (m : ℕ) × HasArity a.value scope 0 m × (lookup scope a.name ≡ None) × RestFits (entry a.name m ∷ scope) as' out n
+RestFits scope (a ∷ as') out n =
+    (m : ℕ) × HasArity a.value scope 0 m × (lookup scope a.name ≡ None) × RestFits (entry a.name m ∷ scope) as' out n
 
 -- the program is well typed, and its output has that arity
 pub record WellTyped (p : Program) (n : ℕ) : Type 0 where

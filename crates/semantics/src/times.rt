@@ -1,5 +1,6 @@
 ghost use Rattle.std.specs.Prelude.{◌≡◌, ◌⊎◌, ◌<◌, ◌≤◌, ℕ, List, length};
-ghost use Rattle.semantics.specs.Time.{Time, Action, after_action, times_before, IsOneOf, IsTaken, IsAtMost};
+ghost use Rattle.semantics.specs.Multiset.{IsAmong};
+ghost use Rattle.semantics.specs.Time.{Time, Action, after_action, times_before, IsTaken, IsAtMost};
 
 /// The order of times: each is at most itself, the order goes onward, and an action keeps the order of times of one depth.
 pub fn law_order()
@@ -11,6 +12,6 @@ pub fn law_order()
 
 /// The times before u are those that the action takes to u.
 pub fn law_times_before()
-    ensures all { (a : Action) (t u : Time) → IsTaken a t → after_action a t ≡ u → IsOneOf t (times_before a u) }
-    ensures only { (a : Action) (t u : Time) → IsOneOf t (times_before a u) → after_action a t ≡ u }
+    ensures all { (a : Action) (t u : Time) → IsTaken a t → after_action a t ≡ u → IsAmong t (times_before a u) }
+    ensures only { (a : Action) (t u : Time) → IsAmong t (times_before a u) → after_action a t ≡ u }
 {}
