@@ -10,6 +10,5 @@ mod time;
 
 pub use time::{MAX_LOOPS, Time};
 
-
 #[cfg(test)]
 mod tests;

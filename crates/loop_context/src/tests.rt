@@ -1,8 +1,11 @@
-use super::*;
+ghost use Rattle.std.specs.Prelude.{◌≡◌};
 
+use super::*;
 use std::process::Abort;
 
-fn time(rt: &impl Abort, epoch: u32, counters: &[u32]) -> Time {
+fn time(rt: &impl Abort, epoch: u32, counters: &[u32]) -> Time
+    ensures { result ≡ record { epoch = epoch; counters = counters.now } }
+{
     Time::new(epoch, counters).expect(rt, "at most 8 counters")
 }
 
@@ -32,7 +35,10 @@ fn a_way_into_a_loop_round_it_and_out(rt: HostRuntime) {
     let first = outside.enter().expect(&rt, "no loop");
     let second = first.next().expect(&rt, "turn 0");
     assert_eq!(rt; first.counters(), [0].as_slice());
-    assert_eq!(rt; (second.epoch(), second.counters(), second.last_counter()), (7, [1].as_slice(), 1));
+    assert_eq!(rt;
+        (second.epoch(), second.counters(), second.last_counter()),
+        (7, [1].as_slice(), 1)
+    );
     assert_eq!(rt; second.leave(), outside);
     assert_eq!(rt; second.copied(), second);
     assert!(rt; outside < first && first < second && second < Time::at_epoch(8));
@@ -42,7 +48,13 @@ fn a_way_into_a_loop_round_it_and_out(rt: HostRuntime) {
 fn at_most_8_loops(rt: HostRuntime) {
     let deepest = time(&rt, 0, &[1, 2, 3, 4, 5, 6, 7, 8]);
     assert!(rt; deepest.enter().is_none());
-    assert_eq!(rt; deepest.leave().enter().map(|t| t.counters() == [1, 2, 3, 4, 5, 6, 7, 0].as_slice()), Some(true));
+    assert_eq!(rt;
+        deepest
+            .leave()
+            .enter()
+            .map(|t| t.counters() == [1, 2, 3, 4, 5, 6, 7, 0].as_slice()),
+        Some(true)
+    );
     assert!(rt; Time::new(0, &[0; 9]).is_none());
 }
 
@@ -50,5 +62,8 @@ fn at_most_8_loops(rt: HostRuntime) {
 fn the_last_turn_of_all(rt: HostRuntime) {
     assert!(rt; time(&rt, 0, &[0, 4294967295]).next().is_none());
     let before = time(&rt, 0, &[4294967295, 4294967294]);
-    assert_eq!(rt; before.next(), Some(time(&rt, 0, &[4294967295, 4294967295])));
+    assert_eq!(rt;
+        before.next(),
+        Some(time(&rt, 0, &[4294967295, 4294967295]))
+    );
 }

@@ -1,7 +1,8 @@
 //! Times.
 
 ghost use Rattle.std.specs.Prelude.{◌≡◌, ◌⊎◌, ◌≤◌, ◌<◌, ◌↔◌, ◌^◌, ◌-◌, true, length, IsTrue, IsNone, IfSome, SomeIff};
-ghost use Rattle.semantics.specs.Time.{Action, IsAtMost, after, at_epoch, last, lex_lt};
+ghost use Rattle.semantics.specs.Limits.{max_loops};
+ghost use Rattle.semantics.specs.Time.{Action, IsAtMost, after_action, at_epoch, last, is_before};
 
 use arrayvec::ArrayVec;
 use std::alloc::AllocError;
@@ -19,6 +20,7 @@ pub struct Time {
 
 impl Model for Time {
     ghost use Rattle.std.specs.Prelude.{◌≤◌, length};
+    ghost use Rattle.semantics.specs.Limits.{max_loops};
     ghost use Rattle.semantics.specs.Time as semantics;
 
     ghost Value = { semantics.Time };
@@ -27,13 +29,13 @@ impl Model for Time {
 
     ghost inverse = { λ t. record { epoch = t.epoch; counters = record { items = t.counters } } };
 
-    ghost invariant = { λ t. length t.counters.items ≤ 8 };
+    ghost invariant = { λ t. length t.counters.items ≤ max_loops };
 }
 
 impl Time {
     /// The time of these; `None` exactly for more than 8 counters.
     pub fn new(epoch: u32, counters: &[u32]) -> Option<Time>
-        ensures { SomeIff result (length counters.now ≤ 8) (record { epoch = epoch; counters = counters.now }) }
+        ensures { SomeIff result (length counters.now ≤ max_loops) (record { epoch = epoch; counters = counters.now }) }
     {
         let mut copied = ArrayVec::new();
         if copied.try_extend_from_slice(counters).is_err() {
@@ -64,7 +66,7 @@ impl Time {
     /// The counters, outermost first: at most 8.
     pub fn counters(&self) -> &[u32]
         ensures value { result.now ≡ self.now.counters }
-        ensures short { length self.now.counters ≤ 8 }
+        ensures short { length self.now.counters ≤ max_loops }
     {
         self.counters.as_slice()
     }
@@ -72,7 +74,7 @@ impl Time {
     /// The number of loops around a place of this time.
     pub fn depth(&self) -> usize
         ensures value { result ≡ length self.now.counters }
-        ensures short { result ≤ 8 }
+        ensures short { result ≤ max_loops }
     {
         self.counters.len()
     }
@@ -106,8 +108,8 @@ impl Time {
 
     /// The time on the way into a loop, at its first turn; `None` exactly where 8 loops are around it already.
     pub fn enter(&self) -> Option<Time>
-        ensures entered { IfSome result (λ t. t ≡ after Action.enter self.now) }
-        ensures deepest { IsNone result ↔ (length self.now.counters ≡ 8) }
+        ensures entered { IfSome result (λ t. t ≡ after_action Action.enter self.now) }
+        ensures deepest { IsNone result ↔ (length self.now.counters ≡ max_loops) }
     {
         let mut time = self.copied();
         if time.counters.try_push(0).is_err() {
@@ -119,7 +121,7 @@ impl Time {
     /// The time on the way out of the innermost loop.
     pub fn leave(&self) -> Time
         requires { 0 < length self.now.counters }
-        ensures { result ≡ after Action.leave self.now }
+        ensures { result ≡ after_action Action.leave self.now }
     {
         let mut time = self.copied();
         let _ = time.counters.pop();
@@ -130,7 +132,7 @@ impl Time {
     #[tactic(auto, using(crate::proofs::Counters::last_append))]
     pub fn next(&self) -> Option<Time>
         requires { 0 < length self.now.counters }
-        ensures next { IfSome result (λ t. t ≡ after Action.next self.now) }
+        ensures next { IfSome result (λ t. t ≡ after_action Action.next self.now) }
         ensures greatest { IsNone result ↔ (last self.now.counters ≡ 2 ^ 32 - 1) }
     {
         let mut time = self.copied();
@@ -143,7 +145,7 @@ impl Time {
 /// Whether the counters are in lexicographic order.
 #[tactic(auto, using(crate::proofs::Counters::order_from_slices, crate::proofs::Counters::slices_from_order))]
 fn in_order(counters: &[u32], others: &[u32]) -> bool
-    ensures { IsTrue result ↔ ((counters.now ≡ others.now) ⊎ (lex_lt counters.now others.now ≡ true)) }
+    ensures { IsTrue result ↔ ((counters.now ≡ others.now) ⊎ (is_before counters.now others.now ≡ true)) }
 {
     counters <= others
 }
