@@ -1,0 +1,4 @@
+pub mod Scopes
+pub mod Gathers
+pub mod Numbers
+pub mod Forms

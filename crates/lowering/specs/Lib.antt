@@ -1,0 +1,5 @@
+pub mod Views
+pub mod Faults
+pub mod Scopes
+pub mod Gathering
+pub mod Steps

@@ -1,0 +1,20 @@
+//! Queries to dataflow graphs.
+//!
+//! `lower` makes the graph of a well-typed query: vertices numbered as they are made, each with its kind, its depth and the ports that
+//! feed it.
+//!
+//! The contract for the layers above: the graph is exactly the one that the definition (`semantics`) makes of the tree, so on any
+//! inputs it has exactly one flow, and what comes to its output is the query's meaning. A graph owns what it needs; the tree may go.
+//!
+//! Below stand `expr_tree`, `loop_context` and `semantics`. Path summaries, trackers, shards and the board stand on graphs.
+#![tactic(auto)]
+
+mod fault;
+mod vertex;
+mod copies;
+mod scope;
+mod names;
+mod loops;
+
+pub use fault::LowerFault;
+pub use vertex::{Kind, Port, Sources, Vertex, VertexId};
