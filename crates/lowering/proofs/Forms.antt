@@ -3,7 +3,8 @@ use Rattle.std.proofs.Common.{◌≡◌, ℕ, suc, ◌+◌, ◌<◌, ◌≤◌, 
 use Rattle.semantics.specs.Query.{Name, Rel}
 use Rattle.semantics.specs.Kinds as semantics
 use Rattle.semantics.specs.Graph as graph
-use Rattle.semantics.specs.Lower.{lower, Lowered, Ports, new_vertex, port, stands_for, carried_ports, carry, carried, looped, after_start, then_one, then_two}
+use Rattle.semantics.specs.Lower.{lower, Lowered, Ports, new_vertex, port, stands_for, carried_ports, carry, looped, after_start, then_one, then_two}
+use Rattle.semantics.specs.FreeNames.{carried}
 use Rattle.lowering.specs.Views.{graph_of}
 use Rattle.lowering.specs.Faults.{IsTooMany, IsOver}
 use Rattle.lowering.specs.Steps.{IsLowered}

@@ -2,7 +2,7 @@
 use Rattle.std.proofs.Common.{◌≡◌, Bool, true, false, cond, not, ◌||◌, List, [], ◌∷◌, ◌++◌, filter, refl, sym, ap, ◌∙◌, append_assoc, append-nil}
 use Rattle.semantics.specs.Query.{Name, Rel}
 use Rattle.semantics.specs.Meaning.{same_name}
-use Rattle.semantics.specs.Lower.{free, firsts, other_than, carried}
+use Rattle.semantics.specs.FreeNames.{free, firsts, other_than, carried}
 use Rattle.lowering.specs.Gathering.{has, gathered}
 use Rattle.semantics.proofs.LoweredRelations.{Decides-same_name}
 

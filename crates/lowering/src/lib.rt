@@ -15,6 +15,7 @@ mod copies;
 mod scope;
 mod names;
 mod loops;
+mod relation;
 
 pub use fault::LowerFault;
 pub use vertex::{Kind, Port, Sources, Vertex, VertexId};

@@ -4,7 +4,8 @@ ghost use Rattle.std.specs.Prelude.{◌≡◌, ◌≤◌, ◌<◌, ◌++◌, ◌
 ghost use Rattle.expr_tree.specs.Plain.{plain_rel};
 ghost use Rattle.expr_tree.specs.Views.{rel_tree};
 ghost use Rattle.semantics.specs.Kinds as semantics;
-ghost use Rattle.semantics.specs.Lower.{carried, carried_ports, carry, new_vertex, port, stands_for};
+ghost use Rattle.semantics.specs.FreeNames.{carried};
+ghost use Rattle.semantics.specs.Lower.{carried_ports, carry, new_vertex, port, stands_for};
 ghost use Rattle.lowering.specs.Faults.{IsOver};
 ghost use Rattle.lowering.specs.Scopes.{Extends, ports_of};
 ghost use Rattle.lowering.specs.Views.{graph_of, port_of};

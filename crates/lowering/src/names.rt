@@ -3,7 +3,7 @@
 ghost use Rattle.std.specs.Prelude.{◌≡◌, IfOk, OnOk};
 ghost use Rattle.expr_tree.specs.Plain.{plain_rel};
 ghost use Rattle.expr_tree.specs.Views.{rel_tree};
-ghost use Rattle.semantics.specs.Lower.{carried, free};
+ghost use Rattle.semantics.specs.FreeNames.{carried, free};
 ghost use Rattle.lowering.specs.Gathering.{gathered, has};
 
 use crate::scope::copy_name;

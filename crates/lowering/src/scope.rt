@@ -1,7 +1,7 @@
 //! The names in scope, and the ports that they stand for.
 
-ghost use Rattle.std.specs.Prelude.{◌≡◌, ◌≤◌, ◌++◌, ◌∷◌, [], length, take, IsTrue, ◌↔◌, OnOk};
-ghost use Rattle.lowering.specs.Scopes.{port_from, ports_of};
+ghost use Rattle.std.specs.Prelude.{◌≡◌, ◌++◌, ◌∷◌, [], length, take, OnOk};
+ghost use Rattle.lowering.specs.Scopes.{ports_of};
 ghost use Rattle.lowering.specs.Views.{port_of};
 
 use crate::vertex::{Port, VertexId};
@@ -76,7 +76,6 @@ impl Scope {
 }
 
 /// The port of the last entry of the name.
-#[tactic(auto, using(crate::proofs::Scopes::asked_last))]
 fn find_last(entries: &[Entry], name: &Name) -> Port
     ensures { port_of result ≡ ports_of entries.now name.now }
 {
