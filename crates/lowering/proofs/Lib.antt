@@ -2,3 +2,5 @@ pub mod Scopes
 pub mod Gathers
 pub mod Numbers
 pub mod Forms
+pub mod NamedRelations
+pub mod WholePrograms

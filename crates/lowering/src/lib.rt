@@ -16,6 +16,7 @@ mod scope;
 mod names;
 mod loops;
 mod relation;
+mod program;
 
 pub use fault::LowerFault;
 pub use vertex::{Kind, Port, Sources, Vertex, VertexId};
