@@ -4,3 +4,5 @@ pub mod Numbers
 pub mod Forms
 pub mod NamedRelations
 pub mod WholePrograms
+pub mod Nesting
+pub mod Lines

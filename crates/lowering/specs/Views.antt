@@ -2,6 +2,7 @@
 use Rattle.std.specs.Prelude.{List, [], ◌∷◌, map}
 use Rattle.semantics.specs.Kinds as semantics
 use Rattle.semantics.specs.Graph as graph
+use Rattle.semantics.specs.Query as query
 use Rattle.expr_tree.specs.Views.{scalar_tree, cond_tree}
 use Rattle.expr_tree.specs.Plain.{plain_scalar, plain_cond, plain_pair, plain_agg}
 use Rattle.lowering.specs.declared.vertex.Kind.{Kind}
@@ -10,6 +11,7 @@ use Rattle.lowering.specs.declared.vertex.Port.{Port}
 use Rattle.lowering.specs.declared.vertex.Sources.{Sources}
 use Rattle.lowering.specs.declared.vertex.Sources.TheVariants.{Nothing, One, Two}
 use Rattle.lowering.specs.declared.vertex.Vertex.{Vertex}
+use Rattle.lowering.specs.declared.graph.DeclaredInput.{DeclaredInput}
 
 -- of a kind
 abbrev pub kind_of : Kind → semantics.Kind
@@ -44,3 +46,7 @@ vertex_of v = record { kind = kind_of v.kind; depth = v.depth; ins = sources_of 
 -- of all vertices, by number
 abbrev pub graph_of : List Vertex → graph.Graph
 graph_of vs = map vertex_of vs
+
+-- of an input
+abbrev pub input_of : DeclaredInput → query.Input
+input_of i = record { name = i.name; arity = i.arity }

@@ -17,6 +17,10 @@ mod names;
 mod loops;
 mod relation;
 mod program;
+mod graph;
+mod text;
 
 pub use fault::LowerFault;
+pub use graph::{DeclaredInput, Graph, lower_program};
+pub use text::graph_text;
 pub use vertex::{Kind, Port, Sources, Vertex, VertexId};
