@@ -6,3 +6,4 @@ pub mod NamedRelations
 pub mod WholePrograms
 pub mod Nesting
 pub mod Lines
+pub mod EdgeTables

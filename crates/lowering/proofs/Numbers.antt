@@ -1,5 +1,5 @@
 -- How long the code's graph is.
-use Rattle.std.proofs.Common.{◌≡◌, ℕ, zero, suc, ◌+◌, ◌<◌, List, [], ◌∷◌, ◌++◌, length, refl, sym, ap, ◌∙◌, arith, append_assoc, length-append, slice_set as set}
+use Rattle.std.proofs.Common.{◌≡◌, ℕ, zero, suc, ◌+◌, ◌<◌, List, [], ◌∷◌, ◌++◌, length, refl, sym, ap, ◌∙◌, arith, append_assoc, length-append, get_or, slice_index_or, slice_set as set}
 use Rattle.std.proofs.lemmas.List.{set-append_left}
 use Rattle.semantics.specs.Kinds as semantics
 use Rattle.semantics.specs.Graph as graph
@@ -23,3 +23,13 @@ closed_made m0 m1 m2 m3 i f v w e h a b c q =
     let n : i < length (graph_of m0) = omega (arith, length_graph_of m0) in
     c ∙ ap (λ l. l ++ (e ∷ [])) (b ∙ ap (λ l. set l i v) a ∙ set-append_left (graph_of m0) (f ∷ []) i v n ∙ ap (λ u. set (graph_of m0) i u ++ (f ∷ [])) q)
     ∙ append_assoc (set (graph_of m0) i w) (f ∷ []) (e ∷ [])
+
+read_at : (vs : List Vertex) (i : ℕ) (v : Vertex) → i < length vs → v ≡ get_or vs i v → vertex_of v ≡ slice_index_or (graph_of vs) i graph.no_vertex
+read_at [] i v h e = absurd (omega arith)
+read_at (w ∷ vs) zero v h e = ap vertex_of e
+read_at (w ∷ vs) (suc i) v h e = read_at vs i v (omega arith) e
+
+-- the vertex of a number
+pub vertex_at : (vs : List Vertex) (i : ℕ) (v : Vertex) → i < length vs → v ≡ get_or vs i v → vertex_of v ≡ graph.vertex (graph_of vs) i
+unfolding graph.vertex
+vertex_at vs i v h e = read_at vs i v h e

@@ -6,3 +6,5 @@ pub mod Steps
 pub mod GraphLaws
 pub mod Shown
 pub mod Text
+pub mod Edges
+pub mod Locations

@@ -17,10 +17,19 @@ mod names;
 mod loops;
 mod relation;
 mod program;
+mod edges;
 mod graph;
+mod location;
 mod text;
+mod dot;
 
+pub use dot::graph_dot;
+pub use edges::{Edge, EdgeId};
 pub use fault::LowerFault;
-pub use graph::{DeclaredInput, Graph, lower_program};
+pub use graph::{DeclaredInput, Graph, lower};
+pub use location::Location;
 pub use text::graph_text;
-pub use vertex::{Kind, Port, Sources, Vertex, VertexId};
+pub use vertex::{Kind, MAX_VERTICES, Port, Sources, Vertex, VertexId};
+
+#[cfg(test)]
+mod tests;
