@@ -22,6 +22,7 @@ mod graph;
 mod location;
 mod text;
 mod dot;
+mod sameness;
 
 pub use dot::graph_dot;
 pub use edges::{Edge, EdgeId};
