@@ -74,8 +74,5 @@ fn gather<A: Allocator>(
 fn stands_in(names: &[Name], name: &Name) -> bool
     ensures { result ≡ has name.now names.now }
 {
-    match names {
-        [] => false,
-        [first, rest @ ..] => *first == *name || stands_in(rest, name),
-    }
+    names.iter().any(|other| *other == *name)
 }

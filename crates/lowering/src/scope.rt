@@ -79,18 +79,17 @@ impl Scope {
 fn find_last(entries: &[Entry], name: &Name) -> Port
     ensures { port_of result ≡ ports_of entries.now name.now }
 {
-    match entries {
-        [] => Port {
-            vertex: VertexId(0),
-            out: 0,
-        },
-        [rest @ .., entry] => {
-            if entry.name == *name {
-                entry.port
-            } else {
-                find_last(rest, name)
-            }
+    let mut left = entries.len();
+    while left > 0 {
+        left -= 1;
+        let entry = &entries[left];
+        if entry.name == *name {
+            return entry.port;
         }
+    }
+    Port {
+        vertex: VertexId(0),
+        out: 0,
     }
 }
 
