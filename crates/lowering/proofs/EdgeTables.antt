@@ -12,7 +12,7 @@ use Rattle.semantics.specs.Graph.{vertex, source, edge_count, edge_source, targe
 use Rattle.semantics.specs.Lower.{port}
 use Rattle.semantics.specs.Time.{below}
 use Rattle.semantics.proofs.EdgeNumbers.{entered}
-use Rattle.lowering.specs.Views.{graph_of, vertex_of, sources_of, port_of}
+use Rattle.lowering.specs.Views.{graph_of, sources_of, port_of}
 use Rattle.lowering.specs.declared.edges.Edge.{Edge}
 use Rattle.lowering.specs.declared.edges.EdgeId.{EdgeId}
 use Rattle.lowering.specs.declared.edges.Outs.{Outs}
@@ -155,9 +155,9 @@ one_edge_more n es i old new s k l q t e =
 pub sources_known : (g : graph.Graph) → IsWired g → HaveSources (length g) (edge_list 0 g)
 sources_known g w = record {
   vertices = λ e h. let k : e < edge_count g = subst (λ m. e < m) (length-edge_list 0 g) h in let n = entered g e k in
-    subst (λ (x : Ends). x.source.vertex < length g) (sym (edge_at 0 g e k)) (w.fed (target g e) (in_port g e) n.known n.port);
+      subst (λ (x : Ends). x.source.vertex < length g) (sym (edge_at 0 g e k)) (w.fed (target g e) (in_port g e) n.known n.port);
   ports = λ e h. let k : e < edge_count g = subst (λ m. e < m) (length-edge_list 0 g) h in let n = entered g e k in
-    subst (λ (x : Ends). x.source.out < 2) (sym (edge_at 0 g e k)) (two_ports (vertex g (edge_source g e).vertex).kind (edge_source g e).out (w.from_port (target g e) (in_port g e) n.known n.port));
+      subst (λ (x : Ends). x.source.out < 2) (sym (edge_at 0 g e k)) (two_ports (vertex g (edge_source g e).vertex).kind (edge_source g e).out (w.from_port (target g e) (in_port g e) n.known n.port));
 }
   where
     two_ports : (kind : Kind) (out : ℕ) → out < out_ports kind → out < 2

@@ -1,6 +1,5 @@
 -- Named relations, lowered one after another.
-use Rattle.std.proofs.Common.{◌≡◌, ℕ, zero, suc, ◌+◌, ◌<◌, ◌≤◌, List, [], ◌∷◌, ◌++◌, map, length, get_or, take, drop, refl, sym, ap, subst, ◌∙◌, arith, append_assoc, append-nil, length-append}
-use Rattle.std.specs.List.{AllByRecursion}
+use Rattle.std.proofs.Common.{◌≡◌, ℕ, zero, suc, ◌+◌, ◌<◌, List, [], ◌∷◌, ◌++◌, map, length, get_or, take, drop, refl, sym, ap, subst, ◌∙◌, arith, append_assoc, append-nil, length-append}
 use Rattle.std.specs.Prelude.{Result, Ok, Err, IfErr}
 use Rattle.std.specs.Result.{IsErrAnd}
 use Rattle.expr_tree.specs.declared.program.Let as declared
@@ -10,16 +9,12 @@ use Rattle.semantics.specs.Query.{Let}
 use Rattle.semantics.specs.Lower.{lower, lower_lets, LoweredLets, Ports, stands_for}
 use Rattle.semantics.proofs.FittingPrograms.{Nested}
 use Rattle.semantics.specs.Graph as graph
-use Rattle.lowering.specs.Views.{graph_of, port_of}
+use Rattle.lowering.specs.Views.{graph_of}
 use Rattle.lowering.specs.Faults.{IsOver}
 use Rattle.lowering.specs.Steps.{IsLowered, AreLowered, AreNested}
-use Rattle.lowering.specs.Scopes.{ports_of}
-use Rattle.lowering.specs.declared.scope.Entry.{Entry}
-use Rattle.lowering.specs.declared.vertex.Port.{Port}
 use Rattle.lowering.specs.declared.vertex.Vertex.{Vertex}
 use Rattle.lowering.specs.declared.fault.LowerFault.{LowerFault}
 use Rattle.lowering.proofs.Numbers.{number_of}
-use Rattle.lowering.proofs.Scopes.{ports_from_append}
 use Rattle.lowering.proofs.Forms.{is_over}
 
 -- one of them

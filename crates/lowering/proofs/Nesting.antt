@@ -2,7 +2,7 @@
 use Rattle.std.proofs.Common.{ℕ, List, [], ◌∷◌}
 use Rattle.semantics.specs.Query.{Name, Let, Program}
 use Rattle.semantics.specs.Typing.{WellTyped}
-use Rattle.semantics.proofs.FittingPrograms.{Nested, LetsFit}
+use Rattle.semantics.proofs.FittingPrograms.{LetsFit}
 use Rattle.semantics.proofs.TypedPrograms.{typed_fits}
 use Rattle.lowering.specs.Steps.{AreNested, IsNested}
 

@@ -1,7 +1,6 @@
 -- How long the code's graph is.
 use Rattle.std.proofs.Common.{◌≡◌, ℕ, zero, suc, ◌+◌, ◌<◌, List, [], ◌∷◌, ◌++◌, length, refl, sym, ap, ◌∙◌, arith, append_assoc, length-append, get_or, slice_index_or, slice_set as set}
 use Rattle.std.proofs.lemmas.List.{set-append_left}
-use Rattle.semantics.specs.Kinds as semantics
 use Rattle.semantics.specs.Graph as graph
 use Rattle.lowering.specs.Views.{graph_of, vertex_of}
 use Rattle.lowering.specs.declared.vertex.Vertex.{Vertex}

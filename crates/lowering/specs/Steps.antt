@@ -1,5 +1,5 @@
 -- What a piece of lowering has done.
-use Rattle.std.specs.Prelude.{◌≡◌, List, [], ◌∷◌, ◌++◌}
+use Rattle.std.specs.Prelude.{◌≡◌, List, ◌++◌}
 use Rattle.std.specs.List.{AllByRecursion}
 use Rattle.semantics.specs.Query.{Let, Program}
 use Rattle.semantics.specs.Graph.{Graph, Port}

@@ -41,11 +41,7 @@ pub fn edges_of(alloc: Global, vertices: &[Vertex]) -> Result<Vec<Edge>, NoMemor
 }
 
 /// The edges that enter one vertex put at the end.
-fn put_entering(
-    edges: &mut Vec<Edge>,
-    target: VertexId,
-    ins: &Sources,
-) -> Result<(), NoMemory>
+fn put_entering(edges: &mut Vec<Edge>, target: VertexId, ins: &Sources) -> Result<(), NoMemory>
     ensures { OnOk result (map edge_of edges.new.items ≡ map edge_of edges.old.items ++ entering target.0 0 (sources_of ins.now)) }
 {
     match ins {
@@ -81,11 +77,7 @@ fn put_edge(
 
 /// For each vertex the edges that begin at it.
 #[tactic(auto, using(crate::proofs::EdgeTables::no_edge_yet))]
-pub fn outs_of_edges(
-    alloc: Global,
-    vertices: usize,
-    edges: &[Edge],
-) -> Result<Vec<Outs>, NoMemory>
+pub fn outs_of_edges(alloc: Global, vertices: usize, edges: &[Edge]) -> Result<Vec<Outs>, NoMemory>
     requires sources { HaveSources vertices (map edge_of edges.now) }
     requires few { length edges.now ≤ 8192 }
     ensures { IfOk result (λ outs. IsOutTable vertices (map edge_of edges.now) (length edges.now) (map outs_of outs.items)) }

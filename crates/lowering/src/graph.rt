@@ -76,10 +76,7 @@ pub fn lower<A: Allocator>(alloc: Global, typed: &Typed<A>) -> Result<Graph, Low
 }
 
 /// The graph of a program that is well typed.
-fn lower_program<A: Allocator>(
-    alloc: Global,
-    program: &Program<A>,
-) -> Result<Graph, LowerFault>
+fn lower_program<A: Allocator>(alloc: Global, program: &Program<A>) -> Result<Graph, LowerFault>
     requires { (n : ℕ) × WellTyped (plain_program (program_tree program.now)) n }
     ensures graph { IfOk result (λ g. shown_graph g ≡ lowered (plain_program (program_tree program.now))) }
     ensures inputs { IfOk result (λ g. shown_inputs g ≡ (plain_program (program_tree program.now)).inputs) }

@@ -9,20 +9,20 @@
 //! Below stand `expr_tree`, `loop_context` and `semantics`. Path summaries, trackers, shards and the board stand on graphs.
 #![tactic(auto)]
 
-mod fault;
-mod vertex;
 mod copies;
-mod scope;
-mod names;
-mod loops;
-mod relation;
-mod program;
+mod dot;
 mod edges;
+mod fault;
 mod graph;
 mod location;
-mod text;
-mod dot;
+mod loops;
+mod names;
+mod program;
+mod relation;
 mod sameness;
+mod scope;
+mod text;
+mod vertex;
 
 pub use dot::graph_dot;
 pub use edges::{Edge, EdgeId};

@@ -36,7 +36,7 @@ pub fn open_loop<A: Allocator>(
     ensures gives { IfOk result (λ p. port_of p ≡ port (suc (suc (length made.old.items))) 0) }
     ensures inside { OnOk result (ports_of scope.new ≡ stands_for variable.now (port (suc (suc (length made.old.items))) 0) (carried_ports (ports_of scope.old) (suc (suc (suc (length made.old.items)))) (carried variable.now (plain_rel (rel_tree body.now))))) }
     ensures outside { OnOk result (Extends scope.old scope.new) }
-    ensures many { IfErr result (λ e. IsOver e (length made.old.items + suc (suc (suc (length (carry turns (ports_of scope.old) depth (suc (suc (suc (length made.old.items)))) (carried variable.now (plain_rel (rel_tree body.now)))))))) ) }
+    ensures many { IfErr result (λ e. IsOver e (length made.old.items + suc (suc (suc (length (carry turns (ports_of scope.old) depth (suc (suc (suc (length made.old.items)))) (carried variable.now (plain_rel (rel_tree body.now))))))))) }
 {
     let names = carried_names(alloc, variable, body)?;
     let first = add_vertex(made, Kind::Ingress, depth, Sources::One(start))?;
@@ -66,7 +66,13 @@ pub fn close_loop(
         out: 0,
     };
     let feedback = add_vertex(made, Kind::Feedback, depth + 1, Sources::One(body))?;
-    set_concat(made, (gate.vertex.0 - 1) as usize, depth + 1, first, feedback);
+    set_concat(
+        made,
+        (gate.vertex.0 - 1) as usize,
+        depth + 1,
+        first,
+        feedback,
+    );
     let last = Port {
         vertex: gate.vertex,
         out: 1,
@@ -104,12 +110,7 @@ fn carry_names(
 
 /// Makes the four vertices of a carried name: it comes in at turn 0, and the hold sends it on at each turn but the last. Gives the
 /// hold's out port 0.
-fn carry_one(
-    turns: u64,
-    from: Port,
-    depth: u32,
-    made: &mut Vec<Vertex>,
-) -> Result<Port, LowerFault>
+fn carry_one(turns: u64, from: Port, depth: u32, made: &mut Vec<Vertex>) -> Result<Port, LowerFault>
     requires { depth < 8 }
     ensures made { OnOk result (graph_of made.new.items ≡ graph_of made.old.items ++ (new_vertex semantics.Kind.ingress depth (port_of from ∷ []) ∷ new_vertex semantics.Kind.concat (suc depth) (port (length made.old.items) 0 ∷ port (suc (suc (suc (length made.old.items)))) 0 ∷ []) ∷ new_vertex (semantics.Kind.hold turns) (suc depth) (port (suc (length made.old.items)) 0 ∷ []) ∷ new_vertex semantics.Kind.feedback (suc depth) (port (suc (suc (length made.old.items))) 1 ∷ []) ∷ [])) }
     ensures gives { IfOk result (λ p. port_of p ≡ port (suc (suc (length made.old.items))) 0) }

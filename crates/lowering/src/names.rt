@@ -59,7 +59,10 @@ fn gather<A: Allocator>(
         Rel::Group(_, of, _, _) => gather(of, bound, names),
         Rel::Distinct(_, of) => gather(of, bound, names),
         Rel::Iterate {
-            name, start, body, ..
+            name,
+            start,
+            body,
+            ..
         } => {
             gather(start, bound, names)?;
             bound.push(copy_name(name))?;

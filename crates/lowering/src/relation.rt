@@ -62,7 +62,12 @@ pub fn lower_rel<A: Allocator>(
             let from = lower_rel(alloc, of, scope, depth, made)?;
             let keys = copy_values(alloc, keys)?;
             let aggregates = copy_values(alloc, aggregates)?;
-            let port = add_vertex(made, Kind::Group(keys, aggregates), depth, Sources::One(from))?;
+            let port = add_vertex(
+                made,
+                Kind::Group(keys, aggregates),
+                depth,
+                Sources::One(from),
+            )?;
             Ok(port)
         }
         Rel::Distinct(_, of) => {

@@ -117,9 +117,7 @@ fn same_pairs(left: &[Pair], right: &[Pair]) -> bool
     match (left, right) {
         ([], []) => true,
         ([x, xs @ ..], [y, ys @ ..]) => {
-            x.left.index == y.left.index
-                && x.right.index == y.right.index
-                && same_pairs(xs, ys)
+            x.left.index == y.left.index && x.right.index == y.right.index && same_pairs(xs, ys)
         }
         _ => false,
     }

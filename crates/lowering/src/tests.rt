@@ -45,11 +45,7 @@ fn looped(
 }
 
 /// The inputs `a` and `b`, as many as there are arities, then the output.
-fn program(
-    alloc: Global,
-    arities: &[u64],
-    output: Rel<Global>,
-) -> Result<Program<Global>, Fail> {
+fn program(alloc: Global, arities: &[u64], output: Rel<Global>) -> Result<Program<Global>, Fail> {
     let mut inputs = Vec::new(alloc);
     for (arity, name) in arities.iter().zip([b"a", b"b"]) {
         inputs.push(Input {
@@ -95,7 +91,8 @@ fn a_loop_of_a_select(rt: HostRuntime) -> Result<(), Fail> {
     let body = Rel::Select(AT, Box::new(alloc, named(b"x")?)?, scalars);
     let output = looped(alloc, 2, b"x", named(b"a")?, body)?;
     let text = text_of(alloc, program(alloc, &[1], output)?)?;
-    let expected: &[u8] = b"0 input 0 <-\n1 ingress 0 <- 0.0\n2 concat 1 <- 1.0 5.0\n3 gate(2) 1 <- 2.0\n4 select 1 <- 3.0\n5 feedback 1 <- 4.0\n6 egress 1 <- 3.1\n7 output 0 <- 6.0\n";
+    let expected: &[u8] =
+        b"0 input 0 <-\n1 ingress 0 <- 0.0\n2 concat 1 <- 1.0 5.0\n3 gate(2) 1 <- 2.0\n4 select 1 <- 3.0\n5 feedback 1 <- 4.0\n6 egress 1 <- 3.1\n7 output 0 <- 6.0\n";
     assert_eq!(rt; text.as_slice(), expected);
     Ok(())
 }
@@ -106,7 +103,8 @@ fn a_loop_of_a_name_from_outside(rt: HostRuntime) -> Result<(), Fail> {
     let alloc = rt.alloc();
     let output = looped(alloc, 2, b"x", named(b"a")?, named(b"b")?)?;
     let text = text_of(alloc, program(alloc, &[1, 1], output)?)?;
-    let expected: &[u8] = b"0 input 0 <-\n1 input 0 <-\n2 ingress 0 <- 0.0\n3 concat 1 <- 2.0 9.0\n4 gate(2) 1 <- 3.0\n5 ingress 0 <- 1.0\n6 concat 1 <- 5.0 8.0\n7 hold(2) 1 <- 6.0\n8 feedback 1 <- 7.1\n9 feedback 1 <- 7.0\n10 egress 1 <- 4.1\n11 output 0 <- 10.0\n";
+    let expected: &[u8] =
+        b"0 input 0 <-\n1 input 0 <-\n2 ingress 0 <- 0.0\n3 concat 1 <- 2.0 9.0\n4 gate(2) 1 <- 3.0\n5 ingress 0 <- 1.0\n6 concat 1 <- 5.0 8.0\n7 hold(2) 1 <- 6.0\n8 feedback 1 <- 7.1\n9 feedback 1 <- 7.0\n10 egress 1 <- 4.1\n11 output 0 <- 10.0\n";
     assert_eq!(rt; text.as_slice(), expected);
     Ok(())
 }
@@ -117,7 +115,8 @@ fn a_loop_of_its_own_name(rt: HostRuntime) -> Result<(), Fail> {
     let alloc = rt.alloc();
     let output = looped(alloc, 2, b"x", named(b"a")?, named(b"x")?)?;
     let text = text_of(alloc, program(alloc, &[1], output)?)?;
-    let expected: &[u8] = b"0 input 0 <-\n1 ingress 0 <- 0.0\n2 concat 1 <- 1.0 4.0\n3 gate(2) 1 <- 2.0\n4 feedback 1 <- 3.0\n5 egress 1 <- 3.1\n6 output 0 <- 5.0\n";
+    let expected: &[u8] =
+        b"0 input 0 <-\n1 ingress 0 <- 0.0\n2 concat 1 <- 1.0 4.0\n3 gate(2) 1 <- 2.0\n4 feedback 1 <- 3.0\n5 egress 1 <- 3.1\n6 output 0 <- 5.0\n";
     assert_eq!(rt; text.as_slice(), expected);
     Ok(())
 }
@@ -131,7 +130,8 @@ fn a_hold_of_a_hold(rt: HostRuntime) -> Result<(), Fail> {
     let inner = looped(alloc, 1, b"y", named(b"x")?, Rel::Concat(AT, left, right))?;
     let output = looped(alloc, 2, b"x", named(b"a")?, inner)?;
     let text = text_of(alloc, program(alloc, &[1, 1], output)?)?;
-    let expected: &[u8] = b"0 input 0 <-\n1 input 0 <-\n2 ingress 0 <- 0.0\n3 concat 1 <- 2.0 19.0\n4 gate(2) 1 <- 3.0\n5 ingress 0 <- 1.0\n6 concat 1 <- 5.0 8.0\n7 hold(2) 1 <- 6.0\n8 feedback 1 <- 7.1\n9 ingress 1 <- 4.0\n10 concat 2 <- 9.0 17.0\n11 gate(1) 2 <- 10.0\n12 ingress 1 <- 7.0\n13 concat 2 <- 12.0 15.0\n14 hold(1) 2 <- 13.0\n15 feedback 2 <- 14.1\n16 concat 2 <- 11.0 14.0\n17 feedback 2 <- 16.0\n18 egress 2 <- 11.1\n19 feedback 1 <- 18.0\n20 egress 1 <- 4.1\n21 output 0 <- 20.0\n";
+    let expected: &[u8] =
+        b"0 input 0 <-\n1 input 0 <-\n2 ingress 0 <- 0.0\n3 concat 1 <- 2.0 19.0\n4 gate(2) 1 <- 3.0\n5 ingress 0 <- 1.0\n6 concat 1 <- 5.0 8.0\n7 hold(2) 1 <- 6.0\n8 feedback 1 <- 7.1\n9 ingress 1 <- 4.0\n10 concat 2 <- 9.0 17.0\n11 gate(1) 2 <- 10.0\n12 ingress 1 <- 7.0\n13 concat 2 <- 12.0 15.0\n14 hold(1) 2 <- 13.0\n15 feedback 2 <- 14.1\n16 concat 2 <- 11.0 14.0\n17 feedback 2 <- 16.0\n18 egress 2 <- 11.1\n19 feedback 1 <- 18.0\n20 egress 1 <- 4.1\n21 output 0 <- 20.0\n";
     assert_eq!(rt; text.as_slice(), expected);
     Ok(())
 }
@@ -146,13 +146,19 @@ fn the_other_forms(rt: HostRuntime) -> Result<(), Fail> {
         Scalar::Column(AT, 0),
         Scalar::Literal(AT, 5),
     );
-    let kept = Box::new(alloc, Rel::Where(AT, Box::new(alloc, named(b"a")?)?, condition))?;
+    let kept = Box::new(
+        alloc,
+        Rel::Where(AT, Box::new(alloc, named(b"a")?)?, condition),
+    )?;
     let mut pairs = Vec::new(alloc);
     pairs.push(Pair {
         left: column(1),
         right: column(0),
     })?;
-    let joined = Box::new(alloc, Rel::Join(AT, kept, Box::new(alloc, named(b"a")?)?, pairs))?;
+    let joined = Box::new(
+        alloc,
+        Rel::Join(AT, kept, Box::new(alloc, named(b"a")?)?, pairs),
+    )?;
     let mut keys = Vec::new(alloc);
     keys.push(column(0))?;
     let mut aggregates = Vec::new(alloc);
@@ -160,7 +166,8 @@ fn the_other_forms(rt: HostRuntime) -> Result<(), Fail> {
     aggregates.push(Agg::Count(AT))?;
     let output = Rel::Group(AT, joined, keys, aggregates);
     let text = text_of(alloc, program(alloc, &[2, 1], output)?)?;
-    let expected: &[u8] = b"0 input 0 <-\n1 input 0 <-\n2 where 0 <- 0.0\n3 join 0 <- 2.0 0.0\n4 group 0 <- 3.0\n5 output 0 <- 4.0\n";
+    let expected: &[u8] =
+        b"0 input 0 <-\n1 input 0 <-\n2 where 0 <- 0.0\n3 join 0 <- 2.0 0.0\n4 group 0 <- 3.0\n5 output 0 <- 4.0\n";
     assert_eq!(rt; text.as_slice(), expected);
     Ok(())
 }

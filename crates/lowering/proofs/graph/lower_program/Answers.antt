@@ -1,9 +1,8 @@
-use Rattle.std.proofs.Common.{rules, ◌≡◌, ◌≤◌, length, map, sym, subst, ◌∙◌, arith}
+use Rattle.std.proofs.Common.{rules, ◌≡◌, ◌≤◌, length, sym, subst, ◌∙◌, arith}
 use Rattle.expr_tree.specs.Plain.{plain_program}
 use Rattle.expr_tree.specs.Views.{program_tree}
 use Rattle.semantics.specs.Dataflow.{IsWired}
 use Rattle.semantics.specs.Graph.{Graph}
-use Rattle.lowering.specs.Edges.{edge_list, edge_of}
 use Rattle.lowering.specs.GraphLaws.{Computes}
 use Rattle.lowering.specs.Views.{graph_of}
 use Rattle.lowering.proofs.EdgeTables.{count_edges, few_edges, sources_known, tables_shown}

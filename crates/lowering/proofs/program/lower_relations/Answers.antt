@@ -1,4 +1,4 @@
-use Rattle.std.proofs.Common.{rules, ◌+◌, length, map, refl, sym, arith, append-nil}
+use Rattle.std.proofs.Common.{◌+◌, length, map, refl, sym, arith, append-nil}
 use Rattle.expr_tree.specs.Plain.{plain_let}
 use Rattle.expr_tree.specs.Views.{let_tree}
 use Rattle.semantics.specs.Lower.{lower_lets}
