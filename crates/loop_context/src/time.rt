@@ -1,0 +1,161 @@
+//! Times.
+
+ghost use Rattle.std.specs.Prelude.{◌≡◌, ◌⊎◌, ◌≤◌, ◌<◌, ◌↔◌, ◌^◌, ◌-◌, true, length, IsTrue, IsNone, IfSome, SomeIff};
+ghost use Rattle.semantics.specs.Limits.{max_loops};
+ghost use Rattle.semantics.specs.Time.{Action, IsAtMost, after_action, at_epoch, last, is_before};
+
+use arrayvec::ArrayVec;
+use std::alloc::AllocError;
+use std::marker::Model;
+
+/// The greatest number of loops around a place.
+pub const MAX_LOOPS: usize = 8;
+
+/// An epoch, and the counters of the loops around a place, outermost first: at most 8.
+#[derive(Clone, Drop, Debug, PartialEq, Eq, PartialOrd, Ord, Hash)]
+pub struct Time {
+    epoch: u32,
+    counters: ArrayVec<u32, MAX_LOOPS>,
+}
+
+impl Model for Time {
+    ghost use Rattle.std.specs.Prelude.{◌≤◌, length};
+    ghost use Rattle.semantics.specs.Limits.{max_loops};
+    ghost use Rattle.semantics.specs.Time as semantics;
+
+    ghost Value = { semantics.Time };
+
+    ghost view = { λ t. record { epoch = t.epoch; counters = t.counters.items } };
+
+    ghost inverse = { λ t. record { epoch = t.epoch; counters = record { items = t.counters } } };
+
+    ghost invariant = { λ t. length t.counters.items ≤ max_loops };
+}
+
+impl Time {
+    /// The time of these; `None` exactly for more than 8 counters.
+    pub fn new(epoch: u32, counters: &[u32]) -> Option<Time>
+        ensures { SomeIff result (length counters.now ≤ max_loops) (record { epoch = epoch; counters = counters.now }) }
+    {
+        let mut copied = ArrayVec::new();
+        if copied.try_extend_from_slice(counters).is_err() {
+            return None;
+        }
+        Some(Time {
+            epoch,
+            counters: copied,
+        })
+    }
+
+    /// The time of an epoch, outside all loops.
+    pub fn at_epoch(epoch: u32) -> Time
+        ensures { result ≡ at_epoch epoch }
+    {
+        Time {
+            epoch,
+            counters: ArrayVec::new(),
+        }
+    }
+
+    pub fn epoch(&self) -> u32
+        ensures { result ≡ self.now.epoch }
+    {
+        self.epoch
+    }
+
+    /// The counters, outermost first: at most 8.
+    pub fn counters(&self) -> &[u32]
+        ensures value { result.now ≡ self.now.counters }
+        ensures short { length self.now.counters ≤ max_loops }
+    {
+        self.counters.as_slice()
+    }
+
+    /// The number of loops around a place of this time.
+    pub fn depth(&self) -> usize
+        ensures value { result ≡ length self.now.counters }
+        ensures short { result ≤ max_loops }
+    {
+        self.counters.len()
+    }
+
+    /// The counter of the innermost loop; 0 outside all loops.
+    pub fn last_counter(&self) -> u32
+        ensures { result ≡ last self.now.counters }
+    {
+        match self.counters() {
+            [] => 0,
+            [.., counter] => *counter,
+        }
+    }
+
+    /// The same time.
+    pub fn copied(&self) -> Time
+        ensures { result ≡ self.now }
+    {
+        Time {
+            epoch: self.epoch,
+            counters: copied(&self.counters),
+        }
+    }
+
+    /// Whether this time is at or before the other: its epoch is, and its counters are in lexicographic order.
+    pub fn leq(&self, other: &Time) -> bool
+        ensures { IsTrue result ↔ IsAtMost self.now other.now }
+    {
+        self.epoch <= other.epoch && in_order(self.counters(), other.counters())
+    }
+
+    /// The time on the way into a loop, at its first turn; `None` exactly where 8 loops are around it already.
+    pub fn enter(&self) -> Option<Time>
+        ensures entered { IfSome result (λ t. t ≡ after_action Action.enter self.now) }
+        ensures deepest { IsNone result ↔ (length self.now.counters ≡ max_loops) }
+    {
+        let mut time = self.copied();
+        if time.counters.try_push(0).is_err() {
+            return None;
+        }
+        Some(time)
+    }
+
+    /// The time on the way out of the innermost loop.
+    pub fn leave(&self) -> Time
+        requires { 0 < length self.now.counters }
+        ensures { result ≡ after_action Action.leave self.now }
+    {
+        let mut time = self.copied();
+        let _ = time.counters.pop();
+        time
+    }
+
+    /// The time at the next turn of the innermost loop; `None` exactly where its counter is the greatest u32.
+    #[tactic(auto, using(crate::proofs::Counters::last_append))]
+    pub fn next(&self) -> Option<Time>
+        requires { 0 < length self.now.counters }
+        ensures next { IfSome result (λ t. t ≡ after_action Action.next self.now) }
+        ensures greatest { IsNone result ↔ (last self.now.counters ≡ 2 ^ 32 - 1) }
+    {
+        let mut time = self.copied();
+        let counter = time.counters.pop()?;
+        time.counters.push(counter.checked_add(1)?);
+        Some(time)
+    }
+}
+
+/// Whether the counters are in lexicographic order.
+#[tactic(auto, using(crate::proofs::Counters::order_from_slices, crate::proofs::Counters::slices_from_order))]
+fn in_order(counters: &[u32], others: &[u32]) -> bool
+    ensures { IsTrue result ↔ ((counters.now ≡ others.now) ⊎ (is_before counters.now others.now ≡ true)) }
+{
+    counters <= others
+}
+
+/// The same counters.
+fn copied(counters: &ArrayVec<u32, MAX_LOOPS>) -> ArrayVec<u32, MAX_LOOPS>
+    ensures { result.items ≡ counters.now.items }
+{
+    match counters.clone() {
+        Ok(counters) => counters,
+        Err(_) => unreachable!(),
+    }
+}

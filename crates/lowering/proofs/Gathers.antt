@@ -1,0 +1,72 @@
+-- Names gathered are those that a loop carries.
+use Rattle.std.proofs.Common.{◌≡◌, Bool, true, false, cond, not, ◌||◌, List, [], ◌∷◌, ◌++◌, filter, refl, sym, ap, ◌∙◌, append_assoc, append-nil}
+use Rattle.semantics.specs.Query.{Name, Rel}
+use Rattle.semantics.specs.Meaning.{same_name}
+use Rattle.semantics.specs.FreeNames.{free, firsts, other_than, carried}
+use Rattle.lowering.specs.Gathering.{has, gathered}
+use Rattle.semantics.proofs.LoweredRelations.{Decides-same_name}
+
+pub gathered_append : (bound acc xs ys : List Name) → gathered bound acc (xs ++ ys) ≡ gathered bound (gathered bound acc xs) ys
+gathered_append bound acc [] ys = refl
+gathered_append bound acc (x ∷ xs) ys = gathered_append bound (cond (has x bound || has x acc) acc (acc ++ (x ∷ []))) xs ys
+
+or_false : (b : Bool) → (b || false) ≡ b
+or_false true = refl
+or_false false = refl
+
+or_true : (b : Bool) → (b || true) ≡ true
+or_true true = refl
+or_true false = refl
+
+or_assoc : (a b c : Bool) → (a || (b || c)) ≡ ((a || b) || c)
+or_assoc true b c = refl
+or_assoc false b c = refl
+
+has_push : (y x : Name) (xs : List Name) → has y (xs ++ (x ∷ [])) ≡ (has y xs || same_name x y)
+has_push y x [] = or_false (same_name x y)
+has_push y x (z ∷ zs) = ap (λ b. same_name z y || b) (has_push y x zs) ∙ or_assoc (same_name z y) (has y zs) (same_name x y)
+
+-- one more name is bound
+pub gathered_bound : (bound acc : List Name) (x : Name) (ys : List Name) → gathered (bound ++ (x ∷ [])) acc ys ≡ gathered bound acc (filter (other_than x) ys)
+gathered_bound bound acc x [] = refl
+gathered_bound bound acc x (y ∷ ys) =
+    ap (λ b. gathered (bound ++ (x ∷ [])) (cond (b || has y acc) acc (acc ++ (y ∷ []))) ys) (has_push y x bound) ∙ go (same_name x y) (λ a. gathered_bound bound a x ys)
+  where
+    go : (s : Bool) → ((a : List Name) → gathered (bound ++ (x ∷ [])) a ys ≡ gathered bound a (filter (other_than x) ys)) → gathered (bound ++ (x ∷ [])) (cond ((has y bound || s) || has y acc) acc (acc ++ (y ∷ []))) ys ≡ gathered bound acc (cond (not s) (y ∷ filter (other_than x) ys) (filter (other_than x) ys))
+    go true ih = ap (λ b. gathered (bound ++ (x ∷ [])) (cond (b || has y acc) acc (acc ++ (y ∷ []))) ys) (or_true (has y bound)) ∙ ih acc
+    go false ih = ap (λ b. gathered (bound ++ (x ∷ [])) (cond (b || has y acc) acc (acc ++ (y ∷ []))) ys) (or_false (has y bound)) ∙ ih (cond (has y bound || has y acc) acc (acc ++ (y ∷ [])))
+
+abbrev is_new : List Name → Name → Bool
+is_new acc z = not (has z acc)
+
+drop_known : (acc : List Name) (y : Name) (zs : List Name) → has y acc ≡ true → filter (is_new acc) (filter (other_than y) zs) ≡ filter (is_new acc) zs
+drop_known acc y [] e = refl
+drop_known acc y (z ∷ zs) e = go (same_name y z) refl (drop_known acc y zs e)
+  where
+    go : (s : Bool) → same_name y z ≡ s → filter (is_new acc) (filter (other_than y) zs) ≡ filter (is_new acc) zs → filter (is_new acc) (cond (not s) (z ∷ filter (other_than y) zs) (filter (other_than y) zs)) ≡ cond (is_new acc z) (z ∷ filter (is_new acc) zs) (filter (is_new acc) zs)
+    go true q ih = ih ∙ ap (λ b. cond (not b) (z ∷ filter (is_new acc) zs) (filter (is_new acc) zs)) (sym (ap (λ w. has w acc) (sym ((Decides-same_name y z).0 q)) ∙ e))
+    go false q ih = ap (λ l. cond (is_new acc z) (z ∷ l) l) ih
+
+one_more : (acc : List Name) (y : Name) (zs : List Name) → filter (is_new (acc ++ (y ∷ []))) zs ≡ filter (is_new acc) (filter (other_than y) zs)
+one_more acc y [] = refl
+one_more acc y (z ∷ zs) =
+    ap (λ b. cond (not b) (z ∷ filter (is_new (acc ++ (y ∷ []))) zs) (filter (is_new (acc ++ (y ∷ []))) zs)) (has_push z y acc) ∙ go (same_name y z) (one_more acc y zs)
+  where
+    go : (s : Bool) → filter (is_new (acc ++ (y ∷ []))) zs ≡ filter (is_new acc) (filter (other_than y) zs) → cond (not (has z acc || s)) (z ∷ filter (is_new (acc ++ (y ∷ []))) zs) (filter (is_new (acc ++ (y ∷ []))) zs) ≡ filter (is_new acc) (cond (not s) (z ∷ filter (other_than y) zs) (filter (other_than y) zs))
+    go true ih = ap (λ b. cond (not b) (z ∷ filter (is_new (acc ++ (y ∷ []))) zs) (filter (is_new (acc ++ (y ∷ []))) zs)) (or_true (has z acc)) ∙ ih
+    go false ih = ap (λ b. cond (not b) (z ∷ filter (is_new (acc ++ (y ∷ []))) zs) (filter (is_new (acc ++ (y ∷ []))) zs)) (or_false (has z acc)) ∙ ap (λ l. cond (is_new acc z) (z ∷ l) l) ih
+
+gathered_new : (acc ys : List Name) → gathered [] acc ys ≡ acc ++ filter (is_new acc) (firsts ys)
+gathered_new acc [] = sym (append-nil acc)
+gathered_new acc (y ∷ ys) = go (λ a. gathered_new a ys) (has y acc) refl
+  where
+    go : ((a : List Name) → gathered [] a ys ≡ a ++ filter (is_new a) (firsts ys)) → (b : Bool) → has y acc ≡ b → gathered [] (cond b acc (acc ++ (y ∷ []))) ys ≡ acc ++ cond (not b) (y ∷ filter (is_new acc) (filter (other_than y) (firsts ys))) (filter (is_new acc) (filter (other_than y) (firsts ys)))
+    go ih true e = ih acc ∙ ap (λ l. acc ++ l) (sym (drop_known acc y (firsts ys) e))
+    go ih false e = ih (acc ++ (y ∷ [])) ∙ append_assoc acc (y ∷ []) (filter (is_new (acc ++ (y ∷ []))) (firsts ys)) ∙ ap (λ l. acc ++ (y ∷ l)) (one_more acc y (firsts ys))
+
+all_new : (zs : List Name) → filter (is_new []) zs ≡ zs
+all_new [] = refl
+all_new (z ∷ zs) = ap (λ l. z ∷ l) (all_new zs)
+
+pub gathered_carried : (x : Name) (b : Rel) → gathered (x ∷ []) [] (free b) ≡ carried x b
+gathered_carried x b = gathered_bound [] [] x (free b) ∙ gathered_new [] (filter (other_than x) (free b)) ∙ all_new (carried x b)

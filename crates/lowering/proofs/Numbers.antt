@@ -1,0 +1,34 @@
+-- How long the code's graph is.
+use Rattle.std.proofs.Common.{◌≡◌, ℕ, zero, suc, ◌+◌, ◌<◌, List, [], ◌∷◌, ◌++◌, length, refl, sym, ap, ◌∙◌, arith, append_assoc, length-append, get_or, slice_index_or, slice_set as set}
+use Rattle.std.proofs.lemmas.List.{set-append_left}
+use Rattle.semantics.specs.Graph as graph
+use Rattle.lowering.specs.Views.{graph_of, vertex_of}
+use Rattle.lowering.specs.declared.vertex.Vertex.{Vertex}
+
+pub length_graph_of : (vs : List Vertex) → length (graph_of vs) ≡ length vs
+length_graph_of [] = refl
+length_graph_of (v ∷ vs) = ap suc (length_graph_of vs)
+
+pub number_of : (m n : List Vertex) (l : List graph.Vertex) → graph_of n ≡ graph_of m ++ l → length n ≡ length m + length l
+number_of m n l e = omega (arith, sym (length_graph_of n) ∙ ap length e ∙ length-append (graph_of m) l, length_graph_of m)
+
+pub graph_of_set : (vs : List Vertex) (i : ℕ) (v : Vertex) → graph_of (set vs i v) ≡ set (graph_of vs) i (vertex_of v)
+graph_of_set [] i v = refl
+graph_of_set (w ∷ vs) zero v = refl
+graph_of_set (w ∷ vs) (suc i) v = ap (λ l. vertex_of w ∷ l) (graph_of_set vs i v)
+
+pub closed_made : (m0 m1 m2 m3 : List Vertex) (i : ℕ) (f v w e : graph.Vertex) → i < length m0 → graph_of m1 ≡ graph_of m0 ++ (f ∷ []) → graph_of m2 ≡ set (graph_of m1) i v → graph_of m3 ≡ graph_of m2 ++ (e ∷ []) → v ≡ w → graph_of m3 ≡ set (graph_of m0) i w ++ (f ∷ e ∷ [])
+closed_made m0 m1 m2 m3 i f v w e h a b c q =
+    let n : i < length (graph_of m0) = omega (arith, length_graph_of m0) in
+    c ∙ ap (λ l. l ++ (e ∷ [])) (b ∙ ap (λ l. set l i v) a ∙ set-append_left (graph_of m0) (f ∷ []) i v n ∙ ap (λ u. set (graph_of m0) i u ++ (f ∷ [])) q)
+    ∙ append_assoc (set (graph_of m0) i w) (f ∷ []) (e ∷ [])
+
+read_at : (vs : List Vertex) (i : ℕ) (v : Vertex) → i < length vs → v ≡ get_or vs i v → vertex_of v ≡ slice_index_or (graph_of vs) i graph.no_vertex
+read_at [] i v h e = absurd (omega arith)
+read_at (w ∷ vs) zero v h e = ap vertex_of e
+read_at (w ∷ vs) (suc i) v h e = read_at vs i v (omega arith) e
+
+-- the vertex of a number
+pub vertex_at : (vs : List Vertex) (i : ℕ) (v : Vertex) → i < length vs → v ≡ get_or vs i v → vertex_of v ≡ graph.vertex (graph_of vs) i
+unfolding graph.vertex
+vertex_at vs i v h e = read_at vs i v h e

@@ -1,0 +1,22 @@
+-- What is known of the graph of a program.
+use Rattle.std.specs.Prelude.{◌≡◌, ℕ, ◌≤◌, List, [], true}
+use Rattle.semantics.specs.Multiset.{◌≈◌}
+use Rattle.semantics.specs.Query.{Input, Program}
+use Rattle.semantics.specs.Time.{Time, at_epoch, last, turn_count}
+use Rattle.semantics.specs.Kinds.{ends_turn}
+use Rattle.semantics.specs.Graph.{Graph, vertex, output_number}
+use Rattle.semantics.specs.Flow.{Inputs, Flow, IsFlow, IsEdgeTime, HasOneFlow}
+use Rattle.semantics.specs.Lower.{lowered}
+use Rattle.semantics.specs.Meaning.{program_meaning}
+use Rattle.semantics.specs.Typing.{WellTyped}
+
+-- g is the graph of a well-typed program with those inputs
+abbrev pub IsProgramGraph : Graph → List Input → Type 0
+IsProgramGraph g inputs = (p : Program) × (n : ℕ) × WellTyped p n × (g ≡ lowered p) × (inputs ≡ p.inputs)
+
+-- on any inputs g has exactly one flow, which brings the meaning of p to the output, and is empty over the limit of turns where
+-- a turn ends
+pub record Computes (g : Graph) (p : Program) : Type 0 where
+  pub one_flow : (inputs : Inputs) → HasOneFlow g inputs
+  pub meaning : (inputs : Inputs) (f : Flow) (epoch : ℕ) → IsFlow g inputs f → f (output_number g) 0 (at_epoch epoch) ≈ program_meaning p (λ i. inputs i epoch)
+  pub quiet : (inputs : Inputs) (f : Flow) (w i : ℕ) (u : Time) → IsFlow g inputs f → IsEdgeTime g w i u → ends_turn (vertex g w).kind ≡ true → turn_count ≤ last u.counters → f w i u ≈ []

@@ -1,0 +1,10 @@
+pub mod Views
+pub mod Faults
+pub mod Scopes
+pub mod Gathering
+pub mod Steps
+pub mod GraphLaws
+pub mod Shown
+pub mod Text
+pub mod Edges
+pub mod Locations

@@ -1,0 +1,40 @@
+//! Why a query has no graph.
+
+ghost use Rattle.std.specs.Prelude.{◌≡◌};
+ghost use Rattle.lowering.specs.declared.fault.LowerFault.TheVariants as fault;
+
+use expr_tree::NoMemory;
+use std::alloc::{AllocError, AllocFailed};
+
+/// Why a query has no graph.
+#[derive(Clone, Copy, Debug, PartialEq, Eq)]
+pub enum LowerFault {
+    /// A 4097th vertex would be made; numbered 21 in what the program writes.
+    TooMany,
+    /// An allocator refused a growth.
+    NoMemory,
+}
+
+impl From<NoMemory> for LowerFault {
+    ghost from_gives = { λ _ r. r ≡ fault.NoMemory };
+
+    fn from(_: NoMemory) -> LowerFault {
+        LowerFault::NoMemory
+    }
+}
+
+impl From<AllocError> for LowerFault {
+    ghost from_gives = { λ _ r. r ≡ fault.NoMemory };
+
+    fn from(_: AllocError) -> LowerFault {
+        LowerFault::NoMemory
+    }
+}
+
+impl<T: Drop> From<AllocFailed<T>> for LowerFault {
+    ghost from_gives = { λ _ r. r ≡ fault.NoMemory };
+
+    fn from(_: AllocFailed<T>) -> LowerFault {
+        LowerFault::NoMemory
+    }
+}

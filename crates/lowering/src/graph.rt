@@ -1,0 +1,178 @@
+//! The graph of a query.
+
+ghost use Rattle.std.specs.Prelude.{◌≡◌, ◌≤◌, ◌<◌, ℕ, length, map, IfOk, IfErr};
+ghost use Rattle.expr_tree.specs.Plain.{plain_input, plain_program};
+ghost use Rattle.expr_tree.specs.Views.{program_tree};
+ghost use Rattle.semantics.specs.Graph.{edge_count, edge_source, in_port, target, vertex};
+ghost use Rattle.semantics.specs.Lower.{lowered};
+ghost use Rattle.semantics.specs.Typing.{WellTyped};
+ghost use Rattle.typing.specs.Shown.{typed_program};
+ghost use Rattle.lowering.specs.Edges.{edge_list, edge_number, edge_of, edges_out};
+ghost use Rattle.lowering.specs.Faults.{IsTooMany};
+ghost use Rattle.lowering.specs.GraphLaws.{Computes};
+ghost use Rattle.lowering.specs.Shown.{shown_graph, shown_inputs};
+ghost use Rattle.lowering.specs.Views.{graph_of, input_of, port_of, vertex_of};
+
+use crate::edges::{Edge, EdgeId, Outs, edges_of, outs_of_edges};
+use crate::fault::LowerFault;
+use crate::program::lower_vertices;
+use crate::scope::copy_name;
+use crate::vertex::{Port, Vertex, VertexId};
+use expr_tree::{Input, NoMemory, Program};
+use record_core::Name;
+use std::alloc::{Allocator, Global};
+use std::marker::Model;
+use typing::Typed;
+
+/// An input of a query: its name, and the number of fields of its records, 1 to 16.
+#[derive(Drop)]
+pub struct DeclaredInput {
+    pub name: Name,
+    pub arity: u64,
+}
+
+/// The dataflow graph of a well-typed query, at most 4096 vertices. It owns all that it needs.
+#[derive(Drop)]
+pub struct Graph {
+    vertices: Vec<Vertex>,
+    inputs: Vec<DeclaredInput>,
+    edges: Vec<Edge>,
+    outs: Vec<Outs>,
+}
+
+impl Model for Graph {
+    ghost use Rattle.std.specs.Prelude.{List, map, vec_items};
+    ghost use Rattle.std.specs.Coded.{codes};
+    ghost use Rattle.std.specs.contracts.alloc.Global as heap;
+    ghost use Rattle.std.specs.contracts.impls.GlobalAllocator.TheImpl as allocates;
+    ghost use Rattle.expr_tree.specs.contracts.scalar.Scalar as scalar;
+    ghost use Rattle.expr_tree.specs.contracts.condition.Cond as condition;
+    ghost use Rattle.lowering.specs.declared.vertex.Vertex.{Vertex};
+    ghost use Rattle.lowering.specs.declared.graph.DeclaredInput.{DeclaredInput};
+    ghost use Rattle.lowering.specs.Edges.{HasTables, edge_of, outs_of};
+    ghost use Rattle.lowering.specs.GraphLaws.{IsProgramGraph};
+    ghost use Rattle.lowering.specs.Views.{graph_of, input_of};
+
+    ghost Value = { List Vertex × List DeclaredInput };
+
+    ghost coded = { Prim.hlevel (codes, (scalar.the_row heap.the_row allocates.ghosts).coded, (condition.the_row heap.the_row allocates.ghosts).coded) };
+
+    ghost view = { λ g. (vec_items g.vertices, vec_items g.inputs) };
+
+    ghost invariant = { λ g. ∥ IsProgramGraph (graph_of (vec_items g.vertices)) (map input_of (vec_items g.inputs)) ∥₁ × HasTables (graph_of (vec_items g.vertices)) (map edge_of (vec_items g.edges)) (map outs_of (vec_items g.outs)) };
+}
+
+/// The graph of a well-typed query: exactly the one that the definition makes of it. On any inputs it has exactly one flow, whose
+/// records at the output are at each epoch the query's meaning, and which is empty over the limit of turns where a turn ends.
+/// `TooMany` comes exactly where it would have more than 4096 vertices.
+pub fn lower<A: Allocator>(alloc: Global, typed: &Typed<A>) -> Result<Graph, LowerFault>
+    ensures graph { IfOk result (λ g. shown_graph g ≡ lowered (plain_program (typed_program typed.now))) }
+    ensures inputs { IfOk result (λ g. shown_inputs g ≡ (plain_program (typed_program typed.now)).inputs) }
+    ensures flow { IfOk result (λ g. Computes (shown_graph g) (plain_program (typed_program typed.now))) }
+    ensures few { IfOk result (λ g. length (shown_graph g) ≤ 4096) }
+    ensures many { IfErr result (λ e. IsTooMany e → 4096 < length (lowered (plain_program (typed_program typed.now)))) }
+{
+    lower_program(alloc, typed.program())
+}
+
+/// The graph of a program that is well typed.
+fn lower_program<A: Allocator>(alloc: Global, program: &Program<A>) -> Result<Graph, LowerFault>
+    requires { (n : ℕ) × WellTyped (plain_program (program_tree program.now)) n }
+    ensures graph { IfOk result (λ g. shown_graph g ≡ lowered (plain_program (program_tree program.now))) }
+    ensures inputs { IfOk result (λ g. shown_inputs g ≡ (plain_program (program_tree program.now)).inputs) }
+    ensures flow { IfOk result (λ g. Computes (shown_graph g) (plain_program (program_tree program.now))) }
+    ensures few { IfOk result (λ g. length (shown_graph g) ≤ 4096) }
+    ensures many { IfErr result (λ e. IsTooMany e → 4096 < length (lowered (plain_program (program_tree program.now)))) }
+{
+    semantics::graphs::law_program();
+    let vertices = lower_vertices(alloc, program)?;
+    let inputs = copy_inputs(alloc, &program.inputs)?;
+    let edges = edges_of(alloc, &vertices)?;
+    let outs = outs_of_edges(alloc, vertices.len(), &edges)?;
+    Ok(Graph {
+        vertices,
+        inputs,
+        edges,
+        outs,
+    })
+}
+
+impl Graph {
+    /// The vertices by number: at most 4096.
+    pub fn vertices(&self) -> &[Vertex]
+        ensures { graph_of result.now ≡ shown_graph self.now }
+    {
+        &self.vertices
+    }
+
+    /// The vertex of that number.
+    #[tactic(auto, using(crate::proofs::Numbers::vertex_at))]
+    pub fn vertex(&self, id: VertexId) -> &Vertex
+        requires { id.0 < length (shown_graph self.now) }
+        ensures { vertex_of result.now ≡ vertex (shown_graph self.now) id.0 }
+    {
+        let vertices = self.vertices();
+        let number = id.0 as usize;
+        &vertices[number]
+    }
+
+    /// The edges by number.
+    pub fn edges(&self) -> &[Edge]
+        ensures value { map edge_of result.now ≡ edge_list 0 (shown_graph self.now) }
+        ensures count { length result.now ≡ edge_count (shown_graph self.now) }
+    {
+        &self.edges
+    }
+
+    /// The edge of that number: where it begins, the vertex that it enters, and the in port.
+    pub fn edge(&self, id: EdgeId) -> Edge
+        requires { id.0 < edge_count (shown_graph self.now) }
+        ensures source { port_of result.source ≡ edge_source (shown_graph self.now) id.0 }
+        ensures target { result.target.0 ≡ target (shown_graph self.now) id.0 }
+        ensures in_port { result.in_port ≡ in_port (shown_graph self.now) id.0 }
+    {
+        let edges = self.edges();
+        let number = id.0 as usize;
+        edges[number]
+    }
+
+    /// The edges that begin at an out port of a vertex, in order. Nothing is searched.
+    pub fn out_edges(&self, port: Port) -> &[EdgeId]
+        requires vertex { port.vertex.0 < length (shown_graph self.now) }
+        requires out { port.out < 2 }
+        ensures { map edge_number result.now ≡ edges_out (shown_graph self.now) (port_of port) }
+    {
+        let table: &[Outs] = &self.outs;
+        let number = port.vertex.0 as usize;
+        let outs = &table[number];
+        if port.out == 0 {
+            &outs.first
+        } else {
+            &outs.second
+        }
+    }
+
+    /// The inputs in order. The first vertices are theirs.
+    pub fn inputs(&self) -> &[DeclaredInput]
+        ensures { map input_of result.now ≡ shown_inputs self.now }
+    {
+        &self.inputs
+    }
+}
+
+/// The names and arities of the inputs, in order.
+fn copy_inputs<A: Allocator>(
+    alloc: Global,
+    inputs: &Vec<Input, A>,
+) -> Result<Vec<DeclaredInput>, NoMemory>
+    ensures { IfOk result (λ copy. map input_of copy.items ≡ map plain_input inputs.now.items) }
+{
+    let mut copy = Vec::new(alloc);
+    for input in inputs {
+        copy.push(DeclaredInput {
+            name: copy_name(&input.name),
+            arity: input.arity,
+        })?;
+    }
+    Ok(copy)
+}

@@ -1,0 +1,36 @@
+//! Queries to dataflow graphs.
+//!
+//! `lower` makes the graph of a well-typed query: vertices numbered as they are made, each with its kind, its depth and the ports that
+//! feed it.
+//!
+//! The contract for the layers above: the graph is exactly the one that the definition (`semantics`) makes of the tree, so on any
+//! inputs it has exactly one flow, and what comes to its output is the query's meaning. A graph owns what it needs; the tree may go.
+//!
+//! Below stand `expr_tree`, `loop_context` and `semantics`. Path summaries, trackers, shards and the board stand on graphs.
+#![tactic(auto)]
+
+mod copies;
+mod dot;
+mod edges;
+mod fault;
+mod graph;
+mod location;
+mod loops;
+mod names;
+mod program;
+mod relation;
+mod sameness;
+mod scope;
+mod text;
+mod vertex;
+
+pub use dot::graph_dot;
+pub use edges::{Edge, EdgeId};
+pub use fault::LowerFault;
+pub use graph::{DeclaredInput, Graph, lower};
+pub use location::Location;
+pub use text::graph_text;
+pub use vertex::{Kind, MAX_VERTICES, Port, Sources, Vertex, VertexId};
+
+#[cfg(test)]
+mod tests;

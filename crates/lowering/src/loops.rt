@@ -1,0 +1,145 @@
+//! The vertices of a loop.
+
+ghost use Rattle.std.specs.Prelude.{◌≡◌, ◌≤◌, ◌<◌, ◌++◌, ◌∷◌, [], suc, ◌+◌, ◌-◌, length, slice_set, IfOk, IfErr, OnOk};
+ghost use Rattle.expr_tree.specs.Plain.{plain_rel};
+ghost use Rattle.expr_tree.specs.Views.{rel_tree};
+ghost use Rattle.semantics.specs.Kinds as semantics;
+ghost use Rattle.semantics.specs.FreeNames.{carried};
+ghost use Rattle.semantics.specs.Lower.{carried_ports, carry, new_vertex, port, stands_for};
+ghost use Rattle.lowering.specs.Faults.{IsOver};
+ghost use Rattle.lowering.specs.Scopes.{Extends, ports_of};
+ghost use Rattle.lowering.specs.Views.{graph_of, port_of};
+
+use crate::fault::LowerFault;
+use crate::names::carried_names;
+use crate::scope::Scope;
+use crate::vertex::{Kind, Port, Sources, Vertex, VertexId, add_vertex};
+use expr_tree::Rel;
+use record_core::Name;
+use std::alloc::{Allocator, Global};
+
+/// Makes the vertices of a loop that stand before its body: an ingress, a concat whose second source isn't known yet, and a gate
+/// for the variable, then the four of each carried name. In the scope the names then stand for what they mean inside the loop.
+/// Gives the gate's out port 0.
+pub fn open_loop<A: Allocator>(
+    alloc: Global,
+    turns: u64,
+    variable: &Name,
+    body: &Rel<A>,
+    start: Port,
+    scope: &mut Scope,
+    depth: u32,
+    made: &mut Vec<Vertex>,
+) -> Result<Port, LowerFault>
+    requires { depth < 8 }
+    ensures made { OnOk result (graph_of made.new.items ≡ graph_of made.old.items ++ (new_vertex semantics.Kind.ingress depth (port_of start ∷ []) ∷ new_vertex semantics.Kind.concat (suc depth) (port (length made.old.items) 0 ∷ port (length made.old.items) 0 ∷ []) ∷ new_vertex (semantics.Kind.gate turns) (suc depth) (port (suc (length made.old.items)) 0 ∷ []) ∷ carry turns (ports_of scope.old) depth (suc (suc (suc (length made.old.items)))) (carried variable.now (plain_rel (rel_tree body.now))))) }
+    ensures gives { IfOk result (λ p. port_of p ≡ port (suc (suc (length made.old.items))) 0) }
+    ensures inside { OnOk result (ports_of scope.new ≡ stands_for variable.now (port (suc (suc (length made.old.items))) 0) (carried_ports (ports_of scope.old) (suc (suc (suc (length made.old.items)))) (carried variable.now (plain_rel (rel_tree body.now))))) }
+    ensures outside { OnOk result (Extends scope.old scope.new) }
+    ensures many { IfErr result (λ e. IsOver e (length made.old.items + suc (suc (suc (length (carry turns (ports_of scope.old) depth (suc (suc (suc (length made.old.items)))) (carried variable.now (plain_rel (rel_tree body.now))))))))) }
+{
+    let names = carried_names(alloc, variable, body)?;
+    let first = add_vertex(made, Kind::Ingress, depth, Sources::One(start))?;
+    let both = add_vertex(made, Kind::Concat, depth + 1, Sources::Two(first, first))?;
+    let gate = add_vertex(made, Kind::Gate(turns), depth + 1, Sources::One(both))?;
+    carry_names(turns, &names, scope, depth, made)?;
+    scope.bind(variable, gate)?;
+    Ok(gate)
+}
+
+/// Makes the vertices of a loop that stand after its body, and gives the concat its second source. Gives the egress's out port.
+pub fn close_loop(
+    made: &mut Vec<Vertex>,
+    gate: Port,
+    body: Port,
+    depth: u32,
+) -> Result<Port, LowerFault>
+    requires shallow { depth < 8 }
+    requires first { 2 ≤ gate.vertex.0 }
+    requires made { gate.vertex.0 < length made.old.items }
+    ensures made { OnOk result (graph_of made.new.items ≡ slice_set (graph_of made.old.items) (gate.vertex.0 - 1) (new_vertex semantics.Kind.concat (suc depth) (port (gate.vertex.0 - 2) 0 ∷ port (length made.old.items) 0 ∷ [])) ++ (new_vertex semantics.Kind.feedback (suc depth) (port_of body ∷ []) ∷ new_vertex semantics.Kind.egress (suc depth) (port gate.vertex.0 1 ∷ []) ∷ [])) }
+    ensures gives { IfOk result (λ p. port_of p ≡ port (suc (length made.old.items)) 0) }
+    ensures many { IfErr result (λ e. IsOver e (length made.old.items + 2)) }
+{
+    let first = Port {
+        vertex: VertexId(gate.vertex.0 - 2),
+        out: 0,
+    };
+    let feedback = add_vertex(made, Kind::Feedback, depth + 1, Sources::One(body))?;
+    set_concat(
+        made,
+        (gate.vertex.0 - 1) as usize,
+        depth + 1,
+        first,
+        feedback,
+    );
+    let last = Port {
+        vertex: gate.vertex,
+        out: 1,
+    };
+    let egress = add_vertex(made, Kind::Egress, depth + 1, Sources::One(last))?;
+    Ok(egress)
+}
+
+/// Makes the four vertices of each carried name, in order; in the scope the name then stands for its hold.
+#[tactic(auto, using(crate::proofs::Scopes::ports_from_append))]
+fn carry_names(
+    turns: u64,
+    names: &[Name],
+    scope: &mut Scope,
+    depth: u32,
+    made: &mut Vec<Vertex>,
+) -> Result<(), LowerFault>
+    requires { depth < 8 }
+    ensures made { OnOk result (graph_of made.new.items ≡ graph_of made.old.items ++ carry turns (ports_of scope.old) depth (length made.old.items) names.now) }
+    ensures inside { OnOk result (ports_of scope.new ≡ carried_ports (ports_of scope.old) (length made.old.items) names.now) }
+    ensures outside { OnOk result (Extends scope.old scope.new) }
+    ensures many { IfErr result (λ e. IsOver e (length made.old.items + length (carry turns (ports_of scope.old) depth (length made.old.items) names.now))) }
+{
+    match names {
+        [] => Ok(()),
+        [name, rest @ ..] => {
+            let from = scope.find(name);
+            let hold = carry_one(turns, from, depth, made)?;
+            carry_names(turns, rest, scope, depth, made)?;
+            scope.bind(name, hold)?;
+            Ok(())
+        }
+    }
+}
+
+/// Makes the four vertices of a carried name: it comes in at turn 0, and the hold sends it on at each turn but the last. Gives the
+/// hold's out port 0.
+fn carry_one(turns: u64, from: Port, depth: u32, made: &mut Vec<Vertex>) -> Result<Port, LowerFault>
+    requires { depth < 8 }
+    ensures made { OnOk result (graph_of made.new.items ≡ graph_of made.old.items ++ (new_vertex semantics.Kind.ingress depth (port_of from ∷ []) ∷ new_vertex semantics.Kind.concat (suc depth) (port (length made.old.items) 0 ∷ port (suc (suc (suc (length made.old.items)))) 0 ∷ []) ∷ new_vertex (semantics.Kind.hold turns) (suc depth) (port (suc (length made.old.items)) 0 ∷ []) ∷ new_vertex semantics.Kind.feedback (suc depth) (port (suc (suc (length made.old.items))) 1 ∷ []) ∷ [])) }
+    ensures gives { IfOk result (λ p. port_of p ≡ port (suc (suc (length made.old.items))) 0) }
+    ensures many { IfErr result (λ e. IsOver e (length made.old.items + 4)) }
+{
+    let first = add_vertex(made, Kind::Ingress, depth, Sources::One(from))?;
+    let back = Port {
+        vertex: VertexId(first.vertex.0 + 3),
+        out: 0,
+    };
+    let both = add_vertex(made, Kind::Concat, depth + 1, Sources::Two(first, back))?;
+    let hold = add_vertex(made, Kind::Hold(turns), depth + 1, Sources::One(both))?;
+    let next = Port {
+        vertex: hold.vertex,
+        out: 1,
+    };
+    add_vertex(made, Kind::Feedback, depth + 1, Sources::One(next))?;
+    Ok(hold)
+}
+
+/// The vertex of that number is the concat of these.
+#[tactic(auto, using(crate::proofs::Numbers::graph_of_set))]
+fn set_concat(made: &mut Vec<Vertex>, number: usize, depth: u32, first: Port, second: Port)
+    requires { number < length made.old.items }
+    ensures { graph_of made.new.items ≡ slice_set (graph_of made.old.items) number (new_vertex semantics.Kind.concat depth (port_of first ∷ port_of second ∷ [])) }
+{
+    made[number] = Vertex {
+        kind: Kind::Concat,
+        depth,
+        ins: Sources::Two(first, second),
+    };
+}

@@ -1,0 +1,81 @@
+//! The names that a loop's body takes from outside.
+
+ghost use Rattle.std.specs.Prelude.{◌≡◌, IfOk, OnOk};
+ghost use Rattle.expr_tree.specs.Plain.{plain_rel};
+ghost use Rattle.expr_tree.specs.Views.{rel_tree};
+ghost use Rattle.semantics.specs.FreeNames.{carried, free};
+ghost use Rattle.lowering.specs.Gathering.{gathered, has};
+
+use crate::scope::copy_name;
+use expr_tree::{NoMemory, Rel};
+use record_core::Name;
+use std::alloc::{Allocator, Global};
+
+/// The names that occur free in a loop's body, but for its variable, each once, by first occurrence.
+#[tactic(auto, using(crate::proofs::Gathers::gathered_carried))]
+pub fn carried_names<A: Allocator>(
+    alloc: Global,
+    variable: &Name,
+    body: &Rel<A>,
+) -> Result<Vec<Name>, NoMemory>
+    ensures { IfOk result (λ names. names.items ≡ carried variable.now (plain_rel (rel_tree body.now))) }
+{
+    let mut bound: Vec<Name> = Vec::new(alloc);
+    bound.push(copy_name(variable))?;
+    let mut names = Vec::new(alloc);
+    gather(body, &mut bound, &mut names)?;
+    Ok(names)
+}
+
+/// Puts the names that occur free in the relation, and are not bound, after those that are there, each once.
+#[tactic(auto, using(crate::proofs::Gathers::gathered_append, crate::proofs::Gathers::gathered_bound))]
+fn gather<A: Allocator>(
+    relation: &Rel<A>,
+    bound: &mut Vec<Name>,
+    names: &mut Vec<Name>,
+) -> Result<(), NoMemory>
+    ensures bound { OnOk result (bound.new.items ≡ bound.old.items) }
+    ensures names { OnOk result (names.new.items ≡ gathered bound.old.items names.old.items (free (plain_rel (rel_tree relation.now)))) }
+{
+    match relation {
+        Rel::Named(_, name) => {
+            if !stands_in(bound, name) && !stands_in(names, name) {
+                names.push(copy_name(name))?;
+            }
+            Ok(())
+        }
+        Rel::Select(_, of, _) => gather(of, bound, names),
+        Rel::Where(_, of, _) => gather(of, bound, names),
+        Rel::Concat(_, left, right) => {
+            gather(left, bound, names)?;
+            gather(right, bound, names)?;
+            Ok(())
+        }
+        Rel::Join(_, left, right, _) => {
+            gather(left, bound, names)?;
+            gather(right, bound, names)?;
+            Ok(())
+        }
+        Rel::Group(_, of, _, _) => gather(of, bound, names),
+        Rel::Distinct(_, of) => gather(of, bound, names),
+        Rel::Iterate {
+            name,
+            start,
+            body,
+            ..
+        } => {
+            gather(start, bound, names)?;
+            bound.push(copy_name(name))?;
+            gather(body, bound, names)?;
+            let _ = bound.pop();
+            Ok(())
+        }
+    }
+}
+
+/// Whether the name is one of these.
+fn stands_in(names: &[Name], name: &Name) -> bool
+    ensures { result ≡ has name.now names.now }
+{
+    names.iter().any(|other| *other == *name)
+}
