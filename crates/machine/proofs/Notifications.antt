@@ -86,7 +86,7 @@ module _ (g : Network) (law : IsNetwork g) (w : World) (h : History) (keeps : Ke
       let is_edge : e < g.edges = law.into_is_edge n.vertex p.0 p.1 in
       let r = some_row (h.done k0 e n.time) p.2 in
       let b = keeps.balance e n.time r.0 is_edge in
-      let c : count r.0 (h.done k0 e n.time) ≤ sum_below g.workers (λ k. count r.0 (h.done k e n.time)) = below_one g.workers k0 _ ok.0 in
+      let c : count r.0 (h.done k0 e n.time) ≤ sum_below g.workers (λ k. count r.0 (h.done k e n.time)) = below_one g.workers k0 (λ k. count r.0 (h.done k e n.time)) ok.0 in
       let l : 0 < count r.0 (h.done k0 e n.time) = r.1 in
       subst (λ (v : ℕ). times_in n.time (g.times_before v (g.act v n.time)) ≡ 1) (law.target_into n.vertex p.0 p.1) (once g law w h keeps flows e n.time r.0 is_edge (law.fits_into n.vertex p.0 n.time p.1 here) (omega arith))
 

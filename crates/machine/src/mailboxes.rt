@@ -1,12 +1,14 @@
-ghost use Rattle.std.specs.Prelude.{◌≡◌, ◌⊎◌, ◌<◌, ℕ, Bool, List, Some, slice_get, length};
+ghost use Rattle.std.specs.Prelude.{◌≡◌, ◌⊎◌, ◌<◌, ℕ, Bool, List, Some, slice_get, slice_index_or, length};
+ghost use Rattle.semantics.specs.Query.{Program};
 ghost use Rattle.semantics.specs.Time.{Time};
 ghost use Rattle.semantics.specs.Kinds.{Role, role};
 ghost use Rattle.semantics.specs.Graph.{Graph, edge_source, output_number, source, vertex};
 ghost use Rattle.semantics.specs.Could.{IsTimeAt, Location};
-ghost use Rattle.semantics.specs.PortArity.{HaveFields, IsTyped};
+ghost use Rattle.semantics.specs.PortArity.{HaveFields, IsTyped, program_arities};
+ghost use Rattle.semantics.specs.Lower.{lowered};
 ghost use Rattle.machine.specs.World.{Event, Held, Message, Request, World};
 ghost use Rattle.machine.specs.Step.{Step};
-ghost use Rattle.machine.specs.Headline.{IsRunOn};
+ghost use Rattle.machine.specs.Headline.{IsRunOf, IsRunOn, output_of};
 ghost use Rattle.machine.specs.InTransit.{FedFits, IsGoodEvent, IsGoodMessage, IsGoodRequest};
 
 /// What lies in mailboxes, in requests and in workers' hands fits the graph.
@@ -22,7 +24,8 @@ pub fn law_in_transit()
         w.held worker ≡ Held.holding given_up event → IsGoodEvent g event }
 {}
 
-/// Where each record that was fed has its input's arity, each record under way, absorbed or emitted has its port's.
+/// Where each record that was fed has its input's arity, each record under way, absorbed or emitted has its port's, and what a
+/// program's engine emits has the program's.
 pub fn law_arities()
     ensures messages { (g : Graph) (workers : ℕ) (steps : List Step) (w : World) →
         IsRunOn g workers steps w → (arity : ℕ → ℕ) → IsTyped g arity → FedFits g arity w →
@@ -42,4 +45,7 @@ pub fn law_arities()
     ensures emitted { (g : Graph) (workers : ℕ) (steps : List Step) (w : World) →
         IsRunOn g workers steps w → (arity : ℕ → ℕ) → IsTyped g arity → FedFits g arity w →
         (epoch : ℕ) → HaveFields (arity (output_number g)) (w.emitted (output_number g) epoch) }
+    ensures program { (p : Program) (workers : ℕ) (steps : List Step) (w : World) (is : IsRunOf p workers steps w) →
+        FedFits (lowered p) (λ v. slice_index_or (program_arities p) v 0) w →
+        (epoch : ℕ) → HaveFields is.arity (w.emitted (output_of p) epoch) }
 {}

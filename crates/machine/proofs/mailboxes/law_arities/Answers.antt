@@ -1,3 +1,4 @@
+use Rattle.machine.proofs.FieldsOfPrograms.{program_fields}
 use Rattle.machine.proofs.FieldsOfMessages.{mail_fields, held_fields, absorbed_fields, emitted_fields}
 use Rattle.machine.proofs.mailboxes.law_arities.Goals as goal
 
@@ -12,3 +13,6 @@ returns-clause-absorbed c = absorbed_fields
 
 pub returns-clause-emitted : goal.returns-clause-emitted
 returns-clause-emitted c = emitted_fields
+
+pub returns-clause-program : goal.returns-clause-program
+returns-clause-program c = program_fields
