@@ -1,17 +1,15 @@
 -- No tokens begin with two conditions.
-use Rattle.std.proofs.Common.{◌≡◌, ℕ, suc, ◌≤◌, max, arith, List, ◌∷◌, refl, ap, Option, Some, None, sym, ◌∙◌}
+use Rattle.std.proofs.Common.{◌≡◌, ℕ, suc, ◌≤◌, arith, List, ◌∷◌, refl, ap, sym, ◌∙◌}
 use Rattle.record_core.specs.declared.span.Span.{Span}
 use Rattle.record_core.specs.declared.keyword.Keyword.TheVariants as keyword
 use Rattle.expr_tree.specs.Trees.{ScalarTree, CondTree}
-use Rattle.expr_tree.specs.declared.condition.Comparison.{Comparison}
-use Rattle.expr_tree.specs.declared.condition.Connective.{Connective}
 use Rattle.lexer.specs.declared.token.Token.{Token}
 use Rattle.grammar.specs.declared.level.OperatorLevel.TheVariants.{Sums}
 use Rattle.grammar.specs.declared.level.ConnectiveLevel.{ConnectiveLevel}
 use Rattle.grammar.specs.Tokens.{reaching, keyword_at}
 use Rattle.grammar.specs.Phrases.{IsOne}
 use Rattle.grammar.specs.Scalars as scalar
-use Rattle.grammar.specs.Conditions.{Part, Reads, Square, Single, Chain, Rest, square, negated, bracketed, compared, chain, stop, more, connective, operand, compares, ConditionAt}
+use Rattle.grammar.specs.Conditions.{Part, Reads, Square, Rest, square, negated, bracketed, compared, chain, stop, more, compares, ConditionAt}
 use Rattle.grammar.proofs.Tokens.{first_one, rest_one, some_one}
 use Rattle.grammar.proofs.Scalars as scalar_laws
 

@@ -1,14 +1,11 @@
 -- No tokens begin with two lists of phrases, columns, pairs or aggregates.
-use Rattle.std.proofs.Common.{◌≡◌, ℕ, ◌≤◌, max, arith, List, [], ◌∷◌, refl, ap, ap₂, sym, ◌∙◌}
+use Rattle.std.proofs.Common.{◌≡◌, ℕ, List, [], ◌∷◌, refl, ap, ap₂, sym, ◌∙◌}
 use Rattle.record_core.specs.declared.span.Span.{Span}
 use Rattle.record_core.specs.declared.keyword.Keyword.{Keyword}
-use Rattle.record_core.specs.declared.keyword.Keyword.TheVariants as keyword
-use Rattle.expr_tree.specs.declared.relation.Agg.{Agg}
 use Rattle.expr_tree.specs.declared.relation.Agg.TheVariants.{Count, Sum, Min, Max}
 use Rattle.expr_tree.specs.declared.relation.Column.{Column}
 use Rattle.expr_tree.specs.declared.relation.Pair.{Pair}
 use Rattle.lexer.specs.declared.token.Token.{Token}
-use Rattle.lexer.specs.declared.token.TokenKind.{TokenKind}
 use Rattle.lexer.specs.declared.token.TokenKind.TheVariants as kind
 use Rattle.lexer.specs.declared.mark.Mark.TheVariants as mark
 use Rattle.grammar.specs.Tokens.{reaching, mark_at, keyword_at, NoMark}

@@ -1,5 +1,5 @@
 -- No tokens are two programs.
-use Rattle.std.proofs.Common.{◌≡◌, ℕ, max, List, [], ◌∷◌, refl, ap₂, sym, ◌∙◌}
+use Rattle.std.proofs.Common.{◌≡◌, ℕ, max, List, ◌∷◌, refl, ap₂, sym, ◌∙◌}
 use Rattle.expr_tree.specs.declared.program.Input.{Input}
 use Rattle.expr_tree.specs.Trees.{LetTree, ProgramTree}
 use Rattle.lexer.specs.declared.token.Token.{Token}

@@ -1,6 +1,5 @@
 -- No tokens begin with two relations.
-use Rattle.std.proofs.Common.{◌≡◌, ℕ, suc, max, List, ◌∷◌, refl, ap, sym, ◌∙◌}
-use Rattle.record_core.specs.declared.span.Span.{Span}
+use Rattle.std.proofs.Common.{ℕ, List, refl, ap}
 use Rattle.expr_tree.specs.Trees.{RelTree}
 use Rattle.lexer.specs.declared.token.Token.{Token}
 use Rattle.grammar.specs.Tokens.{reaching}

@@ -1,8 +1,7 @@
 -- No tokens begin with two scalars.
-use Rattle.std.proofs.Common.{◌≡◌, ℕ, suc, ◌≤◌, max, arith, List, [], ◌∷◌, refl, ap, Option, Some, None, sym, ◌∙◌}
+use Rattle.std.proofs.Common.{◌≡◌, ℕ, suc, ◌≤◌, arith, List, [], ◌∷◌, refl, ap}
 use Rattle.record_core.specs.declared.span.Span.{Span}
 use Rattle.expr_tree.specs.Trees.{ScalarTree}
-use Rattle.expr_tree.specs.declared.scalar.Operator.{Operator}
 use Rattle.lexer.specs.declared.token.Token.{Token}
 use Rattle.lexer.specs.declared.token.TokenKind.{TokenKind}
 use Rattle.lexer.specs.declared.token.TokenKind.TheVariants as kind
@@ -11,7 +10,7 @@ use Rattle.grammar.specs.declared.level.OperatorLevel.{OperatorLevel}
 use Rattle.grammar.specs.declared.level.OperatorLevel.TheVariants.{Products, Sums}
 use Rattle.grammar.specs.Tokens.{reaching}
 use Rattle.grammar.specs.Phrases.{IsOne}
-use Rattle.grammar.specs.Scalars.{Part, Reads, Atom, Unary, Chain, Rest, number, column, bracket, minus, plain, chain, stop, more, operator, operand, ScalarAt}
+use Rattle.grammar.specs.Scalars.{Part, Reads, Atom, Unary, Chain, Rest, number, column, bracket, minus, plain, chain, stop, more, ScalarAt}
 use Rattle.grammar.proofs.Tokens.{first_one}
 
 -- the same tree, extent and height, with the same tokens left

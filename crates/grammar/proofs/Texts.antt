@@ -1,6 +1,5 @@
 -- No text is two programs.
 use Rattle.std.proofs.Common.{◌≡◌, ℕ, List}
-use Rattle.lexer.specs.declared.token.Token.{Token}
 use Rattle.lexer.proofs.Unique.{lexes_one}
 use Rattle.expr_tree.specs.Trees.{ProgramTree}
 use Rattle.grammar.specs.Programs.{ReadsProgram}

@@ -1,5 +1,5 @@
 -- The front of a list of tokens.
-use Rattle.std.proofs.Common.{◌≡◌, List, ◌∷◌, Option, Some}
+use Rattle.std.proofs.Common.{◌≡◌, List, ◌∷◌, Some}
 use Rattle.lexer.specs.declared.token.Token.{Token}
 
 pub first_one : {x y : Token} {us vs : List Token} → x ∷ us ≡ y ∷ vs → x ≡ y
