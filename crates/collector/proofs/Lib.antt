@@ -1,0 +1,5 @@
+pub mod Splits
+pub mod Writes
+pub mod Pushes
+pub mod Epochs
+pub mod Orders

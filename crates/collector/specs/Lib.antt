@@ -1,0 +1,4 @@
+pub mod Pieces
+pub mod Watching
+pub mod Written
+pub mod OutputText
