@@ -1,5 +1,11 @@
 pub mod Splits
+pub mod LinesRead
+pub mod InputNames
+pub mod Filled
+pub mod NumberLists
+pub mod Tracks
+pub mod Orders
 pub mod Writes
 pub mod Pushes
-pub mod Epochs
-pub mod Orders
+pub mod EpochTexts
+pub mod Numbers

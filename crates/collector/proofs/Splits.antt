@@ -4,7 +4,8 @@ use Rattle.std.proofs.lemmas.Bool.{eqb-true}
 use Rattle.std.proofs.lemmas.Bool.Decides.{eqb_tells}
 use Rattle.std.proofs.Common.{inl, inr}
 use Rattle.std.proofs.lemmas.List.{map_push}
-use Rattle.collector.specs.Pieces.{onto_first, split_on}
+use Rattle.std.specs.List.{onto_first}
+use Rattle.collector.specs.Pieces.{split_on}
 
 step : (byte b : ℕ) (bs p : List ℕ) (ps : List (List ℕ)) → b ≢ byte → split_on byte bs ≡ p ∷ ps → split_on byte (b ∷ bs) ≡ (b ∷ p) ∷ ps
 step byte b bs p ps other e = elim (eqb_tells b byte) [
@@ -27,14 +28,8 @@ split_some byte [] i lt at before = absurd (omega arith)
 split_some byte (b ∷ bs) zero lt at before = stop byte b bs at
 split_some byte (b ∷ bs) (suc i) lt at before = step byte b bs (take i bs) (split_on byte (drop (suc i) bs)) (before 0 (omega arith)) (split_some byte bs i (omega arith) at (λ k less. before (suc k) (omega arith)))
 
--- one more piece
-pub goes_on : {X : Type 0} (f : X → List ℕ) (pieces : List X) (x : X) (byte : ℕ) (rest after total : List (List ℕ)) → rest ≡ f x ∷ after → map f pieces ++ rest ≡ total → map f (pieces ++ x ∷ []) ++ after ≡ total
-goes_on f pieces x byte rest after total e so_far = ap (λ t. t ++ after) (map_push f pieces x) ∙ append_assoc (map f pieces) (f x ∷ []) after ∙ ap (λ t. map f pieces ++ t) (sym e) ∙ so_far
-
+-- up to the first place of the byte, and after it
 pub cut_at : (byte : ℕ) (bs piece after : List ℕ) (i : ℕ) → (i < length bs) × (get_or bs i 0 ≡ byte) × ((k : ℕ) → k < i → get_or bs k 0 ≢ byte) → piece ≡ take i bs → after ≡ drop (i + 1) bs → split_on byte bs ≡ piece ∷ split_on byte after
 cut_at byte bs piece after i h e f =
     let next : i + 1 ≡ suc i = omega arith in
     rw (e, f, next) (split_some byte bs i h.0 h.1 h.2)
-
-pub last_piece : {X : Type 0} (f : X → List ℕ) (pieces : List X) (x : X) (byte : ℕ) (total : List (List ℕ)) → ((k : ℕ) → k < length (f x) → get_or (f x) k 0 ≢ byte) → map f pieces ++ split_on byte (f x) ≡ total → map f (pieces ++ x ∷ []) ≡ total
-last_piece f pieces x byte total none so_far = map_push f pieces x ∙ ap (λ t. map f pieces ++ t) (sym (split_none byte (f x) none)) ∙ so_far

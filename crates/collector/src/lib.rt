@@ -6,10 +6,20 @@
 #![tactic(auto)]
 
 mod splitting;
+mod refusal;
+mod numerals;
+mod line;
+mod track;
+mod epochs;
+mod reading;
 mod watched;
 mod writing;
 mod output;
 
+pub use epochs::Epochs;
+pub use line::Declared;
+pub use reading::read_input;
+pub use refusal::{Fault, InputRefusal};
 pub use output::{OutFault, write_epochs};
 pub use watched::Watched;
 pub use writing::{Broken, put};

@@ -19,7 +19,7 @@ pub fn find(bytes: &[u8], byte: u8) -> Option<usize>
 }
 
 /// What stands before a place, and after it.
-fn around(bytes: &[u8], at: usize) -> (&[u8], &[u8])
+pub fn around(bytes: &[u8], at: usize) -> (&[u8], &[u8])
     requires { at < length bytes.now }
     ensures before { result.0.now ≡ take at bytes.now }
     ensures after { result.1.now ≡ drop (at + 1) bytes.now }
