@@ -20,6 +20,6 @@ filled_more rest word after i P cut lt some is so_far =
 -- the last word is read
 pub filled_all : (rest : List ℕ) (b : Bool) (P : Type 0) → split_on 32 rest ≡ rest ∷ [] → b ≡ (length rest == 0) → Filled (split_on 32 rest) ↔ P → IsTrue (not b) ↔ P
 filled_all rest b P cut is so_far = elim (eqb_tells (length rest) 0) [
-    | inl none ↦ rw (is, none.0) (λ h. absurd (let e : false ≡ true = h in cc), λ p. let h : Filled (rest ∷ []) = subst (λ ws. Filled ws) cut (so_far.1 p) in absurd (omega (arith, none.1, h.0)))
-    | inr some ↦ rw (is, some.0) (λ h. so_far.0 (subst (λ ws. Filled ws) (sym cut) (omega (arith, some.1), tt)), λ p. refl)
-  ]
+  | inl none ↦ rw (is, none.0) (λ h. absurd (let e : false ≡ true = h in cc), λ p. let h : Filled (rest ∷ []) = subst (λ ws. Filled ws) cut (so_far.1 p) in absurd (omega (arith, none.1, h.0)))
+  | inr some ↦ rw (is, some.0) (λ h. so_far.0 (subst (λ ws. Filled ws) (sym cut) (omega (arith, some.1), tt)), λ p. refl)
+]

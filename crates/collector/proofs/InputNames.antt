@@ -18,7 +18,7 @@ abbrev name_of : Input → List ℕ
 name_of input = input.name
 
 pub is_absent : (ds : List Declared) (name : List ℕ) → ((k : ℕ) (d : Declared) → slice_get ds k ≡ Some d → d.name.now ≡ name → ⊥) → IsAbsent (map plain ds) name
-is_absent ds name none = record { none = λ k input at e. let d = declared_at ds k input at in none k d.0 d.1 (ap name_of d.2 ∙ e); }
+is_absent ds name none = record { none = λ k input at e. let d = declared_at ds k input at in none k d.0 d.1 (ap name_of d.2 ∙ e) }
 
 pub is_input : (ds : List Declared) (name : List ℕ) (i : ℕ) (d : Declared) → i < length ds → d ≡ get_or ds i d → d.name.now ≡ name
     → ((k : ℕ) (e : Declared) → k < i → slice_get ds k ≡ Some e → e.name.now ≡ name → ⊥) → IsInput (map plain ds) name i d.arity

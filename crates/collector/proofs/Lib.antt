@@ -8,4 +8,3 @@ pub mod Orders
 pub mod Writes
 pub mod Pushes
 pub mod EpochTexts
-pub mod Numbers

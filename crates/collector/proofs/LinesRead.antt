@@ -78,17 +78,21 @@ can_take inputs e line (Item.row i zs) size says = (says.3, omega (arith, size, 
 -- what the epochs hold once they have taken an item
 taken : (e f : Epochs) (items : List Item) (item : Item) → epoch_count e ≡ epochs_after 0 items → ((epoch input : ℕ) → records_at e epoch input ≡ records_in epoch input 0 items) → Takes e f item
     → (epoch_count f ≡ epochs_after 0 (items ++ item ∷ [])) × ((epoch input : ℕ) → records_at f epoch input ≡ records_in epoch input 0 (items ++ item ∷ [])) × IsEven f × (length f.tracks.items ≡ length e.tracks.items)
-taken e f items Item.epoch count records takes =
-    (takes.count ∙ ap (λ n. n + 1) count ∙ sym (epochs_push 0 items Item.epoch),
-      λ epoch input. takes.records epoch input ∙ records epoch input ∙ sym (epoch_push epoch input 0 items),
-      takes.even, takes.inputs)
-taken e f items (Item.row i zs) count records takes =
-    (takes.count ∙ count ∙ sym (epochs_push 0 items (Item.row i zs)),
-      λ epoch input.
-        let here = takes.records epoch input in
-        let held : records_at f epoch input ≡ cond ((input == i) && (epoch + 1 == epochs_after 0 items)) (records_in epoch input 0 items ++ zs ∷ []) (records_in epoch input 0 items) = rw (← count, ← records epoch input) here in
-        held ∙ sym (row_push epoch input 0 items i zs),
-      takes.even, takes.inputs)
+taken e f items Item.epoch count records takes = (
+  takes.count ∙ ap (λ n. n + 1) count ∙ sym (epochs_push 0 items Item.epoch),
+  λ epoch input. takes.records epoch input ∙ records epoch input ∙ sym (epoch_push epoch input 0 items),
+  takes.even,
+  takes.inputs,
+)
+taken e f items (Item.row i zs) count records takes = (
+  takes.count ∙ count ∙ sym (epochs_push 0 items (Item.row i zs)),
+  λ epoch input.
+      let here = takes.records epoch input in
+      let held : records_at f epoch input ≡ cond ((input == i) && (epoch + 1 == epochs_after 0 items)) (records_in epoch input 0 items ++ zs ∷ []) (records_in epoch input 0 items) = rw (← count, ← records epoch input) here in
+      held ∙ sym (row_push epoch input 0 items i zs),
+  takes.even,
+  takes.inputs,
+)
 
 pub next_read : (inputs : List Input) (text rest line after : List ℕ) (n : ℕ) (e f : Epochs) (item : Item) → ReadSoFar inputs text rest n e → split_on 10 rest ≡ line ∷ split_on 10 after → length after < length rest
     → Says inputs (epoch_count e) line item → Takes e f item → ReadSoFar inputs text after (n + 1) f
@@ -110,9 +114,16 @@ next_read inputs text rest line after n e f item r cut less says takes =
 -- a line that a line feed ends has a fault
 pub faulty : (inputs : List Input) (text rest line after : List ℕ) (n : ℕ) (e : Epochs) (fault : Fault) (code number : ℕ) → ReadSoFar inputs text rest n e → split_on 10 rest ≡ line ∷ split_on 10 after
     → IsFault inputs (epoch_count e) line fault → code ≡ code_of fault → number ≡ n + 1 → IsRefused inputs text (At code number)
-faulty inputs text rest line after n e fault code number r cut bad is at =
-    (r.lines, r.items, r.said, at ∙ ap (λ k. k + 1) r.counted, line, split_on 10 after, r.parts ∙ ap (λ (ls : List (List ℕ)). r.lines ++ ls) cut,
-      inr (fault, is, filled after, subst (λ (k : ℕ). IsFault inputs k line fault) r.epochs bad))
+faulty inputs text rest line after n e fault code number r cut bad is at = (
+  r.lines,
+  r.items,
+  r.said,
+  at ∙ ap (λ k. k + 1) r.counted,
+  line,
+  split_on 10 after,
+  r.parts ∙ ap (λ (ls : List (List ℕ)). r.lines ++ ls) cut,
+  inr (fault, is, filled after, subst (λ (k : ℕ). IsFault inputs k line fault) r.epochs bad),
+)
   where
     filled : (bs : List ℕ) → 0 < length (split_on 10 bs)
     filled bs = omega (arith, length-slice_split (λ b. b == 10) bs)

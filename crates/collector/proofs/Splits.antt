@@ -9,15 +9,15 @@ use Rattle.collector.specs.Pieces.{split_on}
 
 step : (byte b : ℕ) (bs p : List ℕ) (ps : List (List ℕ)) → b ≢ byte → split_on byte bs ≡ p ∷ ps → split_on byte (b ∷ bs) ≡ (b ∷ p) ∷ ps
 step byte b bs p ps other e = elim (eqb_tells b byte) [
-    | inl same ↦ absurd (other same.1)
-    | inr no_way ↦ ap (λ (t : Bool). cond t ([] ∷ split_on byte bs) (onto_first b (split_on byte bs))) no_way.0 ∙ ap (onto_first b) e
-  ]
+  | inl same ↦ absurd (other same.1)
+  | inr no_way ↦ ap (λ (t : Bool). cond t ([] ∷ split_on byte bs) (onto_first b (split_on byte bs))) no_way.0 ∙ ap (onto_first b) e
+]
 
 stop : (byte b : ℕ) (bs : List ℕ) → b ≡ byte → split_on byte (b ∷ bs) ≡ [] ∷ split_on byte bs
 stop byte b bs same = elim (eqb_tells b byte) [
-    | inl yes_way ↦ ap (λ (t : Bool). cond t ([] ∷ split_on byte bs) (onto_first b (split_on byte bs))) yes_way.0
-    | inr other ↦ absurd (other.1 same)
-  ]
+  | inl yes_way ↦ ap (λ (t : Bool). cond t ([] ∷ split_on byte bs) (onto_first b (split_on byte bs))) yes_way.0
+  | inr other ↦ absurd (other.1 same)
+]
 
 pub split_none : (byte : ℕ) (bs : List ℕ) → ((k : ℕ) → k < length bs → get_or bs k 0 ≢ byte) → split_on byte bs ≡ bs ∷ []
 split_none byte [] none = refl

@@ -27,17 +27,17 @@ pub input_gains : (ws : List (List Records)) (input count : ℕ) (new : List Rec
     → ((k : ℕ) → get_or new k [] ≡ (if k + 1 == length (get_or ws input []) then get_or (get_or ws input []) k [] ++ row ∷ [] else get_or (get_or ws input []) k []))
     → (epoch i : ℕ) → get_or (get_or (set ws input new) i []) epoch [] ≡ (if (i == input) && (epoch + 1 == count) then get_or (get_or ws i []) epoch [] ++ row ∷ [] else get_or (get_or ws i []) epoch [])
 input_gains ws input count new row lt even at epoch i = elim (eqb_tells i input) [
-    | inl same ↦
-        let here : get_or (set ws input new) i [] ≡ new = get_or-set_at ws input i new [] same.1 lt in
-        rw (here, same.0, same.1, ← even) (at epoch)
-    | inr other ↦ rw (other.0, get_or-set_other ws input i new [] other.1) refl
-  ]
+  | inl same ↦
+      let here : get_or (set ws input new) i [] ≡ new = get_or-set_at ws input i new [] same.1 lt in
+      rw (here, same.0, same.1, ← even) (at epoch)
+  | inr other ↦ rw (other.0, get_or-set_other ws input i new [] other.1) refl
+]
 
 pub stays_even : (ws : List (List Records)) (input count : ℕ) (new : List Records) → length new ≡ count → ((i : ℕ) → i < length ws → length (get_or ws i []) ≡ count) → (i : ℕ) → i < length ws → length (get_or (set ws input new) i []) ≡ count
 stays_even ws input count new size even i lt = elim (eqb_tells i input) [
-    | inl same ↦ ap length (get_or-set_at ws input i new [] same.1 (omega (arith, same.1))) ∙ size
-    | inr other ↦ ap length (get_or-set_other ws input i new [] other.1) ∙ even i lt
-  ]
+  | inl same ↦ ap length (get_or-set_at ws input i new [] same.1 (omega (arith, same.1))) ∙ size
+  | inr other ↦ ap length (get_or-set_other ws input i new [] other.1) ∙ even i lt
+]
 
 -- an empty list at the end shows nothing
 pub blank_end : {X : Type 0} (ws : List (List X)) (k : ℕ) → get_or (ws ++ [] ∷ []) k [] ≡ get_or ws k []
@@ -54,11 +54,11 @@ still_none ws new e none k = ap (λ (vs : List (List Records)). get_or vs k []) 
 pub begun_here : (old ws : List (List Records)) (input : ℕ) (new : List Records) → input < length ws → ((i : ℕ) → i < input → get_or ws i [] ≡ get_or old i [] ++ [] ∷ []) → ((i : ℕ) → input ≤ i → get_or ws i [] ≡ get_or old i [])
     → new ≡ get_or ws input [] ++ [] ∷ [] → (i : ℕ) → i < input + 1 → get_or (set ws input new) i [] ≡ get_or old i [] ++ [] ∷ []
 begun_here old ws input new lt done rest e i below = elim (eqb_tells i input) [
-    | inl same ↦
-        let here : get_or ws input [] ≡ get_or old i [] = rest input (omega arith) ∙ ap (λ j. get_or old j []) (sym same.1) in
-        get_or-set_at ws input i new [] same.1 lt ∙ e ∙ ap (λ (rs : List Records). rs ++ [] ∷ []) here
-    | inr other ↦ get_or-set_other ws input i new [] other.1 ∙ done i (omega (arith, below_other i input below other.1))
-  ]
+  | inl same ↦
+      let here : get_or ws input [] ≡ get_or old i [] = rest input (omega arith) ∙ ap (λ j. get_or old j []) (sym same.1) in
+      get_or-set_at ws input i new [] same.1 lt ∙ e ∙ ap (λ (rs : List Records). rs ++ [] ∷ []) here
+  | inr other ↦ get_or-set_other ws input i new [] other.1 ∙ done i (omega (arith, below_other i input below other.1))
+]
   where
     below_other : (i n : ℕ) → i < n + 1 → i ≢ n → i < n
     below_other i n lt other = omega (arith, other)
@@ -69,9 +69,9 @@ not_yet old ws input new rest i le = get_or-set_other ws input i new [] (λ e. a
 -- it has begun for all of them
 pub all_begun : (old ws : List (List Records)) → length ws ≡ length old → ((i : ℕ) → i < length ws → get_or ws i [] ≡ get_or old i [] ++ [] ∷ []) → (epoch i : ℕ) → get_or (get_or ws i []) epoch [] ≡ get_or (get_or old i []) epoch []
 all_begun old ws size done epoch i = elim (cases_lt i (length ws)) [
-    | inl lt ↦ ap (λ (rs : List Records). get_or rs epoch []) (done i lt) ∙ blank_end (get_or old i []) epoch
-    | inr ge ↦ ap (λ (rs : List Records). get_or rs epoch []) (get_or_past ws i [] ge ∙ sym (get_or_past old i [] (omega arith)))
-  ]
+  | inl lt ↦ ap (λ (rs : List Records). get_or rs epoch []) (done i lt) ∙ blank_end (get_or old i []) epoch
+  | inr ge ↦ ap (λ (rs : List Records). get_or rs epoch []) (get_or_past ws i [] ge ∙ sym (get_or_past old i [] (omega arith)))
+]
 
 pub even_begun : (old ws : List (List Records)) (count : ℕ) → length ws ≡ length old → ((i : ℕ) → i < length old → length (get_or old i []) ≡ count) → ((i : ℕ) → i < length ws → get_or ws i [] ≡ get_or old i [] ++ [] ∷ []) → (i : ℕ) → i < length ws → length (get_or ws i []) ≡ count + 1
 even_begun old ws count size even done i lt = ap length (done i lt) ∙ length-append (get_or old i []) ([] ∷ []) ∙ ap (λ n. n + 1) (even i (omega arith))

@@ -5,21 +5,25 @@
 //! the text formats of `specs/`, and a refusal names the first faulty line.
 #![tactic(auto)]
 
-mod splitting;
-mod refusal;
-mod numerals;
-mod line;
-mod track;
+mod bytes;
 mod epochs;
+mod line;
+mod output;
 mod reading;
+mod refusal;
+mod splitting;
+mod track;
 mod watched;
 mod writing;
-mod output;
 
+pub use bytes::{ReadFault, read_all, read_at_most};
 pub use epochs::Epochs;
 pub use line::Declared;
+pub use output::{OutFault, write_epochs};
 pub use reading::read_input;
 pub use refusal::{Fault, InputRefusal};
-pub use output::{OutFault, write_epochs};
 pub use watched::Watched;
 pub use writing::{Broken, put};
+
+#[cfg(test)]
+mod tests;

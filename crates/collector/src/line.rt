@@ -9,9 +9,9 @@ ghost use Rattle.collector.specs.Pieces.{split_on};
 ghost use Rattle.collector.specs.Lines.{AreNumbers, HasWords, IsAbsent, IsFault, IsFilled, IsInput, IsWord, MakeRecord, Says};
 ghost use Rattle.collector.specs.Said.{item_of, plain, words_of, LineEnds, RowEnds};
 
-use crate::numerals::signed_number;
 use crate::refusal::Fault;
 use crate::splitting::{around, find};
+use decimal::signed_number;
 use record_core::{MAX_FIELDS, Name};
 use std::alloc::AllocError;
 
@@ -62,9 +62,7 @@ fn begins(bytes: &[u8]) -> bool
 fn goes_on(bytes: &[u8]) -> bool
     ensures { result ≡ list_all is_name_byte bytes.now }
 {
-    bytes
-        .iter()
-        .all(|b| b.is_ascii_lowercase() || b.is_ascii_digit() || *b == b'_')
+    bytes.iter().all(|b| b.is_ascii_lowercase() || b.is_ascii_digit() || *b == b'_')
 }
 
 /// Whether a word is spelled like a name or a keyword.

@@ -29,4 +29,3 @@ pub fn around(bytes: &[u8], at: usize) -> (&[u8], &[u8])
     let (_, after) = bytes.split_at(at + 1);
     (before, after)
 }
-

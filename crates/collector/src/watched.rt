@@ -29,6 +29,13 @@ impl<T> Watched<T> {
             failed: false,
         }
     }
+
+    /// The reader or the writer itself.
+    pub fn into_inner(self) -> T
+        ensures { result ≡ inner_of self }
+    {
+        self.inner
+    }
 }
 
 impl<R: Read> Watched<R> {

@@ -23,16 +23,16 @@ returns-in-Err-Fault-clause-refused c =
     let inputs = map plain c.args.inputs.now in
     let bad : IsFault inputs c.count.result c.around.result.0.now c.in-Err-Fault.fault = rw c.in-Err-Fault.field-0-is at c.in-Err-Fault.ensures in
     faulty inputs c.args.text.now c.loop-end.rest.now c.around.result.0.now c.around.result.1.now c.loop-end.number c.loop-end.epochs c.in-Err-Fault.fault c.code.result _ c.loop-end.invariant
-      (cut_at 10 c.loop-end.rest.now c.around.result.0.now c.around.result.1.now c.in-Some.end c.in-Some.ensures.found c.around.ensures.before c.around.ensures.after)
-      (subst (λ (k : ℕ). IsFault inputs k c.around.result.0.now c.in-Err-Fault.fault) c.count.ensures bad) (rw c.in-Err-Fault.field-0-is at c.code.ensures) refl
+    (cut_at 10 c.loop-end.rest.now c.around.result.0.now c.around.result.1.now c.in-Some.end c.in-Some.ensures.found c.around.ensures.before c.around.ensures.after)
+    (subst (λ (k : ℕ). IsFault inputs k c.around.result.0.now c.in-Err-Fault.fault) c.count.ensures bad) (rw c.in-Err-Fault.field-0-is at c.code.ensures) refl
 
 pub loop-end-preserved : goal.loop-end-preserved
 loop-end-preserved c =
     let inputs = map plain c.args.inputs.now in
     let said : Says inputs c.count.result c.around.result.0.now (item_of c.in-Ok.said c.as_slice.result.now) = rw c.as_slice.ensures.value c.in-Ok.ensures in
     next_read inputs c.args.text.now c.loop-end.rest.now c.around.result.0.now c.around.result.1.now c.loop-end.number c.loop-end.epochs c.take_line.new.epochs (item_of c.in-Ok.said c.as_slice.result.now) c.loop-end.invariant
-      (cut_at 10 c.loop-end.rest.now c.around.result.0.now c.around.result.1.now c.in-Some.end c.in-Some.ensures.found c.around.ensures.before c.around.ensures.after) c.around.ensures.shorter
-      (subst (λ (k : ℕ). Says inputs k c.around.result.0.now (item_of c.in-Ok.said c.as_slice.result.now)) c.count.ensures said) c.in_ok-take_line-in-Ok.ensures
+    (cut_at 10 c.loop-end.rest.now c.around.result.0.now c.around.result.1.now c.in-Some.end c.in-Some.ensures.found c.around.ensures.before c.around.ensures.after) c.around.ensures.shorter
+    (subst (λ (k : ℕ). Says inputs k c.around.result.0.now (item_of c.in-Ok.said c.as_slice.result.now)) c.count.ensures said) c.in_ok-take_line-in-Ok.ensures
 
 pub returns-then-not-is_empty-clause-refused : goal.returns-then-not-is_empty-clause-refused
 returns-then-not-is_empty-clause-refused c =
