@@ -1,6 +1,6 @@
 //! The epochs of an input text.
 
-ghost use Rattle.std.specs.Prelude.{◌≡◌, ◌<◌, ◌+◌, ℕ, ◌^◌, OnOk, IfOk, length, slice_index_or, ◌==◌, ◌&&◌, if◌then◌else◌};
+ghost use Rattle.std.specs.Prelude.{◌≡◌, ◌<◌, ◌+◌, ℕ, ◌^◌, ◌-◌, OnOk, IfOk, length, slice_index_or, ◌==◌, ◌&&◌, if◌then◌else◌};
 ghost use Rattle.collector.specs.Held.{epoch_count, records_at};
 ghost use Rattle.collector.specs.Growth.{HasNone, IsEven, Begins, Gains};
 
@@ -11,7 +11,7 @@ use std::alloc::{AllocError, Global};
 /// The epochs that a text tells: in each, for each input, a list of records.
 #[derive(Drop)]
 pub struct Epochs {
-    count: u64,
+    count: u32,
     tracks: Vec<Track>,
 }
 
@@ -29,25 +29,25 @@ impl Epochs {
     }
 
     /// How many epochs there are.
-    pub fn count(&self) -> u64
+    pub fn count(&self) -> u32
         ensures { result ≡ epoch_count self.now }
     {
         self.count
     }
 
     /// The records of an input in an epoch, in the order of their lines; none where there is no such input or epoch.
-    pub fn records(&self, epoch: usize, input: usize) -> &[Record]
+    pub fn records(&self, epoch: u32, input: u32) -> &[Record]
         ensures { result.now ≡ records_at self.now epoch input }
     {
-        match self.tracks.get(input) {
-            Some(track) => track.records(epoch),
+        match self.tracks.get(input as usize) {
+            Some(track) => track.records(epoch as usize),
             None => &[],
         }
     }
 
     /// The next epoch begins, with no record.
     pub fn begin(&mut self, alloc: Global) -> Result<(), AllocError>
-        requires few { epoch_count self.old < 2 ^ 63 }
+        requires few { epoch_count self.old < 2 ^ 32 - 1 }
         requires even { IsEven self.old }
         ensures { OnOk result (Begins self.old self.new) }
     {

@@ -37,7 +37,7 @@ pub enum LineError {
 }
 
 /// The most epochs of a text.
-const MAX_EPOCHS: u64 = 4_294_967_295;
+const MAX_EPOCHS: u32 = 4_294_967_295;
 
 /// The longest word that is spelled like a name.
 const MAX_WORD: usize = 32;
@@ -204,7 +204,7 @@ fn row_says(
 pub fn line_says(
     line: &[u8],
     inputs: &[Declared<'_>],
-    epochs: u64,
+    epochs: u32,
     fields: &mut Vec<i64>,
 ) -> Result<Line, LineError>
     ensures { LineEnds (map plain inputs.now) epochs line.now fields.new.items result }
