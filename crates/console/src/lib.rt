@@ -6,13 +6,21 @@
 //! above stands the program alone.
 #![tactic(auto)]
 
+mod checking;
 mod choice;
 mod command;
+mod compile;
+mod engine;
 mod fault;
+mod respond;
+mod running;
 
+pub use checking::check_query;
 pub use choice::{LineFault, Options};
 pub use command::options;
+pub use compile::compile;
 pub use fault::Fault;
+pub use running::run;
 
 #[cfg(test)]
 mod tests;
