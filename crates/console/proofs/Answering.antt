@@ -8,12 +8,13 @@ use Rattle.semantics.proofs.MultisetSums.{≈-refl, ≈-trans}
 use Rattle.board.specs.Chain.{Chain, query_of}
 use Rattle.board.specs.World.{World, fed_at, emitted_at}
 use Rattle.board.specs.Headline.{Headline}
-use Rattle.board.specs.Views.{chain_of}
+use Rattle.board.specs.Views.{GraphParts, chain_of}
+use Rattle.board.specs.Run.{IsQuiet}
 use Rattle.board.specs.Shown.{Shown}
 use Rattle.collector.specs.OutputText.{IsTextFrom}
 use Rattle.collector.specs.Held.{epoch_count, records_at}
 use Rattle.collector.specs.declared.epochs.Epochs.{Epochs}
-use Rattle.console.specs.Fed.{EmittedBelow, IsWorkedOff}
+use Rattle.console.specs.Fed.{EmittedBelow, HoldsFed, IsWorkedOff}
 use Rattle.console.specs.Answers.{IsAnswer}
 
 either_same : (b : Bool) (p q r s : List Record) → p ≈ q → r ≈ s → cond b p r ≈ cond b q s
@@ -39,6 +40,13 @@ is_answer b epochs lists text done below headline told = record {
       let all : emitted_at b.world epoch ≈ program_meaning (query_of (chain_of b.graph)) (λ i. fed_at b.world i epoch) = (headline epoch lt).all done.quiet in
       let read : program_meaning (query_of (chain_of b.graph)) (λ i. fed_at b.world i epoch) ≈ program_meaning (query_of (chain_of b.graph)) (records_at epochs epoch) =
       chain_same (chain_of b.graph) (λ i. fed_at b.world i epoch) (records_at epochs epoch) (λ i less. done.fed epoch i lt less) in
-      subst (λ rs. rs ≈ program_meaning (query_of (chain_of b.graph)) (records_at epochs epoch)) (sym (below.each epoch lt)) (≈-trans _ _ _ all read);
+      subst (λ rs. rs ≈ program_meaning (query_of (chain_of b.graph)) (records_at epochs epoch)) (sym (below.each epoch lt)) (≈-trans all read);
   told = told;
+}
+
+pub is_worked_off : (graph : GraphParts) (b : Shown) (epochs : Epochs) (inputs count : ℕ) → b.graph ≡ graph → IsQuiet b.world → HoldsFed b.world inputs epochs count → inputs ≡ length (chain_of graph).inputs → count ≡ epoch_count epochs → IsWorkedOff graph b epochs
+is_worked_off graph b epochs inputs count same quiet fed n m = record {
+  same = same;
+  quiet = quiet;
+  fed = λ epoch input lt less. fed epoch input (omega (arith, lt, m)) (omega (arith, less, n));
 }

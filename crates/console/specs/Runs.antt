@@ -38,14 +38,38 @@ Ends query input old new (Err ReadInput) = new ≡ old
 Ends query input old new (Err TooManyVertices) = ⊥
 Ends query input old new (Err NoWorker) = ⊥
 
--- a reader failed, or there was no memory
-abbrev pub IsUnread : Fault → Type 0
-IsUnread NoMemory = Unit {0}
-IsUnread ReadQuery = Unit {0}
-IsUnread ReadInput = Unit {0}
-IsUnread (Query code start end) = ⊥
-IsUnread TooManyVertices = ⊥
-IsUnread Unserved = ⊥
-IsUnread (Input code line) = ⊥
-IsUnread NoWorker = ⊥
-IsUnread Write = ⊥
+-- the query could not be read, or there was no memory
+abbrev pub IsUnreadQuery : Fault → Type 0
+IsUnreadQuery NoMemory = Unit {0}
+IsUnreadQuery ReadQuery = Unit {0}
+IsUnreadQuery ReadInput = ⊥
+IsUnreadQuery (Query code start end) = ⊥
+IsUnreadQuery TooManyVertices = ⊥
+IsUnreadQuery Unserved = ⊥
+IsUnreadQuery (Input code line) = ⊥
+IsUnreadQuery NoWorker = ⊥
+IsUnreadQuery Write = ⊥
+
+-- the input could not be read, or there was no memory
+abbrev pub IsUnreadInput : Fault → Type 0
+IsUnreadInput NoMemory = Unit {0}
+IsUnreadInput ReadQuery = ⊥
+IsUnreadInput ReadInput = Unit {0}
+IsUnreadInput (Query code start end) = ⊥
+IsUnreadInput TooManyVertices = ⊥
+IsUnreadInput Unserved = ⊥
+IsUnreadInput (Input code line) = ⊥
+IsUnreadInput NoWorker = ⊥
+IsUnreadInput Write = ⊥
+
+-- it came once both texts were read
+abbrev pub IsAfterReading : Fault → Type 0
+IsAfterReading NoMemory = Unit {0}
+IsAfterReading ReadQuery = ⊥
+IsAfterReading ReadInput = ⊥
+IsAfterReading (Query code start end) = Unit {0}
+IsAfterReading TooManyVertices = Unit {0}
+IsAfterReading Unserved = Unit {0}
+IsAfterReading (Input code line) = Unit {0}
+IsAfterReading NoWorker = Unit {0}
+IsAfterReading Write = Unit {0}

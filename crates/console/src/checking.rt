@@ -4,7 +4,7 @@ ghost use Rattle.std.specs.Prelude.{◌≡◌, true, IsErrOf};
 ghost use Rattle.collector.specs.Watching.{has_failed, inner_of};
 ghost use Rattle.console.specs.declared.fault.Fault.TheVariants as fault;
 
-use crate::compile::typed_program;
+use crate::compiling::typed_program;
 use crate::fault::Fault;
 use crate::running::read_query;
 use collector::{Watched, put};

@@ -9,7 +9,7 @@
 mod checking;
 mod choice;
 mod command;
-mod compile;
+mod compiling;
 mod engine;
 mod fault;
 mod respond;
@@ -18,7 +18,7 @@ mod running;
 pub use checking::check_query;
 pub use choice::{LineFault, Options};
 pub use command::options;
-pub use compile::compile;
+pub use compiling::compile;
 pub use fault::Fault;
 pub use running::run;
 

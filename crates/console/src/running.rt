@@ -4,10 +4,10 @@ ghost use Rattle.std.specs.Prelude.{◌≡◌, take, true, map, IfOk, IfErr, IfS
 ghost use Rattle.expr_tree.specs.Plain.{plain_input};
 ghost use Rattle.collector.specs.Said.{plain};
 ghost use Rattle.collector.specs.Watching.{has_failed, inner_of};
-ghost use Rattle.console.specs.Runs.{Ends, IsUnread};
+ghost use Rattle.console.specs.Runs.{Ends, IsAfterReading, IsUnreadInput, IsUnreadQuery};
 ghost use Rattle.console.specs.declared.fault.Fault.TheVariants as fault;
 
-use crate::compile::compile;
+use crate::compiling::compile;
 use crate::fault::{Fault, input_fault};
 use crate::respond::respond;
 use bumpalo::Bump;
@@ -24,7 +24,7 @@ const QUERY_LIMIT: usize = 1_048_577;
 pub fn read_query<Q: Read>(alloc: Global, query: &mut Watched<Q>) -> Result<Vec<u8>, Fault>
     ensures bytes { IfOk result (λ v. IfSome (Q.remaining (inner_of query.old)) (λ q. v.items ≡ take 1048577 q)) }
     ensures failed { IsErrOf result fault.ReadQuery → has_failed query.new ≡ true }
-    ensures unread { IfErr result IsUnread }
+    ensures unread { IfErr result IsUnreadQuery }
 {
     match read_at_most(alloc, QUERY_LIMIT, query) {
         Ok(bytes) => Ok(bytes),
@@ -37,7 +37,7 @@ pub fn read_query<Q: Read>(alloc: Global, query: &mut Watched<Q>) -> Result<Vec<
 fn read_input_text<I: Read>(alloc: Global, input: &mut Watched<I>) -> Result<Vec<u8>, Fault>
     ensures bytes { IfOk result (λ v. IfSome (I.remaining (inner_of input.old)) (λ i. v.items ≡ i)) }
     ensures failed { IsErrOf result fault.ReadInput → has_failed input.new ≡ true }
-    ensures unread { IfErr result IsUnread }
+    ensures unread { IfErr result IsUnreadInput }
 {
     match read_all(alloc, input) {
         Ok(bytes) => Ok(bytes),
@@ -70,6 +70,7 @@ fn answer<W: Write>(
 ) -> Result<(), Fault>
     ensures ends { Ends query.now input.now (W.contents (inner_of writer.old)) (W.contents (inner_of writer.new)) result }
     ensures failed { IsErrOf result fault.Write → has_failed writer.new ≡ true }
+    ensures read { IfErr result IsAfterReading }
 {
     let arena = Bump::new(alloc);
     let graph = match compile(alloc, &arena, query) {

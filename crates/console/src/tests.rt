@@ -141,7 +141,12 @@ fn runs(rt: HostRuntime) -> Result<(), Fail> {
     let rows: [(&str, &[u8], u8, &str); 17] = [
         (one, b"", 0, ""),
         (one, b"epoch\nepoch\na 3\n", 0, "epoch 0\nepoch 1\n3\n"),
-        ("input a/2; output select(a; #2);", b"", 3, "query refused 13 at 28..30\n"),
+        (
+            "input a/2; output select(a; #2);",
+            b"",
+            3,
+            "query refused 13 at 28..30\n",
+        ),
         (one, b"epoch\na 1", 4, "input refused 43 at line 2\n"),
         (one, b"epoch\na 01\n", 4, "input refused 44 at line 2\n"),
         (one, b"epoch\na 1 2\n", 4, "input refused 45 at line 2\n"),
@@ -154,9 +159,24 @@ fn runs(rt: HostRuntime) -> Result<(), Fail> {
             0,
             "epoch 0\n9 4\n9 4\n",
         ),
-        ("input a/1; output distinct(a);", b"epoch\na 1\n", 3, "query refused 22\n"),
-        ("input a/1; let b = a; output a;", b"a 1\n", 3, "query refused 22\n"),
-        ("input a/1; output b;", b"a 1\n", 3, "query refused 11 at 18..19\n"),
+        (
+            "input a/1; output distinct(a);",
+            b"epoch\na 1\n",
+            3,
+            "query refused 22\n",
+        ),
+        (
+            "input a/1; let b = a; output a;",
+            b"a 1\n",
+            3,
+            "query refused 22\n",
+        ),
+        (
+            "input a/1; output b;",
+            b"a 1\n",
+            3,
+            "query refused 11 at 18..19\n",
+        ),
         ("", b"", 3, "query refused 4 at 0..0\n"),
         (
             "input view/2;\noutput view;\n",
@@ -227,7 +247,10 @@ fn full_writers(rt: HostRuntime) -> Result<(), Fail> {
             if room < text.len() {
                 assert!(rt; matches!(done, Err(Fault::Write)));
             }
-            assert_eq!(rt; out.into_inner().written.as_slice(), &text[..room.min(text.len())]);
+            assert_eq!(rt;
+                out.into_inner().written.as_slice(),
+                &text[..room.min(text.len())]
+            );
         }
     }
     Ok(())
