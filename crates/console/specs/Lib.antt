@@ -4,3 +4,4 @@ pub mod Fed
 pub mod Answers
 pub mod Queries
 pub mod Runs
+pub mod Checks
