@@ -1,0 +1,10 @@
+pub mod Splits
+pub mod LinesRead
+pub mod InputNames
+pub mod Filled
+pub mod NumberLists
+pub mod Tracks
+pub mod Orders
+pub mod Writes
+pub mod Pushes
+pub mod EpochTexts

@@ -1,0 +1,145 @@
+-- The lines of an input text, read one after another.
+use Rattle.std.proofs.Common.{◌≡◌, ◌≢◌, ◌<◌, ◌≤◌, ◌+◌, ◌∙◌, ℕ, ℤ, List, [], ◌∷◌, ◌++◌, length, Bool, true, false, cond, refl, sym, ap, subst, arith, append_assoc, inl, inr}
+use Rattle.std.specs.Prelude.{◌==◌, ◌&&◌, if◌then◌else◌}
+use Rattle.std.proofs.lemmas.List.{length-append, length-map}
+use Rattle.std.proofs.lemmas.Option.{slice_get_within}
+use Rattle.std.proofs.lemmas.List.Splits.{length-slice_split}
+use Rattle.semantics.specs.Query.{Input}
+use Rattle.collector.specs.Pieces.{split_on}
+use Rattle.collector.specs.Lines.{Item, Says, IsFault, code_of}
+use Rattle.collector.specs.InputText.{begun_after, epochs_after, records_in, LinesSay, IsInputText, IsRefused}
+use Rattle.collector.specs.Held.{epoch_count, records_at}
+use Rattle.collector.specs.Growth.{IsEven, HasNone, Begins, Gains, Takes, CanTake}
+use Rattle.collector.specs.declared.epochs.Epochs.{Epochs}
+use Rattle.collector.specs.declared.refusal.Fault.{Fault}
+use Rattle.collector.specs.declared.refusal.InputRefusal.TheVariants.{At}
+
+abbrev Records : Type 0
+Records = List (List ℤ)
+
+say_push : (inputs : List Input) (n : ℕ) (lines : List (List ℕ)) (items : List Item) (line : List ℕ) (item : Item) → LinesSay inputs n lines items → Says inputs (epochs_after n items) line item → LinesSay inputs n (lines ++ line ∷ []) (items ++ item ∷ [])
+say_push inputs n [] [] line item h g = (g, tt)
+say_push inputs n [] (i ∷ is) line item h g = absurd h
+say_push inputs n (l ∷ ls) [] line item h g = absurd h
+say_push inputs n (l ∷ ls) (i ∷ is) line item h g = (h.0, say_push inputs (begun_after n i) ls is line item h.1 g)
+
+epochs_push : (n : ℕ) (items : List Item) (item : Item) → epochs_after n (items ++ item ∷ []) ≡ begun_after (epochs_after n items) item
+epochs_push n [] item = refl
+epochs_push n (i ∷ is) item = epochs_push (begun_after n i) is item
+
+one_more : (t u : Bool) (y z : List ℤ) (rs new : Records) → new ≡ cond u (rs ++ z ∷ []) rs → cond t (y ∷ new) new ≡ cond u (cond t (y ∷ rs) rs ++ z ∷ []) (cond t (y ∷ rs) rs)
+one_more true true y z rs new e = ap (λ (xs : Records). y ∷ xs) e
+one_more true false y z rs new e = ap (λ (xs : Records). y ∷ xs) e
+one_more false true y z rs new e = e
+one_more false false y z rs new e = e
+
+epoch_push : (epoch input n : ℕ) (items : List Item) → records_in epoch input n (items ++ Item.epoch ∷ []) ≡ records_in epoch input n items
+epoch_push epoch input n [] = refl
+epoch_push epoch input n (Item.epoch ∷ is) = epoch_push epoch input (n + 1) is
+epoch_push epoch input n (Item.row i zs ∷ is) = ap (λ (rs : Records). cond ((input == i) && (epoch + 1 == n)) (zs ∷ rs) rs) (epoch_push epoch input n is)
+
+row_push : (epoch input n : ℕ) (items : List Item) (j : ℕ) (z : List ℤ) → records_in epoch input n (items ++ Item.row j z ∷ []) ≡ cond ((input == j) && (epoch + 1 == epochs_after n items)) (records_in epoch input n items ++ z ∷ []) (records_in epoch input n items)
+row_push epoch input n [] j z = refl
+row_push epoch input n (Item.epoch ∷ is) j z = row_push epoch input (n + 1) is j z
+row_push epoch input n (Item.row i zs ∷ is) j z = one_more ((input == i) && (epoch + 1 == n)) ((input == j) && (epoch + 1 == epochs_after n is)) zs z (records_in epoch input n is) _ (row_push epoch input n is j z)
+
+-- the lines that were read, and what is held of them
+pub record ReadSoFar (inputs : List Input) (text rest : List ℕ) (number : ℕ) (e : Epochs) : Type 0 where
+  pub lines : List (List ℕ)
+  pub items : List Item
+  pub said : LinesSay inputs 0 lines items
+  pub parts : split_on 10 text ≡ lines ++ split_on 10 rest
+  pub counted : number ≡ length lines
+  pub short : number + length rest ≤ length text
+  pub epochs : epoch_count e ≡ epochs_after 0 items
+  pub records : (epoch input : ℕ) → records_at e epoch input ≡ records_in epoch input 0 items
+  pub even : IsEven e
+  pub tracks : length e.tracks.items ≡ length inputs
+
+pub nothing_read : (inputs : List Input) (text : List ℕ) (e : Epochs) → HasNone e → length e.tracks.items ≡ length inputs → ReadSoFar inputs text text 0 e
+nothing_read inputs text e none size = record {
+  lines = [];
+  items = [];
+  said = tt;
+  parts = refl;
+  counted = refl;
+  short = omega arith;
+  epochs = none.count;
+  records = none.records;
+  even = none.even;
+  tracks = size;
+}
+
+-- what a line says can be taken
+pub can_take : (inputs : List Input) (e : Epochs) (line : List ℕ) (item : Item) → length e.tracks.items ≡ length inputs → Says inputs (epoch_count e) line item → CanTake e item
+can_take inputs e line Item.epoch size says = says.1
+can_take inputs e line (Item.row i zs) size says = (says.3, omega (arith, size, slice_get_within inputs i _ says.4.there), says.5)
+
+-- what the epochs hold once they have taken an item
+taken : (e f : Epochs) (items : List Item) (item : Item) → epoch_count e ≡ epochs_after 0 items → ((epoch input : ℕ) → records_at e epoch input ≡ records_in epoch input 0 items) → Takes e f item
+    → (epoch_count f ≡ epochs_after 0 (items ++ item ∷ [])) × ((epoch input : ℕ) → records_at f epoch input ≡ records_in epoch input 0 (items ++ item ∷ [])) × IsEven f × (length f.tracks.items ≡ length e.tracks.items)
+taken e f items Item.epoch count records takes = (
+  takes.count ∙ ap (λ n. n + 1) count ∙ sym (epochs_push 0 items Item.epoch),
+  λ epoch input. takes.records epoch input ∙ records epoch input ∙ sym (epoch_push epoch input 0 items),
+  takes.even,
+  takes.inputs,
+)
+taken e f items (Item.row i zs) count records takes = (
+  takes.count ∙ count ∙ sym (epochs_push 0 items (Item.row i zs)),
+  λ epoch input.
+      let here = takes.records epoch input in
+      let held : records_at f epoch input ≡ cond ((input == i) && (epoch + 1 == epochs_after 0 items)) (records_in epoch input 0 items ++ zs ∷ []) (records_in epoch input 0 items) = rw (← count, ← records epoch input) here in
+      held ∙ sym (row_push epoch input 0 items i zs),
+  takes.even,
+  takes.inputs,
+)
+
+pub next_read : (inputs : List Input) (text rest line after : List ℕ) (n : ℕ) (e f : Epochs) (item : Item) → ReadSoFar inputs text rest n e → split_on 10 rest ≡ line ∷ split_on 10 after → length after < length rest
+    → Says inputs (epoch_count e) line item → Takes e f item → ReadSoFar inputs text after (n + 1) f
+next_read inputs text rest line after n e f item r cut less says takes =
+    let new = taken e f r.items item r.epochs r.records takes in
+    record {
+      lines = r.lines ++ line ∷ [];
+      items = r.items ++ item ∷ [];
+      said = say_push inputs 0 r.lines r.items line item r.said (subst (λ (k : ℕ). Says inputs k line item) r.epochs says);
+      parts = r.parts ∙ ap (λ (ls : List (List ℕ)). r.lines ++ ls) cut ∙ sym (append_assoc r.lines (line ∷ []) (split_on 10 after));
+      counted = ap (λ k. k + 1) r.counted ∙ sym (length-append r.lines (line ∷ []));
+      short = omega (arith, r.short, less);
+      epochs = new.0;
+      records = new.1;
+      even = new.2;
+      tracks = new.3 ∙ r.tracks;
+    }
+
+-- a line that a line feed ends has a fault
+pub faulty : (inputs : List Input) (text rest line after : List ℕ) (n : ℕ) (e : Epochs) (fault : Fault) (code number : ℕ) → ReadSoFar inputs text rest n e → split_on 10 rest ≡ line ∷ split_on 10 after
+    → IsFault inputs (epoch_count e) line fault → code ≡ code_of fault → number ≡ n + 1 → IsRefused inputs text (At code number)
+faulty inputs text rest line after n e fault code number r cut bad is at = (
+  r.lines,
+  r.items,
+  r.said,
+  at ∙ ap (λ k. k + 1) r.counted,
+  line,
+  split_on 10 after,
+  r.parts ∙ ap (λ (ls : List (List ℕ)). r.lines ++ ls) cut,
+  inr (fault, is, filled after, subst (λ (k : ℕ). IsFault inputs k line fault) r.epochs bad),
+)
+  where
+    filled : (bs : List ℕ) → 0 < length (split_on 10 bs)
+    filled bs = omega (arith, length-slice_split (λ b. b == 10) bs)
+
+-- the last line has no line feed
+pub unended : (inputs : List Input) (text rest : List ℕ) (n : ℕ) (e : Epochs) (code number : ℕ) → ReadSoFar inputs text rest n e → split_on 10 rest ≡ rest ∷ [] → 0 < length rest → code ≡ 43 → number ≡ n + 1 → IsRefused inputs text (At code number)
+unended inputs text rest n e code number r cut some is at =
+    (r.lines, r.items, r.said, at ∙ ap (λ k. k + 1) r.counted, rest, [], r.parts ∙ ap (λ (ls : List (List ℕ)). r.lines ++ ls) cut, inl (is, some, refl))
+
+-- no line is left
+pub all_read : (inputs : List Input) (text rest : List ℕ) (n : ℕ) (e : Epochs) → ReadSoFar inputs text rest n e → rest ≡ [] → IsInputText inputs text (epoch_count e) (records_at e)
+all_read inputs text rest n e r none = record {
+  lines = r.lines;
+  items = r.items;
+  parts = r.parts ∙ ap (λ (bs : List ℕ). r.lines ++ split_on 10 bs) none;
+  said = r.said;
+  epochs = r.epochs;
+  holds = r.records;
+}

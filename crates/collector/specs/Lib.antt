@@ -1,0 +1,9 @@
+pub mod Pieces
+pub mod Lines
+pub mod Said
+pub mod InputText
+pub mod Held
+pub mod Growth
+pub mod Watching
+pub mod Written
+pub mod OutputText

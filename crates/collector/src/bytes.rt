@@ -1,0 +1,63 @@
+//! Reading all that a reader gives, or so much of it.
+
+ghost use Rattle.std.specs.Prelude.{◌≡◌, true, take, IfOk, IfSome, IsErrOf};
+ghost use Rattle.collector.specs.Watching.{has_failed, inner_of};
+ghost use Rattle.collector.specs.declared.bytes.ReadFault.TheVariants.{Failed};
+
+use crate::watched::Watched;
+use std::alloc::Global;
+use std::io::Read;
+
+/// Why nothing was read.
+#[derive(Clone, Copy, Debug, PartialEq, Eq)]
+pub enum ReadFault {
+    NoMemory,
+    /// The reader failed in this call.
+    Failed,
+}
+
+/// All that the reader gives.
+pub fn read_all<R: Read>(alloc: Global, reader: &mut Watched<R>) -> Result<Vec<u8>, ReadFault>
+    ensures bytes { IfOk result (λ v. IfSome (R.remaining (inner_of reader.old)) (λ xs. v.items ≡ xs)) }
+    ensures failed { IsErrOf result Failed → has_failed reader.new ≡ true }
+{
+    let mut bytes = Vec::new(alloc);
+    let mut piece = [0; 16384];
+    'pieces: loop {
+        let Ok(count) = reader.pull(&mut piece) else {
+            return Err(ReadFault::Failed);
+        };
+        if count == 0 {
+            return Ok(bytes);
+        }
+        if bytes.extend_from_slice(&piece[..count]).is_err() {
+            return Err(ReadFault::NoMemory);
+        }
+    }
+}
+
+/// The first bytes that the reader gives, at most so many; it is asked for no more.
+pub fn read_at_most<R: Read>(
+    alloc: Global,
+    limit: usize,
+    reader: &mut Watched<R>,
+) -> Result<Vec<u8>, ReadFault>
+    ensures bytes { IfOk result (λ v. IfSome (R.remaining (inner_of reader.old)) (λ xs. v.items ≡ take limit xs)) }
+    ensures failed { IsErrOf result Failed → has_failed reader.new ≡ true }
+{
+    let mut bytes = Vec::new(alloc);
+    let mut piece = [0; 4096];
+    'pieces: while bytes.len() < limit {
+        let room = (limit - bytes.len()).min(4096);
+        let Ok(count) = reader.pull(&mut piece[..room]) else {
+            return Err(ReadFault::Failed);
+        };
+        if count == 0 {
+            return Ok(bytes);
+        }
+        if bytes.extend_from_slice(&piece[..count]).is_err() {
+            return Err(ReadFault::NoMemory);
+        }
+    }
+    Ok(bytes)
+}

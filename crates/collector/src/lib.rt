@@ -1,0 +1,29 @@
+//! The texts at the edges: the input text read into epochs, the output text written.
+//!
+//! Below stand records and names alone. Above stands the console, which reads bytes, has the query run over the epochs of
+//! `read_input`, and has `write_epochs` put out what came of them. The contract for it: the epochs and the bytes are related by
+//! the text formats of `specs/`, and a refusal names the first faulty line.
+#![tactic(auto)]
+
+mod bytes;
+mod epochs;
+mod line;
+mod output;
+mod reading;
+mod refusal;
+mod splitting;
+mod track;
+mod watched;
+mod writing;
+
+pub use bytes::{ReadFault, read_all, read_at_most};
+pub use epochs::Epochs;
+pub use line::Declared;
+pub use output::{OutFault, write_epochs};
+pub use reading::read_input;
+pub use refusal::{Fault, InputRefusal};
+pub use watched::Watched;
+pub use writing::{Broken, put};
+
+#[cfg(test)]
+mod tests;

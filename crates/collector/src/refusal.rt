@@ -1,0 +1,64 @@
+//! Why an input text is refused.
+
+ghost use Rattle.std.specs.Prelude.{◌≡◌};
+ghost use Rattle.collector.specs.Lines.{code_of};
+ghost use Rattle.collector.specs.declared.refusal.InputRefusal.TheVariants.{NoMemory};
+
+use std::alloc::{AllocError, AllocFailed};
+
+/// What is wrong with a line that a line feed ends.
+#[derive(Clone, Copy, Debug, PartialEq, Eq)]
+pub enum Fault {
+    /// `a  1`, `a 1 ` or an empty line: an empty word, or a first word that no name or keyword is spelled like.
+    Malformed,
+    /// `epoch`, for the 4,294,967,296th time.
+    TooManyEpochs,
+    /// `a 1` before the first `epoch`.
+    NoEpoch,
+    /// `c 1` where no input is named `c`.
+    Unknown,
+    /// `a 01`, `a +1`, `a x`: a word after the first that no number is printed as.
+    BadNumber,
+    /// `a 1 2` where the input `a` has one field.
+    WrongFields,
+}
+
+impl Fault {
+    /// The number by which it is told.
+    pub fn code(self) -> u8
+        ensures { result ≡ code_of self }
+    {
+        match self {
+            Fault::NoEpoch => 41,
+            Fault::Unknown => 42,
+            Fault::BadNumber => 44,
+            Fault::WrongFields => 45,
+            Fault::Malformed => 46,
+            Fault::TooManyEpochs => 47,
+        }
+    }
+}
+
+/// The first faulty line of an input text, counted from 1, and what is wrong with it; 43 is a last line without line feed.
+/// Or want of memory.
+#[derive(Clone, Copy, Debug, PartialEq, Eq)]
+pub enum InputRefusal {
+    At { code: u8, line: u64 },
+    NoMemory,
+}
+
+impl From<AllocError> for InputRefusal {
+    ghost from_gives = { λ _ e. e ≡ NoMemory };
+
+    fn from(_e: AllocError) -> InputRefusal {
+        InputRefusal::NoMemory
+    }
+}
+
+impl<T: Drop> From<AllocFailed<T>> for InputRefusal {
+    ghost from_gives = { λ _ e. e ≡ NoMemory };
+
+    fn from(_e: AllocFailed<T>) -> InputRefusal {
+        InputRefusal::NoMemory
+    }
+}

@@ -1,0 +1,31 @@
+//! The pieces round a byte.
+
+ghost use Rattle.std.specs.Prelude.{◌≡◌, ◌≢◌, ◌<◌, ℕ, map, length, slice_index, take, drop, ◌+◌, ◌++◌, ◌∷◌, [], IfSome, IfNone, IfOk};
+ghost use Rattle.collector.specs.Pieces.{split_on};
+
+use std::alloc::{AllocError, Global};
+
+/// Where a byte first stands.
+pub fn find(bytes: &[u8], byte: u8) -> Option<usize>
+    ensures found { IfSome result (λ i. (i < length bytes.now) × (slice_index bytes.now i ≡ byte) × ((k : ℕ) → k < i → slice_index bytes.now k ≢ byte)) }
+    ensures none { IfNone result ((k : ℕ) → k < length bytes.now → slice_index bytes.now k ≢ byte) }
+{
+    for (i, b) in bytes.iter().enumerate() {
+        if *b == byte {
+            return Some(i);
+        }
+    }
+    None
+}
+
+/// What stands before a place, and after it.
+pub fn around(bytes: &[u8], at: usize) -> (&[u8], &[u8])
+    requires { at < length bytes.now }
+    ensures before { result.0.now ≡ take at bytes.now }
+    ensures after { result.1.now ≡ drop (at + 1) bytes.now }
+    ensures shorter { length result.1.now < length bytes.now }
+{
+    let (before, _) = bytes.split_at(at);
+    let (_, after) = bytes.split_at(at + 1);
+    (before, after)
+}

@@ -1,0 +1,92 @@
+//! Readers and writers that remember whether they failed.
+//!
+//! A fault may say "cannot read" or "cannot write" only where the reader or the writer really failed. Each of them fails here, in
+//! `pull` or in `push`, and nowhere else; so whoever tells such a fault can show it by the mark that is set here.
+
+ghost use Rattle.std.specs.Prelude.{◌≡◌, ◌<◌, ◌≤◌, false, true, length, take, IfSome, IfNone, OnSome, OnOk, OnErr};
+ghost use Rattle.std.specs.Io.{ReadsAtMost};
+ghost use Rattle.std.specs.Io.KnownBytes.{Appends, Keeps, ReadConsumes};
+ghost use Rattle.collector.specs.Watching.{has_failed, inner_of};
+
+use std::io;
+use std::io::{Read, Write};
+
+/// A reader or a writer, and whether a call on it failed.
+#[derive(Drop)]
+pub struct Watched<T> {
+    inner: T,
+    failed: bool,
+}
+
+impl<T> Watched<T> {
+    /// Watches a reader or a writer that hasn't failed yet.
+    pub fn new(inner: T) -> Watched<T>
+        ensures inner { inner_of result ≡ inner }
+        ensures fresh { has_failed result ≡ false }
+    {
+        Watched {
+            inner,
+            failed: false,
+        }
+    }
+
+    /// The reader or the writer itself.
+    pub fn into_inner(self) -> T
+        ensures { result ≡ inner_of self }
+    {
+        self.inner
+    }
+}
+
+impl<R: Read> Watched<R> {
+    /// One read into the piece: how many bytes came, 0 only at the end or into an empty piece.
+    /// Where it answers an error, and only there, the reader has failed.
+    pub fn pull(&mut self, piece: &mut [u8]) -> io::Result<usize>
+        ensures bound { ReadsAtMost result piece.new }
+        ensures bytes { ReadConsumes (R.remaining (inner_of self.old)) (R.remaining (inner_of self.new)) result piece.new }
+        ensures ok { OnOk result (has_failed self.new ≡ has_failed self.old) }
+        ensures err { OnErr result (has_failed self.new ≡ true) }
+    {
+        match self.inner.read(piece) {
+            Ok(count) => Ok(count),
+            Err(error) => {
+                self.failed = true;
+                Err(error)
+            }
+        }
+    }
+}
+
+impl<W: Write> Watched<W> {
+    /// One write of a beginning of the piece: how many bytes were taken, at least 1.
+    /// `None` where the writer answered an error, or took none: only there it has failed.
+    pub fn push(&mut self, piece: &[u8]) -> Option<usize>
+        requires { 0 < length piece.now }
+        ensures some { IfSome result (λ n. (0 < n) × (n ≤ length piece.now)) }
+        ensures bytes { IfSome result (λ n. Appends (W.contents (inner_of self.old)) (W.contents (inner_of self.new)) (take n piece.now)) }
+        ensures ok { OnSome result (has_failed self.new ≡ has_failed self.old) }
+        ensures err { IfNone result (has_failed self.new ≡ true) }
+        ensures kept { IfNone result (Keeps (W.contents (inner_of self.old)) (W.contents (inner_of self.new))) }
+    {
+        match self.inner.write(piece) {
+            Ok(0) | Err(_) => {
+                self.failed = true;
+                None
+            }
+            Ok(count) => Some(count),
+        }
+    }
+
+    /// Hands on what the writer still holds back. `false` where it failed, and only there it has failed.
+    pub fn settle(&mut self) -> bool
+        ensures bytes { Keeps (W.contents (inner_of self.old)) (W.contents (inner_of self.new)) }
+        ensures ok { result ≡ true → has_failed self.new ≡ has_failed self.old }
+        ensures err { result ≡ false → has_failed self.new ≡ true }
+    {
+        if self.inner.flush().is_err() {
+            self.failed = true;
+            return false;
+        }
+        true
+    }
+}

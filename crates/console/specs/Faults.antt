@@ -1,0 +1,30 @@
+-- The statuses of faults, and the faults of refusals.
+use Rattle.std.specs.Prelude.{ℕ}
+use Rattle.record_core.specs.declared.span.Refusal as query_refusal
+use Rattle.record_core.specs.declared.span.Refusal.TheVariants as query
+use Rattle.collector.specs.declared.refusal.InputRefusal as input_refusal
+use Rattle.collector.specs.declared.refusal.InputRefusal.TheVariants as input
+use Rattle.console.specs.declared.fault.Fault.{Fault}
+use Rattle.console.specs.declared.fault.Fault.TheVariants.{Query, TooManyVertices, Unserved, Input, NoMemory, NoWorker, ReadQuery, ReadInput, Write}
+
+-- 3 of the query, 4 of the input, 5 of memory and threads, 6 of files
+abbrev pub status_of : Fault → ℕ
+status_of (Query code start end) = 3
+status_of TooManyVertices = 3
+status_of Unserved = 3
+status_of (Input code line) = 4
+status_of NoMemory = 5
+status_of NoWorker = 5
+status_of ReadQuery = 6
+status_of ReadInput = 6
+status_of Write = 6
+
+-- of a refused query
+abbrev pub fault_of : query_refusal.Refusal → Fault
+fault_of (query.At code span) = Query code span.start span.end
+fault_of query.NoMemory = NoMemory
+
+-- of a refused input
+abbrev pub input_fault_of : input_refusal.InputRefusal → Fault
+input_fault_of (input.At code line) = Input code line
+input_fault_of input.NoMemory = NoMemory

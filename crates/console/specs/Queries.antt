@@ -1,0 +1,47 @@
+-- Which program a query text is, and why a text is none that is served.
+use Rattle.std.specs.Prelude.{◌≡◌, ◌⊎◌, ℕ, List}
+use Rattle.record_core.specs.declared.span.Refusal.TheVariants.{At}
+use Rattle.semantics.specs.Query.{Program}
+use Rattle.semantics.specs.Typing.{WellTyped}
+use Rattle.expr_tree.specs.Trees.{ProgramTree}
+use Rattle.expr_tree.specs.Plain.{plain_program}
+use Rattle.grammar.specs.Texts as grammar
+use Rattle.parser.specs.Refusals as parser
+use Rattle.typing.specs.FirstFault.{Told}
+use Rattle.typing.specs.Shown.{typed_program}
+use Rattle.typing.specs.declared.typed.Typed.{Typed}
+use Rattle.board.specs.ChainQuery.{IsChainQuery}
+use Rattle.console.specs.declared.fault.Fault.{Fault}
+use Rattle.console.specs.declared.fault.Fault.TheVariants.{Query, TooManyVertices, Unserved, Input, NoMemory, NoWorker, ReadQuery, ReadInput, Write}
+
+-- the text reads as a tree that is well typed and is the program, spans aside
+pub record IsQuery (text : List ℕ) (p : Program) : Type 0 where
+  pub tree : ProgramTree
+  pub arity : ℕ
+  pub read : grammar.Reads text tree
+  pub plain : p ≡ plain_program tree
+  pub typed : WellTyped p arity
+
+-- the text reads as the tree of a typed program
+abbrev pub IsTypedQuery : {A : Type 0} → List ℕ → Typed A → Type 0
+IsTypedQuery text t = grammar.Reads text (typed_program t)
+
+-- the text is a well-typed query that isn't served yet: it has a let, or a relation form other than a name, a select or a where
+abbrev pub IsUnserved : List ℕ → Type 0
+IsUnserved text = (p : Program) × IsQuery text p × (IsChainQuery p → ⊥)
+
+-- the text reads as a tree that this is the first fault of
+abbrev pub IsIllTyped : List ℕ → ℕ → ℕ → ℕ → Type 0
+IsIllTyped text code start end = (tree : ProgramTree) × grammar.Reads text tree × Told tree (At code (record { start = start; end = end }))
+
+-- why a query text is refused
+abbrev pub IsQueryFault : List ℕ → Fault → Type 0
+IsQueryFault text (Query code start end) = parser.Refuses text (At code (record { start = start; end = end })) ⊎ IsIllTyped text code start end
+IsQueryFault text Unserved = IsUnserved text
+IsQueryFault text NoMemory = Unit {0}
+IsQueryFault text TooManyVertices = ⊥
+IsQueryFault text (Input code line) = ⊥
+IsQueryFault text NoWorker = ⊥
+IsQueryFault text ReadQuery = ⊥
+IsQueryFault text ReadInput = ⊥
+IsQueryFault text Write = ⊥

@@ -1,0 +1,21 @@
+//! What a command line asks for.
+
+use clap::Error;
+
+/// What the words of the line ask for. Paths are kept as they were given.
+#[derive(Clone, Copy, Debug, PartialEq, Eq)]
+pub enum Options<'a> {
+    /// `loom run QUERY INPUT`
+    Run { query: &'a str, input: &'a str },
+    /// `loom check QUERY`
+    Check { query: &'a str },
+}
+
+/// Why a line is refused: want of memory, or a text to be shown, which may be the help that was asked for.
+#[derive(Debug, Drop, thiserror::Error)]
+pub enum LineFault {
+    #[error("out of memory")]
+    NoMemory,
+    #[error(transparent)]
+    Line(Error),
+}

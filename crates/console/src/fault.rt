@@ -1,0 +1,86 @@
+//! What may go wrong, and how it is told.
+
+ghost use Rattle.std.specs.Prelude.{◌≡◌};
+ghost use Rattle.console.specs.Faults.{fault_of, status_of, input_fault_of};
+ghost use Rattle.console.specs.declared.fault.Fault.TheVariants.{NoMemory};
+
+use collector::InputRefusal;
+use record_core::Refusal;
+use std::alloc::AllocError;
+use std::io;
+use std::io::Write;
+use thiserror::Error;
+
+/// Why a command came to no answer.
+#[derive(Debug, Drop, Error)]
+pub enum Fault {
+    /// The query's first fault, with its code and the bytes where it stands.
+    #[error("query refused {code} at {start}..{end}")]
+    Query { code: u8, start: u32, end: u32 },
+    /// The query's graph would have too many vertices.
+    #[error("query refused 21")]
+    TooManyVertices,
+    /// A well-typed query that has a let, or a relation form that isn't served yet.
+    #[error("query refused 22")]
+    Unserved,
+    /// The input's first faulty line, with its code.
+    #[error("input refused {code} at line {line}")]
+    Input { code: u8, line: u64 },
+    #[error("out of memory")]
+    NoMemory,
+    #[error("cannot start a worker")]
+    NoWorker,
+    #[error("cannot read the query")]
+    ReadQuery,
+    #[error("cannot read the input")]
+    ReadInput,
+    #[error("cannot write")]
+    Write,
+}
+
+impl Fault {
+    /// The status that the program ends with.
+    pub fn status(&self) -> u8
+        ensures { result ≡ status_of self.now }
+    {
+        match self {
+            Fault::Query { .. } | Fault::TooManyVertices | Fault::Unserved => 3,
+            Fault::Input { .. } => 4,
+            Fault::NoMemory | Fault::NoWorker => 5,
+            Fault::ReadQuery | Fault::ReadInput | Fault::Write => 6,
+        }
+    }
+
+    /// Writes the fault's one line. A file that couldn't be read is named by its path: `query` or `input`.
+    pub fn write_line<W: Write>(&self, query: &str, input: &str, writer: &mut W) -> io::Result<()> {
+        match self {
+            Fault::ReadQuery => writeln!(writer, "cannot read {query}"),
+            Fault::ReadInput => writeln!(writer, "cannot read {input}"),
+            _ => writeln!(writer, "{self}"),
+        }
+    }
+}
+
+/// The fault of a query that is refused.
+pub fn query_fault(refusal: Refusal) -> Fault
+    ensures { result ≡ fault_of refusal }
+{
+    match refusal {
+        Refusal::NoMemory => Fault::NoMemory,
+        Refusal::At { code, span } => Fault::Query {
+            code,
+            start: span.start,
+            end: span.end,
+        },
+    }
+}
+
+/// The fault of an input that is refused.
+pub fn input_fault(refusal: InputRefusal) -> Fault
+    ensures { result ≡ input_fault_of refusal }
+{
+    match refusal {
+        InputRefusal::NoMemory => Fault::NoMemory,
+        InputRefusal::At { code, line } => Fault::Input { code, line },
+    }
+}

@@ -1,0 +1,123 @@
+//! A run, from bytes to bytes.
+
+ghost use Rattle.std.specs.Prelude.{◌≡◌, take, true, map, IfOk, IfErr, IfSome, IsErrOf};
+ghost use Rattle.expr_tree.specs.Plain.{plain_input};
+ghost use Rattle.collector.specs.Said.{plain};
+ghost use Rattle.collector.specs.Watching.{has_failed, inner_of};
+ghost use Rattle.console.specs.Runs.{Ends, IsAfterReading, IsUnreadInput, IsUnreadQuery};
+ghost use Rattle.console.specs.declared.fault.Fault.TheVariants as fault;
+
+use crate::compiling::compile;
+use crate::fault::{Fault, input_fault};
+use crate::respond::respond;
+use bumpalo::Bump;
+use collector::{Declared, ReadFault, Watched, read_all, read_at_most, read_input};
+use expr_tree::Input;
+use std::alloc::{AllocError, Global};
+use std::io::{Read, Write};
+use std::sync::Wait;
+
+/// The longest query text, in bytes, and one byte more: enough to tell that a text is too long.
+const QUERY_LIMIT: usize = 1_048_577;
+
+/// Reads a query text, and no byte past the limit.
+pub fn read_query<Q: Read>(alloc: Global, query: &mut Watched<Q>) -> Result<Vec<u8>, Fault>
+    ensures bytes { IfOk result (λ v. IfSome (Q.remaining (inner_of query.old)) (λ q. v.items ≡ take 1048577 q)) }
+    ensures failed { IsErrOf result fault.ReadQuery → has_failed query.new ≡ true }
+    ensures unread { IfErr result IsUnreadQuery }
+{
+    match read_at_most(alloc, QUERY_LIMIT, query) {
+        Ok(bytes) => Ok(bytes),
+        Err(ReadFault::Failed) => Err(Fault::ReadQuery),
+        Err(ReadFault::NoMemory) => Err(Fault::NoMemory),
+    }
+}
+
+/// Reads an input text.
+fn read_input_text<I: Read>(alloc: Global, input: &mut Watched<I>) -> Result<Vec<u8>, Fault>
+    ensures bytes { IfOk result (λ v. IfSome (I.remaining (inner_of input.old)) (λ i. v.items ≡ i)) }
+    ensures failed { IsErrOf result fault.ReadInput → has_failed input.new ≡ true }
+    ensures unread { IfErr result IsUnreadInput }
+{
+    match read_all(alloc, input) {
+        Ok(bytes) => Ok(bytes),
+        Err(ReadFault::Failed) => Err(Fault::ReadInput),
+        Err(ReadFault::NoMemory) => Err(Fault::NoMemory),
+    }
+}
+
+/// The inputs of a query as the reader of texts takes them.
+fn declared<'a>(alloc: Global, inputs: &'a [Input]) -> Result<Vec<Declared<'a>>, AllocError>
+    ensures { IfOk result (λ v. map plain v.items ≡ map plain_input inputs.entry.now) }
+{
+    let mut declared = Vec::with_capacity(alloc, inputs.len())?;
+    for input in inputs {
+        declared.push(Declared {
+            name: &input.name,
+            arity: input.arity,
+        })?;
+    }
+    Ok(declared)
+}
+
+/// Answers a query text over an input text.
+fn answer<W: Write>(
+    rt: &impl Wait,
+    alloc: Global,
+    query: &[u8],
+    input: &[u8],
+    writer: &mut Watched<W>,
+) -> Result<(), Fault>
+    ensures ends { Ends query.now input.now (W.contents (inner_of writer.old)) (W.contents (inner_of writer.new)) result }
+    ensures failed { IsErrOf result fault.Write → has_failed writer.new ≡ true }
+    ensures read { IfErr result IsAfterReading }
+{
+    let arena = Bump::new(alloc);
+    let graph = match compile(alloc, &arena, query) {
+        Ok(graph) => graph,
+        Err(fault) => return Err(fault),
+    };
+    let inputs = match declared(alloc, graph.inputs()) {
+        Ok(inputs) => inputs,
+        Err(_) => return Err(Fault::NoMemory),
+    };
+    let epochs = match read_input(alloc, input, inputs.as_slice()) {
+        Ok(epochs) => epochs,
+        Err(refusal) => return Err(input_fault(refusal)),
+    };
+    drop(inputs);
+    respond(rt, alloc, graph, &epochs, writer)
+}
+
+/// Reads a query and its input, and writes the answer. Its promise holds if it ends.
+///
+/// The faults in the order in which they are told: the query can't be read, the input can't be read, the query is refused, the
+/// input is refused, the writer failed. Want of memory may come at any place.
+pub fn run<Q: Read, I: Read, W: Write>(
+    rt: &impl Wait,
+    alloc: Global,
+    query: &mut Watched<Q>,
+    input: &mut Watched<I>,
+    writer: &mut Watched<W>,
+) -> Result<(), Fault>
+    ensures ends { IfSome (Q.remaining (inner_of query.old)) (λ q. IfSome (I.remaining (inner_of input.old)) (λ i. Ends (take 1048577 q) i (W.contents (inner_of writer.old)) (W.contents (inner_of writer.new)) result)) }
+    ensures query { IsErrOf result fault.ReadQuery → has_failed query.new ≡ true }
+    ensures input { IsErrOf result fault.ReadInput → has_failed input.new ≡ true }
+    ensures writer { IsErrOf result fault.Write → has_failed writer.new ≡ true }
+{
+    let query_text = match read_query(alloc, query) {
+        Ok(text) => text,
+        Err(fault) => return Err(fault),
+    };
+    let input_text = match read_input_text(alloc, input) {
+        Ok(text) => text,
+        Err(fault) => return Err(fault),
+    };
+    answer(
+        rt,
+        alloc,
+        query_text.as_slice(),
+        input_text.as_slice(),
+        writer,
+    )
+}
