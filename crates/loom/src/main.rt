@@ -6,10 +6,11 @@ use collector::Watched;
 use console::{Fault, LineFault, Options, check_query, options, run};
 use std::fs::File;
 use std::process::ExitCode;
+use std::sync::Wait;
 use std::{env, io};
 
-/// Runs a query over an input.
-fn run_files(rt: &HostRuntime, query: &str, input: &str) -> Result<(), Fault> {
+/// Runs a query over an input. `wait` is the leave to go on until all is worked off.
+fn run_files(rt: &HostRuntime, wait: &impl Wait, query: &str, input: &str) -> Result<(), Fault> {
     let Ok(query_file) = File::open(rt, query) else {
         return Err(Fault::ReadQuery);
     };
@@ -20,7 +21,7 @@ fn run_files(rt: &HostRuntime, query: &str, input: &str) -> Result<(), Fault> {
     let mut input_file = Watched::new(input_file);
     let mut writer = Watched::new(io::writer(rt));
     run(
-        rt,
+        wait,
         rt.alloc(),
         &mut query_file,
         &mut input_file,
@@ -60,7 +61,7 @@ fn main(rt: HostRuntime) -> io::Result<ExitCode> {
         words.push(text.as_str())?;
     }
     let (query, input, done) = match options(rt.alloc(), words.as_slice()) {
-        Ok(Options::Run { query, input }) => (query, input, run_files(&rt, query, input)),
+        Ok(Options::Run { query, input }) => (query, input, run_files(&rt, &rt, query, input)),
         Ok(Options::Check { query }) => (query, "", check_file(&rt, query)),
         Err(fault) => return refuse(&rt, fault),
     };
