@@ -64,18 +64,22 @@ impl Write for Holding {
     }
 }
 
-fn name(text: &[u8]) -> Name {
-    Name::new(text).unwrap()
-}
-
-fn record(fields: &[i64]) -> Record {
-    Record::new(fields).unwrap()
+/// Records of these fields; a list that is no record is left out.
+fn records(rt: &HostRuntime, rows: &[&[i64]]) -> Result<Vec<Record>, Fail> {
+    let mut records = Vec::new(rt.alloc());
+    for fields in rows {
+        if let Some(record) = Record::new(fields) {
+            records.push(record)?;
+        }
+    }
+    Ok(records)
 }
 
 /// Reads a text for the inputs `a/1` and `b/2`.
 fn read(rt: &HostRuntime, text: &[u8]) -> Result<Epochs, InputRefusal> {
-    let a = name(b"a");
-    let b = name(b"b");
+    let (Some(a), Some(b)) = (Name::new(b"a"), Name::new(b"b")) else {
+        return Err(InputRefusal::NoMemory);
+    };
     let inputs = [
         Declared { name: &a, arity: 1 },
         Declared { name: &b, arity: 2 },
@@ -136,14 +140,10 @@ fn reads(rt: HostRuntime) -> Result<(), Fail> {
 
 #[test]
 fn writes(rt: HostRuntime) -> Result<(), Fail> {
-    let first = [
-        record(&[10, -1]),
-        record(&[-5]),
-        record(&[10]),
-        record(&[-5]),
-    ];
-    let last = [record(&[i64::MIN])];
-    let epochs = [first.as_slice(), [].as_slice(), last.as_slice()];
+    let first = records(&rt, [[10, -1].as_slice(), &[-5], &[10], &[-5]].as_slice())?;
+    let none = records(&rt, [].as_slice())?;
+    let last = records(&rt, [[i64::MIN].as_slice()].as_slice())?;
+    let epochs = [first.as_slice(), none.as_slice(), last.as_slice()];
     let mut out = Watched::new(Full {
         room: 1000,
         fails: true,
@@ -160,7 +160,7 @@ fn writes(rt: HostRuntime) -> Result<(), Fail> {
 
 #[test]
 fn full_writers(rt: HostRuntime) -> Result<(), Fail> {
-    let rows = [record(&[12])];
+    let rows = records(&rt, [[12].as_slice()].as_slice())?;
     let epochs = [rows.as_slice()];
     let text = b"epoch 0\n12\n";
     for room in 0..12 {
