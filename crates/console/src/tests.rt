@@ -2,6 +2,7 @@ use super::*;
 use collector::Watched;
 use std::io;
 use std::io::{ErrorKind, Read, Write};
+use std::sync::Wait;
 use std::test::Fail;
 
 /// The fault's line, where the query is the file `q` and the input the file `i`.
@@ -117,19 +118,24 @@ impl Write for Full {
     }
 }
 
-/// What a run answers where all can be read and written: the fault's line and status, or the output.
-fn ran(rt: &HostRuntime, query: &str, input: &[u8]) -> Result<(u8, String), Fail> {
+/// What a run answers where all can be read and written: its status, how many bytes it wrote, and the output or the fault's line.
+fn ran(
+    rt: &HostRuntime,
+    wait: &impl Wait,
+    query: &str,
+    input: &[u8],
+) -> Result<(u8, usize, String), Fail> {
     let mut query = Watched::new(query.as_bytes());
     let mut input = Watched::new(input);
     let mut out = Watched::new(Vec::new(rt.alloc()));
-    let done = run(rt, rt.alloc(), &mut query, &mut input, &mut out);
+    let done = run(wait, rt.alloc(), &mut query, &mut input, &mut out);
     let written = out.into_inner();
+    let count = written.len();
     match done {
-        Ok(()) => Ok((0, String::from_utf8(written)?)),
+        Ok(()) => Ok((0, count, String::from_utf8(written)?)),
         Err(fault) => {
-            assert_eq!(rt; written.len(), 0);
             let status = fault.status();
-            Ok((status, line(rt, fault)?))
+            Ok((status, count, line(rt, fault)?))
         }
     }
 }
@@ -198,9 +204,11 @@ fn runs(rt: HostRuntime) -> Result<(), Fail> {
         ),
     ];
     for (query, input, status, text) in rows {
-        let (ended, said) = ran(&rt, query, input)?;
+        let (ended, count, said) = ran(&rt, &rt, query, input)?;
         assert_eq!(rt; said.as_str(), text);
         assert_eq!(rt; ended, status);
+        let written = if status == 0 { text.len() } else { 0 };
+        assert_eq!(rt; count, written);
     }
     Ok(())
 }
