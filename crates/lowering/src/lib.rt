@@ -6,23 +6,28 @@
 //! The contract for the layers above: the graph is exactly the one that the definition (`semantics`) makes of the tree, so on any
 //! inputs it has exactly one flow, and what comes to its output is the query's meaning. A graph owns what it needs; the tree may go.
 //!
-//! Below stand `expr_tree`, `loop_context` and `semantics`. Path summaries, trackers, shards and the board stand on graphs.
+//! Below stand `expr_tree`, `typing` and `semantics`. Path summaries, trackers, shards and the board stand on graphs.
 #![tactic(auto)]
 
-mod copies;
-mod dot;
-mod edges;
 mod fault;
+mod vertex;
+
+mod copies;
+mod names;
+mod scope;
+
+mod loops;
+mod relation;
+
+mod program;
+
+mod edges;
 mod graph;
 mod location;
-mod loops;
-mod names;
-mod program;
-mod relation;
 mod sameness;
-mod scope;
+
+mod dot;
 mod text;
-mod vertex;
 
 pub use dot::graph_dot;
 pub use edges::{Edge, EdgeId};
