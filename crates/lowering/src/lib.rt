@@ -9,25 +9,20 @@
 //! Below stand `expr_tree`, `typing` and `semantics`. Path summaries, trackers, shards and the board stand on graphs.
 #![tactic(auto)]
 
-mod fault;
-mod vertex;
-
 mod copies;
-mod names;
-mod scope;
-
-mod loops;
-mod relation;
-
-mod program;
-
+mod dot;
 mod edges;
+mod fault;
 mod graph;
 mod location;
+mod loops;
+mod names;
+mod program;
+mod relation;
 mod sameness;
-
-mod dot;
+mod scope;
 mod text;
+mod vertex;
 
 pub use dot::graph_dot;
 pub use edges::{Edge, EdgeId};

@@ -1,4 +1,4 @@
-use Rattle.std.proofs.Common.{◌≡◌, length, ap, sym, ◌∙◌}
+use Rattle.std.proofs.Common.{length, ap, sym, ◌∙◌}
 use Rattle.lowering.proofs.Numbers.{length_graph_of}
 use Rattle.lowering.proofs.graph.Graph.vertex_count.Goals as goal
 
