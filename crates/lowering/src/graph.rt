@@ -9,7 +9,7 @@ ghost use Rattle.semantics.specs.Typing.{WellTyped};
 ghost use Rattle.typing.specs.Shown.{typed_program};
 ghost use Rattle.lowering.specs.Edges.{edge_list, edge_number, edge_of, edges_out};
 ghost use Rattle.lowering.specs.Faults.{IsTooMany};
-ghost use Rattle.lowering.specs.GraphLaws.{Computes};
+ghost use Rattle.lowering.specs.GraphLaws.{Computes, IsProgramGraph};
 ghost use Rattle.lowering.specs.Shown.{shown_graph, shown_inputs};
 ghost use Rattle.lowering.specs.Views.{graph_of, input_of, port_of, vertex_of};
 
@@ -41,7 +41,7 @@ pub struct Graph {
 }
 
 impl Model for Graph {
-    ghost use Rattle.std.specs.Prelude.{List, map, vec_items};
+    ghost use Rattle.std.specs.Prelude.{◌≤◌, List, length, map, vec_items};
     ghost use Rattle.std.specs.Coded.{codes};
     ghost use Rattle.std.specs.contracts.alloc.Global as heap;
     ghost use Rattle.std.specs.contracts.impls.GlobalAllocator.TheImpl as allocates;
@@ -59,7 +59,7 @@ impl Model for Graph {
 
     ghost view = { λ g. (vec_items g.vertices, vec_items g.inputs) };
 
-    ghost invariant = { λ g. ∥ IsProgramGraph (graph_of (vec_items g.vertices)) (map input_of (vec_items g.inputs)) ∥₁ × HasTables (graph_of (vec_items g.vertices)) (map edge_of (vec_items g.edges)) (map outs_of (vec_items g.outs)) };
+    ghost invariant = { λ g. ∥ IsProgramGraph (graph_of (vec_items g.vertices)) (map input_of (vec_items g.inputs)) ∥₁ × HasTables (graph_of (vec_items g.vertices)) (map edge_of (vec_items g.edges)) (map outs_of (vec_items g.outs)) × (length (vec_items g.vertices) ≤ 4096) };
 }
 
 /// The graph of a well-typed query: exactly the one that the definition makes of it. On any inputs it has exactly one flow, whose
@@ -98,11 +98,28 @@ fn lower_program<A: Allocator>(alloc: Global, program: &Program<A>) -> Result<Gr
 }
 
 impl Graph {
+    /// Each graph is that of some well-typed program with these inputs, so the laws of such graphs hold of it. Nothing is done.
+    pub fn law_of_program(&self)
+        ensures { ∥ IsProgramGraph (shown_graph self.now) (shown_inputs self.now) ∥₁ }
+    {
+        let _ = &self.vertices;
+    }
+
     /// The vertices by number: at most 4096.
     pub fn vertices(&self) -> &[Vertex]
-        ensures { graph_of result.now ≡ shown_graph self.now }
+        ensures value { graph_of result.now ≡ shown_graph self.now }
+        ensures few { length result.now ≤ 4096 }
     {
         &self.vertices
+    }
+
+    /// The number of vertices: at most 4096.
+    #[tactic(auto, using(crate::proofs::Numbers::length_graph_of))]
+    pub fn vertex_count(&self) -> usize
+        ensures value { result ≡ length (shown_graph self.now) }
+        ensures few { result ≤ 4096 }
+    {
+        self.vertices().len()
     }
 
     /// The vertex of that number.
@@ -122,6 +139,13 @@ impl Graph {
         ensures count { length result.now ≡ edge_count (shown_graph self.now) }
     {
         &self.edges
+    }
+
+    /// The number of edges.
+    pub fn edge_count(&self) -> usize
+        ensures { result ≡ edge_count (shown_graph self.now) }
+    {
+        self.edges().len()
     }
 
     /// The edge of that number: where it begins, the vertex that it enters, and the in port.

@@ -6,7 +6,7 @@
 //! The contract for the layers above: the graph is exactly the one that the definition (`semantics`) makes of the tree, so on any
 //! inputs it has exactly one flow, and what comes to its output is the query's meaning. A graph owns what it needs; the tree may go.
 //!
-//! Below stand `expr_tree`, `loop_context` and `semantics`. Path summaries, trackers, shards and the board stand on graphs.
+//! Below stand `expr_tree`, `typing` and `semantics`. Path summaries, trackers, shards and the board stand on graphs.
 #![tactic(auto)]
 
 mod copies;

@@ -215,3 +215,61 @@ fn at_most_4096_vertices(rt: HostRuntime) -> Result<(), Fail> {
     assert_eq!(rt; fault, Some(LowerFault::TooMany));
     Ok(())
 }
+
+/// The edges of the loop of a name from outside, and its depths.
+#[test]
+fn edges_by_number(rt: HostRuntime) -> Result<(), Fail> {
+    let alloc = rt.alloc();
+    let output = looped(alloc, 2, b"x", named(b"a")?, named(b"b")?)?;
+    let graph = match lower(alloc, &typed(alloc, program(alloc, &[1, 1], output)?)?) {
+        Ok(graph) => graph,
+        Err(_) => Err("no graph")?,
+    };
+    if graph.vertex_count() != 12 || graph.edge_count() != 12 {
+        Err("other numbers")?
+    }
+    let hold = VertexId(7);
+    let first = Port {
+        vertex: hold,
+        out: 0,
+    };
+    let second = Port {
+        vertex: hold,
+        out: 1,
+    };
+    assert_eq!(rt; graph.out_edges(first), [EdgeId(9)].as_slice());
+    assert_eq!(rt; graph.out_edges(second), [EdgeId(8)].as_slice());
+    let back = graph.edge(EdgeId(2));
+    assert_eq!(rt;
+        (back.source.vertex, back.target, back.in_port),
+        (VertexId(9), VertexId(3), 1)
+    );
+    assert_eq!(rt; graph.depth_at(Location::Edge(EdgeId(0))), 0);
+    assert_eq!(rt; graph.depth_at(Location::Edge(EdgeId(9))), 1);
+    assert_eq!(rt; graph.depth_at(Location::Vertex(VertexId(4))), 1);
+    assert_eq!(rt; graph.inputs().len(), 2);
+    Ok(())
+}
+
+/// `input a/1; output iterate(2; x = a; x);`, drawn; other turns make another graph.
+#[test]
+fn a_graph_drawn_and_compared(rt: HostRuntime) -> Result<(), Fail> {
+    let alloc = rt.alloc();
+    let graph = loop_of_its_name(alloc, 2)?;
+    let mut text = Vec::new(alloc);
+    graph_dot(alloc, &graph, &mut text)?;
+    let expected: &[u8] =
+        b"digraph {\n0 [label=\"0 input 0\"];\n1 [label=\"1 ingress 0\"];\nsubgraph cluster_2 { 2 [label=\"2 concat 1\"]; }\nsubgraph cluster_2 { 3 [label=\"3 gate(2) 1\"]; }\nsubgraph cluster_2 { 4 [label=\"4 feedback 1\"]; }\nsubgraph cluster_2 { 5 [label=\"5 egress 1\"]; }\n6 [label=\"6 output 0\"];\n0 -> 1 [label=\"0\"];\n1 -> 2 [label=\"1\"];\n4 -> 2 [label=\"2\"];\n2 -> 3 [label=\"3\"];\n3 -> 4 [label=\"4\"];\n3 -> 5 [label=\"5\"];\n5 -> 6 [label=\"6\"];\n}\n";
+    assert_eq!(rt; text.as_slice(), expected);
+    assert!(rt; graph.same(&loop_of_its_name(alloc, 2)?));
+    assert!(rt; !graph.same(&loop_of_its_name(alloc, 3)?));
+    Ok(())
+}
+
+fn loop_of_its_name(alloc: Global, turns: u64) -> Result<Graph, Fail> {
+    let output = looped(alloc, turns, b"x", named(b"a")?, named(b"x")?)?;
+    match lower(alloc, &typed(alloc, program(alloc, &[1], output)?)?) {
+        Ok(graph) => Ok(graph),
+        Err(_) => Err("no graph")?,
+    }
+}
