@@ -4,7 +4,7 @@ use Rattle.semantics.specs.Query.{Name, Rel}
 use Rattle.semantics.specs.Meaning.{same_name}
 use Rattle.semantics.specs.FreeNames.{free, firsts, other_than, carried}
 use Rattle.lowering.specs.Gathering.{has, gathered}
-use Rattle.semantics.proofs.LoweredRelations.{Decides-same_name}
+use Rattle.semantics.proofs.NamesAmong.{Decides-same_name}
 
 pub gathered_append : (bound acc xs ys : List Name) → gathered bound acc (xs ++ ys) ≡ gathered bound (gathered bound acc xs) ys
 gathered_append bound acc [] ys = refl
