@@ -1,0 +1,4 @@
+pub mod Hashes
+pub mod Homes
+pub mod Parts
+pub mod Mail

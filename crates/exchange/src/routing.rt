@@ -1,0 +1,88 @@
+//! The worker to which a record goes.
+
+ghost use Rattle.std.specs.Prelude.{◌≡◌, ◌<◌, ◌≤◌, ℕ, fold};
+ghost use Rattle.semantics.specs.Meaning.{field as column_of, project};
+ghost use Rattle.semantics.specs.Route.{route as route_of};
+ghost use Rattle.exchange.specs.Homes.{home_of};
+ghost use Rattle.exchange.specs.Hashes.{step};
+
+use rows::field;
+
+/// The greatest number of workers.
+pub const MAX_WORKERS: u32 = 64;
+
+/// By what an edge sends a record to a worker.
+#[derive(Drop)]
+pub enum Routing {
+    /// By these columns, in this order, where equal keys must meet on one worker.
+    ByKey(Vec<u64>),
+    /// By all fields.
+    ByRecord,
+    /// The record stays at the worker that sends it.
+    Stay,
+}
+
+/// The worker of a key, out of 1 to 64: the fields are read as unsigned numbers, and the hash is taken modulo 2^64. No memory is
+/// taken.
+#[tactic(auto, using(crate::proofs::Folds::route_folds))]
+pub fn route(key: &[i64], workers: u32) -> u32
+    requires some { 0 < workers }
+    requires fits { workers ≤ 64 }
+    ensures value { result ≡ route_of key.now workers }
+    ensures there { result < workers }
+{
+    (hash_of_key(key) % workers as u64) as u32
+}
+
+fn hash_of_key(key: &[i64]) -> u64
+    ensures { result ≡ fold step 7 key.now }
+{
+    let mut hash = 7;
+    for value in key {
+        hash = hash_step(hash, *value);
+    }
+    hash
+}
+
+fn hash_of_columns(columns: &[u64], row: &[i64]) -> u64
+    ensures { result ≡ fold (λ h c. step h (column_of c row.now)) 7 columns.now }
+{
+    let mut hash = 7;
+    for column in columns {
+        hash = hash_step(hash, field(row, *column));
+    }
+    hash
+}
+
+fn hash_step(hash: u64, value: i64) -> u64
+    ensures { result ≡ step hash value }
+{
+    hash.wrapping_mul(31).wrapping_add(value.cast_unsigned())
+}
+
+/// The worker of what a row has in these columns.
+#[tactic(auto, using(crate::proofs::Folds::route_projects))]
+fn route_columns(columns: &[u64], row: &[i64], workers: u32) -> u32
+    requires some { 0 < workers }
+    requires fits { workers ≤ 64 }
+    ensures value { result ≡ route_of (project columns.now row.now) workers }
+    ensures there { result < workers }
+{
+    (hash_of_columns(columns, row) % workers as u64) as u32
+}
+
+impl Routing {
+    /// The worker to which a record goes, out of 1 to 64, from the worker that sends it. No memory is taken.
+    pub fn home(&self, workers: u32, sender: u32, row: &[i64]) -> u32
+        requires fits { workers ≤ 64 }
+        requires sender { sender < workers }
+        ensures value { result ≡ home_of self.now workers sender row.now }
+        ensures there { result < workers }
+    {
+        match self {
+            Routing::ByKey(columns) => route_columns(columns.as_slice(), row, workers),
+            Routing::ByRecord => route(row, workers),
+            Routing::Stay => sender,
+        }
+    }
+}

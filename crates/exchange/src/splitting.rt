@@ -1,0 +1,134 @@
+//! Batches taken apart by workers.
+
+ghost use Rattle.std.specs.Prelude.{◌≡◌, ◌<◌, ◌≤◌, ◌==◌, ℕ, [], ◌∷◌, ◌++◌, List, IfOk, IfSome, OnOk, length, filter, slice_index_or, flat_map};
+ghost use Rattle.semantics.specs.Multiset.{◌≈◌};
+ghost use Rattle.rows.specs.FlatRows.{arity_of};
+ghost use Rattle.exchange.specs.Homes.{home_of};
+ghost use Rattle.exchange.specs.Parts.{parcel, parcels, no_rows, IsSpread, gathered, from_all};
+
+use crate::routing::Routing;
+use rows::{Batch, Rows, RowsError};
+use std::alloc::Global;
+
+/// The records of a batch that go to one worker, in their order: one or more.
+#[derive(Drop)]
+pub struct Parcel {
+    pub worker: u32,
+    pub batch: Batch,
+}
+
+/// Parcels for different workers, in the order of the workers.
+pub type Parcels = Vec<Parcel>;
+
+/// Takes a batch apart: a parcel for each worker, out of 1 to 64, to whom some of the records go, and in it these, in their order.
+/// Where all go to one worker the batch is handed on as it is.
+pub fn split(
+    alloc: Global,
+    batch: Batch,
+    routing: &Routing,
+    workers: u32,
+    sender: u32,
+) -> Result<Parcels, RowsError>
+    requires fits { workers ≤ 64 }
+    requires sender { sender < workers }
+    ensures each { IfOk result (λ ps. ps.items ≡ parcels (home_of routing.now workers sender) batch workers) }
+    ensures sum { IfOk result (λ ps. batch ≈ from_all ps.items) }
+{
+    if let Some(worker) = common_home(&batch, routing, workers, sender) {
+        let mut parcels = Vec::with_capacity(alloc, 1)?;
+        parcels.push(Parcel { worker, batch })?;
+        return Ok(parcels);
+    }
+    let parts = spread(alloc, &batch, routing, workers, sender)?;
+    let parcels = gather(alloc, parts)?;
+    Ok(parcels)
+}
+
+/// The worker to whom all records go, where it is one.
+#[tactic(auto, using(crate::proofs::Gathering::home_there))]
+fn common_home(batch: &Batch, routing: &Routing, workers: u32, sender: u32) -> Option<u32>
+    requires fits { workers ≤ 64 }
+    requires sender { sender < workers }
+    ensures there { IfSome result (λ w. w < workers) }
+    ensures some { 0 < length batch.now }
+    ensures each { IfSome result (λ w. (k : ℕ) → k < length batch.now → home_of routing.now workers sender (slice_index_or batch.now k []) ≡ w) }
+{
+    let count = batch.len();
+    if workers == 1 {
+        return Some(sender);
+    }
+    let worker = routing.home(workers, sender, batch.row(0));
+    for k in 0..count {
+        if routing.home(workers, sender, batch.row(k)) != worker {
+            return None;
+        }
+    }
+    Some(worker)
+}
+
+/// For each worker the rows that go there.
+fn spread(
+    alloc: Global,
+    batch: &Batch,
+    routing: &Routing,
+    workers: u32,
+    sender: u32,
+) -> Result<Vec<Rows>, RowsError>
+    requires fits { workers ≤ 64 }
+    requires sender { sender < workers }
+    ensures { IfOk result (λ parts. IsSpread (home_of routing.now workers sender) (arity_of batch.now) batch.now workers parts.items) }
+{
+    let mut parts = empty_parts(alloc, batch.arity(), workers)?;
+    for k in 0..batch.len() {
+        let row = batch.row(k);
+        let worker = routing.home(workers, sender, row);
+        parts[worker as usize].push(row)?;
+    }
+    Ok(parts)
+}
+
+fn empty_parts(alloc: Global, arity: usize, workers: u32) -> Result<Vec<Rows>, RowsError>
+    requires some { 1 ≤ arity }
+    requires fits { arity ≤ 16 }
+    ensures len { IfOk result (λ parts. length parts.items ≡ workers) }
+    ensures none { IfOk result (λ parts. (k : ℕ) → slice_index_or parts.items k (no_rows arity) ≡ no_rows arity) }
+{
+    let mut parts = Vec::with_capacity(alloc, workers as usize)?;
+    for _worker in 0..workers {
+        parts.push(Rows::new(alloc, arity))?;
+    }
+    Ok(parts)
+}
+
+/// The lists that have rows, as parcels for the workers from 0 on.
+#[tactic(auto, using(crate::proofs::Gathering::gathered_next))]
+fn gather(alloc: Global, parts: Vec<Rows>) -> Result<Parcels, RowsError>
+    requires { length parts.items ≤ 64 }
+    ensures { IfOk result (λ ps. ps.items ≡ gathered 0 parts.items) }
+{
+    let mut parcels = Vec::with_capacity(alloc, parts.len())?;
+    let mut worker = 0;
+    for part in parts {
+        put_parcel(alloc, worker, part, &mut parcels)?;
+        worker += 1;
+    }
+    Ok(parcels)
+}
+
+/// A parcel of these rows, where there are some.
+fn put_parcel(
+    alloc: Global,
+    worker: u32,
+    part: Rows,
+    parcels: &mut Parcels,
+) -> Result<(), RowsError>
+    ensures { OnOk result (parcels.new.items ≡ parcels.old.items ++ parcel worker part.rows) }
+{
+    match Batch::from_rows(alloc, part)? {
+        Some(batch) => {
+            parcels.push(Parcel { worker, batch })?;
+            Ok(())
+        }
+        None => Ok(()),
+    }
+}

@@ -1,0 +1,109 @@
+//! Routes reckoned by hand, batches taken apart, and mailboxes.
+
+ghost use Rattle.std.specs.Prelude.{◌≡◌, ◌∷◌, [], length, IfOk};
+ghost use Rattle.rows.specs.FlatRows.{AllHave, arity_of};
+
+use super::{MAX_WORKERS, Mailbox, Routing, route, split};
+use rows::{Batch, Rows, RowsError};
+use std::alloc::Global;
+use std::test::Fail;
+
+#[test]
+fn keys_go_to_their_workers(rt: HostRuntime) {
+    assert_eq!(rt; route(&[5], 3), 0);
+    assert_eq!(rt; route(&[-1], 5), 1);
+    assert_eq!(rt; (route(&[1], 2), route(&[2], 2)), (0, 1));
+    assert_eq!(rt; (route(&[1, 2], 3), route(&[1, 2], MAX_WORKERS)), (1, 40));
+    assert_eq!(rt; route(&[], 5), 2);
+}
+
+#[test]
+fn records_go_by_key_by_all_fields_or_stay(rt: HostRuntime) -> Result<(), Fail> {
+    let columns = Vec::from_array(rt.alloc(), [1])?;
+    let by_key = Routing::ByKey(columns);
+    assert_eq!(rt; by_key.home(3, 2, &[8, 5]), 0);
+    assert_eq!(rt; Routing::ByRecord.home(3, 2, &[1, 2]), 1);
+    assert_eq!(rt; Routing::Stay.home(3, 2, &[1, 2]), 2);
+    Ok(())
+}
+
+/// Some records of one field: `first`, 2, and `last`.
+fn three(alloc: Global, first: i64, last: i64) -> Result<Option<Batch>, RowsError> {
+    let mut rows = Rows::with_capacity(alloc, 1, 3)?;
+    rows.push(&[first])?;
+    rows.push(&[2])?;
+    rows.push(&[last])?;
+    Batch::from_rows(alloc, rows)
+}
+
+#[test]
+fn each_record_is_in_its_workers_parcel(rt: HostRuntime) -> Result<(), Fail> {
+    let Some(batch) = three(rt.alloc(), 3, 1)? else {
+        assert!(rt; false);
+        return Ok(());
+    };
+    let parcels = split(rt.alloc(), batch, &Routing::ByRecord, 2, 0)?;
+    let mut seen = Vec::new(rt.alloc());
+    for parcel in &parcels {
+        for k in 0..parcel.batch.len() {
+            seen.push((
+                parcel.worker,
+                parcel.batch.row(k).len(),
+                parcel.batch.record(k).fields()[0],
+            ))?;
+        }
+    }
+    assert_eq!(rt;
+        seen.as_slice(),
+        [(0, 1, 3), (0, 1, 1), (1, 1, 2)].as_slice()
+    );
+    Ok(())
+}
+
+#[test]
+fn all_records_may_go_to_one_worker(rt: HostRuntime) -> Result<(), Fail> {
+    let Some(batch) = three(rt.alloc(), 4, 0)? else {
+        assert!(rt; false);
+        return Ok(());
+    };
+    let again = batch.share()?;
+    let parcels = split(rt.alloc(), batch, &Routing::ByRecord, 2, 0)?;
+    assert_eq!(rt; parcels.len(), 1);
+    for parcel in &parcels {
+        assert_eq!(rt; parcel.worker, 1);
+        assert!(rt; parcel.batch.same(&again));
+    }
+    Ok(())
+}
+
+#[test]
+fn records_without_a_route_stay_with_the_sender(rt: HostRuntime) -> Result<(), Fail> {
+    let Some(batch) = three(rt.alloc(), 1, 1)? else {
+        assert!(rt; false);
+        return Ok(());
+    };
+    let parcels = split(rt.alloc(), batch, &Routing::Stay, 64, 63)?;
+    assert_eq!(rt; parcels.len(), 1);
+    for parcel in &parcels {
+        assert_eq!(rt; (parcel.worker, parcel.batch.len()), (63, 3));
+    }
+    Ok(())
+}
+
+#[test]
+fn any_place_may_be_taken(rt: HostRuntime) -> Result<(), Fail> {
+    let mut mailbox = Mailbox::new(rt.alloc());
+    assert!(rt; mailbox.is_empty());
+    mailbox.put(10)?;
+    mailbox.put(20)?;
+    mailbox.reserve(2)?;
+    mailbox.put_reserved(30);
+    mailbox.put_reserved(40);
+    assert_eq!(rt; mailbox.len(), 4);
+    assert_eq!(rt; mailbox.take(1), 20);
+    assert_eq!(rt; mailbox.take(0), 10);
+    assert_eq!(rt; (*mailbox.get(0), *mailbox.get(1)), (30, 40));
+    assert_eq!(rt; mailbox.reserve(usize::MAX), Err(RowsError::NoMemory));
+    assert_eq!(rt; mailbox.len(), 2);
+    Ok(())
+}
