@@ -279,3 +279,40 @@ fn allocators(rt: HostRuntime) -> Result<(), Fail> {
     assert!(rt; parse(rt.alloc(), REACH).is_ok());
     Ok(())
 }
+
+#[test]
+fn beginnings_of_a_loop(rt: HostRuntime) {
+    assert_eq!(rt; parse(rt.alloc(), b"").err(), Some(at(4, 0, 0)));
+    for end in 0..REACH.len() {
+        let refusal = parse(rt.alloc(), &REACH[..end]).err();
+        assert!(rt;
+            matches!(refusal, Some(Refusal::At { code: 1 | 4, .. })),
+            "{end}"
+        );
+    }
+}
+
+/// Whether the text is accepted, or refused with a code of the reader and a span inside the text.
+fn is_told(alloc: Global, text: &[u8]) -> bool {
+    match parse(alloc, text) {
+        Ok(_) => true,
+        Err(Refusal::At { code, span }) => {
+            code >= 1 && code <= 5 && span.start <= span.end && span.end as usize <= text.len()
+        }
+        Err(Refusal::NoMemory) => false,
+    }
+}
+
+#[test]
+fn changes_of_one_byte(rt: HostRuntime) -> Result<(), Fail> {
+    let mut text = Vec::from_slice(rt.alloc(), REACH)?;
+    for place in 0..text.len() {
+        let kept = text[place];
+        for byte in 0..=255u8 {
+            text[place] = byte;
+            assert!(rt; is_told(rt.alloc(), text.as_slice()), "{place} {byte}");
+        }
+        text[place] = kept;
+    }
+    Ok(())
+}

@@ -1,0 +1,16 @@
+pub mod Says
+pub mod Scalars
+pub mod Conditions
+pub mod Lists
+pub mod Relations
+pub mod Programs
+pub mod Lexemes
+pub mod Apart
+pub mod Lexing
+pub mod Spaced
+pub mod RoundTrip
+pub mod Texts
+pub mod Sizes
+pub mod Checks
+pub mod Parsed
+pub mod ParsedPrograms

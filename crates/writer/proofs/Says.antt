@@ -1,0 +1,36 @@
+-- Tokens that are the words of pieces.
+use Rattle.std.proofs.Common.{◌≡◌, ℕ, ◌≤◌, List, [], ◌∷◌, ◌++◌, length, refl}
+use Rattle.record_core.specs.declared.span.Span.{Span}
+use Rattle.lexer.specs.declared.token.Token.{Token}
+use Rattle.lexer.specs.declared.token.TokenKind.{TokenKind}
+use Rattle.lexer.specs.declared.token.TokenKind.TheVariants as kind
+use Rattle.grammar.specs.Tokens.{token}
+use Rattle.grammar.specs.Relations.{piece}
+use Rattle.writer.specs.Pieces.{Piece, word, gap, Word, spelling}
+
+abbrev pub kind_of : Word → TokenKind
+kind_of (Word.name x) = kind.Name
+kind_of (Word.number n) = kind.Number n
+kind_of (Word.column n) = kind.Column n
+kind_of (Word.mark m) = kind.Mark m
+kind_of (Word.keyword k) = kind.Keyword k
+
+-- the word stands there in the text
+abbrev pub Stands : List ℕ → Span → List ℕ → Type 0
+Stands text s w = (s.end ≤ length text) × (piece text s ≡ w)
+
+-- the tokens begin with those of the pieces, and these are left
+abbrev pub Says : List ℕ → List Piece → List Token → List Token → Type 0
+Says text [] ts us = ts ≡ us
+Says text (gap b ∷ ps) ts us = Says text ps ts us
+Says text (word x ∷ ps) ts us = (s : Span) × (vs : List Token) × (ts ≡ token (kind_of x) s ∷ vs) × Stands text s (spelling x) × Says text ps vs us
+
+pub record Cut (text : List ℕ) (a b : List Piece) (ts us : List Token) : Type 0 where
+  pub vs : List Token
+  pub first : Says text a ts vs
+  pub second : Says text b vs us
+
+pub cut : {text : List ℕ} (a b : List Piece) {ts us : List Token} → Says text (a ++ b) ts us → Cut text a b ts us
+cut [] b {ts} s = record { vs = ts; first = refl; second = s }
+cut (gap c ∷ ps) b s = let c = cut ps b s in record { vs = c.vs; first = c.first; second = c.second }
+cut (word x ∷ ps) b s = let c = cut ps b s.4 in record { vs = c.vs; first = (s.0, s.1, s.2, s.3, c.first); second = c.second }
