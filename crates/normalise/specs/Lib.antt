@@ -1,0 +1,4 @@
+pub mod Rewritten
+pub mod Marks
+pub mod Replaced
+pub mod Reached

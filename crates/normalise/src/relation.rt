@@ -1,0 +1,156 @@
+//! Relations rewritten: the parts first, then the rules at each node, which find the parts done.
+
+ghost use Rattle.std.specs.Prelude.{◌≡◌, IfOk, map};
+ghost use Rattle.std.specs.List.{AllByRecursion};
+ghost use Rattle.semantics.specs.Query as query;
+ghost use Rattle.semantics.specs.Normal.{NormalCond, NormalScalar};
+ghost use Rattle.expr_tree.specs.Plain.{plain_cond, plain_rel, plain_scalar};
+ghost use Rattle.expr_tree.specs.Views.{cond_tree, rel_tree, scalar_tree};
+ghost use Rattle.normalise.specs.Rewritten.{IsRewritten, Reduced};
+
+use crate::columns::use_once;
+use crate::replacement::replace_all;
+use crate::scalars::{fold_all, folded_cond};
+use expr_tree::{Cond, Connective, NoMemory, Rel, Scalar};
+use record_core::Span;
+use std::alloc::Allocator;
+
+/// A `select` of a rewritten relation. Of a `select` it becomes one, where no scalar is copied, and is tried again on what that was of.
+fn select_of<A: Allocator>(
+    span: Span,
+    mut of: Box<Rel<A>, A>,
+    mut scalars: Vec<Scalar<A>, A>,
+) -> Rel<A>
+    ensures { Reduced (plain_rel (rel_tree of.value)) → AllByRecursion NormalScalar (map plain_scalar (map scalar_tree scalars.items)) →
+        IsRewritten (plain_rel (rel_tree result)) (query.Rel.select (plain_rel (rel_tree of.value)) (map plain_scalar (map scalar_tree scalars.items))) }
+{
+    match of.take() {
+        Rel::Select(inner_span, inner, mut named) => {
+            if use_once(&scalars) {
+                replace_all(&mut scalars, &mut named);
+                select_of(span, inner, scalars)
+            } else {
+                *of = Rel::Select(inner_span, inner, named);
+                Rel::Select(span, of, scalars)
+            }
+        }
+        other => {
+            *of = other;
+            Rel::Select(span, of, scalars)
+        }
+    }
+}
+
+/// A `where` of a rewritten relation. Of a `where` it becomes one, with the inner condition first.
+fn where_of<A: Allocator + Copy>(
+    alloc: A,
+    span: Span,
+    mut of: Box<Rel<A>, A>,
+    condition: Cond<A>,
+) -> Result<Rel<A>, NoMemory>
+    requires reduced { Reduced (plain_rel (rel_tree of.value)) }
+    requires normal { NormalCond (plain_cond (cond_tree condition)) }
+    ensures rewritten { IfOk result (λ made. IsRewritten (plain_rel (rel_tree made)) (query.Rel.filter (plain_rel (rel_tree of.value)) (plain_cond (cond_tree condition)))) }
+    ensures order { IfOk result (λ made. (r : query.Rel) (c : query.Cond) → plain_rel (rel_tree of.value) ≡ query.Rel.filter r c →
+        plain_rel (rel_tree made) ≡ query.Rel.filter r (query.Cond.conjunction c (plain_cond (cond_tree condition)))) }
+{
+    match of.take() {
+        Rel::Where(_, inner, first) => {
+            let both = Cond::logical(alloc, span, Connective::And, first, condition)?;
+            Ok(Rel::Where(span, inner, both))
+        }
+        other => {
+            *of = other;
+            Ok(Rel::Where(span, of, condition))
+        }
+    }
+}
+
+/// A `distinct` of a rewritten relation; of a `distinct` it is that.
+fn distinct_of<A: Allocator>(span: Span, mut of: Box<Rel<A>, A>) -> Rel<A>
+    requires { Reduced (plain_rel (rel_tree of.value)) }
+    ensures { IsRewritten (plain_rel (rel_tree result)) (query.Rel.distinct (plain_rel (rel_tree of.value))) }
+{
+    match of.take() {
+        Rel::Distinct(_, inner) => Rel::Distinct(span, inner),
+        other => {
+            *of = other;
+            Rel::Distinct(span, of)
+        }
+    }
+}
+
+/// The relation rewritten until no rule applies.
+#[cycle(rewrite)]
+pub(crate) fn rewritten<A: Allocator + Copy>(alloc: A, relation: Rel<A>) -> Result<Rel<A>, NoMemory>
+    ensures { IfOk result (λ made. IsRewritten (plain_rel (rel_tree made)) (plain_rel (rel_tree relation))) }
+{
+    match relation {
+        Rel::Named(span, name) => Ok(Rel::Named(span, name)),
+        Rel::Select(span, of, mut scalars) => {
+            let of = rewritten_in_box(alloc, of)?;
+            fold_all(&mut scalars);
+            Ok(select_of(span, of, scalars))
+        }
+        Rel::Where(span, of, condition) => {
+            let of = rewritten_in_box(alloc, of)?;
+            let condition = folded_cond(condition);
+            where_of(alloc, span, of, condition)
+        }
+        Rel::Concat(span, left, right) => {
+            let left = rewritten_in_box(alloc, left)?;
+            let right = rewritten_in_box(alloc, right)?;
+            Ok(Rel::Concat(span, left, right))
+        }
+        Rel::Join(span, left, right, pairs) => {
+            let left = rewritten_in_box(alloc, left)?;
+            let right = rewritten_in_box(alloc, right)?;
+            Ok(Rel::Join(span, left, right, pairs))
+        }
+        Rel::Group(span, of, keys, aggregates) => {
+            let of = rewritten_in_box(alloc, of)?;
+            Ok(Rel::Group(span, of, keys, aggregates))
+        }
+        Rel::Distinct(span, of) => {
+            let of = rewritten_in_box(alloc, of)?;
+            Ok(distinct_of(span, of))
+        }
+        Rel::Iterate {
+            span,
+            turns_span,
+            turns,
+            name_span,
+            name,
+            start,
+            body,
+        } => {
+            let start = rewritten_in_box(alloc, start)?;
+            if turns == 0 {
+                return Ok(Box::into_inner(start));
+            }
+            let body = rewritten_in_box(alloc, body)?;
+            Ok(Rel::Iterate {
+                span,
+                turns_span,
+                turns,
+                name_span,
+                name,
+                start,
+                body,
+            })
+        }
+    }
+}
+
+/// The relation in its box.
+#[cycle(rewrite)]
+pub(crate) fn rewritten_in_box<A: Allocator + Copy>(
+    alloc: A,
+    mut place: Box<Rel<A>, A>,
+) -> Result<Box<Rel<A>, A>, NoMemory>
+    ensures { IfOk result (λ made. IsRewritten (plain_rel (rel_tree made.value)) (plain_rel (rel_tree place.value))) }
+{
+    let relation = place.take();
+    *place = rewritten(alloc, relation)?;
+    Ok(place)
+}

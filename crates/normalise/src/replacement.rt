@@ -1,0 +1,78 @@
+//! Columns replaced by the scalars that they name. The scalars are moved, so each column may stand at one place only; what is made is
+//! folded on the way, and what was folded before isn't looked at again.
+
+ghost use Rattle.std.specs.Prelude.{◌≡◌, ◌∷◌, [], map};
+ghost use Rattle.std.specs.List.{AllByRecursion, AllZip};
+ghost use Rattle.semantics.specs.Normal as normal;
+ghost use Rattle.semantics.specs.Normal.{NormalScalar, uses, uses_all};
+ghost use Rattle.expr_tree.specs.Plain.{plain_scalar};
+ghost use Rattle.expr_tree.specs.Views.{scalar_tree};
+ghost use Rattle.normalise.specs.Replaced.{MovesOut, Once, named_by};
+ghost use Rattle.normalise.specs.Rewritten.{IsFolded};
+
+use crate::scalars::{negation, operation};
+use expr_tree::Scalar;
+use record_core::Span;
+use std::alloc::Allocator;
+
+/// The scalar that a column names, moved out of its place; 0 where there is none, which no typed query asks.
+fn moved_out<A: Allocator>(span: Span, column: u64, by: &mut [Scalar<A>]) -> Scalar<A>
+    ensures folded { AllByRecursion NormalScalar (map plain_scalar (map scalar_tree by.old)) →
+        IsFolded (plain_scalar (scalar_tree result)) (named_by (map plain_scalar (map scalar_tree by.old)) column) }
+    ensures moved { MovesOut (column ∷ []) (map plain_scalar (map scalar_tree by.new)) (map plain_scalar (map scalar_tree by.old)) }
+{
+    let index = column as usize;
+    if index < by.len() {
+        by[index].take()
+    } else {
+        Scalar::Literal(span, 0)
+    }
+}
+
+/// The scalar with each column replaced by the scalar that it names, folded.
+#[cycle(replace)]
+fn replaced<A: Allocator>(scalar: Scalar<A>, by: &mut [Scalar<A>]) -> Scalar<A>
+    ensures folded { AllByRecursion NormalScalar (map plain_scalar (map scalar_tree by.old)) → Once (uses (plain_scalar (scalar_tree scalar))) →
+        IsFolded (plain_scalar (scalar_tree result)) (normal.replaced (map plain_scalar (map scalar_tree by.old)) (plain_scalar (scalar_tree scalar))) }
+    ensures moved { MovesOut (uses (plain_scalar (scalar_tree scalar))) (map plain_scalar (map scalar_tree by.new)) (map plain_scalar (map scalar_tree by.old)) }
+{
+    match scalar {
+        Scalar::Literal(span, number) => Scalar::Literal(span, number),
+        Scalar::Column(span, column) => moved_out(span, column, by),
+        Scalar::Binary(span, operator, left, right) => {
+            let left = replaced_in_box(left, by);
+            let right = replaced_in_box(right, by);
+            operation(span, operator, left, right)
+        }
+        Scalar::Negate(span, inner) => {
+            let inner = replaced_in_box(inner, by);
+            negation(span, inner)
+        }
+    }
+}
+
+/// The scalar in its box.
+#[cycle(replace)]
+fn replaced_in_box<A: Allocator>(
+    mut place: Box<Scalar<A>, A>,
+    by: &mut [Scalar<A>],
+) -> Box<Scalar<A>, A>
+    ensures folded { AllByRecursion NormalScalar (map plain_scalar (map scalar_tree by.old)) → Once (uses (plain_scalar (scalar_tree place.value))) →
+        IsFolded (plain_scalar (scalar_tree result.value)) (normal.replaced (map plain_scalar (map scalar_tree by.old)) (plain_scalar (scalar_tree place.value))) }
+    ensures moved { MovesOut (uses (plain_scalar (scalar_tree place.value))) (map plain_scalar (map scalar_tree by.new)) (map plain_scalar (map scalar_tree by.old)) }
+{
+    let scalar = place.take();
+    *place = replaced(scalar, by);
+    place
+}
+
+/// Replaces the columns of each of the scalars.
+pub(crate) fn replace_all<A: Allocator>(scalars: &mut Vec<Scalar<A>, A>, by: &mut [Scalar<A>])
+    ensures { AllByRecursion NormalScalar (map plain_scalar (map scalar_tree by.old)) → Once (uses_all (map plain_scalar (map scalar_tree scalars.old.items))) →
+        AllZip IsFolded (map plain_scalar (map scalar_tree scalars.new.items)) (map (normal.replaced (map plain_scalar (map scalar_tree by.old))) (map plain_scalar (map scalar_tree scalars.old.items))) }
+{
+    for scalar in scalars.iter_mut() {
+        let before = scalar.take();
+        *scalar = replaced(before, by);
+    }
+}
