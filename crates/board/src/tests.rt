@@ -330,6 +330,27 @@ fn knows_its_own_events(rt: HostRuntime) -> Result<(), Fail> {
     Ok(())
 }
 
+/// An event of the first board is computed; one that equals it is given up there; then the first is handed in.
+fn late(first: &mut Board, second: &mut Board) -> Option<bool> {
+    let work = claimed(first)?;
+    let done = computed(first, work)?;
+    if let Some(twin) = claimed(second) {
+        let _ = hand_in(first, twin);
+    }
+    Some(is_strange(first, done))
+}
+
+// A board that was stopped still answers a commit by its event: with one worker, the one event that it held is the one given up.
+#[test]
+fn a_stopped_board_answers_commits(rt: HostRuntime) -> Result<(), Fail> {
+    let mut first = fed(rt.alloc()).ok_or("no board")?;
+    let mut second = fed(rt.alloc()).ok_or("no board")?;
+    assert_eq!(rt; late(&mut first, &mut second), Some(true));
+    assert_eq!(rt; take_turn(&mut first), Turn::Stopped);
+    assert!(rt; shows(first.emitted(0), &[]));
+    Ok(())
+}
+
 /// Why there is no graph of `distinct(a)`.
 fn fault_of_distinct(alloc: Global, name: Name) -> Option<ChainFault> {
     let Ok(program) = distinct(alloc, name) else {

@@ -1,12 +1,12 @@
 -- What a board that is worked off has emitted is what its query means on the epochs that were read.
-use Rattle.std.proofs.Common.{◌≡◌, ◌<◌, ◌≤◌, ◌+◌, ℕ, zero, suc, List, [], ◌∷◌, length, Bool, true, false, cond, sym, subst, arith, get_or}
+use Rattle.std.proofs.Common.{◌≡◌, ◌<◌, ◌+◌, ℕ, suc, List, [], ◌∷◌, length, Bool, true, false, cond, sym, subst, arith}
 use Rattle.semantics.specs.Multiset.{Record, ◌≈◌}
-use Rattle.semantics.specs.Query.{Input, Rel}
-use Rattle.semantics.specs.Meaning.{Names, meaning, program_meaning, input_names, let_names, same_name}
+use Rattle.semantics.specs.Query.{Input}
+use Rattle.semantics.specs.Meaning.{program_meaning, input_names, let_names, same_name}
 use Rattle.semantics.proofs.MeaningOfMultisets.{meaning_same}
 use Rattle.semantics.proofs.MultisetSums.{≈-refl, ≈-trans}
 use Rattle.board.specs.Chain.{Chain, query_of}
-use Rattle.board.specs.World.{World, fed_at, emitted_at}
+use Rattle.board.specs.World.{fed_at, emitted_at}
 use Rattle.board.specs.Headline.{Headline}
 use Rattle.board.specs.Views.{GraphParts, chain_of}
 use Rattle.board.specs.Run.{IsQuiet}

@@ -1,2 +1,4 @@
 pub mod Answering
+pub mod InputLines
 pub mod QueryFaults
+pub mod Rewritten

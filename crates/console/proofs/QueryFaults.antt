@@ -1,13 +1,27 @@
--- The first fault of a tree is why its text is refused.
+-- Why a text is refused is why its query is.
 use Rattle.std.proofs.Common.{List, ℕ, inr}
 use Rattle.record_core.specs.declared.span.Refusal.{Refusal}
 use Rattle.record_core.specs.declared.span.Refusal.TheVariants.{At, NoMemory}
 use Rattle.expr_tree.specs.Trees.{ProgramTree}
 use Rattle.grammar.specs.Texts.{Reads}
 use Rattle.typing.specs.FirstFault.{Told}
-use Rattle.console.specs.Faults.{fault_of}
-use Rattle.console.specs.Queries.{IsQueryFault}
+use Rattle.console.specs.Checks.{IsCheckFault}
+use Rattle.console.specs.Compiled.{IsUncompiled}
+use Rattle.console.specs.Faults.{compile_fault_of, fault_of}
+use Rattle.console.specs.Queries.{IsQueryFault, IsRefusal}
 
-pub ill_typed : (text : List ℕ) (tree : ProgramTree) (e : Refusal) → Reads text tree → Told tree e → IsQueryFault text (fault_of e)
+pub ill_typed : (text : List ℕ) (tree : ProgramTree) (e : Refusal) → Reads text tree → Told tree e → IsRefusal text e
 ill_typed text tree (At code span) read told = inr (tree, read, told)
 ill_typed text tree NoMemory read told = tt
+
+pub query_refused : (text : List ℕ) (e : Refusal) → IsRefusal text e → IsQueryFault text (fault_of e)
+query_refused text (At code span) h = h
+query_refused text NoMemory h = tt
+
+pub graph_refused : (text : List ℕ) (e : Refusal) → IsRefusal text e → IsUncompiled text (compile_fault_of e)
+graph_refused text (At code span) h = h
+graph_refused text NoMemory h = tt
+
+pub check_refused : (text : List ℕ) (e : Refusal) → IsRefusal text e → IsCheckFault text (fault_of e)
+check_refused text (At code span) h = h
+check_refused text NoMemory h = tt

@@ -1,21 +1,56 @@
 -- What a check of a query does.
-use Rattle.std.specs.Prelude.{◌≡◌, ℕ, List, Option, Result, Ok, Err}
+use Rattle.std.specs.Prelude.{◌≡◌, ℕ, List, ◌++◌, Option, Result, Ok, Err, codes, decimal}
+use Rattle.std.specs.List.{flat_map}
 use Rattle.std.specs.Io.KnownBytes.{Appends}
+use Rattle.semantics.specs.Query.{Input, Program}
+use Rattle.semantics.specs.Typing.{WellTyped}
+use Rattle.expr_tree.specs.Trees.{ProgramTree}
+use Rattle.expr_tree.specs.Plain.{plain_program}
+use Rattle.grammar.specs.Texts as grammar
 use Rattle.collector.specs.Written.{AppendsFront}
-use Rattle.console.specs.Queries.{IsQueryFault}
+use Rattle.record_core.specs.declared.span.Refusal.TheVariants.{At}
+use Rattle.console.specs.Queries.{IsRefusal}
 use Rattle.console.specs.declared.fault.Fault.{Fault}
-use Rattle.console.specs.declared.fault.Fault.TheVariants.{Query, TooManyVertices, Unserved, Input, NoMemory, NoWorker, ReadQuery, ReadInput, Write}
+use Rattle.console.specs.declared.fault.Fault.TheVariants.{Query, TooManyVertices, Unserved, Input as InputFault, NoMemory, NoWorker, ReadQuery, ReadInput, Write}
 
--- A text is written whole at Ok, and a beginning of it where the writer failed. Else nothing is written: the query is refused,
--- or its reader failed, or there was no memory.
+-- `input NAME/ARITY`
+abbrev pub input_line : Input → List ℕ
+input_line i = codes "input " ++ (i.name ++ (codes "/" ++ (decimal i.arity ++ codes "\n")))
+
+-- a line for each input in order, and `output ARITY`
+abbrev pub arities_text : List Input → ℕ → List ℕ
+arities_text inputs arity = flat_map input_line inputs ++ (codes "output " ++ (decimal arity ++ codes "\n"))
+
+-- the query text reads as a well-typed program, and the text tells its inputs and its arities
+pub record IsChecked (query text : List ℕ) : Type 0 where
+  pub tree : ProgramTree
+  pub arity : ℕ
+  pub read : grammar.Reads query tree
+  pub typed : WellTyped (plain_program tree) arity
+  pub told : text ≡ arities_text (plain_program tree).inputs arity
+
+-- why a query text isn't checked: it is refused, or there was no memory
+abbrev pub IsCheckFault : List ℕ → Fault → Type 0
+IsCheckFault query (Query code start end) = IsRefusal query (At code (record { start = start; end = end }))
+IsCheckFault query NoMemory = Unit {0}
+IsCheckFault query TooManyVertices = ⊥
+IsCheckFault query Unserved = ⊥
+IsCheckFault query (InputFault code line) = ⊥
+IsCheckFault query NoWorker = ⊥
+IsCheckFault query ReadQuery = ⊥
+IsCheckFault query ReadInput = ⊥
+IsCheckFault query Write = ⊥
+
+-- The arities are written whole at Ok, and a beginning of them where the writer failed. Else nothing is written: the query is
+-- refused, or its reader failed, or there was no memory.
 abbrev pub CheckEnds : List ℕ → Option (List ℕ) → Option (List ℕ) → Result (Unit {0}) Fault → Type 0
-CheckEnds query old new (Ok u) = (text : List ℕ) × Appends old new text
-CheckEnds query old new (Err Write) = (text : List ℕ) × AppendsFront old new text
-CheckEnds query old new (Err (Query code start end)) = (new ≡ old) × IsQueryFault query (Query code start end)
-CheckEnds query old new (Err Unserved) = (new ≡ old) × IsQueryFault query Unserved
+CheckEnds query old new (Ok u) = (text : List ℕ) × IsChecked query text × Appends old new text
+CheckEnds query old new (Err Write) = (text : List ℕ) × IsChecked query text × AppendsFront old new text
+CheckEnds query old new (Err (Query code start end)) = (new ≡ old) × IsCheckFault query (Query code start end)
+CheckEnds query old new (Err Unserved) = ⊥
 CheckEnds query old new (Err NoMemory) = new ≡ old
 CheckEnds query old new (Err ReadQuery) = new ≡ old
 CheckEnds query old new (Err ReadInput) = ⊥
 CheckEnds query old new (Err TooManyVertices) = ⊥
-CheckEnds query old new (Err (Input code line)) = ⊥
+CheckEnds query old new (Err (InputFault code line)) = ⊥
 CheckEnds query old new (Err NoWorker) = ⊥

@@ -3,5 +3,7 @@ pub mod Line
 pub mod Fed
 pub mod Answers
 pub mod Queries
+pub mod Compiled
+pub mod Graphs
 pub mod Runs
 pub mod Checks

@@ -1,5 +1,7 @@
 -- Which program a query text is, and why a text is none that is served.
 use Rattle.std.specs.Prelude.{◌≡◌, ◌⊎◌, ℕ, List}
+use Rattle.record_core.specs.declared.span.Refusal.{Refusal}
+use Rattle.record_core.specs.declared.span.Refusal.TheVariants as refusal
 use Rattle.record_core.specs.declared.span.Refusal.TheVariants.{At}
 use Rattle.semantics.specs.Query.{Program}
 use Rattle.semantics.specs.Typing.{WellTyped}
@@ -34,9 +36,14 @@ IsUnserved text = (p : Program) × IsQuery text p × (IsChainQuery p → ⊥)
 abbrev pub IsIllTyped : List ℕ → ℕ → ℕ → ℕ → Type 0
 IsIllTyped text code start end = (tree : ProgramTree) × grammar.Reads text tree × Told tree (At code (record { start = start; end = end }))
 
--- why a query text is refused
+-- why a query text is refused: it is no program, or the first fault of the program that it is
+abbrev pub IsRefusal : List ℕ → Refusal → Type 0
+IsRefusal text (At code span) = parser.Refuses text (At code span) ⊎ IsIllTyped text code span.start span.end
+IsRefusal text refusal.NoMemory = Unit {0}
+
+-- why a query text is not served
 abbrev pub IsQueryFault : List ℕ → Fault → Type 0
-IsQueryFault text (Query code start end) = parser.Refuses text (At code (record { start = start; end = end })) ⊎ IsIllTyped text code start end
+IsQueryFault text (Query code start end) = IsRefusal text (At code (record { start = start; end = end }))
 IsQueryFault text Unserved = IsUnserved text
 IsQueryFault text NoMemory = Unit {0}
 IsQueryFault text TooManyVertices = ⊥

@@ -1,14 +1,14 @@
 //! The check of a query: its inputs and its arities.
 
-ghost use Rattle.std.specs.Prelude.{◌≡◌, true, take, IfErr, IfSome, IsErrOf};
+ghost use Rattle.std.specs.Prelude.{◌≡◌, ◌++◌, true, codes, decimal, map, take, IfErr, IfOk, IfSome, IsErrOf, OnOk};
+ghost use Rattle.expr_tree.specs.Plain.{plain_input};
 ghost use Rattle.collector.specs.Watching.{has_failed, inner_of};
-ghost use Rattle.console.specs.Checks.{CheckEnds};
-ghost use Rattle.console.specs.Queries.{IsQueryFault};
+ghost use Rattle.console.specs.Checks.{CheckEnds, IsCheckFault, IsChecked, arities_text, input_line};
 ghost use Rattle.console.specs.Runs.{IsAfterReading};
 ghost use Rattle.console.specs.declared.fault.Fault.TheVariants as fault;
 
 use crate::compiling::typed_program;
-use crate::fault::Fault;
+use crate::fault::{Fault, query_fault};
 use crate::running::read_query;
 use collector::{Watched, put};
 use expr_tree::Input;
@@ -16,33 +16,56 @@ use itoa::Buffer;
 use std::alloc::{AllocError, Allocator, Global};
 use std::io::{Read, Write};
 
-/// Appends `input NAME/ARITY` for each input in order, and `output ARITY`.
-fn push_arities(text: &mut Vec<u8>, inputs: &[Input], output: u64) -> Result<(), AllocError> {
+/// Appends `input NAME/ARITY`.
+fn push_input(text: &mut Vec<u8>, input: &Input) -> Result<(), AllocError>
+    ensures { OnOk result (text.new.items ≡ text.old.items ++ input_line (plain_input input.now)) }
+{
     let mut buffer = Buffer::new();
-    for input in inputs {
-        text.extend_from_slice(b"input ")?;
-        text.extend_from_slice(input.name.bytes())?;
-        text.push(b'/')?;
-        text.extend_from_slice(buffer.format(input.arity).as_bytes())?;
-        text.push(b'\n')?;
-    }
-    text.extend_from_slice(b"output ")?;
-    text.extend_from_slice(buffer.format(output).as_bytes())?;
-    text.push(b'\n')?;
+    text.extend_from_slice(b"input ")?;
+    text.extend_from_slice(input.name.bytes())?;
+    text.extend_from_slice(b"/")?;
+    text.extend_from_slice(buffer.format(input.arity).as_bytes())?;
+    text.extend_from_slice(b"\n")?;
     Ok(())
 }
 
+/// Appends `output ARITY`.
+fn push_output(text: &mut Vec<u8>, arity: u64) -> Result<(), AllocError>
+    ensures { OnOk result (text.new.items ≡ text.old.items ++ (codes "output " ++ (decimal arity ++ codes "\n"))) }
+{
+    let mut buffer = Buffer::new();
+    text.extend_from_slice(b"output ")?;
+    text.extend_from_slice(buffer.format(arity).as_bytes())?;
+    text.extend_from_slice(b"\n")?;
+    Ok(())
+}
+
+/// The lines of the inputs in order, and of the output.
+#[tactic(auto, using(crate::proofs::InputLines::one_input_more))]
+fn arities(alloc: Global, inputs: &[Input], output: u64) -> Result<Vec<u8>, AllocError>
+    ensures { IfOk result (λ t. t.items ≡ arities_text (map plain_input inputs.now) output) }
+{
+    let mut text = Vec::new(alloc);
+    for i in 0..inputs.len() {
+        push_input(&mut text, &inputs[i])?;
+    }
+    push_output(&mut text, output)?;
+    Ok(text)
+}
+
 /// The text of a checked query.
+#[tactic(auto, using(crate::proofs::QueryFaults::check_refused))]
 fn checked<A: Allocator + Copy>(alloc: Global, arena: A, query: &[u8]) -> Result<Vec<u8>, Fault>
-    ensures { IfErr result (IsQueryFault query.now) }
+    ensures text { IfOk result (λ t. IsChecked query.now t.items) }
+    ensures fault { IfErr result (IsCheckFault query.now) }
 {
     let typed = match typed_program(alloc, arena, query) {
         Ok(typed) => typed,
-        Err(fault) => return Err(fault),
+        Err(refusal) => return Err(query_fault(refusal)),
     };
-    let mut text = Vec::new(alloc);
-    match push_arities(&mut text, typed.inputs(), typed.output_arity()) {
-        Ok(()) => Ok(text),
+    let program = typed.program();
+    match arities(alloc, &program.inputs, typed.output_arity()) {
+        Ok(text) => Ok(text),
         Err(_) => Err(Fault::NoMemory),
     }
 }

@@ -9,6 +9,17 @@ pub enum Options<'a> {
     Run { query: &'a str, input: &'a str },
     /// `loom check QUERY`
     Check { query: &'a str },
+    /// `loom graph QUERY`, or `loom graph --dot QUERY`
+    Graph { query: &'a str, form: GraphForm },
+}
+
+/// How a graph is written.
+#[derive(Clone, Copy, Debug, PartialEq, Eq)]
+pub enum GraphForm {
+    /// A line for each vertex.
+    Lines,
+    /// A text that Graphviz draws.
+    Dot,
 }
 
 /// Why a line is refused: want of memory, or a text to be shown, which may be the help that was asked for.

@@ -1,13 +1,22 @@
 //! From a query text to its graph.
 
-ghost use Rattle.std.specs.Prelude.{◌≡◌, IfOk, IfErr};
+ghost use Rattle.std.specs.Prelude.{◌≡◌, ◌≤◌, length, IfOk, IfErr};
 ghost use Rattle.board.specs.Chain.{query_of};
 ghost use Rattle.board.specs.Views.{chain_of};
-ghost use Rattle.console.specs.Queries.{IsQuery, IsQueryFault, IsTypedQuery};
+ghost use Rattle.expr_tree.specs.Plain.{plain_program};
+ghost use Rattle.semantics.specs.Typing.{WellTyped};
+ghost use Rattle.typing.specs.Shown.{typed_program as shown_program, output_arity};
+ghost use Rattle.lowering.specs.Shown.{shown_graph, shown_inputs};
+ghost use Rattle.console.specs.Compiled.{IsCompiled, IsUncompiled, StandsFor};
+ghost use Rattle.console.specs.Queries.{IsQuery, IsQueryFault, IsRefusal, IsTypedQuery};
 
-use crate::fault::{Fault, query_fault};
-use board::{ChainFault, Graph};
+use crate::fault::{CompileFault, Fault, query_fault, refused};
+use board::ChainFault;
+use expr_tree::NoMemory;
+use lowering::{Graph, LowerFault, lower};
+use normalise::normalise;
 use parser::parse;
+use record_core::Refusal;
 use std::alloc::{Allocator, Global};
 use typing::{Typed, check};
 
@@ -16,30 +25,73 @@ pub fn typed_program<A: Allocator + Copy>(
     alloc: Global,
     arena: A,
     text: &[u8],
-) -> Result<Typed<A>, Fault>
+) -> Result<Typed<A>, Refusal>
     ensures typed { IfOk result (λ t. IsTypedQuery text.now t) }
-    ensures fault { IfErr result (IsQueryFault text.now) }
+    ensures well { IfOk result (λ t. WellTyped (plain_program (shown_program t)) (output_arity t)) }
+    ensures refusal { IfErr result (IsRefusal text.now) }
 {
     let program = match parse(arena, text) {
         Ok(program) => program,
-        Err(refusal) => return Err(query_fault(refusal)),
+        Err(refusal) => return Err(refusal),
     };
     match check(alloc, program) {
-        Ok(typed) => Ok(typed),
-        Err((_, refusal)) => Err(query_fault(refusal)),
+        Ok(typed) => {
+            let _ = typed.program();
+            Ok(typed)
+        }
+        Err((_, refusal)) => Err(refusal),
     }
 }
 
-/// The graph of a query text. The tree lies in the arena, and is gone once the graph stands.
-pub fn compile<A: Allocator + Copy>(alloc: Global, arena: A, text: &[u8]) -> Result<Graph, Fault>
+/// The normal form of a typed program: no larger, and with the same meaning.
+fn normal_form<A: Allocator + Copy>(typed: Typed<A>) -> Result<Typed<A>, NoMemory>
+    ensures { IfOk result (λ q. StandsFor (plain_program (shown_program q)) (plain_program (shown_program typed)) (output_arity typed)) }
+{
+    let normal = normalise(typed)?;
+    let _ = normal.program();
+    Ok(normal)
+}
+
+/// The dataflow graph of a query text's normal form, at most 4096 vertices. On any inputs it has exactly one flow, and what comes to its output
+/// is at each epoch what the text's program means. The tree lies in the arena, and is gone once the graph stands.
+pub fn compile<A: Allocator + Copy>(
+    alloc: Global,
+    arena: A,
+    text: &[u8],
+) -> Result<Graph, CompileFault>
+    ensures graph { IfOk result (λ g. IsCompiled text.now (shown_graph g) (shown_inputs g)) }
+    ensures few { IfOk result (λ g. length (shown_graph g) ≤ 4096) }
+    ensures fault { IfErr result (IsUncompiled text.now) }
+{
+    let typed = match typed_program(alloc, arena, text) {
+        Ok(typed) => typed,
+        Err(refusal) => return Err(refused(refusal)),
+    };
+    let normal = match normal_form(typed) {
+        Ok(normal) => normal,
+        Err(_) => return Err(CompileFault::NoMemory),
+    };
+    match lower(alloc, &normal) {
+        Ok(graph) => Ok(graph),
+        Err(LowerFault::TooMany) => Err(CompileFault::TooManyVertices),
+        Err(LowerFault::NoMemory) => Err(CompileFault::NoMemory),
+    }
+}
+
+/// The chain of a query text. The tree lies in the arena, and is gone once the chain stands.
+pub fn compile_chain<A: Allocator + Copy>(
+    alloc: Global,
+    arena: A,
+    text: &[u8],
+) -> Result<board::Graph, Fault>
     ensures graph { IfOk result (λ g. IsQuery text.now (query_of (chain_of g))) }
     ensures fault { IfErr result (IsQueryFault text.now) }
 {
     let typed = match typed_program(alloc, arena, text) {
         Ok(typed) => typed,
-        Err(fault) => return Err(fault),
+        Err(refusal) => return Err(query_fault(refusal)),
     };
-    match Graph::of(alloc, typed.program()) {
+    match board::Graph::of(alloc, typed.program()) {
         Ok(graph) => Ok(graph),
         Err(ChainFault::NotAChain) => Err(Fault::Unserved),
         Err(ChainFault::NoMemory) => Err(Fault::NoMemory),

@@ -1,11 +1,11 @@
 //! What may go wrong, and how it is told.
 
 ghost use Rattle.std.specs.Prelude.{◌≡◌};
-ghost use Rattle.console.specs.Faults.{fault_of, status_of, input_fault_of};
+ghost use Rattle.console.specs.Faults.{compile_fault_of, fault_of, graph_fault_of, input_fault_of, status_of};
 ghost use Rattle.console.specs.declared.fault.Fault.TheVariants.{NoMemory};
 
 use collector::InputRefusal;
-use record_core::Refusal;
+use record_core::{Refusal, Span};
 use std::alloc::AllocError;
 use std::io;
 use std::io::Write;
@@ -36,6 +36,16 @@ pub enum Fault {
     ReadInput,
     #[error("cannot write")]
     Write,
+}
+
+/// Why a query text has no graph.
+#[derive(Clone, Copy, Debug, PartialEq, Eq)]
+pub enum CompileFault {
+    /// The query's first fault: its code, and the bytes where it stands.
+    Query { code: u8, span: Span },
+    /// The graph would have more than 4096 vertices.
+    TooManyVertices,
+    NoMemory,
 }
 
 impl Fault {
@@ -72,6 +82,31 @@ pub fn query_fault(refusal: Refusal) -> Fault
             start: span.start,
             end: span.end,
         },
+    }
+}
+
+/// Why a query that is refused has no graph.
+pub fn refused(refusal: Refusal) -> CompileFault
+    ensures { result ≡ compile_fault_of refusal }
+{
+    match refusal {
+        Refusal::NoMemory => CompileFault::NoMemory,
+        Refusal::At { code, span } => CompileFault::Query { code, span },
+    }
+}
+
+/// The fault of a query that has no graph.
+pub fn graph_fault(fault: CompileFault) -> Fault
+    ensures { result ≡ graph_fault_of fault }
+{
+    match fault {
+        CompileFault::Query { code, span } => Fault::Query {
+            code,
+            start: span.start,
+            end: span.end,
+        },
+        CompileFault::TooManyVertices => Fault::TooManyVertices,
+        CompileFault::NoMemory => Fault::NoMemory,
     }
 }
 

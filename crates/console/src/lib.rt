@@ -1,9 +1,10 @@
 //! From bytes to bytes: the command line, a run, its faults.
 //!
 //! `options` reads the words of the command line. `run` reads a query and an input, has the board compute, and writes the answer;
-//! `check_query` reads a query and writes its arities. The contract: where `run` answers Ok, what was written is the output text
-//! of what the query means on the epochs that the input text tells. Below stand the parser, typing, the board and the collector;
-//! above stands the program alone.
+//! `check_query` reads a query and writes its arities, and `graph_query` its graph, which `compile` makes. The contract: where `run`
+//! answers Ok, what was written is the output text of what the query means on the epochs that the input text tells; a graph that
+//! `compile` makes has exactly one flow on any inputs, whose output is what the query means. Below stand the parser, typing,
+//! the normaliser, lowering, the board and the collector; above stands the program alone.
 #![tactic(auto)]
 
 mod checking;
@@ -12,15 +13,19 @@ mod command;
 mod compiling;
 mod engine;
 mod fault;
+mod graphing;
 mod respond;
 mod running;
 
 pub use checking::check_query;
-pub use choice::{LineFault, Options};
+pub use choice::{GraphForm, LineFault, Options};
 pub use command::options;
-pub use compiling::compile;
-pub use fault::Fault;
+pub use compiling::{compile, compile_chain};
+pub use fault::{CompileFault, Fault};
+pub use graphing::graph_query;
 pub use running::run;
 
+#[cfg(test)]
+mod graph_tests;
 #[cfg(test)]
 mod tests;

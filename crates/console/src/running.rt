@@ -7,7 +7,7 @@ ghost use Rattle.collector.specs.Watching.{has_failed, inner_of};
 ghost use Rattle.console.specs.Runs.{Ends, IsAfterReading, IsUnreadInput, IsUnreadQuery};
 ghost use Rattle.console.specs.declared.fault.Fault.TheVariants as fault;
 
-use crate::compiling::compile;
+use crate::compiling::compile_chain;
 use crate::fault::{Fault, input_fault};
 use crate::respond::respond;
 use bumpalo::Bump;
@@ -73,7 +73,7 @@ fn answer<W: Write>(
     ensures read { IfErr result IsAfterReading }
 {
     let arena = Bump::new(alloc);
-    let graph = match compile(alloc, &arena, query) {
+    let graph = match compile_chain(alloc, &arena, query) {
         Ok(graph) => graph,
         Err(fault) => return Err(fault),
     };

@@ -1,5 +1,7 @@
 -- Names gathered are those that a loop carries.
-use Rattle.std.proofs.Common.{◌≡◌, Bool, true, false, cond, not, ◌||◌, List, [], ◌∷◌, ◌++◌, filter, refl, sym, ap, ◌∙◌, append_assoc, append-nil}
+use Rattle.std.proofs.Common.{◌≡◌, Bool, true, false, cond, not, ◌||◌, List, [], ◌∷◌, ◌++◌, filter, refl, sym, ap, ap₂, ◌∙◌, append_assoc, append-nil, true≢false}
+use Rattle.std.specs.List.{list_any}
+use Rattle.indexmap.specs.IndexSet.{insert_key}
 use Rattle.semantics.specs.Query.{Name, Rel}
 use Rattle.semantics.specs.Meaning.{same_name}
 use Rattle.semantics.specs.FreeNames.{free, firsts, other_than, carried}
@@ -9,6 +11,23 @@ use Rattle.semantics.proofs.NamesAmong.{Decides-same_name}
 pub gathered_append : (bound acc xs ys : List Name) → gathered bound acc (xs ++ ys) ≡ gathered bound (gathered bound acc xs) ys
 gathered_append bound acc [] ys = refl
 gathered_append bound acc (x ∷ xs) ys = gathered_append bound (cond (has x bound || has x acc) acc (acc ++ (x ∷ []))) xs ys
+
+same_name-sym : (x y : Name) → same_name x y ≡ same_name y x
+same_name-sym x y = go (same_name x y) (same_name y x) refl refl
+  where
+    go : (a b : Bool) → same_name x y ≡ a → same_name y x ≡ b → a ≡ b
+    go true true p q = refl
+    go false false p q = refl
+    go true false p q = absurd (true≢false (sym ((Decides-same_name y x).1 (sym ((Decides-same_name x y).0 p))) ∙ q))
+    go false true p q = absurd (true≢false (sym ((Decides-same_name x y).1 (sym ((Decides-same_name y x).0 q))) ∙ p))
+
+has_any : (y : Name) (xs : List Name) → list_any (same_name y) xs ≡ has y xs
+has_any y [] = refl
+has_any y (x ∷ xs) = ap₂ (λ a b. a || b) (same_name-sym y x) (has_any y xs)
+
+-- one name put into a set of names
+pub gathered_one : (bound acc : List Name) (y : Name) → has y bound ≡ false → insert_key same_name acc y ≡ gathered bound acc (y ∷ [])
+gathered_one bound acc y e = ap (λ b. cond b acc (acc ++ (y ∷ []))) (has_any y acc ∙ ap (λ b. b || has y acc) (sym e))
 
 or_false : (b : Bool) → (b || false) ≡ b
 or_false true = refl

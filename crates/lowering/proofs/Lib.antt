@@ -1,4 +1,5 @@
 pub mod Scopes
+pub mod Tables
 pub mod Gathers
 pub mod Numbers
 pub mod Forms
@@ -7,3 +8,5 @@ pub mod WholePrograms
 pub mod Nesting
 pub mod Lines
 pub mod EdgeTables
+pub mod Leads
+pub mod VertexArities

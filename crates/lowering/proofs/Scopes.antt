@@ -1,7 +1,6 @@
 -- One entry more.
-use Rattle.std.proofs.Common.{◌≡◌, ℕ, suc, ◌+◌, ◌≤◌, ◌<◌, ◌-◌, List, [], ◌∷◌, ◌++◌, length, get_or, take, drop, refl, sym, ap, ap₂, ◌∙◌, arith}
+use Rattle.std.proofs.Common.{◌≡◌, ℕ, suc, ◌≤◌, ◌-◌, List, [], ◌∷◌, ◌++◌, length, get_or, take, drop, refl, sym, ap, ap₂, ◌∙◌, arith}
 use Rattle.std.proofs.Math.Seq.{take-length}
-use Rattle.std.proofs.lemmas.List.{take_more}
 use Rattle.semantics.specs.Query.{Name}
 use Rattle.semantics.specs.Graph.{no_port}
 use Rattle.semantics.specs.Lower.{Ports, stands_for, carried_ports, port}
@@ -13,16 +12,6 @@ use Rattle.lowering.specs.declared.vertex.Port.{Port}
 pub ports_from_append : (ports : Ports) (es fs : List Entry) → ports_from ports (es ++ fs) ≡ ports_from (ports_from ports es) fs
 ports_from_append ports [] fs = refl
 ports_from_append ports (e ∷ es) fs = ports_from_append (stands_for e.name (port_of e.port) ports) es fs
-
--- the entries are asked from the last on
-asked_at : (es : List Entry) (i : ℕ) (e : Entry) (x : Name) → i < length es → e ≡ get_or es i e → ports_of (take (i + 1) es) x ≡ stands_for e.name (port_of e.port) (ports_of (take i es)) x
-asked_at es i e x h q =
-    ap (λ fs. ports_of fs x) (take_more es i e h ∙ ap (λ y. take i es ++ (y ∷ [])) (sym q)) ∙ ap (λ f. f x) (ports_from_append (λ y. no_port) (take i es) (e ∷ []))
-
-pub asked_before : (es : List Entry) (i : ℕ) (e : Entry) (x : Name) → 0 < i → i ≤ length es → e ≡ get_or es (i - 1) e → ports_of (take i es) x ≡ stands_for e.name (port_of e.port) (ports_of (take (i - 1) es)) x
-asked_before es i e x h l q =
-    let k : i ≡ (i - 1) + 1 = omega arith in
-    ap (λ j. ports_of (take j es) x) k ∙ asked_at es (i - 1) e x (omega arith) q
 
 pub split_first : {A : Type 0} → (xs : List A) (y : A) → 1 ≤ length xs → y ≡ get_or xs 0 y → xs ≡ y ∷ take (length xs - 1) (drop 1 xs)
 split_first [] y h q = absurd (omega arith)

@@ -9,10 +9,15 @@ use Rattle.semantics.specs.Flow.{Inputs, Flow, IsFlow, IsEdgeTime, HasOneFlow}
 use Rattle.semantics.specs.Lower.{lowered}
 use Rattle.semantics.specs.Meaning.{program_meaning}
 use Rattle.semantics.specs.Typing.{WellTyped}
+use Rattle.lowering.specs.Arities.{AreArities}
 
 -- g is the graph of a well-typed program with those inputs
 abbrev pub IsProgramGraph : Graph → List Input → Type 0
 IsProgramGraph g inputs = (p : Program) × (n : ℕ) × WellTyped p n × (g ≡ lowered p) × (inputs ≡ p.inputs)
+
+-- g is the graph of a well-typed program with those inputs, and these are the arities of its vertices
+abbrev pub HasProgramArities : Graph → List Input → List ℕ → Type 0
+HasProgramArities g inputs arities = (p : Program) × (n : ℕ) × WellTyped p n × (g ≡ lowered p) × (inputs ≡ p.inputs) × AreArities arities p
 
 -- on any inputs g has exactly one flow, which brings the meaning of p to the output, and is empty over the limit of turns where
 -- a turn ends

@@ -8,3 +8,4 @@ pub mod Shown
 pub mod Text
 pub mod Edges
 pub mod Locations
+pub mod Arities

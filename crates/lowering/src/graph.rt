@@ -1,22 +1,23 @@
 //! The graph of a query.
 
-ghost use Rattle.std.specs.Prelude.{◌≡◌, ◌≤◌, ◌<◌, ℕ, length, map, IfOk, IfErr};
+ghost use Rattle.std.specs.Prelude.{◌≡◌, ◌≤◌, ◌<◌, ℕ, length, map, slice_index_or, IfOk, IfErr};
 ghost use Rattle.expr_tree.specs.Plain.{plain_input, plain_program};
 ghost use Rattle.expr_tree.specs.Views.{program_tree};
-ghost use Rattle.semantics.specs.Graph.{edge_count, edge_source, in_port, target, vertex};
+ghost use Rattle.semantics.specs.Graph.{edge_count, edge_source, in_port, source, target, vertex};
 ghost use Rattle.semantics.specs.Lower.{lowered};
 ghost use Rattle.semantics.specs.Typing.{WellTyped};
 ghost use Rattle.typing.specs.Shown.{typed_program};
+ghost use Rattle.lowering.specs.Arities.{AreArities};
 ghost use Rattle.lowering.specs.Edges.{edge_list, edge_number, edge_of, edges_out};
 ghost use Rattle.lowering.specs.Faults.{IsTooMany};
-ghost use Rattle.lowering.specs.GraphLaws.{Computes, IsProgramGraph};
-ghost use Rattle.lowering.specs.Shown.{shown_graph, shown_inputs};
+ghost use Rattle.lowering.specs.GraphLaws.{Computes, HasProgramArities, IsProgramGraph};
+ghost use Rattle.lowering.specs.Shown.{shown_arities, shown_graph, shown_inputs};
 ghost use Rattle.lowering.specs.Views.{graph_of, input_of, port_of, vertex_of};
 
+use crate::arities::{arities_of, arity_at, two_sources};
 use crate::edges::{Edge, EdgeId, Outs, edges_of, outs_of_edges};
 use crate::fault::LowerFault;
 use crate::program::lower_vertices;
-use crate::scope::copy_name;
 use crate::vertex::{Port, Vertex, VertexId};
 use expr_tree::{Input, NoMemory, Program};
 use record_core::Name;
@@ -36,12 +37,13 @@ pub struct DeclaredInput {
 pub struct Graph {
     vertices: Vec<Vertex>,
     inputs: Vec<DeclaredInput>,
+    arities: Vec<u64>,
     edges: Vec<Edge>,
     outs: Vec<Outs>,
 }
 
 impl Model for Graph {
-    ghost use Rattle.std.specs.Prelude.{◌≤◌, List, length, map, vec_items};
+    ghost use Rattle.std.specs.Prelude.{◌≤◌, ℕ, List, length, map, vec_items};
     ghost use Rattle.std.specs.Coded.{codes};
     ghost use Rattle.std.specs.contracts.alloc.Global as heap;
     ghost use Rattle.std.specs.contracts.impls.GlobalAllocator.TheImpl as allocates;
@@ -50,16 +52,16 @@ impl Model for Graph {
     ghost use Rattle.lowering.specs.declared.vertex.Vertex.{Vertex};
     ghost use Rattle.lowering.specs.declared.graph.DeclaredInput.{DeclaredInput};
     ghost use Rattle.lowering.specs.Edges.{HasTables, edge_of, outs_of};
-    ghost use Rattle.lowering.specs.GraphLaws.{IsProgramGraph};
+    ghost use Rattle.lowering.specs.GraphLaws.{HasProgramArities, IsProgramGraph};
     ghost use Rattle.lowering.specs.Views.{graph_of, input_of};
 
-    ghost Value = { List Vertex × List DeclaredInput };
+    ghost Value = { List Vertex × List DeclaredInput × List ℕ };
 
     ghost coded = { Prim.hlevel (codes, (scalar.the_row heap.the_row allocates.ghosts).coded, (condition.the_row heap.the_row allocates.ghosts).coded) };
 
-    ghost view = { λ g. (vec_items g.vertices, vec_items g.inputs) };
+    ghost view = { λ g. (vec_items g.vertices, vec_items g.inputs, vec_items g.arities) };
 
-    ghost invariant = { λ g. ∥ IsProgramGraph (graph_of (vec_items g.vertices)) (map input_of (vec_items g.inputs)) ∥₁ × HasTables (graph_of (vec_items g.vertices)) (map edge_of (vec_items g.edges)) (map outs_of (vec_items g.outs)) × (length (vec_items g.vertices) ≤ 4096) };
+    ghost invariant = { λ g. ∥ IsProgramGraph (graph_of (vec_items g.vertices)) (map input_of (vec_items g.inputs)) ∥₁ × HasTables (graph_of (vec_items g.vertices)) (map edge_of (vec_items g.edges)) (map outs_of (vec_items g.outs)) × (length (vec_items g.vertices) ≤ 4096) × ∥ HasProgramArities (graph_of (vec_items g.vertices)) (map input_of (vec_items g.inputs)) (vec_items g.arities) ∥₁ };
 }
 
 /// The graph of a well-typed query: exactly the one that the definition makes of it. On any inputs it has exactly one flow, whose
@@ -69,6 +71,7 @@ pub fn lower<A: Allocator>(alloc: Global, typed: &Typed<A>) -> Result<Graph, Low
     ensures graph { IfOk result (λ g. shown_graph g ≡ lowered (plain_program (typed_program typed.now))) }
     ensures inputs { IfOk result (λ g. shown_inputs g ≡ (plain_program (typed_program typed.now)).inputs) }
     ensures flow { IfOk result (λ g. Computes (shown_graph g) (plain_program (typed_program typed.now))) }
+    ensures arities { IfOk result (λ g. AreArities (shown_arities g) (plain_program (typed_program typed.now))) }
     ensures few { IfOk result (λ g. length (shown_graph g) ≤ 4096) }
     ensures many { IfErr result (λ e. IsTooMany e → 4096 < length (lowered (plain_program (typed_program typed.now)))) }
 {
@@ -81,6 +84,7 @@ fn lower_program<A: Allocator>(alloc: Global, program: &Program<A>) -> Result<Gr
     ensures graph { IfOk result (λ g. shown_graph g ≡ lowered (plain_program (program_tree program.now))) }
     ensures inputs { IfOk result (λ g. shown_inputs g ≡ (plain_program (program_tree program.now)).inputs) }
     ensures flow { IfOk result (λ g. Computes (shown_graph g) (plain_program (program_tree program.now))) }
+    ensures arities { IfOk result (λ g. AreArities (shown_arities g) (plain_program (program_tree program.now))) }
     ensures few { IfOk result (λ g. length (shown_graph g) ≤ 4096) }
     ensures many { IfErr result (λ e. IsTooMany e → 4096 < length (lowered (plain_program (program_tree program.now)))) }
 {
@@ -89,9 +93,11 @@ fn lower_program<A: Allocator>(alloc: Global, program: &Program<A>) -> Result<Gr
     let inputs = copy_inputs(alloc, &program.inputs)?;
     let edges = edges_of(alloc, &vertices)?;
     let outs = outs_of_edges(alloc, vertices.len(), &edges)?;
+    let arities = arities_of(alloc, program, &vertices)?;
     Ok(Graph {
         vertices,
         inputs,
+        arities,
         edges,
         outs,
     })
@@ -103,6 +109,13 @@ impl Graph {
         ensures { ∥ IsProgramGraph (shown_graph self.now) (shown_inputs self.now) ∥₁ }
     {
         let _ = &self.vertices;
+    }
+
+    /// The arities of the ports are those of that program's. Nothing is done.
+    pub fn law_of_arities(&self)
+        ensures { ∥ HasProgramArities (shown_graph self.now) (shown_inputs self.now) (shown_arities self.now) ∥₁ }
+    {
+        let _ = &self.arities;
     }
 
     /// The vertices by number: at most 4096.
@@ -131,6 +144,28 @@ impl Graph {
         let vertices = self.vertices();
         let number = id.0 as usize;
         &vertices[number]
+    }
+
+    /// How many fields the records have that the vertex of that number sends by its out ports, or for the output those that come to it.
+    pub fn arity(&self, id: VertexId) -> u64
+        requires { id.0 < length (shown_graph self.now) }
+        ensures { result ≡ slice_index_or (shown_arities self.now) id.0 0 }
+    {
+        arity_at(&self.arities, Port { vertex: id, out: 0 })
+    }
+
+    /// How many fields the records have that come to an in port: as many as those that the port which feeds it sends.
+    pub fn in_arity(&self, id: VertexId, in_port: u32) -> u64
+        requires vertex { id.0 < length (shown_graph self.now) }
+        requires port { in_port < length (vertex (shown_graph self.now) id.0).ins }
+        ensures { result ≡ slice_index_or (shown_arities self.now) (source (shown_graph self.now) id.0 in_port).vertex 0 }
+    {
+        let (first, second) = two_sources(self.vertex(id).ins);
+        if in_port == 0 {
+            arity_at(&self.arities, first)
+        } else {
+            arity_at(&self.arities, second)
+        }
     }
 
     /// The edges by number.
@@ -194,7 +229,7 @@ fn copy_inputs<A: Allocator>(
     let mut copy = Vec::new(alloc);
     for input in inputs {
         copy.push(DeclaredInput {
-            name: copy_name(&input.name),
+            name: input.name.copied(),
             arity: input.arity,
         })?;
     }

@@ -9,6 +9,7 @@
 //! Below stand `expr_tree`, `typing` and `semantics`. Path summaries, trackers, shards and the board stand on graphs.
 #![tactic(auto)]
 
+mod arities;
 mod copies;
 mod dot;
 mod edges;

@@ -6,8 +6,8 @@ ghost use Rattle.expr_tree.specs.Views.{rel_tree};
 ghost use Rattle.semantics.specs.FreeNames.{carried, free};
 ghost use Rattle.lowering.specs.Gathering.{gathered, has};
 
-use crate::scope::copy_name;
 use expr_tree::{NoMemory, Rel};
+use indexmap::IndexSet;
 use record_core::Name;
 use std::alloc::{Allocator, Global};
 
@@ -21,26 +21,28 @@ pub fn carried_names<A: Allocator>(
     ensures { IfOk result (λ names. names.items ≡ carried variable.now (plain_rel (rel_tree body.now))) }
 {
     let mut bound: Vec<Name> = Vec::new(alloc);
-    bound.push(copy_name(variable))?;
-    let mut names = Vec::new(alloc);
+    bound.push(variable.copied())?;
+    let mut names = IndexSet::new(alloc);
     gather(body, &mut bound, &mut names)?;
+    let names = names.into_iter().collect(alloc)?;
     Ok(names)
 }
 
-/// Puts the names that occur free in the relation, and are not bound, after those that are there, each once.
-#[tactic(auto, using(crate::proofs::Gathers::gathered_append, crate::proofs::Gathers::gathered_bound))]
+/// Puts the names that occur free in the relation, and are not bound, after those that are there, each once. The bound names are
+/// few: the variables of the loops around.
+#[tactic(auto, using(crate::proofs::Gathers::gathered_append, crate::proofs::Gathers::gathered_bound, crate::proofs::Gathers::gathered_one))]
 fn gather<A: Allocator>(
     relation: &Rel<A>,
     bound: &mut Vec<Name>,
-    names: &mut Vec<Name>,
+    names: &mut IndexSet<Name>,
 ) -> Result<(), NoMemory>
     ensures bound { OnOk result (bound.new.items ≡ bound.old.items) }
-    ensures names { OnOk result (names.new.items ≡ gathered bound.old.items names.old.items (free (plain_rel (rel_tree relation.now)))) }
+    ensures names { OnOk result (names.new.keys ≡ gathered bound.old.items names.old.keys (free (plain_rel (rel_tree relation.now)))) }
 {
     match relation {
         Rel::Named(_, name) => {
-            if !stands_in(bound, name) && !stands_in(names, name) {
-                names.push(copy_name(name))?;
+            if !stands_in(bound, name) {
+                names.insert(name.copied())?;
             }
             Ok(())
         }
@@ -65,7 +67,7 @@ fn gather<A: Allocator>(
             ..
         } => {
             gather(start, bound, names)?;
-            bound.push(copy_name(name))?;
+            bound.push(name.copied())?;
             gather(body, bound, names)?;
             let _ = bound.pop();
             Ok(())

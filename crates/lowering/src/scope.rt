@@ -1,11 +1,12 @@
 //! The names in scope, and the ports that they stand for.
 
-ghost use Rattle.std.specs.Prelude.{◌≡◌, ◌++◌, ◌∷◌, [], length, take, OnOk};
+ghost use Rattle.std.specs.Prelude.{◌≡◌, ◌-◌, ◌++◌, ◌∷◌, [], length, take, OnOk, OnErr};
 ghost use Rattle.lowering.specs.Scopes.{ports_of};
 ghost use Rattle.lowering.specs.Views.{port_of};
 
 use crate::vertex::{Port, VertexId};
 use expr_tree::NoMemory;
+use indexmap::IndexMap;
 use record_core::Name;
 use std::alloc::Global;
 use std::marker::Model;
@@ -17,19 +18,30 @@ pub struct Entry {
     pub port: Port,
 }
 
-/// The names in scope. A later entry hides an earlier one of the same name.
+/// An entry, and the port that its name stood for before.
+#[derive(Drop)]
+pub struct Bound {
+    pub entry: Entry,
+    pub hidden: Port,
+}
+
+/// The names in scope, each found in constant time. A later entry hides an earlier one of the same name.
 #[derive(Drop)]
 pub struct Scope {
-    entries: Vec<Entry>,
+    bound: Vec<Bound>,
+    table: IndexMap<Name, Port>,
 }
 
 impl Model for Scope {
     ghost use Rattle.std.specs.Prelude.{List};
     ghost use Rattle.lowering.specs.declared.scope.Entry.{Entry};
+    ghost use Rattle.lowering.specs.Scopes.{IsTable, entries_of};
 
     ghost Value = { List Entry };
 
-    ghost view = { λ s. s.entries.items };
+    ghost view = { λ s. entries_of s.bound.items };
+
+    ghost invariant = { λ s. IsTable s.table.entries s.bound.items };
 }
 
 impl Scope {
@@ -38,7 +50,8 @@ impl Scope {
         ensures { result ≡ [] }
     {
         Scope {
-            entries: Vec::new(alloc),
+            bound: Vec::new(alloc),
+            table: IndexMap::new(alloc),
         }
     }
 
@@ -46,59 +59,62 @@ impl Scope {
     pub fn len(&self) -> usize
         ensures { result ≡ length self.now }
     {
-        self.entries.len()
+        self.bound.len()
     }
 
     /// The port that a name stands for; that of no vertex's number where the name isn't in scope.
     pub fn find(&self, name: &Name) -> Port
         ensures { port_of result ≡ ports_of self.now name.now }
     {
-        find_last(&self.entries, name)
+        match self.table.get(name) {
+            Some(port) => *port,
+            None => Port {
+                vertex: VertexId(0),
+                out: 0,
+            },
+        }
     }
 
-    /// From here on the name stands for the port.
+    /// From here on the name stands for the port. After an `Err` the scope is as it was.
     pub fn bind(&mut self, name: &Name, port: Port) -> Result<(), NoMemory>
-        ensures { OnOk result (self.new ≡ self.old ++ (record { name = name.now; port = port } ∷ [])) }
+        ensures ok { OnOk result (self.new ≡ self.old ++ (record { name = name.now; port = port } ∷ [])) }
+        ensures err { OnErr result (self.new ≡ self.old) }
     {
-        self.entries.push(Entry {
-            name: copy_name(name),
+        let hidden = self.find(name);
+        let entry = Entry {
+            name: name.copied(),
             port,
-        })?;
-        Ok(())
+        };
+        self.bound.push(Bound { entry, hidden })?;
+        match self.table.insert(name.copied(), port) {
+            Ok(_) => Ok(()),
+            Err(_) => {
+                let _last = self.bound.pop();
+                Err(NoMemory)
+            }
+        }
+    }
+
+    /// Forgets the last entry: its name stands again for what it stood for before.
+    fn forget(&mut self)
+        ensures { self.new ≡ take (length self.old - 1) self.old }
+    {
+        if let Some(last) = self.bound.pop() {
+            let Bound { entry, hidden } = last;
+            let Entry { name, port: _ } = entry;
+            match self.table.insert(name, hidden) {
+                Ok(_) => {}
+                Err(_) => unreachable!(),
+            }
+        }
     }
 
     /// Forgets all but the first entries.
     pub fn leave(&mut self, outside: usize)
         ensures { self.new ≡ take outside self.old }
     {
-        self.entries.truncate(outside);
-    }
-}
-
-/// The port of the last entry of the name.
-fn find_last(entries: &[Entry], name: &Name) -> Port
-    ensures { port_of result ≡ ports_of entries.now name.now }
-{
-    let mut left = entries.len();
-    while left > 0 {
-        left -= 1;
-        let entry = &entries[left];
-        if entry.name == *name {
-            return entry.port;
+        while self.len() > outside {
+            self.forget();
         }
-    }
-    Port {
-        vertex: VertexId(0),
-        out: 0,
-    }
-}
-
-/// The same name. It lies inline, so no memory is taken.
-pub fn copy_name(name: &Name) -> Name
-    ensures { result ≡ name.now }
-{
-    match name.clone() {
-        Ok(copy) => copy,
-        Err(_) => unreachable!(),
     }
 }

@@ -1,4 +1,4 @@
-use Rattle.std.proofs.Common.{◌≡◌, ◌∙◌, sym, ap, length, ℕ}
+use Rattle.std.proofs.Common.{◌≡◌, ◌∙◌, sym, ap, length}
 use Rattle.std.proofs.lemmas.List.{length-map}
 use Rattle.expr_tree.specs.Plain.{plain_input}
 use Rattle.board.specs.Shown.{Shown}

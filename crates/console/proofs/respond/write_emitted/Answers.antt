@@ -1,4 +1,4 @@
-use Rattle.std.proofs.Common.{◌≡◌, ap, sym, subst, map, ℕ}
+use Rattle.std.proofs.Common.{map}
 use Rattle.collector.specs.Held.{epoch_count}
 use Rattle.console.specs.Fed.{EmittedBelow}
 use Rattle.console.proofs.Answering.{is_answer}

@@ -35,7 +35,7 @@ invariant_of-result g c =
     let n = m ∙ sym (length_graph_of vs) in
     let e = rw c.deref.ensures.value at (c.in_ok-edges.ensures) in
     let t = rw (n, c.deref-2.ensures.value) at (c.in_ok-outs.ensures) in
-    (∣ (p, c.requires.0, c.requires.1, c.in_ok-vertices.ensures.ok, c.in_ok-inputs.ensures) ∣₁, tables_shown (graph_of vs) c.in_ok-edges.edges.items c.in_ok-outs.outs.items e t, c.in_ok-vertices.ensures.few)
+    (∣ (p, c.requires.0, c.requires.1, c.in_ok-vertices.ensures.ok, c.in_ok-inputs.ensures) ∣₁, tables_shown (graph_of vs) c.in_ok-edges.edges.items c.in_ok-outs.outs.items e t, c.in_ok-vertices.ensures.few, ∣ (p, c.requires.0, c.requires.1, c.in_ok-vertices.ensures.ok, c.in_ok-inputs.ensures, c.in_ok-arities.ensures) ∣₁)
 
 pub returns-clause-flow : goal.returns-clause-flow
 returns-clause-flow g c =

@@ -10,4 +10,4 @@ returns-clause-inside g c =
     let d = number_of c.add_vertex-2.new.made.items c.add_vertex-3.new.made.items _ c.in_ok-gate.ensures.made in
     let n : length c.add_vertex-3.new.made.items ≡ suc (suc (suc (length c.args.made.now.items))) = omega (arith, a, b, d) in
     let e : length c.add_vertex-2.new.made.items ≡ suc (suc (length c.args.made.now.items)) = omega (arith, a, b) in
-    gate_bound _ _ _ _ _ _ _ _ _ c.in_ok-names.ensures n (rw c.deref.ensures.value at (c.in_ok-carry_names.ensures.inside)) (rw e at (c.in_ok-gate.ensures.gives)) c.in_ok-bind.ensures
+    gate_bound _ _ _ _ _ _ _ _ _ c.in_ok-names.ensures n (rw c.deref.ensures.value at (c.in_ok-carry_names.ensures.inside)) (rw e at (c.in_ok-gate.ensures.gives)) c.in_ok-bind.ensures.ok

@@ -17,4 +17,4 @@ returns-in_err-port-clause-many g c =
 
 pub returns-clause-ok : goal.returns-clause-ok
 returns-clause-ok g c =
-    let_lowered c.args.item.now c.args.made.now.items c.lower_rel.new.made.items (ports_of c.args.scope.now) _ _ (rw c.deref.ensures at (c.in_ok-port.ensures.ok)) (rw c.in_ok-port.ensures.scope at (bound_last c.args.item.now.name c.in_ok-port.port c.lower_rel.new.scope c.bind.new.self c.in_ok-bind.ensures))
+    let_lowered c.args.item.now c.args.made.now.items c.lower_rel.new.made.items (ports_of c.args.scope.now) _ _ (rw c.deref.ensures at (c.in_ok-port.ensures.ok)) (rw c.in_ok-port.ensures.scope at (bound_last c.args.item.now.name c.in_ok-port.port c.lower_rel.new.scope c.bind.new.self c.in_ok-bind.ensures.ok))

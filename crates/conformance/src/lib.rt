@@ -1,0 +1,13 @@
+//! Whole queries, through the calls that the program makes, against answers that were worked by hand. No other crate stands on it.
+#![tactic(auto)]
+
+#[cfg(test)]
+mod checks;
+#[cfg(test)]
+mod graphs;
+#[cfg(test)]
+mod normal_forms;
+#[cfg(test)]
+mod tests;
+#[cfg(test)]
+mod trees;

@@ -1,0 +1,67 @@
+//! Trees of query texts, under three allocators; sizes and depths counted by hand.
+
+use bumpalo::Bump;
+use expr_tree::same;
+use linked_list_allocator::LocalHeap;
+use parser::parse;
+use record_core::Refusal;
+use std::alloc::Global;
+use std::test::Fail;
+
+const REACHABLE: &[u8] =
+    b"input e/2; output iterate(3; x = e; distinct(concat(x, select(join(x, e; #1 = #0); #0, #3))));";
+
+const COUNTS: &[u8] =
+    b"input e/2; let x = group(where(e; #0 < 1 and not [#0 = -2]); #0; count, sum #1); output x;";
+
+/// Whether the trees that are read in three places are the same, and their copies in the other places too.
+fn are_same(alloc: Global, arena: &Bump, heap: &LocalHeap) -> Result<bool, Refusal> {
+    let first = parse(alloc, REACHABLE)?;
+    let second = parse(arena, REACHABLE)?;
+    let third = parse(heap, REACHABLE)?;
+    let whole = first.copy_in(alloc)?;
+    let in_arena = first.copy_in(arena)?;
+    let in_heap = first.copy_in(heap)?;
+    let back = in_heap.copy_in(alloc)?;
+    Ok(
+        same(&first, &second)
+            && same(&second, &third)
+            && same(&first, &whole)
+            && same(&first, &in_arena)
+            && same(&first, &in_heap)
+            && same(&back, &first),
+    )
+}
+
+#[test]
+fn three_allocators(rt: HostRuntime) -> Result<(), Fail> {
+    let mut arena = Bump::new(rt.alloc());
+    let heap = LocalHeap::new(rt.alloc(), 65536)?;
+    assert_eq!(rt; are_same(rt.alloc(), &arena, &heap), Ok(true));
+    assert_eq!(rt; heap.used(), 0);
+    assert!(rt; arena.reset().is_ok());
+    Ok(())
+}
+
+#[test]
+fn a_small_heap_refuses(rt: HostRuntime) -> Result<(), Fail> {
+    let program = parse(rt.alloc(), REACHABLE)?;
+    let heap = LocalHeap::new(rt.alloc(), 64)?;
+    assert!(rt; program.copy_in(&heap).is_err());
+    assert_eq!(rt; parse(&heap, REACHABLE).err(), Some(Refusal::NoMemory));
+    assert_eq!(rt; heap.used(), 0);
+    assert!(rt; parse(rt.alloc(), REACHABLE).is_ok());
+    Ok(())
+}
+
+#[test]
+fn sizes(rt: HostRuntime) -> Result<(), Fail> {
+    let reachable = parse(rt.alloc(), REACHABLE)?;
+    assert_eq!(rt; reachable.size(), 11);
+    assert_eq!(rt; reachable.depth(), 6);
+    let counts = parse(rt.alloc(), COUNTS)?;
+    assert_eq!(rt; counts.size(), 16);
+    assert_eq!(rt; counts.depth(), 7);
+    assert!(rt; !same(&reachable, &counts));
+    Ok(())
+}

@@ -1,0 +1,83 @@
+//! The graph of a query, written.
+
+ghost use Rattle.std.specs.Prelude.{◌≡◌, true, take, IfOk, IfErr, IfSome, IsErrOf};
+ghost use Rattle.collector.specs.Watching.{has_failed, inner_of};
+ghost use Rattle.console.specs.Graphs.{GraphEnds, IsGraphFault, ShowsGraph};
+ghost use Rattle.console.specs.Runs.{IsAfterReading};
+ghost use Rattle.console.specs.declared.fault.Fault.TheVariants as fault;
+
+use crate::choice::GraphForm;
+use crate::compiling::compile;
+use crate::fault::{Fault, graph_fault};
+use crate::running::read_query;
+use collector::{Watched, put};
+use lowering::{graph_dot, graph_text};
+use std::alloc::{Allocator, Global};
+use std::io::{Read, Write};
+
+/// The text of a query's graph.
+fn shown<A: Allocator + Copy>(
+    alloc: Global,
+    arena: A,
+    form: GraphForm,
+    query: &[u8],
+) -> Result<Vec<u8>, Fault>
+    ensures text { IfOk result (λ t. ShowsGraph form query.now t.items) }
+    ensures fault { IfErr result (IsGraphFault query.now) }
+{
+    let graph = match compile(alloc, arena, query) {
+        Ok(graph) => graph,
+        Err(fault) => return Err(graph_fault(fault)),
+    };
+    let mut text = Vec::new(alloc);
+    let done = match form {
+        GraphForm::Lines => graph_text(alloc, &graph, &mut text),
+        GraphForm::Dot => graph_dot(alloc, &graph, &mut text),
+    };
+    match done {
+        Ok(()) => Ok(text),
+        Err(_) => Err(Fault::NoMemory),
+    }
+}
+
+/// Writes the graph of a query text.
+fn write_shown<A: Allocator + Copy, W: Write>(
+    alloc: Global,
+    arena: A,
+    form: GraphForm,
+    query: &[u8],
+    writer: &mut Watched<W>,
+) -> Result<(), Fault>
+    ensures ends { GraphEnds form query.now (W.contents (inner_of writer.old)) (W.contents (inner_of writer.new)) result }
+    ensures writer { IsErrOf result fault.Write → has_failed writer.new ≡ true }
+    ensures read { IfErr result IsAfterReading }
+{
+    let text = match shown(alloc, arena, form, query) {
+        Ok(text) => text,
+        Err(fault) => return Err(fault),
+    };
+    match put(writer, text.as_slice()) {
+        Ok(()) => Ok(()),
+        Err(_) => Err(Fault::Write),
+    }
+}
+
+/// Reads a query, compiles it, and writes its graph: a line for each vertex, or a text that Graphviz draws. It is written only once
+/// all of it stands. A graph of more than 4096 vertices is refused.
+pub fn graph_query<A: Allocator + Copy, Q: Read, W: Write>(
+    alloc: Global,
+    arena: A,
+    form: GraphForm,
+    query: &mut Watched<Q>,
+    writer: &mut Watched<W>,
+) -> Result<(), Fault>
+    ensures ends { IfSome (Q.remaining (inner_of query.old)) (λ q. GraphEnds form (take 1048577 q) (W.contents (inner_of writer.old)) (W.contents (inner_of writer.new)) result) }
+    ensures query { IsErrOf result fault.ReadQuery → has_failed query.new ≡ true }
+    ensures writer { IsErrOf result fault.Write → has_failed writer.new ≡ true }
+{
+    let query_text = match read_query(alloc, query) {
+        Ok(text) => text,
+        Err(fault) => return Err(fault),
+    };
+    write_shown(alloc, arena, form, query_text.as_slice(), writer)
+}
