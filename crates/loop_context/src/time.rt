@@ -106,6 +106,13 @@ impl Time {
         self.epoch <= other.epoch && in_order(self.counters(), other.counters())
     }
 
+    /// Whether the counters of this time are those of the other, or before them in lexicographic order.
+    pub fn counters_leq(&self, other: &Time) -> bool
+        ensures { IsTrue result ↔ ((self.now.counters ≡ other.now.counters) ⊎ (is_before self.now.counters other.now.counters ≡ true)) }
+    {
+        in_order(self.counters(), other.counters())
+    }
+
     /// The time on the way into a loop, at its first turn; `None` exactly where 8 loops are around it already.
     pub fn enter(&self) -> Option<Time>
         ensures entered { IfSome result (λ t. t ≡ after_action Action.enter self.now) }

@@ -1,0 +1,6 @@
+pub mod InOrder
+pub mod Carrying
+pub mod DecidedCould
+pub mod RowsMade
+pub mod CodesGrow
+pub mod WholeTables

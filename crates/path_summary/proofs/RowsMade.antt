@@ -1,0 +1,242 @@
+-- Rows of a table: what a step of their making keeps, and what the last tests show.
+use Rattle.std.proofs.Common.{◌≡◌, ◌⊎◌, inl, inr, ℕ, zero, suc, ◌+◌, ◌≤◌, ◌<◌, nat_eq, Bool, true, false, cond, List, [], ◌∷◌, ◌++◌, length, Option, Some, None, slice_get, slice_set, slice_index_or, refl, sym, ap, subst, ◌∙◌, arith}
+use Rattle.std.proofs.lemmas.Bool.Decides.{nat_tests}
+use Rattle.semantics.specs.Time.{Time, after_action}
+use Rattle.semantics.specs.Kinds.{action}
+use Rattle.semantics.specs.Graph.{Graph, vertex, edge_count, target, edge_source}
+use Rattle.semantics.specs.Could.{Location, PathStep, step_to, step_time, IsPath, path_time}
+use Rattle.semantics.specs.Summary.{Summary, then_action}
+use Rattle.semantics.proofs.PathSummaries.{MayTake}
+use Rattle.path_summary.specs.Carried.{carried, counters_after, identity, Sits}
+use Rattle.path_summary.specs.Linking.{Link, Links, link_in, Draws}
+use Rattle.path_summary.specs.Tables.{IsOfPath, Reaches}
+use Rattle.path_summary.specs.Rows.{is_below, entry, IsRow, HasBelow, Follows, Stepped, Closes, IsClosed, opening}
+use Rattle.path_summary.proofs.InOrder.{after_is}
+use Rattle.path_summary.proofs.Carrying.{carried-identity, carried_then, sits_then, below_from}
+
+-- ---- entries
+
+entry_push : (row : List (Option Summary)) (o : Option Summary) (x : ℕ) (f : Summary) → entry (row ++ (o ∷ [])) x ≡ Some f → (entry row x ≡ Some f) ⊎ ((x ≡ length row) × (o ≡ Some f))
+entry_push [] o zero f h = inr (refl, h)
+entry_push [] o (suc x) f h = inl h
+entry_push (r ∷ row) o zero f h = inl h
+entry_push (r ∷ row) o (suc x) f h = go (entry_push row o x f h)
+  where
+    go : (entry row x ≡ Some f) ⊎ ((x ≡ length row) × (o ≡ Some f)) → (entry row x ≡ Some f) ⊎ ((suc x ≡ suc (length row)) × (o ≡ Some f))
+    go (inl a) = inl a
+    go (inr a) = inr (ap suc a.0, a.1)
+
+entry_set : (row : List (Option Summary)) (i : ℕ) (o : Option Summary) (x : ℕ) (f : Summary) → entry (slice_set row i o) x ≡ Some f → (entry row x ≡ Some f) ⊎ ((x ≡ i) × (o ≡ Some f))
+entry_set [] i o x f h = inl h
+entry_set (r ∷ row) zero o zero f h = inr (refl, h)
+entry_set (r ∷ row) zero o (suc x) f h = inl h
+entry_set (r ∷ row) (suc i) o zero f h = inl h
+entry_set (r ∷ row) (suc i) o (suc x) f h = go (entry_set row i o x f h)
+  where
+    go : (entry row x ≡ Some f) ⊎ ((x ≡ i) × (o ≡ Some f)) → (entry row x ≡ Some f) ⊎ ((suc x ≡ suc i) × (o ≡ Some f))
+    go (inl a) = inl a
+    go (inr a) = inr (ap suc a.0, a.1)
+
+some_same : (f h : Summary) → Some f ≡ Some h → f ≡ h
+some_same f h e = cc
+
+-- ---- rows
+
+pub no_row : (w : Links) (v : ℕ) → IsRow w v []
+no_row w v = record { sound = λ g draws l x f h. absurd (never x f h) }
+  where
+    never : (x : ℕ) (f : Summary) → entry [] x ≡ Some f → ⊥
+    never zero f h = cc
+    never (suc x) f h = cc
+
+row_none : (w : Links) (v : ℕ) (row : List (Option Summary)) → IsRow w v row → IsRow w v (row ++ (None ∷ []))
+row_none w v row r = record { sound = λ g draws l x f h. go g draws l x f (entry_push row None x f h) }
+  where
+    go : (g : Graph) → Draws w g → v < length g → (x : ℕ) (f : Summary) → (entry row x ≡ Some f) ⊎ ((x ≡ length row) × (None ≡ Some f)) → IsOfPath g v x f
+    go g draws l x f (inl a) = r.sound g draws l x f a
+    go g draws l x f (inr a) = absurd (let e = a.1 in cc)
+
+identity_path : (g : Graph) (v : ℕ) → IsOfPath g v v (identity (vertex g v).depth)
+identity_path g v = record {
+  path = [];
+  leads = refl;
+  does = λ t l. ap (λ (cs : List ℕ). record { epoch = t.epoch; counters = cs }) (sym (carried-identity (vertex g v).depth t.counters l));
+  sits = record { short = omega arith; still = λ e. refl };
+}
+
+row_self : (w : Links) (v : ℕ) (row : List (Option Summary)) → IsRow w v row → v ≡ length row → IsRow w v (row ++ (Some (identity (slice_index_or w.depths v 0)) ∷ []))
+row_self w v row r q = record { sound = λ g draws l x f h. go g draws l x f (entry_push row (Some (identity (slice_index_or w.depths v 0))) x f h) }
+  where
+    go : (g : Graph) → Draws w g → v < length g → (x : ℕ) (f : Summary) → (entry row x ≡ Some f) ⊎ ((x ≡ length row) × (Some (identity (slice_index_or w.depths v 0)) ≡ Some f)) → IsOfPath g v x f
+    go g draws l x f (inl a) = r.sound g draws l x f a
+    go g draws l x f (inr a) =
+        subst (λ (y : ℕ). IsOfPath g v y f) (q ∙ sym a.0)
+        (subst (λ (z : Summary). IsOfPath g v v z) (ap identity (sym (draws.depth v l)) ∙ some_same (identity (slice_index_or w.depths v 0)) f a.1) (identity_path g v))
+
+pub row_opened : (w : Links) (v : ℕ) (row : List (Option Summary)) (o : Option Summary) → IsRow w v row → o ≡ opening (length row) v (slice_index_or w.depths v 0) → IsRow w v (row ++ (o ∷ []))
+row_opened w v row o r e = go (nat_eq (length row) v) refl
+  where
+    go : (b : Bool) → nat_eq (length row) v ≡ b → IsRow w v (row ++ (o ∷ []))
+    go true k =
+        let q : v ≡ length row = grind (arith, nat_tests) in
+        subst (λ (x : Option Summary). IsRow w v (row ++ (x ∷ []))) (sym (e ∙ ap (λ b. cond b (Some (identity (slice_index_or w.depths v 0))) None) k)) (row_self w v row r q)
+    go false k = subst (λ (x : Option Summary). IsRow w v (row ++ (x ∷ []))) (sym (e ∙ ap (λ b. cond b (Some (identity (slice_index_or w.depths v 0))) None) k)) (row_none w v row r)
+
+-- ---- one edge further
+
+pub got_below : {X : Type 0} (xs : List X) (i : ℕ) (x : X) → slice_get xs i ≡ Some x → i < length xs
+got_below [] zero x h = absurd (let e = h in cc)
+got_below [] (suc i) x h = absurd (let e = h in cc)
+got_below (y ∷ xs) zero x h = omega arith
+got_below (y ∷ xs) (suc i) x h = let k = got_below xs i x h in omega arith
+
+got_some : {X : Type 0} (xs : List X) (i : ℕ) → i < length xs → (x : X) × (slice_get xs i ≡ Some x)
+got_some [] i h = absurd (omega arith)
+got_some (y ∷ xs) zero h = (y, refl)
+got_some (y ∷ xs) (suc i) h = got_some xs i (omega arith)
+
+pub link_at : (w : Links) (g : Graph) → Draws w g → (e : ℕ) → e < edge_count g → slice_get w.edges e ≡ Some (link_in g e)
+link_at w g draws e n =
+    let k = got_some w.edges e (omega (arith, draws.edges)) in
+    k.1 ∙ ap (λ (z : Link). Some z) (draws.edge e k.0 k.1 n)
+
+module _ (g : Graph) where
+  path_over : (path : List PathStep) (e : ℕ) (l : Location) → IsPath g l path (Location.vertex (edge_source g e).vertex) → e < edge_count g → IsPath g l (path ++ (PathStep.leaves e ∷ PathStep.enters e ∷ [])) (Location.vertex (target g e))
+  path_over [] e l h k = (k, h, (k, refl, refl))
+  path_over (s ∷ path) e l h k = (h.0, h.1, path_over path e (step_to g s) h.2 k)
+
+  over_time : (path : List PathStep) (e : ℕ) (t : Time) → path_time g (path ++ (PathStep.leaves e ∷ PathStep.enters e ∷ [])) t ≡ after_action (action (vertex g (edge_source g e).vertex).kind) (path_time g path t)
+  over_time [] e t = refl
+  over_time (s ∷ path) e t = over_time path e (step_time g s t)
+
+  -- a path that goes on over an edge
+  path_one_more : (v e : ℕ) (f : Summary) → e < edge_count g → MayTake (action (vertex g (edge_source g e).vertex).kind) f → IsOfPath g v (edge_source g e).vertex f → IsOfPath g v (target g e) (then_action (action (vertex g (edge_source g e).vertex).kind) f)
+  path_one_more v e f k m o =
+      let a = action (vertex g (edge_source g e).vertex).kind in
+      record {
+        path = o.path ++ (PathStep.leaves e ∷ PathStep.enters e ∷ []);
+        leads = path_over o.path e (Location.vertex v) o.leads k;
+        does = λ t d.
+            over_time o.path e t ∙ ap (after_action a) (o.does t d) ∙ after_is a (record { epoch = t.epoch; counters = carried f t.counters })
+            ∙ ap (λ (cs : List ℕ). record { epoch = t.epoch; counters = cs }) (sym (carried_then a f t.counters (subst (λ n. Sits n f) (sym d) o.sits) m));
+        sits = sits_then a f (vertex g v).depth o.sits m;
+      }
+
+row_step : (w : Links) (v e : ℕ) (k : Link) (f : Summary) (row : List (Option Summary)) → IsRow w v row → slice_get w.edges e ≡ Some k → entry row k.source ≡ Some f → MayTake k.acts f → IsRow w v (slice_set row k.target (Some (then_action k.acts f)))
+row_step w v e k f row r h q may = record { sound = λ g draws l x f' m. go g draws l x f' (entry_set row k.target (Some (then_action k.acts f)) x f' m) }
+  where
+    go : (g : Graph) → Draws w g → v < length g → (x : ℕ) (f' : Summary) → (entry row x ≡ Some f') ⊎ ((x ≡ k.target) × (Some (then_action k.acts f) ≡ Some f')) → IsOfPath g v x f'
+    go g draws l x f' (inl a) = r.sound g draws l x f' a
+    go g draws l x f' (inr a) =
+        let n : e < edge_count g = omega (arith, got_below w.edges e k h, draws.edges) in
+        let i = draws.edge e k h n in
+        let o : IsOfPath g v (edge_source g e).vertex f = subst (λ (y : ℕ). IsOfPath g v y f) (ap (λ (z : Link). z.source) i) (r.sound g draws l k.source f q) in
+        let p = path_one_more g v e f n (subst (λ (z : Link). MayTake z.acts f) i may) o in
+        subst (λ (y : ℕ). IsOfPath g v y f') (sym (a.0 ∙ ap (λ (z : Link). z.target) i))
+        (subst (λ (z : Summary). IsOfPath g v (target g e) z) (ap (λ (z : Link). then_action z.acts f) (sym i) ∙ some_same (then_action k.acts f) f' a.1) p)
+
+pub row_stepped : (w : Links) (v e : ℕ) (k : Link) (row new : List (Option Summary)) → IsRow w v row → slice_get w.edges e ≡ Some k → Stepped k row new → IsRow w v new
+row_stepped w v e k row new r h (Stepped.same q) = subst (IsRow w v) (sym q) r
+row_stepped w v e k row new r h (Stepped.set f f' q s m) =
+    subst (IsRow w v) (sym m) (subst (λ (z : Summary). IsRow w v (slice_set row k.target (Some z))) (sym s.is) (row_step w v e k f row r h q s.may))
+
+-- ---- what the tests of a whole row show
+
+pub row_closed : (w : Links) (v : ℕ) (row : List (Option Summary)) (g : Graph) → Draws w g → v < length g → IsRow w v row → IsClosed w row → (e : ℕ) (f : Summary) → e < edge_count g → entry row (edge_source g e).vertex ≡ Some f → Reaches (vertex g v).depth (entry row (target g e)) (then_action (action (vertex g (edge_source g e).vertex).kind) f)
+row_closed w v row g draws l r c e f n q =
+    let s = (c.steps e (link_in g e) (link_at w g draws e n)).step f q in
+    let b = s.1 in
+    record {
+      least = b.least;
+      known = b.known;
+      below = below_from (vertex g v).depth b.least (then_action (action (vertex g (edge_source g e).vertex).kind) f)
+          (r.sound g draws l (target g e) b.least b.known).sits
+          (sits_then (action (vertex g (edge_source g e).vertex).kind) f (vertex g v).depth (r.sound g draws l (edge_source g e).vertex f q).sits s.0)
+          b.below;
+    }
+
+pub row_reached : (w : Links) (v : ℕ) (row : List (Option Summary)) (g : Graph) → Draws w g → v < length g → IsRow w v row → HasBelow row v (identity (slice_index_or w.depths v 0)) → Reaches (vertex g v).depth (entry row v) (identity (vertex g v).depth)
+row_reached w v row g draws l r b =
+    record {
+      least = b.least;
+      known = b.known;
+      below = below_from (vertex g v).depth b.least (identity (vertex g v).depth) (r.sound g draws l v b.least b.known).sits (identity_path g v).sits
+          (subst (λ n. is_below b.least (identity n) ≡ true) (draws.depth v l) b.below);
+    }
+
+-- ---- the edges one by one
+
+pub got_at : {X : Type 0} (xs : List X) (i : ℕ) (x : X) → i < length xs → x ≡ slice_index_or xs i x → slice_get xs i ≡ Some x
+got_at [] i x h e = absurd (omega arith)
+got_at (y ∷ xs) zero x h e = ap (λ z. Some z) (sym e)
+got_at (y ∷ xs) (suc i) x h e = got_at xs i x (omega arith) e
+
+pub closes_more : (w : Links) (row : List (Option Summary)) (i : ℕ) (k : Link) → ((e : ℕ) → e < i → (j : Link) → slice_get w.edges e ≡ Some j → Closes j row) → slice_get w.edges i ≡ Some k → Closes k row → (e : ℕ) → e < i + 1 → (j : Link) → slice_get w.edges e ≡ Some j → Closes j row
+closes_more w row i k before h here e l j q = go (last_or e i l)
+  where
+    last_or : (e i : ℕ) → e < i + 1 → (e < i) ⊎ (e ≡ i)
+    last_or e i l = grind arith
+
+    same : (a b : Link) → Some a ≡ Some b → a ≡ b
+    same a b e = cc
+
+    go : (e < i) ⊎ (e ≡ i) → Closes j row
+    go (inl a) = before e a j q
+    go (inr a) = subst (λ (z : Link). Closes z row) (same k j (sym h ∙ ap (slice_get w.edges) (sym a) ∙ q)) here
+
+pub all_closed : (w : Links) (row : List (Option Summary)) (i : ℕ) → length w.edges ≤ i → ((e : ℕ) → e < i → (j : Link) → slice_get w.edges e ≡ Some j → Closes j row) → IsClosed w row
+all_closed w row i l all = record { steps = λ e k h. all e (let n = got_below w.edges e k h in omega arith) k h }
+
+length-slice_set : (row : List (Option Summary)) (i : ℕ) (o : Option Summary) → length (slice_set row i o) ≡ length row
+length-slice_set [] i o = refl
+length-slice_set (r ∷ row) zero o = refl
+length-slice_set (r ∷ row) (suc i) o = ap suc (length-slice_set row i o)
+
+-- a step leaves the row as long
+pub stepped_length : (k : Link) (old new : List (Option Summary)) → Stepped k old new → length new ≡ length old
+stepped_length k old new (Stepped.same e) = ap length e
+stepped_length k old new (Stepped.set f h q s m) = ap length m ∙ length-slice_set old k.target (Some h)
+
+-- ---- depths and edges of a graph, one by one
+
+last_or : (a i : ℕ) → a < i + 1 → (a < i) ⊎ (a ≡ i)
+last_or a i l = grind arith
+
+depth_push : (ds : List ℕ) (d v : ℕ) → v < length ds → slice_index_or (ds ++ (d ∷ [])) v 0 ≡ slice_index_or ds v 0
+depth_push [] d v l = absurd (omega arith)
+depth_push (x ∷ ds) d zero l = refl
+depth_push (x ∷ ds) d (suc v) l = depth_push ds d v (omega arith)
+
+depth_last : (ds : List ℕ) (d : ℕ) → slice_index_or (ds ++ (d ∷ [])) (length ds) 0 ≡ d
+depth_last [] d = refl
+depth_last (x ∷ ds) d = depth_last ds d
+
+pub depths_more : (g : Graph) (ds : List ℕ) (n d : ℕ) → length ds ≡ n → ((v : ℕ) → v < n → slice_index_or ds v 0 ≡ (vertex g v).depth) → d ≡ (vertex g n).depth → (v : ℕ) → v < n + 1 → slice_index_or (ds ++ (d ∷ [])) v 0 ≡ (vertex g v).depth
+depths_more g ds n d l all e v m = go (last_or v n m)
+  where
+    go : (v < n) ⊎ (v ≡ n) → slice_index_or (ds ++ (d ∷ [])) v 0 ≡ (vertex g v).depth
+    go (inl a) = depth_push ds d v (omega arith) ∙ all v a
+    go (inr a) = ap (λ (i : ℕ). slice_index_or (ds ++ (d ∷ [])) i 0) (a ∙ sym l) ∙ depth_last ds d ∙ e ∙ ap (λ (i : ℕ). (vertex g i).depth) (sym a)
+
+link_push : (es : List Link) (x : Link) (e : ℕ) (k : Link) → slice_get (es ++ (x ∷ [])) e ≡ Some k → (slice_get es e ≡ Some k) ⊎ ((e ≡ length es) × (x ≡ k))
+link_push [] x zero k h = inr (refl, link_same x k h)
+  where
+    link_same : (a b : Link) → Some a ≡ Some b → a ≡ b
+    link_same a b e = cc
+link_push [] x (suc e) k h = inl h
+link_push (y ∷ es) x zero k h = inl h
+link_push (y ∷ es) x (suc e) k h = go (link_push es x e k h)
+  where
+    go : (slice_get es e ≡ Some k) ⊎ ((e ≡ length es) × (x ≡ k)) → (slice_get es e ≡ Some k) ⊎ ((suc e ≡ suc (length es)) × (x ≡ k))
+    go (inl a) = inl a
+    go (inr a) = inr (ap suc a.0, a.1)
+
+pub links_more : (g : Graph) (es : List Link) (n : ℕ) (x : Link) → length es ≡ n → ((e : ℕ) (k : Link) → slice_get es e ≡ Some k → k ≡ link_in g e) → x ≡ link_in g n → (e : ℕ) (k : Link) → slice_get (es ++ (x ∷ [])) e ≡ Some k → k ≡ link_in g e
+links_more g es n x l all h e k q = go (link_push es x e k q)
+  where
+    go : (slice_get es e ≡ Some k) ⊎ ((e ≡ length es) × (x ≡ k)) → k ≡ link_in g e
+    go (inl a) = all e k a
+    go (inr a) = sym a.1 ∙ h ∙ ap (link_in g) (sym l ∙ sym a.0)
+
+pub no_links : (g : Graph) (e : ℕ) (k : Link) → slice_get [] e ≡ Some k → k ≡ link_in g e
+no_links g e k h = absurd (let l = got_below [] e k h in omega arith)

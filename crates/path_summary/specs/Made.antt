@@ -1,0 +1,44 @@
+-- The whole table.
+use Rattle.std.specs.Prelude.{◌≡◌, ◌⊎◌, ℕ, ◌<◌, List, [], length, Option, Some, None, slice_index_or}
+use Rattle.semantics.specs.Time.{Action, Time}
+use Rattle.semantics.specs.Could.{Location, Pointstamp}
+use Rattle.semantics.specs.Graph.{Graph}
+use Rattle.semantics.specs.Dataflow.{IsDataflow}
+use Rattle.semantics.specs.Summary.{Summary}
+use Rattle.path_summary.specs.Linking.{Links, Draws, home_in, link_of}
+use Rattle.path_summary.specs.Tables.{Covers, Stays}
+use Rattle.path_summary.specs.Rows.{IsGoodRow}
+use Rattle.path_summary.specs.Codes.{decoded, StandsFor}
+
+-- the code from v to x, 0 where there is none
+abbrev pub code_at : List (List ℕ) → ℕ → ℕ → ℕ
+code_at rows v x = slice_index_or (slice_index_or rows v []) x 0
+
+-- the entry from v to x
+abbrev pub entry_at : List Summary → List (List ℕ) → ℕ → ℕ → Option Summary
+entry_at summaries rows v x = decoded summaries (code_at rows v x)
+
+-- the row of v stands for a whole row
+pub record IsPacked (w : Links) (summaries : List Summary) (codes : List ℕ) (v : ℕ) : Type 0 where
+  pub row : List (Option Summary)
+  pub good : IsGoodRow w v row
+  pub stands : StandsFor summaries codes row
+  pub long : length codes ≡ length row
+
+-- each row so far is
+abbrev pub ArePacked : Links → List Summary → List (List ℕ) → Type 0
+ArePacked w summaries rows = (v : ℕ) → v < length rows → IsPacked w summaries (slice_index_or rows v []) v
+
+-- what is kept of a graph: its edges, and a row for each vertex
+pub record IsMade (g : Graph) (w : Links) (summaries : List Summary) (rows : List (List ℕ)) : Type 0 where
+  pub draws : Draws w g
+  pub dataflow : ∥ IsDataflow g ∥₁
+  pub long : length rows ≡ length w.depths
+  pub packed : ArePacked w summaries rows
+
+-- what the rows say of p and the location and time of another
+abbrev pub DecidedIn : Links → List Summary → List (List ℕ) → Pointstamp → Location → Time → Type 0
+DecidedIn w summaries rows p (Location.vertex x) u = Covers (entry_at summaries rows (home_in w p.location) x) Action.stay p.time u
+DecidedIn w summaries rows p (Location.edge e) u =
+    Stays p.location p.time (Location.edge e) u
+    ⊎ Covers (entry_at summaries rows (home_in w p.location) (link_of w e).source) (link_of w e).acts p.time u

@@ -1,0 +1,215 @@
+//! The table of a graph, and what it answers.
+
+ghost use Rattle.std.specs.Prelude.{◌≡◌, ◌≤◌, ◌<◌, ◌++◌, ◌∷◌, [], ◌↔◌, List, ℕ, Option, Some, None, IsTrue, IfOk, IfSome, IfNone, false, length, slice_index_or};
+ghost use Rattle.std.specs.Bool.{Decides};
+ghost use Rattle.lowering.specs.Locations.{location_of};
+ghost use Rattle.lowering.specs.Shown.{shown_graph};
+ghost use Rattle.semantics.specs.Could.{CouldResultIn, IsTimeAt, Location as Place};
+ghost use Rattle.semantics.specs.Dataflow.{IsDataflow};
+ghost use Rattle.path_summary.specs.Linking.{Draws, IsKnown};
+ghost use Rattle.path_summary.specs.Made.{ArePacked, DecidedIn, IsPacked, code_at, entry_at};
+ghost use Rattle.path_summary.specs.Tables.{Covers, Stays};
+ghost use Rattle.path_summary.specs.Codes.{Grows};
+ghost use Rattle.path_summary.specs.Views.{action_of};
+
+use crate::action::Action;
+use crate::codes::PackedRow;
+use crate::links::Links;
+use crate::pointstamp::{Pointstamp, same_location};
+use crate::row::Row;
+use crate::summary::Summary;
+use expr_tree::NoMemory;
+use loop_context::Time;
+use lowering::{Graph, Location};
+use std::alloc::Global;
+use std::marker::Model;
+use std::sync::Arc;
+
+/// Which pointstamps of a graph could result in which.
+#[derive(Drop)]
+pub struct Paths {
+    graph: Arc<Graph, Global>,
+    links: Links,
+    summaries: Vec<Summary>,
+    rows: Vec<PackedRow>,
+}
+
+impl Model for Paths {
+    ghost use Rattle.std.specs.Prelude.{ℕ, List};
+    ghost use Rattle.lowering.specs.declared.graph.DeclaredInput.{DeclaredInput};
+    ghost use Rattle.lowering.specs.declared.vertex.Vertex.{Vertex};
+    ghost use Rattle.expr_tree.specs.contracts.scalar.Scalar as scalar;
+    ghost use Rattle.expr_tree.specs.contracts.condition.Cond as condition;
+    ghost use Rattle.lowering.specs.Shown.{shown_graph};
+    ghost use Rattle.path_summary.specs.Made.{IsMade};
+    ghost use Rattle.std.specs.Coded.{codes};
+    ghost use Rattle.std.specs.contracts.alloc.Global as heap;
+    ghost use Rattle.std.specs.contracts.impls.GlobalAllocator.TheImpl as allocates;
+
+    ghost Value = { List Vertex × List DeclaredInput × List ℕ };
+
+    ghost coded = { Prim.hlevel (codes, (scalar.the_row heap.the_row allocates.ghosts).coded, (condition.the_row heap.the_row allocates.ghosts).coded) };
+
+    ghost view = { λ p. p.graph.value };
+
+    ghost invariant = { λ p. IsMade (shown_graph p.graph.value) p.links p.summaries.items p.rows.items };
+}
+
+impl Paths {
+    /// The paths of a graph. 4 bytes are kept for each two vertices. `NoMemory` also where `Row::of` finds no whole row.
+    pub fn of(alloc: Global, graph: &Arc<Graph, Global>) -> Result<Paths, NoMemory>
+        ensures { IfOk result (λ p. p ≡ graph.now.value) }
+    {
+        semantics::graphs::law_program();
+        let graph = Arc::try_clone(graph)?;
+        graph.law_of_program();
+        let links = Links::of(alloc, &graph)?;
+        let mut summaries = Vec::new(alloc);
+        let rows = rows_of(alloc, &links, &mut summaries)?;
+        Ok(Paths {
+            graph,
+            links,
+            summaries,
+            rows,
+        })
+    }
+
+    /// The graph that they are of.
+    pub fn graph(&self) -> &Graph
+        ensures { result.now ≡ self.now }
+    {
+        &self.graph
+    }
+
+    /// Whether the graph has the location of `p`, and the time its depth: what the calls below ask of pointstamps.
+    pub fn fits(&self, p: &Pointstamp) -> bool
+        ensures { IsTrue result ↔ IsTimeAt (shown_graph self.now) p.now.location p.now.time }
+    {
+        is_time_at(self.graph(), p)
+    }
+
+    /// The graph is a dataflow graph, so the laws of such graphs hold of it. Nothing is done.
+    pub fn law_of_dataflow(&self)
+        ensures { ∥ IsDataflow (shown_graph self.now) ∥₁ }
+    {
+        let _ = &self.graph;
+    }
+
+    /// Whether `p` could result in `q`: some path, perhaps of no steps, takes it to one at or before `q`. Each is to have the depth
+    /// of its location.
+    pub fn could(&self, p: &Pointstamp, q: &Pointstamp) -> bool
+        requires from { IsTimeAt (shown_graph self.now) p.now.location p.now.time }
+        requires to { IsTimeAt (shown_graph self.now) q.now.location q.now.time }
+        ensures { IsTrue result ↔ CouldResultIn (shown_graph self.now) p.now q.now }
+    {
+        could_in(&self.links, &self.summaries, &self.rows, p, q)
+    }
+}
+
+/// Whether the graph has the location, and the time its depth.
+fn is_time_at(graph: &Graph, p: &Pointstamp) -> bool
+    ensures { IsTrue result ↔ IsTimeAt (shown_graph graph.now) p.now.location p.now.time }
+{
+    match p.location() {
+        Location::Edge(edge) => {
+            (edge.0 as usize) < graph.edge_count()
+                && graph.depth_at(p.location()) as usize == p.time().depth()
+        }
+        Location::Vertex(vertex) => {
+            (vertex.0 as usize) < graph.vertex_count()
+                && graph.depth_at(p.location()) as usize == p.time().depth()
+        }
+    }
+}
+
+/// The rows of all vertices.
+fn rows_of(
+    alloc: Global,
+    links: &Links,
+    summaries: &mut Vec<Summary>,
+) -> Result<Vec<PackedRow>, NoMemory>
+    requires empty { summaries.old.items ≡ [] }
+    requires few { length links.now.depths ≤ 4096 }
+    ensures packed { IfOk result (λ rows. ArePacked links.now summaries.new.items rows.items) }
+    ensures long { IfOk result (λ rows. length rows.items ≡ length links.now.depths) }
+{
+    let mut rows = Vec::with_capacity(alloc, links.vertex_count())?;
+    for vertex in 0..links.vertex_count() {
+        let row = Row::of(alloc, links, vertex as u32)?;
+        let packed = PackedRow::of(alloc, summaries, &row)?;
+        rows.push(packed)?;
+    }
+    Ok(rows)
+}
+
+/// By the table, whether `p` could result in `q`.
+fn could_in(
+    links: &Links,
+    summaries: &[Summary],
+    rows: &[PackedRow],
+    p: &Pointstamp,
+    q: &Pointstamp,
+) -> bool
+    requires from { IsKnown links.now p.now.location }
+    requires to { IsKnown links.now q.now.location }
+    ensures { Decides result (DecidedIn links.now summaries.now rows.now p.now q.now.location q.now.time) }
+{
+    let home = links.home(p.location());
+    match q.location() {
+        Location::Vertex(vertex) => { comes(summaries, rows, home, vertex.0, Action::Stay, p, q) }
+        Location::Edge(number) => {
+            let edge = links.edge(number.0);
+            stays(p, q) || comes(summaries, rows, home, edge.source(), edge.action(), p, q)
+        }
+    }
+}
+
+/// Whether the entry from one vertex to another, and then the action, take `p` to a time at or before `q`'s.
+fn comes(
+    summaries: &[Summary],
+    rows: &[PackedRow],
+    from: u32,
+    to: u32,
+    action: Action,
+    p: &Pointstamp,
+    q: &Pointstamp,
+) -> bool
+    ensures { Decides result (Covers (entry_at summaries.now rows.now from to) (action_of action) p.now.time q.now.time) }
+{
+    match entry(summaries, rows, from, to) {
+        Some(summary) => covers(summary, action, p.time(), q.time()),
+        None => false,
+    }
+}
+
+/// The entry from one vertex to another.
+fn entry<'a>(
+    summaries: &'a [Summary],
+    rows: &[PackedRow],
+    from: u32,
+    to: u32,
+) -> Option<&'a Summary>
+    ensures none { IfNone result (entry_at summaries.now rows.now from to ≡ None) }
+    ensures some { IfSome result (λ f. entry_at summaries.now rows.now from to ≡ Some f.now) }
+{
+    let code = match rows.get(from as usize) {
+        Some(row) => row.code(to),
+        None => 0,
+    };
+    summaries.get((code as usize).checked_sub(1)?)
+}
+
+/// Whether a summary and then an action take `time` to one at or before `until`.
+fn covers(summary: &Summary, action: Action, time: &Time, until: &Time) -> bool
+    ensures { Decides result (Covers (Some summary.now) (action_of action) time.now until.now) }
+{
+    time.epoch() <= until.epoch() && summary.reaches(action, time.counters(), until.counters())
+}
+
+/// Whether `p` stays on its edge until `q`.
+fn stays(p: &Pointstamp, q: &Pointstamp) -> bool
+    ensures { Decides result (Stays p.now.location p.now.time q.now.location q.now.time) }
+{
+    let same = same_location(p.location(), q.location());
+    same && p.time().leq(q.time())
+}

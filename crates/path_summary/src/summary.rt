@@ -1,0 +1,259 @@
+//! Summaries of paths: what a path does to counters.
+
+ghost use Rattle.std.specs.Prelude.{◌≡◌, ◌<◌, ◌≤◌, ◌+◌, ◌-◌, ◌^◌, ◌↔◌, ◌++◌, IsTrue, IfSome, length};
+ghost use Rattle.std.specs.List.{All};
+ghost use Rattle.semantics.specs.Summary.{Summary as Definition};
+ghost use Rattle.path_summary.specs.Carried.{carried, counters_after, identity, kept, raised_at};
+ghost use Rattle.path_summary.specs.Order.{in_order};
+ghost use Rattle.path_summary.specs.Rows.{Follows, is_below};
+ghost use Rattle.path_summary.specs.Views.{action_of};
+
+use crate::action::Action;
+use arrayvec::ArrayVec;
+use loop_context::MAX_LOOPS;
+use std::marker::Model;
+
+/// Keep so many counters, add to the last of these, append the tail.
+#[derive(Drop)]
+pub struct Summary {
+    keep: u32,
+    add: u32,
+    tail: ArrayVec<u32, MAX_LOOPS>,
+}
+
+impl Model for Summary {
+    ghost use Rattle.semantics.specs.Summary.{Summary as Definition};
+
+    ghost Value = { Definition };
+
+    ghost view = { λ f. record { keep = f.keep; add = f.add; tail = f.tail.items } };
+}
+
+impl Summary {
+    /// Of the path of no steps.
+    pub fn identity(depth: u32) -> Self
+        ensures { result ≡ identity depth }
+    {
+        Summary {
+            keep: depth,
+            add: 0,
+            tail: ArrayVec::new(),
+        }
+    }
+
+    /// Followed by an action. `None` where no counter is left that the action needs, where a number doesn't fit, or where more
+    /// than 8 counters would be appended: none of these in a graph of a query.
+    pub fn then(&self, action: Action) -> Option<Summary>
+        ensures { IfSome result (λ f. Follows (action_of action) self.now f) }
+    {
+        match action {
+            Action::Stay => Some(self.copied()),
+            Action::Enter => self.entered(),
+            Action::Leave => self.left(),
+            Action::Next => self.turned(),
+        }
+    }
+
+    fn entered(&self) -> Option<Summary>
+        ensures { IfSome result (λ f. Follows (action_of Action.Enter) self.now f) }
+    {
+        let mut after = self.copied();
+        if after.tail.try_push(0).is_err() {
+            return None;
+        }
+        Some(after)
+    }
+
+    fn left(&self) -> Option<Summary>
+        ensures { IfSome result (λ f. Follows (action_of Action.Leave) self.now f) }
+    {
+        let mut tail = copied_counters(self.tail.as_slice());
+        if tail.pop().is_some() {
+            return Some(Summary {
+                keep: self.keep,
+                add: self.add,
+                tail,
+            });
+        }
+        Some(Summary {
+            keep: self.keep.checked_sub(1)?,
+            add: 0,
+            tail,
+        })
+    }
+
+    fn turned(&self) -> Option<Summary>
+        ensures { IfSome result (λ f. Follows (action_of Action.Next) self.now f) }
+    {
+        let mut tail = copied_counters(self.tail.as_slice());
+        if let Some(counter) = tail.pop() {
+            tail.push(counter.checked_add(1)?);
+            return Some(Summary {
+                keep: self.keep,
+                add: self.add,
+                tail,
+            });
+        }
+        if self.keep == 0 {
+            return None;
+        }
+        Some(Summary {
+            keep: self.keep,
+            add: self.add.checked_add(1)?,
+            tail,
+        })
+    }
+
+    /// The same summary.
+    pub fn copied(&self) -> Summary
+        ensures { result ≡ self.now }
+    {
+        Summary {
+            keep: self.keep,
+            add: self.add,
+            tail: copied_counters(self.tail.as_slice()),
+        }
+    }
+
+    /// Whether this one is told to carry counters to ones at or before those of the other.
+    pub fn is_below(&self, other: &Summary) -> bool
+        ensures { result ≡ is_below self.now other.now }
+    {
+        if self.keep == other.keep {
+            self.add < other.add
+                || (self.add == other.add && in_order(self.tail.as_slice(), other.tail.as_slice()))
+        } else {
+            other.keep < self.keep && 0 < other.add
+        }
+    }
+
+    /// Whether the two are one.
+    #[tactic(auto, using(crate::proofs::Carrying::same_parts))]
+    pub fn same(&self, other: &Summary) -> bool
+        ensures { IsTrue result ↔ (self.now ≡ other.now) }
+    {
+        let parts = self.keep == other.keep && self.add == other.add;
+        parts && self.tail.as_slice() == other.tail.as_slice()
+    }
+
+    /// Whether this one, and then the action, carry these counters to ones at or before those.
+    pub fn reaches(&self, action: Action, counters: &[u32], until: &[u32]) -> bool
+        requires { length counters.now ≤ 8 }
+        ensures { result ≡ in_order (counters_after (action_of action) (carried self.now counters.now)) until.now }
+    {
+        let mut carried = self.carried(counters);
+        act(&mut carried, action);
+        in_order_wide(carried.as_slice(), until)
+    }
+
+    fn carried(&self, counters: &[u32]) -> ArrayVec<u64, 17>
+        requires { length counters.now ≤ 8 }
+        ensures items { result.items ≡ carried self.now counters.now }
+        ensures few { length result.items ≤ 16 }
+        ensures small { All (λ c. c < 2 ^ 33) result.items }
+    {
+        let mut out = ArrayVec::new();
+        push_kept(&mut out, self.keep, self.add, counters);
+        for counter in self.tail.as_slice() {
+            out.push(*counter as u64);
+        }
+        out
+    }
+}
+
+/// The same counters.
+fn copied_counters(counters: &[u32]) -> ArrayVec<u32, MAX_LOOPS>
+    requires { length counters.now ≤ 8 }
+    ensures { result.items ≡ counters.now }
+{
+    let mut copied = ArrayVec::new();
+    for counter in counters {
+        copied.push(*counter);
+    }
+    copied
+}
+
+/// Whether the counters are in lexicographic order.
+fn in_order(counters: &[u32], others: &[u32]) -> bool
+    ensures { result ≡ in_order counters.now others.now }
+{
+    match counters {
+        [] => true,
+        [counter, rest @ ..] => match others {
+            [] => false,
+            [other, more @ ..] => {
+                *counter < *other || (*counter == *other && in_order(rest, more))
+            }
+        },
+    }
+}
+
+/// The same order, over wider numbers.
+fn in_order_wide(counters: &[u64], others: &[u32]) -> bool
+    ensures { result ≡ in_order counters.now others.now }
+{
+    match counters {
+        [] => true,
+        [counter, rest @ ..] => match others {
+            [] => false,
+            [other, more @ ..] => {
+                *counter < (*other as u64)
+                    || (*counter == (*other as u64) && in_order_wide(rest, more))
+            }
+        },
+    }
+}
+
+/// A kept counter, raised where it is the last that is kept.
+#[tactic(auto, using(crate::proofs::Carrying::raised_first, crate::proofs::Carrying::raised_later))]
+fn raise_last(keep: u32, add: u32, counter: u32) -> u64
+    requires { 0 < keep }
+    ensures value { result ≡ raised_at (keep - 1) add counter }
+    ensures small { result < 2 ^ 33 }
+{
+    if keep == 1 {
+        (counter as u64) + (add as u64)
+    } else {
+        counter as u64
+    }
+}
+
+/// Appends the kept counters.
+#[tactic(auto, using(crate::proofs::Carrying::kept_none))]
+fn push_kept(out: &mut ArrayVec<u64, 17>, keep: u32, add: u32, counters: &[u32])
+    requires { length out.old.items + length counters.now ≤ 8 }
+    ensures items { out.new.items ≡ out.old.items ++ kept keep add counters.now }
+    ensures few { length out.new.items ≤ length out.old.items + length counters.now }
+    ensures small { All (λ c. c < 2 ^ 33) out.old.items → All (λ c. c < 2 ^ 33) out.new.items }
+{
+    if keep == 0 {
+        return;
+    }
+    match counters {
+        [] => {}
+        [counter, rest @ ..] => {
+            out.push(raise_last(keep, add, *counter));
+            push_kept(out, keep - 1, add, rest);
+        }
+    }
+}
+
+/// What an action does to counters.
+#[tactic(auto, using(crate::proofs::Carrying::popped_front, crate::proofs::Carrying::popped_last))]
+fn act(counters: &mut ArrayVec<u64, 17>, action: Action)
+    requires few { length counters.old.items ≤ 16 }
+    requires small { All (λ c. c < 2 ^ 33) counters.old.items }
+    ensures { counters.new.items ≡ counters_after (action_of action) counters.old.items }
+{
+    match action {
+        Action::Stay => {}
+        Action::Enter => counters.push(0),
+        Action::Leave => {
+            let _ = counters.pop();
+        }
+        Action::Next => match counters.pop() {
+            Some(counter) => counters.push(counter + 1),
+            None => counters.push(1),
+        },
+    }
+}

@@ -1,0 +1,23 @@
+-- What trackers show.
+use Rattle.std.specs.Prelude.{ℕ, List}
+use Rattle.semantics.specs.Could.{Pointstamp}
+use Rattle.lowering.specs.declared.graph.DeclaredInput.{DeclaredInput}
+use Rattle.lowering.specs.declared.vertex.Vertex.{Vertex}
+use Rattle.progress.specs.Bag.{Bag}
+
+-- what a graph in memory shows
+abbrev pub GraphValue : Type 0
+GraphValue = List Vertex × List DeclaredInput × List ℕ
+
+-- of a list of active pointstamps
+pub record Listed : Type 0 where
+  pub graph : GraphValue
+  pub active : List Pointstamp
+  pub spare : ℕ
+
+-- of active times by location
+pub record Located : Type 0 where
+  pub graph : GraphValue
+  pub edges : List Bag
+  pub vertices : List Bag
+  pub spare : ℕ

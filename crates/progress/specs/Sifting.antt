@@ -1,0 +1,23 @@
+-- What the parts of a search tree's changes do.
+use Rattle.std.specs.Prelude.{◌≡◌, ℕ, Option, Some, None}
+use Rattle.semantics.specs.Time.{Time}
+use Rattle.progress.specs.Times.{NoLater}
+use Rattle.progress.specs.Bag.{Bag, held, top, IsFirst, IsNone}
+use Rattle.progress.specs.declared.tree.Entry.{Entry}
+use Rattle.progress.specs.declared.tree.Node.{Node}
+use Rattle.progress.specs.declared.tree.Node.TheVariants.{Leaf, Fork}
+
+-- of two entries the one with the lesser counters stays, and the other goes on
+pub data IsSifted (old entry new rest : Entry) : Type 0 where
+  stays : new ≡ old → rest ≡ entry → NoLater old.time entry.time → IsSifted old entry new rest
+  swaps : new ≡ entry → rest ≡ old → NoLater entry.time old.time → IsSifted old entry new rest
+
+-- what is on top of the first comes before all of the second; the second is empty where the first is
+pub record Leads (first second : Bag) : Type 0 where
+  pub empty : top first ≡ None → IsNone second
+  pub before : (t : Time) (n : ℕ) → top first ≡ Some (held t n) → IsFirst t second
+
+-- the entry of a fork
+abbrev pub entry_of : Node → Option Entry
+entry_of Leaf = None
+entry_of (Fork left here split right) = Some here

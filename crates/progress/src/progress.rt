@@ -1,0 +1,54 @@
+//! What each tracker of progress is.
+
+ghost use Rattle.std.specs.Prelude.{◌≡◌, ◌+◌, ◌<◌, ◌≤◌, ◌↔◌, ℕ, IsTrue, OnOk};
+ghost use Rattle.semantics.specs.Graph.{Graph as Definition};
+ghost use Rattle.semantics.specs.Could.{CouldResultIn, IsTimeAt, NoOtherOf, NoneOf, Pointstamp as Active};
+ghost use Rattle.machine.specs.Active.{one_if_same};
+
+use expr_tree::NoMemory;
+use path_summary::Pointstamp;
+
+/// A multiset of active pointstamps of a graph, and room for more. Only `reserve` takes memory.
+pub trait Progress: Drop {
+    ghost graph: { Self → Definition };
+
+    ghost content: { Self → Active → ℕ };
+
+    ghost room: { Self → ℕ };
+
+    /// Makes room for so many more. After a refusal what is active is as before, and there is no less room.
+    fn reserve(&mut self, count: u32) -> Result<(), NoMemory>
+        ensures content { content self.new ≡ content self.old }
+        ensures graph { graph self.new ≡ graph self.old }
+        ensures kept { room self.old ≤ room self.new }
+        ensures room { OnOk result (count ≤ room self.new) };
+
+    /// For how many more there is room.
+    fn spare(&self) -> u32
+        ensures { result ≡ room self.now };
+
+    /// It is active once more.
+    fn add(&mut self, p: &Pointstamp)
+        requires room { 0 < room self.old }
+        requires known { IsTimeAt (graph self.old) p.now.location p.now.time }
+        ensures content { (q : Active) → content self.new q ≡ one_if_same q p.now + content self.old q }
+        ensures graph { graph self.new ≡ graph self.old }
+        ensures room { room self.old ≤ room self.new + 1 };
+
+    /// It is active once less.
+    fn remove(&mut self, p: &Pointstamp)
+        requires { 0 < content self.old p.now }
+        ensures content { (q : Active) → content self.old q ≡ one_if_same q p.now + content self.new q }
+        ensures graph { graph self.new ≡ graph self.old }
+        ensures room { room self.old ≤ room self.new };
+
+    /// Whether no active pointstamp that is different from `p` could result in it.
+    fn in_frontier(&self, p: &Pointstamp) -> bool
+        requires { IsTimeAt (graph self.now) p.now.location p.now.time }
+        ensures { IsTrue result ↔ NoOtherOf (CouldResultIn (graph self.now)) (λ q. 0 < content self.now q) p.now };
+
+    /// Whether no active pointstamp, `p` itself included, could result in `p`.
+    fn none_before(&self, p: &Pointstamp) -> bool
+        requires { IsTimeAt (graph self.now) p.now.location p.now.time }
+        ensures { IsTrue result ↔ NoneOf (CouldResultIn (graph self.now)) (λ q. 0 < content self.now q) p.now };
+}

@@ -1,0 +1,178 @@
+//! Both trackers over the same calls.
+
+ghost use Rattle.std.specs.Prelude.{◌≡◌, ◌<◌, ◌↔◌, ℕ, IsTrue, OnOk};
+ghost use Rattle.lowering.specs.Shown.{shown_graph};
+ghost use Rattle.semantics.specs.Could.{IsTimeAt, Pointstamp as Active};
+ghost use Rattle.progress.specs.Content.{times_at, times_in};
+
+use super::*;
+use expr_tree::NoMemory;
+use loop_context::Time;
+use lowering::{Location, VertexId, lower};
+use parser::parse;
+use path_summary::{Paths, Pointstamp};
+use std::alloc::Global;
+use std::sync::Arc;
+use std::test::Fail;
+use typing::check;
+
+/// Its graph: 0 input, 1 ingress, 2 concat, 3 gate, 4 select, 5 feedback, 6 egress, 7 output.
+const SIMPLE: &[u8] = b"input a/1; output iterate(2; x = a; select(x; #0 + 1));";
+
+/// The paths of a query's graph.
+fn paths_of(alloc: Global, query: &[u8]) -> Result<Arc<Paths, Global>, Fail> {
+    let program = parse(alloc, query)?;
+    let typed = match check(alloc, program) {
+        Ok(typed) => typed,
+        Err(_) => Err("ill typed")?,
+    };
+    let graph = Arc::new(alloc, lower(alloc, &typed)?)?;
+    Ok(Arc::new(alloc, Paths::of(alloc, &graph)?)?)
+}
+
+fn stamp(epoch: u32, counter: u32, vertex: u32) -> Option<Pointstamp> {
+    let time = Time::new(epoch, &[counter])?;
+    Some(Pointstamp::new(time, Location::Vertex(VertexId(vertex))))
+}
+
+/// What is asked: of `q`, of `p`, of `q` once `p` is gone, and of `q` once it is gone itself but for one.
+fn asked<P: Progress>(
+    tracker: &mut P,
+    p: &Pointstamp,
+    q: &Pointstamp,
+) -> Result<(bool, bool, bool, bool), NoMemory>
+    requires p { IsTimeAt (P.graph tracker.old) p.now.location p.now.time }
+    requires q { IsTimeAt (P.graph tracker.old) q.now.location q.now.time }
+{
+    tracker.reserve(3)?;
+    tracker.add(p);
+    tracker.add(q);
+    tracker.add(q);
+    let blocked = tracker.in_frontier(q);
+    let first = tracker.in_frontier(p);
+    tracker.remove(p);
+    let alone = tracker.in_frontier(q);
+    tracker.remove(q);
+    Ok((blocked, first, alone, tracker.in_frontier(q)))
+}
+
+/// The same of two pointstamps of `SIMPLE`'s graph, of which the first could result in the second.
+fn frontiers<P: Progress>(tracker: &mut P, paths: &Paths) -> Result<(bool, bool, bool, bool), Fail>
+    requires { P.graph tracker.old ≡ shown_graph paths.now }
+{
+    let p = stamp(0, 1, 3).ok_or("no time")?;
+    let q = stamp(0, 2, 2).ok_or("no time")?;
+    if !paths.fits(&p) || !paths.fits(&q) {
+        Err("not of the graph")?;
+    }
+    Ok(asked(tracker, &p, &q)?)
+}
+
+#[test]
+fn frontiers_of_the_plain_tracker(rt: HostRuntime) -> Result<(), Fail> {
+    let paths = paths_of(rt.alloc(), SIMPLE)?;
+    let mut tracker = PlainTracker::new(rt.alloc(), Arc::try_clone(&paths)?);
+    assert_eq!(rt; frontiers(&mut tracker, &paths)?, (false, true, true, true));
+    Ok(())
+}
+
+#[test]
+fn frontiers_of_the_tracker_by_location(rt: HostRuntime) -> Result<(), Fail> {
+    let paths = paths_of(rt.alloc(), SIMPLE)?;
+    let mut tracker = LocationTracker::new(rt.alloc(), Arc::try_clone(&paths)?)?;
+    assert_eq!(rt; frontiers(&mut tracker, &paths)?, (false, true, true, true));
+    Ok(())
+}
+
+/// Puts it in on both sides, or, where it is there, takes it out.
+fn toggle(
+    plain: &mut PlainTracker,
+    located: &mut LocationTracker,
+    p: &Pointstamp,
+) -> Result<(), NoMemory>
+    requires plain { IsTimeAt (shown_graph plain.old.graph) p.now.location p.now.time }
+    requires located { IsTimeAt (shown_graph located.old.graph) p.now.location p.now.time }
+    requires same { (q : Active) → times_in plain.old.active q ≡ times_at located.old.edges located.old.vertices q }
+    ensures plain { shown_graph plain.new.graph ≡ shown_graph plain.old.graph }
+    ensures located { shown_graph located.new.graph ≡ shown_graph located.old.graph }
+    ensures same { OnOk result ((q : Active) → times_in plain.new.active q ≡ times_at located.new.edges located.new.vertices q) }
+{
+    if plain.is_active(p) {
+        plain.remove(p);
+        located.remove(p);
+        return Ok(());
+    }
+    plain.reserve(1)?;
+    located.reserve(1)?;
+    plain.add(p);
+    located.add(p);
+    Ok(())
+}
+
+/// Whether both answer the same about it.
+fn agree(plain: &PlainTracker, located: &LocationTracker, p: &Pointstamp) -> bool
+    requires plain { IsTimeAt (shown_graph plain.now.graph) p.now.location p.now.time }
+    requires located { IsTimeAt (shown_graph located.now.graph) p.now.location p.now.time }
+{
+    plain.in_frontier(p) == located.in_frontier(p) && plain.none_before(p) == located.none_before(p)
+}
+
+/// The n-th of a list that looks random: at vertex 2, 3 or 4, in epochs 0 to 4, with counters 0 to 3.
+fn nth(n: u32) -> Option<Pointstamp> {
+    let mixed = (n % 1000) * 7919 % 611;
+    stamp(mixed % 5, mixed / 5 % 4, 2 + mixed / 20 % 3)
+}
+
+/// Toggles the n-th pointstamp, and tells whether both answer the same about a later one.
+fn turn(
+    paths: &Paths,
+    plain: &mut PlainTracker,
+    located: &mut LocationTracker,
+    n: u32,
+) -> Result<bool, Fail>
+    requires few { n < 1000 }
+    requires plain { shown_graph plain.old.graph ≡ shown_graph paths.now }
+    requires located { shown_graph located.old.graph ≡ shown_graph paths.now }
+    requires same { (q : Active) → times_in plain.old.active q ≡ times_at located.old.edges located.old.vertices q }
+    ensures plain { shown_graph plain.new.graph ≡ shown_graph paths.now }
+    ensures located { shown_graph located.new.graph ≡ shown_graph paths.now }
+    ensures same { OnOk result ((q : Active) → times_in plain.new.active q ≡ times_at located.new.edges located.new.vertices q) }
+{
+    let p = nth(n).ok_or("no time")?;
+    let later = nth(n + 37).ok_or("no time")?;
+    if !paths.fits(&p) || !paths.fits(&later) {
+        Err("not of the graph")?;
+    }
+    toggle(plain, located, &p)?;
+    Ok(agree(plain, located, &later))
+}
+
+/// How many of so many answers differ, before each of which one pointstamp comes or goes.
+fn differences(
+    paths: &Paths,
+    plain: &mut PlainTracker,
+    located: &mut LocationTracker,
+    count: u32,
+) -> Result<u32, Fail>
+    requires few { count < 1000 }
+    requires plain { shown_graph plain.old.graph ≡ shown_graph paths.now }
+    requires located { shown_graph located.old.graph ≡ shown_graph paths.now }
+    requires same { (q : Active) → times_in plain.old.active q ≡ times_at located.old.edges located.old.vertices q }
+{
+    let mut differ = 0;
+    for n in 0..count {
+        if !turn(paths, plain, located, n)? {
+            differ += 1;
+        }
+    }
+    Ok(differ)
+}
+
+#[test]
+fn both_trackers_over_one_list(rt: HostRuntime) -> Result<(), Fail> {
+    let paths = paths_of(rt.alloc(), SIMPLE)?;
+    let mut plain = PlainTracker::new(rt.alloc(), Arc::try_clone(&paths)?);
+    let mut located = LocationTracker::new(rt.alloc(), Arc::try_clone(&paths)?)?;
+    assert_eq!(rt; differences(&paths, &mut plain, &mut located, 600)?, 0);
+    Ok(())
+}

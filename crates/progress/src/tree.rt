@@ -1,0 +1,320 @@
+//! The active times of one location, with counts, in a search tree: each subtree has on top the least counters of all its times, and
+//! parts the others by epoch and counters in the middle of its range. So it is at most as deep as a key has bits, but for times of one
+//! key, and what is asked lies on one way down.
+
+ghost use Rattle.std.specs.Prelude.{◌≡◌, ◌≤◌, ◌<◌, ◌+◌, ◌^◌, ◌↔◌, [], ℕ, Some, None, true, false, IsTrue, IfSome, IfNone, length};
+ghost use Rattle.progress.specs.Bag.{Adds, IsAsked, IsFirst, IsLeast, IsNone, IsNoneAsked, count, held, top, with_times};
+ghost use Rattle.progress.specs.Bags.{IsNode, bag_of};
+ghost use Rattle.progress.specs.Kept.{HasSome};
+ghost use Rattle.progress.specs.Sifting.{IsSifted, Leads, entry_of};
+ghost use Rattle.progress.specs.Times.{key_of, mixed_from};
+
+use loop_context::Time;
+use std::marker::Model;
+use std::mem;
+
+/// A time, and how often it is there.
+#[derive(Drop)]
+pub struct Entry {
+    pub time: Time,
+    pub count: u32,
+}
+
+/// Room for one entry more.
+#[derive(Drop)]
+pub struct Room {
+    pub left: Box<Tree>,
+    pub right: Box<Tree>,
+}
+
+/// A range of keys.
+#[derive(Clone, Copy)]
+pub struct Range {
+    low: u64,
+    width: u64,
+}
+
+impl Range {
+    /// All keys.
+    pub const WHOLE: Range = Range {
+        low: 0,
+        width: u64::MAX,
+    };
+
+    /// Where it is parted.
+    fn middle(&self) -> u64 {
+        self.low.saturating_add(self.width / 2)
+    }
+
+    fn lower(&self) -> Range {
+        Range {
+            low: self.low,
+            width: self.width / 2,
+        }
+    }
+
+    fn upper(&self) -> Range {
+        Range {
+            low: self.middle(),
+            width: self.width - self.width / 2,
+        }
+    }
+}
+
+/// Active times with counts.
+#[cycle(tree)]
+#[derive(Drop)]
+pub struct Tree {
+    node: Node,
+}
+
+/// A fork has an entry, and the number that parts the keys on its left from those on its right.
+#[cycle(tree)]
+#[derive(Drop)]
+enum Node {
+    Leaf,
+    Fork(Box<Tree>, Entry, u64, Box<Tree>),
+}
+
+impl Model for Tree {
+    ghost use Rattle.progress.specs.Bag.{Bag};
+
+    ghost Value = { Bag };
+
+    ghost use Rattle.progress.specs.Bags.{IsNode, bag_of};
+
+    ghost view = { λ t. bag_of t.node };
+
+    ghost invariant = { λ t. IsNode t.node };
+
+    ghost use Rattle.std.specs.Prelude.{length};
+
+    ghost size = { length };
+
+    ghost use Rattle.progress.specs.Falls.{deep_entries};
+
+    ghost size_decreases = { λ t h. deep_entries t.node };
+}
+
+impl Tree {
+    /// No time.
+    pub fn new() -> Tree
+        ensures { result ≡ [] }
+    {
+        Tree { node: Node::Leaf }
+    }
+
+    /// The time with the least counters.
+    fn top(&self) -> Option<&Time>
+        ensures none { IfNone result (IsNone self.now × (top self.now ≡ None)) }
+        ensures top { IfSome result (λ t. (n : ℕ) × (top self.now ≡ Some (held t.now n))) }
+        ensures there { IfSome result (λ t. 0 < count self.now t.now) }
+        ensures first { IfSome result (λ t. IsFirst t.now self.now) }
+    {
+        match &self.node {
+            Node::Leaf => None,
+            Node::Fork(_, here, _, _) => Some(&here.time),
+        }
+    }
+
+    /// Whether there is no time.
+    pub fn is_empty(&self) -> bool
+        ensures empty { result ≡ true → IsNone self.now }
+        ensures some { result ≡ false → HasSome self.now }
+    {
+        match self.top() {
+            None => true,
+            Some(_) => false,
+        }
+    }
+
+    /// Puts an entry in. Room is taken only where no entry of its time has a count to raise.
+    pub fn add(&mut self, entry: Entry, range: Range, rooms: &mut Vec<Room>)
+        requires some { 0 < entry.count }
+        requires room { 0 < length rooms.old.items }
+        ensures adds { Adds self.old self.new entry.time entry.count }
+        ensures room { length rooms.old.items ≤ length rooms.new.items + 1 }
+    {
+        match &mut self.node {
+            Node::Leaf => {
+                if let Some(room) = rooms.pop() {
+                    self.node = single(room, entry, range.middle());
+                }
+            }
+            Node::Fork(left, here, split, right) => {
+                if here.time == entry.time
+                    && let Some(count) = here.count.checked_add(entry.count)
+                {
+                    here.count = count;
+                    return;
+                }
+                let lower = sift(here, entry);
+                if key(&lower.time) < *split {
+                    left.add(lower, range.lower(), rooms);
+                } else {
+                    right.add(lower, range.upper(), rooms);
+                }
+            }
+        }
+    }
+
+    /// Takes the entry with the least counters out.
+    pub fn pull(&mut self) -> Option<Entry>
+        ensures none { IfNone result (IsNone self.old × (top self.old ≡ None)) }
+        ensures still { IfNone result (IsNone self.new) }
+        ensures top { IfSome result (λ e. top self.old ≡ Some (held e.time e.count)) }
+        ensures taken { IfSome result (λ e. Adds self.new self.old e.time e.count) }
+        ensures first { IfSome result (λ e. IsFirst e.time self.old) }
+        ensures some { IfSome result (λ e. 0 < e.count) }
+    {
+        match &mut self.node {
+            Node::Leaf => None,
+            Node::Fork(left, here, _, right) => {
+                if leads(left, right) {
+                    match left.pull() {
+                        Some(next) => Some(mem::replace(here, next)),
+                        None => entry_of(mem::replace(&mut self.node, Node::Leaf)),
+                    }
+                } else {
+                    match right.pull() {
+                        Some(next) => Some(mem::replace(here, next)),
+                        None => entry_of(mem::replace(&mut self.node, Node::Leaf)),
+                    }
+                }
+            }
+        }
+    }
+
+    /// Takes a time out once.
+    pub fn remove(&mut self, time: &Time)
+        requires { 0 < count self.old time.now }
+        ensures { Adds self.new self.old time.now 1 }
+    {
+        match &mut self.node {
+            Node::Leaf => {}
+            Node::Fork(left, here, split, right) => {
+                if here.time == *time {
+                    if here.count > 1 {
+                        here.count -= 1;
+                    } else {
+                        let _ = self.pull();
+                    }
+                } else if key(time) < *split {
+                    left.remove(time);
+                } else {
+                    right.remove(time);
+                }
+            }
+        }
+    }
+
+    /// Of the times whose epoch is at most that of `until`, and which, where `other`, are different from it, one with the least
+    /// counters.
+    pub fn least(&self, until: &Time, other: bool) -> Option<&Time>
+        ensures none { IfNone result (IsNoneAsked self.now until.now other) }
+        ensures some { IfSome result (λ t. IsLeast self.now until.now other t.now) }
+    {
+        match &self.node {
+            Node::Leaf => None,
+            Node::Fork(left, here, split, right) => {
+                if is_asked(&here.time, until, other) {
+                    return Some(&here.time);
+                }
+                let near = left.least(until, other);
+                if *split / 4294967296 > until.epoch() as u64 {
+                    return near;
+                }
+                let far = right.least(until, other);
+                match near {
+                    None => far,
+                    Some(on_left) => match far {
+                        None => Some(on_left),
+                        Some(on_right) => {
+                            if on_left.counters_leq(on_right) {
+                                Some(on_left)
+                            } else {
+                                Some(on_right)
+                            }
+                        }
+                    },
+                }
+            }
+        }
+    }
+}
+
+/// A fork of one entry.
+fn single(room: Room, entry: Entry, split: u64) -> Node
+    requires { 0 < entry.count }
+    ensures node { IsNode result }
+    ensures times { bag_of result ≡ with_times [] entry.time entry.count [] }
+{
+    let Room {
+        mut left,
+        mut right,
+    } = room;
+    *left = Tree::new();
+    *right = Tree::new();
+    Node::Fork(left, entry, split, right)
+}
+
+/// The entry of a fork.
+fn entry_of(node: Node) -> Option<Entry>
+    ensures { result ≡ entry_of node }
+{
+    match node {
+        Node::Leaf => None,
+        Node::Fork(_left, here, _, _right) => Some(here),
+    }
+}
+
+/// Leaves the entry with the lesser counters here, and gives the other.
+fn sift(here: &mut Entry, entry: Entry) -> Entry
+    ensures { IsSifted here.old entry here.new result }
+{
+    if here.time.counters_leq(&entry.time) {
+        entry
+    } else {
+        mem::replace(here, entry)
+    }
+}
+
+/// Whether what comes next is on the left.
+fn leads(left: &Tree, right: &Tree) -> bool
+    ensures left { result ≡ true → Leads left.now right.now }
+    ensures right { result ≡ false → Leads right.now left.now }
+{
+    match left.top() {
+        None => false,
+        Some(on_left) => match right.top() {
+            None => true,
+            Some(on_right) => on_left.counters_leq(on_right),
+        },
+    }
+}
+
+/// Whether a time is in no later epoch, and, where `other`, is different.
+fn is_asked(time: &Time, until: &Time, other: bool) -> bool
+    ensures { IsTrue result ↔ IsAsked until.now other time.now }
+{
+    time.epoch() <= until.epoch() && !(other && time == until)
+}
+
+/// The number by which times are spread: the epoch, then the counters mixed.
+fn key(time: &Time) -> u64
+    ensures { result ≡ key_of time.now }
+{
+    (time.epoch() as u64) * 4294967296 + mixed(0, time.counters())
+}
+
+/// The counters mixed into a number below 2^32.
+fn mixed(from: u64, counters: &[u32]) -> u64
+    requires { from < 2 ^ 32 }
+    ensures value { result ≡ mixed_from from counters.now }
+    ensures small { result < 2 ^ 32 }
+{
+    match counters {
+        [] => from,
+        [counter, rest @ ..] => mixed((from * 31 + *counter as u64) % 4294967296, rest),
+    }
+}

@@ -1,0 +1,189 @@
+//! Measures path summaries and trackers: prints what came of their work, and is timed from outside.
+//!
+//! `chain N` makes the table of a graph of N loops one after another, `wide N` that of 8 loops one in another round a tree of 2^N
+//! leaves; both tell how many vertices there are. `open N ROUNDS` keeps N epochs open at an input: each round adds the newest, asks
+//! of it and of the oldest whether it is in the frontier, and removes the oldest; it tells how many answers were yes. `scan` is the
+//! same by the tracker that asks each. Without arguments it does each, small.
+#![tactic(auto)]
+
+ghost use Rattle.std.specs.Prelude.{◌≡◌, ◌<◌, ◌≤◌, ◌+◌, ◌*◌, ◌^◌, ℕ, IfOk, OnOk};
+ghost use Rattle.semantics.specs.Could.{IsTimeAt, Location as Place};
+ghost use Rattle.semantics.specs.Time.{at_epoch};
+ghost use Rattle.progress_bench.specs.Open.{AreOpen, epoch_at};
+
+use expr_tree::NoMemory;
+use loop_context::Time;
+use lowering::{Location, VertexId, lower};
+use parser::parse;
+use path_summary::{Paths, Pointstamp};
+use progress::{LocationTracker, PlainTracker, Progress};
+use std::alloc::{AllocError, Global};
+use std::sync::Arc;
+use std::{env, io};
+use typing::check;
+
+/// A query of loops, each over the last one's output.
+fn chain(alloc: Global, loops: u32) -> Result<String, AllocError> {
+    let mut text = String::from_str(alloc, "input a/1;let x0=a;")?;
+    for last in 0..loops {
+        let next = last.saturating_add(1);
+        let loop_text = format!(in alloc; "let x{next}=iterate(2;y=x{last};select(y;#0+1));")?;
+        text.push_str(loop_text.as_str())?;
+    }
+    let output = format!(in alloc; "output x{loops};")?;
+    text.push_str(output.as_str())?;
+    Ok(text)
+}
+
+/// A query of 8 loops, one in another, with a tree of unions in the innermost.
+fn wide(alloc: Global, height: u32) -> Result<String, AllocError> {
+    let mut text = String::from_str(alloc, "input y0/1;output ")?;
+    for last in 0..8 {
+        let next = last + 1;
+        let loop_text = format!(in alloc; "iterate(2;y{next}=y{last};")?;
+        text.push_str(loop_text.as_str())?;
+    }
+    push_tree(&mut text, height)?;
+    text.push_str("))))))));")?;
+    Ok(text)
+}
+
+fn push_tree(text: &mut String, height: u32) -> Result<(), AllocError> {
+    if height == 0 {
+        return text.push_str("y8");
+    }
+    text.push_str("concat(")?;
+    push_tree(text, height - 1)?;
+    text.push_str(",")?;
+    push_tree(text, height - 1)?;
+    text.push_str(")")
+}
+
+/// The paths of a query's graph; nothing without memory, or where there are too many vertices.
+fn paths_of(alloc: Global, text: &str) -> Option<Arc<Paths, Global>> {
+    let program = parse(alloc, text.as_bytes()).ok()?;
+    let typed = check(alloc, program).ok()?;
+    let graph = Arc::new(alloc, lower(alloc, &typed).ok()?).ok()?;
+    Arc::new(alloc, Paths::of(alloc, &graph).ok()?).ok()
+}
+
+fn at_input(epoch: u32) -> Pointstamp
+    ensures { result ≡ epoch_at epoch }
+{
+    Pointstamp::new(Time::at_epoch(epoch), Location::Vertex(VertexId(0)))
+}
+
+#[tactic(auto, using(crate::proofs::Opened::opens))]
+fn open_epoch<P: Progress>(tracker: &mut P, epoch: u32) -> Result<(), NoMemory>
+    requires { IsTimeAt (P.graph tracker.old) (Place.vertex 0) (at_epoch 0) }
+    ensures graph { P.graph tracker.new ≡ P.graph tracker.old }
+    ensures opens { OnOk result ((low : ℕ) → AreOpen (P.content tracker.old) low epoch → AreOpen (P.content tracker.new) low (epoch + 1)) }
+{
+    tracker.reserve(1)?;
+    tracker.add(&at_input(epoch));
+    Ok(())
+}
+
+#[tactic(auto, using(crate::proofs::Opened::closes))]
+fn close_epoch<P: Progress>(tracker: &mut P, epoch: u32)
+    requires { 0 < P.content tracker.old (epoch_at epoch) }
+    ensures graph { P.graph tracker.new ≡ P.graph tracker.old }
+    ensures closes { (high : ℕ) → AreOpen (P.content tracker.old) epoch high → AreOpen (P.content tracker.new) (epoch + 1) high }
+{
+    tracker.remove(&at_input(epoch));
+}
+
+/// How many of the two answers are yes.
+fn ask<P: Progress>(tracker: &P, oldest: u32, newest: u32) -> u64
+    requires { IsTimeAt (P.graph tracker.now) (Place.vertex 0) (at_epoch 0) }
+    ensures { result ≤ 2 }
+{
+    u64::from(tracker.in_frontier(&at_input(oldest)))
+        + u64::from(tracker.in_frontier(&at_input(newest)))
+}
+
+/// How many answers are yes in so many rounds.
+fn slide<P: Progress>(tracker: &mut P, epochs: u32, rounds: u32) -> Result<u64, NoMemory>
+    requires known { IsTimeAt (P.graph tracker.old) (Place.vertex 0) (at_epoch 0) }
+    requires few { epochs + rounds < 2 ^ 32 }
+{
+    for epoch in 0..epochs {
+        open_epoch(tracker, epoch)?;
+    }
+    let mut yes = 0;
+    for oldest in 0..rounds {
+        let newest = epochs + oldest;
+        open_epoch(tracker, newest)?;
+        yes += ask(tracker, oldest, newest);
+        close_epoch(tracker, oldest);
+    }
+    Ok(yes)
+}
+
+/// The same in the graph of `input a/1;output a;`.
+fn slide_located(alloc: Global, epochs: u32, rounds: u32) -> Option<u64>
+    requires { epochs + rounds < 2 ^ 32 }
+{
+    let paths = paths_of(alloc, "input a/1;output a;")?;
+    if !paths.fits(&at_input(0)) {
+        return None;
+    }
+    let mut tracker = LocationTracker::new(alloc, paths).ok()?;
+    slide(&mut tracker, epochs, rounds).ok()
+}
+
+/// The same by the tracker that asks each.
+fn slide_plain(alloc: Global, epochs: u32, rounds: u32) -> Option<u64>
+    requires { epochs + rounds < 2 ^ 32 }
+{
+    let paths = paths_of(alloc, "input a/1;output a;")?;
+    if !paths.fits(&at_input(0)) {
+        return None;
+    }
+    let mut tracker = PlainTracker::new(alloc, paths);
+    slide(&mut tracker, epochs, rounds).ok()
+}
+
+/// How many vertices the graph of a query has, whose table is made.
+fn table(alloc: Global, text: Result<String, AllocError>) -> Option<u64> {
+    let text = text.ok()?;
+    let paths = paths_of(alloc, text.as_str())?;
+    Some(paths.graph().vertex_count() as u64)
+}
+
+fn show(rt: &impl Print, name: &str, count: Option<u64>) -> io::Result<()> {
+    match count {
+        Some(count) => println!(rt; "{name}: {count}"),
+        None => println!(rt; "{name}: no memory"),
+    }
+}
+
+fn main(rt: HostRuntime) -> io::Result<()> {
+    let alloc = rt.alloc();
+    let words: Vec<String> = env::args(&rt)?.collect(alloc)?;
+    let work = words.get(1).map_or("", |word| word.as_str());
+    let count = number(&words, 2);
+    let rounds = number(&words, 3);
+    match work {
+        "chain" => show(&rt, work, table(alloc, chain(alloc, count))),
+        "wide" => show(&rt, work, table(alloc, wide(alloc, count))),
+        "open" => show(&rt, work, slide_located(alloc, count, rounds)),
+        "scan" => show(&rt, work, slide_plain(alloc, count, rounds)),
+        _ => {
+            show(&rt, "chain", table(alloc, chain(alloc, 20)))?;
+            show(&rt, "wide", table(alloc, wide(alloc, 5)))?;
+            show(&rt, "open", slide_located(alloc, 100, 1000))?;
+            show(&rt, "scan", slide_plain(alloc, 100, 1000))
+        }
+    }
+}
+
+/// The number in that place, at most 10 million.
+fn number(words: &[String], place: usize) -> u32
+    ensures { result ≤ 10000000 }
+{
+    let number = words
+        .get(place)
+        .map_or(0, |word| word.as_str().parse::<u32>().unwrap_or(0));
+    number.min(10_000_000)
+}
