@@ -1,0 +1,71 @@
+//! Records at which a condition holds.
+
+ghost use Rattle.std.specs.Prelude.{◌≡◌, ◌<◌, ◌++◌, ◌∷◌, [], if◌then◌else◌, length, slice_index_or, IfOk, OnOk};
+ghost use Rattle.expr_tree.specs.Plain.{plain_cond};
+ghost use Rattle.expr_tree.specs.Views.{cond_tree};
+ghost use Rattle.rows.specs.FlatRows.{arity_of};
+ghost use Rattle.semantics.specs.Kinds.{Kind};
+ghost use Rattle.semantics.specs.Meaning.{kept, holds as true_of};
+ghost use Rattle.semantics.specs.Typing.{CondFits};
+ghost use Rattle.semantics.proofs.VertexLaws.{op_nothing, op_parts};
+ghost use Rattle.operators.specs.Fits.{CondFits-prop};
+
+use crate::operator::Operator;
+use expr_tree::{Cond, holds};
+use rows::{Batch, Rows, RowsError};
+use std::alloc::Global;
+
+/// The records at which the condition holds. Each column of it is below `arity`.
+#[derive(Drop)]
+pub struct Where {
+    pub arity: usize,
+    pub condition: Cond<Global>,
+    pub ghost fits: { CondFits arity (plain_cond (cond_tree condition)) } by { CondFits-prop arity (plain_cond (cond_tree condition)) },
+}
+
+impl Operator for Where {
+    ghost kind_of = { λ v. Kind.filter (plain_cond (cond_tree v.condition)) };
+
+    ghost nothing = { λ v. op_nothing (Kind.filter (plain_cond (cond_tree v.condition))) };
+
+    ghost parts = { λ v. op_parts (Kind.filter (plain_cond (cond_tree v.condition))) };
+
+    fn in_ports(&self) -> u32 {
+        1
+    }
+
+    fn out_ports(&self) -> u32 {
+        1
+    }
+}
+
+impl Where {
+    /// The records of the batch at which the condition holds, in order.
+    #[tactic(auto, using(crate::proofs::Steps::kept_more))]
+    pub fn apply(&self, alloc: Global, batch: &Batch) -> Result<Rows, RowsError>
+        requires { arity_of batch.now ≡ self.now.arity }
+        ensures { IfOk result (λ rows. rows.rows ≡ kept (plain_cond (cond_tree self.now.condition)) batch.now) }
+    {
+        let mut rows = Rows::new(alloc, batch.arity());
+        for place in 0..batch.len() {
+            self.offer(batch, place, &mut rows)?;
+        }
+        Ok(rows)
+    }
+
+    /// One record, if the condition holds.
+    fn offer(&self, batch: &Batch, place: usize, rows: &mut Rows) -> Result<(), RowsError>
+        requires columns { arity_of batch.now ≡ self.now.arity }
+        requires place { place < length batch.now }
+        requires arity { rows.old.arity ≡ arity_of batch.now }
+        ensures rows { OnOk result (rows.new.rows ≡ rows.old.rows ++ (if true_of (plain_cond (cond_tree self.now.condition)) (slice_index_or batch.now place []) then slice_index_or batch.now place [] ∷ [] else [])) }
+        ensures arity { rows.new.arity ≡ rows.old.arity }
+    {
+        let row = batch.row(place);
+        let record = batch.record(place);
+        if holds(&self.condition, &record) {
+            rows.push(row)?;
+        }
+        Ok(())
+    }
+}

@@ -1,0 +1,186 @@
+//! Records grouped by key.
+
+ghost use Rattle.std.specs.Prelude.{◌≡◌, ◌≤◌, ◌+◌, ◌++◌, ◌+ℤ◌, ◌∷◌, [], length, map};
+ghost use Rattle.std.specs.Int.{int_wrap, w64};
+ghost use Rattle.expr_tree.specs.Plain.{plain_agg};
+ghost use Rattle.operators.specs.Aggregates.{begun, stepped, stepped_all, stored_key};
+ghost use Rattle.semantics.specs.Meaning.{project};
+ghost use Rattle.semantics.specs.Kinds.{Kind};
+ghost use Rattle.semantics.proofs.VertexLaws.{op_nothing, op_parts};
+
+use crate::operator::Operator;
+use arrayvec::ArrayVec;
+use expr_tree::{Agg, Column};
+use rows::field;
+use std::marker::Model;
+
+/// A record for each key that is present: the key's columns, then the aggregates of the records with that key. Without columns all
+/// records are one group. There are 1 to 16 columns and aggregates.
+#[derive(Drop)]
+pub struct Group {
+    pub columns: Vec<Column>,
+    pub aggregates: Vec<Agg>,
+    pub ghost some: { 1 ≤ length columns.items + length aggregates.items },
+    pub ghost few: { length columns.items + length aggregates.items ≤ 16 },
+}
+
+impl Operator for Group {
+    ghost kind_of = { λ v. Kind.group (map (λ k. k.index) v.columns.items) (map plain_agg v.aggregates.items) };
+
+    ghost nothing = { λ v. op_nothing (Kind.group (map (λ k. k.index) v.columns.items) (map plain_agg v.aggregates.items)) };
+
+    ghost parts = { λ v. op_parts (Kind.group (map (λ k. k.index) v.columns.items) (map plain_agg v.aggregates.items)) };
+
+    fn in_ports(&self) -> u32 {
+        1
+    }
+
+    fn out_ports(&self) -> u32 {
+        1
+    }
+}
+
+/// At most 16 numbers: a key, or a key's aggregates. They lie inline.
+#[derive(Drop)]
+pub struct Numbers {
+    items: ArrayVec<i64, 16>,
+}
+
+impl Model for Numbers {
+    ghost use Rattle.std.specs.Prelude.{List, ℤ, ◌≤◌, length};
+
+    ghost Value = { List ℤ };
+
+    ghost view = { λ n. n.items.items };
+
+    ghost invariant = { λ n. length n.items.items ≤ 16 };
+}
+
+impl Numbers {
+    fn none() -> Numbers
+        ensures { result ≡ [] }
+    {
+        Numbers {
+            items: ArrayVec::new(),
+        }
+    }
+
+    pub fn as_slice(&self) -> &[i64]
+        ensures { result.now ≡ self.now }
+    {
+        self.items.as_slice()
+    }
+
+    fn push(&mut self, number: i64)
+        requires { length self.old + 1 ≤ 16 }
+        ensures { self.new ≡ self.old ++ number ∷ [] }
+    {
+        self.items.push(number);
+    }
+}
+
+impl Group {
+    /// What stands for the key of a record: the key, or a 0 where the group has no columns.
+    pub fn key(&self, row: &[i64]) -> Numbers
+        ensures { result ≡ stored_key (map (λ k. k.index) self.now.columns.items) row.now }
+    {
+        key_of(&self.columns, row)
+    }
+
+    /// The aggregates of one record alone.
+    pub fn begin(&self, row: &[i64]) -> Numbers
+        ensures { result ≡ map (λ a. begun a row.now) (map plain_agg self.now.aggregates.items) }
+    {
+        let mut values = Numbers::none();
+        push_begun(&mut values, &self.aggregates, row);
+        values
+    }
+
+    /// The aggregates with one record more.
+    pub fn step(&self, values: &Numbers, row: &[i64]) -> Numbers
+        ensures { result ≡ stepped_all (map plain_agg self.now.aggregates.items) values.now row.now }
+    {
+        let mut made = Numbers::none();
+        push_stepped(&mut made, &self.aggregates, values.as_slice(), row);
+        made
+    }
+}
+
+fn key_of(columns: &[Column], row: &[i64]) -> Numbers
+    requires { length columns.now ≤ 16 }
+    ensures { result ≡ stored_key (map (λ k. k.index) columns.now) row.now }
+{
+    let mut key = Numbers::none();
+    if let [_, ..] = columns {
+        push_columns(&mut key, columns, row);
+    } else {
+        key.push(0);
+    }
+    key
+}
+
+/// The columns of a row, after what is there.
+fn push_columns(key: &mut Numbers, columns: &[Column], row: &[i64])
+    requires { length key.old + length columns.now ≤ 16 }
+    ensures { key.new ≡ key.old ++ project (map (λ k. k.index) columns.now) row.now }
+{
+    if let [first, rest @ ..] = columns {
+        key.push(field(row, first.index));
+        push_columns(key, rest, row);
+    }
+}
+
+/// The aggregates of one record alone, after what is there.
+fn push_begun(values: &mut Numbers, aggregates: &[Agg], row: &[i64])
+    requires { length values.old + length aggregates.now ≤ 16 }
+    ensures { values.new ≡ values.old ++ map (λ a. begun a row.now) (map plain_agg aggregates.now) }
+{
+    if let [first, rest @ ..] = aggregates {
+        values.push(begin(first, row));
+        push_begun(values, rest, row);
+    }
+}
+
+/// The aggregates with one record more, after what is there.
+fn push_stepped(made: &mut Numbers, aggregates: &[Agg], values: &[i64], row: &[i64])
+    requires { length made.old + length aggregates.now ≤ 16 }
+    ensures { made.new ≡ made.old ++ stepped_all (map plain_agg aggregates.now) values.now row.now }
+{
+    if let [first, rest @ ..] = aggregates {
+        if let [value, others @ ..] = values {
+            made.push(step(first, *value, row));
+            push_stepped(made, rest, others, row);
+        }
+    }
+}
+
+/// The sum, wrapped at 64 bits.
+fn plus(left: i64, right: i64) -> i64
+    ensures { result ≡ int_wrap w64 (left +ℤ right) }
+{
+    left.wrapping_add(right)
+}
+
+/// An aggregate of one record alone.
+fn begin(aggregate: &Agg, row: &[i64]) -> i64
+    ensures { result ≡ begun (plain_agg aggregate.now) row.now }
+{
+    match aggregate {
+        Agg::Count(_) => plus(1, 0),
+        Agg::Sum(_, column) => plus(field(row, column.index), 0),
+        Agg::Min(_, column) => field(row, column.index),
+        Agg::Max(_, column) => field(row, column.index),
+    }
+}
+
+/// An aggregate with one record more.
+fn step(aggregate: &Agg, value: i64, row: &[i64]) -> i64
+    ensures { result ≡ stepped (plain_agg aggregate.now) value row.now }
+{
+    match aggregate {
+        Agg::Count(_) => plus(value, 1),
+        Agg::Sum(_, column) => plus(value, field(row, column.index)),
+        Agg::Min(_, column) => field(row, column.index).min(value),
+        Agg::Max(_, column) => field(row, column.index).max(value),
+    }
+}

@@ -1,0 +1,26 @@
+//! Inputs.
+
+ghost use Rattle.semantics.specs.Kinds.{Kind};
+ghost use Rattle.semantics.proofs.VertexLaws.{op_nothing, op_parts};
+
+use crate::operator::Operator;
+
+/// Where the records of an input of the query enter the graph. It has no in port.
+#[derive(Clone, Copy, Debug, PartialEq, Eq)]
+pub struct Input;
+
+impl Operator for Input {
+    ghost kind_of = { λ _. Kind.input };
+
+    ghost nothing = { λ _. op_nothing Kind.input };
+
+    ghost parts = { λ _. op_parts Kind.input };
+
+    fn in_ports(&self) -> u32 {
+        0
+    }
+
+    fn out_ports(&self) -> u32 {
+        1
+    }
+}

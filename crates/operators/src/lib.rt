@@ -1,0 +1,39 @@
+//! The kinds of vertices of a dataflow graph, a module for each.
+//!
+//! The contract for the layers above: an `Operator` means the equation of its kind (`semantics`), and proves the laws by which its
+//! records may be spread over workers. Below stand `semantics` and `expr_tree`; the shards of vertices keep what an operator needs
+//! from one batch to the next.
+#![tactic(auto)]
+
+mod concat;
+mod distinct;
+mod egress;
+mod feedback;
+mod filter;
+mod gate;
+mod group;
+mod hold;
+mod ingress;
+mod input;
+mod join;
+mod operator;
+mod output;
+mod select;
+
+pub use concat::Concat;
+pub use distinct::Distinct;
+pub use egress::Egress;
+pub use feedback::Feedback;
+pub use filter::Where;
+pub use gate::Gate;
+pub use group::{Group, Numbers};
+pub use hold::Hold;
+pub use ingress::Ingress;
+pub use input::Input;
+pub use join::Join;
+pub use operator::Operator;
+pub use output::Output;
+pub use select::Select;
+
+#[cfg(test)]
+mod tests;

@@ -1,0 +1,31 @@
+//! What each kind of vertex has in common.
+
+ghost use Rattle.std.specs.Prelude.{◌≡◌, ℕ, List, []};
+ghost use Rattle.semantics.specs.Kinds.{Kind, in_ports, out_ports};
+ghost use Rattle.semantics.specs.Multiset.{Record, ◌≈◌, end_to_end};
+ghost use Rattle.semantics.specs.Op.{op, IsCut, IsSum};
+ghost use Rattle.semantics.specs.Time.{Time};
+
+/// A kind of vertex. Its meaning is the equation of the kind: at one time, it takes a multiset of records for each in port, and
+/// gives one for each out port.
+///
+/// The laws of the equation, which each implementation proves: nothing in gives nothing out; and where what comes in is cut into
+/// parts such that no route key stands in two of them (for a kind without route keys, cut in any way), the results of the parts
+/// add up to the result of the whole. So the records of a vertex may be spread over workers by route key.
+pub trait Operator {
+    ghost kind_of: { Self → Kind };
+
+    /// The number of in ports.
+    fn in_ports(&self) -> u32
+        ensures { result ≡ in_ports (kind_of self.now) };
+
+    /// The number of out ports.
+    fn out_ports(&self) -> u32
+        ensures { result ≡ out_ports (kind_of self.now) };
+
+    // Nothing in gives nothing out.
+    ghost nothing: { (v : Self) (t : Time) (out : ℕ) → op (kind_of v) t (λ p. []) out ≡ [] };
+
+    // The results of parts with no route key in common add up.
+    ghost parts: { (v : Self) (t : Time) (ins : ℕ → List Record) (parts : ℕ → ℕ → List Record) (n out : ℕ) → IsSum (kind_of v) ins parts n → IsCut (kind_of v) parts n → op (kind_of v) t ins out ≈ end_to_end (λ w. op (kind_of v) t (parts w) out) n };
+}

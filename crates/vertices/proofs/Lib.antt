@@ -1,0 +1,6 @@
+pub mod Sets
+pub mod Times
+pub mod Pairs
+pub mod Grouping
+pub mod Sending
+pub mod AtWork

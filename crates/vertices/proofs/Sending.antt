@@ -1,0 +1,79 @@
+-- What is sent is what the kind's equation makes.
+use Rattle.std.proofs.Common.{◌≡◌, ℕ, zero, suc, ◌+◌, ◌<◌, ◌≤◌, nat_lt, nat_eq, ◌==◌, Bool, true, false, cond, ◌&&◌, List, [], ◌++◌, Option, Some, None, refl, sym, ap, subst, ◌∙◌, arith, append-nil, lt-ltb, le-ltb}
+use Rattle.std.proofs.lemmas.Bool.Decides.{Decides-eqb}
+use Rattle.std.specs.Cmp.Lexicographic.{pointwise, pointwise_decides}
+use Rattle.semantics.specs.Kinds.{Kind, Role}
+use Rattle.semantics.specs.Meaning.{selected, kept, paired, grouped}
+use Rattle.semantics.specs.Multiset.{Record, ◌≈◌, each_once, end_to_end}
+use Rattle.semantics.specs.Query.{Scalar, Cond, Pair, Agg}
+use Rattle.semantics.specs.Shard.{only_at, asks, SendsAtNotification}
+use Rattle.semantics.specs.Time.{Time, last, same_time, same_counters}
+use Rattle.semantics.specs.Op.{op}
+use Rattle.semantics.proofs.MultisetSums.{≈-trans, ≈-from, ≈-sym}
+use Rattle.vertices.specs.Absorbed.{Absorbed, with_records}
+use Rattle.vertices.specs.Outs.{records_of, two, sent, SendsFor}
+use Rattle.vertices.specs.declared.out.Out.{Out}
+
+-- ---- without a state
+
+pub at_zero : (p : ℕ) (records : List Record) → p < 1 → only_at p records 0 ≡ records
+at_zero zero records h = refl
+at_zero (suc p) records h = absurd (omega (arith, h))
+
+at_either : (p : ℕ) (records : List Record) → p < 2 → only_at p records 0 ++ only_at p records 1 ≡ records
+at_either zero records h = append-nil records
+at_either (suc zero) records h = refl
+at_either (suc (suc p)) records h = absurd (omega (arith, h))
+
+pub select_sends : (ss : List Scalar) (t : Time) (a : Absorbed) (batch : List Record) (out : Out) → records_of out.first ≡ selected ss batch → SendsFor (Kind.select ss) t a 0 batch out
+select_sends ss t a batch out e q = ≈-from (e)
+
+pub filter_sends : (c : Cond) (t : Time) (a : Absorbed) (batch : List Record) (out : Out) → records_of out.first ≡ kept c batch → SendsFor (Kind.filter c) t a 0 batch out
+filter_sends c t a batch out e q = ≈-from (e)
+
+pub concat_sends : (t : Time) (a : Absorbed) (p : ℕ) (batch : List Record) (out : Out) → p < 2 → out.first ≡ Some batch → SendsFor Kind.concat t a p batch out
+concat_sends t a p batch out h e q = ≈-from (ap records_of e ∙ sym (at_either p batch h))
+
+pub ingress_sends : (t : Time) (a : Absorbed) (p : ℕ) (batch : List Record) (out : Out) → p < 1 → out.first ≡ Some batch → SendsFor Kind.ingress t a p batch out
+ingress_sends t a p batch out h e q = ≈-from (ap records_of e ∙ sym (at_zero p batch h))
+
+pub egress_sends : (t : Time) (a : Absorbed) (p : ℕ) (batch : List Record) (out : Out) → p < 1 → out.first ≡ Some batch → SendsFor Kind.egress t a p batch out
+egress_sends t a p batch out h e q = ≈-from (ap records_of e ∙ sym (at_zero p batch h))
+
+pub feedback_sends : (t : Time) (a : Absorbed) (p : ℕ) (batch : List Record) (out : Out) → p < 1 → out.first ≡ Some batch → SendsFor Kind.feedback t a p batch out
+feedback_sends t a p batch out h e q = ≈-from (ap records_of e ∙ sym (at_zero p batch h))
+
+pub gate_sends : (n : ℕ) (t : Time) (a : Absorbed) (batch : List Record) (out : Out) → records_of out.first ≡ cond (nat_lt (last t.counters) n) batch [] → records_of out.second ≡ cond (nat_eq (last t.counters) n) batch [] → SendsFor (Kind.gate n) t a 0 batch out
+gate_sends n t a batch out e f zero = ≈-from e
+gate_sends n t a batch out e f (suc q) = ≈-from f
+
+pub hold_sends : (n : ℕ) (t : Time) (a : Absorbed) (batch : List Record) (out : Out) → records_of out.first ≡ cond (nat_lt (last t.counters) n) batch [] → records_of out.second ≡ cond (nat_lt (last t.counters + 1) n) batch [] → SendsFor (Kind.hold n) t a 0 batch out
+hold_sends n t a batch out e f zero = ≈-from e
+hold_sends n t a batch out e f (suc q) = ≈-from f
+
+-- ---- with a state
+
+same_time_refl : (t : Time) → same_time t t ≡ true
+same_time_refl t = both (nat_eq t.epoch t.epoch) (same_counters t.counters t.counters) ((Decides-eqb t.epoch t.epoch).1 refl) ((pointwise_decides (λ x y. Decides-eqb x y) t.counters t.counters).1 refl)
+  where
+    both : (x y : Bool) → x ≡ true → y ≡ true → x && y ≡ true
+    both x y e f = ap (λ z. z && y) e ∙ f
+
+-- at the port and time at which records came
+there : (a : Absorbed) (p : ℕ) (t : Time) (batch : List Record) → a p t ++ cond (same_time t t) batch [] ≡ a p t ++ batch
+there a p t batch = ap (λ b. a p t ++ cond b batch []) (same_time_refl t)
+
+pub distinct_sends : (t : Time) (a : Absorbed) (batch : List Record) (out : Out) → (records_of out.first ++ each_once (a 0 t)) ≈ each_once (a 0 t ++ batch) → SendsFor Kind.distinct t a 0 batch out
+distinct_sends t a batch out h q = ≈-trans h (≈-from (ap each_once (sym (there a 0 t batch))))
+
+pub left_sends : (ps : List Pair) (t : Time) (a : Absorbed) (batch : List Record) (out : Out) → (records_of out.first ++ paired ps (a 0 t) (a 1 t)) ≈ paired ps (a 0 t ++ batch) (a 1 t) → SendsFor (Kind.join ps) t a 0 batch out
+left_sends ps t a batch out h q = ≈-trans h (≈-from (λ j. paired ps (sym (there a 0 t batch) j) (sym (append-nil (a 1 t)) j)))
+
+pub right_sends : (ps : List Pair) (t : Time) (a : Absorbed) (batch : List Record) (out : Out) → (records_of out.first ++ paired ps (a 0 t) (a 1 t)) ≈ paired ps (a 0 t) (a 1 t ++ batch) → SendsFor (Kind.join ps) t a 1 batch out
+right_sends ps t a batch out h q = ≈-trans h (≈-from (λ j. paired ps (sym (append-nil (a 0 t)) j) (sym (there a 1 t batch) j)))
+
+pub group_sends : (ks : List ℕ) (as' : List Agg) (t : Time) (a : Absorbed) (batch : List Record) (out : Out) → out.first ≡ None → SendsFor (Kind.group ks as') t a 0 batch out
+group_sends ks as' t a batch out e q = ap records_of e
+
+pub group_notified : (ks : List ℕ) (as' : List Agg) (t : Time) (a : Absorbed) (out : Out) → records_of out.first ≈ grouped ks as' (a 0 t) → SendsAtNotification (λ q ins. op (Kind.group ks as') t ins q) (λ p. a p t) (sent 1 out)
+group_notified ks as' t a out h q = h

@@ -1,0 +1,51 @@
+-- A map of states by time, with one state written.
+use Rattle.std.proofs.Common.{◌≡◌, ℕ, nat_eq, ◌==◌, Bool, true, false, cond, ◌&&◌, List, [], ◌++◌, Some, None, refl, sym, ap, subst, ◌∙◌, append-nil}
+use Rattle.std.proofs.lemmas.Bool.{true≢false}
+use mathlib.Core.Path.{fun_ext}
+use Rattle.std.specs.Cmp.Lexicographic.{pointwise, pointwise_decides}
+use Rattle.std.proofs.lemmas.Bool.Decides.{Decides-eqb}
+use Rattle.std.specs.HashMap.{HashMap, get}
+use Rattle.semantics.specs.Multiset.{Record}
+use Rattle.semantics.specs.Time.{Time, same_time}
+use Rattle.vertices.specs.Absorbed.{Absorbed, with_records}
+use Rattle.vertices.specs.ByTime.{IsStateOf, AreStatesOf}
+
+both_true : (x y : Bool) → x && y ≡ true → (x ≡ true) × (y ≡ true)
+both_true true y e = (refl, e)
+both_true false y e = (e, absurd (true≢false (sym e)))
+
+pub one_time : (t u : Time) → same_time t u ≡ true → t ≡ u
+one_time t u e =
+    let both = both_true (nat_eq t.epoch u.epoch) (pointwise nat_eq t.counters u.counters) e in
+    let a : t.epoch ≡ u.epoch = (Decides-eqb t.epoch u.epoch).0 both.0 in
+    let b : t.counters ≡ u.counters = (pointwise_decides (λ x y. Decides-eqb x y) t.counters u.counters).0 both.1 in
+    (λ j. record { epoch = a j; counters = b j })
+
+module _ {S H : Type 0} (m : HashMap Time S H) (time : Time) (P : S → (ℕ → List Record) → Type 0) (a : Absorbed) where
+  -- what is found at a time
+  pub state_there : (s : S) → get same_time m time ≡ Some s → AreStatesOf P m a → P s (λ p. a p time)
+  state_there s e h = subst (λ o. IsStateOf P o (λ p. a p time)) e (h time)
+
+  pub none_there : get same_time m time ≡ None → AreStatesOf P m a → (p : ℕ) → a p time ≡ []
+  none_there e h = subst (λ o. IsStateOf P o (λ p. a p time)) e (h time)
+
+  -- a state that is made where there is none
+  pub state_made : (s : S) → get same_time m time ≡ None → AreStatesOf P m a → P s (λ p. []) → P s (λ p. a p time)
+  state_made s e h made = subst (P s) (fun_ext (λ p. sym (none_there e h p))) made
+
+-- nothing at all
+pub before_all : {S H : Type 0} (m : HashMap Time S H) (P : S → (ℕ → List Record) → Type 0) → ((t : Time) → get same_time m t ≡ None) → AreStatesOf P m (λ p t. [])
+before_all m P e t = subst (λ o. IsStateOf P o (λ p. [])) (sym (e t)) (λ p. refl)
+
+module _ {S H : Type 0} (m n : HashMap Time S H) (time : Time) (v : S) (e : (t : Time) → get same_time n t ≡ cond (same_time time t) (Some v) (get same_time m t)) where
+  -- the states of one time more
+  pub states_more : (P : S → (ℕ → List Record) → Type 0) (a : Absorbed) (port : ℕ) (batch : List Record) → AreStatesOf P m a → P v (λ p. a p time ++ cond (port == p) batch []) → AreStatesOf P n (with_records a port time batch)
+  states_more P a port batch h now t = subst (λ o. IsStateOf P o (λ p. with_records a port time batch p t)) (sym (e t)) (go (same_time time t) refl)
+    where
+      unchanged : (p : ℕ) (b : Bool) → a p t ≡ a p t ++ cond b [] []
+      unchanged p true = sym (append-nil (a p t))
+      unchanged p false = sym (append-nil (a p t))
+
+      go : (b : Bool) → same_time time t ≡ b → IsStateOf P (cond b (Some v) (get same_time m t)) (λ p. a p t ++ cond (port == p) (cond b batch []) [])
+      go true s = subst (λ u. P v (λ p. a p u ++ cond (port == p) batch [])) (one_time time t s) now
+      go false s = subst (IsStateOf P (get same_time m t)) (fun_ext (λ p. unchanged p (port == p))) (h t)

@@ -1,0 +1,21 @@
+-- What a shard has absorbed. The shard keeps indexes alone: the records themselves are spoken of in contracts.
+use Rattle.std.specs.Prelude.{ℕ, cond, ◌==◌, List, [], ◌++◌}
+use Rattle.semantics.specs.Multiset.{Record}
+use Rattle.semantics.specs.Time.{Time, same_time}
+use Rattle.semantics.specs.Kinds.{Role}
+
+-- by in port and time
+abbrev pub Absorbed : Type 0
+Absorbed = (port : ℕ) → Time → List Record
+
+-- with these records at a port and time
+abbrev pub with_records : Absorbed → (port : ℕ) → Time → List Record → Absorbed
+with_records a p t records p' t' = a p' t' ++ cond (p == p') (cond (same_time t t') records []) []
+
+-- only the vertices with a state absorb
+abbrev pub absorbed_by : Role → Absorbed → (port : ℕ) → Time → List Record → Absorbed
+absorbed_by Role.input a p t records = a
+absorbed_by Role.stateless a p t records = a
+absorbed_by Role.stateful a p t records = with_records a p t records
+absorbed_by Role.notified a p t records = with_records a p t records
+absorbed_by Role.output a p t records = a

@@ -1,0 +1,46 @@
+-- What a group keeps at one time.
+use Rattle.std.specs.Prelude.{◌≡◌, ℕ, ◌<◌, List, [], ◌∷◌, map, filter, length, slice_index_or}
+use Rattle.expr_tree.specs.Plain.{plain_agg}
+use Rattle.operators.specs.declared.group.Group.{Group}
+use Rattle.operators.specs.Aggregates.{stored_key}
+use Rattle.semantics.specs.Meaning.{aggregate}
+use Rattle.semantics.specs.Multiset.{Record, same, ◌≈◌, each_once}
+use Rattle.semantics.specs.Query.{Agg}
+use Rattle.vertices.specs.declared.groups.Groups.{Groups}
+
+-- the columns of the key
+abbrev pub columns_of : Group → List ℕ
+columns_of g = map (λ k. k.index) g.columns.items
+
+-- the aggregates
+abbrev pub aggregates_of : Group → List Agg
+aggregates_of g = map plain_agg g.aggregates.items
+
+-- the records with that key
+abbrev pub keyed : (Record → Record) → Record → List Record → List Record
+keyed key k xs = filter (λ r. same (key r) k) xs
+
+-- each key that is present, once, and by its place the aggregates of its records
+pub record AreGrouped (key : Record → Record) (as' : List Agg) (keys values : List Record) (xs : List Record) : Type 0 where
+  pub keys_are : keys ≈ each_once (map key xs)
+  pub as_many : length values ≡ length keys
+  pub values_are : (p : ℕ) → p < length keys → slice_index_or values p [] ≡ map (λ a. aggregate a (keyed key (slice_index_or keys p []) xs)) as'
+
+-- a key is stored with one number at least
+abbrev pub key_arity : List ℕ → ℕ
+key_arity [] = 1
+key_arity (k ∷ ks) = length (k ∷ ks)
+
+-- what is shown of a stored key: the key
+abbrev pub shown_key : List ℕ → Record → Record
+shown_key [] k = []
+shown_key (c ∷ ks) k = k
+
+-- the groups of records
+pub record AreGroupsOf (g : Group) (groups : Groups) (xs : List Record) : Type 0 where
+  pub arity : groups.keys.arity ≡ key_arity (columns_of g)
+  pub grouped : AreGrouped (stored_key (columns_of g)) (aggregates_of g) groups.keys.rows groups.values.items xs
+
+-- the groups of the records that came to the port, of which there are some
+abbrev pub AreGroupsThen : Group → Groups → (ℕ → List Record) → Type 0
+AreGroupsThen g groups records = AreGroupsOf g groups (records 0) × (0 < length (records 0))

@@ -1,0 +1,31 @@
+-- What is sent for one event.
+use Rattle.std.specs.Prelude.{ℕ, zero, suc, List, [], Option, Some, None}
+use Rattle.semantics.specs.Kinds.{Kind, role, out_ports}
+use Rattle.semantics.specs.Multiset.{Record}
+use Rattle.semantics.specs.Op.{op}
+use Rattle.semantics.specs.Shard.{SendsBy}
+use Rattle.semantics.specs.Time.{Time}
+use Rattle.vertices.specs.Absorbed.{Absorbed, absorbed_by}
+use Rattle.vertices.specs.declared.out.Out.{Out}
+
+-- the records of a batch, if there is one
+abbrev pub records_of : Option (List Record) → List Record
+records_of None = []
+records_of (Some batch) = batch
+
+-- by two out ports
+abbrev pub two : Out → (port : ℕ) → List Record
+two out zero = records_of out.first
+two out (suc port) = records_of out.second
+
+-- By the out ports of a kind, of which there are so many. The equation of a kind has, beyond its last out port, what it has there.
+abbrev pub sent : (ports : ℕ) → Out → (port : ℕ) → List Record
+sent zero out port = records_of out.first
+sent (suc zero) out port = records_of out.first
+sent (suc (suc ports)) out port = two out port
+
+-- what a shard of that kind sends for records that come to a port at a time, where it had absorbed a
+abbrev pub SendsFor : Kind → Time → Absorbed → (port : ℕ) → List Record → Out → Type 0
+SendsFor kind t a port records out =
+    SendsBy (role kind) (λ q ins. op kind t ins q) (λ p. a p t) (λ p. absorbed_by (role kind) a port t records p t) port records
+    (sent (out_ports kind) out)

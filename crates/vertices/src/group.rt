@@ -1,0 +1,78 @@
+//! The shard of a group vertex.
+
+ghost use Rattle.std.specs.Prelude.{◌≡◌, ℕ, [], IfOk, OnOk};
+ghost use Rattle.semantics.specs.Kinds.{Role};
+ghost use Rattle.semantics.specs.Meaning.{grouped};
+ghost use Rattle.semantics.specs.Multiset.{◌≈◌};
+ghost use Rattle.semantics.specs.Shard.{asks};
+ghost use Rattle.vertices.specs.Absorbed.{Absorbed, with_records};
+ghost use Rattle.vertices.specs.ByTime.{AreStatesOf};
+ghost use Rattle.vertices.specs.Groups.{AreGroupsThen, columns_of, aggregates_of};
+
+use crate::fault::ShardFault;
+use crate::groups::Groups;
+use loop_context::Time;
+use operators::Group;
+use rows::{Batch, Rows};
+use std::alloc::Global;
+use std::collections::HashMap;
+
+/// For each time the groups of the records that came then.
+#[derive(Drop)]
+pub struct GroupShard {
+    pub(crate) operator: Group,
+    pub(crate) times: HashMap<Time, Groups>,
+}
+
+impl GroupShard {
+    /// A shard that has absorbed nothing.
+    pub fn new(alloc: Global, operator: Group) -> GroupShard
+        ensures operator { result.operator ≡ operator }
+        ensures nothing { AreStatesOf (AreGroupsThen operator) result.times (λ p t. []) }
+    {
+        GroupShard {
+            operator,
+            times: HashMap::new(alloc),
+        }
+    }
+
+    /// Takes in a batch of a time, and tells whether it is the first of that time, which asks for a notification.
+    pub fn on_records(
+        &mut self,
+        alloc: Global,
+        time: &Time,
+        batch: &Batch,
+    ) -> Result<bool, ShardFault>
+        requires { (a : Absorbed) × AreStatesOf (AreGroupsThen self.old.operator) self.old.times a }
+        ensures operator { self.new.operator ≡ self.old.operator }
+        ensures absorbed { OnOk result ((a : Absorbed) → AreStatesOf (AreGroupsThen self.old.operator) self.old.times a → AreStatesOf (AreGroupsThen self.old.operator) self.new.times (with_records a 0 time.now batch.now)) }
+        ensures asked { IfOk result (λ asked. (a : Absorbed) → AreStatesOf (AreGroupsThen self.old.operator) self.old.times a → asked ≡ asks Role.notified (a 0 time.now)) }
+    {
+        let _count = batch.len();
+        if let Some(groups) = self.times.get_mut(time) {
+            groups.absorb(&self.operator, batch)?;
+            return Ok(false);
+        }
+        let mut groups = Groups::new(alloc, &self.operator)?;
+        groups.absorb(&self.operator, batch)?;
+        self.times.insert(time.copied(), groups)?;
+        Ok(true)
+    }
+
+    /// A record for each group of a time.
+    pub fn on_notify(&self, alloc: Global, time: &Time) -> Result<Rows, ShardFault>
+        requires { (a : Absorbed) × AreStatesOf (AreGroupsThen self.now.operator) self.now.times a }
+        ensures { IfOk result (λ rows. (a : Absorbed) → AreStatesOf (AreGroupsThen self.now.operator) self.now.times a → rows.rows ≈ grouped (columns_of self.now.operator) (aggregates_of self.now.operator) (a 0 time.now)) }
+    {
+        match self.times.get(time) {
+            Some(groups) => {
+                let rows = groups.finished(alloc, &self.operator)?;
+                Ok(rows)
+            }
+            None => {
+                let arity = self.operator.columns.len() + self.operator.aggregates.len();
+                Ok(Rows::new(alloc, arity))
+            }
+        }
+    }
+}

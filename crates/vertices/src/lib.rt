@@ -1,0 +1,37 @@
+//! Shards: what one worker keeps of a vertex, and what it sends for what comes in.
+//!
+//! `new_shard` makes the shard of a vertex of a graph. `Shard::on_records` takes in a batch that comes to an in port at a time, and
+//! `Shard::on_notify` is told that nothing more comes at a time. What is sent, and whether a notification is asked for, goes into
+//! an `Out`. A join, a distinct and a group keep a state for each exact time: indexes alone, no list of what came.
+//!
+//! The contract for the layers above: whatever records a shard shows to have absorbed (`specs/Shards.antt`, `Shows`), what it sends and
+//! asks for is what the definitions (`semantics`, Shard) name for its vertex, and the shard then shows those records and the batch. A call
+//! costs what comes in and what goes out, never what was absorbed. After a refusal the shard is spoiled, and fit only to be given up.
+//!
+//! Below stand `operators`, `rows`, `loop_context` and `lowering`; the board hands shards out with their events.
+#![tactic(auto)]
+
+mod distinct;
+mod fault;
+mod group;
+mod groups;
+mod join;
+mod join_plan;
+mod making;
+mod out;
+mod shard;
+mod sides;
+mod stateful;
+mod stateless;
+
+pub use distinct::DistinctShard;
+pub use fault::ShardFault;
+pub use group::GroupShard;
+pub use join::JoinShard;
+pub use join_plan::JoinPlan;
+pub use making::new_shard;
+pub use out::Out;
+pub use shard::Shard;
+
+#[cfg(test)]
+mod tests;

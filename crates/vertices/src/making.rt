@@ -1,0 +1,121 @@
+//! The shard of a vertex of a graph.
+
+ghost use Rattle.std.specs.Prelude.{◌≡◌, ◌≤◌, ◌+◌, ℕ, [], length, map, IfOk};
+ghost use Rattle.std.specs.List.{AllByRecursion};
+ghost use Rattle.expr_tree.specs.Plain.{plain_agg, plain_cond, plain_pair, plain_scalar};
+ghost use Rattle.expr_tree.specs.Views.{cond_tree, scalar_tree};
+ghost use Rattle.lowering.specs.Views.{kind_of};
+ghost use Rattle.semantics.specs.Kinds.{Kind as Equation, in_ports};
+ghost use Rattle.semantics.specs.PortArity.{PortsFit};
+ghost use Rattle.semantics.specs.Typing.{CondFits, IsArity, ScalarFits};
+ghost use Rattle.vertices.specs.Shards.{IsFreshShard, by_port};
+
+use crate::distinct::DistinctShard;
+use crate::fault::ShardFault;
+use crate::group::GroupShard;
+use crate::join::JoinShard;
+use crate::join_plan::JoinPlan;
+use crate::shard::Shard;
+use expr_tree::{Agg, Column, Cond, NoMemory, Pair, Scalar, copy_cond, copy_scalar};
+use lowering::{Kind, Vertex};
+use operators::{
+    Concat, Egress, Feedback, Gate, Group, Hold, Ingress, Input, Join, Output, Select, Where,
+};
+use std::alloc::Global;
+
+/// The shard of a vertex, which has absorbed nothing. It owns its scalars, conditions and columns. `first` and `second` are the
+/// numbers of fields of the records that come to the vertex's in ports.
+pub fn new_shard(
+    alloc: Global,
+    vertex: &Vertex,
+    first: usize,
+    second: usize,
+) -> Result<Shard, ShardFault>
+    requires fits { (out : ℕ) × PortsFit (kind_of vertex.now.kind) (by_port first second) out × IsArity out }
+    requires first { IsArity first }
+    requires second { IsArity second }
+    ensures { IfOk result (λ s. IsFreshShard (kind_of vertex.now.kind) first second s) }
+{
+    match &vertex.kind {
+        Kind::Input => Ok(Shard::Input(Input)),
+        Kind::Output => Ok(Shard::Output(Output)),
+        Kind::Select(scalars) => {
+            let shard = new_select(alloc, scalars, first)?;
+            Ok(shard)
+        }
+        Kind::Where(condition) => {
+            let shard = new_where(alloc, condition, first)?;
+            Ok(shard)
+        }
+        Kind::Concat => Ok(Shard::Concat(Concat)),
+        Kind::Join(pairs) => {
+            let shard = new_join(alloc, pairs, first, second)?;
+            Ok(shard)
+        }
+        Kind::Group(columns, aggregates) => {
+            let shard = new_group(alloc, columns, aggregates)?;
+            Ok(shard)
+        }
+        Kind::Distinct => Ok(Shard::Distinct(DistinctShard::new(alloc, first))),
+        Kind::Ingress => Ok(Shard::Ingress(Ingress)),
+        Kind::Egress => Ok(Shard::Egress(Egress)),
+        Kind::Feedback => Ok(Shard::Feedback(Feedback)),
+        Kind::Gate(turns) => Ok(Shard::Gate(Gate { turns: *turns })),
+        Kind::Hold(turns) => Ok(Shard::Hold(Hold { turns: *turns })),
+    }
+}
+
+fn new_select(alloc: Global, scalars: &[Scalar<Global>], arity: usize) -> Result<Shard, ShardFault>
+    requires fits { AllByRecursion (ScalarFits arity) (map plain_scalar (map scalar_tree scalars.now)) }
+    requires some { 1 ≤ length scalars.now }
+    requires few { length scalars.now ≤ 16 }
+    ensures { (second : ℕ) → IfOk result (λ s. IsFreshShard (Equation.select (map plain_scalar (map scalar_tree scalars.now))) arity second s) }
+{
+    let scalars = copy_scalars(alloc, scalars)?;
+    Ok(Shard::Select(Select { arity, scalars }))
+}
+
+/// The same scalars, in order.
+fn copy_scalars(alloc: Global, scalars: &[Scalar<Global>]) -> Result<Vec<Scalar<Global>>, NoMemory>
+    ensures same { IfOk result (λ copy. map scalar_tree copy.items ≡ map scalar_tree scalars.now) }
+    ensures len { IfOk result (λ copy. length copy.items ≡ length scalars.now) }
+{
+    let mut copy = Vec::with_capacity(alloc, scalars.len())?;
+    for scalar in scalars {
+        copy.push(copy_scalar(alloc, scalar)?)?;
+    }
+    Ok(copy)
+}
+
+fn new_where(alloc: Global, condition: &Cond<Global>, arity: usize) -> Result<Shard, ShardFault>
+    requires { CondFits arity (plain_cond (cond_tree condition.now)) }
+    ensures { (second : ℕ) → IfOk result (λ s. IsFreshShard (Equation.filter (plain_cond (cond_tree condition.now))) arity second s) }
+{
+    let condition = copy_cond(alloc, condition)?;
+    Ok(Shard::Where(Where { arity, condition }))
+}
+
+fn new_join(alloc: Global, pairs: &[Pair], left: usize, right: usize) -> Result<Shard, ShardFault>
+    requires left { 1 ≤ left }
+    requires right { 1 ≤ right }
+    requires fits { left + right ≤ 16 }
+    ensures { IfOk result (λ s. IsFreshShard (Equation.join (map plain_pair pairs.now)) left right s) }
+{
+    let pairs = pairs.to_vec(alloc)?;
+    let plan = JoinPlan::new(alloc, Join { pairs }, left, right)?;
+    Ok(Shard::Join(JoinShard::new(alloc, plan)))
+}
+
+fn new_group(alloc: Global, columns: &[Column], aggregates: &[Agg]) -> Result<Shard, ShardFault>
+    requires some { 1 ≤ length columns.now + length aggregates.now }
+    requires few { length columns.now + length aggregates.now ≤ 16 }
+    ensures { (first second : ℕ) → IfOk result (λ s. IsFreshShard (Equation.group (map (λ k. k.index) columns.now) (map plain_agg aggregates.now)) first second s) }
+{
+    let columns = columns.to_vec(alloc)?;
+    let aggregates = aggregates.to_vec(alloc)?;
+    let operator = Group {
+        columns,
+        aggregates,
+    };
+    Ok(Shard::Group(GroupShard::new(alloc, operator)))
+}

@@ -1,0 +1,60 @@
+//! What a shard sends and asks for.
+
+ghost use Rattle.std.specs.Prelude.{◌≡◌, ◌<◌, ◌++◌, ◌==◌, [], None, IfOk, OnOk, false};
+ghost use Rattle.std.specs.Option.{option_copied};
+ghost use Rattle.vertices.specs.Outs.{records_of, two};
+
+use crate::fault::ShardFault;
+use rows::{Batch, Rows};
+use std::alloc::Global;
+
+/// What a shard sends for one event, by out port, and whether it asks to be notified once nothing more can come to it at the
+/// event's time.
+#[derive(Drop)]
+pub struct Out {
+    pub(crate) first: Option<Batch>,
+    pub(crate) second: Option<Batch>,
+    pub(crate) asked: bool,
+}
+
+impl Out {
+    /// Nothing.
+    pub fn new() -> Out
+        ensures { result ≡ record { first = None; second = None; asked = false } }
+    {
+        Out {
+            first: None,
+            second: None,
+            asked: false,
+        }
+    }
+
+    /// Takes out what is sent by an out port, 0 or 1; `None` where nothing is.
+    pub fn take(&mut self, port: u32) -> Option<Batch>
+        requires { port < 2 }
+        ensures taken { records_of result ≡ two self.old port }
+        ensures asked { self.new.asked ≡ self.old.asked }
+    {
+        if port == 0 {
+            self.first.take()
+        } else {
+            self.second.take()
+        }
+    }
+
+    /// Whether a notification is asked for.
+    pub fn asked(&self) -> bool
+        ensures { result ≡ self.now.asked }
+    {
+        self.asked
+    }
+
+    /// Sends rows by port 0, if there are some.
+    pub(crate) fn send(&mut self, alloc: Global, rows: Rows) -> Result<(), ShardFault>
+        ensures sent { OnOk result (records_of self.new.first ≡ rows.rows) }
+        ensures asked { self.new.asked ≡ self.old.asked }
+    {
+        self.first = Batch::from_rows(alloc, rows)?;
+        Ok(())
+    }
+}
