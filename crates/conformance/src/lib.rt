@@ -6,6 +6,8 @@ mod checks;
 #[cfg(test)]
 mod graphs;
 #[cfg(test)]
+mod growths;
+#[cfg(test)]
 mod normal_forms;
 #[cfg(test)]
 mod tests;

@@ -1,12 +1,11 @@
 use crate::checks::{EACH_REFUSAL, FIRST_FAULT, SCOPES, WORKED};
 use collector::Watched;
 use console::check_query;
-use linked_list_allocator::LocalHeap;
 use std::alloc::Allocator;
 use std::test::Fail;
 
 /// What a check answers: its status, and the output or the fault's line.
-fn checked<A: Allocator + Copy>(
+pub fn checked<A: Allocator + Copy>(
     rt: &HostRuntime,
     arena: A,
     query: &str,
@@ -61,28 +60,5 @@ fn first_fault(rt: HostRuntime) -> Result<(), Fail> {
 #[test]
 fn scopes(rt: HostRuntime) -> Result<(), Fail> {
     assert_eq!(rt; first_wrong(&rt, SCOPES.as_slice())?, None);
-    Ok(())
-}
-
-/// In a heap of each size: the right answer, or no memory.
-#[test]
-fn growths_refused(rt: HostRuntime) -> Result<(), Fail> {
-    let query =
-        "input e/2; output iterate(3; x = e; distinct(concat(x, select(join(x, e; #1 = #0); #0, #3))));";
-    let mut was_refused = false;
-    let mut was_answered = false;
-    for step in 1..=128 {
-        let heap = LocalHeap::new(rt.alloc(), 64 * step)?;
-        let (status, text) = checked(&rt, &heap, query)?;
-        if status == 5 {
-            assert_eq!(rt; text.as_str(), "out of memory\n");
-            was_refused = true;
-        } else {
-            assert_eq!(rt; text.as_str(), "input e/2\noutput 2\n");
-            was_answered = true;
-        }
-        assert_eq!(rt; heap.used(), 0);
-    }
-    assert!(rt; was_refused && was_answered);
     Ok(())
 }

@@ -1,0 +1,89 @@
+//! Queries in heaps of rising size: the right answer, or no memory, and nothing left behind.
+
+use crate::tests::checked;
+use bumpalo::Bump;
+use console::{CompileFault, compile};
+use linked_list_allocator::LocalHeap;
+use lowering::graph_text;
+use std::alloc::Allocator;
+use std::test::Fail;
+
+const LOOP: &str =
+    "input e/2; output iterate(3; x = e; distinct(concat(x, select(join(x, e; #1 = #0); #0, #3))));";
+
+/// Each form of relation, scalar and condition.
+const FORMS: &str =
+    "input a/2; input b/1; let s = select(where(a; #0 < 5 and not [#1 = -2]); #0, #1 * 2 + 1); output iterate(2; x = s; distinct(concat(x, group(join(x, b; #1 = #0); #0; sum #1))));";
+
+const FORMS_GRAPH: &str =
+    "0 input 0 <-\n1 input 0 <-\n2 where 0 <- 0.0\n3 select 0 <- 2.0\n4 ingress 0 <- 3.0\n5 concat 1 <- 4.0 15.0\n6 gate(2) 1 <- 5.0\n7 ingress 0 <- 1.0\n8 concat 1 <- 7.0 10.0\n9 hold(2) 1 <- 8.0\n10 feedback 1 <- 9.1\n11 join 1 <- 6.0 9.0\n12 group 1 <- 11.0\n13 concat 1 <- 6.0 12.0\n14 distinct 1 <- 13.0\n15 feedback 1 <- 14.0\n16 egress 1 <- 6.1\n17 output 0 <- 16.0\n";
+
+/// The graph of a query whose tree lies there, as a text; empty without memory.
+fn graph_in<A: Allocator + Copy>(rt: &HostRuntime, arena: A, query: &str) -> Result<String, Fail> {
+    let mut text = Vec::new(rt.alloc());
+    match compile(rt.alloc(), arena, query.as_bytes()) {
+        Ok(graph) => graph_text(rt.alloc(), &graph, &mut text)?,
+        Err(CompileFault::NoMemory) => {}
+        Err(_) => text.extend_from_slice(b"refused")?,
+    }
+    Ok(String::from_utf8(text)?)
+}
+
+#[test]
+fn checked_in_heaps(rt: HostRuntime) -> Result<(), Fail> {
+    let mut was_refused = false;
+    let mut was_answered = false;
+    for step in 1..=128 {
+        let heap = LocalHeap::new(rt.alloc(), 64 * step)?;
+        let (status, text) = checked(&rt, &heap, LOOP)?;
+        if status == 5 {
+            assert_eq!(rt; text.as_str(), "out of memory\n");
+            was_refused = true;
+        } else {
+            assert_eq!(rt; text.as_str(), "input e/2\noutput 2\n");
+            was_answered = true;
+        }
+        assert_eq!(rt; heap.used(), 0);
+    }
+    assert!(rt; was_refused && was_answered);
+    Ok(())
+}
+
+#[test]
+fn compiled_in_heaps(rt: HostRuntime) -> Result<(), Fail> {
+    assert_eq!(rt; graph_in(&rt, rt.alloc(), FORMS)?.as_str(), FORMS_GRAPH);
+    let mut was_refused = false;
+    let mut was_answered = false;
+    for step in 1..=256 {
+        let heap = LocalHeap::new(rt.alloc(), 64 * step)?;
+        let text = graph_in(&rt, &heap, FORMS)?;
+        if text.is_empty() {
+            was_refused = true;
+        } else {
+            assert_eq!(rt; text.as_str(), FORMS_GRAPH);
+            was_answered = true;
+        }
+        assert_eq!(rt; heap.used(), 0);
+    }
+    assert!(rt; was_refused && was_answered);
+    Ok(())
+}
+
+#[test]
+fn compiled_in_arenas(rt: HostRuntime) -> Result<(), Fail> {
+    let mut was_refused = false;
+    let mut was_answered = false;
+    for step in 1..=256 {
+        let heap = LocalHeap::new(rt.alloc(), 128 * step)?;
+        let arena = Bump::new(&heap);
+        let text = graph_in(&rt, &arena, FORMS)?;
+        if text.is_empty() {
+            was_refused = true;
+        } else {
+            assert_eq!(rt; text.as_str(), FORMS_GRAPH);
+            was_answered = true;
+        }
+    }
+    assert!(rt; was_refused && was_answered);
+    Ok(())
+}
