@@ -10,3 +10,4 @@ pub mod Lines
 pub mod EdgeTables
 pub mod Leads
 pub mod VertexArities
+pub mod FittingPorts

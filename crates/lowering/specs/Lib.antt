@@ -9,3 +9,5 @@ pub mod Text
 pub mod Edges
 pub mod Locations
 pub mod Arities
+pub mod Equality
+pub mod EqualityLaws

@@ -6,14 +6,20 @@ use Rattle.lowering.specs.Views.{graph_of, input_of}
 use Rattle.lowering.specs.declared.graph.DeclaredInput.{DeclaredInput}
 use Rattle.lowering.specs.declared.vertex.Vertex.{Vertex}
 
+-- the vertices by number, the inputs in order, and the arity of each vertex
+pub record GraphValue : Type 0 where
+  pub vertices : List Vertex
+  pub inputs : List DeclaredInput
+  pub arities : List ℕ
+
 -- the definition's graph
-abbrev pub shown_graph : List Vertex × List DeclaredInput × List ℕ → Graph
-shown_graph g = graph_of g.0
+abbrev pub shown_graph : GraphValue → Graph
+shown_graph g = graph_of g.vertices
 
 -- the inputs in order
-abbrev pub shown_inputs : List Vertex × List DeclaredInput × List ℕ → List Input
-shown_inputs g = map input_of g.1
+abbrev pub shown_inputs : GraphValue → List Input
+shown_inputs g = map input_of g.inputs
 
 -- the arity of each vertex
-abbrev pub shown_arities : List Vertex × List DeclaredInput × List ℕ → List ℕ
-shown_arities g = g.2
+abbrev pub shown_arities : GraphValue → List ℕ
+shown_arities g = g.arities

@@ -5,6 +5,7 @@ ghost use Rattle.expr_tree.specs.Plain.{plain_input, plain_program};
 ghost use Rattle.expr_tree.specs.Views.{program_tree};
 ghost use Rattle.semantics.specs.Graph.{edge_count, edge_source, in_port, source, target, vertex};
 ghost use Rattle.semantics.specs.Lower.{lowered};
+ghost use Rattle.semantics.specs.PortArity.{IsTyped};
 ghost use Rattle.semantics.specs.Typing.{WellTyped};
 ghost use Rattle.typing.specs.Shown.{typed_program};
 ghost use Rattle.lowering.specs.Arities.{AreArities};
@@ -43,23 +44,22 @@ pub struct Graph {
 }
 
 impl Model for Graph {
-    ghost use Rattle.std.specs.Prelude.{◌≤◌, ℕ, List, length, map, vec_items};
+    ghost use Rattle.std.specs.Prelude.{◌≤◌, length, map, vec_items};
     ghost use Rattle.std.specs.Coded.{codes};
     ghost use Rattle.std.specs.contracts.alloc.Global as heap;
     ghost use Rattle.std.specs.contracts.impls.GlobalAllocator.TheImpl as allocates;
     ghost use Rattle.expr_tree.specs.contracts.scalar.Scalar as scalar;
     ghost use Rattle.expr_tree.specs.contracts.condition.Cond as condition;
-    ghost use Rattle.lowering.specs.declared.vertex.Vertex.{Vertex};
-    ghost use Rattle.lowering.specs.declared.graph.DeclaredInput.{DeclaredInput};
     ghost use Rattle.lowering.specs.Edges.{HasTables, edge_of, outs_of};
     ghost use Rattle.lowering.specs.GraphLaws.{HasProgramArities, IsProgramGraph};
+    ghost use Rattle.lowering.specs.Shown.{GraphValue};
     ghost use Rattle.lowering.specs.Views.{graph_of, input_of};
 
-    ghost Value = { List Vertex × List DeclaredInput × List ℕ };
+    ghost Value = { GraphValue };
 
     ghost coded = { Prim.hlevel (codes, (scalar.the_row heap.the_row allocates.ghosts).coded, (condition.the_row heap.the_row allocates.ghosts).coded) };
 
-    ghost view = { λ g. (vec_items g.vertices, vec_items g.inputs, vec_items g.arities) };
+    ghost view = { λ g. record { vertices = vec_items g.vertices; inputs = vec_items g.inputs; arities = vec_items g.arities } };
 
     ghost invariant = { λ g. ∥ IsProgramGraph (graph_of (vec_items g.vertices)) (map input_of (vec_items g.inputs)) ∥₁ × HasTables (graph_of (vec_items g.vertices)) (map edge_of (vec_items g.edges)) (map outs_of (vec_items g.outs)) × (length (vec_items g.vertices) ≤ 4096) × ∥ HasProgramArities (graph_of (vec_items g.vertices)) (map input_of (vec_items g.inputs)) (vec_items g.arities) ∥₁ };
 }
@@ -118,6 +118,16 @@ impl Graph {
         let _ = &self.arities;
     }
 
+    /// What comes to each vertex has as many fields as its kind asks, and what it sends as many as its kind makes of that; all have
+    /// 1 to 16. Nothing is done.
+    pub fn law_of_ports(&self)
+        ensures { IsTyped (shown_graph self.now) (λ v. slice_index_or (shown_arities self.now) v 0) }
+    {
+        semantics::graphs::law_program();
+        semantics::graphs::law_arities();
+        self.law_of_arities();
+    }
+
     /// The vertices by number: at most 4096.
     pub fn vertices(&self) -> &[Vertex]
         ensures value { graph_of result.now ≡ shown_graph self.now }
@@ -144,6 +154,13 @@ impl Graph {
         let vertices = self.vertices();
         let number = id.0 as usize;
         &vertices[number]
+    }
+
+    /// The arity of each vertex, by number.
+    pub fn arities(&self) -> &[u64]
+        ensures { result.now ≡ shown_arities self.now }
+    {
+        &self.arities
     }
 
     /// How many fields the records have that the vertex of that number sends by its out ports, or for the output those that come to it.

@@ -110,8 +110,8 @@ fn a_graph_drawn_and_compared(rt: HostRuntime) -> Result<(), Fail> {
     let expected: &[u8] =
         b"digraph {\n0 [label=\"0 input 0\"];\n1 [label=\"1 ingress 0\"];\nsubgraph cluster_2 { 2 [label=\"2 concat 1\"]; }\nsubgraph cluster_2 { 3 [label=\"3 gate(2) 1\"]; }\nsubgraph cluster_2 { 4 [label=\"4 feedback 1\"]; }\nsubgraph cluster_2 { 5 [label=\"5 egress 1\"]; }\n6 [label=\"6 output 0\"];\n0 -> 1 [label=\"0\"];\n1 -> 2 [label=\"1\"];\n4 -> 2 [label=\"2\"];\n2 -> 3 [label=\"3\"];\n3 -> 4 [label=\"4\"];\n3 -> 5 [label=\"5\"];\n5 -> 6 [label=\"6\"];\n}\n";
     assert_eq!(rt; text.as_slice(), expected);
-    assert!(rt; graph.same(&loop_of_its_name(alloc, 2)?));
-    assert!(rt; !graph.same(&loop_of_its_name(alloc, 3)?));
+    assert!(rt; graph == loop_of_its_name(alloc, 2)?);
+    assert!(rt; graph != loop_of_its_name(alloc, 3)?);
     Ok(())
 }
 

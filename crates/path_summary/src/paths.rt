@@ -35,18 +35,15 @@ pub struct Paths {
 }
 
 impl Model for Paths {
-    ghost use Rattle.std.specs.Prelude.{ℕ, List};
-    ghost use Rattle.lowering.specs.declared.graph.DeclaredInput.{DeclaredInput};
-    ghost use Rattle.lowering.specs.declared.vertex.Vertex.{Vertex};
     ghost use Rattle.expr_tree.specs.contracts.scalar.Scalar as scalar;
     ghost use Rattle.expr_tree.specs.contracts.condition.Cond as condition;
-    ghost use Rattle.lowering.specs.Shown.{shown_graph};
+    ghost use Rattle.lowering.specs.Shown.{GraphValue, shown_graph};
     ghost use Rattle.path_summary.specs.Made.{IsMade};
     ghost use Rattle.std.specs.Coded.{codes};
     ghost use Rattle.std.specs.contracts.alloc.Global as heap;
     ghost use Rattle.std.specs.contracts.impls.GlobalAllocator.TheImpl as allocates;
 
-    ghost Value = { List Vertex × List DeclaredInput × List ℕ };
+    ghost Value = { GraphValue };
 
     ghost coded = { Prim.hlevel (codes, (scalar.the_row heap.the_row allocates.ghosts).coded, (condition.the_row heap.the_row allocates.ghosts).coded) };
 

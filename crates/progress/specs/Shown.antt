@@ -1,13 +1,8 @@
 -- What trackers show.
 use Rattle.std.specs.Prelude.{ℕ, List}
 use Rattle.semantics.specs.Could.{Pointstamp}
-use Rattle.lowering.specs.declared.graph.DeclaredInput.{DeclaredInput}
-use Rattle.lowering.specs.declared.vertex.Vertex.{Vertex}
+use Rattle.lowering.specs.Shown.{GraphValue}
 use Rattle.progress.specs.Bag.{Bag}
-
--- what a graph in memory shows
-abbrev pub GraphValue : Type 0
-GraphValue = List Vertex × List DeclaredInput × List ℕ
 
 -- of a list of active pointstamps
 pub record Listed : Type 0 where

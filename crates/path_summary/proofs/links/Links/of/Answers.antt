@@ -9,7 +9,7 @@ use Rattle.path_summary.proofs.links.Links.of.Goals as goal
 
 pub edges_of-requires-clause-few : goal.edges_of-requires-clause-few
 edges_of-requires-clause-few c =
-    let vs = c.args.graph.now.0 in
+    let vs = c.args.graph.now.vertices in
     omega (arith, few_edges vs, length_graph_of vs, c.in_ok-depths.ensures.long, c.in_ok-depths.ensures.few)
 
 pub edges_of-requires-clause-fed : goal.edges_of-requires-clause-fed
