@@ -1,15 +1,15 @@
 -- Summaries carry counters as their paths do, and the test of two summaries tells which carries them less far.
-use Rattle.std.proofs.Common.{◌≡◌, ◌⊎◌, inl, inr, ℕ, zero, suc, ◌+◌, ◌-◌, ◌≤◌, ◌<◌, nat_lt, nat_eq, Bool, true, false, cond, ◌&&◌, ◌||◌, List, [], ◌∷◌, ◌++◌, length, refl, sym, ap, ap₂, subst, ◌∙◌, arith, append-nil, get_or, take, drop, append_assoc, length-append}
+use Rattle.std.proofs.Common.{◌≡◌, inl, inr, ℕ, zero, suc, ◌+◌, ◌-◌, ◌≤◌, ◌<◌, nat_lt, nat_eq, Bool, true, false, cond, ◌&&◌, ◌||◌, List, [], ◌∷◌, ◌++◌, length, refl, sym, ap, ap₂, subst, ◌∙◌, arith, append-nil, get_or, take, drop, append_assoc, length-append}
 use Rattle.std.proofs.lemmas.Bool.Decides.{nat_tests}
 use Rattle.std.proofs.Math.Seq.{take-length}
 use Rattle.semantics.specs.Time.{Action, is_before, front, front_from, last, last_from}
-use Rattle.semantics.specs.Summary.{Summary, raised, raised_from, applied, left_by, turned_by, then_action}
+use Rattle.semantics.specs.Summary.{Summary, raised, applied, left_by, turned_by, then_action}
 use Rattle.semantics.proofs.OneFlow.{lex_head, lex_tail}
 use Rattle.semantics.proofs.PathSummaries.{MayTake, then_applied}
 use Rattle.path_summary.specs.Order.{Later, in_order}
 use Rattle.path_summary.specs.Carried.{raised_at, kept, carried, counters_after, identity, Sits, Below}
 use Rattle.path_summary.specs.Rows.{is_below}
-use Rattle.path_summary.proofs.InOrder.{order_cases, order_later, later_behind}
+use Rattle.path_summary.proofs.InOrder.{order_cases, order_self, order_later, later_behind}
 
 kept_raised : (k j : ℕ) (cs : List ℕ) → k ≤ length cs → kept k j cs ≡ raised j (take k cs)
 kept_raised zero j cs h = refl
@@ -79,6 +79,13 @@ fewer_kept zero zero i j as' bs (c ∷ cs) l h n = absurd (omega arith)
 fewer_kept zero (suc m) i j as' bs (c ∷ cs) l h n = lex_head c (c + j) (kept (suc m) i cs ++ as') bs (omega arith)
 fewer_kept (suc k) zero i j as' bs (c ∷ cs) l h n = absurd (omega arith)
 fewer_kept (suc k) (suc m) i j as' bs (c ∷ cs) l h n = lex_tail c c (kept (suc m) i cs ++ as') (kept (suc k) j cs ++ bs) refl (fewer_kept k m i j as' bs cs (omega arith) (omega arith) n)
+
+-- the test of a summary and itself
+pub below_self : (f : Summary) → is_below f f ≡ true
+below_self f = go (order_self f.tail)
+  where
+    go : in_order f.tail f.tail ≡ true → is_below f f ≡ true
+    go e = grind (arith, nat_tests)
 
 -- what the test tells
 data Told (f h : Summary) : Type 0 where

@@ -1,7 +1,9 @@
 -- The different summaries grow at the end of their list, so codes keep what they stand for.
-use Rattle.std.proofs.Common.{◌≡◌, ℕ, zero, suc, ◌+◌, ◌≤◌, ◌<◌, List, [], ◌∷◌, ◌++◌, length, ◌⊎◌, inl, inr, Option, Some, None, slice_get, slice_index_or, refl, sym, ap, ◌∙◌, arith, append-nil, append_assoc, length-append}
+use Rattle.std.proofs.Common.{◌≡◌, ◌⊎◌, inl, inr, ℕ, zero, suc, ◌+◌, ◌≤◌, ◌<◌, List, [], ◌∷◌, ◌++◌, length, Option, Some, None, slice_get, slice_set, slice_index_or, refl, sym, ap, ap₂, ◌∙◌, arith, append-nil, append_assoc, length-append}
+use Rattle.std.proofs.Math.ListN.{replicate}
 use Rattle.semantics.specs.Summary.{Summary}
-use Rattle.path_summary.specs.Codes.{decoded, StandsFor, Grows}
+use Rattle.path_summary.specs.Rows.{entry}
+use Rattle.path_summary.specs.Codes.{decoded, row_of, AreCodes, Grows}
 
 get-append : (xs ys : List Summary) (i : ℕ) → i < length xs → slice_get (xs ++ ys) i ≡ slice_get xs i
 get-append [] ys i h = absurd (omega arith)
@@ -12,9 +14,36 @@ get-last : (xs : List Summary) (y : Summary) → slice_get (xs ++ (y ∷ [])) (l
 get-last [] y = refl
 get-last (x ∷ xs) y = get-last xs y
 
+get_below : (xs : List Summary) (i : ℕ) (x : Summary) → slice_get xs i ≡ Some x → i < length xs
+get_below [] zero x h = absurd (let e = h in cc)
+get_below [] (suc i) x h = absurd (let e = h in cc)
+get_below (y ∷ xs) zero x h = omega arith
+get_below (y ∷ xs) (suc i) x h = let k = get_below xs i x h in omega arith
+
+get_there : (xs : List Summary) (i : ℕ) → i < length xs → (x : Summary) × (slice_get xs i ≡ Some x)
+get_there [] i h = absurd (omega arith)
+get_there (y ∷ xs) zero h = (y, refl)
+get_there (y ∷ xs) (suc i) h = get_there xs i (omega arith)
+
+-- ---- codes
+
 decoded_more : (old new : List Summary) (c : ℕ) → Grows old new → c ≤ length old → decoded new c ≡ decoded old c
 decoded_more old new zero g h = refl
 decoded_more old new (suc c) g h = ap (λ (l : List Summary). slice_get l c) g.is ∙ get-append old g.more c (omega arith)
+
+-- a code that stands for a summary is one of theirs
+pub decoded_within : (summaries : List Summary) (c : ℕ) (f : Summary) → decoded summaries c ≡ Some f → c ≤ length summaries
+decoded_within summaries zero f h = omega arith
+decoded_within summaries (suc c) f h = let k = get_below summaries c f h in omega arith
+
+-- and stands for it still when there are more
+pub decoded_still : (old new : List Summary) (c : ℕ) (f : Summary) → Grows old new → decoded old c ≡ Some f → decoded new c ≡ Some f
+decoded_still old new c f g h = decoded_more old new c g (decoded_within old c f h) ∙ h
+
+-- each code of theirs stands for one
+pub decoded_some : (summaries : List Summary) (c : ℕ) → 0 < c → c ≤ length summaries → (f : Summary) × (decoded summaries c ≡ Some f)
+decoded_some summaries zero p h = absurd (omega arith)
+decoded_some summaries (suc c) p h = get_there summaries c (omega arith)
 
 pub grows_none : (old : List Summary) → Grows old old
 grows_none old = record { more = []; is = sym (append-nil old) }
@@ -25,16 +54,11 @@ grows_one old new f e = record { more = f ∷ []; is = e }
 pub grows_on : (a b c : List Summary) → Grows a b → Grows b c → Grows a c
 grows_on a b c g h = record { more = g.more ++ h.more; is = h.is ∙ ap (λ (l : List Summary). l ++ h.more) g.is ∙ append_assoc a g.more h.more }
 
-pub stands_more : (old new : List Summary) (codes : List ℕ) (row : List (Option Summary)) → Grows old new → StandsFor old codes row → StandsFor new codes row
-stands_more old new codes row g s =
-    record {
-      long = s.long;
-      each = λ x c h. s.each x c h ∙ ap (λ (o : Option Summary). Some o) (sym (decoded_more old new c g (s.small x c h)));
-      small = λ x c h. let k = s.small x c h in omega (arith, ap length g.is, length-append old g.more);
-    }
+pub grows_length : (old new : List Summary) → Grows old new → length old ≤ length new
+grows_length old new g = omega (arith, ap length g.is, length-append old g.more)
 
-pub last_code : (old new : List Summary) (f : Summary) (n c : ℕ) → new ≡ old ++ (f ∷ []) → n ≡ length new → c ≡ n → decoded new c ≡ Some f
-last_code old new f n c e k m =
+pub last_code : (old new : List Summary) (f : Summary) (c : ℕ) → new ≡ old ++ (f ∷ []) → c ≡ length new → decoded new c ≡ Some f
+last_code old new f c e m =
     let q : c ≡ suc (length old) = omega (arith, ap length e, length-append old (f ∷ [])) in
     ap (decoded new) q ∙ ap (λ (l : List Summary). slice_get l (length old)) e ∙ get-last old f
 
@@ -48,52 +72,66 @@ found_code summaries f x i c h e k m =
     go (y ∷ xs) zero h e = ap (λ z. Some z) (sym e)
     go (y ∷ xs) (suc i) h e = go xs i (omega arith) e
 
-pub stands_none : (summaries : List Summary) (row : List (Option Summary)) → StandsFor summaries [] row
-stands_none summaries row = record { long = omega arith; each = λ x c h. absurd (never x c h); small = λ x c h. absurd (never x c h) }
-  where
-    never : (x c : ℕ) → slice_get [] x ≡ Some c → ⊥
-    never zero c h = cc
-    never (suc x) c h = cc
-
-pub stands_push : (summaries : List Summary) (codes : List ℕ) (row : List (Option Summary)) (k x : ℕ) → length codes ≡ x → x < length row → StandsFor summaries codes row → slice_get row x ≡ Some (decoded summaries k) → k ≤ length summaries → StandsFor summaries (codes ++ (k ∷ [])) row
-stands_push summaries codes row k x n l s h m =
-    record {
-      long = omega (arith, length-append codes (k ∷ []));
-      each = λ i c e. (at i c e).0;
-      small = λ i c e. (at i c e).1;
-    }
-  where
-    same : (a b : ℕ) → Some a ≡ Some b → a ≡ b
-    same a b e = cc
-
-    pushed : (xs : List ℕ) (i c : ℕ) → slice_get (xs ++ (k ∷ [])) i ≡ Some c → (slice_get xs i ≡ Some c) ⊎ ((i ≡ length xs) × (k ≡ c))
-    pushed [] zero c e = inr (refl, same k c e)
-    pushed [] (suc i) c e = inl e
-    pushed (y ∷ xs) zero c e = inl e
-    pushed (y ∷ xs) (suc i) c e = go (pushed xs i c e)
-      where
-        go : (slice_get xs i ≡ Some c) ⊎ ((i ≡ length xs) × (k ≡ c)) → (slice_get xs i ≡ Some c) ⊎ ((suc i ≡ suc (length xs)) × (k ≡ c))
-        go (inl a) = inl a
-        go (inr a) = inr (ap suc a.0, a.1)
-
-    at : (i c : ℕ) → slice_get (codes ++ (k ∷ [])) i ≡ Some c → (slice_get row i ≡ Some (decoded summaries c)) × (c ≤ length summaries)
-    at i c e = go (pushed codes i c e)
-      where
-        go : (slice_get codes i ≡ Some c) ⊎ ((i ≡ length codes) × (k ≡ c)) → (slice_get row i ≡ Some (decoded summaries c)) × (c ≤ length summaries)
-        go (inl a) = (s.each i c a, s.small i c a)
-        go (inr a) = (ap (slice_get row) (a.0 ∙ n) ∙ h ∙ ap (λ (j : ℕ). Some (decoded summaries j)) a.1, let q = a.1 in omega arith)
+-- ---- rows of codes
 
 -- what stands in a row, by the code that stands there
-pub entry_decoded : (summaries : List Summary) (codes : List ℕ) (row : List (Option Summary)) → StandsFor summaries codes row → length codes ≡ length row → (x : ℕ) → decoded summaries (slice_index_or codes x 0) ≡ slice_index_or row x None
-entry_decoded summaries codes row s n x = go codes row n s.each x
-  where
-    same : (a b : Option Summary) → Some a ≡ Some b → a ≡ b
-    same a b e = cc
+pub entry_row : (summaries : List Summary) (codes : List ℕ) (x : ℕ) → entry (row_of summaries codes) x ≡ decoded summaries (slice_index_or codes x 0)
+entry_row summaries [] zero = refl
+entry_row summaries [] (suc x) = refl
+entry_row summaries (c ∷ codes) zero = refl
+entry_row summaries (c ∷ codes) (suc x) = entry_row summaries codes x
 
-    go : (codes : List ℕ) (row : List (Option Summary)) → length codes ≡ length row → ((x c : ℕ) → slice_get codes x ≡ Some c → slice_get row x ≡ Some (decoded summaries c)) → (x : ℕ) → decoded summaries (slice_index_or codes x 0) ≡ slice_index_or row x None
-    go [] [] n each zero = refl
-    go [] [] n each (suc x) = refl
-    go [] (r ∷ row) n each x = absurd (omega arith)
-    go (c ∷ codes) [] n each x = absurd (omega arith)
-    go (c ∷ codes) (r ∷ row) n each zero = same (decoded summaries c) r (sym (each zero c refl))
-    go (c ∷ codes) (r ∷ row) n each (suc x) = go codes row (omega arith) (λ y d h. each (suc y) d h) x
+pub row_set : (summaries : List Summary) (codes : List ℕ) (i c : ℕ) → row_of summaries (slice_set codes i c) ≡ slice_set (row_of summaries codes) i (decoded summaries c)
+row_set summaries [] i c = refl
+row_set summaries (d ∷ codes) zero c = refl
+row_set summaries (d ∷ codes) (suc i) c = ap (λ (row : List (Option Summary)). decoded summaries d ∷ row) (row_set summaries codes i c)
+
+-- a row stands for the same when there are more summaries
+pub row_grown : (old new : List Summary) (codes : List ℕ) → Grows old new → AreCodes old codes → row_of new codes ≡ row_of old codes
+row_grown old new codes g a = go codes a.within
+  where
+    go : (codes : List ℕ) → ((x : ℕ) → slice_index_or codes x 0 ≤ length old) → row_of new codes ≡ row_of old codes
+    go [] h = refl
+    go (c ∷ codes) h = ap₂ (λ (o : Option Summary) (row : List (Option Summary)). o ∷ row) (decoded_more old new c g (h zero)) (go codes (λ x. h (suc x)))
+
+pub codes_grown : (old new : List Summary) (codes : List ℕ) → Grows old new → AreCodes old codes → AreCodes new codes
+codes_grown old new codes g a = record { within = λ x. let h = a.within x in let k = grows_length old new g in omega arith }
+
+-- what stands in codes of which one was set
+pub code_set : (codes : List ℕ) (i c x : ℕ) → (slice_index_or (slice_set codes i c) x 0 ≡ slice_index_or codes x 0) ⊎ ((x ≡ i) × (slice_index_or (slice_set codes i c) x 0 ≡ c))
+code_set [] i c x = inl refl
+code_set (d ∷ codes) zero c zero = inr (refl, refl)
+code_set (d ∷ codes) zero c (suc x) = inl refl
+code_set (d ∷ codes) (suc i) c zero = inl refl
+code_set (d ∷ codes) (suc i) c (suc x) = go (code_set codes i c x)
+  where
+    go : (slice_index_or (slice_set codes i c) x 0 ≡ slice_index_or codes x 0) ⊎ ((x ≡ i) × (slice_index_or (slice_set codes i c) x 0 ≡ c)) → (slice_index_or (slice_set codes i c) x 0 ≡ slice_index_or codes x 0) ⊎ ((suc x ≡ suc i) × (slice_index_or (slice_set codes i c) x 0 ≡ c))
+    go (inl e) = inl e
+    go (inr a) = inr (ap suc a.0, a.1)
+
+pub codes_put : (summaries : List Summary) (codes : List ℕ) (i c : ℕ) → AreCodes summaries codes → c ≤ length summaries → AreCodes summaries (slice_set codes i c)
+codes_put summaries codes i c a h = record { within = λ x. go x (code_set codes i c x) }
+  where
+    go : (x : ℕ) → (slice_index_or (slice_set codes i c) x 0 ≡ slice_index_or codes x 0) ⊎ ((x ≡ i) × (slice_index_or (slice_set codes i c) x 0 ≡ c)) → slice_index_or (slice_set codes i c) x 0 ≤ length summaries
+    go x (inl e) = let k = a.within x in omega arith
+    go x (inr e) = let k = e.1 in omega arith
+
+-- the code at a place
+abbrev pub code_in : List ℕ → ℕ → ℕ
+code_in codes x = slice_index_or codes x 0
+
+pub nothing_at : (x : ℕ) → code_in [] x ≡ 0
+nothing_at zero = refl
+nothing_at (suc x) = refl
+
+zero_at : (n x : ℕ) → code_in (replicate n 0) x ≡ 0
+zero_at zero x = nothing_at x
+zero_at (suc n) zero = refl
+zero_at (suc n) (suc x) = zero_at n x
+
+pub codes_none : (summaries : List Summary) (n : ℕ) → AreCodes summaries (replicate n 0)
+codes_none summaries n = record { within = λ x. let e = zero_at n x in omega arith }
+
+-- nothing stands there
+pub none_there : (summaries : List Summary) (n x : ℕ) → entry (row_of summaries (replicate n 0)) x ≡ None
+none_there summaries n x = entry_row summaries (replicate n 0) x ∙ ap (decoded summaries) (zero_at n x)

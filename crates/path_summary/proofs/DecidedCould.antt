@@ -1,5 +1,5 @@
 -- What a table decides is what could result in what.
-use Rattle.std.proofs.Common.{◌≡◌, ◌⊎◌, inl, inr, ℕ, ◌+◌, ◌≤◌, ◌<◌, List, [], ◌∷◌, ◌++◌, length, Option, Some, refl, sym, ap, subst, ◌∙◌, arith, length-append}
+use Rattle.std.proofs.Common.{◌≡◌, inl, inr, ℕ, ◌+◌, ◌≤◌, ◌<◌, List, [], ◌∷◌, ◌++◌, length, Option, Some, refl, sym, ap, subst, ◌∙◌, arith, length-append}
 use Rattle.semantics.specs.Time.{Time, Action, IsAtMost, after_action}
 use Rattle.semantics.specs.Kinds.{action}
 use Rattle.semantics.specs.Graph.{Graph, vertex, edge_count, target, in_port, edge_source}
@@ -10,8 +10,8 @@ use Rattle.semantics.proofs.EdgeNumbers.{entered}
 use Rattle.semantics.proofs.CouldRises.{at_most_refl, at_most_trans, path_fits, step_fits}
 use Rattle.semantics.proofs.PathSummaries.{MayTake}
 use Rattle.path_summary.specs.Order.{Later}
-use Rattle.path_summary.specs.Carried.{carried, counters_after, identity, Sits}
-use Rattle.path_summary.specs.Tables.{IsOfPath, IsTable, home_of, Covers, Stays, Decided}
+use Rattle.path_summary.specs.Carried.{carried, counters_after, Sits}
+use Rattle.path_summary.specs.Tables.{IsTable, home_of, Decided}
 use Rattle.path_summary.proofs.InOrder.{later_trans, later_after, after_is}
 use Rattle.path_summary.proofs.Carrying.{carried-identity, carried_then, length-carried}
 

@@ -1,8 +1,8 @@
 -- The test of the order.
-use Rattle.std.proofs.Common.{◌≡◌, ◌⊎◌, inl, inr, ℕ, ◌≤◌, ◌<◌, Some, nat_lt, nat_eq, Bool, true, false, ◌&&◌, ◌||◌, List, [], ◌∷◌, ◌++◌, length, refl, sym, ap, ap₂, subst, ◌∙◌, arith}
+use Rattle.std.proofs.Common.{◌≡◌, ◌⊎◌, inl, inr, ℕ, ◌≤◌, ◌<◌, Some, nat_lt, nat_eq, Bool, true, ◌&&◌, ◌||◌, List, [], ◌∷◌, ◌++◌, length, refl, sym, ap, ap₂, subst, ◌∙◌, arith}
 use Rattle.std.proofs.lemmas.Bool.{true≢false}
 use Rattle.std.proofs.lemmas.Bool.Decides.{nat_tests}
-use Rattle.semantics.specs.Time.{Time, Action, IsAtMost, after_action, is_before}
+use Rattle.semantics.specs.Time.{Time, Action, after_action, is_before}
 use Rattle.semantics.proofs.LexicographicOrder.{lex_cases}
 use Rattle.semantics.proofs.OneFlow.{lex_head, lex_tail}
 use Rattle.semantics.proofs.CouldRises.{at_most_after, at_most_trans}
@@ -22,7 +22,7 @@ order_head c d r h = grind (arith, nat_tests)
 order_tail : (c d : ℕ) (r : Bool) → c ≡ d → r ≡ true → (nat_lt c d || (nat_eq c d && r)) ≡ true
 order_tail c d r h k = grind (arith, nat_tests)
 
-order_self : (cs : List ℕ) → in_order cs cs ≡ true
+pub order_self : (cs : List ℕ) → in_order cs cs ≡ true
 order_self [] = refl
 order_self (c ∷ cs) = order_tail c c (in_order cs cs) refl (order_self cs)
 

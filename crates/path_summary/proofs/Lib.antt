@@ -3,4 +3,5 @@ pub mod Carrying
 pub mod DecidedCould
 pub mod RowsMade
 pub mod CodesGrow
+pub mod Notes
 pub mod WholeTables

@@ -1,30 +1,19 @@
 -- Rows of a table: what a step of their making keeps, and what the last tests show.
-use Rattle.std.proofs.Common.{◌≡◌, ◌⊎◌, inl, inr, ℕ, zero, suc, ◌+◌, ◌≤◌, ◌<◌, nat_eq, Bool, true, false, cond, List, [], ◌∷◌, ◌++◌, length, Option, Some, None, slice_get, slice_set, slice_index_or, refl, sym, ap, subst, ◌∙◌, arith}
-use Rattle.std.proofs.lemmas.Bool.Decides.{nat_tests}
+use Rattle.std.proofs.Common.{◌≡◌, ◌⊎◌, inl, inr, ℕ, zero, suc, ◌+◌, ◌≤◌, ◌<◌, true, List, [], ◌∷◌, ◌++◌, length, Option, Some, None, slice_get, slice_set, slice_index_or, refl, sym, ap, subst, ◌∙◌, arith}
 use Rattle.semantics.specs.Time.{Time, after_action}
 use Rattle.semantics.specs.Kinds.{action}
 use Rattle.semantics.specs.Graph.{Graph, vertex, edge_count, target, edge_source}
 use Rattle.semantics.specs.Could.{Location, PathStep, step_to, step_time, IsPath, path_time}
 use Rattle.semantics.specs.Summary.{Summary, then_action}
 use Rattle.semantics.proofs.PathSummaries.{MayTake}
-use Rattle.path_summary.specs.Carried.{carried, counters_after, identity, Sits}
+use Rattle.path_summary.specs.Carried.{carried, identity, Sits}
 use Rattle.path_summary.specs.Linking.{Link, Links, link_in, Draws}
 use Rattle.path_summary.specs.Tables.{IsOfPath, Reaches}
-use Rattle.path_summary.specs.Rows.{is_below, entry, IsRow, HasBelow, Follows, Stepped, Closes, IsClosed, opening}
+use Rattle.path_summary.specs.Rows.{is_below, entry, IsRow, HasBelow, Stepped, Closes, IsClosed}
 use Rattle.path_summary.proofs.InOrder.{after_is}
 use Rattle.path_summary.proofs.Carrying.{carried-identity, carried_then, sits_then, below_from}
 
 -- ---- entries
-
-entry_push : (row : List (Option Summary)) (o : Option Summary) (x : ℕ) (f : Summary) → entry (row ++ (o ∷ [])) x ≡ Some f → (entry row x ≡ Some f) ⊎ ((x ≡ length row) × (o ≡ Some f))
-entry_push [] o zero f h = inr (refl, h)
-entry_push [] o (suc x) f h = inl h
-entry_push (r ∷ row) o zero f h = inl h
-entry_push (r ∷ row) o (suc x) f h = go (entry_push row o x f h)
-  where
-    go : (entry row x ≡ Some f) ⊎ ((x ≡ length row) × (o ≡ Some f)) → (entry row x ≡ Some f) ⊎ ((suc x ≡ suc (length row)) × (o ≡ Some f))
-    go (inl a) = inl a
-    go (inr a) = inr (ap suc a.0, a.1)
 
 entry_set : (row : List (Option Summary)) (i : ℕ) (o : Option Summary) (x : ℕ) (f : Summary) → entry (slice_set row i o) x ≡ Some f → (entry row x ≡ Some f) ⊎ ((x ≡ i) × (o ≡ Some f))
 entry_set [] i o x f h = inl h
@@ -42,20 +31,6 @@ some_same f h e = cc
 
 -- ---- rows
 
-pub no_row : (w : Links) (v : ℕ) → IsRow w v []
-no_row w v = record { sound = λ g draws l x f h. absurd (never x f h) }
-  where
-    never : (x : ℕ) (f : Summary) → entry [] x ≡ Some f → ⊥
-    never zero f h = cc
-    never (suc x) f h = cc
-
-row_none : (w : Links) (v : ℕ) (row : List (Option Summary)) → IsRow w v row → IsRow w v (row ++ (None ∷ []))
-row_none w v row r = record { sound = λ g draws l x f h. go g draws l x f (entry_push row None x f h) }
-  where
-    go : (g : Graph) → Draws w g → v < length g → (x : ℕ) (f : Summary) → (entry row x ≡ Some f) ⊎ ((x ≡ length row) × (None ≡ Some f)) → IsOfPath g v x f
-    go g draws l x f (inl a) = r.sound g draws l x f a
-    go g draws l x f (inr a) = absurd (let e = a.1 in cc)
-
 identity_path : (g : Graph) (v : ℕ) → IsOfPath g v v (identity (vertex g v).depth)
 identity_path g v = record {
   path = [];
@@ -64,23 +39,18 @@ identity_path g v = record {
   sits = record { short = omega arith; still = λ e. refl };
 }
 
-row_self : (w : Links) (v : ℕ) (row : List (Option Summary)) → IsRow w v row → v ≡ length row → IsRow w v (row ++ (Some (identity (slice_index_or w.depths v 0)) ∷ []))
-row_self w v row r q = record { sound = λ g draws l x f h. go g draws l x f (entry_push row (Some (identity (slice_index_or w.depths v 0))) x f h) }
+-- the row of a vertex in which nothing else stands
+pub row_home : (w : Links) (v : ℕ) (row : List (Option Summary)) (o : Option Summary) → ((x : ℕ) → entry row x ≡ None) → o ≡ Some (identity (slice_index_or w.depths v 0)) → IsRow w v (slice_set row v o)
+row_home w v row o none e = record { sound = λ g draws l x f h. go g draws l x f (entry_set row v o x f h) }
   where
-    go : (g : Graph) → Draws w g → v < length g → (x : ℕ) (f : Summary) → (entry row x ≡ Some f) ⊎ ((x ≡ length row) × (Some (identity (slice_index_or w.depths v 0)) ≡ Some f)) → IsOfPath g v x f
-    go g draws l x f (inl a) = r.sound g draws l x f a
-    go g draws l x f (inr a) =
-        subst (λ (y : ℕ). IsOfPath g v y f) (q ∙ sym a.0)
-        (subst (λ (z : Summary). IsOfPath g v v z) (ap identity (sym (draws.depth v l)) ∙ some_same (identity (slice_index_or w.depths v 0)) f a.1) (identity_path g v))
+    never : (x : ℕ) (f : Summary) → entry row x ≡ Some f → ⊥
+    never x f h = let n = none x in cc
 
-pub row_opened : (w : Links) (v : ℕ) (row : List (Option Summary)) (o : Option Summary) → IsRow w v row → o ≡ opening (length row) v (slice_index_or w.depths v 0) → IsRow w v (row ++ (o ∷ []))
-row_opened w v row o r e = go (nat_eq (length row) v) refl
-  where
-    go : (b : Bool) → nat_eq (length row) v ≡ b → IsRow w v (row ++ (o ∷ []))
-    go true k =
-        let q : v ≡ length row = grind (arith, nat_tests) in
-        subst (λ (x : Option Summary). IsRow w v (row ++ (x ∷ []))) (sym (e ∙ ap (λ b. cond b (Some (identity (slice_index_or w.depths v 0))) None) k)) (row_self w v row r q)
-    go false k = subst (λ (x : Option Summary). IsRow w v (row ++ (x ∷ []))) (sym (e ∙ ap (λ b. cond b (Some (identity (slice_index_or w.depths v 0))) None) k)) (row_none w v row r)
+    go : (g : Graph) → Draws w g → v < length g → (x : ℕ) (f : Summary) → (entry row x ≡ Some f) ⊎ ((x ≡ v) × (o ≡ Some f)) → IsOfPath g v x f
+    go g draws l x f (inl a) = absurd (never x f a)
+    go g draws l x f (inr a) =
+        subst (λ (y : ℕ). IsOfPath g v y f) (sym a.0)
+        (subst (λ (z : Summary). IsOfPath g v v z) (ap identity (sym (draws.depth v l)) ∙ some_same (identity (slice_index_or w.depths v 0)) f (sym e ∙ a.1)) (identity_path g v))
 
 -- ---- one edge further
 
@@ -186,16 +156,6 @@ closes_more w row i k before h here e l j q = go (last_or e i l)
 
 pub all_closed : (w : Links) (row : List (Option Summary)) (i : ℕ) → length w.edges ≤ i → ((e : ℕ) → e < i → (j : Link) → slice_get w.edges e ≡ Some j → Closes j row) → IsClosed w row
 all_closed w row i l all = record { steps = λ e k h. all e (let n = got_below w.edges e k h in omega arith) k h }
-
-length-slice_set : (row : List (Option Summary)) (i : ℕ) (o : Option Summary) → length (slice_set row i o) ≡ length row
-length-slice_set [] i o = refl
-length-slice_set (r ∷ row) zero o = refl
-length-slice_set (r ∷ row) (suc i) o = ap suc (length-slice_set row i o)
-
--- a step leaves the row as long
-pub stepped_length : (k : Link) (old new : List (Option Summary)) → Stepped k old new → length new ≡ length old
-stepped_length k old new (Stepped.same e) = ap length e
-stepped_length k old new (Stepped.set f h q s m) = ap length m ∙ length-slice_set old k.target (Some h)
 
 -- ---- depths and edges of a graph, one by one
 

@@ -1,5 +1,5 @@
 -- The whole table: each row is good, so the table is exact.
-use Rattle.std.proofs.Common.{◌≡◌, ◌⊎◌, inl, inr, ℕ, zero, suc, ◌+◌, ◌≤◌, ◌<◌, Bool, true, List, [], ◌∷◌, ◌++◌, length, Option, Some, slice_get, slice_index_or, refl, sym, ap, ap₂, subst, ◌∙◌, arith, length-append}
+use Rattle.std.proofs.Common.{◌≡◌, ◌⊎◌, inl, inr, ℕ, zero, suc, ◌+◌, ◌<◌, Bool, true, List, [], ◌∷◌, ◌++◌, length, Some, slice_get, slice_index_or, refl, sym, ap, ap₂, subst, ◌∙◌, arith, length-append}
 use Rattle.std.specs.Bool.{Decides}
 use Rattle.std.specs.Prelude.{IsTrue, ◌↔◌}
 use Rattle.std.proofs.Math.Bool.{Bool-set}
@@ -17,12 +17,12 @@ use Rattle.semantics.specs.Dataflow.{IsDataflow}
 use Rattle.semantics.specs.Summary.{Summary}
 use Rattle.path_summary.specs.Linking.{Link, Links, Draws, no_link, link_in, link_of, home_in}
 use Rattle.path_summary.specs.Tables.{IsTable, home_of, Covers, Stays, Decided}
-use Rattle.path_summary.specs.Rows.{entry}
-use Rattle.path_summary.specs.Codes.{Grows}
+use Rattle.path_summary.specs.Rows.{entry, IsGoodRow}
+use Rattle.path_summary.specs.Codes.{row_of, Grows}
 use Rattle.path_summary.specs.Made.{entry_at, IsPacked, ArePacked, IsMade, DecidedIn}
 use Rattle.path_summary.proofs.DecidedCould.{decided_could, could_decided}
 use Rattle.path_summary.proofs.RowsMade.{got_below, link_at, row_closed, row_reached}
-use Rattle.path_summary.proofs.CodesGrow.{stands_more, entry_decoded}
+use Rattle.path_summary.proofs.CodesGrow.{row_grown, codes_grown, entry_row}
 
 row_push : (rows : List (List ℕ)) (row : List ℕ) (v : ℕ) → v < length rows → slice_index_or (rows ++ (row ∷ [])) v [] ≡ slice_index_or rows v []
 row_push [] row v h = absurd (omega arith)
@@ -34,7 +34,8 @@ row_last [] row = refl
 row_last (r ∷ rows) row = row_last rows row
 
 packed_more : (w : Links) (old new : List Summary) (codes : List ℕ) (v : ℕ) → Grows old new → IsPacked w old codes v → IsPacked w new codes v
-packed_more w old new codes v g p = record { row = p.row; good = p.good; stands = stands_more old new codes p.row g p.stands; long = p.long }
+packed_more w old new codes v g p =
+    record { good = subst (IsGoodRow w v) (sym (row_grown old new codes g p.known)) p.good; known = codes_grown old new codes g p.known }
 
 pub packed_push : (w : Links) (old new : List Summary) (rows : List (List ℕ)) (row : List ℕ) (n : ℕ) → length rows ≡ n → Grows old new → ArePacked w old rows → IsPacked w new row n → ArePacked w new (rows ++ (row ∷ []))
 packed_push w old new rows row n e g all p v l = go (last_or v (length rows) (omega (arith, length-append rows (row ∷ []))))
@@ -53,18 +54,18 @@ made_table g w summaries rows made =
     record {
       sound = λ v x f l h. (packed v l).good.is_row.sound g made.draws l x f (sym (same v l x) ∙ h);
       self = λ v l.
-          let r = row_reached w v (packed v l).row g made.draws l (packed v l).good.is_row (packed v l).good.self in
+          let r = row_reached w v (row_of summaries (slice_index_or rows v [])) g made.draws l (packed v l).good.is_row (packed v l).good.self in
           record { least = r.least; known = same v l v ∙ r.known; below = r.below };
       closed = λ v e f l n h.
-          let r = row_closed w v (packed v l).row g made.draws l (packed v l).good.is_row (packed v l).good.closed e f n (sym (same v l _) ∙ h) in
+          let r = row_closed w v (row_of summaries (slice_index_or rows v [])) g made.draws l (packed v l).good.is_row (packed v l).good.closed e f n (sym (same v l _) ∙ h) in
           record { least = r.least; known = same v l _ ∙ r.known; below = r.below };
     }
   where
     packed : (v : ℕ) → v < length g → IsPacked w summaries (slice_index_or rows v []) v
     packed v l = made.packed v (omega (arith, made.long, made.draws.vertices))
 
-    same : (v : ℕ) (l : v < length g) (x : ℕ) → entry_at summaries rows v x ≡ entry (packed v l).row x
-    same v l x = entry_decoded summaries (slice_index_or rows v []) (packed v l).row (packed v l).stands (packed v l).long x
+    same : (v : ℕ) (l : v < length g) (x : ℕ) → entry_at summaries rows v x ≡ entry (row_of summaries (slice_index_or rows v [])) x
+    same v l x = sym (entry_row summaries (slice_index_or rows v []) x)
 
 link_is : (w : Links) (g : Graph) → Draws w g → (e : ℕ) → e < edge_count g → link_of w e ≡ link_in g e
 link_is w g draws e n = from w.edges e (link_in g e) (link_at w g draws e n)

@@ -4,5 +4,6 @@ pub mod Linking
 pub mod Tables
 pub mod Rows
 pub mod Codes
+pub mod Noted
 pub mod Made
 pub mod Views

@@ -1,5 +1,5 @@
 -- The whole table.
-use Rattle.std.specs.Prelude.{◌≡◌, ◌⊎◌, ℕ, ◌<◌, List, [], length, Option, Some, None, slice_index_or}
+use Rattle.std.specs.Prelude.{◌≡◌, ◌⊎◌, ℕ, ◌<◌, List, [], length, Option, slice_index_or}
 use Rattle.semantics.specs.Time.{Action, Time}
 use Rattle.semantics.specs.Could.{Location, Pointstamp}
 use Rattle.semantics.specs.Graph.{Graph}
@@ -8,7 +8,7 @@ use Rattle.semantics.specs.Summary.{Summary}
 use Rattle.path_summary.specs.Linking.{Links, Draws, home_in, link_of}
 use Rattle.path_summary.specs.Tables.{Covers, Stays}
 use Rattle.path_summary.specs.Rows.{IsGoodRow}
-use Rattle.path_summary.specs.Codes.{decoded, StandsFor}
+use Rattle.path_summary.specs.Codes.{decoded, row_of, AreCodes}
 
 -- the code from v to x, 0 where there is none
 abbrev pub code_at : List (List ℕ) → ℕ → ℕ → ℕ
@@ -18,12 +18,10 @@ code_at rows v x = slice_index_or (slice_index_or rows v []) x 0
 abbrev pub entry_at : List Summary → List (List ℕ) → ℕ → ℕ → Option Summary
 entry_at summaries rows v x = decoded summaries (code_at rows v x)
 
--- the row of v stands for a whole row
+-- the codes stand for a whole row of v
 pub record IsPacked (w : Links) (summaries : List Summary) (codes : List ℕ) (v : ℕ) : Type 0 where
-  pub row : List (Option Summary)
-  pub good : IsGoodRow w v row
-  pub stands : StandsFor summaries codes row
-  pub long : length codes ≡ length row
+  pub good : IsGoodRow w v (row_of summaries codes)
+  pub known : AreCodes summaries codes
 
 -- each row so far is
 abbrev pub ArePacked : Links → List Summary → List (List ℕ) → Type 0

@@ -47,10 +47,6 @@ pub record Closes (k : Link) (row : List (Option Summary)) : Type 0 where
 pub record IsClosed (w : Links) (row : List (Option Summary)) : Type 0 where
   pub steps : (e : ℕ) (k : Link) → slice_get w.edges e ≡ Some k → Closes k row
 
--- the opening entry of the row of v
-abbrev pub opening : (x v depth : ℕ) → Option Summary
-opening x v depth = cond (nat_eq x v) (Some (identity depth)) None
-
 -- the row is a whole row of the table
 pub record IsGoodRow (w : Links) (v : ℕ) (row : List (Option Summary)) : Type 0 where
   pub is_row : IsRow w v row

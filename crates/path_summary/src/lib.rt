@@ -8,16 +8,13 @@
 #![tactic(auto)]
 
 mod action;
-mod codes;
 mod links;
 mod paths;
 mod pointstamp;
 mod row;
+mod summaries;
 mod summary;
 
 pub use lowering::{EdgeId, Graph, Location, VertexId};
 pub use paths::Paths;
 pub use pointstamp::{Pointstamp, same_location};
-
-#[cfg(test)]
-mod tests;

@@ -9,14 +9,13 @@ ghost use Rattle.semantics.specs.Dataflow.{IsDataflow};
 ghost use Rattle.path_summary.specs.Linking.{Draws, IsKnown};
 ghost use Rattle.path_summary.specs.Made.{ArePacked, DecidedIn, IsPacked, code_at, entry_at};
 ghost use Rattle.path_summary.specs.Tables.{Covers, Stays};
-ghost use Rattle.path_summary.specs.Codes.{Grows};
 ghost use Rattle.path_summary.specs.Views.{action_of};
 
 use crate::action::Action;
-use crate::codes::PackedRow;
 use crate::links::Links;
 use crate::pointstamp::{Pointstamp, same_location};
 use crate::row::Row;
+use crate::summaries::Summaries;
 use crate::summary::Summary;
 use expr_tree::NoMemory;
 use loop_context::Time;
@@ -30,8 +29,8 @@ use std::sync::Arc;
 pub struct Paths {
     graph: Arc<Graph, Global>,
     links: Links,
-    summaries: Vec<Summary>,
-    rows: Vec<PackedRow>,
+    summaries: Summaries,
+    rows: Vec<Row>,
 }
 
 impl Model for Paths {
@@ -49,11 +48,11 @@ impl Model for Paths {
 
     ghost view = { λ p. p.graph.value };
 
-    ghost invariant = { λ p. IsMade (shown_graph p.graph.value) p.links p.summaries.items p.rows.items };
+    ghost invariant = { λ p. IsMade (shown_graph p.graph.value) p.links p.summaries p.rows.items };
 }
 
 impl Paths {
-    /// The paths of a graph. 4 bytes are kept for each two vertices. `NoMemory` also where `Row::of` finds no whole row.
+    /// The paths of a graph. 2 bytes are kept for each two vertices. `NoMemory` also where `Row::of` finds no whole row.
     pub fn of(alloc: Global, graph: &Arc<Graph, Global>) -> Result<Paths, NoMemory>
         ensures { IfOk result (λ p. p ≡ graph.now.value) }
     {
@@ -61,7 +60,7 @@ impl Paths {
         let graph = Arc::try_clone(graph)?;
         graph.law_of_program();
         let links = Links::of(alloc, &graph)?;
-        let mut summaries = Vec::new(alloc);
+        let mut summaries = Summaries::new(alloc);
         let rows = rows_of(alloc, &links, &mut summaries)?;
         Ok(Paths {
             graph,
@@ -120,21 +119,15 @@ fn is_time_at(graph: &Graph, p: &Pointstamp) -> bool
 }
 
 /// The rows of all vertices.
-fn rows_of(
-    alloc: Global,
-    links: &Links,
-    summaries: &mut Vec<Summary>,
-) -> Result<Vec<PackedRow>, NoMemory>
-    requires empty { summaries.old.items ≡ [] }
-    requires few { length links.now.depths ≤ 4096 }
-    ensures packed { IfOk result (λ rows. ArePacked links.now summaries.new.items rows.items) }
+fn rows_of(alloc: Global, links: &Links, summaries: &mut Summaries) -> Result<Vec<Row>, NoMemory>
+    requires { length links.now.depths ≤ 4096 }
+    ensures packed { IfOk result (λ rows. ArePacked links.now summaries.new rows.items) }
     ensures long { IfOk result (λ rows. length rows.items ≡ length links.now.depths) }
 {
     let mut rows = Vec::with_capacity(alloc, links.vertex_count())?;
     for vertex in 0..links.vertex_count() {
-        let row = Row::of(alloc, links, vertex as u32)?;
-        let packed = PackedRow::of(alloc, summaries, &row)?;
-        rows.push(packed)?;
+        let row = Row::of(alloc, links, summaries, vertex as u32)?;
+        rows.push(row)?;
     }
     Ok(rows)
 }
@@ -142,8 +135,8 @@ fn rows_of(
 /// By the table, whether `p` could result in `q`.
 fn could_in(
     links: &Links,
-    summaries: &[Summary],
-    rows: &[PackedRow],
+    summaries: &Summaries,
+    rows: &[Row],
     p: &Pointstamp,
     q: &Pointstamp,
 ) -> bool
@@ -163,8 +156,8 @@ fn could_in(
 
 /// Whether the entry from one vertex to another, and then the action, take `p` to a time at or before `q`'s.
 fn comes(
-    summaries: &[Summary],
-    rows: &[PackedRow],
+    summaries: &Summaries,
+    rows: &[Row],
     from: u32,
     to: u32,
     action: Action,
@@ -180,12 +173,7 @@ fn comes(
 }
 
 /// The entry from one vertex to another.
-fn entry<'a>(
-    summaries: &'a [Summary],
-    rows: &[PackedRow],
-    from: u32,
-    to: u32,
-) -> Option<&'a Summary>
+fn entry<'a>(summaries: &'a Summaries, rows: &[Row], from: u32, to: u32) -> Option<&'a Summary>
     ensures none { IfNone result (entry_at summaries.now rows.now from to ≡ None) }
     ensures some { IfSome result (λ f. entry_at summaries.now rows.now from to ≡ Some f.now) }
 {
@@ -193,7 +181,7 @@ fn entry<'a>(
         Some(row) => row.code(to),
         None => 0,
     };
-    summaries.get((code as usize).checked_sub(1)?)
+    summaries.get(code)
 }
 
 /// Whether a summary and then an action take `time` to one at or before `until`.

@@ -1,48 +1,48 @@
-//! One row of the table while it is made: the summaries from one vertex to each.
+//! One row of the table: the summaries from one vertex to each, by code.
 
-ghost use Rattle.std.specs.Prelude.{◌≡◌, ◌<◌, ◌∷◌, ◌++◌, [], ℕ, List, Option, Some, None, true, length, IfOk, IfSome, IfNone, slice_get, slice_set, slice_index_or};
-ghost use Rattle.semantics.specs.Summary.{Summary as Definition};
+ghost use Rattle.std.specs.Prelude.{◌≡◌, ◌<◌, ℕ, true, length, IfOk, slice_set, slice_index_or};
 ghost use Rattle.path_summary.specs.Carried.{identity};
-ghost use Rattle.path_summary.specs.Rows.{Closes, HasBelow, IsClosed, IsGoodRow, IsRow, Stepped, entry, opening};
+ghost use Rattle.path_summary.specs.Codes.{AreCodes, Grows, row_of};
+ghost use Rattle.path_summary.specs.Made.{IsPacked};
+ghost use Rattle.path_summary.specs.Rows.{Closes, HasBelow, IsClosed, IsRow, Stepped};
 
 use crate::links::{Link, Links};
+use crate::summaries::Summaries;
 use crate::summary::Summary;
 use expr_tree::NoMemory;
 use std::alloc::Global;
 use std::marker::Model;
 
-/// For each vertex a summary of a path to it, where one is known.
+/// For each vertex the code of a summary of a path to it, 0 where none is known.
 #[derive(Drop)]
 pub struct Row {
-    cells: Vec<Option<Summary>>,
+    codes: Vec<u16>,
 }
 
 impl Model for Row {
-    ghost use Rattle.std.specs.Prelude.{List, Option};
-    ghost use Rattle.semantics.specs.Summary.{Summary as Definition};
+    ghost use Rattle.std.specs.Prelude.{List, ℕ};
 
-    ghost Value = { List (Option Definition) };
+    ghost Value = { List ℕ };
 
-    ghost view = { λ r. r.cells.items };
+    ghost view = { λ r. r.codes.items };
 }
 
 impl Row {
-    /// The whole row of a vertex. `NoMemory` also where no whole row is found within as many passes as there are vertices, or a
-    /// number doesn't fit: neither comes to pass in the graph of a query that was tried.
-    pub fn of(alloc: Global, links: &Links, vertex: u32) -> Result<Row, NoMemory>
+    /// The whole row of a vertex. `NoMemory` also where no whole row is found within as many passes as there are vertices, or
+    /// a number doesn't fit: neither comes to pass in the graph of a query that was tried.
+    pub fn of(
+        alloc: Global,
+        links: &Links,
+        summaries: &mut Summaries,
+        vertex: u32,
+    ) -> Result<Row, NoMemory>
         requires { vertex < length links.now.depths }
-        ensures good { IfOk result (λ r. IsGoodRow links.now vertex r) }
-        ensures long { IfOk result (λ r. length r ≡ length links.now.depths) }
+        ensures grows { Grows summaries.old summaries.new }
+        ensures packed { IfOk result (λ r. IsPacked links.now summaries.new r vertex) }
     {
-        let mut row = Row::opening(alloc, links, vertex)?;
-        for _ in 0..=links.vertex_count() {
-            match row.pass(links) {
-                Some(true) => {}
-                Some(false) => break,
-                None => return Err(NoMemory),
-            }
-        }
-        if row.is_closed(links) && row.is_home(links, vertex) {
+        let mut row = Row::opening(alloc, links, summaries, vertex)?;
+        row.fill(links, summaries)?;
+        if row.is_closed(links, summaries) && row.is_home(links, summaries, vertex) {
             Ok(row)
         } else {
             Err(NoMemory)
@@ -50,117 +50,114 @@ impl Row {
     }
 
     /// From a vertex to itself, and nowhere else.
-    fn opening(alloc: Global, links: &Links, vertex: u32) -> Result<Row, NoMemory>
+    fn opening(
+        alloc: Global,
+        links: &Links,
+        summaries: &mut Summaries,
+        vertex: u32,
+    ) -> Result<Row, NoMemory>
         requires { vertex < length links.now.depths }
-        ensures row { IfOk result (λ r. IsRow links.now vertex r) }
-        ensures long { IfOk result (λ r. length r ≡ length links.now.depths) }
+        ensures grows { Grows summaries.old summaries.new }
+        ensures codes { IfOk result (λ r. AreCodes summaries.new r) }
+        ensures row { IfOk result (λ r. IsRow links.now vertex (row_of summaries.new r)) }
     {
-        let depth = links.depth(vertex);
-        let mut cells = Vec::with_capacity(alloc, links.vertex_count())?;
-        for x in 0..links.vertex_count() {
-            cells.push(opening_cell(x, vertex, depth))?;
-        }
-        Ok(Row { cells })
+        let home = summaries.code_of(Summary::identity(links.depth(vertex)))?;
+        let codes = vec![in alloc; 0; links.vertex_count()]?;
+        let mut row = Row { codes };
+        row.put(vertex, home);
+        Ok(row)
     }
 
-    /// The number of vertices.
-    pub fn len(&self) -> usize
-        ensures { result ≡ length self.now }
+    /// The code that stands there, 0 beyond the last vertex.
+    pub fn code(&self, x: u32) -> u16
+        ensures { result ≡ slice_index_or self.now x 0 }
     {
-        self.cells.len()
-    }
-
-    /// What stands there.
-    pub fn get(&self, x: usize) -> Option<&Summary>
-        requires { x < length self.now }
-        ensures none { IfNone result (slice_get self.now x ≡ Some None) }
-        ensures some { IfSome result (λ f. slice_get self.now x ≡ Some (Some f.now)) }
-    {
-        match &self.cells[x] {
-            Some(summary) => Some(summary),
-            None => None,
+        match self.codes.get(x as usize) {
+            Some(code) => *code,
+            None => 0,
         }
     }
 
-    /// What stands there, nothing beyond the last vertex.
-    fn cell(&self, x: u32) -> Option<&Summary>
-        ensures none { IfNone result ((f : Definition) → entry self.now x ≡ Some f → ⊥) }
-        ensures some { IfSome result (λ f. entry self.now x ≡ Some f.now) }
+    fn put(&mut self, x: u32, code: u16)
+        ensures { self.new ≡ slice_set self.old x code }
     {
-        match self.cells.get(x as usize) {
-            Some(Some(summary)) => Some(summary),
-            _ => None,
-        }
-    }
-
-    fn put(&mut self, x: u32, summary: Summary)
-        ensures { self.new ≡ slice_set self.old x (Some summary) }
-    {
-        if (x as usize) < self.cells.len() {
-            self.cells[x as usize] = Some(summary);
+        if (x as usize) < self.codes.len() {
+            self.codes[x as usize] = code;
         }
     }
 
     /// Goes on by one edge; whether that changed something.
-    fn step(&mut self, link: &Link) -> Option<bool>
-        ensures { Stepped link.now self.old self.new }
+    fn step(&mut self, summaries: &mut Summaries, link: &Link) -> Result<bool, NoMemory>
+        requires { AreCodes summaries.old self.old }
+        ensures grows { Grows summaries.old summaries.new }
+        ensures codes { AreCodes summaries.new self.new }
+        ensures stepped { Stepped link.now (row_of summaries.old self.old) (row_of summaries.new self.new) }
     {
-        let next = match self.cell(link.source()) {
-            Some(summary) => summary.then(link.action())?,
-            None => return Some(false),
-        };
-        if let Some(old) = self.cell(link.target()) {
-            if old.is_below(&next) {
-                return Some(false);
-            }
+        let code = self.code(link.source());
+        if code == 0 {
+            return Ok(false);
+        }
+        let next = summaries.after(code, link.action())?;
+        if summaries.is_below(self.code(link.target()), next) {
+            return Ok(false);
         }
         self.put(link.target(), next);
-        Some(true)
+        Ok(true)
     }
 
     /// Goes on once by each edge; whether that changed something.
-    fn pass(&mut self, links: &Links) -> Option<bool>
-        ensures row { (v : ℕ) → IsRow links.now v self.old → IsRow links.now v self.new }
-        ensures long { length self.new ≡ length self.old }
+    fn pass(&mut self, links: &Links, summaries: &mut Summaries) -> Result<bool, NoMemory>
+        requires { AreCodes summaries.old self.old }
+        ensures grows { Grows summaries.old summaries.new }
+        ensures codes { AreCodes summaries.new self.new }
+        ensures row { (v : ℕ) → IsRow links.now v (row_of summaries.old self.old) → IsRow links.now v (row_of summaries.new self.new) }
     {
         let mut changed = false;
         for link in links.edges() {
-            if self.step(link)? {
+            if self.step(summaries, link)? {
                 changed = true;
             }
         }
-        Some(changed)
+        Ok(changed)
+    }
+
+    /// Goes on by passes until one changes nothing, as often as there are vertices and once more.
+    fn fill(&mut self, links: &Links, summaries: &mut Summaries) -> Result<(), NoMemory>
+        requires { AreCodes summaries.old self.old }
+        ensures grows { Grows summaries.old summaries.new }
+        ensures codes { AreCodes summaries.new self.new }
+        ensures row { (v : ℕ) → IsRow links.now v (row_of summaries.old self.old) → IsRow links.now v (row_of summaries.new self.new) }
+    {
+        for _ in 0..=links.vertex_count() {
+            if !self.pass(links, summaries)? {
+                return Ok(());
+            }
+        }
+        Ok(())
     }
 
     /// Whether the edge leads below no entry.
-    fn closes(&self, link: &Link) -> bool
-        ensures { result ≡ true → Closes link.now self.now }
+    fn closes(&self, summaries: &Summaries, link: &Link) -> bool
+        requires { AreCodes summaries.now self.now }
+        ensures { result ≡ true → Closes link.now (row_of summaries.now self.now) }
     {
-        match self.cell(link.source()) {
-            Some(summary) => match summary.then(link.action()) {
-                Some(next) => self.has_below(link.target(), &next),
-                None => false,
-            },
-            None => true,
+        let code = self.code(link.source());
+        if code == 0 {
+            return true;
         }
-    }
-
-    /// Whether an entry stands there at or below the summary.
-    fn has_below(&self, x: u32, summary: &Summary) -> bool
-        ensures { result ≡ true → HasBelow self.now x summary.now }
-    {
-        match self.cell(x) {
-            Some(least) => least.is_below(summary),
+        match summaries.noted(code, link.action()) {
+            Some(next) => summaries.is_below(self.code(link.target()), next),
             None => false,
         }
     }
 
     /// Whether no edge leads below an entry.
-    fn is_closed(&self, links: &Links) -> bool
-        ensures { result ≡ true → IsClosed links.now self.now }
+    fn is_closed(&self, links: &Links, summaries: &Summaries) -> bool
+        requires { AreCodes summaries.now self.now }
+        ensures { result ≡ true → IsClosed links.now (row_of summaries.now self.now) }
     {
         for link in links.edges() {
-            if !self.closes(link) {
+            if !self.closes(summaries, link) {
                 return false;
             }
         }
@@ -168,21 +165,13 @@ impl Row {
     }
 
     /// Whether the row has its own vertex, at once.
-    fn is_home(&self, links: &Links, vertex: u32) -> bool
+    fn is_home(&self, links: &Links, summaries: &Summaries, vertex: u32) -> bool
         requires { vertex < length links.now.depths }
-        ensures { result ≡ true → HasBelow self.now vertex (identity (slice_index_or links.now.depths vertex 0)) }
+        ensures { result ≡ true → HasBelow (row_of summaries.now self.now) vertex (identity (slice_index_or links.now.depths vertex 0)) }
     {
-        self.has_below(vertex, &Summary::identity(links.depth(vertex)))
-    }
-}
-
-/// What stands at first at x in the row of a vertex.
-fn opening_cell(x: usize, vertex: u32, depth: u32) -> Option<Summary>
-    ensures { result ≡ opening x vertex depth }
-{
-    if x == vertex as usize {
-        Some(Summary::identity(depth))
-    } else {
-        None
+        match summaries.get(self.code(vertex)) {
+            Some(least) => least.is_below(&Summary::identity(links.depth(vertex))),
+            None => false,
+        }
     }
 }

@@ -14,6 +14,3 @@ mod tree;
 pub use located::LocationTracker;
 pub use plain::PlainTracker;
 pub use progress::Progress;
-
-#[cfg(test)]
-mod tests;

@@ -1,9 +1,10 @@
 //! Measures path summaries and trackers: prints what came of their work, and is timed from outside.
 //!
-//! `chain N` makes the table of a graph of N loops one after another, `wide N` that of 8 loops one in another round a tree of 2^N
-//! leaves; both tell how many vertices there are. `open N ROUNDS` keeps N epochs open at an input: each round adds the newest, asks
-//! of it and of the oldest whether it is in the frontier, and removes the oldest; it tells how many answers were yes. `scan` is the
-//! same by the tracker that asks each. Without arguments it does each, small.
+//! `chain N` makes the table of a graph of N loops one after another, `wide N` that of 8 loops one in another round a tree of N
+//! unions, `query FILE` that of the query in a file; each tells how many vertices there are. `open N ROUNDS` keeps N epochs open at
+//! an input: each round adds the newest, asks of it and of the oldest whether it is in the frontier, and removes the oldest; it
+//! tells how many answers were yes. `scan` is the same by the tracker that asks each. Without arguments it does each but `query`,
+//! small.
 #![tactic(auto)]
 
 ghost use Rattle.std.specs.Prelude.{◌≡◌, ◌<◌, ◌≤◌, ◌+◌, ◌*◌, ◌^◌, ℕ, IfOk, OnOk};
@@ -19,7 +20,7 @@ use path_summary::{Paths, Pointstamp};
 use progress::{LocationTracker, PlainTracker, Progress};
 use std::alloc::{AllocError, Global};
 use std::sync::Arc;
-use std::{env, io};
+use std::{env, fs, io};
 use typing::check;
 
 /// A query of loops, each over the last one's output.
@@ -36,26 +37,28 @@ fn chain(alloc: Global, loops: u32) -> Result<String, AllocError> {
 }
 
 /// A query of 8 loops, one in another, with a tree of unions in the innermost.
-fn wide(alloc: Global, height: u32) -> Result<String, AllocError> {
+fn wide(alloc: Global, unions: u32) -> Result<String, AllocError> {
     let mut text = String::from_str(alloc, "input y0/1;output ")?;
     for last in 0..8 {
         let next = last + 1;
         let loop_text = format!(in alloc; "iterate(2;y{next}=y{last};")?;
         text.push_str(loop_text.as_str())?;
     }
-    push_tree(&mut text, height)?;
+    push_tree(&mut text, unions)?;
     text.push_str("))))))));")?;
     Ok(text)
 }
 
-fn push_tree(text: &mut String, height: u32) -> Result<(), AllocError> {
-    if height == 0 {
+/// A tree of so many unions, of which each has the half of the rest on each side.
+fn push_tree(text: &mut String, unions: u32) -> Result<(), AllocError> {
+    if unions == 0 {
         return text.push_str("y8");
     }
+    let left = (unions - 1) / 2;
     text.push_str("concat(")?;
-    push_tree(text, height - 1)?;
+    push_tree(text, left)?;
     text.push_str(",")?;
-    push_tree(text, height - 1)?;
+    push_tree(text, unions - 1 - left)?;
     text.push_str(")")
 }
 
@@ -167,11 +170,15 @@ fn main(rt: HostRuntime) -> io::Result<()> {
     match work {
         "chain" => show(&rt, work, table(alloc, chain(alloc, count))),
         "wide" => show(&rt, work, table(alloc, wide(alloc, count))),
+        "query" => {
+            let path = words.get(2).map_or("", |word| word.as_str());
+            show(&rt, work, table(alloc, Ok(fs::read_to_string(&rt, path)?)))
+        }
         "open" => show(&rt, work, slide_located(alloc, count, rounds)),
         "scan" => show(&rt, work, slide_plain(alloc, count, rounds)),
         _ => {
             show(&rt, "chain", table(alloc, chain(alloc, 20)))?;
-            show(&rt, "wide", table(alloc, wide(alloc, 5)))?;
+            show(&rt, "wide", table(alloc, wide(alloc, 40)))?;
             show(&rt, "open", slide_located(alloc, 100, 1000))?;
             show(&rt, "scan", slide_plain(alloc, 100, 1000))
         }

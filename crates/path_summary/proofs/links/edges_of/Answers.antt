@@ -1,4 +1,4 @@
-use Rattle.std.proofs.Common.{◌≡◌, ◌+◌, ◌++◌, ◌∷◌, [], length, arith, length-append}
+use Rattle.std.proofs.Common.{◌∷◌, [], arith, length-append}
 use Rattle.lowering.specs.Shown.{shown_graph}
 use Rattle.path_summary.proofs.RowsMade.{links_more, no_links}
 use Rattle.path_summary.proofs.links.edges_of.Goals as goal

@@ -1,4 +1,4 @@
-use Rattle.std.proofs.Common.{◌≡◌, ◌∙◌, ◌≤◌, ap₂, arith, List, ℕ}
+use Rattle.std.proofs.Common.{◌∙◌, ◌≤◌, ap₂, arith, List, ℕ}
 use Rattle.path_summary.specs.Order.{in_order}
 use Rattle.path_summary.specs.Carried.{carried, counters_after}
 use Rattle.path_summary.specs.Views.{action_of}

@@ -1,7 +1,5 @@
-use Rattle.std.proofs.Common.{◌≡◌, ◌≤◌, ◌*◌, length, arith}
-use Rattle.semantics.specs.Graph.{edge_count}
+use Rattle.std.proofs.Common.{arith}
 use Rattle.lowering.specs.Shown.{shown_graph, shown_inputs}
-use Rattle.lowering.specs.Views.{graph_of}
 use Rattle.lowering.proofs.EdgeTables.{few_edges}
 use Rattle.lowering.proofs.Numbers.{length_graph_of}
 use Rattle.path_summary.proofs.WholeTables.{source_known}

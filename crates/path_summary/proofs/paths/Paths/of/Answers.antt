@@ -1,11 +1,9 @@
-use Rattle.std.proofs.Common.{◌≡◌, ◌∙◌, sym, subst, arith}
 use Rattle.lowering.specs.Shown.{shown_graph, shown_inputs}
-use Rattle.path_summary.specs.Linking.{Draws}
 use Rattle.path_summary.proofs.WholeTables.{dataflow_known}
 use Rattle.path_summary.proofs.paths.Paths.of.Goals as goal
 
-pub rows_of-requires-clause-few : goal.rows_of-requires-clause-few
-rows_of-requires-clause-few c = c.in_ok-links.ensures.few
+pub rows_of-requires : goal.rows_of-requires
+rows_of-requires c = c.in_ok-links.ensures.few
 
 pub invariant_of-result : goal.invariant_of-result
 invariant_of-result c =

@@ -1,12 +1,14 @@
-use Rattle.std.proofs.Common.{◌≡◌, ◌∙◌, sym, ap₂, arith, ℕ}
-use Rattle.path_summary.specs.Rows.{opening}
-use Rattle.path_summary.proofs.RowsMade.{row_opened}
+use Rattle.std.proofs.Common.{◌≡◌, ◌∙◌, sym, ap, subst, Some, ℕ, List, slice_index_or, slice_set}
+use Rattle.std.proofs.Math.ListN.{replicate}
+use Rattle.path_summary.specs.Carried.{identity}
+use Rattle.path_summary.specs.Codes.{decoded, row_of}
+use Rattle.path_summary.specs.Rows.{IsRow}
+use Rattle.path_summary.proofs.Notes.{row_opened}
 use Rattle.path_summary.proofs.row.Row.opening.Goals as goal
 
-pub loop-x-preserved : goal.loop-x-preserved
-loop-x-preserved c =
-    record {
-      long = omega (arith, c.in_ok-push.ensures.len, c.loop-x.invariant.long);
-      row = rw c.in_ok-push.ensures.items (row_opened c.args.links.now c.args.vertex c.loop-x.cells.items c.opening_cell.result c.loop-x.invariant.row
-          (c.opening_cell.ensures ∙ ap₂ (λ (x d : ℕ). opening x c.args.vertex d) (sym c.loop-x.invariant.long) c.depth-depth.ensures));
-    }
+pub returns-clause-row : goal.returns-clause-row
+returns-clause-row c =
+    let s = c.code_of.new.self in
+    let home : decoded s c.in_ok-home.home ≡ Some (identity (slice_index_or c.args.links.now.depths c.args.vertex 0)) = c.in_ok-home.ensures.code ∙ ap Some (c.identity.ensures ∙ ap identity c.depth.ensures) in
+    let is : c.put.new.self ≡ slice_set (replicate c.vertex_count.result 0) c.args.vertex c.in_ok-home.home = c.put.ensures ∙ ap (λ (xs : List ℕ). slice_set xs c.args.vertex c.in_ok-home.home) (c.in_ok-codes.ensures.items_if_clones_equal (λ y e. e)) in
+    subst (λ (codes : List ℕ). IsRow c.args.links.now c.args.vertex (row_of s codes)) (sym is) (row_opened c.args.links.now c.args.vertex s c.vertex_count.result c.in_ok-home.home home)

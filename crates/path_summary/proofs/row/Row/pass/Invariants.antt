@@ -1,6 +1,11 @@
-use Rattle.std.proofs.Common.{◌≡◌, ℕ, length}
+use Rattle.std.proofs.Common.{ℕ}
+use Rattle.path_summary.specs.Codes.{row_of, AreCodes, Grows}
 use Rattle.path_summary.specs.Rows.{IsRow}
 use Rattle.path_summary.proofs.row.Row.pass.Given as goal
 
 abbrev pub invariant-loop-link : goal.invariant-loop-link
-invariant-loop-link l = record { row : (v : ℕ) → IsRow l.fn.links v l.fn.self → IsRow l.fn.links v l.self; long : length l.self ≡ length l.fn.self }
+invariant-loop-link l = record {
+  grows : Grows l.fn.summaries l.summaries;
+  codes : AreCodes l.summaries l.self;
+  row : (v : ℕ) → IsRow l.fn.links v (row_of l.fn.summaries l.fn.self) → IsRow l.fn.links v (row_of l.summaries l.self);
+}

@@ -1,12 +1,17 @@
-use Rattle.std.proofs.Common.{◌≡◌, ◌∙◌, sym, ap, ap₂, subst, Some, slice_set, ℕ}
-use Rattle.semantics.specs.Time.{Action}
-use Rattle.semantics.specs.Summary.{Summary}
-use Rattle.path_summary.specs.Rows.{Follows, Stepped, entry}
+use Rattle.std.proofs.Common.{subst, sym, List, ℕ}
+use Rattle.path_summary.specs.Codes.{row_of}
+use Rattle.path_summary.specs.Rows.{Stepped}
+use Rattle.path_summary.specs.Views.{action_of}
+use Rattle.path_summary.proofs.Notes.{stepped_to, stepped_none}
 use Rattle.path_summary.proofs.row.Row.step.Goals as goal
 
-pub returns : goal.returns
-returns c =
-    let h : entry c.args.self.now c.args.link.now.source ≡ Some c.in-Some.summary.now = ap (λ (x : ℕ). entry c.args.self.now x) (sym c.source.ensures) ∙ c.in-Some.ensures.some in
-    Stepped.set c.in-Some.summary.now c.in_ok-next-in-Some.next h
-    (subst (λ (a : Action). Follows a c.in-Some.summary.now c.in_ok-next-in-Some.next) c.action.ensures c.in_ok-next-in-Some.ensures)
-    (c.put.ensures ∙ ap (λ (x : ℕ). slice_set c.args.self.now x (Some c.in_ok-next-in-Some.next)) c.target-2.ensures)
+pub returns-clause-stepped : goal.returns-clause-stepped
+returns-clause-stepped c =
+    subst (λ (codes : List ℕ). Stepped c.args.link.now (row_of c.args.summaries.now c.args.self.now) (row_of c.after.new.self codes)) (sym c.put.ensures)
+    (stepped_to c.args.link.now c.args.summaries.now c.after.new.self c.args.self.now c.source.result c.code-code.result c.target-2.result c.in_ok-next.next (action_of c.action.result) c.in_ok-next.ensures.grows c.requires c.source.ensures c.target-2.ensures c.action.ensures c.code-code.ensures c.in_ok-next.ensures.leads)
+
+pub returns-in_err-next-clause-stepped : goal.returns-in_err-next-clause-stepped
+returns-in_err-next-clause-stepped c = stepped_none c.args.link.now c.args.summaries.now c.after.new.self c.args.self.now c.after.ensures.grows c.requires
+
+pub returns-then-is_below-clause-stepped : goal.returns-then-is_below-clause-stepped
+returns-then-is_below-clause-stepped c = stepped_none c.args.link.now c.args.summaries.now c.after.new.self c.args.self.now c.after.ensures.grows c.requires

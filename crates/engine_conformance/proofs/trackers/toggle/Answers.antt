@@ -1,6 +1,6 @@
 use Rattle.std.proofs.Common.{ℕ, ap, arith}
 use Rattle.semantics.specs.Could.{Pointstamp as Active}
-use Rattle.progress.proofs.tests.toggle.Goals as goal
+use Rattle.engine_conformance.proofs.trackers.toggle.Goals as goal
 
 pub returns-clause-same : goal.returns-clause-same
 returns-clause-same c = λ q.

@@ -1,23 +1,23 @@
 //! Pointstamps of small queries' graphs, as the definition relates them.
 
-use super::*;
 use loop_context::Time;
-use lowering::lower;
+use lowering::{EdgeId, Location, VertexId, lower};
 use parser::parse;
+use path_summary::{Paths, Pointstamp};
 use std::alloc::Global;
 use std::sync::Arc;
 use std::test::Fail;
 use typing::check;
 
 /// Its graph: 0 input, 1 ingress, 2 concat, 3 gate, 4 select, 5 feedback, 6 egress, 7 output.
-const SIMPLE: &[u8] = b"input a/1; output iterate(2; x = a; select(x; #0 + 1));";
+pub const SIMPLE: &[u8] = b"input a/1; output iterate(2; x = a; select(x; #0 + 1));";
 
 /// Its graph: 0 input; 1 ingress, 2 concat, 3 gate; 4 ingress, 5 concat, 6 gate, 7 feedback, 8 egress; 9 concat, 10 feedback,
 /// 11 egress; 12 output.
 const NESTED: &[u8] = b"input a/1; output iterate(2; x = a; concat(iterate(2; y = x; y), x));";
 
 /// The paths of a query's graph.
-fn paths_of(alloc: Global, query: &[u8]) -> Result<Paths, Fail> {
+pub fn paths_of(alloc: Global, query: &[u8]) -> Result<Paths, Fail> {
     let program = parse(alloc, query)?;
     let typed = match check(alloc, program) {
         Ok(typed) => typed,

@@ -2,7 +2,7 @@ use Rattle.std.proofs.Common.{◌≡◌, ◌≤◌, ℕ}
 use Rattle.semantics.specs.Could.{Pointstamp}
 use Rattle.lowering.specs.Shown.{shown_graph}
 use Rattle.progress.specs.Content.{times_at, times_in}
-use Rattle.progress.proofs.tests.differences.Given as goal
+use Rattle.engine_conformance.proofs.trackers.differences.Given as goal
 
 abbrev pub invariant-loop-n : goal.invariant-loop-n
 invariant-loop-n l = record {

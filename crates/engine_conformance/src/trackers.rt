@@ -5,29 +5,19 @@ ghost use Rattle.lowering.specs.Shown.{shown_graph};
 ghost use Rattle.semantics.specs.Could.{IsTimeAt, Pointstamp as Active};
 ghost use Rattle.progress.specs.Content.{times_at, times_in};
 
-use super::*;
+use crate::path_summaries::{SIMPLE, paths_of};
 use expr_tree::NoMemory;
 use loop_context::Time;
-use lowering::{Location, VertexId, lower};
-use parser::parse;
+use lowering::{Location, VertexId};
 use path_summary::{Paths, Pointstamp};
+use progress::{LocationTracker, PlainTracker, Progress};
 use std::alloc::Global;
 use std::sync::Arc;
 use std::test::Fail;
-use typing::check;
 
-/// Its graph: 0 input, 1 ingress, 2 concat, 3 gate, 4 select, 5 feedback, 6 egress, 7 output.
-const SIMPLE: &[u8] = b"input a/1; output iterate(2; x = a; select(x; #0 + 1));";
-
-/// The paths of a query's graph.
-fn paths_of(alloc: Global, query: &[u8]) -> Result<Arc<Paths, Global>, Fail> {
-    let program = parse(alloc, query)?;
-    let typed = match check(alloc, program) {
-        Ok(typed) => typed,
-        Err(_) => Err("ill typed")?,
-    };
-    let graph = Arc::new(alloc, lower(alloc, &typed)?)?;
-    Ok(Arc::new(alloc, Paths::of(alloc, &graph)?)?)
+/// The paths of `SIMPLE`'s graph, to be shared by trackers.
+fn shared_paths(alloc: Global) -> Result<Arc<Paths, Global>, Fail> {
+    Ok(Arc::new(alloc, paths_of(alloc, SIMPLE)?)?)
 }
 
 fn stamp(epoch: u32, counter: u32, vertex: u32) -> Option<Pointstamp> {
@@ -70,7 +60,7 @@ fn frontiers<P: Progress>(tracker: &mut P, paths: &Paths) -> Result<(bool, bool,
 
 #[test]
 fn frontiers_of_the_plain_tracker(rt: HostRuntime) -> Result<(), Fail> {
-    let paths = paths_of(rt.alloc(), SIMPLE)?;
+    let paths = shared_paths(rt.alloc())?;
     let mut tracker = PlainTracker::new(rt.alloc(), Arc::try_clone(&paths)?);
     assert_eq!(rt; frontiers(&mut tracker, &paths)?, (false, true, true, true));
     Ok(())
@@ -78,7 +68,7 @@ fn frontiers_of_the_plain_tracker(rt: HostRuntime) -> Result<(), Fail> {
 
 #[test]
 fn frontiers_of_the_tracker_by_location(rt: HostRuntime) -> Result<(), Fail> {
-    let paths = paths_of(rt.alloc(), SIMPLE)?;
+    let paths = shared_paths(rt.alloc())?;
     let mut tracker = LocationTracker::new(rt.alloc(), Arc::try_clone(&paths)?)?;
     assert_eq!(rt; frontiers(&mut tracker, &paths)?, (false, true, true, true));
     Ok(())
@@ -170,7 +160,7 @@ fn differences(
 
 #[test]
 fn both_trackers_over_one_list(rt: HostRuntime) -> Result<(), Fail> {
-    let paths = paths_of(rt.alloc(), SIMPLE)?;
+    let paths = shared_paths(rt.alloc())?;
     let mut plain = PlainTracker::new(rt.alloc(), Arc::try_clone(&paths)?);
     let mut located = LocationTracker::new(rt.alloc(), Arc::try_clone(&paths)?)?;
     assert_eq!(rt; differences(&paths, &mut plain, &mut located, 600)?, 0);
