@@ -1,5 +1,5 @@
 -- Aggregates of one record more.
-use Rattle.std.proofs.Common.{◌≡◌, ℕ, suc, ◌<◌, List, [], ◌∷◌, ◌++◌, map, length, ℤ, pos, ◌+ℤ◌, refl, sym, ap, ap₂, ◌∙◌, arith}
+use Rattle.std.proofs.Common.{◌≡◌, ◌<◌, List, [], ◌∷◌, ◌++◌, map, length, ℤ, pos, ◌+ℤ◌, refl, ap, ap₂, ◌∙◌, arith}
 use Rattle.std.specs.Int.{int_wrap, w64}
 use Rattle.std.proofs.lemmas.Int.{ints, int_wrap-add_left}
 use Rattle.semantics.specs.Meaning.{aggregate, field, folded}

@@ -1,9 +1,8 @@
 -- That the columns of scalars, conditions, pairs and aggregates are there is a fact with one proof at most.
-use Rattle.std.specs.Prelude.{ℕ, ◌<◌, List}
+use Rattle.std.specs.Prelude.{ℕ}
 use Rattle.std.specs.Coded.{×_prop, Unit-prop, le_prop}
-use Rattle.std.specs.List.{AllByRecursion, AllByRecursion-prop}
-use Rattle.semantics.specs.Query.{Scalar, Cond, Agg, Pair}
-use Rattle.semantics.specs.Typing.{ScalarFits, CondFits, AggFits}
+use Rattle.semantics.specs.Query.{Scalar, Cond}
+use Rattle.semantics.specs.Typing.{ScalarFits, CondFits}
 
 pub ScalarFits-prop : (n : ℕ) (s : Scalar) → IsProp (ScalarFits n s)
 ScalarFits-prop n (Scalar.column c) = le_prop

@@ -1,5 +1,5 @@
 -- Shards stay at work.
-use Rattle.std.proofs.Common.{◌≡◌, ℕ, ◌<◌, zero, suc, [], refl, subst, ap, ◌∙◌}
+use Rattle.std.proofs.Common.{◌≡◌, ℕ, zero, suc, [], refl, subst, ap, ◌∙◌}
 use Rattle.semantics.specs.Kinds as semantics
 use Rattle.vertices.specs.Absorbed.{Absorbed}
 use Rattle.vertices.specs.AtWork.{IsAtWork}

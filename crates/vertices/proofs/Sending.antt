@@ -1,17 +1,17 @@
 -- What is sent is what the kind's equation makes.
-use Rattle.std.proofs.Common.{◌≡◌, ℕ, zero, suc, ◌+◌, ◌<◌, ◌≤◌, nat_lt, nat_eq, ◌==◌, Bool, true, false, cond, ◌&&◌, List, [], ◌++◌, Option, Some, None, refl, sym, ap, subst, ◌∙◌, arith, append-nil, lt-ltb, le-ltb}
+use Rattle.std.proofs.Common.{◌≡◌, ℕ, zero, suc, ◌+◌, ◌<◌, nat_lt, nat_eq, Bool, true, cond, ◌&&◌, List, [], ◌++◌, Some, None, refl, sym, ap, ◌∙◌, arith, append-nil}
 use Rattle.std.proofs.lemmas.Bool.Decides.{Decides-eqb}
-use Rattle.std.specs.Cmp.Lexicographic.{pointwise, pointwise_decides}
-use Rattle.semantics.specs.Kinds.{Kind, Role}
+use Rattle.std.specs.Cmp.Lexicographic.{pointwise_decides}
+use Rattle.semantics.specs.Kinds.{Kind}
 use Rattle.semantics.specs.Meaning.{selected, kept, paired, grouped}
-use Rattle.semantics.specs.Multiset.{Record, ◌≈◌, each_once, end_to_end}
+use Rattle.semantics.specs.Multiset.{Record, ◌≈◌, each_once}
 use Rattle.semantics.specs.Query.{Scalar, Cond, Pair, Agg}
-use Rattle.semantics.specs.Shard.{only_at, asks, SendsAtNotification}
+use Rattle.semantics.specs.Shard.{only_at, SendsAtNotification}
 use Rattle.semantics.specs.Time.{Time, last, same_time, same_counters}
 use Rattle.semantics.specs.Op.{op}
-use Rattle.semantics.proofs.MultisetSums.{≈-trans, ≈-from, ≈-sym}
-use Rattle.vertices.specs.Absorbed.{Absorbed, with_records}
-use Rattle.vertices.specs.Outs.{records_of, two, sent, SendsFor}
+use Rattle.semantics.proofs.MultisetSums.{≈-trans, ≈-from}
+use Rattle.vertices.specs.Absorbed.{Absorbed}
+use Rattle.vertices.specs.Outs.{records_of, sent, SendsFor}
 use Rattle.vertices.specs.declared.out.Out.{Out}
 
 -- ---- without a state

@@ -1,5 +1,5 @@
 -- Records taken into a set.
-use Rattle.std.proofs.Common.{◌≡◌, ℕ, zero, suc, ◌+◌, ◌<◌, ◌≤◌, nat_lt, Bool, true, false, not, cond, ◌||◌, List, [], ◌∷◌, ◌++◌, take, length, slice_index_or, refl, sym, ap, subst, ◌∙◌, arith, append_assoc, append-nil, if◌then◌else◌, lt-ltb}
+use Rattle.std.proofs.Common.{◌≡◌, ℕ, ◌+◌, ◌<◌, nat_lt, Bool, true, false, not, cond, ◌||◌, List, [], ◌∷◌, ◌++◌, take, length, slice_index_or, refl, sym, ap, subst, ◌∙◌, arith, append_assoc, if◌then◌else◌, lt-ltb}
 use Rattle.std.specs.List.{list_any}
 use Rattle.semantics.specs.Multiset.{Record, same, one_if, count, ◌≈◌, each_once}
 use Rattle.semantics.proofs.MultisetSums.{Decides-same, total-append, ≈-trans, ≈-from}

@@ -1,5 +1,5 @@
 -- A map of states by time, with one state written.
-use Rattle.std.proofs.Common.{◌≡◌, ℕ, nat_eq, ◌==◌, Bool, true, false, cond, ◌&&◌, List, [], ◌++◌, Some, None, refl, sym, ap, subst, ◌∙◌, append-nil}
+use Rattle.std.proofs.Common.{◌≡◌, ℕ, nat_eq, ◌==◌, Bool, true, false, cond, ◌&&◌, List, [], ◌++◌, Some, None, refl, sym, subst, append-nil}
 use Rattle.std.proofs.lemmas.Bool.{true≢false}
 use mathlib.Core.Path.{fun_ext}
 use Rattle.std.specs.Cmp.Lexicographic.{pointwise, pointwise_decides}

@@ -1,5 +1,5 @@
 -- What a shard is, and what it shows.
-use Rattle.std.specs.Prelude.{◌≡◌, ◌<◌, ℕ, zero, suc, List, [], map}
+use Rattle.std.specs.Prelude.{◌≡◌, ◌<◌, ℕ, zero, suc, [], map}
 use Rattle.expr_tree.specs.Plain.{plain_scalar, plain_cond, plain_pair}
 use Rattle.expr_tree.specs.Views.{scalar_tree, cond_tree}
 use Rattle.semantics.specs.Kinds as semantics

@@ -1,6 +1,6 @@
 //! The shard of a group vertex.
 
-ghost use Rattle.std.specs.Prelude.{◌≡◌, ℕ, [], IfOk, OnOk};
+ghost use Rattle.std.specs.Prelude.{◌≡◌, [], IfOk, OnOk};
 ghost use Rattle.semantics.specs.Kinds.{Role};
 ghost use Rattle.semantics.specs.Meaning.{grouped};
 ghost use Rattle.semantics.specs.Multiset.{◌≈◌};

@@ -1,8 +1,6 @@
 //! What a group keeps at one time.
 
-ghost use Rattle.std.specs.Prelude.{◌≡◌, ◌+◌, ◌<◌, ◌++◌, ◌∷◌, ℕ, List, [], length, map, IfOk, OnOk, ◌≤◌, slice_index_or};
-ghost use Rattle.expr_tree.specs.Plain.{plain_agg};
-ghost use Rattle.rows.specs.FlatRows.{arity_of};
+ghost use Rattle.std.specs.Prelude.{◌≡◌, ◌+◌, ◌<◌, ◌++◌, ◌∷◌, List, [], length, map, IfOk, OnOk, ◌≤◌, slice_index_or};
 ghost use Rattle.semantics.specs.Meaning.{grouped};
 ghost use Rattle.semantics.specs.Multiset.{Record, ◌≈◌};
 ghost use Rattle.vertices.specs.Groups.{AreGroupsOf, aggregates_of, columns_of, key_arity, shown_key};

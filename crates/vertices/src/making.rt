@@ -1,11 +1,11 @@
 //! The shard of a vertex of a graph.
 
-ghost use Rattle.std.specs.Prelude.{◌≡◌, ◌≤◌, ◌+◌, ℕ, [], length, map, IfOk};
+ghost use Rattle.std.specs.Prelude.{◌≡◌, ◌≤◌, ◌+◌, ℕ, length, map, IfOk};
 ghost use Rattle.std.specs.List.{AllByRecursion};
 ghost use Rattle.expr_tree.specs.Plain.{plain_agg, plain_cond, plain_pair, plain_scalar};
 ghost use Rattle.expr_tree.specs.Views.{cond_tree, scalar_tree};
 ghost use Rattle.lowering.specs.Views.{kind_of};
-ghost use Rattle.semantics.specs.Kinds.{Kind as Equation, in_ports};
+ghost use Rattle.semantics.specs.Kinds.{Kind as Equation};
 ghost use Rattle.semantics.specs.PortArity.{PortsFit};
 ghost use Rattle.semantics.specs.Typing.{CondFits, IsArity, ScalarFits};
 ghost use Rattle.vertices.specs.Shards.{IsFreshShard, by_port};

@@ -1,7 +1,6 @@
 //! What a shard sends and asks for.
 
-ghost use Rattle.std.specs.Prelude.{◌≡◌, ◌<◌, ◌++◌, ◌==◌, [], None, IfOk, OnOk, false};
-ghost use Rattle.std.specs.Option.{option_copied};
+ghost use Rattle.std.specs.Prelude.{◌≡◌, ◌<◌, ◌==◌, None, OnOk, false};
 ghost use Rattle.vertices.specs.Outs.{records_of, two};
 
 use crate::fault::ShardFault;

@@ -1,6 +1,6 @@
 //! The shard of a vertex of any kind.
 
-ghost use Rattle.std.specs.Prelude.{◌≡◌, ◌<◌, ℕ, List, None, false, OnOk};
+ghost use Rattle.std.specs.Prelude.{◌≡◌, ◌<◌, ℕ, None, false, OnOk};
 ghost use Rattle.rows.specs.FlatRows.{arity_of};
 ghost use Rattle.semantics.specs.Kinds.{Role, in_ports, out_ports, role};
 ghost use Rattle.semantics.specs.Multiset.{end_to_end};

@@ -1,10 +1,10 @@
 //! What vertices without a state send.
 
-ghost use Rattle.std.specs.Prelude.{◌≡◌, ◌<◌, ℕ, None, false, map, OnOk};
+ghost use Rattle.std.specs.Prelude.{◌≡◌, ◌<◌, None, false, map, OnOk};
 ghost use Rattle.expr_tree.specs.Plain.{plain_cond, plain_scalar};
 ghost use Rattle.expr_tree.specs.Views.{cond_tree, scalar_tree};
 ghost use Rattle.rows.specs.FlatRows.{arity_of};
-ghost use Rattle.semantics.specs.Kinds.{Kind, in_ports};
+ghost use Rattle.semantics.specs.Kinds.{Kind};
 ghost use Rattle.vertices.specs.Absorbed.{Absorbed};
 ghost use Rattle.vertices.specs.Outs.{SendsFor};
 

@@ -1,4 +1,4 @@
-use Rattle.std.proofs.Common.{List, map, subst, sym, ap, ◌∙◌}
+use Rattle.std.proofs.Common.{map, subst, sym, ap, ◌∙◌}
 use Rattle.expr_tree.specs.Plain.{plain_scalar, plain_cond, plain_agg}
 use Rattle.expr_tree.specs.Views.{scalar_tree, cond_tree}
 use Rattle.lowering.specs.Views.{kind_of}

@@ -1,6 +1,6 @@
-use Rattle.std.proofs.Common.{◌≡◌, ◌++◌, ◌∷◌, [], List, cond, rules, map, sym, ap, subst, ◌∙◌, slice_index_or, slice_set}
+use Rattle.std.proofs.Common.{◌≡◌, ◌++◌, ◌∷◌, [], List, cond, rules, sym, ap, subst, ◌∙◌, slice_index_or, slice_set}
 use Rattle.std.specs.List.{list_any}
-use Rattle.operators.specs.Aggregates.{begun, stepped_all, stored_key}
+use Rattle.operators.specs.Aggregates.{stepped_all, stored_key}
 use Rattle.semantics.specs.Multiset.{Record, same}
 use Rattle.vertices.specs.Groups.{AreGrouped, columns_of, aggregates_of}
 use Rattle.vertices.proofs.Grouping.{any_default, grouped_old, grouped_new}

@@ -1,4 +1,4 @@
-use Rattle.std.proofs.Common.{List, ◌++◌, ◌≤◌, ◌≡◌, length, map, ap, ◌∙◌, arith, rules}
+use Rattle.std.proofs.Common.{List, ◌++◌, ◌≤◌, length, map, ap, ◌∙◌, arith}
 use Rattle.operators.specs.Aggregates.{stored_key}
 use Rattle.semantics.specs.Meaning.{aggregate}
 use Rattle.semantics.specs.Multiset.{Record}
