@@ -1,0 +1,103 @@
+//! The program `documents`: replays the sessions that the user's documents show, and compares what is printed with what stands there.
+//!
+//! Its words are Markdown files. In each of them a line `$ ./loom ..` of a code block is answered by the calls that the program `loom`
+//! makes, and a line `$ cat ..` by the file. It prints a line for each document, or the first place where a document is wrong, and then
+//! ends with status 1. The documents and the files that they name stand in its folder `data`, where the gate runs it.
+#![tactic(auto)]
+
+mod answers;
+mod explanations;
+mod sessions;
+
+use crate::answers::printed;
+use crate::explanations::{has_table, rows, tells};
+use crate::sessions::{Session, sessions};
+use refusals::EXPLANATIONS;
+use std::process::ExitCode;
+use std::sync::Wait;
+use std::{env, fs, io};
+
+/// Tells a session that prints something else.
+fn tell(rt: &HostRuntime, path: &str, session: &Session, answered: &[u8]) -> io::Result<()> {
+    let (line, typed) = (session.line, session.typed);
+    println!(rt; "{path}:{line}: `{typed}` prints")?;
+    for text in String::from_utf8_lossy(rt.alloc(), answered)?.lines() {
+        println!(rt; "    {text}")?;
+    }
+    Ok(())
+}
+
+/// Whether each session prints what stands under it; the first that doesn't is told.
+fn replays(
+    rt: &HostRuntime,
+    wait: &impl Wait,
+    path: &str,
+    sessions: &[Session],
+) -> io::Result<bool> {
+    for session in sessions {
+        let answered = printed(rt, wait, session.typed)?;
+        if answered.as_slice() != session.printed.as_bytes() {
+            tell(rt, path, session, answered.as_slice())?;
+            return Ok(false);
+        }
+    }
+    Ok(true)
+}
+
+/// Whether a document's table of refusals is that of the explanations; the first row that isn't is told.
+fn explains(rt: &HostRuntime, path: &str, text: &str) -> io::Result<bool> {
+    let rows = rows(rt.alloc(), text)?;
+    for (row, explanation) in rows.iter().zip(EXPLANATIONS.as_slice()) {
+        if !tells(row, explanation) {
+            let line = row.line;
+            let (code, summary, place) = (explanation.code, explanation.summary, explanation.place);
+            println!(rt; "{path}:{line}: this row should be")?;
+            println!(rt; "    | {code} | {summary} | {place} |")?;
+            return Ok(false);
+        }
+    }
+    let (told, all) = (rows.len(), EXPLANATIONS.len());
+    if told != all {
+        println!(rt; "{path}: the table has {told} refusals, and there are {all}")?;
+        return Ok(false);
+    }
+    Ok(true)
+}
+
+/// Whether a document is right. It prints a line that says so, or the first place where it is wrong.
+fn holds(rt: &HostRuntime, wait: &impl Wait, path: &str) -> io::Result<bool> {
+    let text = fs::read_to_string(rt, path)?;
+    let sessions = sessions(rt.alloc(), text.as_str())?;
+    if !replays(rt, wait, path, sessions.as_slice())? {
+        return Ok(false);
+    }
+    let count = sessions.len();
+    if !has_table(text.as_str()) {
+        println!(rt; "{path}: {count} sessions as written")?;
+        return Ok(true);
+    }
+    if !explains(rt, path, text.as_str())? {
+        return Ok(false);
+    }
+    let refusals = EXPLANATIONS.len();
+    println!(rt; "{path}: {count} sessions as written, {refusals} refusals as told")?;
+    Ok(true)
+}
+
+/// Whether each document of the line is right.
+fn all_hold(rt: &HostRuntime, wait: &impl Wait) -> io::Result<bool> {
+    let words: Vec<String> = env::args(rt)?.collect(rt.alloc())?;
+    let mut is_right = true;
+    for path in words.iter().skip(1) {
+        is_right = holds(rt, wait, path.as_str())? && is_right;
+    }
+    Ok(is_right)
+}
+
+fn main(rt: HostRuntime) -> io::Result<ExitCode> {
+    if all_hold(&rt, &rt)? {
+        Ok(ExitCode::SUCCESS)
+    } else {
+        Ok(ExitCode::FAILURE)
+    }
+}
