@@ -245,10 +245,17 @@ fn copy_inputs<A: Allocator>(
 {
     let mut copy = Vec::new(alloc);
     for input in inputs {
-        copy.push(DeclaredInput {
-            name: input.name.copied(),
-            arity: input.arity,
-        })?;
+        copy.push(declared_input(input))?;
     }
     Ok(copy)
+}
+
+/// An input as a graph keeps it.
+fn declared_input(input: &Input) -> DeclaredInput
+    ensures { input_of result ≡ plain_input input.now }
+{
+    DeclaredInput {
+        name: input.name.copied(),
+        arity: input.arity,
+    }
 }

@@ -1,6 +1,6 @@
 //! The names that a loop's body takes from outside.
 
-ghost use Rattle.std.specs.Prelude.{◌≡◌, IfOk, OnOk};
+ghost use Rattle.std.specs.Prelude.{◌≡◌, ◌∷◌, [], IfOk, OnOk};
 ghost use Rattle.expr_tree.specs.Plain.{plain_rel};
 ghost use Rattle.expr_tree.specs.Views.{rel_tree};
 ghost use Rattle.semantics.specs.FreeNames.{carried, free};
@@ -30,7 +30,7 @@ pub fn carried_names<A: Allocator>(
 
 /// Puts the names that occur free in the relation, and are not bound, after those that are there, each once. The bound names are
 /// few: the variables of the loops around.
-#[tactic(auto, using(crate::proofs::Gathers::gathered_append, crate::proofs::Gathers::gathered_bound, crate::proofs::Gathers::gathered_one))]
+#[tactic(auto, using(crate::proofs::Gathers::gathered_append, crate::proofs::Gathers::gathered_bound))]
 fn gather<A: Allocator>(
     relation: &Rel<A>,
     bound: &mut Vec<Name>,
@@ -40,12 +40,7 @@ fn gather<A: Allocator>(
     ensures names { OnOk result (names.new.keys ≡ gathered bound.old.items names.old.keys (free (plain_rel (rel_tree relation.now)))) }
 {
     match relation {
-        Rel::Named(_, name) => {
-            if !stands_in(bound, name) {
-                names.insert(name.copied())?;
-            }
-            Ok(())
-        }
+        Rel::Named(_, name) => gather_name(name, bound, names),
         Rel::Select(_, of, _) => gather(of, bound, names),
         Rel::Where(_, of, _) => gather(of, bound, names),
         Rel::Concat(_, left, right) => {
@@ -73,6 +68,17 @@ fn gather<A: Allocator>(
             Ok(())
         }
     }
+}
+
+/// Puts a name after those that are there, unless it is bound or there already.
+#[tactic(auto, using(crate::proofs::Gathers::gathered_one))]
+fn gather_name(name: &Name, bound: &[Name], names: &mut IndexSet<Name>) -> Result<(), NoMemory>
+    ensures { OnOk result (names.new.keys ≡ gathered bound.now names.old.keys (name.now ∷ [])) }
+{
+    if !stands_in(bound, name) {
+        names.insert(name.copied())?;
+    }
+    Ok(())
 }
 
 /// Whether the name is one of these.

@@ -6,6 +6,7 @@ ghost use Rattle.path_summary.specs.Codes.{AreCodes, Grows, row_of};
 ghost use Rattle.path_summary.specs.Made.{IsPacked};
 ghost use Rattle.path_summary.specs.Rows.{Closes, HasBelow, IsClosed, IsRow, Stepped};
 
+use crate::action::Action;
 use crate::links::{Link, Links};
 use crate::summaries::Summaries;
 use crate::summary::Summary;
@@ -97,8 +98,13 @@ impl Row {
         if code == 0 {
             return Ok(false);
         }
-        let next = summaries.after(code, link.action())?;
-        if summaries.is_below(self.code(link.target()), next) {
+        let action = link.action();
+        let old = self.code(link.target());
+        if action == Action::Stay && code == old {
+            return Ok(false);
+        }
+        let next = summaries.after(code, action)?;
+        if summaries.is_below(old, next) {
             return Ok(false);
         }
         self.put(link.target(), next);
@@ -145,8 +151,13 @@ impl Row {
         if code == 0 {
             return true;
         }
-        match summaries.noted(code, link.action()) {
-            Some(next) => summaries.is_below(self.code(link.target()), next),
+        let action = link.action();
+        let old = self.code(link.target());
+        if action == Action::Stay && code == old {
+            return true;
+        }
+        match summaries.noted(code, action) {
+            Some(next) => summaries.is_below(old, next),
             None => false,
         }
     }
