@@ -2,6 +2,18 @@
 #![tactic(auto)]
 
 #[cfg(test)]
+mod flat_rows;
+#[cfg(test)]
+mod kinds;
+#[cfg(test)]
 mod path_summaries;
+#[cfg(test)]
+mod routes;
+#[cfg(test)]
+mod shards;
+#[cfg(test)]
+mod stateful_shards;
+#[cfg(test)]
+mod stateless_shards;
 #[cfg(test)]
 mod trackers;

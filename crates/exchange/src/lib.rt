@@ -14,6 +14,3 @@ mod splitting;
 pub use mailbox::Mailbox;
 pub use routing::{MAX_WORKERS, Routing, route};
 pub use splitting::{Parcel, Parcels, split};
-
-#[cfg(test)]
-mod tests;

@@ -34,6 +34,3 @@ pub use join::Join;
 pub use operator::Operator;
 pub use output::Output;
 pub use select::Select;
-
-#[cfg(test)]
-mod tests;

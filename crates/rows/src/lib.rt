@@ -21,6 +21,3 @@ pub use columns::{field, project_into};
 pub use error::RowsError;
 pub use index::RowIndex;
 pub use set::RowSet;
-
-#[cfg(test)]
-mod tests;

@@ -32,6 +32,3 @@ pub use join_plan::JoinPlan;
 pub use making::new_shard;
 pub use out::Out;
 pub use shard::Shard;
-
-#[cfg(test)]
-mod tests;

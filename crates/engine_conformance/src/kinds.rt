@@ -1,10 +1,10 @@
-//! Each kind through the trait.
+//! The numbers of ports of each kind of vertex.
 
-use crate::{
+use expr_tree::{Agg, Column, Comparison, Cond, Pair, Scalar};
+use operators::{
     Concat, Distinct, Egress, Feedback, Gate, Group, Hold, Ingress, Input, Join, Operator, Output,
     Select, Where,
 };
-use expr_tree::{Agg, Column, Comparison, Cond, Pair, Scalar};
 use record_core::Span;
 use std::test::Fail;
 

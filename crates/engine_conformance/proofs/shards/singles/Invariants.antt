@@ -1,5 +1,5 @@
 use Rattle.std.proofs.Common.{◌≡◌}
-use Rattle.vertices.proofs.tests.singles.Given as goal
+use Rattle.engine_conformance.proofs.shards.singles.Given as goal
 
 abbrev pub invariant-loop-value : goal.invariant-loop-value
 invariant-loop-value g l = l.rows.arity ≡ 1

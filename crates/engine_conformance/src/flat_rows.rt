@@ -1,7 +1,7 @@
 //! Each call once on its happy path, and growths that no machine has memory for.
 
-use super::{Batch, RowIndex, RowSet, Rows, RowsError, field, project_into};
 use record_core::Record;
+use rows::{Batch, RowIndex, RowSet, Rows, RowsError, field, project_into};
 use std::test::Fail;
 
 /// Whether a row stands there and has these fields.

@@ -1,92 +1,17 @@
-//! Shards at work: small tables, one batch after the other.
+//! Shards with a state at work: small tables, one batch after the other.
 
-ghost use Rattle.std.specs.Prelude.{◌≡◌, ◌<◌, ℕ, IfOk, OnOk};
-ghost use Rattle.lowering.specs.Views.{kind_of};
-ghost use Rattle.rows.specs.FlatRows.{arity_of};
-ghost use Rattle.semantics.specs.Kinds.{Role, in_ports, role};
-ghost use Rattle.semantics.specs.PortArity.{PortsFit};
-ghost use Rattle.semantics.specs.Typing.{IsArity};
+ghost use Rattle.std.specs.Prelude.{◌<◌, IfOk, OnOk};
+ghost use Rattle.semantics.specs.Kinds.{Role};
 ghost use Rattle.vertices.specs.AtWork.{IsAtWork};
-ghost use Rattle.vertices.specs.Shards.{by_port};
 
-use crate::fault::ShardFault;
-use crate::making::new_shard;
-use crate::out::Out;
-use crate::shard::Shard;
-use expr_tree::{Agg, Column, Pair};
+use crate::shards::{FIRST, NOWHERE, SECOND, pairs, sent, shard_of, singles};
+use expr_tree::{Agg, Pair};
 use loop_context::Time;
-use lowering::{Kind, Sources, Vertex};
-use record_core::Span;
-use rows::{Batch, Rows};
+use lowering::Kind;
 use std::alloc::Global;
 use std::process::Abort;
 use std::test::Fail;
-
-const NOWHERE: Span = Span { start: 0, end: 0 };
-
-const FIRST: Column = Column {
-    span: NOWHERE,
-    index: 0,
-};
-
-const SECOND: Column = Column {
-    span: NOWHERE,
-    index: 1,
-};
-
-/// A batch of records of one field.
-fn singles(rt: &impl Abort, alloc: Global, values: &[i64]) -> Result<Batch, ShardFault>
-    ensures { IfOk result (λ b. arity_of b ≡ 1) }
-{
-    let mut rows = Rows::new(alloc, 1);
-    for value in values {
-        rows.push(&[*value])?;
-    }
-    let batch = Batch::from_rows(alloc, rows)?.expect(rt, "a record");
-    assert!(rt; batch.arity() == 1);
-    Ok(batch)
-}
-
-/// A batch of records of two fields.
-fn pairs(rt: &impl Abort, alloc: Global, values: &[(i64, i64)]) -> Result<Batch, ShardFault>
-    ensures { IfOk result (λ b. arity_of b ≡ 2) }
-{
-    let mut rows = Rows::new(alloc, 2);
-    for (left, right) in values {
-        rows.push(&[*left, *right])?;
-    }
-    let batch = Batch::from_rows(alloc, rows)?.expect(rt, "a record");
-    assert!(rt; batch.arity() == 2);
-    Ok(batch)
-}
-
-/// The fields of the records that are sent by a port, record by record.
-fn sent(alloc: Global, out: &mut Out, port: u32) -> Result<Vec<i64>, ShardFault>
-    requires { port < 2 }
-{
-    let mut fields = Vec::new(alloc);
-    if let Some(batch) = out.take(port) {
-        for place in 0..batch.len() {
-            fields.extend_from_slice(batch.row(place))?;
-        }
-    }
-    Ok(fields)
-}
-
-/// The shard of a vertex each of whose in ports takes records of that many fields.
-#[tactic(auto, using(crate::proofs::AtWork::fresh_at_work))]
-fn shard_of(alloc: Global, kind: Kind, fields: usize) -> Result<Shard, ShardFault>
-    requires fits { (out : ℕ) × PortsFit (kind_of kind) (by_port fields fields) out × IsArity out }
-    requires fields { IsArity fields }
-    ensures { IfOk result (λ s. IsAtWork (role (kind_of kind)) (in_ports (kind_of kind)) fields s) }
-{
-    let vertex = Vertex {
-        kind,
-        depth: 0,
-        ins: Sources::Nothing,
-    };
-    new_shard(alloc, &vertex, fields, fields)
-}
+use vertices::{Out, Shard, ShardFault};
 
 /// A shard of a distinct of records of one field.
 fn distinct(alloc: Global) -> Result<Shard, ShardFault>
@@ -130,22 +55,8 @@ fn each_aggregate(alloc: Global) -> Result<Shard, ShardFault>
     shard_of(alloc, Kind::Group(columns, aggregates), 2)
 }
 
-/// A shard of records of one field at the end of three turns.
-fn gate(alloc: Global) -> Result<Shard, ShardFault>
-    ensures { IfOk result (λ s. IsAtWork Role.stateless 1 1 s) }
-{
-    shard_of(alloc, Kind::Gate(3), 1)
-}
-
-/// A shard of records of one field from outside a loop of three turns.
-fn hold(alloc: Global) -> Result<Shard, ShardFault>
-    ensures { IfOk result (λ s. IsAtWork Role.stateless 1 1 s) }
-{
-    shard_of(alloc, Kind::Hold(3), 1)
-}
-
 /// What a distinct sends for records of one field.
-#[tactic(auto, using(crate::proofs::AtWork::still_at_work))]
+#[tactic(auto, using(vertices::proofs::AtWork::still_at_work))]
 fn distinct_sends(
     rt: &impl Abort,
     alloc: Global,
@@ -163,7 +74,7 @@ fn distinct_sends(
 }
 
 /// What a join sends for records of two fields that come to a port.
-#[tactic(auto, using(crate::proofs::AtWork::still_at_work))]
+#[tactic(auto, using(vertices::proofs::AtWork::still_at_work))]
 fn join_sends(
     rt: &impl Abort,
     alloc: Global,
@@ -183,7 +94,7 @@ fn join_sends(
 }
 
 /// Whether a group asks to be notified when records of two fields come, and how many fields it sends then.
-#[tactic(auto, using(crate::proofs::AtWork::still_at_work))]
+#[tactic(auto, using(vertices::proofs::AtWork::still_at_work))]
 fn group_takes(
     rt: &impl Abort,
     alloc: Global,
@@ -207,26 +118,6 @@ fn group_finishes(alloc: Global, shard: &Shard, time: &Time) -> Result<Vec<i64>,
     let mut out = Out::new();
     shard.on_notify(alloc, time, &mut out)?;
     sent(alloc, &mut out, 0)
-}
-
-/// How many fields a gate or a hold sends by both ports for a record of one field at a turn.
-fn at_turn(
-    rt: &impl Abort,
-    alloc: Global,
-    shard: Shard,
-    turn: u32,
-) -> Result<(usize, usize), ShardFault>
-    requires { IsAtWork Role.stateless 1 1 shard }
-{
-    let mut shard = shard;
-    let time = Time::new(0, &[turn]).expect(rt, "a time");
-    let batch = singles(rt, alloc, &[7])?;
-    let mut out = Out::new();
-    shard.on_records(alloc, 0, &time, batch, &mut out)?;
-    Ok((
-        sent(alloc, &mut out, 0)?.len(),
-        sent(alloc, &mut out, 1)?.len(),
-    ))
 }
 
 #[test]
@@ -304,25 +195,5 @@ fn group_of_extreme_numbers(rt: HostRuntime) -> Result<(), Fail> {
     let sent = group_finishes(alloc, &shard, &time)?;
     let all = [1, i64::MIN, 1, i64::MAX, 2, 2, -1, i64::MIN, i64::MAX, 2];
     assert_eq!(rt; sent.as_slice(), all.as_slice());
-    Ok(())
-}
-
-#[test]
-fn gate_of_three_turns(rt: HostRuntime) -> Result<(), Fail> {
-    let alloc = rt.alloc();
-    assert_eq!(rt; at_turn(&rt, alloc, gate(alloc)?, 1)?, (1, 0));
-    assert_eq!(rt; at_turn(&rt, alloc, gate(alloc)?, 2)?, (1, 0));
-    assert_eq!(rt; at_turn(&rt, alloc, gate(alloc)?, 3)?, (0, 1));
-    assert_eq!(rt; at_turn(&rt, alloc, gate(alloc)?, 4)?, (0, 0));
-    Ok(())
-}
-
-#[test]
-fn hold_of_three_turns(rt: HostRuntime) -> Result<(), Fail> {
-    let alloc = rt.alloc();
-    assert_eq!(rt; at_turn(&rt, alloc, hold(alloc)?, 1)?, (1, 1));
-    assert_eq!(rt; at_turn(&rt, alloc, hold(alloc)?, 2)?, (1, 0));
-    assert_eq!(rt; at_turn(&rt, alloc, hold(alloc)?, 3)?, (0, 0));
-    assert_eq!(rt; at_turn(&rt, alloc, hold(alloc)?, 4)?, (0, 0));
     Ok(())
 }

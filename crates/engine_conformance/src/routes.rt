@@ -1,9 +1,6 @@
 //! Routes reckoned by hand, batches taken apart, and mailboxes.
 
-ghost use Rattle.std.specs.Prelude.{◌≡◌, ◌∷◌, [], length, IfOk};
-ghost use Rattle.rows.specs.FlatRows.{AllHave, arity_of};
-
-use super::{MAX_WORKERS, Mailbox, Routing, route, split};
+use exchange::{MAX_WORKERS, Mailbox, Routing, route, split};
 use rows::{Batch, Rows, RowsError};
 use std::alloc::Global;
 use std::test::Fail;
