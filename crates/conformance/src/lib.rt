@@ -8,8 +8,4 @@ mod graphs;
 #[cfg(test)]
 mod growths;
 #[cfg(test)]
-mod normal_forms;
-#[cfg(test)]
 mod tests;
-#[cfg(test)]
-mod trees;

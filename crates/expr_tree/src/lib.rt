@@ -30,6 +30,3 @@ pub use relation::{Agg, Column, Pair, Rel};
 pub use sameness::{same, same_cond, same_rel, same_scalar};
 pub use scalar::{Operator, Scalar};
 pub use size::{cond_size, rel_size, scalar_size};
-
-#[cfg(test)]
-mod tests;

@@ -14,6 +14,3 @@ mod token;
 pub use lexing::{MAX_LENGTH, lex};
 pub use mark::Mark;
 pub use token::{Token, TokenKind};
-
-#[cfg(test)]
-mod tests;

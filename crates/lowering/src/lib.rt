@@ -32,6 +32,3 @@ pub use graph::{DeclaredInput, Graph, lower};
 pub use location::Location;
 pub use text::graph_text;
 pub use vertex::{Kind, MAX_VERTICES, Port, Sources, Vertex, VertexId};
-
-#[cfg(test)]
-mod tests;

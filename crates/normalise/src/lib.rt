@@ -18,6 +18,3 @@ mod replacement;
 mod scalars;
 
 pub use program::normalise;
-
-#[cfg(test)]
-mod tests;

@@ -18,6 +18,3 @@ mod scalar;
 mod scan;
 
 pub use program::parse;
-
-#[cfg(test)]
-mod tests;

@@ -17,6 +17,3 @@ mod typed;
 
 pub use program::check;
 pub use typed::Typed;
-
-#[cfg(test)]
-mod tests;

@@ -23,6 +23,3 @@ pub use laws::{read_is_source, written_reads_back};
 pub use program::write_program;
 pub use round_trip::read_back;
 pub use source::is_source;
-
-#[cfg(test)]
-mod tests;

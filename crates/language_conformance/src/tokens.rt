@@ -1,5 +1,7 @@
-use super::*;
+//! Tokens and faults of texts, under three allocators.
+
 use bumpalo::Bump;
+use lexer::{Mark, Token, TokenKind, lex};
 use linked_list_allocator::LocalHeap;
 use record_core::{Keyword, Refusal, Span};
 use std::alloc::Allocator;

@@ -1,6 +1,6 @@
-//! Values reckoned by hand, and places that children are taken from. Whole queries are tried where their text is at hand.
+//! Values reckoned by hand, and places that children are taken from.
 
-use super::{
+use expr_tree::{
     Comparison, Cond, NoMemory, Operator, Rel, Scalar, cond_size, copy_cond, copy_rel, copy_scalar,
     eval_scalar, holds, negated, operate, rel_size, same_cond, same_rel, same_scalar, scalar_size,
 };

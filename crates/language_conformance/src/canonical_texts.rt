@@ -1,11 +1,13 @@
-use super::*;
+//! Canonical texts, trees that have none, and the way back.
+
 use bumpalo::Bump;
-use expr_tree::{Column, Pair, Program, Rel, Scalar, same};
+use expr_tree::{Rel, Scalar, same};
 use linked_list_allocator::LocalHeap;
 use parser::parse;
-use record_core::{Name, Refusal, Span};
+use record_core::{Refusal, Span};
 use std::alloc::{Allocator, Global};
 use std::test::Fail;
+use writer::{is_source, read_back, write_program};
 
 const NOWHERE: Span = Span { start: 0, end: 0 };
 
@@ -49,17 +51,13 @@ fn canonical_texts(rt: HostRuntime) -> Result<(), Fail> {
     Ok(())
 }
 
-/// Whether the program that selects one scalar is a source.
+/// Whether `select(a; SCALAR)` is a source.
 fn is_selected(memory: Global, scalar: Scalar<Global>) -> Result<bool, Fail> {
-    let name = Name::new(b"a").ok_or("no name")?;
-    let mut scalars = Vec::new(memory);
-    scalars.push(scalar)?;
-    let relation = Rel::select(memory, NOWHERE, Rel::Named(NOWHERE, name), scalars)?;
-    let program = Program {
-        inputs: Vec::new(memory),
-        lets: Vec::new(memory),
-        output: Box::new(memory, relation)?,
-    };
+    let mut program = parse(memory, b"output select(a; #0);")?;
+    if let Rel::Select(_, _, scalars) = &mut *program.output {
+        scalars.clear();
+        scalars.push(scalar)?;
+    }
     Ok(is_source(&program))
 }
 
@@ -78,33 +76,14 @@ fn scalars_that_are_no_source(rt: HostRuntime) -> Result<(), Fail> {
     Ok(())
 }
 
-/// Whether the program that joins two inputs by those pairs is a source.
-fn is_joined(memory: Global, pairs: Vec<Pair, Global>) -> Result<bool, Fail> {
-    let left = Rel::Named(NOWHERE, Name::new(b"a").ok_or("no name")?);
-    let right = Rel::Named(NOWHERE, Name::new(b"b").ok_or("no name")?);
-    let relation = Rel::join(memory, NOWHERE, left, right, pairs)?;
-    let program = Program {
-        inputs: Vec::new(memory),
-        lets: Vec::new(memory),
-        output: Box::new(memory, relation)?,
-    };
-    Ok(is_source(&program))
-}
-
 #[test]
 fn a_join_without_pairs_is_no_source(rt: HostRuntime) -> Result<(), Fail> {
-    let memory = rt.alloc();
-    assert!(rt; !is_joined(memory, Vec::new(memory))?);
-    let column = Column {
-        span: NOWHERE,
-        index: 0,
-    };
-    let mut pairs = Vec::new(memory);
-    pairs.push(Pair {
-        left: column,
-        right: column,
-    })?;
-    assert!(rt; is_joined(memory, pairs)?);
+    let mut program = parse(rt.alloc(), b"output join(a, b; #0 = #0);")?;
+    assert!(rt; is_source(&program));
+    if let Rel::Join(_, _, _, pairs) = &mut *program.output {
+        pairs.clear();
+    }
+    assert!(rt; !is_source(&program));
     Ok(())
 }
 

@@ -1,9 +1,8 @@
-use super::*;
-use bumpalo::Bump;
-use expr_tree::{Comparison, Cond, Connective, Operator, Rel, Scalar};
-use linked_list_allocator::LocalHeap;
+//! Texts that are refused, each with its code and place, and texts at the limits.
+
+use parser::parse;
 use record_core::{Refusal, Span};
-use std::alloc::{AllocError, Allocator, Global};
+use std::alloc::{AllocError, Global};
 use std::test::Fail;
 
 fn at(code: u8, start: u32, end: u32) -> Refusal {
@@ -168,117 +167,8 @@ fn beginnings(rt: HostRuntime) {
     }
 }
 
-type Nodes = Vec<(&'static str, u32, u32), Global>;
-
-fn scalar_nodes<A: Allocator>(nodes: &mut Nodes, scalar: &Scalar<A>) -> Result<(), AllocError> {
-    match scalar {
-        Scalar::Literal(span, number) => {
-            let name = match *number {
-                1 => "1",
-                2 => "2",
-                3 => "3",
-                _ => "number",
-            };
-            nodes.push((name, span.start, span.end))?;
-        }
-        Scalar::Column(span, _) => nodes.push(("column", span.start, span.end))?,
-        Scalar::Binary(span, operator, left, right) => {
-            let name = match operator {
-                Operator::Add => "+",
-                Operator::Subtract => "-",
-                Operator::Multiply => "*",
-            };
-            nodes.push((name, span.start, span.end))?;
-            scalar_nodes(nodes, left)?;
-            scalar_nodes(nodes, right)?;
-        }
-        Scalar::Negate(span, inner) => {
-            nodes.push(("negation", span.start, span.end))?;
-            scalar_nodes(nodes, inner)?;
-        }
-    }
-    Ok(())
-}
-
-fn cond_nodes<A: Allocator>(nodes: &mut Nodes, condition: &Cond<A>) -> Result<(), AllocError> {
-    match condition {
-        Cond::Compare(span, comparison, left, right) => {
-            let name = match comparison {
-                Comparison::Less => "<",
-                Comparison::AtLeast => ">=",
-                _ => "comparison",
-            };
-            nodes.push((name, span.start, span.end))?;
-            scalar_nodes(nodes, left)?;
-            scalar_nodes(nodes, right)?;
-        }
-        Cond::Logical(span, connective, left, right) => {
-            let name = match connective {
-                Connective::And => "and",
-                Connective::Or => "or",
-            };
-            nodes.push((name, span.start, span.end))?;
-            cond_nodes(nodes, left)?;
-            cond_nodes(nodes, right)?;
-        }
-        Cond::Not(span, inner) => {
-            nodes.push(("not", span.start, span.end))?;
-            cond_nodes(nodes, inner)?;
-        }
-    }
-    Ok(())
-}
-
-// Each node before its parts.
-#[test]
-fn nodes_with_spans(rt: HostRuntime) -> Result<(), Fail> {
-    let text = b"input a/1;output where(a;not[#0<1]and(1+#0)*2>=-3);".as_slice();
-    let program = parse(rt.alloc(), text)?;
-    let mut nodes = Vec::new(rt.alloc());
-    match &*program.output {
-        Rel::Where(span, inner, condition) => {
-            nodes.push(("where", span.start, span.end))?;
-            assert!(rt; matches!(&**inner, Rel::Named(Span { start: 23, end: 24 }, _)));
-            cond_nodes(&mut nodes, condition)?;
-        }
-        _ => nodes.push(("other", 0, 0))?,
-    }
-    let expected: [(&'static str, u32, u32); 14] = [
-        ("where", 17, 50),
-        ("and", 25, 49),
-        ("not", 25, 34),
-        ("<", 29, 33),
-        ("column", 29, 31),
-        ("1", 32, 33),
-        (">=", 37, 49),
-        ("*", 37, 45),
-        ("+", 38, 42),
-        ("1", 38, 39),
-        ("column", 40, 42),
-        ("2", 44, 45),
-        ("negation", 47, 49),
-        ("3", 48, 49),
-    ];
-    assert_eq!(rt; nodes.as_slice(), expected.as_slice());
-    Ok(())
-}
-
 const REACH: &[u8] =
     b"input e/2; output iterate(3; x = e; distinct(concat(x, select(join(x, e; #1 = #0); #0, #3))));";
-
-#[test]
-fn allocators(rt: HostRuntime) -> Result<(), Fail> {
-    assert!(rt; parse(rt.alloc(), REACH).is_ok());
-    let arena = Bump::new(rt.alloc());
-    assert!(rt; parse(&arena, REACH).is_ok());
-    let large = LocalHeap::new(rt.alloc(), 65_536)?;
-    assert!(rt; parse(&large, REACH).is_ok());
-    assert_eq!(rt; large.used(), 0);
-    let small = LocalHeap::new(rt.alloc(), 64)?;
-    assert_eq!(rt; parse(&small, REACH).err(), Some(Refusal::NoMemory));
-    assert!(rt; parse(rt.alloc(), REACH).is_ok());
-    Ok(())
-}
 
 #[test]
 fn beginnings_of_a_loop(rt: HostRuntime) {
