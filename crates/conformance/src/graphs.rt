@@ -1,7 +1,7 @@
 //! The graph of a query, made by hand from the rules of lowering. Those of the examples are replayed by program `documents`.
 
 use collector::Watched;
-use console::{GraphForm, graph_query};
+use console::{GraphForm, Texts, graph_query};
 use std::test::Fail;
 
 const FORMS: &str =
@@ -13,12 +13,14 @@ const FORMS_GRAPH: &str =
 #[test]
 fn graph(rt: HostRuntime) -> Result<(), Fail> {
     let mut reader = Watched::new(FORMS.as_bytes());
+    let mut texts = Texts::new(rt.alloc());
     let mut out = Watched::new(Vec::new(rt.alloc()));
     let done = graph_query(
         rt.alloc(),
         rt.alloc(),
         GraphForm::Lines,
         &mut reader,
+        &mut texts,
         &mut out,
     );
     assert!(rt; done.is_ok());

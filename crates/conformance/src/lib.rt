@@ -4,8 +4,14 @@
 #[cfg(test)]
 mod checks;
 #[cfg(test)]
+mod drawings;
+#[cfg(test)]
+mod explanations;
+#[cfg(test)]
 mod graphs;
 #[cfg(test)]
 mod growths;
+#[cfg(test)]
+mod runs;
 #[cfg(test)]
 mod tests;

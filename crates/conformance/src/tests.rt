@@ -1,6 +1,6 @@
 use crate::checks::{EACH_REFUSAL, FIRST_FAULT, SCOPES, WORKED};
 use collector::Watched;
-use console::check_query;
+use console::{Texts, check_query};
 use std::alloc::Allocator;
 use std::test::Fail;
 
@@ -11,8 +11,9 @@ pub fn checked<A: Allocator + Copy>(
     query: &str,
 ) -> Result<(u8, String), Fail> {
     let mut reader = Watched::new(query.as_bytes());
+    let mut texts = Texts::new(rt.alloc());
     let mut out = Watched::new(Vec::new(rt.alloc()));
-    match check_query(rt.alloc(), arena, &mut reader, &mut out) {
+    match check_query(rt.alloc(), arena, &mut reader, &mut texts, &mut out) {
         Ok(()) => Ok((0, String::from_utf8(out.into_inner())?)),
         Err(fault) => {
             let mut line = Vec::new(rt.alloc());

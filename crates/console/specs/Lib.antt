@@ -7,3 +7,4 @@ pub mod Compiled
 pub mod Graphs
 pub mod Runs
 pub mod Checks
+pub mod Explained

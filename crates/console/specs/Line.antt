@@ -5,33 +5,37 @@ use Rattle.clap.specs.declared.builder.action.ArgAction.TheVariants.{SetTrue}
 use Rattle.console.specs.declared.choice.GraphForm.{GraphForm}
 use Rattle.console.specs.declared.choice.GraphForm.TheVariants.{Lines, Dot}
 use Rattle.console.specs.declared.choice.Options.{Options}
-use Rattle.console.specs.declared.choice.Options.TheVariants.{Run, Check, Graph}
+use Rattle.console.specs.declared.choice.Options.TheVariants.{Run, Check, Graph, Explain}
 
--- a path that has to be given
-abbrev pub path_rule : Text → Rule
-path_rule id = record (new_rule id) { required = true }
+-- a word that has to be given
+abbrev pub word_rule : Text → Rule
+word_rule id = record (new_rule id) { required = true }
 
--- `check QUERY`
+-- a flag, `--` and its name
+abbrev pub flag_rule : Text → Rule
+flag_rule id = record (new_rule id) { long = Some id; action = Some SetTrue }
+
+-- `check QUERY`, with or without `--explain`
 abbrev pub check_app : App
-check_app = with_rule (new_app (codes "check")) (path_rule (codes "QUERY"))
+check_app = with_rule (with_rule (new_app (codes "check")) (flag_rule (codes "explain"))) (word_rule (codes "QUERY"))
 
--- the flag `--dot`
-abbrev pub dot_rule : Rule
-dot_rule = record (new_rule (codes "dot")) { long = Some (codes "dot"); action = Some SetTrue }
-
--- `graph QUERY`, `graph --dot QUERY`
+-- `graph QUERY`, with or without `--dot` and `--explain`
 abbrev pub graph_app : App
-graph_app = with_rule (with_rule (new_app (codes "graph")) dot_rule) (path_rule (codes "QUERY"))
+graph_app = with_rule (with_rule (with_rule (new_app (codes "graph")) (flag_rule (codes "dot"))) (flag_rule (codes "explain"))) (word_rule (codes "QUERY"))
 
--- `run QUERY INPUT`
+-- `run QUERY INPUT`, with or without `--explain`
 abbrev pub run_app : App
-run_app = with_rule (with_rule (new_app (codes "run")) (path_rule (codes "QUERY"))) (path_rule (codes "INPUT"))
+run_app = with_rule (with_rule (with_rule (new_app (codes "run")) (flag_rule (codes "explain"))) (word_rule (codes "QUERY"))) (word_rule (codes "INPUT"))
+
+-- `explain CODE`
+abbrev pub explain_app : App
+explain_app = with_rule (new_app (codes "explain")) (word_rule (codes "CODE"))
 
 -- the whole line
 abbrev pub line_app : App
 line_app =
     let top : App = record { top = record (new_app (codes "loom")).top { subcommand_required = true }; subs = [] } in
-    with_subcommand (with_subcommand (with_subcommand top run_app.top) check_app.top) graph_app.top
+    with_subcommand (with_subcommand (with_subcommand (with_subcommand top run_app.top) check_app.top) graph_app.top) explain_app.top
 
 -- the flag is what the matches hold of it
 abbrev pub IsFlag : Text → List Row → Bool → Type 0
@@ -44,9 +48,10 @@ is_dot Dot = true
 
 -- the options are what the matches of a command hold
 abbrev pub HoldsAt : Text → List Row → Options → Type 0
-HoldsAt name rows (Run query input) = (name ≡ codes "run") × (first_of (codes "QUERY") rows ≡ Some query.now) × (first_of (codes "INPUT") rows ≡ Some input.now)
-HoldsAt name rows (Check query) = (name ≡ codes "check") × (first_of (codes "QUERY") rows ≡ Some query.now)
-HoldsAt name rows (Graph query form) = (name ≡ codes "graph") × (first_of (codes "QUERY") rows ≡ Some query.now) × IsFlag (codes "dot") rows (is_dot form)
+HoldsAt name rows (Run query input explain) = (name ≡ codes "run") × (first_of (codes "QUERY") rows ≡ Some query.now) × (first_of (codes "INPUT") rows ≡ Some input.now) × IsFlag (codes "explain") rows explain
+HoldsAt name rows (Check query explain) = (name ≡ codes "check") × (first_of (codes "QUERY") rows ≡ Some query.now) × IsFlag (codes "explain") rows explain
+HoldsAt name rows (Graph query form explain) = (name ≡ codes "graph") × (first_of (codes "QUERY") rows ≡ Some query.now) × IsFlag (codes "dot") rows (is_dot form) × IsFlag (codes "explain") rows explain
+HoldsAt name rows (Explain code) = (name ≡ codes "explain") × (first_of (codes "CODE") rows ≡ Some code.now)
 
 abbrev pub HoldsOf : Option (Text × List Row) → Options → Type 0
 HoldsOf None options = ⊥

@@ -1,15 +1,16 @@
 //! The check of a query: its inputs and its arities.
 
-ghost use Rattle.std.specs.Prelude.{◌≡◌, ◌++◌, true, codes, decimal, map, take, IfErr, IfOk, IfSome, IsErrOf, OnOk};
+ghost use Rattle.std.specs.Prelude.{◌≡◌, ◌++◌, ◌⊎◌, true, codes, decimal, map, take, IfErr, IfOk, IfSome, IsErrOf, OnOk};
 ghost use Rattle.expr_tree.specs.Plain.{plain_input};
 ghost use Rattle.collector.specs.Watching.{has_failed, inner_of};
 ghost use Rattle.console.specs.Checks.{CheckEnds, IsCheckFault, IsChecked, arities_text, input_line};
-ghost use Rattle.console.specs.Runs.{IsAfterReading};
+ghost use Rattle.console.specs.Runs.{IsAfterReading, IsUnreadQuery};
 ghost use Rattle.console.specs.declared.fault.Fault.TheVariants as fault;
 
 use crate::compiling::typed_program;
 use crate::fault::{Fault, query_fault};
 use crate::running::read_query;
+use crate::texts::Texts;
 use collector::{Watched, put};
 use expr_tree::Input;
 use itoa::Buffer;
@@ -92,20 +93,22 @@ fn write_checked<A: Allocator + Copy, W: Write>(
 }
 
 /// Reads a query, checks it, and writes its arities: a line `input NAME/ARITY` for each input in order, and `output ARITY`. They
-/// are written only once all of them stand.
+/// are written only once all of them stand. The text that was read is left in `texts`.
 pub fn check_query<A: Allocator + Copy, Q: Read, W: Write>(
     alloc: Global,
     arena: A,
     query: &mut Watched<Q>,
+    texts: &mut Texts,
     writer: &mut Watched<W>,
 ) -> Result<(), Fault>
     ensures ends { IfSome (Q.remaining (inner_of query.old)) (λ q. CheckEnds (take 1048577 q) (W.contents (inner_of writer.old)) (W.contents (inner_of writer.new)) result) }
     ensures query { IsErrOf result fault.ReadQuery → has_failed query.new ≡ true }
     ensures writer { IsErrOf result fault.Write → has_failed writer.new ≡ true }
+    ensures kept { IfSome (Q.remaining (inner_of query.old)) (λ q. IfErr result (λ e. IsUnreadQuery e ⊎ (texts.new.query.items ≡ take 1048577 q))) }
 {
-    let query_text = match read_query(alloc, query) {
-        Ok(text) => text,
+    match read_query(alloc, query) {
+        Ok(text) => texts.query = text,
         Err(fault) => return Err(fault),
-    };
-    write_checked(alloc, arena, query_text.as_slice(), writer)
+    }
+    write_checked(alloc, arena, &texts.query, writer)
 }

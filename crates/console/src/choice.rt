@@ -5,12 +5,27 @@ use clap::Error;
 /// What the words of the line ask for. Paths are kept as they were given.
 #[derive(Clone, Copy, Debug, PartialEq, Eq)]
 pub enum Options<'a> {
-    /// `loom run QUERY INPUT`
-    Run { query: &'a str, input: &'a str },
-    /// `loom check QUERY`
-    Check { query: &'a str },
-    /// `loom graph QUERY`, or `loom graph --dot QUERY`
-    Graph { query: &'a str, form: GraphForm },
+    /// `loom run QUERY INPUT`, and a fault explained with `--explain`
+    Run {
+        query: &'a str,
+        input: &'a str,
+        explain: bool,
+    },
+    /// `loom check QUERY`, and a fault explained with `--explain`
+    Check {
+        query: &'a str,
+        explain: bool,
+    },
+    /// `loom graph QUERY`, or `loom graph --dot QUERY`, and a fault explained with `--explain`
+    Graph {
+        query: &'a str,
+        form: GraphForm,
+        explain: bool,
+    },
+    /// `loom explain CODE`: the word that should be a refusal's number
+    Explain {
+        code: &'a str,
+    },
 }
 
 /// How a graph is written.

@@ -3,30 +3,42 @@
 ghost use Rattle.std.specs.Prelude.{◌≡◌, map, option_map, IfOk, IfSome, codes, false};
 ghost use Rattle.clap.specs.Words.{app_of, first_of, found_of, new_app, rows_of, rule_of};
 ghost use Rattle.clap.specs.declared.builder.Command.TheViews.{out-Command as fields_of};
-ghost use Rattle.console.specs.Line.{Holds, HoldsAt, IsFlag, check_app, dot_rule, graph_app, line_app, path_rule, run_app};
+ghost use Rattle.console.specs.Line.{Holds, HoldsAt, IsFlag, check_app, explain_app, flag_rule, graph_app, line_app, run_app, word_rule};
 
 use crate::choice::{GraphForm, LineFault, Options};
 use clap::error::ErrorKind;
 use clap::{Arg, ArgAction, ArgMatches, Command, Error};
 use std::alloc::{AllocError, Global};
 
-/// A path that has to be given.
-fn path_arg<'a>(alloc: Global, id: &'a str) -> Arg<'a>
-    ensures rule { rule_of result ≡ path_rule id.entry.now }
+/// A word that has to be given.
+fn word_arg<'a>(alloc: Global, id: &'a str) -> Arg<'a>
+    ensures rule { rule_of result ≡ word_rule id.entry.now }
     ensures local { result.global ≡ false }
 {
     Arg::new(alloc, id).required(true)
 }
 
-/// The flag `--dot`.
-fn dot_arg<'a>(alloc: Global) -> Arg<'a>
-    ensures rule { rule_of result ≡ dot_rule }
+/// A flag: `--` and its name.
+fn flag_arg<'a>(alloc: Global, id: &'a str, about: &'a str) -> Arg<'a>
+    ensures rule { rule_of result ≡ flag_rule id.entry.now }
     ensures local { result.global ≡ false }
 {
-    Arg::new(alloc, "dot")
-        .long("dot")
+    Arg::new(alloc, id)
+        .long(id)
         .action(ArgAction::SetTrue)
-        .help("Write the graph for Graphviz to draw")
+        .help(about)
+}
+
+/// The flag `--explain`.
+fn explain_arg<'a>(alloc: Global) -> Arg<'a>
+    ensures rule { rule_of result ≡ flag_rule (codes "explain") }
+    ensures local { result.global ≡ false }
+{
+    flag_arg(
+        alloc,
+        "explain",
+        "Show the place of a fault, and what is wrong there",
+    )
 }
 
 /// A command of that name, with its line of help.
@@ -41,7 +53,9 @@ fn check_command<'a>(alloc: Global) -> Result<Command<'a>, AllocError>
     ensures app { IfOk result (λ c. app_of c ≡ check_app) }
     ensures local { IfOk result (λ c. (fields_of c).has_globals ≡ false) }
 {
-    named(alloc, "check", "Check a query, and write its arities").arg(path_arg(alloc, "QUERY"))
+    named(alloc, "check", "Check a query, and write its arities")
+        .arg(explain_arg(alloc))?
+        .arg(word_arg(alloc, "QUERY"))
 }
 
 fn graph_command<'a>(alloc: Global) -> Result<Command<'a>, AllocError>
@@ -53,8 +67,9 @@ fn graph_command<'a>(alloc: Global) -> Result<Command<'a>, AllocError>
         "graph",
         "Compile a query, and write its dataflow graph",
     )
-    .arg(dot_arg(alloc))?
-    .arg(path_arg(alloc, "QUERY"))
+    .arg(flag_arg(alloc, "dot", "Write the graph for Graphviz to draw"))?
+    .arg(explain_arg(alloc))?
+    .arg(word_arg(alloc, "QUERY"))
 }
 
 fn run_command<'a>(alloc: Global) -> Result<Command<'a>, AllocError>
@@ -62,8 +77,21 @@ fn run_command<'a>(alloc: Global) -> Result<Command<'a>, AllocError>
     ensures local { IfOk result (λ c. (fields_of c).has_globals ≡ false) }
 {
     named(alloc, "run", "Answer a query over an input, epoch by epoch")
-        .arg(path_arg(alloc, "QUERY"))?
-        .arg(path_arg(alloc, "INPUT"))
+        .arg(explain_arg(alloc))?
+        .arg(word_arg(alloc, "QUERY"))?
+        .arg(word_arg(alloc, "INPUT"))
+}
+
+fn explain_command<'a>(alloc: Global) -> Result<Command<'a>, AllocError>
+    ensures app { IfOk result (λ c. app_of c ≡ explain_app) }
+    ensures local { IfOk result (λ c. (fields_of c).has_globals ≡ false) }
+{
+    named(
+        alloc,
+        "explain",
+        "Tell what a refusal's number means, with examples",
+    )
+    .arg(word_arg(alloc, "CODE"))
 }
 
 fn line_command<'a>(alloc: Global) -> Result<Command<'a>, AllocError>
@@ -73,7 +101,8 @@ fn line_command<'a>(alloc: Global) -> Result<Command<'a>, AllocError>
         .subcommand_required(true)
         .subcommand(run_command(alloc)?)?
         .subcommand(check_command(alloc)?)?
-        .subcommand(graph_command(alloc)?)
+        .subcommand(graph_command(alloc)?)?
+        .subcommand(explain_command(alloc)?)
 }
 
 /// The first text of an argument.
@@ -83,19 +112,32 @@ fn text_of<'a>(found: &ArgMatches<'a>, id: &str) -> Option<&'a str>
     found.get_str(id)
 }
 
-fn run_options<'a>(found: &ArgMatches<'a>) -> Option<Options<'a>>
-    ensures { IfSome result (HoldsAt (codes "run") (rows_of (found_of found.now))) }
-{
-    let query = text_of(found, "QUERY")?;
-    let input = text_of(found, "INPUT")?;
-    Some(Options::Run { query, input })
-}
-
 /// Whether the flag is given.
 fn flag_of<'a>(found: &ArgMatches<'a>, id: &str) -> bool
     ensures { IsFlag id.now (rows_of (found_of found.now)) result }
 {
     found.get_flag(id)
+}
+
+fn run_options<'a>(found: &ArgMatches<'a>) -> Option<Options<'a>>
+    ensures { IfSome result (HoldsAt (codes "run") (rows_of (found_of found.now))) }
+{
+    let query = text_of(found, "QUERY")?;
+    let input = text_of(found, "INPUT")?;
+    let explain = flag_of(found, "explain");
+    Some(Options::Run {
+        query,
+        input,
+        explain,
+    })
+}
+
+fn check_options<'a>(found: &ArgMatches<'a>) -> Option<Options<'a>>
+    ensures { IfSome result (HoldsAt (codes "check") (rows_of (found_of found.now))) }
+{
+    let query = text_of(found, "QUERY")?;
+    let explain = flag_of(found, "explain");
+    Some(Options::Check { query, explain })
 }
 
 fn graph_options<'a>(found: &ArgMatches<'a>) -> Option<Options<'a>>
@@ -107,7 +149,12 @@ fn graph_options<'a>(found: &ArgMatches<'a>) -> Option<Options<'a>>
     } else {
         GraphForm::Lines
     };
-    Some(Options::Graph { query, form })
+    let explain = flag_of(found, "explain");
+    Some(Options::Graph {
+        query,
+        form,
+        explain,
+    })
 }
 
 /// The options that the matches of a command hold.
@@ -116,10 +163,11 @@ fn options_at<'a>(name: &str, found: &ArgMatches<'a>) -> Option<Options<'a>>
 {
     match name.as_bytes() {
         b"run" => run_options(found),
-        b"check" => Some(Options::Check {
-            query: text_of(found, "QUERY")?,
-        }),
+        b"check" => check_options(found),
         b"graph" => graph_options(found),
+        b"explain" => Some(Options::Explain {
+            code: text_of(found, "CODE")?,
+        }),
         _ => None,
     }
 }

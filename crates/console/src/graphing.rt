@@ -1,15 +1,16 @@
 //! The graph of a query, written.
 
-ghost use Rattle.std.specs.Prelude.{◌≡◌, true, take, IfOk, IfErr, IfSome, IsErrOf};
+ghost use Rattle.std.specs.Prelude.{◌≡◌, ◌⊎◌, true, take, IfOk, IfErr, IfSome, IsErrOf};
 ghost use Rattle.collector.specs.Watching.{has_failed, inner_of};
 ghost use Rattle.console.specs.Graphs.{GraphEnds, IsGraphFault, ShowsGraph};
-ghost use Rattle.console.specs.Runs.{IsAfterReading};
+ghost use Rattle.console.specs.Runs.{IsAfterReading, IsUnreadQuery};
 ghost use Rattle.console.specs.declared.fault.Fault.TheVariants as fault;
 
 use crate::choice::GraphForm;
 use crate::compiling::compile;
 use crate::fault::{Fault, graph_fault};
 use crate::running::read_query;
+use crate::texts::Texts;
 use collector::{Watched, put};
 use lowering::{graph_dot, graph_text};
 use std::alloc::{Allocator, Global};
@@ -63,21 +64,23 @@ fn write_shown<A: Allocator + Copy, W: Write>(
 }
 
 /// Reads a query, compiles it, and writes its graph: a line for each vertex, or a text that Graphviz draws. It is written only once
-/// all of it stands. A graph of more than 4096 vertices is refused.
+/// all of it stands. A graph of more than 4096 vertices is refused. The text that was read is left in `texts`.
 pub fn graph_query<A: Allocator + Copy, Q: Read, W: Write>(
     alloc: Global,
     arena: A,
     form: GraphForm,
     query: &mut Watched<Q>,
+    texts: &mut Texts,
     writer: &mut Watched<W>,
 ) -> Result<(), Fault>
     ensures ends { IfSome (Q.remaining (inner_of query.old)) (λ q. GraphEnds form (take 1048577 q) (W.contents (inner_of writer.old)) (W.contents (inner_of writer.new)) result) }
     ensures query { IsErrOf result fault.ReadQuery → has_failed query.new ≡ true }
     ensures writer { IsErrOf result fault.Write → has_failed writer.new ≡ true }
+    ensures kept { IfSome (Q.remaining (inner_of query.old)) (λ q. IfErr result (λ e. IsUnreadQuery e ⊎ (texts.new.query.items ≡ take 1048577 q))) }
 {
-    let query_text = match read_query(alloc, query) {
-        Ok(text) => text,
+    match read_query(alloc, query) {
+        Ok(text) => texts.query = text,
         Err(fault) => return Err(fault),
-    };
-    write_shown(alloc, arena, form, query_text.as_slice(), writer)
+    }
+    write_shown(alloc, arena, form, &texts.query, writer)
 }

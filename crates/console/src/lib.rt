@@ -12,20 +12,23 @@ mod choice;
 mod command;
 mod compiling;
 mod engine;
+mod excerpt;
+mod explaining;
 mod fault;
 mod graphing;
+mod input_line;
+mod query_fault;
 mod respond;
 mod running;
+mod shown;
+mod texts;
 
 pub use checking::check_query;
 pub use choice::{GraphForm, LineFault, Options};
 pub use command::options;
 pub use compiling::{compile, compile_chain};
+pub use explaining::{explain_fault, explained, write_explanation};
 pub use fault::{CompileFault, Fault};
 pub use graphing::graph_query;
 pub use running::run;
-
-#[cfg(test)]
-mod graph_tests;
-#[cfg(test)]
-mod tests;
+pub use texts::Texts;

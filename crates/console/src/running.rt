@@ -1,6 +1,6 @@
 //! A run, from bytes to bytes.
 
-ghost use Rattle.std.specs.Prelude.{◌≡◌, take, true, map, IfOk, IfErr, IfSome, IsErrOf};
+ghost use Rattle.std.specs.Prelude.{◌≡◌, ◌⊎◌, take, true, map, IfOk, IfErr, IfSome, IsErrOf};
 ghost use Rattle.expr_tree.specs.Plain.{plain_input};
 ghost use Rattle.collector.specs.Said.{plain};
 ghost use Rattle.collector.specs.Watching.{has_failed, inner_of};
@@ -10,6 +10,7 @@ ghost use Rattle.console.specs.declared.fault.Fault.TheVariants as fault;
 use crate::compiling::compile_chain;
 use crate::fault::{Fault, input_fault};
 use crate::respond::respond;
+use crate::texts::Texts;
 use bumpalo::Bump;
 use collector::{Declared, ReadFault, Watched, read_all, read_at_most, read_input};
 use expr_tree::Input;
@@ -92,32 +93,29 @@ fn answer<W: Write>(
 /// Reads a query and its input, and writes the answer. Its promise holds if it ends.
 ///
 /// The faults in the order in which they are told: the query can't be read, the input can't be read, the query is refused, the
-/// input is refused, the writer failed. Want of memory may come at any place.
+/// input is refused, the writer failed. Want of memory may come at any place. The texts that were read are left in `texts`.
 pub fn run<Q: Read, I: Read, W: Write>(
     rt: &impl Wait,
     alloc: Global,
     query: &mut Watched<Q>,
     input: &mut Watched<I>,
+    texts: &mut Texts,
     writer: &mut Watched<W>,
 ) -> Result<(), Fault>
     ensures ends { IfSome (Q.remaining (inner_of query.old)) (λ q. IfSome (I.remaining (inner_of input.old)) (λ i. Ends (take 1048577 q) i (W.contents (inner_of writer.old)) (W.contents (inner_of writer.new)) result)) }
     ensures query { IsErrOf result fault.ReadQuery → has_failed query.new ≡ true }
     ensures input { IsErrOf result fault.ReadInput → has_failed input.new ≡ true }
     ensures writer { IsErrOf result fault.Write → has_failed writer.new ≡ true }
+    ensures kept_query { IfSome (Q.remaining (inner_of query.old)) (λ q. IfErr result (λ e. IsUnreadQuery e ⊎ (texts.new.query.items ≡ take 1048577 q))) }
+    ensures kept_input { IfSome (I.remaining (inner_of input.old)) (λ i. IfErr result (λ e. IsUnreadQuery e ⊎ (IsUnreadInput e ⊎ (texts.new.input.items ≡ i)))) }
 {
-    let query_text = match read_query(alloc, query) {
-        Ok(text) => text,
+    match read_query(alloc, query) {
+        Ok(text) => texts.query = text,
         Err(fault) => return Err(fault),
-    };
-    let input_text = match read_input_text(alloc, input) {
-        Ok(text) => text,
+    }
+    match read_input_text(alloc, input) {
+        Ok(text) => texts.input = text,
         Err(fault) => return Err(fault),
-    };
-    answer(
-        rt,
-        alloc,
-        query_text.as_slice(),
-        input_text.as_slice(),
-        writer,
-    )
+    }
+    answer(rt, alloc, &texts.query, &texts.input, writer)
 }

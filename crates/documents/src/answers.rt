@@ -2,7 +2,11 @@
 
 use bumpalo::Bump;
 use collector::Watched;
-use console::{Fault, GraphForm, LineFault, Options, check_query, graph_query, options, run};
+use console::{
+    Fault, GraphForm, LineFault, Options, Texts, check_query, explain_fault, explained,
+    graph_query, options, run, write_explanation,
+};
+use refusals::NUMBERS;
 use std::fs::File;
 use std::io::{ErrorKind, Write};
 use std::sync::Wait;
@@ -16,6 +20,7 @@ fn run_files(
     wait: &impl Wait,
     query: &str,
     input: &str,
+    texts: &mut Texts,
     writer: &mut Printed,
 ) -> Result<(), Fault> {
     let Ok(query_file) = File::open(rt, query) else {
@@ -26,22 +31,20 @@ fn run_files(
         return Err(Fault::ReadInput);
     };
     let mut input_file = Watched::new(input_file);
-    run(wait, rt.alloc(), &mut query_file, &mut input_file, writer)
+    run(
+        wait,
+        rt.alloc(),
+        &mut query_file,
+        &mut input_file,
+        texts,
+        writer,
+    )
 }
 
-fn check_file(rt: &HostRuntime, query: &str, writer: &mut Printed) -> Result<(), Fault> {
-    let Ok(query_file) = File::open(rt, query) else {
-        return Err(Fault::ReadQuery);
-    };
-    let mut query_file = Watched::new(query_file);
-    let arena = Bump::new(rt.alloc());
-    check_query(rt.alloc(), &arena, &mut query_file, writer)
-}
-
-fn graph_file(
+fn check_file(
     rt: &HostRuntime,
-    form: GraphForm,
     query: &str,
+    texts: &mut Texts,
     writer: &mut Printed,
 ) -> Result<(), Fault> {
     let Ok(query_file) = File::open(rt, query) else {
@@ -49,22 +52,72 @@ fn graph_file(
     };
     let mut query_file = Watched::new(query_file);
     let arena = Bump::new(rt.alloc());
-    graph_query(rt.alloc(), &arena, form, &mut query_file, writer)
+    check_query(rt.alloc(), &arena, &mut query_file, texts, writer)
+}
+
+fn graph_file(
+    rt: &HostRuntime,
+    form: GraphForm,
+    query: &str,
+    texts: &mut Texts,
+    writer: &mut Printed,
+) -> Result<(), Fault> {
+    let Ok(query_file) = File::open(rt, query) else {
+        return Err(Fault::ReadQuery);
+    };
+    let mut query_file = Watched::new(query_file);
+    let arena = Bump::new(rt.alloc());
+    graph_query(rt.alloc(), &arena, form, &mut query_file, texts, writer)
+}
+
+/// What the program prints of a refusal's number.
+fn explain_code(rt: &HostRuntime, code: &str) -> io::Result<Vec<u8>> {
+    let Some(row) = explained(code) else {
+        let line = format!(in rt.alloc();
+            "no refusal has the number {code}: they are {NUMBERS}\n"
+        )?;
+        return Ok(line.into_bytes());
+    };
+    let mut writer = Watched::new(Vec::new(rt.alloc()));
+    let done = write_explanation(rt.alloc(), row, &mut writer);
+    let mut shown = writer.into_inner();
+    if let Err(fault) = done {
+        fault.write_line("", "", &mut shown)?;
+    }
+    Ok(shown)
 }
 
 /// What the program prints that is called with these words, the first of which is its own name: standard output, and then standard
 /// error.
 fn answer(rt: &HostRuntime, wait: &impl Wait, words: &[&str]) -> io::Result<Vec<u8>> {
+    let mut texts = Texts::new(rt.alloc());
     let mut writer = Watched::new(Vec::new(rt.alloc()));
-    let (query, input, done) = match options(rt.alloc(), words) {
-        Ok(Options::Run { query, input }) => {
-            let done = run_files(rt, wait, query, input, &mut writer);
-            (query, input, done)
+    let (query, input, explain, done) = match options(rt.alloc(), words) {
+        Ok(
+            Options::Run {
+                query,
+                input,
+                explain,
+            },
+        ) => {
+            let done = run_files(rt, wait, query, input, &mut texts, &mut writer);
+            (query, input, explain, done)
         }
-        Ok(Options::Check { query }) => (query, "", check_file(rt, query, &mut writer)),
-        Ok(Options::Graph { query, form }) => {
-            (query, "", graph_file(rt, form, query, &mut writer))
+        Ok(Options::Check { query, explain }) => {
+            let done = check_file(rt, query, &mut texts, &mut writer);
+            (query, "", explain, done)
         }
+        Ok(
+            Options::Graph {
+                query,
+                form,
+                explain,
+            },
+        ) => {
+            let done = graph_file(rt, form, query, &mut texts, &mut writer);
+            (query, "", explain, done)
+        }
+        Ok(Options::Explain { code }) => return explain_code(rt, code),
         Err(LineFault::NoMemory) => return Err(io::Error::from(ErrorKind::OutOfMemory)),
         Err(LineFault::Line(text)) => {
             let mut shown = Vec::new(rt.alloc());
@@ -75,6 +128,9 @@ fn answer(rt: &HostRuntime, wait: &impl Wait, words: &[&str]) -> io::Result<Vec<
     let mut shown = writer.into_inner();
     if let Err(fault) = done {
         fault.write_line(query, input, &mut shown)?;
+        if explain {
+            explain_fault(rt.alloc(), &fault, &texts, &mut shown)?;
+        }
     }
     Ok(shown)
 }

@@ -16,48 +16,86 @@ pub struct Session<'a> {
 /// The fence round a block of code.
 const FENCE: &str = "```";
 
-/// What a line holds of a code block: the line between fences, and else what stands behind four spaces. Empty where it is none.
-fn code_of(line: &str, is_fenced: bool) -> &str {
-    if line.starts_with(FENCE) {
-        ""
-    } else if is_fenced {
-        line
+/// What a line is to the sessions of a text.
+enum Line<'a> {
+    /// A command, without `$ `.
+    Typed(&'a str),
+    /// What a command prints.
+    Printed(&'a str),
+    /// An empty line, which may stand in what is printed.
+    Empty,
+    /// No line of a code block.
+    Outside,
+}
+
+/// What a line is: within a code block it stands between fences or behind four spaces.
+fn line_of<'a>(line: &'a str, is_fenced: bool) -> Line<'a> {
+    if line.is_empty() {
+        return Line::Empty;
+    }
+    let inside = if is_fenced {
+        Some(line)
     } else {
-        line.strip_prefix("    ").unwrap_or("")
+        line.strip_prefix("    ")
+    };
+    match inside {
+        Some(code) if !line.starts_with(FENCE) => match code.strip_prefix("$ ") {
+            Some(typed) => Line::Typed(typed),
+            None => Line::Printed(code),
+        },
+        _ => Line::Outside,
     }
 }
 
-/// The sessions of a text, in order. Each begins with a line `$ ..` of a code block, and what it prints reaches to the next such line,
-/// to an empty line or to the end of the block.
+/// Appends a line to what a session prints, behind the empty lines that stand before it.
+fn add_line(session: &mut Session, empty: usize, text: &str) -> Result<(), AllocError> {
+    for _ in 0..empty {
+        session.printed.push_str("\n")?;
+    }
+    session.printed.push_str(text)?;
+    session.printed.push_str("\n")?;
+    Ok(())
+}
+
+/// The sessions of a text, in order. Each begins with a line `$ ..` of a code block, and what it prints reaches to the next such line
+/// or to the end of the block, without the empty lines there.
 pub fn sessions<'a>(alloc: Global, text: &'a str) -> Result<Vec<Session<'a>>, AllocError> {
     let mut found = Vec::new(alloc);
     let mut open: Option<Session<'a>> = None;
     let mut is_fenced = false;
+    let mut empty = 0usize;
     for (before, line) in text.lines().enumerate() {
         if line.starts_with(FENCE) {
             is_fenced = !is_fenced;
         }
-        let code = code_of(line, is_fenced);
-        if let Some(typed) = code.strip_prefix("$ ") {
-            if let Some(session) = open.take() {
-                found.push(session)?;
+        match line_of(line, is_fenced) {
+            Line::Typed(typed) => {
+                let session = Session {
+                    line: before.saturating_add(1),
+                    typed,
+                    printed: String::new(alloc),
+                };
+                if let Some(last) = open.replace(session) {
+                    found.push(last)?;
+                }
+                empty = 0;
             }
-            open = Some(Session {
-                line: before.saturating_add(1),
-                typed,
-                printed: String::new(alloc),
-            });
-        } else if code.is_empty() {
-            if let Some(session) = open.take() {
-                found.push(session)?;
+            Line::Printed(code) => {
+                if let Some(session) = &mut open {
+                    add_line(session, empty, code)?;
+                }
+                empty = 0;
             }
-        } else if let Some(session) = &mut open {
-            session.printed.push_str(code)?;
-            session.printed.push_str("\n")?;
+            Line::Empty => empty = empty.saturating_add(1),
+            Line::Outside => {
+                if let Some(last) = open.take() {
+                    found.push(last)?;
+                }
+            }
         }
     }
-    if let Some(session) = open {
-        found.push(session)?;
+    if let Some(last) = open {
+        found.push(last)?;
     }
     Ok(found)
 }
@@ -68,16 +106,16 @@ mod tests {
     use std::test::Fail;
 
     const TEXT: &str =
-        "# A page\n\nIn prose `$ cat a`.\n\n    $ cat a\n    one\n      two\n    $ ./loom check b\n\n    $ cat c\nprose\n```\n$ cat d\none\n```\n    none\n";
+        "# A page\n\nIn prose `$ cat a`.\n\n    $ cat a\n    one\n      two\n    $ ./loom check b\n    three\n\n    four\n\n    $ cat c\nprose\n```\n$ cat d\none\n```\n    none\n";
 
     #[test]
     fn of_indented_and_fenced_blocks(rt: HostRuntime) -> Result<(), Fail> {
         let found = sessions(rt.alloc(), TEXT)?;
         let rows = [
             (5, "cat a", "one\n  two\n"),
-            (8, "./loom check b", ""),
-            (10, "cat c", ""),
-            (13, "cat d", "one\n"),
+            (8, "./loom check b", "three\n\nfour\n"),
+            (13, "cat c", ""),
+            (16, "cat d", "one\n"),
         ];
         assert_eq!(rt; found.len(), rows.len());
         for (session, (line, typed, printed)) in found.iter().zip(rows) {

@@ -3,7 +3,11 @@
 
 use bumpalo::Bump;
 use collector::Watched;
-use console::{Fault, GraphForm, LineFault, Options, check_query, graph_query, options, run};
+use console::{
+    Fault, GraphForm, LineFault, Options, Texts, check_query, explain_fault, explained,
+    graph_query, options, run, write_explanation,
+};
+use refusals::NUMBERS;
 use std::fs::File;
 use std::io::ErrorKind;
 use std::process::ExitCode;
@@ -11,7 +15,13 @@ use std::sync::Wait;
 use std::{env, io};
 
 /// Runs a query over an input. `wait` is the leave to go on until all is worked off.
-fn run_files(rt: &HostRuntime, wait: &impl Wait, query: &str, input: &str) -> Result<(), Fault> {
+fn run_files(
+    rt: &HostRuntime,
+    wait: &impl Wait,
+    query: &str,
+    input: &str,
+    texts: &mut Texts,
+) -> Result<(), Fault> {
     let Ok(query_file) = File::open(rt, query) else {
         return Err(Fault::ReadQuery);
     };
@@ -26,30 +36,59 @@ fn run_files(rt: &HostRuntime, wait: &impl Wait, query: &str, input: &str) -> Re
         rt.alloc(),
         &mut query_file,
         &mut input_file,
+        texts,
         &mut writer,
     )
 }
 
 /// Checks a query.
-fn check_file(rt: &HostRuntime, query: &str) -> Result<(), Fault> {
+fn check_file(rt: &HostRuntime, query: &str, texts: &mut Texts) -> Result<(), Fault> {
     let Ok(query_file) = File::open(rt, query) else {
         return Err(Fault::ReadQuery);
     };
     let mut query_file = Watched::new(query_file);
     let mut writer = Watched::new(io::writer(rt));
     let arena = Bump::new(rt.alloc());
-    check_query(rt.alloc(), &arena, &mut query_file, &mut writer)
+    check_query(rt.alloc(), &arena, &mut query_file, texts, &mut writer)
 }
 
 /// Writes the graph of a query.
-fn graph_file(rt: &HostRuntime, form: GraphForm, query: &str) -> Result<(), Fault> {
+fn graph_file(
+    rt: &HostRuntime,
+    form: GraphForm,
+    query: &str,
+    texts: &mut Texts,
+) -> Result<(), Fault> {
     let Ok(query_file) = File::open(rt, query) else {
         return Err(Fault::ReadQuery);
     };
     let mut query_file = Watched::new(query_file);
     let mut writer = Watched::new(io::writer(rt));
     let arena = Bump::new(rt.alloc());
-    graph_query(rt.alloc(), &arena, form, &mut query_file, &mut writer)
+    graph_query(
+        rt.alloc(),
+        &arena,
+        form,
+        &mut query_file,
+        texts,
+        &mut writer,
+    )
+}
+
+/// Writes what a refusal's number means, or which numbers there are.
+fn explain_code(rt: &HostRuntime, code: &str) -> io::Result<ExitCode> {
+    let Some(row) = explained(code) else {
+        eprintln!(rt; "no refusal has the number {code}: they are {NUMBERS}")?;
+        return Ok(ExitCode::from(2));
+    };
+    let mut writer = Watched::new(io::writer(rt));
+    match write_explanation(rt.alloc(), row, &mut writer) {
+        Ok(()) => Ok(ExitCode::SUCCESS),
+        Err(fault) => {
+            fault.write_line("", "", &mut rt.stderr())?;
+            Ok(ExitCode::from(fault.status()))
+        }
+    }
 }
 
 /// Tells why the command line is refused.
@@ -68,16 +107,43 @@ fn refuse(rt: &HostRuntime, fault: LineFault) -> io::Result<ExitCode> {
 
 /// Does what the words ask for, and tells a fault.
 fn answer(rt: &HostRuntime, wait: &impl Wait, words: &[&str]) -> io::Result<ExitCode> {
-    let (query, input, done) = match options(rt.alloc(), words) {
-        Ok(Options::Run { query, input }) => (query, input, run_files(rt, wait, query, input)),
-        Ok(Options::Check { query }) => (query, "", check_file(rt, query)),
-        Ok(Options::Graph { query, form }) => (query, "", graph_file(rt, form, query)),
+    let mut texts = Texts::new(rt.alloc());
+    let (query, input, explain, done) = match options(rt.alloc(), words) {
+        Ok(
+            Options::Run {
+                query,
+                input,
+                explain,
+            },
+        ) => {
+            let done = run_files(rt, wait, query, input, &mut texts);
+            (query, input, explain, done)
+        }
+        Ok(Options::Check { query, explain }) => {
+            let done = check_file(rt, query, &mut texts);
+            (query, "", explain, done)
+        }
+        Ok(
+            Options::Graph {
+                query,
+                form,
+                explain,
+            },
+        ) => {
+            let done = graph_file(rt, form, query, &mut texts);
+            (query, "", explain, done)
+        }
+        Ok(Options::Explain { code }) => return explain_code(rt, code),
         Err(fault) => return refuse(rt, fault),
     };
     match done {
         Ok(()) => Ok(ExitCode::SUCCESS),
         Err(fault) => {
             fault.write_line(query, input, &mut rt.stderr())?;
+            if explain {
+                // The status tells the fault, also where its explanation can't be written.
+                let _ = explain_fault(rt.alloc(), &fault, &texts, &mut rt.stderr());
+            }
             Ok(ExitCode::from(fault.status()))
         }
     }

@@ -7,6 +7,7 @@
 //! trees are checked, and `semantics`, which says what is well typed; the normaliser and lowering take a `Typed`.
 #![tactic(auto)]
 
+mod arities;
 mod columns;
 pub mod laws;
 mod names;
@@ -15,5 +16,6 @@ mod refusals;
 mod relation;
 mod typed;
 
+pub use arities::{Arities, arities_at};
 pub use program::check;
 pub use typed::Typed;

@@ -33,7 +33,7 @@ fn declare_input(names: &mut Names, input: &Input) -> Result<(), Refusal>
 }
 
 /// Declares inputs in order.
-fn declare_inputs(names: &mut Names, inputs: &[Input]) -> Result<(), Refusal>
+pub(crate) fn declare_inputs(names: &mut Names, inputs: &[Input]) -> Result<(), Refusal>
     ensures ok { OnOk result (each input_verdict inputs.now names.old ≡ Ok names.new) }
     ensures err { IfErr result (λ e. Says e (each input_verdict inputs.now names.old)) }
 {
@@ -44,7 +44,7 @@ fn declare_inputs(names: &mut Names, inputs: &[Input]) -> Result<(), Refusal>
 }
 
 /// Declares a let once its relation has an arity.
-fn declare_let<A: Allocator>(names: &mut Names, item: &Let<A>) -> Result<(), Refusal>
+pub(crate) fn declare_let<A: Allocator>(names: &mut Names, item: &Let<A>) -> Result<(), Refusal>
     ensures ok { OnOk result (let_verdict (let_tree item.now) names.old ≡ Ok names.new) }
     ensures err { IfErr result (λ e. Says e (let_verdict (let_tree item.now) names.old)) }
 {

@@ -39,7 +39,7 @@ fn form_arity(span: Span, fields: usize, more: usize) -> Result<u64, Refusal>
 }
 
 /// The place of a relation.
-fn place<A: Allocator>(relation: &Rel<A>) -> Span
+pub(crate) fn place<A: Allocator>(relation: &Rel<A>) -> Span
     ensures { result ≡ span_of (rel_tree relation.now) }
 {
     match relation {

@@ -1,14 +1,22 @@
 //! From a query text to the text of its graph.
 
-use super::*;
 use collector::Watched;
+use console::{GraphForm, LineFault, Options, Texts, graph_query, options};
 use std::test::Fail;
 
 /// What `graph_query` answers: the graph's text, or the fault's line.
 fn drawn(rt: &HostRuntime, form: GraphForm, query: &[u8]) -> Result<Vec<u8>, Fail> {
     let mut query = Watched::new(query);
+    let mut texts = Texts::new(rt.alloc());
     let mut out = Watched::new(Vec::new(rt.alloc()));
-    let done = graph_query(rt.alloc(), rt.alloc(), form, &mut query, &mut out);
+    let done = graph_query(
+        rt.alloc(),
+        rt.alloc(),
+        form,
+        &mut query,
+        &mut texts,
+        &mut out,
+    );
     let mut written = out.into_inner();
     if let Err(fault) = done {
         if !written.is_empty() {
@@ -116,13 +124,18 @@ fn drawings(rt: HostRuntime) -> Result<(), Fail> {
 
 #[test]
 fn words_of_a_graph(rt: HostRuntime) {
-    let rows: [(&[&str], GraphForm); 3] = [
-        (&["loom", "graph", "q"], GraphForm::Lines),
-        (&["loom", "graph", "--dot", "q"], GraphForm::Dot),
-        (&["loom", "graph", "q", "--dot"], GraphForm::Dot),
+    let rows: [(&[&str], GraphForm, bool); 4] = [
+        (&["loom", "graph", "q"], GraphForm::Lines, false),
+        (&["loom", "graph", "--dot", "q"], GraphForm::Dot, false),
+        (&["loom", "graph", "q", "--dot"], GraphForm::Dot, false),
+        (&["loom", "graph", "--explain", "q"], GraphForm::Lines, true),
     ];
-    for (words, form) in rows {
-        let graph = Options::Graph { query: "q", form };
+    for (words, form, explain) in rows {
+        let graph = Options::Graph {
+            query: "q",
+            form,
+            explain,
+        };
         assert!(rt; matches!(options(rt.alloc(), words), Ok(o) if o == graph));
     }
     let refused: [&[&str]; 3] = [

@@ -1,5 +1,7 @@
-use super::*;
+//! Runs through the program's calls: the words of the line, fault lines, readers and writers that fail, and whole answers.
+
 use collector::Watched;
+use console::{Fault, LineFault, Options, Texts, check_query, options, run};
 use std::io;
 use std::io::{ErrorKind, Read, Write};
 use std::sync::Wait;
@@ -46,16 +48,43 @@ fn lines(rt: HostRuntime) -> Result<(), Fail> {
 
 #[test]
 fn lines_of_words(rt: HostRuntime) {
-    let words = ["loom", "run", "q", "i"];
-    let run = Options::Run {
-        query: "q",
-        input: "i",
-    };
-    assert!(rt; matches!(options(rt.alloc(), words.as_slice()), Ok(o) if o == run));
-    let words = ["loom", "check", "q"];
-    let check = Options::Check { query: "q" };
-    assert!(rt; matches!(options(rt.alloc(), words.as_slice()), Ok(o) if o == check));
-    let refused: [&[&str]; 9] = [
+    let rows: [(&[&str], Options); 5] = [
+        (
+            &["loom", "run", "q", "i"],
+            Options::Run {
+                query: "q",
+                input: "i",
+                explain: false,
+            },
+        ),
+        (
+            &["loom", "run", "--explain", "q", "i"],
+            Options::Run {
+                query: "q",
+                input: "i",
+                explain: true,
+            },
+        ),
+        (
+            &["loom", "check", "q"],
+            Options::Check {
+                query: "q",
+                explain: false,
+            },
+        ),
+        (
+            &["loom", "check", "q", "--explain"],
+            Options::Check {
+                query: "q",
+                explain: true,
+            },
+        ),
+        (&["loom", "explain", "13"], Options::Explain { code: "13" }),
+    ];
+    for (words, wanted) in rows {
+        assert!(rt; matches!(options(rt.alloc(), words), Ok(o) if o == wanted));
+    }
+    let refused: [&[&str]; 11] = [
         &["loom"],
         &["loom", "run"],
         &["loom", "run", "q"],
@@ -65,6 +94,8 @@ fn lines_of_words(rt: HostRuntime) {
         &["loom", "run", "--workers", "2", "q", "i"],
         &["loom", "--help"],
         &["loom", "run", "--help"],
+        &["loom", "explain"],
+        &["loom", "explain", "--explain", "13"],
     ];
     for words in refused {
         assert!(rt; matches!(options(rt.alloc(), words), Err(LineFault::Line(_))));
@@ -128,7 +159,14 @@ fn ran(
     let mut query = Watched::new(query.as_bytes());
     let mut input = Watched::new(input);
     let mut out = Watched::new(Vec::new(rt.alloc()));
-    let done = run(wait, rt.alloc(), &mut query, &mut input, &mut out);
+    let done = run(
+        wait,
+        rt.alloc(),
+        &mut query,
+        &mut input,
+        &mut Texts::new(rt.alloc()),
+        &mut out,
+    );
     let written = out.into_inner();
     let count = written.len();
     match done {
@@ -221,7 +259,14 @@ fn slow_readers(rt: HostRuntime) -> Result<(), Fail> {
         let mut out = Watched::new(Vec::new(rt.alloc()));
         let mut first = Watched::new(Slow { text: query, left });
         let mut second = Watched::new(input);
-        let done = run(&rt, rt.alloc(), &mut first, &mut second, &mut out);
+        let done = run(
+            &rt,
+            rt.alloc(),
+            &mut first,
+            &mut second,
+            &mut Texts::new(rt.alloc()),
+            &mut out,
+        );
         assert!(rt; matches!(done, Err(Fault::ReadQuery)));
         assert_eq!(rt; out.into_inner().len(), 0);
     }
@@ -229,7 +274,14 @@ fn slow_readers(rt: HostRuntime) -> Result<(), Fail> {
         let mut out = Watched::new(Vec::new(rt.alloc()));
         let mut first = Watched::new(query);
         let mut second = Watched::new(Slow { text: input, left });
-        let done = run(&rt, rt.alloc(), &mut first, &mut second, &mut out);
+        let done = run(
+            &rt,
+            rt.alloc(),
+            &mut first,
+            &mut second,
+            &mut Texts::new(rt.alloc()),
+            &mut out,
+        );
         if left < 5 {
             assert!(rt; matches!(done, Err(Fault::ReadInput)));
             assert_eq!(rt; out.into_inner().len(), 0);
@@ -250,7 +302,14 @@ fn full_writers(rt: HostRuntime) -> Result<(), Fail> {
                 fails,
                 written: Vec::new(rt.alloc()),
             });
-            let done = run(&rt, rt.alloc(), &mut query, &mut input, &mut out);
+            let done = run(
+                &rt,
+                rt.alloc(),
+                &mut query,
+                &mut input,
+                &mut Texts::new(rt.alloc()),
+                &mut out,
+            );
             assert_eq!(rt; done.is_ok(), text.len() <= room);
             if room < text.len() {
                 assert!(rt; matches!(done, Err(Fault::Write)));
@@ -268,7 +327,13 @@ fn full_writers(rt: HostRuntime) -> Result<(), Fail> {
 fn checks(rt: HostRuntime) -> Result<(), Fail> {
     let mut query = Watched::new(b"input e/2; input f/16; output select(e; #0);".as_slice());
     let mut out = Watched::new(Vec::new(rt.alloc()));
-    check_query(rt.alloc(), rt.alloc(), &mut query, &mut out)?;
+    check_query(
+        rt.alloc(),
+        rt.alloc(),
+        &mut query,
+        &mut Texts::new(rt.alloc()),
+        &mut out,
+    )?;
     let text = b"input e/2\ninput f/16\noutput 1\n";
     assert_eq!(rt; out.into_inner().as_slice(), text.as_slice());
     Ok(())

@@ -1,0 +1,26 @@
+//! The texts that a command has read, kept for what is told of a fault.
+
+ghost use Rattle.std.specs.Prelude.{◌≡◌, []};
+
+use std::alloc::Global;
+
+/// The query text and the input text, each empty until it is read. A text that couldn't be read to its end is not kept.
+#[derive(Drop)]
+pub struct Texts {
+    /// At most 1,048,577 bytes: one more than a query may have.
+    pub query: Vec<u8>,
+    pub input: Vec<u8>,
+}
+
+impl Texts {
+    /// No text yet.
+    pub fn new(alloc: Global) -> Texts
+        ensures query { result.query.items ≡ [] }
+        ensures input { result.input.items ≡ [] }
+    {
+        Texts {
+            query: Vec::new(alloc),
+            input: Vec::new(alloc),
+        }
+    }
+}
