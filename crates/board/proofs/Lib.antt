@@ -8,4 +8,3 @@ pub mod Typed
 pub mod Boards
 pub mod States
 pub mod Fronts
-pub mod Examples

@@ -30,6 +30,3 @@ pub use laws::law_headline;
 pub use making::ChainFault;
 pub use refusal::StepRefusal;
 pub use vertex::Vertex;
-
-#[cfg(test)]
-mod tests;

@@ -24,6 +24,3 @@ pub use reading::read_input;
 pub use refusal::{Fault, InputRefusal};
 pub use watched::Watched;
 pub use writing::{Broken, put};
-
-#[cfg(test)]
-mod tests;

@@ -1,4 +1,5 @@
-//! What refusals mean: the table, `explain`, and `--explain` below a fault's line. The places of the carets are counted by hand.
+//! What refusals mean: the table, `explain`, and `--explain` below a fault's line. The places of the carets are those of the tokens that stand
+//! there.
 
 use collector::Watched;
 use console::{Fault, Texts, check_query, explain_fault, explained, run, write_explanation};
@@ -295,7 +296,7 @@ fn others_explained(rt: HostRuntime) -> Result<(), Fail> {
     let rows: [(Fault, &str); 4] = [
         (
             Fault::TooManyVertices,
-            "a dataflow graph of over 4096 vertices; it has no place\n",
+            "a dataflow graph of over 4096 vertices\n",
         ),
         (
             Fault::Input { code: 47, line: 1 },

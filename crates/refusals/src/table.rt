@@ -148,7 +148,7 @@ pub static EXPLANATIONS: [Explanation; 24] = [
     },
     Explanation {
         code: 21,
-        summary: "a dataflow graph of over 4096 vertices; it has no place",
+        summary: "a dataflow graph of over 4096 vertices",
         place: "",
         text: "A query is compiled to a dataflow graph, which has a vertex for each relation form and several for each loop.\nA `let` is compiled once, however often its name is used, so a form that is written several times should be named by one.",
         wrong: "",

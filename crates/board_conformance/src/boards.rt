@@ -1,105 +1,22 @@
-//! Each call once on its happy path, each refusal, and a small schedule whose values are reckoned by hand, of
-//! `input a/2; output where(select(a; #1 + 1, #0); #0 < 10);`.
+//! Each call on a board once on its happy path, each refusal, and a small schedule whose values are reckoned by hand.
 
-ghost use Rattle.std.specs.Prelude.{◌≡◌, ◌∷◌, [], pos, IfOk};
-ghost use Rattle.expr_tree.specs.Plain.{plain_program, plain_rel};
-ghost use Rattle.expr_tree.specs.Views.{program_tree, rel_tree};
-ghost use Rattle.semantics.specs.Query as query;
-ghost use Rattle.board.specs.ChainQuery.{IsWellTyped};
-
-use super::{Board, ChainFault, Claimed, CommitRefusal, Done, Graph, StepRefusal, Work};
-use expr_tree::{Comparison, Cond, Input, NoMemory, Operator, Program, Rel, Scalar};
-use record_core::{Name, Record, Span};
+use board::{Board, ChainFault, Claimed, CommitRefusal, Done, Graph, StepRefusal, Work};
+use parser::parse;
+use record_core::Record;
 use std::alloc::Global;
 use std::sync::Arc;
 use std::test::Fail;
+use typing::check;
 
-const NOWHERE: Span = Span { start: 0, end: 0 };
+const QUERY: &[u8] = b"input a/2; output where(select(a; #1 + 1, #0); #0 < 10);";
 
-/// `where(select(a; #1 + 1, #0); #0 < 10)`, of the name.
-fn chain(alloc: Global, name: Name) -> Result<Rel<Global>, NoMemory>
-    ensures { IfOk result (λ r. plain_rel (rel_tree r) ≡ query.Rel.filter (query.Rel.select (query.Rel.named name) (query.Scalar.plus (query.Scalar.column 1) (query.Scalar.literal (pos 1)) ∷ query.Scalar.column 0 ∷ [])) (query.Cond.compare query.Comparison.less (query.Scalar.column 0) (query.Scalar.literal (pos 10)))) }
-{
-    let column = Scalar::Column(NOWHERE, 1);
-    let one = Scalar::Literal(NOWHERE, 1);
-    let sum = Scalar::binary(alloc, NOWHERE, Operator::Add, column, one)?;
-    let scalars = Vec::from_array(alloc, [sum, Scalar::Column(NOWHERE, 0)])?;
-    let selected = Rel::select(alloc, NOWHERE, Rel::Named(NOWHERE, name), scalars)?;
-    let column = Scalar::Column(NOWHERE, 0);
-    let condition = Cond::Compare(
-        NOWHERE,
-        Comparison::Less,
-        column,
-        Scalar::Literal(NOWHERE, 10),
-    );
-    let kept = Rel::filter(alloc, NOWHERE, selected, condition)?;
-    Ok(kept)
-}
-
-/// The program with one input of two fields, of that name, and that output.
-fn program(alloc: Global, name: Name, output: Rel<Global>) -> Result<Program<Global>, NoMemory>
-    ensures { IfOk result (λ p. plain_program (program_tree p) ≡ record { inputs = record { name = name; arity = 2 } ∷ []; lets = []; output = plain_rel (rel_tree output) }) }
-{
-    let input = Input {
-        name_span: NOWHERE,
-        name,
-        arity_span: NOWHERE,
-        arity: 2,
-    };
-    let inputs = Vec::from_array(alloc, [input])?;
-    let output = Box::new(alloc, output)?;
-    Ok(Program {
-        inputs,
-        lets: Vec::new(alloc),
-        output,
-    })
-}
-
-/// The program of the schedule.
-fn example(alloc: Global, name: Name) -> Result<Program<Global>, NoMemory>
-    ensures { IfOk result (λ p. IsWellTyped (plain_program (program_tree p))) }
-{
-    let output = chain(alloc, copy(&name))?;
-    let made = program(alloc, name, output)?;
-    Ok(made)
-}
-
-/// The program that puts out `distinct(a)`.
-fn distinct(alloc: Global, name: Name) -> Result<Program<Global>, NoMemory>
-    ensures { IfOk result (λ p. IsWellTyped (plain_program (program_tree p))) }
-{
-    let input = Rel::Named(NOWHERE, copy(&name));
-    let output = Rel::distinct(alloc, NOWHERE, input)?;
-    let made = program(alloc, name, output)?;
-    Ok(made)
-}
-
-/// A copy of a name.
-fn copy(name: &Name) -> Name
-    ensures { result ≡ name.now }
-{
-    match name.clone() {
-        Ok(copy) => copy,
-        Err(_) => unreachable!(),
-    }
-}
-
-/// A board over the graph of the program.
+/// A board over the chain of the query, with one worker.
 fn board(alloc: Global) -> Option<Board> {
-    let name = Name::new(b"a")?;
-    let Ok(program) = example(alloc, name) else {
-        return None;
-    };
-    let Ok(graph) = Graph::of(alloc, &program) else {
-        return None;
-    };
-    let Ok(graph) = Arc::new(alloc, graph) else {
-        return None;
-    };
-    match Board::new(alloc, graph, 1) {
-        Ok(board) => Some(board),
-        Err(_) => None,
-    }
+    let program = parse(alloc, QUERY).ok()?;
+    let typed = check(alloc, program).ok()?;
+    let graph = Graph::of(alloc, typed.program()).ok()?;
+    let graph = Arc::new(alloc, graph).ok()?;
+    Board::new(alloc, graph, 1).ok()
 }
 
 /// What came of claiming, computing and committing once.
@@ -351,22 +268,12 @@ fn a_stopped_board_answers_commits(rt: HostRuntime) -> Result<(), Fail> {
     Ok(())
 }
 
-/// Why there is no graph of `distinct(a)`.
-fn fault_of_distinct(alloc: Global, name: Name) -> Option<ChainFault> {
-    let Ok(program) = distinct(alloc, name) else {
-        return None;
-    };
-    match Graph::of(alloc, &program) {
-        Ok(_) => None,
-        Err(fault) => Some(fault),
-    }
-}
-
 #[test]
 fn other_queries_are_no_chain(rt: HostRuntime) -> Result<(), Fail> {
-    let name = Name::new(b"a").ok_or("no name")?;
+    let program = parse(rt.alloc(), b"input a/2; output distinct(a);")?;
+    let typed = check(rt.alloc(), program).ok().ok_or("not well typed")?;
     assert_eq!(rt;
-        fault_of_distinct(rt.alloc(), name),
+        Graph::of(rt.alloc(), typed.program()).err(),
         Some(ChainFault::NotAChain)
     );
     Ok(())

@@ -1,4 +1,9 @@
-use super::*;
+//! Input texts read and output texts written, with readers and writers that fail.
+
+use collector::{
+    Declared, Epochs, InputRefusal, OutFault, ReadFault, Watched, read_all, read_at_most,
+    read_input, write_epochs,
+};
 use record_core::{Name, Record};
 use std::io;
 use std::io::{ErrorKind, Read, Write};
