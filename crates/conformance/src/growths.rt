@@ -1,8 +1,8 @@
 //! Queries in heaps of rising size: the right answer, or no memory, and nothing left behind.
 
-use crate::tests::checked;
 use bumpalo::Bump;
-use console::{CompileFault, compile};
+use collector::Watched;
+use console::{CompileFault, Texts, check_query, compile};
 use linked_list_allocator::LocalHeap;
 use lowering::graph_text;
 use std::alloc::Allocator;
@@ -17,6 +17,25 @@ const FORMS: &str =
 
 const FORMS_GRAPH: &str =
     "0 input 0 <-\n1 input 0 <-\n2 where 0 <- 0.0\n3 select 0 <- 2.0\n4 ingress 0 <- 3.0\n5 concat 1 <- 4.0 15.0\n6 gate(2) 1 <- 5.0\n7 ingress 0 <- 1.0\n8 concat 1 <- 7.0 10.0\n9 hold(2) 1 <- 8.0\n10 feedback 1 <- 9.1\n11 join 1 <- 6.0 9.0\n12 group 1 <- 11.0\n13 concat 1 <- 6.0 12.0\n14 distinct 1 <- 13.0\n15 feedback 1 <- 14.0\n16 egress 1 <- 6.1\n17 output 0 <- 16.0\n";
+
+/// What a check answers of a query whose tree lies there: its status, and the output or the fault's line.
+fn checked<A: Allocator + Copy>(
+    rt: &HostRuntime,
+    arena: A,
+    query: &str,
+) -> Result<(u8, String), Fail> {
+    let mut reader = Watched::new(query.as_bytes());
+    let mut texts = Texts::new(rt.alloc());
+    let mut out = Watched::new(Vec::new(rt.alloc()));
+    match check_query(rt.alloc(), arena, &mut reader, &mut texts, &mut out) {
+        Ok(()) => Ok((0, String::from_utf8(out.into_inner())?)),
+        Err(fault) => {
+            let mut line = out.into_inner();
+            fault.write_line("q", "", &mut line)?;
+            Ok((fault.status(), String::from_utf8(line)?))
+        }
+    }
+}
 
 /// The graph of a query whose tree lies there, as a text; empty without memory.
 fn graph_in<A: Allocator + Copy>(rt: &HostRuntime, arena: A, query: &str) -> Result<String, Fail> {

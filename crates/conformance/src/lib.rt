@@ -1,17 +1,12 @@
-//! Whole queries, through the calls that the program makes, against answers that were worked by hand. No other crate stands on it.
+//! What the program's calls answer where no page can show it (docs/ARCHITECTURE.md): readers, writers and memory that fail, and texts of
+//! great size. No other crate stands on it.
 #![tactic(auto)]
 
 #[cfg(test)]
-mod checks;
-#[cfg(test)]
-mod drawings;
-#[cfg(test)]
 mod explanations;
 #[cfg(test)]
-mod graphs;
+mod failures;
 #[cfg(test)]
 mod growths;
 #[cfg(test)]
-mod runs;
-#[cfg(test)]
-mod tests;
+mod limits;

@@ -1,4 +1,4 @@
-//! What a command prints, by the calls that the program `loom` makes.
+//! What `./loom` prints, by the calls that the program `loom` makes.
 
 use bumpalo::Bump;
 use collector::Watched;
@@ -7,7 +7,6 @@ use console::{
     graph_query, options, run, write_explanation,
 };
 use refusals::NUMBERS;
-use std::fs::File;
 use std::io::{ErrorKind, Write};
 use std::sync::Wait;
 use std::{fs, io};
@@ -15,59 +14,63 @@ use std::{fs, io};
 /// What is printed, kept.
 type Printed = Watched<Vec<u8>>;
 
+/// The bytes of a file, or those that are piped where it is `/dev/stdin`.
+fn read(rt: &HostRuntime, piped: Option<&[u8]>, path: &str) -> io::Result<Vec<u8>> {
+    match piped {
+        Some(text) if path == "/dev/stdin" => Ok(text.to_vec(rt.alloc())?),
+        _ => fs::read(rt, path),
+    }
+}
+
 fn run_files(
     rt: &HostRuntime,
     wait: &impl Wait,
+    piped: Option<&[u8]>,
     query: &str,
     input: &str,
     texts: &mut Texts,
     writer: &mut Printed,
 ) -> Result<(), Fault> {
-    let Ok(query_file) = File::open(rt, query) else {
+    let Ok(query) = read(rt, piped, query) else {
         return Err(Fault::ReadQuery);
     };
-    let mut query_file = Watched::new(query_file);
-    let Ok(input_file) = File::open(rt, input) else {
+    let Ok(input) = read(rt, piped, input) else {
         return Err(Fault::ReadInput);
     };
-    let mut input_file = Watched::new(input_file);
-    run(
-        wait,
-        rt.alloc(),
-        &mut query_file,
-        &mut input_file,
-        texts,
-        writer,
-    )
+    let mut query = Watched::new(query.as_slice());
+    let mut input = Watched::new(input.as_slice());
+    run(wait, rt.alloc(), &mut query, &mut input, texts, writer)
 }
 
 fn check_file(
     rt: &HostRuntime,
+    piped: Option<&[u8]>,
     query: &str,
     texts: &mut Texts,
     writer: &mut Printed,
 ) -> Result<(), Fault> {
-    let Ok(query_file) = File::open(rt, query) else {
+    let Ok(query) = read(rt, piped, query) else {
         return Err(Fault::ReadQuery);
     };
-    let mut query_file = Watched::new(query_file);
+    let mut query = Watched::new(query.as_slice());
     let arena = Bump::new(rt.alloc());
-    check_query(rt.alloc(), &arena, &mut query_file, texts, writer)
+    check_query(rt.alloc(), &arena, &mut query, texts, writer)
 }
 
 fn graph_file(
     rt: &HostRuntime,
+    piped: Option<&[u8]>,
     form: GraphForm,
     query: &str,
     texts: &mut Texts,
     writer: &mut Printed,
 ) -> Result<(), Fault> {
-    let Ok(query_file) = File::open(rt, query) else {
+    let Ok(query) = read(rt, piped, query) else {
         return Err(Fault::ReadQuery);
     };
-    let mut query_file = Watched::new(query_file);
+    let mut query = Watched::new(query.as_slice());
     let arena = Bump::new(rt.alloc());
-    graph_query(rt.alloc(), &arena, form, &mut query_file, texts, writer)
+    graph_query(rt.alloc(), &arena, form, &mut query, texts, writer)
 }
 
 /// What the program prints of a refusal's number.
@@ -89,7 +92,12 @@ fn explain_code(rt: &HostRuntime, code: &str) -> io::Result<Vec<u8>> {
 
 /// What the program prints that is called with these words, the first of which is its own name: standard output, and then standard
 /// error.
-fn answer(rt: &HostRuntime, wait: &impl Wait, words: &[&str]) -> io::Result<Vec<u8>> {
+pub fn answer(
+    rt: &HostRuntime,
+    wait: &impl Wait,
+    piped: Option<&[u8]>,
+    words: &[&str],
+) -> io::Result<Vec<u8>> {
     let mut texts = Texts::new(rt.alloc());
     let mut writer = Watched::new(Vec::new(rt.alloc()));
     let (query, input, explain, done) = match options(rt.alloc(), words) {
@@ -100,11 +108,11 @@ fn answer(rt: &HostRuntime, wait: &impl Wait, words: &[&str]) -> io::Result<Vec<
                 explain,
             },
         ) => {
-            let done = run_files(rt, wait, query, input, &mut texts, &mut writer);
+            let done = run_files(rt, wait, piped, query, input, &mut texts, &mut writer);
             (query, input, explain, done)
         }
         Ok(Options::Check { query, explain }) => {
-            let done = check_file(rt, query, &mut texts, &mut writer);
+            let done = check_file(rt, piped, query, &mut texts, &mut writer);
             (query, "", explain, done)
         }
         Ok(
@@ -114,7 +122,7 @@ fn answer(rt: &HostRuntime, wait: &impl Wait, words: &[&str]) -> io::Result<Vec<
                 explain,
             },
         ) => {
-            let done = graph_file(rt, form, query, &mut texts, &mut writer);
+            let done = graph_file(rt, piped, form, query, &mut texts, &mut writer);
             (query, "", explain, done)
         }
         Ok(Options::Explain { code }) => return explain_code(rt, code),
@@ -133,43 +141,4 @@ fn answer(rt: &HostRuntime, wait: &impl Wait, words: &[&str]) -> io::Result<Vec<
         }
     }
     Ok(shown)
-}
-
-/// A line of the replay itself in place of what a command prints: it is never what a document shows.
-fn remark(rt: &HostRuntime, text: &str) -> io::Result<Vec<u8>> {
-    let line = format!(in rt.alloc(); "({text})\n")?;
-    Ok(line.into_bytes())
-}
-
-/// The bytes of a file.
-fn content(rt: &HostRuntime, file: &str) -> io::Result<Vec<u8>> {
-    match fs::read(rt, file) {
-        Ok(bytes) => Ok(bytes),
-        Err(error) if error.kind() == ErrorKind::OutOfMemory => Err(error),
-        Err(_) => remark(rt, "this file can't be read"),
-    }
-}
-
-/// What a command alone prints: `./loom ..` or `cat FILE`.
-fn shown(rt: &HostRuntime, wait: &impl Wait, command: &str) -> io::Result<Vec<u8>> {
-    match command.split_once(' ') {
-        Some((program, file)) if program == "cat" => content(rt, file),
-        Some((program, _)) if program == "./loom" => {
-            let words: Vec<&str> = command.split(' ').collect(rt.alloc())?;
-            answer(rt, wait, words.as_slice())
-        }
-        _ => remark(rt, "no command that is replayed"),
-    }
-}
-
-/// What a line prints: that of its command; nothing where `| diff - FILE` stands behind it and the file holds just that.
-pub fn printed(rt: &HostRuntime, wait: &impl Wait, typed: &str) -> io::Result<Vec<u8>> {
-    let Some((command, file)) = typed.split_once(" | diff - ") else {
-        return shown(rt, wait, typed);
-    };
-    let mut text = shown(rt, wait, command)?;
-    if text.as_slice() == content(rt, file)?.as_slice() {
-        text.clear();
-    }
-    Ok(text)
 }

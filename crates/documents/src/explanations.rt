@@ -57,28 +57,3 @@ pub fn tells(row: &Row, explanation: &Explanation) -> bool {
         && row.summary == explanation.summary
         && row.place == explanation.place
 }
-
-#[cfg(test)]
-mod tests {
-    use super::*;
-    use refusals::explanation_of;
-    use std::test::Fail;
-
-    const TEXT: &str =
-        "| 1 | another table | |\n\n| Number | What is wrong | What the place covers |\n|---|---|---|\n| 13 | a column that the relation doesn't have | the column |\n| 41 | a record before the first `epoch` line | |\n\n| 2 | another table | |\n";
-
-    #[test]
-    fn of_the_table_under_the_header(rt: HostRuntime) -> Result<(), Fail> {
-        assert!(rt; has_table(TEXT));
-        assert!(rt; !has_table("| 1 | another table | |\n"));
-        let found = rows(rt.alloc(), TEXT)?;
-        let columns = explanation_of(13).ok_or("no row of 13")?;
-        let epochs = explanation_of(41).ok_or("no row of 41")?;
-        assert_eq!(rt; found.len(), 2);
-        assert_eq!(rt; found[0].line, 5);
-        assert!(rt; tells(&found[0], columns));
-        assert!(rt; tells(&found[1], epochs));
-        assert!(rt; !tells(&found[1], columns));
-        Ok(())
-    }
-}

@@ -1,16 +1,19 @@
-//! The program `documents`: replays the sessions that the user's documents show, and compares what is printed with what stands there.
+//! The program `documents`: replays the sessions that documents show, and compares what is printed with what stands there.
 //!
 //! Its words are Markdown files. In each of them a line `$ ./loom ..` of a code block is answered by the calls that the program `loom`
-//! makes, and a line `$ cat ..` by the file. It prints a line for each document, or the first place where a document is wrong, and then
-//! ends with status 1. The documents and the files that they name stand in its folder `data`, where the gate runs it.
+//! makes, and a line `$ cat ..` by the file. It prints a line for each document that is right, each place where one is wrong, and ends
+//! with status 1 if any is. The documents and the files that they name stand in its folder `data`, where the gate runs it: what the user
+//! reads, `worked/` with answers that were worked by hand, and `wrong.md`, which is wrong on purpose so that the replay is tried too. So the
+//! status that is wanted is 1.
 #![tactic(auto)]
 
 mod answers;
 mod explanations;
+mod lines;
 mod sessions;
 
-use crate::answers::printed;
 use crate::explanations::{has_table, rows, tells};
+use crate::lines::printed;
 use crate::sessions::{Session, sessions};
 use refusals::EXPLANATIONS;
 use std::process::ExitCode;
@@ -27,61 +30,62 @@ fn tell(rt: &HostRuntime, path: &str, session: &Session, answered: &[u8]) -> io:
     Ok(())
 }
 
-/// Whether each session prints what stands under it; the first that doesn't is told.
+/// Whether each session prints what stands under it; those that don't are told.
 fn replays(
     rt: &HostRuntime,
     wait: &impl Wait,
     path: &str,
     sessions: &[Session],
 ) -> io::Result<bool> {
+    let mut is_right = true;
     for session in sessions {
         let answered = printed(rt, wait, session.typed)?;
         if answered.as_slice() != session.printed.as_bytes() {
             tell(rt, path, session, answered.as_slice())?;
-            return Ok(false);
+            is_right = false;
         }
     }
-    Ok(true)
+    Ok(is_right)
 }
 
-/// Whether a document's table of refusals is that of the explanations; the first row that isn't is told.
+/// Whether a document's table of refusals is that of the explanations; the rows that aren't are told.
 fn explains(rt: &HostRuntime, path: &str, text: &str) -> io::Result<bool> {
     let rows = rows(rt.alloc(), text)?;
+    let (told, all) = (rows.len(), EXPLANATIONS.len());
+    let mut is_right = told == all;
+    if !is_right {
+        println!(rt; "{path}: the table has {told} refusals, and there are {all}")?;
+    }
     for (row, explanation) in rows.iter().zip(EXPLANATIONS.as_slice()) {
         if !tells(row, explanation) {
             let line = row.line;
             let (code, summary, place) = (explanation.code, explanation.summary, explanation.place);
             println!(rt; "{path}:{line}: this row should be")?;
             println!(rt; "    | {code} | {summary} | {place} |")?;
-            return Ok(false);
+            is_right = false;
         }
     }
-    let (told, all) = (rows.len(), EXPLANATIONS.len());
-    if told != all {
-        println!(rt; "{path}: the table has {told} refusals, and there are {all}")?;
-        return Ok(false);
-    }
-    Ok(true)
+    Ok(is_right)
 }
 
-/// Whether a document is right. It prints a line that says so, or the first place where it is wrong.
+/// Whether a document is right. It prints a line that says so, or the places where it is wrong.
 fn holds(rt: &HostRuntime, wait: &impl Wait, path: &str) -> io::Result<bool> {
     let text = fs::read_to_string(rt, path)?;
     let sessions = sessions(rt.alloc(), text.as_str())?;
-    if !replays(rt, wait, path, sessions.as_slice())? {
-        return Ok(false);
-    }
     let count = sessions.len();
+    let are_replayed = replays(rt, wait, path, sessions.as_slice())?;
     if !has_table(text.as_str()) {
-        println!(rt; "{path}: {count} sessions as written")?;
-        return Ok(true);
+        if are_replayed {
+            println!(rt; "{path}: {count} sessions as written")?;
+        }
+        return Ok(are_replayed);
     }
-    if !explains(rt, path, text.as_str())? {
-        return Ok(false);
+    let is_right = explains(rt, path, text.as_str())? && are_replayed;
+    if is_right {
+        let refusals = EXPLANATIONS.len();
+        println!(rt; "{path}: {count} sessions as written, {refusals} refusals as told")?;
     }
-    let refusals = EXPLANATIONS.len();
-    println!(rt; "{path}: {count} sessions as written, {refusals} refusals as told")?;
-    Ok(true)
+    Ok(is_right)
 }
 
 /// Whether each document of the line is right.

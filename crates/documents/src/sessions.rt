@@ -99,30 +99,3 @@ pub fn sessions<'a>(alloc: Global, text: &'a str) -> Result<Vec<Session<'a>>, Al
     }
     Ok(found)
 }
-
-#[cfg(test)]
-mod tests {
-    use super::*;
-    use std::test::Fail;
-
-    const TEXT: &str =
-        "# A page\n\nIn prose `$ cat a`.\n\n    $ cat a\n    one\n      two\n    $ ./loom check b\n    three\n\n    four\n\n    $ cat c\nprose\n```\n$ cat d\none\n```\n    none\n";
-
-    #[test]
-    fn of_indented_and_fenced_blocks(rt: HostRuntime) -> Result<(), Fail> {
-        let found = sessions(rt.alloc(), TEXT)?;
-        let rows = [
-            (5, "cat a", "one\n  two\n"),
-            (8, "./loom check b", "three\n\nfour\n"),
-            (13, "cat c", ""),
-            (16, "cat d", "one\n"),
-        ];
-        assert_eq!(rt; found.len(), rows.len());
-        for (session, (line, typed, printed)) in found.iter().zip(rows) {
-            assert_eq!(rt; session.line, line);
-            assert_eq!(rt; session.typed, typed);
-            assert_eq!(rt; session.printed.as_str(), printed);
-        }
-        Ok(())
-    }
-}

@@ -1,0 +1,165 @@
+//! Fault lines, and runs whose readers and writers fail.
+
+use collector::Watched;
+use console::{Fault, Texts, run};
+use std::io;
+use std::io::{ErrorKind, Read, Write};
+use std::test::Fail;
+
+/// The fault's line, where the query is the file `q` and the input the file `i`.
+fn line(rt: &HostRuntime, fault: Fault) -> Result<String, Fail> {
+    let mut line = Vec::new(rt.alloc());
+    fault.write_line("q", "i", &mut line)?;
+    Ok(String::from_utf8(line)?)
+}
+
+#[test]
+fn lines(rt: HostRuntime) -> Result<(), Fail> {
+    let rows = [
+        (
+            Fault::Query {
+                code: 13,
+                start: 28,
+                end: 30,
+            },
+            3,
+            "query refused 13 at 28..30\n",
+        ),
+        (Fault::TooManyVertices, 3, "query refused 21\n"),
+        (Fault::Unserved, 3, "query refused 22\n"),
+        (
+            Fault::Input { code: 43, line: 2 },
+            4,
+            "input refused 43 at line 2\n",
+        ),
+        (Fault::NoMemory, 5, "out of memory\n"),
+        (Fault::NoWorker, 5, "cannot start a worker\n"),
+        (Fault::ReadQuery, 6, "cannot read q\n"),
+        (Fault::ReadInput, 6, "cannot read i\n"),
+        (Fault::Write, 6, "cannot write\n"),
+    ];
+    for (fault, status, text) in rows {
+        assert_eq!(rt; fault.status(), status);
+        assert_eq!(rt; line(&rt, fault)?.as_str(), text);
+    }
+    Ok(())
+}
+
+/// A reader that gives a text, at most three bytes at a time, and fails after so many reads.
+#[derive(Drop)]
+struct Slow<'a> {
+    text: &'a [u8],
+    left: usize,
+}
+
+impl<'a> Read for Slow<'a> {
+    fn read(&mut self, buf: &mut [u8]) -> io::Result<usize> {
+        if self.left == 0 {
+            return Err(io::Error::from(ErrorKind::Other));
+        }
+        self.left -= 1;
+        let count = self.text.len().min(buf.len()).min(3);
+        let (front, back) = self.text.split_at(count);
+        for (to, from) in buf.iter_mut().zip(front) {
+            *to = *from;
+        }
+        self.text = back;
+        Ok(count)
+    }
+}
+
+/// A writer that takes two bytes at a time while it has room, and then fails, or takes none.
+#[derive(Drop)]
+struct Full {
+    room: usize,
+    fails: bool,
+    written: Vec<u8>,
+}
+
+impl Write for Full {
+    fn write(&mut self, buf: &[u8]) -> io::Result<usize> {
+        if self.room == 0 && self.fails {
+            return Err(io::Error::from(ErrorKind::Other));
+        }
+        let count = buf.len().min(2).min(self.room);
+        self.written.extend_from_slice(&buf[..count])?;
+        self.room -= count;
+        Ok(count)
+    }
+
+    fn flush(&mut self) -> io::Result<()> {
+        Ok(())
+    }
+}
+
+#[test]
+fn slow_readers(rt: HostRuntime) -> Result<(), Fail> {
+    let query = b"input a/1; output a;".as_slice();
+    let input = b"epoch\na 1\n".as_slice();
+    for left in 0..8 {
+        let mut out = Watched::new(Vec::new(rt.alloc()));
+        let mut first = Watched::new(Slow { text: query, left });
+        let mut second = Watched::new(input);
+        let done = run(
+            &rt,
+            rt.alloc(),
+            &mut first,
+            &mut second,
+            &mut Texts::new(rt.alloc()),
+            &mut out,
+        );
+        assert!(rt; matches!(done, Err(Fault::ReadQuery)));
+        assert_eq!(rt; out.into_inner().len(), 0);
+    }
+    for left in 0..5 {
+        let mut out = Watched::new(Vec::new(rt.alloc()));
+        let mut first = Watched::new(query);
+        let mut second = Watched::new(Slow { text: input, left });
+        let done = run(
+            &rt,
+            rt.alloc(),
+            &mut first,
+            &mut second,
+            &mut Texts::new(rt.alloc()),
+            &mut out,
+        );
+        if left < 5 {
+            assert!(rt; matches!(done, Err(Fault::ReadInput)));
+            assert_eq!(rt; out.into_inner().len(), 0);
+        }
+    }
+    Ok(())
+}
+
+#[test]
+fn full_writers(rt: HostRuntime) -> Result<(), Fail> {
+    let text = b"epoch 0\n1\n";
+    for room in 0..11 {
+        for fails in [false, true] {
+            let mut query = Watched::new(b"input a/1; output a;".as_slice());
+            let mut input = Watched::new(b"epoch\na 1\n".as_slice());
+            let mut out = Watched::new(Full {
+                room,
+                fails,
+                written: Vec::new(rt.alloc()),
+            });
+            let done = run(
+                &rt,
+                rt.alloc(),
+                &mut query,
+                &mut input,
+                &mut Texts::new(rt.alloc()),
+                &mut out,
+            );
+            assert_eq!(rt; done.is_ok(), text.len() <= room);
+            if room < text.len() {
+                assert!(rt; matches!(done, Err(Fault::Write)));
+            }
+            assert_eq!(rt;
+                out.into_inner().written.as_slice(),
+                &text[..room.min(text.len())]
+            );
+        }
+    }
+    Ok(())
+}

@@ -1,0 +1,78 @@
+//! Queries at the limits of size, which are too long for a page.
+
+use collector::Watched;
+use console::{Fault, GraphForm, Texts, check_query, explain_fault, graph_query};
+use std::test::Fail;
+
+/// What `graph_query` answers: the graph's text, or the fault's line.
+fn drawn(rt: &HostRuntime, query: &str) -> Result<Vec<u8>, Fail> {
+    let mut query = Watched::new(query.as_bytes());
+    let mut texts = Texts::new(rt.alloc());
+    let mut out = Watched::new(Vec::new(rt.alloc()));
+    let done = graph_query(
+        rt.alloc(),
+        rt.alloc(),
+        GraphForm::Lines,
+        &mut query,
+        &mut texts,
+        &mut out,
+    );
+    let mut written = out.into_inner();
+    if let Err(fault) = done {
+        if !written.is_empty() {
+            Err("written at a fault")?
+        }
+        fault.write_line("q", "", &mut written)?;
+    }
+    Ok(written)
+}
+
+/// `input a/1; let l1 = distinct(a); let l2 = distinct(l1); ..` to `lN`, then `output lN;`
+fn chain(rt: &HostRuntime, length: u32) -> Result<String, Fail> {
+    let mut text = format!(in rt.alloc(); "input a/1; let l1 = distinct(a);")?;
+    for i in 2..length.saturating_add(1) {
+        let before = i.saturating_sub(1);
+        let next = format!(in rt.alloc(); " let l{i} = distinct(l{before});")?;
+        text.push_str(next.as_str())?;
+    }
+    let end = format!(in rt.alloc(); " output l{length};")?;
+    text.push_str(end.as_str())?;
+    Ok(text)
+}
+
+#[test]
+fn at_most_4096_vertices(rt: HostRuntime) -> Result<(), Fail> {
+    let longest = drawn(&rt, &chain(&rt, 4094)?)?;
+    let end: &[u8] = b"\n4094 distinct 0 <- 4093.0\n4095 output 0 <- 4094.0\n";
+    assert!(rt; longest.as_slice().ends_with(end));
+    let longer = drawn(&rt, &chain(&rt, 4095)?)?;
+    assert_eq!(rt; longer.as_slice(), b"query refused 21\n".as_slice());
+    Ok(())
+}
+
+/// A text that is too long, of which the end is shown.
+#[test]
+fn a_long_text_explained(rt: HostRuntime) -> Result<(), Fail> {
+    let mut query = Vec::new(rt.alloc());
+    query.resize(1_048_577, b';')?;
+    let mut query = Watched::new(query.as_slice());
+    let mut texts = Texts::new(rt.alloc());
+    let mut out = Watched::new(Vec::new(rt.alloc()));
+    let done = check_query(rt.alloc(), rt.alloc(), &mut query, &mut texts, &mut out);
+    let fault = done.err().ok_or("taken")?;
+    assert!(rt; matches!(fault, Fault::Query { code: 6, .. }));
+    let mut said = Vec::new(rt.alloc());
+    explain_fault(rt.alloc(), &fault, &texts, &mut said)?;
+    let mut wanted = String::new(rt.alloc());
+    wanted.push_str("  1 | ..")?;
+    for _byte in 0..200 {
+        wanted.push_str(";")?;
+    }
+    wanted.push_str("\n    | ")?;
+    for _byte in 0..201 {
+        wanted.push_str(" ")?;
+    }
+    wanted.push_str("^\na text over 1,048,576 bytes\n")?;
+    assert_eq!(rt; said.as_slice(), wanted.as_bytes());
+    Ok(())
+}

@@ -1,0 +1,90 @@
+//! What a line of a session prints: the few forms of a shell's line that are replayed.
+
+use crate::answers::answer;
+use std::alloc::{AllocError, Global};
+use std::io::ErrorKind;
+use std::sync::Wait;
+use std::{fs, io};
+
+/// A line of the replay itself in place of what a command prints: it is never what a document shows.
+fn remark(rt: &HostRuntime, text: &str) -> io::Result<Vec<u8>> {
+    let line = format!(in rt.alloc(); "({text})\n")?;
+    Ok(line.into_bytes())
+}
+
+/// The bytes of a file.
+fn content(rt: &HostRuntime, file: &str) -> io::Result<Vec<u8>> {
+    match fs::read(rt, file) {
+        Ok(bytes) => Ok(bytes),
+        Err(error) if error.kind() == ErrorKind::OutOfMemory => Err(error),
+        Err(_) => remark(rt, "this file can't be read"),
+    }
+}
+
+/// What `printf` writes of a text: none where it has a `%`, or a `\` before another letter than `n`, `r` and `t`.
+fn unescaped(alloc: Global, text: &str) -> Result<Option<String>, AllocError> {
+    let mut written = String::new(alloc);
+    let mut is_escaped = false;
+    for letter in text.chars() {
+        match (is_escaped, letter) {
+            (true, 'n') => written.push('\n')?,
+            (true, 'r') => written.push('\r')?,
+            (true, 't') => written.push('\t')?,
+            (false, '\\') => {}
+            (true, _) | (false, '%') => return Ok(None),
+            (false, letter) => written.push(letter)?,
+        }
+        is_escaped = !is_escaped && letter == '\\';
+    }
+    Ok(if is_escaped { None } else { Some(written) })
+}
+
+/// What `echo 'TEXT'` or `printf 'TEXT'` writes: none of another command.
+fn written(alloc: Global, command: &str) -> Result<Option<String>, AllocError> {
+    let Some((program, quoted)) = command.split_once(" '") else {
+        return Ok(None);
+    };
+    match quoted.split_once('\'') {
+        Some((text, "")) if program == "echo" => Ok(Some(format!(in alloc; "{text}\n")?)),
+        Some((text, "")) if program == "printf" => unescaped(alloc, text),
+        _ => Ok(None),
+    }
+}
+
+/// What a command alone prints, `./loom ..` or `cat FILE`, to which bytes may be piped.
+fn shown(
+    rt: &HostRuntime,
+    wait: &impl Wait,
+    piped: Option<&[u8]>,
+    command: &str,
+) -> io::Result<Vec<u8>> {
+    let words: Vec<&str> = command.split(' ').collect(rt.alloc())?;
+    match words.as_slice() {
+        [program, file] if *program == "cat" => content(rt, file),
+        [program, ..] if *program == "./loom" => answer(rt, wait, piped, words.as_slice()),
+        _ => remark(rt, "no command that is replayed"),
+    }
+}
+
+/// What `COMMAND` or `WRITING | COMMAND` prints.
+fn shown_of_pipe(rt: &HostRuntime, wait: &impl Wait, line: &str) -> io::Result<Vec<u8>> {
+    let Some((writing, command)) = line.split_once(" | ") else {
+        return shown(rt, wait, None, line);
+    };
+    match written(rt.alloc(), writing)? {
+        Some(text) => shown(rt, wait, Some(text.as_bytes()), command),
+        None => remark(rt, "no command that is replayed"),
+    }
+}
+
+/// What a line prints: that of its commands; nothing where `| diff - FILE` stands behind them and the file holds just that.
+pub fn printed(rt: &HostRuntime, wait: &impl Wait, typed: &str) -> io::Result<Vec<u8>> {
+    let Some((line, file)) = typed.split_once(" | diff - ") else {
+        return shown_of_pipe(rt, wait, typed);
+    };
+    let mut text = shown_of_pipe(rt, wait, line)?;
+    if text.as_slice() == content(rt, file)?.as_slice() {
+        text.clear();
+    }
+    Ok(text)
+}
