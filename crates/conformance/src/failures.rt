@@ -123,10 +123,8 @@ fn slow_readers(rt: HostRuntime) -> Result<(), Fail> {
             &mut Texts::new(rt.alloc()),
             &mut out,
         );
-        if left < 5 {
-            assert!(rt; matches!(done, Err(Fault::ReadInput)));
-            assert_eq!(rt; out.into_inner().len(), 0);
-        }
+        assert!(rt; matches!(done, Err(Fault::ReadInput)));
+        assert_eq!(rt; out.into_inner().len(), 0);
     }
     Ok(())
 }
