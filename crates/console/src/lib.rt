@@ -16,6 +16,7 @@ mod excerpt;
 mod explaining;
 mod fault;
 mod graphing;
+mod hint;
 mod input_line;
 mod query_fault;
 mod respond;

@@ -1,6 +1,7 @@
 //! What is wrong with a query, with the names and the numbers at hand.
 
-use crate::shown::{Columns, Fields, Word};
+use crate::hint::hint;
+use crate::shown::{Columns, Fields, Meant, Word};
 use bumpalo::Bump;
 use parser::parse;
 use record_core::Span;
@@ -38,7 +39,9 @@ pub fn write_summary<W: Write>(code: u8, writer: &mut W) -> io::Result<()> {
 }
 
 /// Of a text that is no program: codes 1 to 6.
-fn write_reading<W: Write>(code: u8, word: &[u8], writer: &mut W) -> io::Result<()> {
+fn write_reading<W: Write>(text: &[u8], code: u8, span: Span, writer: &mut W) -> io::Result<()> {
+    let word = covered(text, span);
+    let meant = Meant(hint(text, code, span));
     let length = word.len();
     let shown = Word(word);
     match (code, word) {
@@ -48,7 +51,7 @@ fn write_reading<W: Write>(code: u8, word: &[u8], writer: &mut W) -> io::Result<
             let byte = *byte;
             writeln!(writer, "the byte 0x{byte:02x} begins no word")
         }
-        (1, _) => writeln!(writer, "{shown} begins no word"),
+        (1, _) => writeln!(writer, "{shown} begins no word{meant}"),
         (2, [b'0', ..] | [b'#', b'0', ..]) => writeln!(
             writer,
             "{shown}: a number doesn't begin with 0"
@@ -57,9 +60,9 @@ fn write_reading<W: Write>(code: u8, word: &[u8], writer: &mut W) -> io::Result<
         (3, _) => writeln!(writer, "the name has {length} bytes: a name has at most 32"),
         (4, []) => writeln!(
             writer,
-            "the text ends here, and the query is not at its end"
+            "the text ends here, and the query is not at its end{meant}"
         ),
-        (4, _) => writeln!(writer, "{shown} can't stand here"),
+        (4, _) => writeln!(writer, "{shown} can't stand here{meant}"),
         (5, _) => writeln!(writer, "{shown} is more than 64 deep"),
         _ => write_summary(code, writer),
     }
@@ -127,7 +130,7 @@ pub fn write_query_fault<W: Write>(
 ) -> io::Result<()> {
     let word = covered(text, span);
     match code {
-        1..=6 => write_reading(code, word, writer),
+        1..=6 => write_reading(text, code, span, writer),
         13..=16 => match arities(alloc, text, code, span) {
             Some(arities) => write_arities(code, word, arities, writer),
             None => write_summary(code, writer),

@@ -84,3 +84,16 @@ impl fmt::Display for Columns {
         }
     }
 }
+
+/// What is most likely meant, behind what is wrong; nothing where it isn't known.
+#[derive(Clone, Copy)]
+pub struct Meant(pub Option<&'static str>);
+
+impl fmt::Display for Meant {
+    fn fmt<W: fmt::Write>(&self, f: &mut fmt::Formatter<W>) -> fmt::Result {
+        match self.0 {
+            Some(hint) => write!(f, ": {hint}"),
+            None => Ok(()),
+        }
+    }
+}
