@@ -5,3 +5,6 @@ use Rattle.rows.proofs.set.RowSet.place.Goals as goal
 
 pub invariant_of-self-2 : goal.invariant_of-self-2
 invariant_of-self-2 c = different_more c.self.inside.index.rows c.place_or_add.new.self.rows c.args.row.now c.in_ok-placed.placed.new c.self.invariant (search rules) (search rules)
+
+pub returns-clause-place : goal.returns-clause-place
+returns-clause-place c = search rules
