@@ -1,3 +1,4 @@
 pub mod Wraps
 pub mod Sizes
 pub mod Fronts
+pub mod Copies

@@ -22,13 +22,13 @@ pub fn copy_scalar<A: Allocator, B: Allocator + Copy>(
         Scalar::Literal(span, number) => Ok(Scalar::Literal(*span, *number)),
         Scalar::Column(span, column) => Ok(Scalar::Column(*span, *column)),
         Scalar::Binary(span, operator, left, right) => {
-            let left = Box::new(alloc, copy_scalar(alloc, left)?)?;
-            let right = Box::new(alloc, copy_scalar(alloc, right)?)?;
-            Ok(Scalar::Binary(*span, *operator, left, right))
+            let left = copy_scalar(alloc, left)?;
+            let right = copy_scalar(alloc, right)?;
+            Scalar::binary(alloc, *span, *operator, left, right)
         }
         Scalar::Negate(span, inner) => {
-            let inner = Box::new(alloc, copy_scalar(alloc, inner)?)?;
-            Ok(Scalar::Negate(*span, inner))
+            let inner = copy_scalar(alloc, inner)?;
+            Scalar::negate(alloc, *span, inner)
         }
     }
 }
@@ -47,13 +47,13 @@ pub fn copy_cond<A: Allocator, B: Allocator + Copy>(
             Ok(Cond::Compare(*span, *comparison, left, right))
         }
         Cond::Logical(span, connective, left, right) => {
-            let left = Box::new(alloc, copy_cond(alloc, left)?)?;
-            let right = Box::new(alloc, copy_cond(alloc, right)?)?;
-            Ok(Cond::Logical(*span, *connective, left, right))
+            let left = copy_cond(alloc, left)?;
+            let right = copy_cond(alloc, right)?;
+            Cond::logical(alloc, *span, *connective, left, right)
         }
         Cond::Not(span, inner) => {
-            let inner = Box::new(alloc, copy_cond(alloc, inner)?)?;
-            Ok(Cond::Not(*span, inner))
+            let inner = copy_cond(alloc, inner)?;
+            Cond::negate(alloc, *span, inner)
         }
     }
 }
@@ -68,35 +68,35 @@ pub fn copy_rel<A: Allocator, B: Allocator + Copy>(
     match relation {
         Rel::Named(span, name) => Ok(Rel::Named(*span, copy_name(name))),
         Rel::Select(span, of, scalars) => {
-            let of = Box::new(alloc, copy_rel(alloc, of)?)?;
+            let of = copy_rel(alloc, of)?;
             let scalars = copy_scalars(alloc, scalars)?;
-            Ok(Rel::Select(*span, of, scalars))
+            Rel::select(alloc, *span, of, scalars)
         }
         Rel::Where(span, of, condition) => {
-            let of = Box::new(alloc, copy_rel(alloc, of)?)?;
+            let of = copy_rel(alloc, of)?;
             let condition = copy_cond(alloc, condition)?;
-            Ok(Rel::Where(*span, of, condition))
+            Rel::filter(alloc, *span, of, condition)
         }
         Rel::Concat(span, left, right) => {
-            let left = Box::new(alloc, copy_rel(alloc, left)?)?;
-            let right = Box::new(alloc, copy_rel(alloc, right)?)?;
-            Ok(Rel::Concat(*span, left, right))
+            let left = copy_rel(alloc, left)?;
+            let right = copy_rel(alloc, right)?;
+            Rel::concat(alloc, *span, left, right)
         }
         Rel::Join(span, left, right, pairs) => {
-            let left = Box::new(alloc, copy_rel(alloc, left)?)?;
-            let right = Box::new(alloc, copy_rel(alloc, right)?)?;
+            let left = copy_rel(alloc, left)?;
+            let right = copy_rel(alloc, right)?;
             let pairs = copy_values(alloc, pairs)?;
-            Ok(Rel::Join(*span, left, right, pairs))
+            Rel::join(alloc, *span, left, right, pairs)
         }
         Rel::Group(span, of, keys, aggregates) => {
-            let of = Box::new(alloc, copy_rel(alloc, of)?)?;
+            let of = copy_rel(alloc, of)?;
             let keys = copy_values(alloc, keys)?;
             let aggregates = copy_values(alloc, aggregates)?;
-            Ok(Rel::Group(*span, of, keys, aggregates))
+            Rel::group(alloc, *span, of, keys, aggregates)
         }
         Rel::Distinct(span, of) => {
-            let of = Box::new(alloc, copy_rel(alloc, of)?)?;
-            Ok(Rel::Distinct(*span, of))
+            let of = copy_rel(alloc, of)?;
+            Rel::distinct(alloc, *span, of)
         }
         Rel::Iterate {
             span,
