@@ -5,3 +5,6 @@ use Rattle.expr_tree.proofs.program.Program.size.Goals as goal
 
 pub loop-item-preserved : goal.loop-item-preserved
 loop-item-preserved g c = grind (arith, common_steps, lets_size-push)
+
+pub returns : goal.returns
+returns g c = grind (arith, common_steps)
