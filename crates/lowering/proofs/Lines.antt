@@ -19,3 +19,9 @@ one_line_more vs i v h e =
     let k : i + 1 ≡ suc i = omega arith in
     let z : 0 + i ≡ i = omega arith in
     ap (λ j. lines 0 (graph_of (take j vs))) k ∙ step_from 0 vs i v h e ∙ ap (λ j. lines 0 (graph_of (take i vs)) ++ line j (vertex_of v)) z
+
+-- four texts one after another
+pub four_texts : (t0 t1 t2 t3 t4 a b c d : List ℕ) → t1 ≡ t0 ++ a → t2 ≡ t1 ++ b → t3 ≡ t2 ++ c → t4 ≡ t3 ++ d → t4 ≡ t0 ++ (a ++ (b ++ (c ++ d)))
+four_texts t0 t1 t2 t3 t4 a b c d e f g h =
+    let flat : (((t0 ++ a) ++ b) ++ c) ++ d ≡ t0 ++ (a ++ (b ++ (c ++ d))) = simp append_assoc in
+    h ∙ ap (λ t. t ++ d) (g ∙ ap (λ t. t ++ c) (f ∙ ap (λ t. t ++ b) e)) ∙ flat

@@ -45,3 +45,11 @@ few_sources (Two p q) = omega arith
 pub feeds : (g : graph.Graph) (v i j : ℕ) (x : Vertex) (p : graph.Port) → vertex_of x ≡ graph.vertex g v → p ≡ slice_index_or (sources_of x.ins) j graph.no_port → j ≡ i → p ≡ graph.source g v i
 unfolding graph.source
 feeds g v i j x p e q h = q ∙ ap₂ (λ (y : graph.Vertex) k. slice_index_or y.ins k graph.no_port) e h
+
+-- ---- four vertices more, or three and a list
+
+pub four_more : (g0 g1 g2 g3 g4 : graph.Graph) (u v v' w w' : graph.Vertex) (l l' : graph.Graph) → g1 ≡ g0 ++ (u ∷ []) → g2 ≡ g1 ++ (v ∷ []) → g3 ≡ g2 ++ (w ∷ []) → g4 ≡ g3 ++ l → v ≡ v' → w ≡ w' → l ≡ l' → g4 ≡ g0 ++ (u ∷ v' ∷ w' ∷ l')
+four_more g0 g1 g2 g3 g4 u v v' w w' l l' a b c d e f h =
+    let three : g3 ≡ ((g0 ++ (u ∷ [])) ++ (v ∷ [])) ++ (w ∷ []) = c ∙ ap (λ g. g ++ (w ∷ [])) (b ∙ ap (λ g. g ++ (v ∷ [])) a) in
+    let flat : (((g0 ++ (u ∷ [])) ++ (v ∷ [])) ++ (w ∷ [])) ++ l ≡ g0 ++ (u ∷ v ∷ w ∷ l) = simp append_assoc in
+    d ∙ ap (λ g. g ++ l) three ∙ flat ∙ ap (λ r. g0 ++ (u ∷ r)) (ap₂ (λ x r. x ∷ r) e (ap₂ (λ x r. x ∷ r) f h))
