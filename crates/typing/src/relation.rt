@@ -1,6 +1,6 @@
 //! The arity of a relation, or its first fault.
 
-ghost use Rattle.std.specs.Prelude.{◌≡◌, ◌≤◌, ◌+◌, IfOk, OnOk, Ok, Err, MatchOption};
+ghost use Rattle.std.specs.Prelude.{◌≡◌, ◌≤◌, ◌+◌, IfOk, OnOk, Ok, Err, MatchOption, nat_le};
 ghost use Rattle.record_core.specs.declared.span.Refusal.TheVariants.{At};
 ghost use Rattle.expr_tree.specs.Views.{rel_tree};
 ghost use Rattle.typing.specs.Fault.{span_of};
@@ -36,6 +36,13 @@ fn form_arity(span: Span, fields: usize, more: usize) -> Result<u64, Refusal>
         Some(arity) if 0 < arity && arity <= 16 => Ok(arity as u64),
         _ => Err(at(BAD_ARITY, span)),
     }
+}
+
+/// Whether a loop may have so many turns.
+fn may_turn(turns: u64) -> bool
+    ensures { result ≡ nat_le turns 1024 }
+{
+    turns <= 1024
 }
 
 /// The place of a relation.
@@ -108,7 +115,7 @@ pub(crate) fn arity_of<A: Allocator>(
             start,
             body,
         } => {
-            if *turns > 1024 {
+            if !may_turn(*turns) {
                 return Err(at(TOO_MANY_TURNS, *turns_span));
             }
             if depth >= 8 {
