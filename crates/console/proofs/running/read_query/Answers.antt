@@ -1,4 +1,0 @@
-use Rattle.console.proofs.running.read_query.Goals as goal
-
-pub returns-in-Ok-clause-bytes : goal.returns-in-Ok-clause-bytes
-returns-in-Ok-clause-bytes g c = c.in-Ok.ensures.bytes
