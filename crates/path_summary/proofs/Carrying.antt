@@ -73,7 +73,7 @@ more_raised zero i j as' bs (c ∷ cs) l h = lex_head (c + i) (c + j) as' bs (om
 more_raised (suc k) i j as' bs (c ∷ cs) l h = lex_tail c c (kept (suc k) i cs ++ as') (kept (suc k) j cs ++ bs) refl (more_raised k i j as' bs cs (omega arith) h)
 
 -- the second keeps fewer, and raises
-fewer_kept : (k m i j : ℕ) (as' bs cs : List ℕ) → suc m ≤ length cs → k < m → 0 < j → is_before (kept (suc m) i cs ++ as') (kept (suc k) j cs ++ bs) ≡ true
+pub fewer_kept : (k m i j : ℕ) (as' bs cs : List ℕ) → suc m ≤ length cs → k < m → 0 < j → is_before (kept (suc m) i cs ++ as') (kept (suc k) j cs ++ bs) ≡ true
 fewer_kept k m i j as' bs [] l h n = absurd (omega arith)
 fewer_kept zero zero i j as' bs (c ∷ cs) l h n = absurd (omega arith)
 fewer_kept zero (suc m) i j as' bs (c ∷ cs) l h n = lex_head c (c + j) (kept (suc m) i cs ++ as') bs (omega arith)

@@ -1,6 +1,10 @@
 pub mod InOrder
 pub mod Carrying
 pub mod DecidedCould
+pub mod Standing
+pub mod Passes
+pub mod Steps
+pub mod Numbers
 pub mod RowsMade
 pub mod CodesGrow
 pub mod Notes

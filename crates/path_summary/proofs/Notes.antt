@@ -1,16 +1,19 @@
 -- What is noted of summaries after actions stays true, and tells of rows what a step and a test of theirs ask.
-use Rattle.std.proofs.Common.{◌≡◌, ◌⊎◌, inl, inr, ℕ, zero, suc, ◌-◌, ◌≤◌, ◌<◌, true, List, [], ◌∷◌, ◌++◌, length, Option, Some, None, slice_set, slice_index_or, refl, sym, ap, subst, ◌∙◌, arith}
+use Rattle.std.proofs.Common.{◌≡◌, ◌⊎◌, inl, inr, ℕ, zero, suc, ◌-◌, ◌≤◌, ◌<◌, true, false, List, [], ◌∷◌, ◌++◌, length, Option, Some, None, slice_set, slice_index_or, refl, sym, ap, subst, ◌∙◌, arith}
 use Rattle.std.proofs.Math.ListN.{replicate}
+use Rattle.std.proofs.lemmas.List.{length-replicate}
 use Rattle.semantics.specs.Time.{Action}
 use Rattle.semantics.specs.Summary.{Summary, then_action}
-use Rattle.semantics.proofs.PathSummaries.{MayTake}
 use Rattle.path_summary.specs.Carried.{identity}
 use Rattle.path_summary.specs.Linking.{Link, Links}
-use Rattle.path_summary.specs.Rows.{entry, is_below, IsRow, HasBelow, Follows, Stepped, Closes}
+use Rattle.path_summary.specs.Rows.{entry, is_below, HasBelow, Follows, Stepped}
 use Rattle.path_summary.specs.Codes.{decoded, row_of, AreCodes, Grows}
-use Rattle.path_summary.specs.Noted.{ComesAfter, LeadsTo, IsNoted, AreNoted, IsCodeBelow}
+use Rattle.path_summary.specs.Noted.{LeadsTo, IsNoted, AreNoted, IsCodeBelow}
+use Rattle.path_summary.specs.Walks.{HaveLoops, HasGot, IsOfWalk}
+use Rattle.path_summary.proofs.Carrying.{below_self}
 use Rattle.path_summary.proofs.CodesGrow.{decoded_still, decoded_some, entry_row, row_set, row_grown, code_in, nothing_at, code_set, codes_put, codes_none, none_there, grows_length}
-use Rattle.path_summary.proofs.RowsMade.{row_home}
+use Rattle.path_summary.proofs.Steps.{entry_at, length-put, got_none}
+use Rattle.path_summary.proofs.RowsMade.{entry_set}
 
 some_same : (f h : Summary) → Some f ≡ Some h → f ≡ h
 some_same f h e = cc
@@ -28,8 +31,8 @@ leads_grown old new a code next g l =
       within = let h = l.within in let k = grows_length old new g in omega arith;
     }
 
-pub leads_from : (old new : List Summary) (a : Action) (code next : ℕ) (f : Summary) → ComesAfter old a code f → Grows old new → decoded new next ≡ Some f → next ≤ length new → LeadsTo new a code next
-leads_from old new a code next f k g h m = record { before = k.before; known = decoded_still old new code k.before g k.known; after = f; there = h; follows = k.follows; within = m }
+pub leads_from : (old new : List Summary) (a : Action) (code next : ℕ) (f h : Summary) → decoded old code ≡ Some f → Follows a f h → Grows old new → decoded new next ≡ Some h → next ≤ length new → LeadsTo new a code next
+leads_from old new a code next f h k q g d m = record { before = f; known = decoded_still old new code f g k; after = h; there = d; follows = q; within = m }
 
 -- a vertex that does nothing
 pub leads_stay : (summaries : List Summary) (code : ℕ) → 0 < code → code ≤ length summaries → LeadsTo summaries Action.stay code code
@@ -85,13 +88,12 @@ no_notes : (summaries : List Summary) (a : Action) → IsNoted summaries a []
 no_notes summaries a = record { each = λ x. inl (nothing_at x) }
 
 pub none_noted : AreNoted [] [] [] []
-none_noted = record { few = omega arith; enter = no_notes [] Action.enter; leave = no_notes [] Action.leave; next = no_notes [] Action.next }
+none_noted = record { enter = no_notes [] Action.enter; leave = no_notes [] Action.leave; next = no_notes [] Action.next }
 
 -- one summary more, and a place for notes on it
-pub noted_more : (old new : List Summary) (e l t : List ℕ) → Grows old new → length new < 65536 → AreNoted old e l t → AreNoted new (e ++ (0 ∷ [])) (l ++ (0 ∷ [])) (t ++ (0 ∷ []))
-noted_more old new e l t g few n =
+pub noted_more : (old new : List Summary) (e l t : List ℕ) → Grows old new → AreNoted old e l t → AreNoted new (e ++ (0 ∷ [])) (l ++ (0 ∷ [])) (t ++ (0 ∷ []))
+noted_more old new e l t g n =
     record {
-      few = few;
       enter = noted_push new Action.enter e (noted_grown old new Action.enter e g n.enter);
       leave = noted_push new Action.leave l (noted_grown old new Action.leave l g n.leave);
       next = noted_push new Action.next t (noted_grown old new Action.next t g n.next);
@@ -102,44 +104,42 @@ pub noted_places : (s : List Summary) (e l t : List ℕ) → AreNoted s e l t �
 noted_places s e l t n =
     let e' = noted_push s Action.enter e n.enter in
     let l' = noted_push s Action.leave l n.leave in (
-      record { few = n.few; enter = e'; leave = n.leave; next = n.next },
+      record { enter = e'; leave = n.leave; next = n.next },
       (
-        record { few = n.few; enter = e'; leave = l'; next = n.next },
-        record { few = n.few; enter = e'; leave = l'; next = noted_push s Action.next t n.next },
+        record { enter = e'; leave = l'; next = n.next },
+        record { enter = e'; leave = l'; next = noted_push s Action.next t n.next },
       ),
     )
 
 pub noted_enter : (s : List Summary) (e l t : List ℕ) (code next : ℕ) → AreNoted s e l t → LeadsTo s Action.enter code next → AreNoted s (slice_set e (code - 1) next) l t
-noted_enter s e l t code next n k = record { few = n.few; enter = noted_at s Action.enter e code next n.enter k; leave = n.leave; next = n.next }
+noted_enter s e l t code next n k = record { enter = noted_at s Action.enter e code next n.enter k; leave = n.leave; next = n.next }
 
 pub noted_leave : (s : List Summary) (e l t : List ℕ) (code next : ℕ) → AreNoted s e l t → LeadsTo s Action.leave code next → AreNoted s e (slice_set l (code - 1) next) t
-noted_leave s e l t code next n k = record { few = n.few; enter = n.enter; leave = noted_at s Action.leave l code next n.leave k; next = n.next }
+noted_leave s e l t code next n k = record { enter = n.enter; leave = noted_at s Action.leave l code next n.leave k; next = n.next }
 
 pub noted_next : (s : List Summary) (e l t : List ℕ) (code next : ℕ) → AreNoted s e l t → LeadsTo s Action.next code next → AreNoted s e l (slice_set t (code - 1) next)
-noted_next s e l t code next n k = record { few = n.few; enter = n.enter; leave = n.leave; next = noted_at s Action.next t code next n.next k }
+noted_next s e l t code next n k = record { enter = n.enter; leave = n.leave; next = noted_at s Action.next t code next n.next k }
 
 -- ---- rows
 
 -- a step that puts a code
-pub stepped_to : (k : Link) (old new : List Summary) (codes : List ℕ) (from code to next : ℕ) (a : Action) → Grows old new → AreCodes old codes → from ≡ k.source → to ≡ k.target → a ≡ k.acts → code ≡ slice_index_or codes from 0 → LeadsTo new a code next → Stepped k (row_of old codes) (row_of new (slice_set codes to next))
-stepped_to k old new codes from code to next a g w ef et ea ec l =
+pub stepped_to : (k : Link) (old new : List Summary) (codes : List ℕ) (from code to next : ℕ) (a : Action) → Grows old new → AreCodes old codes → from ≡ k.source → to ≡ k.target → a ≡ k.acts → code ≡ slice_index_or codes from 0 → LeadsTo new a code next
+    → ((f h : Summary) → decoded new (slice_index_or codes to 0) ≡ Some f → decoded new next ≡ Some h → is_below f h ≡ false) → Stepped k (row_of old codes) (row_of new (slice_set codes to next))
+stepped_to k old new codes from code to next a g w ef et ea ec l fresh =
     let f = l.before in
     let h = l.after in
     let stands : slice_index_or codes k.source 0 ≡ code = ap (λ (x : ℕ). slice_index_or codes x 0) (sym ef) ∙ sym ec in
     let same = row_grown old new codes g w in
     let here : entry (row_of old codes) k.source ≡ Some f = ap (λ (row : List (Option Summary)). entry row k.source) (sym same) ∙ entry_row new codes k.source ∙ ap (decoded new) stands ∙ l.known in
     Stepped.set f h here (subst (λ (x : Action). Follows x f h) ea l.follows)
+    (λ z q. fresh z h (ap (λ (x : ℕ). decoded new (slice_index_or codes x 0)) et ∙ sym (entry_row new codes k.target) ∙ ap (λ (row : List (Option Summary)). entry row k.target) same ∙ q) l.there)
     (row_set new codes to next ∙ ap (λ (row : List (Option Summary)). slice_set row to (decoded new next)) same
     ∙ ap (λ (x : ℕ). slice_set (row_of old codes) x (decoded new next)) et
     ∙ ap (λ (o : Option Summary). slice_set (row_of old codes) k.target o) l.there)
 
--- a step that puts none
-pub stepped_none : (k : Link) (old new : List Summary) (codes : List ℕ) → Grows old new → AreCodes old codes → Stepped k (row_of old codes) (row_of new codes)
-stepped_none k old new codes g w = Stepped.same (row_grown old new codes g w)
-
--- where nothing stands no edge leads below an entry
-pub closes_none : (k : Link) (s : List Summary) (codes : List ℕ) (from : ℕ) → from ≡ k.source → slice_index_or codes from 0 ≡ 0 → Closes k (row_of s codes)
-closes_none k s codes from ef z = record { step = λ f e. absurd (never f e) }
+-- a step where nothing stands
+pub stepped_none : (k : Link) (s : List Summary) (codes : List ℕ) (from : ℕ) → from ≡ k.source → slice_index_or codes from 0 ≡ 0 → Stepped k (row_of s codes) (row_of s codes)
+stepped_none k s codes from ef z = Stepped.same refl (λ f e. absurd (never f e))
   where
     nothing : entry (row_of s codes) k.source ≡ None
     nothing = entry_row s codes k.source ∙ ap (decoded s) (ap (λ (x : ℕ). slice_index_or codes x 0) (sym ef) ∙ z)
@@ -147,22 +147,23 @@ closes_none k s codes from ef z = record { step = λ f e. absurd (never f e) }
     never : (f : Summary) → entry (row_of s codes) k.source ≡ Some f → ⊥
     never f e = let n = nothing in cc
 
--- nor where a code stands that is at or below
-pub closes_noted : (k : Link) (s : List Summary) (codes : List ℕ) (from code to next : ℕ) (a : Action) → from ≡ k.source → to ≡ k.target → a ≡ k.acts → code ≡ slice_index_or codes from 0 → LeadsTo s a code next → ((h : Summary) → decoded s next ≡ Some h → IsCodeBelow s (slice_index_or codes to 0) h) → Closes k (row_of s codes)
-closes_noted k s codes from code to next a ef et ea ec l below = record { step = λ f e. go f (sym (sym (entry_row s codes k.source) ∙ e) ∙ ap (decoded s) (ap (λ (x : ℕ). slice_index_or codes x 0) (sym ef) ∙ sym ec) ∙ l.known) }
+-- or where a code stands that is at or below
+pub stepped_not : (k : Link) (old new : List Summary) (codes : List ℕ) (from code to next : ℕ) (a : Action) → Grows old new → AreCodes old codes → from ≡ k.source → to ≡ k.target → a ≡ k.acts → code ≡ slice_index_or codes from 0 → LeadsTo new a code next
+    → ((h : Summary) → decoded new next ≡ Some h → IsCodeBelow new (slice_index_or codes to 0) h) → Stepped k (row_of old codes) (row_of new codes)
+stepped_not k old new codes from code to next a g w ef et ea ec l below =
+    subst (λ (row : List (Option Summary)). Stepped k row (row_of new codes)) (row_grown old new codes g w)
+    (Stepped.same refl (λ f e. go f (sym (sym (entry_row new codes k.source) ∙ e) ∙ ap (decoded new) (ap (λ (x : ℕ). slice_index_or codes x 0) (sym ef) ∙ sym ec) ∙ l.known)))
   where
-    go : (f : Summary) → Some f ≡ Some l.before → MayTake k.acts f × HasBelow (row_of s codes) k.target (then_action k.acts f)
+    go : (f : Summary) → Some f ≡ Some l.before → HasBelow (row_of new codes) k.target (then_action k.acts f)
     go f e =
         let q : l.before ≡ f = sym (some_same f l.before e) in
         let follows : Follows k.acts f l.after = subst (λ (x : Action). Follows x f l.after) ea (subst (λ (z : Summary). Follows a z l.after) q l.follows) in
-        let b = below l.after l.there in (
-          follows.may,
-          record {
-            least = b.least;
-            known = entry_row s codes k.target ∙ ap (λ (x : ℕ). decoded s (slice_index_or codes x 0)) (sym et) ∙ b.known;
-            below = ap (is_below b.least) (sym follows.is) ∙ b.below;
-          },
-        )
+        let b = below l.after l.there in
+        record {
+          least = b.least;
+          known = entry_row new codes k.target ∙ ap (λ (x : ℕ). decoded new (slice_index_or codes x 0)) (sym et) ∙ b.known;
+          below = ap (is_below b.least) (sym follows.is) ∙ b.below;
+        }
 
 -- an entry that is at or below, by its code
 pub has_below : (s : List Summary) (codes : List ℕ) (x code : ℕ) (least f : Summary) → code ≡ slice_index_or codes x 0 → decoded s code ≡ Some least → is_below least f ≡ true → HasBelow (row_of s codes) x f
@@ -170,8 +171,32 @@ has_below s codes x code least f e k b = record { least = least; known = entry_r
 
 -- ---- the opening row
 
-pub row_opened : (w : Links) (v : ℕ) (s : List Summary) (n c : ℕ) → decoded s c ≡ Some (identity (slice_index_or w.depths v 0)) → IsRow w v (row_of s (slice_set (replicate n 0) v c))
-row_opened w v s n c e = subst (IsRow w v) (sym (row_set s (replicate n 0) v c)) (row_home w v (row_of s (replicate n 0)) (decoded s c) (none_there s n) e)
-
 pub codes_opened : (s : List Summary) (n v c : ℕ) → c ≤ length s → AreCodes s (slice_set (replicate n 0) v c)
 codes_opened s n v c h = codes_put s (replicate n 0) v c (codes_none s n) h
+
+length-row : (s : List Summary) (codes : List ℕ) → length (row_of s codes) ≡ length codes
+length-row s [] = refl
+length-row s (c ∷ codes) = ap suc (length-row s codes)
+
+pub got_opened : (w : Links) → ∥ HaveLoops w ∥₁ → (v : ℕ) → v < length w.depths → (s : List Summary) (n c : ℕ) → n ≡ length w.depths → decoded s c ≡ Some (identity (slice_index_or w.depths v 0)) → HasGot w v 0 0 (row_of s (slice_set (replicate n 0) v c))
+got_opened w some v known s n c l e = subst (HasGot w v 0 0) (sym (row_set s (replicate n 0) v c)) (got_none w some v known row long (λ x f h. of_walks x f (entry_set (row_of s (replicate n 0)) v (decoded s c) x f h)) self)
+  where
+    row : List (Option Summary)
+    row = slice_set (row_of s (replicate n 0)) v (decoded s c)
+
+    few : length (row_of s (replicate n 0)) ≡ length w.depths
+    few = length-row s (replicate n 0) ∙ length-replicate n 0 ∙ l
+
+    long : length (slice_set (row_of s (replicate n 0)) v (decoded s c)) ≡ length w.depths
+    long = length-put (row_of s (replicate n 0)) v (decoded s c) ∙ few
+
+    of_walks : (x : ℕ) (f : Summary) → (entry (row_of s (replicate n 0)) x ≡ Some f) ⊎ ((x ≡ v) × (decoded s c ≡ Some f)) → IsOfWalk w v 0 x f
+    of_walks x f (inl a) = absurd (let b = none_there s n x in cc)
+    of_walks x f (inr a) = record { steps = 0; few = omega arith; walk = (a.0, some_same f (identity (slice_index_or w.depths v 0)) (sym a.1 ∙ e), refl) }
+
+    self : HasBelow (slice_set (row_of s (replicate n 0)) v (decoded s c)) v (identity (slice_index_or w.depths v 0))
+    self = record {
+      least = identity (slice_index_or w.depths v 0);
+      known = entry_at (row_of s (replicate n 0)) v (decoded s c) (omega (arith, few)) ∙ e;
+      below = below_self (identity (slice_index_or w.depths v 0));
+    }

@@ -1,5 +1,5 @@
 -- Rows of a table: what a step of their making keeps, and what the last tests show.
-use Rattle.std.proofs.Common.{◌≡◌, ◌⊎◌, inl, inr, ℕ, zero, suc, ◌+◌, ◌≤◌, ◌<◌, true, List, [], ◌∷◌, ◌++◌, length, Option, Some, None, slice_get, slice_set, slice_index_or, refl, sym, ap, subst, ◌∙◌, arith}
+use Rattle.std.proofs.Common.{◌≡◌, ◌⊎◌, inl, inr, ℕ, zero, suc, ◌+◌, ◌<◌, true, List, [], ◌∷◌, ◌++◌, length, Option, Some, slice_get, slice_set, slice_index_or, refl, sym, ap, subst, ◌∙◌, arith}
 use Rattle.semantics.specs.Time.{Time, after_action}
 use Rattle.semantics.specs.Kinds.{action}
 use Rattle.semantics.specs.Graph.{Graph, vertex, edge_count, target, edge_source}
@@ -9,13 +9,15 @@ use Rattle.semantics.proofs.PathSummaries.{MayTake}
 use Rattle.path_summary.specs.Carried.{carried, identity, Sits}
 use Rattle.path_summary.specs.Linking.{Link, Links, link_in, Draws}
 use Rattle.path_summary.specs.Tables.{IsOfPath, Reaches}
-use Rattle.path_summary.specs.Rows.{is_below, entry, IsRow, HasBelow, Stepped, Closes, IsClosed}
+use Rattle.path_summary.specs.Rows.{is_below, entry, HasBelow, IsClosed}
+use Rattle.path_summary.specs.Walks.{HaveLoops, Walk, every}
+use Rattle.path_summary.proofs.Passes.{may_by}
 use Rattle.path_summary.proofs.InOrder.{after_is}
 use Rattle.path_summary.proofs.Carrying.{carried-identity, carried_then, sits_then, below_from}
 
 -- ---- entries
 
-entry_set : (row : List (Option Summary)) (i : ℕ) (o : Option Summary) (x : ℕ) (f : Summary) → entry (slice_set row i o) x ≡ Some f → (entry row x ≡ Some f) ⊎ ((x ≡ i) × (o ≡ Some f))
+pub entry_set : (row : List (Option Summary)) (i : ℕ) (o : Option Summary) (x : ℕ) (f : Summary) → entry (slice_set row i o) x ≡ Some f → (entry row x ≡ Some f) ⊎ ((x ≡ i) × (o ≡ Some f))
 entry_set [] i o x f h = inl h
 entry_set (r ∷ row) zero o zero f h = inr (refl, h)
 entry_set (r ∷ row) zero o (suc x) f h = inl h
@@ -26,7 +28,7 @@ entry_set (r ∷ row) (suc i) o (suc x) f h = go (entry_set row i o x f h)
     go (inl a) = inl a
     go (inr a) = inr (ap suc a.0, a.1)
 
-some_same : (f h : Summary) → Some f ≡ Some h → f ≡ h
+pub some_same : (f h : Summary) → Some f ≡ Some h → f ≡ h
 some_same f h e = cc
 
 -- ---- rows
@@ -38,19 +40,6 @@ identity_path g v = record {
   does = λ t l. ap (λ (cs : List ℕ). record { epoch = t.epoch; counters = cs }) (sym (carried-identity (vertex g v).depth t.counters l));
   sits = record { short = omega arith; still = λ e. refl };
 }
-
--- the row of a vertex in which nothing else stands
-pub row_home : (w : Links) (v : ℕ) (row : List (Option Summary)) (o : Option Summary) → ((x : ℕ) → entry row x ≡ None) → o ≡ Some (identity (slice_index_or w.depths v 0)) → IsRow w v (slice_set row v o)
-row_home w v row o none e = record { sound = λ g draws l x f h. go g draws l x f (entry_set row v o x f h) }
-  where
-    never : (x : ℕ) (f : Summary) → entry row x ≡ Some f → ⊥
-    never x f h = let n = none x in cc
-
-    go : (g : Graph) → Draws w g → v < length g → (x : ℕ) (f : Summary) → (entry row x ≡ Some f) ⊎ ((x ≡ v) × (o ≡ Some f)) → IsOfPath g v x f
-    go g draws l x f (inl a) = absurd (never x f a)
-    go g draws l x f (inr a) =
-        subst (λ (y : ℕ). IsOfPath g v y f) (sym a.0)
-        (subst (λ (z : Summary). IsOfPath g v v z) (ap identity (sym (draws.depth v l)) ∙ some_same (identity (slice_index_or w.depths v 0)) f (sym e ∙ a.1)) (identity_path g v))
 
 -- ---- one edge further
 
@@ -92,27 +81,25 @@ module _ (g : Graph) where
         sits = sits_then a f (vertex g v).depth o.sits m;
       }
 
-row_step : (w : Links) (v e : ℕ) (k : Link) (f : Summary) (row : List (Option Summary)) → IsRow w v row → slice_get w.edges e ≡ Some k → entry row k.source ≡ Some f → MayTake k.acts f → IsRow w v (slice_set row k.target (Some (then_action k.acts f)))
-row_step w v e k f row r h q may = record { sound = λ g draws l x f' m. go g draws l x f' (entry_set row k.target (Some (then_action k.acts f)) x f' m) }
-  where
-    go : (g : Graph) → Draws w g → v < length g → (x : ℕ) (f' : Summary) → (entry row x ≡ Some f') ⊎ ((x ≡ k.target) × (Some (then_action k.acts f) ≡ Some f')) → IsOfPath g v x f'
-    go g draws l x f' (inl a) = r.sound g draws l x f' a
-    go g draws l x f' (inr a) =
-        let n : e < edge_count g = omega (arith, got_below w.edges e k h, draws.edges) in
-        let i = draws.edge e k h n in
-        let o : IsOfPath g v (edge_source g e).vertex f = subst (λ (y : ℕ). IsOfPath g v y f) (ap (λ (z : Link). z.source) i) (r.sound g draws l k.source f q) in
-        let p = path_one_more g v e f n (subst (λ (z : Link). MayTake z.acts f) i may) o in
-        subst (λ (y : ℕ). IsOfPath g v y f') (sym (a.0 ∙ ap (λ (z : Link). z.target) i))
-        (subst (λ (z : Summary). IsOfPath g v (target g e) z) (ap (λ (z : Link). then_action z.acts f) (sym i) ∙ some_same (then_action k.acts f) f' a.1) p)
+-- a walk is a path, in each graph that has these edges
+pub walk_path : (w : Links) → ∥ HaveLoops w ∥₁ → (v : ℕ) → v < length w.depths → (g : Graph) → Draws w g → v < length g → (n x : ℕ) (f : Summary) → Walk w v every n x f → IsOfPath g v x f
+walk_path w some v known g draws l zero x f h =
+    subst (λ (y : ℕ). IsOfPath g v y f) (sym h.0)
+    (subst (λ (z : Summary). IsOfPath g v v z) (ap identity (sym (draws.depth v l)) ∙ sym h.1) (identity_path g v))
+walk_path w some v known g draws l (suc n) x f h =
+    let e = h.0 in
+    let k = h.1 in
+    let m : e < edge_count g = omega (arith, got_below w.edges e k h.3, draws.edges) in
+    let i = draws.edge e k h.3 m in
+    let may = may_by w some v known n e k h.2 h.3 (record { steps = n; few = omega arith; walk = h.4 }) in
+    let o : IsOfPath g v (edge_source g e).vertex h.2 = subst (λ (y : ℕ). IsOfPath g v y h.2) (ap (λ (z : Link). z.source) i) (walk_path w some v known g draws l n k.source h.2 h.4) in
+    let p = path_one_more g v e h.2 m (subst (λ (z : Link). MayTake z.acts h.2) i may) o in
+    subst (λ (y : ℕ). IsOfPath g v y f) (sym (h.5 ∙ ap (λ (z : Link). z.target) i))
+    (subst (λ (z : Summary). IsOfPath g v (target g e) z) (ap (λ (z : Link). then_action z.acts h.2) (sym i) ∙ sym h.6) p)
 
-pub row_stepped : (w : Links) (v e : ℕ) (k : Link) (row new : List (Option Summary)) → IsRow w v row → slice_get w.edges e ≡ Some k → Stepped k row new → IsRow w v new
-row_stepped w v e k row new r h (Stepped.same q) = subst (IsRow w v) (sym q) r
-row_stepped w v e k row new r h (Stepped.set f f' q s m) =
-    subst (IsRow w v) (sym m) (subst (λ (z : Summary). IsRow w v (slice_set row k.target (Some z))) (sym s.is) (row_step w v e k f row r h q s.may))
+-- ---- what a whole row shows
 
--- ---- what the tests of a whole row show
-
-pub row_closed : (w : Links) (v : ℕ) (row : List (Option Summary)) (g : Graph) → Draws w g → v < length g → IsRow w v row → IsClosed w row → (e : ℕ) (f : Summary) → e < edge_count g → entry row (edge_source g e).vertex ≡ Some f → Reaches (vertex g v).depth (entry row (target g e)) (then_action (action (vertex g (edge_source g e).vertex).kind) f)
+pub row_closed : (w : Links) (v : ℕ) (row : List (Option Summary)) (g : Graph) → Draws w g → v < length g → ((x : ℕ) (f : Summary) → entry row x ≡ Some f → IsOfPath g v x f) → IsClosed w row → (e : ℕ) (f : Summary) → e < edge_count g → entry row (edge_source g e).vertex ≡ Some f → Reaches (vertex g v).depth (entry row (target g e)) (then_action (action (vertex g (edge_source g e).vertex).kind) f)
 row_closed w v row g draws l r c e f n q =
     let s = (c.steps e (link_in g e) (link_at w g draws e n)).step f q in
     let b = s.1 in
@@ -120,17 +107,17 @@ row_closed w v row g draws l r c e f n q =
       least = b.least;
       known = b.known;
       below = below_from (vertex g v).depth b.least (then_action (action (vertex g (edge_source g e).vertex).kind) f)
-          (r.sound g draws l (target g e) b.least b.known).sits
-          (sits_then (action (vertex g (edge_source g e).vertex).kind) f (vertex g v).depth (r.sound g draws l (edge_source g e).vertex f q).sits s.0)
+          (r (target g e) b.least b.known).sits
+          (sits_then (action (vertex g (edge_source g e).vertex).kind) f (vertex g v).depth (r (edge_source g e).vertex f q).sits s.0)
           b.below;
     }
 
-pub row_reached : (w : Links) (v : ℕ) (row : List (Option Summary)) (g : Graph) → Draws w g → v < length g → IsRow w v row → HasBelow row v (identity (slice_index_or w.depths v 0)) → Reaches (vertex g v).depth (entry row v) (identity (vertex g v).depth)
+pub row_reached : (w : Links) (v : ℕ) (row : List (Option Summary)) (g : Graph) → Draws w g → v < length g → ((x : ℕ) (f : Summary) → entry row x ≡ Some f → IsOfPath g v x f) → HasBelow row v (identity (slice_index_or w.depths v 0)) → Reaches (vertex g v).depth (entry row v) (identity (vertex g v).depth)
 row_reached w v row g draws l r b =
     record {
       least = b.least;
       known = b.known;
-      below = below_from (vertex g v).depth b.least (identity (vertex g v).depth) (r.sound g draws l v b.least b.known).sits (identity_path g v).sits
+      below = below_from (vertex g v).depth b.least (identity (vertex g v).depth) (r v b.least b.known).sits (identity_path g v).sits
           (subst (λ n. is_below b.least (identity n) ≡ true) (draws.depth v l) b.below);
     }
 
@@ -140,22 +127,6 @@ pub got_at : {X : Type 0} (xs : List X) (i : ℕ) (x : X) → i < length xs → 
 got_at [] i x h e = absurd (omega arith)
 got_at (y ∷ xs) zero x h e = ap (λ z. Some z) (sym e)
 got_at (y ∷ xs) (suc i) x h e = got_at xs i x (omega arith) e
-
-pub closes_more : (w : Links) (row : List (Option Summary)) (i : ℕ) (k : Link) → ((e : ℕ) → e < i → (j : Link) → slice_get w.edges e ≡ Some j → Closes j row) → slice_get w.edges i ≡ Some k → Closes k row → (e : ℕ) → e < i + 1 → (j : Link) → slice_get w.edges e ≡ Some j → Closes j row
-closes_more w row i k before h here e l j q = go (last_or e i l)
-  where
-    last_or : (e i : ℕ) → e < i + 1 → (e < i) ⊎ (e ≡ i)
-    last_or e i l = grind arith
-
-    same : (a b : Link) → Some a ≡ Some b → a ≡ b
-    same a b e = cc
-
-    go : (e < i) ⊎ (e ≡ i) → Closes j row
-    go (inl a) = before e a j q
-    go (inr a) = subst (λ (z : Link). Closes z row) (same k j (sym h ∙ ap (slice_get w.edges) (sym a) ∙ q)) here
-
-pub all_closed : (w : Links) (row : List (Option Summary)) (i : ℕ) → length w.edges ≤ i → ((e : ℕ) → e < i → (j : Link) → slice_get w.edges e ≡ Some j → Closes j row) → IsClosed w row
-all_closed w row i l all = record { steps = λ e k h. all e (let n = got_below w.edges e k h in omega arith) k h }
 
 -- ---- depths and edges of a graph, one by one
 

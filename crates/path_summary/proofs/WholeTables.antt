@@ -13,15 +13,16 @@ use Rattle.lowering.specs.GraphLaws.{IsProgramGraph}
 use Rattle.semantics.specs.Time.{Time, Action}
 use Rattle.semantics.specs.Graph.{Graph, edge_count, edge_source, in_port, target}
 use Rattle.semantics.specs.Could.{Location, Pointstamp, IsTimeAt, CouldResultIn}
-use Rattle.semantics.specs.Dataflow.{IsDataflow}
+use Rattle.semantics.specs.Dataflow.{IsDataflow, Goes}
 use Rattle.semantics.specs.Summary.{Summary}
 use Rattle.path_summary.specs.Linking.{Link, Links, Draws, no_link, link_in, link_of, home_in}
-use Rattle.path_summary.specs.Tables.{IsTable, home_of, Covers, Stays, Decided}
-use Rattle.path_summary.specs.Rows.{entry, IsGoodRow}
+use Rattle.path_summary.specs.Tables.{IsTable, IsOfPath, home_of, Covers, Stays, Decided}
+use Rattle.path_summary.specs.Rows.{entry}
 use Rattle.path_summary.specs.Codes.{row_of, Grows}
+use Rattle.path_summary.specs.Walks.{HaveLoops, IsGoodRow}
 use Rattle.path_summary.specs.Made.{entry_at, IsPacked, ArePacked, IsMade, DecidedIn}
 use Rattle.path_summary.proofs.DecidedCould.{decided_could, could_decided}
-use Rattle.path_summary.proofs.RowsMade.{got_below, link_at, row_closed, row_reached}
+use Rattle.path_summary.proofs.RowsMade.{got_below, link_at, row_closed, row_reached, walk_path}
 use Rattle.path_summary.proofs.CodesGrow.{row_grown, codes_grown, entry_row}
 
 row_push : (rows : List (List ℕ)) (row : List ℕ) (v : ℕ) → v < length rows → slice_index_or (rows ++ (row ∷ [])) v [] ≡ slice_index_or rows v []
@@ -49,20 +50,47 @@ packed_push w old new rows row n e g all p v l = go (last_or v (length rows) (om
         subst (λ (k : ℕ). IsPacked w new (slice_index_or (rows ++ (row ∷ [])) k []) k) (sym a)
         (subst (λ (cs : List ℕ). IsPacked w new cs (length rows)) (sym (row_last rows row)) (subst (λ (k : ℕ). IsPacked w new row k) (sym e) p))
 
+-- its edges keep to its loops
+pub links_nested : (g : Graph) (w : Links) → Draws w g → IsDataflow g → HaveLoops w
+links_nested g w draws d = record {
+  loops = d.loops;
+  nested = record {
+    homes = λ v l. let k : v < length g = omega (arith, draws.vertices) in d.nested.homes v k ∙ sym (draws.depth v k);
+    shallow = λ v l. let k : v < length g = omega (arith, draws.vertices) in omega (arith, draws.depth v k, d.wired.shallow v k);
+    goes = λ e k h.
+        let n = known e k h in
+        let i = entered g e n in
+        subst (λ (z : Link). Goes d.loops z.source z.target z.acts) (sym (draws.edge e k h n)) (d.nested.goes (target g e) (in_port g e) i.known i.port);
+    into = λ e k h.
+        let n = known e k h in
+        let i = entered g e n in
+        let is : k.target ≡ target g e = ap (λ (z : Link). z.target) (draws.edge e k h n) in
+        omega (arith, i.known, draws.vertices);
+  };
+}
+  where
+    known : (e : ℕ) (k : Link) → slice_get w.edges e ≡ Some k → e < edge_count g
+    known e k h = omega (arith, got_below w.edges e k h, draws.edges)
+
 made_table : (g : Graph) (w : Links) (summaries : List Summary) (rows : List (List ℕ)) → IsMade g w summaries rows → IsTable g (entry_at summaries rows)
 made_table g w summaries rows made =
     record {
-      sound = λ v x f l h. (packed v l).good.is_row.sound g made.draws l x f (sym (same v l x) ∙ h);
+      sound = λ v x f l h. path v l x f (sym (same v l x) ∙ h);
       self = λ v l.
-          let r = row_reached w v (row_of summaries (slice_index_or rows v [])) g made.draws l (packed v l).good.is_row (packed v l).good.self in
+          let r = row_reached w v (row_of summaries (slice_index_or rows v [])) g made.draws l (path v l) (packed v l).good.self in
           record { least = r.least; known = same v l v ∙ r.known; below = r.below };
       closed = λ v e f l n h.
-          let r = row_closed w v (row_of summaries (slice_index_or rows v [])) g made.draws l (packed v l).good.is_row (packed v l).good.closed e f n (sym (same v l _) ∙ h) in
+          let r = row_closed w v (row_of summaries (slice_index_or rows v [])) g made.draws l (path v l) (packed v l).good.closed e f n (sym (same v l _) ∙ h) in
           record { least = r.least; known = same v l _ ∙ r.known; below = r.below };
     }
   where
     packed : (v : ℕ) → v < length g → IsPacked w summaries (slice_index_or rows v []) v
     packed v l = made.packed v (omega (arith, made.long, made.draws.vertices))
+
+    path : (v : ℕ) (l : v < length g) (x : ℕ) (f : Summary) → entry (row_of summaries (slice_index_or rows v [])) x ≡ Some f → IsOfPath g v x f
+    path v l x f q =
+        let o = (packed v l).good.of_walks x f q in
+        walk_path w (∥∥₁_map made.dataflow (links_nested g w made.draws)) v (omega (arith, made.draws.vertices)) g made.draws l o.steps x f o.walk
 
     same : (v : ℕ) (l : v < length g) (x : ℕ) → entry_at summaries rows v x ≡ entry (row_of summaries (slice_index_or rows v [])) x
     same v l x = sym (entry_row summaries (slice_index_or rows v []) x)

@@ -3,7 +3,9 @@ pub mod Carried
 pub mod Linking
 pub mod Tables
 pub mod Rows
+pub mod Walks
 pub mod Codes
 pub mod Noted
 pub mod Made
 pub mod Views
+pub mod KeptCodes

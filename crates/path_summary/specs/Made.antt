@@ -7,7 +7,7 @@ use Rattle.semantics.specs.Dataflow.{IsDataflow}
 use Rattle.semantics.specs.Summary.{Summary}
 use Rattle.path_summary.specs.Linking.{Links, Draws, home_in, link_of}
 use Rattle.path_summary.specs.Tables.{Covers, Stays}
-use Rattle.path_summary.specs.Rows.{IsGoodRow}
+use Rattle.path_summary.specs.Walks.{IsGoodRow}
 use Rattle.path_summary.specs.Codes.{decoded, row_of, AreCodes}
 
 -- the code from v to x, 0 where there is none

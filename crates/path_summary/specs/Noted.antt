@@ -1,15 +1,9 @@
 -- What each of the different summaries is after an action, by codes, where that is noted.
-use Rattle.std.specs.Prelude.{◌≡◌, ◌⊎◌, ℕ, suc, ◌<◌, ◌≤◌, true, List, length, Some, slice_index_or}
+use Rattle.std.specs.Prelude.{◌≡◌, ◌⊎◌, ℕ, suc, ◌≤◌, true, List, length, Some, slice_index_or}
 use Rattle.semantics.specs.Time.{Action}
 use Rattle.semantics.specs.Summary.{Summary}
 use Rattle.path_summary.specs.Codes.{decoded}
 use Rattle.path_summary.specs.Rows.{Follows, is_below}
-
--- what a code stands for, followed by the action, is f
-pub record ComesAfter (summaries : List Summary) (a : Action) (code : ℕ) (f : Summary) : Type 0 where
-  pub before : Summary
-  pub known : decoded summaries code ≡ Some before
-  pub follows : Follows a before f
 
 -- what a code stands for, followed by the action, is what the next stands for
 pub record LeadsTo (summaries : List Summary) (a : Action) (code next : ℕ) : Type 0 where
@@ -26,7 +20,6 @@ pub record IsNoted (summaries : List Summary) (a : Action) (notes : List ℕ) : 
 
 -- the notes on the three actions that do something
 pub record AreNoted (summaries : List Summary) (entered left turned : List ℕ) : Type 0 where
-  pub few : length summaries < 65536
   pub enter : IsNoted summaries Action.enter entered
   pub leave : IsNoted summaries Action.leave left
   pub next : IsNoted summaries Action.next turned

@@ -1,13 +1,10 @@
 -- A row of the table while it is made: the entries from one vertex to each.
-use Rattle.std.specs.Prelude.{◌≡◌, ℕ, ◌<◌, nat_lt, nat_eq, Bool, true, cond, ◌&&◌, ◌||◌, List, length, Option, Some, None, slice_get, slice_set, slice_index_or}
-use Rattle.semantics.specs.Graph.{Graph}
+use Rattle.std.specs.Prelude.{◌≡◌, ℕ, ◌+◌, ◌^◌, ◌<◌, nat_lt, nat_eq, Bool, true, false, cond, ◌&&◌, ◌||◌, List, length, Option, Some, None, slice_get, slice_set, slice_index_or}
 use Rattle.semantics.specs.Summary.{Summary, then_action}
-use Rattle.semantics.specs.Time.{Action}
+use Rattle.semantics.specs.Time.{Action, last}
 use Rattle.semantics.proofs.PathSummaries.{MayTake}
 use Rattle.path_summary.specs.Order.{in_order}
-use Rattle.path_summary.specs.Carried.{identity}
-use Rattle.path_summary.specs.Linking.{Link, Links, Draws}
-use Rattle.path_summary.specs.Tables.{IsOfPath}
+use Rattle.path_summary.specs.Linking.{Link, Links}
 
 -- f carries counters to ones at or before those of h, told from the two alone: they keep the same and h adds more, or adds the same
 -- and has no lesser tail; or h keeps fewer and raises the last of these
@@ -18,10 +15,6 @@ is_below f h =
 -- what stands there
 abbrev pub entry : List (Option Summary) → ℕ → Option Summary
 entry row x = slice_index_or row x None
-
--- each entry is of a path from v, in each graph that has these edges
-pub record IsRow (w : Links) (v : ℕ) (row : List (Option Summary)) : Type 0 where
-  pub sound : (g : Graph) → Draws w g → v < length g → (x : ℕ) (f : Summary) → entry row x ≡ Some f → IsOfPath g v x f
 
 -- an entry stands there, at or below f
 pub record HasBelow (row : List (Option Summary)) (x : ℕ) (f : Summary) : Type 0 where
@@ -34,10 +27,19 @@ pub record Follows (a : Action) (f h : Summary) : Type 0 where
   pub is : h ≡ then_action a f
   pub may : MayTake a f
 
--- the row before an edge is tried, and after it
+-- In 32 bit numbers and 8 places a summary may be followed by the action: the counter that it needs is there, and there is room
+-- for what is added.
+abbrev pub HasRoom : Action → Summary → Type 0
+HasRoom Action.stay f = Unit {0}
+HasRoom Action.enter f = length f.tail < 8
+HasRoom Action.leave f = 0 < f.keep + length f.tail
+HasRoom Action.next f = (0 < f.keep + length f.tail) × (f.add + 1 < 2 ^ 32) × (last f.tail + 1 < 2 ^ 32)
+
+-- the row before an edge is tried, and after it: nothing was to do, or what stood there was not at or below
 pub data Stepped (k : Link) (old new : List (Option Summary)) : Type 0 where
-  same : new ≡ old → Stepped k old new
-  set : (f h : Summary) → entry old k.source ≡ Some f → Follows k.acts f h → new ≡ slice_set old k.target (Some h) → Stepped k old new
+  same : new ≡ old → ((f : Summary) → entry old k.source ≡ Some f → HasBelow old k.target (then_action k.acts f)) → Stepped k old new
+  set : (f h : Summary) → entry old k.source ≡ Some f → Follows k.acts f h → ((g : Summary) → entry old k.target ≡ Some g → is_below g h ≡ false)
+      → new ≡ slice_set old k.target (Some h) → Stepped k old new
 
 -- the edge leads below no entry
 pub record Closes (k : Link) (row : List (Option Summary)) : Type 0 where
@@ -46,9 +48,3 @@ pub record Closes (k : Link) (row : List (Option Summary)) : Type 0 where
 -- no edge does
 pub record IsClosed (w : Links) (row : List (Option Summary)) : Type 0 where
   pub steps : (e : ℕ) (k : Link) → slice_get w.edges e ≡ Some k → Closes k row
-
--- the row is a whole row of the table
-pub record IsGoodRow (w : Links) (v : ℕ) (row : List (Option Summary)) : Type 0 where
-  pub is_row : IsRow w v row
-  pub closed : IsClosed w row
-  pub self : HasBelow row v (identity (slice_index_or w.depths v 0))

@@ -8,6 +8,7 @@
 #![tactic(auto)]
 
 mod action;
+mod kept;
 mod links;
 mod paths;
 mod pointstamp;

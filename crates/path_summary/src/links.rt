@@ -5,6 +5,7 @@ ghost use Rattle.lowering.specs.Shown.{shown_graph};
 ghost use Rattle.lowering.specs.Locations.{location_of};
 ghost use Rattle.semantics.specs.Graph.{edge_count, edge_source, vertex};
 ghost use Rattle.path_summary.specs.Linking as plain;
+ghost use Rattle.path_summary.specs.Walks.{HaveLoops};
 ghost use Rattle.path_summary.specs.Views.{action_of};
 
 use crate::action::{Action, action_at};
@@ -70,6 +71,8 @@ impl Links {
     pub fn of(alloc: Global, graph: &Graph) -> Result<Links, NoMemory>
         ensures draws { IfOk result (λ w. plain.Draws w (shown_graph graph.now)) }
         ensures few { IfOk result (λ w. length w.depths ≤ 4096) }
+        ensures edges { IfOk result (λ w. length w.edges ≤ 8192) }
+        ensures loops { IfOk result (λ w. ∥ HaveLoops w ∥₁) }
     {
         semantics::graphs::law_program();
         graph.law_of_program();

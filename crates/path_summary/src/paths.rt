@@ -10,8 +10,10 @@ ghost use Rattle.path_summary.specs.Linking.{Draws, IsKnown};
 ghost use Rattle.path_summary.specs.Made.{ArePacked, DecidedIn, IsPacked, code_at, entry_at};
 ghost use Rattle.path_summary.specs.Tables.{Covers, Stays};
 ghost use Rattle.path_summary.specs.Views.{action_of};
+ghost use Rattle.path_summary.specs.Walks.{HaveLoops};
 
 use crate::action::Action;
+use crate::kept::Kept;
 use crate::links::Links;
 use crate::pointstamp::{Pointstamp, same_location};
 use crate::row::Row;
@@ -30,7 +32,7 @@ pub struct Paths {
     graph: Arc<Graph, Global>,
     links: Links,
     summaries: Summaries,
-    rows: Vec<Row>,
+    rows: Vec<Kept>,
 }
 
 impl Model for Paths {
@@ -52,7 +54,7 @@ impl Model for Paths {
 }
 
 impl Paths {
-    /// The paths of a graph. 2 bytes are kept for each two vertices. `NoMemory` also where `Row::of` finds no whole row.
+    /// The paths of a graph. 2 bytes are kept for each two vertices, more where there are over 65,535 different summaries.
     pub fn of(alloc: Global, graph: &Arc<Graph, Global>) -> Result<Paths, NoMemory>
         ensures { IfOk result (λ p. p ≡ graph.now.value) }
     {
@@ -119,15 +121,17 @@ fn is_time_at(graph: &Graph, p: &Pointstamp) -> bool
 }
 
 /// The rows of all vertices.
-fn rows_of(alloc: Global, links: &Links, summaries: &mut Summaries) -> Result<Vec<Row>, NoMemory>
-    requires { length links.now.depths ≤ 4096 }
+fn rows_of(alloc: Global, links: &Links, summaries: &mut Summaries) -> Result<Vec<Kept>, NoMemory>
+    requires few { length links.now.depths ≤ 4096 }
+    requires edges { length links.now.edges ≤ 8192 }
+    requires loops { ∥ HaveLoops links.now ∥₁ }
     ensures packed { IfOk result (λ rows. ArePacked links.now summaries.new rows.items) }
     ensures long { IfOk result (λ rows. length rows.items ≡ length links.now.depths) }
 {
     let mut rows = Vec::with_capacity(alloc, links.vertex_count())?;
     for vertex in 0..links.vertex_count() {
         let row = Row::of(alloc, links, summaries, vertex as u32)?;
-        rows.push(row)?;
+        rows.push(Kept::of(alloc, row, summaries)?)?;
     }
     Ok(rows)
 }
@@ -136,7 +140,7 @@ fn rows_of(alloc: Global, links: &Links, summaries: &mut Summaries) -> Result<Ve
 fn could_in(
     links: &Links,
     summaries: &Summaries,
-    rows: &[Row],
+    rows: &[Kept],
     p: &Pointstamp,
     q: &Pointstamp,
 ) -> bool
@@ -157,7 +161,7 @@ fn could_in(
 /// Whether the entry from one vertex to another, and then the action, take `p` to a time at or before `q`'s.
 fn comes(
     summaries: &Summaries,
-    rows: &[Row],
+    rows: &[Kept],
     from: u32,
     to: u32,
     action: Action,
@@ -173,7 +177,7 @@ fn comes(
 }
 
 /// The entry from one vertex to another.
-fn entry<'a>(summaries: &'a Summaries, rows: &[Row], from: u32, to: u32) -> Option<&'a Summary>
+fn entry<'a>(summaries: &'a Summaries, rows: &[Kept], from: u32, to: u32) -> Option<&'a Summary>
     ensures none { IfNone result (entry_at summaries.now rows.now from to ≡ None) }
     ensures some { IfSome result (λ f. entry_at summaries.now rows.now from to ≡ Some f.now) }
 {

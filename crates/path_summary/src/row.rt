@@ -1,10 +1,12 @@
-//! One row of the table: the summaries from one vertex to each, by code.
+//! One row of the table while it is made: the summaries from one vertex to each, by code.
 
-ghost use Rattle.std.specs.Prelude.{◌≡◌, ◌<◌, ℕ, true, length, IfOk, slice_set, slice_index_or};
+ghost use Rattle.std.specs.Prelude.{◌≡◌, ◌<◌, ◌≤◌, ◌*◌, ℕ, Some, suc, true, false, length, IfOk, slice_set, slice_index_or};
+ghost use Rattle.semantics.specs.Summary.{Summary as Definition};
 ghost use Rattle.path_summary.specs.Carried.{identity};
 ghost use Rattle.path_summary.specs.Codes.{AreCodes, Grows, row_of};
 ghost use Rattle.path_summary.specs.Made.{IsPacked};
-ghost use Rattle.path_summary.specs.Rows.{Closes, HasBelow, IsClosed, IsRow, Stepped};
+ghost use Rattle.path_summary.specs.Rows.{HasRoom, IsClosed, Stepped, entry};
+ghost use Rattle.path_summary.specs.Walks.{HasGot, HaveLoops, IsGoodRow, IsOpened, IsUnderWay};
 
 use crate::action::Action;
 use crate::links::{Link, Links};
@@ -17,7 +19,7 @@ use std::marker::Model;
 /// For each vertex the code of a summary of a path to it, 0 where none is known.
 #[derive(Drop)]
 pub struct Row {
-    codes: Vec<u16>,
+    codes: Vec<usize>,
 }
 
 impl Model for Row {
@@ -29,25 +31,23 @@ impl Model for Row {
 }
 
 impl Row {
-    /// The whole row of a vertex. `NoMemory` also where no whole row is found within as many passes as there are vertices, or
-    /// a number doesn't fit: neither comes to pass in the graph of a query that was tried.
+    /// The whole row of a vertex.
     pub fn of(
         alloc: Global,
         links: &Links,
         summaries: &mut Summaries,
         vertex: u32,
     ) -> Result<Row, NoMemory>
-        requires { vertex < length links.now.depths }
+        requires vertex { vertex < length links.now.depths }
+        requires few { length links.now.depths ≤ 4096 }
+        requires edges { length links.now.edges ≤ 8192 }
+        requires loops { ∥ HaveLoops links.now ∥₁ }
         ensures grows { Grows summaries.old summaries.new }
         ensures packed { IfOk result (λ r. IsPacked links.now summaries.new r vertex) }
     {
         let mut row = Row::opening(alloc, links, summaries, vertex)?;
         row.fill(links, summaries)?;
-        if row.is_closed(links, summaries) && row.is_home(links, summaries, vertex) {
-            Ok(row)
-        } else {
-            Err(NoMemory)
-        }
+        Ok(row)
     }
 
     /// From a vertex to itself, and nowhere else.
@@ -57,10 +57,11 @@ impl Row {
         summaries: &mut Summaries,
         vertex: u32,
     ) -> Result<Row, NoMemory>
-        requires { vertex < length links.now.depths }
+        requires vertex { vertex < length links.now.depths }
+        requires loops { ∥ HaveLoops links.now ∥₁ }
         ensures grows { Grows summaries.old summaries.new }
         ensures codes { IfOk result (λ r. AreCodes summaries.new r) }
-        ensures row { IfOk result (λ r. IsRow links.now vertex (row_of summaries.new r)) }
+        ensures got { IfOk result (λ r. HasGot links.now vertex 0 0 (row_of summaries.new r)) }
     {
         let home = summaries.code_of(Summary::identity(links.depth(vertex)))?;
         let codes = vec![in alloc; 0; links.vertex_count()]?;
@@ -69,8 +70,22 @@ impl Row {
         Ok(row)
     }
 
+    /// The codes by vertex.
+    pub fn codes(&self) -> &[usize]
+        ensures { result.now ≡ self.now }
+    {
+        &self.codes
+    }
+
+    /// The codes themselves.
+    pub fn into_codes(self) -> Vec<usize>
+        ensures { result.items ≡ self }
+    {
+        self.codes
+    }
+
     /// The code that stands there, 0 beyond the last vertex.
-    pub fn code(&self, x: u32) -> u16
+    fn code(&self, x: u32) -> usize
         ensures { result ≡ slice_index_or self.now x 0 }
     {
         match self.codes.get(x as usize) {
@@ -79,7 +94,7 @@ impl Row {
         }
     }
 
-    fn put(&mut self, x: u32, code: u16)
+    fn put(&mut self, x: u32, code: usize)
         ensures { self.new ≡ slice_set self.old x code }
     {
         if (x as usize) < self.codes.len() {
@@ -89,10 +104,12 @@ impl Row {
 
     /// Goes on by one edge; whether that changed something.
     fn step(&mut self, summaries: &mut Summaries, link: &Link) -> Result<bool, NoMemory>
-        requires { AreCodes summaries.old self.old }
+        requires codes { AreCodes summaries.old self.old }
+        requires room { (f : Definition) → entry (row_of summaries.old self.old) link.now.source ≡ Some f → HasRoom link.now.acts f }
         ensures grows { Grows summaries.old summaries.new }
-        ensures codes { AreCodes summaries.new self.new }
-        ensures stepped { Stepped link.now (row_of summaries.old self.old) (row_of summaries.new self.new) }
+        ensures codes { IfOk result (λ b. AreCodes summaries.new self.new) }
+        ensures stepped { IfOk result (λ b. Stepped link.now (row_of summaries.old self.old) (row_of summaries.new self.new)) }
+        ensures still { IfOk result (λ b. b ≡ false → self.new ≡ self.old) }
     {
         let code = self.code(link.source());
         if code == 0 {
@@ -113,10 +130,15 @@ impl Row {
 
     /// Goes on once by each edge; whether that changed something.
     fn pass(&mut self, links: &Links, summaries: &mut Summaries) -> Result<bool, NoMemory>
-        requires { AreCodes summaries.old self.old }
+        requires codes { AreCodes summaries.old self.old }
+        requires edges { length links.now.edges ≤ 8192 }
+        requires loops { ∥ HaveLoops links.now ∥₁ }
+        requires way { IsUnderWay links.now (row_of summaries.old self.old) }
         ensures grows { Grows summaries.old summaries.new }
-        ensures codes { AreCodes summaries.new self.new }
-        ensures row { (v : ℕ) → IsRow links.now v (row_of summaries.old self.old) → IsRow links.now v (row_of summaries.new self.new) }
+        ensures codes { IfOk result (λ b. AreCodes summaries.new self.new) }
+        ensures got { IfOk result (λ b. (v m : ℕ) → v < length links.now.depths → HasGot links.now v (8192 * m) m (row_of summaries.old self.old) →
+            HasGot links.now v (8192 * suc m) (suc m) (row_of summaries.new self.new)) }
+        ensures closed { IfOk result (λ b. b ≡ false → IsClosed links.now (row_of summaries.new self.new)) }
     {
         let mut changed = false;
         for link in links.edges() {
@@ -127,62 +149,23 @@ impl Row {
         Ok(changed)
     }
 
-    /// Goes on by passes until one changes nothing, as often as there are vertices and once more.
+    /// Goes on by passes until one changes nothing, at most as often as there are vertices: then no edge leads below an entry.
     fn fill(&mut self, links: &Links, summaries: &mut Summaries) -> Result<(), NoMemory>
-        requires { AreCodes summaries.old self.old }
+        requires codes { AreCodes summaries.old self.old }
+        requires few { length links.now.depths ≤ 4096 }
+        requires edges { length links.now.edges ≤ 8192 }
+        requires loops { ∥ HaveLoops links.now ∥₁ }
+        requires way { IsOpened links.now (row_of summaries.old self.old) }
         ensures grows { Grows summaries.old summaries.new }
-        ensures codes { AreCodes summaries.new self.new }
-        ensures row { (v : ℕ) → IsRow links.now v (row_of summaries.old self.old) → IsRow links.now v (row_of summaries.new self.new) }
+        ensures codes { IfOk result (λ b. AreCodes summaries.new self.new) }
+        ensures good { IfOk result (λ b. (v : ℕ) → v < length links.now.depths → HasGot links.now v 0 0 (row_of summaries.old self.old) →
+            IsGoodRow links.now v (row_of summaries.new self.new)) }
     {
-        for _ in 0..=links.vertex_count() {
+        for _ in 0..links.vertex_count() {
             if !self.pass(links, summaries)? {
                 return Ok(());
             }
         }
         Ok(())
-    }
-
-    /// Whether the edge leads below no entry.
-    fn closes(&self, summaries: &Summaries, link: &Link) -> bool
-        requires { AreCodes summaries.now self.now }
-        ensures { result ≡ true → Closes link.now (row_of summaries.now self.now) }
-    {
-        let code = self.code(link.source());
-        if code == 0 {
-            return true;
-        }
-        let action = link.action();
-        let old = self.code(link.target());
-        if action == Action::Stay && code == old {
-            return true;
-        }
-        match summaries.noted(code, action) {
-            Some(next) => summaries.is_below(old, next),
-            None => false,
-        }
-    }
-
-    /// Whether no edge leads below an entry.
-    fn is_closed(&self, links: &Links, summaries: &Summaries) -> bool
-        requires { AreCodes summaries.now self.now }
-        ensures { result ≡ true → IsClosed links.now (row_of summaries.now self.now) }
-    {
-        for link in links.edges() {
-            if !self.closes(summaries, link) {
-                return false;
-            }
-        }
-        true
-    }
-
-    /// Whether the row has its own vertex, at once.
-    fn is_home(&self, links: &Links, summaries: &Summaries, vertex: u32) -> bool
-        requires { vertex < length links.now.depths }
-        ensures { result ≡ true → HasBelow (row_of summaries.now self.now) vertex (identity (slice_index_or links.now.depths vertex 0)) }
-    {
-        match summaries.get(self.code(vertex)) {
-            Some(least) => least.is_below(&Summary::identity(links.depth(vertex))),
-            None => false,
-        }
     }
 }

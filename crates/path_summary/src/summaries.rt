@@ -1,9 +1,10 @@
 //! The few different summaries of a graph's paths, by code, with what each is after an action.
 
-ghost use Rattle.std.specs.Prelude.{◌≡◌, ◌<◌, ◌≤◌, ◌-◌, [], Some, None, true, length, slice_index_or, slice_set, IfOk, IfSome, IfNone};
+ghost use Rattle.std.specs.Prelude.{◌≡◌, ◌<◌, ◌≤◌, ◌-◌, [], Some, None, true, false, length, slice_index_or, slice_set, IfOk, IfSome, IfNone};
 ghost use Rattle.semantics.specs.Summary.{Summary as Definition};
 ghost use Rattle.path_summary.specs.Codes.{Grows, decoded};
-ghost use Rattle.path_summary.specs.Noted.{ComesAfter, IsCodeBelow, LeadsTo};
+ghost use Rattle.path_summary.specs.Noted.{IsCodeBelow, LeadsTo};
+ghost use Rattle.path_summary.specs.Rows.{HasRoom, is_below};
 ghost use Rattle.path_summary.specs.Views.{action_of};
 
 use crate::action::Action;
@@ -12,13 +13,13 @@ use expr_tree::NoMemory;
 use std::alloc::Global;
 use std::marker::Model;
 
-/// Different summaries, at most 65,535. The first has the code 1, the second 2, and so on; 0 stands for none.
+/// Different summaries. The first has the code 1, the second 2, and so on; 0 stands for none.
 #[derive(Drop)]
 pub struct Summaries {
     list: Vec<Summary>,
-    entered: Vec<u16>,
-    left: Vec<u16>,
-    turned: Vec<u16>,
+    entered: Vec<usize>,
+    left: Vec<usize>,
+    turned: Vec<usize>,
 }
 
 impl Model for Summaries {
@@ -46,16 +47,23 @@ impl Summaries {
         }
     }
 
+    /// How many there are.
+    pub fn count(&self) -> usize
+        ensures { result ≡ length self.now }
+    {
+        self.list.len()
+    }
+
     /// What a code stands for.
-    pub fn get(&self, code: u16) -> Option<&Summary>
+    pub fn get(&self, code: usize) -> Option<&Summary>
         ensures none { IfNone result (decoded self.now code ≡ None) }
         ensures some { IfSome result (λ f. decoded self.now code ≡ Some f.now) }
     {
-        self.list.get((code as usize).checked_sub(1)?)
+        self.list.get(code.checked_sub(1)?)
     }
 
     /// The code of a summary, which is added where it isn't there.
-    pub fn code_of(&mut self, summary: Summary) -> Result<u16, NoMemory>
+    pub fn code_of(&mut self, summary: Summary) -> Result<usize, NoMemory>
         ensures grows { Grows self.old self.new }
         ensures code { IfOk result (λ c. decoded self.new c ≡ Some summary) }
         ensures within { IfOk result (λ c. c ≤ length self.new) }
@@ -67,61 +75,59 @@ impl Summaries {
     }
 
     /// The code of a summary, if it has one.
-    fn found(&self, summary: &Summary) -> Option<u16>
+    fn found(&self, summary: &Summary) -> Option<usize>
         ensures code { IfSome result (λ c. decoded self.now c ≡ Some summary.now) }
         ensures within { IfSome result (λ c. c ≤ length self.now) }
     {
         for i in 0..self.list.len() {
             if self.list[i].same(summary) {
-                return Some((i + 1) as u16);
+                return Some(i + 1);
             }
         }
         None
     }
 
     /// Adds a summary, and tells its code.
-    fn add(&mut self, summary: Summary) -> Result<u16, NoMemory>
+    fn add(&mut self, summary: Summary) -> Result<usize, NoMemory>
         ensures grows { Grows self.old self.new }
         ensures code { IfOk result (λ c. decoded self.new c ≡ Some summary) }
         ensures within { IfOk result (λ c. c ≤ length self.new) }
     {
-        if self.list.len() >= 65535 {
-            return Err(NoMemory);
-        }
         self.entered.push(0)?;
         self.left.push(0)?;
         self.turned.push(0)?;
         self.list.push(summary)?;
-        Ok(self.list.len() as u16)
+        Ok(self.list.len())
     }
 
-    /// The code of what a code's summary is after an action. `NoMemory` also where `Summary::then` makes none.
-    pub fn after(&mut self, code: u16, action: Action) -> Result<u16, NoMemory>
+    /// The code of what a code's summary is after an action, for which there is to be room.
+    pub fn after(&mut self, code: usize, action: Action) -> Result<usize, NoMemory>
         requires some { 0 < code }
         requires there { code ≤ length self.old }
+        requires room { (f : Definition) → decoded self.old code ≡ Some f → HasRoom (action_of action) f }
         ensures grows { Grows self.old self.new }
         ensures leads { IfOk result (λ c. LeadsTo self.new (action_of action) code c) }
     {
         if let Some(next) = self.noted(code, action) {
             return Ok(next);
         }
-        let Some(after) = self.followed(code, action) else {
-            return Err(NoMemory);
-        };
+        let after = self.known(code).then(action);
         let next = self.code_of(after)?;
         self.note(code, action, next);
         Ok(next)
     }
 
-    /// What a code's summary is after an action.
-    fn followed(&self, code: u16, action: Action) -> Option<Summary>
-        ensures { IfSome result (λ f. ComesAfter self.now (action_of action) code f) }
+    /// What the code of a summary stands for.
+    fn known(&self, code: usize) -> &Summary
+        requires some { 0 < code }
+        requires there { code ≤ length self.now }
+        ensures { decoded self.now code ≡ Some result.now }
     {
-        self.get(code)?.then(action)
+        &self.list[code - 1]
     }
 
     /// The code of what a code's summary is after an action, where that is noted.
-    pub fn noted(&self, code: u16, action: Action) -> Option<u16>
+    fn noted(&self, code: usize, action: Action) -> Option<usize>
         requires some { 0 < code }
         requires there { code ≤ length self.now }
         ensures { IfSome result (λ c. LeadsTo self.now (action_of action) code c) }
@@ -134,7 +140,7 @@ impl Summaries {
         }
     }
 
-    fn note(&mut self, code: u16, action: Action, next: u16)
+    fn note(&mut self, code: usize, action: Action, next: usize)
         requires { LeadsTo self.old (action_of action) code next }
         ensures { self.new ≡ self.old }
     {
@@ -147,8 +153,9 @@ impl Summaries {
     }
 
     /// Whether a code's summary is told to carry counters to ones at or before those of another's.
-    pub fn is_below(&self, code: u16, other: u16) -> bool
-        ensures { result ≡ true → (h : Definition) → decoded self.now other ≡ Some h → IsCodeBelow self.now code h }
+    pub fn is_below(&self, code: usize, other: usize) -> bool
+        ensures below { result ≡ true → (h : Definition) → decoded self.now other ≡ Some h → IsCodeBelow self.now code h }
+        ensures not { result ≡ false → (f h : Definition) → decoded self.now code ≡ Some f → decoded self.now other ≡ Some h → is_below f h ≡ false }
     {
         if code == other {
             return true;
@@ -164,21 +171,21 @@ impl Summaries {
 }
 
 /// What is noted for a code.
-fn noted_in(notes: &[u16], code: u16) -> Option<u16>
+fn noted_in(notes: &[usize], code: usize) -> Option<usize>
     requires { 0 < code }
     ensures some { IfSome result (λ c. 0 < c) }
     ensures is { IfSome result (λ c. c ≡ slice_index_or notes.now (code - 1) 0) }
 {
-    match notes.get(code as usize - 1) {
+    match notes.get(code - 1) {
         Some(next) => { if *next > 0 { Some(*next) } else { None } }
         None => None,
     }
 }
 
-fn note_in(notes: &mut Vec<u16>, code: u16, next: u16)
+fn note_in(notes: &mut Vec<usize>, code: usize, next: usize)
     ensures { notes.new.items ≡ slice_set notes.old.items (code - 1) next }
 {
-    let place = (code as usize).saturating_sub(1);
+    let place = code.saturating_sub(1);
     if place < notes.len() {
         notes[place] = next;
     }

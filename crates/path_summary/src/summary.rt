@@ -1,11 +1,12 @@
 //! Summaries of paths: what a path does to counters.
 
-ghost use Rattle.std.specs.Prelude.{◌≡◌, ◌<◌, ◌≤◌, ◌+◌, ◌-◌, ◌^◌, ◌↔◌, ◌++◌, IsTrue, IfSome, length};
+ghost use Rattle.std.specs.Prelude.{◌≡◌, ◌<◌, ◌≤◌, ◌+◌, ◌-◌, ◌^◌, ◌↔◌, ◌++◌, IsTrue, length};
 ghost use Rattle.std.specs.List.{All};
 ghost use Rattle.semantics.specs.Summary.{Summary as Definition};
+ghost use Rattle.semantics.specs.Time.{last};
 ghost use Rattle.path_summary.specs.Carried.{carried, counters_after, identity, kept, raised_at};
 ghost use Rattle.path_summary.specs.Order.{in_order};
-ghost use Rattle.path_summary.specs.Rows.{Follows, is_below};
+ghost use Rattle.path_summary.specs.Rows.{Follows, HasRoom, is_below};
 ghost use Rattle.path_summary.specs.Views.{action_of};
 
 use crate::action::Action;
@@ -41,67 +42,68 @@ impl Summary {
         }
     }
 
-    /// Followed by an action. `None` where no counter is left that the action needs, where a number doesn't fit, or where more
-    /// than 8 counters would be appended: none of these in a graph of a query.
-    pub fn then(&self, action: Action) -> Option<Summary>
-        ensures { IfSome result (λ f. Follows (action_of action) self.now f) }
+    /// Followed by an action, for which there is to be room.
+    pub fn then(&self, action: Action) -> Summary
+        requires { HasRoom (action_of action) self.now }
+        ensures { Follows (action_of action) self.now result }
     {
         match action {
-            Action::Stay => Some(self.copied()),
+            Action::Stay => self.copied(),
             Action::Enter => self.entered(),
             Action::Leave => self.left(),
             Action::Next => self.turned(),
         }
     }
 
-    fn entered(&self) -> Option<Summary>
-        ensures { IfSome result (λ f. Follows (action_of Action.Enter) self.now f) }
+    fn entered(&self) -> Summary
+        requires { length self.now.tail < 8 }
+        ensures { Follows (action_of Action.Enter) self.now result }
     {
         let mut after = self.copied();
-        if after.tail.try_push(0).is_err() {
-            return None;
-        }
-        Some(after)
+        after.tail.push(0);
+        after
     }
 
-    fn left(&self) -> Option<Summary>
-        ensures { IfSome result (λ f. Follows (action_of Action.Leave) self.now f) }
+    fn left(&self) -> Summary
+        requires { 0 < self.now.keep + length self.now.tail }
+        ensures { Follows (action_of Action.Leave) self.now result }
     {
         let mut tail = copied_counters(self.tail.as_slice());
         if tail.pop().is_some() {
-            return Some(Summary {
+            return Summary {
                 keep: self.keep,
                 add: self.add,
                 tail,
-            });
+            };
         }
-        Some(Summary {
-            keep: self.keep.checked_sub(1)?,
+        Summary {
+            keep: self.keep - 1,
             add: 0,
             tail,
-        })
+        }
     }
 
-    fn turned(&self) -> Option<Summary>
-        ensures { IfSome result (λ f. Follows (action_of Action.Next) self.now f) }
+    #[tactic(auto, using(crate::proofs::Carrying::popped_last))]
+    fn turned(&self) -> Summary
+        requires some { 0 < self.now.keep + length self.now.tail }
+        requires add { self.now.add + 1 < 2 ^ 32 }
+        requires last { last self.now.tail + 1 < 2 ^ 32 }
+        ensures { Follows (action_of Action.Next) self.now result }
     {
         let mut tail = copied_counters(self.tail.as_slice());
         if let Some(counter) = tail.pop() {
-            tail.push(counter.checked_add(1)?);
-            return Some(Summary {
+            tail.push(counter + 1);
+            return Summary {
                 keep: self.keep,
                 add: self.add,
                 tail,
-            });
+            };
         }
-        if self.keep == 0 {
-            return None;
-        }
-        Some(Summary {
+        Summary {
             keep: self.keep,
-            add: self.add.checked_add(1)?,
+            add: self.add + 1,
             tail,
-        })
+        }
     }
 
     /// The same summary.

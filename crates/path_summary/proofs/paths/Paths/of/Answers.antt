@@ -3,7 +3,7 @@ use Rattle.path_summary.proofs.WholeTables.{dataflow_known}
 use Rattle.path_summary.proofs.paths.Paths.of.Goals as goal
 
 pub rows_of-requires : goal.rows_of-requires
-rows_of-requires c = c.in_ok-links.ensures.few
+rows_of-requires c = record { few = c.in_ok-links.ensures.few; edges = c.in_ok-links.ensures.edges; loops = c.in_ok-links.ensures.loops }
 
 pub invariant_of-result : goal.invariant_of-result
 invariant_of-result c =
