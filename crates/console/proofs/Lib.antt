@@ -2,3 +2,4 @@ pub mod Answering
 pub mod InputLines
 pub mod QueryFaults
 pub mod Rewritten
+pub mod OneGraph

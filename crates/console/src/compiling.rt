@@ -4,10 +4,11 @@ ghost use Rattle.std.specs.Prelude.{◌≡◌, ◌≤◌, length, IfOk, IfErr};
 ghost use Rattle.board.specs.Chain.{query_of};
 ghost use Rattle.board.specs.Views.{chain_of};
 ghost use Rattle.expr_tree.specs.Plain.{plain_program};
+ghost use Rattle.semantics.specs.Rewriting.{IsNormalForm};
 ghost use Rattle.semantics.specs.Typing.{WellTyped};
 ghost use Rattle.typing.specs.Shown.{typed_program as shown_program, output_arity};
 ghost use Rattle.lowering.specs.Shown.{shown_graph, shown_inputs};
-ghost use Rattle.console.specs.Compiled.{IsCompiled, IsUncompiled, StandsFor};
+ghost use Rattle.console.specs.Compiled.{IsCompiled, IsUncompiled};
 ghost use Rattle.console.specs.Queries.{IsQuery, IsQueryFault, IsRefusal, IsTypedQuery};
 
 use crate::fault::{CompileFault, Fault, query_fault, refused};
@@ -43,12 +44,11 @@ pub fn typed_program<A: Allocator + Copy>(
     }
 }
 
-/// The normal form of a typed program: no larger, and with the same meaning.
+/// The normal form that a typed program rewrites to.
 fn normal_form<A: Allocator + Copy>(typed: Typed<A>) -> Result<Typed<A>, NoMemory>
-    ensures { IfOk result (λ q. StandsFor (plain_program (shown_program q)) (plain_program (shown_program typed)) (output_arity typed)) }
+    ensures { IfOk result (λ q. IsNormalForm (plain_program (shown_program q)) (plain_program (shown_program typed))) }
 {
     let normal = normalise(typed)?;
-    let _ = normal.program();
     Ok(normal)
 }
 

@@ -1,65 +1,49 @@
 -- Lets that are rewritten or dropped, from the last to the first.
-use Rattle.std.proofs.Common.{◌≡◌, ◌⊎◌, IsTrue, ℕ, ◌≤◌, Bool, true, false, List, [], ◌∷◌, ◌++◌, map, reverse, refl, sym, ap, subst, inl, inr, ◌∙◌, arith}
+use Rattle.std.proofs.Common.{◌≡◌, ◌⊎◌, IsTrue, ℕ, Bool, true, false, List, [], ◌∷◌, ◌++◌, map, reverse, refl, sym, ap, subst, inl, inr, ◌∙◌}
 use Rattle.std.proofs.lemmas.List.{append-nil, reverse-append}
 use Rattle.std.specs.List.{AllByRecursion}
-use Rattle.semantics.specs.Multiset.{Record, IsAmong}
-use Rattle.semantics.specs.Query.{Name, Rel, Input, Let}
-use Rattle.semantics.specs.Meaning.{Names, bind, meaning, let_names, input_names, program_meaning}
+use Rattle.semantics.specs.Multiset.{IsAmong}
+use Rattle.semantics.specs.Query.{Name, Rel, Input, Let, Program}
 use Rattle.semantics.specs.FreeNames.{free}
-use Rattle.semantics.specs.Size.{lets_size}
 use Rattle.semantics.specs.Typing.{Scope, entry, after_inputs, RestFits, WellTyped}
 use Rattle.semantics.specs.Normal.{Reaches, AllReached, NormalRel, NormalProgram}
-use Rattle.semantics.proofs.RulesKeepMeaning.{rule_let}
-use Rattle.semantics.proofs.RulesKeepArity.{typed_dropped}
-use Rattle.normalise.specs.Reached.{Adds, Finds, KeepsLets}
-use Rattle.normalise.specs.Rewritten.{Keeps, Reduced}
+use Rattle.semantics.specs.Rewriting.{Steps, RelStep, LetsStep, ProgramStep, RewritesTo}
+use Rattle.semantics.proofs.StepsKeep.{steps_then, steps_within, lets_fit, rewrites_typed}
+use Rattle.normalise.specs.Reached.{Adds, Finds, LetsReached}
+use Rattle.normalise.specs.Rewritten.{IsReached, Reduced}
 use Rattle.normalise.proofs.Rewriting.{normal_reduced}
 
-pub lets_themselves : (as' : List Let) (out : Rel) → KeepsLets as' as' out
-lets_themselves as' out = record { same_meaning = λ inputs records. refl; typed = λ inputs n h. h; no_larger = omega arith }
+pub lets_themselves : (as' : List Let) (out : Rel) → LetsReached as' as' out
+lets_themselves as' out = record { steps = λ scope n h. Steps.stay }
 
 -- a let with that name and relation
 abbrev pub named : Name → Rel → Let
 named x r = record { name = x; value = r }
 
+lets_fit_after : {out : Rel} {as' bs : List Let} → Steps (LetsStep out) as' bs → (scope : Scope) (n : ℕ) → RestFits scope as' out n → RestFits scope bs out n
+lets_fit_after Steps.stay scope n h = h
+lets_fit_after (Steps.next s d) scope n h = lets_fit_after d scope n (lets_fit s scope n h)
+
+-- steps behind other lets
+behind : {out : Rel} {as' bs : List Let} (before : List Let) → Steps (LetsStep out) as' bs → Steps (LetsStep out) (before ++ as') (before ++ bs)
+behind [] d = d
+behind (b ∷ before) d = steps_within (λ l. b ∷ l) (λ l m s. LetsStep.later s) (behind before d)
+
 -- ---- a let is dropped
 
-size-dropped : (before : List Let) (a : Let) (after : List Let) → lets_size (before ++ after) ≤ lets_size (before ++ (a ∷ after))
-size-dropped [] a after = omega arith
-size-dropped (b ∷ before) a after = omega (arith, size-dropped before a after)
-
-pub lets_dropped : (before : List Let) (a : Let) (after first : List Let) (out : Rel) → AllReached after out → (Reaches a.name after out → ⊥) → KeepsLets (before ++ (a ∷ after)) first out → KeepsLets (before ++ after) first out
-lets_dropped before a after first out all n k = record {
-  same_meaning = λ inputs records. sym (rule_let inputs before a after out records n) ∙ k.same_meaning inputs records;
-  typed = λ inputs m h. typed_dropped inputs before a after out m all n (k.typed inputs m h);
-  no_larger = omega (arith, k.no_larger, size-dropped before a after);
-}
+pub lets_dropped : (before : List Let) (a : Let) (after first : List Let) (out : Rel) → AllReached after out → (Reaches a.name after out → ⊥) → LetsReached (before ++ (a ∷ after)) first out → LetsReached (before ++ after) first out
+lets_dropped before a after first out all n k = record { steps = λ scope m h. steps_then (k.steps scope m h) (behind before (Steps.next (LetsStep.unreached all n) Steps.stay)) }
 
 -- ---- a let is rewritten
 
-names-rewritten : (before : List Let) (x : Name) (r q : Rel) (after : List Let) (names : Names) → Keeps r q → let_names (before ++ (named x r ∷ after)) names ≡ let_names (before ++ (named x q ∷ after)) names
-unfolding let_names
-names-rewritten [] x r q after names k = ap (λ xs. let_names after (bind x xs names)) (k.same_meaning names)
-names-rewritten (b ∷ before) x r q after names k = names-rewritten before x r q after (bind b.name (meaning b.value names) names) k
+value-rewritten : (before : List Let) (x : Name) (r q : Rel) (after : List Let) (out : Rel) (scope : Scope) (n : ℕ) → IsReached r q → RestFits scope (before ++ (named x q ∷ after)) out n
+    → Steps (LetsStep out) (before ++ (named x q ∷ after)) (before ++ (named x r ∷ after))
+value-rewritten [] x r q after out scope n k h = steps_within (λ u. named x u ∷ after) (λ u v s. LetsStep.value s) (k.steps scope 0 h.0 h.1)
+value-rewritten (b ∷ before) x r q after out scope n k h = steps_within (λ l. b ∷ l) (λ l m s. LetsStep.later s) (value-rewritten before x r q after out (entry b.name h.0 ∷ scope) n k h.3)
 
-meaning-rewritten : (inputs : List Input) (before : List Let) (x : Name) (r q : Rel) (after : List Let) (out : Rel) (records : ℕ → List Record) → Keeps r q
-    → program_meaning (record { inputs = inputs; lets = before ++ (named x r ∷ after); output = out }) records ≡ program_meaning (record { inputs = inputs; lets = before ++ (named x q ∷ after); output = out }) records
-unfolding program_meaning
-meaning-rewritten inputs before x r q after out records k = ap (meaning out) (names-rewritten before x r q after (input_names inputs 0 records) k)
-
-rest-rewritten : (before : List Let) (x : Name) (r q : Rel) (after : List Let) (out : Rel) (scope : Scope) (n : ℕ) → Keeps r q → RestFits scope (before ++ (named x q ∷ after)) out n → RestFits scope (before ++ (named x r ∷ after)) out n
-rest-rewritten [] x r q after out scope n k h = (h.0, k.arity scope 0 h.0 h.1, h.2, h.3)
-rest-rewritten (b ∷ before) x r q after out scope n k h = (h.0, h.1, h.2, rest-rewritten before x r q after out (entry b.name h.0 ∷ scope) n k h.3)
-
-size-rewritten : (before : List Let) (x : Name) (r q : Rel) (after : List Let) → Keeps r q → lets_size (before ++ (named x r ∷ after)) ≤ lets_size (before ++ (named x q ∷ after))
-size-rewritten [] x r q after k = omega (arith, k.no_larger)
-size-rewritten (b ∷ before) x r q after k = omega (arith, size-rewritten before x r q after k)
-
-pub lets_rewritten : (before : List Let) (x : Name) (r q : Rel) (after first : List Let) (out : Rel) → Keeps r q → KeepsLets (before ++ (named x q ∷ after)) first out → KeepsLets (before ++ (named x r ∷ after)) first out
+pub lets_rewritten : (before : List Let) (x : Name) (r q : Rel) (after first : List Let) (out : Rel) → IsReached r q → LetsReached (before ++ (named x q ∷ after)) first out → LetsReached (before ++ (named x r ∷ after)) first out
 lets_rewritten before x r q after first out f k = record {
-  same_meaning = λ inputs records. meaning-rewritten inputs before x r q after out records f ∙ k.same_meaning inputs records;
-  typed = λ inputs m h. (let w = k.typed inputs m h in record { few = w.few; inputs = w.inputs; rest = rest-rewritten before x r q after out (after_inputs [] inputs) m f w.rest });
-  no_larger = omega (arith, k.no_larger, size-rewritten before x r q after f);
+  steps = λ scope m h. (let d = k.steps scope m h in steps_then d (value-rewritten before x r q after out scope m f (lets_fit_after d scope m h)));
 }
 
 -- ---- the names that are reached
@@ -87,17 +71,20 @@ finds_more set more x r after out reached f a = record { has = λ y. (λ t. ther
 
 -- ---- the whole program
 
-rest-output : (as' : List Let) (out out' : Rel) (scope : Scope) (n : ℕ) → Keeps out' out → RestFits scope as' out n → RestFits scope as' out' n
-rest-output [] out out' scope n k h = k.arity scope 0 n h
-rest-output (a ∷ as') out out' scope n k h = (h.0, h.1, h.2, rest-output as' out out' (entry a.name h.0 ∷ scope) n k h.3)
+output-rewritten : (as' : List Let) (r q : Rel) (scope : Scope) (n : ℕ) → IsReached r q → RestFits scope as' q n → Steps RelStep q r
+output-rewritten [] r q scope n k h = k.steps scope 0 n h
+output-rewritten (a ∷ as') r q scope n k h = output-rewritten as' r q (entry a.name h.0 ∷ scope) n k h.3
 
-pub typed_output : (inputs : List Input) (as' : List Let) (out out' : Rel) (n : ℕ) → Keeps out' out → WellTyped (record { inputs = inputs; lets = as'; output = out }) n → WellTyped (record { inputs = inputs; lets = as'; output = out' }) n
-typed_output inputs as' out out' n k h = record { few = h.few; inputs = h.inputs; rest = rest-output as' out out' (after_inputs [] inputs) n k h.rest }
+-- the output is rewritten, and then the lets
+pub program_rewritten : (inputs : List Input) (as' bs : List Let) (r q : Rel) (n : ℕ) → IsReached r q → LetsReached bs as' r → WellTyped (record { inputs = inputs; lets = as'; output = q }) n
+    → RewritesTo (record { inputs = inputs; lets = as'; output = q }) (record { inputs = inputs; lets = bs; output = r })
+program_rewritten inputs as' bs r q n f k w = steps_then first (steps_within inside (λ l m s. ProgramStep.lets s) (k.steps (after_inputs [] inputs) n (rewrites_typed first n w).rest))
+  where
+    inside : List Let → Program
+    inside l = record { inputs = inputs; lets = l; output = r }
 
-pub meaning-output : (inputs : List Input) (as' : List Let) (out out' : Rel) (records : ℕ → List Record) → Keeps out' out
-    → program_meaning (record { inputs = inputs; lets = as'; output = out' }) records ≡ program_meaning (record { inputs = inputs; lets = as'; output = out }) records
-unfolding program_meaning
-meaning-output inputs as' out out' records k = k.same_meaning (let_names as' (input_names inputs 0 records))
+    first : RewritesTo (record { inputs = inputs; lets = as'; output = q }) (record { inputs = inputs; lets = as'; output = r })
+    first = steps_within (λ u. record { inputs = inputs; lets = as'; output = u }) (λ u v s. ProgramStep.output s) (output-rewritten as' r q (after_inputs [] inputs) n f w.rest)
 
 rest-normal : (as' : List Let) (out : Rel) (scope : Scope) (n : ℕ) → RestFits scope as' out n → AllByRecursion (λ (a : Let). Reduced a.value) as' → AllByRecursion (λ (a : Let). NormalRel a.value) as'
 rest-normal [] out scope n h k = tt
@@ -113,12 +100,12 @@ normal_program inputs as' out n h k o r = record { lets = rest-normal as' out (a
 
 -- ---- as the code goes through them
 
-pub lets_at_first : (as' : List Let) (out : Rel) → KeepsLets (as' ++ []) as' out
+pub lets_at_first : (as' : List Let) (out : Rel) → LetsReached (as' ++ []) as' out
 lets_at_first as' out = rw append-nil (lets_themselves as' out)
 
 -- the last of those to come is the first of those that follow
-pub popped : {A B : Type 0} (t : A → B) (p : B → Let) (xs ys : List A) (x : A) (after first : List Let) (out : Rel) → xs ≡ ys ++ x ∷ [] → KeepsLets (map p (map t xs) ++ after) first out → KeepsLets (map p (map t ys) ++ (p (t x) ∷ after)) first out
-popped {A} t p xs ys x after first out e k = subst (λ zs. KeepsLets zs first out) (ap (λ zs. map p (map t zs) ++ after) e ∙ moved ys) k
+pub popped : {A B : Type 0} (t : A → B) (p : B → Let) (xs ys : List A) (x : A) (after first : List Let) (out : Rel) → xs ≡ ys ++ x ∷ [] → LetsReached (map p (map t xs) ++ after) first out → LetsReached (map p (map t ys) ++ (p (t x) ∷ after)) first out
+popped {A} t p xs ys x after first out e k = subst (λ zs. LetsReached zs first out) (ap (λ zs. map p (map t zs) ++ after) e ∙ moved ys) k
   where
     moved : (zs : List A) → map p (map t (zs ++ x ∷ [])) ++ after ≡ map p (map t zs) ++ (p (t x) ∷ after)
     moved [] = refl

@@ -1,5 +1,5 @@
 -- Columns replaced by scalars that are moved to them.
-use Rattle.std.proofs.Common.{◌≡◌, ℕ, zero, suc, ◌≤◌, ◌<◌, List, [], ◌∷◌, ◌++◌, map, length, take, get_or, refl, sym, ap, ap₂, subst, ◌∙◌, arith, append_assoc}
+use Rattle.std.proofs.Common.{◌≡◌, ℕ, zero, suc, ◌≤◌, ◌<◌, List, [], ◌∷◌, ◌++◌, pos, map, length, take, get_or, refl, sym, ap, ap₂, subst, ◌∙◌, arith, append_assoc}
 use Rattle.std.proofs.Math.ListN.{set}
 use Rattle.std.proofs.lemmas.Bool.Decides.{nat_tests}
 use Rattle.std.specs.List.{AllByRecursion}
@@ -19,6 +19,11 @@ pub named-at : {A B : Type 0} (t : A → B) (p : B → Scalar) (xs : List A) (i 
 named-at t p [] i x l e = absurd (omega arith)
 named-at t p (y ∷ ys) zero x l e = ap (λ v. p (t v)) (sym e)
 named-at t p (y ∷ ys) (suc i) x l e = named-at t p ys i x (omega arith) e
+
+pub named-none : {A B : Type 0} (t : A → B) (p : B → Scalar) (xs : List A) (i : ℕ) → length xs ≤ i → named_by (map p (map t xs)) i ≡ Scalar.literal (pos 0)
+named-none t p [] i l = refl
+named-none t p (y ∷ ys) zero l = absurd (omega arith)
+named-none t p (y ∷ ys) (suc i) l = named-none t p ys i (omega arith)
 
 named-set : {A B : Type 0} (t : A → B) (p : B → Scalar) (xs : List A) (i : ℕ) (x : A) (c : ℕ) → (c ≡ i → ⊥) → named_by (map p (map t (set xs i x))) c ≡ named_by (map p (map t xs)) c
 named-set t p [] i x c n = refl

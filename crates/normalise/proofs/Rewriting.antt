@@ -1,157 +1,14 @@
--- Rewritten parts make rewritten relations, and the rules keep them.
-use Rattle.std.proofs.Common.{Result, Ok, Err, IfOk, ◌≡◌, ℕ, zero, suc, ◌≤◌, ◌<◌, cond, List, [], ◌∷◌, ◌++◌, map, refl, sym, ap, ap₂, ◌∙◌, arith}
+-- Rewritten parts make rewritten relations, by the rules and by steps of the parts.
+use Rattle.std.proofs.Common.{Result, Ok, Err, IfOk, ◌≡◌, ℕ, suc, ◌≤◌, ◌<◌, List, [], ◌∷◌, ◌++◌, map, arith}
 use Rattle.std.specs.List.{AllZip, AllByRecursion}
 use Rattle.semantics.specs.Limits.{max_fields}
-use Rattle.semantics.specs.Multiset.{Record, each_once}
 use Rattle.semantics.specs.Query.{Scalar, Cond, Agg, Name, Pair, Rel}
-use Rattle.semantics.specs.Meaning.{selected, kept, paired, grouped, bind, repeated, meaning}
 use Rattle.semantics.specs.Typing.{ScalarFits, Scope, entry, HasArity}
 use Rattle.semantics.specs.Normal.{NormalScalar, NormalCond, NormalRel, IsFilter, IsSelect, IsDistinct, UsesOnce, uses, uses_all, replaced}
-use Rattle.semantics.proofs.RulesKeepMeaning.{rule_where, rule_select, rule_distinct, rule_no_turns}
-use Rattle.semantics.proofs.RulesKeepArity.{arity_where, arity_select, arity_distinct, arity_no_turns}
-use Rattle.semantics.proofs.FusedSelects.{size-select_select}
-use Rattle.normalise.specs.Rewritten.{IsFolded, IsFoldedCond, Keeps, Reduced, IsRewritten}
-use Rattle.normalise.proofs.Folding.{values-folded, fits-folded, size-folded, length-folded}
-
-pub keeps_itself : (r : Rel) → Keeps r r
-keeps_itself r = record { same_meaning = λ names. refl; arity = λ scope d n h. h; no_larger = omega arith }
-
-pub keeps_then : (p q r : Rel) → Keeps p q → Keeps q r → Keeps p r
-keeps_then p q r f g = record {
-  same_meaning = λ names. f.same_meaning names ∙ g.same_meaning names;
-  arity = λ scope d n h. f.arity scope d n (g.arity scope d n h);
-  no_larger = omega (arith, f.no_larger, g.no_larger);
-}
-
--- ---- each form of kept parts
-
-selected-folded : (ss ts : List Scalar) (xs : List Record) → AllZip IsFolded ss ts → selected ss xs ≡ selected ts xs
-selected-folded ss ts [] h = refl
-selected-folded ss ts (x ∷ xs) h = ap₂ (λ a l. a ∷ l) (values-folded ss ts x h) (selected-folded ss ts xs h)
-
-pub keeps_select : (p q : Rel) (ss ts : List Scalar) → Keeps p q → AllZip IsFolded ss ts → Keeps (Rel.select p ss) (Rel.select q ts)
-unfolding meaning HasArity
-keeps_select p q ss ts f h = record {
-  same_meaning = λ names. ap (selected ss) (f.same_meaning names) ∙ selected-folded ss ts (meaning q names) h;
-  arity = λ scope d n t. (t.0, f.arity scope d t.0 t.1, fits-folded ss ts t.0 h t.2, t.3 ∙ sym (length-folded ss ts h), t.4);
-  no_larger = omega (arith, f.no_larger, size-folded ss ts h);
-}
-
-kept-folded : (c d : Cond) (xs : List Record) → IsFoldedCond c d → kept c xs ≡ kept d xs
-kept-folded c d [] h = refl
-kept-folded c d (x ∷ xs) h = ap₂ (λ b l. cond b (x ∷ l) l) (h.same_answer x) (kept-folded c d xs h)
-
-pub keeps_filter : (p q : Rel) (c d : Cond) → Keeps p q → IsFoldedCond c d → Keeps (Rel.filter p c) (Rel.filter q d)
-unfolding meaning HasArity
-keeps_filter p q c d f h = record {
-  same_meaning = λ names. ap (kept c) (f.same_meaning names) ∙ kept-folded c d (meaning q names) h;
-  arity = λ scope l n t. (f.arity scope l n t.0, h.fits n t.1);
-  no_larger = omega (arith, f.no_larger, h.no_larger);
-}
-
-pub keeps_concat : (p q r s : Rel) → Keeps p r → Keeps q s → Keeps (Rel.concat p q) (Rel.concat r s)
-unfolding meaning HasArity
-keeps_concat p q r s f g = record {
-  same_meaning = λ names. ap₂ (λ a b. a ++ b) (f.same_meaning names) (g.same_meaning names);
-  arity = λ scope d n t. (f.arity scope d n t.0, g.arity scope d n t.1);
-  no_larger = omega (arith, f.no_larger, g.no_larger);
-}
-
-pub keeps_join : (p q r s : Rel) (ps : List Pair) → Keeps p r → Keeps q s → Keeps (Rel.join p q ps) (Rel.join r s ps)
-unfolding meaning HasArity
-keeps_join p q r s ps f g = record {
-  same_meaning = λ names. ap₂ (paired ps) (f.same_meaning names) (g.same_meaning names);
-  arity = λ scope d n t. (t.0, t.1, f.arity scope d t.0 t.2, g.arity scope d t.1 t.3, t.4, t.5, t.6);
-  no_larger = omega (arith, f.no_larger, g.no_larger);
-}
-
-pub keeps_group : (p q : Rel) (ks : List ℕ) (as' : List Agg) → Keeps p q → Keeps (Rel.group p ks as') (Rel.group q ks as')
-unfolding meaning HasArity
-keeps_group p q ks as' f = record {
-  same_meaning = λ names. ap (grouped ks as') (f.same_meaning names);
-  arity = λ scope d n t. (t.0, f.arity scope d t.0 t.1, t.2, t.3, t.4, t.5);
-  no_larger = omega (arith, f.no_larger);
-}
-
-pub keeps_distinct : (p q : Rel) → Keeps p q → Keeps (Rel.distinct p) (Rel.distinct q)
-unfolding meaning HasArity
-keeps_distinct p q f = record {
-  same_meaning = λ names. ap each_once (f.same_meaning names);
-  arity = λ scope d n t. f.arity scope d n t;
-  no_larger = omega (arith, f.no_larger);
-}
-
-same_turns : (f g : List Record → List Record) → ((xs : List Record) → f xs ≡ g xs) → (n : ℕ) (xs ys : List Record) → xs ≡ ys → repeated f n xs ≡ repeated g n ys
-same_turns f g h zero xs ys e = e
-same_turns f g h (suc n) xs ys e = h (repeated f n xs) ∙ ap g (same_turns f g h n xs ys e)
-
-pub keeps_iterate : (n : ℕ) (x : Name) (p q b c : Rel) → Keeps p q → Keeps b c → Keeps (Rel.iterate n x p b) (Rel.iterate n x q c)
-unfolding meaning HasArity
-keeps_iterate n x p q b c f g = record {
-  same_meaning = λ names. same_turns (λ xs. meaning b (bind x xs names)) (λ xs. meaning c (bind x xs names)) (λ xs. g.same_meaning (bind x xs names)) n (meaning p names) (meaning q names) (f.same_meaning names);
-  arity = λ scope d m t. (t.0, t.1, f.arity scope d m t.2, t.3, g.arity (entry x m ∷ scope) (suc d) m t.4);
-  no_larger = omega (arith, f.no_larger, g.no_larger);
-}
-
--- ---- what is rewritten of kept parts is rewritten
-
-pub rewritten_then : (p q r : Rel) → IsRewritten p q → Keeps q r → IsRewritten p r
-rewritten_then p q r f g = record { keeps = keeps_then p q r f.keeps g; reduced = f.reduced }
-
--- ---- the rules
-
--- a where of a where is one
-pub rewritten_wheres : (q r : Rel) (c d e : Cond) → q ≡ Rel.filter r c → e ≡ Cond.conjunction c d → Reduced q → NormalCond d → IsRewritten (Rel.filter r e) (Rel.filter q d)
-rewritten_wheres q r c d e i j h n = rw (i, j) (wheres r c d (rw i at h) n)
-  where
-    wheres : (r : Rel) (c d : Cond) → Reduced (Rel.filter r c) → NormalCond d → IsRewritten (Rel.filter r (Cond.conjunction c d)) (Rel.filter (Rel.filter r c) d)
-    wheres r c d h n = record {
-      keeps = record { same_meaning = λ names. sym (rule_where r c d names); arity = λ scope l m t. arity_where r c d scope l m t; no_larger = omega arith };
-      reduced = (h.0, (h.1, n), h.2);
-    }
-
--- a where of another relation stays
-pub rewritten_where : (r : Rel) (c : Cond) → (IsFilter r → ⊥) → Reduced r → NormalCond c → IsRewritten (Rel.filter r c) (Rel.filter r c)
-rewritten_where r c n h k = record { keeps = keeps_itself (Rel.filter r c); reduced = (h, k, n) }
-
--- a distinct of a distinct is one
-pub rewritten_distincts : (q r : Rel) → q ≡ Rel.distinct r → Reduced q → IsRewritten (Rel.distinct r) (Rel.distinct q)
-rewritten_distincts q r e h = rw e (distincts r (rw e at h))
-  where
-    distincts : (r : Rel) → Reduced (Rel.distinct r) → IsRewritten (Rel.distinct r) (Rel.distinct (Rel.distinct r))
-    distincts r h = record {
-      keeps = record { same_meaning = λ names. sym (rule_distinct r names); arity = λ scope l m t. arity_distinct r scope l m t; no_larger = omega arith };
-      reduced = h;
-    }
-
-pub rewritten_distinct : (r : Rel) → (IsDistinct r → ⊥) → Reduced r → IsRewritten (Rel.distinct r) (Rel.distinct r)
-rewritten_distinct r n h = record { keeps = keeps_itself (Rel.distinct r); reduced = (h, n) }
-
--- a loop of no turns is its start
-pub rewritten_no_turns : (n : ℕ) (x : Name) (p q b : Rel) → n ≡ 0 → IsRewritten p q → IsRewritten p (Rel.iterate n x q b)
-rewritten_no_turns n x p q b e f = rw e (record {
-  keeps = keeps_then p q (Rel.iterate 0 x q b) f.keeps (record { same_meaning = λ names. sym (rule_no_turns x q b names); arity = λ scope l m t. arity_no_turns x q b scope l m t; no_larger = omega arith });
-  reduced = f.reduced;
-})
-
-pub rewritten_iterate : (n : ℕ) (x : Name) (p q b c : Rel) → (n ≡ 0 → ⊥) → IsRewritten p q → IsRewritten b c → IsRewritten (Rel.iterate n x p b) (Rel.iterate n x q c)
-rewritten_iterate n x p q b c k f g = record { keeps = keeps_iterate n x p q b c f.keeps g.keeps; reduced = (f.reduced, g.reduced, k) }
-
--- a select of a select that copies nothing becomes one
-keeps_selects : (r : Rel) (ss ts us : List Scalar) → UsesOnce ts → AllZip IsFolded us (map (replaced ss) ts) → Keeps (Rel.select r us) (Rel.select (Rel.select r ss) ts)
-keeps_selects r ss ts us once h =
-    keeps_then _ _ _ (keeps_select r r us (map (replaced ss) ts) (keeps_itself r) h) (record {
-      same_meaning = λ names. sym (rule_select r ss ts names);
-      arity = λ scope l m t. arity_select r ss ts scope l m t;
-      no_larger = size-select_select r ss ts once;
-    })
-
-pub rewritten_selects : (q r p : Rel) (ss ts us : List Scalar) → q ≡ Rel.select r ss → UsesOnce ts → AllZip IsFolded us (map (replaced ss) ts) → IsRewritten p (Rel.select r us) → IsRewritten p (Rel.select q ts)
-rewritten_selects q r p ss ts us e once h f = rw e (rewritten_then p (Rel.select r us) (Rel.select (Rel.select r ss) ts) f (keeps_selects r ss ts us once h))
-
--- another select stays
-pub rewritten_select : (r : Rel) (ss : List Scalar) → (IsSelect r → AllByRecursion (λ c. c < max_fields) (uses_all ss) → UsesOnce ss → ⊥) → Reduced r → AllByRecursion NormalScalar ss → IsRewritten (Rel.select r ss) (Rel.select r ss)
-rewritten_select r ss n h k = record { keeps = keeps_itself (Rel.select r ss); reduced = (h, k, n) }
+use Rattle.semantics.specs.Rewriting.{Steps, RelStep}
+use Rattle.semantics.proofs.StepsKeep.{steps_then, steps_within, steps_arity}
+use Rattle.normalise.specs.Rewritten.{IsFolded, IsFoldedCond, IsReached, Reduced, IsRewritten}
+use Rattle.normalise.proofs.Folding.{scalars_steps}
 
 -- ---- where there is an arity, no rule applies
 
@@ -192,6 +49,134 @@ normal_reduced (Rel.join p q ps) scope d n h k = (normal_reduced p scope d h.0 h
 normal_reduced (Rel.group r ks as') scope d n h k = normal_reduced r scope d h.0 h.1 k
 normal_reduced (Rel.distinct r) scope d n h k = (normal_reduced r scope d n h k.0, k.1)
 normal_reduced (Rel.iterate t x r b) scope d n h k = (normal_reduced r scope d n h.2 k.0, normal_reduced b (entry x n ∷ scope) (suc d) n h.4 k.1, k.2)
+
+-- ---- steps one after the other
+
+pub reached_itself : (r : Rel) → IsReached r r
+reached_itself r = record { steps = λ scope d n h. Steps.stay }
+
+pub reached_then : (p q r : Rel) → IsReached p q → IsReached q r → IsReached p r
+reached_then p q r f g = record { steps = λ scope d n h. (let first = g.steps scope d n h in steps_then first (f.steps scope d n (steps_arity first scope d n h))) }
+
+-- ---- each form of parts that were reached
+
+pub reached_select : (p q : Rel) (ss ts : List Scalar) → IsReached p q → AllZip IsFolded ss ts → IsReached (Rel.select p ss) (Rel.select q ts)
+unfolding HasArity
+reached_select p q ss ts f h = record {
+  steps = λ scope d n t. steps_then
+      (steps_within (λ r. Rel.select r ts) (λ r r' s. RelStep.select_of s) (f.steps scope d t.0 t.1))
+      (steps_within (λ us. Rel.select p us) (λ us vs s. RelStep.select_scalar s) (scalars_steps ss ts h));
+}
+
+pub reached_filter : (p q : Rel) (c d : Cond) → IsReached p q → IsFoldedCond c d → IsReached (Rel.filter p c) (Rel.filter q d)
+unfolding HasArity
+reached_filter p q c d f h = record {
+  steps = λ scope l n t. steps_then
+      (steps_within (λ r. Rel.filter r d) (λ r r' s. RelStep.where_of s) (f.steps scope l n t.0))
+      (steps_within (λ e. Rel.filter p e) (λ e e' s. RelStep.where_cond s) h.steps);
+}
+
+pub reached_concat : (p q r s : Rel) → IsReached p r → IsReached q s → IsReached (Rel.concat p q) (Rel.concat r s)
+unfolding HasArity
+reached_concat p q r s f g = record {
+  steps = λ scope d n t. steps_then
+      (steps_within (λ u. Rel.concat u s) (λ u u' k. RelStep.concat_left k) (f.steps scope d n t.0))
+      (steps_within (λ u. Rel.concat p u) (λ u u' k. RelStep.concat_right k) (g.steps scope d n t.1));
+}
+
+pub reached_join : (p q r s : Rel) (ps : List Pair) → IsReached p r → IsReached q s → IsReached (Rel.join p q ps) (Rel.join r s ps)
+unfolding HasArity
+reached_join p q r s ps f g = record {
+  steps = λ scope d n t. steps_then
+      (steps_within (λ u. Rel.join u s ps) (λ u u' k. RelStep.join_left k) (f.steps scope d t.0 t.2))
+      (steps_within (λ u. Rel.join p u ps) (λ u u' k. RelStep.join_right k) (g.steps scope d t.1 t.3));
+}
+
+pub reached_group : (p q : Rel) (ks : List ℕ) (as' : List Agg) → IsReached p q → IsReached (Rel.group p ks as') (Rel.group q ks as')
+unfolding HasArity
+reached_group p q ks as' f = record { steps = λ scope d n t. steps_within (λ r. Rel.group r ks as') (λ r r' s. RelStep.group_of s) (f.steps scope d t.0 t.1) }
+
+pub reached_distinct : (p q : Rel) → IsReached p q → IsReached (Rel.distinct p) (Rel.distinct q)
+unfolding HasArity
+reached_distinct p q f = record { steps = λ scope d n t. steps_within Rel.distinct (λ r r' s. RelStep.distinct_of s) (f.steps scope d n t) }
+
+pub reached_iterate : (n : ℕ) (x : Name) (p q b c : Rel) → IsReached p q → IsReached b c → IsReached (Rel.iterate n x p b) (Rel.iterate n x q c)
+unfolding HasArity
+reached_iterate n x p q b c f g = record {
+  steps = λ scope d m t. steps_then
+      (steps_within (λ r. Rel.iterate n x r c) (λ r r' s. RelStep.loop_start s) (f.steps scope d m t.2))
+      (steps_within (λ r. Rel.iterate n x p r) (λ r r' s. RelStep.loop_body s) (g.steps (entry x m ∷ scope) (suc d) m t.4));
+}
+
+-- ---- what is rewritten of reached parts is rewritten
+
+pub rewritten_then : (p q r : Rel) → IsRewritten p q → IsReached q r → IsRewritten p r
+rewritten_then p q r f g = record { reached = reached_then p q r f.reached g; reduced = f.reduced }
+
+-- ---- the rules
+
+-- a where of a where is one
+wheres : (r : Rel) (c d : Cond) → Reduced (Rel.filter r c) → NormalCond d → IsRewritten (Rel.filter r (Cond.conjunction c d)) (Rel.filter (Rel.filter r c) d)
+unfolding HasArity
+wheres r c d h n = record {
+  reached = record { steps = λ scope l m t. Steps.next (RelStep.wheres (normal_reduced (Rel.filter r c) scope l m t.0 h) n) Steps.stay };
+  reduced = (h.0, (h.1, n), h.2);
+}
+
+pub rewritten_wheres : (q r : Rel) (c d e : Cond) → q ≡ Rel.filter r c → e ≡ Cond.conjunction c d → Reduced q → NormalCond d → IsRewritten (Rel.filter r e) (Rel.filter q d)
+rewritten_wheres q r c d e i j h n = rw (i, j) (wheres r c d (rw i at h) n)
+
+-- a where of another relation stays
+pub rewritten_where : (r : Rel) (c : Cond) → (IsFilter r → ⊥) → Reduced r → NormalCond c → IsRewritten (Rel.filter r c) (Rel.filter r c)
+rewritten_where r c n h k = record { reached = reached_itself (Rel.filter r c); reduced = (h, k, n) }
+
+-- a distinct of a distinct is one
+distincts : (r : Rel) → Reduced (Rel.distinct r) → IsRewritten (Rel.distinct r) (Rel.distinct (Rel.distinct r))
+unfolding HasArity
+distincts r h = record {
+  reached = record { steps = λ scope l m t. Steps.next (RelStep.distincts (normal_reduced (Rel.distinct r) scope l m t h)) Steps.stay };
+  reduced = h;
+}
+
+pub rewritten_distincts : (q r : Rel) → q ≡ Rel.distinct r → Reduced q → IsRewritten (Rel.distinct r) (Rel.distinct q)
+rewritten_distincts q r e h = rw e (distincts r (rw e at h))
+
+pub rewritten_distinct : (r : Rel) → (IsDistinct r → ⊥) → Reduced r → IsRewritten (Rel.distinct r) (Rel.distinct r)
+rewritten_distinct r n h = record { reached = reached_itself (Rel.distinct r); reduced = (h, n) }
+
+-- a loop of no turns is its start
+no_turns : (x : Name) (p q b : Rel) → IsRewritten p q → IsRewritten p (Rel.iterate 0 x q b)
+unfolding HasArity
+no_turns x p q b f = record {
+  reached = record {
+    steps = λ scope l m t. (let start = f.reached.steps scope l m t.2 in steps_then
+        (steps_within (λ r. Rel.iterate 0 x r b) (λ r r' s. RelStep.loop_start s) start)
+        (Steps.next (RelStep.no_turns (normal_reduced p scope l m (steps_arity start scope l m t.2) f.reduced)) Steps.stay));
+  };
+  reduced = f.reduced;
+}
+
+pub rewritten_no_turns : (n : ℕ) (x : Name) (p q b : Rel) → n ≡ 0 → IsRewritten p q → IsRewritten p (Rel.iterate n x q b)
+rewritten_no_turns n x p q b e f = rw e (no_turns x p q b f)
+
+pub rewritten_iterate : (n : ℕ) (x : Name) (p q b c : Rel) → (n ≡ 0 → ⊥) → IsRewritten p q → IsRewritten b c → IsRewritten (Rel.iterate n x p b) (Rel.iterate n x q c)
+rewritten_iterate n x p q b c k f g = record { reached = reached_iterate n x p q b c f.reached g.reached; reduced = (f.reduced, g.reduced, k) }
+
+-- a select of a select that copies nothing becomes one
+selects : (r : Rel) (ss ts us : List Scalar) → Reduced (Rel.select r ss) → AllByRecursion NormalScalar ts → UsesOnce ts → AllZip IsFolded us (map (replaced ss) ts) → IsReached (Rel.select r us) (Rel.select (Rel.select r ss) ts)
+unfolding HasArity
+selects r ss ts us n k once h = record {
+  steps = λ scope l m t. Steps.next
+      (RelStep.selects (normal_reduced (Rel.select r ss) scope l t.0 t.1 n) k once)
+      (steps_within (λ vs. Rel.select r vs) (λ vs ws s. RelStep.select_scalar s) (scalars_steps us (map (replaced ss) ts) h));
+}
+
+pub rewritten_selects : (q r p : Rel) (ss ts us : List Scalar) → q ≡ Rel.select r ss → Reduced (Rel.select r ss) → AllByRecursion NormalScalar ts → UsesOnce ts → AllZip IsFolded us (map (replaced ss) ts) → IsRewritten p (Rel.select r us) → IsRewritten p (Rel.select q ts)
+rewritten_selects q r p ss ts us e n k once h f = rw e (rewritten_then p (Rel.select r us) (Rel.select (Rel.select r ss) ts) f (selects r ss ts us n k once h))
+
+-- another select stays
+pub rewritten_select : (r : Rel) (ss : List Scalar) → (IsSelect r → AllByRecursion (λ c. c < max_fields) (uses_all ss) → UsesOnce ss → ⊥) → Reduced r → AllByRecursion NormalScalar ss → IsRewritten (Rel.select r ss) (Rel.select r ss)
+rewritten_select r ss n h k = record { reached = reached_itself (Rel.select r ss); reduced = (h, k, n) }
 
 -- what follows of an answer follows where there is one
 pub ok_then : {X E : Type 0} (r : Result X E) (P Q : X → Type 0) → ((x : X) → P x → Q x) → IfOk r P → IfOk r Q

@@ -4,6 +4,7 @@ ghost use Rattle.std.specs.Prelude.{◌≡◌, ◌≤◌, ℕ, List, IfOk, map};
 ghost use Rattle.semantics.specs.Meaning.{program_meaning};
 ghost use Rattle.semantics.specs.Multiset.{Record};
 ghost use Rattle.semantics.specs.Normal.{NormalProgram};
+ghost use Rattle.semantics.specs.Rewriting.{RewritesTo};
 ghost use Rattle.semantics.specs.Size.{program_size};
 ghost use Rattle.expr_tree.specs.Plain.{plain_let, plain_program, plain_rel};
 ghost use Rattle.expr_tree.specs.Views.{let_tree, rel_tree};
@@ -47,7 +48,7 @@ fn reached_lets<A: Allocator + Copy>(
     Ok(kept)
 }
 
-/// The query normalised: no rule applies to what is given back, which means the same and is no larger.
+/// The query normalised: reached by the rules, from the inside out, and no rule applies to it; it means the same and is no larger.
 ///
 /// - `+`, `-` and `*` of two literals and the negation of a literal become the literal of the wrapped value;
 /// - a `where` of a `where` becomes one, with the inner condition first;
@@ -65,6 +66,7 @@ pub fn normalise<A: Allocator + Copy>(typed: Typed<A>) -> Result<Typed<A>, NoMem
         program_meaning (plain_program (typed_program made)) records ≡ program_meaning (plain_program (typed_program typed)) records) }
     ensures no_larger { IfOk result (λ made. program_size (plain_program (typed_program made)) ≤ program_size (plain_program (typed_program typed))) }
     ensures normal { IfOk result (λ made. NormalProgram (plain_program (typed_program made))) }
+    ensures reached { IfOk result (λ made. RewritesTo (plain_program (typed_program typed)) (plain_program (typed_program made))) }
 {
     let arity = typed.output_arity();
     let Program {

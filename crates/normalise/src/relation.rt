@@ -1,6 +1,6 @@
 //! Relations rewritten: the parts first, then the rules at each node, which find the parts done.
 
-ghost use Rattle.std.specs.Prelude.{◌≡◌, IfOk, map};
+ghost use Rattle.std.specs.Prelude.{IfOk, map};
 ghost use Rattle.std.specs.List.{AllByRecursion};
 ghost use Rattle.semantics.specs.Query as query;
 ghost use Rattle.semantics.specs.Normal.{NormalCond, NormalScalar};
@@ -50,9 +50,7 @@ fn where_of<A: Allocator + Copy>(
 ) -> Result<Rel<A>, NoMemory>
     requires reduced { Reduced (plain_rel (rel_tree of.value)) }
     requires normal { NormalCond (plain_cond (cond_tree condition)) }
-    ensures rewritten { IfOk result (λ made. IsRewritten (plain_rel (rel_tree made)) (query.Rel.filter (plain_rel (rel_tree of.value)) (plain_cond (cond_tree condition)))) }
-    ensures order { IfOk result (λ made. (r : query.Rel) (c : query.Cond) → plain_rel (rel_tree of.value) ≡ query.Rel.filter r c →
-        plain_rel (rel_tree made) ≡ query.Rel.filter r (query.Cond.conjunction c (plain_cond (cond_tree condition)))) }
+    ensures { IfOk result (λ made. IsRewritten (plain_rel (rel_tree made)) (query.Rel.filter (plain_rel (rel_tree of.value)) (plain_cond (cond_tree condition)))) }
 {
     match of.take() {
         Rel::Where(_, inner, first) => {

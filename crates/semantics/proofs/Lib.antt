@@ -9,6 +9,8 @@ pub mod NamesAmong
 pub mod RulesKeepMeaning
 pub mod RulesKeepArity
 pub mod FusedSelects
+pub mod StepsKeep
+pub mod OneNormalForm
 pub mod LexicographicOrder
 pub mod TimesBefore
 pub mod EdgeNumbers

@@ -95,7 +95,7 @@ rest_reached (a ∷ as') out n scope scope' all h none t = (
     absent y m true e = e
     absent y m false e = none y e
 
-rest_dropped : (before : List Let) (a : Let) (after : List Let) (out : Rel) (n : ℕ) (scope : Scope) → AllReached after out → (Reaches a.name after out → ⊥) → RestFits scope (before ++ (a ∷ after)) out n → RestFits scope (before ++ after) out n
+pub rest_dropped : (before : List Let) (a : Let) (after : List Let) (out : Rel) (n : ℕ) (scope : Scope) → AllReached after out → (Reaches a.name after out → ⊥) → RestFits scope (before ++ (a ∷ after)) out n → RestFits scope (before ++ after) out n
 rest_dropped [] a after out n scope all u t = rest_reached after out n (entry a.name t.0 ∷ scope) scope all (λ y j. agree y j (same_name a.name y) refl) (λ y. absent y (same_name a.name y)) t.3
   where
     agree : (y : Name) → Reaches y after out → (q : Bool) → same_name a.name y ≡ q → cond q (Some t.0) (lookup scope y) ≡ lookup scope y

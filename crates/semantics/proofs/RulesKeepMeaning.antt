@@ -105,7 +105,7 @@ distinct_distinct (x ∷ xs) = go (nat_lt 0 (count x xs)) refl (distinct_distinc
 
 -- ---- a relation looks at its free names alone
 
-turns-same : (f g : List Record → List Record) → ((xs : List Record) → f xs ≡ g xs) → (n : ℕ) (xs ys : List Record) → xs ≡ ys → repeated f n xs ≡ repeated g n ys
+pub turns-same : (f g : List Record → List Record) → ((xs : List Record) → f xs ≡ g xs) → (n : ℕ) (xs ys : List Record) → xs ≡ ys → repeated f n xs ≡ repeated g n ys
 turns-same f g h zero xs ys e = e
 turns-same f g h (suc n) xs ys e = h (repeated f n xs) ∙ ap g (turns-same f g h n xs ys e)
 

@@ -5,6 +5,7 @@ pub mod Meaning
 pub mod FreeNames
 pub mod Size
 pub mod Normal
+pub mod Rewriting
 pub mod Typing
 pub mod Time
 pub mod Kinds

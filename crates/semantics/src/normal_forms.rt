@@ -4,8 +4,9 @@ ghost use mir.Syntax.{w64};
 ghost use Rattle.semantics.specs.Multiset.{Record};
 ghost use Rattle.semantics.specs.Query.{Scalar, Cond, Name, Rel, Input, Let, Program};
 ghost use Rattle.semantics.specs.Meaning.{value, Names, meaning, program_meaning};
-ghost use Rattle.semantics.specs.Size.{rel_size};
-ghost use Rattle.semantics.specs.Normal.{UsesOnce, replaced, Reaches, AllReached};
+ghost use Rattle.semantics.specs.Size.{rel_size, program_size};
+ghost use Rattle.semantics.specs.Normal.{UsesOnce, replaced, Reaches, AllReached, NormalRel, NormalProgram};
+ghost use Rattle.semantics.specs.Rewriting.{RelStep, ProgramStep, RewritesTo, IsNormalForm};
 ghost use Rattle.semantics.specs.Typing.{Scope, HasArity, WellTyped};
 
 /// Folding of literals keeps a scalar's value.
@@ -71,4 +72,28 @@ pub fn law_unreached_let_keeps_arity()
         AllReached after out → (Reaches a.name after out → ⊥) →
         WellTyped (record { inputs = inputs; lets = before ++ (a ∷ after); output = out }) n →
         WellTyped (record { inputs = inputs; lets = before ++ after; output = out }) n }
+{}
+
+/// A step of a relation keeps the meaning and the arity and makes it no larger, and a relation to which no rule applies has none.
+pub fn law_steps()
+    ensures meaning { (p q : Rel) (names : Names) → RelStep p q → meaning p names ≡ meaning q names }
+    ensures arity { (p q : Rel) (scope : Scope) (loops n : ℕ) → RelStep p q → HasArity p scope loops n → HasArity q scope loops n }
+    ensures no_larger { (p q : Rel) → RelStep p q → rel_size q ≤ rel_size p }
+    ensures normal { (p q : Rel) → NormalRel p → RelStep p q → ⊥ }
+{}
+
+/// A program that is rewritten keeps its inputs, its meaning and its type, and is no larger; one may go on from where it came to, and
+/// from a normal form there is no step.
+pub fn law_rewriting()
+    ensures inputs { (p q : Program) → RewritesTo p q → q.inputs ≡ p.inputs }
+    ensures meaning { (p q : Program) (records : ℕ → List Record) → RewritesTo p q → program_meaning q records ≡ program_meaning p records }
+    ensures typed { (p q : Program) (n : ℕ) → RewritesTo p q → WellTyped p n → WellTyped q n }
+    ensures no_larger { (p q : Program) → RewritesTo p q → program_size q ≤ program_size p }
+    ensures composed { (p q r : Program) → RewritesTo p q → RewritesTo q r → RewritesTo p r }
+    ensures normal { (p q : Program) → NormalProgram p → ProgramStep p q → ⊥ }
+{}
+
+/// A program rewrites to one normal form alone.
+pub fn law_one_normal_form()
+    ensures { (p q r : Program) → IsNormalForm q p → IsNormalForm r p → q ≡ r }
 {}

@@ -1,31 +1,37 @@
-use Rattle.std.proofs.Common.{map, sym, ap, subst, ◌∙◌}
-use Rattle.semantics.specs.Meaning.{program_meaning}
+use Rattle.std.proofs.Common.{sym, subst}
 use Rattle.semantics.specs.Normal.{NormalProgram}
-use Rattle.expr_tree.specs.Plain.{plain_input, plain_let, plain_program}
-use Rattle.expr_tree.specs.Views.{let_tree}
-use Rattle.normalise.proofs.KeptLets.{typed_output, meaning-output, normal_program}
+use Rattle.semantics.specs.Rewriting.{RewritesTo}
+use Rattle.semantics.proofs.StepsKeep.{rewrites_meaning, rewrites_typed, rewrites_smaller}
+use Rattle.expr_tree.specs.Plain.{plain_program}
+use Rattle.expr_tree.specs.Views.{program_tree}
+use Rattle.typing.specs.Shown.{typed_program}
+use Rattle.normalise.proofs.KeptLets.{program_rewritten, normal_program}
 use Rattle.normalise.proofs.program.normalise.Goals as goal
 
 pub new-requires : goal.new-requires
 new-requires g c =
-    let made = c.in_ok-output.ensures in
     let kept = rw c.deref.ensures at c.in_ok-lets.ensures in
-    rw c.output_arity-arity.ensures (kept.keeps.typed _ _ (typed_output _ _ _ _ _ made.keeps c.into_program-inputs.ensures.typed))
+    let typed = c.into_program-inputs.ensures.typed in
+    rw c.output_arity-arity.ensures (rewrites_typed (program_rewritten _ _ _ _ _ _ c.in_ok-output.ensures.reached kept.steps typed) _ typed)
 
-pub returns-clause-meaning : goal.returns-clause-meaning
-returns-clause-meaning g c records =
-    let made = c.in_ok-output.ensures in
+pub returns-clause-reached : goal.returns-clause-reached
+returns-clause-reached g c =
     let kept = rw c.deref.ensures at c.in_ok-lets.ensures in
-    let inputs = map plain_input c.into_program-inputs.result.inputs.items in
-    let first = map plain_let (map let_tree c.into_program-inputs.result.lets.items) in
-    ap (λ p. program_meaning (plain_program p) records) c.new.ensures.program
-    ∙ kept.keeps.same_meaning inputs records
-    ∙ meaning-output inputs first _ _ records made.keeps
-    ∙ ap (λ p. program_meaning (plain_program p) records) c.into_program-inputs.ensures.value
+    let steps = program_rewritten _ _ _ _ _ _ c.in_ok-output.ensures.reached kept.steps c.into_program-inputs.ensures.typed in
+    let made = subst (λ p. RewritesTo (plain_program (program_tree c.into_program-inputs.result)) (plain_program p)) (sym c.new.ensures.program) steps in
+    subst (λ p. RewritesTo (plain_program p) (plain_program (typed_program c.new.result))) c.into_program-inputs.ensures.value made
+
+-- what steps keep
+pub returns-clause-meaning : goal.returns-clause-meaning
+returns-clause-meaning g c records = rewrites_meaning (returns-clause-reached g c) records
+
+pub returns-clause-no_larger : goal.returns-clause-no_larger
+returns-clause-no_larger g c = rewrites_smaller (returns-clause-reached g c)
 
 pub returns-clause-normal : goal.returns-clause-normal
 returns-clause-normal g c =
     let made = c.in_ok-output.ensures in
     let kept = rw c.deref.ensures at c.in_ok-lets.ensures in
-    let typed = kept.keeps.typed _ _ (typed_output _ _ _ _ _ made.keeps c.into_program-inputs.ensures.typed) in
-    subst (λ p. NormalProgram (plain_program p)) (sym c.new.ensures.program) (normal_program _ _ _ _ typed kept.reduced made.reduced kept.reached)
+    let typed = c.into_program-inputs.ensures.typed in
+    let steps = program_rewritten _ _ _ _ _ _ made.reached kept.steps typed in
+    subst (λ p. NormalProgram (plain_program p)) (sym c.new.ensures.program) (normal_program _ _ _ _ (rewrites_typed steps _ typed) kept.reduced made.reduced kept.reached)

@@ -9,7 +9,7 @@ use Rattle.normalise.proofs.program.reached_lets.Goals as goal
 
 pub loop-item-init : goal.loop-item-init
 loop-item-init g c = record {
-  keeps = rw c.new-kept.ensures.items (lets_at_first _ _);
+  steps = rw c.new-kept.ensures.items (lets_at_first _ _);
   reduced = rw c.new-kept.ensures.items tt;
   reached = rw c.new-kept.ensures.items tt;
   finds = rw c.new-kept.ensures.items (finds_output (contains same_name c.add_free.new.names) (contains same_name c.new-reached.result) _ (λ y. ap (list_any (same_name y)) c.new-reached.ensures.empty) c.in_ok-add_free.ensures);
@@ -22,7 +22,7 @@ loop-item-preserved g c =
     let no : c.contains.result ≡ false = search rules in
     let not = not_reached (contains same_name c.loop-item.reached) now.name _ _ c.contains.result inv.finds c.contains.ensures no in
     record {
-      keeps = lets_dropped _ now _ _ _ inv.reached not (popped let_tree plain_let c.loop-item.lets.items c.pop.new.self.items c.in-Some.item _ _ _ c.in-Some.ensures.items inv.keeps);
+      steps = lets_dropped _ now _ _ _ inv.reached not (popped let_tree plain_let c.loop-item.lets.items c.pop.new.self.items c.in-Some.item _ _ _ c.in-Some.ensures.items inv.steps);
       reduced = inv.reduced;
       reached = inv.reached;
       finds = inv.finds;
@@ -38,7 +38,7 @@ loop-item-preserved-in-Continue-branch-4 g c =
     let reached = (inv.finds.has now.name).0 (sym c.contains.ensures ∙ yes) in
     let front = last_first c.loop-item.kept.items c.push.new.self.items _ c.in_ok-push.ensures.items in
     record {
-      keeps = rw front (lets_rewritten _ now.name after now.value _ _ _ made.keeps (popped let_tree plain_let c.loop-item.lets.items c.pop.new.self.items c.in-Some.item _ _ _ c.in-Some.ensures.items inv.keeps));
+      steps = rw front (lets_rewritten _ now.name after now.value _ _ _ made.reached (popped let_tree plain_let c.loop-item.lets.items c.pop.new.self.items c.in-Some.item _ _ _ c.in-Some.ensures.items inv.steps));
       reduced = rw front (made.reduced, inv.reduced);
       reached = rw front (reached, inv.reached);
       finds = rw front (finds_more (contains same_name c.loop-item.reached) (contains same_name c.add_free-then-contains.new.names) now.name after _ _ reached inv.finds (rw c.deref.ensures at c.in_ok-add_free-2.ensures));

@@ -6,13 +6,13 @@ use Rattle.semantics.specs.Normal.{AllReached}
 use Rattle.semantics.specs.Query.{Let}
 use Rattle.expr_tree.specs.Plain.{plain_let, plain_rel}
 use Rattle.expr_tree.specs.Views.{let_tree, rel_tree}
-use Rattle.normalise.specs.Reached.{Finds, KeepsLets}
+use Rattle.normalise.specs.Reached.{Finds, LetsReached}
 use Rattle.normalise.specs.Rewritten.{Reduced}
 use Rattle.normalise.proofs.program.reached_lets.Given as goal
 
 abbrev pub invariant-loop-item : goal.invariant-loop-item
 invariant-loop-item g l = record {
-  keeps : KeepsLets (map plain_let (map let_tree l.lets.items) ++ map plain_let (map let_tree (reverse l.kept.items))) (map plain_let (map let_tree l.fn.lets.items)) (plain_rel (rel_tree l.output));
+  steps : LetsReached (map plain_let (map let_tree l.lets.items) ++ map plain_let (map let_tree (reverse l.kept.items))) (map plain_let (map let_tree l.fn.lets.items)) (plain_rel (rel_tree l.output));
   reduced : AllByRecursion (λ (a : Let). Reduced a.value) (map plain_let (map let_tree (reverse l.kept.items)));
   reached : AllReached (map plain_let (map let_tree (reverse l.kept.items))) (plain_rel (rel_tree l.output));
   finds : Finds (contains same_name l.reached) (map plain_let (map let_tree (reverse l.kept.items))) (plain_rel (rel_tree l.output));

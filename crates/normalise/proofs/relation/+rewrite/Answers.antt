@@ -1,38 +1,38 @@
 use Rattle.normalise.proofs.Folding.{normal-folded}
-use Rattle.normalise.proofs.Rewriting.{ok_then, rewritten_then, keeps_select, keeps_filter, keeps_concat, keeps_join, keeps_group, keeps_distinct, rewritten_no_turns, rewritten_iterate}
+use Rattle.normalise.proofs.Rewriting.{ok_then, reached_itself, rewritten_then, reached_select, reached_filter, reached_concat, reached_join, reached_group, reached_distinct, rewritten_no_turns, rewritten_iterate}
 use Rattle.normalise.proofs.relation.+rewrite.Goals as goal
 
 pub rewritten-returns-in_ok-of-in-Select : goal.rewritten-returns-in_ok-of-in-Select
 rewritten-returns-in_ok-of-in-Select g t c =
     let of = c.in_ok-of-in-Select.ensures in
-    rw c.in-Select.is (rewritten_then _ _ _ (c.select_of.ensures of.reduced (normal-folded _ _ c.fold_all.ensures)) (keeps_select _ _ _ _ of.keeps c.fold_all.ensures))
+    rw c.in-Select.is (rewritten_then _ _ _ (c.select_of.ensures of.reduced (normal-folded _ _ c.fold_all.ensures)) (reached_select _ _ _ _ of.reached c.fold_all.ensures))
 
 pub rewritten-returns-in_ok-of-in-Where : goal.rewritten-returns-in_ok-of-in-Where
 rewritten-returns-in_ok-of-in-Where g t c =
     let of = c.in_ok-of-in-Where.ensures in
-    rw c.in-Where.is (ok_then c.where_of.result _ _ (λ made h. rewritten_then _ _ _ h (keeps_filter _ _ _ _ of.keeps c.folded_cond-condition.ensures)) c.where_of.ensures.rewritten)
+    rw c.in-Where.is (ok_then c.where_of.result _ _ (λ made h. rewritten_then _ _ _ h (reached_filter _ _ _ _ of.reached c.folded_cond-condition.ensures)) c.where_of.ensures)
 
 pub rewritten-returns-in_ok-right-in-Concat : goal.rewritten-returns-in_ok-right-in-Concat
 rewritten-returns-in_ok-right-in-Concat g t c =
     let left = c.in_ok-left-in-Concat.ensures in
     let right = c.in_ok-right-in-Concat.ensures in
-    rw c.in-Concat.is (record { keeps = keeps_concat _ _ _ _ left.keeps right.keeps; reduced = (left.reduced, right.reduced) })
+    rw c.in-Concat.is (record { reached = reached_concat _ _ _ _ left.reached right.reached; reduced = (left.reduced, right.reduced) })
 
 pub rewritten-returns-in_ok-right-in-Join : goal.rewritten-returns-in_ok-right-in-Join
 rewritten-returns-in_ok-right-in-Join g t c =
     let left = c.in_ok-left-in-Join.ensures in
     let right = c.in_ok-right-in-Join.ensures in
-    rw c.in-Join.is (record { keeps = keeps_join _ _ _ _ _ left.keeps right.keeps; reduced = (left.reduced, right.reduced) })
+    rw c.in-Join.is (record { reached = reached_join _ _ _ _ _ left.reached right.reached; reduced = (left.reduced, right.reduced) })
 
 pub rewritten-returns-in_ok-of-in-Group : goal.rewritten-returns-in_ok-of-in-Group
 rewritten-returns-in_ok-of-in-Group g t c =
     let of = c.in_ok-of-in-Group.ensures in
-    rw c.in-Group.is (record { keeps = keeps_group _ _ _ _ of.keeps; reduced = of.reduced })
+    rw c.in-Group.is (record { reached = reached_group _ _ _ _ of.reached; reduced = of.reduced })
 
 pub rewritten-returns-in_ok-of-in-Distinct : goal.rewritten-returns-in_ok-of-in-Distinct
 rewritten-returns-in_ok-of-in-Distinct g t c =
     let of = c.in_ok-of-in-Distinct.ensures in
-    rw c.in-Distinct.is (rewritten_then _ _ _ c.distinct_of.ensures (keeps_distinct _ _ of.keeps))
+    rw c.in-Distinct.is (rewritten_then _ _ _ c.distinct_of.ensures (reached_distinct _ _ of.reached))
 
 pub rewritten-returns-then-turns-eq0 : goal.rewritten-returns-then-turns-eq0
 rewritten-returns-then-turns-eq0 g t c =
@@ -44,3 +44,6 @@ rewritten-returns-in_ok-body-in-Iterate g t c =
     let start = c.in_ok-start-in-Iterate.ensures in
     let body = c.in_ok-body-in-Iterate.ensures in
     rw c.in-Iterate.is (rewritten_iterate c.in-Iterate.turns c.in-Iterate.name _ _ _ _ c.if-turns-eq0.false start body)
+
+pub rewritten-returns-in-Named : goal.rewritten-returns-in-Named
+rewritten-returns-in-Named g t c = rw c.in-Named.is (record { reached = reached_itself _; reduced = tt })

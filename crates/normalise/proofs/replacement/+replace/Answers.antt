@@ -1,4 +1,7 @@
-use Rattle.normalise.proofs.Folding.{negation-folded}
+use Rattle.std.proofs.Common.{rules, FitsSigned}
+use Rattle.std.specs.Int.{w64}
+use Rattle.std.proofs.lemmas.Int.{to_z-of_z}
+use Rattle.normalise.proofs.Folding.{folded_already, negation-folded}
 use Rattle.normalise.proofs.ColumnMarks.{uses-operator}
 use Rattle.normalise.proofs.Moved.{once_first, once_second, moves_both, replaced_both}
 use Rattle.normalise.proofs.replacement.+replace.Goals as goal
@@ -19,3 +22,8 @@ pub replaced-returns-in-Negate-clause-folded : goal.replaced-returns-in-Negate-c
 replaced-returns-in-Negate-clause-folded g t c normal once =
     let inner = c.replaced_in_box-inner.ensures.folded normal (rw c.in-Negate.is at once) in
     rw c.in-Negate.is (negation-folded _ _ _ (c.negation.ensures inner.normal) inner)
+
+pub replaced-returns-in-Literal-clause-folded : goal.replaced-returns-in-Literal-clause-folded
+replaced-returns-in-Literal-clause-folded g t c normal once =
+    let fits : FitsSigned w64 c.in-Literal.number = search rules in
+    rw (c.in-Literal.is, to_z-of_z w64 c.in-Literal.number fits) (folded_already _ tt)

@@ -1,0 +1,12 @@
+//! A text has one graph, or is too large, and not both.
+
+ghost use Rattle.std.specs.Prelude.{◌≡◌, ◌<◌, ℕ, List, length};
+ghost use Rattle.semantics.specs.Graph as graph;
+ghost use Rattle.semantics.specs.Query.{Input};
+ghost use Rattle.console.specs.Compiled.{IsCompiled, IsTooLarge};
+
+/// A text has at most one graph, and where it is too large that graph has over 4096 vertices, so that none is given.
+pub fn law_one_graph()
+    ensures same { (text : List ℕ) (g h : graph.Graph) (i j : List Input) → IsCompiled text g i → IsCompiled text h j → g ≡ h }
+    ensures large { (text : List ℕ) (g : graph.Graph) (i : List Input) → IsCompiled text g i → IsTooLarge text → 4096 < length g }
+{}
