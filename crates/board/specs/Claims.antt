@@ -1,28 +1,28 @@
--- What a claim answers.
-use Rattle.std.specs.Prelude.{◌≡◌, ◌≢◌, ◌⊎◌, ℕ, Bool, true, false, [], None}
-use Rattle.std.specs.List.{list_all}
-use Rattle.board.specs.Step.{Action}
-use Rattle.board.specs.World.{World, InputState}
-use Rattle.board.specs.Shown.{Shown, Goes}
-use Rattle.board.specs.Events.{HoldsJob}
-use Rattle.board.specs.declared.event.Claimed.{Claimed}
-use Rattle.board.specs.declared.event.Claimed.TheVariants.{Stopped, Busy, Work, Drained, Idle}
+-- What is handed out.
+use Rattle.std.specs.Prelude.{◌≡◌, ℕ, Some, None, slice_get, slice_index_or}
+use Rattle.lowering.specs.Shown.{shown_graph}
+use Rattle.machine.specs.World.{Message, Request, Event}
+use Rattle.events.specs.Jobs.{Pass}
+use Rattle.board.specs.Shown.{Shown, side_at, event_at}
+use Rattle.board.specs.Steps.{after_claim_message, after_claim_request}
 
--- every input is closed
-abbrev pub all_closed : World → Bool
-all_closed w = list_all (λ (i : InputState). i.closed) w.inputs
+-- the event is of this worker of the board, and the shard is that of its vertex
+pub record IsTaken (s : Shown) (k : ℕ) (p : Pass) : Type 0 where
+  pub worker : p.worker ≡ k
+  pub table : p.table ≡ (side_at s k).table
+  pub wired : p.job.wired ≡ (side_at s k).wired
+  pub shard : slice_index_or (side_at s k).shards (event_at (shown_graph s.graph) p.job.happening) None ≡ Some p.job.before
 
--- the world isn't stopped, and worker 0, the only one, holds nothing and has no message
-pub record HasNoWork (w : World) (worker : ℕ) : Type 0 where
-  pub runs : w.stopped ≡ false
-  pub there : worker ≡ 0
-  pub free : w.held ≡ None
-  pub mailbox : w.mailbox ≡ []
+pub record HandsMessage (s t : Shown) (worker at : ℕ) (p : Pass) : Type 0 where
+  pub message : Message
+  pub got : slice_get (side_at s worker).mail at ≡ Some message
+  pub happening : p.job.happening ≡ Event.arrival message
+  pub taken : IsTaken s worker p
+  pub state : t ≡ after_claim_message s worker at p.job
 
--- the answers, in the order in which they are tried
-abbrev pub Claims : Shown → ℕ → Shown → Claimed → Type 0
-Claims s worker t Stopped = (s.world.stopped ≡ true) × (t ≡ s)
-Claims s worker t Busy = (s.world.stopped ≡ false) × ((worker ≢ 0) ⊎ (s.world.held ≢ None)) × (t ≡ s)
-Claims s worker t (Work x) = (worker ≡ 0) × ((k : ℕ) × Goes s (Action.claim k) t) × HoldsJob t x.0 × (x.1 ≡ false)
-Claims s worker t Drained = HasNoWork s.world worker × (all_closed s.world ≡ true) × (t ≡ s)
-Claims s worker t Idle = HasNoWork s.world worker × (all_closed s.world ≡ false) × (t ≡ s)
+pub record HandsRequest (s t : Shown) (worker at : ℕ) (p : Pass) : Type 0 where
+  pub request : Request
+  pub got : slice_get (side_at s worker).requests at ≡ Some request
+  pub happening : p.job.happening ≡ Event.notification request
+  pub taken : IsTaken s worker p
+  pub state : t ≡ after_claim_request s worker at p.job

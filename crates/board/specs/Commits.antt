@@ -1,29 +1,38 @@
--- What a commit answers.
-use Rattle.std.specs.Prelude.{◌≡◌, ◌+◌, ◌++◌, Result, Ok, Err}
-use Rattle.board.specs.Chain.{sent}
-use Rattle.board.specs.World.{World}
-use Rattle.board.specs.Step.{Action, message, emitted_after, after_commit}
-use Rattle.board.specs.Views.{chain_of}
-use Rattle.board.specs.Shown.{Shown, Goes}
-use Rattle.board.specs.Events.{Job, HoldsJob, vertex_of}
-use Rattle.board.specs.declared.event.CommitRefusal.{CommitRefusal}
-use Rattle.board.specs.declared.event.CommitRefusal.TheVariants.{NoMemory, Stranger}
+-- What a commit makes.
+use Rattle.std.specs.Prelude.{◌≡◌, ◌+◌, ℕ, List, length, Some, slice_get}
+use Rattle.semantics.specs.Multiset.{Record, total}
+use Rattle.semantics.specs.Time.{at_epoch}
+use Rattle.lowering.specs.Shown.{shown_graph}
+use Rattle.machine.specs.Engine.{network}
+use Rattle.events.specs.Letters.{AreParcels}
+use Rattle.events.specs.declared.letter.Letter.{Letter}
+use Rattle.semantics.specs.Could.{Pointstamp}
+use Rattle.machine.specs.Active.{one_if_same, request_pointstamp, event_pointstamp}
+use Rattle.tokens.specs.declared.rule.Place.TheVariants.{Out}
+use Rattle.events.specs.Happenings.{requests_of}
+use Rattle.events.specs.Jobs.{Pass}
+use Rattle.events.specs.Outputs.{IsOutputOf}
+use Rattle.events.specs.declared.work.Output.{Output}
+use Rattle.board.specs.Desks.{letters_count}
+use Rattle.board.specs.Shown.{Shown, input_at, side_at, tables}
+use Rattle.board.specs.Steps.{after_commit, after_feed}
 
--- the world with what an event sends and emits
-abbrev pub settled : World → Job → World
-settled w j = record w {
-  mailbox = w.mailbox ++ message (j.message.edge + 1) j.message.epoch (sent (vertex_of j) j.message.records);
-  emitted = emitted_after (vertex_of j) j.message.epoch j.message.records w.emitted;
-}
+-- the event is one of this board's
+abbrev pub IsOf : Shown → Pass → Type 0
+IsOf s p = slice_get (tables s) p.worker ≡ Some p.table
 
--- Ok ends the event; want of memory leaves the board as it was, and the event whole; a stranger changes nothing
-abbrev pub Commits : Shown → Job → Shown → {T : Type 0} → Result T CommitRefusal → Type 0
-Commits s j t (Ok _) = HoldsJob s j × Goes s Action.commit t
-Commits s j t (Err (NoMemory d)) = HoldsJob s j × (d ≡ j) × (t ≡ s)
-Commits s j t (Err Stranger) = (HoldsJob s j → ⊥) × (t ≡ s)
+-- the event was out; its output is what it leaves, and its pointstamps are those that are active then
+pub record Settles (s t : Shown) (before after : Pointstamp → ℕ) (p : Pass) : Type 0 where
+  pub out : (side_at s p.worker).place ≡ Out p.job
+  pub output : Output
+  pub is : IsOutputOf p.worker p.job output
+  pub state : t ≡ after_commit s p.worker p.job output.shard.value output.sent.items output.emitted output.asked
+  pub content : (q : Pointstamp) → after q + one_if_same q (event_pointstamp p.job.happening)
+      ≡ letters_count q output.sent.items + total (λ n. one_if_same q (request_pointstamp n)) (requests_of output.asked) + before q
 
--- the same, with the world that the step leaves
-abbrev pub CommitsExactly : Shown → Job → Shown → {T : Type 0} → Result T CommitRefusal → Type 0
-CommitsExactly s j t (Ok _) = HoldsJob s j × (t ≡ record s { world = after_commit (chain_of s.graph) s.world j.message })
-CommitsExactly s j t (Err (NoMemory d)) = HoldsJob s j × (d ≡ j) × (t ≡ s)
-CommitsExactly s j t (Err Stranger) = (HoldsJob s j → ⊥) × (t ≡ s)
+-- the records were fed, and their messages' pointstamps are active
+pub record Feeds (s t : Shown) (before after : Pointstamp → ℕ) (input : ℕ) (batch : List Record) : Type 0 where
+  pub letters : List Letter
+  pub parcels : AreParcels (network (shown_graph s.graph) (length s.sides)) 0 input (at_epoch (input_at s input).open_epoch) (λ q. batch) letters
+  pub state : t ≡ after_feed s input batch letters
+  pub content : (q : Pointstamp) → after q ≡ letters_count q letters + before q

@@ -1,25 +1,96 @@
 -- What a board shows.
-use Rattle.std.specs.Prelude.{◌≡◌}
-use Rattle.board.specs.Views.{GraphParts, chain_of}
-use Rattle.board.specs.World.{World}
-use Rattle.board.specs.Step.{Action, Step}
-use Rattle.board.specs.Run.{IsReached}
+use Rattle.std.specs.Prelude.{ℕ, Bool, true, false, List, [], ◌∷◌, ◌++◌, length, map, Option, slice_index_or}
+use Rattle.atomic_table.specs.Seated.{TableId}
+use Rattle.semantics.specs.Multiset.{Record}
+use Rattle.semantics.specs.Graph.{Graph, target}
+use Rattle.semantics.specs.Could.{Location}
+use Rattle.lowering.specs.Shown.{GraphValue, shown_graph}
+use Rattle.machine.specs.Network.{Network}
+use Rattle.machine.specs.Engine.{network}
+use Rattle.machine.specs.World.{Message, Request, Event, Held}
+use Rattle.vertices.specs.declared.shard.Shard.{Shard}
+use Rattle.tokens.specs.declared.rule.Place.{Place}
+use Rattle.tokens.specs.declared.rule.Place.TheVariants.{Home, Out, Lost}
+use Rattle.events.specs.Jobs.{Job}
+use Rattle.events.specs.Wired.{Wired}
 
--- its graph and the world
+-- batches by epoch, from epoch 0 on
+abbrev pub Epochs : Type 0
+Epochs = List (List (List Record))
+
+-- batches, one behind the other
+abbrev pub joined : List (List Record) → List Record
+joined [] = []
+joined (b ∷ bs) = b ++ joined bs
+
+abbrev pub records_at : Epochs → ℕ → List Record
+records_at es e = joined (slice_index_or es e [])
+
+-- an input
+pub record InputShown : Type 0 where
+  pub open_epoch : ℕ
+  pub closed : Bool
+  pub fed : Epochs
+
+-- What a worker has. Its table is what its events are known by; its place says where the shard of its event is. The shards are by
+-- vertex; that of an event that is out isn't there.
+pub record Side : Type 0 where
+  pub wired : Wired
+  pub table : TableId
+  pub mail : List Message
+  pub requests : List Request
+  pub place : Place Job
+  pub shards : List (Option Shard)
+
 pub record Shown : Type 0 where
-  pub graph : GraphParts
-  pub world : World
+  pub graph : GraphValue
+  pub inputs : List InputShown
+  pub sides : List Side
+  pub emitted : Epochs
+  pub stopped : Bool
 
--- the board took this step, over the same graph
-pub record Goes (s : Shown) (a : Action) (t : Shown) : Type 0 where
-  pub step : Step (chain_of s.graph) s.world a t.world
-  pub graph : t.graph ≡ s.graph
+-- the network that it runs
+abbrev pub net : Shown → Network
+net s = network (shown_graph s.graph) (length s.sides)
 
--- what was fed stands as it was, over the same graph
-pub record KeepsFed (s t : Shown) : Type 0 where
-  pub inputs : t.world.inputs ≡ s.world.inputs
-  pub graph : t.graph ≡ s.graph
+-- what stands beyond the last
+abbrev pub no_input : InputShown
+no_input = record { open_epoch = 0; closed = false; fed = [] }
 
--- some run over its graph leads to the world that it shows
-pub record IsKept (s : Shown) : Type 0 where
-  pub reached : IsReached (chain_of s.graph) s.world
+abbrev pub no_table : TableId
+no_table = record { words = 0; slots = 0; views_name = 0; atom = 0; block = 0; offset = 0; slot_names = [] }
+
+abbrev pub no_wired : Wired
+no_wired = record { graph = record { vertices = []; inputs = []; arities = [] }; workers = 0 }
+
+abbrev pub no_side : Side
+no_side = record { wired = no_wired; table = no_table; mail = []; requests = []; place = Home; shards = [] }
+
+abbrev pub input_at : Shown → ℕ → InputShown
+input_at s i = slice_index_or s.inputs i no_input
+
+abbrev pub side_in : List Side → ℕ → Side
+side_in xs k = slice_index_or xs k no_side
+
+abbrev pub side_at : Shown → ℕ → Side
+side_at s k = side_in s.sides k
+
+-- the tables by which the workers' events are known
+abbrev pub tables : Shown → List TableId
+tables s = map (λ (x : Side). x.table) s.sides
+
+-- what a worker holds
+abbrev pub held_of : Place Job → Held
+held_of Home = Held.nothing
+held_of (Out j) = Held.holding false j.happening
+held_of (Lost j) = Held.holding true j.happening
+
+-- the vertex that an event is at
+abbrev pub event_at : Graph → Event → ℕ
+event_at g (Event.arrival m) = target g m.edge
+event_at g (Event.notification n) = n.vertex
+
+-- the vertex of a location
+abbrev pub location_vertex : Graph → Location → ℕ
+location_vertex g (Location.edge e) = target g e
+location_vertex g (Location.vertex v) = v

@@ -1,215 +1,399 @@
-//! The board: the core state of a run with one worker.
-//!
-//! Records enter by `feed`, wait on an edge as messages, go out to the worker by `claim`, come back by `commit`, and leave by
-//! `emitted`. Each call on `&mut self` is one step of the engine (`specs/Step.antt`), or is refused and changes nothing. A worker
-//! holds at most one event; an event given up is held for good, and its board stopped. `commit` knows an event by its records,
-//! epoch, edge and vertex; it makes its growths first.
+//! The board: the core state of a run.
 
-ghost use Rattle.std.specs.Prelude.{◌≡◌, ℕ, List, [], ◌∷◌, IfOk, OnOk, OnErr};
-ghost use Rattle.board.specs.Claims.{Claims};
-ghost use Rattle.board.specs.Commits.{Commits};
-ghost use Rattle.board.specs.Headline.{Headline};
-ghost use Rattle.board.specs.Refusals.{Answers, AnswersOnly, feed_refusal, seal_refusal, input_refusal, abandon_refusal};
-ghost use Rattle.board.specs.Shown.{Shown, Goes, KeepsFed};
-ghost use Rattle.board.specs.Step.{Action};
-ghost use Rattle.board.specs.Views.{chain_of};
-ghost use Rattle.board.specs.World as world;
+ghost use Rattle.std.specs.Prelude.{◌≡◌, ◌==◌, ◌↔◌, ◌<◌, ◌≤◌, ℕ, [], cond, length, slice_index_or, IfOk, IsTrue, OnOk, OnErr};
+ghost use Rattle.lowering.specs.Shown.{shown_graph};
+ghost use Rattle.semantics.specs.Could.{Pointstamp as Active, at_vertex};
+ghost use Rattle.semantics.specs.Graph.{input_count, output_number};
+ghost use Rattle.semantics.specs.Query.{Program};
+ghost use Rattle.semantics.specs.Time.{at_epoch};
+ghost use Rattle.machine.specs.Step.{Step};
+ghost use Rattle.machine.specs.World.{opening};
+ghost use Rattle.board.specs.Answers.{AnswersOnly, AnswersOr, Claims, Commits, Holds, feed_refusal, input_refusal, seal_refusal};
+ghost use Rattle.board.specs.Kept.{Goes};
+ghost use Rattle.board.specs.Commits.{IsOf};
+ghost use Rattle.board.specs.Desks.{is_out};
+ghost use Rattle.board.specs.Looks.{IsLookAt};
+ghost use Rattle.board.specs.Picks.{Picks};
+ghost use Rattle.board.specs.Promises.{CountsPassed, HasPassed, Headline, IsDrained, IsOpening, RunsProgram};
+ghost use Rattle.board.specs.Showing.{Shows};
+ghost use Rattle.board.specs.Shown.{Shown, input_at, side_at, tables};
 
-use crate::event::{Claimed, CommitRefusal, Done, Work};
-use crate::graph::Graph;
-use crate::records::{Records, all_have, one};
+use crate::choices::kth_deliverable;
+use crate::frontier::first_deliverable;
+use crate::look::Look;
+use crate::making::open_inputs;
+use crate::passed::{output_place, passed_now};
 use crate::refusal::StepRefusal;
 use crate::state::State;
-use record_core::Record;
-use std::alloc::{AllocError, Global};
+use events::{Done, Work};
+use expr_tree::NoMemory;
+use loop_context::Time;
+use lowering::{Graph, Location, VertexId};
+use path_summary::{Paths, Pointstamp};
+use progress::{LocationTracker, Progress};
+use rows::Batch;
+use std::alloc::Global;
 use std::marker::Model;
 use std::sync::Arc;
 
-/// The core state.
-#[derive(Drop)]
-pub struct Board {
-    state: State,
+/// What a claim answers: the first that applies.
+pub enum Claimed {
+    /// The board is stopped.
+    Stopped,
+    /// The worker holds an event, or isn't there.
+    Busy,
+    /// An event for the worker.
+    Work(Work),
+    /// Every input is closed, nothing waits, and no worker holds an event: there is nothing left to do.
+    Drained,
+    /// There is nothing that the worker could do now.
+    Idle,
 }
 
-impl Model for Board {
-    ghost use Rattle.board.specs.Shown.{Shown, IsKept};
-    ghost use Rattle.expr_tree.specs.contracts.scalar.Scalar as scalar;
-    ghost use Rattle.expr_tree.specs.contracts.condition.Cond as condition;
+/// Why a commit was refused.
+pub enum CommitRefusal {
+    /// An allocator refused a growth. The board is as it was, and the event whole.
+    NoMemory(Done),
+}
+
+/// The core state, with a tracker of the active pointstamps, and the number of epochs that have passed.
+#[derive(Drop)]
+pub struct Board<P: Progress> {
+    state: State,
+    tracker: P,
+    passed: u32,
+}
+
+impl<P: Progress> Model for Board<P> {
+    ghost use Rattle.std.specs.Coded.{codes};
+    ghost use Rattle.vertices.specs.contracts.shard.Shard as shard_row;
     ghost use Rattle.std.specs.contracts.alloc.Global as heap;
     ghost use Rattle.std.specs.contracts.impls.GlobalAllocator.TheImpl as allocates;
-    ghost use Rattle.std.specs.Coded.{codes};
+    ghost use Rattle.expr_tree.specs.contracts.scalar.Scalar as scalar;
+    ghost use Rattle.expr_tree.specs.contracts.condition.Cond as condition;
+    ghost use Rattle.board.specs.Shown.{Shown};
+    ghost use Rattle.board.specs.Kept.{Keeps};
 
     ghost Value = { Shown };
 
-    ghost coded = { Prim.hlevel (codes, (scalar.the_row heap.the_row allocates.ghosts).coded, (condition.the_row heap.the_row allocates.ghosts).coded) };
+    ghost coded = { Prim.hlevel (codes, shard_row.the_row.coded, (scalar.the_row heap.the_row allocates.ghosts).coded, (condition.the_row heap.the_row allocates.ghosts).coded) };
 
     ghost view = { λ b. b.state };
 
-    ghost invariant = { λ b. IsKept b.state };
+    ghost invariant = { λ b. Keeps (P.graph b.tracker) (P.content b.tracker) b.passed b.state };
 }
 
-impl Board {
-    /// A board over a graph, with one worker. Every input is open at epoch 0.
-    pub fn new(alloc: Global, graph: Arc<Graph, Global>, workers: u32) -> Result<Board, AllocError>
-        requires { workers ≡ 1 }
-        ensures { IfOk result (λ board. board ≡ record { graph = graph.value; world = world.opening (chain_of graph.value) }) }
+impl Board<LocationTracker> {
+    /// A board that runs a graph on 1 to 64 workers, with a tracker of its own. The inputs are open at epoch 0.
+    pub fn new(
+        alloc: Global,
+        graph: Arc<Graph, Global>,
+        workers: u32,
+    ) -> Result<Board<LocationTracker>, NoMemory>
+        requires some { 0 < workers }
+        requires few { workers ≤ 64 }
+        ensures opening { IfOk result (λ b. IsOpening graph.value workers b) }
+        ensures shows { IfOk result (λ b. Shows b opening) }
     {
-        let _ = workers;
-        let state = State::new(alloc, graph)?;
-        Ok(Board { state })
+        let paths = Arc::new(alloc, Paths::of(alloc, &graph)?)?;
+        let tracker = LocationTracker::new(alloc, paths)?;
+        let board = Board::with_tracker(alloc, graph, workers, tracker)?;
+        Ok(board)
+    }
+}
+
+impl<P: Progress> Board<P> {
+    /// A board that runs a graph on 1 to 64 workers, with a tracker of that graph in which nothing is active. The inputs are open at
+    /// epoch 0.
+    pub fn with_tracker(
+        alloc: Global,
+        graph: Arc<Graph, Global>,
+        workers: u32,
+        mut tracker: P,
+    ) -> Result<Board<P>, NoMemory>
+        requires some { 0 < workers }
+        requires few { workers ≤ 64 }
+        requires same { P.graph tracker ≡ shown_graph graph.value }
+        requires none { (q : Active) → P.content tracker q ≡ 0 }
+        ensures opening { IfOk result (λ b. IsOpening graph.value workers b) }
+        ensures shows { IfOk result (λ b. Shows b opening) }
+    {
+        let state = State::opening(alloc, graph, workers)?;
+        let plan = state.graph();
+        plan.law_of_dataflow();
+        plan.law_of_ports();
+        open_inputs(&mut tracker, plan.input_count() as u32)?;
+        Ok(Board {
+            state,
+            tracker,
+            passed: 0,
+        })
     }
 
-    /// Feeds a record to an input at its open epoch.
-    pub fn feed(&mut self, input: u32, item: Record) -> Result<(), StepRefusal>
-        ensures step { OnOk result (Goes self.old (Action.feed input (item ∷ [])) self.new) }
+    /// Feeds a batch to an input at its open epoch.
+    pub fn feed(&mut self, alloc: Global, input: u32, batch: Batch) -> Result<(), StepRefusal>
+        ensures step { OnOk result (Goes self.old (Step.feed input batch) self.new) }
         ensures refused { OnErr result (self.new ≡ self.old) }
-        ensures answers { Answers (feed_refusal (chain_of self.old.graph) self.old.world input (item ∷ [])) result }
+        ensures answers { AnswersOr (feed_refusal self.old input batch) result }
+        ensures tables { tables self.new ≡ tables self.old }
     {
-        self.check_feed(input, std::slice::from_ref(&item))?;
-        let records = one(self.state.alloc(), item)?;
-        self.state.feed(input as usize, records)?;
-        Ok(())
-    }
-
-    /// Feeds records to an input at its open epoch, as one message.
-    pub fn feed_all(&mut self, input: u32, items: Vec<Record>) -> Result<(), StepRefusal>
-        ensures step { OnOk result (Goes self.old (Action.feed input items.items) self.new) }
-        ensures refused { OnErr result (self.new ≡ self.old) }
-        ensures answers { Answers (feed_refusal (chain_of self.old.graph) self.old.world input items.items) result }
-    {
-        self.check_feed(input, items.as_slice())?;
-        self.state.feed(input as usize, Records::from_vec(items))?;
-        Ok(())
+        if let Some(refusal) = self.state.input_refusal(input) {
+            return Err(refusal);
+        }
+        if batch.arity() as u64 != self.state.graph().arity(VertexId(input)) {
+            return Err(StepRefusal::WrongFieldCount);
+        }
+        match self.state.feed(alloc, &mut self.tracker, input, batch) {
+            Ok(()) => Ok(()),
+            Err(_) => Err(StepRefusal::NoMemory),
+        }
     }
 
     /// Ends the open epoch of an input; the next one opens.
     pub fn seal(&mut self, input: u32) -> Result<(), StepRefusal>
-        ensures step { OnOk result (Goes self.old (Action.seal input) self.new) }
+        ensures step { OnOk result (Goes self.old (Step.seal input) self.new) }
         ensures refused { OnErr result (self.new ≡ self.old) }
-        ensures answers { Answers (seal_refusal self.old.world input) result }
+        ensures answers { AnswersOr (seal_refusal self.old input) result }
+        ensures tables { tables self.new ≡ tables self.old }
     {
-        self.check_open(input)?;
-        if self.state.open_epoch(input as usize) == u32::MAX {
+        if let Some(refusal) = self.state.input_refusal(input) {
+            return Err(refusal);
+        }
+        let epoch = self.state.open_epoch(input as usize);
+        if epoch == u32::MAX {
             return Err(StepRefusal::LastEpoch);
         }
-        self.state.seal(input as usize)?;
+        if self.tracker.reserve(1).is_err() {
+            return Err(StepRefusal::NoMemory);
+        }
+        self.tracker.remove(&input_place(input, epoch));
+        self.tracker.add(&input_place(input, epoch + 1));
+        self.state.seal(input as usize);
+        self.passed = passed_now(&self.tracker, &self.state, self.passed);
         Ok(())
     }
 
     /// Closes an input: no more records will come. No memory is taken.
     pub fn close(&mut self, input: u32) -> Result<(), StepRefusal>
-        ensures step { OnOk result (Goes self.old (Action.close input) self.new) }
+        ensures step { OnOk result (Goes self.old (Step.close input) self.new) }
         ensures refused { OnErr result (self.new ≡ self.old) }
-        ensures answers { AnswersOnly (input_refusal self.old.world input) result }
+        ensures answers { AnswersOnly (input_refusal self.old input) result }
+        ensures tables { tables self.new ≡ tables self.old }
     {
-        self.check_open(input)?;
+        if let Some(refusal) = self.state.input_refusal(input) {
+            return Err(refusal);
+        }
+        let epoch = self.state.open_epoch(input as usize);
+        self.tracker.remove(&input_place(input, epoch));
         self.state.close(input as usize);
+        self.passed = passed_now(&self.tracker, &self.state, self.passed);
         Ok(())
     }
 
     /// Hands out an event to the worker, wherever it has one. No memory is taken.
     pub fn claim(&mut self, worker: u32) -> Claimed
-        ensures claims { Claims self.old worker self.new result }
-        ensures kept { KeepsFed self.old self.new }
+        ensures claims { Claims self.old self.new worker result }
+        ensures tables { tables self.new ≡ tables self.old }
     {
         if self.state.is_stopped() {
             return Claimed::Stopped;
         }
-        if worker != 0 || !self.state.is_free() {
+        let number = worker as usize;
+        if !self.state.has_worker(number) || !self.state.is_free(number) {
             return Claimed::Busy;
         }
-        if self.state.has_message() {
-            self.state.graph().fits();
-            return Claimed::Work(self.state.claim());
+        if self.state.mail_count(number) > 0 {
+            return Claimed::Work(self.state.claim_message(number, 0));
         }
-        if self.state.all_closed() {
-            return Claimed::Drained;
+        match first_deliverable(&self.tracker, self.state.requests(number)) {
+            Some(place) => Claimed::Work(self.state.claim_request(number, place)),
+            None => {
+                if self.state.is_drained() {
+                    Claimed::Drained
+                } else {
+                    Claimed::Idle
+                }
+            }
         }
-        Claimed::Idle
     }
 
-    /// Ends an event that the worker holds. A stopped board takes it too.
-    pub fn commit(&mut self, done: Done) -> Result<(), CommitRefusal>
-        ensures commits { Commits self.old done self.new result }
-        ensures kept { KeepsFed self.old self.new }
+    /// Hands out the worker's choice of that number: its messages in order of arrival come first, then those of its requests that may
+    /// be delivered now, in the order in which they were made. No memory is taken.
+    pub fn pick(&mut self, worker: u32, choice: u64) -> Result<Work, StepRefusal>
+        ensures picks { Picks self.old self.new worker choice result }
+        ensures tables { tables self.new ≡ tables self.old }
     {
-        self.state.commit(done)
+        if self.state.is_stopped() {
+            return Err(StepRefusal::Stopped);
+        }
+        let number = worker as usize;
+        if !self.state.has_worker(number) {
+            return Err(StepRefusal::NoSuchEvent);
+        }
+        if !self.state.is_free(number) {
+            return Err(StepRefusal::HoldsEvent);
+        }
+        let mail = self.state.mail_count(number) as u64;
+        if choice < mail {
+            return Ok(self.state.claim_message(number, choice as usize));
+        }
+        match kth_deliverable(&self.tracker, self.state.requests(number), choice - mail) {
+            Some(place) => Ok(self.state.claim_request(number, place)),
+            None => Err(StepRefusal::NoSuchEvent),
+        }
     }
 
-    /// Gives up the event that the worker holds: it is held for good, and the board stops. What is handed in is dropped. No
-    /// memory is taken.
-    pub fn abandon(&mut self, work: Work) -> Result<(), StepRefusal>
-        ensures step { OnOk result (Goes self.old Action.abandon self.new) }
-        ensures refused { OnErr result (self.new ≡ self.old) }
-        ensures answers { AnswersOnly (abandon_refusal self.old.world) result }
+    /// Whether an epoch has passed: no more records will come to the output for it.
+    pub fn passed(&self, epoch: u32) -> bool
+        ensures { IsTrue result ↔ HasPassed self.now epoch }
     {
-        work.discard();
-        self.give_up()
+        self.tracker
+            .none_before(&output_place(self.state.output(), epoch))
+    }
+
+    /// How many epochs have passed, from epoch 0 on: at most as many as the most that an input was sealed. It takes no time.
+    pub fn passed_count(&self) -> u64
+        ensures { CountsPassed self.now result }
+    {
+        self.passed as u64
+    }
+
+    /// What has passed stays so, and the number of passed epochs doesn't fall, by any step from here. Nothing is done.
+    pub fn law_stays(&self)
+        ensures passed { (step : Step) (next : Shown) → Goes self.now step next → (epoch : ℕ) → HasPassed self.now epoch → HasPassed next epoch }
+        ensures count { (step : Step) (next : Shown) → Goes self.now step next → (m n : ℕ) → CountsPassed self.now m → CountsPassed next n → m ≤ n }
+    {
+        let _ = &self.state;
+    }
+
+    /// The event is given up, and the board stops for good. No memory is taken.
+    pub fn abandon(&mut self, work: Work)
+        requires { IsOf self.old work.0 }
+        ensures holds { Holds self.old work.0 }
+        ensures step { Goes self.old (Step.abandon work.0.worker work.0.job.happening) self.new }
+        ensures tables { tables self.new ≡ tables self.old }
+    {
+        let worker = work.worker();
+        self.state.abandon(worker as usize, work.into_stub());
     }
 
     /// The same for an event that was computed.
-    pub fn abandon_done(&mut self, done: Done) -> Result<(), StepRefusal>
-        ensures step { OnOk result (Goes self.old Action.abandon self.new) }
-        ensures refused { OnErr result (self.new ≡ self.old) }
-        ensures answers { AnswersOnly (abandon_refusal self.old.world) result }
+    pub fn abandon_done(&mut self, done: Done)
+        requires { IsOf self.old done }
+        ensures holds { Holds self.old done }
+        ensures step { Goes self.old (Step.abandon done.worker done.job.happening) self.new }
+        ensures tables { tables self.new ≡ tables self.old }
     {
-        done.discard();
-        self.give_up()
+        let worker = done.worker();
+        let (stub, _output) = done.into_parts();
+        self.state.abandon(worker as usize, stub);
     }
 
-    /// The records that were emitted for an epoch, in order of commit. No memory is taken.
-    pub fn emitted(&self, epoch: u32) -> &[Record]
-        ensures value { result.now ≡ world.emitted_at self.now.world epoch }
-        ensures headline { Headline (chain_of self.now.graph) self.now.world epoch }
+    /// Ends an event that the board handed out. A stopped board takes it too.
+    pub fn commit(&mut self, done: Done) -> Result<(), CommitRefusal>
+        requires { IsOf self.old done }
+        ensures commits { Commits self.old self.new done result }
+        ensures tables { tables self.new ≡ tables self.old }
     {
-        self.state.emitted(epoch)
+        if let Err(done) = self.state.commit(&mut self.tracker, done) {
+            return Err(CommitRefusal::NoMemory(done));
+        }
+        self.passed = passed_now(&self.tracker, &self.state, self.passed);
+        Ok(())
     }
 
-    /// The records that were fed to an input at an epoch, in order; none for an input that isn't there. No memory is taken.
-    pub fn fed(&self, input: u32, epoch: u32) -> &[Record]
-        ensures { result.now ≡ world.fed_at self.now.world input epoch }
+    /// Why a call on that input would be refused, whatever it is; nothing where it would not.
+    pub fn input_refusal(&self, input: u32) -> Option<StepRefusal>
+        ensures { result ≡ input_refusal self.now input }
     {
-        self.state.fed(input, epoch)
+        self.state.input_refusal(input)
     }
 
-    /// The graph. No memory is taken.
+    /// The graph that the board runs.
     pub fn graph(&self) -> &Graph
         ensures { result.now ≡ self.now.graph }
     {
         self.state.graph()
     }
 
-    /// Refuses a call on an input that can't take it.
-    fn check_open(&self, input: u32) -> Result<(), StepRefusal>
-        ensures { AnswersOnly (input_refusal self.now.world input) result }
+    /// The number of workers: 1 to 64.
+    pub fn workers(&self) -> u32
+        ensures { result ≡ length self.now.sides }
     {
-        match self.state.input_refusal(input) {
-            Some(refusal) => Err(refusal),
-            None => Ok(()),
+        self.state.worker_count()
+    }
+
+    /// Whether the worker holds an event that isn't given up; no where there is no such worker.
+    pub fn holding(&self, worker: u32) -> bool
+        ensures { result ≡ is_out (side_at self.now worker).place }
+    {
+        let number = worker as usize;
+        self.state.has_worker(number) && self.state.is_holding(number)
+    }
+
+    /// The batches that were fed to an input for an epoch, in order; none where the input isn't there.
+    pub fn fed(&self, input: u32, epoch: u32) -> &[Batch]
+        ensures { result.now ≡ slice_index_or (input_at self.now input).fed epoch [] }
+    {
+        self.state.fed(input, epoch)
+    }
+
+    /// The batches that were emitted for an epoch, in order; none at a vertex that isn't the output.
+    pub fn emitted(&self, output: VertexId, epoch: u32) -> &[Batch]
+        ensures { result.now ≡ cond (output.0 == output_number (shown_graph self.now.graph)) (slice_index_or self.now.emitted epoch []) [] }
+    {
+        let last = self.state.graph().vertex_count().saturating_sub(1);
+        if output.0 as usize == last {
+            self.state.emitted(epoch)
+        } else {
+            &[]
         }
     }
 
-    /// Refuses a feed of these records.
-    fn check_feed(&self, input: u32, items: &[Record]) -> Result<(), StepRefusal>
-        ensures { AnswersOnly (feed_refusal (chain_of self.now.graph) self.now.world input items.now) result }
+    /// What the board shows of an epoch, to be kept while the board goes on. The batches are shared.
+    pub fn look(&self, alloc: Global, epoch: u32) -> Result<Look, NoMemory>
+        ensures { IfOk result (λ l. IsLookAt self.now epoch l) }
     {
-        self.check_open(input)?;
-        if !all_have(items, self.state.graph().arity(input as usize)) {
-            return Err(StepRefusal::WrongFieldCount);
-        }
-        Ok(())
+        let wiring = self.state.share_wiring()?;
+        let fed = self.state.share_fed(alloc, epoch)?;
+        let emitted = self.state.share_emitted(alloc, epoch)?;
+        let passed = self.passed(epoch);
+        self.law_headline();
+        Ok(Look::of(wiring, fed, emitted, passed))
     }
 
-    /// Gives up the event that is held.
-    fn give_up(&mut self) -> Result<(), StepRefusal>
-        ensures step { OnOk result (Goes self.old Action.abandon self.new) }
-        ensures refused { OnErr result (self.new ≡ self.old) }
-        ensures answers { AnswersOnly (abandon_refusal self.old.world) result }
+    /// How many changes of active pointstamps wait to be seen by a worker: none, since all workers see one tracker.
+    pub fn waiting_changes(&self) -> u64
+        ensures { result ≡ 0 }
     {
-        if !self.state.is_holding() {
-            return Err(StepRefusal::NotHeld);
-        }
-        self.state.abandon();
-        Ok(())
+        0
     }
+
+    /// The promise, of whatever program the board runs. Nothing is done.
+    pub fn law_headline(&self)
+        ensures { (p : Program) → RunsProgram p self.now → (e : ℕ) → Headline p self.now e }
+    {
+        let _ = &self.state;
+    }
+
+    /// A board has as many inputs as its graph. Nothing is done.
+    pub fn law_inputs(&self)
+        ensures { length self.now.inputs ≡ input_count (shown_graph self.now.graph) }
+    {
+        let _ = &self.state;
+    }
+
+    /// A drained board has passed every epoch. Nothing is done.
+    pub fn law_drained(&self)
+        ensures { IsDrained self.now → (e : ℕ) → HasPassed self.now e }
+    {
+        let _ = &self.state;
+    }
+}
+
+/// Where an input is active while that epoch is open.
+pub fn input_place(input: u32, epoch: u32) -> Pointstamp
+    ensures { result ≡ at_vertex input (at_epoch epoch) }
+{
+    Pointstamp::new(Time::at_epoch(epoch), Location::Vertex(VertexId(input)))
 }

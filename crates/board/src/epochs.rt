@@ -1,23 +1,66 @@
-//! Records by epoch.
+//! Batches by epoch.
 
-ghost use Rattle.std.specs.Prelude.{◌≡◌, ◌++◌, ◌∷◌, [], ℕ, List, ℤ, ◌+◌, ◌<◌, ◌≤◌, length, slice_index_or, vec_len, vec_capacity, IfErr, OnOk, OnErr};
-ghost use Rattle.board.specs.Step.{more_at};
+ghost use Rattle.std.specs.Prelude.{◌≡◌, ◌++◌, ◌∷◌, [], ℕ, List, ℤ, Option, ◌+◌, ◌<◌, ◌≤◌, length, slice_index_or, vec_len, vec_capacity, IfErr, OnOk, OnErr};
+ghost use Rattle.board.specs.Steps.{more_at, with_batch};
 
-use crate::records::Records;
-use record_core::Record;
-use std::alloc::{AllocError, Global};
+use rows::Batch;
+use std::alloc::Global;
 use std::marker::Model;
 
-/// Records by epoch, from epoch 0 on.
+/// Batches in order.
+#[derive(Drop)]
+pub struct Batches {
+    list: Vec<Batch>,
+}
+
+impl Model for Batches {
+    ghost use Rattle.std.specs.Prelude.{List, ℤ};
+
+    ghost Value = { List (List (List ℤ)) };
+
+    ghost view = { λ b. b.list.items };
+}
+
+impl Batches {
+    /// None.
+    pub fn new(alloc: Global) -> Batches
+        ensures { result ≡ [] }
+    {
+        Batches {
+            list: Vec::new(alloc),
+        }
+    }
+
+    pub fn as_slice(&self) -> &[Batch]
+        ensures { result.now ≡ self.now }
+    {
+        self.list.as_slice()
+    }
+
+    /// Puts a batch behind the others, or gives it back where there is no memory.
+    pub fn push(&mut self, batch: Batch) -> Result<(), Batch>
+        ensures ok { OnOk result (self.new ≡ self.old ++ batch ∷ []) }
+        ensures err { OnErr result (self.new ≡ self.old) }
+        ensures back { IfErr result (λ back. back ≡ batch) }
+    {
+        match self.list.push(batch) {
+            Ok(()) => Ok(()),
+            Err(failed) => Err(failed.value),
+        }
+    }
+}
+
+/// Batches by epoch, from epoch 0 on.
 #[derive(Drop)]
 pub struct Epochs {
-    lists: Vec<Records>,
+    alloc: Global,
+    lists: Vec<Batches>,
 }
 
 impl Model for Epochs {
     ghost use Rattle.std.specs.Prelude.{List, ℤ};
 
-    ghost Value = { List (List (List ℤ)) };
+    ghost Value = { List (List (List (List ℤ))) };
 
     ghost view = { λ e. e.lists.items };
 }
@@ -28,69 +71,72 @@ impl Epochs {
         ensures { result ≡ [] }
     {
         Epochs {
+            alloc,
             lists: Vec::new(alloc),
         }
     }
 
-    /// The number of epochs.
-    pub fn len(&self) -> usize
-        ensures { result ≡ length self.now }
-    {
-        self.lists.len()
-    }
-
-    /// The records of an epoch; none where it isn't there.
-    pub fn at(&self, epoch: u32) -> &[Record]
+    /// The batches of an epoch; none where it isn't there.
+    pub fn at(&self, epoch: u32) -> &[Batch]
         ensures { result.now ≡ slice_index_or self.now epoch [] }
     {
         match self.lists.get(epoch as usize) {
-            Some(records) => records.as_slice(),
+            Some(batches) => batches.as_slice(),
             None => &[],
         }
     }
 
-    /// An epoch more, with these records, or the records back where there is no memory.
-    pub fn push(&mut self, records: Records) -> Result<(), Records>
-        ensures ok { OnOk result (self.new ≡ self.old ++ records ∷ []) }
+    /// Adds a batch to an epoch, which is made where it isn't there. Where there is no memory nothing changes, and the batch comes
+    /// back.
+    pub fn add(&mut self, epoch: u32, batch: Batch) -> Result<(), Batch>
+        ensures ok { OnOk result (self.new ≡ more_at epoch (batch ∷ []) self.old) }
         ensures err { OnErr result (self.new ≡ self.old) }
-        ensures back { IfErr result (λ back. back ≡ records) }
-    {
-        match self.lists.push(records) {
-            Ok(()) => Ok(()),
-            Err(failed) => Err(failed.value),
-        }
-    }
-
-    /// Adds records to an epoch, which is made where it isn't there. Where there is no memory nothing changes, and the records
-    /// come back.
-    pub fn add(&mut self, alloc: Global, epoch: u32, records: Records) -> Result<(), Records>
-        ensures ok { OnOk result (self.new ≡ more_at epoch records self.old) }
-        ensures err { OnErr result (self.new ≡ self.old) }
-        ensures back { IfErr result (λ back. back ≡ records) }
+        ensures back { IfErr result (λ back. back ≡ batch) }
     {
         let at = epoch as usize;
         let len = self.lists.len();
         if at < len {
-            return self.lists[at].append(records);
+            return self.lists[at].push(batch);
         }
         if self.lists.reserve(at - len + 1).is_err() {
-            return Err(records);
+            return Err(batch);
         }
-        pad(&mut self.lists, alloc, at);
-        self.lists.push_reserved(records);
-        Ok(())
+        let mut fresh = Batches::new(self.alloc);
+        match fresh.push(batch) {
+            Ok(()) => {
+                pad(&mut self.lists, self.alloc, at);
+                self.lists.push_reserved(fresh);
+                Ok(())
+            }
+            Err(batch) => Err(batch),
+        }
+    }
+
+    /// The same of a batch that may be there.
+    pub fn add_some(&mut self, epoch: u32, batch: Option<Batch>) -> Result<(), Option<Batch>>
+        ensures ok { OnOk result (self.new ≡ with_batch epoch batch self.old) }
+        ensures err { OnErr result (self.new ≡ self.old) }
+        ensures back { IfErr result (λ back. back ≡ batch) }
+    {
+        match batch {
+            None => Ok(()),
+            Some(batch) => match self.add(epoch, batch) {
+                Ok(()) => Ok(()),
+                Err(batch) => Err(Some(batch)),
+            },
+        }
     }
 }
 
-/// Makes epochs without records up to that number of them.
-fn pad(lists: &mut Vec<Records>, alloc: Global, len: usize)
+/// Makes epochs without batches up to that number of them.
+fn pad(lists: &mut Vec<Batches>, alloc: Global, len: usize)
     requires room { len < vec_capacity lists.old }
     requires shorter { vec_len lists.old ≤ len }
-    ensures same { (rs : List (List ℤ)) → more_at len rs lists.new.items ≡ more_at len rs lists.old.items }
+    ensures same { (bs : List (List (List ℤ))) → more_at len bs lists.new.items ≡ more_at len bs lists.old.items }
     ensures len { vec_len lists.new ≡ len }
     ensures capacity { vec_capacity lists.new ≡ vec_capacity lists.old }
 {
     for _k in lists.len()..len {
-        lists.push_reserved(Records::new(alloc));
+        lists.push_reserved(Batches::new(alloc));
     }
 }

@@ -1,32 +1,60 @@
-//! The board of queries that are one chain: selects and wheres over one input, with one worker.
+//! The board: the core state of a run. It has the inputs, the workers' mailboxes, requests and shards, what was emitted, and a
+//! tracker of the active pointstamps. It computes nothing: a claim hands out an event, a worker computes it elsewhere (`events`), and
+//! a commit takes it back.
 //!
-//! A `Graph` is the chain of a well-typed program. A `Board` over it takes records in, hands out events, takes them back computed,
-//! and shows what was emitted. Records go from vertex to vertex as messages on edges; one event is one message at its vertex.
+//! The contract for the layers above:
 //!
-//! The contract for the layers above: each call on a board is one step of the engine (`specs/Step.antt`) or is refused and changes
-//! nothing; and at every moment, for every epoch, what was emitted is part of what the query means on what was fed, and all of it
-//! once no message and no event is left (`specs/Headline.antt`, `law_headline`). Below stand `record_core`, `semantics` and
-//! `expr_tree`; the console runs a board until it is drained.
+//! - A call that changes a board is one step of the engine's definition (`machine`), allowed and taken in whatever world the board
+//!   shows (`specs/Kept.antt`, `Goes`); or it is refused, and the board is as it was.
+//! - At every moment, for every epoch, what was emitted is part of what the program means on what was fed, and all of it once the
+//!   epoch has passed (`Board::law_headline`, `specs/Promises.antt`). That holds for every well-typed program, every number of workers
+//!   and every order of the calls. A `Look` keeps it while the board goes on.
+//! - Whether an epoch has passed is answered exactly, and what has passed stays so. A drained board has passed every epoch
+//!   (`Board::law_drained`).
+//! - An event is known by its token (`tokens`): only what this board handed out can come back to it, and once.
+//!
+//! A worker is in one of three states:
+//!
+//! | State | Begins with | Ends with |
+//! |---|---|---|
+//! | free | the opening, a commit | a claim or a pick |
+//! | holding an event | a claim or a pick | a commit, or giving the event up |
+//! | lost | giving its event up | never: the board is stopped |
+//!
+//! Calls that change a board, and who makes them:
+//!
+//! | Call | By | What it does | Refused, in this order |
+//! |---|---|---|---|
+//! | `feed` | who has the input | records come at the open epoch | stopped, unknown, closed, fields, memory |
+//! | `seal` | who has the input | the open epoch ends, the next is open | stopped, unknown, closed, last epoch, memory |
+//! | `close` | who has the input | nothing more comes | stopped, unknown, closed |
+//! | `claim` | a worker | hands out the first event that it may process | answers stopped, busy, drained, idle |
+//! | `pick` | who replays a run | hands out the worker's event of that number | stopped, holding, no such event |
+//! | `commit` | who has the output | the event ends: shard, messages, request and records are in their places | memory: the event comes back whole |
+//! | `abandon`, `abandon_done` | who has the event | it is given up, and the board stops | never |
+//!
+//! `look`, `emitted`, `fed`, `passed`, `passed_count` and the other calls read, and anyone may make them.
+//!
+//! A stopped board still takes commits. An event that was given up counts as active for good, so that the epochs which it could
+//! touch never pass. Only `feed`, `seal`, `commit` and `look` take memory, and they take it before anything changes.
+//!
+//! Below stand `events` and `progress`. A board has no lock of its own: one caller at a time.
 #![tactic(auto)]
 
 mod board;
+mod choices;
+mod delivery;
 mod epochs;
-mod event;
-mod graph;
-mod input;
-mod laws;
+mod frontier;
+mod inputs;
+mod look;
 mod making;
-mod message;
-mod parcel;
-mod records;
+mod passed;
 mod refusal;
+mod slot;
 mod state;
-mod vertex;
+mod worker;
 
-pub use board::Board;
-pub use event::{Claimed, CommitRefusal, Done, Work};
-pub use graph::Graph;
-pub use laws::law_headline;
-pub use making::ChainFault;
+pub use board::{Board, Claimed, CommitRefusal};
+pub use look::Look;
 pub use refusal::StepRefusal;
-pub use vertex::Vertex;

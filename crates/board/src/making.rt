@@ -1,154 +1,93 @@
-//! The graph of a query that is a chain.
+//! What a new board is made of.
 
-ghost use Rattle.std.specs.Prelude.{◌≡◌, ◌≢◌, ◌↔◌, ◌++◌, ◌∷◌, ◌≤◌, [], ℕ, IsTrue, List, length, map, IfOk, IfErr};
-ghost use Rattle.semantics.specs.Query as query;
-ghost use Rattle.expr_tree.specs.Plain.{plain_input, plain_program, plain_rel, plain_scalar};
-ghost use Rattle.expr_tree.specs.Views.{program_tree, rel_tree, scalar_tree};
-ghost use Rattle.board.specs.Chain.{input_number, query_of, relation};
-ghost use Rattle.board.specs.ChainQuery.{IsChainRel, IsFault, IsWellTyped};
-ghost use Rattle.board.specs.Views.{chain_of, plain_vertex};
+ghost use Rattle.std.specs.Prelude.{◌≡◌, ◌+◌, ◌<◌, ◌≤◌, [], ℕ, length, slice_index_or, IfOk, OnOk, None};
+ghost use Rattle.lowering.specs.Shown.{shown_graph};
+ghost use Rattle.semantics.specs.Could.{IsTimeAt, Location as Where, Pointstamp as Active, at_vertex};
+ghost use Rattle.semantics.specs.Time.{at_epoch};
+ghost use Rattle.machine.specs.Active.{one_if_same, sum_below};
+ghost use Rattle.board.specs.Desks.{sides_of};
+ghost use Rattle.board.specs.Fresh.{HasFreshSides, HasShards, IsFreshSide, IsFreshSlot};
+ghost use Rattle.board.specs.Shown.{no_input};
 
-use crate::graph::Graph;
-use crate::vertex::Vertex;
-use expr_tree::{Input, NoMemory, Program, Rel, Scalar, copy_cond, copy_scalar};
-use record_core::Name;
-use std::alloc::{Allocator, Global};
+use crate::board::input_place;
+use crate::inputs::Input;
+use crate::slot::Slot;
+use crate::worker::Worker;
+use events::{Wiring, shard_at};
+use expr_tree::NoMemory;
+use lowering::{Graph, VertexId};
+use progress::Progress;
+use std::alloc::Global;
+use std::sync::Arc;
 
-/// Why there is no graph of a program.
-#[derive(Clone, Copy, Debug, PartialEq, Eq)]
-pub enum ChainFault {
-    /// An allocator refused a growth.
-    NoMemory,
-    /// The program has a let, or an output that is no chain of selects and wheres over a name.
-    NotAChain,
-}
-
-impl From<NoMemory> for ChainFault {
-    ghost use Rattle.board.specs.declared.making.ChainFault.TheVariants as fault;
-
-    ghost from_gives = { λ _ r. r ≡ fault.NoMemory };
-
-    fn from(_: NoMemory) -> ChainFault {
-        ChainFault::NoMemory
-    }
-}
-
-/// Whether the relation is made of selects and wheres over a name.
-fn is_chain<A: Allocator>(relation: &Rel<A>) -> bool
-    ensures { IsTrue result ↔ IsChainRel (plain_rel (rel_tree relation.now)) }
+/// So many inputs, open at epoch 0.
+pub fn new_inputs(alloc: Global, count: usize) -> Result<Vec<Input>, NoMemory>
+    ensures long { IfOk result (λ is. length is.items ≡ count) }
+    ensures unfed { IfOk result (λ is. (i : ℕ) → slice_index_or is.items i no_input ≡ no_input) }
 {
-    match relation {
-        Rel::Named(_, _) => true,
-        Rel::Select(_, inner, _) => is_chain(inner),
-        Rel::Where(_, inner, _) => is_chain(inner),
-        _ => false,
+    let mut inputs = Vec::with_capacity(alloc, count)?;
+    for _ in 0..count {
+        inputs.push(Input::new(alloc))?;
     }
+    Ok(inputs)
 }
 
-/// Copies the vertices of a chain, from its name on, and answers that name.
-fn copy_chain<A: Allocator>(
+/// So many workers of a graph, with nothing to do.
+pub fn new_workers(
     alloc: Global,
-    chain: &Rel<A>,
-    vertices: &mut Vec<Vertex>,
-) -> Result<Name, NoMemory>
-    requires chain { IsChainRel (plain_rel (rel_tree chain.now)) }
-    requires fresh { vertices.old.items ≡ [] }
-    ensures { IfOk result (λ name. plain_rel (rel_tree chain.now) ≡ relation (query.Rel.named name) (map plain_vertex vertices.new.items)) }
+    wiring: &Arc<Wiring, Global>,
+    count: u32,
+) -> Result<Vec<Worker>, NoMemory>
+    ensures { IfOk result (λ ws. HasFreshSides wiring.now.value count (sides_of ws.items)) }
 {
-    match chain {
-        Rel::Named(_, name) => Ok(copy_name(name)),
-        Rel::Select(_, inner, scalars) => {
-            let name = copy_chain(alloc, inner, vertices)?;
-            let scalars = copy_scalars(alloc, scalars)?;
-            vertices.push(Vertex::Select(scalars))?;
-            Ok(name)
-        }
-        Rel::Where(_, inner, condition) => {
-            let name = copy_chain(alloc, inner, vertices)?;
-            let condition = Box::new(alloc, copy_cond(alloc, condition)?)?;
-            vertices.push(Vertex::Where(condition))?;
-            Ok(name)
-        }
-        _ => unreachable!(),
+    let mut workers = Vec::with_capacity(alloc, count as usize)?;
+    for _ in 0..count {
+        workers.push(new_worker(alloc, wiring)?)?;
     }
+    Ok(workers)
 }
 
-/// The same name. No memory is taken.
-fn copy_name(name: &Name) -> Name
-    ensures { result ≡ name.now }
+/// A worker with nothing to do.
+fn new_worker(alloc: Global, wiring: &Arc<Wiring, Global>) -> Result<Worker, NoMemory>
+    ensures { IfOk result (λ w. IsFreshSide wiring.now.value w.side) }
 {
-    match name.clone() {
-        Ok(copy) => copy,
-        Err(_) => unreachable!(),
-    }
+    let slots = new_slots(alloc, wiring.graph())?;
+    let shared = Arc::try_clone(wiring)?;
+    let worker = Worker::new(alloc, shared, slots)?;
+    Ok(worker)
 }
 
-/// The same scalars, in order.
-fn copy_scalars<A: Allocator>(
-    alloc: Global,
-    scalars: &Vec<Scalar<A>, A>,
-) -> Result<Vec<Scalar<Global>>, NoMemory>
-    ensures { IfOk result (λ copy. map scalar_tree copy.items ≡ map scalar_tree scalars.now.items) }
+/// A shard of each vertex, at home.
+fn new_slots(alloc: Global, graph: &Graph) -> Result<Vec<Slot>, NoMemory>
+    ensures { IfOk result (λ ss. HasShards graph.now (length (shown_graph graph.now)) ss.items) }
 {
-    let mut copy = Vec::with_capacity(alloc, scalars.len())?;
-    for scalar in scalars {
-        copy.push(copy_scalar(alloc, scalar)?)?;
+    let mut slots = Vec::with_capacity(alloc, graph.vertex_count())?;
+    for number in 0..graph.vertex_count() {
+        slots.push(new_slot(alloc, graph, VertexId(number as u32))?)?;
     }
-    Ok(copy)
+    Ok(slots)
 }
 
-/// The same inputs, in order.
-fn copy_inputs<A: Allocator>(alloc: Global, inputs: &Vec<Input, A>) -> Result<Vec<Input>, NoMemory>
-    ensures { IfOk result (λ copy. copy.items ≡ inputs.now.items) }
+/// A shard of a vertex, at home.
+fn new_slot(alloc: Global, graph: &Graph, id: VertexId) -> Result<Slot, NoMemory>
+    requires { id.0 < length (shown_graph graph.now) }
+    ensures { IfOk result (λ s. IsFreshSlot graph.now id.0 s) }
 {
-    let mut copy = Vec::with_capacity(alloc, inputs.len())?;
-    for input in inputs {
-        copy.push(Input {
-            name_span: input.name_span,
-            name: copy_name(&input.name),
-            arity_span: input.arity_span,
-            arity: input.arity,
-        })?;
-    }
-    Ok(copy)
+    let Ok(shard) = shard_at(alloc, graph, id) else {
+        return Err(NoMemory);
+    };
+    Ok(Slot::full(Box::new(alloc, shard)?))
 }
 
-/// The number of the first input of that name; the number of inputs where there is none.
-fn number_of(inputs: &[Input], name: &Name) -> usize
-    ensures number { result ≡ input_number (map plain_input inputs.now) name.now }
-    ensures bound { result ≤ length inputs.now }
+/// Makes the first so many inputs active at epoch 0.
+pub fn open_inputs<P: Progress>(tracker: &mut P, count: u32) -> Result<(), NoMemory>
+    requires inputs { (i : ℕ) → i < count → IsTimeAt (P.graph tracker.old) (Where.vertex i) (at_epoch 0) }
+    ensures graph { P.graph tracker.new ≡ P.graph tracker.old }
+    ensures content { OnOk result ((q : Active) → P.content tracker.new q ≡ sum_below count (λ i. one_if_same q (at_vertex i (at_epoch 0))) + P.content tracker.old q) }
 {
-    match inputs {
-        [] => 0,
-        [input, rest @ ..] => {
-            if input.name == *name {
-                0
-            } else {
-                number_of(rest, name) + 1
-            }
-        }
+    tracker.reserve(count)?;
+    for input in 0..count {
+        tracker.add(&input_place(input, 0));
     }
-}
-
-impl Graph {
-    /// The graph of a well-typed program whose output is a chain of selects and wheres over an input.
-    pub fn of<A: Allocator>(alloc: Global, program: &Program<A>) -> Result<Graph, ChainFault>
-        requires { IsWellTyped (plain_program (program_tree program.now)) }
-        ensures query { IfOk result (λ graph. query_of (chain_of graph) ≡ plain_program (program_tree program.now)) }
-        ensures fault { IfErr result (IsFault (plain_program (program_tree program.now))) }
-    {
-        if !program.lets.is_empty() || !is_chain(&program.output) {
-            return Err(ChainFault::NotAChain);
-        }
-        let inputs = copy_inputs(alloc, &program.inputs)?;
-        let mut vertices = Vec::new(alloc);
-        let name = copy_chain(alloc, &program.output, &mut vertices)?;
-        let source = number_of(&inputs, &name);
-        Ok(Graph {
-            inputs,
-            name,
-            source,
-            vertices,
-        })
-    }
+    Ok(())
 }

@@ -1,51 +1,44 @@
 //! Why a call is refused.
 
-ghost use Rattle.std.specs.Prelude.{◌≡◌};
-ghost use Rattle.board.specs.Refusals.{refusal_number};
-ghost use Rattle.board.specs.declared.refusal.StepRefusal.TheVariants.{NoMemory};
+ghost use Rattle.std.specs.Prelude.{◌≡◌, ◌≢◌, Some};
+ghost use Rattle.board.specs.Codes.{refusal_code};
 
-use std::alloc::AllocError;
-
-/// Why a call was refused, in the order in which refusals are told.
+/// Why a call was refused. A refused call leaves the board as it was.
 #[derive(Clone, Copy, Debug, PartialEq, Eq)]
 pub enum StepRefusal {
-    /// The board is stopped.
+    /// An event was given up, which stops the board for good.
     Stopped,
-    /// There is no such input.
+    /// A feed, a seal or a close names an input that isn't there.
     UnknownInput,
-    /// The input is closed.
+    /// A feed, a seal or a close names an input that is closed already.
     InputClosed,
-    /// A record has another number of fields than its input declares.
+    /// A fed record has another number of fields than its input declares.
     WrongFieldCount,
-    /// The open epoch is 4294967295, the last one.
+    /// A seal comes at epoch 4294967295, the last one.
     LastEpoch,
-    /// The worker holds no event that could be given up.
-    NotHeld,
+    /// A worker is to pick an event while it holds one, even one that was given up.
+    HoldsEvent,
+    /// A worker is to pick an event, and it has no choice of that number, or there is no such worker.
+    NoSuchEvent,
     /// An allocator refused a growth.
     NoMemory,
 }
 
 impl StepRefusal {
-    /// The refusal's number; `None` for want of memory, which has none.
-    pub fn number(self) -> Option<u8>
-        ensures { result ≡ refusal_number self }
+    /// The number of the refusal. Want of memory has none: it says nothing of the call.
+    pub fn code(self) -> u8
+        requires { self ≢ StepRefusal.NoMemory }
+        ensures { refusal_code self ≡ Some result }
     {
         match self {
-            StepRefusal::InputClosed => Some(31),
-            StepRefusal::UnknownInput => Some(32),
-            StepRefusal::WrongFieldCount => Some(33),
-            StepRefusal::NotHeld => Some(36),
-            StepRefusal::Stopped => Some(37),
-            StepRefusal::LastEpoch => Some(38),
-            StepRefusal::NoMemory => None,
+            StepRefusal::InputClosed => 31,
+            StepRefusal::UnknownInput => 32,
+            StepRefusal::WrongFieldCount => 33,
+            StepRefusal::NoSuchEvent => 34,
+            StepRefusal::HoldsEvent => 35,
+            StepRefusal::Stopped => 37,
+            StepRefusal::LastEpoch => 38,
+            StepRefusal::NoMemory => unreachable!(),
         }
-    }
-}
-
-impl From<AllocError> for StepRefusal {
-    ghost from_gives = { λ _ r. r ≡ NoMemory };
-
-    fn from(_: AllocError) -> StepRefusal {
-        StepRefusal::NoMemory
     }
 }

@@ -1,119 +1,104 @@
-//! The state of a board: its graph and its world. Each method is exact; where it is refused, it changes nothing.
+//! What a board holds besides its tracker. Each method is exact; where it is refused, all shows as before.
 
-ghost use Rattle.std.specs.Prelude.{◌≡◌, ◌≢◌, ◌<◌, ◌++◌, ℕ, List, [], true, false, None, Some, length, slice_get, IfOk, IfErr, IfSome, OnOk, OnErr, MatchBool, IsTrue, ◌↔◌, replicate};
-ghost use Rattle.std.specs.List.{list_all};
-ghost use Rattle.board.specs.Chain.{input_number};
-ghost use Rattle.board.specs.Events.{HoldsJob, JobFits, posted};
-ghost use Rattle.board.specs.Refusals.{input_refusal, is_holding};
-ghost use Rattle.board.specs.Shown.{Shown};
-ghost use Rattle.board.specs.Commits.{CommitsExactly, settled};
-ghost use Rattle.board.specs.Step.{more_at, after_feed, after_seal, after_close, after_claim, after_abandon};
-ghost use Rattle.board.specs.Views.{chain_of};
-ghost use Rattle.board.specs.World as world;
+ghost use Rattle.std.specs.Prelude.{◌≡◌, ◌≢◌, ◌<◌, ◌≤◌, ℕ, [], length, map, slice_index_or, false, MatchBool, OnOk, OnErr, IfOk, IfErr};
+ghost use Rattle.semantics.specs.Could.{Location as Where, Pointstamp as Active};
+ghost use Rattle.semantics.specs.Graph.{edge_count, output_number, target, Graph as Definition};
+ghost use Rattle.tokens.specs.declared.rule.Place.TheVariants.{Home, Out};
+ghost use Rattle.board.specs.Claims.{HandsMessage, HandsRequest};
+ghost use Rattle.lowering.specs.Locations.{IsIn, location_of};
+ghost use Rattle.lowering.specs.Shown.{shown_graph};
+ghost use Rattle.board.specs.Answers.{input_refusal};
+ghost use Rattle.semantics.specs.Kinds.{Kind as Equation};
+ghost use Rattle.semantics.specs.Graph.{vertex};
+ghost use Rattle.board.specs.Commits.{Feeds, IsOf, Settles};
+ghost use Rattle.board.specs.Desks.{is_out};
+ghost use Rattle.board.specs.Fresh.{IsNew};
+ghost use Rattle.board.specs.Kept.{IsKept};
+ghost use Rattle.board.specs.Desks.{AreClosed, AreIdle};
+ghost use Rattle.board.specs.Promises.{IsDrained};
+ghost use Rattle.board.specs.Seals.{IsMostSeals};
+ghost use Rattle.board.specs.Shown.{input_at, location_vertex, side_at};
+ghost use Rattle.board.specs.Steps.{after_abandon, after_close, after_seal, with_batch};
 
-use crate::epochs::Epochs;
-use crate::event::{CommitRefusal, Done, Work};
-use crate::graph::{Graph, same_vertex_at};
-use crate::input::InputState;
-use crate::message::{HeldEvent, Message};
-use crate::parcel::Parcel;
-use crate::records::{Records, same_records};
+use crate::delivery::{deliver, finish, prepare, prepare_letters};
+use crate::epochs::{Batches, Epochs};
+use crate::inputs::Input;
+use crate::look::{share_batches, share_fed};
+use crate::making::{new_inputs, new_workers};
 use crate::refusal::StepRefusal;
-use record_core::Record;
+use crate::worker::Worker;
+use events::{Done, Event, Output, Request, Wiring, Work, fed};
+use exchange::Mailbox;
+use expr_tree::NoMemory;
+use lowering::{Graph, Location, VertexId};
+use progress::Progress;
+use rows::Batch;
 use std::alloc::{AllocError, Global};
-use std::collections::VecDeque;
 use std::marker::Model;
 use std::sync::Arc;
+use tokens::tie::Stub;
 
-/// What a board holds.
+/// The graph, its inputs, the workers, and what was emitted.
 #[derive(Drop)]
 pub struct State {
-    alloc: Global,
-    graph: Arc<Graph, Global>,
-    /// A second hold of the graph, which goes out with the event.
-    spare: Option<Arc<Graph, Global>>,
-    inputs: Vec<InputState>,
-    mailbox: VecDeque<Message>,
-    held: Option<HeldEvent>,
+    wiring: Arc<Wiring, Global>,
+    inputs: Vec<Input>,
+    workers: Vec<Worker>,
     emitted: Epochs,
     stopped: bool,
 }
 
 impl Model for State {
-    ghost use Rattle.board.specs.Shown.{Shown};
-    ghost use Rattle.board.specs.Home.{IsHome};
-    ghost use Rattle.expr_tree.specs.contracts.scalar.Scalar as scalar;
-    ghost use Rattle.expr_tree.specs.contracts.condition.Cond as condition;
+    ghost use Rattle.std.specs.Coded.{codes};
+    ghost use Rattle.vertices.specs.contracts.shard.Shard as shard_row;
     ghost use Rattle.std.specs.contracts.alloc.Global as heap;
     ghost use Rattle.std.specs.contracts.impls.GlobalAllocator.TheImpl as allocates;
-    ghost use Rattle.std.specs.Coded.{codes};
+    ghost use Rattle.expr_tree.specs.contracts.scalar.Scalar as scalar;
+    ghost use Rattle.expr_tree.specs.contracts.condition.Cond as condition;
+    ghost use Rattle.std.specs.Prelude.{◌≡◌, length};
+    ghost use Rattle.board.specs.Shown.{Shown};
+    ghost use Rattle.board.specs.Desks.{sides_of};
 
     ghost Value = { Shown };
 
-    ghost coded = { Prim.hlevel (codes, (scalar.the_row heap.the_row allocates.ghosts).coded, (condition.the_row heap.the_row allocates.ghosts).coded) };
+    ghost coded = { Prim.hlevel (codes, shard_row.the_row.coded, (scalar.the_row heap.the_row allocates.ghosts).coded, (condition.the_row heap.the_row allocates.ghosts).coded) };
 
-    ghost view = { λ b. record { graph = b.graph.value; world = record { inputs = b.inputs.items; mailbox = b.mailbox.items; held = b.held; emitted = b.emitted; stopped = b.stopped } } };
+    ghost view = { λ s. record { graph = s.wiring.value.graph; inputs = s.inputs.items; sides = sides_of s.workers.items; emitted = s.emitted; stopped = s.stopped } };
 
-    ghost invariant = { λ b. IsHome (λ x. x.value) b.held b.spare b.graph.value };
+    ghost invariant = { λ s. s.wiring.value.workers ≡ length s.workers.items };
 }
 
 impl State {
-    /// The opening state: every input is open at epoch 0.
-    pub fn new(alloc: Global, graph: Arc<Graph, Global>) -> Result<State, AllocError>
-        ensures { IfOk result (λ s. s ≡ record { graph = graph.value; world = world.opening (chain_of graph.value) }) }
+    /// Of a graph and so many workers, to which nothing was done.
+    pub fn opening(alloc: Global, graph: Arc<Graph, Global>, count: u32) -> Result<State, NoMemory>
+        requires some { 0 < count }
+        requires few { count ≤ 64 }
+        ensures { IfOk result (λ s. IsNew graph.value count s) }
     {
-        let inputs = fresh_inputs(alloc, graph.inputs().len())?;
-        let spare = Arc::try_clone(&graph)?;
+        let inputs = new_inputs(alloc, graph.input_count())?;
+        let Ok(plan) = Wiring::of(alloc, graph, count) else {
+            return Err(NoMemory);
+        };
+        let wiring = Arc::new(alloc, plan)?;
+        let workers = new_workers(alloc, &wiring, count)?;
         Ok(State {
-            alloc,
-            graph,
-            spare: Some(spare),
+            wiring,
             inputs,
-            mailbox: VecDeque::new(alloc),
-            held: None,
+            workers,
             emitted: Epochs::new(alloc),
             stopped: false,
         })
     }
 
-    pub fn graph(&self) -> &Graph
-        ensures { result.now ≡ self.now.graph }
-    {
-        &self.graph
-    }
-
-    /// The allocator that it takes memory from.
-    pub fn alloc(&self) -> Global {
-        self.alloc
-    }
-
     pub fn is_stopped(&self) -> bool
-        ensures { result ≡ self.now.world.stopped }
+        ensures { result ≡ self.now.stopped }
     {
         self.stopped
     }
 
-    pub fn is_free(&self) -> bool
-        ensures { MatchBool result (self.now.world.held ≡ None) (self.now.world.held ≢ None) }
-    {
-        self.held.is_none()
-    }
-
-    pub fn has_message(&self) -> bool
-        ensures { MatchBool result (0 < length self.now.world.mailbox) (self.now.world.mailbox ≡ []) }
-    {
-        !self.mailbox.is_empty()
-    }
-
-    pub fn all_closed(&self) -> bool
-        ensures { result ≡ list_all (λ (i : world.InputState). i.closed) self.now.world.inputs }
-    {
-        self.inputs.iter().all(|i| i.is_closed())
-    }
-
     /// Why a call on that input is refused, whatever it is.
     pub fn input_refusal(&self, input: u32) -> Option<StepRefusal>
-        ensures { result ≡ input_refusal self.now.world input }
+        ensures { result ≡ input_refusal self.now input }
     {
         if self.stopped {
             return Some(StepRefusal::Stopped);
@@ -125,253 +110,323 @@ impl State {
         }
     }
 
-    /// The records that were emitted for an epoch.
-    pub fn emitted(&self, epoch: u32) -> &[Record]
-        ensures { result.now ≡ world.emitted_at self.now.world epoch }
+    pub fn graph(&self) -> &Graph
+        ensures { result.now ≡ self.now.graph }
     {
-        self.emitted.at(epoch)
+        self.wiring.graph()
     }
 
-    /// The records that were fed to an input at an epoch.
-    pub fn fed(&self, input: u32, epoch: u32) -> &[Record]
-        ensures { result.now ≡ world.fed_at self.now.world input epoch }
+    /// The output's vertex.
+    pub fn output(&self) -> VertexId
+        requires { 0 < length (shown_graph self.now.graph) }
+        ensures { result.0 ≡ output_number (shown_graph self.now.graph) }
     {
-        match self.inputs.get(input as usize) {
-            None => &[],
-            Some(state) => state.at(epoch),
+        VertexId(self.wiring.graph().vertex_count() as u32 - 1)
+    }
+
+    /// How often the input was sealed that was sealed most.
+    pub fn seals(&self) -> u32
+        ensures { IsMostSeals self.now result }
+    {
+        let mut most = 0;
+        for input in &self.inputs {
+            if most < input.open_epoch() {
+                most = input.open_epoch();
+            }
         }
+        most
     }
 
-    /// Takes records at the open epoch of an input.
-    pub fn feed(&mut self, input: usize, records: Records) -> Result<(), AllocError>
-        requires { input < length self.old.world.inputs }
-        ensures ok { OnOk result (self.new ≡ record self.old { world = after_feed (chain_of self.old.graph) self.old.world input records }) }
-        ensures err { OnErr result (self.new ≡ self.old) }
+    /// Whether every input is closed, nothing waits, and no event is out or lost.
+    pub fn is_drained(&self) -> bool
+        ensures { MatchBool result (IsDrained self.now) (IsDrained self.now → ⊥) }
     {
-        if input != self.graph.source() || records.is_empty() {
-            return self.inputs[input].feed(records);
+        self.are_closed() && self.are_idle()
+    }
+
+    /// Whether every input is closed.
+    fn are_closed(&self) -> bool
+        ensures { MatchBool result (AreClosed self.now) (AreClosed self.now → ⊥) }
+    {
+        for input in &self.inputs {
+            if !input.is_closed() {
+                return false;
+            }
         }
-        let copy = records.copy(self.alloc)?;
-        let parcel = Parcel::new(self.alloc, copy)?;
-        self.mailbox.reserve(1)?;
-        let epoch = self.inputs[input].open_epoch();
-        self.inputs[input].feed(records)?;
-        match self.mailbox.push_back(Message {
-            edge: 0,
-            epoch,
-            parcel,
-        }) {
-            Ok(()) => Ok(()),
-            Err(_) => unreachable!(),
+        true
+    }
+
+    /// Whether every worker is idle.
+    fn are_idle(&self) -> bool
+        ensures { MatchBool result (AreIdle self.now) (AreIdle self.now → ⊥) }
+    {
+        for worker in &self.workers {
+            if !worker.is_idle() {
+                return false;
+            }
         }
+        true
     }
 
-    /// Ends the open epoch of an input.
-    pub fn seal(&mut self, input: usize) -> Result<(), AllocError>
-        requires there { input < length self.old.world.inputs }
-        requires more { world.open_epoch (world.input_at self.old.world input) < 4294967295 }
-        ensures ok { OnOk result (self.new ≡ record self.old { world = after_seal self.old.world input }) }
-        ensures err { OnErr result (self.new ≡ self.old) }
-    {
-        self.inputs[input].seal(self.alloc)
-    }
-
-    /// Closes an input. No memory is taken.
-    pub fn close(&mut self, input: usize)
-        requires { input < length self.old.world.inputs }
-        ensures { self.new ≡ record self.old { world = after_close self.old.world input } }
-    {
-        self.inputs[input].close();
-    }
-
-    /// The number of seals of an input.
+    /// The open epoch of an input.
     pub fn open_epoch(&self, input: usize) -> u32
-        requires { input < length self.now.world.inputs }
-        ensures { result ≡ world.open_epoch (world.input_at self.now.world input) }
+        requires { input < length self.now.inputs }
+        ensures { result ≡ (input_at self.now input).open_epoch }
     {
         self.inputs[input].open_epoch()
     }
 
-    /// Hands out the first message. No memory is taken.
-    pub fn claim(&mut self) -> Work
-        requires free { self.old.world.held ≡ None }
-        requires choice { 0 < length self.old.world.mailbox }
-        requires fits { (m : world.Message) → slice_get self.old.world.mailbox 0 ≡ Some m → JobFits (record { graph = self.old.graph; message = m }) }
-        ensures message { slice_get self.old.world.mailbox 0 ≡ Some result.0.message }
-        ensures graph { result.0.graph ≡ self.old.graph }
-        ensures fresh { result.1 ≡ false }
-        ensures state { self.new ≡ record self.old { world = after_claim self.old.world 0 result.0.message } }
+    /// The open epoch ends, and the next one is open.
+    pub fn seal(&mut self, input: usize)
+        requires there { input < length self.old.inputs }
+        requires more { (input_at self.old input).open_epoch < 4294967295 }
+        ensures { self.new ≡ after_seal self.old input }
     {
-        let message = self.mailbox.pop_front().unwrap();
-        let graph = self.spare.take().unwrap();
-        let Message {
-            edge,
-            epoch,
-            parcel,
-        } = message;
-        let (records, stays) = parcel.open();
-        self.held = Some(HeldEvent {
-            edge,
-            epoch,
-            records: stays,
-            given_up: false,
-        });
-        Work {
-            alloc: self.alloc,
-            graph,
-            edge,
-            epoch,
-            records,
-            spoiled: false,
+        self.inputs[input].seal();
+    }
+
+    /// No more comes to the input.
+    pub fn close(&mut self, input: usize)
+        requires { input < length self.old.inputs }
+        ensures { self.new ≡ after_close self.old input }
+    {
+        self.inputs[input].close();
+    }
+
+    pub fn has_worker(&self, worker: usize) -> bool
+        ensures { MatchBool result (worker < length self.now.sides) (length self.now.sides ≤ worker) }
+    {
+        worker < self.workers.len()
+    }
+
+    /// Whether no event of the worker is out or lost.
+    pub fn is_free(&self, worker: usize) -> bool
+        requires { worker < length self.now.sides }
+        ensures { MatchBool result ((side_at self.now worker).place ≡ Home) ((side_at self.now worker).place ≢ Home) }
+    {
+        self.workers[worker].is_free()
+    }
+
+    /// Whether the worker holds an event that isn't given up.
+    pub fn is_holding(&self, worker: usize) -> bool
+        requires { worker < length self.now.sides }
+        ensures { result ≡ is_out (side_at self.now worker).place }
+    {
+        self.workers[worker].is_holding()
+    }
+
+    /// The number of workers.
+    pub fn worker_count(&self) -> u32
+        ensures { result ≡ length self.now.sides }
+    {
+        self.wiring.workers()
+    }
+
+    /// What was emitted for an epoch; nothing where the epoch isn't there.
+    pub fn emitted(&self, epoch: u32) -> &[Batch]
+        ensures { result.now ≡ slice_index_or self.now.emitted epoch [] }
+    {
+        self.emitted.at(epoch)
+    }
+
+    /// What was fed to an input for an epoch; nothing where the input or the epoch isn't there.
+    pub fn fed(&self, input: u32, epoch: u32) -> &[Batch]
+        ensures { result.now ≡ slice_index_or (input_at self.now input).fed epoch [] }
+    {
+        match self.inputs.get(input as usize) {
+            Some(state) => state.fed().at(epoch),
+            None => &[],
         }
     }
 
-    /// Whether the board holds this event. No memory is taken.
-    pub fn holds(&self, done: &Done) -> bool
-        ensures { MatchBool result (HoldsJob self.now done.now) (HoldsJob self.now done.now → ⊥) }
+    /// The wiring, shared.
+    pub fn share_wiring(&self) -> Result<Arc<Wiring, Global>, NoMemory>
+        ensures { IfOk result (λ w. w.value.graph ≡ self.now.graph) }
     {
-        match &self.held {
-            None => false,
-            Some(held) => {
-                !held.given_up
-                    && held.edge == done.edge
-                    && held.epoch == done.epoch
-                    && same_records(held.records.as_slice(), done.records.as_slice())
-                    && same_vertex_at(&done.graph, &self.graph, done.edge)
-            }
-        }
+        let wiring = Arc::try_clone(&self.wiring)?;
+        Ok(wiring)
     }
 
-    /// Whether an event is held that isn't given up. No memory is taken.
-    pub fn is_holding(&self) -> bool
-        ensures { result ≡ is_holding self.now.world.held }
+    /// What was fed to each input for an epoch, shared.
+    pub fn share_fed(&self, alloc: Global, epoch: u32) -> Result<Vec<Batches>, NoMemory>
+        ensures { IfOk result (λ fed. fed.items ≡ map (λ i. slice_index_or i.fed epoch []) self.now.inputs) }
     {
-        match &self.held {
-            None => false,
-            Some(held) => !held.given_up,
-        }
+        let fed = share_fed(alloc, &self.inputs, epoch)?;
+        Ok(fed)
     }
 
-    /// The held event is given up, and the board stops for good. No memory is taken.
-    pub fn abandon(&mut self)
-        requires { is_holding self.old.world.held ≡ true }
-        ensures { IfSome self.old.world.held (λ h. self.new ≡ record self.old { world = after_abandon self.old.world h.message }) }
+    /// What was emitted for an epoch, shared.
+    pub fn share_emitted(&self, alloc: Global, epoch: u32) -> Result<Batches, NoMemory>
+        ensures { IfOk result (λ emitted. emitted ≡ slice_index_or self.now.emitted epoch []) }
     {
-        if let Some(held) = &mut self.held {
-            held.given_up = true;
+        let emitted = share_batches(alloc, self.emitted.at(epoch))?;
+        Ok(emitted)
+    }
+
+    /// How many messages wait for the worker.
+    pub fn mail_count(&self, worker: usize) -> usize
+        requires { worker < length self.now.sides }
+        ensures { result ≡ length (side_at self.now worker).mail }
+    {
+        self.workers[worker].mailbox().len()
+    }
+
+    /// The worker's requests.
+    pub fn requests(&self, worker: usize) -> &Mailbox<Request>
+        requires { worker < length self.now.sides }
+        ensures { result.now.messages ≡ (side_at self.now worker).requests }
+    {
+        self.workers[worker].requests()
+    }
+
+    /// Takes a batch at the open epoch of an input, if there is memory; else all is as before.
+    pub fn feed<P: Progress>(
+        &mut self,
+        alloc: Global,
+        tracker: &mut P,
+        input: u32,
+        batch: Batch,
+    ) -> Result<(), AllocError>
+        requires there { input < length self.old.inputs }
+        requires known { input < length (shown_graph self.old.graph) }
+        requires kind { (vertex (shown_graph self.old.graph) input).kind ≡ Equation.input }
+        requires same { P.graph tracker.old ≡ shown_graph self.old.graph }
+        ensures feeds { OnOk result (Feeds self.old self.new (P.content tracker.old) (P.content tracker.new) input batch) }
+        ensures graph { P.graph tracker.new ≡ P.graph tracker.old }
+        ensures state { OnErr result (self.new ≡ self.old) }
+        ensures content { OnErr result (P.content tracker.new ≡ P.content tracker.old) }
+    {
+        let number = input as usize;
+        let epoch = self.inputs[number].open_epoch();
+        let Ok(copy) = batch.share() else {
+            return Err(AllocError);
+        };
+        let Ok(letters) = fed(alloc, &self.wiring, input, epoch, copy) else {
+            return Err(AllocError);
+        };
+        if prepare_letters(&mut self.workers, tracker, &letters).is_err() {
+            return Err(AllocError);
         }
+        if self.inputs[number].feed(batch).is_err() {
+            return Err(AllocError);
+        }
+        deliver(&mut self.workers, tracker, letters);
+        Ok(())
+    }
+
+    /// Hands out a message. No memory is taken.
+    pub fn claim_message(&mut self, worker: usize, place: usize) -> Work
+        requires there { worker < length self.old.sides }
+        requires free { (side_at self.old worker).place ≡ Home }
+        requires some { place < length (side_at self.old worker).mail }
+        requires few { worker < 64 }
+        requires kept { (graph : Definition) × (content : Active → ℕ) × IsKept graph content self.old }
+        ensures hands { HandsMessage self.old self.new worker place result.0 }
+        ensures whole { result.1 ≡ false }
+    {
+        let edge = self.workers[worker].mailbox().get(place).edge;
+        let vertex = self.wiring.graph().edge(edge).target;
+        let (event, stub) = self.workers[worker].send_message(place, vertex.0 as usize);
+        Work::new(worker as u32, event, stub)
+    }
+
+    /// Hands out a request. No memory is taken.
+    pub fn claim_request(&mut self, worker: usize, place: usize) -> Work
+        requires there { worker < length self.old.sides }
+        requires free { (side_at self.old worker).place ≡ Home }
+        requires some { place < length (side_at self.old worker).requests }
+        requires few { worker < 64 }
+        requires kept { (graph : Definition) × (content : Active → ℕ) × IsKept graph content self.old }
+        ensures hands { HandsRequest self.old self.new worker place result.0 }
+        ensures whole { result.1 ≡ false }
+    {
+        let vertex = self.workers[worker].requests().get(place).vertex;
+        let (event, stub) = self.workers[worker].send_request(place, vertex.0 as usize);
+        Work::new(worker as u32, event, stub)
+    }
+
+    /// The event is given up, and the board stops for good. No memory is taken.
+    pub fn abandon(&mut self, worker: usize, stub: Stub<Event>)
+        requires there { worker < length self.old.sides }
+        requires table { stub.table ≡ (side_at self.old worker).table }
+        ensures out { (side_at self.old worker).place ≡ Out stub.job }
+        ensures state { self.new ≡ after_abandon self.old worker stub.job }
+    {
+        self.workers[worker].abandon(stub);
         self.stopped = true;
     }
 
-    /// Ends the event that the worker holds: what it sends goes into the mailbox, what it emits to what was emitted.
-    pub fn commit(&mut self, done: Done) -> Result<(), CommitRefusal>
-        ensures { CommitsExactly self.old done self.new result }
-    {
-        if !self.holds(&done) {
-            done.discard();
-            return Err(CommitRefusal::Stranger);
-        }
-        let Ok(spare) = Arc::try_clone(&self.graph) else {
-            return Err(CommitRefusal::NoMemory(done));
-        };
-        match self.settle(done) {
-            Ok(()) => {
-                self.spare = Some(spare);
-                self.held = None;
-                Ok(())
-            }
-            Err(done) => Err(CommitRefusal::NoMemory(done)),
-        }
-    }
-
-    /// Adds what the event sends and emits, or gives it back whole where there is no memory.
-    fn settle(&mut self, done: Done) -> Result<(), Done>
-        ensures ok { OnOk result (self.new ≡ record self.old { world = settled self.old.world done }) }
-        ensures err { OnErr result (self.new ≡ self.old) }
+    /// Ends the event, if there is memory; else all is as before, and the event whole.
+    pub fn commit<P: Progress>(&mut self, tracker: &mut P, done: Done) -> Result<(), Done>
+        requires own { IsOf self.old done }
+        requires kept { IsKept (P.graph tracker.old) (P.content tracker.old) self.old }
+        ensures settles { OnOk result (Settles self.old self.new (P.content tracker.old) (P.content tracker.new) done) }
+        ensures graph { P.graph tracker.new ≡ P.graph tracker.old }
+        ensures same { OnErr result (self.new ≡ self.old) }
+        ensures content { OnErr result (P.content tracker.new ≡ P.content tracker.old) }
         ensures back { IfErr result (λ back. back ≡ done) }
     {
-        let Done {
-            graph,
-            edge,
-            epoch,
-            records,
-            goes_on,
-            goes_out,
-        } = done;
-        if graph.is_output(edge) {
-            return match self.emit(epoch, goes_out) {
-                Ok(()) => Ok(()),
-                Err(goes_out) => Err(Done {
-                    graph,
-                    edge,
-                    epoch,
-                    records,
-                    goes_on,
-                    goes_out,
-                }),
-            };
+        let number = done.worker();
+        let worker = number as usize;
+        let (stub, output) = done.into_parts();
+        let stub = self.workers[worker].show(stub);
+        if prepare(&mut self.workers, tracker, worker, &output.sent).is_err() {
+            return Err(Done::from_parts(number, stub, output));
         }
-        match self.post(edge + 1, epoch, goes_on) {
-            Ok(()) => Ok(()),
-            Err(goes_on) => Err(Done {
-                graph,
-                edge,
-                epoch,
-                records,
-                goes_on,
-                goes_out,
-            }),
-        }
-    }
-
-    /// Adds records to what was emitted for an epoch.
-    fn emit(&mut self, epoch: u32, records: Records) -> Result<(), Records>
-        ensures ok { OnOk result (self.new ≡ record self.old { world = record self.old.world { emitted = more_at epoch records self.old.world.emitted } }) }
-        ensures err { OnErr result (self.new ≡ self.old) }
-        ensures back { IfErr result (λ back. back ≡ records) }
-    {
-        self.emitted.add(self.alloc, epoch, records)
-    }
-
-    /// Puts a parcel, where there is one, into the mailbox.
-    fn post(
-        &mut self,
-        edge: usize,
-        epoch: u32,
-        parcel: Option<Parcel>,
-    ) -> Result<(), Option<Parcel>>
-        ensures ok { OnOk result (self.new ≡ record self.old { world = record self.old.world { mailbox = self.old.world.mailbox ++ posted edge epoch parcel } }) }
-        ensures err { OnErr result (self.new ≡ self.old) }
-        ensures back { IfErr result (λ back. back ≡ parcel) }
-    {
-        let Some(parcel) = parcel else {
-            return Ok(());
-        };
-        match self.mailbox.push_back(Message {
-            edge,
-            epoch,
-            parcel,
-        }) {
-            Ok(()) => Ok(()),
-            Err(failed) => {
-                let Message {
-                    edge: _,
-                    epoch: _,
-                    parcel,
-                } = failed.value;
-                Err(Some(parcel))
+        let vertex = vertex_at(self.wiring.graph(), output.place.location());
+        let epoch = output.place.time().epoch();
+        match emit(&mut self.emitted, epoch, output) {
+            Ok(output) => {
+                finish(&mut self.workers, tracker, worker, vertex, stub, output);
+                Ok(())
             }
+            Err(output) => Err(Done::from_parts(number, stub, output)),
         }
     }
 }
 
-/// That many open inputs.
-fn fresh_inputs(alloc: Global, n: usize) -> Result<Vec<InputState>, AllocError>
-    ensures { IfOk result (λ v. v.items ≡ replicate n (record { sealed = []; latest = []; closed = false })) }
+/// The vertex of a location.
+fn vertex_at(graph: &Graph, location: Location) -> usize
+    requires { IsIn (shown_graph graph.now) (location_of location) }
+    ensures { result ≡ location_vertex (shown_graph graph.now) (location_of location) }
 {
-    let mut inputs = Vec::new(alloc);
-    for _k in 0..n {
-        inputs.push(InputState::new(alloc))?;
+    match location {
+        Location::Edge(edge) => graph.edge(edge).target.0 as usize,
+        Location::Vertex(vertex) => vertex.0 as usize,
     }
-    Ok(inputs)
+}
+
+/// Adds what is emitted, if there is memory.
+fn emit(emitted: &mut Epochs, epoch: u32, output: Output) -> Result<Output, Output>
+    ensures ok { IfOk result (λ o. emitted.new ≡ with_batch epoch output.emitted emitted.old) }
+    ensures rest { IfOk result (λ o. record o { emitted = output.emitted } ≡ output) }
+    ensures same { OnErr result (emitted.new ≡ emitted.old) }
+    ensures back { IfErr result (λ o. o ≡ output) }
+{
+    let Output {
+        place,
+        wiring,
+        shard,
+        sent,
+        asked,
+        emitted: batch,
+    } = output;
+    match emitted.add_some(epoch, batch) {
+        Ok(()) => Ok(Output {
+            place,
+            wiring,
+            shard,
+            sent,
+            asked,
+            emitted: None,
+        }),
+        Err(batch) => Err(Output {
+            place,
+            wiring,
+            shard,
+            sent,
+            asked,
+            emitted: batch,
+        }),
+    }
 }

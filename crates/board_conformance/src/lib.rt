@@ -1,7 +1,12 @@
-//! The board of chains, and the texts at the edges, by their calls, against values that were reckoned by hand. No other crate stands on it.
+//! The board's calls: each once on its happy path, each refusal in its order, and schedules at random, after each call of which
+//! what was emitted is compared with what a plain evaluator makes of what was fed.
 #![tactic(auto)]
 
 #[cfg(test)]
 mod boards;
 #[cfg(test)]
-mod texts;
+mod calls;
+#[cfg(test)]
+mod reach;
+#[cfg(test)]
+mod schedules;

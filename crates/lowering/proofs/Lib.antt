@@ -11,3 +11,4 @@ pub mod EdgeTables
 pub mod Leads
 pub mod VertexArities
 pub mod FittingPorts
+pub mod Inputs

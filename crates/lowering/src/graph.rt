@@ -3,7 +3,9 @@
 ghost use Rattle.std.specs.Prelude.{◌≡◌, ◌≤◌, ◌<◌, ℕ, length, map, slice_index_or, IfOk, IfErr};
 ghost use Rattle.expr_tree.specs.Plain.{plain_input, plain_program};
 ghost use Rattle.expr_tree.specs.Views.{program_tree};
-ghost use Rattle.semantics.specs.Graph.{edge_count, edge_source, in_port, source, target, vertex};
+ghost use Rattle.semantics.specs.Dataflow.{IsDataflow};
+ghost use Rattle.semantics.specs.Graph.{edge_count, edge_source, in_port, input_count, source, target, vertex};
+ghost use Rattle.semantics.specs.Kinds.{is_input};
 ghost use Rattle.semantics.specs.Lower.{lowered};
 ghost use Rattle.semantics.specs.PortArity.{IsTyped};
 ghost use Rattle.semantics.specs.Typing.{WellTyped};
@@ -13,13 +15,13 @@ ghost use Rattle.lowering.specs.Edges.{edge_list, edge_number, edge_of, edges_ou
 ghost use Rattle.lowering.specs.Faults.{IsTooMany};
 ghost use Rattle.lowering.specs.GraphLaws.{Computes, HasProgramArities, IsProgramGraph};
 ghost use Rattle.lowering.specs.Shown.{shown_arities, shown_graph, shown_inputs};
-ghost use Rattle.lowering.specs.Views.{graph_of, input_of, port_of, vertex_of};
+ghost use Rattle.lowering.specs.Views.{graph_of, input_of, kind_of, port_of, vertex_of};
 
 use crate::arities::{arities_of, arity_at, two_sources};
 use crate::edges::{Edge, EdgeId, Outs, edges_of, outs_of_edges};
 use crate::fault::LowerFault;
 use crate::program::lower_vertices;
-use crate::vertex::{Port, Vertex, VertexId};
+use crate::vertex::{Kind, Port, Vertex, VertexId};
 use expr_tree::{Input, NoMemory, Program};
 use record_core::Name;
 use std::alloc::{Allocator, Global};
@@ -52,6 +54,7 @@ impl Model for Graph {
     ghost use Rattle.expr_tree.specs.contracts.condition.Cond as condition;
     ghost use Rattle.lowering.specs.Edges.{HasTables, edge_of, outs_of};
     ghost use Rattle.lowering.specs.GraphLaws.{HasProgramArities, IsProgramGraph};
+    ghost use Rattle.semantics.specs.Dataflow.{IsDataflow};
     ghost use Rattle.lowering.specs.Shown.{GraphValue};
     ghost use Rattle.lowering.specs.Views.{graph_of, input_of};
 
@@ -61,7 +64,7 @@ impl Model for Graph {
 
     ghost view = { λ g. record { vertices = vec_items g.vertices; inputs = vec_items g.inputs; arities = vec_items g.arities } };
 
-    ghost invariant = { λ g. ∥ IsProgramGraph (graph_of (vec_items g.vertices)) (map input_of (vec_items g.inputs)) ∥₁ × HasTables (graph_of (vec_items g.vertices)) (map edge_of (vec_items g.edges)) (map outs_of (vec_items g.outs)) × (length (vec_items g.vertices) ≤ 4096) × ∥ HasProgramArities (graph_of (vec_items g.vertices)) (map input_of (vec_items g.inputs)) (vec_items g.arities) ∥₁ };
+    ghost invariant = { λ g. ∥ IsProgramGraph (graph_of (vec_items g.vertices)) (map input_of (vec_items g.inputs)) ∥₁ × HasTables (graph_of (vec_items g.vertices)) (map edge_of (vec_items g.edges)) (map outs_of (vec_items g.outs)) × (length (vec_items g.vertices) ≤ 4096) × ∥ HasProgramArities (graph_of (vec_items g.vertices)) (map input_of (vec_items g.inputs)) (vec_items g.arities) ∥₁ × IsDataflow (graph_of (vec_items g.vertices)) };
 }
 
 /// The graph of a well-typed query: exactly the one that the definition makes of it. On any inputs it has exactly one flow, whose
@@ -107,6 +110,13 @@ impl Graph {
     /// Each graph is that of some well-typed program with these inputs, so the laws of such graphs hold of it. Nothing is done.
     pub fn law_of_program(&self)
         ensures { ∥ IsProgramGraph (shown_graph self.now) (shown_inputs self.now) ∥₁ }
+    {
+        let _ = &self.vertices;
+    }
+
+    /// The graph is a dataflow graph, so the laws of such graphs hold of it. Nothing is done.
+    pub fn law_of_dataflow(&self)
+        ensures { IsDataflow (shown_graph self.now) }
     {
         let _ = &self.vertices;
     }
@@ -234,6 +244,33 @@ impl Graph {
     {
         &self.inputs
     }
+
+    /// The number of inputs.
+    pub fn input_count(&self) -> usize
+        ensures value { result ≡ input_count (shown_graph self.now) }
+        ensures few { result ≤ 4096 }
+    {
+        for number in 0..self.vertex_count() {
+            if !self.is_input(VertexId(number as u32)) {
+                return number;
+            }
+        }
+        self.vertex_count()
+    }
+
+    /// Whether the vertex of that number is an input.
+    fn is_input(&self, id: VertexId) -> bool
+        requires { id.0 < length (shown_graph self.now) }
+        ensures { result ≡ is_input (vertex (shown_graph self.now) id.0).kind }
+    {
+        is_input_kind(&self.vertex(id).kind)
+    }
+}
+
+fn is_input_kind(kind: &Kind) -> bool
+    ensures { result ≡ is_input (kind_of kind.now) }
+{
+    matches!(kind, Kind::Input)
 }
 
 /// The names and arities of the inputs, in order.

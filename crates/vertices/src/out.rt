@@ -41,6 +41,14 @@ impl Out {
         }
     }
 
+    /// What is sent by out ports 0 and 1.
+    pub fn into_batches(self) -> (Option<Batch>, Option<Batch>)
+        ensures first { records_of result.0 ≡ two self 0 }
+        ensures second { records_of result.1 ≡ two self 1 }
+    {
+        (self.first, self.second)
+    }
+
     /// Whether a notification is asked for.
     pub fn asked(&self) -> bool
         ensures { result ≡ self.now.asked }

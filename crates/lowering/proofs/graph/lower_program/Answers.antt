@@ -1,7 +1,7 @@
 use Rattle.std.proofs.Common.{rules, ◌≡◌, ◌≤◌, length, sym, subst, ◌∙◌, arith}
 use Rattle.expr_tree.specs.Plain.{plain_program}
 use Rattle.expr_tree.specs.Views.{program_tree}
-use Rattle.semantics.specs.Dataflow.{IsWired}
+use Rattle.semantics.specs.Dataflow.{IsDataflow, IsWired}
 use Rattle.semantics.specs.Graph.{Graph}
 use Rattle.lowering.specs.GraphLaws.{Computes}
 use Rattle.lowering.specs.Views.{graph_of}
@@ -35,7 +35,7 @@ invariant_of-result g c =
     let n = m ∙ sym (length_graph_of vs) in
     let e = rw c.deref.ensures.value at (c.in_ok-edges.ensures) in
     let t = rw (n, c.deref-2.ensures.value) at (c.in_ok-outs.ensures) in
-    (∣ (p, c.requires.0, c.requires.1, c.in_ok-vertices.ensures.ok, c.in_ok-inputs.ensures) ∣₁, tables_shown (graph_of vs) c.in_ok-edges.edges.items c.in_ok-outs.outs.items e t, c.in_ok-vertices.ensures.few, ∣ (p, c.requires.0, c.requires.1, c.in_ok-vertices.ensures.ok, c.in_ok-inputs.ensures, c.in_ok-arities.ensures) ∣₁)
+    (∣ (p, c.requires.0, c.requires.1, c.in_ok-vertices.ensures.ok, c.in_ok-inputs.ensures) ∣₁, tables_shown (graph_of vs) c.in_ok-edges.edges.items c.in_ok-outs.outs.items e t, c.in_ok-vertices.ensures.few, ∣ (p, c.requires.0, c.requires.1, c.in_ok-vertices.ensures.ok, c.in_ok-inputs.ensures, c.in_ok-arities.ensures) ∣₁, subst (λ (h : Graph). IsDataflow h) (sym c.in_ok-vertices.ensures.ok) (c.law_program.ensures.dataflow p c.requires.0 c.requires.1))
 
 pub returns-clause-flow : goal.returns-clause-flow
 returns-clause-flow g c =

@@ -1,0 +1,131 @@
+//! A board over the graph of a query, fed and worked off by one thread, with no text read or written.
+
+ghost use Rattle.std.specs.Prelude.{◌≡◌, ◌<◌, ◌≤◌};
+ghost use Rattle.board.specs.Commits.{IsOf};
+
+use board::{Board, Claimed, CommitRefusal};
+use events::Work;
+use lowering::lower;
+use parser::parse;
+use progress::LocationTracker;
+use rows::{Batch, Rows};
+use std::alloc::Global;
+use std::sync::Arc;
+use typing::check;
+
+/// A chain of a select and a where.
+pub const CHAIN: &str = "input a/2; output where(select(a; #0 + #1, #0 * 3 - #1); #0 < 1000);";
+
+/// A join of two inputs by their first fields.
+pub const JOIN: &str = "input a/2; input b/2; output join(a, b; #0 = #0);";
+
+/// Four turns of a loop with a join.
+pub const LOOP: &str =
+    "input e/2; output iterate(4; x = e; distinct(concat(x, select(join(x, e; #1 = #0); #0, #3))));";
+
+/// The most records of a batch.
+const BATCH: u64 = 16_384;
+
+fn board_of(alloc: Global, text: &str, workers: u32) -> Option<Board<LocationTracker>>
+    requires some { 0 < workers }
+    requires few { workers ≤ 64 }
+{
+    let program = parse(alloc, text.as_bytes()).ok()?;
+    let typed = check(alloc, program).ok()?;
+    let graph = Arc::new(alloc, lower(alloc, &typed).ok()?).ok()?;
+    Board::new(alloc, graph, workers).ok()
+}
+
+/// The k-th number of a sequence without pattern.
+fn scattered(k: u64) -> u64 {
+    let mixed = k.wrapping_mul(0x9e37_79b9_7f4a_7c15);
+    (mixed ^ (mixed >> 29)).wrapping_mul(0xbf58_476d_1ce4_e5b9) >> 33
+}
+
+/// Records of two fields, from one number to another, whose fields are below `keys`.
+fn batch(alloc: Global, from: u64, to: u64, keys: u64) -> Option<Batch>
+    requires { 0 < keys }
+{
+    let count = to.saturating_sub(from) as usize;
+    let mut rows = Rows::with_capacity(alloc, 2, count).ok()?;
+    for k in from..to {
+        let first = (scattered(k) % keys).cast_signed();
+        let second = (scattered(!k) % keys).cast_signed();
+        rows.push(&[first, second]).ok()?;
+    }
+    Batch::from_rows(alloc, rows).ok()?
+}
+
+/// Computes an event and commits it; without memory it is given up.
+fn finish(alloc: Global, board: &mut Board<LocationTracker>, work: Work) -> Option<()>
+    requires { IsOf board.old work.0 }
+{
+    match work.compute(alloc) {
+        Ok(done) => match board.commit(done) {
+            Ok(()) => Some(()),
+            Err(CommitRefusal::NoMemory(done)) => {
+                board.abandon_done(done);
+                None
+            }
+        },
+        Err(work) => {
+            board.abandon(work);
+            None
+        }
+    }
+}
+
+/// Lets the workers take turns until none has anything to do. How many events that were; nothing without memory.
+fn work_off(alloc: Global, board: &mut Board<LocationTracker>, workers: u32) -> Option<u64> {
+    let mut events = 0u64;
+    for _round in 0..u64::MAX {
+        let before = events;
+        for worker in 0..workers {
+            match board.claim(worker) {
+                Claimed::Work(work) => {
+                    finish(alloc, board, work)?;
+                    events = events.saturating_add(1);
+                }
+                Claimed::Stopped | Claimed::Busy | Claimed::Drained | Claimed::Idle => {}
+            }
+        }
+        if events == before {
+            return Some(events);
+        }
+    }
+    None
+}
+
+/// Feeds so many records an epoch to each input, each epoch worked off before the next. How many events that were; nothing without
+/// memory.
+pub fn run(alloc: Global, text: &str, workers: u32, epochs: u32, records: u64) -> Option<u64>
+    requires some { 0 < workers }
+    requires few { workers ≤ 64 }
+{
+    let mut board = board_of(alloc, text, workers)?;
+    let inputs = board.graph().inputs().len() as u32;
+    let keys = (records / 2).max(1);
+    let mut events = 0u64;
+    for epoch in 0..epochs {
+        for input in 0..inputs {
+            let begin = u64::from(epoch).wrapping_mul(records);
+            for piece in 0..records.div_ceil(BATCH) {
+                let from = piece.saturating_mul(BATCH);
+                let to = from.saturating_add(BATCH).min(records);
+                let batch = batch(
+                    alloc,
+                    begin.wrapping_add(from),
+                    begin.wrapping_add(to),
+                    keys,
+                )?;
+                board.feed(alloc, input, batch).ok()?;
+            }
+            board.seal(input).ok()?;
+        }
+        events = events.saturating_add(work_off(alloc, &mut board, workers)?);
+    }
+    if board.passed_count() < u64::from(epochs) {
+        return None;
+    }
+    Some(events)
+}

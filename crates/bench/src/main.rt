@@ -1,0 +1,106 @@
+//! Measures the engine's parts: prints what came of their work, and is timed from outside.
+//!
+//! Shards: `join N` joins N thousand records of two fields with as many others, each with 2 of them; `distinct N` takes N thousand
+//! records, 4,000 different; `group N` takes N thousand records of 12,500 keys and gives the count, sum, least and greatest of each
+//! key; `batches N` makes N thousand records and does nothing with them. Each prints how many records come out.
+//!
+//! Tables of path summaries: `chain N` of a graph of N loops one after another, `wide N` of 8 loops one in another round a tree of N
+//! unions, `query FILE` of the query in a file; each prints how many vertices there are.
+//!
+//! Trackers: `open N ROUNDS` keeps N epochs open at an input. Each round adds the newest, asks of it and of the oldest whether it is
+//! in the frontier, and removes the oldest; it prints how many answers were yes. `scan` is the same by the tracker that asks each.
+//!
+//! The board, without texts: `board-chain WORKERS EPOCHS RECORDS` feeds so many records an epoch to a select and a where, and lets the
+//! workers take turns in one thread; `board-join` and `board-loop` are the same of a join and of a loop of 4 turns. Each prints how many
+//! events there were.
+//!
+//! Without arguments it does each but `query` and `board-loop`, small.
+#![tactic(auto)]
+
+ghost use Rattle.std.specs.Prelude.{◌≤◌};
+
+mod engine;
+mod shards;
+mod tables;
+
+use shards::{batches, distinct, group, join};
+use std::{env, fs, io};
+use tables::{chain, slide_located, slide_plain, table, wide};
+use vertices::ShardFault;
+
+fn show(rt: &impl Print, name: &str, count: Option<u64>) -> io::Result<()> {
+    match count {
+        Some(count) => println!(rt; "{name}: {count}"),
+        None => println!(rt; "{name}: no memory"),
+    }
+}
+
+fn show_records(rt: &impl Print, name: &str, count: Result<usize, ShardFault>) -> io::Result<()> {
+    show(rt, name, count.ok().map(|count| count as u64))
+}
+
+/// The number in that place, at most 10 million.
+fn number(words: &[String], place: usize) -> u32
+    ensures { result ≤ 10000000 }
+{
+    let number = words
+        .get(place)
+        .map_or(0, |word| word.as_str().parse::<u32>().unwrap_or(0));
+    number.min(10_000_000)
+}
+
+/// Runs a board, with workers, epochs and records by the words.
+fn show_board(rt: &HostRuntime, name: &str, query: &str, words: &[String]) -> io::Result<()> {
+    let workers = number(words, 2).clamp(1, 64);
+    let records = u64::from(number(words, 4));
+    show(
+        rt,
+        name,
+        engine::run(rt.alloc(), query, workers, number(words, 3), records),
+    )
+}
+
+fn main(rt: HostRuntime) -> io::Result<()> {
+    let alloc = rt.alloc();
+    let words: Vec<String> = env::args(&rt)?.collect(alloc)?;
+    let work = words.get(1).map_or("", |word| word.as_str());
+    let count = number(&words, 2);
+    let rounds = number(&words, 3);
+    let records = u64::from(count) * 1000;
+    match work {
+        "join" => show_records(&rt, work, join(alloc, records)),
+        "distinct" => show_records(&rt, work, distinct(alloc, records)),
+        "group" => show_records(&rt, work, group(alloc, records)),
+        "batches" => show_records(&rt, work, batches(alloc, records)),
+        "chain" => show(&rt, work, table(alloc, chain(alloc, count))),
+        "wide" => show(&rt, work, table(alloc, wide(alloc, count))),
+        "query" => {
+            let path = words.get(2).map_or("", |word| word.as_str());
+            show(&rt, work, table(alloc, Ok(fs::read_to_string(&rt, path)?)))
+        }
+        "board-chain" => show_board(&rt, work, engine::CHAIN, &words),
+        "board-join" => show_board(&rt, work, engine::JOIN, &words),
+        "board-loop" => show_board(&rt, work, engine::LOOP, &words),
+        "open" => show(&rt, work, slide_located(alloc, count, rounds)),
+        "scan" => show(&rt, work, slide_plain(alloc, count, rounds)),
+        _ => {
+            show_records(&rt, "join", join(alloc, 20_000))?;
+            show_records(&rt, "distinct", distinct(alloc, 20_000))?;
+            show_records(&rt, "group", group(alloc, 20_000))?;
+            show(&rt, "chain", table(alloc, chain(alloc, 20)))?;
+            show(&rt, "wide", table(alloc, wide(alloc, 40)))?;
+            show(&rt, "open", slide_located(alloc, 100, 1000))?;
+            show(&rt, "scan", slide_plain(alloc, 100, 1000))?;
+            show(
+                &rt,
+                "board-chain",
+                engine::run(alloc, engine::CHAIN, 4, 10, 100),
+            )?;
+            show(
+                &rt,
+                "board-join",
+                engine::run(alloc, engine::JOIN, 1, 10, 100),
+            )
+        }
+    }
+}

@@ -1,0 +1,210 @@
+-- Commits.
+use Rattle.std.proofs.Common.{◌≡◌, ◌≢◌, ◌⊎◌, inl, inr, ◌<◌, ℕ, ◌==◌, Bool, true, false, cond, List, [], ◌++◌, length, refl, sym, ap, ◌∙◌, subst, arith, slice_set, slice_index_or, Option, None, length-set, append-nil}
+use Rattle.std.proofs.lemmas.Bool.Decides.{eqb_tells}
+use Rattle.semantics.specs.Multiset.{Record}
+use Rattle.semantics.specs.Time.{Time, same_time, at_epoch}
+use Rattle.semantics.specs.Kinds.{Role}
+use Rattle.semantics.specs.Graph.{output_number}
+use Rattle.lowering.specs.Shown.{shown_graph}
+use Rattle.machine.specs.Network.{Network}
+use Rattle.machine.specs.World.{World, Request, Event, Held}
+use Rattle.machine.specs.Processing.{event_vertex, event_time, absorbed_by, absorbed_after, asked}
+use Rattle.machine.specs.Sending.{mail_after, parcels}
+use Rattle.machine.specs.Step.{Step, Allowed, after_step, put}
+use Rattle.machine.proofs.Counting.{eqb_self}
+use Rattle.vertices.specs.Absorbed.{Absorbed}
+use Rattle.vertices.specs.Outs.{records_of}
+use Rattle.vertices.specs.Shards.{Shows as ShowsShard}
+use Rattle.vertices.specs.declared.shard.Shard.{Shard}
+use Rattle.tokens.specs.declared.rule.Place.{Place}
+use Rattle.tokens.specs.declared.rule.Place.TheVariants.{Out}
+use Rattle.events.specs.Happenings.{requests_of}
+use Rattle.events.specs.Jobs.{Job}
+use Rattle.events.specs.Letters.{sent_to}
+use Rattle.events.specs.Outputs.{IsDoneFor}
+use Rattle.events.specs.declared.letter.Letter.{Letter}
+use Rattle.board.specs.Shown.{Shown, Side, side_at, side_in, no_side, held_of, records_at, event_at}
+use Rattle.board.specs.Showing.{Shows, ShowsIn, OnShard, known, known_shard, IsOwn}
+use Rattle.board.specs.Steps.{settled, delivered, after_commit}
+use Rattle.board.proofs.Deliveries.{delivered_at, delivered_length, with_all}
+use Rattle.board.proofs.Emitting.{cond_same, records_with}
+use Rattle.board.proofs.Places.{put_set_below, same_set}
+use Rattle.board.proofs.Shards.{each_back}
+
+-- ---- what is absorbed
+
+nothing_else : (w : World) (k v k' v' port : ℕ) (u : Time) (records : List Record) (p : ℕ) (t : Time) → (k' ≢ k) ⊎ (v' ≢ v)
+    → w.absorbed k' v' p t ++ cond (k' == k) (cond (v == v') (cond (port == p) (cond (same_time u t) records []) []) []) [] ≡ w.absorbed k' v' p t
+nothing_else w k v k' v' port u records p t (inl ne) = go (eqb_tells k' k)
+  where
+    go : ((k' == k) ≡ true) × (k' ≡ k) ⊎ ((k' == k) ≡ false) × (k' ≢ k) → w.absorbed k' v' p t ++ cond (k' == k) (cond (v == v') (cond (port == p) (cond (same_time u t) records []) []) []) [] ≡ w.absorbed k' v' p t
+    go (inl (e, q)) = absurd (ne q)
+    go (inr (e, q)) = rw e (append-nil (w.absorbed k' v' p t))
+nothing_else w k v k' v' port u records p t (inr ne) = go (eqb_tells v v')
+  where
+    go : ((v == v') ≡ true) × (v ≡ v') ⊎ ((v == v') ≡ false) × (v ≢ v') → w.absorbed k' v' p t ++ cond (k' == k) (cond (v == v') (cond (port == p) (cond (same_time u t) records []) []) []) [] ≡ w.absorbed k' v' p t
+    go (inl (e, q)) = absurd (ne (sym q))
+    go (inr (e, q)) = rw e (ap (λ l. w.absorbed k' v' p t ++ l) (cond_same (k' == k) []) ∙ append-nil (w.absorbed k' v' p t))
+
+absorbed_other : (r : Role) (w : World) (k v k' v' port : ℕ) (u : Time) (records : List Record) (p : ℕ) (t : Time) → (k' ≢ k) ⊎ (v' ≢ v)
+    → absorbed_by r w k v port u records k' v' p t ≡ w.absorbed k' v' p t
+absorbed_other Role.input w k v k' v' port u records p t ne = refl
+absorbed_other Role.stateless w k v k' v' port u records p t ne = refl
+absorbed_other Role.output w k v k' v' port u records p t ne = refl
+absorbed_other Role.stateful w k v k' v' port u records p t ne = nothing_else w k v k' v' port u records p t ne
+absorbed_other Role.notified w k v k' v' port u records p t ne = nothing_else w k v k' v' port u records p t ne
+
+module _ (g : Network) (w : World) (k : ℕ) where
+  pub then_other : (event : Event) (k' v' : ℕ) → (k' ≢ k) ⊎ (v' ≢ event_vertex g event) → absorbed_after g w k event k' v' ≡ w.absorbed k' v'
+  then_other (Event.arrival m) k' v' ne = λ i p t. absorbed_other (g.role (g.target m.edge)) w k (g.target m.edge) k' v' (g.in_port m.edge) m.time m.records p t ne i
+  then_other (Event.notification n) k' v' ne = refl
+
+-- ---- what is emitted
+
+same_epochs : (m n : ℕ) → same_time (at_epoch m) (at_epoch n) ≡ (m == n)
+same_epochs m n = go (m == n) refl
+  where
+    go : (b : Bool) → (m == n) ≡ b → same_time (at_epoch m) (at_epoch n) ≡ (m == n)
+    go true e = rw e refl
+    go false e = rw e refl
+
+module _ (g : Network) (w : World) (o : ℕ) (es : ℕ → List Record) (shown : (v n : ℕ) → w.emitted v n ≡ cond (v == o) (es n) []) where
+  silent : (v0 e : ℕ) (t : Time) (batch : List Record) → batch ≡ [] → (v n : ℕ)
+      → w.emitted v n ++ cond (v0 == v) (cond (same_time t (at_epoch n)) batch []) [] ≡ cond (v == o) (es n ++ cond (e == n) batch []) []
+  silent v0 e t batch none v n =
+      ap (λ b. w.emitted v n ++ cond (v0 == v) (cond (same_time t (at_epoch n)) b []) []) none
+      ∙ ap (λ l. w.emitted v n ++ cond (v0 == v) l []) (cond_same (same_time t (at_epoch n)) [])
+      ∙ ap (λ l. w.emitted v n ++ l) (cond_same (v0 == v) [])
+      ∙ append-nil (w.emitted v n)
+      ∙ shown v n
+      ∙ ap (λ l. cond (v == o) l []) (sym (ap (λ b. es n ++ cond (e == n) b []) none ∙ ap (λ l. es n ++ l) (cond_same (e == n) []) ∙ append-nil (es n)))
+
+  spoken : (v0 e : ℕ) (t : Time) (records : List Record) → v0 ≡ o → t ≡ at_epoch e → (v n : ℕ)
+      → w.emitted v n ++ cond (v0 == v) (cond (same_time t (at_epoch n)) records []) [] ≡ cond (v == o) (es n ++ cond (e == n) records []) []
+  spoken v0 e t records at time v n = go (eqb_tells v o)
+    where
+      go : ((v == o) ≡ true) × (v ≡ o) ⊎ ((v == o) ≡ false) × (v ≢ o) → w.emitted v n ++ cond (v0 == v) (cond (same_time t (at_epoch n)) records []) [] ≡ cond (v == o) (es n ++ cond (e == n) records []) []
+      go (inl (b, q)) =
+          let here : w.emitted v n ≡ es n = shown v n ∙ ap (λ c. cond c (es n) []) b in
+          let own : (v0 == v) ≡ true = ap (λ x. x == v) (at ∙ sym q) ∙ eqb_self v in
+          let when : same_time t (at_epoch n) ≡ (e == n) = ap (λ x. same_time x (at_epoch n)) time ∙ same_epochs e n in
+          ap (λ l. l ++ cond (v0 == v) (cond (same_time t (at_epoch n)) records []) []) here
+          ∙ ap (λ c. es n ++ cond c (cond (same_time t (at_epoch n)) records []) []) own
+          ∙ ap (λ c. es n ++ cond c records []) when
+          ∙ sym (ap (λ c. cond c (es n ++ cond (e == n) records []) []) b)
+      go (inr (b, q)) =
+          let here : w.emitted v n ≡ [] = shown v n ∙ ap (λ c. cond c (es n) []) b in
+          let other : (v0 == v) ≡ false = apart (eqb_tells v0 v) in
+          ap (λ l. l ++ cond (v0 == v) (cond (same_time t (at_epoch n)) records []) []) here
+          ∙ ap (λ c. cond c (cond (same_time t (at_epoch n)) records []) []) other
+          ∙ sym (ap (λ c. cond c (es n ++ cond (e == n) records []) []) b)
+        where
+          apart : ((v0 == v) ≡ true) × (v0 ≡ v) ⊎ ((v0 == v) ≡ false) × (v0 ≢ v) → (v0 == v) ≡ false
+          apart (inl (c, x)) = absurd (q (sym x ∙ at))
+          apart (inr (c, x)) = c
+
+  pub emits : (v0 e : ℕ) (t : Time) (records : List Record) → (records ≡ []) ⊎ ((v0 ≡ o) × (t ≡ at_epoch e)) → (v n : ℕ)
+      → w.emitted v n ++ cond (v0 == v) (cond (same_time t (at_epoch n)) records []) [] ≡ cond (v == o) (es n ++ cond (e == n) records []) []
+  emits v0 e t records (inl none) v n = silent v0 e t records none v n
+  emits v0 e t records (inr (at, time)) v n = spoken v0 e t records at time v n
+
+-- ---- the commit
+
+-- g is the network that s runs
+pub record IsNetOf (g : Network) (s : Shown) : Type 0 where
+  pub workers : g.workers ≡ length s.sides
+  pub at : (e : Event) → event_vertex g e ≡ event_at (shown_graph s.graph) e
+
+-- what is emitted is emitted at the output, for an epoch
+pub record EndsAt (g : Network) (o : ℕ) (event : Event) (records : List Record) : Type 0 where
+  pub at : (records ≡ []) ⊎ ((event_vertex g event ≡ o) × (event_time event ≡ at_epoch (event_time event).epoch))
+
+-- the shard of an event that is out showed what the world says was absorbed
+pub was : (g : Network) (s : Shown) (of : IsNetOf g s) (w : World) (is : Shows s w) (k : ℕ) (there : k < length s.sides) (j : Job) (gone : (side_at s k).place ≡ Out j)
+    (own : IsOwn s (side_at s k) j) → ShowsIn w k (event_vertex g j.happening) j.before
+was g s of w is k there j gone own =
+    let v : ℕ = event_at (shown_graph s.graph) j.happening in
+    let P : Option Shard → Type 0 = λ o. OnShard (ShowsIn w k v) (known o (Out j)) in
+    let Q : Place Job → Type 0 = λ p. OnShard (ShowsIn w k v) (known (slice_index_or (side_at s k).shards v None) p) in
+    let h : ShowsIn w k v j.before = subst P own.away (subst Q gone (is.absorbed k v there own.vertex)) in
+    let R : ℕ → Type 0 = λ n. ShowsIn w k n j.before in
+    subst R (sym (of.at j.happening)) h
+
+module _ (g : Network) (s : Shown) (of : IsNetOf g s) (w : World) (is : Shows s w) (k : ℕ) (there : k < length s.sides) (j : Job) (gone : (side_at s k).place ≡ Out j)
+    (own : IsOwn s (side_at s k) j) (shards_there : length (side_at s k).shards ≡ length (shown_graph s.graph)) (shard : Shard) (sent : List Letter) (emitted : Option (List Record)) (asks : Option Request)
+    (done : IsDoneFor g k j.happening j.before shard sent (requests_of asks) (records_of emitted)) (ends : EndsAt g (output_number (shown_graph s.graph)) j.happening (records_of emitted)) where
+  v : ℕ
+  v = event_at (shown_graph s.graph) j.happening
+
+  pub may_commit : Allowed g w (Step.commit k j.happening done.out)
+  may_commit = (omega (arith, there, of.workers), is.held k there ∙ ap held_of gone, done.makes w (was g s of w is k there j gone own))
+
+  y : Side
+  unfolding v
+  y = settled (side_at s k) v shard asks
+
+  sides : List Side
+  unfolding y
+  sides = slice_set s.sides k y
+
+  sides_there : length sides ≡ length s.sides
+  unfolding sides
+  sides_there = length-set s.sides k y
+
+  side_then : (i : ℕ) → i < length s.sides → side_in (delivered sides sent) i ≡ with_all (side_in sides i) (sent_to i sent)
+  side_then i l = delivered_at sent sides i (omega (arith, l, sides_there))
+
+  mail_then : (i : ℕ) → i < length s.sides → mail_after g w k (event_vertex g j.happening) (g.act (event_vertex g j.happening) (event_time j.happening)) done.out i ≡ (side_in (delivered sides sent) i).mail
+  unfolding sides y v
+  mail_then i l =
+      let before : w.mail i ≡ (side_in sides i).mail = same_set (length s.sides) w.mail (λ (z : Side). z.mail) s.sides no_side k y there refl is.mail i l in
+      let mail : sent_to i sent ≡ parcels g k (event_vertex g j.happening) (g.act (event_vertex g j.happening) (event_time j.happening)) done.out i g.edges = done.sends.each i (omega (arith, l, of.workers)) in
+      ap (λ ms. ms ++ parcels g k (event_vertex g j.happening) (g.act (event_vertex g j.happening) (event_time j.happening)) done.out i g.edges) before
+      ∙ ap (λ ms. (side_in sides i).mail ++ ms) (sym mail)
+      ∙ sym (ap (λ (z : Side). z.mail) (side_then i l))
+
+  requests_then : (i : ℕ) → i < length s.sides → put w.requests k (w.requests k ++ asked g w k j.happening) i ≡ (side_in (delivered sides sent) i).requests
+  unfolding sides y v
+  requests_then i l =
+      let e : (side_at s k).requests ++ requests_of asks ≡ w.requests k ++ asked g w k j.happening =
+      ap (λ rs. rs ++ requests_of asks) (sym (is.requests k there)) ∙ ap (λ rs. w.requests k ++ rs) (done.asks w (was g s of w is k there j gone own)) in
+      put_set_below (length s.sides) w.requests (λ (z : Side). z.requests) s.sides no_side k y (w.requests k ++ asked g w k j.happening) there e is.requests i l
+      ∙ sym (ap (λ (z : Side). z.requests) (side_then i l))
+
+  held_then : (i : ℕ) → i < length s.sides → put w.held k Held.nothing i ≡ held_of (side_in (delivered sides sent) i).place
+  unfolding sides y v
+  held_then i l =
+      put_set_below (length s.sides) w.held (λ (z : Side). held_of z.place) s.sides no_side k y Held.nothing there refl is.held i l
+      ∙ sym (ap (λ (z : Side). held_of z.place) (side_then i l))
+
+  shards_then : (i u : ℕ) → i < length s.sides → u < length (shown_graph s.graph) → OnShard (ShowsIn (after_step g w (Step.commit k j.happening done.out)) i u) (known_shard (side_in (delivered sides sent) i) u)
+  unfolding sides y v
+  shards_then i u l lu =
+      let now : World = after_step g w (Step.commit k j.happening done.out) in
+      let new : ShowsIn now k v shard = (let R : ℕ → Type 0 = λ n. ShowsIn now k n shard in subst R (of.at j.happening) (done.absorbs w (was g s of w is k there j gone own))) in
+      let S : Side → Type 0 = λ z. OnShard (ShowsIn now i u) (known_shard z u) in
+      subst S (sym (side_then i l))
+      (each_back s k there (ShowsIn w) (ShowsIn now) v j shard y is.absorbed gone (omega (arith, own.vertex, shards_there)) own.others refl refl new
+      (λ a b z ne h. let R : Absorbed → Type 0 = λ x. ShowsShard z x in subst R (sym (then_other g w k j.happening a b (apart a b ne))) h) i u l lu)
+    where
+      apart : (a b : ℕ) → (a ≢ k) ⊎ (b ≢ v) → (a ≢ k) ⊎ (b ≢ event_vertex g j.happening)
+      apart a b (inl ne) = inl ne
+      apart a b (inr ne) = inr (λ e. ne (e ∙ of.at j.happening))
+
+  pub shows_commit : Shows (after_commit s k j shard sent emitted asks) (after_step g w (Step.commit k j.happening done.out))
+  unfolding sides y v
+  shows_commit =
+      let n : length (delivered sides sent) ≡ length s.sides = delivered_length sent sides ∙ sides_there in
+      record {
+        stopped = is.stopped;
+        open_epoch = is.open_epoch;
+        closed = is.closed;
+        fed = is.fed;
+        mail = λ i l. mail_then i (omega (arith, l, n));
+        requests = λ i l. requests_then i (omega (arith, l, n));
+        held = λ i l. held_then i (omega (arith, l, n));
+        absorbed = λ i u l lu. shards_then i u (omega (arith, l, n)) lu;
+        emitted = λ u e. done.emits w u e
+            ∙ emits g w (output_number (shown_graph s.graph)) (records_at s.emitted) is.emitted (event_vertex g j.happening) (event_time j.happening).epoch (event_time j.happening) (records_of emitted) ends.at u e
+            ∙ ap (λ x. cond (u == output_number (shown_graph s.graph)) x []) (sym (records_with (event_time j.happening).epoch emitted s.emitted e));
+      }

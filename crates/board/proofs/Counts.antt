@@ -1,0 +1,123 @@
+-- What has passed stays so, and the number of passed epochs after each call.
+use Rattle.std.proofs.Common.{◌≡◌, inl, inr, ◌<◌, ◌≤◌, ℕ, length, refl, sym, ap, ◌∙◌, subst, arith}
+use Rattle.semantics.specs.Graph.{Graph, input_count, output_number, vertex}
+use Rattle.semantics.specs.Could.{Pointstamp, CouldResultIn, at_vertex}
+use Rattle.semantics.specs.Dataflow.{IsDataflow}
+use Rattle.semantics.specs.Kinds.{Role, role}
+use Rattle.semantics.specs.Time.{at_epoch}
+use Rattle.lowering.specs.Shown.{GraphValue, shown_graph}
+use Rattle.machine.specs.World.{World}
+use Rattle.machine.specs.Active.{IsActive}
+use Rattle.machine.specs.Engine.{network}
+use Rattle.machine.specs.Frontier.{IsPassedCount, Passed, SealedTo}
+use Rattle.machine.specs.Step.{Step, Allowed, after_step}
+use Rattle.machine.proofs.PassedEpochs.{count_rises, passed_stays}
+use Rattle.machine.proofs.Tracking.{active_counts}
+use Rattle.board.specs.Kept.{IsKept, Goes}
+use Rattle.board.specs.Promises.{CountsPassed, HasPassed}
+use Rattle.board.specs.Seals.{HavePassed}
+use Rattle.board.specs.Showing.{Shows}
+use Rattle.board.specs.Shown.{InputShown, Shown, input_at, net, no_input}
+use Rattle.board.proofs.Facts.{run_on}
+use Rattle.board.proofs.Worlds.{none, none_back, same_active}
+
+-- all worlds that a board shows agree on what has passed
+module _ (s : Shown) (flows : IsDataflow (shown_graph s.graph)) (some : 0 < length s.sides) (w w' : World) (is : Shows s w) (is' : Shows s w') where
+  active_there : (q : Pointstamp) → IsActive (net s) w' q → IsActive (net s) w q
+  active_there q a =
+      let c = (active_counts (shown_graph s.graph) flows (length s.sides) some w' q).0 a in
+      (active_counts (shown_graph s.graph) flows (length s.sides) some w q).1 (omega (arith, c, same_active s w w' is is' q))
+
+  pub passed_there : (v e : ℕ) → Passed (net s) w v e → Passed (net s) w' v e
+  passed_there v e h q a c = h q (active_there q a) c
+
+  pub sealed_there : (n : ℕ) → SealedTo (net s) w n → SealedTo (net s) w' n
+  sealed_there n (inl e) = inl e
+  sealed_there n (inr (i, l, m)) = inr (i, l, (let a = is.open_epoch i in let b = is'.open_epoch i in omega (arith, m, a, b)))
+
+-- what a step leaves
+module _ (graph : Graph) (content : Pointstamp → ℕ) (s : Shown) (kept : IsKept graph content s) (step : Step) (t : Shown) (goes : Goes s step t) where
+  flows_then : IsDataflow (shown_graph t.graph)
+  flows_then = subst (λ (g : GraphValue). IsDataflow (shown_graph g)) (sym goes.graph) kept.flows
+
+  some_then : 0 < length t.sides
+  some_then = omega (arith, kept.some, goes.workers)
+
+  ok : Allowed (net s) kept.world step
+  ok = (goes.step kept.world kept.shows).0
+
+  shown_then : Shows t (after_step (net s) kept.world step)
+  shown_then = (goes.step kept.world kept.shows).1
+
+  -- of a network as the first: as the second
+  onto : (P : (g : Graph) (workers : ℕ) → Type 0) → P (shown_graph s.graph) (length s.sides) → P (shown_graph t.graph) (length t.sides)
+  onto P h =
+      let A : GraphValue → Type 0 = λ g. P (shown_graph g) (length s.sides) in
+      let B : ℕ → Type 0 = λ n. P (shown_graph t.graph) n in
+      subst B (sym goes.workers) (subst A (sym goes.graph) h)
+
+  back : (P : (g : Graph) (workers : ℕ) → Type 0) → P (shown_graph t.graph) (length t.sides) → P (shown_graph s.graph) (length s.sides)
+  back P h =
+      let A : GraphValue → Type 0 = λ g. P (shown_graph g) (length s.sides) in
+      let B : ℕ → Type 0 = λ n. P (shown_graph t.graph) n in
+      subst A goes.graph (subst B goes.workers h)
+
+  stays : (w : World) → Shows t w → (v e : ℕ) → Passed (net s) kept.world v e → Passed (net t) w v e
+  stays w is v e h =
+      let one : Passed (net s) (after_step (net s) kept.world step) v e = passed_stays (shown_graph s.graph) (length s.sides) kept.steps kept.world (run_on graph content s kept) step ok v e h in
+      passed_there t flows_then some_then (after_step (net s) kept.world step) w shown_then is v e
+      (onto (λ g n. Passed (network g n) (after_step (net s) kept.world step) v e) one)
+
+  pub has_passed_stays : (e : ℕ) → HasPassed s e → HasPassed t e
+  has_passed_stays e h w is =
+      stays w is (output_number (shown_graph t.graph)) e
+      (subst (λ (g : GraphValue). Passed (net s) kept.world (output_number (shown_graph g)) e) (sym goes.graph) (h kept.world kept.shows))
+
+  pub count_stays : (m n : ℕ) → CountsPassed s m → CountsPassed t n → m ≤ n
+  count_stays m n before after =
+      count_rises (shown_graph s.graph) (length s.sides) kept.steps kept.world (run_on graph content s kept) step ok m n (before kept.world kept.shows)
+      (back (λ g k. IsPassedCount (network g k) (after_step (net s) kept.world step) n) (after (after_step (net s) kept.world step) shown_then))
+
+  sealed_then : (w : World) → Shows t w → ((i : ℕ) → (input_at s i).open_epoch ≤ (input_at t i).open_epoch) → (n : ℕ) → SealedTo (net s) kept.world n → SealedTo (net t) w n
+  sealed_then w is rises n (inl e) = inl e
+  sealed_then w is rises n (inr (i, l, m)) =
+      inr (i, onto (λ g k. i < input_count g) l, (let a = kept.shows.open_epoch i in let b = is.open_epoch i in let c = rises i in omega (arith, m, a, b, c)))
+
+  pub have_passed : ((i : ℕ) → (input_at s i).open_epoch ≤ (input_at t i).open_epoch) → (n : ℕ) → CountsPassed s n → HavePassed t n
+  have_passed rises n counts w is =
+      let c = counts kept.world kept.shows in
+      (sealed_then w is rises n c.sealed, λ v e r l. stays w is v e (c.passed v e (back (λ g k. role (vertex g v).kind ≡ Role.output) r) l))
+
+  -- where no input is sealed, and what was active stays so, the number stays
+  module _ (graph' : Graph) (content' : Pointstamp → ℕ) (kept' : IsKept graph' content' t) (same : (i : ℕ) → (input_at t i).open_epoch ≡ (input_at s i).open_epoch)
+      (more : (q : Pointstamp) → content q ≤ content' q) where
+    sealed_before : (w : World) → Shows t w → (n : ℕ) → SealedTo (net t) w n → SealedTo (net s) kept.world n
+    sealed_before w is n (inl e) = inl e
+    sealed_before w is n (inr (i, l, m)) =
+        inr (i, back (λ g k. i < input_count g) l, (let a = kept.shows.open_epoch i in let b = is.open_epoch i in let c = same i in omega (arith, m, a, b, c)))
+
+    passed_before : (w : World) → Shows t w → (v e : ℕ) → Passed (net t) w v e → Passed (net s) kept.world v e
+    passed_before w is v e h =
+        none graph content s kept kept.world kept.shows (at_vertex v (at_epoch e))
+        (λ q l c. none_back graph' content' t kept' w is (at_vertex v (at_epoch e)) h q (omega (arith, l, more q)) (subst (λ g. CouldResultIn g q (at_vertex v (at_epoch e))) (kept.same ∙ sym (ap shown_graph goes.graph) ∙ sym kept'.same) c))
+
+    pub counts_kept : (n : ℕ) → CountsPassed s n → CountsPassed t n
+    counts_kept n counts w is =
+        let c = counts kept.world kept.shows in
+        let h = have_passed (λ i. omega (arith, same i)) n counts w is in
+        record {
+          sealed = h.0;
+          passed = h.1;
+          greatest = λ m to all. c.greatest m (sealed_before w is m to) (λ v e r l. passed_before w is v e (all v e (onto (λ g k. role (vertex g v).kind ≡ Role.output) r) l));
+        }
+
+pub counts_same : (s t : Shown) → t ≡ s → (n : ℕ) → CountsPassed s n → CountsPassed t n
+counts_same s t e n h = subst (λ (z : Shown). CountsPassed z n) (sym e) h
+
+-- at the opening none has
+pub counts_new : (s : Shown) → ((i : ℕ) → input_at s i ≡ no_input) → CountsPassed s 0
+counts_new s unfed w is = record { sealed = inl refl; passed = λ v e r l. absurd (omega (arith, l)); greatest = λ m to all. none_sealed m to }
+  where
+    none_sealed : (m : ℕ) → SealedTo (net s) w m → m ≤ 0
+    none_sealed m (inl e) = omega (arith, e)
+    none_sealed m (inr (i, l, b)) = let a = is.open_epoch i in let z = ap (λ (x : InputShown). x.open_epoch) (unfed i) in omega (arith, a, b, z)

@@ -1,0 +1,78 @@
+-- Going through requests.
+use Rattle.std.proofs.Common.{◌≡◌, ◌≢◌, ◌⊎◌, inl, inr, ◌<◌, ◌+◌, ◌++◌, ℕ, zero, suc, ◌==◌, true, false, List, [], ◌∷◌, length, sym, ◌∙◌, ap, subst, arith, slice_get, slice_index_or, Some, Result, Ok, Err, OnOk, OnErr}
+use Rattle.std.proofs.lemmas.Bool.Decides.{eqb_tells}
+use Rattle.machine.specs.World.{Request}
+use Rattle.machine.specs.Active.{IsActive, request_pointstamp}
+use Rattle.machine.proofs.Tracking.{active_counts}
+use Rattle.lowering.specs.Shown.{shown_graph}
+use Rattle.board.specs.Kept.{IsKept}
+use Rattle.board.specs.Shown.{Shown, side_at}
+use Rattle.semantics.specs.Graph.{Graph}
+use Rattle.semantics.specs.Could.{CouldResultIn, IsTimeAt, Location, Pointstamp}
+use Rattle.semantics.specs.Time.{IsAtMost}
+use Rattle.board.specs.Deliverable.{IsBlocked, IsDeliverable, StandsBefore}
+use Rattle.board.proofs.Places.{get_index}
+
+below_next : (n m : ℕ) → n < m + 1 → (n < m) ⊎ (n ≡ m)
+below_next n m l = go (eqb_tells n m)
+  where
+    go : ((n == m) ≡ true) × (n ≡ m) ⊎ ((n == m) ≡ false) × (n ≢ m) → (n < m) ⊎ (n ≡ m)
+    go (inl (t, q)) = inr q
+    go (inr (t, q)) = inl (omega (arith, l, q))
+
+-- one place more
+pub blocked_next : (P : Request → Type 0) (rs : List Request) (place : ℕ) (r : Request) → slice_get rs place ≡ Some r → (P r → ⊥)
+    → ((at : ℕ) (x : Request) → at < place → slice_get rs at ≡ Some x → P x → ⊥) → (at : ℕ) (x : Request) → at < place + 1 → slice_get rs at ≡ Some x → P x → ⊥
+blocked_next P rs place r got apart before at x l e h = go (below_next at place l)
+  where
+    go : (at < place) ⊎ (at ≡ place) → ⊥
+    go (inl b) = before at x b e h
+    go (inr q) =
+        let f : Some x ≡ Some r = sym e ∙ ap (λ n. slice_get rs n) q ∙ got in
+        let same : x ≡ r = cc in
+        apart (subst P same h)
+
+-- A request that may not be delivered hinders each at or after it at its vertex, so that these need no asking.
+pub blocked_behind : (g : Graph) (content : Pointstamp → ℕ) (r r' : Request) → r.vertex ≡ r'.vertex → IsAtMost r.time r'.time
+    → IsTimeAt g (Location.vertex r.vertex) r.time → IsTimeAt g (Location.vertex r'.vertex) r'.time → 0 < content (request_pointstamp r)
+    → (IsDeliverable g content r → ⊥) → IsDeliverable g content r' → ⊥
+blocked_behind g content r r' e order fits fits' active blocked none =
+    let c : CouldResultIn g (request_pointstamp r) (request_pointstamp r') = record { starts = fits; ends = fits'; path = []; leads = ap Location.vertex e; in_time = order } in
+    let same : request_pointstamp r ≡ request_pointstamp r' = none (request_pointstamp r) active c in
+    let P : Pointstamp → Type 0 = λ p. (q : Pointstamp) → 0 < content q → CouldResultIn g q p → q ≡ p in
+    blocked (subst P (sym same) none)
+
+-- behind a blocked one
+module _ (g : Graph) (content : Pointstamp → ℕ) (rs : List Request) (known : (at : ℕ) (r : Request) → slice_get rs at ≡ Some r → IsTimeAt g (Location.vertex r.vertex) r.time)
+    (active : (at : ℕ) (r : Request) → slice_get rs at ≡ Some r → 0 < content (request_pointstamp r)) where
+  pub stands_blocked : (place : ℕ) (b : IsBlocked g content rs place) (at : ℕ) (r : Request) → slice_get rs at ≡ Some r → StandsBefore rs r place → IsDeliverable g content r → ⊥
+  stands_blocked place b at r got before =
+      let one : before.request ≡ b.request = (let e : Some before.request ≡ Some b.request = sym before.there ∙ b.there in cc) in
+      let P : Request → Type 0 = λ x. IsDeliverable g content x → ⊥ in
+      blocked_behind g content before.request r before.vertex before.time (known place before.request before.there) (known at r got) (active place before.request before.there) (subst P (sym one) b.blocked)
+
+  pub blocked_place : (place : ℕ) → IsBlocked g content rs place → place < length rs
+  blocked_place place b = (get_index rs place b.request b.request b.there).0
+
+-- one number more, of which the same holds
+pub each_push : (P : ℕ → Type 0) (xs : List ℕ) (x : ℕ) → ((i : ℕ) → i < length xs → P (slice_index_or xs i 0)) → P x → (i : ℕ) → i < length (xs ++ x ∷ []) → P (slice_index_or (xs ++ x ∷ []) i 0)
+each_push P [] x all here zero l = here
+each_push P [] x all here (suc i) l = absurd (omega (arith, l))
+each_push P (y ∷ ys) x all here zero l = all 0 (omega arith)
+each_push P (y ∷ ys) x all here (suc i) l = each_push P ys x (λ j lj. all (suc j) (omega (arith, lj))) here i (omega (arith, l))
+
+-- where it was put, or there was no room
+pub each_pushed : {T E : Type 0} (P : ℕ → Type 0) (xs ys : List ℕ) (x : ℕ) (r : Result T E) → OnOk r (ys ≡ xs ++ x ∷ []) → OnErr r (ys ≡ xs)
+    → ((i : ℕ) → i < length xs → P (slice_index_or xs i 0)) → P x → (i : ℕ) → i < length ys → P (slice_index_or ys i 0)
+each_pushed P xs ys x (Ok _) ok err all here =
+    let A : List ℕ → Type 0 = λ zs. (i : ℕ) → i < length zs → P (slice_index_or zs i 0) in
+    subst A (sym ok) (each_push P xs x all here)
+each_pushed P xs ys x (Err _) ok err all here =
+    let A : List ℕ → Type 0 = λ zs. (i : ℕ) → i < length zs → P (slice_index_or zs i 0) in
+    subst A (sym err) all
+
+-- what a worker asks for is active
+pub active_request : (graph : Graph) (content : Pointstamp → ℕ) (s : Shown) → IsKept graph content s → (k : ℕ) → k < length s.sides → (at : ℕ) (r : Request) → slice_get (side_at s k).requests at ≡ Some r → 0 < content (request_pointstamp r)
+active_request graph content s kept k there at r got =
+    let a = (active_counts (shown_graph s.graph) kept.flows (length s.sides) kept.some kept.world (request_pointstamp r)).0 (IsActive.of_request k at r there (ap (λ rs. slice_get rs at) (kept.shows.requests k there) ∙ got)) in
+    omega (arith, a, kept.tracked (request_pointstamp r))

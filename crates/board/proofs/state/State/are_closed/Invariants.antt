@@ -1,0 +1,6 @@
+use Rattle.std.proofs.Common.{◌≡◌, ◌<◌, ℕ, true, slice_index_or}
+use Rattle.board.specs.Shown.{no_input}
+use Rattle.board.proofs.state.State.are_closed.Given as goal
+
+abbrev pub invariant-loop-input : goal.invariant-loop-input
+invariant-loop-input l = (i : ℕ) → i < l.input-index → (slice_index_or l.input-items i no_input).closed ≡ true

@@ -1,5 +1,0 @@
-use Rattle.std.proofs.Common.{length}
-use Rattle.board.proofs.vertex.+push_values.Given as goal
-
-abbrev pub decreases-push_values : goal.decreases-push_values
-decreases-push_values l = length l.scalars.now

@@ -1,0 +1,44 @@
+-- What a board keeps: some run leads to the world that it shows, and its tracker has just the pointstamps that are active there.
+use Rattle.std.specs.Prelude.{◌≡◌, ◌<◌, ◌≤◌, ℕ, List, length}
+use Rattle.semantics.specs.Graph.{Graph, input_count}
+use Rattle.semantics.specs.Could.{Pointstamp}
+use Rattle.semantics.specs.Dataflow.{IsDataflow}
+use Rattle.lowering.specs.Shown.{shown_graph}
+use Rattle.machine.specs.World.{World, opening}
+use Rattle.machine.specs.Active.{active_count}
+use Rattle.machine.specs.Step.{Step, Allowed, after_step}
+use Rattle.machine.specs.Run.{Run}
+use Rattle.machine.specs.Engine.{network}
+use Rattle.board.specs.Shown.{Shown, net}
+use Rattle.machine.specs.InTransit.{FedFits}
+use Rattle.semantics.specs.PortArity.{IsTyped}
+use Rattle.board.specs.Fitting.{FitsPlace, arity_in}
+use Rattle.board.specs.Showing.{Shows, AreSidesOf, EachShard}
+use Rattle.board.specs.Promises.{CountsPassed}
+
+pub record IsKept (graph : Graph) (content : Pointstamp → ℕ) (s : Shown) : Type 0 where
+  pub flows : IsDataflow (shown_graph s.graph)
+  pub some : 0 < length s.sides
+  pub few : length s.sides ≤ 64
+  pub same : graph ≡ shown_graph s.graph
+  pub inputs : length s.inputs ≡ input_count (shown_graph s.graph)
+  pub sides : AreSidesOf s (length s.sides)
+  pub typed : IsTyped (shown_graph s.graph) (arity_in s.graph)
+  pub fitting : EachShard s (FitsPlace s.graph)
+  pub steps : List Step
+  pub world : World
+  pub run : Run (network (shown_graph s.graph) (length s.sides)) opening steps world
+  pub shows : Shows s world
+  pub fed : FedFits (shown_graph s.graph) (arity_in s.graph) world
+  pub tracked : (p : Pointstamp) → content p ≡ active_count (net s) world p
+
+-- the same, and that so many epochs have passed
+pub record Keeps (graph : Graph) (content : Pointstamp → ℕ) (passed : ℕ) (s : Shown) : Type 0 where
+  pub kept : IsKept graph content s
+  pub counts : CountsPassed s passed
+
+-- whatever world it showed before, it shows after one that the step leaves, and the step is allowed there
+pub record Goes (s : Shown) (taken : Step) (t : Shown) : Type 0 where
+  pub step : (w : World) → Shows s w → Allowed (net s) w taken × Shows t (after_step (net s) w taken)
+  pub graph : t.graph ≡ s.graph
+  pub workers : length t.sides ≡ length s.sides

@@ -1,0 +1,62 @@
+-- The world that a board shows.
+use Rattle.std.specs.Prelude.{◌≡◌, ◌≢◌, ◌<◌, ℕ, ◌==◌, cond, [], length, Option, Some, None, slice_index_or}
+use Rattle.semantics.specs.Graph.{output_number}
+use Rattle.lowering.specs.Shown.{shown_graph}
+use Rattle.machine.specs.World.{World}
+use Rattle.vertices.specs.Shards as shards
+use Rattle.vertices.specs.declared.shard.Shard.{Shard}
+use Rattle.tokens.specs.declared.rule.Place.{Place}
+use Rattle.tokens.specs.declared.rule.Place.TheVariants.{Home, Out, Lost}
+use Rattle.events.specs.Jobs.{Job}
+use Rattle.board.specs.Shown.{Shown, Side, input_at, side_at, records_at, held_of, event_at}
+
+-- a shard that is at home, or the one that is out as it was
+abbrev pub known : Option Shard → Place Job → Option Shard
+known (Some s) place = Some s
+known None Home = None
+known None (Out j) = Some j.before
+known None (Lost j) = Some j.before
+
+abbrev pub known_shard : Side → (vertex : ℕ) → Option Shard
+known_shard x v = known (slice_index_or x.shards v None) x.place
+
+-- there is a shard, of which P holds
+abbrev pub OnShard : (Shard → Type 0) → Option Shard → Type 0
+OnShard P None = ⊥
+OnShard P (Some s) = P s
+
+-- each worker has a shard of each vertex, of which P holds
+abbrev pub EachShard : Shown → (P : (worker vertex : ℕ) → Shard → Type 0) → Type 0
+EachShard s P = (k v : ℕ) → k < length s.sides → v < length (shown_graph s.graph) → OnShard (P k v) (known_shard (side_at s k) v)
+
+-- it shows what the world says that the worker has absorbed
+abbrev pub ShowsIn : World → (worker vertex : ℕ) → Shard → Type 0
+ShowsIn w k v x = shards.Shows x (λ p t. w.absorbed k v p t)
+
+-- The board shows this world. `sent` is the world's alone.
+pub record Shows (s : Shown) (w : World) : Type 0 where
+  pub stopped : w.stopped ≡ s.stopped
+  pub open_epoch : (i : ℕ) → w.open_epoch i ≡ (input_at s i).open_epoch
+  pub closed : (i : ℕ) → w.closed i ≡ (input_at s i).closed
+  pub fed : (i e : ℕ) → w.fed i e ≡ records_at (input_at s i).fed e
+  pub mail : (k : ℕ) → k < length s.sides → w.mail k ≡ (side_at s k).mail
+  pub requests : (k : ℕ) → k < length s.sides → w.requests k ≡ (side_at s k).requests
+  pub held : (k : ℕ) → k < length s.sides → w.held k ≡ held_of (side_at s k).place
+  pub absorbed : EachShard s (ShowsIn w)
+  pub emitted : (v e : ℕ) → w.emitted v e ≡ cond (v == output_number (shown_graph s.graph)) (records_at s.emitted e) []
+
+-- An event that is out is of this board; its shard alone isn't at home.
+pub record IsOwn (s : Shown) (x : Side) (j : Job) : Type 0 where
+  pub wired : j.wired ≡ x.wired
+  pub vertex : event_at (shown_graph s.graph) j.happening < length (shown_graph s.graph)
+  pub away : slice_index_or x.shards (event_at (shown_graph s.graph) j.happening) None ≡ None
+  pub others : (v : ℕ) → v < length (shown_graph s.graph) → v ≢ event_at (shown_graph s.graph) j.happening → (y : Shard) × (slice_index_or x.shards v None ≡ Some y)
+
+-- a worker is wired for this graph and so many workers, has a shard of each vertex, and what is out is its own
+pub record IsSideOf (s : Shown) (workers : ℕ) (x : Side) : Type 0 where
+  pub wired : x.wired ≡ record { graph = s.graph; workers = workers }
+  pub shards : length x.shards ≡ length (shown_graph s.graph)
+  pub own : (j : Job) → x.place ≡ Out j → IsOwn s x j
+
+abbrev pub AreSidesOf : Shown → ℕ → Type 0
+AreSidesOf s workers = (k : ℕ) → k < length s.sides → IsSideOf s workers (side_at s k)

@@ -1,0 +1,117 @@
+//! What a board shows of an epoch, to be kept while the board goes on.
+
+ghost use Rattle.std.specs.Prelude.{◌≡◌, ℕ, [], map, slice_index_or, IfOk};
+ghost use Rattle.board.specs.Looks.{IsPromised, fed_by};
+
+use crate::epochs::Batches;
+use crate::inputs::Input;
+use events::Wiring;
+use expr_tree::NoMemory;
+use rows::Batch;
+use std::alloc::Global;
+use std::marker::Model;
+use std::sync::Arc;
+
+/// What was fed and emitted for an epoch, and whether the epoch had passed. The batches are shared with the board, and the graph too.
+#[derive(Drop)]
+pub struct Look {
+    wiring: Arc<Wiring, Global>,
+    fed: Vec<Batches>,
+    emitted: Batches,
+    passed: bool,
+}
+
+impl Model for Look {
+    ghost use Rattle.std.specs.Coded.{codes};
+    ghost use Rattle.std.specs.contracts.alloc.Global as heap;
+    ghost use Rattle.std.specs.contracts.impls.GlobalAllocator.TheImpl as allocates;
+    ghost use Rattle.expr_tree.specs.contracts.scalar.Scalar as scalar;
+    ghost use Rattle.expr_tree.specs.contracts.condition.Cond as condition;
+    ghost use Rattle.board.specs.Looks.{IsPromised, LookShown};
+
+    ghost Value = { LookShown };
+
+    ghost coded = { Prim.hlevel (codes, (scalar.the_row heap.the_row allocates.ghosts).coded, (condition.the_row heap.the_row allocates.ghosts).coded) };
+
+    ghost view = { λ l. record { graph = l.wiring.value.graph; fed = l.fed.items; emitted = l.emitted; passed = l.passed } };
+
+    ghost invariant = { λ l. IsPromised (record { graph = l.wiring.value.graph; fed = l.fed.items; emitted = l.emitted; passed = l.passed }) };
+}
+
+impl Look {
+    /// Of what keeps the promise.
+    pub(crate) fn of(
+        wiring: Arc<Wiring, Global>,
+        fed: Vec<Batches>,
+        emitted: Batches,
+        passed: bool,
+    ) -> Look
+        requires { IsPromised (record { graph = wiring.value.graph; fed = fed.items; emitted = emitted; passed = passed }) }
+        ensures { result ≡ record { graph = wiring.value.graph; fed = fed.items; emitted = emitted; passed = passed } }
+    {
+        Look {
+            wiring,
+            fed,
+            emitted,
+            passed,
+        }
+    }
+
+    /// The batches that were fed to an input, in order; none where there is no such input.
+    pub fn fed(&self, input: u32) -> &[Batch]
+        ensures { result.now ≡ fed_by self.now input }
+    {
+        match self.fed.get(input as usize) {
+            Some(batches) => batches.as_slice(),
+            None => &[],
+        }
+    }
+
+    /// The batches that were emitted, in order.
+    pub fn emitted(&self) -> &[Batch]
+        ensures { result.now ≡ self.now.emitted }
+    {
+        self.emitted.as_slice()
+    }
+
+    /// Whether the epoch had passed.
+    pub fn passed(&self) -> bool
+        ensures { result ≡ self.now.passed }
+    {
+        self.passed
+    }
+
+    /// The promise, of whatever program the board ran. Nothing is done.
+    pub fn law_headline(&self)
+        ensures { IsPromised self.now }
+    {
+        let _ = &self.wiring;
+    }
+}
+
+/// The same batches once more, shared.
+pub fn share_batches(alloc: Global, batches: &[Batch]) -> Result<Batches, NoMemory>
+    ensures { IfOk result (λ copy. copy ≡ batches.now) }
+{
+    let mut copy = Batches::new(alloc);
+    for batch in batches {
+        let Ok(shared) = batch.share() else {
+            return Err(NoMemory);
+        };
+        if copy.push(shared).is_err() {
+            return Err(NoMemory);
+        }
+    }
+    Ok(copy)
+}
+
+/// What was fed to each input for an epoch, shared.
+pub fn share_fed(alloc: Global, inputs: &[Input], epoch: u32) -> Result<Vec<Batches>, NoMemory>
+    ensures { IfOk result (λ fed. fed.items ≡ map (λ i. slice_index_or i.fed epoch []) inputs.now) }
+{
+    let mut fed = Vec::with_capacity(alloc, inputs.len())?;
+    for input in inputs {
+        fed.push(share_batches(alloc, input.fed().at(epoch))?)?;
+    }
+    Ok(fed)
+}

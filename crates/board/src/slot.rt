@@ -1,0 +1,55 @@
+//! The shard of a vertex, while it is at home.
+
+ghost use Rattle.std.specs.Prelude.{◌≡◌, Some, None};
+ghost use Rattle.vertices.specs.declared.shard.Shard as shard;
+
+use std::marker::Model;
+use vertices::Shard;
+
+/// A shard that is at home; nothing while it is out with an event.
+#[derive(Drop)]
+pub struct Slot {
+    shard: Option<Box<Shard>>,
+}
+
+impl Model for Slot {
+    ghost use Rattle.std.specs.Coded.{codes};
+    ghost use Rattle.std.specs.Prelude.{Option, option_map};
+    ghost use Rattle.vertices.specs.declared.shard.Shard as kind;
+    ghost use Rattle.vertices.specs.contracts.shard.Shard as shard_row;
+    ghost use Rattle.std.specs.contracts.alloc.Global as heap;
+    ghost use Rattle.std.specs.contracts.impls.GlobalAllocator.TheImpl as allocates;
+    ghost use Rattle.expr_tree.specs.contracts.scalar.Scalar as scalar;
+    ghost use Rattle.expr_tree.specs.contracts.condition.Cond as condition;
+
+    ghost Value = { Option kind.Shard };
+
+    ghost coded = { Prim.hlevel (codes, shard_row.the_row.coded, (scalar.the_row heap.the_row allocates.ghosts).coded, (condition.the_row heap.the_row allocates.ghosts).coded) };
+
+    ghost view = { λ s. option_map (λ b. b.value) s.shard };
+}
+
+impl Slot {
+    /// With the shard at home.
+    pub fn full(shard: Box<Shard>) -> Slot
+        ensures { result ≡ Some shard.value }
+    {
+        Slot { shard: Some(shard) }
+    }
+
+    /// The shard, which goes out.
+    pub fn take(&mut self) -> Box<Shard>
+        requires { (x : shard.Shard) × (self.old ≡ Some x) }
+        ensures shard { self.old ≡ Some result.value }
+        ensures empty { self.new ≡ None }
+    {
+        self.shard.take().unwrap()
+    }
+
+    /// The shard is back.
+    pub fn put(&mut self, shard: Box<Shard>)
+        ensures { self.new ≡ Some shard.value }
+    {
+        self.shard = Some(shard);
+    }
+}

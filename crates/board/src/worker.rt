@@ -1,0 +1,232 @@
+//! What a worker has.
+
+ghost use Rattle.std.specs.Prelude.{◌≡◌, ◌≢◌, ◌<◌, ◌≤◌, ◌+◌, ◌++◌, ◌∷◌, ◌↔◌, ℕ, [], length, remove, slice_get, slice_index_or, Some, None, IsTrue, IfOk, OnOk, OnErr, MatchBool};
+ghost use Rattle.machine.specs.World.{Event as Happens, Message as Mail, Request as Wish};
+ghost use Rattle.tokens.specs.declared.rule.Place.TheVariants.{Home, Out, Lost};
+ghost use Rattle.vertices.specs.declared.shard.Shard as shard;
+ghost use Rattle.board.specs.Desks.{IsIdle, is_out};
+ghost use Rattle.board.specs.Steps.{out_with, settled, with_mail};
+
+use crate::slot::Slot;
+use events::{Event, Happening, Message, Request, Wiring};
+use exchange::Mailbox;
+use rows::RowsError;
+use std::alloc::{AllocError, Global};
+use std::marker::Model;
+use std::sync::Arc;
+use tokens::tie::{Stub, Tie};
+use vertices::Shard;
+
+/// A worker's mailbox, its requests, its shards by vertex, and the token by which its event is known. The wiring is here while no
+/// event is out, and the shard of that event isn't.
+#[derive(Drop)]
+pub struct Worker {
+    wiring: Option<Arc<Wiring, Global>>,
+    lost: bool,
+    mailbox: Mailbox<Message>,
+    requests: Mailbox<Request>,
+    tie: Tie<Event>,
+    shards: Vec<Slot>,
+}
+
+impl Model for Worker {
+    ghost use Rattle.std.specs.Coded.{codes};
+    ghost use Rattle.vertices.specs.contracts.shard.Shard as shard_row;
+    ghost use Rattle.std.specs.contracts.alloc.Global as heap;
+    ghost use Rattle.std.specs.contracts.impls.GlobalAllocator.TheImpl as allocates;
+    ghost use Rattle.expr_tree.specs.contracts.scalar.Scalar as scalar;
+    ghost use Rattle.expr_tree.specs.contracts.condition.Cond as condition;
+    ghost use Rattle.board.specs.Desks.{Desk, wired_of, IsHome};
+
+    ghost Value = { Desk };
+
+    ghost coded = { Prim.hlevel (codes, shard_row.the_row.coded, (scalar.the_row heap.the_row allocates.ghosts).coded, (condition.the_row heap.the_row allocates.ghosts).coded) };
+
+    ghost view = { λ w. record { side = record { wired = wired_of (λ x. x.value) w.tie.place w.wiring; table = w.tie.table; mail = w.mailbox.messages; requests = w.requests.messages; place = w.tie.place; shards = w.shards.items }; mail_room = w.mailbox.room; request_room = w.requests.room } };
+
+    ghost invariant = { λ w. IsHome w.tie.place w.wiring w.lost };
+}
+
+impl Worker {
+    /// With nothing to do.
+    pub fn new(
+        alloc: Global,
+        wiring: Arc<Wiring, Global>,
+        shards: Vec<Slot>,
+    ) -> Result<Worker, AllocError>
+        ensures wired { IfOk result (λ w. w.side.wired ≡ wiring.value) }
+        ensures mail { IfOk result (λ w. w.side.mail ≡ []) }
+        ensures requests { IfOk result (λ w. w.side.requests ≡ []) }
+        ensures place { IfOk result (λ w. w.side.place ≡ Home) }
+        ensures shards { IfOk result (λ w. w.side.shards ≡ shards.items) }
+    {
+        let tie = Tie::new(alloc)?;
+        Ok(Worker {
+            wiring: Some(wiring),
+            lost: false,
+            mailbox: Mailbox::new(alloc),
+            requests: Mailbox::new(alloc),
+            tie,
+            shards,
+        })
+    }
+
+    /// Whether no event is out or lost.
+    pub fn is_free(&self) -> bool
+        ensures { MatchBool result (self.now.side.place ≡ Home) (self.now.side.place ≢ Home) }
+    {
+        self.wiring.is_some()
+    }
+
+    /// Whether an event is out that isn't given up.
+    pub fn is_holding(&self) -> bool
+        ensures { result ≡ is_out self.now.side.place }
+    {
+        self.wiring.is_none() && !self.lost
+    }
+
+    /// Whether nothing waits and no event is out or lost.
+    pub fn is_idle(&self) -> bool
+        ensures { MatchBool result (IsIdle self.now.side) (IsIdle self.now.side → ⊥) }
+    {
+        self.wiring.is_some() && self.mailbox.is_empty() && self.requests.is_empty()
+    }
+
+    /// The messages that wait.
+    pub fn mailbox(&self) -> &Mailbox<Message>
+        ensures { result.now.messages ≡ self.now.side.mail }
+    {
+        &self.mailbox
+    }
+
+    /// The requests that wait.
+    pub fn requests(&self) -> &Mailbox<Request>
+        ensures { result.now.messages ≡ self.now.side.requests }
+    {
+        &self.requests
+    }
+
+    /// Takes room for that many messages more.
+    pub fn reserve_mail(&mut self, more: usize) -> Result<(), RowsError>
+        ensures side { self.new.side ≡ self.old.side }
+        ensures kept { self.old.mail_room ≤ self.new.mail_room }
+        ensures requests { self.new.request_room ≡ self.old.request_room }
+        ensures room { OnOk result (more ≤ self.new.mail_room) }
+    {
+        self.mailbox.reserve(more)
+    }
+
+    /// Takes room for a request more.
+    pub fn reserve_request(&mut self) -> Result<(), RowsError>
+        ensures side { self.new.side ≡ self.old.side }
+        ensures mail { self.new.mail_room ≡ self.old.mail_room }
+        ensures room { OnOk result (1 ≤ self.new.request_room) }
+    {
+        self.requests.reserve(1)
+    }
+
+    /// Puts a message into the mailbox. No memory is taken.
+    pub fn put(&mut self, message: Message)
+        requires { 0 < self.old.mail_room }
+        ensures side { self.new.side ≡ with_mail self.old.side message }
+        ensures room { self.new.mail_room + 1 ≡ self.old.mail_room }
+        ensures requests { self.new.request_room ≡ self.old.request_room }
+    {
+        self.mailbox.put_reserved(message);
+    }
+
+    /// Hands out a message, with the shard of its vertex. No memory is taken.
+    pub fn send_message(&mut self, place: usize, vertex: usize) -> (Event, Stub<Event>)
+        requires free { self.old.side.place ≡ Home }
+        requires there { place < length self.old.side.mail }
+        requires vertex { vertex < length self.old.side.shards }
+        requires shard { (x : shard.Shard) × (slice_index_or self.old.side.shards vertex None ≡ Some x) }
+        ensures stub { result.1 ≡ record { table = self.old.side.table; job = result.0 } }
+        ensures wired { result.0.wired ≡ self.old.side.wired }
+        ensures message { (m : Mail) × (slice_get self.old.side.mail place ≡ Some m) × (result.0.happening ≡ Happens.arrival m) }
+        ensures shard { slice_index_or self.old.side.shards vertex None ≡ Some result.0.before }
+        ensures state { self.new.side ≡ out_with (record self.old.side { mail = remove self.old.side.mail place }) vertex result.0 }
+    {
+        let message = self.mailbox.take(place);
+        let shard = self.shards[vertex].take();
+        let wiring = self.wiring.take().unwrap();
+        let event = Event {
+            wiring,
+            happening: Happening::Arrival(message),
+            shard,
+        };
+        let stub = self.tie.send(&event);
+        (event, stub)
+    }
+
+    /// Hands out a request, with the shard of its vertex. No memory is taken.
+    pub fn send_request(&mut self, place: usize, vertex: usize) -> (Event, Stub<Event>)
+        requires free { self.old.side.place ≡ Home }
+        requires there { place < length self.old.side.requests }
+        requires vertex { vertex < length self.old.side.shards }
+        requires shard { (x : shard.Shard) × (slice_index_or self.old.side.shards vertex None ≡ Some x) }
+        ensures stub { result.1 ≡ record { table = self.old.side.table; job = result.0 } }
+        ensures wired { result.0.wired ≡ self.old.side.wired }
+        ensures request { (r : Wish) × (slice_get self.old.side.requests place ≡ Some r) × (result.0.happening ≡ Happens.notification r) }
+        ensures shard { slice_index_or self.old.side.shards vertex None ≡ Some result.0.before }
+        ensures state { self.new.side ≡ out_with (record self.old.side { requests = remove self.old.side.requests place }) vertex result.0 }
+    {
+        let request = self.requests.take(place);
+        let shard = self.shards[vertex].take();
+        let wiring = self.wiring.take().unwrap();
+        let event = Event {
+            wiring,
+            happening: Happening::Notification(request),
+            shard,
+        };
+        let stub = self.tie.send(&event);
+        (event, stub)
+    }
+
+    /// The event that is out is this one.
+    pub fn show(&mut self, stub: Stub<Event>) -> Stub<Event>
+        requires { stub.table ≡ self.old.side.table }
+        ensures out { self.old.side.place ≡ Out stub.job }
+        ensures state { self.new ≡ self.old }
+        ensures stub { result ≡ stub }
+    {
+        self.tie.show(stub)
+    }
+
+    /// The event ends: its shard and the wiring are back, and what it asks for is a request. No memory is taken.
+    pub fn settle(
+        &mut self,
+        vertex: usize,
+        stub: Stub<Event>,
+        wiring: Arc<Wiring, Global>,
+        shard: Box<Shard>,
+        asked: Option<Request>,
+    )
+        requires table { stub.table ≡ self.old.side.table }
+        requires wired { wiring.value ≡ stub.job.wired }
+        requires vertex { vertex < length self.old.side.shards }
+        requires room { 0 < self.old.request_room }
+        ensures out { self.old.side.place ≡ Out stub.job }
+        ensures side { self.new.side ≡ settled self.old.side vertex shard.value asked }
+        ensures mail { self.new.mail_room ≡ self.old.mail_room }
+    {
+        self.tie.take(stub);
+        self.wiring = Some(wiring);
+        self.shards[vertex].put(shard);
+        if let Some(request) = asked {
+            self.requests.put_reserved(request);
+        }
+    }
+
+    /// The event is given up. No memory is taken.
+    pub fn abandon(&mut self, stub: Stub<Event>)
+        requires { stub.table ≡ self.old.side.table }
+        ensures out { self.old.side.place ≡ Out stub.job }
+        ensures side { self.new.side ≡ record self.old.side { place = Lost stub.job } }
+        ensures mail { self.new.mail_room ≡ self.old.mail_room }
+        ensures requests { self.new.request_room ≡ self.old.request_room }
+    {
+        self.tie.lose(stub);
+        self.lost = true;
+    }
+}

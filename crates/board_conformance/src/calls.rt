@@ -1,0 +1,122 @@
+//! Each call once on its happy path, and each refusal in its order.
+
+use crate::boards::{Turn, batch_of, board_of, claimed, commit, output_of, take_turn};
+use board::StepRefusal;
+use std::test::Fail;
+
+const COPY: &str = "input a/1; output a;";
+
+const COUNTS: &str = "input a/1; output group(a; #0; count);";
+
+#[test]
+fn feeds_and_emits(rt: HostRuntime) -> Result<(), Fail> {
+    let alloc = rt.alloc();
+    let mut board = board_of(alloc, COPY, 1).ok_or("no board")?;
+    let batch = batch_of(alloc, &[7]).ok_or("no batch")?;
+    assert_eq!(rt; board.feed(alloc, 0, batch), Ok(()));
+    assert_eq!(rt; board.seal(0), Ok(()));
+    assert!(rt; !board.passed(0));
+    assert_eq!(rt; take_turn(alloc, &mut board, 0), Turn::Committed);
+    assert!(rt; board.passed(0));
+    assert_eq!(rt; board.passed_count(), 1);
+    assert_eq!(rt; board.emitted(output_of(&board), 0).len(), 1);
+    assert_eq!(rt; board.fed(0, 0).len(), 1);
+    assert_eq!(rt; board.fed(1, 0).len(), 0);
+    assert_eq!(rt; take_turn(alloc, &mut board, 0), Turn::Idle);
+    assert_eq!(rt; board.close(0), Ok(()));
+    assert_eq!(rt; take_turn(alloc, &mut board, 0), Turn::Drained);
+    assert!(rt; board.passed(4_294_967_295));
+    Ok(())
+}
+
+#[test]
+fn refuses_at_inputs(rt: HostRuntime) -> Result<(), Fail> {
+    let alloc = rt.alloc();
+    let mut board = board_of(alloc, COPY, 1).ok_or("no board")?;
+    let two = batch_of(alloc, &[1, 2]).ok_or("no batch")?;
+    let unknown = batch_of(alloc, &[1, 2]).ok_or("no batch")?;
+    let late = batch_of(alloc, &[1, 2]).ok_or("no batch")?;
+    assert_eq!(rt;
+        board.feed(alloc, 0, two),
+        Err(StepRefusal::WrongFieldCount)
+    );
+    assert_eq!(rt;
+        board.feed(alloc, 1, unknown),
+        Err(StepRefusal::UnknownInput)
+    );
+    assert_eq!(rt; board.seal(1), Err(StepRefusal::UnknownInput));
+    assert_eq!(rt; board.close(1), Err(StepRefusal::UnknownInput));
+    assert_eq!(rt; board.close(0), Ok(()));
+    assert_eq!(rt; board.feed(alloc, 0, late), Err(StepRefusal::InputClosed));
+    assert_eq!(rt; board.seal(0), Err(StepRefusal::InputClosed));
+    assert_eq!(rt; board.close(0), Err(StepRefusal::InputClosed));
+    Ok(())
+}
+
+// An event that is given up stays counted: its epoch never passes, and the board takes nothing more but commits.
+#[test]
+fn stops(rt: HostRuntime) -> Result<(), Fail> {
+    let alloc = rt.alloc();
+    let mut board = board_of(alloc, COPY, 1).ok_or("no board")?;
+    let batch = batch_of(alloc, &[7]).ok_or("no batch")?;
+    let late = batch_of(alloc, &[7]).ok_or("no batch")?;
+    assert_eq!(rt; board.feed(alloc, 0, batch), Ok(()));
+    assert_eq!(rt; board.close(0), Ok(()));
+    assert!(rt; !board.holding(0));
+    let work = claimed(&mut board).ok_or("no event")?;
+    board.abandon(work);
+    assert!(rt; !board.holding(0));
+    assert!(rt; !board.passed(0));
+    assert_eq!(rt; board.feed(alloc, 0, late), Err(StepRefusal::Stopped));
+    assert_eq!(rt; board.seal(1), Err(StepRefusal::Stopped));
+    assert_eq!(rt; board.close(0), Err(StepRefusal::Stopped));
+    assert_eq!(rt; take_turn(alloc, &mut board, 0), Turn::Stopped);
+    Ok(())
+}
+
+// Of two workers each has its keys, and the group's notification waits until the input is sealed.
+#[test]
+fn picks(rt: HostRuntime) -> Result<(), Fail> {
+    let alloc = rt.alloc();
+    let mut board = board_of(alloc, COUNTS, 2).ok_or("no board")?;
+    let one = batch_of(alloc, &[1]).ok_or("no batch")?;
+    let two = batch_of(alloc, &[2]).ok_or("no batch")?;
+    assert_eq!(rt; board.feed(alloc, 0, one), Ok(()));
+    assert_eq!(rt; board.feed(alloc, 0, two), Ok(()));
+    for (worker, choice, refusal) in [
+        (0, 1, Some(StepRefusal::NoSuchEvent)),
+        (2, 0, Some(StepRefusal::NoSuchEvent)),
+        (0, 0, None),
+        (1, 0, None),
+        (0, 0, Some(StepRefusal::NoSuchEvent)),
+    ] {
+        let told = match board.pick(worker, choice) {
+            Ok(work) => match commit(alloc, &mut board, work) {
+                Turn::Committed => None,
+                _ => return Err(Fail::from("not committed")),
+            },
+            Err(refusal) => Some(refusal),
+        };
+        assert_eq!(rt; told, refusal);
+    }
+    Ok(())
+}
+
+#[test]
+fn holds_one_event_a_worker(rt: HostRuntime) -> Result<(), Fail> {
+    let alloc = rt.alloc();
+    let mut board = board_of(alloc, COPY, 1).ok_or("no board")?;
+    let batch = batch_of(alloc, &[7]).ok_or("no batch")?;
+    let more = batch_of(alloc, &[8]).ok_or("no batch")?;
+    assert_eq!(rt; board.feed(alloc, 0, batch), Ok(()));
+    assert_eq!(rt; board.feed(alloc, 0, more), Ok(()));
+    let work = claimed(&mut board).ok_or("no event")?;
+    let holding = board.holding(0);
+    let absent = board.holding(1);
+    let committed = commit(alloc, &mut board, work);
+    assert!(rt; holding);
+    assert!(rt; !absent);
+    assert_eq!(rt; committed, Turn::Committed);
+    assert!(rt; !board.holding(0));
+    Ok(())
+}
