@@ -1,5 +1,5 @@
 -- Words that aren't empty, one after another.
-use Rattle.std.proofs.Common.{◌≡◌, ◌≢◌, ◌<◌, ◌∙◌, ◌↔◌, ℕ, List, [], ◌∷◌, length, take, Bool, true, false, refl, sym, ap, subst, arith, not}
+use Rattle.std.proofs.Common.{◌≡◌, ◌≢◌, ◌<◌, ◌↔◌, ℕ, List, [], ◌∷◌, length, take, Bool, true, false, refl, sym, ap, subst, arith, not}
 use Rattle.std.specs.Prelude.{IsTrue, ◌==◌}
 use Rattle.std.specs.List.{AllByRecursion}
 use Rattle.std.proofs.lemmas.List.{length-take-le}

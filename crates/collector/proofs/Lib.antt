@@ -8,3 +8,7 @@ pub mod Orders
 pub mod Writes
 pub mod Pushes
 pub mod EpochTexts
+pub mod QuickNumbers
+pub mod QuickRows
+pub mod QuickLines
+pub mod Piles

@@ -1,7 +1,7 @@
 -- The lines of an input text, read one after another.
-use Rattle.std.proofs.Common.{◌≡◌, ◌≢◌, ◌<◌, ◌≤◌, ◌+◌, ◌∙◌, ℕ, ℤ, List, [], ◌∷◌, ◌++◌, length, Bool, true, false, cond, refl, sym, ap, subst, arith, append_assoc, inl, inr}
-use Rattle.std.specs.Prelude.{◌==◌, ◌&&◌, if◌then◌else◌}
-use Rattle.std.proofs.lemmas.List.{length-append, length-map}
+use Rattle.std.proofs.Common.{◌≡◌, ◌<◌, ◌≤◌, ◌+◌, ◌∙◌, ℕ, ℤ, List, [], ◌∷◌, ◌++◌, length, Bool, true, false, cond, refl, sym, ap, subst, arith, append_assoc, inl, inr, get_or}
+use Rattle.std.specs.Prelude.{◌==◌, ◌&&◌}
+use Rattle.std.proofs.lemmas.List.{length-append}
 use Rattle.std.proofs.lemmas.Option.{slice_get_within}
 use Rattle.std.proofs.lemmas.List.Splits.{length-slice_split}
 use Rattle.semantics.specs.Query.{Input}
@@ -9,7 +9,9 @@ use Rattle.collector.specs.Pieces.{split_on}
 use Rattle.collector.specs.Lines.{Item, Says, IsFault, code_of}
 use Rattle.collector.specs.InputText.{begun_after, epochs_after, records_in, LinesSay, IsInputText, IsRefused}
 use Rattle.collector.specs.Held.{epoch_count, records_at}
-use Rattle.collector.specs.Growth.{IsEven, HasNone, Begins, Gains, Takes, CanTake}
+use Rattle.collector.specs.Drafts.{draft_count, draft_records, IsKept}
+use Rattle.collector.specs.Growth.{IsEven, HasNone, Takes, CanTake}
+use Rattle.collector.specs.declared.draft.Draft.{Draft}
 use Rattle.collector.specs.declared.epochs.Epochs.{Epochs}
 use Rattle.collector.specs.declared.refusal.Fault.{Fault}
 use Rattle.collector.specs.declared.refusal.InputRefusal.TheVariants.{At}
@@ -44,19 +46,19 @@ row_push epoch input n (Item.epoch ∷ is) j z = row_push epoch input (n + 1) is
 row_push epoch input n (Item.row i zs ∷ is) j z = one_more ((input == i) && (epoch + 1 == n)) ((input == j) && (epoch + 1 == epochs_after n is)) zs z (records_in epoch input n is) _ (row_push epoch input n is j z)
 
 -- the lines that were read, and what is held of them
-pub record ReadSoFar (inputs : List Input) (text rest : List ℕ) (number : ℕ) (e : Epochs) : Type 0 where
+pub record ReadSoFar (inputs : List Input) (text rest : List ℕ) (number : ℕ) (e : Draft) : Type 0 where
   pub lines : List (List ℕ)
   pub items : List Item
   pub said : LinesSay inputs 0 lines items
   pub parts : split_on 10 text ≡ lines ++ split_on 10 rest
   pub counted : number ≡ length lines
   pub short : number + length rest ≤ length text
-  pub epochs : epoch_count e ≡ epochs_after 0 items
-  pub records : (epoch input : ℕ) → records_at e epoch input ≡ records_in epoch input 0 items
+  pub epochs : draft_count e ≡ epochs_after 0 items
+  pub records : (epoch input : ℕ) → draft_records e epoch input ≡ records_in epoch input 0 items
   pub even : IsEven e
   pub tracks : length e.tracks.items ≡ length inputs
 
-pub nothing_read : (inputs : List Input) (text : List ℕ) (e : Epochs) → HasNone e → length e.tracks.items ≡ length inputs → ReadSoFar inputs text text 0 e
+pub nothing_read : (inputs : List Input) (text : List ℕ) (e : Draft) → HasNone e → length e.tracks.items ≡ length inputs → ReadSoFar inputs text text 0 e
 nothing_read inputs text e none size = record {
   lines = [];
   items = [];
@@ -71,13 +73,13 @@ nothing_read inputs text e none size = record {
 }
 
 -- what a line says can be taken
-pub can_take : (inputs : List Input) (e : Epochs) (line : List ℕ) (item : Item) → length e.tracks.items ≡ length inputs → Says inputs (epoch_count e) line item → CanTake e item
+pub can_take : (inputs : List Input) (e : Draft) (line : List ℕ) (item : Item) → length e.tracks.items ≡ length inputs → Says inputs (draft_count e) line item → CanTake e item
 can_take inputs e line Item.epoch size says = says.1
 can_take inputs e line (Item.row i zs) size says = (says.3, omega (arith, size, slice_get_within inputs i _ says.4.there), says.5)
 
 -- what the epochs hold once they have taken an item
-taken : (e f : Epochs) (items : List Item) (item : Item) → epoch_count e ≡ epochs_after 0 items → ((epoch input : ℕ) → records_at e epoch input ≡ records_in epoch input 0 items) → Takes e f item
-    → (epoch_count f ≡ epochs_after 0 (items ++ item ∷ [])) × ((epoch input : ℕ) → records_at f epoch input ≡ records_in epoch input 0 (items ++ item ∷ [])) × IsEven f × (length f.tracks.items ≡ length e.tracks.items)
+taken : (e f : Draft) (items : List Item) (item : Item) → draft_count e ≡ epochs_after 0 items → ((epoch input : ℕ) → draft_records e epoch input ≡ records_in epoch input 0 items) → Takes e f item
+    → (draft_count f ≡ epochs_after 0 (items ++ item ∷ [])) × ((epoch input : ℕ) → draft_records f epoch input ≡ records_in epoch input 0 (items ++ item ∷ [])) × IsEven f × (length f.tracks.items ≡ length e.tracks.items)
 taken e f items Item.epoch count records takes = (
   takes.count ∙ ap (λ n. n + 1) count ∙ sym (epochs_push 0 items Item.epoch),
   λ epoch input. takes.records epoch input ∙ records epoch input ∙ sym (epoch_push epoch input 0 items),
@@ -88,14 +90,14 @@ taken e f items (Item.row i zs) count records takes = (
   takes.count ∙ count ∙ sym (epochs_push 0 items (Item.row i zs)),
   λ epoch input.
       let here = takes.records epoch input in
-      let held : records_at f epoch input ≡ cond ((input == i) && (epoch + 1 == epochs_after 0 items)) (records_in epoch input 0 items ++ zs ∷ []) (records_in epoch input 0 items) = rw (← count, ← records epoch input) here in
+      let held : draft_records f epoch input ≡ cond ((input == i) && (epoch + 1 == epochs_after 0 items)) (records_in epoch input 0 items ++ zs ∷ []) (records_in epoch input 0 items) = rw (← count, ← records epoch input) here in
       held ∙ sym (row_push epoch input 0 items i zs),
   takes.even,
   takes.inputs,
 )
 
-pub next_read : (inputs : List Input) (text rest line after : List ℕ) (n : ℕ) (e f : Epochs) (item : Item) → ReadSoFar inputs text rest n e → split_on 10 rest ≡ line ∷ split_on 10 after → length after < length rest
-    → Says inputs (epoch_count e) line item → Takes e f item → ReadSoFar inputs text after (n + 1) f
+pub next_read : (inputs : List Input) (text rest line after : List ℕ) (n : ℕ) (e f : Draft) (item : Item) → ReadSoFar inputs text rest n e → split_on 10 rest ≡ line ∷ split_on 10 after → length after < length rest
+    → Says inputs (draft_count e) line item → Takes e f item → ReadSoFar inputs text after (n + 1) f
 next_read inputs text rest line after n e f item r cut less says takes =
     let new = taken e f r.items item r.epochs r.records takes in
     record {
@@ -112,8 +114,8 @@ next_read inputs text rest line after n e f item r cut less says takes =
     }
 
 -- a line that a line feed ends has a fault
-pub faulty : (inputs : List Input) (text rest line after : List ℕ) (n : ℕ) (e : Epochs) (fault : Fault) (code number : ℕ) → ReadSoFar inputs text rest n e → split_on 10 rest ≡ line ∷ split_on 10 after
-    → IsFault inputs (epoch_count e) line fault → code ≡ code_of fault → number ≡ n + 1 → IsRefused inputs text (At code number)
+pub faulty : (inputs : List Input) (text rest line after : List ℕ) (n : ℕ) (e : Draft) (fault : Fault) (code number : ℕ) → ReadSoFar inputs text rest n e → split_on 10 rest ≡ line ∷ split_on 10 after
+    → IsFault inputs (draft_count e) line fault → code ≡ code_of fault → number ≡ n + 1 → IsRefused inputs text (At code number)
 faulty inputs text rest line after n e fault code number r cut bad is at = (
   r.lines,
   r.items,
@@ -129,17 +131,17 @@ faulty inputs text rest line after n e fault code number r cut bad is at = (
     filled bs = omega (arith, length-slice_split (λ b. b == 10) bs)
 
 -- the last line has no line feed
-pub unended : (inputs : List Input) (text rest : List ℕ) (n : ℕ) (e : Epochs) (code number : ℕ) → ReadSoFar inputs text rest n e → split_on 10 rest ≡ rest ∷ [] → 0 < length rest → code ≡ 43 → number ≡ n + 1 → IsRefused inputs text (At code number)
+pub unended : (inputs : List Input) (text rest : List ℕ) (n : ℕ) (e : Draft) (code number : ℕ) → ReadSoFar inputs text rest n e → split_on 10 rest ≡ rest ∷ [] → 0 < length rest → code ≡ 43 → number ≡ n + 1 → IsRefused inputs text (At code number)
 unended inputs text rest n e code number r cut some is at =
     (r.lines, r.items, r.said, at ∙ ap (λ k. k + 1) r.counted, rest, [], r.parts ∙ ap (λ (ls : List (List ℕ)). r.lines ++ ls) cut, inl (is, some, refl))
 
 -- no line is left
-pub all_read : (inputs : List Input) (text rest : List ℕ) (n : ℕ) (e : Epochs) → ReadSoFar inputs text rest n e → rest ≡ [] → IsInputText inputs text (epoch_count e) (records_at e)
-all_read inputs text rest n e r none = record {
+pub all_read : (inputs : List Input) (text rest : List ℕ) (n : ℕ) (d : Draft) (e : Epochs) → ReadSoFar inputs text rest n d → rest ≡ [] → IsKept d e → IsInputText inputs text (epoch_count e) (records_at e)
+all_read inputs text rest n d e r none kept = record {
   lines = r.lines;
   items = r.items;
   parts = r.parts ∙ ap (λ (bs : List ℕ). r.lines ++ split_on 10 bs) none;
   said = r.said;
-  epochs = r.epochs;
-  holds = r.records;
+  epochs = kept.count ∙ r.epochs;
+  holds = λ epoch input. ap (λ (ts : List (List Records)). get_or (get_or ts input []) epoch []) kept.tracks ∙ r.records epoch input;
 }

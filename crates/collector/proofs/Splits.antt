@@ -1,19 +1,17 @@
 -- The first piece, and the pieces after it.
-use Rattle.std.proofs.Common.{◌≡◌, ◌≢◌, ◌<◌, ◌+◌, ◌∙◌, ℕ, zero, suc, List, [], ◌∷◌, ◌++◌, length, take, drop, map, Bool, true, false, refl, sym, ap, arith, get_or, eqb, append_assoc, cond}
-use Rattle.std.proofs.lemmas.Bool.{eqb-true}
+use Rattle.std.proofs.Common.{◌≡◌, ◌≢◌, ◌<◌, ◌+◌, ◌∙◌, ℕ, zero, suc, List, [], ◌∷◌, length, take, drop, Bool, refl, ap, arith, get_or, cond}
 use Rattle.std.proofs.lemmas.Bool.Decides.{eqb_tells}
 use Rattle.std.proofs.Common.{inl, inr}
-use Rattle.std.proofs.lemmas.List.{map_push}
 use Rattle.std.specs.List.{onto_first}
 use Rattle.collector.specs.Pieces.{split_on}
 
-step : (byte b : ℕ) (bs p : List ℕ) (ps : List (List ℕ)) → b ≢ byte → split_on byte bs ≡ p ∷ ps → split_on byte (b ∷ bs) ≡ (b ∷ p) ∷ ps
+pub step : (byte b : ℕ) (bs p : List ℕ) (ps : List (List ℕ)) → b ≢ byte → split_on byte bs ≡ p ∷ ps → split_on byte (b ∷ bs) ≡ (b ∷ p) ∷ ps
 step byte b bs p ps other e = elim (eqb_tells b byte) [
   | inl same ↦ absurd (other same.1)
   | inr no_way ↦ ap (λ (t : Bool). cond t ([] ∷ split_on byte bs) (onto_first b (split_on byte bs))) no_way.0 ∙ ap (onto_first b) e
 ]
 
-stop : (byte b : ℕ) (bs : List ℕ) → b ≡ byte → split_on byte (b ∷ bs) ≡ [] ∷ split_on byte bs
+pub stop : (byte b : ℕ) (bs : List ℕ) → b ≡ byte → split_on byte (b ∷ bs) ≡ [] ∷ split_on byte bs
 stop byte b bs same = elim (eqb_tells b byte) [
   | inl yes_way ↦ ap (λ (t : Bool). cond t ([] ∷ split_on byte bs) (onto_first b (split_on byte bs))) yes_way.0
   | inr other ↦ absurd (other.1 same)

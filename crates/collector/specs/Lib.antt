@@ -2,8 +2,11 @@ pub mod Pieces
 pub mod Lines
 pub mod Said
 pub mod InputText
+pub mod Piles
 pub mod Held
+pub mod Drafts
 pub mod Growth
 pub mod Watching
 pub mod Written
 pub mod OutputText
+pub mod Quick

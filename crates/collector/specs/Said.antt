@@ -1,5 +1,5 @@
 -- What the reader of a line answers.
-use Rattle.std.specs.Prelude.{◌≡◌, ◌<◌, ◌≤◌, ℕ, ℤ, List, [], ◌∷◌, length, Option, Some, None, Result, Ok, Err}
+use Rattle.std.specs.Prelude.{ℕ, ℤ, List, [], length, Option, Some, None, Result, Ok, Err}
 use Rattle.std.specs.Borrow.{Bor}
 use Rattle.record_core.specs.Records.{IsRecord}
 use Rattle.semantics.specs.Query.{Input}

@@ -22,7 +22,7 @@ pub fn read_all<R: Read>(alloc: Global, reader: &mut Watched<R>) -> Result<Vec<u
     ensures failed { IsErrOf result Failed → has_failed reader.new ≡ true }
 {
     let mut bytes = Vec::new(alloc);
-    let mut piece = [0; 16384];
+    let mut piece = [0; 65536];
     'pieces: loop {
         let Ok(count) = reader.pull(&mut piece) else {
             return Err(ReadFault::Failed);

@@ -6,11 +6,15 @@
 #![tactic(auto)]
 
 mod bytes;
+mod draft;
 mod epochs;
 mod line;
+mod next;
 mod output;
+mod quick;
 mod reading;
 mod refusal;
+mod sameness;
 mod splitting;
 mod track;
 mod watched;
@@ -18,9 +22,11 @@ mod writing;
 
 pub use bytes::{ReadFault, read_all, read_at_most};
 pub use epochs::Epochs;
-pub use line::Declared;
-pub use output::{OutFault, write_epochs};
+pub use line::{Declared, find_input, first_word, is_word, read_fields, rest_is_filled};
+pub use output::{OutFault, push_sorted, write_epochs};
 pub use reading::read_input;
 pub use refusal::{Fault, InputRefusal};
+pub use sameness::same_batches;
+pub use splitting::{around, find};
 pub use watched::Watched;
 pub use writing::{Broken, put};

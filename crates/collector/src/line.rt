@@ -66,14 +66,14 @@ fn goes_on(bytes: &[u8]) -> bool
 }
 
 /// Whether a word is spelled like a name or a keyword.
-fn is_word(word: &[u8]) -> bool
+pub fn is_word(word: &[u8]) -> bool
     ensures { IsTrue result ↔ IsWord word.now }
 {
     begins(word) && word.len() <= MAX_WORD && goes_on(word)
 }
 
 /// The first word, and what stands after the space that ends it.
-fn first_word(line: &[u8]) -> (&[u8], Option<&[u8]>)
+pub fn first_word(line: &[u8]) -> (&[u8], Option<&[u8]>)
     ensures { split_on 32 line.now ≡ result.0.now ∷ words_of result.1 }
 {
     match find(line, b' ') {
@@ -101,7 +101,7 @@ fn are_filled(text: &[u8]) -> bool
 }
 
 /// Whether no word after the first is empty.
-fn rest_is_filled(rest: Option<&[u8]>) -> bool
+pub fn rest_is_filled(rest: Option<&[u8]>) -> bool
     ensures { IsTrue result ↔ AllByRecursion IsFilled (words_of rest.entry) }
 {
     match rest {
@@ -117,7 +117,7 @@ fn is_same(word: &[u8], name: &[u8]) -> bool
 }
 
 /// The first input of a name: its number, and how many fields its records have.
-fn find_input(inputs: &[Declared<'_>], name: &[u8]) -> Option<(usize, u64)>
+pub fn find_input(inputs: &[Declared<'_>], name: &[u8]) -> Option<(usize, u64)>
     ensures found { IfSome result (λ p. IsInput (map plain inputs.now) name.now p.0 p.1) }
     ensures none { IfNone result (IsAbsent (map plain inputs.now) name.now) }
 {
@@ -154,7 +154,7 @@ fn read_numbers(text: &[u8], fields: &mut Vec<i64>) -> Result<bool, AllocError>
 }
 
 /// The same for the words after the first.
-fn read_fields(rest: Option<&[u8]>, fields: &mut Vec<i64>) -> Result<bool, AllocError>
+pub fn read_fields(rest: Option<&[u8]>, fields: &mut Vec<i64>) -> Result<bool, AllocError>
     ensures numbers { IfOk result (λ b. b ≡ true → AreNumbers (words_of rest.entry) fields.new.items) }
     ensures none { IfOk result (λ b. b ≡ false → (zs : List ℤ) → AreNumbers (words_of rest.entry) zs → ⊥) }
 {

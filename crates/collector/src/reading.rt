@@ -6,33 +6,26 @@ ghost use Rattle.collector.specs.Held.{epoch_count, records_at};
 ghost use Rattle.collector.specs.InputText.{IsInputText, IsRefused};
 ghost use Rattle.collector.specs.Said.{item_of, plain};
 
+use crate::draft::Draft;
 use crate::epochs::Epochs;
-use crate::line::{Declared, Line, LineError, line_says};
+use crate::line::{Declared, Line};
+use crate::next::{Stop, next_line};
 use crate::refusal::InputRefusal;
-use crate::splitting::{around, find};
-use record_core::Record;
+use rows::RowsError;
 use std::alloc::{AllocError, Global};
 
 /// The code of a last line that no line feed ends.
 const NO_LINE_FEED: u8 = 43;
 
 /// Takes what a line says; the fields of a record stand in the buffer.
-fn take_line(
-    alloc: Global,
-    epochs: &mut Epochs,
-    said: Line,
-    fields: &[i64],
-) -> Result<(), AllocError>
-    requires even { IsEven epochs.old }
-    requires can { CanTake epochs.old (item_of said fields.now) }
-    ensures { OnOk result (Takes epochs.old epochs.new (item_of said fields.now)) }
+fn take_line(alloc: Global, draft: &mut Draft, said: Line, fields: &[i64]) -> Result<(), RowsError>
+    requires even { IsEven draft.old }
+    requires can { CanTake draft.old (item_of said fields.now) }
+    ensures { OnOk result (Takes draft.old draft.new (item_of said fields.now)) }
 {
     match said {
-        Line::Epoch => epochs.begin(alloc),
-        Line::Row { input } => match Record::new(fields) {
-            Some(row) => epochs.push(input, row),
-            None => Ok(()),
-        },
+        Line::Epoch => draft.begin(alloc),
+        Line::Row { input } => draft.push(alloc, input, fields),
     }
 }
 
@@ -48,30 +41,31 @@ pub fn read_input(
     ensures read { IfOk result (λ e. IsInputText (map plain inputs.now) text.now (epoch_count e) (records_at e)) }
     ensures refused { IfErr result (IsRefused (map plain inputs.now) text.now) }
 {
-    let mut epochs = Epochs::new(alloc, inputs.len())?;
+    let mut draft = Draft::new(alloc, inputs.len())?;
     let mut fields = Vec::new(alloc);
     let mut rest = text;
     let mut number = 0;
-    while let Some(end) = find(rest, b'\n') {
-        let (line, after) = around(rest, end);
+    while !rest.is_empty() {
         number += 1;
-        match line_says(line, inputs, epochs.count(), &mut fields) {
-            Ok(said) => take_line(alloc, &mut epochs, said, fields.as_slice())?,
-            Err(LineError::NoMemory) => return Err(InputRefusal::NoMemory),
-            Err(LineError::Fault(fault)) => {
+        match next_line(rest, inputs, draft.count(), &mut fields) {
+            Ok((said, after)) => {
+                take_line(alloc, &mut draft, said, fields.as_slice())?;
+                rest = after;
+            }
+            Err(Stop::NoMemory) => return Err(InputRefusal::NoMemory),
+            Err(Stop::Fault(fault)) => {
                 return Err(InputRefusal::At {
                     code: fault.code(),
                     line: number,
                 });
             }
+            Err(Stop::NoLineFeed) => {
+                return Err(InputRefusal::At {
+                    code: NO_LINE_FEED,
+                    line: number,
+                });
+            }
         }
-        rest = after;
     }
-    if !rest.is_empty() {
-        return Err(InputRefusal::At {
-            code: NO_LINE_FEED,
-            line: number + 1,
-        });
-    }
-    Ok(epochs)
+    Ok(draft.finish(alloc)?)
 }

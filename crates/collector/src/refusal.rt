@@ -4,6 +4,7 @@ ghost use Rattle.std.specs.Prelude.{◌≡◌};
 ghost use Rattle.collector.specs.Lines.{code_of};
 ghost use Rattle.collector.specs.declared.refusal.InputRefusal.TheVariants.{NoMemory};
 
+use rows::RowsError;
 use std::alloc::{AllocError, AllocFailed};
 
 /// What is wrong with a line that a line feed ends.
@@ -59,6 +60,14 @@ impl<T: Drop> From<AllocFailed<T>> for InputRefusal {
     ghost from_gives = { λ _ e. e ≡ NoMemory };
 
     fn from(_e: AllocFailed<T>) -> InputRefusal {
+        InputRefusal::NoMemory
+    }
+}
+
+impl From<RowsError> for InputRefusal {
+    ghost from_gives = { λ _ e. e ≡ NoMemory };
+
+    fn from(_e: RowsError) -> InputRefusal {
         InputRefusal::NoMemory
     }
 }

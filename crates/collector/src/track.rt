@@ -1,23 +1,31 @@
 //! The records of one input.
 
-ghost use Rattle.std.specs.Prelude.{◌≡◌, ◌<◌, ◌+◌, ℕ, ℤ, List, ◌++◌, ◌∷◌, [], OnOk, length, slice_index_or, ◌==◌, if◌then◌else◌};
+ghost use Rattle.std.specs.Prelude.{◌≡◌, ◌<◌, ◌≤◌, ◌+◌, ℕ, ℤ, List, ◌++◌, ◌∷◌, [], OnOk, IfOk, map, length, slice_index_or, ◌==◌, if◌then◌else◌};
+ghost use Rattle.record_core.specs.Records.{IsRecord};
+ghost use Rattle.collector.specs.Piles.{joined, with_open};
 
-use record_core::Record;
+use rows::{Batch, Rows, RowsError};
 use std::alloc::{AllocError, Global};
 use std::marker::Model;
+use std::mem;
 
-/// The records of one input, in a list for each epoch.
+/// The most records of a batch.
+const BATCH: usize = 16_384;
+
+/// The records of one input while a text is read, in batches for each epoch; the last ones of the last epoch stand in `last`.
 #[derive(Drop)]
 pub struct Track {
-    epochs: Vec<Vec<Record>>,
+    epochs: Vec<Vec<Batch>>,
+    last: Rows,
 }
 
 impl Model for Track {
     ghost use Rattle.std.specs.Prelude.{List, ℤ, map};
+    ghost use Rattle.collector.specs.Piles.{joined, with_open};
 
     ghost Value = { List (List (List ℤ)) };
 
-    ghost view = { λ t. map (λ v. v.items) t.epochs.items };
+    ghost view = { λ t. with_open (map (λ v. joined v.items) t.epochs.items) t.last.rows };
 }
 
 impl Track {
@@ -27,34 +35,115 @@ impl Track {
     {
         Track {
             epochs: Vec::new(alloc),
+            last: Rows::new(alloc, 1),
         }
     }
 
     /// The next epoch begins, with no record.
-    pub fn begin(&mut self, alloc: Global) -> Result<(), AllocError>
+    pub fn begin(&mut self, alloc: Global) -> Result<(), RowsError>
         ensures { OnOk result (self.new ≡ self.old ++ [] ∷ []) }
     {
+        let rows = mem::replace(&mut self.last, Rows::new(alloc, 1));
+        seal(alloc, &mut self.epochs, rows)?;
         self.epochs.push(Vec::new(alloc))?;
         Ok(())
     }
 
     /// A record joins the last epoch.
-    pub fn push(&mut self, row: Record) -> Result<(), AllocError>
-        requires { 0 < length self.old }
+    pub fn push(&mut self, alloc: Global, row: &[i64]) -> Result<(), RowsError>
+        requires some { 0 < length self.old }
+        requires record { IsRecord row.now }
         ensures len { OnOk result (length self.new ≡ length self.old) }
-        ensures at { OnOk result ((k : ℕ) → slice_index_or self.new k [] ≡ (if k + 1 == length self.old then slice_index_or self.old k [] ++ row ∷ [] else slice_index_or self.old k [])) }
+        ensures at { OnOk result ((k : ℕ) → slice_index_or self.new k [] ≡ (if k + 1 == length self.old then slice_index_or self.old k [] ++ row.now ∷ [] else slice_index_or self.old k [])) }
     {
-        let last = self.epochs.len() - 1;
-        self.epochs[last].push(row)?;
+        make_room(alloc, &mut self.epochs, &mut self.last, row.len())?;
+        self.last.push(row)?;
         Ok(())
     }
 
-    /// The records of an epoch; none where it hasn't begun.
-    pub fn records(&self, epoch: usize) -> &[Record]
-        ensures { result.now ≡ slice_index_or self.now epoch [] }
+    /// What was read.
+    pub fn finish(self, alloc: Global) -> Result<Kept, RowsError>
+        ensures { IfOk result (λ k. k ≡ self) }
+    {
+        let Track { mut epochs, last } = self;
+        seal(alloc, &mut epochs, last)?;
+        Ok(Kept { epochs })
+    }
+}
+
+/// Puts rows at the end of the last epoch.
+fn seal(alloc: Global, epochs: &mut Vec<Vec<Batch>>, rows: Rows) -> Result<(), RowsError>
+    ensures { OnOk result (map (λ v. joined v.items) epochs.new.items ≡ with_open (map (λ v. joined v.items) epochs.old.items) rows.rows) }
+{
+    let len = epochs.len();
+    if len == 0 {
+        return Ok(());
+    }
+    match Batch::from_rows(alloc, rows)? {
+        None => Ok(()),
+        Some(batch) => {
+            epochs[len - 1].push(batch)?;
+            Ok(())
+        }
+    }
+}
+
+/// The last rows have room for a row of that many numbers.
+fn make_room(
+    alloc: Global,
+    epochs: &mut Vec<Vec<Batch>>,
+    last: &mut Rows,
+    arity: usize,
+) -> Result<(), RowsError>
+    requires some { 1 ≤ arity }
+    requires fits { arity ≤ 16 }
+    ensures arity { OnOk result (last.new.arity ≡ arity) }
+    ensures same { OnOk result (with_open (map (λ v. joined v.items) epochs.new.items) last.new.rows ≡ with_open (map (λ v. joined v.items) epochs.old.items) last.old.rows) }
+{
+    let full = last.len() >= BATCH;
+    if !full && last.arity() == arity {
+        return Ok(());
+    }
+    let rows = mem::replace(last, fresh(alloc, arity, full)?);
+    seal(alloc, epochs, rows)?;
+    Ok(())
+}
+
+/// No rows, with room for a batch where more than one is wanted.
+fn fresh(alloc: Global, arity: usize, many: bool) -> Result<Rows, RowsError>
+    requires some { 1 ≤ arity }
+    requires fits { arity ≤ 16 }
+    ensures { IfOk result (λ r. r ≡ record { arity = arity; rows = [] }) }
+{
+    if many {
+        Rows::with_capacity(alloc, arity, BATCH)
+    } else {
+        Ok(Rows::new(alloc, arity))
+    }
+}
+
+/// The records of one input, in batches for each epoch.
+#[derive(Drop)]
+pub struct Kept {
+    epochs: Vec<Vec<Batch>>,
+}
+
+impl Model for Kept {
+    ghost use Rattle.std.specs.Prelude.{List, ℤ, map};
+    ghost use Rattle.collector.specs.Piles.{joined};
+
+    ghost Value = { List (List (List ℤ)) };
+
+    ghost view = { λ t. map (λ v. joined v.items) t.epochs.items };
+}
+
+impl Kept {
+    /// The records of an epoch in their batches; none where it hasn't begun.
+    pub fn batches(&self, epoch: usize) -> &[Batch]
+        ensures { joined result.now ≡ slice_index_or self.now epoch [] }
     {
         match self.epochs.get(epoch) {
-            Some(records) => records.as_slice(),
+            Some(batches) => batches.as_slice(),
             None => &[],
         }
     }

@@ -15,7 +15,6 @@ fn code_of(done: Result<(), Fault>) -> u8 {
         Ok(()) => 0,
         Err(Fault::Query { code, .. } | Fault::Input { code, .. }) => code,
         Err(Fault::TooManyVertices) => 21,
-        Err(Fault::Unserved) => 22,
         Err(_) => 255,
     }
 }
@@ -47,8 +46,7 @@ fn ran(rt: &HostRuntime, wait: &impl Wait, query: &str, input: &str) -> u8 {
 /// The code that an example of the table is told with.
 fn example_code(rt: &HostRuntime, wait: &impl Wait, code: u8, example: &str) -> u8 {
     match code {
-        0..=21 => checked(rt, example),
-        22..=40 => ran(rt, wait, example, ""),
+        0..=40 => checked(rt, example),
         41..=255 => ran(rt, wait, QUERY, example),
     }
 }
@@ -57,7 +55,7 @@ fn example_code(rt: &HostRuntime, wait: &impl Wait, code: u8, example: &str) -> 
 #[test]
 fn examples_of_the_table(rt: HostRuntime) -> Result<(), Fail> {
     for code in 0..=255 {
-        let is_told = matches!(code, 1..=6 | 11..=19 | 21 | 22 | 41..=47);
+        let is_told = matches!(code, 1..=6 | 11..=19 | 21 | 41..=47);
         assert_eq!(rt; explanation_of(code).is_some(), is_told);
     }
     assert!(rt; explained("").is_none());

@@ -26,11 +26,15 @@ fn lines(rt: HostRuntime) -> Result<(), Fail> {
             "query refused 13 at 28..30\n",
         ),
         (Fault::TooManyVertices, 3, "query refused 21\n"),
-        (Fault::Unserved, 3, "query refused 22\n"),
         (
             Fault::Input { code: 43, line: 2 },
             4,
             "input refused 43 at line 2\n",
+        ),
+        (
+            Fault::Schedule { code: 46, line: 1 },
+            4,
+            "schedule refused 46 at line 1\n",
         ),
         (Fault::NoMemory, 5, "out of memory\n"),
         (Fault::NoWorker, 5, "cannot start a worker\n"),

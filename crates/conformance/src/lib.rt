@@ -1,5 +1,5 @@
-//! What the program's calls answer where no page can show it (docs/ARCHITECTURE.md): readers, writers and memory that fail, and texts of
-//! great size. No other crate stands on it.
+//! What the program's calls and the collector's answer where no page can show it (docs/ARCHITECTURE.md): readers, writers and memory that fail,
+//! and texts of great size. No other crate stands on it.
 #![tactic(auto)]
 
 #[cfg(test)]
@@ -10,3 +10,7 @@ mod failures;
 mod growths;
 #[cfg(test)]
 mod limits;
+#[cfg(test)]
+mod replays;
+#[cfg(test)]
+mod texts;

@@ -1,7 +1,7 @@
 //! Queries at the limits of size, which are too long for a page.
 
 use collector::Watched;
-use console::{Fault, GraphForm, Texts, check_query, explain_fault, graph_query};
+use console::{Fault, GraphForm, Texts, check_query, explain_fault, graph_query, run};
 use std::test::Fail;
 
 /// What `graph_query` answers: the graph's text, or the fault's line.
@@ -47,6 +47,27 @@ fn at_most_4096_vertices(rt: HostRuntime) -> Result<(), Fail> {
     assert!(rt; longest.as_slice().ends_with(end));
     let longer = drawn(&rt, &chain(&rt, 4095)?)?;
     assert_eq!(rt; longer.as_slice(), b"query refused 21\n".as_slice());
+    Ok(())
+}
+
+/// The graph's size is told before the input's fault.
+#[test]
+fn too_large_to_run(rt: HostRuntime) -> Result<(), Fail> {
+    let text = chain(&rt, 4095)?;
+    let mut query = Watched::new(text.as_bytes());
+    let mut input = Watched::new(b"a 1".as_slice());
+    let mut texts = Texts::new(rt.alloc());
+    let mut out = Watched::new(Vec::new(rt.alloc()));
+    let done = run(
+        &rt,
+        rt.alloc(),
+        &mut query,
+        &mut input,
+        &mut texts,
+        &mut out,
+    );
+    assert!(rt; matches!(done, Err(Fault::TooManyVertices)));
+    assert_eq!(rt; out.into_inner().len(), 0);
     Ok(())
 }
 

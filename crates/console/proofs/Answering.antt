@@ -1,52 +1,57 @@
 -- What a board that is worked off has emitted is what its query means on the epochs that were read.
-use Rattle.std.proofs.Common.{◌≡◌, ◌<◌, ◌+◌, ℕ, suc, List, [], ◌∷◌, length, Bool, true, false, cond, sym, subst, arith}
+use Rattle.std.proofs.Common.{◌≡◌, ◌<◌, ◌+◌, ℕ, suc, List, [], ◌∷◌, length, cond, refl, sym, ap, ap₂, subst, ◌∙◌, arith}
+use mathlib.Core.Path.{fun_ext}
 use Rattle.semantics.specs.Multiset.{Record, ◌≈◌}
-use Rattle.semantics.specs.Query.{Input}
-use Rattle.semantics.specs.Meaning.{program_meaning, input_names, let_names, same_name}
-use Rattle.semantics.proofs.MeaningOfMultisets.{meaning_same}
-use Rattle.semantics.proofs.MultisetSums.{≈-refl, ≈-trans}
-use Rattle.board.specs.Chain.{Chain, query_of}
-use Rattle.board.specs.World.{fed_at, emitted_at}
-use Rattle.board.specs.Headline.{Headline}
-use Rattle.board.specs.Views.{GraphParts, chain_of}
-use Rattle.board.specs.Run.{IsQuiet}
+use Rattle.semantics.specs.Query.{Input, Program}
+use Rattle.semantics.specs.Meaning.{meaning, program_meaning, input_names, let_names, same_name}
+use Rattle.semantics.proofs.StepsKeep.{rewrites_inputs, rewrites_meaning, rewrites_typed}
+use Rattle.lowering.specs.Shown.{GraphValue, shown_graph, shown_inputs}
 use Rattle.board.specs.Shown.{Shown}
+use Rattle.board.specs.Promises.{HasPassed, Headline, IsDrained, RunsProgram}
 use Rattle.collector.specs.OutputText.{IsTextFrom}
 use Rattle.collector.specs.Held.{epoch_count, records_at}
 use Rattle.collector.specs.declared.epochs.Epochs.{Epochs}
-use Rattle.console.specs.Fed.{EmittedBelow, HoldsFed, IsWorkedOff}
+use Rattle.console.specs.Compiled.{IsCompiled}
+use Rattle.console.specs.Fed.{EmittedBelow, HoldsFed, IsWorkedOff, emitted_at, fed_at}
 use Rattle.console.specs.Answers.{IsAnswer}
 
-either_same : (b : Bool) (p q r s : List Record) → p ≈ q → r ≈ s → cond b p r ≈ cond b q s
-either_same true p q r s e f = e
-either_same false p q r s e f = f
-
 -- names mean the same where the inputs have the same records
-inputs_same : (as' : List Input) (k : ℕ) (f g : ℕ → List Record) → ((i : ℕ) → i < k + length as' → f i ≡ g i) → (x : List ℕ) → input_names as' k f x ≈ input_names as' k g x
-inputs_same [] k f g h x = ≈-refl []
-inputs_same (a ∷ as') k f g h x = either_same (same_name a.name x) (f k) (g k) (input_names as' (suc k) f x) (input_names as' (suc k) g x)
-    (subst (λ rs. f k ≈ rs) (h k (omega arith)) (≈-refl (f k))) (inputs_same as' (suc k) f g (λ i lt. h i (omega arith)) x)
+inputs_same : (as' : List Input) (k : ℕ) (f g : ℕ → List Record) → ((i : ℕ) → i < k + length as' → f i ≡ g i) → (x : List ℕ) → input_names as' k f x ≡ input_names as' k g x
+inputs_same [] k f g h x = refl
+inputs_same (a ∷ as') k f g h x = ap₂ (λ rs ss. cond (same_name a.name x) rs ss) (h k (omega arith)) (inputs_same as' (suc k) f g (λ i lt. h i (omega arith)) x)
 
-chain_same : (c : Chain) (f g : ℕ → List Record) → ((i : ℕ) → i < length c.inputs → f i ≡ g i) → program_meaning (query_of c) f ≈ program_meaning (query_of c) g
-unfolding program_meaning let_names
-chain_same c f g h = meaning_same (query_of c).output (input_names c.inputs 0 f) (input_names c.inputs 0 g) (inputs_same c.inputs 0 f g (λ i lt. h i (omega arith)))
+-- a program's meaning depends on the records of its inputs alone
+meant_alike : (p : Program) (f g : ℕ → List Record) → ((i : ℕ) → i < length p.inputs → f i ≡ g i) → program_meaning p f ≡ program_meaning p g
+unfolding program_meaning
+meant_alike p f g h = ap (λ names. meaning p.output (let_names p.lets names)) (fun_ext (λ x. inputs_same p.inputs 0 f g (λ i lt. h i (omega arith)) x))
 
-pub is_answer : (b : Shown) (epochs : Epochs) (lists : List (List Record)) (text : List ℕ) → IsWorkedOff b.graph b epochs → EmittedBelow b.world (epoch_count epochs) lists
-    → ((epoch : ℕ) → epoch < epoch_count epochs → Headline (chain_of b.graph) b.world epoch) → IsTextFrom 0 lists text → IsAnswer (query_of (chain_of b.graph)) (epoch_count epochs) (records_at epochs) text
-is_answer b epochs lists text done below headline told = record {
+-- what the normal form means on what was fed is what the text's program means on what was read
+meant_of_text : (query : List ℕ) (s : Shown) (epochs : Epochs) (epoch : ℕ) → (c : IsCompiled query (shown_graph s.graph) (shown_inputs s.graph)) → HoldsFed s (length (shown_inputs s.graph)) epochs (epoch_count epochs) → epoch < epoch_count epochs
+    → program_meaning c.rewritten (λ i. fed_at s i epoch) ≡ program_meaning c.program (records_at epochs epoch)
+meant_of_text query s epochs epoch c fed lt =
+    let count : length c.rewritten.inputs ≡ length (shown_inputs s.graph) = ap length (rewrites_inputs c.normal.reached ∙ sym c.named) in
+    meant_alike c.rewritten (λ i. fed_at s i epoch) (records_at epochs epoch) (λ i less. fed epoch i lt (omega (arith, less, count)))
+    ∙ rewrites_meaning c.normal.reached (records_at epochs epoch)
+
+runs : (query : List ℕ) (s : Shown) (c : IsCompiled query (shown_graph s.graph) (shown_inputs s.graph)) → RunsProgram c.rewritten s
+runs query s c = record { arity = c.reads.arity; typed = rewrites_typed c.normal.reached c.reads.arity c.reads.typed; graph = c.graph }
+
+pub is_answer : (s : Shown) (epochs : Epochs) (lists : List (List Record)) (text : List ℕ) → IsWorkedOff s.graph s epochs → EmittedBelow s (epoch_count epochs) lists
+    → ((p : Program) → RunsProgram p s → (e : ℕ) → Headline p s e) → (IsDrained s → (e : ℕ) → HasPassed s e) → IsTextFrom 0 lists text
+    → (query : List ℕ) (c : IsCompiled query (shown_graph s.graph) (shown_inputs s.graph)) → IsAnswer c.program (epoch_count epochs) (records_at epochs) text
+is_answer s epochs lists text done below headline passed told query c = record {
   epochs = lists;
   size = below.size;
   meant = λ epoch lt.
-      let all : emitted_at b.world epoch ≈ program_meaning (query_of (chain_of b.graph)) (λ i. fed_at b.world i epoch) = (headline epoch lt).all done.quiet in
-      let read : program_meaning (query_of (chain_of b.graph)) (λ i. fed_at b.world i epoch) ≈ program_meaning (query_of (chain_of b.graph)) (records_at epochs epoch) =
-      chain_same (chain_of b.graph) (λ i. fed_at b.world i epoch) (records_at epochs epoch) (λ i less. done.fed epoch i lt less) in
-      subst (λ rs. rs ≈ program_meaning (query_of (chain_of b.graph)) (records_at epochs epoch)) (sym (below.each epoch lt)) (≈-trans all read);
+      let all : emitted_at s epoch ≈ program_meaning c.rewritten (λ i. fed_at s i epoch) = (headline c.rewritten (runs query s c) epoch).whole (passed done.drained epoch) in
+      let meant : emitted_at s epoch ≈ program_meaning c.program (records_at epochs epoch) = subst (λ rs. emitted_at s epoch ≈ rs) (meant_of_text query s epochs epoch c done.fed lt) all in
+      subst (λ rs. rs ≈ program_meaning c.program (records_at epochs epoch)) (sym (below.each epoch lt)) meant;
   told = told;
 }
 
-pub is_worked_off : (graph : GraphParts) (b : Shown) (epochs : Epochs) (inputs count : ℕ) → b.graph ≡ graph → IsQuiet b.world → HoldsFed b.world inputs epochs count → inputs ≡ length (chain_of graph).inputs → count ≡ epoch_count epochs → IsWorkedOff graph b epochs
-is_worked_off graph b epochs inputs count same quiet fed n m = record {
+pub is_worked_off : (graph : GraphValue) (s : Shown) (epochs : Epochs) (inputs count : ℕ) → s.graph ≡ graph → IsDrained s → HoldsFed s inputs epochs count → inputs ≡ length (shown_inputs graph) → count ≡ epoch_count epochs → IsWorkedOff graph s epochs
+is_worked_off graph s epochs inputs count same drained fed n m = record {
   same = same;
-  quiet = quiet;
+  drained = drained;
   fed = λ epoch input lt less. fed epoch input (omega (arith, lt, m)) (omega (arith, less, n));
 }

@@ -1,4 +1,8 @@
+pub mod Batches
 pub mod Answering
+pub mod RunEnds
+pub mod DeclaredInputs
+pub mod SameGraph
 pub mod InputLines
 pub mod QueryFaults
 pub mod Rewritten

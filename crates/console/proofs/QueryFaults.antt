@@ -8,15 +8,11 @@ use Rattle.typing.specs.FirstFault.{Told}
 use Rattle.console.specs.Checks.{IsCheckFault}
 use Rattle.console.specs.Compiled.{IsUncompiled}
 use Rattle.console.specs.Faults.{compile_fault_of, fault_of}
-use Rattle.console.specs.Queries.{IsQueryFault, IsRefusal}
+use Rattle.console.specs.Queries.{IsRefusal}
 
 pub ill_typed : (text : List ℕ) (tree : ProgramTree) (e : Refusal) → Reads text tree → Told tree e → IsRefusal text e
 ill_typed text tree (At code span) read told = inr (tree, read, told)
 ill_typed text tree NoMemory read told = tt
-
-pub query_refused : (text : List ℕ) (e : Refusal) → IsRefusal text e → IsQueryFault text (fault_of e)
-query_refused text (At code span) h = h
-query_refused text NoMemory h = tt
 
 pub graph_refused : (text : List ℕ) (e : Refusal) → IsRefusal text e → IsUncompiled text (compile_fault_of e)
 graph_refused text (At code span) h = h

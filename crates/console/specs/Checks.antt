@@ -11,7 +11,7 @@ use Rattle.collector.specs.Written.{AppendsFront}
 use Rattle.record_core.specs.declared.span.Refusal.TheVariants.{At}
 use Rattle.console.specs.Queries.{IsRefusal}
 use Rattle.console.specs.declared.fault.Fault.{Fault}
-use Rattle.console.specs.declared.fault.Fault.TheVariants.{Query, TooManyVertices, Unserved, Input as InputFault, NoMemory, NoWorker, ReadQuery, ReadInput, Write}
+use Rattle.console.specs.declared.fault.Fault.TheVariants.{Query, TooManyVertices, Input as InputFault, Schedule, NoMemory, NoWorker, ReadQuery, ReadInput, Write}
 
 -- `input NAME/ARITY`
 abbrev pub input_line : Input → List ℕ
@@ -34,8 +34,8 @@ abbrev pub IsCheckFault : List ℕ → Fault → Type 0
 IsCheckFault query (Query code start end) = IsRefusal query (At code (record { start = start; end = end }))
 IsCheckFault query NoMemory = Unit {0}
 IsCheckFault query TooManyVertices = ⊥
-IsCheckFault query Unserved = ⊥
 IsCheckFault query (InputFault code line) = ⊥
+IsCheckFault query (Schedule code line) = ⊥
 IsCheckFault query NoWorker = ⊥
 IsCheckFault query ReadQuery = ⊥
 IsCheckFault query ReadInput = ⊥
@@ -47,10 +47,10 @@ abbrev pub CheckEnds : List ℕ → Option (List ℕ) → Option (List ℕ) → 
 CheckEnds query old new (Ok u) = (text : List ℕ) × IsChecked query text × Appends old new text
 CheckEnds query old new (Err Write) = (text : List ℕ) × IsChecked query text × AppendsFront old new text
 CheckEnds query old new (Err (Query code start end)) = (new ≡ old) × IsCheckFault query (Query code start end)
-CheckEnds query old new (Err Unserved) = ⊥
 CheckEnds query old new (Err NoMemory) = new ≡ old
 CheckEnds query old new (Err ReadQuery) = new ≡ old
 CheckEnds query old new (Err ReadInput) = ⊥
 CheckEnds query old new (Err TooManyVertices) = ⊥
 CheckEnds query old new (Err (InputFault code line)) = ⊥
+CheckEnds query old new (Err (Schedule code line)) = ⊥
 CheckEnds query old new (Err NoWorker) = ⊥

@@ -8,7 +8,9 @@ use Rattle.semantics.specs.Lower.{lowered}
 use Rattle.lowering.specs.GraphLaws.{Computes}
 use Rattle.console.specs.Queries.{IsQuery, IsRefusal}
 use Rattle.console.specs.declared.fault.CompileFault.{CompileFault}
-use Rattle.console.specs.declared.fault.CompileFault.TheVariants.{Query, TooManyVertices, NoMemory}
+use Rattle.console.specs.declared.fault.CompileFault.TheVariants as compile
+use Rattle.console.specs.declared.fault.Fault.{Fault}
+use Rattle.console.specs.declared.fault.Fault.TheVariants.{Query, TooManyVertices, Input as InputFault, Schedule, NoMemory, NoWorker, ReadQuery, ReadInput, Write}
 
 -- The text is a well-typed program with these inputs. The graph is the one that the definition makes of the normal form that
 -- the program rewrites to.
@@ -32,6 +34,18 @@ pub record IsTooLarge (text : List ℕ) : Type 0 where
 
 -- why a query text has no graph
 abbrev pub IsUncompiled : List ℕ → CompileFault → Type 0
-IsUncompiled text (Query code span) = IsRefusal text (At code span)
-IsUncompiled text TooManyVertices = IsTooLarge text
-IsUncompiled text NoMemory = Unit {0}
+IsUncompiled text (compile.Query code span) = IsRefusal text (At code span)
+IsUncompiled text compile.TooManyVertices = IsTooLarge text
+IsUncompiled text compile.NoMemory = Unit {0}
+
+-- the same, as it is told
+abbrev pub IsQueryFault : List ℕ → Fault → Type 0
+IsQueryFault text (Query code start end) = IsRefusal text (At code (record { start = start; end = end }))
+IsQueryFault text TooManyVertices = IsTooLarge text
+IsQueryFault text NoMemory = Unit {0}
+IsQueryFault text (InputFault code line) = ⊥
+IsQueryFault text (Schedule code line) = ⊥
+IsQueryFault text NoWorker = ⊥
+IsQueryFault text ReadQuery = ⊥
+IsQueryFault text ReadInput = ⊥
+IsQueryFault text Write = ⊥

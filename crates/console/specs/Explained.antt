@@ -4,7 +4,7 @@ use Rattle.std.specs.Io.KnownBytes.{Appends}
 use Rattle.collector.specs.Written.{AppendsFront}
 use Rattle.refusals.specs.declared.table.Explanation.{Explanation}
 use Rattle.console.specs.declared.fault.Fault.{Fault}
-use Rattle.console.specs.declared.fault.Fault.TheVariants.{Query, TooManyVertices, Unserved, Input, NoMemory, NoWorker, ReadQuery, ReadInput, Write}
+use Rattle.console.specs.declared.fault.Fault.TheVariants.{Query, TooManyVertices, Input, Schedule, NoMemory, NoWorker, ReadQuery, ReadInput, Write}
 
 -- what the place covers, where one is told
 abbrev pub place_text : List ℕ → List ℕ
@@ -41,8 +41,8 @@ ExplanationEnds row old new (Err Write) = AppendsFront old new (explanation_text
 ExplanationEnds row old new (Err NoMemory) = new ≡ old
 ExplanationEnds row old new (Err (Query code start end)) = ⊥
 ExplanationEnds row old new (Err TooManyVertices) = ⊥
-ExplanationEnds row old new (Err Unserved) = ⊥
 ExplanationEnds row old new (Err (Input code line)) = ⊥
+ExplanationEnds row old new (Err (Schedule code line)) = ⊥
 ExplanationEnds row old new (Err NoWorker) = ⊥
 ExplanationEnds row old new (Err ReadQuery) = ⊥
 ExplanationEnds row old new (Err ReadInput) = ⊥

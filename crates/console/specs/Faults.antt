@@ -4,17 +4,19 @@ use Rattle.record_core.specs.declared.span.Refusal as query_refusal
 use Rattle.record_core.specs.declared.span.Refusal.TheVariants as query
 use Rattle.collector.specs.declared.refusal.InputRefusal as input_refusal
 use Rattle.collector.specs.declared.refusal.InputRefusal.TheVariants as input
+use Rattle.schedule.specs.declared.refusal.ScheduleRefusal as schedule_refusal
+use Rattle.schedule.specs.declared.refusal.ScheduleRefusal.TheVariants as schedule
 use Rattle.console.specs.declared.fault.CompileFault.{CompileFault}
 use Rattle.console.specs.declared.fault.CompileFault.TheVariants as compile
 use Rattle.console.specs.declared.fault.Fault.{Fault}
-use Rattle.console.specs.declared.fault.Fault.TheVariants.{Query, TooManyVertices, Unserved, Input, NoMemory, NoWorker, ReadQuery, ReadInput, Write}
+use Rattle.console.specs.declared.fault.Fault.TheVariants.{Query, TooManyVertices, Input, Schedule, NoMemory, NoWorker, ReadQuery, ReadInput, Write}
 
--- 3 of the query, 4 of the input, 5 of memory and threads, 6 of files
+-- 3 of the query, 4 of the input or the schedule, 5 of memory and threads, 6 of files
 abbrev pub status_of : Fault → ℕ
 status_of (Query code start end) = 3
 status_of TooManyVertices = 3
-status_of Unserved = 3
 status_of (Input code line) = 4
+status_of (Schedule code line) = 4
 status_of NoMemory = 5
 status_of NoWorker = 5
 status_of ReadQuery = 6
@@ -40,3 +42,8 @@ graph_fault_of compile.NoMemory = NoMemory
 abbrev pub input_fault_of : input_refusal.InputRefusal → Fault
 input_fault_of (input.At code line) = Input code line
 input_fault_of input.NoMemory = NoMemory
+
+-- of a refused schedule
+abbrev pub schedule_fault_of : schedule_refusal.ScheduleRefusal → Fault
+schedule_fault_of (schedule.At code line) = Schedule code line
+schedule_fault_of schedule.NoMemory = NoMemory

@@ -1,24 +1,31 @@
 -- What a board was fed and what it emitted, against the epochs that were read.
 use Rattle.std.specs.Prelude.{◌≡◌, ◌<◌, ℕ, List, [], length, slice_index_or}
 use Rattle.semantics.specs.Multiset.{Record}
-use Rattle.board.specs.World.{World, fed_at, emitted_at}
-use Rattle.board.specs.Run.{IsQuiet}
-use Rattle.board.specs.Shown.{Shown}
-use Rattle.board.specs.Views.{GraphParts, chain_of}
+use Rattle.lowering.specs.Shown.{GraphValue, shown_inputs}
+use Rattle.board.specs.Shown as board
+use Rattle.board.specs.Promises.{IsDrained}
 use Rattle.collector.specs.Held.{epoch_count, records_at}
 use Rattle.collector.specs.declared.epochs.Epochs.{Epochs}
 
+-- what an input was fed at an epoch
+abbrev pub fed_at : board.Shown → (input epoch : ℕ) → List Record
+fed_at s input epoch = board.records_at (board.input_at s input).fed epoch
+
+-- what was emitted for an epoch
+abbrev pub emitted_at : board.Shown → (epoch : ℕ) → List Record
+emitted_at s epoch = board.records_at s.emitted epoch
+
 -- each input of so many was fed, at each epoch of so many, what was read
-abbrev pub HoldsFed : World → ℕ → Epochs → ℕ → Type 0
-HoldsFed w inputs epochs count = (epoch input : ℕ) → epoch < count → input < inputs → fed_at w input epoch ≡ records_at epochs epoch input
+abbrev pub HoldsFed : board.Shown → ℕ → Epochs → ℕ → Type 0
+HoldsFed s inputs epochs count = (epoch input : ℕ) → epoch < count → input < inputs → fed_at s input epoch ≡ records_at epochs epoch input
 
 -- the lists are what was emitted, for each epoch of so many
-pub record EmittedBelow (w : World) (count : ℕ) (lists : List (List Record)) : Type 0 where
+pub record EmittedBelow (s : board.Shown) (count : ℕ) (lists : List (List Record)) : Type 0 where
   pub size : length lists ≡ count
-  pub each : (epoch : ℕ) → epoch < count → slice_index_or lists epoch [] ≡ emitted_at w epoch
+  pub each : (epoch : ℕ) → epoch < count → slice_index_or lists epoch [] ≡ emitted_at s epoch
 
 -- the board, over that graph, was fed just the epochs, and has nothing left to do
-pub record IsWorkedOff (graph : GraphParts) (board : Shown) (epochs : Epochs) : Type 0 where
-  pub same : board.graph ≡ graph
-  pub quiet : IsQuiet board.world
-  pub fed : HoldsFed board.world (length (chain_of graph).inputs) epochs (epoch_count epochs)
+pub record IsWorkedOff (graph : GraphValue) (s : board.Shown) (epochs : Epochs) : Type 0 where
+  pub same : s.graph ≡ graph
+  pub drained : IsDrained s
+  pub fed : HoldsFed s (length (shown_inputs graph)) epochs (epoch_count epochs)

@@ -5,12 +5,11 @@ use Rattle.semantics.specs.Query.{Input as Declared}
 use Rattle.semantics.specs.Graph.{Graph}
 use Rattle.lowering.specs.Text.{graph_text}
 use Rattle.collector.specs.Written.{AppendsFront}
-use Rattle.console.specs.Compiled.{IsCompiled, IsTooLarge}
-use Rattle.console.specs.Queries.{IsQueryFault}
+use Rattle.console.specs.Compiled.{IsCompiled, IsQueryFault}
 use Rattle.console.specs.declared.choice.GraphForm.{GraphForm}
 use Rattle.console.specs.declared.choice.GraphForm.TheVariants.{Lines, Dot}
 use Rattle.console.specs.declared.fault.Fault.{Fault}
-use Rattle.console.specs.declared.fault.Fault.TheVariants.{Query, TooManyVertices, Unserved, Input, NoMemory, NoWorker, ReadQuery, ReadInput, Write}
+use Rattle.console.specs.declared.fault.Fault.TheVariants.{Query, TooManyVertices, Input, Schedule, NoMemory, NoWorker, ReadQuery, ReadInput, Write}
 
 -- the text is that of a graph in this form; what Graphviz draws is left open
 abbrev pub IsTextIn : GraphForm → Graph → List ℕ → Type 0
@@ -24,28 +23,16 @@ pub record ShowsGraph (form : GraphForm) (query text : List ℕ) : Type 0 where
   pub compiled : IsCompiled query graph inputs
   pub shown : IsTextIn form graph text
 
--- why a query has no graph, or its graph no text
-abbrev pub IsGraphFault : List ℕ → Fault → Type 0
-IsGraphFault query (Query code start end) = IsQueryFault query (Query code start end)
-IsGraphFault query TooManyVertices = IsTooLarge query
-IsGraphFault query NoMemory = Unit {0}
-IsGraphFault query Unserved = ⊥
-IsGraphFault query (Input code line) = ⊥
-IsGraphFault query NoWorker = ⊥
-IsGraphFault query ReadQuery = ⊥
-IsGraphFault query ReadInput = ⊥
-IsGraphFault query Write = ⊥
-
 -- The graph is written whole at Ok, and a beginning of it where the writer failed. Else nothing is written: the query is refused,
 -- or its graph is too large, or its reader failed, or there was no memory.
 abbrev pub GraphEnds : GraphForm → List ℕ → Option (List ℕ) → Option (List ℕ) → Result (Unit {0}) Fault → Type 0
 GraphEnds form query old new (Ok u) = (text : List ℕ) × ShowsGraph form query text × Appends old new text
 GraphEnds form query old new (Err Write) = (text : List ℕ) × ShowsGraph form query text × AppendsFront old new text
 GraphEnds form query old new (Err (Query code start end)) = (new ≡ old) × IsQueryFault query (Query code start end)
-GraphEnds form query old new (Err TooManyVertices) = (new ≡ old) × IsTooLarge query
+GraphEnds form query old new (Err TooManyVertices) = (new ≡ old) × IsQueryFault query TooManyVertices
 GraphEnds form query old new (Err NoMemory) = new ≡ old
 GraphEnds form query old new (Err ReadQuery) = new ≡ old
-GraphEnds form query old new (Err Unserved) = ⊥
 GraphEnds form query old new (Err ReadInput) = ⊥
 GraphEnds form query old new (Err (Input code line)) = ⊥
+GraphEnds form query old new (Err (Schedule code line)) = ⊥
 GraphEnds form query old new (Err NoWorker) = ⊥

@@ -7,4 +7,5 @@ pub mod Compiled
 pub mod Graphs
 pub mod Runs
 pub mod Checks
+pub mod Replayed
 pub mod Explained

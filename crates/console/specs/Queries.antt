@@ -1,4 +1,4 @@
--- Which program a query text is, and why a text is none that is served.
+-- Which program a query text is, and why a text is none.
 use Rattle.std.specs.Prelude.{◌≡◌, ◌⊎◌, ℕ, List}
 use Rattle.record_core.specs.declared.span.Refusal.{Refusal}
 use Rattle.record_core.specs.declared.span.Refusal.TheVariants as refusal
@@ -12,9 +12,6 @@ use Rattle.parser.specs.Refusals as parser
 use Rattle.typing.specs.FirstFault.{Told}
 use Rattle.typing.specs.Shown.{typed_program}
 use Rattle.typing.specs.declared.typed.Typed.{Typed}
-use Rattle.board.specs.ChainQuery.{IsChainQuery}
-use Rattle.console.specs.declared.fault.Fault.{Fault}
-use Rattle.console.specs.declared.fault.Fault.TheVariants.{Query, TooManyVertices, Unserved, Input, NoMemory, NoWorker, ReadQuery, ReadInput, Write}
 
 -- the text reads as a tree that is well typed and is the program, spans aside
 pub record IsQuery (text : List ℕ) (p : Program) : Type 0 where
@@ -28,10 +25,6 @@ pub record IsQuery (text : List ℕ) (p : Program) : Type 0 where
 abbrev pub IsTypedQuery : {A : Type 0} → List ℕ → Typed A → Type 0
 IsTypedQuery text t = grammar.Reads text (typed_program t)
 
--- the text is a well-typed query that isn't served yet: it has a let, or a relation form other than a name, a select or a where
-abbrev pub IsUnserved : List ℕ → Type 0
-IsUnserved text = (p : Program) × IsQuery text p × (IsChainQuery p → ⊥)
-
 -- the text reads as a tree that this is the first fault of
 abbrev pub IsIllTyped : List ℕ → ℕ → ℕ → ℕ → Type 0
 IsIllTyped text code start end = (tree : ProgramTree) × grammar.Reads text tree × Told tree (At code (record { start = start; end = end }))
@@ -40,15 +33,3 @@ IsIllTyped text code start end = (tree : ProgramTree) × grammar.Reads text tree
 abbrev pub IsRefusal : List ℕ → Refusal → Type 0
 IsRefusal text (At code span) = parser.Refuses text (At code span) ⊎ IsIllTyped text code span.start span.end
 IsRefusal text refusal.NoMemory = Unit {0}
-
--- why a query text is not served
-abbrev pub IsQueryFault : List ℕ → Fault → Type 0
-IsQueryFault text (Query code start end) = IsRefusal text (At code (record { start = start; end = end }))
-IsQueryFault text Unserved = IsUnserved text
-IsQueryFault text NoMemory = Unit {0}
-IsQueryFault text TooManyVertices = ⊥
-IsQueryFault text (Input code line) = ⊥
-IsQueryFault text NoWorker = ⊥
-IsQueryFault text ReadQuery = ⊥
-IsQueryFault text ReadInput = ⊥
-IsQueryFault text Write = ⊥

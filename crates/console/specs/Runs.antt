@@ -7,9 +7,10 @@ use Rattle.collector.specs.InputText.{IsInputText, IsRefused}
 use Rattle.collector.specs.Written.{AppendsFront}
 use Rattle.collector.specs.declared.refusal.InputRefusal.TheVariants.{At}
 use Rattle.console.specs.Answers.{IsAnswer}
-use Rattle.console.specs.Queries.{IsQuery, IsQueryFault}
+use Rattle.console.specs.Compiled.{IsQueryFault}
+use Rattle.console.specs.Queries.{IsQuery}
 use Rattle.console.specs.declared.fault.Fault.{Fault}
-use Rattle.console.specs.declared.fault.Fault.TheVariants.{Query, TooManyVertices, Unserved, Input, NoMemory, NoWorker, ReadQuery, ReadInput, Write}
+use Rattle.console.specs.declared.fault.Fault.TheVariants.{Query, TooManyVertices, Input, Schedule, NoMemory, NoWorker, ReadQuery, ReadInput, Write}
 
 -- the text is the answer of the query to the input
 pub record IsRun (query input text : List ℕ) : Type 0 where
@@ -30,12 +31,12 @@ abbrev pub Ends : List ℕ → List ℕ → Option (List ℕ) → Option (List �
 Ends query input old new (Ok u) = (text : List ℕ) × IsRun query input text × Appends old new text
 Ends query input old new (Err Write) = (text : List ℕ) × IsRun query input text × AppendsFront old new text
 Ends query input old new (Err (Query code start end)) = (new ≡ old) × IsQueryFault query (Query code start end)
-Ends query input old new (Err Unserved) = (new ≡ old) × IsQueryFault query Unserved
+Ends query input old new (Err TooManyVertices) = (new ≡ old) × IsQueryFault query TooManyVertices
 Ends query input old new (Err (Input code line)) = (new ≡ old) × IsInputFault query input code line
 Ends query input old new (Err NoMemory) = new ≡ old
 Ends query input old new (Err ReadQuery) = new ≡ old
 Ends query input old new (Err ReadInput) = new ≡ old
-Ends query input old new (Err TooManyVertices) = ⊥
+Ends query input old new (Err (Schedule code line)) = ⊥
 Ends query input old new (Err NoWorker) = ⊥
 
 -- the query could not be read, or there was no memory
@@ -45,20 +46,20 @@ IsUnreadQuery ReadQuery = Unit {0}
 IsUnreadQuery ReadInput = ⊥
 IsUnreadQuery (Query code start end) = ⊥
 IsUnreadQuery TooManyVertices = ⊥
-IsUnreadQuery Unserved = ⊥
 IsUnreadQuery (Input code line) = ⊥
+IsUnreadQuery (Schedule code line) = ⊥
 IsUnreadQuery NoWorker = ⊥
 IsUnreadQuery Write = ⊥
 
--- the input could not be read, or there was no memory
+-- the input or the schedule could not be read, or there was no memory
 abbrev pub IsUnreadInput : Fault → Type 0
 IsUnreadInput NoMemory = Unit {0}
 IsUnreadInput ReadQuery = ⊥
 IsUnreadInput ReadInput = Unit {0}
 IsUnreadInput (Query code start end) = ⊥
 IsUnreadInput TooManyVertices = ⊥
-IsUnreadInput Unserved = ⊥
 IsUnreadInput (Input code line) = ⊥
+IsUnreadInput (Schedule code line) = ⊥
 IsUnreadInput NoWorker = ⊥
 IsUnreadInput Write = ⊥
 
@@ -69,7 +70,7 @@ IsAfterReading ReadQuery = ⊥
 IsAfterReading ReadInput = ⊥
 IsAfterReading (Query code start end) = Unit {0}
 IsAfterReading TooManyVertices = Unit {0}
-IsAfterReading Unserved = Unit {0}
 IsAfterReading (Input code line) = Unit {0}
+IsAfterReading (Schedule code line) = Unit {0}
 IsAfterReading NoWorker = Unit {0}
 IsAfterReading Write = Unit {0}

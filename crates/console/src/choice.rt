@@ -1,5 +1,6 @@
 //! What a command line asks for.
 
+use crate::workers::Workers;
 use clap::Error;
 
 /// What the words of the line ask for. Paths are kept as they were given.
@@ -22,6 +23,13 @@ pub enum Options<'a> {
         form: GraphForm,
         explain: bool,
     },
+    /// `loom replay QUERY SCHEDULE`, on one worker or `--workers N`, and a fault explained with `--explain`
+    Replay {
+        query: &'a str,
+        schedule: &'a str,
+        workers: Workers,
+        explain: bool,
+    },
     /// `loom explain CODE`: the word that should be a refusal's number
     Explain {
         code: &'a str,
@@ -37,11 +45,14 @@ pub enum GraphForm {
     Dot,
 }
 
-/// Why a line is refused: want of memory, or a text to be shown, which may be the help that was asked for.
+/// Why a line is refused: want of memory, a number of workers that is none, or a text to be shown, which may be the help that was asked for.
 #[derive(Debug, Drop, thiserror::Error)]
 pub enum LineFault {
     #[error("out of memory")]
     NoMemory,
+    /// The word after `--workers` is no number of workers.
+    #[error("error: invalid value '{word}' for '--workers <N>': {word} is not in 1..=64")]
+    Workers { word: String },
     #[error(transparent)]
     Line(Error),
 }

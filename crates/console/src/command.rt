@@ -3,9 +3,10 @@
 ghost use Rattle.std.specs.Prelude.{◌≡◌, map, option_map, IfOk, IfSome, codes, false};
 ghost use Rattle.clap.specs.Words.{app_of, first_of, found_of, new_app, rows_of, rule_of};
 ghost use Rattle.clap.specs.declared.builder.Command.TheViews.{out-Command as fields_of};
-ghost use Rattle.console.specs.Line.{Holds, HoldsAt, IsFlag, check_app, explain_app, flag_rule, graph_app, line_app, run_app, word_rule};
+ghost use Rattle.console.specs.Line.{AreAskedFor, Holds, HoldsAt, IsFlag, check_app, explain_app, flag_rule, graph_app, line_app, option_rule, replay_app, run_app, word_rule};
 
 use crate::choice::{GraphForm, LineFault, Options};
+use crate::workers::Workers;
 use clap::error::ErrorKind;
 use clap::{Arg, ArgAction, ArgMatches, Command, Error};
 use std::alloc::{AllocError, Global};
@@ -39,6 +40,17 @@ fn explain_arg<'a>(alloc: Global) -> Arg<'a>
         "explain",
         "Show the place of a fault, and what is wrong there",
     )
+}
+
+/// The option `--workers N`.
+fn workers_arg<'a>(alloc: Global) -> Arg<'a>
+    ensures rule { rule_of result ≡ option_rule (codes "workers") }
+    ensures local { result.global ≡ false }
+{
+    Arg::new(alloc, "workers")
+        .long("workers")
+        .value_name("N")
+        .help("How many workers, 1 to 64; one where it is not given")
 }
 
 /// A command of that name, with its line of help.
@@ -82,6 +94,21 @@ fn run_command<'a>(alloc: Global) -> Result<Command<'a>, AllocError>
         .arg(word_arg(alloc, "INPUT"))
 }
 
+fn replay_command<'a>(alloc: Global) -> Result<Command<'a>, AllocError>
+    ensures app { IfOk result (λ c. app_of c ≡ replay_app) }
+    ensures local { IfOk result (λ c. (fields_of c).has_globals ≡ false) }
+{
+    named(
+        alloc,
+        "replay",
+        "Do a schedule's steps one by one, and write the answers so far that it asks for",
+    )
+    .arg(workers_arg(alloc))?
+    .arg(explain_arg(alloc))?
+    .arg(word_arg(alloc, "QUERY"))?
+    .arg(word_arg(alloc, "SCHEDULE"))
+}
+
 fn explain_command<'a>(alloc: Global) -> Result<Command<'a>, AllocError>
     ensures app { IfOk result (λ c. app_of c ≡ explain_app) }
     ensures local { IfOk result (λ c. (fields_of c).has_globals ≡ false) }
@@ -102,6 +129,7 @@ fn line_command<'a>(alloc: Global) -> Result<Command<'a>, AllocError>
         .subcommand(run_command(alloc)?)?
         .subcommand(check_command(alloc)?)?
         .subcommand(graph_command(alloc)?)?
+        .subcommand(replay_command(alloc)?)?
         .subcommand(explain_command(alloc)?)
 }
 
@@ -157,7 +185,54 @@ fn graph_options<'a>(found: &ArgMatches<'a>) -> Option<Options<'a>>
     })
 }
 
-/// The options that the matches of a command hold.
+/// The number of workers: one where no word tells it. A word that tells none is handed back.
+fn workers_of<'a>(found: &ArgMatches<'a>) -> Result<Workers, &'a str>
+    ensures { IfOk result (λ w. AreAskedFor (first_of (codes "workers") (rows_of (found_of found.now))) w.count) }
+{
+    match text_of(found, "workers") {
+        None => Ok(Workers::one()),
+        Some(word) => match Workers::of_word(word) {
+            Some(workers) => Ok(workers),
+            None => Err(word),
+        },
+    }
+}
+
+/// The options of a replay on so many workers.
+fn replay_options<'a>(found: &ArgMatches<'a>, workers: Workers) -> Option<Options<'a>>
+    requires { AreAskedFor (first_of (codes "workers") (rows_of (found_of found.now))) workers.count }
+    ensures { IfSome result (HoldsAt (codes "replay") (rows_of (found_of found.now))) }
+{
+    let query = text_of(found, "QUERY")?;
+    let schedule = text_of(found, "SCHEDULE")?;
+    let explain = flag_of(found, "explain");
+    Some(Options::Replay {
+        query,
+        schedule,
+        workers,
+        explain,
+    })
+}
+
+/// The fault of a word that is no number of workers.
+fn workers_fault(alloc: Global, word: &str) -> LineFault {
+    match String::from_str(alloc, word) {
+        Ok(word) => LineFault::Workers { word },
+        Err(_) => LineFault::NoMemory,
+    }
+}
+
+/// What the matches of `replay` hold.
+fn replay_line<'a>(alloc: Global, found: &ArgMatches<'a>) -> Result<Options<'a>, LineFault>
+    ensures { IfOk result (HoldsAt (codes "replay") (rows_of (found_of found.now))) }
+{
+    match workers_of(found) {
+        Ok(workers) => replay_options(found, workers).ok_or(LineFault::NoMemory),
+        Err(word) => Err(workers_fault(alloc, word)),
+    }
+}
+
+/// The options that the matches of a command other than `replay` hold.
 fn options_at<'a>(name: &str, found: &ArgMatches<'a>) -> Option<Options<'a>>
     ensures { IfSome result (HoldsAt name.now (rows_of (found_of found.now))) }
 {
@@ -169,6 +244,20 @@ fn options_at<'a>(name: &str, found: &ArgMatches<'a>) -> Option<Options<'a>>
             code: text_of(found, "CODE")?,
         }),
         _ => None,
+    }
+}
+
+/// The options that the matches of a command hold.
+fn line_options<'a>(
+    alloc: Global,
+    name: &str,
+    found: &ArgMatches<'a>,
+) -> Result<Options<'a>, LineFault>
+    ensures { IfOk result (HoldsAt name.now (rows_of (found_of found.now))) }
+{
+    match name.as_bytes() {
+        b"replay" => replay_line(alloc, found),
+        _ => options_at(name, found).ok_or(LineFault::NoMemory),
     }
 }
 
@@ -187,7 +276,7 @@ pub fn options<'a>(alloc: Global, words: &'a [&'a str]) -> Result<Options<'a>, L
     // A line that was read has a command, and that command its paths: the other answers come at no line.
     match found.subcommand() {
         None => Err(LineFault::NoMemory),
-        Some((name, matches)) => options_at(name, matches).ok_or(LineFault::NoMemory),
+        Some((name, matches)) => line_options(alloc, name, matches),
     }
 }
 

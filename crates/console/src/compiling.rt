@@ -1,18 +1,15 @@
 //! From a query text to its graph.
 
 ghost use Rattle.std.specs.Prelude.{◌≡◌, ◌≤◌, length, IfOk, IfErr};
-ghost use Rattle.board.specs.Chain.{query_of};
-ghost use Rattle.board.specs.Views.{chain_of};
 ghost use Rattle.expr_tree.specs.Plain.{plain_program};
 ghost use Rattle.semantics.specs.Rewriting.{IsNormalForm};
 ghost use Rattle.semantics.specs.Typing.{WellTyped};
 ghost use Rattle.typing.specs.Shown.{typed_program as shown_program, output_arity};
 ghost use Rattle.lowering.specs.Shown.{shown_graph, shown_inputs};
 ghost use Rattle.console.specs.Compiled.{IsCompiled, IsUncompiled};
-ghost use Rattle.console.specs.Queries.{IsQuery, IsQueryFault, IsRefusal, IsTypedQuery};
+ghost use Rattle.console.specs.Queries.{IsRefusal, IsTypedQuery};
 
-use crate::fault::{CompileFault, Fault, query_fault, refused};
-use board::ChainFault;
+use crate::fault::{CompileFault, refused};
 use expr_tree::NoMemory;
 use lowering::{Graph, LowerFault, lower};
 use normalise::normalise;
@@ -75,25 +72,5 @@ pub fn compile<A: Allocator + Copy>(
         Ok(graph) => Ok(graph),
         Err(LowerFault::TooMany) => Err(CompileFault::TooManyVertices),
         Err(LowerFault::NoMemory) => Err(CompileFault::NoMemory),
-    }
-}
-
-/// The chain of a query text. The tree lies in the arena, and is gone once the chain stands.
-pub fn compile_chain<A: Allocator + Copy>(
-    alloc: Global,
-    arena: A,
-    text: &[u8],
-) -> Result<board::Graph, Fault>
-    ensures graph { IfOk result (λ g. IsQuery text.now (query_of (chain_of g))) }
-    ensures fault { IfErr result (IsQueryFault text.now) }
-{
-    let typed = match typed_program(alloc, arena, text) {
-        Ok(typed) => typed,
-        Err(refusal) => return Err(query_fault(refusal)),
-    };
-    match board::Graph::of(alloc, typed.program()) {
-        Ok(graph) => Ok(graph),
-        Err(ChainFault::NotAChain) => Err(Fault::Unserved),
-        Err(ChainFault::NoMemory) => Err(Fault::NoMemory),
     }
 }

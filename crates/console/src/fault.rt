@@ -1,11 +1,12 @@
 //! What may go wrong, and how it is told.
 
 ghost use Rattle.std.specs.Prelude.{◌≡◌};
-ghost use Rattle.console.specs.Faults.{compile_fault_of, fault_of, graph_fault_of, input_fault_of, status_of};
+ghost use Rattle.console.specs.Faults.{compile_fault_of, fault_of, graph_fault_of, input_fault_of, schedule_fault_of, status_of};
 ghost use Rattle.console.specs.declared.fault.Fault.TheVariants.{NoMemory};
 
 use collector::InputRefusal;
 use record_core::{Refusal, Span};
+use schedule::ScheduleRefusal;
 use std::alloc::AllocError;
 use std::io;
 use std::io::Write;
@@ -20,18 +21,19 @@ pub enum Fault {
     /// The query's graph would have too many vertices.
     #[error("query refused 21")]
     TooManyVertices,
-    /// A well-typed query that has a let, or a relation form that isn't served yet.
-    #[error("query refused 22")]
-    Unserved,
     /// The input's first faulty line, with its code.
     #[error("input refused {code} at line {line}")]
     Input { code: u8, line: u64 },
+    /// The schedule's first faulty line, with its code.
+    #[error("schedule refused {code} at line {line}")]
+    Schedule { code: u8, line: u64 },
     #[error("out of memory")]
     NoMemory,
     #[error("cannot start a worker")]
     NoWorker,
     #[error("cannot read the query")]
     ReadQuery,
+    /// Also of a schedule.
     #[error("cannot read the input")]
     ReadInput,
     #[error("cannot write")]
@@ -54,14 +56,15 @@ impl Fault {
         ensures { result ≡ status_of self.now }
     {
         match self {
-            Fault::Query { .. } | Fault::TooManyVertices | Fault::Unserved => 3,
-            Fault::Input { .. } => 4,
+            Fault::Query { .. } | Fault::TooManyVertices => 3,
+            Fault::Input { .. } | Fault::Schedule { .. } => 4,
             Fault::NoMemory | Fault::NoWorker => 5,
             Fault::ReadQuery | Fault::ReadInput | Fault::Write => 6,
         }
     }
 
-    /// Writes the fault's one line. A file that couldn't be read is named by its path: `query` or `input`.
+    /// Writes the fault's one line. A file that couldn't be read is named by its path: `query`, or `input`, which may be a
+    /// schedule's.
     pub fn write_line<W: Write>(&self, query: &str, input: &str, writer: &mut W) -> io::Result<()> {
         match self {
             Fault::ReadQuery => writeln!(writer, "cannot read {query}"),
@@ -117,5 +120,15 @@ pub fn input_fault(refusal: InputRefusal) -> Fault
     match refusal {
         InputRefusal::NoMemory => Fault::NoMemory,
         InputRefusal::At { code, line } => Fault::Input { code, line },
+    }
+}
+
+/// The fault of a schedule that is refused.
+pub fn schedule_fault(refusal: ScheduleRefusal) -> Fault
+    ensures { result ≡ schedule_fault_of refusal }
+{
+    match refusal {
+        ScheduleRefusal::NoMemory => Fault::NoMemory,
+        ScheduleRefusal::At { code, line } => Fault::Schedule { code, line },
     }
 }

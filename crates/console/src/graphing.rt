@@ -2,7 +2,8 @@
 
 ghost use Rattle.std.specs.Prelude.{◌≡◌, ◌⊎◌, true, take, IfOk, IfErr, IfSome, IsErrOf};
 ghost use Rattle.collector.specs.Watching.{has_failed, inner_of};
-ghost use Rattle.console.specs.Graphs.{GraphEnds, IsGraphFault, ShowsGraph};
+ghost use Rattle.console.specs.Compiled.{IsQueryFault};
+ghost use Rattle.console.specs.Graphs.{GraphEnds, ShowsGraph};
 ghost use Rattle.console.specs.Runs.{IsAfterReading, IsUnreadQuery};
 ghost use Rattle.console.specs.declared.fault.Fault.TheVariants as fault;
 
@@ -24,7 +25,7 @@ fn shown<A: Allocator + Copy>(
     query: &[u8],
 ) -> Result<Vec<u8>, Fault>
     ensures text { IfOk result (λ t. ShowsGraph form query.now t.items) }
-    ensures fault { IfErr result (IsGraphFault query.now) }
+    ensures fault { IfErr result (IsQueryFault query.now) }
 {
     let graph = match compile(alloc, arena, query) {
         Ok(graph) => graph,

@@ -1,24 +1,31 @@
 //! What a graph makes of epochs, computed and written.
 
-ghost use Rattle.std.specs.Prelude.{◌≡◌, ◌<◌, ℕ, true, length, IfOk, IfErr, IsErrOf};
-ghost use Rattle.board.specs.Chain.{query_of};
-ghost use Rattle.board.specs.Views.{chain_of};
+ghost use Rattle.std.specs.Prelude.{◌≡◌, ℕ, List, true, IfOk, IfErr, IsErrOf};
+ghost use Rattle.lowering.specs.Shown.{shown_graph, shown_inputs};
 ghost use Rattle.collector.specs.Held.{epoch_count, records_at};
 ghost use Rattle.collector.specs.Watching.{has_failed, inner_of};
 ghost use Rattle.console.specs.Answers.{Responds};
+ghost use Rattle.console.specs.Compiled.{IsCompiled};
 ghost use Rattle.console.specs.Fed.{IsWorkedOff};
 ghost use Rattle.console.specs.declared.fault.Fault.TheVariants as fault;
 
 use crate::engine::{drive, emitted};
 use crate::fault::Fault;
-use board::{Board, Graph};
+use board::Board;
 use collector::{Epochs, OutFault, Watched, write_epochs};
+use lowering::Graph;
+use progress::LocationTracker;
 use std::alloc::Global;
 use std::io::Write;
 use std::sync::{Arc, Wait};
 
 /// A board over the graph that was fed just the epochs, and has nothing left to do.
-fn worked_off(rt: &impl Wait, alloc: Global, graph: Graph, epochs: &Epochs) -> Result<Board, Fault>
+fn worked_off(
+    rt: &impl Wait,
+    alloc: Global,
+    graph: Graph,
+    epochs: &Epochs,
+) -> Result<Board<LocationTracker>, Fault>
     ensures done { IfOk result (λ b. IsWorkedOff graph b epochs.now) }
     ensures fault { IfErr result (λ e. e ≡ fault.NoMemory) }
 {
@@ -28,7 +35,7 @@ fn worked_off(rt: &impl Wait, alloc: Global, graph: Graph, epochs: &Epochs) -> R
     let Ok(graph) = Arc::new(alloc, graph) else {
         return Err(Fault::NoMemory);
     };
-    let Ok(mut board) = Board::new(alloc, graph, 1) else {
+    let Ok(mut board) = Board::<LocationTracker>::new(alloc, graph, 1) else {
         return Err(Fault::NoMemory);
     };
     match drive(rt, alloc, &mut board, inputs, epochs, epochs.count()) {
@@ -40,14 +47,16 @@ fn worked_off(rt: &impl Wait, alloc: Global, graph: Graph, epochs: &Epochs) -> R
 /// Writes what a board that is worked off has emitted.
 fn write_emitted<W: Write>(
     alloc: Global,
-    board: &Board,
+    board: &Board<LocationTracker>,
     epochs: &Epochs,
     writer: &mut Watched<W>,
 ) -> Result<(), Fault>
     requires { IsWorkedOff board.now.graph board.now epochs.now }
-    ensures text { Responds (query_of (chain_of board.now.graph)) (epoch_count epochs.now) (records_at epochs.now) (W.contents (inner_of writer.old)) (W.contents (inner_of writer.new)) result }
+    ensures text { (query : List ℕ) (c : IsCompiled query (shown_graph board.now.graph) (shown_inputs board.now.graph)) → Responds c.program (epoch_count epochs.now) (records_at epochs.now) (W.contents (inner_of writer.old)) (W.contents (inner_of writer.new)) result }
     ensures failed { IsErrOf result fault.Write → has_failed writer.new ≡ true }
 {
+    board.law_headline();
+    board.law_drained();
     let lists = match emitted(alloc, board, epochs.count()) {
         Ok(lists) => lists,
         Err(_) => return Err(Fault::NoMemory),
@@ -59,7 +68,8 @@ fn write_emitted<W: Write>(
     }
 }
 
-/// Feeds the epochs to a board over the graph, works it off, and writes what it emitted.
+/// Feeds the epochs to a board over the graph, works it off, and writes what it emitted: whatever text the graph was compiled from,
+/// what that means on the epochs.
 pub fn respond<W: Write>(
     rt: &impl Wait,
     alloc: Global,
@@ -67,7 +77,7 @@ pub fn respond<W: Write>(
     epochs: &Epochs,
     writer: &mut Watched<W>,
 ) -> Result<(), Fault>
-    ensures text { Responds (query_of (chain_of graph)) (epoch_count epochs.now) (records_at epochs.now) (W.contents (inner_of writer.old)) (W.contents (inner_of writer.new)) result }
+    ensures text { (query : List ℕ) (c : IsCompiled query (shown_graph graph) (shown_inputs graph)) → Responds c.program (epoch_count epochs.now) (records_at epochs.now) (W.contents (inner_of writer.old)) (W.contents (inner_of writer.new)) result }
     ensures failed { IsErrOf result fault.Write → has_failed writer.new ≡ true }
 {
     match worked_off(rt, alloc, graph, epochs) {

@@ -1,19 +1,25 @@
 //! A run, from bytes to bytes.
 
 ghost use Rattle.std.specs.Prelude.{◌≡◌, ◌⊎◌, take, true, map, IfOk, IfErr, IfSome, IsErrOf};
-ghost use Rattle.expr_tree.specs.Plain.{plain_input};
+ghost use Rattle.lowering.specs.Shown.{shown_graph, shown_inputs};
+ghost use Rattle.lowering.specs.Views.{input_of};
+ghost use Rattle.collector.specs.Held.{epoch_count, records_at};
+ghost use Rattle.collector.specs.InputText.{IsInputText, IsRefused};
 ghost use Rattle.collector.specs.Said.{plain};
 ghost use Rattle.collector.specs.Watching.{has_failed, inner_of};
+ghost use Rattle.console.specs.Compiled.{IsCompiled, IsQueryFault};
 ghost use Rattle.console.specs.Runs.{Ends, IsAfterReading, IsUnreadInput, IsUnreadQuery};
 ghost use Rattle.console.specs.declared.fault.Fault.TheVariants as fault;
 
-use crate::compiling::compile_chain;
-use crate::fault::{Fault, input_fault};
+use crate::compiling::compile;
+use crate::fault::{Fault, graph_fault, input_fault};
 use crate::respond::respond;
 use crate::texts::Texts;
 use bumpalo::Bump;
-use collector::{Declared, ReadFault, Watched, read_all, read_at_most, read_input};
-use expr_tree::Input;
+use collector::{
+    Declared, Epochs, InputRefusal, ReadFault, Watched, read_all, read_at_most, read_input,
+};
+use lowering::{DeclaredInput, Graph};
 use std::alloc::{AllocError, Global};
 use std::io::{Read, Write};
 use std::sync::Wait;
@@ -34,8 +40,8 @@ pub fn read_query<Q: Read>(alloc: Global, query: &mut Watched<Q>) -> Result<Vec<
     }
 }
 
-/// Reads an input text.
-fn read_input_text<I: Read>(alloc: Global, input: &mut Watched<I>) -> Result<Vec<u8>, Fault>
+/// Reads an input text, or a schedule.
+pub fn read_input_text<I: Read>(alloc: Global, input: &mut Watched<I>) -> Result<Vec<u8>, Fault>
     ensures bytes { IfOk result (λ v. IfSome (I.remaining (inner_of input.old)) (λ i. v.items ≡ i)) }
     ensures failed { IsErrOf result fault.ReadInput → has_failed input.new ≡ true }
     ensures unread { IfErr result IsUnreadInput }
@@ -48,8 +54,8 @@ fn read_input_text<I: Read>(alloc: Global, input: &mut Watched<I>) -> Result<Vec
 }
 
 /// The inputs of a query as the reader of texts takes them.
-fn declared<'a>(alloc: Global, inputs: &'a [Input]) -> Result<Vec<Declared<'a>>, AllocError>
-    ensures { IfOk result (λ v. map plain v.items ≡ map plain_input inputs.entry.now) }
+fn declared<'a>(alloc: Global, inputs: &'a [DeclaredInput]) -> Result<Vec<Declared<'a>>, AllocError>
+    ensures { IfOk result (λ v. map plain v.items ≡ map input_of inputs.entry.now) }
 {
     let mut declared = Vec::with_capacity(alloc, inputs.len())?;
     for input in inputs {
@@ -59,6 +65,27 @@ fn declared<'a>(alloc: Global, inputs: &'a [Input]) -> Result<Vec<Declared<'a>>,
         })?;
     }
     Ok(declared)
+}
+
+/// The graph of a query text; its tree is gone.
+pub fn graph_of_text(alloc: Global, query: &[u8]) -> Result<Graph, Fault>
+    ensures graph { IfOk result (λ g. IsCompiled query.now (shown_graph g) (shown_inputs g)) }
+    ensures fault { IfErr result (IsQueryFault query.now) }
+{
+    let arena = Bump::new(alloc);
+    match compile(alloc, &arena, query) {
+        Ok(graph) => Ok(graph),
+        Err(fault) => Err(graph_fault(fault)),
+    }
+}
+
+/// The epochs that an input text tells, for the inputs of a graph.
+fn epochs_of_text(alloc: Global, graph: &Graph, input: &[u8]) -> Result<Epochs, InputRefusal>
+    ensures read { IfOk result (λ e. IsInputText (shown_inputs graph.now) input.now (epoch_count e) (records_at e)) }
+    ensures refused { IfErr result (IsRefused (shown_inputs graph.now) input.now) }
+{
+    let inputs = declared(alloc, graph.inputs())?;
+    read_input(alloc, input, inputs.as_slice())
 }
 
 /// Answers a query text over an input text.
@@ -73,20 +100,14 @@ fn answer<W: Write>(
     ensures failed { IsErrOf result fault.Write → has_failed writer.new ≡ true }
     ensures read { IfErr result IsAfterReading }
 {
-    let arena = Bump::new(alloc);
-    let graph = match compile_chain(alloc, &arena, query) {
+    let graph = match graph_of_text(alloc, query) {
         Ok(graph) => graph,
         Err(fault) => return Err(fault),
     };
-    let inputs = match declared(alloc, graph.inputs()) {
-        Ok(inputs) => inputs,
-        Err(_) => return Err(Fault::NoMemory),
-    };
-    let epochs = match read_input(alloc, input, inputs.as_slice()) {
+    let epochs = match epochs_of_text(alloc, &graph, input) {
         Ok(epochs) => epochs,
         Err(refusal) => return Err(input_fault(refusal)),
     };
-    drop(inputs);
     respond(rt, alloc, graph, &epochs, writer)
 }
 

@@ -4,7 +4,7 @@ ghost use Rattle.std.specs.Prelude.{◌≡◌, []};
 
 use std::alloc::Global;
 
-/// The query text and the input text, each empty until it is read. A text that couldn't be read to its end is not kept.
+/// The query text, and the input text or the schedule, each empty until it is read. A text that couldn't be read to its end is not kept.
 #[derive(Drop)]
 pub struct Texts {
     /// At most 1,048,577 bytes: one more than a query may have.

@@ -3,8 +3,8 @@
 use bumpalo::Bump;
 use collector::Watched;
 use console::{
-    Fault, GraphForm, LineFault, Options, Texts, check_query, explain_fault, explained,
-    graph_query, options, run, write_explanation,
+    Fault, GraphForm, LineFault, Options, Texts, Workers, check_query, explain_fault, explained,
+    graph_query, options, replay_schedule, run, write_explanation,
 };
 use refusals::NUMBERS;
 use std::io::{ErrorKind, Write};
@@ -73,6 +73,33 @@ fn graph_file(
     graph_query(rt.alloc(), &arena, form, &mut query, texts, writer)
 }
 
+fn replay_files(
+    rt: &HostRuntime,
+    piped: Option<&[u8]>,
+    workers: Workers,
+    query: &str,
+    schedule: &str,
+    texts: &mut Texts,
+    writer: &mut Printed,
+) -> Result<(), Fault> {
+    let Ok(query) = read(rt, piped, query) else {
+        return Err(Fault::ReadQuery);
+    };
+    let Ok(schedule) = read(rt, piped, schedule) else {
+        return Err(Fault::ReadInput);
+    };
+    let mut query = Watched::new(query.as_slice());
+    let mut schedule = Watched::new(schedule.as_slice());
+    replay_schedule(
+        rt.alloc(),
+        workers,
+        &mut query,
+        &mut schedule,
+        texts,
+        writer,
+    )
+}
+
 /// What the program prints of a refusal's number.
 fn explain_code(rt: &HostRuntime, code: &str) -> io::Result<Vec<u8>> {
     let Some(row) = explained(code) else {
@@ -125,8 +152,25 @@ pub fn answer(
             let done = graph_file(rt, piped, form, query, &mut texts, &mut writer);
             (query, "", explain, done)
         }
+        Ok(
+            Options::Replay {
+                query,
+                schedule,
+                workers,
+                explain,
+            },
+        ) => {
+            let done = replay_files(rt, piped, workers, query, schedule, &mut texts, &mut writer);
+            (query, schedule, explain, done)
+        }
         Ok(Options::Explain { code }) => return explain_code(rt, code),
         Err(LineFault::NoMemory) => return Err(io::Error::from(ErrorKind::OutOfMemory)),
+        Err(LineFault::Workers { word }) => {
+            let fault = LineFault::Workers { word };
+            let mut shown = Vec::new(rt.alloc());
+            writeln!(shown, "{fault}")?;
+            return Ok(shown);
+        }
         Err(LineFault::Line(text)) => {
             let mut shown = Vec::new(rt.alloc());
             write!(shown, "{text}")?;

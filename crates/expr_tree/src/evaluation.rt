@@ -9,7 +9,6 @@ ghost use Rattle.expr_tree.specs.Views.{cond_tree, scalar_tree};
 
 use crate::condition::{Comparison, Cond, Connective};
 use crate::scalar::{Operator, Scalar};
-use record_core::Record;
 use std::alloc::Allocator;
 
 /// The operator applied to two numbers, wrapped at 64 bits: the value of the operator between their literals.
@@ -31,13 +30,13 @@ pub fn negated(number: i64) -> i64
 }
 
 /// The scalar's value on the record. Each column must be below the record's length. No memory is taken.
-pub fn eval_scalar<A: Allocator>(scalar: &Scalar<A>, record: &Record) -> i64
+pub fn eval_scalar<A: Allocator>(scalar: &Scalar<A>, record: &[i64]) -> i64
     requires { ScalarFits (length «record».now) (plain_scalar (scalar_tree scalar.now)) }
     ensures { result ≡ meaning.value (plain_scalar (scalar_tree scalar.now)) «record».now }
 {
     match scalar {
         Scalar::Literal(_, number) => *number,
-        Scalar::Column(_, column) => record.fields()[*column as usize],
+        Scalar::Column(_, column) => record[*column as usize],
         Scalar::Binary(_, operator, left, right) => {
             let x = eval_scalar(left, record);
             let y = eval_scalar(right, record);
@@ -62,7 +61,7 @@ fn compare(comparison: Comparison, left: i64, right: i64) -> bool
 }
 
 /// Whether the condition is true of the record. Each column must be below the record's length. No memory is taken.
-pub fn holds<A: Allocator>(condition: &Cond<A>, record: &Record) -> bool
+pub fn holds<A: Allocator>(condition: &Cond<A>, record: &[i64]) -> bool
     requires { CondFits (length «record».now) (plain_cond (cond_tree condition.now)) }
     ensures { result ≡ meaning.holds (plain_cond (cond_tree condition.now)) «record».now }
 {

@@ -25,7 +25,7 @@ fn value_of(
     let left = Scalar::Literal(at(0, 1), left);
     let right = Scalar::Literal(at(0, 1), right);
     let scalar = Scalar::binary(alloc, at(0, 1), operator, left, right)?;
-    Ok(Some(eval_scalar(&scalar, &record)))
+    Ok(Some(eval_scalar(&scalar, record.fields())))
 }
 
 #[test]
@@ -40,7 +40,7 @@ fn operators_wrap(rt: HostRuntime) -> Result<(), Fail> {
     }
     let record = Record::new(&[i64::MIN]).ok_or("no record")?;
     let negation = Scalar::negate(rt.alloc(), at(0, 1), Scalar::Column(at(1, 3), 0))?;
-    assert_eq!(rt; eval_scalar(&negation, &record), i64::MIN);
+    assert_eq!(rt; eval_scalar(&negation, record.fields()), i64::MIN);
     assert_eq!(rt; negated(i64::MIN), i64::MIN);
     Ok(())
 }
@@ -63,7 +63,7 @@ fn comparisons_are_signed(rt: HostRuntime) -> Result<(), Fail> {
                 Scalar::Column(at(0, 1), left),
                 Scalar::Column(at(0, 1), right),
             );
-            assert!(rt; holds(&condition, &record) == want);
+            assert!(rt; holds(&condition, record.fields()) == want);
         }
     }
     Ok(())

@@ -4,8 +4,8 @@
 use bumpalo::Bump;
 use collector::Watched;
 use console::{
-    Fault, GraphForm, LineFault, Options, Texts, check_query, explain_fault, explained,
-    graph_query, options, run, write_explanation,
+    Fault, GraphForm, LineFault, Options, Texts, Workers, check_query, explain_fault, explained,
+    graph_query, options, replay_schedule, run, write_explanation,
 };
 use refusals::NUMBERS;
 use std::fs::File;
@@ -75,6 +75,33 @@ fn graph_file(
     )
 }
 
+/// Does a schedule's steps over a query.
+fn replay_files(
+    rt: &HostRuntime,
+    workers: Workers,
+    query: &str,
+    schedule: &str,
+    texts: &mut Texts,
+) -> Result<(), Fault> {
+    let Ok(query_file) = File::open(rt, query) else {
+        return Err(Fault::ReadQuery);
+    };
+    let mut query_file = Watched::new(query_file);
+    let Ok(schedule_file) = File::open(rt, schedule) else {
+        return Err(Fault::ReadInput);
+    };
+    let mut schedule_file = Watched::new(schedule_file);
+    let mut writer = Watched::new(io::writer(rt));
+    replay_schedule(
+        rt.alloc(),
+        workers,
+        &mut query_file,
+        &mut schedule_file,
+        texts,
+        &mut writer,
+    )
+}
+
 /// Writes what a refusal's number means, or which numbers there are.
 fn explain_code(rt: &HostRuntime, code: &str) -> io::Result<ExitCode> {
     let Some(row) = explained(code) else {
@@ -97,6 +124,10 @@ fn refuse(rt: &HostRuntime, fault: LineFault) -> io::Result<ExitCode> {
         LineFault::NoMemory => {
             eprintln!(rt; "out of memory")?;
             Ok(ExitCode::from(5))
+        }
+        LineFault::Workers { .. } => {
+            eprintln!(rt; "{fault}")?;
+            Ok(ExitCode::from(2))
         }
         LineFault::Line(text) => {
             eprint!(rt; "{text}")?;
@@ -132,6 +163,17 @@ fn answer(rt: &HostRuntime, wait: &impl Wait, words: &[&str]) -> io::Result<Exit
         ) => {
             let done = graph_file(rt, form, query, &mut texts);
             (query, "", explain, done)
+        }
+        Ok(
+            Options::Replay {
+                query,
+                schedule,
+                workers,
+                explain,
+            },
+        ) => {
+            let done = replay_files(rt, workers, query, schedule, &mut texts);
+            (query, schedule, explain, done)
         }
         Ok(Options::Explain { code }) => return explain_code(rt, code),
         Err(fault) => return refuse(rt, fault),

@@ -62,8 +62,7 @@ impl Where {
         ensures arity { rows.new.arity ≡ rows.old.arity }
     {
         let row = batch.row(place);
-        let record = batch.record(place);
-        if holds(&self.condition, &record) {
+        if holds(&self.condition, row) {
             rows.push(row)?;
         }
         Ok(())

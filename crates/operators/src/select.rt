@@ -15,7 +15,6 @@ ghost use Rattle.operators.specs.Fits.{ScalarFits-prop};
 use crate::operator::Operator;
 use arrayvec::ArrayVec;
 use expr_tree::{Scalar, eval_scalar};
-use record_core::Record;
 use rows::{Batch, Rows, RowsError};
 use std::alloc::Global;
 
@@ -85,15 +84,14 @@ fn push_selected(
     ensures rows { OnOk result (made.new.rows ≡ made.old.rows ++ map (λ s. value s (slice_index_or batch.now place [])) (map plain_scalar (map scalar_tree scalars.now)) ∷ []) }
     ensures arity { made.new.arity ≡ made.old.arity }
 {
-    let record = batch.record(place);
-    let _row = batch.row(place);
+    let row = batch.row(place);
     let mut fields: ArrayVec<i64, 16> = ArrayVec::new();
-    push_values(&mut fields, scalars, &record);
+    push_values(&mut fields, scalars, row);
     made.push(fields.as_slice())
 }
 
 /// The scalars' values on a record, after those that are there.
-fn push_values(fields: &mut ArrayVec<i64, 16>, scalars: &[Scalar<Global>], item: &Record)
+fn push_values(fields: &mut ArrayVec<i64, 16>, scalars: &[Scalar<Global>], item: &[i64])
     requires columns { AllByRecursion (ScalarFits (length item.now)) (map plain_scalar (map scalar_tree scalars.now)) }
     requires room { array_vec_len fields.old + length scalars.now ≤ 16 }
     ensures { fields.new.items ≡ fields.old.items ++ map (λ s. value s item.now) (map plain_scalar (map scalar_tree scalars.now)) }

@@ -6,7 +6,7 @@ ghost use Rattle.std.specs.List.{find};
 /// What a refusal means. Texts are UTF-8; a sentence of `text` is a line.
 #[derive(Clone, Copy, Debug, PartialEq, Eq)]
 pub struct Explanation {
-    /// The number by which it is told: 1 to 22 of queries, 41 to 47 of inputs.
+    /// The number by which it is told: 1 to 21 of queries, 41 to 47 of inputs.
     pub code: u8,
     /// What is wrong, in a phrase.
     pub summary: &'static str,
@@ -14,18 +14,17 @@ pub struct Explanation {
     pub place: &'static str,
     /// What it means and what helps, in two or three sentences, with a line feed between them.
     pub text: &'static str,
-    /// A query that is refused so by `check`, or 22 by `run`; for 41 to 47 an input text under `input a/2; output a;`. Empty where none
-    /// is short.
+    /// A query that is refused so by `check`; for 41 to 47 an input text under `input a/2; output a;`. Empty where none is short.
     pub wrong: &'static str,
     /// The same, mended: it is taken. Empty where `wrong` is.
     pub right: &'static str,
 }
 
 /// The numbers that refusals have, in words.
-pub const NUMBERS: &str = "1 to 6, 11 to 19, 21, 22 and 41 to 47";
+pub const NUMBERS: &str = "1 to 6, 11 to 19, 21 and 41 to 47";
 
 /// The refusals, each code once, in ascending order.
-pub static EXPLANATIONS: [Explanation; 24] = [
+pub static EXPLANATIONS: [Explanation; 23] = [
     Explanation {
         code: 1,
         summary: "a byte that begins no word, `#` without a number, `!` without `=`",
@@ -153,14 +152,6 @@ pub static EXPLANATIONS: [Explanation; 24] = [
         text: "A query is compiled to a dataflow graph, which has a vertex for each relation form and several for each loop.\nA `let` is compiled once, however often its name is used, so a form that is written several times should be named by one.",
         wrong: "",
         right: "",
-    },
-    Explanation {
-        code: 22,
-        summary: "well formed and well typed, but not run yet: a `let`, or a form other than a name, `select` and `where`",
-        place: "",
-        text: "`run` serves queries that are one chain of `select` and `where` over an input; `check` and `graph` take the whole language.\nA `let` that is used once can be written out where its name stands.",
-        wrong: "input a/1; let b = where(a; #0 > 0); output b;",
-        right: "input a/1; output where(a; #0 > 0);",
     },
     Explanation {
         code: 41,

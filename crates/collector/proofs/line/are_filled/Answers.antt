@@ -1,4 +1,3 @@
-use Rattle.std.proofs.Common.{arith}
 use Rattle.collector.proofs.Splits.{split_none, cut_at}
 use Rattle.collector.proofs.Filled.{filled_more, filled_all}
 use Rattle.collector.proofs.line.are_filled.Goals as goal

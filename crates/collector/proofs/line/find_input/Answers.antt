@@ -1,4 +1,4 @@
-use Rattle.std.proofs.Common.{◌<◌, length, ◌≡◌, ◌∙◌, sym, ap, subst, arith, inl, inr, false, true, get_or, List, ℕ}
+use Rattle.std.proofs.Common.{◌<◌, length, ◌≡◌, ◌∙◌, sym, ap, arith, inl, inr, false, true, get_or, List, ℕ}
 use Rattle.std.proofs.lemmas.Bool.{cases_lt}
 use Rattle.std.proofs.lemmas.Option.{get_or_from_slice_get, slice_get_within}
 use Rattle.collector.specs.declared.line.Declared.{Declared}

@@ -1,7 +1,6 @@
-use Rattle.std.proofs.Common.{◌≡◌, ◌++◌, ◌∷◌, [], ℤ, ◌∙◌, sym, ap, rules}
+use Rattle.std.proofs.Common.{◌++◌, ◌∷◌, [], ℤ, ◌∙◌, ap, rules}
 use Rattle.std.specs.Prelude.{FitsSigned}
 use Rattle.std.specs.Int.{w64}
-use Rattle.std.specs.Fmt.{signed_decimal}
 use Rattle.std.proofs.lemmas.Int.{to_z-of_z}
 use Rattle.collector.proofs.Splits.{split_none, cut_at}
 use Rattle.collector.proofs.NumberLists.{read_more, read_all, read_bad}

@@ -3,8 +3,8 @@ use Rattle.collector.specs.Said.{plain}
 use Rattle.collector.proofs.LinesRead.{ReadSoFar}
 use Rattle.collector.proofs.reading.read_input.Given as goal
 
-abbrev pub invariant-loop-end : goal.invariant-loop-end
-invariant-loop-end l = ReadSoFar (map plain l.inputs) l.text l.rest l.number l.epochs
+abbrev pub invariant-loop-rest : goal.invariant-loop-rest
+invariant-loop-rest l = ReadSoFar (map plain l.inputs) l.text l.rest l.number l.draft
 
-abbrev pub decreases-loop-end : goal.decreases-loop-end
-decreases-loop-end l = length l.rest
+abbrev pub decreases-loop-rest : goal.decreases-loop-rest
+decreases-loop-rest l = length l.rest

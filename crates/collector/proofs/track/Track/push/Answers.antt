@@ -1,11 +1,14 @@
-use Rattle.std.proofs.Common.{rules, ◌≡◌, ◌+◌, arith, ◌∙◌, sym, ap, subst, length, map}
-use Rattle.std.proofs.lemmas.List.{length-map}
-use Rattle.collector.proofs.Tracks.{last_gains}
+use Rattle.std.proofs.Common.{◌∙◌, sym, ap, map, length}
+use Rattle.collector.specs.Piles.{joined, with_open}
+use Rattle.collector.proofs.Piles.{opened_len, row_more}
 use Rattle.collector.proofs.track.Track.push.Goals as goal
+
+pub returns-clause-len : goal.returns-clause-len
+returns-clause-len c =
+    opened_len (map (λ v. joined v.items) c.make_room.new.epochs.items) c.push.new.self.rows ∙ sym (opened_len (map (λ v. joined v.items) c.make_room.new.epochs.items) c.make_room.new.last.rows)
+    ∙ ap length (c.in_ok-make_room.ensures.same ∙ c.self.view_is)
 
 pub returns-clause-at : goal.returns-clause-at
 returns-clause-at c =
-    let some : length (map (λ v. v.items) c.self.inside.epochs.items) ≡ length c.args.self.now = ap length c.self.view_is in
-    let size : length (map (λ v. v.items) c.self.inside.epochs.items) ≡ length c.self.inside.epochs.items = length-map c.self.inside.epochs.items (λ v. v.items) in
-    let last : c.len-last.result ≡ length c.self.inside.epochs.items = search rules in
-    rw (← c.self.view_is) (last_gains (λ v. v.items) c.self.inside.epochs.items _ c.push.new.self c.index_mut.result.now c.args.row (omega (arith, c.requires, some, size, last)) c.index_mut.ensures.value c.in_ok-push.ensures.items)
+    row_more (map (λ v. joined v.items) c.make_room.new.epochs.items) c.make_room.new.last.rows c.args.row.now c.args.self.now _ (sym (c.in_ok-make_room.ensures.same ∙ c.self.view_is))
+    (ap (with_open (map (λ v. joined v.items) c.make_room.new.epochs.items)) c.in_ok-push.ensures.rows)

@@ -1,0 +1,17 @@
+-- What epochs hold while they are read.
+use Rattle.std.specs.Prelude.{◌≡◌, ℕ, ℤ, List, [], slice_index_or}
+use Rattle.collector.specs.declared.draft.Draft.{Draft}
+use Rattle.collector.specs.declared.epochs.Epochs.{Epochs}
+
+-- how many there are
+abbrev pub draft_count : Draft → ℕ
+draft_count e = e.count
+
+-- the records of an input in an epoch; none where there is no such input or epoch
+abbrev pub draft_records : Draft → ℕ → ℕ → List (List ℤ)
+draft_records e epoch input = slice_index_or (slice_index_or e.tracks.items input []) epoch []
+
+-- nothing is lost or gained
+pub record IsKept (d : Draft) (e : Epochs) : Type 0 where
+  pub count : e.count ≡ d.count
+  pub tracks : e.tracks.items ≡ d.tracks.items

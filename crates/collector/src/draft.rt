@@ -1,0 +1,78 @@
+//! Epochs while a text is read.
+
+ghost use Rattle.std.specs.Prelude.{◌≡◌, ◌<◌, ◌+◌, ℕ, ◌^◌, ◌-◌, OnOk, IfOk, length, slice_index_or, ◌==◌, ◌&&◌, if◌then◌else◌};
+ghost use Rattle.record_core.specs.Records.{IsRecord};
+ghost use Rattle.collector.specs.Drafts.{draft_count, IsKept};
+ghost use Rattle.collector.specs.Growth.{HasNone, IsEven, Begins, Gains};
+
+use crate::epochs::Epochs;
+use crate::track::Track;
+use rows::RowsError;
+use std::alloc::Global;
+
+/// The epochs that were read so far: in each, for each input, a list of records.
+#[derive(Drop)]
+pub struct Draft {
+    count: u32,
+    tracks: Vec<Track>,
+}
+
+impl Draft {
+    /// No epoch, for so many inputs.
+    pub fn new(alloc: Global, inputs: usize) -> Result<Draft, RowsError>
+        ensures none { IfOk result HasNone }
+        ensures inputs { IfOk result (λ e. length e.tracks.items ≡ inputs) }
+    {
+        let mut tracks = Vec::with_capacity(alloc, inputs)?;
+        for _input in 0..inputs {
+            tracks.push(Track::new(alloc))?;
+        }
+        Ok(Draft { count: 0, tracks })
+    }
+
+    /// How many epochs there are.
+    pub fn count(&self) -> u32
+        ensures { result ≡ draft_count self.now }
+    {
+        self.count
+    }
+
+    /// The next epoch begins, with no record.
+    pub fn begin(&mut self, alloc: Global) -> Result<(), RowsError>
+        requires few { draft_count self.old < 2 ^ 32 - 1 }
+        requires even { IsEven self.old }
+        ensures { OnOk result (Begins self.old self.new) }
+    {
+        for input in 0..self.tracks.len() {
+            self.tracks[input].begin(alloc)?;
+        }
+        self.count += 1;
+        Ok(())
+    }
+
+    /// A record joins the last epoch of an input.
+    pub fn push(&mut self, alloc: Global, input: usize, row: &[i64]) -> Result<(), RowsError>
+        requires some { 0 < draft_count self.old }
+        requires within { input < length self.old.tracks.items }
+        requires even { IsEven self.old }
+        requires record { IsRecord row.now }
+        ensures { OnOk result (Gains self.old self.new input row.now) }
+    {
+        self.tracks[input].push(alloc, row)
+    }
+
+    /// The epochs, once the whole text is read.
+    pub fn finish(self, alloc: Global) -> Result<Epochs, RowsError>
+        ensures { IfOk result (IsKept self) }
+    {
+        let Draft { count, tracks } = self;
+        let mut kept = Vec::with_capacity(alloc, tracks.len())?;
+        for track in tracks {
+            kept.push(track.finish(alloc)?)?;
+        }
+        Ok(Epochs {
+            count,
+            tracks: kept,
+        })
+    }
+}

@@ -1,0 +1,57 @@
+//! The first line of a text.
+
+ghost use Rattle.std.specs.Prelude.{map};
+ghost use Rattle.collector.specs.Quick.{NextEnds};
+ghost use Rattle.collector.specs.Said.{plain};
+
+use crate::line::{Declared, Line, LineError, line_says};
+use crate::quick::quick_row;
+use crate::refusal::Fault;
+use crate::splitting::{around, find};
+
+/// Why no line was read.
+#[derive(Clone, Copy, Debug, PartialEq, Eq)]
+pub enum Stop {
+    NoMemory,
+    Fault(Fault),
+    NoLineFeed,
+}
+
+/// The first line, however it is spelled.
+fn any_line<'a>(
+    text: &'a [u8],
+    inputs: &[Declared<'_>],
+    epochs: u32,
+    fields: &mut Vec<i64>,
+) -> Result<(Line, &'a [u8]), Stop>
+    ensures { NextEnds (map plain inputs.now) epochs text.entry.now fields.new.items result }
+{
+    let Some(end) = find(text, b'\n') else {
+        return Err(Stop::NoLineFeed);
+    };
+    let (line, after) = around(text, end);
+    match line_says(line, inputs, epochs, fields) {
+        Ok(said) => Ok((said, after)),
+        Err(LineError::NoMemory) => Err(Stop::NoMemory),
+        Err(LineError::Fault(fault)) => Err(Stop::Fault(fault)),
+    }
+}
+
+/// What the first line says where so many epochs have begun, and what stands after it.
+pub fn next_line<'a>(
+    text: &'a [u8],
+    inputs: &[Declared<'_>],
+    epochs: u32,
+    fields: &mut Vec<i64>,
+) -> Result<(Line, &'a [u8]), Stop>
+    ensures { NextEnds (map plain inputs.now) epochs text.entry.now fields.new.items result }
+{
+    if epochs > 0 {
+        match quick_row(text, inputs, fields) {
+            Err(_) => return Err(Stop::NoMemory),
+            Ok(Some((input, after))) => return Ok((Line::Row { input }, after)),
+            Ok(None) => {}
+        }
+    }
+    any_line(text, inputs, epochs, fields)
+}

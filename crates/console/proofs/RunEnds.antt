@@ -1,0 +1,38 @@
+-- A run answers as its board does.
+use Rattle.std.proofs.Common.{ℕ, List, Option, Result, Ok, Err, IfErr, subst}
+use Rattle.semantics.specs.Multiset.{Record}
+use Rattle.semantics.specs.Query.{Input, Program}
+use Rattle.semantics.specs.Graph.{Graph}
+use Rattle.collector.specs.InputText.{IsInputText}
+use Rattle.console.specs.Answers.{Responds}
+use Rattle.console.specs.Compiled.{IsCompiled}
+use Rattle.console.specs.Runs.{Ends, IsAfterReading}
+use Rattle.console.specs.declared.fault.Fault.{Fault}
+use Rattle.console.specs.declared.fault.Fault.TheVariants.{Query, TooManyVertices, Input as InputFault, Schedule, NoMemory, NoWorker, ReadQuery, ReadInput, Write}
+
+pub run_ends : (query input : List ℕ) (g : Graph) (inputs : List Input) (count : ℕ) (records : ℕ → ℕ → List Record) (old new : Option (List ℕ)) (result : Result (Unit {0}) Fault) → (c : IsCompiled query g inputs)
+    → IsInputText inputs input count records → Responds c.program count records old new result → Ends query input old new result
+run_ends query input g inputs count records old new (Ok u) c h r =
+    (r.0, record { program = c.program; count = count; records = records; reads = c.reads; epochs = subst (λ is. IsInputText is input count records) c.named h; answer = r.1 }, r.2)
+run_ends query input g inputs count records old new (Err Write) c h r =
+    (r.0, record { program = c.program; count = count; records = records; reads = c.reads; epochs = subst (λ is. IsInputText is input count records) c.named h; answer = r.1 }, r.2)
+run_ends query input g inputs count records old new (Err NoMemory) c h r = r
+run_ends query input g inputs count records old new (Err (Query code start end)) c h r = absurd r
+run_ends query input g inputs count records old new (Err TooManyVertices) c h r = absurd r
+run_ends query input g inputs count records old new (Err (InputFault code line)) c h r = absurd r
+run_ends query input g inputs count records old new (Err (Schedule code line)) c h r = absurd r
+run_ends query input g inputs count records old new (Err NoWorker) c h r = absurd r
+run_ends query input g inputs count records old new (Err ReadQuery) c h r = absurd r
+run_ends query input g inputs count records old new (Err ReadInput) c h r = absurd r
+
+pub after_reading : (p : Program) (count : ℕ) (records : ℕ → ℕ → List Record) (old new : Option (List ℕ)) (result : Result (Unit {0}) Fault) → Responds p count records old new result → IfErr result IsAfterReading
+after_reading p count records old new (Ok u) r = tt
+after_reading p count records old new (Err Write) r = tt
+after_reading p count records old new (Err NoMemory) r = tt
+after_reading p count records old new (Err (Query code start end)) r = tt
+after_reading p count records old new (Err TooManyVertices) r = tt
+after_reading p count records old new (Err (InputFault code line)) r = tt
+after_reading p count records old new (Err (Schedule code line)) r = tt
+after_reading p count records old new (Err NoWorker) r = tt
+after_reading p count records old new (Err ReadQuery) r = absurd r
+after_reading p count records old new (Err ReadInput) r = absurd r

@@ -1,0 +1,89 @@
+//! The replay of a schedule, from bytes to bytes.
+
+ghost use Rattle.std.specs.Prelude.{◌≡◌, ◌⊎◌, true, take, IfErr, IfOk, IfSome, IsErrOf};
+ghost use Rattle.collector.specs.Watching.{has_failed, inner_of};
+ghost use Rattle.console.specs.Replayed.{IsReplay, IsReplayFault, ReplayEnds};
+ghost use Rattle.console.specs.Runs.{IsAfterReading, IsUnreadInput, IsUnreadQuery};
+ghost use Rattle.console.specs.declared.fault.Fault.TheVariants as fault;
+
+use crate::fault::{Fault, schedule_fault};
+use crate::running::{graph_of_text, read_input_text, read_query};
+use crate::texts::Texts;
+use crate::workers::Workers;
+use collector::{Watched, put};
+use replay::replay_text;
+use std::alloc::Global;
+use std::io::{Read, Write};
+
+/// The text that a schedule's lines print, over the graph of a query text.
+fn replayed(
+    alloc: Global,
+    workers: Workers,
+    query: &[u8],
+    schedule: &[u8],
+) -> Result<Vec<u8>, Fault>
+    ensures text { IfOk result (λ t. IsReplay query.now workers.count schedule.now t.items) }
+    ensures fault { IfErr result (IsReplayFault query.now schedule.now) }
+{
+    let graph = match graph_of_text(alloc, query) {
+        Ok(graph) => graph,
+        Err(fault) => return Err(fault),
+    };
+    match replay_text(alloc, graph, workers.count(), schedule) {
+        Ok(text) => Ok(text),
+        Err(refusal) => Err(schedule_fault(refusal)),
+    }
+}
+
+/// Writes what a schedule's lines print.
+fn write_replayed<W: Write>(
+    alloc: Global,
+    workers: Workers,
+    query: &[u8],
+    schedule: &[u8],
+    writer: &mut Watched<W>,
+) -> Result<(), Fault>
+    ensures ends { ReplayEnds query.now workers.count schedule.now (W.contents (inner_of writer.old)) (W.contents (inner_of writer.new)) result }
+    ensures writer { IsErrOf result fault.Write → has_failed writer.new ≡ true }
+    ensures read { IfErr result IsAfterReading }
+{
+    let text = match replayed(alloc, workers, query, schedule) {
+        Ok(text) => text,
+        Err(fault) => return Err(fault),
+    };
+    match put(writer, text.as_slice()) {
+        Ok(()) => Ok(()),
+        Err(_) => Err(Fault::Write),
+    }
+}
+
+/// Reads a query and a schedule, does the schedule's lines on that many workers over the query's graph, and writes what they print.
+///
+/// It is written only once all of it stands. The faults in the order in which they are told: the query can't be read, the schedule
+/// can't be read, the query is refused, the schedule is refused, the writer failed. Want of memory may come at any place. The texts
+/// that were read are left in `texts`, the schedule as its input.
+pub fn replay_schedule<Q: Read, S: Read, W: Write>(
+    alloc: Global,
+    workers: Workers,
+    query: &mut Watched<Q>,
+    schedule: &mut Watched<S>,
+    texts: &mut Texts,
+    writer: &mut Watched<W>,
+) -> Result<(), Fault>
+    ensures ends { IfSome (Q.remaining (inner_of query.old)) (λ q. IfSome (S.remaining (inner_of schedule.old)) (λ s. ReplayEnds (take 1048577 q) workers.count s (W.contents (inner_of writer.old)) (W.contents (inner_of writer.new)) result)) }
+    ensures query { IsErrOf result fault.ReadQuery → has_failed query.new ≡ true }
+    ensures schedule { IsErrOf result fault.ReadInput → has_failed schedule.new ≡ true }
+    ensures writer { IsErrOf result fault.Write → has_failed writer.new ≡ true }
+    ensures kept_query { IfSome (Q.remaining (inner_of query.old)) (λ q. IfErr result (λ e. IsUnreadQuery e ⊎ (texts.new.query.items ≡ take 1048577 q))) }
+    ensures kept_schedule { IfSome (S.remaining (inner_of schedule.old)) (λ s. IfErr result (λ e. IsUnreadQuery e ⊎ (IsUnreadInput e ⊎ (texts.new.input.items ≡ s)))) }
+{
+    match read_query(alloc, query) {
+        Ok(text) => texts.query = text,
+        Err(fault) => return Err(fault),
+    }
+    match read_input_text(alloc, schedule) {
+        Ok(text) => texts.input = text,
+        Err(fault) => return Err(fault),
+    }
+    write_replayed(alloc, workers, &texts.query, &texts.input, writer)
+}

@@ -1,0 +1,20 @@
+//! What is wrong with a line of a schedule.
+
+use crate::query_fault::write_summary;
+use std::io;
+use std::io::Write;
+
+/// Writes what is wrong with a line of a schedule, in one line.
+pub fn write_schedule_fault<W: Write>(code: u8, writer: &mut W) -> io::Result<()> {
+    match code {
+        44 => writeln!(
+            writer,
+            "a word that must be a number is none in its plain spelling, or is too large"
+        ),
+        46 => writeln!(
+            writer,
+            "a line is `f INPUT FIELD ..`, `s INPUT`, `x INPUT`, `t WORKER CHOICE`, `c WORKER`, `d WORKER CHOICE` or `p EPOCH`"
+        ),
+        _ => write_summary(code, writer),
+    }
+}

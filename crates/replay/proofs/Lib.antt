@@ -1,0 +1,10 @@
+pub mod Holding
+pub mod Inputs
+pub mod Passing
+pub mod Places
+pub mod Runs
+pub mod Taken
+pub mod Told
+pub mod Opens
+pub mod GraphInputs
+pub mod DeclaredInputs

@@ -1,0 +1,40 @@
+use Rattle.std.proofs.Common.{◌≡◌, ◌∙◌, ◌∷◌, [], ℕ, ℤ, List, length, map, refl, subst, sym, ap}
+use Rattle.semantics.specs.Multiset.{Record}
+use Rattle.machine.specs.Step.{Step}
+use Rattle.board.specs.Kept.{Goes}
+use Rattle.collector.specs.Said.{plain}
+use Rattle.schedule.specs.Commands.{Command}
+use Rattle.replay.specs.Replays.{Does, RefusesFeed}
+use Rattle.replay.specs.Steps.{IsNumbered}
+use Rattle.replay.proofs.Inputs.{fed_leads, input_count_is, open_input, refused_answers, refused_input, unfit_leads}
+use Rattle.replay.proofs.feeding.feed.Goals as goal
+
+pub returns-in-Some : goal.returns-in-Some
+returns-in-Some g c = λ hand.
+    let s = c.args.board.now in
+    let i = c.numbered-input.result.0 in
+    let arity = c.numbered-input.result.1 in
+    let size = input_count_is s (map plain c.args.inputs.now) c.requires.inputs c.law_inputs.ensures in
+    let numbered = subst (λ inputs. IsNumbered inputs c.args.name.now c.numbered-input.result) c.requires.inputs.same c.numbered-input.ensures in
+    refused_answers s s hand (Command.feed c.args.name.now c.args.fields.now) c.refused.result refl
+    (λ code told w shows holds. Does.feed_refused c.args.name.now c.args.fields.now code (RefusesFeed.feed_input code (refused_input s c.args.name.now i arity size numbered c.in-Some.refusal (sym c.input_refusal.ensures ∙ c.in-Some.is) code (sym c.refused.ensures ∙ told) w shows)))
+
+pub returns-in_default-record_of : goal.returns-in_default-record_of
+returns-in_default-record_of g c = λ hand.
+    let s = c.args.board.now in
+    let i = c.numbered-input.result.0 in
+    let arity = c.numbered-input.result.1 in
+    let size = input_count_is s (map plain c.args.inputs.now) c.requires.inputs c.law_inputs.ensures in
+    let numbered = subst (λ inputs. IsNumbered inputs c.args.name.now c.numbered-input.result) c.requires.inputs.same c.numbered-input.ensures in
+    unfit_leads s s hand c.args.name.now c.args.fields.now i arity (open_input s c.args.name.now i arity size numbered (sym c.input_refusal.ensures ∙ c.in_default.is)) c.in_default-record_of.ensures.none refl
+
+pub returns-in-Ok-feed : goal.returns-in-Ok-feed
+returns-in-Ok-feed g c = λ hand.
+    let s = c.args.board.now in
+    let i = c.numbered-input.result.0 in
+    let arity = c.numbered-input.result.1 in
+    let size = input_count_is s (map plain c.args.inputs.now) c.requires.inputs c.law_inputs.ensures in
+    let numbered = subst (λ inputs. IsNumbered inputs c.args.name.now c.numbered-input.result) c.requires.inputs.same c.numbered-input.ensures in
+    let alone : c.in-Ok.batch ≡ c.args.fields.now ∷ [] = c.in-Ok.ensures ∙ ap (λ (r : List ℤ). r ∷ []) c.in-Some-record_of.ensures.found.0 in
+    let goes : Goes s (Step.feed i (c.args.fields.now ∷ [])) c.feed.new.self = subst (λ (b : List Record). Goes s (Step.feed i b) c.feed.new.self) alone c.in-Ok-feed.ensures.step in
+    fed_leads s c.feed.new.self hand c.args.name.now c.args.fields.now i arity (open_input s c.args.name.now i arity size numbered (sym c.input_refusal.ensures ∙ c.in_default.is)) c.in-Some-record_of.ensures.found.1 goes c.in-Ok-feed.ensures.tables

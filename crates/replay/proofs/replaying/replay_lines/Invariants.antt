@@ -1,0 +1,15 @@
+use Rattle.std.proofs.Common.{length, map, take}
+use Rattle.board.specs.Shown.{Shown}
+use Rattle.collector.specs.Said.{plain}
+use Rattle.schedule.specs.Said.{command_of}
+use Rattle.replay.specs.Hands.{IsHand}
+use Rattle.replay.specs.Steps.{AreInputsOf}
+use Rattle.replay.proofs.Runs.{Replayed}
+use Rattle.replay.proofs.replaying.replay_lines.Given as goal
+
+abbrev pub invariant-loop-line : goal.invariant-loop-line
+invariant-loop-line g l = record {
+  inputs : AreInputsOf l.board.graph (map plain l.inputs);
+  hand : IsHand l.board l.hand;
+  so_far : Replayed l.fn.board l.board l.fn.hand l.hand (map command_of (take l.line-index l.lines)) l.out.items;
+}

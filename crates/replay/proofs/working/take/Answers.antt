@@ -1,0 +1,47 @@
+use Rattle.std.proofs.Common.{◌≡◌, ◌∙◌, ◌<◌, ℕ, List, Option, Some, None, length, refl, subst, sym, ap}
+use Rattle.std.specs.Prelude.{slice_get, slice_set}
+use Rattle.events.specs.Jobs.{Pass}
+use Rattle.board.specs.Commits.{IsOf}
+use Rattle.schedule.specs.Commands.{Command}
+use Rattle.replay.specs.Replays.{Does}
+use Rattle.replay.specs.Steps.{Stays}
+use Rattle.replay.proofs.Holding.{hand_stays}
+use Rattle.replay.proofs.Inputs.{refused_answers}
+use Rattle.replay.proofs.Taken.{kept_hand, picked_room, picked_stays, refused_pick, stays_on, taken_leads}
+use Rattle.replay.proofs.working.take.Goals as goal
+
+pub returns-in-Err-clause-answers : goal.returns-in-Err-clause-answers
+returns-in-Err-clause-answers g c =
+    refused_answers c.args.board.now c.pick.new.self c.args.hand.now (Command.take c.args.worker c.args.choice) c.refused.result c.in-Err.ensures.picks.1
+    (λ code told w shows holds. Does.take_refused c.args.worker c.args.choice code (refused_pick c.args.board.now c.args.worker c.args.choice c.in-Err.refusal c.in-Err.ensures.picks.0 code (sym c.refused.ensures ∙ told) w shows))
+
+pub returns-in-Err-computed-clause-hand : goal.returns-in-Err-computed-clause-hand
+returns-in-Err-computed-clause-hand g c =
+    let stays = stays_on c.args.board.now c.pick.new.self c.computed.new.board (picked_stays c.args.board.now c.pick.new.self c.args.worker c.in-Ok.work.0 c.in-Ok.ensures.picks.0 c.in-Ok.ensures.tables) c.computed.ensures.stays in
+    hand_stays c.args.board.now c.computed.new.board c.args.hand.now c.requires.hand stays
+
+pub returns-clause-hand : goal.returns-clause-hand
+returns-clause-hand g c =
+    let s = c.args.board.now in
+    let t = c.pick.new.self in
+    let u = c.keep.new.board in
+    let p = c.in-Ok.work.0 in
+    let hands = c.in-Ok.ensures.picks.0 in
+    let picked = picked_stays s t c.args.worker p hands c.in-Ok.ensures.tables in
+    let later = stays_on t c.computed.new.board u c.computed.ensures.stays c.keep.ensures.stays in
+    let stays = stays_on s t u picked later in
+    let is = c.keep.ensures.hand ∙ ap (λ (x : Pass). slice_set c.args.hand.now c.args.worker (Some x)) c.in-Ok-computed.ensures.done in
+    let of : IsOf u p = ap (λ ts. slice_get ts p.worker) later.tables ∙ hands.own in
+    kept_hand s u c.args.hand.now c.keep.new.hand c.args.worker p c.requires.hand stays is of hands.worker (picked_room s t c.args.hand.now c.args.worker p hands c.requires.hand)
+
+pub returns-clause-answers : goal.returns-clause-answers
+returns-clause-answers g c =
+    let s = c.args.board.now in
+    let t = c.pick.new.self in
+    let u = c.keep.new.board in
+    let p = c.in-Ok.work.0 in
+    let hands = c.in-Ok.ensures.picks.0 in
+    let picked = picked_stays s t c.args.worker p hands c.in-Ok.ensures.tables in
+    let later = stays_on t c.computed.new.board u c.computed.ensures.stays c.keep.ensures.stays in
+    let is = c.keep.ensures.hand ∙ ap (λ (x : Pass). slice_set c.args.hand.now c.args.worker (Some x)) c.in-Ok-computed.ensures.done in
+    taken_leads s t u c.args.hand.now c.keep.new.hand c.args.worker c.args.choice p hands c.in-Ok.ensures.picks.1 c.requires.hand.places (λ e. c.keep.ensures.kept e ∙ c.in-Ok-computed.ensures.kept) (stays_on s t u picked later) is

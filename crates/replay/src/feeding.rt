@@ -1,0 +1,111 @@
+//! Lines that name an input.
+
+ghost use Rattle.std.specs.Prelude.{◌≡◌, ◌<◌, length, map, ◌≤◌, ◌∷◌, [], List, Option, IfOk, IfSome, IfNone};
+ghost use Rattle.collector.specs.Said.{plain};
+ghost use Rattle.collector.specs.Lines.{MakeRecord};
+ghost use Rattle.events.specs.Jobs.{Pass};
+ghost use Rattle.schedule.specs.Commands.{Command};
+ghost use Rattle.replay.specs.Steps.{Answers, AreInputsOf, IsNumbered};
+
+use crate::refusal::{Refusal, refused};
+use board::{Board, StepRefusal};
+use collector::{Declared, find_input};
+use progress::Progress;
+use record_core::Record;
+use rows::Batch;
+use std::alloc::{AllocError, Global};
+
+/// The number of an input and its arity; a name that no input has gets the greatest number.
+fn numbered(inputs: &[Declared<'_>], name: &[u8]) -> (u32, u64)
+    requires few { length inputs.now ≤ 4096 }
+    ensures { IsNumbered (map plain inputs.now) name.now result }
+{
+    match find_input(inputs, name) {
+        Some((input, arity)) => (input as u32, arity),
+        None => (u32::MAX, 0),
+    }
+}
+
+/// A batch of one record.
+fn batch_of(alloc: Global, row: Record) -> Result<Batch, AllocError>
+    ensures { IfOk result (λ b. b ≡ row ∷ []) }
+{
+    match Batch::from_records(alloc, &[row]) {
+        Ok(batch) => Ok(batch),
+        Err(_) => Err(AllocError),
+    }
+}
+
+/// The record of an input of that arity; `None` where the fields make none.
+fn record_of(fields: &[i64], arity: u64) -> Option<Record>
+    ensures found { IfSome result (λ r. (r ≡ fields.now) × MakeRecord arity fields.now) }
+    ensures none { IfNone result (MakeRecord arity fields.now → ⊥) }
+{
+    if fields.len() as u64 == arity {
+        Record::new(fields)
+    } else {
+        None
+    }
+}
+
+/// Feeds a record to the input of that name, at its open epoch.
+pub fn feed<P: Progress>(
+    alloc: Global,
+    board: &mut Board<P>,
+    inputs: &[Declared<'_>],
+    name: &[u8],
+    fields: &[i64],
+) -> Result<(), Refusal>
+    requires inputs { AreInputsOf board.old.graph (map plain inputs.now) }
+    ensures { (hand : List (Option Pass)) → Answers board.old board.new hand hand (Command.feed name.now fields.now) result }
+{
+    let (input, arity) = numbered(inputs, name);
+    board.law_inputs();
+    if let Some(refusal) = board.input_refusal(input) {
+        return Err(refused(refusal));
+    }
+    let Some(row) = record_of(fields, arity) else {
+        return Err(Refusal::Step { code: 33 });
+    };
+    let Ok(batch) = batch_of(alloc, row) else {
+        return Err(Refusal::NoMemory);
+    };
+    match board.feed(alloc, input, batch) {
+        Ok(()) => Ok(()),
+        Err(refusal) => Err(refused(refusal)),
+    }
+}
+
+/// Ends the open epoch of the input of that name.
+pub fn seal<P: Progress>(
+    board: &mut Board<P>,
+    inputs: &[Declared<'_>],
+    name: &[u8],
+) -> Result<(), Refusal>
+    requires inputs { AreInputsOf board.old.graph (map plain inputs.now) }
+    ensures { (hand : List (Option Pass)) → Answers board.old board.new hand hand (Command.seal name.now) result }
+{
+    let (input, _) = numbered(inputs, name);
+    board.law_inputs();
+    match board.seal(input) {
+        Ok(()) => Ok(()),
+        Err(refusal) => Err(refused(refusal)),
+    }
+}
+
+/// Closes the input of that name.
+pub fn close<P: Progress>(
+    board: &mut Board<P>,
+    inputs: &[Declared<'_>],
+    name: &[u8],
+) -> Result<(), Refusal>
+    requires inputs { AreInputsOf board.old.graph (map plain inputs.now) }
+    ensures { (hand : List (Option Pass)) → Answers board.old board.new hand hand (Command.close name.now) result }
+{
+    let (input, _) = numbered(inputs, name);
+    board.law_inputs();
+    match board.close(input) {
+        Ok(()) => Ok(()),
+        Err(refusal) => Err(refused(refusal)),
+    }
+}

@@ -1,0 +1,28 @@
+//! Why a line does nothing.
+
+ghost use Rattle.std.specs.Prelude.{◌≡◌};
+ghost use Rattle.replay.specs.Steps.{refusal_of};
+
+use board::StepRefusal;
+
+/// Why a line does nothing.
+#[derive(Clone, Copy, Debug, PartialEq, Eq)]
+pub enum Refusal {
+    /// The board refuses the step, or there is no such input, by this number.
+    Step { code: u8 },
+    /// An allocator refused a growth: the replay ends.
+    NoMemory,
+}
+
+/// A worker that isn't there, or holds no event that it could commit.
+pub const NOTHING_HELD: u8 = 36;
+
+/// How a refusal of the board is told.
+pub fn refused(refusal: StepRefusal) -> Refusal
+    ensures { result ≡ refusal_of refusal }
+{
+    match refusal {
+        StepRefusal::NoMemory => Refusal::NoMemory,
+        other => Refusal::Step { code: other.code() },
+    }
+}

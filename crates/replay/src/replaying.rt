@@ -1,0 +1,114 @@
+//! A schedule, done.
+
+ghost use Rattle.std.specs.Prelude.{◌≡◌, ◌++◌, ℕ, List, map, length, IfOk, OnOk};
+ghost use Rattle.collector.specs.Said.{plain};
+ghost use Rattle.machine.specs.World.{World};
+ghost use Rattle.board.specs.Showing.{Shows};
+ghost use Rattle.schedule.specs.Said.{command_of};
+ghost use Rattle.replay.specs.Hands.{HoldsAll, HoldsNone, IsHand};
+ghost use Rattle.replay.specs.Replays.{Replays};
+ghost use Rattle.replay.specs.Steps.{Answers, AreInputsOf, IsStep, Leads, setting_of};
+
+use crate::answer::{push_answer, push_refusal};
+use crate::feeding::{close, feed, seal};
+use crate::hand::{empty_hand, give_up};
+use crate::refusal::Refusal;
+use crate::working::{commit, deliver, take};
+use board::Board;
+use collector::Declared;
+use events::Done;
+use progress::Progress;
+use schedule::Line;
+use std::alloc::{AllocError, Global};
+
+/// Does what a line other than a question tells.
+fn step<P: Progress>(
+    alloc: Global,
+    board: &mut Board<P>,
+    hand: &mut [Option<Done>],
+    inputs: &[Declared<'_>],
+    line: &Line<'_>,
+) -> Result<(), Refusal>
+    requires inputs { AreInputsOf board.old.graph (map plain inputs.now) }
+    requires hand { IsHand board.old hand.old }
+    requires step { IsStep (command_of line.now) }
+    ensures hand { IsHand board.new hand.new }
+    ensures answers { Answers board.old board.new hand.old hand.new (command_of line.now) result }
+{
+    match line {
+        Line::Feed { input, fields } => feed(alloc, board, inputs, input, fields.as_slice()),
+        Line::Seal { input } => seal(board, inputs, input),
+        Line::Close { input } => close(board, inputs, input),
+        Line::Take { worker, choice } => take(alloc, board, hand, *worker, *choice),
+        Line::Commit { worker } => commit(board, hand, *worker),
+        Line::Deliver { worker, choice } => deliver(alloc, board, *worker, *choice),
+        Line::Print { .. } => Ok(()),
+    }
+}
+
+/// Does what a line tells, and appends what it prints.
+fn replay_line<P: Progress>(
+    alloc: Global,
+    board: &mut Board<P>,
+    hand: &mut [Option<Done>],
+    inputs: &[Declared<'_>],
+    line: &Line<'_>,
+    out: &mut Vec<u8>,
+) -> Result<(), AllocError>
+    requires inputs { AreInputsOf board.old.graph (map plain inputs.now) }
+    requires hand { IsHand board.old hand.old }
+    ensures hand { IsHand board.new hand.new }
+    ensures graph { board.new.graph ≡ board.old.graph }
+    ensures line { OnOk result ((text : List ℕ) × (out.new.items ≡ out.old.items ++ text) × Leads board.old board.new hand.old hand.new (command_of line.now) text) }
+{
+    if let Line::Print { epoch } = line {
+        push_answer(alloc, board, *epoch, out)?;
+        return Ok(());
+    }
+    match step(alloc, board, hand, inputs, line) {
+        Ok(()) => Ok(()),
+        Err(Refusal::Step { code }) => push_refusal(out, code),
+        Err(Refusal::NoMemory) => Err(AllocError),
+    }
+}
+
+/// Does what the lines tell, one after another; the text of what they print.
+fn replay_lines<P: Progress>(
+    alloc: Global,
+    board: &mut Board<P>,
+    hand: &mut [Option<Done>],
+    inputs: &[Declared<'_>],
+    lines: &[Line<'_>],
+) -> Result<Vec<u8>, AllocError>
+    requires inputs { AreInputsOf board.old.graph (map plain inputs.now) }
+    requires hand { IsHand board.old hand.old }
+    ensures hand { IsHand board.new hand.new }
+    ensures replays { IfOk result (λ text. (w : World) → Shows board.old w → HoldsAll w (length board.old.sides) hand.old → (v : World) × Replays (setting_of board.old) w (map command_of lines.now) v text.items) }
+{
+    let mut out = Vec::new(alloc);
+    for line in lines {
+        replay_line(alloc, board, hand, inputs, line, &mut out)?;
+    }
+    Ok(out)
+}
+
+/// Does a schedule on a board whose workers hold nothing: its lines, one after another, each in the caller's thread. What is still in
+/// hand at the end is given up.
+///
+/// The answer is the text of what the lines print. A step that the board refuses prints its number and changes nothing, and the
+/// schedule goes on. Want of memory ends it.
+pub fn replay<P: Progress>(
+    alloc: Global,
+    board: Board<P>,
+    inputs: &[Declared<'_>],
+    lines: &[Line<'_>],
+) -> Result<Vec<u8>, AllocError>
+    requires inputs { AreInputsOf board.graph (map plain inputs.now) }
+    ensures { IfOk result (λ text. (w : World) → Shows board w → HoldsNone w (length board.sides) → (v : World) × Replays (setting_of board) w (map command_of lines.now) v text.items) }
+{
+    let mut board = board;
+    let mut hand = empty_hand(alloc, board.workers())?;
+    let answer = replay_lines(alloc, &mut board, hand.as_mut_slice(), inputs, lines);
+    give_up(&mut board, hand);
+    answer
+}

@@ -1,0 +1,80 @@
+//! What a line of a schedule says.
+
+ghost use Rattle.collector.specs.Said.{words_of};
+ghost use Rattle.schedule.specs.Said.{ArgumentsEnd, LineEnds};
+
+use crate::arguments::{one_count, one_name, read_feed, two_counts};
+use crate::refusal::Fault;
+use crate::verb::{Verb, verb_of};
+use collector::first_word;
+use std::alloc::Global;
+
+/// What a line tells to do. The names are the text's own bytes; whether an input has one is found out when the line is done.
+#[derive(Drop)]
+pub enum Line<'a> {
+    /// A record of these fields comes to the input of that name.
+    Feed { input: &'a [u8], fields: Vec<i64> },
+    /// The input's open epoch ends.
+    Seal { input: &'a [u8] },
+    /// Nothing more comes to the input.
+    Close { input: &'a [u8] },
+    /// The worker takes its choice of that number, and computes it.
+    Take { worker: u32, choice: u32 },
+    /// What the worker holds ends.
+    Commit { worker: u32 },
+    /// The worker takes its choice of that number, computes it, and commits it.
+    Deliver { worker: u32, choice: u32 },
+    /// Tells whether the epoch has passed, and what was emitted for it so far.
+    Print { epoch: u32 },
+}
+
+/// Why a line says nothing.
+#[derive(Clone, Copy, Debug, PartialEq, Eq)]
+pub enum LineError {
+    Fault(Fault),
+    NoMemory,
+}
+
+/// What the words behind a verb's letter say.
+fn arguments_say(alloc: Global, verb: Verb, rest: Option<&[u8]>) -> Result<Line<'_>, LineError>
+    ensures { ArgumentsEnd verb (words_of rest.entry) result }
+{
+    match verb {
+        Verb::Feed => read_feed(alloc, rest),
+        Verb::Seal => match one_name(rest) {
+            Some(input) => Ok(Line::Seal { input }),
+            None => Err(LineError::Fault(Fault::Malformed)),
+        },
+        Verb::Close => match one_name(rest) {
+            Some(input) => Ok(Line::Close { input }),
+            None => Err(LineError::Fault(Fault::Malformed)),
+        },
+        Verb::Take => match two_counts(rest) {
+            Ok((worker, choice)) => Ok(Line::Take { worker, choice }),
+            Err(fault) => Err(LineError::Fault(fault)),
+        },
+        Verb::Commit => match one_count(rest) {
+            Ok(worker) => Ok(Line::Commit { worker }),
+            Err(fault) => Err(LineError::Fault(fault)),
+        },
+        Verb::Deliver => match two_counts(rest) {
+            Ok((worker, choice)) => Ok(Line::Deliver { worker, choice }),
+            Err(fault) => Err(LineError::Fault(fault)),
+        },
+        Verb::Print => match one_count(rest) {
+            Ok(epoch) => Ok(Line::Print { epoch }),
+            Err(fault) => Err(LineError::Fault(fault)),
+        },
+    }
+}
+
+/// What a line says.
+pub fn read_line(alloc: Global, text: &[u8]) -> Result<Line<'_>, LineError>
+    ensures { LineEnds text.now result }
+{
+    let (first, rest) = first_word(text);
+    match verb_of(first) {
+        None => Err(LineError::Fault(Fault::Malformed)),
+        Some(verb) => arguments_say(alloc, verb, rest),
+    }
+}

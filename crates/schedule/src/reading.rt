@@ -1,0 +1,47 @@
+//! A schedule, read.
+
+ghost use Rattle.std.specs.Prelude.{map, IfOk, IfErr};
+ghost use Rattle.schedule.specs.Said.{command_of};
+ghost use Rattle.schedule.specs.ScheduleText.{IsRefused, IsScheduleText};
+
+use crate::line::{Line, LineError, read_line};
+use crate::refusal::ScheduleRefusal;
+use collector::{around, find};
+use std::alloc::Global;
+
+/// The code of a last line that no line feed ends.
+const NO_LINE_FEED: u8 = 43;
+
+/// Reads a whole schedule, in the time of its length. The lines borrow their names from the text.
+///
+/// After a refusal nothing is kept; it names the first faulty line.
+pub fn read_schedule(alloc: Global, text: &[u8]) -> Result<Vec<Line<'_>>, ScheduleRefusal>
+    ensures read { IfOk result (λ lines. IsScheduleText text.now (map command_of lines.items)) }
+    ensures refused { IfErr result (IsRefused text.now) }
+{
+    let mut lines = Vec::new(alloc);
+    let mut rest = text;
+    let mut number = 0;
+    while let Some(end) = find(rest, b'\n') {
+        let (line, after) = around(rest, end);
+        number += 1;
+        match read_line(alloc, line) {
+            Ok(said) => lines.push(said)?,
+            Err(LineError::NoMemory) => return Err(ScheduleRefusal::NoMemory),
+            Err(LineError::Fault(fault)) => {
+                return Err(ScheduleRefusal::At {
+                    code: fault.code(),
+                    line: number,
+                });
+            }
+        }
+        rest = after;
+    }
+    if !rest.is_empty() {
+        return Err(ScheduleRefusal::At {
+            code: NO_LINE_FEED,
+            line: number + 1,
+        });
+    }
+    Ok(lines)
+}

@@ -1,0 +1,53 @@
+//! Why a schedule is refused.
+
+ghost use Rattle.std.specs.Prelude.{◌≡◌};
+ghost use Rattle.schedule.specs.ScheduleText.{code_of};
+ghost use Rattle.schedule.specs.declared.refusal.ScheduleRefusal.TheVariants.{NoMemory};
+
+use std::alloc::{AllocError, AllocFailed};
+
+/// What is wrong with a line that a line feed ends.
+#[derive(Clone, Copy, Debug, PartialEq, Eq)]
+pub enum Fault {
+    /// `q 1`, `t 0`, `f a  1`: another first word than a verb's letter, a wrong number of words, an empty word, or a name that no
+    /// name or keyword is spelled like.
+    Malformed,
+    /// `t 0 01`, `p -1`, `f a +1`: a word that must be a number, and no number is printed so.
+    BadNumber,
+}
+
+impl Fault {
+    /// The number by which it is told.
+    pub fn code(self) -> u8
+        ensures { result ≡ code_of self }
+    {
+        match self {
+            Fault::BadNumber => 44,
+            Fault::Malformed => 46,
+        }
+    }
+}
+
+/// The first faulty line of a schedule, counted from 1, and what is wrong with it; 43 is a last line without line feed. Or want of
+/// memory.
+#[derive(Clone, Copy, Debug, PartialEq, Eq)]
+pub enum ScheduleRefusal {
+    At { code: u8, line: u64 },
+    NoMemory,
+}
+
+impl From<AllocError> for ScheduleRefusal {
+    ghost from_gives = { λ _ e. e ≡ NoMemory };
+
+    fn from(_e: AllocError) -> ScheduleRefusal {
+        ScheduleRefusal::NoMemory
+    }
+}
+
+impl<T: Drop> From<AllocFailed<T>> for ScheduleRefusal {
+    ghost from_gives = { λ _ e. e ≡ NoMemory };
+
+    fn from(_e: AllocFailed<T>) -> ScheduleRefusal {
+        ScheduleRefusal::NoMemory
+    }
+}
