@@ -125,7 +125,8 @@ fn refuse(rt: &HostRuntime, fault: LineFault) -> io::Result<ExitCode> {
             eprintln!(rt; "out of memory")?;
             Ok(ExitCode::from(5))
         }
-        LineFault::Workers { .. } => {
+        LineFault::Workers { word } => {
+            let fault = LineFault::Workers { word };
             eprintln!(rt; "{fault}")?;
             Ok(ExitCode::from(2))
         }
