@@ -1,5 +1,5 @@
 use Rattle.std.proofs.Common.{◌≡◌, ◌+◌, ◌*◌, ◌≤◌}
-use Rattle.progress_bench.specs.Open.{AreOpen}
+use Rattle.bench.specs.Open.{AreOpen}
 use Rattle.bench.proofs.tables.slide.Given as goal
 
 abbrev pub invariant-loop-epoch : goal.invariant-loop-epoch
