@@ -103,7 +103,7 @@ pub fn run(alloc: Global, text: &str, workers: u32, epochs: u32, records: u64) -
     requires few { workers ≤ 64 }
 {
     let mut board = board_of(alloc, text, workers)?;
-    let inputs = board.graph().inputs().len() as u32;
+    let inputs = u32::try_from(board.graph().inputs().len()).ok()?;
     let keys = (records / 2).max(1);
     let mut events = 0u64;
     for epoch in 0..epochs {
