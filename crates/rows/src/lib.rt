@@ -10,6 +10,7 @@
 
 mod batch;
 mod builder;
+mod chains;
 mod columns;
 mod error;
 mod index;
