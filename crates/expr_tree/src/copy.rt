@@ -59,6 +59,7 @@ pub fn copy_cond<A: Allocator, B: Allocator + Copy>(
 }
 
 /// The same relation, with the same spans, under the allocator `alloc`, which alone gives the memory.
+#[cycle(copy)]
 pub fn copy_rel<A: Allocator, B: Allocator + Copy>(
     alloc: B,
     relation: &Rel<A>,
@@ -68,35 +69,35 @@ pub fn copy_rel<A: Allocator, B: Allocator + Copy>(
     match relation {
         Rel::Named(span, name) => Ok(Rel::Named(*span, copy_name(name))),
         Rel::Select(span, of, scalars) => {
-            let of = copy_rel(alloc, of)?;
+            let of = copy_boxed(alloc, of)?;
             let scalars = copy_scalars(alloc, scalars)?;
-            Rel::select(alloc, *span, of, scalars)
+            Ok(Rel::Select(*span, of, scalars))
         }
         Rel::Where(span, of, condition) => {
-            let of = copy_rel(alloc, of)?;
+            let of = copy_boxed(alloc, of)?;
             let condition = copy_cond(alloc, condition)?;
-            Rel::filter(alloc, *span, of, condition)
+            Ok(Rel::Where(*span, of, condition))
         }
         Rel::Concat(span, left, right) => {
-            let left = copy_rel(alloc, left)?;
-            let right = copy_rel(alloc, right)?;
-            Rel::concat(alloc, *span, left, right)
+            let left = copy_boxed(alloc, left)?;
+            let right = copy_boxed(alloc, right)?;
+            Ok(Rel::Concat(*span, left, right))
         }
         Rel::Join(span, left, right, pairs) => {
-            let left = copy_rel(alloc, left)?;
-            let right = copy_rel(alloc, right)?;
+            let left = copy_boxed(alloc, left)?;
+            let right = copy_boxed(alloc, right)?;
             let pairs = copy_values(alloc, pairs)?;
-            Rel::join(alloc, *span, left, right, pairs)
+            Ok(Rel::Join(*span, left, right, pairs))
         }
         Rel::Group(span, of, keys, aggregates) => {
-            let of = copy_rel(alloc, of)?;
+            let of = copy_boxed(alloc, of)?;
             let keys = copy_values(alloc, keys)?;
             let aggregates = copy_values(alloc, aggregates)?;
-            Rel::group(alloc, *span, of, keys, aggregates)
+            Ok(Rel::Group(*span, of, keys, aggregates))
         }
         Rel::Distinct(span, of) => {
-            let of = copy_rel(alloc, of)?;
-            Rel::distinct(alloc, *span, of)
+            let of = copy_boxed(alloc, of)?;
+            Ok(Rel::Distinct(*span, of))
         }
         Rel::Iterate {
             span,
@@ -107,8 +108,8 @@ pub fn copy_rel<A: Allocator, B: Allocator + Copy>(
             start,
             body,
         } => {
-            let start = Box::new(alloc, copy_rel(alloc, start)?)?;
-            let body = Box::new(alloc, copy_rel(alloc, body)?)?;
+            let start = copy_boxed(alloc, start)?;
+            let body = copy_boxed(alloc, body)?;
             Ok(Rel::Iterate {
                 span: *span,
                 turns_span: *turns_span,
@@ -120,6 +121,18 @@ pub fn copy_rel<A: Allocator, B: Allocator + Copy>(
             })
         }
     }
+}
+
+/// The same relation in a box, with the same spans.
+#[cycle(copy)]
+fn copy_boxed<A: Allocator, B: Allocator + Copy>(
+    alloc: B,
+    relation: &Rel<A>,
+) -> Result<Box<Rel<B>, B>, NoMemory>
+    ensures { IfOk result (λ copy. rel_tree copy.value ≡ rel_tree relation.now) }
+{
+    let copy = copy_rel(alloc, relation)?;
+    Ok(Box::new(alloc, copy)?)
 }
 
 /// The same name. It lies inline, so no memory is taken.

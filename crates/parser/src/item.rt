@@ -1,19 +1,18 @@
 //! Inputs and named relations from tokens.
 
 ghost use Rattle.std.specs.Prelude.{◌≡◌, ℕ, ◌<◌, ◌≤◌, length, map, IfOk, IfErr};
-ghost use Rattle.expr_tree.specs.Views.{rel_tree, let_tree};
+ghost use Rattle.expr_tree.specs.Views.{let_tree};
 ghost use Rattle.grammar.specs.Phrases.{Unread};
 ghost use Rattle.grammar.specs.Programs.{Inputs, Lets};
-ghost use Rattle.parser.specs.declared.fault.Fault.TheVariants.{NoMemory};
 ghost use Rattle.parser.specs.Faults.{Denies};
 ghost use Rattle.parser.specs.Items.{Declares, NoDeclaration, Binds, NoInputs};
 
 use crate::fault::{Fault, MAX_HEIGHT};
 use crate::relation::parse_rel_then;
 use crate::scan::{after_keyword, after_mark, after_name, after_number, front};
-use expr_tree::{Input, Let, Rel};
+use expr_tree::{Input, Let};
 use lexer::{Mark, Token};
-use record_core::{Keyword, Name, Span};
+use record_core::Keyword;
 use std::alloc::Allocator;
 
 /// What follows `input`.
@@ -62,24 +61,6 @@ pub fn parse_inputs<'a, A: Allocator>(
     Ok((inputs, rest))
 }
 
-/// A named relation.
-fn named<A: Allocator + Copy>(
-    alloc: A,
-    name_span: Span,
-    name: Name,
-    relation: Rel<A>,
-) -> Result<Let<A>, Fault>
-    ensures made { IfOk result (λ l. let_tree l ≡ record { name_span = name_span; name = name; relation = rel_tree relation }) }
-    ensures none { IfErr result (λ f. f ≡ NoMemory) }
-{
-    let relation = Box::new(alloc, relation)?;
-    Ok(Let {
-        name_span,
-        name,
-        relation,
-    })
-}
-
 /// What follows `let`.
 fn parse_let<'a, A: Allocator + Copy>(
     alloc: A,
@@ -104,7 +85,11 @@ fn parse_let<'a, A: Allocator + Copy>(
         third,
         MAX_HEIGHT,
     )?;
-    let binding = named(alloc, name_span, name, relation)?;
+    let binding = Let {
+        name_span,
+        name,
+        relation,
+    };
     Ok((binding, height, rest))
 }
 

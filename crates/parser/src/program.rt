@@ -36,7 +36,6 @@ fn parse_program<A: Allocator + Copy>(
     if !rest.is_empty() {
         return Err(Fault::Unexpected(front(rest)));
     }
-    let output = Box::new(alloc, output)?;
     Ok(Program {
         inputs,
         lets,

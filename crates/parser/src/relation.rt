@@ -6,7 +6,6 @@ ghost use Rattle.expr_tree.specs.Views.{rel_tree};
 ghost use Rattle.grammar.specs.Tokens.{mark_at};
 ghost use Rattle.grammar.specs.Phrases.{Ended, Unread};
 ghost use Rattle.grammar.specs.Relations.{Reads, piece};
-ghost use Rattle.parser.specs.declared.fault.Fault.TheVariants.{NoMemory};
 ghost use Rattle.parser.specs.declared.relation.Form.TheVariants as form;
 ghost use Rattle.parser.specs.Faults.{Denies};
 ghost use Rattle.parser.specs.Forms.{form_of, form_token, opened, NoForm, Heads, NoHead};
@@ -107,20 +106,16 @@ fn parse_loop_head<'a>(text: &[u8], tokens: &'a [Token]) -> Result<(LoopHead, &'
     Ok((head, rest))
 }
 
-/// A loop, whose relations are moved into boxes.
-fn iteration<A: Allocator + Copy>(
-    alloc: A,
+/// A loop of these relations.
+fn iteration<A: Allocator>(
     span: Span,
     head: LoopHead,
-    start: Rel<A>,
-    body: Rel<A>,
-) -> Result<Rel<A>, Fault>
-    ensures made { IfOk result (λ r. rel_tree r ≡ RelTree.iterate span head.turns_span head.turns head.name_span head.name (rel_tree start) (rel_tree body)) }
-    ensures none { IfErr result (λ f. f ≡ NoMemory) }
+    start: Box<Rel<A>, A>,
+    body: Box<Rel<A>, A>,
+) -> Rel<A>
+    ensures { rel_tree result ≡ RelTree.iterate span head.turns_span head.turns head.name_span head.name (rel_tree start.value) (rel_tree body.value) }
 {
-    let start = Box::new(alloc, start)?;
-    let body = Box::new(alloc, body)?;
-    Ok(Rel::Iterate {
+    Rel::Iterate {
         span,
         turns_span: head.turns_span,
         turns: head.turns,
@@ -128,10 +123,10 @@ fn iteration<A: Allocator + Copy>(
         name: head.name,
         start,
         body,
-    })
+    }
 }
 
-/// A relation, and the mark after it.
+/// A relation, which is moved into a box, and the mark after it.
 #[cycle(parse)]
 pub fn parse_rel_then<'a, A: Allocator + Copy>(
     alloc: A,
@@ -139,14 +134,15 @@ pub fn parse_rel_then<'a, A: Allocator + Copy>(
     text: &[u8],
     tokens: &'a [Token],
     room: u32,
-) -> Result<(Rel<A>, u32, Span, &'a [Token]), Fault>
+) -> Result<(Box<Rel<A>, A>, u32, Span, &'a [Token]), Fault>
     requires { room ≤ 64 }
-    ensures found { IfOk result (λ r. Reads text.now tokens.now (rel_tree r.0) r.1 (mark_at mark r.2 ∷ r.3.now)) }
+    ensures found { IfOk result (λ r. Reads text.now tokens.now (rel_tree r.0.value) r.1 (mark_at mark r.2 ∷ r.3.now)) }
     ensures low { IfOk result (λ r. (1 ≤ r.1) × (r.1 ≤ 64)) }
     ensures denied { IfErr result (λ f. Denies f (Unread (Ended (Reads text.now) mark) tokens.now) room) }
     ensures shorter { IfOk result (λ r. length r.3.now < length tokens.now) }
 {
     let (relation, height, after) = parse_rel(alloc, text, tokens, room)?;
+    let relation = Box::new(alloc, relation)?;
     let Some((end, rest)) = after_mark(mark, after) else {
         return Err(Fault::Unexpected(front(after)));
     };
@@ -175,8 +171,7 @@ fn parse_select<'a, A: Allocator + Copy>(
         return Err(Fault::TooHigh(opening.keyword));
     }
     let span = spanning(opening.keyword, end);
-    let relation = Rel::select(alloc, span, relation, scalars)?;
-    Ok((relation, most + 1, rest))
+    Ok((Rel::Select(span, relation, scalars), most + 1, rest))
 }
 
 /// What follows `where (`.
@@ -201,8 +196,7 @@ fn parse_where<'a, A: Allocator + Copy>(
         return Err(Fault::TooHigh(opening.keyword));
     }
     let span = spanning(opening.keyword, end);
-    let relation = Rel::filter(alloc, span, relation, condition)?;
-    Ok((relation, most + 1, rest))
+    Ok((Rel::Where(span, relation, condition), most + 1, rest))
 }
 
 /// What follows `concat (`.
@@ -227,8 +221,7 @@ fn parse_concat<'a, A: Allocator + Copy>(
         return Err(Fault::TooHigh(opening.keyword));
     }
     let span = spanning(opening.keyword, end);
-    let relation = Rel::concat(alloc, span, left, right)?;
-    Ok((relation, most + 1, rest))
+    Ok((Rel::Concat(span, left, right), most + 1, rest))
 }
 
 /// What follows `join (`.
@@ -254,8 +247,7 @@ fn parse_join<'a, A: Allocator + Copy>(
         return Err(Fault::TooHigh(opening.keyword));
     }
     let span = spanning(opening.keyword, end);
-    let relation = Rel::join(alloc, span, left, right, pairs)?;
-    Ok((relation, most + 1, rest))
+    Ok((Rel::Join(span, left, right, pairs), most + 1, rest))
 }
 
 /// What follows `group (`.
@@ -280,8 +272,7 @@ fn parse_group<'a, A: Allocator + Copy>(
         return Err(Fault::TooHigh(opening.keyword));
     }
     let span = spanning(opening.keyword, end);
-    let relation = Rel::group(alloc, span, relation, keys, aggs)?;
-    Ok((relation, height + 1, rest))
+    Ok((Rel::Group(span, relation, keys, aggs), height + 1, rest))
 }
 
 /// What follows `distinct (`.
@@ -310,8 +301,7 @@ fn parse_distinct<'a, A: Allocator + Copy>(
         return Err(Fault::TooHigh(opening.keyword));
     }
     let span = spanning(opening.keyword, end);
-    let relation = Rel::distinct(alloc, span, relation)?;
-    Ok((relation, height + 1, rest))
+    Ok((Rel::Distinct(span, relation), height + 1, rest))
 }
 
 /// What follows `iterate (`.
@@ -337,8 +327,7 @@ fn parse_iterate<'a, A: Allocator + Copy>(
         return Err(Fault::TooHigh(opening.keyword));
     }
     let span = spanning(opening.keyword, end);
-    let relation = iteration(alloc, span, head, start, body)?;
-    Ok((relation, most + 1, rest))
+    Ok((iteration(span, head, start, body), most + 1, rest))
 }
 
 /// A relation at the front.

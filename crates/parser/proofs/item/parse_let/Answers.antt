@@ -1,4 +1,4 @@
-use Rattle.std.proofs.Common.{rules}
+use Rattle.std.proofs.Common.{rules, refl}
 use Rattle.lexer.specs.declared.mark.Mark.TheVariants as mark
 use Rattle.grammar.specs.Phrases.{Unread, Ended}
 use Rattle.grammar.specs.Relations as relation
@@ -20,4 +20,4 @@ returns-in_err-relation-clause-denied g c =
     (λ m u. unread_bound _ _ _ _ _ _ m c.in-Some.ensures.0 c.in-Some-after_mark.ensures u) c.in_err-relation.ensures.denied)
 
 pub returns-clause-found : goal.returns-clause-found
-returns-clause-found g c = binds_at _ _ _ _ _ _ _ _ _ _ _ _ c.in-Some.ensures.0 c.in-Some.ensures.1 c.in-Some.ensures.2 c.in-Some-after_mark.ensures c.in_ok-relation.ensures.found c.in_ok-binding.ensures.made
+returns-clause-found g c = binds_at _ _ _ _ _ _ _ _ _ _ _ _ c.in-Some.ensures.0 c.in-Some.ensures.1 c.in-Some.ensures.2 c.in-Some-after_mark.ensures c.in_ok-relation.ensures.found refl

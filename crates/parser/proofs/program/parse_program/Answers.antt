@@ -1,6 +1,5 @@
-use Rattle.std.proofs.Common.{arith, rules, ap, ◌≡◌, ◌<◌, length}
+use Rattle.std.proofs.Common.{arith, rules, refl, ◌≡◌, ◌<◌, length}
 use Rattle.lexer.specs.declared.mark.Mark.TheVariants as mark
-use Rattle.expr_tree.specs.Views.{rel_tree}
 use Rattle.grammar.specs.Phrases.{Unread, Ended}
 use Rattle.grammar.specs.Relations as relation
 use Rattle.grammar.specs.Programs.{Lets}
@@ -36,5 +35,4 @@ returns-then-not-is_empty-clause-denied g c = λ m.
 pub returns-clause-found : goal.returns-clause-found
 returns-clause-found g c =
     let none : length c.in_ok-output.rest.now ≡ 0 = grind (arith, c.if-not-is_empty.false, c.is_empty.ensures) in
-    let same : rel_tree c.in_ok-output-2.output.value ≡ rel_tree c.in_ok-output.output = ap (λ r. rel_tree r) c.in_ok-output-2.ensures.ok in
-    (_, program_at _ _ _ _ _ _ _ _ _ _ _ _ c.in_ok-inputs.ensures.found c.in_ok-lets.ensures.found c.in-Some.ensures c.in_ok-output.ensures.found same none, omega (arith, c.in_ok-lets.ensures.low, c.in_ok-output.ensures.low.1))
+    (_, program_at _ _ _ _ _ _ _ _ _ _ _ _ c.in_ok-inputs.ensures.found c.in_ok-lets.ensures.found c.in-Some.ensures c.in_ok-output.ensures.found refl none, omega (arith, c.in_ok-lets.ensures.low, c.in_ok-output.ensures.low.1))

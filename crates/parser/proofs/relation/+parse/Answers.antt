@@ -55,7 +55,7 @@ parse_select-returns-then-most-eq-MAX_HEIGHT-clause-denied g t c =
 
 pub parse_select-returns-clause-found : goal.parse_select-returns-clause-found
 parse_select-returns-clause-found g t c =
-    select_at _ _ _ _ _ _ _ _ _ _ _ _ _ _ _ c.in_ok-relation.ensures.found c.in_ok-scalars.ensures.found c.spanning-span.ensures c.in_ok-relation-2.ensures (ap (λ v. v + 1) c.max-most.ensures)
+    select_at _ _ _ _ _ _ _ _ _ _ _ _ _ _ _ c.in_ok-relation.ensures.found c.in_ok-scalars.ensures.found c.spanning-span.ensures refl (ap (λ v. v + 1) c.max-most.ensures)
 
 pub parse_where-returns-in_err-relation-clause-denied : goal.parse_where-returns-in_err-relation-clause-denied
 parse_where-returns-in_err-relation-clause-denied g t c =
@@ -73,7 +73,7 @@ parse_where-returns-then-most-eq-MAX_HEIGHT-clause-denied g t c =
 
 pub parse_where-returns-clause-found : goal.parse_where-returns-clause-found
 parse_where-returns-clause-found g t c =
-    where_at _ _ _ _ _ _ _ _ _ _ _ _ _ _ _ c.in_ok-relation.ensures.found c.in_ok-condition.ensures.found c.spanning-span.ensures c.in_ok-relation-2.ensures (ap (λ v. v + 1) c.max-most.ensures)
+    where_at _ _ _ _ _ _ _ _ _ _ _ _ _ _ _ c.in_ok-relation.ensures.found c.in_ok-condition.ensures.found c.spanning-span.ensures refl (ap (λ v. v + 1) c.max-most.ensures)
 
 pub parse_concat-returns-in_err-left-clause-denied : goal.parse_concat-returns-in_err-left-clause-denied
 parse_concat-returns-in_err-left-clause-denied g t c =
@@ -91,7 +91,7 @@ parse_concat-returns-then-most-eq-MAX_HEIGHT-clause-denied g t c =
 
 pub parse_concat-returns-clause-found : goal.parse_concat-returns-clause-found
 parse_concat-returns-clause-found g t c =
-    concat_at _ _ _ _ _ _ _ _ _ _ _ _ _ _ _ c.in_ok-left.ensures.found c.in_ok-right.ensures.found c.spanning-span.ensures c.in_ok-relation.ensures (ap (λ v. v + 1) c.max-most.ensures)
+    concat_at _ _ _ _ _ _ _ _ _ _ _ _ _ _ _ c.in_ok-left.ensures.found c.in_ok-right.ensures.found c.spanning-span.ensures refl (ap (λ v. v + 1) c.max-most.ensures)
 
 pub parse_iterate-returns-in_err-head-clause-denied : goal.parse_iterate-returns-in_err-head-clause-denied
 parse_iterate-returns-in_err-head-clause-denied g t c =
@@ -113,7 +113,7 @@ parse_iterate-returns-then-most-eq-MAX_HEIGHT-clause-denied g t c =
 
 pub parse_iterate-returns-clause-found : goal.parse_iterate-returns-clause-found
 parse_iterate-returns-clause-found g t c =
-    iterate_at _ _ _ _ _ _ _ _ _ _ _ _ _ _ _ _ _ _ _ _ c.in_ok-head.ensures.found c.in_ok-head.ensures.name c.in_ok-start.ensures.found c.in_ok-body.ensures.found c.spanning-span.ensures c.in_ok-relation.ensures.made (ap (λ v. v + 1) c.max-most.ensures)
+    iterate_at _ _ _ _ _ _ _ _ _ _ _ _ _ _ _ _ _ _ _ _ c.in_ok-head.ensures.found c.in_ok-head.ensures.name c.in_ok-start.ensures.found c.in_ok-body.ensures.found c.spanning-span.ensures c.iteration.ensures (ap (λ v. v + 1) c.max-most.ensures)
 
 pub parse_join-returns-in_err-left-clause-denied : goal.parse_join-returns-in_err-left-clause-denied
 parse_join-returns-in_err-left-clause-denied g t c =
@@ -136,7 +136,7 @@ parse_join-returns-then-most-eq-MAX_HEIGHT-clause-denied g t c =
 pub parse_join-returns-clause-found : goal.parse_join-returns-clause-found
 parse_join-returns-clause-found g t c =
     let high : c.max-most.result + 1 ≡ max (max c.in_ok-left.height c.in_ok-right.other) 1 + 1 = omega (arith, c.max-most.ensures, c.in_ok-left.ensures.low.0) in
-    join_at _ _ _ _ _ _ _ _ _ _ _ _ _ _ _ _ _ _ c.in_ok-left.ensures.found c.in_ok-right.ensures.found c.in_ok-pairs.ensures.found c.spanning-span.ensures c.in_ok-relation.ensures high
+    join_at _ _ _ _ _ _ _ _ _ _ _ _ _ _ _ _ _ _ c.in_ok-left.ensures.found c.in_ok-right.ensures.found c.in_ok-pairs.ensures.found c.spanning-span.ensures refl high
 
 pub parse_group-returns-in_err-relation-clause-denied : goal.parse_group-returns-in_err-relation-clause-denied
 parse_group-returns-in_err-relation-clause-denied g t c =
@@ -159,7 +159,7 @@ parse_group-returns-then-height-eq-MAX_HEIGHT-clause-denied g t c =
 pub parse_group-returns-clause-found : goal.parse_group-returns-clause-found
 parse_group-returns-clause-found g t c =
     let high : c.in_ok-relation.height + 1 ≡ max (max c.in_ok-relation.height 1) 1 + 1 = omega (arith, c.in_ok-relation.ensures.low.0) in
-    group_at _ _ _ _ _ _ _ _ _ _ _ _ _ _ _ _ _ c.in_ok-relation.ensures.found c.in_ok-keys.ensures.found c.in_ok-aggs.ensures.found c.spanning-span.ensures c.in_ok-relation-2.ensures high
+    group_at _ _ _ _ _ _ _ _ _ _ _ _ _ _ _ _ _ c.in_ok-relation.ensures.found c.in_ok-keys.ensures.found c.in_ok-aggs.ensures.found c.spanning-span.ensures refl high
 
 pub parse_distinct-returns-in_err-relation-clause-denied : goal.parse_distinct-returns-in_err-relation-clause-denied
 parse_distinct-returns-in_err-relation-clause-denied g t c =
@@ -173,4 +173,4 @@ parse_distinct-returns-then-height-eq-MAX_HEIGHT-clause-denied g t c =
 
 pub parse_distinct-returns-clause-found : goal.parse_distinct-returns-clause-found
 parse_distinct-returns-clause-found g t c =
-    distinct_at _ _ _ _ _ _ _ _ _ _ _ c.in_ok-relation.ensures.found c.spanning-span.ensures c.in_ok-relation-2.ensures refl
+    distinct_at _ _ _ _ _ _ _ _ _ _ _ c.in_ok-relation.ensures.found c.spanning-span.ensures refl refl
