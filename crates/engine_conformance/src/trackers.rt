@@ -10,7 +10,7 @@ use expr_tree::NoMemory;
 use loop_context::Time;
 use lowering::{Location, VertexId};
 use path_summary::{Paths, Pointstamp};
-use progress::{LocationTracker, PlainTracker, Progress};
+use progress::{Change, LocationTracker, PlainTracker, Progress, changes};
 use std::alloc::Global;
 use std::sync::Arc;
 use std::test::Fail;
@@ -27,27 +27,30 @@ fn stamp(epoch: u32, counter: u32, vertex: u32) -> Option<Pointstamp> {
 
 /// What is asked: of `q`, of `p`, of `q` once `p` is gone, and of `q` once it is gone itself but for one.
 fn asked<P: Progress>(
+    alloc: Global,
     tracker: &mut P,
     p: &Pointstamp,
     q: &Pointstamp,
-) -> Result<(bool, bool, bool, bool), NoMemory>
+) -> Result<Vec<bool>, NoMemory>
     requires p { IsTimeAt (P.graph tracker.old) p.now.location p.now.time }
     requires q { IsTimeAt (P.graph tracker.old) q.now.location q.now.time }
 {
-    tracker.reserve(3)?;
-    tracker.add(p);
-    tracker.add(q);
-    tracker.add(q);
-    let blocked = tracker.in_frontier(q);
-    let first = tracker.in_frontier(p);
-    tracker.remove(p);
-    let alone = tracker.in_frontier(q);
-    tracker.remove(q);
-    Ok((blocked, first, alone, tracker.in_frontier(q)))
+    let list = [
+        Change::Add(p.copied()),
+        Change::Add(q.copied()),
+        Change::Add(q.copied()),
+        Change::Ask(q.copied()),
+        Change::Ask(p.copied()),
+        Change::Remove(p.copied()),
+        Change::Ask(q.copied()),
+        Change::Remove(q.copied()),
+        Change::Ask(q.copied()),
+    ];
+    changes(alloc, tracker, &list)
 }
 
 /// The same of two pointstamps of `SIMPLE`'s graph, of which the first could result in the second.
-fn frontiers<P: Progress>(tracker: &mut P, paths: &Paths) -> Result<(bool, bool, bool, bool), Fail>
+fn frontiers<P: Progress>(alloc: Global, tracker: &mut P, paths: &Paths) -> Result<Vec<bool>, Fail>
     requires { P.graph tracker.old ≡ shown_graph paths.now }
 {
     let p = stamp(0, 1, 3).ok_or("no time")?;
@@ -55,14 +58,17 @@ fn frontiers<P: Progress>(tracker: &mut P, paths: &Paths) -> Result<(bool, bool,
     if !paths.fits(&p) || !paths.fits(&q) {
         Err("not of the graph")?;
     }
-    Ok(asked(tracker, &p, &q)?)
+    Ok(asked(alloc, tracker, &p, &q)?)
 }
 
 #[test]
 fn frontiers_of_the_plain_tracker(rt: HostRuntime) -> Result<(), Fail> {
     let paths = shared_paths(rt.alloc())?;
     let mut tracker = PlainTracker::new(rt.alloc(), Arc::try_clone(&paths)?);
-    assert_eq!(rt; frontiers(&mut tracker, &paths)?, (false, true, true, true));
+    assert_eq!(rt;
+        frontiers(rt.alloc(), &mut tracker, &paths)?.as_slice(),
+        [false, true, true, true].as_slice()
+    );
     Ok(())
 }
 
@@ -70,7 +76,10 @@ fn frontiers_of_the_plain_tracker(rt: HostRuntime) -> Result<(), Fail> {
 fn frontiers_of_the_tracker_by_location(rt: HostRuntime) -> Result<(), Fail> {
     let paths = shared_paths(rt.alloc())?;
     let mut tracker = LocationTracker::new(rt.alloc(), Arc::try_clone(&paths)?)?;
-    assert_eq!(rt; frontiers(&mut tracker, &paths)?, (false, true, true, true));
+    assert_eq!(rt;
+        frontiers(rt.alloc(), &mut tracker, &paths)?.as_slice(),
+        [false, true, true, true].as_slice()
+    );
     Ok(())
 }
 

@@ -8,7 +8,7 @@ use Rattle.semantics.proofs.MultisetSums.{total-append}
 use Rattle.machine.specs.Active.{one_if_same}
 use Rattle.machine.proofs.Active.{one_tells, one_self, one_is}
 use Rattle.progress.specs.Content.{times_in, AllAt, IsClear, IsBlocked}
-use Rattle.progress.proofs.Options.{is_true, true_is, not_true}
+use Rattle.progress.proofs.Options.{is_true, true_is}
 
 pub got_at : {X : Type 0} (xs : List X) (i : ℕ) (x : X) → i < length xs → x ≡ slice_index_or xs i x → slice_get xs i ≡ Some x
 got_at [] i x h e = absurd (omega arith)

@@ -1,10 +1,10 @@
 -- Of the active times of a location only one with the least counters, among those in no later epoch, need be asked.
-use Rattle.std.proofs.Common.{◌≡◌, ◌⊎◌, inl, inr, ℕ, ◌≤◌, ◌<◌, Bool, true, false, List, [], ◌∷◌, refl, sym, ap, subst, ◌∙◌, arith}
+use Rattle.std.proofs.Common.{◌≡◌, ℕ, ◌≤◌, ◌<◌, Bool, true, List, [], ◌∷◌, refl, ap, subst, ◌∙◌, arith}
 use Rattle.std.proofs.Math.Logic.{∥∥₁_elim}
-use Rattle.semantics.specs.Time.{Time, Action, IsAtMost, after_action}
+use Rattle.semantics.specs.Time.{Time, Action, after_action}
 use Rattle.semantics.specs.Kinds.{action}
 use Rattle.semantics.specs.Graph.{Graph, vertex, edge_source}
-use Rattle.semantics.specs.Could.{Location, Pointstamp, IsTimeAt, PathStep, IsPath, path_time, CouldResultIn}
+use Rattle.semantics.specs.Could.{Location, Pointstamp, IsTimeAt, PathStep, path_time, CouldResultIn}
 use Rattle.semantics.specs.Dataflow.{IsDataflow}
 use Rattle.semantics.proofs.CouldRises.{at_most_trans, path_keeps}
 use Rattle.progress.specs.Times.{NoLater}

@@ -1,5 +1,5 @@
 -- What changes of a fork keep.
-use Rattle.std.proofs.Common.{◌≡◌, ◌≢◌, ◌⊎◌, inl, inr, ℕ, suc, ◌+◌, ◌-◌, ◌/◌, List, [], ◌∷◌, ◌++◌, ◌≤◌, ◌<◌, Bool, true, false, Option, Some, None, refl, sym, ap, subst, ◌∙◌, arith}
+use Rattle.std.proofs.Common.{◌≡◌, ◌≢◌, ◌⊎◌, inl, inr, ℕ, ◌+◌, ◌-◌, ◌/◌, [], ◌≤◌, ◌<◌, Bool, true, false, Option, Some, None, sym, ap, subst, ◌∙◌, arith}
 use Rattle.semantics.specs.Time.{Time, same_time}
 use Rattle.std.proofs.lemmas.Bool.{true≢false}
 use Rattle.machine.proofs.Places.{same_time_tells}
@@ -8,7 +8,7 @@ use Rattle.progress.specs.Bag.{Bag, Held, held, if_same, count, top, with_times,
 use Rattle.progress.specs.Sifting.{IsSifted, Leads}
 use Rattle.progress.specs.declared.tree.Entry.{Entry}
 use Rattle.semantics.proofs.MultisetSums.{total-append}
-use Rattle.progress.proofs.Orders.{no_later_self, no_later_on, same_self, same_is, same_not, same_sum, split_epoch}
+use Rattle.progress.proofs.Orders.{no_later_self, no_later_on, same_self, same_is, same_sum, split_epoch}
 
 either : (a b : ℕ) → 0 < a + b → (0 < a) ⊎ (0 < b)
 either a b h = grind arith
@@ -159,6 +159,13 @@ taken_right L R R' old next a u = let w = count-with L old.time old.count R u in
 
 pub taken_last : (L R : Bag) (old : Entry) → IsNone L → IsNone R → Adds [] (with_times L old.time old.count R) old.time old.count
 taken_last L R old l r u = let w = count-with L old.time old.count R u in let a = l u in let b = r u in omega arith
+
+-- the top taken out, where a side is empty
+pub lifted_right : (L : Bag) (t : Time) (n : ℕ) (R : Bag) → IsNone L → Adds R (with_times L t n R) t n
+lifted_right L t n R none u = let w = count-with L t n R u in let a = none u in omega arith
+
+pub lifted_left : (L : Bag) (t : Time) (n : ℕ) (R : Bag) → IsNone R → Adds L (with_times L t n R) t n
+lifted_left L t n R none u = let w = count-with L t n R u in let a = none u in omega arith
 
 -- ---- a time taken out once
 

@@ -1,6 +1,6 @@
 -- The order of counters, and times in one number.
-use Rattle.std.proofs.Common.{◌≡◌, ◌≢◌, ◌⊎◌, inl, inr, ℕ, ◌+◌, ◌*◌, ◌/◌, ◌%◌, ◌^◌, ◌≤◌, ◌<◌, Bool, true, false, cond, List, [], ◌∷◌, refl, sym, ap, ap₂, subst, ◌∙◌, arith}
-use Rattle.semantics.specs.Time.{Time, IsAtMost, is_before, same_time}
+use Rattle.std.proofs.Common.{◌≡◌, ◌≢◌, ◌⊎◌, inl, inr, ℕ, ◌+◌, ◌*◌, ◌/◌, ◌%◌, ◌^◌, ◌≤◌, ◌<◌, Bool, true, false, cond, List, [], ◌∷◌, refl, sym, ap₂, arith}
+use Rattle.semantics.specs.Time.{Time, is_before, same_time}
 use Rattle.semantics.proofs.OneFlow.{lex_head, lex_tail}
 use Rattle.semantics.proofs.CouldRises.{at_most_trans}
 use Rattle.machine.proofs.Places.{same_time_tells}

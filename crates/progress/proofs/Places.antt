@@ -1,19 +1,18 @@
 -- Times by location as a multiset of pointstamps.
 use Rattle.std.proofs.Common.{◌≡◌, ◌≢◌, ◌⊎◌, inl, inr, ℕ, zero, suc, ◌+◌, ◌≤◌, ◌<◌, Bool, true, false, cond, eqb, List, [], ◌∷◌, ◌++◌, length, Some, slice_get, slice_set, slice_index_or, refl, sym, ap, subst, ◌∙◌, arith}
 use Rattle.std.specs.Prelude.{map, remove}
-use Rattle.std.proofs.lemmas.Bool.{true≢false}
 use Rattle.std.proofs.lemmas.Bool.Decides.{eqb_tells}
 use Rattle.semantics.specs.Graph.{Graph, edge_count}
 use Rattle.semantics.specs.Time.{Time, same_time}
-use Rattle.semantics.specs.Could.{Location, Pointstamp, IsTimeAt, CouldResultIn}
+use Rattle.semantics.specs.Could.{Location, Pointstamp, IsTimeAt}
 use Rattle.machine.specs.Active.{one_if_same, same_location}
 use Rattle.lowering.specs.Locations.{location_of}
 use Rattle.lowering.specs.declared.location.Location.{Location as Declared}
-use Rattle.progress.specs.Bag.{Bag, count, if_same, Adds, IsNone}
-use Rattle.progress.specs.Content.{AllAt, IsClear, IsBlocked, bag_at, times_at}
+use Rattle.progress.specs.Bag.{Bag, count, Adds, IsNone}
+use Rattle.progress.specs.Content.{IsClear, bag_at, times_at}
 use Rattle.machine.proofs.Active.{one_is}
 use Rattle.progress.proofs.Contents.{all_more, all_less}
-use Rattle.progress.specs.Kept.{Among, HasSome, stamp, IsKept, IsClearAt, IsBlockedAt, AddsOne, IsIn, IsChangedAt}
+use Rattle.progress.specs.Kept.{Among, HasSome, stamp, IsKept, IsClearAt, AddsOne, IsIn, IsChangedAt}
 
 pub no_bag : (i : ℕ) → slice_index_or {A = Bag} [] i [] ≡ []
 no_bag zero = refl

@@ -1,7 +1,6 @@
 -- Active pointstamps as a multiset: how often each is active.
-use Rattle.std.specs.Prelude.{◌≡◌, ℕ, ◌<◌, Bool, true, List, Some, slice_get, slice_index_or, []}
+use Rattle.std.specs.Prelude.{◌≡◌, ℕ, ◌<◌, Bool, true, List, slice_index_or, []}
 use Rattle.semantics.specs.Multiset.{total}
-use Rattle.semantics.specs.Time.{Time}
 use Rattle.semantics.specs.Graph.{Graph}
 use Rattle.semantics.specs.Could.{Location, Pointstamp, IsTimeAt, CouldResultIn}
 use Rattle.machine.specs.Active.{one_if_same}

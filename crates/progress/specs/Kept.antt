@@ -2,7 +2,7 @@
 use Rattle.std.specs.Prelude.{◌≡◌, ℕ, ◌+◌, ◌<◌, Bool, true, List, Some, slice_get, slice_index_or, [], length}
 use Rattle.semantics.specs.Time.{Time}
 use Rattle.semantics.specs.Graph.{Graph, edge_count}
-use Rattle.semantics.specs.Could.{Location, Pointstamp, IsTimeAt, CouldResultIn}
+use Rattle.semantics.specs.Could.{Location, Pointstamp, CouldResultIn}
 use Rattle.machine.specs.Active.{one_if_same}
 use Rattle.progress.specs.Bag.{Bag, count}
 use Rattle.progress.specs.Content.{AllAt, times_at}

@@ -6,3 +6,4 @@ pub mod Sifting
 pub mod Content
 pub mod Shown
 pub mod Kept
+pub mod Asked

@@ -3,14 +3,18 @@
 //! The contract for the layers above: `Progress`, whose answers are exact by the multiset of active pointstamps. `PlainTracker` asks
 //! each of these; `LocationTracker` asks one time of each location.
 //!
-//! Below stands `path_summary`. Views and the board stand on trackers.
+//! `changes` runs a list of changes and questions over either. Below is `path_summary`; views and the board use trackers.
 #![tactic(auto)]
 
+mod asking;
+mod change;
 mod located;
 mod plain;
 mod progress;
 mod tree;
 
+pub use asking::changes;
+pub use change::Change;
 pub use located::LocationTracker;
 pub use plain::PlainTracker;
 pub use progress::Progress;

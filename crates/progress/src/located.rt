@@ -19,6 +19,9 @@ use std::alloc::Global;
 use std::marker::Model;
 use std::sync::Arc;
 
+/// How many rooms of forks that are gone are used again.
+const ROOMS: usize = 512;
+
 /// A tracker that keeps the active times of each location in order. A question asks, at each location where something is active, one
 /// time: of those in no later epoch one with the least counters.
 #[derive(Drop)]
@@ -68,9 +71,18 @@ impl LocationTracker {
             edges,
             vertices,
             listed: Vec::new(alloc),
-            rooms: Vec::new(alloc),
+            rooms: Vec::with_capacity(alloc, ROOMS)?,
             spare: 0,
         })
+    }
+}
+
+impl LocationTracker {
+    /// Whether `p` is active. The cost is the height of its location's tree.
+    pub fn is_active(&self, p: &Pointstamp) -> bool
+        ensures { IsTrue result ↔ (0 < times_at self.now.edges self.now.vertices p.now) }
+    {
+        is_among(&self.edges, &self.vertices, p)
     }
 }
 
@@ -102,7 +114,7 @@ impl Progress for LocationTracker {
     }
 
     fn remove(&mut self, p: &Pointstamp) {
-        take(&mut self.edges, &mut self.vertices, p);
+        take(&mut self.edges, &mut self.vertices, p, &mut self.rooms);
         let empty = is_empty_at(&self.edges, &self.vertices, p.location());
         unlist(&mut self.listed, p.location(), empty);
     }
@@ -178,6 +190,16 @@ fn is_empty_at(edges: &[Tree], vertices: &[Tree], location: Location) -> bool
     }
 }
 
+/// Whether one of the trees has it.
+fn is_among(edges: &[Tree], vertices: &[Tree], p: &Pointstamp) -> bool
+    ensures { IsTrue result ↔ (0 < times_at edges.now vertices.now p.now) }
+{
+    match tree_at(edges, vertices, p.location()) {
+        Some(tree) => tree.has(p.time()),
+        None => false,
+    }
+}
+
 /// It is active once more.
 fn put(edges: &mut Vec<Tree>, vertices: &mut Vec<Tree>, p: &Pointstamp, rooms: &mut Vec<Room>)
     requires known { IsIn (length edges.old.items) (length vertices.old.items) p.now.location }
@@ -210,28 +232,30 @@ fn add_at(trees: &mut Vec<Tree>, number: u32, time: &Time, rooms: &mut Vec<Room>
 }
 
 /// It is active once less.
-fn take(edges: &mut Vec<Tree>, vertices: &mut Vec<Tree>, p: &Pointstamp)
+fn take(edges: &mut Vec<Tree>, vertices: &mut Vec<Tree>, p: &Pointstamp, rooms: &mut Vec<Room>)
     requires known { IsIn (length edges.old.items) (length vertices.old.items) p.now.location }
     requires active { 0 < times_at edges.old.items vertices.old.items p.now }
     ensures content { AddsOne (times_at edges.new.items vertices.new.items) (times_at edges.old.items vertices.old.items) p.now }
     ensures edges { length edges.new.items ≡ length edges.old.items }
     ensures vertices { length vertices.new.items ≡ length vertices.old.items }
+    ensures room { length rooms.old.items ≤ length rooms.new.items }
 {
     match p.location() {
-        Location::Edge(edge) => remove_at(edges, edge.0, p.time()),
-        Location::Vertex(vertex) => remove_at(vertices, vertex.0, p.time()),
+        Location::Edge(edge) => remove_at(edges, edge.0, p.time(), rooms),
+        Location::Vertex(vertex) => remove_at(vertices, vertex.0, p.time(), rooms),
     }
 }
 
 /// A time is there once less in the tree of that number.
-fn remove_at(trees: &mut Vec<Tree>, number: u32, time: &Time)
+fn remove_at(trees: &mut Vec<Tree>, number: u32, time: &Time, rooms: &mut Vec<Room>)
     requires there { number < length trees.old.items }
     requires active { 0 < count (slice_index_or trees.old.items number []) time.now }
     ensures changed { IsChangedAt trees.old.items trees.new.items number }
     ensures takes { Adds (slice_index_or trees.new.items number []) (slice_index_or trees.old.items number []) time.now 1 }
+    ensures room { length rooms.old.items ≤ length rooms.new.items }
 {
     let tree = &mut trees[number as usize];
-    tree.remove(time);
+    tree.remove(time, rooms);
 }
 
 /// Puts a location into the list, where it is fresh.

@@ -1,6 +1,6 @@
 //! The active times of one location, with counts, in a search tree: each subtree has on top the least counters of all its times, and
-//! parts the others by epoch and counters in the middle of its range. So it is at most as deep as a key has bits, but for times of one
-//! key, and what is asked lies on one way down.
+//! parts the others by epoch and counters, such that the next epochs are soon apart. A fork with an empty side goes with its entry. So it
+//! is at most some 90 deep, but for times of one key, and what is asked lies on one way down.
 
 ghost use Rattle.std.specs.Prelude.{◌≡◌, ◌≤◌, ◌<◌, ◌+◌, ◌^◌, ◌↔◌, [], ℕ, Some, None, true, false, IsTrue, IfSome, IfNone, length};
 ghost use Rattle.progress.specs.Bag.{Adds, IsAsked, IsFirst, IsLeast, IsNone, IsNoneAsked, count, held, top, with_times};
@@ -27,36 +27,69 @@ pub struct Room {
     pub right: Box<Tree>,
 }
 
-/// A range of keys.
+/// Keys from `low` up to `high`, and the greatest distance, one less than a power of 2, at which keys lie near one another.
 #[derive(Clone, Copy)]
 pub struct Range {
     low: u64,
-    width: u64,
+    high: u64,
+    near: u64,
 }
 
 impl Range {
-    /// All keys.
+    /// All keys. Those of 256 epochs lie near one another.
     pub const WHOLE: Range = Range {
         low: 0,
-        width: u64::MAX,
+        high: u64::MAX,
+        near: 0xff_ffff_ffff,
     };
 
-    /// Where it is parted.
-    fn middle(&self) -> u64 {
-        self.low.saturating_add(self.width / 2)
+    fn is_wide(&self) -> bool {
+        self.near < self.high.saturating_sub(self.low)
     }
 
-    fn lower(&self) -> Range {
-        Range {
-            low: self.low,
-            width: self.width / 2,
+    fn middle(&self) -> u64 {
+        self.low
+            .saturating_add(self.high.saturating_sub(self.low) / 2)
+    }
+
+    /// Where a fork that comes there with a key parts the range: where it is wide, at an end of the keys near this one, since what
+    /// comes next most likely lies there; else in the middle.
+    fn split(&self, key: u64) -> u64 {
+        let end = (key | self.near).saturating_add(1);
+        let start = key & !self.near;
+        if !self.is_wide() {
+            self.middle()
+        } else if end < self.high {
+            end
+        } else if self.low < start {
+            start
+        } else {
+            self.middle()
         }
     }
 
-    fn upper(&self) -> Range {
+    /// The same distance in a part of the range: twice as great where it is wide, so that few wide ranges lie in one another.
+    fn near_below(&self) -> u64 {
+        if self.is_wide() {
+            self.near.saturating_mul(2) | 1
+        } else {
+            self.near
+        }
+    }
+
+    fn lower(&self, split: u64) -> Range {
         Range {
-            low: self.middle(),
-            width: self.width - self.width / 2,
+            low: self.low,
+            high: split,
+            near: self.near_below(),
+        }
+    }
+
+    fn upper(&self, split: u64) -> Range {
+        Range {
+            low: split,
+            high: self.high,
+            near: self.near_below(),
         }
     }
 }
@@ -137,8 +170,9 @@ impl Tree {
     {
         match &mut self.node {
             Node::Leaf => {
+                let split = range.split(key(&entry.time));
                 if let Some(room) = rooms.pop() {
-                    self.node = single(room, entry, range.middle());
+                    self.node = single(room, entry, split);
                 }
             }
             Node::Fork(left, here, split, right) => {
@@ -150,33 +184,76 @@ impl Tree {
                 }
                 let lower = sift(here, entry);
                 if key(&lower.time) < *split {
-                    left.add(lower, range.lower(), rooms);
+                    left.add(lower, range.lower(*split), rooms);
                 } else {
-                    right.add(lower, range.upper(), rooms);
+                    right.add(lower, range.upper(*split), rooms);
                 }
             }
         }
     }
 
+    /// Takes the top out where a side has no time: the other side moves up. Else nothing changes.
+    fn lift(&mut self, rooms: &mut Vec<Room>) -> Option<Entry>
+        ensures none { IfNone result (self.new ≡ self.old) }
+        ensures top { IfSome result (λ e. top self.old ≡ Some (held e.time e.count)) }
+        ensures taken { IfSome result (λ e. Adds self.new self.old e.time e.count) }
+        ensures first { IfSome result (λ e. IsFirst e.time self.old) }
+        ensures some { IfSome result (λ e. 0 < e.count) }
+        ensures room { length rooms.old.items ≤ length rooms.new.items }
+    {
+        if !self.is_one_sided() {
+            return None;
+        }
+        match mem::replace(&mut self.node, Node::Leaf) {
+            Node::Leaf => None,
+            Node::Fork(mut left, here, split, mut right) => {
+                if left.is_empty() {
+                    self.node = mem::replace(&mut right.node, Node::Leaf);
+                    keep(rooms, left, right);
+                    Some(here)
+                } else if right.is_empty() {
+                    self.node = mem::replace(&mut left.node, Node::Leaf);
+                    keep(rooms, left, right);
+                    Some(here)
+                } else {
+                    self.node = Node::Fork(left, here, split, right);
+                    None
+                }
+            }
+        }
+    }
+
+    /// Whether it is a fork of which a side has no time.
+    fn is_one_sided(&self) -> bool {
+        match &self.node {
+            Node::Leaf => false,
+            Node::Fork(left, _, _, right) => left.is_empty() || right.is_empty(),
+        }
+    }
+
     /// Takes the entry with the least counters out.
-    pub fn pull(&mut self) -> Option<Entry>
+    pub fn pull(&mut self, rooms: &mut Vec<Room>) -> Option<Entry>
         ensures none { IfNone result (IsNone self.old × (top self.old ≡ None)) }
         ensures still { IfNone result (IsNone self.new) }
         ensures top { IfSome result (λ e. top self.old ≡ Some (held e.time e.count)) }
         ensures taken { IfSome result (λ e. Adds self.new self.old e.time e.count) }
         ensures first { IfSome result (λ e. IsFirst e.time self.old) }
         ensures some { IfSome result (λ e. 0 < e.count) }
+        ensures room { length rooms.old.items ≤ length rooms.new.items }
     {
+        if let Some(entry) = self.lift(rooms) {
+            return Some(entry);
+        }
         match &mut self.node {
             Node::Leaf => None,
             Node::Fork(left, here, _, right) => {
                 if leads(left, right) {
-                    match left.pull() {
+                    match left.pull(rooms) {
                         Some(next) => Some(mem::replace(here, next)),
                         None => entry_of(mem::replace(&mut self.node, Node::Leaf)),
                     }
                 } else {
-                    match right.pull() {
+                    match right.pull(rooms) {
                         Some(next) => Some(mem::replace(here, next)),
                         None => entry_of(mem::replace(&mut self.node, Node::Leaf)),
                     }
@@ -186,9 +263,10 @@ impl Tree {
     }
 
     /// Takes a time out once.
-    pub fn remove(&mut self, time: &Time)
+    pub fn remove(&mut self, time: &Time, rooms: &mut Vec<Room>)
         requires { 0 < count self.old time.now }
-        ensures { Adds self.new self.old time.now 1 }
+        ensures removed { Adds self.new self.old time.now 1 }
+        ensures room { length rooms.old.items ≤ length rooms.new.items }
     {
         match &mut self.node {
             Node::Leaf => {}
@@ -197,12 +275,30 @@ impl Tree {
                     if here.count > 1 {
                         here.count -= 1;
                     } else {
-                        let _ = self.pull();
+                        let _ = self.pull(rooms);
                     }
                 } else if key(time) < *split {
-                    left.remove(time);
+                    left.remove(time, rooms);
                 } else {
-                    right.remove(time);
+                    right.remove(time, rooms);
+                }
+            }
+        }
+    }
+
+    /// Whether the tree has this time.
+    pub fn has(&self, time: &Time) -> bool
+        ensures { IsTrue result ↔ (0 < count self.now time.now) }
+    {
+        match &self.node {
+            Node::Leaf => false,
+            Node::Fork(left, here, split, right) => {
+                if here.time == *time {
+                    true
+                } else if key(time) < *split {
+                    left.has(time)
+                } else {
+                    right.has(time)
                 }
             }
         }
@@ -240,6 +336,15 @@ impl Tree {
                 }
             }
         }
+    }
+}
+
+/// Keeps the room of a fork that is gone, where it needs no memory.
+fn keep(rooms: &mut Vec<Room>, left: Box<Tree>, right: Box<Tree>)
+    ensures { length rooms.old.items ≤ length rooms.new.items }
+{
+    if rooms.len() < rooms.capacity() {
+        rooms.push_reserved(Room { left, right });
     }
 }
 

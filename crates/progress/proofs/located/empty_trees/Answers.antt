@@ -1,4 +1,4 @@
-use Rattle.std.proofs.Common.{◌≡◌, ◌+◌, ◌∷◌, [], length, arith, length-append}
+use Rattle.std.proofs.Common.{◌∷◌, [], arith, length-append}
 use Rattle.progress.proofs.Places.{no_bag, no_bag_more}
 use Rattle.progress.proofs.located.empty_trees.Goals as goal
 

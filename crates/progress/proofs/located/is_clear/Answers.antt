@@ -1,4 +1,4 @@
-use Rattle.std.proofs.Common.{◌≡◌, ◌<◌, true, arith, length}
+use Rattle.std.proofs.Common.{arith}
 use Rattle.lowering.specs.Locations.{location_of}
 use Rattle.lowering.specs.Shown.{shown_graph}
 use Rattle.progress.proofs.Places.{clear_more_at, all_clear_at}

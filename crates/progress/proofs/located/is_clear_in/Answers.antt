@@ -1,5 +1,4 @@
-use Rattle.std.proofs.Common.{◌≡◌, ◌∙◌, true, false, sym, subst, arith, ap, not}
-use Rattle.semantics.specs.Time.{Time}
+use Rattle.std.proofs.Common.{◌≡◌, ◌∙◌, sym, subst, arith, ap}
 use Rattle.semantics.specs.Could.{Pointstamp, CouldResultIn}
 use Rattle.lowering.specs.Locations.{location_of}
 use Rattle.lowering.specs.Shown.{shown_graph}

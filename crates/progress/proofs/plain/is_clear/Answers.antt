@@ -1,4 +1,4 @@
-use Rattle.std.proofs.Common.{◌≡◌, ◌≤◌, true, false, arith, sym, ◌∙◌}
+use Rattle.std.proofs.Common.{arith}
 use Rattle.lowering.specs.Shown.{shown_graph}
 use Rattle.progress.proofs.Options.{is_true, not_true}
 use Rattle.progress.proofs.Contents.{got_at, times_got, clear_more, all_clear}

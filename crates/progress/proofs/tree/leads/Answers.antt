@@ -1,4 +1,3 @@
-use Rattle.std.proofs.Common.{◌≡◌}
 use Rattle.progress.proofs.Options.{is_true, not_true}
 use Rattle.progress.proofs.Orders.{other_way}
 use Rattle.progress.proofs.Forks.{leads_by}

@@ -1,4 +1,4 @@
-use Rattle.std.proofs.Common.{◌≡◌, arith}
+use Rattle.std.proofs.Common.{arith}
 use Rattle.progress.specs.Sifting.{IsSifted}
 use Rattle.progress.proofs.Orders.{other_way}
 use Rattle.progress.proofs.tree.sift.Goals as goal

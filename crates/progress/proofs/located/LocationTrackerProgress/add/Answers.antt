@@ -1,11 +1,8 @@
-use Rattle.std.proofs.Common.{◌≡◌, ◌∙◌, ◌+◌, ◌≤◌, true, false, List, arith, ap, subst, sym}
+use Rattle.std.proofs.Common.{arith, ap, subst, sym}
 use Rattle.std.specs.Prelude.{map}
-use Rattle.semantics.specs.Could.{Pointstamp, IsTimeAt, Location}
+use Rattle.semantics.specs.Could.{IsTimeAt}
 use Rattle.lowering.specs.Locations.{location_of}
 use Rattle.lowering.specs.Shown.{shown_graph}
-use Rattle.progress.specs.Bag.{IsNone}
-use Rattle.progress.specs.Content.{bag_at}
-use Rattle.progress.specs.Kept.{Among, HasSome}
 use Rattle.progress.specs.Shown.{Located}
 use Rattle.progress.proofs.Places.{kept_added}
 use Rattle.progress.proofs.located.LocationTrackerProgress.add.Goals as goal

@@ -1,4 +1,4 @@
-use Rattle.std.proofs.Common.{◌≡◌, ◌<◌, subst, true, false}
+use Rattle.std.proofs.Common.{◌<◌, subst}
 use Rattle.std.specs.Prelude.{IsTrue, ◌↔◌}
 use Rattle.semantics.specs.Could.{CouldResultIn, NoOtherOf}
 use Rattle.lowering.specs.Shown.{shown_graph}

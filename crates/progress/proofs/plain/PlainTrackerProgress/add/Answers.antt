@@ -1,5 +1,5 @@
-use Rattle.std.proofs.Common.{◌≡◌, ◌∙◌, ◌+◌, ◌++◌, arith, ap, subst, sym, [], ◌∷◌, List}
-use Rattle.semantics.specs.Could.{Pointstamp, IsTimeAt}
+use Rattle.std.proofs.Common.{◌∙◌, ◌+◌, ◌++◌, arith, ap, subst, sym, [], ◌∷◌}
+use Rattle.semantics.specs.Could.{IsTimeAt}
 use Rattle.machine.specs.Active.{one_if_same}
 use Rattle.lowering.specs.Shown.{shown_graph}
 use Rattle.progress.specs.Content.{times_in}

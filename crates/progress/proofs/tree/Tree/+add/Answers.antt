@@ -1,7 +1,6 @@
-use Rattle.std.proofs.Common.{rules, ◌≡◌, ◌∙◌, ◌+◌, ◌≤◌, ◌<◌, sym, ap, subst, arith}
-use Rattle.semantics.specs.Time.{Time}
-use Rattle.progress.specs.Times.{key_of, NoLater}
-use Rattle.progress.specs.Bag.{Bag, count, if_same, with_times, IsFork, IsFirst, Adds}
+use Rattle.std.proofs.Common.{◌≡◌, ◌∙◌, ◌+◌, ◌≤◌, ◌<◌, sym, ap, subst, arith}
+use Rattle.progress.specs.Times.{key_of}
+use Rattle.progress.specs.Bag.{Bag, count, if_same, with_times, IsFork}
 use Rattle.progress.specs.Bags.{bag_of, IsNode}
 use Rattle.progress.proofs.Forks.{added_left, added_right, adds_left, adds_right}
 use Rattle.progress.proofs.tree.Tree.+add.Goals as goal

@@ -1,5 +1,4 @@
 use Rattle.std.proofs.Common.{◌≡◌, ◌∙◌, sym, ap, subst, arith}
-use Rattle.semantics.specs.Time.{Time}
 use Rattle.progress.specs.Bag.{Bag, with_times, IsFork, IsAsked, IsLeast, IsNoneAsked}
 use Rattle.progress.specs.Bags.{bag_of, IsNode}
 use Rattle.progress.proofs.Options.{none_map, some_map, is_true, not_true}

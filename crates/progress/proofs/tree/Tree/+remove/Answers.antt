@@ -1,7 +1,6 @@
-use Rattle.std.proofs.Common.{rules, ◌≡◌, ◌∙◌, ◌+◌, ◌≤◌, ◌<◌, sym, ap, subst, arith, length, length-append}
-use Rattle.semantics.specs.Time.{Time}
-use Rattle.progress.specs.Times.{key_of, NoLater}
-use Rattle.progress.specs.Bag.{Bag, count, if_same, with_times, IsFork, IsFirst, Adds}
+use Rattle.std.proofs.Common.{◌≡◌, ◌∙◌, ◌+◌, ◌≤◌, ◌<◌, sym, ap, subst, arith, length, length-append}
+use Rattle.progress.specs.Times.{key_of}
+use Rattle.progress.specs.Bag.{Bag, count, if_same, with_times, IsFork}
 use Rattle.progress.specs.Bags.{bag_of, IsNode}
 use Rattle.progress.proofs.Forks.{on_left, on_right, less_left, less_right, eq_differs}
 use Rattle.progress.proofs.tree.Tree.+remove.Goals as goal
@@ -34,8 +33,8 @@ remove-requires-else-key-split t c =
     let goes : 0 < count R time = on_right L R here.time time here.count s f there (eq_differs here.time time c.eq.result c.eq.ensures c.if-eq.false) k in
     (grind (arith, length-append L R, ap length e, ap length c.deref_mut-else-key-split.ensures.value), rw c.deref_mut-else-key-split.ensures.value goes)
 
-pub returns-then-key-split : goal.returns-then-key-split
-returns-then-key-split t c = λ u.
+pub returns-then-key-split-clause-removed : goal.returns-then-key-split-clause-removed
+returns-then-key-split-clause-removed t c = λ u.
     let here = c.in-Fork.here in
     let L = c.in-Fork.left.value in
     let R = c.in-Fork.right.value in
@@ -43,10 +42,10 @@ returns-then-key-split t c = λ u.
     let e : with_times L here.time here.count R ≡ c.args.self.now = sym (ap bag_of c.in-Fork.is) ∙ c.self.view_is in
     let f : IsFork L here.time here.count s R = subst IsNode c.in-Fork.is c.self.invariant in
     subst (λ (b : Bag). count b u ≡ if_same u c.args.time.now 1 + count (with_times c.remove.new.self here.time here.count R) u) e
-    (less_left L c.remove.new.self R here.time c.args.time.now here.count (rw c.deref_mut.ensures.value at c.remove.ensures) u)
+    (less_left L c.remove.new.self R here.time c.args.time.now here.count (rw c.deref_mut.ensures.value at c.remove.ensures.removed) u)
 
-pub returns-else-key-split : goal.returns-else-key-split
-returns-else-key-split t c = λ u.
+pub returns-else-key-split-clause-removed : goal.returns-else-key-split-clause-removed
+returns-else-key-split-clause-removed t c = λ u.
     let here = c.in-Fork.here in
     let L = c.in-Fork.left.value in
     let R = c.in-Fork.right.value in
@@ -54,4 +53,4 @@ returns-else-key-split t c = λ u.
     let e : with_times L here.time here.count R ≡ c.args.self.now = sym (ap bag_of c.in-Fork.is) ∙ c.self.view_is in
     let f : IsFork L here.time here.count s R = subst IsNode c.in-Fork.is c.self.invariant in
     subst (λ (b : Bag). count b u ≡ if_same u c.args.time.now 1 + count (with_times L here.time here.count c.remove-else-key-split.new.self) u) e
-    (less_right L R c.remove-else-key-split.new.self here.time c.args.time.now here.count (rw c.deref_mut-else-key-split.ensures.value at c.remove-else-key-split.ensures) u)
+    (less_right L R c.remove-else-key-split.new.self here.time c.args.time.now here.count (rw c.deref_mut-else-key-split.ensures.value at c.remove-else-key-split.ensures.removed) u)

@@ -1,4 +1,4 @@
-use Rattle.std.proofs.Common.{◌≡◌, ◌∙◌, sym, ap, subst}
+use Rattle.std.proofs.Common.{◌∙◌, sym, ap, subst}
 use Rattle.progress.specs.Bag.{Bag, top, IsFirst}
 use Rattle.progress.specs.Bags.{bag_of, IsNode}
 use Rattle.progress.proofs.Forks.{fork_first}

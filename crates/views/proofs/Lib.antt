@@ -1,0 +1,10 @@
+pub mod FirstChanges
+pub mod NothingWaits
+pub mod Histories
+pub mod OneSided
+pub mod TakenBatches
+pub mod QueuesAndViews
+pub mod AppliedBatches
+pub mod ReservedRoom
+pub mod FirstViews
+pub mod WaitingCounts

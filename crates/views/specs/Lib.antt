@@ -1,0 +1,4 @@
+pub mod Waiting
+pub mod Viewed
+pub mod Queued
+pub mod WorkerViews

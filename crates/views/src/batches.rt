@@ -1,0 +1,119 @@
+//! Batches in a list of changes, each with its end.
+
+ghost use Rattle.std.specs.Prelude.{◌≡◌, ◌+◌, ◌<◌, ◌≤◌, ◌∷◌, ◌++◌, ℕ, List, [], false, drop, length, map, slice_index_or, take, vec_capacity, vec_len};
+ghost use Rattle.views.specs.Viewed.{view_graph};
+ghost use Rattle.views.specs.Queued.{AllKnown, EndsFrom, IsOneOf, IsTaken, as_changes, batches_of};
+ghost use Rattle.views.specs.declared.queue.Change.TheVariants.{Add, Remove};
+
+use crate::queue::Change;
+use crate::view::View;
+use path_summary::Pointstamp;
+
+/// Appends a batch.
+pub fn push_batch(changes: &mut Vec<Change>, added: &[Pointstamp], removed: &[Pointstamp])
+    requires { vec_len changes.old + (length added.now + length removed.now + 1) ≤ vec_capacity changes.old }
+    ensures items { changes.new.items ≡ changes.old.items ++ as_changes added.now removed.now }
+    ensures len { vec_len changes.new ≡ vec_len changes.old + (length added.now + length removed.now + 1) }
+    ensures capacity { vec_capacity changes.new ≡ vec_capacity changes.old }
+{
+    push_added(changes, added);
+    push_removed(changes, removed);
+    changes.push_reserved(Change::End);
+}
+
+/// Appends additions.
+fn push_added(changes: &mut Vec<Change>, added: &[Pointstamp])
+    requires { vec_len changes.old + length added.now ≤ vec_capacity changes.old }
+    ensures items { changes.new.items ≡ changes.old.items ++ map Add added.now }
+    ensures len { vec_len changes.new ≡ vec_len changes.old + length added.now }
+    ensures capacity { vec_capacity changes.new ≡ vec_capacity changes.old }
+{
+    for i in 0..added.len() {
+        changes.push_reserved(Change::Add(added[i].copied()));
+    }
+}
+
+/// Appends removals.
+fn push_removed(changes: &mut Vec<Change>, removed: &[Pointstamp])
+    requires { vec_len changes.old + length removed.now ≤ vec_capacity changes.old }
+    ensures items { changes.new.items ≡ changes.old.items ++ map Remove removed.now }
+    ensures len { vec_len changes.new ≡ vec_len changes.old + length removed.now }
+    ensures capacity { vec_capacity changes.new ≡ vec_capacity changes.old }
+{
+    for i in 0..removed.len() {
+        changes.push_reserved(Change::Remove(removed[i].copied()));
+    }
+}
+
+/// Applies the batch that begins at `from` to the view, and returns where the next one begins.
+pub fn take_in(view: &mut View, changes: &[Change], from: usize) -> usize
+    requires some { from < length changes.now }
+    requires ends { EndsFrom false (drop from changes.now) }
+    requires known { AllKnown (view_graph view.old) changes.now }
+    requires active { length (drop from changes.now) ≤ view.old.active.spare }
+    requires owed { length (drop from changes.now) ≤ view.old.owed.spare }
+    ensures taken { IsTaken (drop from changes.now) (drop result changes.now) view.old view.new }
+    ensures within { result ≤ length changes.now }
+    ensures ends { EndsFrom false (drop result changes.now) }
+{
+    for i in from..changes.len() {
+        match &changes[i] {
+            Change::Add(p) => view.add(p),
+            Change::Remove(p) => view.remove(p),
+            Change::End => return i + 1,
+        }
+    }
+    changes.len()
+}
+
+/// The number of changes that every worker has applied.
+pub fn least(taken: &[usize], all: usize) -> usize
+    ensures all { result ≤ all }
+    ensures each { (w : ℕ) → w < length taken.now → result ≤ slice_index_or taken.now w all }
+    ensures some { IsOneOf taken.now all result }
+{
+    let mut least = all;
+    for i in 0..taken.len() {
+        least = least.min(taken[i]);
+    }
+    least
+}
+
+/// Drops the first `count` changes.
+pub fn forget(changes: &mut Vec<Change>, count: usize)
+    requires { count ≤ vec_len changes.old }
+    ensures items { changes.new.items ≡ drop count changes.old.items }
+    ensures len { vec_len changes.new + count ≡ vec_len changes.old }
+    ensures capacity { vec_capacity changes.new ≡ vec_capacity changes.old }
+{
+    let kept = changes.len() - count;
+    changes.rotate_left(count);
+    changes.truncate(kept);
+}
+
+/// Lowers each place.
+pub fn lower(taken: &mut Vec<usize>, by: usize)
+    requires { (w : ℕ) → w < length taken.old.items → by ≤ slice_index_or taken.old.items w by }
+    ensures long { length taken.new.items ≡ length taken.old.items }
+    ensures each { (w d : ℕ) → w < length taken.old.items → slice_index_or taken.new.items w d + by ≡ slice_index_or taken.old.items w d }
+{
+    for i in 0..taken.len() {
+        taken[i] -= by;
+    }
+}
+
+/// The number of batches that end at `from` or later.
+pub fn ends(changes: &[Change], from: usize) -> usize
+    requires { from ≤ length changes.now }
+    ensures { (s : ℕ) → result ≡ length (batches_of s (drop from changes.now)) }
+{
+    let mut count = 0;
+    for i in from..changes.len() {
+        match &changes[i] {
+            Change::Add(_) => {}
+            Change::Remove(_) => {}
+            Change::End => count += 1,
+        }
+    }
+    count
+}

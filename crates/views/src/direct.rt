@@ -1,0 +1,95 @@
+//! Views that are never late.
+
+ghost use Rattle.std.specs.Prelude.{◌≡◌, ◌+◌, ◌<◌, ◌≤◌, ◌↔◌, ℕ, List, [], IsTrue, OnOk, false, length};
+ghost use Rattle.semantics.specs.Could.{CouldResultIn, IsTimeAt, NoOtherOf, NoneOf, Pointstamp as Active};
+ghost use Rattle.progress.specs.Content.{times_in};
+ghost use Rattle.views.specs.Waiting.{IsApplied, IsSeenBy, Waiting, after_post, batch};
+
+use crate::views::Views;
+use expr_tree::NoMemory;
+use path_summary::Pointstamp;
+use progress::Progress;
+
+/// All workers see one tracker, and nothing waits.
+#[derive(Drop)]
+pub struct Direct<P> {
+    workers: u32,
+    tracker: P,
+}
+
+impl<P: Progress> Direct<P> {
+    /// Lets so many workers see one tracker.
+    pub fn new(workers: u32, tracker: P) -> Direct<P>
+        ensures { result ≡ record { workers = workers; tracker = tracker } }
+    {
+        Direct { workers, tracker }
+    }
+}
+
+impl<P: Progress> Views for Direct<P> {
+    ghost graph = { λ d. P.graph d.tracker };
+
+    ghost workers = { λ d. d.workers };
+
+    ghost content = { λ d. P.content d.tracker };
+
+    ghost waiting = { λ d worker sender. [] };
+
+    ghost room = { λ d. P.room d.tracker };
+
+    ghost late = { false };
+
+    fn reserve(&mut self, count: u32) -> Result<(), NoMemory> {
+        self.tracker.reserve(count)
+    }
+
+    fn spare(&self) -> u32 {
+        self.tracker.spare()
+    }
+
+    fn post(&mut self, _sender: u32, added: &[Pointstamp], removed: &[Pointstamp]) {
+        add_all(&mut self.tracker, added);
+        remove_all(&mut self.tracker, removed);
+    }
+
+    fn apply(&mut self, _worker: u32, _sender: u32) -> bool {
+        false
+    }
+
+    fn in_frontier(&self, _worker: u32, p: &Pointstamp) -> bool {
+        self.tracker.in_frontier(p)
+    }
+
+    fn none_before(&self, _worker: u32, p: &Pointstamp) -> bool {
+        self.tracker.none_before(p)
+    }
+
+    fn waiting(&self) -> u64 {
+        0
+    }
+}
+
+/// Adds each of these once.
+fn add_all<P: Progress>(tracker: &mut P, added: &[Pointstamp])
+    requires room { length added.now ≤ P.room tracker.old }
+    requires known { (q : Active) → 0 < times_in added.now q → IsTimeAt (P.graph tracker.old) q.location q.time }
+    ensures graph { P.graph tracker.new ≡ P.graph tracker.old }
+    ensures content { (q : Active) → P.content tracker.new q ≡ times_in added.now q + P.content tracker.old q }
+    ensures room { P.room tracker.old ≤ P.room tracker.new + length added.now }
+{
+    for i in 0..added.len() {
+        tracker.add(&added[i]);
+    }
+}
+
+/// Removes each of these once.
+fn remove_all<P: Progress>(tracker: &mut P, removed: &[Pointstamp])
+    requires there { (q : Active) → times_in removed.now q ≤ P.content tracker.old q }
+    ensures graph { P.graph tracker.new ≡ P.graph tracker.old }
+    ensures content { (q : Active) → P.content tracker.old q ≡ times_in removed.now q + P.content tracker.new q }
+    ensures room { P.room tracker.old ≤ P.room tracker.new }
+{
+    for i in 0..removed.len() {
+        tracker.remove(&removed[i]);
+    }
+}

@@ -1,0 +1,27 @@
+//! Views of progress: what each worker sees of the active pointstamps (Naiad, section 3.3).
+//!
+//! The contract for the layers above: `Views`. A worker's view may be late, but what it lets through is let through by what is really
+//! active, and exactly so once nothing waits for the worker.
+//!
+//! | Type | A batch of changes is seen | Cost of a batch |
+//! |---|---|---|
+//! | `Direct` | at once, by all workers | one update of one tracker for each change |
+//! | `LocalViews` | by each worker once it applies it; each sender's in their order | one update for each change and worker |
+//!
+//! Below are the trackers of crate `progress`.
+#![tactic(auto)]
+
+mod all_waiting;
+mod batches;
+mod direct;
+mod laws;
+mod local_views;
+mod queue;
+mod view;
+mod views;
+
+pub use all_waiting::catch_up;
+pub use direct::Direct;
+pub use laws::{law_of_step, law_of_waiting};
+pub use local_views::LocalViews;
+pub use views::Views;
