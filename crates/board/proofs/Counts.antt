@@ -121,3 +121,16 @@ counts_new s unfed w is = record { sealed = inl refl; passed = λ v e r l. absur
     none_sealed : (m : ℕ) → SealedTo (net s) w m → m ≤ 0
     none_sealed m (inl e) = omega (arith, e)
     none_sealed m (inr (i, l, b)) = let a = is.open_epoch i in let z = ap (λ (x : InputShown). x.open_epoch) (unfed i) in omega (arith, a, b, z)
+
+-- the number is one, and each epoch below it has passed
+module _ (graph : Graph) (content : Pointstamp → ℕ) (s : Shown) (kept : IsKept graph content s) where
+  pub one_count : (m n : ℕ) → CountsPassed s m → CountsPassed s n → m ≡ n
+  one_count m n a b =
+      let x = a kept.world kept.shows in
+      let y = b kept.world kept.shows in
+      let l = x.greatest n y.sealed y.passed in
+      let g = y.greatest m x.sealed x.passed in
+      omega (arith, l, g)
+
+  pub counted : (n : ℕ) → CountsPassed s n → (e : ℕ) → e < n → HasPassed s e
+  counted n c e l w is = (c w is).passed (output_number (shown_graph s.graph)) e (ap role kept.flows.shaped.has_output) l

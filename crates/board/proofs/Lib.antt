@@ -31,3 +31,4 @@ pub mod Promised
 pub mod Opened
 pub mod Growing
 pub mod Looked
+pub mod Choosing

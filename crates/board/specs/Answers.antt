@@ -36,6 +36,10 @@ Commits s t p (Err (NoMemory d)) = (d ≡ p) × (t ≡ s)
 abbrev pub HasNoChoice : Shown → ℕ → Type 0
 HasNoChoice s k = (w : World) (step : Step) → Shows s w → Allowed (net s) w step → IsClaimBy k step → ⊥
 
+-- the worker has a choice: some claim of it is allowed
+abbrev pub HasChoice : Shown → ℕ → Type 0
+HasChoice s k = (w : World) → Shows s w → (step : Step) × Allowed (net s) w step × IsClaimBy k step
+
 -- the event was handed out by a claim of this worker
 pub record Hands (s : Shown) (k : ℕ) (t : Shown) (p : Pass) : Type 0 where
   pub taken : Step

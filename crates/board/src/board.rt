@@ -1,6 +1,6 @@
 //! The board: the core state of a run.
 
-ghost use Rattle.std.specs.Prelude.{◌≡◌, ◌==◌, ◌↔◌, ◌<◌, ◌≤◌, ℕ, [], cond, length, slice_index_or, IfOk, IsTrue, OnOk, OnErr};
+ghost use Rattle.std.specs.Prelude.{◌≡◌, ◌==◌, ◌↔◌, ◌<◌, ◌≤◌, ℕ, [], cond, length, slice_index_or, IfOk, IsTrue, MatchBool, OnOk, OnErr};
 ghost use Rattle.lowering.specs.Shown.{shown_graph};
 ghost use Rattle.semantics.specs.Could.{Pointstamp as Active, at_vertex};
 ghost use Rattle.semantics.specs.Graph.{input_count, output_number};
@@ -8,7 +8,7 @@ ghost use Rattle.semantics.specs.Query.{Program};
 ghost use Rattle.semantics.specs.Time.{at_epoch};
 ghost use Rattle.machine.specs.Step.{Step};
 ghost use Rattle.machine.specs.World.{opening};
-ghost use Rattle.board.specs.Answers.{AnswersOnly, AnswersOr, Claims, Commits, Holds, feed_refusal, input_refusal, seal_refusal};
+ghost use Rattle.board.specs.Answers.{AnswersOnly, AnswersOr, Claims, Commits, HasChoice, HasNoChoice, Holds, feed_refusal, input_refusal, seal_refusal};
 ghost use Rattle.board.specs.Kept.{Goes};
 ghost use Rattle.board.specs.Commits.{IsOf};
 ghost use Rattle.board.specs.Desks.{is_out};
@@ -243,6 +243,30 @@ impl<P: Progress> Board<P> {
         }
     }
 
+    /// Whether a claim of the worker would hand out an event.
+    pub fn can_claim(&self, worker: u32) -> bool
+        ensures { MatchBool result (HasChoice self.now worker) (HasNoChoice self.now worker) }
+    {
+        if self.state.is_stopped() {
+            return false;
+        }
+        let number = worker as usize;
+        if !self.state.has_worker(number) {
+            return false;
+        }
+        if !self.state.is_free(number) {
+            return false;
+        }
+        let mail = self.state.mail_count(number);
+        if mail > 0 {
+            return true;
+        }
+        match first_deliverable(&self.tracker, self.state.requests(number)) {
+            Some(_) => true,
+            None => false,
+        }
+    }
+
     /// Whether an epoch has passed: no more records will come to the output for it.
     pub fn passed(&self, epoch: u32) -> bool
         ensures { IsTrue result ↔ HasPassed self.now epoch }
@@ -256,6 +280,14 @@ impl<P: Progress> Board<P> {
         ensures { CountsPassed self.now result }
     {
         self.passed as u64
+    }
+
+    /// One number alone is that of the passed epochs, and each epoch below it has passed. Nothing is done.
+    pub fn law_count(&self)
+        ensures one { (m n : ℕ) → CountsPassed self.now m → CountsPassed self.now n → m ≡ n }
+        ensures below { (n : ℕ) → CountsPassed self.now n → (epoch : ℕ) → epoch < n → HasPassed self.now epoch }
+    {
+        let _ = &self.state;
     }
 
     /// What has passed stays so, and the number of passed epochs doesn't fall, by any step from here. Nothing is done.
@@ -307,6 +339,20 @@ impl<P: Progress> Board<P> {
         ensures { result ≡ input_refusal self.now input }
     {
         self.state.input_refusal(input)
+    }
+
+    /// Whether the board is stopped: an event was given up.
+    pub fn is_stopped(&self) -> bool
+        ensures { result ≡ self.now.stopped }
+    {
+        self.state.is_stopped()
+    }
+
+    /// Whether every input is closed, nothing waits, and no worker holds an event or lost one.
+    pub fn is_drained(&self) -> bool
+        ensures { MatchBool result (IsDrained self.now) (IsDrained self.now → ⊥) }
+    {
+        self.state.is_drained()
     }
 
     /// The graph that the board runs.

@@ -5,23 +5,27 @@ ghost use Rattle.board.specs.Commits.{IsOf};
 
 use board::{Board, Claimed, CommitRefusal};
 use events::Work;
-use lowering::{VertexId, lower};
+use lowering::{Graph, VertexId, lower};
 use parser::parse;
-use progress::LocationTracker;
+use progress::{LocationTracker, Progress};
 use rows::{Batch, Rows};
-use std::alloc::Global;
+use std::alloc::{AllocError, Global};
 use std::sync::Arc;
 use typing::check;
+
+/// The graph of a query.
+pub fn graph_of(alloc: Global, text: &str) -> Option<Arc<Graph, Global>> {
+    let program = parse(alloc, text.as_bytes()).ok()?;
+    let typed = check(alloc, program).ok()?;
+    Arc::new(alloc, lower(alloc, &typed).ok()?).ok()
+}
 
 /// A board over the graph of a query.
 pub fn board_of(alloc: Global, text: &str, workers: u32) -> Option<Board<LocationTracker>>
     requires some { 0 < workers }
     requires few { workers ≤ 64 }
 {
-    let program = parse(alloc, text.as_bytes()).ok()?;
-    let typed = check(alloc, program).ok()?;
-    let graph = Arc::new(alloc, lower(alloc, &typed).ok()?).ok()?;
-    Board::new(alloc, graph, workers).ok()
+    Board::new(alloc, graph_of(alloc, text)?, workers).ok()
 }
 
 /// A batch of one record.
@@ -86,6 +90,17 @@ pub fn claimed(board: &mut Board<LocationTracker>) -> Option<Work>
 }
 
 /// The output vertex, which is the last one.
-pub fn output_of(board: &Board<LocationTracker>) -> VertexId {
+pub fn output_of<P: Progress>(board: &Board<P>) -> VertexId {
     VertexId(board.graph().vertex_count().saturating_sub(1) as u32)
+}
+
+/// The fields of all records, in order.
+pub fn fields_of(alloc: Global, batches: &[Batch]) -> Result<Vec<i64>, AllocError> {
+    let mut fields = Vec::new(alloc);
+    for batch in batches {
+        for place in 0..batch.len() {
+            fields.extend_from_slice(batch.row(place))?;
+        }
+    }
+    Ok(fields)
 }

@@ -1,7 +1,9 @@
 //! Each call once on its happy path, and each refusal in its order.
 
-use crate::boards::{Turn, batch_of, board_of, claimed, commit, output_of, take_turn};
-use board::StepRefusal;
+use crate::boards::{Turn, batch_of, board_of, claimed, commit, fields_of, output_of, take_turn};
+use board::{Board, Look, StepRefusal};
+use progress::LocationTracker;
+use std::alloc::Global;
 use std::test::Fail;
 
 const COPY: &str = "input a/1; output a;";
@@ -118,5 +120,51 @@ fn holds_one_event_a_worker(rt: HostRuntime) -> Result<(), Fail> {
     assert!(rt; !absent);
     assert_eq!(rt; committed, Turn::Committed);
     assert!(rt; !board.holding(0));
+    Ok(())
+}
+
+/// Whether a look shows that 5 was fed, and these fields were emitted.
+fn is_shown(alloc: Global, look: &Look, emitted: &[i64], passed: bool) -> bool {
+    match (
+        fields_of(alloc, look.fed(0)),
+        fields_of(alloc, look.emitted()),
+    ) {
+        (Ok(fed), Ok(fields)) => {
+            fed.as_slice() == [5].as_slice()
+                && fields.as_slice() == emitted
+                && look.fed(1).is_empty()
+                && look.passed() == passed
+        }
+        _ => false,
+    }
+}
+
+/// Whether a look at 5, counted by two workers, shows the same before and after the board goes on.
+fn is_kept(alloc: Global, board: &mut Board<LocationTracker>) -> bool {
+    let Ok(before) = board.look(alloc, 0) else {
+        return false;
+    };
+    for turn in 0..8u32 {
+        let _turn = take_turn(alloc, board, turn % 2);
+    }
+    let Ok(after) = board.look(alloc, 0) else {
+        return false;
+    };
+    is_shown(alloc, &before, &[], false) && is_shown(alloc, &after, &[5, 1], true)
+}
+
+/// The number of workers, of changes that wait, and whether looks are kept.
+fn looked(alloc: Global) -> Option<(u32, u64, bool)> {
+    let mut board = board_of(alloc, COUNTS, 2)?;
+    let batch = batch_of(alloc, &[5])?;
+    let is_fed = board.feed(alloc, 0, batch).is_ok() && board.seal(0).is_ok();
+    let is_kept = is_fed && is_kept(alloc, &mut board);
+    Some((board.workers(), board.waiting_changes(), is_kept))
+}
+
+// What a look shows stays, and its batches too, while the board goes on.
+#[test]
+fn looks(rt: HostRuntime) -> Result<(), Fail> {
+    assert_eq!(rt; looked(rt.alloc()), Some((2, 0, true)));
     Ok(())
 }

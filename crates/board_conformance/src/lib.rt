@@ -1,11 +1,13 @@
-//! The board's calls: each once on its happy path, each refusal in its order, and schedules at random, after each call of which
-//! what was emitted is compared with what a plain evaluator makes of what was fed.
+//! The board's calls: each once on its happy path, each refusal in its order, calls that are made once more after a refusal, and
+//! schedules at random, after each call of which what was emitted is compared with what a plain evaluator makes of what was fed.
 #![tactic(auto)]
 
 #[cfg(test)]
 mod boards;
 #[cfg(test)]
 mod calls;
+#[cfg(test)]
+mod growths;
 #[cfg(test)]
 mod reach;
 #[cfg(test)]

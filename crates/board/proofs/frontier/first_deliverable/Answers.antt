@@ -2,7 +2,7 @@ use Rattle.std.proofs.Common.{◌≡◌, ◌<◌, ℕ, List, true, false, length
 use Rattle.arrayvec.specs.ArrayVec.{ArrayVec}
 use Rattle.machine.specs.World.{Request}
 use Rattle.board.specs.Deliverable.{IsBlocked, IsDeliverable, StandsBefore}
-use Rattle.board.proofs.Frontiers.{blocked_next, blocked_place, each_pushed, stands_blocked}
+use Rattle.board.proofs.Frontiers.{blocked_next, each_pushed, stands_blocked}
 use Rattle.board.proofs.Handing.{get_read}
 use Rattle.board.proofs.Places.{get_index}
 use Rattle.board.proofs.frontier.first_deliverable.Goals as goal

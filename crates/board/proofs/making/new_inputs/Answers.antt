@@ -1,4 +1,4 @@
-use Rattle.std.proofs.Common.{◌∷◌, [], length, arith, length-append}
+use Rattle.std.proofs.Common.{◌∷◌, [], arith, length-append}
 use Rattle.board.specs.Shown.{no_input}
 use Rattle.board.proofs.Growing.{all_same_more, nothing_there}
 use Rattle.board.proofs.making.new_inputs.Goals as goal

@@ -1,0 +1,275 @@
+//! Calls that are refused for want of memory: the board is as before, and takes the same once more.
+
+ghost use Rattle.std.specs.Prelude.{◌≡◌, IfOk};
+ghost use Rattle.lowering.specs.Shown.{shown_graph};
+ghost use Rattle.semantics.specs.Could.{Pointstamp as Active};
+ghost use Rattle.progress.specs.Content.{times_at};
+ghost use Rattle.board.specs.Commits.{IsOf};
+
+use crate::boards::{batch_of, board_of, fields_of, graph_of, output_of};
+use board::{Board, Claimed, CommitRefusal, StepRefusal};
+use events::{Done, Work};
+use expr_tree::NoMemory;
+use lowering::Graph;
+use path_summary::{Paths, Pointstamp};
+use progress::{LocationTracker, Progress};
+use std::alloc::{AllocError, Global};
+use std::sync::Arc;
+use std::test::Fail;
+
+const COUNTS: &str = "input a/1; output group(select(a; #0 * 2); #0; count);";
+
+/// A tracker that refuses one of its growths.
+#[derive(Drop)]
+struct Refusing {
+    tracker: LocationTracker,
+    /// How many growths there are until that one.
+    granted: u32,
+    has_refused: bool,
+}
+
+impl Progress for Refusing {
+    ghost graph = { λ t. shown_graph t.tracker.graph };
+
+    ghost content = { λ t. times_at t.tracker.edges t.tracker.vertices };
+
+    ghost room = { λ t. t.tracker.spare };
+
+    fn reserve(&mut self, count: u32) -> Result<(), NoMemory> {
+        if self.granted == 0 && !self.has_refused {
+            self.has_refused = true;
+            return Err(NoMemory);
+        }
+        self.granted = self.granted.saturating_sub(1);
+        self.tracker.reserve(count)
+    }
+
+    fn spare(&self) -> u32 {
+        self.tracker.spare()
+    }
+
+    fn add(&mut self, p: &Pointstamp) {
+        self.tracker.add(p);
+    }
+
+    fn remove(&mut self, p: &Pointstamp) {
+        self.tracker.remove(p);
+    }
+
+    fn in_frontier(&self, p: &Pointstamp) -> bool {
+        self.tracker.in_frontier(p)
+    }
+
+    fn none_before(&self, p: &Pointstamp) -> bool {
+        self.tracker.none_before(p)
+    }
+}
+
+/// A tracker of a graph, in which nothing is active.
+fn tracker_of(alloc: Global, graph: &Arc<Graph, Global>) -> Result<LocationTracker, NoMemory>
+    ensures graph { IfOk result (λ t. t.graph ≡ graph.now.value) }
+    ensures none { IfOk result (λ t. (q : Active) → times_at t.edges t.vertices q ≡ 0) }
+{
+    let paths = Arc::new(alloc, Paths::of(alloc, graph)?)?;
+    let tracker = LocationTracker::new(alloc, paths)?;
+    Ok(tracker)
+}
+
+/// A board of two workers whose tracker refuses a growth after so many; nothing where the opening is refused.
+fn board_after(alloc: Global, granted: u32) -> Option<Board<Refusing>> {
+    let graph = graph_of(alloc, COUNTS)?;
+    let Ok(tracker) = tracker_of(alloc, &graph) else {
+        return None;
+    };
+    let refusing = Refusing {
+        tracker,
+        granted,
+        has_refused: false,
+    };
+    Board::with_tracker(alloc, graph, 2, refusing).ok()
+}
+
+/// Why a schedule ended early.
+#[derive(Clone, Copy, Debug, PartialEq, Eq)]
+enum Fault {
+    /// After a refusal the board wasn't as before, or it refused the same once more.
+    Spoiled,
+    /// There was no memory to compute an event, which was given up.
+    GivenUp,
+}
+
+/// How many records the board has emitted for an epoch.
+fn emitted_count<P: Progress>(board: &Board<P>, epoch: u32) -> usize {
+    let mut count = 0usize;
+    for batch in board.emitted(output_of(board), epoch) {
+        count = count.saturating_add(batch.len());
+    }
+    count
+}
+
+/// Records at the output of two epochs, the number of passed epochs, and whether each of two workers holds an event.
+fn shown<P: Progress>(board: &Board<P>) -> (usize, usize, u64, bool, bool) {
+    (
+        emitted_count(board, 0),
+        emitted_count(board, 1),
+        board.passed_count(),
+        board.holding(0),
+        board.holding(1),
+    )
+}
+
+/// Commits an event once more after a refusal; without memory it is given up.
+fn commit_again<P: Progress>(board: &mut Board<P>, done: Done) -> bool
+    requires { IsOf board.old done }
+{
+    match board.commit(done) {
+        Ok(()) => true,
+        Err(CommitRefusal::NoMemory(done)) => {
+            board.abandon_done(done);
+            false
+        }
+    }
+}
+
+/// Commits an event, if need be twice. How often that was refused.
+fn commit_twice<P: Progress>(board: &mut Board<P>, done: Done) -> Result<u32, Fault>
+    requires { IsOf board.old done }
+{
+    let before = shown(board);
+    match board.commit(done) {
+        Ok(()) => Ok(0),
+        Err(CommitRefusal::NoMemory(done)) => {
+            let is_same = shown(board) == before;
+            if commit_again(board, done) && is_same {
+                Ok(1)
+            } else {
+                Err(Fault::Spoiled)
+            }
+        }
+    }
+}
+
+/// Computes an event and commits it, if need be twice. How often that was refused.
+fn finish<P: Progress>(alloc: Global, board: &mut Board<P>, work: Work) -> Result<u32, Fault>
+    requires { IsOf board.old work.0 }
+{
+    match work.compute(alloc) {
+        Ok(done) => commit_twice(board, done),
+        Err(work) => {
+            board.abandon(work);
+            Err(Fault::GivenUp)
+        }
+    }
+}
+
+/// Feeds a record, or seals the input where there is none.
+fn offer<P: Progress>(
+    alloc: Global,
+    board: &mut Board<P>,
+    field: Option<i64>,
+) -> Result<(), StepRefusal> {
+    match field {
+        None => board.seal(0),
+        Some(field) => match batch_of(alloc, &[field]) {
+            None => Err(StepRefusal::NoMemory),
+            Some(batch) => board.feed(alloc, 0, batch),
+        },
+    }
+}
+
+/// Does so, if need be twice. How often that was refused.
+fn offer_twice<P: Progress>(
+    alloc: Global,
+    board: &mut Board<P>,
+    field: Option<i64>,
+) -> Result<u32, Fault> {
+    let before = shown(board);
+    if offer(alloc, board, field).is_ok() {
+        return Ok(0);
+    }
+    if shown(board) == before && offer(alloc, board, field).is_ok() {
+        return Ok(1);
+    }
+    Err(Fault::Spoiled)
+}
+
+/// Feeds two epochs and lets two workers take turns until the board is drained. How many calls were refused.
+fn refused<P: Progress>(alloc: Global, board: &mut Board<P>) -> Result<u32, Fault> {
+    let mut refused = 0u32;
+    for field in [Some(1), Some(1), Some(2), None, Some(2), None] {
+        refused = refused.saturating_add(offer_twice(alloc, board, field)?);
+    }
+    if board.close(0).is_err() {
+        return Err(Fault::Spoiled);
+    }
+    for turn in 0..100u32 {
+        match board.claim(turn % 2) {
+            Claimed::Work(work) => {
+                refused = refused.saturating_add(finish(alloc, board, work)?);
+            }
+            Claimed::Drained => return Ok(refused),
+            Claimed::Idle => {}
+            Claimed::Stopped | Claimed::Busy => return Err(Fault::Spoiled),
+        }
+    }
+    Err(Fault::Spoiled)
+}
+
+/// Whether the board emitted what `COUNTS` means on what `refused` feeds.
+fn is_answered<P: Progress>(alloc: Global, board: &Board<P>) -> Result<bool, AllocError> {
+    let first = fields_of(alloc, board.emitted(output_of(board), 0))?;
+    let second = fields_of(alloc, board.emitted(output_of(board), 1))?;
+    Ok(
+        matches!(first.as_slice(), [2, 2, 4, 1] | [4, 1, 2, 2])
+            && matches!(second.as_slice(), [4, 1])
+            && board.passed(1),
+    )
+}
+
+/// How many calls were refused where the tracker refuses its growth after so many, if the answer is whole.
+fn refused_after(alloc: Global, granted: u32) -> Option<u32> {
+    let mut board = board_after(alloc, granted)?;
+    match (refused(alloc, &mut board), is_answered(alloc, &board)) {
+        (Ok(count), Ok(true)) => Some(count),
+        _ => None,
+    }
+}
+
+// Each feed, seal and commit reserves once, and there are four feeds, two seals and twelve commits at least.
+#[test]
+fn refused_by_the_tracker(rt: HostRuntime) -> Result<(), Fail> {
+    assert!(rt; board_after(rt.alloc(), 0).is_none());
+    for granted in 1..100u32 {
+        match refused_after(rt.alloc(), granted) {
+            Some(0) => {
+                assert!(rt; granted > 18);
+                return Ok(());
+            }
+            count => assert_eq!(rt; count, Some(1)),
+        }
+    }
+    Err(Fail::from("always refused"))
+}
+
+// To be run with each allocation refused in turn: whichever that is, the answer is whole, or an event was given up, and then its epoch
+// never passes.
+#[test]
+fn refused_by_the_heap(rt: HostRuntime) -> Result<(), Fail> {
+    let alloc = rt.alloc();
+    let first = board_of(alloc, COUNTS, 2);
+    let mut board = match first {
+        Some(board) => board,
+        None => board_of(alloc, COUNTS, 2).ok_or("no board")?,
+    };
+    match refused(alloc, &mut board) {
+        Ok(count) => {
+            assert!(rt; count <= 1);
+            assert!(rt; is_answered(alloc, &board).or_else(|_| is_answered(alloc, &board))?);
+        }
+        Err(fault) => {
+            assert_eq!(rt; fault, Fault::GivenUp);
+            assert!(rt; !board.passed(1));
+        }
+    }
+    Ok(())
+}

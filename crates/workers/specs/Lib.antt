@@ -1,0 +1,4 @@
+pub mod Rule
+pub mod Tokens
+pub mod Names
+pub mod Held

@@ -1,0 +1,190 @@
+//! A board under a lock, for any number of threads.
+
+ghost use Rattle.std.specs.Prelude.{◌≡◌, ◌≤◌, ◌<◌, true, IfErr, IfOk, IfSome};
+ghost use Rattle.board.specs.Shown.{tables};
+ghost use Rattle.workers.specs.Names.{GivesNamed, IsNamed};
+
+use crate::floor::{Floor, Wakes};
+use crate::held::{Held, Naming};
+use crate::mark::{Mark, Publisher, Seat};
+use board::{Board, Claimed, Look, StepRefusal};
+use events::{Done, Work};
+use expr_tree::NoMemory;
+use progress::Progress;
+use rows::Batch;
+use std::alloc::Global;
+use std::sync::{Condvar, Mutex, Wait};
+
+/// A board under a lock, with a bell for each worker and one for those who wait for epochs to pass.
+#[derive(Drop)]
+pub struct Engine<J: Naming, P: Progress> {
+    floor: Mutex<Floor<J, P>>,
+    bells: Vec<Condvar>,
+    passing: Condvar,
+}
+
+impl<J: Naming, P: Progress> Engine<J, P> {
+    /// Of a board, and of a publisher that has published nothing.
+    pub fn new(
+        alloc: Global,
+        board: Board<P>,
+        publisher: Publisher,
+    ) -> Result<Engine<J, P>, NoMemory>
+        requires names { tables board ≡ J.names }
+        requires graph { board.graph ≡ J.graph }
+        requires fresh { publisher.number ≡ 0 }
+    {
+        let workers = board.workers();
+        let mut bells = Vec::with_capacity(alloc, workers as usize)?;
+        for _worker in 0..workers {
+            bells.push(Condvar::new())?;
+        }
+        Ok(Engine {
+            floor: Mutex::new(Floor::new(Held::new(board, publisher))),
+            bells,
+            passing: Condvar::new(),
+        })
+    }
+
+    /// Feeds a batch to an input at its open epoch, as the board's call.
+    pub fn feed<R: Wait>(
+        &self,
+        rt: &R,
+        alloc: Global,
+        input: u32,
+        batch: Batch,
+    ) -> Result<(), StepRefusal> {
+        let (result, wakes) = self.floor.lock(rt).feed(alloc, input, batch);
+        self.wake(wakes);
+        result
+    }
+
+    /// Ends the open epoch of an input, as the board's call.
+    pub fn seal<R: Wait>(&self, rt: &R, input: u32) -> Result<(), StepRefusal> {
+        let (result, wakes) = self.floor.lock(rt).seal(input);
+        self.wake(wakes);
+        result
+    }
+
+    /// Closes an input, as the board's call.
+    pub fn close<R: Wait>(&self, rt: &R, input: u32) -> Result<(), StepRefusal> {
+        let (result, wakes) = self.floor.lock(rt).close(input);
+        self.wake(wakes);
+        result
+    }
+
+    /// Sleeps until so many epochs have passed, or the board is stopped.
+    pub fn wait_for<R: Wait>(&self, rt: &R, count: u64) {
+        let mut floor = self.floor.lock(rt);
+        for _turn in rt.forever() {
+            if floor.has_passed(count) {
+                return;
+            }
+            floor = self.passing.wait(rt, floor);
+        }
+    }
+
+    /// What the board shows of an epoch, to be kept. The mark is read by the seat, in any case. None only where the mark says that
+    /// more epochs have passed than have here, as that of another engine may.
+    pub fn look<R: Wait>(
+        &self,
+        rt: &R,
+        alloc: Global,
+        epoch: u32,
+        mark: &Mark,
+        seat: &mut Seat,
+    ) -> Result<Option<Look>, NoMemory>
+        requires { seat.old.table ≡ mark.now }
+        ensures table { seat.new.table ≡ seat.old.table }
+        ensures rises { seat.old.number ≤ seat.new.number }
+        ensures passed { IfOk result (λ o. IfSome o (λ l. epoch < seat.new.number → l.passed ≡ true)) }
+        ensures graph { IfOk result (λ o. IfSome o (λ l. l.graph ≡ J.graph)) }
+    {
+        let floor = self.floor.lock(rt);
+        let held = &floor.held;
+        let word = mark.observe(seat);
+        if word > held.passed_count() {
+            return Ok(None);
+        }
+        Ok(Some(held.look(alloc, epoch)?))
+    }
+
+    /// Claims an event for the worker, and answers what it finds.
+    pub(crate) fn try_claim<R: Wait>(&self, rt: &R, worker: u32) -> Claimed
+        ensures { GivesNamed J.names result }
+    {
+        self.floor.lock(rt).claim(worker)
+    }
+
+    /// Claims an event for the worker, and sleeps while there is nothing that it could do.
+    pub(crate) fn claim<R: Wait>(&self, rt: &R, worker: u32) -> Claimed
+        ensures { GivesNamed J.names result }
+    {
+        let Some(bell) = self.bells.get(worker as usize) else {
+            return Claimed::Busy;
+        };
+        let mut floor = self.floor.lock(rt);
+        for _turn in rt.forever() {
+            match floor.claim(worker) {
+                Claimed::Idle => floor = bell.wait(rt, floor),
+                claimed => return claimed,
+            }
+        }
+        unreachable!()
+    }
+
+    /// Ends an event and claims the worker's next one, in one taking of the lock. Without memory all stays, and the event comes back.
+    pub(crate) fn commit<R: Wait>(&self, rt: &R, worker: u32, done: Done) -> Result<Claimed, Done>
+        requires { IsNamed J.names done }
+        ensures next { IfOk result (λ claimed. GivesNamed J.names claimed) }
+        ensures back { IfErr result (λ back. back ≡ done) }
+    {
+        let (result, wakes) = self.floor.lock(rt).commit(worker, done);
+        self.wake(wakes);
+        result
+    }
+
+    /// Gives an event up, which stops the board.
+    pub(crate) fn abandon<R: Wait>(&self, rt: &R, work: Work)
+        requires { IsNamed J.names work.0 }
+    {
+        let wakes = self.floor.lock(rt).abandon(work);
+        self.wake(wakes);
+    }
+
+    /// Gives a computed event up, which stops the board.
+    pub(crate) fn abandon_done<R: Wait>(&self, rt: &R, done: Done)
+        requires { IsNamed J.names done }
+    {
+        let wakes = self.floor.lock(rt).abandon_done(done);
+        self.wake(wakes);
+    }
+
+    /// Wakes them. No lock is held.
+    fn wake(&self, wakes: Wakes) {
+        if wakes.has_workers() {
+            let mut worker = 0;
+            for bell in &self.bells {
+                if wakes.has_worker(worker) {
+                    bell.notify_all();
+                }
+                worker = worker.saturating_add(1);
+            }
+        }
+        if wakes.has_feeders() {
+            self.passing.notify_all();
+        }
+    }
+
+    /// The board, once no thread shares the engine any more.
+    pub(crate) fn into_board(self) -> Board<P>
+        ensures { result.graph ≡ J.graph }
+    {
+        let Engine {
+            floor,
+            bells: _,
+            passing: _,
+        } = self;
+        floor.into_inner().into_board()
+    }
+}

@@ -1,0 +1,46 @@
+//! Many workers on one board, and observers.
+//!
+//! An `Engine` is a board under a lock. A worker's thread `work`s: it claims an event, computes it with no lock held, and commits it. A
+//! commit and the same worker's next claim are one taking of the lock. Whom a call has given something to do is told so once the lock
+//! is given back; nobody else is woken.
+//!
+//! | Call | By | What it does | Answers |
+//! |---|---|---|---|
+//! | `Engine::feed`, `seal`, `close` | who has the input | the board's call | as the board's; refused, all is as before |
+//! | `Engine::wait_for` | who has the input | sleeps until so many epochs have passed, or the board is stopped | nothing |
+//! | `work` | a worker's thread | works, and sleeps while there is nothing that it could do | drained, stopped, busy |
+//! | `work_along` | the one thread of a run | works while there is something to do now | the same, or nothing |
+//! | `Mark::observe` | an observer | one load: no lock, no memory, no waiting | how many epochs have passed, never less than its seat has read |
+//! | `Engine::look` | an observer | one load by the seat, and what the board shows of an epoch | what is below the mark has passed; nothing, where the mark is another engine's and ahead |
+//! | `finish` | who has the engine alone | ends the run | its `Report`; nothing, where a seat has read more than has passed |
+//!
+//! Want of memory in a worker gives its event up. That stops the board, and all workers end.
+//!
+//! The contract for the layers above:
+//!
+//! - `Held` is what lies under the lock. Each of its calls is the board's, with the board's contract, and then what has passed is
+//!   published. So whoever takes the lock finds a board that keeps the main promise, and the mark at the number of epochs that have
+//!   passed, neither more nor less.
+//! - A `Look` and a `Report` keep the promise by their types. Whether a report is drained is answered exactly.
+//! - An event goes back to the engine that handed it out, and to no other: that is a condition of the calls, of which `work` is proved
+//!   (`Naming`).
+//!
+//! What a call on an engine did behind the lock no clause can name, nor that a thread is woken, nor that two threads compute at once:
+//! tests show these (`workers_conformance`). Below stand `board` and `events`.
+#![tactic(auto)]
+
+mod engine;
+mod floor;
+mod gate;
+mod held;
+mod mark;
+mod report;
+mod rule;
+mod working;
+
+pub use engine::Engine;
+pub use gate::{Gate, NoGate};
+pub use held::{Held, Naming};
+pub use mark::{Mark, Publisher, Seat};
+pub use report::{Report, finish};
+pub use working::{Ended, work, work_along};

@@ -1,0 +1,138 @@
+//! What a run has come to.
+
+ghost use Rattle.std.specs.Prelude.{◌≡◌, ◌==◌, ◌≤◌, ◌<◌, ℕ, [], All, IfSome, IsTrue, MatchBool, cond, length, slice_index_or};
+ghost use Rattle.lowering.specs.Shown.{shown_graph};
+ghost use Rattle.semantics.specs.Graph.{input_count, output_number};
+ghost use Rattle.semantics.specs.Query.{Program};
+ghost use Rattle.board.specs.Promises.{CountsPassed, HasPassed, Headline, IsDrained, RunsProgram};
+ghost use Rattle.board.specs.Shown.{input_at};
+
+use crate::engine::Engine;
+use crate::held::Naming;
+use crate::mark::{Mark, Seat};
+use board::Board;
+use lowering::{Graph, VertexId};
+use progress::Progress;
+use rows::Batch;
+use std::marker::Model;
+
+/// What a finished engine shows: its board, on which nobody works any more.
+#[derive(Drop)]
+pub struct Report<P: Progress> {
+    board: Board<P>,
+}
+
+impl<P: Progress> Model for Report<P> {
+    ghost use Rattle.std.specs.Coded.{codes};
+    ghost use Rattle.vertices.specs.contracts.shard.Shard as shard_row;
+    ghost use Rattle.std.specs.contracts.alloc.Global as heap;
+    ghost use Rattle.std.specs.contracts.impls.GlobalAllocator.TheImpl as allocates;
+    ghost use Rattle.expr_tree.specs.contracts.scalar.Scalar as scalar;
+    ghost use Rattle.expr_tree.specs.contracts.condition.Cond as condition;
+    ghost use Rattle.board.specs.Shown.{Shown};
+
+    ghost Value = { Shown };
+
+    ghost coded = { Prim.hlevel (codes, shard_row.the_row.coded, (scalar.the_row heap.the_row allocates.ghosts).coded, (condition.the_row heap.the_row allocates.ghosts).coded) };
+
+    ghost view = { λ r. r.board };
+}
+
+impl<P: Progress> Report<P> {
+    /// Whether every input is closed, nothing waits, and no event is held or given up.
+    pub fn drained(&self) -> bool
+        ensures { MatchBool result (IsDrained self.now) (IsDrained self.now → ⊥) }
+    {
+        self.board.is_drained()
+    }
+
+    /// How many epochs have passed.
+    pub fn passed(&self) -> u64
+        ensures { CountsPassed self.now result }
+    {
+        self.board.passed_count()
+    }
+
+    /// The graph that was run.
+    pub fn graph(&self) -> &Graph
+        ensures { result.now ≡ self.now.graph }
+    {
+        self.board.graph()
+    }
+
+    /// The batches that were fed to an input for an epoch, in order; none where the input isn't there.
+    pub fn fed(&self, input: u32, epoch: u32) -> &[Batch]
+        ensures { result.now ≡ slice_index_or (input_at self.now input).fed epoch [] }
+    {
+        self.board.fed(input, epoch)
+    }
+
+    /// The batches that were emitted for an epoch, in order; none at a vertex that isn't the output.
+    pub fn emitted(&self, output: VertexId, epoch: u32) -> &[Batch]
+        ensures { result.now ≡ cond (output.0 == output_number (shown_graph self.now.graph)) (slice_index_or self.now.emitted epoch []) [] }
+    {
+        self.board.emitted(output, epoch)
+    }
+
+    /// The promise, of whatever program was run. Nothing is done.
+    pub fn law_headline(&self)
+        ensures { (p : Program) → RunsProgram p self.now → (e : ℕ) → Headline p self.now e }
+    {
+        self.board.law_headline();
+    }
+
+    /// There are as many inputs as the graph has. Nothing is done.
+    pub fn law_inputs(&self)
+        ensures { length self.now.inputs ≡ input_count (shown_graph self.now.graph) }
+    {
+        self.board.law_inputs();
+    }
+
+    /// Where nothing is left to do, every epoch has passed. Nothing is done.
+    pub fn law_drained(&self)
+        ensures { IsDrained self.now → (e : ℕ) → HasPassed self.now e }
+    {
+        self.board.law_drained();
+    }
+}
+
+/// The end of a run, once no thread shares the engine any more. None only where the mark says that more epochs have passed than have
+/// here, as that of another engine may.
+pub fn finish<J: Naming, P: Progress>(
+    engine: Engine<J, P>,
+    mark: &Mark,
+    seats: Vec<Seat>,
+) -> Option<Report<P>>
+    requires { All (λ s. s.table ≡ mark.now) seats.items }
+    ensures graph { IfSome result (λ r. r.graph ≡ J.graph) }
+    ensures seats { IfSome result (λ r. (n : ℕ) → CountsPassed r n → All (λ s. s.number ≤ n) seats.items) }
+{
+    let board = engine.into_board();
+    board.law_count();
+    if are_within(mark, seats, board.passed_count()) {
+        Some(Report { board })
+    } else {
+        None
+    }
+}
+
+/// Whether no seat has read more than so many epochs.
+fn are_within(mark: &Mark, seats: Vec<Seat>, passed: u64) -> bool
+    requires { All (λ s. s.table ≡ mark.now) seats.items }
+    ensures { IsTrue result → All (λ s. s.number ≤ passed) seats.items }
+{
+    for seat in seats {
+        if !is_within(mark, seat, passed) {
+            return false;
+        }
+    }
+    true
+}
+
+/// Whether the seat, which reads the mark once more, has read no more than so many epochs.
+fn is_within(mark: &Mark, mut seat: Seat, passed: u64) -> bool
+    requires { seat.table ≡ mark.now }
+    ensures { IsTrue result → seat.number ≤ passed }
+{
+    mark.observe(&mut seat) <= passed
+}

@@ -1,0 +1,114 @@
+//! What a worker's thread does.
+
+ghost use Rattle.workers.specs.Names.{GivesNamed, IsNamed};
+
+use crate::engine::Engine;
+use crate::gate::Gate;
+use crate::held::Naming;
+use board::Claimed;
+use events::Work;
+use progress::Progress;
+use std::alloc::Global;
+use std::sync::Wait;
+
+/// Why a worker has stopped working.
+#[derive(Clone, Copy, Debug, PartialEq, Eq)]
+pub enum Ended {
+    /// Nothing is left to do.
+    Drained,
+    /// The board is stopped: an event was given up, for want of memory.
+    Stopped,
+    /// There is no such worker, or another thread works under its number.
+    Busy,
+}
+
+/// Claims, computes by the gate and commits, until nothing is left to do or the board is stopped, and sleeps while there is nothing that
+/// the worker could do. An event for which memory is wanting is given up. Its promise holds if it ends.
+pub fn work<J: Naming, P: Progress, R: Wait, G: Gate>(
+    rt: &R,
+    alloc: Global,
+    engine: &Engine<J, P>,
+    worker: u32,
+    gate: &G,
+) -> Ended {
+    let mut turn = 0;
+    for _turn in rt.forever() {
+        let claimed = engine.claim(rt, worker);
+        if let Some(ended) = go_on(rt, alloc, engine, worker, gate, &mut turn, claimed) {
+            return ended;
+        }
+    }
+    unreachable!()
+}
+
+/// As `work`, but it never sleeps: None where there is nothing that the worker could do now. `turn` counts its events on.
+pub fn work_along<J: Naming, P: Progress, R: Wait, G: Gate>(
+    rt: &R,
+    alloc: Global,
+    engine: &Engine<J, P>,
+    worker: u32,
+    gate: &G,
+    turn: &mut u64,
+) -> Option<Ended> {
+    let claimed = engine.try_claim(rt, worker);
+    go_on(rt, alloc, engine, worker, gate, turn, claimed)
+}
+
+/// Computes and commits what was claimed, and goes on with what comes with each commit. None where there is nothing to do now.
+fn go_on<J: Naming, P: Progress, R: Wait, G: Gate>(
+    rt: &R,
+    alloc: Global,
+    engine: &Engine<J, P>,
+    worker: u32,
+    gate: &G,
+    turn: &mut u64,
+    claimed: Claimed,
+) -> Option<Ended>
+    requires { GivesNamed J.names claimed }
+{
+    let mut claimed = claimed;
+    for _event in rt.forever() {
+        match claimed {
+            Claimed::Work(work) => claimed = turn_over(
+                rt, alloc, engine, worker, gate, *turn, work,
+            ),
+            Claimed::Idle => return None,
+            Claimed::Drained => return Some(Ended::Drained),
+            Claimed::Stopped => return Some(Ended::Stopped),
+            Claimed::Busy => return Some(Ended::Busy),
+        }
+        *turn = turn.saturating_add(1);
+    }
+    unreachable!()
+}
+
+/// Computes an event and commits it, and has what the worker claims then.
+fn turn_over<J: Naming, P: Progress, R: Wait, G: Gate>(
+    rt: &R,
+    alloc: Global,
+    engine: &Engine<J, P>,
+    worker: u32,
+    gate: &G,
+    turn: u64,
+    work: Work,
+) -> Claimed
+    requires { IsNamed J.names work.0 }
+    ensures { GivesNamed J.names result }
+{
+    match gate.compute(alloc, worker, turn, work) {
+        Ok(done) => match engine.commit(rt, worker, done) {
+            Ok(claimed) => {
+                gate.after_commit(worker, turn);
+                claimed
+            }
+            Err(done) => {
+                engine.abandon_done(rt, done);
+                Claimed::Stopped
+            }
+        },
+        Err(work) => {
+            engine.abandon(rt, work);
+            Claimed::Stopped
+        }
+    }
+}

@@ -1,0 +1,50 @@
+//! Boards and batches.
+
+ghost use Rattle.std.specs.Prelude.{◌≡◌, ◌<◌, ◌≤◌, length};
+
+use board::Board;
+use lowering::{VertexId, lower};
+use parser::parse;
+use progress::LocationTracker;
+use rows::{Batch, Rows};
+use std::alloc::Global;
+use std::sync::Arc;
+use typing::check;
+use workers::Report;
+
+/// A board that copies its input to its output.
+pub fn copying(alloc: Global, workers: u32) -> Option<Board<LocationTracker>>
+    requires some { 0 < workers }
+    requires few { workers ≤ 64 }
+{
+    let program = parse(alloc, b"input a/1; output a;").ok()?;
+    let typed = check(alloc, program).ok()?;
+    let graph = Arc::new(alloc, lower(alloc, &typed).ok()?).ok()?;
+    Board::new(alloc, graph, workers).ok()
+}
+
+/// A batch of one record of one field.
+pub fn batch_of(alloc: Global, field: i64) -> Option<Batch> {
+    let mut rows = Rows::with_capacity(alloc, 1, 1).ok()?;
+    rows.push(&[field]).ok()?;
+    Batch::from_rows(alloc, rows).ok()?
+}
+
+/// How often the field stands in these batches.
+pub fn count_of(batches: &[Batch], field: i64) -> u64 {
+    let mut count = 0u64;
+    for batch in batches {
+        for place in 0..batch.len() {
+            if batch.row(place) == [field].as_slice() {
+                count = count.saturating_add(1);
+            }
+        }
+    }
+    count
+}
+
+/// What was emitted for an epoch.
+pub fn emitted(report: &Report<LocationTracker>, epoch: u32) -> &[Batch] {
+    let last = report.graph().vertex_count().saturating_sub(1);
+    report.emitted(VertexId(last as u32), epoch)
+}

@@ -1,0 +1,187 @@
+//! What observers see.
+
+ghost use Rattle.std.specs.Prelude.{◌≡◌, All};
+ghost use Rattle.board.specs.Shown.{tables};
+
+use crate::boards::{batch_of, copying, count_of};
+use board::Board;
+use progress::LocationTracker;
+use std::alloc::Global;
+use std::marker::Brand;
+use std::sync::Wait;
+use std::test::Fail;
+use workers::{Engine, Mark, Naming, NoGate, Publisher, Seat, finish, work};
+
+/// What an observer saw of epoch 0, once before the work and once after it.
+#[derive(Clone, Copy, Debug, PartialEq, Eq)]
+struct Seen {
+    /// How many records were fed and emitted, and whether the epoch had passed.
+    before: (u64, u64, bool),
+    after: (u64, u64, bool),
+    /// What the mark said then.
+    mark: u64,
+}
+
+/// What is seen of epoch 0.
+fn look_of<J: Naming, R: Wait>(
+    rt: &R,
+    alloc: Global,
+    engine: &Engine<J, LocationTracker>,
+    mark: &Mark,
+    seat: &mut Seat,
+) -> Option<(u64, u64, bool)>
+    requires { seat.old.table ≡ mark.now }
+    ensures { seat.new.table ≡ seat.old.table }
+{
+    let look = engine.look(rt, alloc, 0, mark, seat).ok()??;
+    Some((
+        count_of(look.fed(0), 7),
+        count_of(look.emitted(), 7),
+        look.passed(),
+    ))
+}
+
+/// 7 is fed, the input is sealed twice and closed, and a worker works it off.
+fn one_record<J: Naming, R: Wait>(
+    rt: &R,
+    alloc: Global,
+    board: Board<LocationTracker>,
+    publisher: Publisher,
+    mark: &Mark,
+    seat: Seat,
+) -> Option<Seen>
+    requires names { tables board ≡ J.names }
+    requires graph { board.graph ≡ J.graph }
+    requires fresh { publisher.number ≡ 0 }
+    requires seat { seat.table ≡ mark.now }
+{
+    let mut seat = seat;
+    let engine = Engine::<J, LocationTracker>::new(alloc, board, publisher).ok()?;
+    engine.feed(rt, alloc, 0, batch_of(alloc, 7)?).ok()?;
+    engine.seal(rt, 0).ok()?;
+    engine.seal(rt, 0).ok()?;
+    engine.close(rt, 0).ok()?;
+    let before = look_of(rt, alloc, &engine, mark, &mut seat)?;
+    let _ended = work(rt, alloc, &engine, 0, &NoGate);
+    let after = look_of(rt, alloc, &engine, mark, &mut seat)?;
+    let count = mark.observe(&mut seat);
+    Some(Seen {
+        before,
+        after,
+        mark: count,
+    })
+}
+
+fn one_record_of<R: Wait>(
+    rt: &R,
+    alloc: Global,
+    board: Board<LocationTracker>,
+    publisher: Publisher,
+    mark: &Mark,
+    seat: Seat,
+) -> Option<Seen>
+    requires fresh { publisher.number ≡ 0 }
+    requires seat { seat.table ≡ mark.now }
+{
+    one_record::<Brand, R>(rt, alloc, board, publisher, mark, seat)
+}
+
+#[test]
+fn looks_before_and_after(rt: HostRuntime) -> Result<(), Fail> {
+    let alloc = rt.alloc();
+    let board = copying(alloc, 1).ok_or("no board")?;
+    let (mark, publisher, mut seats) = Mark::new(alloc, 1)?;
+    let seat = seats.pop().ok_or("no seat")?;
+    let seen = one_record_of(&rt, alloc, board, publisher, &mark, seat).ok_or("not seen")?;
+    assert_eq!(rt;
+        seen,
+        Seen {
+            before: (1, 0, false),
+            after: (1, 1, true),
+            mark: 2
+        }
+    );
+    Ok(())
+}
+
+/// The input is sealed twice, and nobody works.
+fn sealed_twice<J: Naming, R: Wait>(
+    rt: &R,
+    alloc: Global,
+    board: Board<LocationTracker>,
+    publisher: Publisher,
+) -> Option<()>
+    requires names { tables board ≡ J.names }
+    requires graph { board.graph ≡ J.graph }
+    requires fresh { publisher.number ≡ 0 }
+{
+    let engine = Engine::<J, LocationTracker>::new(alloc, board, publisher).ok()?;
+    engine.seal(rt, 0).ok()?;
+    engine.seal(rt, 0).ok()
+}
+
+fn sealed_twice_of<R: Wait>(
+    rt: &R,
+    alloc: Global,
+    board: Board<LocationTracker>,
+    publisher: Publisher,
+) -> Option<()>
+    requires { publisher.number ≡ 0 }
+{
+    sealed_twice::<Brand, R>(rt, alloc, board, publisher)
+}
+
+#[test]
+fn passes_without_workers(rt: HostRuntime) -> Result<(), Fail> {
+    let alloc = rt.alloc();
+    let board = copying(alloc, 1).ok_or("no board")?;
+    let (mark, publisher, mut seats) = Mark::new(alloc, 1)?;
+    let mut seat = seats.pop().ok_or("no seat")?;
+    sealed_twice_of(&rt, alloc, board, publisher).ok_or("not sealed")?;
+    assert_eq!(rt; mark.observe(&mut seat), 2);
+    Ok(())
+}
+
+/// An engine on which nothing was done, ended beside a mark.
+fn ends_beside<J: Naming>(
+    alloc: Global,
+    board: Board<LocationTracker>,
+    publisher: Publisher,
+    mark: &Mark,
+    seats: Vec<Seat>,
+) -> Option<u64>
+    requires names { tables board ≡ J.names }
+    requires graph { board.graph ≡ J.graph }
+    requires fresh { publisher.number ≡ 0 }
+    requires seats { All (λ s. s.table ≡ mark.now) seats.items }
+{
+    let engine = Engine::<J, LocationTracker>::new(alloc, board, publisher).ok()?;
+    let report = finish(engine, mark, seats)?;
+    Some(report.passed())
+}
+
+fn ends_beside_of(
+    alloc: Global,
+    board: Board<LocationTracker>,
+    publisher: Publisher,
+    mark: &Mark,
+    seats: Vec<Seat>,
+) -> Option<u64>
+    requires fresh { publisher.number ≡ 0 }
+    requires seats { All (λ s. s.table ≡ mark.now) seats.items }
+{
+    ends_beside::<Brand>(alloc, board, publisher, mark, seats)
+}
+
+// The mark of another engine, which is ahead.
+#[test]
+fn ends_beside_another_mark(rt: HostRuntime) -> Result<(), Fail> {
+    let alloc = rt.alloc();
+    let board = copying(alloc, 1).ok_or("no board")?;
+    let other = copying(alloc, 1).ok_or("no board")?;
+    let (mark, publisher, seats) = Mark::new(alloc, 1)?;
+    let (_own, fresh, _none) = Mark::new(alloc, 0)?;
+    sealed_twice_of(&rt, alloc, board, publisher).ok_or("not sealed")?;
+    assert_eq!(rt; ends_beside_of(alloc, other, fresh, &mark, seats), None);
+    Ok(())
+}

@@ -1,0 +1,141 @@
+//! Runs of an engine by several threads.
+
+ghost use Rattle.std.specs.Prelude.{◌≡◌, All};
+ghost use Rattle.board.specs.Shown.{tables};
+
+use crate::boards::{batch_of, copying, count_of, emitted};
+use crate::flags::Meeting;
+use board::Board;
+use progress::LocationTracker;
+use std::alloc::Global;
+use std::marker::Brand;
+use std::sync::Wait;
+use std::test::Fail;
+use std::thread;
+use std::thread::Threads;
+use workers::{Ended, Engine, Gate, Mark, Naming, NoGate, finish, work};
+
+/// What a run by two workers and two feeders came to.
+#[derive(Clone, Copy, Debug, PartialEq, Eq)]
+struct Outcome {
+    ended: [Ended; 2],
+    drained: bool,
+    passed: u64,
+    /// The numbers that were fed once and emitted once, of 0 to 199.
+    once: u64,
+}
+
+/// Two workers are at work while two threads feed 0 to 99 and 100 to 199.
+fn two_by_two<J: Naming + Send + Sync, G: Gate + Sync, R: Threads + Wait + Sync>(
+    rt: &R,
+    alloc: Global,
+    board: Board<LocationTracker>,
+    gate: &G,
+) -> Option<Outcome>
+    requires names { tables board ≡ J.names }
+    requires graph { board.graph ≡ J.graph }
+{
+    let (mark, publisher, _seats) = Mark::new(alloc, 0).ok()?;
+    let shared = Engine::<J, LocationTracker>::new(alloc, board, publisher).ok()?;
+    let engine = &shared;
+    let (ended, ()) = thread::join(
+        rt,
+        move || work_both(rt, alloc, engine, gate),
+        move || feed_both(rt, alloc, engine),
+    );
+    let report = finish(shared, &mark, Vec::new(alloc))?;
+    let mut once = 0u64;
+    for field in 0..200 {
+        if count_of(report.fed(0, 0), field) == 1 && count_of(emitted(&report, 0), field) == 1 {
+            once = once.saturating_add(1);
+        }
+    }
+    Some(Outcome {
+        ended,
+        drained: report.drained(),
+        passed: report.passed(),
+        once,
+    })
+}
+
+/// Both workers, a thread for each.
+fn work_both<J: Naming + Send + Sync, G: Gate + Sync, R: Threads + Wait + Sync>(
+    rt: &R,
+    alloc: Global,
+    engine: &Engine<J, LocationTracker>,
+    gate: &G,
+) -> [Ended; 2] {
+    let (one, other) = thread::join(
+        rt,
+        move || work(rt, alloc, engine, 0, gate),
+        move || work(rt, alloc, engine, 1, gate),
+    );
+    [one, other]
+}
+
+/// Two threads feed, and then the input is sealed and closed.
+fn feed_both<J: Naming + Send + Sync, R: Threads + Wait + Sync>(
+    rt: &R,
+    alloc: Global,
+    engine: &Engine<J, LocationTracker>,
+) {
+    let ((), ()) = thread::join(
+        rt,
+        move || feed_range(rt, alloc, engine, 0, 100),
+        move || feed_range(rt, alloc, engine, 100, 200),
+    );
+    let _sealed = engine.seal(rt, 0);
+    let _closed = engine.close(rt, 0);
+}
+
+/// Feeds these numbers, each in a batch of its own.
+fn feed_range<J: Naming, R: Wait>(
+    rt: &R,
+    alloc: Global,
+    engine: &Engine<J, LocationTracker>,
+    from: i64,
+    to: i64,
+) {
+    for field in from..to {
+        if let Some(batch) = batch_of(alloc, field) {
+            let _done = engine.feed(rt, alloc, 0, batch);
+        }
+    }
+}
+
+fn run_two<G: Gate + Sync, R: Threads + Wait + Sync>(
+    rt: &R,
+    alloc: Global,
+    board: Board<LocationTracker>,
+    gate: &G,
+) -> Option<Outcome> {
+    two_by_two::<Brand, G, R>(rt, alloc, board, gate)
+}
+
+#[test]
+fn two_feeders(rt: HostRuntime) -> Result<(), Fail> {
+    let alloc = rt.alloc();
+    let board = copying(alloc, 2).ok_or("no board")?;
+    let outcome = run_two(&rt, alloc, board, &NoGate).ok_or("no report")?;
+    assert_eq!(rt;
+        outcome,
+        Outcome {
+            ended: [Ended::Drained, Ended::Drained],
+            drained: true,
+            passed: 1,
+            once: 200
+        }
+    );
+    Ok(())
+}
+
+#[test]
+fn two_at_once(rt: HostRuntime) -> Result<(), Fail> {
+    let alloc = rt.alloc();
+    let board = copying(alloc, 2).ok_or("no board")?;
+    let meeting = Meeting::new();
+    let outcome = run_two(&rt, alloc, board, &meeting).ok_or("no report")?;
+    assert_eq!(rt; outcome.once, 200);
+    assert!(rt; meeting.have_met());
+    Ok(())
+}
