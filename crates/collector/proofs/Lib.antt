@@ -12,3 +12,5 @@ pub mod QuickNumbers
 pub mod QuickRows
 pub mod QuickLines
 pub mod Piles
+pub mod OneReading
+pub mod OneOrder

@@ -8,6 +8,7 @@
 mod bytes;
 mod draft;
 mod epochs;
+mod laws;
 mod line;
 mod next;
 mod output;
@@ -22,6 +23,7 @@ mod writing;
 
 pub use bytes::{ReadFault, read_all, read_at_most};
 pub use epochs::Epochs;
+pub use laws::{law_one_answer, law_one_reading};
 pub use line::{Declared, find_input, first_word, is_word, read_fields, rest_is_filled};
 pub use output::{OutFault, push_sorted, write_epochs};
 pub use reading::read_input;

@@ -1,12 +1,12 @@
 //! The examples of the table of refusals, and what is told of faults that no short text brings.
 
 use collector::Watched;
-use console::{Fault, Texts, check_query, explain_fault, explained, run};
+use console::{Fault, Texts, Workers, check_query, explain_fault, explained, replay_schedule, run};
 use refusals::{EXPLANATIONS, explanation_of};
 use std::sync::Wait;
 use std::test::Fail;
 
-/// The query over which the inputs of the table are read.
+/// The query over which the inputs and the schedules of the table are read.
 const QUERY: &str = "input a/2; output a;";
 
 /// The code of what came to no answer: 0 where it is answered.
@@ -43,11 +43,40 @@ fn ran(rt: &HostRuntime, wait: &impl Wait, query: &str, input: &str) -> u8 {
     ))
 }
 
-/// The code that an example of the table is told with.
-fn example_code(rt: &HostRuntime, wait: &impl Wait, code: u8, example: &str) -> u8 {
+/// What a schedule's lines print on one worker, or its fault's line.
+fn replayed(rt: &HostRuntime, schedule: &str) -> Result<String, Fail> {
+    let mut query = Watched::new(QUERY.as_bytes());
+    let mut schedule = Watched::new(schedule.as_bytes());
+    let mut texts = Texts::new(rt.alloc());
+    let mut out = Watched::new(Vec::new(rt.alloc()));
+    let done = replay_schedule(
+        rt.alloc(),
+        Workers::one(),
+        &mut query,
+        &mut schedule,
+        &mut texts,
+        &mut out,
+    );
+    let mut text = out.into_inner();
+    if let Err(fault) = done {
+        fault.write_line("q", "s", &mut text)?;
+    }
+    Ok(String::from_utf8(text)?)
+}
+
+/// The code that an example of the table is told with. A schedule prints it once and nothing else.
+fn example_code(rt: &HostRuntime, wait: &impl Wait, code: u8, example: &str) -> Result<u8, Fail> {
     match code {
-        0..=40 => checked(rt, example),
-        41..=255 => ran(rt, wait, QUERY, example),
+        0..=30 => Ok(checked(rt, example)),
+        31..=40 => {
+            let printed = replayed(rt, example)?;
+            match printed.as_str().strip_prefix("refused ") {
+                None if printed.is_empty() => Ok(0),
+                None => Ok(255),
+                Some(rest) => Ok(rest.trim().parse().unwrap_or(255)),
+            }
+        }
+        41..=255 => Ok(ran(rt, wait, QUERY, example)),
     }
 }
 
@@ -55,7 +84,7 @@ fn example_code(rt: &HostRuntime, wait: &impl Wait, code: u8, example: &str) -> 
 #[test]
 fn examples_of_the_table(rt: HostRuntime) -> Result<(), Fail> {
     for code in 0..=255 {
-        let is_told = matches!(code, 1..=6 | 11..=19 | 21 | 41..=47);
+        let is_told = matches!(code, 1..=6 | 11..=19 | 21 | 31..=38 | 41..=47);
         assert_eq!(rt; explanation_of(code).is_some(), is_told);
     }
     assert!(rt; explained("").is_none());
@@ -63,10 +92,10 @@ fn examples_of_the_table(rt: HostRuntime) -> Result<(), Fail> {
     for row in EXPLANATIONS {
         assert!(rt; last < row.code);
         last = row.code;
-        assert!(rt; row.wrong.is_empty() == matches!(row.code, 6 | 21 | 47));
+        assert!(rt; row.wrong.is_empty() == matches!(row.code, 6 | 21 | 37 | 38 | 47));
         if !row.wrong.is_empty() {
-            assert_eq!(rt; example_code(&rt, &rt, row.code, row.wrong), row.code);
-            assert_eq!(rt; example_code(&rt, &rt, row.code, row.right), 0);
+            assert_eq!(rt; example_code(&rt, &rt, row.code, row.wrong)?, row.code);
+            assert_eq!(rt; example_code(&rt, &rt, row.code, row.right)?, 0);
         }
     }
     Ok(())

@@ -56,8 +56,10 @@ fn refusals(rt: HostRuntime) -> Result<(), Fail> {
 
 #[test]
 fn workers(rt: HostRuntime) -> Result<(), Fail> {
-    assert!(rt; Workers::of_word("64").is_some());
-    for word in ["", "0", "01", "65", "4294967297", "one"] {
+    for word in ["64", "1", "02", "+2", "+0064"] {
+        assert!(rt; Workers::of_word(word).is_some());
+    }
+    for word in ["", "+", "0", "-1", "++1", "1 ", "65", "4294967297", "one"] {
         assert!(rt; Workers::of_word(word).is_none());
     }
     assert_eq!(rt; printed(&rt, "1", "t 1 0\n")?.as_str(), "refused 34\n");

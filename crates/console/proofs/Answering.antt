@@ -21,7 +21,7 @@ inputs_same [] k f g h x = refl
 inputs_same (a ∷ as') k f g h x = ap₂ (λ rs ss. cond (same_name a.name x) rs ss) (h k (omega arith)) (inputs_same as' (suc k) f g (λ i lt. h i (omega arith)) x)
 
 -- a program's meaning depends on the records of its inputs alone
-meant_alike : (p : Program) (f g : ℕ → List Record) → ((i : ℕ) → i < length p.inputs → f i ≡ g i) → program_meaning p f ≡ program_meaning p g
+pub meant_alike : (p : Program) (f g : ℕ → List Record) → ((i : ℕ) → i < length p.inputs → f i ≡ g i) → program_meaning p f ≡ program_meaning p g
 unfolding program_meaning
 meant_alike p f g h = ap (λ names. meaning p.output (let_names p.lets names)) (fun_ext (λ x. inputs_same p.inputs 0 f g (λ i lt. h i (omega arith)) x))
 

@@ -7,3 +7,5 @@ pub mod InputLines
 pub mod QueryFaults
 pub mod Rewritten
 pub mod OneGraph
+pub mod Heeding
+pub mod OneAnswer

@@ -10,7 +10,7 @@ use Rattle.console.specs.Queries.{IsQuery}
 use Rattle.console.specs.Compiled.{IsCompiled, IsTooLarge}
 use Rattle.grammar.proofs.Texts.{one_text}
 
-same_program : (text : List ℕ) (p q : Program) → IsQuery text p → IsQuery text q → p ≡ q
+pub same_program : (text : List ℕ) (p q : Program) → IsQuery text p → IsQuery text q → p ≡ q
 same_program text p q a b = a.plain ∙ ap plain_program (one_text text a.tree b.tree a.read b.read) ∙ sym b.plain
 
 same_form : (text : List ℕ) (p q r s : Program) → IsQuery text p → IsQuery text q → IsNormalForm r p → IsNormalForm s q → r ≡ s

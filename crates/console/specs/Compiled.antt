@@ -1,5 +1,5 @@
 -- Which graph a query text has, and why it has none.
-use Rattle.std.specs.Prelude.{◌≡◌, ◌<◌, ℕ, List, length}
+use Rattle.std.specs.Prelude.{◌≡◌, ◌<◌, ◌≤◌, ℕ, List, length}
 use Rattle.record_core.specs.declared.span.Refusal.TheVariants.{At}
 use Rattle.semantics.specs.Query.{Input, Program}
 use Rattle.semantics.specs.Rewriting.{IsNormalForm}
@@ -31,6 +31,10 @@ pub record IsTooLarge (text : List ℕ) : Type 0 where
   pub rewritten : Program
   pub normal : IsNormalForm rewritten program
   pub large : 4096 < length (lowered rewritten)
+
+-- the text is a query whose graph has at most 4096 vertices
+abbrev pub IsTaken : List ℕ → Type 0
+IsTaken text = (g : Graph) × (inputs : List Input) × IsCompiled text g inputs × (length g ≤ 4096)
 
 -- why a query text has no graph
 abbrev pub IsUncompiled : List ℕ → CompileFault → Type 0

@@ -21,9 +21,9 @@ abbrev pub indented : List ℕ → List ℕ
 indented [] = []
 indented (b ∷ bs) = (if b == 10 then feed_text bs else b ∷ []) ++ indented bs
 
--- an example below its label: a query on the same line, an input on lines of its own
+-- an example below its label: a query on the same line, an input or a schedule on lines of its own
 abbrev pub example_text : List ℕ → ℕ → List ℕ → List ℕ
-example_text label code example = label ++ ((if nat_lt code 41 then codes "  " else codes "\n    ") ++ (indented example ++ codes "\n"))
+example_text label code example = label ++ ((if nat_lt code 31 then codes "  " else codes "\n    ") ++ (indented example ++ codes "\n"))
 
 -- both examples, where there are some
 abbrev pub examples_text : ℕ → List ℕ → List ℕ → List ℕ

@@ -6,6 +6,8 @@ use Rattle.collector.specs.declared.refusal.InputRefusal as input_refusal
 use Rattle.collector.specs.declared.refusal.InputRefusal.TheVariants as input
 use Rattle.schedule.specs.declared.refusal.ScheduleRefusal as schedule_refusal
 use Rattle.schedule.specs.declared.refusal.ScheduleRefusal.TheVariants as schedule
+use Rattle.console.specs.declared.choice.LineFault.{LineFault}
+use Rattle.console.specs.declared.choice.LineFault.TheVariants as line
 use Rattle.console.specs.declared.fault.CompileFault.{CompileFault}
 use Rattle.console.specs.declared.fault.CompileFault.TheVariants as compile
 use Rattle.console.specs.declared.fault.Fault.{Fault}
@@ -22,6 +24,14 @@ status_of NoWorker = 5
 status_of ReadQuery = 6
 status_of ReadInput = 6
 status_of Write = 6
+
+-- 2 of a command line, 5 where there was no memory to read it
+abbrev pub line_status_of : LineFault → ℕ
+line_status_of line.NoMemory = 5
+line_status_of (line.Workers word) = 2
+line_status_of line.NoText = 2
+line_status_of line.NoCommand = 2
+line_status_of (line.Line error) = 2
 
 -- of a refused query
 abbrev pub fault_of : query_refusal.Refusal → Fault

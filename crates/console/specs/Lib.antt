@@ -1,9 +1,11 @@
 pub mod Faults
+pub mod Numbers
 pub mod Line
 pub mod Fed
 pub mod Answers
 pub mod Queries
 pub mod Compiled
+pub mod Heeded
 pub mod Graphs
 pub mod Runs
 pub mod Checks

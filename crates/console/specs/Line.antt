@@ -1,7 +1,8 @@
 -- The command line: its commands, and what the matches of the words hold.
-use Rattle.std.specs.Prelude.{◌≡◌, ℕ, Bool, true, false, List, [], Option, Some, None, codes, decimal}
+use Rattle.std.specs.Prelude.{◌≡◌, ℕ, Bool, true, false, List, [], Option, Some, None, codes}
 use Rattle.clap.specs.Words.{App, Row, Rule, Text, first_of, new_app, new_rule, one_of, subcommand_of, with_rule, with_subcommand}
 use Rattle.clap.specs.declared.builder.action.ArgAction.TheVariants.{SetTrue}
+use Rattle.console.specs.Numbers.{Spells}
 use Rattle.console.specs.declared.choice.GraphForm.{GraphForm}
 use Rattle.console.specs.declared.choice.GraphForm.TheVariants.{Lines, Dot}
 use Rattle.console.specs.declared.choice.Options.{Options}
@@ -59,7 +60,7 @@ is_dot Dot = true
 -- so many workers are asked for: one where no word tells it
 abbrev pub AreAskedFor : Option Text → (workers : ℕ) → Type 0
 AreAskedFor None workers = workers ≡ 1
-AreAskedFor (Some word) workers = word ≡ decimal workers
+AreAskedFor (Some word) workers = Spells word workers
 
 -- the options are what the matches of a command hold
 abbrev pub HoldsAt : Text → List Row → Options → Type 0

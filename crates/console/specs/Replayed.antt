@@ -1,5 +1,5 @@
 -- What the replay of a schedule writes.
-use Rattle.std.specs.Prelude.{◌≡◌, ℕ, List, Option, Result, Ok, Err}
+use Rattle.std.specs.Prelude.{◌≡◌, ◌≤◌, ℕ, List, length, Option, Result, Ok, Err}
 use Rattle.std.specs.Io.KnownBytes.{Appends}
 use Rattle.semantics.specs.Query.{Input as Declared}
 use Rattle.semantics.specs.Graph.{Graph}
@@ -9,7 +9,7 @@ use Rattle.schedule.specs.Commands.{Command}
 use Rattle.schedule.specs.ScheduleText.{IsRefused, IsScheduleText}
 use Rattle.schedule.specs.declared.refusal.ScheduleRefusal.TheVariants.{At}
 use Rattle.replay.specs.Replays.{Replays}
-use Rattle.console.specs.Compiled.{IsCompiled, IsQueryFault}
+use Rattle.console.specs.Compiled.{IsCompiled, IsQueryFault, IsTaken}
 use Rattle.console.specs.declared.fault.Fault.{Fault}
 use Rattle.console.specs.declared.fault.Fault.TheVariants.{Query, TooManyVertices, Input, Schedule, NoMemory, NoWorker, ReadQuery, ReadInput, Write}
 
@@ -18,16 +18,17 @@ pub record IsReplay (query : List ℕ) (workers : ℕ) (schedule text : List ℕ
   pub graph : Graph
   pub inputs : List Declared
   pub compiled : IsCompiled query graph inputs
+  pub few : length graph ≤ 4096
   pub commands : List Command
   pub read : IsScheduleText schedule commands
   pub last : World
   pub replays : Replays (record { graph = graph; workers = workers; inputs = inputs }) opening commands last text
 
--- why there is no such text: the query is refused, or the schedule, or there was no memory
+-- why there is no such text: the query is refused, or it is taken and the schedule is refused, or there was no memory
 abbrev pub IsReplayFault : List ℕ → List ℕ → Fault → Type 0
 IsReplayFault query schedule (Query code start end) = IsQueryFault query (Query code start end)
 IsReplayFault query schedule TooManyVertices = IsQueryFault query TooManyVertices
-IsReplayFault query schedule (Schedule code line) = IsRefused schedule (At code line)
+IsReplayFault query schedule (Schedule code line) = IsTaken query × IsRefused schedule (At code line)
 IsReplayFault query schedule NoMemory = Unit {0}
 IsReplayFault query schedule (Input code line) = ⊥
 IsReplayFault query schedule NoWorker = ⊥

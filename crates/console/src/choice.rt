@@ -1,5 +1,8 @@
 //! What a command line asks for.
 
+ghost use Rattle.std.specs.Prelude.{◌≡◌};
+ghost use Rattle.console.specs.Faults.{line_status_of};
+
 use crate::workers::Workers;
 use clap::Error;
 
@@ -45,7 +48,7 @@ pub enum GraphForm {
     Dot,
 }
 
-/// Why a line is refused: want of memory, a number of workers that is none, or a text to be shown, which may be the help that was asked for.
+/// Why a line is refused.
 #[derive(Debug, Drop, thiserror::Error)]
 pub enum LineFault {
     #[error("out of memory")]
@@ -53,6 +56,28 @@ pub enum LineFault {
     /// The word after `--workers` is no number of workers.
     #[error("error: invalid value '{word}' for '--workers <N>': {word} is not in 1..=64")]
     Workers { word: String },
+    /// A word of the line is no UTF-8 text.
+    #[error("error: invalid UTF-8 was detected in one or more arguments")]
+    NoText,
+    /// The words were taken, and yet hold no command or not all of its words. No line is known at which it comes.
+    #[error("error: the arguments hold no command")]
+    NoCommand,
+    /// The words are none of a command, or they ask for help: with the text to be shown, whose last line is ended.
     #[error(transparent)]
     Line(Error),
+}
+
+impl LineFault {
+    /// The status that the program ends with.
+    pub fn status(&self) -> u8
+        ensures { result ≡ line_status_of self.now }
+    {
+        match self {
+            LineFault::NoMemory => 5,
+            LineFault::Workers { .. }
+            | LineFault::NoText
+            | LineFault::NoCommand
+            | LineFault::Line(_) => 2,
+        }
+    }
 }

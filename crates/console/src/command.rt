@@ -227,7 +227,7 @@ fn replay_line<'a>(alloc: Global, found: &ArgMatches<'a>) -> Result<Options<'a>,
     ensures { IfOk result (HoldsAt (codes "replay") (rows_of (found_of found.now))) }
 {
     match workers_of(found) {
-        Ok(workers) => replay_options(found, workers).ok_or(LineFault::NoMemory),
+        Ok(workers) => replay_options(found, workers).ok_or(LineFault::NoCommand),
         Err(word) => Err(workers_fault(alloc, word)),
     }
 }
@@ -257,7 +257,7 @@ fn line_options<'a>(
 {
     match name.as_bytes() {
         b"replay" => replay_line(alloc, found),
-        _ => options_at(name, found).ok_or(LineFault::NoMemory),
+        _ => options_at(name, found).ok_or(LineFault::NoCommand),
     }
 }
 
@@ -273,9 +273,8 @@ pub fn options<'a>(alloc: Global, words: &'a [&'a str]) -> Result<Options<'a>, L
         Ok(found) => found,
         Err(error) => return Err(refusal(error)),
     };
-    // A line that was read has a command, and that command its paths: the other answers come at no line.
     match found.subcommand() {
-        None => Err(LineFault::NoMemory),
+        None => Err(LineFault::NoCommand),
         Some((name, matches)) => line_options(alloc, name, matches),
     }
 }

@@ -56,7 +56,7 @@ fn push_indented(text: &mut Vec<u8>, lines: &[u8]) -> Result<(), AllocError>
     Ok(())
 }
 
-/// Appends an example and its label: a query on one line, an input on lines of its own.
+/// Appends an example and its label: a query on one line, an input or a schedule on lines of its own.
 fn push_example(
     text: &mut Vec<u8>,
     label: &[u8],
@@ -66,7 +66,7 @@ fn push_example(
     ensures { OnOk result (text.new.items ≡ text.old.items ++ example_text label.now code example.now) }
 {
     text.extend_from_slice(label)?;
-    if code < 41 {
+    if code < 31 {
         text.extend_from_slice(b"  ")?;
     } else {
         text.extend_from_slice(b"\n    ")?;

@@ -36,7 +36,7 @@ pub use compiling::compile;
 pub use explaining::{explain_fault, explained, write_explanation};
 pub use fault::{CompileFault, Fault};
 pub use graphing::graph_query;
-pub use laws::law_one_graph;
+pub use laws::{law_one_answer, law_one_graph};
 pub use replaying::replay_schedule;
 pub use running::run;
 pub use texts::Texts;

@@ -2,6 +2,7 @@
 
 ghost use Rattle.std.specs.Prelude.{◌≡◌, ◌⊎◌, true, take, IfErr, IfOk, IfSome, IsErrOf};
 ghost use Rattle.collector.specs.Watching.{has_failed, inner_of};
+ghost use Rattle.console.specs.Heeded.{Heeds};
 ghost use Rattle.console.specs.Replayed.{IsReplay, IsReplayFault, ReplayEnds};
 ghost use Rattle.console.specs.Runs.{IsAfterReading, IsUnreadInput, IsUnreadQuery};
 ghost use Rattle.console.specs.declared.fault.Fault.TheVariants as fault;
@@ -62,6 +63,7 @@ fn write_replayed<W: Write>(
 /// It is written only once all of it stands. The faults in the order in which they are told: the query can't be read, the schedule
 /// can't be read, the query is refused, the schedule is refused, the writer failed. Want of memory may come at any place. The texts
 /// that were read are left in `texts`, the schedule as its input.
+#[tactic(auto, using(crate::proofs::Heeding::replay_heeds))]
 pub fn replay_schedule<Q: Read, S: Read, W: Write>(
     alloc: Global,
     workers: Workers,
@@ -71,6 +73,7 @@ pub fn replay_schedule<Q: Read, S: Read, W: Write>(
     writer: &mut Watched<W>,
 ) -> Result<(), Fault>
     ensures ends { IfSome (Q.remaining (inner_of query.old)) (λ q. IfSome (S.remaining (inner_of schedule.old)) (λ s. ReplayEnds (take 1048577 q) workers.count s (W.contents (inner_of writer.old)) (W.contents (inner_of writer.new)) result)) }
+    ensures heeds { IfSome (Q.remaining (inner_of query.old)) (λ q. Heeds (take 1048577 q) (W.contents (inner_of writer.old)) (W.contents (inner_of writer.new)) result) }
     ensures query { IsErrOf result fault.ReadQuery → has_failed query.new ≡ true }
     ensures schedule { IsErrOf result fault.ReadInput → has_failed schedule.new ≡ true }
     ensures writer { IsErrOf result fault.Write → has_failed writer.new ≡ true }

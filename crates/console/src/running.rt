@@ -1,6 +1,6 @@
 //! A run, from bytes to bytes.
 
-ghost use Rattle.std.specs.Prelude.{◌≡◌, ◌⊎◌, take, true, map, IfOk, IfErr, IfSome, IsErrOf};
+ghost use Rattle.std.specs.Prelude.{◌≡◌, ◌≤◌, ◌⊎◌, length, take, true, map, IfOk, IfErr, IfSome, IsErrOf};
 ghost use Rattle.lowering.specs.Shown.{shown_graph, shown_inputs};
 ghost use Rattle.lowering.specs.Views.{input_of};
 ghost use Rattle.collector.specs.Held.{epoch_count, records_at};
@@ -8,6 +8,7 @@ ghost use Rattle.collector.specs.InputText.{IsInputText, IsRefused};
 ghost use Rattle.collector.specs.Said.{plain};
 ghost use Rattle.collector.specs.Watching.{has_failed, inner_of};
 ghost use Rattle.console.specs.Compiled.{IsCompiled, IsQueryFault};
+ghost use Rattle.console.specs.Heeded.{Heeds};
 ghost use Rattle.console.specs.Runs.{Ends, IsAfterReading, IsUnreadInput, IsUnreadQuery};
 ghost use Rattle.console.specs.declared.fault.Fault.TheVariants as fault;
 
@@ -70,6 +71,7 @@ fn declared<'a>(alloc: Global, inputs: &'a [DeclaredInput]) -> Result<Vec<Declar
 /// The graph of a query text; its tree is gone.
 pub fn graph_of_text(alloc: Global, query: &[u8]) -> Result<Graph, Fault>
     ensures graph { IfOk result (λ g. IsCompiled query.now (shown_graph g) (shown_inputs g)) }
+    ensures few { IfOk result (λ g. length (shown_graph g) ≤ 4096) }
     ensures fault { IfErr result (IsQueryFault query.now) }
 {
     let arena = Bump::new(alloc);
@@ -97,6 +99,7 @@ fn answer<W: Write>(
     writer: &mut Watched<W>,
 ) -> Result<(), Fault>
     ensures ends { Ends query.now input.now (W.contents (inner_of writer.old)) (W.contents (inner_of writer.new)) result }
+    ensures heeds { Heeds query.now (W.contents (inner_of writer.old)) (W.contents (inner_of writer.new)) result }
     ensures failed { IsErrOf result fault.Write → has_failed writer.new ≡ true }
     ensures read { IfErr result IsAfterReading }
 {
@@ -124,6 +127,7 @@ pub fn run<Q: Read, I: Read, W: Write>(
     writer: &mut Watched<W>,
 ) -> Result<(), Fault>
     ensures ends { IfSome (Q.remaining (inner_of query.old)) (λ q. IfSome (I.remaining (inner_of input.old)) (λ i. Ends (take 1048577 q) i (W.contents (inner_of writer.old)) (W.contents (inner_of writer.new)) result)) }
+    ensures heeds { IfSome (Q.remaining (inner_of query.old)) (λ q. Heeds (take 1048577 q) (W.contents (inner_of writer.old)) (W.contents (inner_of writer.new)) result) }
     ensures query { IsErrOf result fault.ReadQuery → has_failed query.new ≡ true }
     ensures input { IsErrOf result fault.ReadInput → has_failed input.new ≡ true }
     ensures writer { IsErrOf result fault.Write → has_failed writer.new ≡ true }

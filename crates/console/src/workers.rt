@@ -1,8 +1,7 @@
 //! How many workers a command line asks for.
 
-ghost use Rattle.std.specs.Prelude.{◌≡◌, ◌<◌, ◌≤◌, IfSome, decimal};
-
-use decimal::number;
+ghost use Rattle.std.specs.Prelude.{◌≡◌, ◌<◌, ◌≤◌, ℕ, IfNone, IfSome};
+ghost use Rattle.console.specs.Numbers.{Spells};
 
 /// A number of workers, 1 to 64.
 #[derive(Clone, Copy, Debug, PartialEq, Eq)]
@@ -20,11 +19,12 @@ impl Workers {
         Workers { count: 1 }
     }
 
-    /// The number that the word spells, as it is printed.
+    /// The number that the word spells. None exactly where it spells none from 1 to 64.
     pub fn of_word(word: &str) -> Option<Workers>
-        ensures { IfSome result (λ w. word.now ≡ decimal w.count) }
+        ensures found { IfSome result (λ w. Spells word.now w.count) }
+        ensures none { IfNone result ((n : ℕ) → 0 < n → n ≤ 64 → Spells word.now n → ⊥) }
     {
-        let count = u32::try_from(number(word.as_bytes())?).ok()?;
+        let count = word.parse::<u32>().ok()?;
         if 0 < count && count <= 64 {
             Some(Workers { count })
         } else {

@@ -165,15 +165,12 @@ pub fn answer(
         }
         Ok(Options::Explain { code }) => return explain_code(rt, code),
         Err(LineFault::NoMemory) => return Err(io::Error::from(ErrorKind::OutOfMemory)),
-        Err(LineFault::Workers { word }) => {
-            let fault = LineFault::Workers { word };
+        Err(fault) => {
             let mut shown = Vec::new(rt.alloc());
-            writeln!(shown, "{fault}")?;
-            return Ok(shown);
-        }
-        Err(LineFault::Line(text)) => {
-            let mut shown = Vec::new(rt.alloc());
-            write!(shown, "{text}")?;
+            match &fault {
+                LineFault::Line(text) => write!(shown, "{text}")?,
+                _ => writeln!(shown, "{fault}")?,
+            }
             return Ok(shown);
         }
     };

@@ -1,6 +1,9 @@
 //! The program `loom`: words, files, exit status. What it answers is `console`'s; nothing is decided here.
 #![tactic(auto)]
 
+mod late_file;
+
+use crate::late_file::LateFile;
 use bumpalo::Bump;
 use collector::Watched;
 use console::{
@@ -8,7 +11,6 @@ use console::{
     graph_query, options, replay_schedule, run, write_explanation,
 };
 use refusals::NUMBERS;
-use std::fs::File;
 use std::io::ErrorKind;
 use std::process::ExitCode;
 use std::sync::Wait;
@@ -22,34 +24,18 @@ fn run_files(
     input: &str,
     texts: &mut Texts,
 ) -> Result<(), Fault> {
-    let Ok(query_file) = File::open(rt, query) else {
-        return Err(Fault::ReadQuery);
-    };
-    let mut query_file = Watched::new(query_file);
-    let Ok(input_file) = File::open(rt, input) else {
-        return Err(Fault::ReadInput);
-    };
-    let mut input_file = Watched::new(input_file);
+    let mut query = Watched::new(LateFile::new(rt, query));
+    let mut input = Watched::new(LateFile::new(rt, input));
     let mut writer = Watched::new(io::writer(rt));
-    run(
-        wait,
-        rt.alloc(),
-        &mut query_file,
-        &mut input_file,
-        texts,
-        &mut writer,
-    )
+    run(wait, rt.alloc(), &mut query, &mut input, texts, &mut writer)
 }
 
 /// Checks a query.
 fn check_file(rt: &HostRuntime, query: &str, texts: &mut Texts) -> Result<(), Fault> {
-    let Ok(query_file) = File::open(rt, query) else {
-        return Err(Fault::ReadQuery);
-    };
-    let mut query_file = Watched::new(query_file);
+    let mut query = Watched::new(LateFile::new(rt, query));
     let mut writer = Watched::new(io::writer(rt));
     let arena = Bump::new(rt.alloc());
-    check_query(rt.alloc(), &arena, &mut query_file, texts, &mut writer)
+    check_query(rt.alloc(), &arena, &mut query, texts, &mut writer)
 }
 
 /// Writes the graph of a query.
@@ -59,20 +45,10 @@ fn graph_file(
     query: &str,
     texts: &mut Texts,
 ) -> Result<(), Fault> {
-    let Ok(query_file) = File::open(rt, query) else {
-        return Err(Fault::ReadQuery);
-    };
-    let mut query_file = Watched::new(query_file);
+    let mut query = Watched::new(LateFile::new(rt, query));
     let mut writer = Watched::new(io::writer(rt));
     let arena = Bump::new(rt.alloc());
-    graph_query(
-        rt.alloc(),
-        &arena,
-        form,
-        &mut query_file,
-        texts,
-        &mut writer,
-    )
+    graph_query(rt.alloc(), &arena, form, &mut query, texts, &mut writer)
 }
 
 /// Does a schedule's steps over a query.
@@ -83,128 +59,130 @@ fn replay_files(
     schedule: &str,
     texts: &mut Texts,
 ) -> Result<(), Fault> {
-    let Ok(query_file) = File::open(rt, query) else {
-        return Err(Fault::ReadQuery);
-    };
-    let mut query_file = Watched::new(query_file);
-    let Ok(schedule_file) = File::open(rt, schedule) else {
-        return Err(Fault::ReadInput);
-    };
-    let mut schedule_file = Watched::new(schedule_file);
+    let mut query = Watched::new(LateFile::new(rt, query));
+    let mut schedule = Watched::new(LateFile::new(rt, schedule));
     let mut writer = Watched::new(io::writer(rt));
     replay_schedule(
         rt.alloc(),
         workers,
-        &mut query_file,
-        &mut schedule_file,
+        &mut query,
+        &mut schedule,
         texts,
         &mut writer,
     )
 }
 
 /// Writes what a refusal's number means, or which numbers there are.
-fn explain_code(rt: &HostRuntime, code: &str) -> io::Result<ExitCode> {
+fn explain_code(rt: &HostRuntime, code: &str) -> ExitCode {
     let Some(row) = explained(code) else {
-        eprintln!(rt; "no refusal has the number {code}: they are {NUMBERS}")?;
-        return Ok(ExitCode::from(2));
+        let _ = eprintln!(rt; "no refusal has the number {code}: they are {NUMBERS}");
+        return ExitCode::from(2);
     };
     let mut writer = Watched::new(io::writer(rt));
     match write_explanation(rt.alloc(), row, &mut writer) {
-        Ok(()) => Ok(ExitCode::SUCCESS),
+        Ok(()) => ExitCode::SUCCESS,
         Err(fault) => {
-            fault.write_line("", "", &mut rt.stderr())?;
-            Ok(ExitCode::from(fault.status()))
+            let _ = fault.write_line("", "", &mut rt.stderr());
+            ExitCode::from(fault.status())
         }
     }
 }
 
-/// Tells why the command line is refused.
-fn refuse(rt: &HostRuntime, fault: LineFault) -> io::Result<ExitCode> {
-    match fault {
-        LineFault::NoMemory => {
-            eprintln!(rt; "out of memory")?;
-            Ok(ExitCode::from(5))
-        }
-        LineFault::Workers { word } => {
-            let fault = LineFault::Workers { word };
-            eprintln!(rt; "{fault}")?;
-            Ok(ExitCode::from(2))
-        }
-        LineFault::Line(text) => {
-            eprint!(rt; "{text}")?;
-            Ok(ExitCode::from(2))
-        }
+/// Tells why the command line is refused. The status tells it also where standard error can't be written, here and below.
+fn refuse(rt: &HostRuntime, fault: &LineFault) -> ExitCode {
+    let _ = match fault {
+        LineFault::Line(text) => eprint!(rt; "{text}"),
+        _ => eprintln!(rt; "{fault}"),
+    };
+    ExitCode::from(fault.status())
+}
+
+/// Tells a fault.
+fn tell(
+    rt: &HostRuntime,
+    fault: &Fault,
+    query: &str,
+    input: &str,
+    explain: bool,
+    texts: &Texts,
+) -> ExitCode {
+    let _ = fault.write_line(query, input, &mut rt.stderr());
+    if explain {
+        let _ = explain_fault(rt.alloc(), fault, texts, &mut rt.stderr());
     }
+    ExitCode::from(fault.status())
 }
 
 /// Does what the words ask for, and tells a fault.
-fn answer(rt: &HostRuntime, wait: &impl Wait, words: &[&str]) -> io::Result<ExitCode> {
+fn answer(rt: &HostRuntime, wait: &impl Wait, words: &[&str]) -> ExitCode {
+    let asked = match options(rt.alloc(), words) {
+        Ok(asked) => asked,
+        Err(fault) => return refuse(rt, &fault),
+    };
     let mut texts = Texts::new(rt.alloc());
-    let (query, input, explain, done) = match options(rt.alloc(), words) {
-        Ok(
-            Options::Run {
-                query,
-                input,
-                explain,
-            },
-        ) => {
+    let (query, input, explain, done) = match asked {
+        Options::Run {
+            query,
+            input,
+            explain,
+        } => {
             let done = run_files(rt, wait, query, input, &mut texts);
             (query, input, explain, done)
         }
-        Ok(Options::Check { query, explain }) => {
+        Options::Check { query, explain } => {
             let done = check_file(rt, query, &mut texts);
             (query, "", explain, done)
         }
-        Ok(
-            Options::Graph {
-                query,
-                form,
-                explain,
-            },
-        ) => {
+        Options::Graph {
+            query,
+            form,
+            explain,
+        } => {
             let done = graph_file(rt, form, query, &mut texts);
             (query, "", explain, done)
         }
-        Ok(
-            Options::Replay {
-                query,
-                schedule,
-                workers,
-                explain,
-            },
-        ) => {
+        Options::Replay {
+            query,
+            schedule,
+            workers,
+            explain,
+        } => {
             let done = replay_files(rt, workers, query, schedule, &mut texts);
             (query, schedule, explain, done)
         }
-        Ok(Options::Explain { code }) => return explain_code(rt, code),
-        Err(fault) => return refuse(rt, fault),
+        Options::Explain { code } => return explain_code(rt, code),
     };
     match done {
-        Ok(()) => Ok(ExitCode::SUCCESS),
-        Err(fault) => {
-            fault.write_line(query, input, &mut rt.stderr())?;
-            if explain {
-                // The status tells the fault, also where its explanation can't be written.
-                let _ = explain_fault(rt.alloc(), &fault, &texts, &mut rt.stderr());
-            }
-            Ok(ExitCode::from(fault.status()))
-        }
+        Ok(()) => ExitCode::SUCCESS,
+        Err(fault) => tell(rt, &fault, query, input, explain, &texts),
     }
 }
 
-/// The words of the line. `wait` is the leave to go on until all is worked off.
-fn answer_words(rt: &HostRuntime, wait: &impl Wait) -> io::Result<ExitCode> {
-    let texts: Vec<String> = env::args(rt)?.collect(rt.alloc())?;
-    let mut words = Vec::with_capacity(rt.alloc(), texts.len())?;
-    for text in &texts {
-        words.push(text.as_str())?;
+/// The words of the line, the first of which is the program's own.
+fn words_given(rt: &HostRuntime) -> Result<Vec<String>, LineFault> {
+    match env::args(rt) {
+        Ok(words) => words.collect(rt.alloc()).map_err(|_| LineFault::NoMemory),
+        Err(error) if error.kind() == ErrorKind::OutOfMemory => Err(LineFault::NoMemory),
+        Err(_) => Err(LineFault::NoText),
     }
-    answer(rt, wait, words.as_slice())
 }
 
-fn main(rt: HostRuntime) -> io::Result<ExitCode> {
-    match answer_words(&rt, &rt) {
-        Err(error) if error.kind() == ErrorKind::OutOfMemory => refuse(&rt, LineFault::NoMemory),
-        done => done,
+/// Does what the line asks for. `wait` is the leave to go on until all is worked off.
+fn answer_line(rt: &HostRuntime, wait: &impl Wait) -> Result<ExitCode, LineFault> {
+    let texts = words_given(rt)?;
+    let Ok(words) = texts
+        .iter()
+        .map(|text| text.as_str())
+        .collect::<Vec<&str>>(rt.alloc())
+    else {
+        return Err(LineFault::NoMemory);
+    };
+    Ok(answer(rt, wait, words.as_slice()))
+}
+
+fn main(rt: HostRuntime) -> ExitCode {
+    match answer_line(&rt, &rt) {
+        Ok(code) => code,
+        Err(fault) => refuse(&rt, &fault),
     }
 }

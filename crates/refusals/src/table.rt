@@ -6,25 +6,27 @@ ghost use Rattle.std.specs.List.{find};
 /// What a refusal means. Texts are UTF-8; a sentence of `text` is a line.
 #[derive(Clone, Copy, Debug, PartialEq, Eq)]
 pub struct Explanation {
-    /// The number by which it is told: 1 to 21 of queries, 41 to 47 of inputs.
+    /// The number by which it is told: 1 to 21 of queries, 31 to 38 of a schedule's steps, 41 to 47 of the lines of inputs, of which 43,
+    /// 44 and 46 are told of a schedule's lines too.
     pub code: u8,
     /// What is wrong, in a phrase.
     pub summary: &'static str,
-    /// What the place covers that is told in the query. Empty where no place is told, and for inputs, of which the line is told.
+    /// What the place covers that is told in the query. Empty where no place is told: of inputs and schedules the line is.
     pub place: &'static str,
-    /// What it means and what helps, in two or three sentences, with a line feed between them.
+    /// What it means and what helps, in one to three lines.
     pub text: &'static str,
-    /// A query that is refused so by `check`; for 41 to 47 an input text under `input a/2; output a;`. Empty where none is short.
+    /// A query that is refused so by `check`; under `input a/2; output a;`, for 31 to 38 a schedule with one such step on one worker, and
+    /// for 41 to 47 an input text. Empty where none is short.
     pub wrong: &'static str,
     /// The same, mended: it is taken. Empty where `wrong` is.
     pub right: &'static str,
 }
 
 /// The numbers that refusals have, in words.
-pub const NUMBERS: &str = "1 to 6, 11 to 19, 21 and 41 to 47";
+pub const NUMBERS: &str = "1 to 6, 11 to 19, 21, 31 to 38 and 41 to 47";
 
 /// The refusals, each code once, in ascending order.
-pub static EXPLANATIONS: [Explanation; 23] = [
+pub static EXPLANATIONS: [Explanation; 31] = [
     Explanation {
         code: 1,
         summary: "a byte that begins no word, `#` without a number, `!` without `=`",
@@ -154,6 +156,70 @@ pub static EXPLANATIONS: [Explanation; 23] = [
         right: "",
     },
     Explanation {
+        code: 31,
+        summary: "a step on an input that is closed",
+        place: "",
+        text: "A closed input takes no more records, and is neither sealed nor closed again.\nA refused step changes nothing, and the schedule goes on.",
+        wrong: "x a\nf a 1 2\n",
+        right: "f a 1 2\nx a\n",
+    },
+    Explanation {
+        code: 32,
+        summary: "a step on an input that the query doesn't have",
+        place: "",
+        text: "A feed, a seal and a close name an input that the query declares, spelled to the byte as there.\nNames of lets are none of inputs.",
+        wrong: "s b\n",
+        right: "s a\n",
+    },
+    Explanation {
+        code: 33,
+        summary: "a record fed with a wrong number of fields",
+        place: "",
+        text: "After the input's name a record has as many fields as the query declares for it: under `input a/2` each record of a has 2.",
+        wrong: "f a 1 2 3\n",
+        right: "f a 1 2\n",
+    },
+    Explanation {
+        code: 34,
+        summary: "a choice that the worker doesn't have, or no such worker",
+        place: "",
+        text: "A worker's choices are counted from 0: its messages in the order in which they came, and then its notifications that may be delivered now.\nWorkers are counted from 0 too, and there is one unless `--workers` says otherwise.",
+        wrong: "d 0 0\n",
+        right: "f a 1 2\nd 0 0\n",
+    },
+    Explanation {
+        code: 35,
+        summary: "a choice for a worker that holds an event already",
+        place: "",
+        text: "A worker holds one event at a time: it takes it with `t`, and gives it back with `c`.",
+        wrong: "f a 1 2\nf a 3 4\nt 0 0\nt 0 0\n",
+        right: "f a 1 2\nf a 3 4\nt 0 0\nc 0\nt 0 0\n",
+    },
+    Explanation {
+        code: 36,
+        summary: "nothing to give back: the worker holds no event, or there is no such worker",
+        place: "",
+        text: "With `c` a worker gives back the event that it took with `t`; `d` has given it back already.",
+        wrong: "f a 1 2\nd 0 0\nc 0\n",
+        right: "f a 1 2\nt 0 0\nc 0\n",
+    },
+    Explanation {
+        code: 37,
+        summary: "a step after the engine has stopped for lack of memory",
+        place: "",
+        text: "A stopped engine takes no records, and hands no event out; what is held may still be given back.\nA replay ends then with `out of memory`, so that no schedule prints this number.",
+        wrong: "",
+        right: "",
+    },
+    Explanation {
+        code: 38,
+        summary: "a seal of the epoch 4294967295, the last one",
+        place: "",
+        text: "A seal opens the next epoch, and epochs are numbered from 0 to 4294967295.",
+        wrong: "",
+        right: "",
+    },
+    Explanation {
         code: 41,
         summary: "a record before the first `epoch` line",
         place: "",
@@ -173,7 +239,7 @@ pub static EXPLANATIONS: [Explanation; 23] = [
         code: 43,
         summary: "the last line has no line feed",
         place: "",
-        text: "Each line ends with a line feed, the last one too: without it the text may have been cut off, and a number with it.\nThe wrong text here ends right after its last digit.",
+        text: "Each line of an input or a schedule ends with a line feed, the last one too: without it the text may have been cut off, and a number with it.\nThe wrong text here ends right after its last digit.",
         wrong: "epoch\na 1 2",
         right: "epoch\na 1 2\n",
     },
@@ -181,7 +247,7 @@ pub static EXPLANATIONS: [Explanation; 23] = [
         code: 44,
         summary: "a bad number",
         place: "",
-        text: "A field is a whole number in its plain spelling: `0`, or an optional `-` and digits that don't begin with 0.\nThe least is -9223372036854775808, the greatest 9223372036854775807.",
+        text: "A field is a whole number in its plain spelling: `0`, or an optional `-` and digits that don't begin with 0.\nThe least is -9223372036854775808, the greatest 9223372036854775807.\nThe workers, choices and epochs of a schedule are such numbers without a sign, from 0 to 4294967295.",
         wrong: "epoch\na 01 2\n",
         right: "epoch\na 1 2\n",
     },
@@ -195,9 +261,9 @@ pub static EXPLANATIONS: [Explanation; 23] = [
     },
     Explanation {
         code: 46,
-        summary: "a malformed line: an empty line, two spaces together, a space at an end, or a first word that is no name",
+        summary: "a malformed line: an empty line, two spaces together, a space at an end, or a first word that is no name; a schedule's line that is no step",
         place: "",
-        text: "A line is `epoch`, or an input's name and then each field after one space.\nThere are no empty lines, no spaces more than these, no tabs and no carriage returns.",
+        text: "A line of an input is `epoch`, or an input's name and then each field after one space.\nA line of a schedule is `f INPUT FIELD ..`, `s INPUT`, `x INPUT`, `t WORKER CHOICE`, `c WORKER`, `d WORKER CHOICE` or `p EPOCH`.\nThere are no empty lines, no spaces more than these, no tabs and no carriage returns.",
         wrong: "epoch\na 1  2\n",
         right: "epoch\na 1 2\n",
     },

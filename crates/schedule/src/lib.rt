@@ -7,11 +7,13 @@
 #![tactic(auto)]
 
 mod arguments;
+mod laws;
 mod line;
 mod reading;
 mod refusal;
 mod verb;
 
+pub use laws::law_one_reading;
 pub use line::Line;
 pub use reading::read_schedule;
 pub use refusal::{Fault, ScheduleRefusal};

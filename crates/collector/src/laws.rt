@@ -1,0 +1,22 @@
+//! What the definitions of the texts come to.
+
+ghost use Rattle.std.specs.Prelude.{◌≡◌, ◌<◌, ℕ, List, [], length, slice_index_or};
+ghost use Rattle.semantics.specs.Multiset.{Record, ◌≈◌};
+ghost use Rattle.semantics.specs.Query.{Input};
+ghost use Rattle.collector.specs.InputText.{IsInputText, IsRefused};
+ghost use Rattle.collector.specs.declared.refusal.InputRefusal.TheVariants.{At};
+ghost use Rattle.collector.specs.OutputText.{IsTextFrom};
+
+/// For the inputs of a query a text tells one number of epochs with their records, or is refused by one code and line; and not both.
+pub fn law_one_reading()
+    ensures epochs { (inputs : List Input) (text : List ℕ) (m n : ℕ) (r s : ℕ → ℕ → List Record) → IsInputText inputs text m r → IsInputText inputs text n s → (m ≡ n) × ((epoch input : ℕ) → r epoch input ≡ s epoch input) }
+    ensures apart { (inputs : List Input) (text : List ℕ) (m : ℕ) (r : ℕ → ℕ → List Record) (code line : ℕ) → IsInputText inputs text m r → IsRefused inputs text (At code line) → ⊥ }
+    ensures refusal { (inputs : List Input) (text : List ℕ) (code line other place : ℕ) → IsRefused inputs text (At code line) → IsRefused inputs text (At other place) → (code ≡ other) × (line ≡ place) }
+{}
+
+/// Epochs that have the same multisets have one output text.
+pub fn law_one_answer()
+    ensures { (xs ys : List (List Record)) (t u : List ℕ) → length xs ≡ length ys → ((k : ℕ) → k < length xs → slice_index_or xs k [] ≈ slice_index_or ys k []) → IsTextFrom 0 xs t → IsTextFrom 0 ys u → t ≡ u }
+{
+    semantics::multisets::law_equal_multisets();
+}
