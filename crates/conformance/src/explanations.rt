@@ -5,6 +5,7 @@ use console::{Fault, Texts, Workers, check_query, explain_fault, explained, repl
 use refusals::{EXPLANATIONS, explanation_of};
 use std::sync::Wait;
 use std::test::Fail;
+use std::thread::Threads;
 
 /// The query over which the inputs and the schedules of the table are read.
 const QUERY: &str = "input a/2; output a;";
@@ -28,18 +29,20 @@ fn checked(rt: &HostRuntime, query: &str) -> u8 {
 }
 
 /// What comes of a query that is run over an input.
-fn ran(rt: &HostRuntime, wait: &impl Wait, query: &str, input: &str) -> u8 {
+fn ran(rt: &HostRuntime, threads: &(impl Threads + Wait + Sync), query: &str, input: &str) -> u8 {
     let mut query = Watched::new(query.as_bytes());
     let mut input = Watched::new(input.as_bytes());
     let mut texts = Texts::new(rt.alloc());
     let mut out = Watched::new(Vec::new(rt.alloc()));
     code_of(run(
-        wait,
+        threads,
         rt.alloc(),
+        Workers::one(),
         &mut query,
         &mut input,
         &mut texts,
         &mut out,
+        &mut None::<Vec<u8>>,
     ))
 }
 
@@ -65,7 +68,12 @@ fn replayed(rt: &HostRuntime, schedule: &str) -> Result<String, Fail> {
 }
 
 /// The code that an example of the table is told with. A schedule prints it once and nothing else.
-fn example_code(rt: &HostRuntime, wait: &impl Wait, code: u8, example: &str) -> Result<u8, Fail> {
+fn example_code(
+    rt: &HostRuntime,
+    threads: &(impl Threads + Wait + Sync),
+    code: u8,
+    example: &str,
+) -> Result<u8, Fail> {
     match code {
         0..=30 => Ok(checked(rt, example)),
         31..=40 => {
@@ -76,7 +84,7 @@ fn example_code(rt: &HostRuntime, wait: &impl Wait, code: u8, example: &str) -> 
                 Some(rest) => Ok(rest.trim().parse().unwrap_or(255)),
             }
         }
-        41..=255 => Ok(ran(rt, wait, QUERY, example)),
+        41..=255 => Ok(ran(rt, threads, QUERY, example)),
     }
 }
 

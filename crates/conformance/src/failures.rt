@@ -1,7 +1,7 @@
 //! Fault lines, and runs whose readers and writers fail.
 
 use collector::Watched;
-use console::{Fault, Texts, run};
+use console::{Fault, Texts, Workers, run};
 use std::io;
 use std::io::{ErrorKind, Read, Write};
 use std::test::Fail;
@@ -38,6 +38,7 @@ fn lines(rt: HostRuntime) -> Result<(), Fail> {
         ),
         (Fault::NoMemory, 5, "out of memory\n"),
         (Fault::NoWorker, 5, "cannot start a worker\n"),
+        (Fault::Incomplete, 5, "the run is incomplete\n"),
         (Fault::ReadQuery, 6, "cannot read q\n"),
         (Fault::ReadInput, 6, "cannot read i\n"),
         (Fault::Write, 6, "cannot write\n"),
@@ -107,10 +108,12 @@ fn slow_readers(rt: HostRuntime) -> Result<(), Fail> {
         let done = run(
             &rt,
             rt.alloc(),
+            Workers::one(),
             &mut first,
             &mut second,
             &mut Texts::new(rt.alloc()),
             &mut out,
+            &mut None::<Vec<u8>>,
         );
         assert!(rt; matches!(done, Err(Fault::ReadQuery)));
         assert_eq!(rt; out.into_inner().len(), 0);
@@ -122,10 +125,12 @@ fn slow_readers(rt: HostRuntime) -> Result<(), Fail> {
         let done = run(
             &rt,
             rt.alloc(),
+            Workers::one(),
             &mut first,
             &mut second,
             &mut Texts::new(rt.alloc()),
             &mut out,
+            &mut None::<Vec<u8>>,
         );
         assert!(rt; matches!(done, Err(Fault::ReadInput)));
         assert_eq!(rt; out.into_inner().len(), 0);
@@ -148,10 +153,12 @@ fn full_writers(rt: HostRuntime) -> Result<(), Fail> {
             let done = run(
                 &rt,
                 rt.alloc(),
+                Workers::one(),
                 &mut query,
                 &mut input,
                 &mut Texts::new(rt.alloc()),
                 &mut out,
+                &mut None::<Vec<u8>>,
             );
             assert_eq!(rt; done.is_ok(), text.len() <= room);
             if room < text.len() {

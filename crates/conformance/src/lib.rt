@@ -14,3 +14,5 @@ mod limits;
 mod replays;
 #[cfg(test)]
 mod texts;
+#[cfg(test)]
+mod watching;

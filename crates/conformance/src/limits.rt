@@ -1,7 +1,7 @@
 //! Queries at the limits of size, which are too long for a page.
 
 use collector::Watched;
-use console::{Fault, GraphForm, Texts, check_query, explain_fault, graph_query, run};
+use console::{Fault, GraphForm, Texts, Workers, check_query, explain_fault, graph_query, run};
 use std::test::Fail;
 
 /// What `graph_query` answers: the graph's text, or the fault's line.
@@ -61,10 +61,12 @@ fn too_large_to_run(rt: HostRuntime) -> Result<(), Fail> {
     let done = run(
         &rt,
         rt.alloc(),
+        Workers::one(),
         &mut query,
         &mut input,
         &mut texts,
         &mut out,
+        &mut None::<Vec<u8>>,
     );
     assert!(rt; matches!(done, Err(Fault::TooManyVertices)));
     assert_eq!(rt; out.into_inner().len(), 0);

@@ -12,7 +12,7 @@ use Rattle.collector.specs.OutputText.{IsTextFrom}
 use Rattle.collector.specs.Held.{epoch_count, records_at}
 use Rattle.collector.specs.declared.epochs.Epochs.{Epochs}
 use Rattle.console.specs.Compiled.{IsCompiled}
-use Rattle.console.specs.Fed.{EmittedBelow, HoldsFed, IsWorkedOff, emitted_at, fed_at}
+use Rattle.execution.specs.Fed.{EmittedBelow, HoldsFed, IsWorkedOff, emitted_at, fed_at}
 use Rattle.console.specs.Answers.{IsAnswer}
 
 -- names mean the same where the inputs have the same records
@@ -47,11 +47,4 @@ is_answer s epochs lists text done below headline passed told query c = record {
       let meant : emitted_at s epoch ≈ program_meaning c.program (records_at epochs epoch) = subst (λ rs. emitted_at s epoch ≈ rs) (meant_of_text query s epochs epoch c done.fed lt) all in
       subst (λ rs. rs ≈ program_meaning c.program (records_at epochs epoch)) (sym (below.each epoch lt)) meant;
   told = told;
-}
-
-pub is_worked_off : (graph : GraphValue) (s : Shown) (epochs : Epochs) (inputs count : ℕ) → s.graph ≡ graph → IsDrained s → HoldsFed s inputs epochs count → inputs ≡ length (shown_inputs graph) → count ≡ epoch_count epochs → IsWorkedOff graph s epochs
-is_worked_off graph s epochs inputs count same drained fed n m = record {
-  same = same;
-  drained = drained;
-  fed = λ epoch input lt less. fed epoch input (omega (arith, lt, m)) (omega (arith, less, n));
 }

@@ -7,7 +7,7 @@ use Rattle.console.specs.Compiled.{IsQueryFault, IsTaken}
 use Rattle.console.specs.Heeded.{Heeds}
 use Rattle.console.specs.Replayed.{ReplayEnds}
 use Rattle.console.specs.declared.fault.Fault.{Fault}
-use Rattle.console.specs.declared.fault.Fault.TheVariants.{Query, TooManyVertices, Input as InputFault, Schedule, NoMemory, NoWorker, ReadQuery, ReadInput, Write}
+use Rattle.console.specs.declared.fault.Fault.TheVariants.{Query, TooManyVertices, Input as InputFault, Schedule, NoMemory, NoWorker, Incomplete, ReadQuery, ReadInput, Write}
 
 pub responds_heeds : (query : List ℕ) (p : Program) (count : ℕ) (records : ℕ → ℕ → List Record) (old new : Option (List ℕ)) (result : Result (Unit {0}) Fault) → IsTaken query → Responds p count records old new result → Heeds query old new result
 responds_heeds query p count records old new (Ok u) t r = t
@@ -17,7 +17,8 @@ responds_heeds query p count records old new (Err (Query code start end)) t r = 
 responds_heeds query p count records old new (Err TooManyVertices) t r = absurd r
 responds_heeds query p count records old new (Err (InputFault code line)) t r = absurd r
 responds_heeds query p count records old new (Err (Schedule code line)) t r = absurd r
-responds_heeds query p count records old new (Err NoWorker) t r = absurd r
+responds_heeds query p count records old new (Err NoWorker) t r = (r, t)
+responds_heeds query p count records old new (Err Incomplete) t r = (r, t)
 responds_heeds query p count records old new (Err ReadQuery) t r = absurd r
 responds_heeds query p count records old new (Err ReadInput) t r = absurd r
 
@@ -32,3 +33,4 @@ replay_heeds query workers schedule old new (Err ReadQuery) e = e
 replay_heeds query workers schedule old new (Err ReadInput) e = e
 replay_heeds query workers schedule old new (Err (InputFault code line)) e = absurd e
 replay_heeds query workers schedule old new (Err NoWorker) e = absurd e
+replay_heeds query workers schedule old new (Err Incomplete) e = absurd e

@@ -1,4 +1,3 @@
-pub mod Batches
 pub mod Answering
 pub mod RunEnds
 pub mod DeclaredInputs

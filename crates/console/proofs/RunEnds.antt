@@ -1,14 +1,17 @@
 -- A run answers as its board does.
-use Rattle.std.proofs.Common.{ℕ, List, Option, Result, Ok, Err, IfErr, subst}
+use Rattle.std.proofs.Common.{◌≡◌, ℕ, List, Option, Result, Ok, Err, IfErr, subst}
 use Rattle.semantics.specs.Multiset.{Record}
 use Rattle.semantics.specs.Query.{Input, Program}
 use Rattle.semantics.specs.Graph.{Graph}
 use Rattle.collector.specs.InputText.{IsInputText}
+use Rattle.execution.specs.declared.unfinished.Unfinished.{Unfinished}
+use Rattle.execution.specs.declared.unfinished.Unfinished.TheVariants as run
 use Rattle.console.specs.Answers.{Responds}
 use Rattle.console.specs.Compiled.{IsCompiled}
+use Rattle.console.specs.Faults.{run_fault_of}
 use Rattle.console.specs.Runs.{Ends, IsAfterReading}
 use Rattle.console.specs.declared.fault.Fault.{Fault}
-use Rattle.console.specs.declared.fault.Fault.TheVariants.{Query, TooManyVertices, Input as InputFault, Schedule, NoMemory, NoWorker, ReadQuery, ReadInput, Write}
+use Rattle.console.specs.declared.fault.Fault.TheVariants.{Query, TooManyVertices, Input as InputFault, Schedule, NoMemory, NoWorker, Incomplete, ReadQuery, ReadInput, Write}
 
 pub run_ends : (query input : List ℕ) (g : Graph) (inputs : List Input) (count : ℕ) (records : ℕ → ℕ → List Record) (old new : Option (List ℕ)) (result : Result (Unit {0}) Fault) → (c : IsCompiled query g inputs)
     → IsInputText inputs input count records → Responds c.program count records old new result → Ends query input old new result
@@ -21,7 +24,8 @@ run_ends query input g inputs count records old new (Err (Query code start end))
 run_ends query input g inputs count records old new (Err TooManyVertices) c h r = absurd r
 run_ends query input g inputs count records old new (Err (InputFault code line)) c h r = absurd r
 run_ends query input g inputs count records old new (Err (Schedule code line)) c h r = absurd r
-run_ends query input g inputs count records old new (Err NoWorker) c h r = absurd r
+run_ends query input g inputs count records old new (Err NoWorker) c h r = r
+run_ends query input g inputs count records old new (Err Incomplete) c h r = r
 run_ends query input g inputs count records old new (Err ReadQuery) c h r = absurd r
 run_ends query input g inputs count records old new (Err ReadInput) c h r = absurd r
 
@@ -34,5 +38,12 @@ after_reading p count records old new (Err TooManyVertices) r = tt
 after_reading p count records old new (Err (InputFault code line)) r = tt
 after_reading p count records old new (Err (Schedule code line)) r = tt
 after_reading p count records old new (Err NoWorker) r = tt
+after_reading p count records old new (Err Incomplete) r = tt
 after_reading p count records old new (Err ReadQuery) r = absurd r
 after_reading p count records old new (Err ReadInput) r = absurd r
+
+-- a run that came to no end has written nothing
+pub unfinished_responds : (p : Program) (count : ℕ) (records : ℕ → ℕ → List Record) (old new : Option (List ℕ)) (u : Unfinished) → new ≡ old → Responds p count records old new (Err (run_fault_of u))
+unfinished_responds p count records old new run.NoMemory same = same
+unfinished_responds p count records old new run.NoWorker same = same
+unfinished_responds p count records old new run.Incomplete same = same

@@ -7,7 +7,7 @@ use Rattle.semantics.specs.Meaning.{program_meaning}
 use Rattle.collector.specs.OutputText.{IsTextFrom}
 use Rattle.collector.specs.Written.{AppendsFront}
 use Rattle.console.specs.declared.fault.Fault.{Fault}
-use Rattle.console.specs.declared.fault.Fault.TheVariants.{Query, TooManyVertices, Input, Schedule, NoMemory, NoWorker, ReadQuery, ReadInput, Write}
+use Rattle.console.specs.declared.fault.Fault.TheVariants.{Query, TooManyVertices, Input, Schedule, NoMemory, NoWorker, Incomplete, ReadQuery, ReadInput, Write}
 
 -- the text has, for each epoch of so many, the multiset that the program means on the records of its inputs there
 pub record IsAnswer (p : Program) (count : ℕ) (records : ℕ → ℕ → List Record) (text : List ℕ) : Type 0 where
@@ -25,6 +25,7 @@ Responds p count records old new (Err (Query code start end)) = ⊥
 Responds p count records old new (Err TooManyVertices) = ⊥
 Responds p count records old new (Err (Input code line)) = ⊥
 Responds p count records old new (Err (Schedule code line)) = ⊥
-Responds p count records old new (Err NoWorker) = ⊥
+Responds p count records old new (Err NoWorker) = new ≡ old
+Responds p count records old new (Err Incomplete) = new ≡ old
 Responds p count records old new (Err ReadQuery) = ⊥
 Responds p count records old new (Err ReadInput) = ⊥

@@ -11,7 +11,7 @@ use Rattle.collector.specs.Written.{AppendsFront}
 use Rattle.record_core.specs.declared.span.Refusal.TheVariants.{At}
 use Rattle.console.specs.Queries.{IsRefusal}
 use Rattle.console.specs.declared.fault.Fault.{Fault}
-use Rattle.console.specs.declared.fault.Fault.TheVariants.{Query, TooManyVertices, Input as InputFault, Schedule, NoMemory, NoWorker, ReadQuery, ReadInput, Write}
+use Rattle.console.specs.declared.fault.Fault.TheVariants.{Query, TooManyVertices, Input as InputFault, Schedule, NoMemory, NoWorker, Incomplete, ReadQuery, ReadInput, Write}
 
 -- `input NAME/ARITY`
 abbrev pub input_line : Input → List ℕ
@@ -37,6 +37,7 @@ IsCheckFault query TooManyVertices = ⊥
 IsCheckFault query (InputFault code line) = ⊥
 IsCheckFault query (Schedule code line) = ⊥
 IsCheckFault query NoWorker = ⊥
+IsCheckFault query Incomplete = ⊥
 IsCheckFault query ReadQuery = ⊥
 IsCheckFault query ReadInput = ⊥
 IsCheckFault query Write = ⊥
@@ -54,3 +55,4 @@ CheckEnds query old new (Err TooManyVertices) = ⊥
 CheckEnds query old new (Err (InputFault code line)) = ⊥
 CheckEnds query old new (Err (Schedule code line)) = ⊥
 CheckEnds query old new (Err NoWorker) = ⊥
+CheckEnds query old new (Err Incomplete) = ⊥

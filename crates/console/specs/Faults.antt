@@ -6,12 +6,14 @@ use Rattle.collector.specs.declared.refusal.InputRefusal as input_refusal
 use Rattle.collector.specs.declared.refusal.InputRefusal.TheVariants as input
 use Rattle.schedule.specs.declared.refusal.ScheduleRefusal as schedule_refusal
 use Rattle.schedule.specs.declared.refusal.ScheduleRefusal.TheVariants as schedule
+use Rattle.execution.specs.declared.unfinished.Unfinished.{Unfinished}
+use Rattle.execution.specs.declared.unfinished.Unfinished.TheVariants as run
 use Rattle.console.specs.declared.choice.LineFault.{LineFault}
 use Rattle.console.specs.declared.choice.LineFault.TheVariants as line
 use Rattle.console.specs.declared.fault.CompileFault.{CompileFault}
 use Rattle.console.specs.declared.fault.CompileFault.TheVariants as compile
 use Rattle.console.specs.declared.fault.Fault.{Fault}
-use Rattle.console.specs.declared.fault.Fault.TheVariants.{Query, TooManyVertices, Input, Schedule, NoMemory, NoWorker, ReadQuery, ReadInput, Write}
+use Rattle.console.specs.declared.fault.Fault.TheVariants.{Query, TooManyVertices, Input, Schedule, NoMemory, NoWorker, Incomplete, ReadQuery, ReadInput, Write}
 
 -- 3 of the query, 4 of the input or the schedule, 5 of memory and threads, 6 of files
 abbrev pub status_of : Fault → ℕ
@@ -21,6 +23,7 @@ status_of (Input code line) = 4
 status_of (Schedule code line) = 4
 status_of NoMemory = 5
 status_of NoWorker = 5
+status_of Incomplete = 5
 status_of ReadQuery = 6
 status_of ReadInput = 6
 status_of Write = 6
@@ -57,3 +60,9 @@ input_fault_of input.NoMemory = NoMemory
 abbrev pub schedule_fault_of : schedule_refusal.ScheduleRefusal → Fault
 schedule_fault_of (schedule.At code line) = Schedule code line
 schedule_fault_of schedule.NoMemory = NoMemory
+
+-- of a run that came to no end
+abbrev pub run_fault_of : Unfinished → Fault
+run_fault_of run.NoMemory = NoMemory
+run_fault_of run.NoWorker = NoWorker
+run_fault_of run.Incomplete = Incomplete

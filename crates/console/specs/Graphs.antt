@@ -9,7 +9,7 @@ use Rattle.console.specs.Compiled.{IsCompiled, IsQueryFault}
 use Rattle.console.specs.declared.choice.GraphForm.{GraphForm}
 use Rattle.console.specs.declared.choice.GraphForm.TheVariants.{Lines, Dot}
 use Rattle.console.specs.declared.fault.Fault.{Fault}
-use Rattle.console.specs.declared.fault.Fault.TheVariants.{Query, TooManyVertices, Input, Schedule, NoMemory, NoWorker, ReadQuery, ReadInput, Write}
+use Rattle.console.specs.declared.fault.Fault.TheVariants.{Query, TooManyVertices, Input, Schedule, NoMemory, NoWorker, Incomplete, ReadQuery, ReadInput, Write}
 
 -- the text is that of a graph in this form; what Graphviz draws is left open
 abbrev pub IsTextIn : GraphForm → Graph → List ℕ → Type 0
@@ -36,3 +36,4 @@ GraphEnds form query old new (Err ReadInput) = ⊥
 GraphEnds form query old new (Err (Input code line)) = ⊥
 GraphEnds form query old new (Err (Schedule code line)) = ⊥
 GraphEnds form query old new (Err NoWorker) = ⊥
+GraphEnds form query old new (Err Incomplete) = ⊥

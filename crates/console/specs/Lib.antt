@@ -1,7 +1,6 @@
 pub mod Faults
 pub mod Numbers
 pub mod Line
-pub mod Fed
 pub mod Answers
 pub mod Queries
 pub mod Compiled

@@ -28,9 +28,12 @@ check_app = with_rule (with_rule (new_app (codes "check")) (flag_rule (codes "ex
 abbrev pub graph_app : App
 graph_app = with_rule (with_rule (with_rule (new_app (codes "graph")) (flag_rule (codes "dot"))) (flag_rule (codes "explain"))) (word_rule (codes "QUERY"))
 
--- `run QUERY INPUT`, with or without `--explain`
+-- `run QUERY INPUT`, with or without `--workers N`, `--watch` and `--explain`
 abbrev pub run_app : App
-run_app = with_rule (with_rule (with_rule (new_app (codes "run")) (flag_rule (codes "explain"))) (word_rule (codes "QUERY"))) (word_rule (codes "INPUT"))
+run_app =
+    with_rule
+    (with_rule (with_rule (with_rule (with_rule (new_app (codes "run")) (option_rule (codes "workers"))) (flag_rule (codes "watch"))) (flag_rule (codes "explain"))) (word_rule (codes "QUERY")))
+    (word_rule (codes "INPUT"))
 
 -- `replay QUERY SCHEDULE`, with or without `--workers N` and `--explain`
 abbrev pub replay_app : App
@@ -64,7 +67,9 @@ AreAskedFor (Some word) workers = Spells word workers
 
 -- the options are what the matches of a command hold
 abbrev pub HoldsAt : Text → List Row → Options → Type 0
-HoldsAt name rows (Run query input explain) = (name ≡ codes "run") × (first_of (codes "QUERY") rows ≡ Some query.now) × (first_of (codes "INPUT") rows ≡ Some input.now) × IsFlag (codes "explain") rows explain
+HoldsAt name rows (Run query input workers watch explain) =
+    (name ≡ codes "run") × (first_of (codes "QUERY") rows ≡ Some query.now) × (first_of (codes "INPUT") rows ≡ Some input.now) × AreAskedFor (first_of (codes "workers") rows) workers.count
+    × IsFlag (codes "watch") rows watch × IsFlag (codes "explain") rows explain
 HoldsAt name rows (Check query explain) = (name ≡ codes "check") × (first_of (codes "QUERY") rows ≡ Some query.now) × IsFlag (codes "explain") rows explain
 HoldsAt name rows (Graph query form explain) = (name ≡ codes "graph") × (first_of (codes "QUERY") rows ≡ Some query.now) × IsFlag (codes "dot") rows (is_dot form) × IsFlag (codes "explain") rows explain
 HoldsAt name rows (Replay query schedule workers explain) =

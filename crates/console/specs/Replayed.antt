@@ -11,7 +11,7 @@ use Rattle.schedule.specs.declared.refusal.ScheduleRefusal.TheVariants.{At}
 use Rattle.replay.specs.Replays.{Replays}
 use Rattle.console.specs.Compiled.{IsCompiled, IsQueryFault, IsTaken}
 use Rattle.console.specs.declared.fault.Fault.{Fault}
-use Rattle.console.specs.declared.fault.Fault.TheVariants.{Query, TooManyVertices, Input, Schedule, NoMemory, NoWorker, ReadQuery, ReadInput, Write}
+use Rattle.console.specs.declared.fault.Fault.TheVariants.{Query, TooManyVertices, Input, Schedule, NoMemory, NoWorker, Incomplete, ReadQuery, ReadInput, Write}
 
 -- over the graph of the query, so many workers lead the schedule's commands from the opening world on, and the text is what they print
 pub record IsReplay (query : List ℕ) (workers : ℕ) (schedule text : List ℕ) : Type 0 where
@@ -32,6 +32,7 @@ IsReplayFault query schedule (Schedule code line) = IsTaken query × IsRefused s
 IsReplayFault query schedule NoMemory = Unit {0}
 IsReplayFault query schedule (Input code line) = ⊥
 IsReplayFault query schedule NoWorker = ⊥
+IsReplayFault query schedule Incomplete = ⊥
 IsReplayFault query schedule ReadQuery = ⊥
 IsReplayFault query schedule ReadInput = ⊥
 IsReplayFault query schedule Write = ⊥
@@ -49,3 +50,4 @@ ReplayEnds query workers schedule old new (Err ReadQuery) = new ≡ old
 ReplayEnds query workers schedule old new (Err ReadInput) = new ≡ old
 ReplayEnds query workers schedule old new (Err (Input code line)) = ⊥
 ReplayEnds query workers schedule old new (Err NoWorker) = ⊥
+ReplayEnds query workers schedule old new (Err Incomplete) = ⊥

@@ -10,7 +10,7 @@ use Rattle.console.specs.Answers.{IsAnswer}
 use Rattle.console.specs.Compiled.{IsQueryFault}
 use Rattle.console.specs.Queries.{IsQuery}
 use Rattle.console.specs.declared.fault.Fault.{Fault}
-use Rattle.console.specs.declared.fault.Fault.TheVariants.{Query, TooManyVertices, Input, Schedule, NoMemory, NoWorker, ReadQuery, ReadInput, Write}
+use Rattle.console.specs.declared.fault.Fault.TheVariants.{Query, TooManyVertices, Input, Schedule, NoMemory, NoWorker, Incomplete, ReadQuery, ReadInput, Write}
 
 -- the text is the answer of the query to the input
 pub record IsRun (query input text : List ℕ) : Type 0 where
@@ -37,7 +37,8 @@ Ends query input old new (Err NoMemory) = new ≡ old
 Ends query input old new (Err ReadQuery) = new ≡ old
 Ends query input old new (Err ReadInput) = new ≡ old
 Ends query input old new (Err (Schedule code line)) = ⊥
-Ends query input old new (Err NoWorker) = ⊥
+Ends query input old new (Err NoWorker) = new ≡ old
+Ends query input old new (Err Incomplete) = new ≡ old
 
 -- the query could not be read, or there was no memory
 abbrev pub IsUnreadQuery : Fault → Type 0
@@ -49,6 +50,7 @@ IsUnreadQuery TooManyVertices = ⊥
 IsUnreadQuery (Input code line) = ⊥
 IsUnreadQuery (Schedule code line) = ⊥
 IsUnreadQuery NoWorker = ⊥
+IsUnreadQuery Incomplete = ⊥
 IsUnreadQuery Write = ⊥
 
 -- the input or the schedule could not be read, or there was no memory
@@ -61,6 +63,7 @@ IsUnreadInput TooManyVertices = ⊥
 IsUnreadInput (Input code line) = ⊥
 IsUnreadInput (Schedule code line) = ⊥
 IsUnreadInput NoWorker = ⊥
+IsUnreadInput Incomplete = ⊥
 IsUnreadInput Write = ⊥
 
 -- it came once both texts were read
@@ -73,4 +76,5 @@ IsAfterReading TooManyVertices = Unit {0}
 IsAfterReading (Input code line) = Unit {0}
 IsAfterReading (Schedule code line) = Unit {0}
 IsAfterReading NoWorker = Unit {0}
+IsAfterReading Incomplete = Unit {0}
 IsAfterReading Write = Unit {0}

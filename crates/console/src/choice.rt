@@ -3,16 +3,19 @@
 ghost use Rattle.std.specs.Prelude.{◌≡◌};
 ghost use Rattle.console.specs.Faults.{line_status_of};
 
-use crate::workers::Workers;
+use crate::worker_count::Workers;
 use clap::Error;
 
 /// What the words of the line ask for. Paths are kept as they were given.
 #[derive(Clone, Copy, Debug, PartialEq, Eq)]
 pub enum Options<'a> {
-    /// `loom run QUERY INPUT`, and a fault explained with `--explain`
+    /// `loom run QUERY INPUT`, on one worker or `--workers N`; with `--watch` it tells how many epochs have passed; and a fault explained
+    /// with `--explain`
     Run {
         query: &'a str,
         input: &'a str,
+        workers: Workers,
+        watch: bool,
         explain: bool,
     },
     /// `loom check QUERY`, and a fault explained with `--explain`

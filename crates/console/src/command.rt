@@ -6,7 +6,7 @@ ghost use Rattle.clap.specs.declared.builder.Command.TheViews.{out-Command as fi
 ghost use Rattle.console.specs.Line.{AreAskedFor, Holds, HoldsAt, IsFlag, check_app, explain_app, flag_rule, graph_app, line_app, option_rule, replay_app, run_app, word_rule};
 
 use crate::choice::{GraphForm, LineFault, Options};
-use crate::workers::Workers;
+use crate::worker_count::Workers;
 use clap::error::ErrorKind;
 use clap::{Arg, ArgAction, ArgMatches, Command, Error};
 use std::alloc::{AllocError, Global};
@@ -89,6 +89,12 @@ fn run_command<'a>(alloc: Global) -> Result<Command<'a>, AllocError>
     ensures local { IfOk result (λ c. (fields_of c).has_globals ≡ false) }
 {
     named(alloc, "run", "Answer a query over an input, epoch by epoch")
+        .arg(workers_arg(alloc))?
+        .arg(flag_arg(
+            alloc,
+            "watch",
+            "Tell on standard error how many epochs have passed",
+        ))?
         .arg(explain_arg(alloc))?
         .arg(word_arg(alloc, "QUERY"))?
         .arg(word_arg(alloc, "INPUT"))
@@ -147,15 +153,20 @@ fn flag_of<'a>(found: &ArgMatches<'a>, id: &str) -> bool
     found.get_flag(id)
 }
 
-fn run_options<'a>(found: &ArgMatches<'a>) -> Option<Options<'a>>
+/// The options of a run on so many workers.
+fn run_options<'a>(found: &ArgMatches<'a>, workers: Workers) -> Option<Options<'a>>
+    requires { AreAskedFor (first_of (codes "workers") (rows_of (found_of found.now))) workers.count }
     ensures { IfSome result (HoldsAt (codes "run") (rows_of (found_of found.now))) }
 {
     let query = text_of(found, "QUERY")?;
     let input = text_of(found, "INPUT")?;
+    let watch = flag_of(found, "watch");
     let explain = flag_of(found, "explain");
     Some(Options::Run {
         query,
         input,
+        workers,
+        watch,
         explain,
     })
 }
@@ -222,6 +233,16 @@ fn workers_fault(alloc: Global, word: &str) -> LineFault {
     }
 }
 
+/// What the matches of `run` hold.
+fn run_line<'a>(alloc: Global, found: &ArgMatches<'a>) -> Result<Options<'a>, LineFault>
+    ensures { IfOk result (HoldsAt (codes "run") (rows_of (found_of found.now))) }
+{
+    match workers_of(found) {
+        Ok(workers) => run_options(found, workers).ok_or(LineFault::NoCommand),
+        Err(word) => Err(workers_fault(alloc, word)),
+    }
+}
+
 /// What the matches of `replay` hold.
 fn replay_line<'a>(alloc: Global, found: &ArgMatches<'a>) -> Result<Options<'a>, LineFault>
     ensures { IfOk result (HoldsAt (codes "replay") (rows_of (found_of found.now))) }
@@ -232,12 +253,11 @@ fn replay_line<'a>(alloc: Global, found: &ArgMatches<'a>) -> Result<Options<'a>,
     }
 }
 
-/// The options that the matches of a command other than `replay` hold.
+/// The options that the matches of a command hold which has no workers.
 fn options_at<'a>(name: &str, found: &ArgMatches<'a>) -> Option<Options<'a>>
     ensures { IfSome result (HoldsAt name.now (rows_of (found_of found.now))) }
 {
     match name.as_bytes() {
-        b"run" => run_options(found),
         b"check" => check_options(found),
         b"graph" => graph_options(found),
         b"explain" => Some(Options::Explain {
@@ -256,6 +276,7 @@ fn line_options<'a>(
     ensures { IfOk result (HoldsAt name.now (rows_of (found_of found.now))) }
 {
     match name.as_bytes() {
+        b"run" => run_line(alloc, found),
         b"replay" => replay_line(alloc, found),
         _ => options_at(name, found).ok_or(LineFault::NoCommand),
     }

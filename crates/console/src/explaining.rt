@@ -151,7 +151,11 @@ pub fn explain_fault<W: Write>(
             write_numbered(&texts.input, *line, writer)?;
             write_schedule_fault(*code, writer)
         }
-        Fault::NoMemory | Fault::NoWorker | Fault::ReadQuery | Fault::ReadInput | Fault::Write =>
-            Ok(()),
+        Fault::NoMemory
+        | Fault::NoWorker
+        | Fault::Incomplete
+        | Fault::ReadQuery
+        | Fault::ReadInput
+        | Fault::Write => Ok(()),
     }
 }

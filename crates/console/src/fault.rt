@@ -1,10 +1,11 @@
 //! What may go wrong, and how it is told.
 
 ghost use Rattle.std.specs.Prelude.{◌≡◌};
-ghost use Rattle.console.specs.Faults.{compile_fault_of, fault_of, graph_fault_of, input_fault_of, schedule_fault_of, status_of};
+ghost use Rattle.console.specs.Faults.{compile_fault_of, fault_of, graph_fault_of, input_fault_of, run_fault_of, schedule_fault_of, status_of};
 ghost use Rattle.console.specs.declared.fault.Fault.TheVariants.{NoMemory};
 
 use collector::InputRefusal;
+use execution::Unfinished;
 use record_core::{Refusal, Span};
 use schedule::ScheduleRefusal;
 use std::alloc::AllocError;
@@ -31,6 +32,9 @@ pub enum Fault {
     NoMemory,
     #[error("cannot start a worker")]
     NoWorker,
+    /// The engine has not done all that was read. No run is known in which this comes.
+    #[error("the run is incomplete")]
+    Incomplete,
     #[error("cannot read the query")]
     ReadQuery,
     /// Also of a schedule.
@@ -58,7 +62,7 @@ impl Fault {
         match self {
             Fault::Query { .. } | Fault::TooManyVertices => 3,
             Fault::Input { .. } | Fault::Schedule { .. } => 4,
-            Fault::NoMemory | Fault::NoWorker => 5,
+            Fault::NoMemory | Fault::NoWorker | Fault::Incomplete => 5,
             Fault::ReadQuery | Fault::ReadInput | Fault::Write => 6,
         }
     }
@@ -71,6 +75,17 @@ impl Fault {
             Fault::ReadInput => writeln!(writer, "cannot read {input}"),
             _ => writeln!(writer, "{self}"),
         }
+    }
+}
+
+/// The fault of a run that came to no end.
+pub fn run_fault(unfinished: Unfinished) -> Fault
+    ensures { result ≡ run_fault_of unfinished }
+{
+    match unfinished {
+        Unfinished::NoMemory => Fault::NoMemory,
+        Unfinished::NoWorker => Fault::NoWorker,
+        Unfinished::Incomplete => Fault::Incomplete,
     }
 }
 

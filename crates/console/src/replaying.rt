@@ -10,7 +10,7 @@ ghost use Rattle.console.specs.declared.fault.Fault.TheVariants as fault;
 use crate::fault::{Fault, schedule_fault};
 use crate::running::{graph_of_text, read_input_text, read_query};
 use crate::texts::Texts;
-use crate::workers::Workers;
+use crate::worker_count::Workers;
 use collector::{Watched, put};
 use replay::replay_text;
 use std::alloc::Global;

@@ -1,63 +1,40 @@
 //! What a graph makes of epochs, computed and written.
 
-ghost use Rattle.std.specs.Prelude.{◌≡◌, ℕ, List, true, IfOk, IfErr, IsErrOf};
+ghost use Rattle.std.specs.Prelude.{◌≡◌, ◌<◌, ◌≤◌, ℕ, List, true, IsErrOf};
 ghost use Rattle.lowering.specs.Shown.{shown_graph, shown_inputs};
 ghost use Rattle.collector.specs.Held.{epoch_count, records_at};
 ghost use Rattle.collector.specs.Watching.{has_failed, inner_of};
 ghost use Rattle.console.specs.Answers.{Responds};
 ghost use Rattle.console.specs.Compiled.{IsCompiled};
-ghost use Rattle.console.specs.Fed.{IsWorkedOff};
+ghost use Rattle.execution.specs.Fed.{IsWorkedOff};
 ghost use Rattle.console.specs.declared.fault.Fault.TheVariants as fault;
 
-use crate::engine::{drive, emitted};
-use crate::fault::Fault;
-use board::Board;
+use crate::fault::{Fault, run_fault};
+use crate::worker_count::Workers;
 use collector::{Epochs, OutFault, Watched, write_epochs};
+use execution::{emitted, execute};
 use lowering::Graph;
 use progress::LocationTracker;
 use std::alloc::Global;
 use std::io::Write;
-use std::sync::{Arc, Wait};
+use std::sync::Wait;
+use std::thread::Threads;
+use workers::Report;
 
-/// A board over the graph that was fed just the epochs, and has nothing left to do.
-fn worked_off(
-    rt: &impl Wait,
-    alloc: Global,
-    graph: Graph,
-    epochs: &Epochs,
-) -> Result<Board<LocationTracker>, Fault>
-    ensures done { IfOk result (λ b. IsWorkedOff graph b epochs.now) }
-    ensures fault { IfErr result (λ e. e ≡ fault.NoMemory) }
-{
-    let Ok(inputs) = u32::try_from(graph.inputs().len()) else {
-        return Err(Fault::NoMemory);
-    };
-    let Ok(graph) = Arc::new(alloc, graph) else {
-        return Err(Fault::NoMemory);
-    };
-    let Ok(mut board) = Board::<LocationTracker>::new(alloc, graph, 1) else {
-        return Err(Fault::NoMemory);
-    };
-    match drive(rt, alloc, &mut board, inputs, epochs, epochs.count()) {
-        Ok(()) => Ok(board),
-        Err(_) => Err(Fault::NoMemory),
-    }
-}
-
-/// Writes what a board that is worked off has emitted.
+/// Writes what a run that is worked off has emitted.
 fn write_emitted<W: Write>(
     alloc: Global,
-    board: &Board<LocationTracker>,
+    report: &Report<LocationTracker>,
     epochs: &Epochs,
     writer: &mut Watched<W>,
 ) -> Result<(), Fault>
-    requires { IsWorkedOff board.now.graph board.now epochs.now }
-    ensures text { (query : List ℕ) (c : IsCompiled query (shown_graph board.now.graph) (shown_inputs board.now.graph)) → Responds c.program (epoch_count epochs.now) (records_at epochs.now) (W.contents (inner_of writer.old)) (W.contents (inner_of writer.new)) result }
+    requires { IsWorkedOff report.now.graph report.now epochs.now }
+    ensures text { (query : List ℕ) (c : IsCompiled query (shown_graph report.now.graph) (shown_inputs report.now.graph)) → Responds c.program (epoch_count epochs.now) (records_at epochs.now) (W.contents (inner_of writer.old)) (W.contents (inner_of writer.new)) result }
     ensures failed { IsErrOf result fault.Write → has_failed writer.new ≡ true }
 {
-    board.law_headline();
-    board.law_drained();
-    let lists = match emitted(alloc, board, epochs.count()) {
+    report.law_headline();
+    report.law_drained();
+    let lists = match emitted(alloc, report, epochs.count()) {
         Ok(lists) => lists,
         Err(_) => return Err(Fault::NoMemory),
     };
@@ -68,20 +45,22 @@ fn write_emitted<W: Write>(
     }
 }
 
-/// Feeds the epochs to a board over the graph, works it off, and writes what it emitted: whatever text the graph was compiled from,
-/// what that means on the epochs.
-pub fn respond<W: Write>(
-    rt: &impl Wait,
+/// Has the workers work the epochs off over the graph, and writes what was emitted: whatever text the graph was compiled from, what that
+/// means on the epochs. The observer is told how many epochs have passed.
+pub fn respond<R: Threads + Wait + Sync, W: Write, O: Write + Send>(
+    rt: &R,
     alloc: Global,
+    workers: Workers,
     graph: Graph,
     epochs: &Epochs,
     writer: &mut Watched<W>,
+    observer: &mut Option<O>,
 ) -> Result<(), Fault>
     ensures text { (query : List ℕ) (c : IsCompiled query (shown_graph graph) (shown_inputs graph)) → Responds c.program (epoch_count epochs.now) (records_at epochs.now) (W.contents (inner_of writer.old)) (W.contents (inner_of writer.new)) result }
     ensures failed { IsErrOf result fault.Write → has_failed writer.new ≡ true }
 {
-    match worked_off(rt, alloc, graph, epochs) {
-        Ok(board) => write_emitted(alloc, &board, epochs, writer),
-        Err(_) => Err(Fault::NoMemory),
+    match execute(rt, alloc, graph, workers.count(), epochs, observer) {
+        Ok(report) => write_emitted(alloc, &report, epochs, writer),
+        Err(unfinished) => Err(run_fault(unfinished)),
     }
 }

@@ -16,6 +16,7 @@ use crate::compiling::compile;
 use crate::fault::{Fault, graph_fault, input_fault};
 use crate::respond::respond;
 use crate::texts::Texts;
+use crate::worker_count::Workers;
 use bumpalo::Bump;
 use collector::{
     Declared, Epochs, InputRefusal, ReadFault, Watched, read_all, read_at_most, read_input,
@@ -24,6 +25,7 @@ use lowering::{DeclaredInput, Graph};
 use std::alloc::{AllocError, Global};
 use std::io::{Read, Write};
 use std::sync::Wait;
+use std::thread::Threads;
 
 /// The longest query text, in bytes, and one byte more: enough to tell that a text is too long.
 const QUERY_LIMIT: usize = 1_048_577;
@@ -91,12 +93,14 @@ fn epochs_of_text(alloc: Global, graph: &Graph, input: &[u8]) -> Result<Epochs, 
 }
 
 /// Answers a query text over an input text.
-fn answer<W: Write>(
-    rt: &impl Wait,
+fn answer<R: Threads + Wait + Sync, W: Write, O: Write + Send>(
+    rt: &R,
     alloc: Global,
+    workers: Workers,
     query: &[u8],
     input: &[u8],
     writer: &mut Watched<W>,
+    observer: &mut Option<O>,
 ) -> Result<(), Fault>
     ensures ends { Ends query.now input.now (W.contents (inner_of writer.old)) (W.contents (inner_of writer.new)) result }
     ensures heeds { Heeds query.now (W.contents (inner_of writer.old)) (W.contents (inner_of writer.new)) result }
@@ -111,20 +115,24 @@ fn answer<W: Write>(
         Ok(epochs) => epochs,
         Err(refusal) => return Err(input_fault(refusal)),
     };
-    respond(rt, alloc, graph, &epochs, writer)
+    respond(rt, alloc, workers, graph, &epochs, writer, observer)
 }
 
-/// Reads a query and its input, and writes the answer. Its promise holds if it ends.
+/// Reads a query and its input, and writes the answer, which so many workers compute. Its promise holds if it ends.
 ///
 /// The faults in the order in which they are told: the query can't be read, the input can't be read, the query is refused, the
-/// input is refused, the writer failed. Want of memory may come at any place. The texts that were read are left in `texts`.
-pub fn run<Q: Read, I: Read, W: Write>(
-    rt: &impl Wait,
+/// input is refused, the writer failed. Want of memory may come at any place, and a worker that can't be started before anything is
+/// written. The texts that were read are left in `texts`. An observer that is given is told how many epochs have passed, by lines
+/// `passed M` with rising numbers, the last one once all workers have ended; where its writer fails, nothing else changes.
+pub fn run<R: Threads + Wait + Sync, Q: Read, I: Read, W: Write, O: Write + Send>(
+    rt: &R,
     alloc: Global,
+    workers: Workers,
     query: &mut Watched<Q>,
     input: &mut Watched<I>,
     texts: &mut Texts,
     writer: &mut Watched<W>,
+    observer: &mut Option<O>,
 ) -> Result<(), Fault>
     ensures ends { IfSome (Q.remaining (inner_of query.old)) (λ q. IfSome (I.remaining (inner_of input.old)) (λ i. Ends (take 1048577 q) i (W.contents (inner_of writer.old)) (W.contents (inner_of writer.new)) result)) }
     ensures heeds { IfSome (Q.remaining (inner_of query.old)) (λ q. Heeds (take 1048577 q) (W.contents (inner_of writer.old)) (W.contents (inner_of writer.new)) result) }
@@ -142,5 +150,13 @@ pub fn run<Q: Read, I: Read, W: Write>(
         Ok(text) => texts.input = text,
         Err(fault) => return Err(fault),
     }
-    answer(rt, alloc, &texts.query, &texts.input, writer)
+    answer(
+        rt,
+        alloc,
+        workers,
+        &texts.query,
+        &texts.input,
+        writer,
+        observer,
+    )
 }

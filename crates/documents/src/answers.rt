@@ -9,7 +9,11 @@ use console::{
 use refusals::NUMBERS;
 use std::io::{ErrorKind, Write};
 use std::sync::Wait;
+use std::thread::Threads;
 use std::{fs, io};
+
+/// How often a run is repeated with each other number of workers.
+const TIMES: usize = 20;
 
 /// What is printed, kept.
 type Printed = Watched<Vec<u8>>;
@@ -24,12 +28,14 @@ fn read(rt: &HostRuntime, piped: Option<&[u8]>, path: &str) -> io::Result<Vec<u8
 
 fn run_files(
     rt: &HostRuntime,
-    wait: &impl Wait,
+    threads: &(impl Threads + Wait + Sync),
     piped: Option<&[u8]>,
+    workers: Workers,
     query: &str,
     input: &str,
     texts: &mut Texts,
     writer: &mut Printed,
+    observer: &mut Option<Vec<u8>>,
 ) -> Result<(), Fault> {
     let Ok(query) = read(rt, piped, query) else {
         return Err(Fault::ReadQuery);
@@ -39,7 +45,16 @@ fn run_files(
     };
     let mut query = Watched::new(query.as_slice());
     let mut input = Watched::new(input.as_slice());
-    run(wait, rt.alloc(), &mut query, &mut input, texts, writer)
+    run(
+        threads,
+        rt.alloc(),
+        workers,
+        &mut query,
+        &mut input,
+        texts,
+        writer,
+        observer,
+    )
 }
 
 fn check_file(
@@ -118,24 +133,41 @@ fn explain_code(rt: &HostRuntime, code: &str) -> io::Result<Vec<u8>> {
 }
 
 /// What the program prints that is called with these words, the first of which is its own name: standard output, and then standard
-/// error.
-pub fn answer(
+/// error. A run is on so many workers, where a number is given.
+fn answer_on(
     rt: &HostRuntime,
-    wait: &impl Wait,
+    threads: &(impl Threads + Wait + Sync),
     piped: Option<&[u8]>,
     words: &[&str],
+    number: Option<Workers>,
 ) -> io::Result<Vec<u8>> {
     let mut texts = Texts::new(rt.alloc());
     let mut writer = Watched::new(Vec::new(rt.alloc()));
+    let mut told = None;
     let (query, input, explain, done) = match options(rt.alloc(), words) {
         Ok(
             Options::Run {
                 query,
                 input,
+                workers,
+                watch,
                 explain,
             },
         ) => {
-            let done = run_files(rt, wait, piped, query, input, &mut texts, &mut writer);
+            if watch {
+                told = Some(Vec::new(rt.alloc()));
+            }
+            let done = run_files(
+                rt,
+                threads,
+                piped,
+                number.unwrap_or(workers),
+                query,
+                input,
+                &mut texts,
+                &mut writer,
+                &mut told,
+            );
             (query, input, explain, done)
         }
         Ok(Options::Check { query, explain }) => {
@@ -175,11 +207,50 @@ pub fn answer(
         }
     };
     let mut shown = writer.into_inner();
+    if let Some(told) = told {
+        shown.extend_from_slice(told.as_slice())?;
+    }
     if let Err(fault) = done {
         fault.write_line(query, input, &mut shown)?;
         if explain {
             explain_fault(rt.alloc(), &fault, &texts, &mut shown)?;
         }
+    }
+    Ok(shown)
+}
+
+/// Whether a run prints the same with 2 and with 64 workers, each time.
+fn is_steady(
+    rt: &HostRuntime,
+    threads: &(impl Threads + Wait + Sync),
+    piped: Option<&[u8]>,
+    words: &[&str],
+    shown: &[u8],
+) -> io::Result<bool> {
+    for _time in 0..TIMES {
+        for number in ["2", "64"] {
+            let other = answer_on(rt, threads, piped, words, Workers::of_word(number))?;
+            if other.as_slice() != shown {
+                return Ok(false);
+            }
+        }
+    }
+    Ok(true)
+}
+
+/// What the program prints that is called with these words: standard output, and then standard error. A run that asks for no number of
+/// workers is repeated with several of them; where that prints something else, a line says so in place of what is printed.
+pub fn answer(
+    rt: &HostRuntime,
+    threads: &(impl Threads + Wait + Sync),
+    piped: Option<&[u8]>,
+    words: &[&str],
+) -> io::Result<Vec<u8>> {
+    let shown = answer_on(rt, threads, piped, words, None)?;
+    let is_run = words.get(1).is_some_and(|word| *word == "run");
+    let asks = words.iter().any(|word| word.starts_with("--w"));
+    if is_run && !asks && !is_steady(rt, threads, piped, words, shown.as_slice())? {
+        return Ok(b"(with more workers it prints something else)\n".to_vec(rt.alloc())?);
     }
     Ok(shown)
 }

@@ -4,6 +4,7 @@ use crate::answers::answer;
 use std::alloc::{AllocError, Global};
 use std::io::ErrorKind;
 use std::sync::Wait;
+use std::thread::Threads;
 use std::{fs, io};
 
 /// A line of the replay itself in place of what a command prints: it is never what a document shows.
@@ -54,35 +55,43 @@ fn written(alloc: Global, command: &str) -> Result<Option<String>, AllocError> {
 /// What a command alone prints, `./loom ..` or `cat FILE`, to which bytes may be piped.
 fn shown(
     rt: &HostRuntime,
-    wait: &impl Wait,
+    threads: &(impl Threads + Wait + Sync),
     piped: Option<&[u8]>,
     command: &str,
 ) -> io::Result<Vec<u8>> {
     let words: Vec<&str> = command.split(' ').collect(rt.alloc())?;
     match words.as_slice() {
         [program, file] if *program == "cat" => content(rt, file),
-        [program, ..] if *program == "./loom" => answer(rt, wait, piped, words.as_slice()),
+        [program, ..] if *program == "./loom" => answer(rt, threads, piped, words.as_slice()),
         _ => remark(rt, "no command that is replayed"),
     }
 }
 
 /// What `COMMAND` or `WRITING | COMMAND` prints.
-fn shown_of_pipe(rt: &HostRuntime, wait: &impl Wait, line: &str) -> io::Result<Vec<u8>> {
+fn shown_of_pipe(
+    rt: &HostRuntime,
+    threads: &(impl Threads + Wait + Sync),
+    line: &str,
+) -> io::Result<Vec<u8>> {
     let Some((writing, command)) = line.split_once(" | ") else {
-        return shown(rt, wait, None, line);
+        return shown(rt, threads, None, line);
     };
     match written(rt.alloc(), writing)? {
-        Some(text) => shown(rt, wait, Some(text.as_bytes()), command),
+        Some(text) => shown(rt, threads, Some(text.as_bytes()), command),
         None => remark(rt, "no command that is replayed"),
     }
 }
 
 /// What a line prints: that of its commands; nothing where `| diff - FILE` stands behind them and the file holds just that.
-pub fn printed(rt: &HostRuntime, wait: &impl Wait, typed: &str) -> io::Result<Vec<u8>> {
+pub fn printed(
+    rt: &HostRuntime,
+    threads: &(impl Threads + Wait + Sync),
+    typed: &str,
+) -> io::Result<Vec<u8>> {
     let Some((line, file)) = typed.split_once(" | diff - ") else {
-        return shown_of_pipe(rt, wait, typed);
+        return shown_of_pipe(rt, threads, typed);
     };
-    let mut text = shown_of_pipe(rt, wait, line)?;
+    let mut text = shown_of_pipe(rt, threads, line)?;
     if text.as_slice() == content(rt, file)?.as_slice() {
         text.clear();
     }

@@ -18,6 +18,7 @@ use crate::sessions::{Session, sessions};
 use refusals::EXPLANATIONS;
 use std::process::ExitCode;
 use std::sync::Wait;
+use std::thread::Threads;
 use std::{env, fs, io};
 
 /// Tells a session that prints something else.
@@ -33,13 +34,13 @@ fn tell(rt: &HostRuntime, path: &str, session: &Session, answered: &[u8]) -> io:
 /// Whether each session prints what stands under it; those that don't are told.
 fn replays(
     rt: &HostRuntime,
-    wait: &impl Wait,
+    threads: &(impl Threads + Wait + Sync),
     path: &str,
     sessions: &[Session],
 ) -> io::Result<bool> {
     let mut is_right = true;
     for session in sessions {
-        let answered = printed(rt, wait, session.typed)?;
+        let answered = printed(rt, threads, session.typed)?;
         if answered.as_slice() != session.printed.as_bytes() {
             tell(rt, path, session, answered.as_slice())?;
             is_right = false;
@@ -69,11 +70,11 @@ fn explains(rt: &HostRuntime, path: &str, text: &str) -> io::Result<bool> {
 }
 
 /// Whether a document is right. It prints a line that says so, or the places where it is wrong.
-fn holds(rt: &HostRuntime, wait: &impl Wait, path: &str) -> io::Result<bool> {
+fn holds(rt: &HostRuntime, threads: &(impl Threads + Wait + Sync), path: &str) -> io::Result<bool> {
     let text = fs::read_to_string(rt, path)?;
     let sessions = sessions(rt.alloc(), text.as_str())?;
     let count = sessions.len();
-    let are_replayed = replays(rt, wait, path, sessions.as_slice())?;
+    let are_replayed = replays(rt, threads, path, sessions.as_slice())?;
     if !has_table(text.as_str()) {
         if are_replayed {
             println!(rt; "{path}: {count} sessions as written")?;
@@ -89,11 +90,11 @@ fn holds(rt: &HostRuntime, wait: &impl Wait, path: &str) -> io::Result<bool> {
 }
 
 /// Whether each document of the line is right.
-fn all_hold(rt: &HostRuntime, wait: &impl Wait) -> io::Result<bool> {
+fn all_hold(rt: &HostRuntime, threads: &(impl Threads + Wait + Sync)) -> io::Result<bool> {
     let words: Vec<String> = env::args(rt)?.collect(rt.alloc())?;
     let mut is_right = true;
     for path in words.iter().skip(1) {
-        is_right = holds(rt, wait, path.as_str())? && is_right;
+        is_right = holds(rt, threads, path.as_str())? && is_right;
     }
     Ok(is_right)
 }

@@ -14,12 +14,15 @@ use refusals::NUMBERS;
 use std::io::ErrorKind;
 use std::process::ExitCode;
 use std::sync::Wait;
+use std::thread::Threads;
 use std::{env, io};
 
-/// Runs a query over an input. `wait` is the leave to go on until all is worked off.
+/// Runs a query over an input. `threads` is the leave to start threads, and to go on until all is worked off.
 fn run_files(
     rt: &HostRuntime,
-    wait: &impl Wait,
+    threads: &(impl Threads + Wait + Sync),
+    workers: Workers,
+    watch: bool,
     query: &str,
     input: &str,
     texts: &mut Texts,
@@ -27,7 +30,17 @@ fn run_files(
     let mut query = Watched::new(LateFile::new(rt, query));
     let mut input = Watched::new(LateFile::new(rt, input));
     let mut writer = Watched::new(io::writer(rt));
-    run(wait, rt.alloc(), &mut query, &mut input, texts, &mut writer)
+    let mut observer = if watch { Some(rt.stderr()) } else { None };
+    run(
+        threads,
+        rt.alloc(),
+        workers,
+        &mut query,
+        &mut input,
+        texts,
+        &mut writer,
+        &mut observer,
+    )
 }
 
 /// Checks a query.
@@ -114,7 +127,7 @@ fn tell(
 }
 
 /// Does what the words ask for, and tells a fault.
-fn answer(rt: &HostRuntime, wait: &impl Wait, words: &[&str]) -> ExitCode {
+fn answer(rt: &HostRuntime, threads: &(impl Threads + Wait + Sync), words: &[&str]) -> ExitCode {
     let asked = match options(rt.alloc(), words) {
         Ok(asked) => asked,
         Err(fault) => return refuse(rt, &fault),
@@ -124,9 +137,11 @@ fn answer(rt: &HostRuntime, wait: &impl Wait, words: &[&str]) -> ExitCode {
         Options::Run {
             query,
             input,
+            workers,
+            watch,
             explain,
         } => {
-            let done = run_files(rt, wait, query, input, &mut texts);
+            let done = run_files(rt, threads, workers, watch, query, input, &mut texts);
             (query, input, explain, done)
         }
         Options::Check { query, explain } => {
@@ -167,8 +182,11 @@ fn words_given(rt: &HostRuntime) -> Result<Vec<String>, LineFault> {
     }
 }
 
-/// Does what the line asks for. `wait` is the leave to go on until all is worked off.
-fn answer_line(rt: &HostRuntime, wait: &impl Wait) -> Result<ExitCode, LineFault> {
+/// Does what the line asks for. `threads` is the leave to start threads, and to go on until all is worked off.
+fn answer_line(
+    rt: &HostRuntime,
+    threads: &(impl Threads + Wait + Sync),
+) -> Result<ExitCode, LineFault> {
     let texts = words_given(rt)?;
     let Ok(words) = texts
         .iter()
@@ -177,7 +195,7 @@ fn answer_line(rt: &HostRuntime, wait: &impl Wait) -> Result<ExitCode, LineFault
     else {
         return Err(LineFault::NoMemory);
     };
-    Ok(answer(rt, wait, words.as_slice()))
+    Ok(answer(rt, threads, words.as_slice()))
 }
 
 fn main(rt: HostRuntime) -> ExitCode {

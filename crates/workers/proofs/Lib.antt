@@ -1,3 +1,4 @@
 pub mod Moves
 pub mod Ones
 pub mod Publishing
+pub mod Crossing

@@ -73,7 +73,7 @@ impl<J: Naming, P: Progress> Engine<J, P> {
         result
     }
 
-    /// Sleeps until so many epochs have passed, or the board is stopped.
+    /// Sleeps until so many epochs have passed, or the board is stopped, or nothing is left to do.
     pub fn wait_for<R: Wait>(&self, rt: &R, count: u64) {
         let mut floor = self.floor.lock(rt);
         for _turn in rt.forever() {

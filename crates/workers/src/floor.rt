@@ -138,9 +138,9 @@ impl<J: Naming, P: Progress> Floor<J, P> {
         self.due()
     }
 
-    /// Whether so many epochs have passed, or the board is stopped. If not, that many are waited for.
+    /// Whether so many epochs have passed, or no more will. If not, that many are waited for.
     pub fn has_passed(&mut self, count: u64) -> bool {
-        if self.held.is_stopped() || count <= self.held.passed_count() {
+        if count <= self.held.passed_count() || self.is_at_end() {
             return true;
         }
         self.awaited = self.awaited.min(count);
@@ -167,16 +167,22 @@ impl<J: Naming, P: Progress> Floor<J, P> {
             self.due_workers()
         };
         self.asleep &= !workers;
-        let feeders = self.held.is_stopped() || self.awaited <= self.held.passed_count();
+        let feeders = self.awaited != NONE
+            && (self.awaited <= self.held.passed_count() || self.is_at_end());
         if feeders {
             self.awaited = NONE;
         }
         Wakes { workers, feeders }
     }
 
+    /// Whether the board is stopped, or nothing is left to do.
+    fn is_at_end(&self) -> bool {
+        self.held.is_stopped() || self.held.is_drained()
+    }
+
     /// Which of the sleeping workers have something to do: all, where the board is at its end.
     fn due_workers(&self) -> u64 {
-        if self.held.is_stopped() || self.held.is_drained() {
+        if self.is_at_end() {
             return self.asleep;
         }
         let mut workers = 0;

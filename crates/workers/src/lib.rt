@@ -7,7 +7,7 @@
 //! | Call | By | What it does | Answers |
 //! |---|---|---|---|
 //! | `Engine::feed`, `seal`, `close` | who has the input | the board's call | as the board's; refused, all is as before |
-//! | `Engine::wait_for` | who has the input | sleeps until so many epochs have passed, or the board is stopped | nothing |
+//! | `Engine::wait_for` | who has the input, or observes | sleeps until so many epochs have passed, or no more will | nothing |
 //! | `work` | a worker's thread | works, and sleeps while there is nothing that it could do | drained, stopped, busy |
 //! | `work_along` | the one thread of a run | works while there is something to do now | the same, or nothing |
 //! | `Mark::observe` | an observer | one load: no lock, no memory, no waiting | how many epochs have passed, never less than its seat has read |

@@ -46,6 +46,13 @@ impl<P: Progress> Report<P> {
         self.board.is_drained()
     }
 
+    /// Whether an event was given up.
+    pub fn stopped(&self) -> bool
+        ensures { result ≡ self.now.stopped }
+    {
+        self.board.is_stopped()
+    }
+
     /// How many epochs have passed.
     pub fn passed(&self) -> u64
         ensures { CountsPassed self.now result }

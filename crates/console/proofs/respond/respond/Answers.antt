@@ -7,4 +7,4 @@ use Rattle.console.proofs.respond.respond.Goals as goal
 pub returns-in-Ok-clause-text : goal.returns-in-Ok-clause-text
 returns-in-Ok-clause-text g c =
     along_graph (λ p. Responds p (epoch_count c.args.epochs.now) (records_at c.args.epochs.now) (g.W.Write.contents (inner_of c.args.writer.now)) (g.W.Write.contents (inner_of c.write_emitted.new.writer)) c.write_emitted.result)
-    c.args.graph c.in-Ok.board.graph c.in-Ok.ensures.done.same c.write_emitted.ensures.text
+    c.args.graph c.in-Ok.report.graph c.in-Ok.ensures.same c.write_emitted.ensures.text

@@ -1,6 +1,6 @@
 use denote.Param.Send.{sendable}
 use Rattle.std.proofs.Crossing.{crosses}
-use Rattle.workers_conformance.proofs.Crossing.{engine_sync}
+use Rattle.workers.proofs.Crossing.{engine_sync}
 use Rattle.workers_conformance.proofs.runs.feed_both.Goals as goal
 
 pub join-requires-send-F : goal.join-requires-send-F

@@ -1,0 +1,94 @@
+//! Runs on several workers, and what is told of them while they work.
+
+use collector::Watched;
+use console::{Texts, Workers, run};
+use std::io;
+use std::io::{ErrorKind, Write};
+use std::sync::Wait;
+use std::test::Fail;
+use std::thread::Threads;
+
+/// A writer that fails.
+#[derive(Drop)]
+struct Broken;
+
+impl Write for Broken {
+    fn write(&mut self, _buf: &[u8]) -> io::Result<usize> {
+        Err(io::Error::from(ErrorKind::Other))
+    }
+
+    fn flush(&mut self) -> io::Result<()> {
+        Ok(())
+    }
+}
+
+/// What two workers answer to an input of records of one field, which go through as they are.
+fn copied<O: Write + Send>(
+    rt: &HostRuntime,
+    threads: &(impl Threads + Wait + Sync),
+    input: &[u8],
+    observer: &mut Option<O>,
+) -> Result<Vec<u8>, Fail> {
+    let mut query = Watched::new(b"input a/1; output a;".as_slice());
+    let mut input = Watched::new(input);
+    let mut texts = Texts::new(rt.alloc());
+    let mut out = Watched::new(Vec::new(rt.alloc()));
+    let workers = Workers::of_word("2").ok_or("no workers")?;
+    run(
+        threads,
+        rt.alloc(),
+        workers,
+        &mut query,
+        &mut input,
+        &mut texts,
+        &mut out,
+        observer,
+    )
+    .ok()
+    .ok_or("no answer")?;
+    Ok(out.into_inner())
+}
+
+/// The numbers of lines `passed M`; None where a line is another one.
+fn told_in(rt: &HostRuntime, text: &[u8]) -> Result<Option<Vec<u64>>, Fail> {
+    let mut numbers = Vec::new(rt.alloc());
+    for line in String::from_utf8_lossy(rt.alloc(), text)?.lines() {
+        let Some(number) = line
+            .strip_prefix("passed ")
+            .and_then(|word| word.parse().ok())
+        else {
+            return Ok(None);
+        };
+        numbers.push(number)?;
+    }
+    Ok(Some(numbers))
+}
+
+/// Which numbers come before the last one is open.
+#[test]
+fn three_epochs_pass(rt: HostRuntime) -> Result<(), Fail> {
+    let mut observer = Some(Vec::new(rt.alloc()));
+    let text = copied(&rt, &rt, b"epoch\nepoch\nepoch\n", &mut observer)?;
+    assert_eq!(rt; text.as_slice(), b"epoch 0\nepoch 1\nepoch 2\n".as_slice());
+    let told = observer.ok_or("no observer")?;
+    let numbers = told_in(&rt, told.as_slice())?.ok_or("no such line")?;
+    assert_eq!(rt; numbers.last(), Some(&3));
+    assert!(rt; numbers.is_sorted());
+    Ok(())
+}
+
+#[test]
+fn no_epoch_passes(rt: HostRuntime) -> Result<(), Fail> {
+    let mut observer = Some(Vec::new(rt.alloc()));
+    let text = copied(&rt, &rt, b"", &mut observer)?;
+    assert_eq!(rt; text.len(), 0);
+    assert_eq!(rt; observer.ok_or("no observer")?.len(), 0);
+    Ok(())
+}
+
+#[test]
+fn told_to_nobody(rt: HostRuntime) -> Result<(), Fail> {
+    let text = copied(&rt, &rt, b"epoch\na 1\nepoch\n", &mut Some(Broken))?;
+    assert_eq!(rt; text.as_slice(), b"epoch 0\n1\nepoch 1\n".as_slice());
+    Ok(())
+}

@@ -1,5 +1,0 @@
-use Rattle.console.proofs.Batches.{fed_same}
-use Rattle.console.proofs.engine.is_same.Goals as goal
-
-pub returns : goal.returns
-returns c = λ h. fed_same c.args.board.now c.args.epochs.now c.args.input c.args.epoch c.fed.result.now c.batches.result.now c.fed.ensures c.batches.ensures (c.same_batches.ensures.0 h)

@@ -1,0 +1,23 @@
+-- The records of batches, as the board and the collector see them.
+use Rattle.std.proofs.Common.{◌≡◌, ℕ, List, [], ◌∷◌, ◌++◌, ◌==◌, cond, slice_index_or, refl, sym, ap, ◌∙◌, eq-eqb}
+use Rattle.semantics.specs.Multiset.{Record}
+use Rattle.semantics.specs.Graph.{output_number}
+use Rattle.lowering.specs.Shown.{shown_graph}
+use Rattle.board.specs.Shown as board
+use Rattle.collector.specs.Held.{records_at}
+use Rattle.collector.specs.Piles.{joined}
+use Rattle.collector.specs.declared.epochs.Epochs.{Epochs}
+use Rattle.execution.specs.Fed.{emitted_at, fed_at}
+
+joined_same : (bs : List (List Record)) → board.joined bs ≡ joined bs
+joined_same [] = refl
+joined_same (b ∷ bs) = ap (λ rs. b ++ rs) (joined_same bs)
+
+pub fed_same : (s : board.Shown) (epochs : Epochs) (input epoch : ℕ) (fed read : List (List Record)) → fed ≡ slice_index_or (board.input_at s input).fed epoch [] → joined read ≡ records_at epochs epoch input → fed ≡ read
+    → fed_at s input epoch ≡ records_at epochs epoch input
+fed_same s epochs input epoch fed read e f same = ap board.joined (sym e) ∙ joined_same fed ∙ ap joined same ∙ f
+
+pub emitted_same : (s : board.Shown) (output epoch : ℕ) (batches : List (List Record)) → batches ≡ cond (output == output_number (shown_graph s.graph)) (slice_index_or s.emitted epoch []) [] → output ≡ output_number (shown_graph s.graph)
+    → joined batches ≡ emitted_at s epoch
+emitted_same s output epoch batches e o =
+    ap joined (e ∙ ap (λ b. cond b (slice_index_or s.emitted epoch []) []) (eq-eqb output (output_number (shown_graph s.graph)) o)) ∙ sym (joined_same (slice_index_or s.emitted epoch []))

@@ -1,0 +1,28 @@
+//! Runs of a whole input: an engine of 1 to 64 workers is fed epoch by epoch, and worked off.
+//!
+//! With one worker the caller's thread feeds and works in turn, and no thread is started. With more, each worker has a thread of its
+//! own, the caller's thread feeds, and it sleeps while it is 256 epochs ahead of what has passed. Whoever wants to see how far the run
+//! is gives a writer: one thread more writes to it how many epochs have passed.
+//!
+//! | Call | What it does | Fails |
+//! |---|---|---|
+//! | `execute` | feeds the epochs to an engine over the graph, and works it off | `Unfinished`: no report |
+//! | `emitted` | what a report's output has, by epoch | memory |
+//!
+//! The contract for `console` above: the report that `execute` gives is of that graph, it is drained, and what its inputs were fed is
+//! what was read. The report keeps the promise of its board, so what it has emitted for each epoch is what the query means there.
+//! Nothing of it rests on what the threads did: the report is asked. Below stand `workers`, `board` and `collector`.
+#![tactic(auto)]
+
+mod executing;
+mod feeding;
+mod outputs;
+mod readings;
+mod task;
+mod threads;
+mod unfinished;
+mod watching;
+
+pub use executing::execute;
+pub use outputs::emitted;
+pub use unfinished::Unfinished;

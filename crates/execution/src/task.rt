@@ -1,0 +1,21 @@
+//! What a run has to do.
+
+use collector::Epochs;
+
+/// How many epochs are fed at most before what they bring is worked off. So many messages wait at most, and not all of the input's.
+pub const AHEAD: u32 = 256;
+
+/// The epochs to be fed to so many inputs, and how many workers there are.
+#[derive(Clone, Copy)]
+pub struct Task<'a> {
+    pub epochs: &'a Epochs,
+    pub inputs: u32,
+    pub workers: u32,
+}
+
+impl Task<'_> {
+    /// Whether the thread that feeds works too, as the only one.
+    pub fn is_alone(&self) -> bool {
+        self.workers == 1
+    }
+}

@@ -1,0 +1,86 @@
+//! The threads of a run.
+
+ghost use Rattle.std.specs.Prelude.{◌≡◌};
+
+use crate::feeding::{close_inputs, feed_epochs};
+use crate::task::Task;
+use crate::unfinished::Unfinished;
+use crate::watching::watch;
+use progress::LocationTracker;
+use std::alloc::Global;
+use std::io::Write;
+use std::sync::Wait;
+use std::thread::{Scope, Threads, join, scope, scope_env};
+use workers::{Engine, Mark, Naming, NoGate, Seat, work};
+
+/// Starts a thread for each worker, where there are several.
+fn start_workers<'s, E, J: Naming + Send + Sync, R: Threads + Wait + Sync>(
+    threads: &'s Scope<'s, E>,
+    rt: &'s R,
+    alloc: Global,
+    engine: &'s Engine<J, LocationTracker>,
+    task: Task<'_>,
+) -> Result<(), Unfinished> {
+    if task.is_alone() {
+        return Ok(());
+    }
+    for worker in 0..task.workers {
+        let started = threads.spawn(move || work(rt, alloc, engine, worker, &NoGate));
+        if started.is_err() {
+            return Err(Unfinished::NoWorker);
+        }
+    }
+    Ok(())
+}
+
+/// Starts the workers, and feeds. However that goes, all inputs are closed at the end, so that the workers come to theirs.
+fn feed_beside<'s, E, J: Naming + Send + Sync, R: Threads + Wait + Sync>(
+    threads: &'s Scope<'s, E>,
+    rt: &'s R,
+    alloc: Global,
+    engine: &'s Engine<J, LocationTracker>,
+    task: Task<'_>,
+) -> Result<(), Unfinished> {
+    let mut done = start_workers(threads, rt, alloc, engine, task);
+    if done.is_ok() {
+        done = feed_epochs(rt, alloc, engine, task);
+    }
+    close_inputs(rt, engine, task.inputs);
+    if task.is_alone() {
+        let _ended = work(rt, alloc, engine, 0, &NoGate);
+    }
+    done
+}
+
+/// Feeds the engine and works it off, and returns once all threads have ended.
+pub fn work_off<J: Naming + Send + Sync, R: Threads + Wait + Sync>(
+    rt: &R,
+    alloc: Global,
+    engine: &Engine<J, LocationTracker>,
+    task: Task<'_>,
+) -> Result<(), Unfinished> {
+    scope(scope_env(), rt, move |threads| {
+        feed_beside(threads, rt, alloc, engine, task)
+    })
+}
+
+/// As `work_off`, while a thread more watches. Where it can't be started, this one watches at the end.
+pub fn work_off_watched<J: Naming + Send + Sync, R: Threads + Wait + Sync, W: Write + Send>(
+    rt: &R,
+    alloc: Global,
+    engine: &Engine<J, LocationTracker>,
+    task: Task<'_>,
+    mark: &Mark,
+    seat: Seat,
+    writer: &mut W,
+) -> Result<(), Unfinished>
+    requires { seat.table ≡ mark.now }
+{
+    let lent = &mut *writer;
+    let ((), done) = join(
+        rt,
+        move || watch(rt, engine, mark, seat, lent),
+        move || work_off(rt, alloc, engine, task),
+    );
+    done
+}

@@ -1,0 +1,51 @@
+//! Why a run comes to no end.
+
+use board::StepRefusal;
+use expr_tree::NoMemory;
+use rows::RowsError;
+use std::alloc::AllocError;
+
+/// Why there is no report.
+#[derive(Clone, Copy, Debug, PartialEq, Eq)]
+pub enum Unfinished {
+    /// Memory was wanting, to the feeder or to a worker.
+    NoMemory,
+    /// A worker's thread could not be started.
+    NoWorker,
+    /// The engine refused a call for another reason than memory, or it isn't drained, or it was fed something else than was read. No run
+    /// is known in which this comes.
+    Incomplete,
+}
+
+impl From<StepRefusal> for Unfinished {
+    fn from(refusal: StepRefusal) -> Unfinished {
+        match refusal {
+            // A board is stopped by an event that was given up for want of memory.
+            StepRefusal::NoMemory | StepRefusal::Stopped => Unfinished::NoMemory,
+            StepRefusal::UnknownInput
+            | StepRefusal::InputClosed
+            | StepRefusal::WrongFieldCount
+            | StepRefusal::LastEpoch
+            | StepRefusal::HoldsEvent
+            | StepRefusal::NoSuchEvent => Unfinished::Incomplete,
+        }
+    }
+}
+
+impl From<RowsError> for Unfinished {
+    fn from(_error: RowsError) -> Unfinished {
+        Unfinished::NoMemory
+    }
+}
+
+impl From<NoMemory> for Unfinished {
+    fn from(_error: NoMemory) -> Unfinished {
+        Unfinished::NoMemory
+    }
+}
+
+impl From<AllocError> for Unfinished {
+    fn from(_error: AllocError) -> Unfinished {
+        Unfinished::NoMemory
+    }
+}
