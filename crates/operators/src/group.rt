@@ -97,11 +97,11 @@ impl Group {
     }
 
     /// The aggregates with one record more.
-    pub fn step(&self, values: &Numbers, row: &[i64]) -> Numbers
+    pub fn step(&self, values: &[i64], row: &[i64]) -> Numbers
         ensures { result ≡ stepped_all (map plain_agg self.now.aggregates.items) values.now row.now }
     {
         let mut made = Numbers::none();
-        push_stepped(&mut made, &self.aggregates, values.as_slice(), row);
+        push_stepped(&mut made, &self.aggregates, values, row);
         made
     }
 }

@@ -56,7 +56,10 @@ pub fn new_shard(
             let shard = new_group(alloc, columns, aggregates)?;
             Ok(shard)
         }
-        Kind::Distinct => Ok(Shard::Distinct(DistinctShard::new(alloc, first))),
+        Kind::Distinct => {
+            let shard = DistinctShard::new(alloc, first)?;
+            Ok(Shard::Distinct(shard))
+        }
         Kind::Ingress => Ok(Shard::Ingress(Ingress)),
         Kind::Egress => Ok(Shard::Egress(Egress)),
         Kind::Feedback => Ok(Shard::Feedback(Feedback)),
@@ -117,5 +120,6 @@ fn new_group(alloc: Global, columns: &[Column], aggregates: &[Agg]) -> Result<Sh
         columns,
         aggregates,
     };
-    Ok(Shard::Group(GroupShard::new(alloc, operator)))
+    let shard = GroupShard::new(alloc, operator)?;
+    Ok(Shard::Group(shard))
 }
