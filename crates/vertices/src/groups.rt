@@ -7,7 +7,7 @@ ghost use Rattle.vertices.specs.Groups.{AreGroupsOf, aggregates_of, columns_of, 
 
 use crate::fault::ShardFault;
 use expr_tree::Column;
-use operators::Group;
+use operators::{Group, Numbers};
 use rows::{Batch, Lists, RowSet, Rows};
 use std::alloc::Global;
 
@@ -34,19 +34,26 @@ impl Groups {
         })
     }
 
-    /// Takes a record into the group of its key.
-    fn count_in(&mut self, operator: &Group, row: &[i64]) -> Result<(), ShardFault>
+    /// Takes a record into the group of its key. `key` and `values` are room to work in.
+    fn count_in(
+        &mut self,
+        operator: &Group,
+        row: &[i64],
+        key: &mut Numbers,
+        values: &mut Numbers,
+    ) -> Result<(), ShardFault>
         requires { (xs : List Record) × AreGroupsOf operator.now self.old xs }
         ensures { OnOk result ((xs : List Record) → AreGroupsOf operator.now self.old xs → AreGroupsOf operator.now self.new (xs ++ row.now ∷ [])) }
     {
-        let key = operator.key(row);
+        operator.key(row, key);
         let place = self.keys.place(key.as_slice())?;
         let _count = self.keys.len();
         if place < self.values.len() {
-            let stepped = operator.step(self.values.list(place), row);
-            self.values.set(place, stepped.as_slice());
+            operator.step(self.values.list(place), row, values);
+            self.values.set(place, values.as_slice());
         } else {
-            self.values.push(operator.begin(row).as_slice())?;
+            operator.begin(row, values);
+            self.values.push(values.as_slice())?;
         }
         Ok(())
     }
@@ -56,8 +63,10 @@ impl Groups {
         requires { (xs : List Record) × AreGroupsOf operator.now self.old xs }
         ensures { OnOk result ((xs : List Record) → AreGroupsOf operator.now self.old xs → AreGroupsOf operator.now self.new (xs ++ batch.now)) }
     {
+        let mut key = Numbers::new();
+        let mut values = Numbers::new();
         for place in 0..batch.len() {
-            self.count_in(operator, batch.row(place))?;
+            self.count_in(operator, batch.row(place), &mut key, &mut values)?;
         }
         Ok(())
     }

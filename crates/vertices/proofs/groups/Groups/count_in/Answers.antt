@@ -11,7 +11,7 @@ set-requires-clause-arity c =
     let aggs = aggregates_of c.args.operator.now in
     let values : List Record = c.args.self.now.values.rows in
     let stepped : c.as_slice-then-place-len.result.now ≡ stepped_all aggs (slice_index_or values c.in_ok-place.place []) c.args.row.now =
-    c.as_slice-then-place-len.ensures ∙ c.step-stepped.ensures ∙ ap (λ (v : Record). stepped_all aggs v c.args.row.now) c.list.ensures in
+    c.as_slice-then-place-len.ensures ∙ c.step.ensures ∙ ap (λ (v : Record). stepped_all aggs v c.args.row.now) c.list.ensures in
     ap length stepped
     ∙ as_wide (stored_key (columns_of c.args.operator.now)) aggs c.args.self.now.keys.rows values c.requires.0 c.requires.1.grouped c.in_ok-place.place c.args.row.now (search rules)
     ∙ sym c.requires.1.width
@@ -23,10 +23,10 @@ returns-then-place-len c =
     let keys : List Record = c.args.self.now.keys.rows in
     let values : List Record = c.args.self.now.values.rows in
     let x : Record = c.args.row.now in
-    let key : c.as_slice.result.now ≡ key_by x = c.as_slice.ensures ∙ c.key-key.ensures in
+    let key : c.as_slice.result.now ≡ key_by x = c.as_slice.ensures ∙ c.key.ensures in
     let more : c.place.new.self.rows ≡ cond (list_any (λ r. same r (key_by x)) keys) keys (keys ++ key_by x ∷ []) = c.in_ok-place.ensures.rows ∙ ap (λ (k : Record). cond (list_any (λ r. same r k) keys) keys (keys ++ k ∷ [])) key in
     let stepped : c.as_slice-then-place-len.result.now ≡ stepped_all aggs (slice_index_or values c.in_ok-place.place []) x =
-    c.as_slice-then-place-len.ensures ∙ c.step-stepped.ensures ∙ ap (λ (v : Record). stepped_all aggs v x) c.list.ensures in
+    c.as_slice-then-place-len.ensures ∙ c.step.ensures ∙ ap (λ (v : Record). stepped_all aggs v x) c.list.ensures in
     λ xs h. record {
       arity = c.in_ok-place.ensures.arity ∙ h.arity;
       width = c.set.ensures.arity ∙ h.width;
@@ -41,7 +41,7 @@ returns-in_ok-push c =
     let keys : List Record = c.args.self.now.keys.rows in
     let values : List Record = c.args.self.now.values.rows in
     let x : Record = c.args.row.now in
-    let key : c.as_slice.result.now ≡ key_by x = c.as_slice.ensures ∙ c.key-key.ensures in
+    let key : c.as_slice.result.now ≡ key_by x = c.as_slice.ensures ∙ c.key.ensures in
     let more : c.place.new.self.rows ≡ cond (list_any (λ r. same r (key_by x)) keys) keys (keys ++ key_by x ∷ []) = c.in_ok-place.ensures.rows ∙ ap (λ (k : Record). cond (list_any (λ r. same r k) keys) keys (keys ++ k ∷ [])) key in
     let begun_is : c.as_slice-else-place-len.result.now ≡ map (λ a. begun a x) aggs = c.as_slice-else-place-len.ensures ∙ c.begin.ensures in
     λ xs h. record {
