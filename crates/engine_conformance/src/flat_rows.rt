@@ -1,7 +1,7 @@
 //! Each call once on its happy path, and growths that no machine has memory for.
 
 use record_core::Record;
-use rows::{Batch, RowIndex, RowSet, Rows, RowsError, field, project_into};
+use rows::{Batch, Lists, RowIndex, RowSet, Rows, RowsError, field, project_into};
 use std::test::Fail;
 
 /// Whether a row stands there and has these fields.
@@ -120,9 +120,53 @@ fn a_set_tells_places(rt: HostRuntime) -> Result<(), Fail> {
 }
 
 #[test]
+fn a_set_of_many_rows_keeps_each_once(rt: HostRuntime) -> Result<(), Fail> {
+    let mut set = RowSet::new(rt.alloc(), 2)?;
+    for row in 0..40 {
+        assert!(rt; set.insert_new(&[row, -row])?);
+    }
+    for row in 0..40 {
+        assert!(rt; !set.insert_new(&[row, -row])?);
+    }
+    let none = set.fresh()?;
+    assert_eq!(rt; (set.len(), none.len(), none.arity()), (40, 0, 2));
+    Ok(())
+}
+
+#[test]
+fn an_index_of_many_rows_finds_them_newest_first(rt: HostRuntime) -> Result<(), Fail> {
+    let columns = Vec::from_array(rt.alloc(), [0])?;
+    let mut index = RowIndex::new(rt.alloc(), columns, 2)?.fresh()?;
+    for row in 0..40 {
+        index.add(&[row % 20, row])?;
+    }
+    index.settle()?;
+    index.add(&[7, 40])?;
+    let mut found = Rows::new(rt.alloc(), 2);
+    index.matches(&[0], &[7], &mut found)?;
+    assert!(rt;
+        found.len() == 3
+            && shows(&found, 0, &[7, 40])
+            && shows(&found, 1, &[7, 27])
+            && shows(&found, 2, &[7, 7])
+    );
+    Ok(())
+}
+
+#[test]
+fn lists_are_replaced_in_place(rt: HostRuntime) -> Result<(), Fail> {
+    let mut lists = Lists::new(rt.alloc(), 2);
+    lists.push(&[1, 2])?;
+    lists.push(&[3, 4])?;
+    lists.set(0, &[5, 6]);
+    assert_eq!(rt; (lists.len(), lists.list(0)[1], lists.list(1)[0]), (2, 6, 3));
+    Ok(())
+}
+
+#[test]
 fn an_index_finds_by_other_columns(rt: HostRuntime) -> Result<(), Fail> {
     let columns = Vec::from_array(rt.alloc(), [1])?;
-    let mut index = RowIndex::new(rt.alloc(), columns, 2);
+    let mut index = RowIndex::new(rt.alloc(), columns, 2)?;
     index.add(&[10, 7])?;
     index.add(&[20, 8])?;
     index.add(&[30, 7])?;
@@ -135,7 +179,7 @@ fn an_index_finds_by_other_columns(rt: HostRuntime) -> Result<(), Fail> {
 #[test]
 fn rows_are_joined_on_either_side(rt: HostRuntime) -> Result<(), Fail> {
     let columns = Vec::from_array(rt.alloc(), [0])?;
-    let mut index = RowIndex::new(rt.alloc(), columns, 2);
+    let mut index = RowIndex::new(rt.alloc(), columns, 2)?;
     index.add(&[1, 5])?;
     index.add(&[2, 6])?;
     let mut joined = Rows::new(rt.alloc(), 3);
@@ -150,7 +194,7 @@ fn rows_are_joined_on_either_side(rt: HostRuntime) -> Result<(), Fail> {
 
 #[test]
 fn without_columns_all_rows_agree(rt: HostRuntime) -> Result<(), Fail> {
-    let mut index = RowIndex::new(rt.alloc(), Vec::new(rt.alloc()), 1);
+    let mut index = RowIndex::new(rt.alloc(), Vec::new(rt.alloc()), 1)?;
     index.add(&[4])?;
     index.add(&[5])?;
     let mut joined = Rows::new(rt.alloc(), 2);

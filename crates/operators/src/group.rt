@@ -57,7 +57,8 @@ impl Model for Numbers {
 }
 
 impl Numbers {
-    fn none() -> Numbers
+    /// No numbers.
+    pub fn new() -> Numbers
         ensures { result ≡ [] }
     {
         Numbers {
@@ -71,6 +72,12 @@ impl Numbers {
         self.items.as_slice()
     }
 
+    fn clear(&mut self)
+        ensures { self.new ≡ [] }
+    {
+        self.items.clear();
+    }
+
     fn push(&mut self, number: i64)
         requires { length self.old + 1 ≤ 16 }
         ensures { self.new ≡ self.old ++ number ∷ [] }
@@ -80,43 +87,42 @@ impl Numbers {
 }
 
 impl Group {
-    /// What stands for the key of a record: the key, or a 0 where the group has no columns.
-    pub fn key(&self, row: &[i64]) -> Numbers
-        ensures { result ≡ stored_key (map (λ k. k.index) self.now.columns.items) row.now }
+    /// Makes `key` what stands for the key of a record: the key, or a 0 where the group has no columns.
+    pub fn key(&self, row: &[i64], key: &mut Numbers)
+        ensures { key.new ≡ stored_key (map (λ k. k.index) self.now.columns.items) row.now }
     {
-        key_of(&self.columns, row)
+        key.clear();
+        put_key(key, &self.columns, row);
     }
 
-    /// The aggregates of one record alone.
-    pub fn begin(&self, row: &[i64]) -> Numbers
-        ensures { result ≡ map (λ a. begun a row.now) (map plain_agg self.now.aggregates.items) }
+    /// Makes `values` the aggregates of one record alone.
+    pub fn begin(&self, row: &[i64], values: &mut Numbers)
+        ensures { values.new ≡ map (λ a. begun a row.now) (map plain_agg self.now.aggregates.items) }
     {
-        let mut values = Numbers::none();
-        push_begun(&mut values, &self.aggregates, row);
-        values
+        values.clear();
+        push_begun(values, &self.aggregates, row);
     }
 
-    /// The aggregates with one record more.
-    pub fn step(&self, values: &Numbers, row: &[i64]) -> Numbers
-        ensures { result ≡ stepped_all (map plain_agg self.now.aggregates.items) values.now row.now }
+    /// Makes `stepped` the aggregates with one record more.
+    pub fn step(&self, values: &[i64], row: &[i64], stepped: &mut Numbers)
+        ensures { stepped.new ≡ stepped_all (map plain_agg self.now.aggregates.items) values.now row.now }
     {
-        let mut made = Numbers::none();
-        push_stepped(&mut made, &self.aggregates, values.as_slice(), row);
-        made
+        stepped.clear();
+        push_stepped(stepped, &self.aggregates, values, row);
     }
 }
 
-fn key_of(columns: &[Column], row: &[i64]) -> Numbers
-    requires { length columns.now ≤ 16 }
-    ensures { result ≡ stored_key (map (λ k. k.index) columns.now) row.now }
+/// What stands for the key, where there is nothing yet.
+fn put_key(key: &mut Numbers, columns: &[Column], row: &[i64])
+    requires none { key.old ≡ [] }
+    requires few { length columns.now ≤ 16 }
+    ensures { key.new ≡ stored_key (map (λ k. k.index) columns.now) row.now }
 {
-    let mut key = Numbers::none();
     if let [_, ..] = columns {
-        push_columns(&mut key, columns, row);
+        push_columns(key, columns, row);
     } else {
         key.push(0);
     }
-    key
 }
 
 /// The columns of a row, after what is there.

@@ -1,7 +1,7 @@
 -- Numbers cut into rows.
 use Rattle.std.proofs.Common.{◌≡◌, ℕ, zero, suc, ◌+◌, ◌*◌, ◌-◌, ◌≤◌, ◌<◌, List, [], ◌∷◌, ◌++◌, length, take, drop, get_or, ℤ, refl, sym, ap, ap₂, ◌∙◌, arith, append_assoc, length-append}
-use Rattle.std.specs.Prelude.{slice_index_or}
-use Rattle.std.proofs.lemmas.List.{take-append-le, drop-append-le, length-drop, length-take-le, take-append-drop, map-append, take_more}
+use Rattle.std.specs.Prelude.{slice_index_or, slice_set}
+use Rattle.std.proofs.lemmas.List.{take-append-le, drop-append-le, length-drop, length-take-le, take-append-drop, map-append, take_more, take_all}
 use Rattle.rows.specs.FlatRows.{RowList, cut, AllHave, arity_of}
 use Rattle.semantics.specs.Meaning.{field, project}
 
@@ -31,6 +31,21 @@ cut_push n (suc k) xs row e f =
     let h = enough n k (length xs) e in
     ap₂ (λ r rs. r ∷ rs) (take-append-le n xs row h) (ap (cut n (suc k)) (drop-append-le n xs row h) ∙ cut_push n k (drop n xs) row (rest n k xs e) f)
 
+drop_twice : (a b : ℕ) (xs : List ℤ) → drop b (drop a xs) ≡ drop (a + b) xs
+drop_twice zero b xs = ap (λ m. drop m xs) same
+  where
+    same : b ≡ 0 + b
+    same = omega arith
+drop_twice (suc a) b [] = nothing b ∙ sym (nothing (suc a + b))
+  where
+    nothing : (m : ℕ) → drop {A = ℤ} m [] ≡ []
+    nothing zero = refl
+    nothing (suc m) = refl
+drop_twice (suc a) b (x ∷ xs) = drop_twice a b xs ∙ ap (λ m. drop m (x ∷ xs)) shift
+  where
+    shift : suc (a + b) ≡ suc a + b
+    shift = omega arith
+
 pub cut_at : (n k i : ℕ) (xs : List ℤ) → i < k → slice_index_or (cut n k xs) i [] ≡ take n (drop (i * n) xs)
 cut_at n zero i xs h = absurd (omega (arith, h))
 cut_at n (suc k) zero xs h = ap (λ m. take n (drop m xs)) none
@@ -41,21 +56,6 @@ cut_at n (suc k) (suc i) xs h = cut_at n k i (drop n xs) (omega (arith, h)) ∙ 
   where
     more : n + i * n ≡ suc i * n
     more = omega arith
-
-    drop_twice : (a b : ℕ) (xs : List ℤ) → drop b (drop a xs) ≡ drop (a + b) xs
-    drop_twice zero b xs = ap (λ m. drop m xs) same
-      where
-        same : b ≡ 0 + b
-        same = omega arith
-    drop_twice (suc a) b [] = nothing b ∙ sym (nothing (suc a + b))
-      where
-        nothing : (m : ℕ) → drop {A = ℤ} m [] ≡ []
-        nothing zero = refl
-        nothing (suc m) = refl
-    drop_twice (suc a) b (x ∷ xs) = drop_twice a b xs ∙ ap (λ m. drop m (x ∷ xs)) shift
-      where
-        shift : suc (a + b) ≡ suc a + b
-        shift = omega arith
 
 pub row_ends : (n k l : ℕ) → k < l → k * n + n ≤ l * n
 row_ends n zero (suc l) h = omega arith
@@ -120,6 +120,41 @@ cut_push_parts n k xs a b c all h e f =
   where
     more : (k : ℕ) → k + 1 ≡ suc k
     more k = omega arith
+
+-- a piece in the middle
+cut_parts : (n i m : ℕ) (p q s : List ℤ) → length p ≡ i * n → length q ≡ n → cut n (i + (1 + m)) (p ++ (q ++ s)) ≡ cut n i p ++ q ∷ cut n m s
+cut_parts n i m p q s e f = cut_extend n i (1 + m) p (q ++ s) e ∙ ap (λ l. cut n i p ++ l) (cut_extend n 1 m q s (omega (arith, f)) ∙ ap (λ l. l ++ cut n m s) (cut_push n 0 [] q none f))
+  where
+    none : length {A = ℤ} [] ≡ 0 * n
+    none = omega arith
+
+set_there : (ps rs : List (List ℤ)) (q y : List ℤ) (i : ℕ) → length ps ≡ i → slice_set (ps ++ q ∷ rs) i y ≡ ps ++ y ∷ rs
+set_there [] rs q y zero e = refl
+set_there [] rs q y (suc i) e = absurd (omega (arith, e))
+set_there (p ∷ ps) rs q y zero e = absurd (omega (arith, e))
+set_there (p ∷ ps) rs q y (suc i) e = ap (λ l. p ∷ l) (set_there ps rs q y i (omega (arith, e)))
+
+-- what a list of numbers is, once a part of it was lent and written
+pub written_back : (new old : List ℤ) (n : ℕ) → length new ≡ n → take n (new ++ drop (length new) old) ≡ new
+written_back new old n e = take-append-le n new (drop (length new) old) (omega (arith, e)) ∙ take_all n new (omega (arith, e))
+
+-- a piece that is written over
+pub cut_set : (n k i : ℕ) (xs ys all : List ℤ) → i < k → length xs ≡ k * n → length ys ≡ n → all ≡ take (i * n) xs ++ ys ++ drop (i * n + length ys) xs → cut n k all ≡ slice_set (cut n k xs) i ys
+cut_set n k i xs ys all h e f g =
+    let m = k - (i + 1) in
+    let p = take (i * n) xs in
+    let q = take n (drop (i * n) xs) in
+    let s = drop n (drop (i * n) xs) in
+    let many : k ≡ i + (1 + m) = omega (arith, h) in
+    let ends : i * n + n ≤ k * n = row_ends n i k h in
+    let front : length p ≡ i * n = length-take-le (i * n) xs (omega (arith, ends, e)) in
+    let piece : length q ≡ n = length-take-le n (drop (i * n) xs) (omega (arith, length-drop (i * n) xs, ends, e)) in
+    let parts : xs ≡ p ++ (q ++ s) = sym (take-append-drop (i * n) xs) ∙ ap (λ l. p ++ l) (sym (take-append-drop n (drop (i * n) xs))) in
+    let back : drop (i * n + length ys) xs ≡ s = ap (λ l. drop (i * n + l) xs) f ∙ sym (drop_twice (i * n) n xs) in
+    let rest : p ++ (ys ++ drop (i * n + length ys) xs) ≡ p ++ (ys ++ s) = (λ j. p ++ (ys ++ back j)) in
+    let whole : all ≡ p ++ (ys ++ s) = g ∙ append_assoc p ys (drop (i * n + length ys) xs) ∙ rest in
+    (λ j. cut n (many j) (whole j)) ∙ cut_parts n i m p ys s front f
+    ∙ sym (set_there (cut n i p) (cut n m s) q ys i (length_cut n i p)) ∙ ap (λ l. slice_set l i ys) (sym (cut_parts n i m p q s front piece) ∙ (λ j. cut n (sym many j) (sym parts j)))
 
 pub length_project : (cs : List ℕ) (r : List ℤ) → length (project cs r) ≡ length cs
 length_project [] r = refl

@@ -2,7 +2,7 @@
 //!
 //! The contract for the layers above: a `Batch` is seen as its list of records, which isn't empty, and is shared without being
 //! copied; `Rows` is such a list while it is built. A `RowSet` is a list of different rows and tells whether a row is new; a
-//! `RowIndex` is a list of rows and finds those whose key columns equal a given row's. A call costs what comes in and what goes
+//! `RowIndex` is a list of rows and finds those whose key columns equal a given row's. `Lists` are lists of one length, by their place. A call costs what comes in and what goes
 //! out, never what is stored, and a refused one changes nothing unless it says so.
 //!
 //! Below stand `record_core` and `semantics`. Shards and the exchange between workers keep their records so.
@@ -14,6 +14,7 @@ mod chains;
 mod columns;
 mod error;
 mod index;
+mod lists;
 mod set;
 
 pub use batch::Batch;
@@ -21,4 +22,5 @@ pub use builder::{MAX_ARITY, Rows};
 pub use columns::{field, project_into};
 pub use error::RowsError;
 pub use index::RowIndex;
+pub use lists::Lists;
 pub use set::RowSet;

@@ -1,5 +1,5 @@
 -- Records taken into groups, one at a time.
-use Rattle.std.proofs.Common.{◌≡◌, ℕ, zero, suc, ◌+◌, ◌<◌, ◌≤◌, nat_lt, nat_eq, ◌||◌, Bool, true, false, not, cond, List, [], ◌∷◌, ◌++◌, map, take, length, slice_index_or, slice_set, pos, refl, sym, ap, subst, ◌∙◌, arith, append_assoc, append-nil, length-append, lt-ltb, ltb-true, ltb-false}
+use Rattle.std.proofs.Common.{◌≡◌, ℕ, zero, suc, ◌+◌, ◌<◌, ◌≤◌, nat_lt, nat_eq, ◌||◌, Bool, true, false, not, cond, List, [], ◌∷◌, ◌++◌, map, take, length, slice_index_or, slice_set, ℤ, pos, refl, sym, ap, subst, ◌∙◌, arith, append_assoc, append-nil, length-append, lt-ltb, ltb-true, ltb-false}
 use Rattle.std.proofs.lemmas.Bool.{true≢false}
 use Rattle.std.proofs.lemmas.Bool.Decides.{Decides-eqb}
 use Rattle.std.specs.List.{list_any}
@@ -100,7 +100,22 @@ how_many key k (x ∷ xs) = go (same (key x) k) (how_many key k xs)
     go true e = omega (arith, e)
     go false e = omega (arith, e)
 
+length_stepped : (as' : List Agg) (vs x : Record) → length vs ≡ length as' → length (stepped_all as' vs x) ≡ length as'
+length_stepped [] vs x e = refl
+length_stepped (a ∷ as') [] x e = absurd (omega (arith, e))
+length_stepped (a ∷ as') (v ∷ vs) x e = ap suc (length_stepped as' vs x (omega (arith, e)))
+
+pub length_all : (f : Agg → ℤ) (as' : List Agg) → length (map f as') ≡ length as'
+length_all f [] = refl
+length_all f (a ∷ as') = ap suc (length_all f as')
+
 module _ (key : Record → Record) (as' : List Agg) (keys values xs : List Record) (h : AreGrouped key as' keys values xs) where
+  -- as many values as aggregates
+  pub as_wide : (p : ℕ) (x : Record) → p < length values → length (stepped_all as' (slice_index_or values p []) x) ≡ length as'
+  as_wide p x less =
+      let k = slice_index_or keys p [] in
+      length_stepped as' (slice_index_or values p []) x (ap length (h.values_are p (omega (arith, less, h.as_many))) ∙ length_all (λ a. aggregate a (keyed key k xs)) as')
+
   found_has : (k : Record) → list_any (λ r. same r k) keys ≡ true → 0 < length (keyed key k xs)
   found_has k e =
       let there : 0 < count k keys = ltb-true 0 (count k keys) (sym (found_counts k keys) ∙ e) in

@@ -39,7 +39,8 @@ shown_key (c ∷ ks) k = k
 -- the groups of records
 pub record AreGroupsOf (g : Group) (groups : Groups) (xs : List Record) : Type 0 where
   pub arity : groups.keys.arity ≡ key_arity (columns_of g)
-  pub grouped : AreGrouped (stored_key (columns_of g)) (aggregates_of g) groups.keys.rows groups.values.items xs
+  pub width : groups.values.arity ≡ length (aggregates_of g)
+  pub grouped : AreGrouped (stored_key (columns_of g)) (aggregates_of g) groups.keys.rows groups.values.rows xs
 
 -- the groups of the records that came to the port, of which there are some
 abbrev pub AreGroupsThen : Group → Groups → (ℕ → List Record) → Type 0

@@ -7,13 +7,13 @@ ghost use Rattle.semantics.specs.Multiset.{◌≈◌};
 ghost use Rattle.semantics.specs.Shard.{asks};
 ghost use Rattle.vertices.specs.Absorbed.{Absorbed, with_records};
 ghost use Rattle.vertices.specs.ByTime.{AreStatesOf};
-ghost use Rattle.vertices.specs.Groups.{AreGroupsThen, columns_of, aggregates_of};
+ghost use Rattle.vertices.specs.Groups.{AreGroupsThen, columns_of, aggregates_of, key_arity};
 
 use crate::fault::ShardFault;
-use crate::groups::Groups;
+use crate::groups::{Groups, key_arity};
 use loop_context::Time;
 use operators::Group;
-use rows::{Batch, Rows};
+use rows::{Batch, RowSet, Rows};
 use std::alloc::Global;
 use std::collections::HashMap;
 
@@ -21,19 +21,23 @@ use std::collections::HashMap;
 #[derive(Drop)]
 pub struct GroupShard {
     pub(crate) operator: Group,
+    no_keys: RowSet,
     pub(crate) times: HashMap<Time, Groups>,
+    ghost none: { no_keys ≡ record { arity = key_arity (columns_of operator); rows = [] } },
 }
 
 impl GroupShard {
     /// A shard that has absorbed nothing.
-    pub fn new(alloc: Global, operator: Group) -> GroupShard
-        ensures operator { result.operator ≡ operator }
-        ensures nothing { AreStatesOf (AreGroupsThen operator) result.times (λ p t. []) }
+    pub fn new(alloc: Global, operator: Group) -> Result<GroupShard, ShardFault>
+        ensures operator { IfOk result (λ s. s.operator ≡ operator) }
+        ensures nothing { IfOk result (λ s. AreStatesOf (AreGroupsThen operator) s.times (λ p t. [])) }
     {
-        GroupShard {
+        let no_keys = RowSet::new(alloc, key_arity(&operator.columns))?;
+        Ok(GroupShard {
             operator,
+            no_keys,
             times: HashMap::new(alloc),
-        }
+        })
     }
 
     /// Takes in a batch of a time, and tells whether it is the first of that time, which asks for a notification.
@@ -53,7 +57,7 @@ impl GroupShard {
             groups.absorb(&self.operator, batch)?;
             return Ok(false);
         }
-        let mut groups = Groups::new(alloc, &self.operator)?;
+        let mut groups = Groups::new(alloc, &self.operator, &self.no_keys)?;
         groups.absorb(&self.operator, batch)?;
         self.times.insert(time.copied(), groups)?;
         Ok(true)

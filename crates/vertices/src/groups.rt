@@ -8,40 +8,52 @@ ghost use Rattle.vertices.specs.Groups.{AreGroupsOf, aggregates_of, columns_of, 
 use crate::fault::ShardFault;
 use expr_tree::Column;
 use operators::{Group, Numbers};
-use rows::{Batch, RowSet, Rows};
+use rows::{Batch, Lists, RowSet, Rows};
 use std::alloc::Global;
 
 /// The keys that are present at one time, and for each, by its place, the aggregates of its records.
 #[derive(Drop)]
 pub struct Groups {
     pub(crate) keys: RowSet,
-    pub(crate) values: Vec<Numbers>,
+    pub(crate) values: Lists,
 }
 
 impl Groups {
-    /// No group.
-    pub(crate) fn new(alloc: Global, operator: &Group) -> Result<Groups, ShardFault>
+    /// No group. `no_keys` is a set of keys without any.
+    pub(crate) fn new(
+        alloc: Global,
+        operator: &Group,
+        no_keys: &RowSet,
+    ) -> Result<Groups, ShardFault>
+        requires { no_keys.now.arity ≡ key_arity (columns_of operator.now) }
         ensures { IfOk result (λ g. AreGroupsOf operator.now g []) }
     {
         Ok(Groups {
-            keys: RowSet::new(alloc, key_arity(&operator.columns))?,
-            values: Vec::new(alloc),
+            keys: no_keys.fresh()?,
+            values: Lists::new(alloc, operator.aggregates.len()),
         })
     }
 
-    /// Takes a record into the group of its key.
-    fn count_in(&mut self, operator: &Group, row: &[i64]) -> Result<(), ShardFault>
+    /// Takes a record into the group of its key. `key` and `values` are room to work in.
+    fn count_in(
+        &mut self,
+        operator: &Group,
+        row: &[i64],
+        key: &mut Numbers,
+        values: &mut Numbers,
+    ) -> Result<(), ShardFault>
         requires { (xs : List Record) × AreGroupsOf operator.now self.old xs }
         ensures { OnOk result ((xs : List Record) → AreGroupsOf operator.now self.old xs → AreGroupsOf operator.now self.new (xs ++ row.now ∷ [])) }
     {
-        let key = operator.key(row);
+        operator.key(row, key);
         let place = self.keys.place(key.as_slice())?;
         let _count = self.keys.len();
         if place < self.values.len() {
-            let stepped = operator.step(&self.values[place], row);
-            self.values[place] = stepped;
+            operator.step(self.values.list(place), row, values);
+            self.values.set(place, values.as_slice());
         } else {
-            self.values.push(operator.begin(row))?;
+            operator.begin(row, values);
+            self.values.push(values.as_slice())?;
         }
         Ok(())
     }
@@ -51,8 +63,10 @@ impl Groups {
         requires { (xs : List Record) × AreGroupsOf operator.now self.old xs }
         ensures { OnOk result ((xs : List Record) → AreGroupsOf operator.now self.old xs → AreGroupsOf operator.now self.new (xs ++ batch.now)) }
     {
+        let mut key = Numbers::new();
+        let mut values = Numbers::new();
         for place in 0..batch.len() {
-            self.count_in(operator, batch.row(place))?;
+            self.count_in(operator, batch.row(place), &mut key, &mut values)?;
         }
         Ok(())
     }
@@ -75,18 +89,17 @@ impl Groups {
         requires whole { (xs : List Record) × AreGroupsOf operator.now self.now xs }
         requires place { place < length self.now.keys.rows }
         requires arity { rows.old.arity ≡ length operator.now.columns.items + length operator.now.aggregates.items }
-        ensures rows { OnOk result (rows.new.rows ≡ rows.old.rows ++ (shown_key (columns_of operator.now) (slice_index_or self.now.keys.rows place []) ++ slice_index_or self.now.values.items place []) ∷ []) }
+        ensures rows { OnOk result (rows.new.rows ≡ rows.old.rows ++ (shown_key (columns_of operator.now) (slice_index_or self.now.keys.rows place []) ++ slice_index_or self.now.values.rows place []) ∷ []) }
         ensures arity { rows.new.arity ≡ rows.old.arity }
     {
         let key = self.keys.row(place);
-        let values = &self.values[place];
-        rows.push_joined(shown_key(&operator.columns, key), values.as_slice())?;
+        rows.push_joined(shown_key(&operator.columns, key), self.values.list(place))?;
         Ok(())
     }
 }
 
 /// How many numbers a stored key has: one at least.
-fn key_arity(columns: &[Column]) -> usize
+pub(crate) fn key_arity(columns: &[Column]) -> usize
     requires { length columns.now ≤ 16 }
     ensures value { result ≡ key_arity (map (λ k. k.index) columns.now) }
     ensures some { 1 ≤ result }

@@ -1,11 +1,11 @@
 //! The shard of a vertex of a graph.
 
-ghost use Rattle.std.specs.Prelude.{◌≡◌, ◌≤◌, ◌+◌, ℕ, length, map, IfOk};
+ghost use Rattle.std.specs.Prelude.{◌≡◌, ◌≤◌, ◌<◌, ◌+◌, ℕ, length, map, IfOk};
 ghost use Rattle.std.specs.List.{AllByRecursion};
 ghost use Rattle.expr_tree.specs.Plain.{plain_agg, plain_cond, plain_pair, plain_scalar};
 ghost use Rattle.expr_tree.specs.Views.{cond_tree, scalar_tree};
 ghost use Rattle.lowering.specs.Views.{kind_of};
-ghost use Rattle.semantics.specs.Kinds.{Kind as Equation};
+ghost use Rattle.semantics.specs.Kinds.{Kind as Equation, in_ports};
 ghost use Rattle.semantics.specs.PortArity.{PortsFit};
 ghost use Rattle.semantics.specs.Typing.{CondFits, IsArity, ScalarFits};
 ghost use Rattle.vertices.specs.Shards.{IsFreshShard, by_port};
@@ -24,7 +24,7 @@ use operators::{
 use std::alloc::Global;
 
 /// The shard of a vertex, which has absorbed nothing. It owns its scalars, conditions and columns. `first` and `second` are the
-/// numbers of fields of the records that come to the vertex's in ports.
+/// numbers of fields of the records that come to the vertex's in ports; where it has no such port, the number doesn't count.
 pub fn new_shard(
     alloc: Global,
     vertex: &Vertex,
@@ -32,8 +32,8 @@ pub fn new_shard(
     second: usize,
 ) -> Result<Shard, ShardFault>
     requires fits { (out : ℕ) × PortsFit (kind_of vertex.now.kind) (by_port first second) out × IsArity out }
-    requires first { IsArity first }
-    requires second { IsArity second }
+    requires first { 0 < in_ports (kind_of vertex.now.kind) → IsArity first }
+    requires second { 1 < in_ports (kind_of vertex.now.kind) → IsArity second }
     ensures { IfOk result (λ s. IsFreshShard (kind_of vertex.now.kind) first second s) }
 {
     match &vertex.kind {
@@ -56,7 +56,10 @@ pub fn new_shard(
             let shard = new_group(alloc, columns, aggregates)?;
             Ok(shard)
         }
-        Kind::Distinct => Ok(Shard::Distinct(DistinctShard::new(alloc, first))),
+        Kind::Distinct => {
+            let shard = DistinctShard::new(alloc, first)?;
+            Ok(Shard::Distinct(shard))
+        }
         Kind::Ingress => Ok(Shard::Ingress(Ingress)),
         Kind::Egress => Ok(Shard::Egress(Egress)),
         Kind::Feedback => Ok(Shard::Feedback(Feedback)),
@@ -117,5 +120,6 @@ fn new_group(alloc: Global, columns: &[Column], aggregates: &[Agg]) -> Result<Sh
         columns,
         aggregates,
     };
-    Ok(Shard::Group(GroupShard::new(alloc, operator)))
+    let shard = GroupShard::new(alloc, operator)?;
+    Ok(Shard::Group(shard))
 }

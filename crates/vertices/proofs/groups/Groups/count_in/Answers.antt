@@ -1,25 +1,36 @@
-use Rattle.std.proofs.Common.{◌≡◌, ◌++◌, ◌∷◌, [], List, cond, rules, sym, ap, subst, ◌∙◌, slice_index_or, slice_set}
+use Rattle.std.proofs.Common.{◌≡◌, ◌++◌, ◌∷◌, [], List, cond, map, length, rules, sym, ap, subst, ◌∙◌, slice_index_or, slice_set}
 use Rattle.std.specs.List.{list_any}
-use Rattle.operators.specs.Aggregates.{stepped_all, stored_key}
+use Rattle.operators.specs.Aggregates.{begun, stepped_all, stored_key}
 use Rattle.semantics.specs.Multiset.{Record, same}
 use Rattle.vertices.specs.Groups.{AreGrouped, columns_of, aggregates_of}
-use Rattle.vertices.proofs.Grouping.{any_default, grouped_old, grouped_new}
+use Rattle.vertices.proofs.Grouping.{as_wide, grouped_old, grouped_new}
 use Rattle.vertices.proofs.groups.Groups.count_in.Goals as goal
+
+pub set-requires-clause-arity : goal.set-requires-clause-arity
+set-requires-clause-arity c =
+    let aggs = aggregates_of c.args.operator.now in
+    let values : List Record = c.args.self.now.values.rows in
+    let stepped : c.as_slice-then-place-len.result.now ≡ stepped_all aggs (slice_index_or values c.in_ok-place.place []) c.args.row.now =
+    c.as_slice-then-place-len.ensures ∙ c.step.ensures ∙ ap (λ (v : Record). stepped_all aggs v c.args.row.now) c.list.ensures in
+    ap length stepped
+    ∙ as_wide (stored_key (columns_of c.args.operator.now)) aggs c.args.self.now.keys.rows values c.requires.0 c.requires.1.grouped c.in_ok-place.place c.args.row.now (search rules)
+    ∙ sym c.requires.1.width
 
 pub returns-then-place-len : goal.returns-then-place-len
 returns-then-place-len c =
     let key_by = stored_key (columns_of c.args.operator.now) in
     let aggs = aggregates_of c.args.operator.now in
     let keys : List Record = c.args.self.now.keys.rows in
-    let values : List Record = c.args.self.now.values.items in
+    let values : List Record = c.args.self.now.values.rows in
     let x : Record = c.args.row.now in
-    let key : c.as_slice.result.now ≡ key_by x = c.as_slice.ensures ∙ c.key-key.ensures in
+    let key : c.as_slice.result.now ≡ key_by x = c.as_slice.ensures ∙ c.key.ensures in
     let more : c.place.new.self.rows ≡ cond (list_any (λ r. same r (key_by x)) keys) keys (keys ++ key_by x ∷ []) = c.in_ok-place.ensures.rows ∙ ap (λ (k : Record). cond (list_any (λ r. same r k) keys) keys (keys ++ k ∷ [])) key in
-    let stepped : c.step-stepped.result ≡ stepped_all aggs (slice_index_or values c.in_ok-place.place []) x =
-    c.step-stepped.ensures ∙ ap (λ (v : Record). stepped_all aggs v x) (c.index.ensures ∙ any_default values c.in_ok-place.place c.index.result.now (search rules)) in
+    let stepped : c.as_slice-then-place-len.result.now ≡ stepped_all aggs (slice_index_or values c.in_ok-place.place []) x =
+    c.as_slice-then-place-len.ensures ∙ c.step.ensures ∙ ap (λ (v : Record). stepped_all aggs v x) c.list.ensures in
     λ xs h. record {
       arity = c.in_ok-place.ensures.arity ∙ h.arity;
-      grouped = subst (λ (v : Record). AreGrouped key_by aggs c.place.new.self.rows (slice_set values c.in_ok-place.place v) (xs ++ x ∷ [])) (sym stepped)
+      width = c.set.ensures.arity ∙ h.width;
+      grouped = subst (λ (l : List Record). AreGrouped key_by aggs c.place.new.self.rows l (xs ++ x ∷ [])) (sym (c.set.ensures.lists ∙ ap (λ (v : Record). slice_set values c.in_ok-place.place v) stepped))
           (grouped_old key_by aggs keys values xs h.grouped x c.in_ok-place.place c.place.new.self.rows more c.len-count.ensures.different (c.in_ok-place.ensures.place.1 ∙ key) (search rules));
     }
 
@@ -28,12 +39,14 @@ returns-in_ok-push c =
     let key_by = stored_key (columns_of c.args.operator.now) in
     let aggs = aggregates_of c.args.operator.now in
     let keys : List Record = c.args.self.now.keys.rows in
-    let values : List Record = c.args.self.now.values.items in
+    let values : List Record = c.args.self.now.values.rows in
     let x : Record = c.args.row.now in
-    let key : c.as_slice.result.now ≡ key_by x = c.as_slice.ensures ∙ c.key-key.ensures in
+    let key : c.as_slice.result.now ≡ key_by x = c.as_slice.ensures ∙ c.key.ensures in
     let more : c.place.new.self.rows ≡ cond (list_any (λ r. same r (key_by x)) keys) keys (keys ++ key_by x ∷ []) = c.in_ok-place.ensures.rows ∙ ap (λ (k : Record). cond (list_any (λ r. same r k) keys) keys (keys ++ k ∷ [])) key in
+    let begun_is : c.as_slice-else-place-len.result.now ≡ map (λ a. begun a x) aggs = c.as_slice-else-place-len.ensures ∙ c.begin.ensures in
     λ xs h. record {
       arity = c.in_ok-place.ensures.arity ∙ h.arity;
-      grouped = subst (λ (l : List Record). AreGrouped key_by aggs c.place.new.self.rows l (xs ++ x ∷ [])) (sym (c.in_ok-push.ensures.items ∙ ap (λ (v : Record). values ++ v ∷ []) c.begin.ensures))
+      width = c.push.ensures.arity ∙ h.width;
+      grouped = subst (λ (l : List Record). AreGrouped key_by aggs c.place.new.self.rows l (xs ++ x ∷ [])) (sym (c.in_ok-push.ensures.lists ∙ ap (λ (v : Record). values ++ v ∷ []) begun_is))
           (grouped_new key_by aggs keys values xs h.grouped x c.in_ok-place.place c.place.new.self.rows more c.len-count.ensures.different c.in_ok-place.ensures.place.0 (c.in_ok-place.ensures.place.1 ∙ key) (search rules));
     }

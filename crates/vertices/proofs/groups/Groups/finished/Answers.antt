@@ -12,4 +12,4 @@ returns c =
     let aggs = aggregates_of c.args.operator.now in
     let keys : List Record = c.args.self.now.keys.rows in
     let whole : length keys ≤ c.loop-place.place = omega (arith, c.loop-place.invariant.2, c.loop-place-test.false) in
-    λ xs h. all_sent ks aggs keys c.args.self.now.values.items xs c.loop-place.rows.rows h.grouped (c.loop-place.invariant.0 xs h ∙ ap (map (λ k. shown_key ks k ++ map (λ a. aggregate a (keyed (stored_key ks) k xs)) aggs)) (take_whole keys c.loop-place.place whole))
+    λ xs h. all_sent ks aggs keys c.args.self.now.values.rows xs c.loop-place.rows.rows h.grouped (c.loop-place.invariant.0 xs h ∙ ap (map (λ k. shown_key ks k ++ map (λ a. aggregate a (keyed (stored_key ks) k xs)) aggs)) (take_whole keys c.loop-place.place whole))
