@@ -1,5 +1,7 @@
 -- A seal and a close are one step each, and keep what a board keeps.
 use Rattle.std.proofs.Common.{◌≡◌, ◌<◌, ◌≤◌, ◌+◌, ℕ, suc, Bool, true, false, cond, nat_lt, List, [], ◌∷◌, length, refl, sym, ap, ◌∙◌, subst, arith, slice_set, Option, Some, None, length-set, inl}
+use Rattle.std.proofs.Common.{◌==◌}
+use Rattle.semantics.specs.Multiset.{Record}
 use Rattle.semantics.specs.Graph.{Graph, vertex, input_count}
 use Rattle.semantics.specs.Could.{Pointstamp, Location, IsTimeAt, at_vertex}
 use Rattle.semantics.specs.Time.{at_epoch}
@@ -9,7 +11,9 @@ use Rattle.machine.specs.Active.{one_if_same, IsActive}
 use Rattle.machine.specs.Step.{Step}
 use Rattle.machine.proofs.Engine.{network_is}
 use Rattle.machine.proofs.Tracking.{active_counts}
-use Rattle.board.specs.Answers.{first, input_refusal}
+use Rattle.rows.specs.FlatRows.{arity_of}
+use Rattle.board.specs.Answers.{first, feed_refusal, input_refusal}
+use Rattle.board.specs.Fitting.{arity_in}
 use Rattle.board.specs.Kept.{IsKept, Goes}
 use Rattle.board.specs.Shown.{Shown, InputShown, input_at, net}
 use Rattle.board.specs.Showing.{AreSidesOf}
@@ -40,6 +44,15 @@ open_tells s i e =
     let a = first_none (cond s.stopped (Some refusal.Stopped) None) (first (cond (nat_lt i (length s.inputs)) None (Some refusal.UnknownInput)) (cond (input_at s i).closed (Some refusal.InputClosed) None)) e in
     let b = first_none (cond (nat_lt i (length s.inputs)) None (Some refusal.UnknownInput)) (cond (input_at s i).closed (Some refusal.InputClosed) None) a.1 in
     (cond_none s.stopped refusal.Stopped a.0, lt_true i (length s.inputs) (cond_some (nat_lt i (length s.inputs)) refusal.UnknownInput b.0), cond_none (input_at s i).closed refusal.InputClosed b.1)
+
+-- a feed that isn't refused comes to such an input, and has its number of fields
+pub feed_tells : (s : Shown) (i : ℕ) (batch : List Record) → feed_refusal s i batch ≡ None → (input_refusal s i ≡ None) × (arity_of batch ≡ arity_in s.graph i)
+feed_tells s i batch e =
+    let a = first_none (input_refusal s i) (cond (arity_of batch == arity_in s.graph i) None (Some refusal.WrongFieldCount)) e in
+    (a.0, same_number (arity_of batch) (arity_in s.graph i) (cond_some (arity_of batch == arity_in s.graph i) refusal.WrongFieldCount a.1))
+  where
+    same_number : (m n : ℕ) → (m == n) ≡ true → m ≡ n
+    same_number m n e = grind arith
 
 pub role_input : (k : Kind) → role k ≡ Role.input → k ≡ Kind.input
 role_input Kind.input e = refl

@@ -1,5 +1,5 @@
 -- A feed of a batch is one step, and keeps what a board keeps.
-use Rattle.std.proofs.Common.{◌≡◌, ◌≢◌, ◌⊎◌, inl, inr, ◌<◌, ◌+◌, ℕ, zero, suc, ◌==◌, Bool, true, false, cond, List, [], ◌∷◌, ◌++◌, length, refl, sym, ap, ◌∙◌, subst, arith, slice_set, slice_index_or, append-nil, length-set, Result, Ok, Err, OnOk, OnErr}
+use Rattle.std.proofs.Common.{◌≡◌, ◌≢◌, ◌⊎◌, inl, inr, ◌<◌, ◌+◌, ℕ, zero, suc, ◌==◌, Bool, true, false, cond, List, [], ◌∷◌, ◌++◌, length, refl, sym, ap, ◌∙◌, subst, arith, slice_set, slice_index_or, append-nil, length-set, None, Result, Ok, Err, OnOk, OnErr}
 use Rattle.std.proofs.lemmas.Bool.Decides.{eqb_tells}
 use Rattle.semantics.specs.Multiset.{Record, count, total, same, one_if}
 use Rattle.semantics.specs.Graph.{Graph}
@@ -16,6 +16,8 @@ use Rattle.machine.specs.Step.{Step, after_step, put}
 use Rattle.machine.proofs.Counting.{below_same, count-append, same_tells}
 use Rattle.events.specs.Letters.{sent_to, AreParcels}
 use Rattle.events.specs.declared.letter.Letter.{Letter}
+use Rattle.rows.specs.FlatRows.{arity_of}
+use Rattle.board.specs.Answers.{feed_refusal}
 use Rattle.board.specs.Desks.{letters_count}
 use Rattle.board.specs.Shown.{Shown, InputShown, Side, input_at, no_input, side_at, side_in, net, records_at, held_of}
 use Rattle.board.specs.Showing.{Shows, ShowsIn, IsSideOf, AreSidesOf, EachShard, OnShard, known_shard}
@@ -27,7 +29,7 @@ use Rattle.std.specs.List.{All}
 use Rattle.board.proofs.Committed.{with_mail_of}
 use Rattle.board.proofs.Deliveries.{delivered_at, delivered_length}
 use Rattle.board.proofs.Emitting.{records_more}
-use Rattle.board.proofs.Ended.{role_is}
+use Rattle.board.proofs.Ended.{feed_tells, open_tells, role_is}
 use Rattle.board.proofs.Keeping.{kept_more}
 use Rattle.board.proofs.Mails.{by_workers}
 use Rattle.board.proofs.Places.{same_set, index_set_here, index_set_other}
@@ -165,6 +167,21 @@ fields_of n (y ∷ xs) all r l = go (same_tells y r) (fields_of n xs (λ k d lk.
     go : ((same y r ≡ true) × (y ≡ r)) ⊎ ((same y r ≡ false) × (y ≢ r)) → HaveFields n xs → length r ≡ n
     go (inl (t, q)) ih = let P : Record → Type 0 = λ z. length z ≡ n in subst P q (all 0 y (omega arith))
     go (inr (t, q)) ih = ih r (let e : one_if (same y r) ≡ 0 = ap one_if t in omega (arith, l, e))
+
+-- what is known of a feed that isn't refused
+pub record IsAccepted (s : Shown) (i : ℕ) (batch : List Record) : Type 0 where
+  pub takes : (s.stopped ≡ false) × (i < length s.inputs) × ((input_at s i).closed ≡ false)
+  pub some : 0 < length batch
+  pub fields : HaveFields (arity_in s.graph i) batch
+
+pub accepted : (s : Shown) (i : ℕ) (batch : List Record) → feed_refusal s i batch ≡ None → 0 < length batch → All (λ (r : Record). length r ≡ arity_of batch) batch → IsAccepted s i batch
+accepted s i batch e some each =
+    let tells = feed_tells s i batch e in
+    record {
+      takes = open_tells s i tells.0;
+      some = some;
+      fields = subst (λ (n : ℕ). HaveFields n batch) tells.1 (fields_of (arity_of batch) batch each);
+    }
 
 -- what a feed makes, whatever it answers
 module _ (graph graph' : Graph) (content content' : Pointstamp → ℕ) (s t : Shown) (kept : IsKept graph content s) (i : ℕ) (takes : (s.stopped ≡ false) × (i < length s.inputs) × ((input_at s i).closed ≡ false))

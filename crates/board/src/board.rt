@@ -25,7 +25,7 @@ use crate::making::open_inputs;
 use crate::passed::{output_place, passed_now};
 use crate::refusal::StepRefusal;
 use crate::state::State;
-use events::{Done, Work};
+use events::{CutBatch, Done, Wiring, Work};
 use expr_tree::NoMemory;
 use loop_context::Time;
 use lowering::{Graph, Location, VertexId};
@@ -137,16 +137,48 @@ impl<P: Progress> Board<P> {
         ensures answers { AnswersOr (feed_refusal self.old input batch) result }
         ensures tables { tables self.new ≡ tables self.old }
     {
-        if let Some(refusal) = self.state.input_refusal(input) {
+        if let Some(refusal) = self.feed_refusal(input, &batch) {
             return Err(refusal);
         }
+        let Ok(cut) = CutBatch::of(alloc, self.state.wiring(), input, batch) else {
+            return Err(StepRefusal::NoMemory);
+        };
+        let (result, _left) = self.feed_cut(cut);
+        result
+    }
+
+    /// Feeds a batch that was cut for this board. Nothing is computed. What is left is to be let go of, by a caller with a lock once he
+    /// has given it back.
+    pub fn feed_cut(&mut self, cut: CutBatch) -> (Result<(), StepRefusal>, Option<CutBatch>)
+        requires { cut.wired ≡ record { graph = self.old.graph; workers = length self.old.sides } }
+        ensures step { OnOk result.0 (Goes self.old (Step.feed cut.input cut.batch) self.new) }
+        ensures refused { OnErr result.0 (self.new ≡ self.old) }
+        ensures answers { AnswersOr (feed_refusal self.old cut.input cut.batch) result.0 }
+        ensures tables { tables self.new ≡ tables self.old }
+    {
+        let batch = cut.batch();
+        let _some = batch.len();
+        let _fields = batch.arity();
+        if let Some(refusal) = self.feed_refusal(cut.input(), batch) {
+            return (Err(refusal), Some(cut));
+        }
+        match self.state.feed(&mut self.tracker, cut) {
+            Ok(()) => (Ok(()), None),
+            Err(cut) => (Err(StepRefusal::NoMemory), Some(cut)),
+        }
+    }
+
+    /// Why feeding this batch would be refused; nothing where it would not, or for want of memory alone.
+    pub fn feed_refusal(&self, input: u32, batch: &Batch) -> Option<StepRefusal>
+        ensures { result ≡ feed_refusal self.now input batch.now }
+    {
+        if let Some(refusal) = self.state.input_refusal(input) {
+            return Some(refusal);
+        }
         if batch.arity() as u64 != self.state.graph().arity(VertexId(input)) {
-            return Err(StepRefusal::WrongFieldCount);
+            return Some(StepRefusal::WrongFieldCount);
         }
-        match self.state.feed(alloc, &mut self.tracker, input, batch) {
-            Ok(()) => Ok(()),
-            Err(_) => Err(StepRefusal::NoMemory),
-        }
+        None
     }
 
     /// Ends the open epoch of an input; the next one opens.
@@ -241,6 +273,14 @@ impl<P: Progress> Board<P> {
             Some(place) => Ok(self.state.claim_request(number, place)),
             None => Err(StepRefusal::NoSuchEvent),
         }
+    }
+
+    /// The graph and the number of workers, shared: what is cut by it may be fed to this board.
+    pub fn share_wiring(&self) -> Result<Arc<Wiring, Global>, NoMemory>
+        ensures { IfOk result (λ w. w.value ≡ record { graph = self.now.graph; workers = length self.now.sides }) }
+    {
+        let wiring = self.state.share_wiring()?;
+        Ok(wiring)
     }
 
     /// Whether a claim of the worker would hand out an event.

@@ -26,6 +26,7 @@
 //! | Call | By | What it does | Refused, in this order |
 //! |---|---|---|---|
 //! | `feed` | who has the input | records come at the open epoch | stopped, unknown, closed, fields, memory |
+//! | `feed_cut` | who has the input | the same of records that were cut into messages before, which computes nothing | the same |
 //! | `seal` | who has the input | the open epoch ends, the next is open | stopped, unknown, closed, last epoch, memory |
 //! | `close` | who has the input | nothing more comes | stopped, unknown, closed |
 //! | `claim` | a worker | hands out the first event that it may process | answers stopped, busy, drained, idle |
@@ -36,7 +37,7 @@
 //! `look`, `emitted`, `fed`, `passed`, `passed_count` and the other calls read, and anyone may make them.
 //!
 //! A stopped board still takes commits. An event that was given up counts as active for good, so that the epochs which it could
-//! touch never pass. Only `feed`, `seal`, `commit` and `look` take memory, and they take it before anything changes.
+//! touch never pass. Only `feed`, `feed_cut`, `seal`, `commit` and `look` take memory, and they take it before anything changes.
 //!
 //! Below stand `events` and `progress`. A board has no lock of its own: one caller at a time.
 #![tactic(auto)]

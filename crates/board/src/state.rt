@@ -8,8 +8,6 @@ ghost use Rattle.board.specs.Claims.{HandsMessage, HandsRequest};
 ghost use Rattle.lowering.specs.Locations.{IsIn, location_of};
 ghost use Rattle.lowering.specs.Shown.{shown_graph};
 ghost use Rattle.board.specs.Answers.{input_refusal};
-ghost use Rattle.semantics.specs.Kinds.{Kind as Equation};
-ghost use Rattle.semantics.specs.Graph.{vertex};
 ghost use Rattle.board.specs.Commits.{Feeds, IsOf, Settles};
 ghost use Rattle.board.specs.Desks.{is_out};
 ghost use Rattle.board.specs.Fresh.{IsNew};
@@ -27,7 +25,7 @@ use crate::look::{share_batches, share_fed};
 use crate::making::{new_inputs, new_workers};
 use crate::refusal::StepRefusal;
 use crate::worker::Worker;
-use events::{Done, Event, Output, Request, Wiring, Work, fed};
+use events::{CutBatch, Done, Event, Output, Request, Wiring, Work};
 use exchange::Mailbox;
 use expr_tree::NoMemory;
 use lowering::{Graph, Location, VertexId};
@@ -239,9 +237,15 @@ impl State {
         }
     }
 
+    pub fn wiring(&self) -> &Arc<Wiring, Global>
+        ensures { result.now.value ≡ record { graph = self.now.graph; workers = length self.now.sides } }
+    {
+        &self.wiring
+    }
+
     /// The wiring, shared.
     pub fn share_wiring(&self) -> Result<Arc<Wiring, Global>, NoMemory>
-        ensures { IfOk result (λ w. w.value.graph ≡ self.now.graph) }
+        ensures { IfOk result (λ w. w.value ≡ record { graph = self.now.graph; workers = length self.now.sides }) }
     {
         let wiring = Arc::try_clone(&self.wiring)?;
         Ok(wiring)
@@ -279,38 +283,30 @@ impl State {
         self.workers[worker].requests()
     }
 
-    /// Takes a batch at the open epoch of an input, if there is memory; else all is as before.
-    pub fn feed<P: Progress>(
-        &mut self,
-        alloc: Global,
-        tracker: &mut P,
-        input: u32,
-        batch: Batch,
-    ) -> Result<(), AllocError>
-        requires there { input < length self.old.inputs }
-        requires known { input < length (shown_graph self.old.graph) }
-        requires kind { (vertex (shown_graph self.old.graph) input).kind ≡ Equation.input }
+    /// Takes a batch at the open epoch of its input, if there is memory; else all is as before, and the batch comes back.
+    pub fn feed<P: Progress>(&mut self, tracker: &mut P, cut: CutBatch) -> Result<(), CutBatch>
+        requires there { cut.input < length self.old.inputs }
+        requires own { cut.wired ≡ record { graph = self.old.graph; workers = length self.old.sides } }
         requires same { P.graph tracker.old ≡ shown_graph self.old.graph }
-        ensures feeds { OnOk result (Feeds self.old self.new (P.content tracker.old) (P.content tracker.new) input batch) }
+        ensures feeds { OnOk result (Feeds self.old self.new (P.content tracker.old) (P.content tracker.new) cut.input cut.batch) }
         ensures graph { P.graph tracker.new ≡ P.graph tracker.old }
         ensures state { OnErr result (self.new ≡ self.old) }
         ensures content { OnErr result (P.content tracker.new ≡ P.content tracker.old) }
     {
-        let number = input as usize;
-        let epoch = self.inputs[number].open_epoch();
-        let Ok(copy) = batch.share() else {
-            return Err(AllocError);
+        let mut cut = cut;
+        let number = cut.input() as usize;
+        cut.set_epoch(self.inputs[number].open_epoch());
+        cut.law_of_letters();
+        let Ok(batch) = cut.batch().share() else {
+            return Err(cut);
         };
-        let Ok(letters) = fed(alloc, &self.wiring, input, epoch, copy) else {
-            return Err(AllocError);
-        };
-        if prepare_letters(&mut self.workers, tracker, &letters).is_err() {
-            return Err(AllocError);
+        if prepare_letters(&mut self.workers, tracker, cut.letters()).is_err() {
+            return Err(cut);
         }
         if self.inputs[number].feed(batch).is_err() {
-            return Err(AllocError);
+            return Err(cut);
         }
-        deliver(&mut self.workers, tracker, letters);
+        deliver(&mut self.workers, tracker, cut.into_letters());
         Ok(())
     }
 

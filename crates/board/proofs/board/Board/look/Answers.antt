@@ -1,5 +1,6 @@
 use Rattle.std.proofs.Common.{◌≡◌, ◌↔◌, [], ℕ, true, sym, ap, ◌∙◌, subst, slice_index_or}
 use Rattle.semantics.specs.Query.{Program}
+use Rattle.events.specs.Wired.{Wired}
 use Rattle.board.specs.Looks.{IsLookAt, LookShown}
 use Rattle.board.specs.Promises.{HasPassed, Headline, RunsProgram}
 use Rattle.board.specs.Shown.{Shown}
@@ -16,7 +17,7 @@ of-requires g c =
     let keeps = subst Q (sym c.self.view_is) c.law_headline.ensures in
     let look : IsLookAt s e l =
     record {
-      graph = c.in_ok-wiring.ensures;
+      graph = ap (λ (w : Wired). w.graph) c.in_ok-wiring.ensures;
       fed = λ i. ap (λ xs. slice_index_or xs i []) c.in_ok-fed.ensures ∙ fed_at s.inputs e i;
       emitted = c.in_ok-emitted.ensures;
       passed = subst P (sym c.self.view_is) c.passed-passed.ensures;
