@@ -6,3 +6,4 @@ pub mod Earlier
 pub mod Places
 pub mod Found
 pub mod ChangesMade
+pub mod CountsKept

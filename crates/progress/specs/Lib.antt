@@ -7,3 +7,5 @@ pub mod Content
 pub mod Shown
 pub mod Kept
 pub mod Asked
+pub mod Counts
+pub mod ShownCounts

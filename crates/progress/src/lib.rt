@@ -8,6 +8,8 @@
 
 mod asking;
 mod change;
+mod counted;
+mod counts;
 mod located;
 mod plain;
 mod progress;
@@ -15,6 +17,7 @@ mod tree;
 
 pub use asking::changes;
 pub use change::Change;
+pub use counts::CountTracker;
 pub use located::LocationTracker;
 pub use plain::PlainTracker;
 pub use progress::Progress;

@@ -8,3 +8,4 @@ pub mod AppliedBatches
 pub mod ReservedRoom
 pub mod FirstViews
 pub mod WaitingCounts
+pub mod OpenInputs

@@ -1,14 +1,18 @@
 //! Views that are never late.
 
-ghost use Rattle.std.specs.Prelude.{◌≡◌, ◌+◌, ◌<◌, ◌≤◌, ◌↔◌, ℕ, List, [], IsTrue, OnOk, false, length};
+ghost use Rattle.std.specs.Prelude.{◌≡◌, ◌+◌, ◌<◌, ◌≤◌, ◌↔◌, ℕ, List, [], IfOk, IsTrue, OnOk, false, length};
+ghost use Rattle.lowering.specs.Shown.{shown_graph};
 ghost use Rattle.semantics.specs.Could.{CouldResultIn, IsTimeAt, NoOtherOf, NoneOf, Pointstamp as Active};
 ghost use Rattle.progress.specs.Content.{times_in};
+ghost use Rattle.views.specs.Opening.{active_at_first};
 ghost use Rattle.views.specs.Waiting.{IsApplied, IsSeenBy, Waiting, after_post, batch};
 
+use crate::opening::open_inputs;
 use crate::views::Views;
 use expr_tree::NoMemory;
-use path_summary::Pointstamp;
+use path_summary::{Paths, Pointstamp};
 use progress::Progress;
+use std::alloc::Global;
 
 /// All workers see one tracker, and nothing waits.
 #[derive(Drop)]
@@ -18,11 +22,25 @@ pub struct Direct<P> {
 }
 
 impl<P: Progress> Direct<P> {
-    /// Lets so many workers see one tracker.
-    pub fn new(workers: u32, tracker: P) -> Direct<P>
-        ensures { result ≡ record { workers = workers; tracker = tracker } }
+    /// Lets 1 to 64 workers see one tracker of a graph, in which nothing is active yet. Each input is then active at epoch 0.
+    pub fn new(
+        alloc: Global,
+        paths: &Paths,
+        workers: u32,
+        mut tracker: P,
+    ) -> Result<Direct<P>, NoMemory>
+        requires some { 0 < workers }
+        requires few { workers ≤ 64 }
+        requires same { P.graph tracker ≡ shown_graph paths.now }
+        requires none { (q : Active) → P.content tracker q ≡ 0 }
+        ensures graph { IfOk result (λ d. P.graph d.tracker ≡ shown_graph paths.now) }
+        ensures workers { IfOk result (λ d. d.workers ≡ workers) }
+        ensures content { IfOk result (λ d. (q : Active) → P.content d.tracker q ≡ active_at_first (shown_graph paths.now) q) }
     {
-        Direct { workers, tracker }
+        let first = open_inputs(alloc, paths)?;
+        tracker.reserve(first.len() as u32)?;
+        add_all(&mut tracker, &first);
+        Ok(Direct { workers, tracker })
     }
 }
 

@@ -16,6 +16,7 @@ mod batches;
 mod direct;
 mod laws;
 mod local_views;
+mod opening;
 mod queue;
 mod view;
 mod views;

@@ -5,11 +5,13 @@ ghost use Rattle.lowering.specs.Shown.{shown_graph};
 ghost use Rattle.semantics.specs.Could.{CouldResultIn, IsTimeAt, NoOtherOf, NoneOf, Pointstamp as Active};
 ghost use Rattle.machine.specs.Active.{sum_below};
 ghost use Rattle.progress.specs.Content.{times_in};
+ghost use Rattle.views.specs.Opening.{active_at_first};
 ghost use Rattle.views.specs.Queued.{Queued, batches_of};
 ghost use Rattle.views.specs.Viewed.{Viewed, above, below, view_graph};
 ghost use Rattle.views.specs.Waiting.{IsApplied, IsSeenBy, Waiting, after_post, batch};
 ghost use Rattle.views.specs.WorkerViews.{AllFree, AllRoom, AllTaken, AreSameQueues, AreSameViews, IsViewOf, WorkerViews, content_of, untaken_at, waiting_of};
 
+use crate::opening::open_inputs;
 use crate::queue::Queue;
 use crate::view::View;
 use crate::views::Views;
@@ -50,6 +52,23 @@ impl Model for LocalViews {
 }
 
 impl LocalViews {
+    /// Creates views of a graph in which each worker sees each input at epoch 0, and nothing waits.
+    pub fn new(
+        alloc: Global,
+        paths: Arc<Paths, Global>,
+        workers: u32,
+    ) -> Result<LocalViews, NoMemory>
+        requires some { 0 < workers }
+        requires few { workers ≤ 64 }
+        ensures graph { IfOk result (λ t. t.graph ≡ paths.value) }
+        ensures workers { IfOk result (λ t. length t.views ≡ workers) }
+        ensures content { IfOk result (λ t. (q : Active) → content_of t.views t.queues q ≡ active_at_first (shown_graph paths.value) q) }
+        ensures waiting { IfOk result (λ t. (worker s : ℕ) → waiting_of t.queues worker s ≡ []) }
+    {
+        let first = open_inputs(alloc, &paths)?;
+        LocalViews::starting(alloc, paths, workers, &first)
+    }
+
     /// Creates views in which each worker sees the first pointstamps and nothing waits.
     pub fn starting(
         alloc: Global,
