@@ -7,6 +7,7 @@ ghost use Rattle.workers.specs.Names.{GivesNamed, IsNamed};
 use crate::floor::{Floor, Wakes};
 use crate::held::{Held, Naming};
 use crate::mark::{Mark, Publisher, Seat};
+use crate::plan::Plan;
 use board::{Board, Claimed, Look, StepRefusal};
 use events::{Done, Work};
 use expr_tree::NoMemory;
@@ -19,6 +20,7 @@ use std::sync::{Condvar, Mutex, Wait};
 #[derive(Drop)]
 pub struct Engine<J: Naming, P: Progress> {
     floor: Mutex<Floor<J, P>>,
+    plan: Plan<J>,
     bells: Vec<Condvar>,
     passing: Condvar,
 }
@@ -34,19 +36,17 @@ impl<J: Naming, P: Progress> Engine<J, P> {
         requires graph { board.graph ≡ J.graph }
         requires fresh { publisher.number ≡ 0 }
     {
-        let workers = board.workers();
-        let mut bells = Vec::with_capacity(alloc, workers as usize)?;
-        for _worker in 0..workers {
-            bells.push(Condvar::new())?;
-        }
+        let plan = Plan::new(board.share_wiring()?);
+        let bells = new_bells(alloc, board.workers())?;
         Ok(Engine {
             floor: Mutex::new(Floor::new(Held::new(board, publisher))),
+            plan,
             bells,
             passing: Condvar::new(),
         })
     }
 
-    /// Feeds a batch to an input at its open epoch, as the board's call.
+    /// Feeds a batch to an input at its open epoch, as the board's call. The batch is cut into messages before the lock is taken.
     pub fn feed<R: Wait>(
         &self,
         rt: &R,
@@ -54,9 +54,17 @@ impl<J: Naming, P: Progress> Engine<J, P> {
         input: u32,
         batch: Batch,
     ) -> Result<(), StepRefusal> {
-        let (result, wakes) = self.floor.lock(rt).feed(alloc, input, batch);
-        self.wake(wakes);
-        result
+        match self.plan.cut(alloc, input, batch) {
+            Ok(cut) => {
+                let (result, _left, wakes) = self.floor.lock(rt).feed_cut(cut);
+                self.wake(wakes);
+                result
+            }
+            Err(refusal) => match self.floor.lock(rt).held.input_refusal(input) {
+                Some(first) => Err(first),
+                None => Err(refusal),
+            },
+        }
     }
 
     /// Ends the open epoch of an input, as the board's call.
@@ -182,9 +190,19 @@ impl<J: Naming, P: Progress> Engine<J, P> {
     {
         let Engine {
             floor,
+            plan: _,
             bells: _,
             passing: _,
         } = self;
         floor.into_inner().into_board()
     }
+}
+
+/// A bell for each of so many workers.
+fn new_bells(alloc: Global, workers: u32) -> Result<Vec<Condvar>, NoMemory> {
+    let mut bells = Vec::with_capacity(alloc, workers as usize)?;
+    for _worker in 0..workers {
+        bells.push(Condvar::new())?;
+    }
+    Ok(bells)
 }

@@ -1,14 +1,12 @@
 //! What the threads share under the lock: the board, and who is asleep.
 
-ghost use Rattle.std.specs.Prelude.{◌≡◌, IfErr, IfOk};
+ghost use Rattle.std.specs.Prelude.{◌≡◌, length, IfErr, IfOk};
 ghost use Rattle.workers.specs.Names.{GivesNamed, IsNamed};
 
 use crate::held::{Held, Naming};
 use board::{Board, Claimed, CommitRefusal, StepRefusal};
-use events::{Done, Work};
+use events::{CutBatch, Done, Work};
 use progress::Progress;
-use rows::Batch;
-use std::alloc::Global;
 
 /// No number of epochs is waited for.
 const NONE: u64 = u64::MAX;
@@ -68,15 +66,12 @@ impl<J: Naming, P: Progress> Floor<J, P> {
         }
     }
 
-    /// As the board's call, and whom it wakes.
-    pub fn feed(
-        &mut self,
-        alloc: Global,
-        input: u32,
-        batch: Batch,
-    ) -> (Result<(), StepRefusal>, Wakes) {
-        let result = self.held.feed(alloc, input, batch);
-        (result, self.due())
+    /// As the board's call, what is left of it, and whom it wakes.
+    pub fn feed_cut(&mut self, cut: CutBatch) -> (Result<(), StepRefusal>, Option<CutBatch>, Wakes)
+        requires { cut.wired ≡ record { graph = J.graph; workers = length J.names } }
+    {
+        let (result, left) = self.held.feed_cut(cut);
+        (result, left, self.due())
     }
 
     /// As the board's call, and whom it wakes.

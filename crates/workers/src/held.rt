@@ -11,10 +11,9 @@ ghost use Rattle.workers.specs.Names.{GivesNamed, IsNamed};
 
 use crate::mark::Publisher;
 use board::{Board, Claimed, CommitRefusal, Look, StepRefusal};
-use events::{Done, Work};
+use events::{CutBatch, Done, Work};
 use expr_tree::NoMemory;
 use progress::Progress;
-use rows::Batch;
 use std::alloc::Global;
 use std::marker::{Brand, Model, PhantomData};
 
@@ -81,18 +80,26 @@ impl<J: Naming, P: Progress> Held<J, P> {
         }
     }
 
-    /// As the board's.
-    pub fn feed(&mut self, alloc: Global, input: u32, batch: Batch) -> Result<(), StepRefusal>
-        ensures step { OnOk result (Goes self.old.board (Step.feed input batch) self.new.board) }
-        ensures refused { OnErr result (self.new.board ≡ self.old.board) }
-        ensures answers { AnswersOr (feed_refusal self.old.board input batch) result }
+    /// As the board's. The batch must be cut by the board's plan. What is left is to be let go of once the lock is given back.
+    pub fn feed_cut(&mut self, cut: CutBatch) -> (Result<(), StepRefusal>, Option<CutBatch>)
+        requires { cut.wired ≡ record { graph = J.graph; workers = length J.names } }
+        ensures step { OnOk result.0 (Goes self.old.board (Step.feed cut.input cut.batch) self.new.board) }
+        ensures refused { OnErr result.0 (self.new.board ≡ self.old.board) }
+        ensures answers { AnswersOr (feed_refusal self.old.board cut.input cut.batch) result.0 }
         ensures published { CountsPassed self.new.board self.new.published }
     {
         self.board.law_count();
         self.board.law_stays();
-        let result = self.board.feed(alloc, input, batch);
+        let (result, left) = self.board.feed_cut(cut);
         self.publisher.publish(self.board.passed_count());
-        result
+        (result, left)
+    }
+
+    /// As the board's: why a call on that input would be refused, whatever it is.
+    pub fn input_refusal(&self, input: u32) -> Option<StepRefusal>
+        ensures { result ≡ input_refusal self.now.board input }
+    {
+        self.board.input_refusal(input)
     }
 
     /// As the board's.

@@ -34,6 +34,7 @@ mod floor;
 mod gate;
 mod held;
 mod mark;
+mod plan;
 mod report;
 mod rule;
 mod working;
