@@ -87,20 +87,25 @@ fn records_without_a_route_stay_with_the_sender(rt: HostRuntime) -> Result<(), F
     Ok(())
 }
 
-#[test]
-fn any_place_may_be_taken(rt: HostRuntime) -> Result<(), Fail> {
-    let mut mailbox = Mailbox::new(rt.alloc());
-    assert!(rt; mailbox.is_empty());
+/// A mailbox: whether it was empty, the second and the first of four, the two others, and whether a growth by more than there is
+/// was refused and left these two.
+fn taken(alloc: Global) -> Result<(bool, usize, [i64; 4], bool, usize), RowsError> {
+    let mut mailbox = Mailbox::new(alloc);
+    let none = mailbox.is_empty();
     mailbox.put(10)?;
     mailbox.put(20)?;
     mailbox.reserve(2)?;
     mailbox.put_reserved(30);
     mailbox.put_reserved(40);
-    assert_eq!(rt; mailbox.len(), 4);
-    assert_eq!(rt; mailbox.take(1), 20);
-    assert_eq!(rt; mailbox.take(0), 10);
-    assert_eq!(rt; (*mailbox.get(0), *mailbox.get(1)), (30, 40));
-    assert_eq!(rt; mailbox.reserve(usize::MAX), Err(RowsError::NoMemory));
-    assert_eq!(rt; mailbox.len(), 2);
-    Ok(())
+    let all = mailbox.len();
+    let second = mailbox.take(1);
+    let first = mailbox.take(0);
+    let values = [second, first, *mailbox.get(0), *mailbox.get(1)];
+    let refused = mailbox.reserve(usize::MAX) == Err(RowsError::NoMemory);
+    Ok((none, all, values, refused, mailbox.len()))
+}
+
+#[test]
+fn any_place_may_be_taken(rt: HostRuntime) {
+    assert_eq!(rt; taken(rt.alloc()), Ok((true, 4, [20, 10, 30, 40], true, 2)));
 }

@@ -6,7 +6,8 @@ ghost use Rattle.rows.specs.FlatRows.{arity_of};
 ghost use Rattle.semantics.specs.Kinds.{in_ports};
 ghost use Rattle.semantics.specs.PortArity.{PortsFit};
 ghost use Rattle.semantics.specs.Typing.{IsArity};
-ghost use Rattle.vertices.specs.Shards.{by_port};
+ghost use Rattle.vertices.specs.Absorbed.{Absorbed};
+ghost use Rattle.vertices.specs.Shards.{Shows, TakesArity, by_port, shard_kind};
 
 use crate::shards::{NOWHERE, pairs, sent, shard_of, singles};
 use expr_tree::{Comparison, Cond, Scalar};
@@ -26,6 +27,30 @@ struct Sent {
     asked: bool,
 }
 
+/// What a shard sends for a batch that comes to a port.
+fn taken(
+    alloc: Global,
+    shard: &mut Shard,
+    port: u32,
+    time: &Time,
+    batch: Batch,
+) -> Result<Sent, ShardFault>
+    requires port { port < in_ports (shard_kind shard.old) }
+    requires arity { TakesArity shard.old port (arity_of batch) }
+    requires whole { (a : Absorbed) × Shows shard.old a }
+{
+    let mut out = Out::new();
+    shard.on_records(alloc, port, time, batch, &mut out)?;
+    let asked = out.asked();
+    let first = sent(alloc, &mut out, 0)?;
+    let second = sent(alloc, &mut out, 1)?;
+    Ok(Sent {
+        first,
+        second,
+        asked,
+    })
+}
+
 /// What a fresh shard of a kind sends for a batch of records of that many fields that comes to a port.
 fn sends(
     alloc: Global,
@@ -41,13 +66,7 @@ fn sends(
     requires batch { arity_of batch ≡ fields }
 {
     let mut shard = shard_of(alloc, kind, fields)?;
-    let mut out = Out::new();
-    shard.on_records(alloc, port, time, batch, &mut out)?;
-    Ok(Sent {
-        asked: out.asked(),
-        first: sent(alloc, &mut out, 0)?,
-        second: sent(alloc, &mut out, 1)?,
-    })
+    taken(alloc, &mut shard, port, time, batch)
 }
 
 /// What a fresh shard of records of one field sends by both ports for one record at a turn of its loop.
@@ -96,17 +115,22 @@ fn an_output_sends_nothing(rt: HostRuntime) -> Result<(), Fail> {
     Ok(())
 }
 
-#[test]
-fn forwarders_send_what_comes(rt: HostRuntime) -> Result<(), Fail> {
-    let alloc = rt.alloc();
+/// Whether a concat's two ports, an ingress, an egress and a feedback forward.
+fn forwarders(rt: &impl Abort, alloc: Global, inside: &Time) -> Result<[bool; 5], ShardFault> {
     let outside = Time::at_epoch(3);
+    Ok([
+        forwards(rt, alloc, Kind::Concat, 0, &outside)?,
+        forwards(rt, alloc, Kind::Concat, 1, inside)?,
+        forwards(rt, alloc, Kind::Ingress, 0, &outside)?,
+        forwards(rt, alloc, Kind::Egress, 0, inside)?,
+        forwards(rt, alloc, Kind::Feedback, 0, inside)?,
+    ])
+}
+
+#[test]
+fn forwarders_send_what_comes(rt: HostRuntime) {
     let inside = Time::new(3, &[2]).expect(&rt, "a time");
-    assert!(rt; forwards(&rt, alloc, Kind::Concat, 0, &outside)?);
-    assert!(rt; forwards(&rt, alloc, Kind::Concat, 1, &inside)?);
-    assert!(rt; forwards(&rt, alloc, Kind::Ingress, 0, &outside)?);
-    assert!(rt; forwards(&rt, alloc, Kind::Egress, 0, &inside)?);
-    assert!(rt; forwards(&rt, alloc, Kind::Feedback, 0, &inside)?);
-    Ok(())
+    assert_eq!(rt; forwarders(&rt, rt.alloc(), &inside), Ok([true; 5]));
 }
 
 #[test]
@@ -159,22 +183,48 @@ fn where_of_some_and_of_none(rt: HostRuntime) -> Result<(), Fail> {
     Ok(())
 }
 
+/// What gates of three turns send at some turns.
+fn gates_at(
+    rt: &impl Abort,
+    alloc: Global,
+    turns: &[u32],
+) -> Result<Vec<(usize, usize)>, ShardFault> {
+    let mut sent = Vec::new(alloc);
+    for turn in turns {
+        sent.push(at_turn(rt, alloc, Kind::Gate(3), *turn)?)?;
+    }
+    Ok(sent)
+}
+
 #[test]
 fn gate_of_three_turns(rt: HostRuntime) -> Result<(), Fail> {
-    let alloc = rt.alloc();
-    assert_eq!(rt; at_turn(&rt, alloc, Kind::Gate(3), 0)?, (1, 0));
-    assert_eq!(rt; at_turn(&rt, alloc, Kind::Gate(3), 2)?, (1, 0));
-    assert_eq!(rt; at_turn(&rt, alloc, Kind::Gate(3), 3)?, (0, 1));
-    assert_eq!(rt; at_turn(&rt, alloc, Kind::Gate(3), 4)?, (0, 0));
+    let sent = gates_at(&rt, rt.alloc(), &[0, 2, 3, 4])?;
+    assert_eq!(rt;
+        sent.as_slice(),
+        [(1, 0), (1, 0), (0, 1), (0, 0)].as_slice()
+    );
     Ok(())
+}
+
+/// What holds of three turns send at some turns.
+fn holds_at(
+    rt: &impl Abort,
+    alloc: Global,
+    turns: &[u32],
+) -> Result<Vec<(usize, usize)>, ShardFault> {
+    let mut sent = Vec::new(alloc);
+    for turn in turns {
+        sent.push(at_turn(rt, alloc, Kind::Hold(3), *turn)?)?;
+    }
+    Ok(sent)
 }
 
 #[test]
 fn hold_of_three_turns(rt: HostRuntime) -> Result<(), Fail> {
-    let alloc = rt.alloc();
-    assert_eq!(rt; at_turn(&rt, alloc, Kind::Hold(3), 0)?, (1, 1));
-    assert_eq!(rt; at_turn(&rt, alloc, Kind::Hold(3), 1)?, (1, 1));
-    assert_eq!(rt; at_turn(&rt, alloc, Kind::Hold(3), 2)?, (1, 0));
-    assert_eq!(rt; at_turn(&rt, alloc, Kind::Hold(3), 3)?, (0, 0));
+    let sent = holds_at(&rt, rt.alloc(), &[0, 1, 2, 3])?;
+    assert_eq!(rt;
+        sent.as_slice(),
+        [(1, 1), (1, 1), (1, 0), (0, 0)].as_slice()
+    );
     Ok(())
 }

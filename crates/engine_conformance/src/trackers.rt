@@ -1,6 +1,6 @@
 //! Both trackers over the same calls.
 
-ghost use Rattle.std.specs.Prelude.{◌≡◌, ◌<◌, ◌↔◌, ℕ, IsTrue, OnOk};
+ghost use Rattle.std.specs.Prelude.{◌≡◌, ◌<◌, ◌↔◌, ℕ, IsTrue, OnOk, OnSome};
 ghost use Rattle.lowering.specs.Shown.{shown_graph};
 ghost use Rattle.semantics.specs.Could.{IsTimeAt, Pointstamp as Active};
 ghost use Rattle.progress.specs.Content.{times_at, times_in};
@@ -13,11 +13,10 @@ use path_summary::{Paths, Pointstamp};
 use progress::{Change, LocationTracker, PlainTracker, Progress, changes};
 use std::alloc::Global;
 use std::sync::Arc;
-use std::test::Fail;
 
 /// The paths of `SIMPLE`'s graph, to be shared by trackers.
-fn shared_paths(alloc: Global) -> Result<Arc<Paths, Global>, Fail> {
-    Ok(Arc::new(alloc, paths_of(alloc, SIMPLE)?)?)
+fn shared_paths(alloc: Global) -> Option<Arc<Paths, Global>> {
+    Arc::new(alloc, paths_of(alloc, SIMPLE)?).ok()
 }
 
 fn stamp(epoch: u32, counter: u32, vertex: u32) -> Option<Pointstamp> {
@@ -49,38 +48,37 @@ fn asked<P: Progress>(
     changes(alloc, tracker, &list)
 }
 
-/// The same of two pointstamps of `SIMPLE`'s graph, of which the first could result in the second.
-fn frontiers<P: Progress>(alloc: Global, tracker: &mut P, paths: &Paths) -> Result<Vec<bool>, Fail>
+/// Whether the same of two pointstamps of `SIMPLE`'s graph, of which the first could result in the second, is answered as worked by hand.
+fn frontiers<P: Progress>(alloc: Global, tracker: &mut P, paths: &Paths) -> Option<bool>
     requires { P.graph tracker.old ≡ shown_graph paths.now }
 {
-    let p = stamp(0, 1, 3).ok_or("no time")?;
-    let q = stamp(0, 2, 2).ok_or("no time")?;
+    let p = stamp(0, 1, 3)?;
+    let q = stamp(0, 2, 2)?;
     if !paths.fits(&p) || !paths.fits(&q) {
-        Err("not of the graph")?;
+        return None;
     }
-    Ok(asked(alloc, tracker, &p, &q)?)
+    let answers = asked(alloc, tracker, &p, &q).ok()?;
+    Some(answers.as_slice() == [false, true, true, true].as_slice())
+}
+
+fn plain_frontiers(alloc: Global) -> Option<bool> {
+    let paths = shared_paths(alloc)?;
+    let mut tracker = PlainTracker::new(alloc, Arc::try_clone(&paths).ok()?);
+    frontiers(alloc, &mut tracker, &paths)
+}
+
+fn located_frontiers(alloc: Global) -> Option<bool> {
+    let paths = shared_paths(alloc)?;
+    let mut tracker = LocationTracker::new(alloc, Arc::try_clone(&paths).ok()?).ok()?;
+    frontiers(alloc, &mut tracker, &paths)
 }
 
 #[test]
-fn frontiers_of_the_plain_tracker(rt: HostRuntime) -> Result<(), Fail> {
-    let paths = shared_paths(rt.alloc())?;
-    let mut tracker = PlainTracker::new(rt.alloc(), Arc::try_clone(&paths)?);
+fn frontiers_of_both_trackers(rt: HostRuntime) {
     assert_eq!(rt;
-        frontiers(rt.alloc(), &mut tracker, &paths)?.as_slice(),
-        [false, true, true, true].as_slice()
+        (plain_frontiers(rt.alloc()), located_frontiers(rt.alloc())),
+        (Some(true), Some(true))
     );
-    Ok(())
-}
-
-#[test]
-fn frontiers_of_the_tracker_by_location(rt: HostRuntime) -> Result<(), Fail> {
-    let paths = shared_paths(rt.alloc())?;
-    let mut tracker = LocationTracker::new(rt.alloc(), Arc::try_clone(&paths)?)?;
-    assert_eq!(rt;
-        frontiers(rt.alloc(), &mut tracker, &paths)?.as_slice(),
-        [false, true, true, true].as_slice()
-    );
-    Ok(())
 }
 
 /// Puts it in on both sides, or, where it is there, takes it out.
@@ -128,22 +126,21 @@ fn turn(
     plain: &mut PlainTracker,
     located: &mut LocationTracker,
     n: u32,
-) -> Result<bool, Fail>
+) -> Option<bool>
     requires few { n < 1000 }
     requires plain { shown_graph plain.old.graph ≡ shown_graph paths.now }
     requires located { shown_graph located.old.graph ≡ shown_graph paths.now }
     requires same { (q : Active) → times_in plain.old.active q ≡ times_at located.old.edges located.old.vertices q }
     ensures plain { shown_graph plain.new.graph ≡ shown_graph paths.now }
     ensures located { shown_graph located.new.graph ≡ shown_graph paths.now }
-    ensures same { OnOk result ((q : Active) → times_in plain.new.active q ≡ times_at located.new.edges located.new.vertices q) }
+    ensures same { OnSome result ((q : Active) → times_in plain.new.active q ≡ times_at located.new.edges located.new.vertices q) }
 {
-    let p = nth(n).ok_or("no time")?;
-    let later = nth(n + 37).ok_or("no time")?;
-    if !paths.fits(&p) || !paths.fits(&later) {
-        Err("not of the graph")?;
+    let p = nth(n)?;
+    let later = nth(n + 37)?;
+    if !paths.fits(&p) || !paths.fits(&later) || toggle(plain, located, &p).is_err() {
+        return None;
     }
-    toggle(plain, located, &p)?;
-    Ok(agree(plain, located, &later))
+    Some(agree(plain, located, &later))
 }
 
 /// How many of so many answers differ, before each of which one pointstamp comes or goes.
@@ -152,7 +149,7 @@ fn differences(
     plain: &mut PlainTracker,
     located: &mut LocationTracker,
     count: u32,
-) -> Result<u32, Fail>
+) -> Option<u32>
     requires few { count < 1000 }
     requires plain { shown_graph plain.old.graph ≡ shown_graph paths.now }
     requires located { shown_graph located.old.graph ≡ shown_graph paths.now }
@@ -164,14 +161,22 @@ fn differences(
             differ += 1;
         }
     }
-    Ok(differ)
+    Some(differ)
+}
+
+/// The differences of new trackers; nothing where the query has no graph.
+fn new_differences(alloc: Global, count: u32) -> Result<Option<u32>, NoMemory>
+    requires { count < 1000 }
+{
+    let Some(paths) = shared_paths(alloc) else {
+        return Ok(None);
+    };
+    let mut plain = PlainTracker::new(alloc, Arc::try_clone(&paths)?);
+    let mut located = LocationTracker::new(alloc, Arc::try_clone(&paths)?)?;
+    Ok(differences(&paths, &mut plain, &mut located, count))
 }
 
 #[test]
-fn both_trackers_over_one_list(rt: HostRuntime) -> Result<(), Fail> {
-    let paths = shared_paths(rt.alloc())?;
-    let mut plain = PlainTracker::new(rt.alloc(), Arc::try_clone(&paths)?);
-    let mut located = LocationTracker::new(rt.alloc(), Arc::try_clone(&paths)?)?;
-    assert_eq!(rt; differences(&paths, &mut plain, &mut located, 600)?, 0);
-    Ok(())
+fn both_trackers_over_one_list(rt: HostRuntime) {
+    assert_eq!(rt; new_differences(rt.alloc(), 600), Ok(Some(0)));
 }
