@@ -1,1 +1,2 @@
 pub mod PossibleChanges
+pub mod FirstEpochs

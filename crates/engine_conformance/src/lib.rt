@@ -2,9 +2,13 @@
 #![tactic(auto)]
 
 #[cfg(test)]
+mod count_tracker;
+#[cfg(test)]
 mod flat_rows;
 #[cfg(test)]
 mod kinds;
+#[cfg(test)]
+mod late_views;
 #[cfg(test)]
 mod path_summaries;
 #[cfg(test)]

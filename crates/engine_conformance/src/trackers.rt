@@ -19,13 +19,13 @@ fn shared_paths(alloc: Global) -> Option<Arc<Paths, Global>> {
     Arc::new(alloc, paths_of(alloc, SIMPLE)?).ok()
 }
 
-fn stamp(epoch: u32, counter: u32, vertex: u32) -> Option<Pointstamp> {
+pub fn stamp(epoch: u32, counter: u32, vertex: u32) -> Option<Pointstamp> {
     let time = Time::new(epoch, &[counter])?;
     Some(Pointstamp::new(time, Location::Vertex(VertexId(vertex))))
 }
 
 /// What is asked: of `q`, of `p`, of `q` once `p` is gone, and of `q` once it is gone itself but for one.
-fn asked<P: Progress>(
+pub fn asked<P: Progress>(
     alloc: Global,
     tracker: &mut P,
     p: &Pointstamp,
