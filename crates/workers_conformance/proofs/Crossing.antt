@@ -136,5 +136,5 @@ state_field_send = search (sendable, crosses, worker_send, wiring_send, wiring_s
 
 -- a `&` of an engine may go to any thread, whoever names its board
 pub engine_sync : (J : RattleType) (n : naming.Ghosts J.Denot) (p : progress.Ghosts (tracker.the_row).Denot)
-    → IsSend J → IsSync (engine.the_row J tracker.the_row n p)
-engine_sync J n p s = search (sendable, crosses, state_field_send, tracker_send, publishers.the_send) depth 40
+    → IsSend J → IsSync J → IsSync (engine.the_row J tracker.the_row n p)
+engine_sync J n p s y = search (sendable, crosses, state_field_send, tracker_send, publishers.the_send, wiring_sync, wiring_send) depth 40
