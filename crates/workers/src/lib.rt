@@ -1,7 +1,7 @@
 //! Many workers on one board, and observers.
 //!
 //! An `Engine` is a board under a lock. A worker's thread `work`s: it claims an event, computes it with no lock held, and commits it. A
-//! commit and the same worker's next claim are one taking of the lock. Whom a call has given something to do is told so once the lock
+//! commit and the same worker's next claim are one taking of the lock. What is fed is cut into messages by a `Plan`, with no lock held. Whom a call has given something to do is told so once the lock
 //! is given back; nobody else is woken.
 //!
 //! | Call | By | What it does | Answers |

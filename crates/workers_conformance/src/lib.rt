@@ -4,6 +4,8 @@
 #[cfg(test)]
 mod boards;
 #[cfg(test)]
+mod feeds;
+#[cfg(test)]
 mod flags;
 #[cfg(test)]
 mod looks;
