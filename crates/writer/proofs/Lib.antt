@@ -10,6 +10,7 @@ pub mod Lexing
 pub mod Spaced
 pub mod RoundTrip
 pub mod Texts
+pub mod Steps
 pub mod Sizes
 pub mod Checks
 pub mod Parsed
