@@ -159,7 +159,10 @@ fn lists_are_replaced_in_place(rt: HostRuntime) -> Result<(), Fail> {
     lists.push(&[1, 2])?;
     lists.push(&[3, 4])?;
     lists.set(0, &[5, 6]);
-    assert_eq!(rt; (lists.len(), lists.list(0)[1], lists.list(1)[0]), (2, 6, 3));
+    assert_eq!(rt;
+        (lists.len(), lists.list(0)[1], lists.list(1)[0]),
+        (2, 6, 3)
+    );
     Ok(())
 }
 
