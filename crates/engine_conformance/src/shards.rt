@@ -69,7 +69,6 @@ pub fn sent(alloc: Global, out: &mut Out, port: u32) -> Result<Vec<i64>, ShardFa
 }
 
 /// The shard of a vertex each of whose in ports takes records of that many fields.
-#[tactic(auto, using(vertices::proofs::AtWork::fresh_at_work))]
 pub fn shard_of(alloc: Global, kind: Kind, fields: usize) -> Result<Shard, ShardFault>
     requires fits { (out : ℕ) × PortsFit (kind_of kind) (by_port fields fields) out × IsArity out }
     requires fields { IsArity fields }

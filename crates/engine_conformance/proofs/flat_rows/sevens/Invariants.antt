@@ -2,4 +2,4 @@ use Rattle.std.proofs.Common.{◌≡◌}
 use Rattle.engine_conformance.proofs.flat_rows.sevens.Given as goal
 
 abbrev pub invariant-loop-row : goal.invariant-loop-row
-invariant-loop-row g l = l.index.arity ≡ 2
+invariant-loop-row l = l.index.arity ≡ 2
