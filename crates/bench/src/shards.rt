@@ -63,7 +63,6 @@ fn batch(
 }
 
 /// The shard of a vertex to whose in ports records of two fields come.
-#[tactic(auto, using(vertices::proofs::AtWork::fresh_at_work))]
 fn shard_of(alloc: Global, kind: Kind) -> Result<Shard, ShardFault>
     requires { (out : ℕ) × PortsFit (kind_of kind) (by_port 2 2) out × IsArity out }
     ensures { IfOk result (λ s. IsAtWork (role (kind_of kind)) (in_ports (kind_of kind)) 2 s) }
