@@ -211,7 +211,10 @@ fn sevens(alloc: Global) -> Result<Vec<i64>, RowsError> {
 
 #[test]
 fn an_index_of_many_rows_finds_them_newest_first(rt: HostRuntime) -> Result<(), Fail> {
-    assert_eq!(rt; sevens(rt.alloc())?.as_slice(), [7, 40, 7, 27, 7, 7].as_slice());
+    assert_eq!(rt;
+        sevens(rt.alloc())?.as_slice(),
+        [7, 40, 7, 27, 7, 7].as_slice()
+    );
     Ok(())
 }
 
