@@ -1,10 +1,10 @@
 -- A commit is one step, and keeps what a board keeps.
 use Rattle.std.proofs.Common.{◌≡◌, ◌≢◌, ◌⊎◌, inl, inr, ◌<◌, ◌+◌, ℕ, ◌==◌, true, false, List, [], ◌∷◌, length, refl, sym, ap, ◌∙◌, subst, arith, slice_set, slice_index_or, Option, Some, None, length-set}
 use Rattle.std.proofs.lemmas.Bool.Decides.{eqb_tells}
-use Rattle.semantics.specs.Multiset.{total}
+use Rattle.semantics.specs.Multiset.{Record, total}
 use Rattle.semantics.specs.Time.{at_epoch}
 use Rattle.semantics.specs.Kinds.{Kind, Role, role}
-use Rattle.semantics.specs.Graph.{Graph, vertex, target, output_number}
+use Rattle.semantics.specs.Graph.{Graph, vertex, target}
 use Rattle.semantics.specs.Could.{Pointstamp}
 use Rattle.semantics.specs.Dataflow.{IsDataflow}
 use Rattle.lowering.specs.Shown.{shown_graph}
@@ -15,6 +15,7 @@ use Rattle.machine.specs.InTransit.{IsGoodEvent}
 use Rattle.machine.specs.Processing.{asked, event_vertex, event_time}
 use Rattle.machine.specs.Step.{Step}
 use Rattle.machine.proofs.Counting.{below_same}
+use Rattle.machine.proofs.Engine.{role_output}
 use Rattle.vertices.specs.Outs.{records_of}
 use Rattle.tokens.specs.declared.rule.Place.{Place}
 use Rattle.tokens.specs.declared.rule.Place.TheVariants.{Home, Out}
@@ -24,12 +25,12 @@ use Rattle.events.specs.Letters.{sent_to}
 use Rattle.events.specs.Outputs.{IsOutputOf, IsDoneFor}
 use Rattle.events.specs.declared.work.Output.{Output}
 use Rattle.board.specs.Desks.{letters_count}
-use Rattle.board.specs.Shown.{Shown, Side, side_at, side_in, no_side, net, event_at}
+use Rattle.board.specs.Shown.{Shown, Side, Epochs, emitted_by, side_at, side_in, no_side, net, event_at}
 use Rattle.board.specs.Showing.{IsOwn, IsSideOf, AreSidesOf, EachShard, OnShard, known, known_shard}
 use Rattle.board.specs.Fitting.{FitsPlace, FitsVertex}
 use Rattle.vertices.specs.declared.shard.Shard.{Shard}
 use Rattle.board.proofs.Shards.{each_back}
-use Rattle.board.specs.Steps.{settled, delivered, after_commit, with_batch}
+use Rattle.board.specs.Steps.{settled, delivered, after_commit, more_at, with_emitted}
 use Rattle.board.specs.Kept.{IsKept, Goes}
 use Rattle.board.specs.Commits.{IsOf}
 use Rattle.board.proofs.Committing.{EndsAt, was, may_commit, shows_commit}
@@ -39,32 +40,21 @@ use Rattle.board.proofs.Keeping.{kept_more}
 use Rattle.board.proofs.Mails.{by_workers}
 use Rattle.board.proofs.Places.{index_set_here, index_set_other}
 
-role_output : (k : Kind) → role k ≡ Role.output → k ≡ Kind.output
-role_output Kind.input e = absurd cc
-role_output Kind.output e = refl
-role_output Kind.concat e = absurd cc
-role_output Kind.distinct e = absurd cc
-role_output Kind.ingress e = absurd cc
-role_output Kind.egress e = absurd cc
-role_output Kind.feedback e = absurd cc
-role_output (Kind.select ss) e = absurd cc
-role_output (Kind.filter c) e = absurd cc
-role_output (Kind.join ps) e = absurd cc
-role_output (Kind.group ks as') e = absurd cc
-role_output (Kind.gate n) e = absurd cc
-role_output (Kind.hold n) e = absurd cc
+room_with : (v e : ℕ) (o : Option (List Record)) (es : List Epochs) → length (with_emitted v e o es) ≡ length es
+room_with v e None es = refl
+room_with v e (Some b) es = length-set es v (more_at e (b ∷ []) (emitted_by es v))
 
 no_counters : (cs : List ℕ) → length cs ≡ 0 → cs ≡ []
 no_counters [] e = refl
 no_counters (c ∷ cs) e = absurd (omega (arith, e))
 
--- what is emitted is emitted at the output, at an epoch
-ends_by : (g : Graph) (workers : ℕ) → IsDataflow g → (e : Event) → IsGoodEvent g e → event_at g e < length g → (role (vertex g (event_at g e)).kind ≡ Role.output) → (event_at g e ≡ output_number g) × (event_time e ≡ at_epoch (event_time e).epoch)
+-- what is emitted is emitted at an epoch
+ends_by : (g : Graph) (workers : ℕ) → IsDataflow g → (e : Event) → IsGoodEvent g e → event_at g e < length g → (role (vertex g (event_at g e)).kind ≡ Role.output) → event_time e ≡ at_epoch (event_time e).epoch
 ends_by g workers flows (Event.arrival m) good l out =
     let kind = role_output (vertex g (target g m.edge)).kind out in
     let depth = flows.shaped.flat (target g m.edge) l (inr kind) in
     let none = no_counters m.time.counters (good.fits.1 ∙ depth) in
-    (flows.shaped.output_last (target g m.edge) l kind, λ i. record { epoch = m.time.epoch; counters = none i })
+    λ i. record { epoch = m.time.epoch; counters = none i }
 ends_by g workers flows (Event.notification n) good l out = absurd (let z : Role.notified ≡ Role.output = sym good.notified ∙ out in cc)
 
 -- a side of the board, with other mail
@@ -103,22 +93,22 @@ module _ (graph : Graph) (content : Pointstamp → ℕ) (s : Shown) (kept : IsKe
   pub done : IsDoneFor (net s) p.worker p.job.happening p.job.before o.shard.value o.sent.items (requests_of o.asked) (records_of o.emitted)
   done = facts.done_here graph content s kept p.worker there p.job out o is
 
-  ends : EndsAt (net s) (output_number (shown_graph s.graph)) p.job.happening (records_of o.emitted)
+  ends : EndsAt p.job.happening (records_of o.emitted)
   ends = record { at = by done.only }
     where
       by : (records_of o.emitted ≡ []) ⊎ ((net s).role (event_vertex (net s) p.job.happening) ≡ Role.output)
-          → (records_of o.emitted ≡ []) ⊎ ((event_vertex (net s) p.job.happening ≡ output_number (shown_graph s.graph)) × (event_time p.job.happening ≡ at_epoch (event_time p.job.happening).epoch))
+          → (records_of o.emitted ≡ []) ⊎ (event_time p.job.happening ≡ at_epoch (event_time p.job.happening).epoch)
       by (inl none) = inl none
       by (inr role) =
           let v = (facts.net_of s).at p.job.happening in
           let e = ends_by (shown_graph s.graph) (length s.sides) kept.flows p.job.happening (facts.good graph content s kept p.worker there p.job out) own.vertex (ap (λ n. (net s).role n) (sym v) ∙ role) in
-          inr (v ∙ e.0, e.1)
+          inr e
 
   pub goes_commit : Goes s (Step.commit p.worker p.job.happening (done.out)) (after_commit s p.worker p.job o.shard.value o.sent.items o.emitted o.asked)
   goes_commit = record {
     step = λ w shows. (
-      may_commit (net s) s (facts.net_of s) w shows p.worker there p.job out own (kept.sides p.worker there).shards o.shard.value o.sent.items o.emitted o.asked done ends,
-      shows_commit (net s) s (facts.net_of s) w shows p.worker there p.job out own (kept.sides p.worker there).shards o.shard.value o.sent.items o.emitted o.asked done ends,
+      may_commit (net s) s (facts.net_of s) w shows p.worker there p.job out own (kept.sides p.worker there).shards o.shard.value o.sent.items o.emitted o.asked done ends kept.room,
+      shows_commit (net s) s (facts.net_of s) w shows p.worker there p.job out own (kept.sides p.worker there).shards o.shard.value o.sent.items o.emitted o.asked done ends kept.room,
     );
     graph = refl;
     workers = delivered_length o.sent.items (slice_set s.sides p.worker (settled (side_at s p.worker) (event_at (shown_graph s.graph) p.job.happening) o.shard.value o.asked))
@@ -160,7 +150,7 @@ module _ (graph : Graph) (content : Pointstamp → ℕ) (s : Shown) (kept : IsKe
       let asks : requests_of o.asked ≡ asked (net s) kept.world p.worker p.job.happening = done.asks kept.world (was (net s) s (facts.net_of s) kept.world kept.shows p.worker there p.job out own) in
       kept_more graph content s kept (Step.commit p.worker p.job.happening done.out) s.inputs
       (delivered (slice_set s.sides p.worker (settled (side_at s p.worker) (event_at (shown_graph s.graph) p.job.happening) o.shard.value o.asked)) o.sent.items)
-      (with_batch (event_time p.job.happening).epoch o.emitted s.emitted) s.stopped graph' content' refl goes_commit.workers same sides_then fits_then kept.fed both.0 both.1
+      (with_emitted (event_at (shown_graph s.graph) p.job.happening) (event_time p.job.happening).epoch o.emitted s.emitted) s.stopped graph' content' refl (room_with (event_at (shown_graph s.graph) p.job.happening) (event_time p.job.happening).epoch o.emitted s.emitted) goes_commit.workers same sides_then fits_then kept.fed both.0 both.1
       (λ q. order _ _ _ _ _ _ _ (counts q) (letters_are q) (ap (total (λ n. one_if_same q (request_pointstamp n))) asks))
     where
       order : (a r l n c l' n' : ℕ) → a + r ≡ l + n + c → l ≡ l' → n ≡ n' → a + r ≡ c + (l' + n')

@@ -4,7 +4,6 @@ use Rattle.std.proofs.lemmas.Bool.Decides.{eqb_tells}
 use Rattle.semantics.specs.Multiset.{Record}
 use Rattle.semantics.specs.Time.{Time, same_time, at_epoch}
 use Rattle.semantics.specs.Kinds.{Role}
-use Rattle.semantics.specs.Graph.{output_number}
 use Rattle.lowering.specs.Shown.{shown_graph}
 use Rattle.machine.specs.Network.{Network}
 use Rattle.machine.specs.World.{World, Request, Event, Held}
@@ -23,7 +22,7 @@ use Rattle.events.specs.Jobs.{Job}
 use Rattle.events.specs.Letters.{sent_to}
 use Rattle.events.specs.Outputs.{IsDoneFor}
 use Rattle.events.specs.declared.letter.Letter.{Letter}
-use Rattle.board.specs.Shown.{Shown, Side, side_at, side_in, no_side, held_of, records_at, event_at}
+use Rattle.board.specs.Shown.{Shown, Side, side_at, side_in, no_side, held_of, emitted_by, records_at, event_at}
 use Rattle.board.specs.Showing.{Shows, ShowsIn, OnShard, known, known_shard, IsOwn}
 use Rattle.board.specs.Steps.{settled, delivered, after_commit}
 use Rattle.board.proofs.Deliveries.{delivered_at, delivered_length, with_all}
@@ -68,45 +67,10 @@ same_epochs m n = go (m == n) refl
     go true e = rw e refl
     go false e = rw e refl
 
-module _ (g : Network) (w : World) (o : ℕ) (es : ℕ → List Record) (shown : (v n : ℕ) → w.emitted v n ≡ cond (v == o) (es n) []) where
-  silent : (v0 e : ℕ) (t : Time) (batch : List Record) → batch ≡ [] → (v n : ℕ)
-      → w.emitted v n ++ cond (v0 == v) (cond (same_time t (at_epoch n)) batch []) [] ≡ cond (v == o) (es n ++ cond (e == n) batch []) []
-  silent v0 e t batch none v n =
-      ap (λ b. w.emitted v n ++ cond (v0 == v) (cond (same_time t (at_epoch n)) b []) []) none
-      ∙ ap (λ l. w.emitted v n ++ cond (v0 == v) l []) (cond_same (same_time t (at_epoch n)) [])
-      ∙ ap (λ l. w.emitted v n ++ l) (cond_same (v0 == v) [])
-      ∙ append-nil (w.emitted v n)
-      ∙ shown v n
-      ∙ ap (λ l. cond (v == o) l []) (sym (ap (λ b. es n ++ cond (e == n) b []) none ∙ ap (λ l. es n ++ l) (cond_same (e == n) []) ∙ append-nil (es n)))
-
-  spoken : (v0 e : ℕ) (t : Time) (records : List Record) → v0 ≡ o → t ≡ at_epoch e → (v n : ℕ)
-      → w.emitted v n ++ cond (v0 == v) (cond (same_time t (at_epoch n)) records []) [] ≡ cond (v == o) (es n ++ cond (e == n) records []) []
-  spoken v0 e t records at time v n = go (eqb_tells v o)
-    where
-      go : ((v == o) ≡ true) × (v ≡ o) ⊎ ((v == o) ≡ false) × (v ≢ o) → w.emitted v n ++ cond (v0 == v) (cond (same_time t (at_epoch n)) records []) [] ≡ cond (v == o) (es n ++ cond (e == n) records []) []
-      go (inl (b, q)) =
-          let here : w.emitted v n ≡ es n = shown v n ∙ ap (λ c. cond c (es n) []) b in
-          let own : (v0 == v) ≡ true = ap (λ x. x == v) (at ∙ sym q) ∙ eqb_self v in
-          let when : same_time t (at_epoch n) ≡ (e == n) = ap (λ x. same_time x (at_epoch n)) time ∙ same_epochs e n in
-          ap (λ l. l ++ cond (v0 == v) (cond (same_time t (at_epoch n)) records []) []) here
-          ∙ ap (λ c. es n ++ cond c (cond (same_time t (at_epoch n)) records []) []) own
-          ∙ ap (λ c. es n ++ cond c records []) when
-          ∙ sym (ap (λ c. cond c (es n ++ cond (e == n) records []) []) b)
-      go (inr (b, q)) =
-          let here : w.emitted v n ≡ [] = shown v n ∙ ap (λ c. cond c (es n) []) b in
-          let other : (v0 == v) ≡ false = apart (eqb_tells v0 v) in
-          ap (λ l. l ++ cond (v0 == v) (cond (same_time t (at_epoch n)) records []) []) here
-          ∙ ap (λ c. cond c (cond (same_time t (at_epoch n)) records []) []) other
-          ∙ sym (ap (λ c. cond c (es n ++ cond (e == n) records []) []) b)
-        where
-          apart : ((v0 == v) ≡ true) × (v0 ≡ v) ⊎ ((v0 == v) ≡ false) × (v0 ≢ v) → (v0 == v) ≡ false
-          apart (inl (c, x)) = absurd (q (sym x ∙ at))
-          apart (inr (c, x)) = c
-
-  pub emits : (v0 e : ℕ) (t : Time) (records : List Record) → (records ≡ []) ⊎ ((v0 ≡ o) × (t ≡ at_epoch e)) → (v n : ℕ)
-      → w.emitted v n ++ cond (v0 == v) (cond (same_time t (at_epoch n)) records []) [] ≡ cond (v == o) (es n ++ cond (e == n) records []) []
-  emits v0 e t records (inl none) v n = silent v0 e t records none v n
-  emits v0 e t records (inr (at, time)) v n = spoken v0 e t records at time v n
+-- what comes at a time comes for the epoch
+for_epoch : (e : ℕ) (t : Time) (records : List Record) → (records ≡ []) ⊎ (t ≡ at_epoch e) → (n : ℕ) → cond (same_time t (at_epoch n)) records [] ≡ cond (e == n) records []
+for_epoch e t records (inl none) n = ap (λ l. cond (same_time t (at_epoch n)) l []) none ∙ cond_same (same_time t (at_epoch n)) [] ∙ sym (ap (λ l. cond (e == n) l []) none ∙ cond_same (e == n) [])
+for_epoch e t records (inr at) n = ap (λ c. cond c records []) (ap (λ x. same_time x (at_epoch n)) at ∙ same_epochs e n)
 
 -- ---- the commit
 
@@ -115,9 +79,9 @@ pub record IsNetOf (g : Network) (s : Shown) : Type 0 where
   pub workers : g.workers ≡ length s.sides
   pub at : (e : Event) → event_vertex g e ≡ event_at (shown_graph s.graph) e
 
--- what is emitted is emitted at the output, for an epoch
-pub record EndsAt (g : Network) (o : ℕ) (event : Event) (records : List Record) : Type 0 where
-  pub at : (records ≡ []) ⊎ ((event_vertex g event ≡ o) × (event_time event ≡ at_epoch (event_time event).epoch))
+-- what is emitted is emitted for an epoch
+pub record EndsAt (event : Event) (records : List Record) : Type 0 where
+  pub at : (records ≡ []) ⊎ (event_time event ≡ at_epoch (event_time event).epoch)
 
 -- the shard of an event that is out showed what the world says was absorbed
 pub was : (g : Network) (s : Shown) (of : IsNetOf g s) (w : World) (is : Shows s w) (k : ℕ) (there : k < length s.sides) (j : Job) (gone : (side_at s k).place ≡ Out j)
@@ -132,7 +96,7 @@ was g s of w is k there j gone own =
 
 module _ (g : Network) (s : Shown) (of : IsNetOf g s) (w : World) (is : Shows s w) (k : ℕ) (there : k < length s.sides) (j : Job) (gone : (side_at s k).place ≡ Out j)
     (own : IsOwn s (side_at s k) j) (shards_there : length (side_at s k).shards ≡ length (shown_graph s.graph)) (shard : Shard) (sent : List Letter) (emitted : Option (List Record)) (asks : Option Request)
-    (done : IsDoneFor g k j.happening j.before shard sent (requests_of asks) (records_of emitted)) (ends : EndsAt g (output_number (shown_graph s.graph)) j.happening (records_of emitted)) where
+    (done : IsDoneFor g k j.happening j.before shard sent (requests_of asks) (records_of emitted)) (ends : EndsAt j.happening (records_of emitted)) (room : length s.emitted ≡ length (shown_graph s.graph)) where
   v : ℕ
   v = event_at (shown_graph s.graph) j.happening
 
@@ -204,7 +168,12 @@ module _ (g : Network) (s : Shown) (of : IsNetOf g s) (w : World) (is : Shows s 
         requests = λ i l. requests_then i (omega (arith, l, n));
         held = λ i l. held_then i (omega (arith, l, n));
         absorbed = λ i u l lu. shards_then i u (omega (arith, l, n)) lu;
-        emitted = λ u e. done.emits w u e
-            ∙ emits g w (output_number (shown_graph s.graph)) (records_at s.emitted) is.emitted (event_vertex g j.happening) (event_time j.happening).epoch (event_time j.happening) (records_of emitted) ends.at u e
-            ∙ ap (λ x. cond (u == output_number (shown_graph s.graph)) x []) (sym (records_with (event_time j.happening).epoch emitted s.emitted e));
+        emitted = λ u e.
+            let t = event_time j.happening in
+            let before : List Record = records_at (emitted_by s.emitted u) e in
+            done.emits w u e
+            ∙ ap (λ l. l ++ cond (event_vertex g j.happening == u) (cond (same_time t (at_epoch e)) (records_of emitted) []) []) (is.emitted u e)
+            ∙ ap (λ x. before ++ cond (event_vertex g j.happening == u) x []) (for_epoch t.epoch t (records_of emitted) ends.at e)
+            ∙ ap (λ n. before ++ cond (n == u) (cond (t.epoch == e) (records_of emitted) []) []) (of.at j.happening)
+            ∙ sym (records_with (event_at (shown_graph s.graph) j.happening) t.epoch emitted s.emitted (omega (arith, own.vertex, room)) u e);
       }

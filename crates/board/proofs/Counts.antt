@@ -12,9 +12,10 @@ use Rattle.machine.specs.Engine.{network}
 use Rattle.machine.specs.Frontier.{IsPassedCount, Passed, SealedTo}
 use Rattle.machine.specs.Step.{Step, Allowed, after_step}
 use Rattle.machine.proofs.PassedEpochs.{count_rises, passed_stays}
+use Rattle.machine.proofs.PassedOutputs.{passed_below}
 use Rattle.machine.proofs.Tracking.{active_counts}
 use Rattle.board.specs.Kept.{IsKept, Goes}
-use Rattle.board.specs.Promises.{CountsPassed, HasPassed}
+use Rattle.board.specs.Promises.{CountsPassed, HasPassed, IsOutputPlace}
 use Rattle.board.specs.Seals.{HavePassed}
 use Rattle.board.specs.Showing.{Shows}
 use Rattle.board.specs.Shown.{InputShown, Shown, input_at, net, no_input}
@@ -68,10 +69,10 @@ module _ (graph : Graph) (content : Pointstamp → ℕ) (s : Shown) (kept : IsKe
       passed_there t flows_then some_then (after_step (net s) kept.world step) w shown_then is v e
       (onto (λ g n. Passed (network g n) (after_step (net s) kept.world step) v e) one)
 
-  pub has_passed_stays : (e : ℕ) → HasPassed s e → HasPassed t e
-  has_passed_stays e h w is =
-      stays w is (output_number (shown_graph t.graph)) e
-      (subst (λ (g : GraphValue). Passed (net s) kept.world (output_number (shown_graph g)) e) (sym goes.graph) (h kept.world kept.shows))
+  pub has_passed_stays : (k e : ℕ) → HasPassed s k e → HasPassed t k e
+  has_passed_stays k e h w is =
+      stays w is (output_number (shown_graph t.graph) k) e
+      (subst (λ (g : GraphValue). Passed (net s) kept.world (output_number (shown_graph g) k) e) (sym goes.graph) (h kept.world kept.shows))
 
   pub count_stays : (m n : ℕ) → CountsPassed s m → CountsPassed t n → m ≤ n
   count_stays m n before after =
@@ -132,5 +133,5 @@ module _ (graph : Graph) (content : Pointstamp → ℕ) (s : Shown) (kept : IsKe
       let g = y.greatest m x.sealed x.passed in
       omega (arith, l, g)
 
-  pub counted : (n : ℕ) → CountsPassed s n → (e : ℕ) → e < n → HasPassed s e
-  counted n c e l w is = (c w is).passed (output_number (shown_graph s.graph)) e (ap role kept.flows.shaped.has_output) l
+  pub counted : (n : ℕ) → CountsPassed s n → (e : ℕ) → e < n → (k : ℕ) → IsOutputPlace s k → HasPassed s k e
+  counted n c e l k there w is = (passed_below (shown_graph s.graph) (length s.sides) w n).0 (c w is).passed k e there l

@@ -1,10 +1,11 @@
 -- What is emitted, by epoch.
-use Rattle.std.proofs.Common.{◌≡◌, ◌≢◌, ◌⊎◌, inl, inr, ℕ, zero, suc, ◌==◌, Bool, true, false, cond, List, [], ◌∷◌, ◌++◌, refl, sym, ap, ◌∙◌, slice_index_or, Option, Some, None, append_assoc, append-nil}
+use Rattle.std.proofs.Common.{◌≡◌, ◌≢◌, ◌⊎◌, inl, inr, ◌<◌, ℕ, zero, suc, ◌==◌, Bool, true, false, cond, List, [], ◌∷◌, ◌++◌, length, refl, sym, ap, ◌∙◌, slice_index_or, slice_set, Option, Some, None, append_assoc, append-nil}
 use Rattle.std.proofs.lemmas.Bool.Decides.{eqb_tells}
 use Rattle.semantics.specs.Multiset.{Record}
 use Rattle.vertices.specs.Outs.{records_of}
-use Rattle.board.specs.Shown.{Epochs, joined, records_at}
-use Rattle.board.specs.Steps.{more_at, with_batch}
+use Rattle.board.specs.Shown.{Epochs, emitted_by, joined, records_at}
+use Rattle.board.specs.Steps.{more_at, with_emitted}
+use Rattle.board.proofs.Places.{index_set_here, index_set_other}
 
 is : ℕ → ℕ → Bool
 is zero zero = true
@@ -65,6 +66,17 @@ records_more e b es n =
     ∙ joined_append (slice_index_or es n []) (cond (is e n) (b ∷ []) [])
     ∙ ap (λ l. records_at es n ++ l) (joined_cond (is e n) b ∙ ap (λ t. cond t b []) (is_eqb e n))
 
-pub records_with : (e : ℕ) (o : Option (List Record)) (es : Epochs) (n : ℕ) → records_at (with_batch e o es) n ≡ records_at es n ++ cond (e == n) (records_of o) []
-records_with e None es n = sym (ap (λ l. records_at es n ++ l) (cond_same (e == n) []) ∙ append-nil (records_at es n))
-records_with e (Some b) es n = records_more e b es n
+-- with a batch more of a vertex, if there is one
+pub records_with : (v0 e : ℕ) (o : Option (List Record)) (es : List Epochs) → v0 < length es → (v n : ℕ)
+    → records_at (emitted_by (with_emitted v0 e o es) v) n ≡ records_at (emitted_by es v) n ++ cond (v0 == v) (cond (e == n) (records_of o) []) []
+records_with v0 e None es l v n = sym (ap (λ x. records_at (emitted_by es v) n ++ cond (v0 == v) x []) (cond_same (e == n) []) ∙ ap (λ x. records_at (emitted_by es v) n ++ x) (cond_same (v0 == v) []) ∙ append-nil (records_at (emitted_by es v) n))
+records_with v0 e (Some b) es l v n = go (eqb_tells v0 v)
+  where
+    go : ((v0 == v) ≡ true) × (v0 ≡ v) ⊎ ((v0 == v) ≡ false) × (v0 ≢ v) → records_at (emitted_by (with_emitted v0 e (Some b) es) v) n ≡ records_at (emitted_by es v) n ++ cond (v0 == v) (cond (e == n) b []) []
+    go (inl (t, q)) =
+        let here : emitted_by (slice_set es v0 (more_at e (b ∷ []) (emitted_by es v0))) v ≡ more_at e (b ∷ []) (emitted_by es v) =
+        ap (λ u. emitted_by (slice_set es v0 (more_at e (b ∷ []) (emitted_by es v0))) u) (sym q) ∙ index_set_here es v0 (more_at e (b ∷ []) (emitted_by es v0)) [] l ∙ ap (λ u. more_at e (b ∷ []) (emitted_by es u)) q in
+        ap (λ x. records_at x n) here ∙ records_more e b (emitted_by es v) n ∙ ap (λ c. records_at (emitted_by es v) n ++ cond c (cond (e == n) b []) []) (sym t)
+    go (inr (t, q)) =
+        let other : emitted_by (slice_set es v0 (more_at e (b ∷ []) (emitted_by es v0))) v ≡ emitted_by es v = index_set_other es v0 v (more_at e (b ∷ []) (emitted_by es v0)) [] (λ z. q (sym z)) in
+        ap (λ x. records_at x n) other ∙ sym (append-nil (records_at (emitted_by es v) n)) ∙ ap (λ c. records_at (emitted_by es v) n ++ cond c (cond (e == n) b []) []) (sym t)

@@ -59,6 +59,8 @@ role_input Kind.input e = refl
 role_input Kind.output e = absurd cc
 role_input Kind.concat e = absurd cc
 role_input Kind.distinct e = absurd cc
+role_input Kind.except e = absurd cc
+role_input Kind.intersect e = absurd cc
 role_input Kind.ingress e = absurd cc
 role_input Kind.egress e = absurd cc
 role_input Kind.feedback e = absurd cc
@@ -115,7 +117,7 @@ module _ (graph : Graph) (content : Pointstamp → ℕ) (s : Shown) (kept : IsKe
   seal_kept graph' content' middle same removed added =
       let x : InputShown = record (input_at s i) { open_epoch = (input_at s i).open_epoch + 1 } in
       let both = seal_goes.step kept.world kept.shows in
-      kept_more graph content s kept (Step.seal i) (slice_set s.inputs i x) s.sides s.emitted s.stopped graph' content' (length-set s.inputs i x) refl same (with_inputs (slice_set s.inputs i x)) kept.fitting kept.fed both.0 both.1
+      kept_more graph content s kept (Step.seal i) (slice_set s.inputs i x) s.sides s.emitted s.stopped graph' content' (length-set s.inputs i x) refl refl same (with_inputs (slice_set s.inputs i x)) kept.fitting kept.fed both.0 both.1
       (λ q.
       let e = kept.shows.open_epoch i in
       let a : one_if_same q (at_vertex i (at_epoch (kept.world.open_epoch i))) ≡ one_if_same q (at_vertex i (at_epoch (input_at s i).open_epoch)) = ap (λ n. one_if_same q (at_vertex i (at_epoch n))) e in
@@ -130,7 +132,7 @@ module _ (graph : Graph) (content : Pointstamp → ℕ) (s : Shown) (kept : IsKe
   close_kept graph' content' same removed =
       let x : InputShown = record (input_at s i) { closed = true } in
       let both = close_goes.step kept.world kept.shows in
-      kept_more graph content s kept (Step.close i) (slice_set s.inputs i x) s.sides s.emitted s.stopped graph' content' (length-set s.inputs i x) refl same (with_inputs (slice_set s.inputs i x)) kept.fitting kept.fed both.0 both.1
+      kept_more graph content s kept (Step.close i) (slice_set s.inputs i x) s.sides s.emitted s.stopped graph' content' (length-set s.inputs i x) refl refl same (with_inputs (slice_set s.inputs i x)) kept.fitting kept.fed both.0 both.1
       (λ q.
       let a : one_if_same q (at_vertex i (at_epoch (kept.world.open_epoch i))) ≡ one_if_same q (at_vertex i (at_epoch (input_at s i).open_epoch)) = ap (λ n. one_if_same q (at_vertex i (at_epoch n))) (kept.shows.open_epoch i) in
       order _ _ _ _ (removed q) a)

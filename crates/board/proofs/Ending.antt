@@ -18,7 +18,7 @@ use Rattle.events.specs.declared.work.Output.{Output}
 use Rattle.board.proofs.Deliveries.{delivered_length}
 use Rattle.board.specs.Desks.{Desk, sides_of, letters_count}
 use Rattle.board.specs.Shown.{Shown, Side, side_at, side_in, event_at, location_vertex}
-use Rattle.board.specs.Steps.{delivered, settled, with_batch, after_commit}
+use Rattle.board.specs.Steps.{delivered, settled, with_emitted, after_commit}
 use Rattle.board.specs.Commits.{IsOf}
 use Rattle.board.proofs.Facts.{own_side}
 use Rattle.board.proofs.Rooms.{sides_length, side_read}
@@ -50,13 +50,13 @@ module _ (s : Shown) (p : Pass) (own : IsOf s p) (ds : List Desk) (k : ℕ) (at 
 
 -- what the code leaves is what the definition names
 pub state_then : (s t : Shown) (p : Pass) (o o' : Output) (k v e : ℕ) (xs : List Side) → t.graph ≡ s.graph → t.inputs ≡ s.inputs → t.stopped ≡ s.stopped
-    → t.sides ≡ delivered (slice_set xs k (settled (side_in xs k) v o'.shard.value o'.asked)) o'.sent.items → t.emitted ≡ with_batch e o.emitted s.emitted
+    → t.sides ≡ delivered (slice_set xs k (settled (side_in xs k) v o'.shard.value o'.asked)) o'.sent.items → t.emitted ≡ with_emitted v e o.emitted s.emitted
     → xs ≡ s.sides → k ≡ p.worker → v ≡ event_at (shown_graph s.graph) p.job.happening → e ≡ (event_time p.job.happening).epoch → record o' { emitted = o.emitted } ≡ o
     → t ≡ after_commit s p.worker p.job o.shard.value o.sent.items o.emitted o.asked
 state_then s t p o o' k v e xs graph inputs stopped sides emitted ex ek ev ee rest =
     let all : t.sides ≡ delivered (slice_set s.sides p.worker (settled (side_at s p.worker) (event_at (shown_graph s.graph) p.job.happening) o.shard.value o.asked)) o.sent.items =
     sides ∙ (λ i. delivered (slice_set (ex i) (ek i) (settled (side_in (ex i) (ek i)) (ev i) (rest i).shard.value (rest i).asked)) (rest i).sent.items) in
-    let out : t.emitted ≡ with_batch (event_time p.job.happening).epoch o.emitted s.emitted = emitted ∙ (λ i. with_batch (ee i) o.emitted s.emitted) in
+    let out : t.emitted ≡ with_emitted (event_at (shown_graph s.graph) p.job.happening) (event_time p.job.happening).epoch o.emitted s.emitted = emitted ∙ (λ i. with_emitted (ev i) (ee i) o.emitted s.emitted) in
     λ i. record { graph = graph i; inputs = inputs i; sides = all i; emitted = out i; stopped = stopped i }
 
 pub content_then : (before middle after : Pointstamp → ℕ) (o o' : Output) (place : Pointstamp) → middle ≡ before → record o' { emitted = o.emitted } ≡ o → o.place ≡ place

@@ -153,7 +153,7 @@ module _ (graph : Graph) (content : Pointstamp → ℕ) (s : Shown) (kept : IsKe
   feed_kept graph' content' same counts =
       let y : InputShown = record (input_at s i) { fed = more_at (input_at s i).open_epoch (batch ∷ []) (input_at s i).fed } in
       let both = feed_goes.step kept.world kept.shows in
-      kept_more graph content s kept (Step.feed i batch) (slice_set s.inputs i y) (delivered s.sides letters) s.emitted s.stopped graph' content' (length-set s.inputs i y) (delivered_length letters s.sides) same
+      kept_more graph content s kept (Step.feed i batch) (slice_set s.inputs i y) (delivered s.sides letters) s.emitted s.stopped graph' content' (length-set s.inputs i y) refl (delivered_length letters s.sides) same
       sides_then fits_then fed_fits both.0 both.1 (λ q. order _ _ _ _ (counts q) (letters_are q))
     where
       order : (c' l c p : ℕ) → c' ≡ l + c → l ≡ p → c' + 0 ≡ c + p

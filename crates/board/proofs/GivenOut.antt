@@ -102,7 +102,7 @@ module _ (graph : Graph) (content : Pointstamp → ℕ) (s : Shown) (kept : IsKe
           let x : Side = out_with (record (side_at s k) { mail = remove (side_at s k).mail at }) (event_at (shown_graph s.graph) p.job.happening) p.job in
           let both = goes_then.step kept.world kept.shows in
           subst (IsKept graph content) (sym h.state)
-          (kept_more graph content s kept (Step.claim_message k at h.message) s.inputs (slice_set s.sides k x) s.emitted s.stopped graph content refl (length-set s.sides k x) refl
+          (kept_more graph content s kept (Step.claim_message k at h.message) s.inputs (slice_set s.sides k x) s.emitted s.stopped graph content refl refl (length-set s.sides k x) refl
           (sides_out p h.taken v_there x refl refl refl refl) (fits_out p h.taken v_there x refl refl refl refl) kept.fed both.0 both.1 (λ q. refl))
 
       pub hands_message : Hands s k t p
@@ -148,7 +148,7 @@ module _ (graph : Graph) (content : Pointstamp → ℕ) (s : Shown) (kept : IsKe
           let x : Side = out_with (record (side_at s k) { requests = remove (side_at s k).requests at }) (event_at (shown_graph s.graph) p.job.happening) p.job in
           let both = goes_request.step kept.world kept.shows in
           subst (IsKept graph content) (sym h.state)
-          (kept_more graph content s kept (Step.claim_request k at h.request) s.inputs (slice_set s.sides k x) s.emitted s.stopped graph content refl (length-set s.sides k x) refl
+          (kept_more graph content s kept (Step.claim_request k at h.request) s.inputs (slice_set s.sides k x) s.emitted s.stopped graph content refl refl (length-set s.sides k x) refl
           (sides_out p h.taken r_there x refl refl refl refl) (fits_out p h.taken r_there x refl refl refl refl) kept.fed both.0 both.1 (λ q. refl))
 
       pub hands_request : Hands s k t p

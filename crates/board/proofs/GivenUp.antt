@@ -61,7 +61,7 @@ module _ (s : Shown) (k : ℕ) (there : k < length s.sides) (j : Job) (out : (si
       let both = abandon_goes.step kept.world kept.shows in
       let old = kept.sides k there in
       let side : IsSideOf s (length s.sides) x = record { wired = old.wired; shards = old.shards; own = λ i e. absurd (let z : Lost j ≡ Out i = e in cc) } in
-      kept_more graph content s kept (Step.abandon k j.happening) s.inputs (slice_set s.sides k x) s.emitted true graph content refl (length-set s.sides k x) refl
+      kept_more graph content s kept (Step.abandon k j.happening) s.inputs (slice_set s.sides k x) s.emitted true graph content refl refl (length-set s.sides k x) refl
       (λ i l.
       let two = sides_put s (length s.sides) k x there kept.sides side i (let n = length-set s.sides k x in omega (arith, l, n)) in
       record { wired = two.wired; shards = two.shards; own = λ i e. let z = two.own i e in record { wired = z.wired; vertex = z.vertex; away = z.away; others = z.others } })

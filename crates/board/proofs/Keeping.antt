@@ -21,17 +21,17 @@ cancel : (a b c d x y : ℕ) → a + c ≡ b + d → x + c ≡ y + d → b ≡ y
 cancel a b c d x y p q r = omega (arith, p, q, r)
 
 module _ (graph : Graph) (content : Pointstamp → ℕ) (s : Shown) (kept : IsKept graph content s) (step : Step)
-    (inputs : List InputShown) (sides : List Side) (emitted : Epochs) (stopped : Bool) (graph' : Graph) (content' : Pointstamp → ℕ) where
+    (inputs : List InputShown) (sides : List Side) (emitted : List Epochs) (stopped : Bool) (graph' : Graph) (content' : Pointstamp → ℕ) where
   now : Shown
   now = record { graph = s.graph; inputs = inputs; sides = sides; emitted = emitted; stopped = stopped }
 
-  pub kept_more : length inputs ≡ length s.inputs → length sides ≡ length s.sides → graph' ≡ graph
+  pub kept_more : length inputs ≡ length s.inputs → length emitted ≡ length s.emitted → length sides ≡ length s.sides → graph' ≡ graph
       → AreSidesOf (record { graph = s.graph; inputs = inputs; sides = sides; emitted = emitted; stopped = stopped }) (length s.sides)
       → EachShard (record { graph = s.graph; inputs = inputs; sides = sides; emitted = emitted; stopped = stopped }) (FitsPlace s.graph) → FedFits (shown_graph s.graph) (arity_in s.graph) (after_step (net s) kept.world step)
       → Allowed (net s) kept.world step → Shows (record { graph = s.graph; inputs = inputs; sides = sides; emitted = emitted; stopped = stopped }) (after_step (net s) kept.world step)
       → ((q : Pointstamp) → content' q + step_removes (net s) kept.world step q ≡ content q + step_adds (net s) kept.world step q)
       → IsKept graph' content' (record { graph = s.graph; inputs = inputs; sides = sides; emitted = emitted; stopped = stopped })
-  kept_more places many same own fitting fed ok shows counts =
+  kept_more places rooms many same own fitting fed ok shows counts =
       let reached = step_reached (shown_graph s.graph) (length s.sides) kept.world step (kept.steps, kept.run) ok in
       let Owns : ℕ → Type 0 = λ n. AreSidesOf (record { graph = s.graph; inputs = inputs; sides = sides; emitted = emitted; stopped = stopped }) n in
       let Runs : ℕ → Type 0 = λ n. Run (network (shown_graph s.graph) n) opening reached.0 (after_step (net s) kept.world step) in
@@ -42,6 +42,7 @@ module _ (graph : Graph) (content : Pointstamp → ℕ) (s : Shown) (kept : IsKe
         few = omega (arith, kept.few, many);
         same = same ∙ kept.same;
         inputs = places ∙ kept.inputs;
+        room = rooms ∙ kept.room;
         sides = subst Owns (sym many) own;
         typed = kept.typed;
         fitting = fitting;

@@ -3,6 +3,7 @@ pub mod Mails
 pub mod Deliveries
 pub mod Rooms
 pub mod Emitting
+pub mod Outputs
 pub mod Sealing
 pub mod Shards
 pub mod Claiming

@@ -82,7 +82,7 @@ module _ (s : Shown) (is : IsNew s.graph (length s.sides) s) where
 
   kept_here : (graph : Graph) (content : Pointstamp → ℕ) → IsDataflow (shown_graph s.graph) → 0 < length s.sides → length s.sides ≤ 64 → graph ≡ shown_graph s.graph → IsTyped (shown_graph s.graph) (arity_in s.graph)
       → ((q : Pointstamp) → content q ≡ sum_below (input_count (shown_graph s.graph)) (λ i. one_if_same q (at_vertex i (at_epoch 0)))) → IsKept graph content s
-  kept_here graph content flows some few same typed counts = kept_opening graph content s fresh flows some few same is.inputs typed (fits flows) side_of counts
+  kept_here graph content flows some few same typed counts = kept_opening graph content s fresh flows some few same is.inputs is.room typed (fits flows) side_of counts
 
 new_here : (g : GraphValue) (n : ℕ) (s : Shown) → IsNew g n s → IsNew s.graph (length s.sides) s
 new_here g n s is =

@@ -1,6 +1,6 @@
 -- The opening: a board that nothing was fed to keeps what a board keeps.
-use Rattle.std.proofs.Common.{◌≡◌, ◌<◌, ◌≤◌, ℕ, zero, suc, ◌==◌, cond, false, [], length, refl, sym, ap, ◌∙◌, arith}
-use Rattle.semantics.specs.Graph.{Graph, input_count, output_number}
+use Rattle.std.proofs.Common.{◌≡◌, ◌<◌, ◌≤◌, ℕ, zero, suc, false, [], length, refl, sym, ap, ◌∙◌, arith}
+use Rattle.semantics.specs.Graph.{Graph, input_count}
 use Rattle.semantics.specs.Could.{Pointstamp, at_vertex}
 use Rattle.semantics.specs.Time.{at_epoch}
 use Rattle.semantics.specs.Dataflow.{IsDataflow}
@@ -11,16 +11,15 @@ use Rattle.machine.specs.Active.{sum_below, one_if_same, worker_count}
 use Rattle.machine.proofs.Counting.{below_zero}
 use Rattle.vertices.specs.Shards.{Shows as ShowsShard}
 use Rattle.tokens.specs.declared.rule.Place.TheVariants.{Home}
-use Rattle.board.specs.Shown.{Shown, InputShown, no_input, side_at, input_at, held_of, records_at}
+use Rattle.board.specs.Shown.{Shown, InputShown, emitted_by, no_input, side_at, input_at, held_of, records_at}
 use Rattle.board.specs.Showing.{Shows, IsSideOf, EachShard}
 use Rattle.board.specs.Fitting.{FitsPlace, arity_in}
 use Rattle.board.specs.Kept.{IsKept}
-use Rattle.board.proofs.Emitting.{cond_same}
 
 -- nothing was fed or emitted, nothing waits, and no shard has absorbed anything
 pub record IsFresh (s : Shown) : Type 0 where
   pub inputs : (i : ℕ) → input_at s i ≡ no_input
-  pub emitted : s.emitted ≡ []
+  pub emitted : (v : ℕ) → emitted_by s.emitted v ≡ []
   pub runs : s.stopped ≡ false
   pub mail : (k : ℕ) → k < length s.sides → (side_at s k).mail ≡ []
   pub requests : (k : ℕ) → k < length s.sides → (side_at s k).requests ≡ []
@@ -41,21 +40,22 @@ shows_opening s is = record {
   requests = λ k l. sym (is.requests k l);
   held = λ k l. ap held_of (sym (is.place k l));
   absorbed = is.shards;
-  emitted = λ v e. sym (ap (λ es. cond (v == output_number (shown_graph s.graph)) (records_at es e) []) is.emitted ∙ ap (λ r. cond (v == output_number (shown_graph s.graph)) r []) (nothing_at e) ∙ cond_same (v == output_number (shown_graph s.graph)) []);
+  emitted = λ v e. sym (ap (λ es. records_at es e) (is.emitted v) ∙ nothing_at e);
 }
 
 -- a tracker with each input at epoch 0, and nothing else
 pub kept_opening : (graph : Graph) (content : Pointstamp → ℕ) (s : Shown) → IsFresh s → IsDataflow (shown_graph s.graph) → 0 < length s.sides → length s.sides ≤ 64 → graph ≡ shown_graph s.graph
-    → length s.inputs ≡ input_count (shown_graph s.graph) → IsTyped (shown_graph s.graph) (arity_in s.graph) → EachShard s (FitsPlace s.graph)
+    → length s.inputs ≡ input_count (shown_graph s.graph) → length s.emitted ≡ length (shown_graph s.graph) → IsTyped (shown_graph s.graph) (arity_in s.graph) → EachShard s (FitsPlace s.graph)
     → ((k : ℕ) → k < length s.sides → IsSideOf s (length s.sides) (side_at s k))
     → ((q : Pointstamp) → content q ≡ sum_below (input_count (shown_graph s.graph)) (λ i. one_if_same q (at_vertex i (at_epoch 0))))
     → IsKept graph content s
-kept_opening graph content s is flows some few same inputs typed fits sides counts = record {
+kept_opening graph content s is flows some few same inputs room typed fits sides counts = record {
   flows = flows;
   some = some;
   few = few;
   same = same;
   inputs = inputs;
+  room = room;
   sides = sides;
   typed = typed;
   fitting = fits;

@@ -1,18 +1,20 @@
 -- The number of passed epochs.
 use Rattle.std.proofs.Common.{◌≡◌, ◌≢◌, ◌⊎◌, inl, inr, ◌<◌, ◌≤◌, ◌+◌, ℕ, ◌==◌, true, false, length, refl, sym, ap, subst, arith}
 use Rattle.std.proofs.lemmas.Bool.Decides.{eqb_tells}
-use Rattle.semantics.specs.Graph.{Graph, output_number, vertex}
+use Rattle.semantics.specs.Graph.{Graph, output_number, output_numbers}
 use Rattle.semantics.specs.Could.{Pointstamp, CouldResultIn, IsTimeAt, Location, NoneOf, at_vertex}
-use Rattle.semantics.specs.Kinds.{Kind, Role, role}
+use Rattle.semantics.specs.Kinds.{Role, role}
+use Rattle.semantics.proofs.OutputNumbers.{output_is_there}
 use Rattle.semantics.specs.Time.{at_epoch}
 use Rattle.lowering.specs.Shown.{shown_graph}
 use Rattle.machine.specs.World.{World}
 use Rattle.machine.specs.Frontier.{PassedBelow, SealedTo, Passed}
+use Rattle.machine.proofs.PassedOutputs.{passed_below}
 use Rattle.board.specs.Shown.{Shown, net, input_at}
 use Rattle.board.specs.Showing.{Shows}
 use Rattle.board.specs.Kept.{IsKept}
-use Rattle.board.specs.Promises.{CountsPassed, HasPassed}
-use Rattle.board.specs.Seals.{HavePassed, IsMostSeals}
+use Rattle.board.specs.Promises.{CountsPassed, HasPassed, IsOutputPlace}
+use Rattle.board.specs.Seals.{AreOutputsIn, HavePassed, IsMostSeals, NoneLeft, NoneLeftAtAll}
 use Rattle.board.proofs.Counts.{passed_there}
 use Rattle.board.proofs.Worlds.{none, none_back}
 
@@ -24,47 +26,21 @@ passed_next P start n here before e l m = go (eqb_tells e n)
     go (inl (t, q)) = subst P (sym q) here
     go (inr (t, q)) = before e l (omega (arith, m, q))
 
-role_output : (k : Kind) → role k ≡ Role.output → k ≡ Kind.output
-role_output Kind.input e = absurd cc
-role_output Kind.output e = refl
-role_output Kind.concat e = absurd cc
-role_output Kind.distinct e = absurd cc
-role_output Kind.ingress e = absurd cc
-role_output Kind.egress e = absurd cc
-role_output Kind.feedback e = absurd cc
-role_output (Kind.select ss) e = absurd cc
-role_output (Kind.filter c) e = absurd cc
-role_output (Kind.join ps) e = absurd cc
-role_output (Kind.group ks as') e = absurd cc
-role_output (Kind.gate n) e = absurd cc
-role_output (Kind.hold n) e = absurd cc
-
 below_or : (a b : ℕ) → (a < b) ⊎ (b ≤ a)
 below_or a b = grind arith
 
 module _ (graph : Graph) (content : Pointstamp → ℕ) (s : Shown) (kept : IsKept graph content s) where
-  pub output_there : (n : ℕ) → IsTimeAt graph (Location.vertex (output_number (shown_graph s.graph))) (at_epoch n)
-  output_there n =
-      let l : output_number (shown_graph s.graph) < length (shown_graph s.graph) = (let some = kept.flows.shaped.some in omega (arith, some)) in
-      let P : Graph → Type 0 = λ g. IsTimeAt g (Location.vertex (output_number (shown_graph s.graph))) (at_epoch n) in
-      subst P (sym kept.same) (l, sym (kept.flows.shaped.flat (output_number (shown_graph s.graph)) l (inr kept.flows.shaped.has_output)))
+  pub outputs_there : AreOutputsIn graph s
+  outputs_there k e l =
+      let there = output_is_there (shown_graph s.graph) k l in
+      let P : Graph → Type 0 = λ g. IsTimeAt g (Location.vertex (output_number (shown_graph s.graph) k)) (at_epoch e) in
+      subst P (sym kept.same) (there.0, sym (kept.flows.shaped.flat (output_number (shown_graph s.graph) k) there.0 (inr there.1)))
 
-  pub has_passed : (e : ℕ) → NoneOf (CouldResultIn graph) (λ q. 0 < content q) (at_vertex (output_number (shown_graph s.graph)) (at_epoch e)) → HasPassed s e
-  has_passed e h w is = none graph content s kept w is (at_vertex (output_number (shown_graph s.graph)) (at_epoch e)) h
+  pub has_passed : (k e : ℕ) → NoneLeft graph content s k e → HasPassed s k e
+  has_passed k e h w is = none graph content s kept w is (at_vertex (output_number (shown_graph s.graph) k) (at_epoch e)) h
 
-  pub has_passed_back : (e : ℕ) → HasPassed s e → NoneOf (CouldResultIn graph) (λ q. 0 < content q) (at_vertex (output_number (shown_graph s.graph)) (at_epoch e))
-  has_passed_back e h = none_back graph content s kept kept.world kept.shows (at_vertex (output_number (shown_graph s.graph)) (at_epoch e)) (h kept.world kept.shows)
-
-  -- what has passed at the output has passed at each vertex of its role: beyond the last vertex nothing could result
-  everywhere : (w : World) (v e : ℕ) → Passed (net s) w (output_number (shown_graph s.graph)) e → (net s).role v ≡ Role.output → Passed (net s) w v e
-  everywhere w v e h is = by (below_or v (length (shown_graph s.graph)))
-    where
-      by : (v < length (shown_graph s.graph)) ⊎ (length (shown_graph s.graph) ≤ v) → Passed (net s) w v e
-      by (inl l) =
-          let same : v ≡ output_number (shown_graph s.graph) = kept.flows.shaped.output_last v l (role_output (vertex (shown_graph s.graph) v).kind is) in
-          let P : ℕ → Type 0 = λ x. Passed (net s) w x e in
-          subst P (sym same) h
-      by (inr l) = λ q a c. let there = c.ends.0 in omega (arith, l, there)
+  pub has_passed_back : (k e : ℕ) → HasPassed s k e → NoneLeft graph content s k e
+  has_passed_back k e h = none_back graph content s kept kept.world kept.shows (at_vertex (output_number (shown_graph s.graph) k) (at_epoch e)) (h kept.world kept.shows)
 
   module _ (seals : ℕ) (most : IsMostSeals s seals) where
     sealed_most : (w : World) → Shows s w → (n : ℕ) → n ≤ seals → SealedTo (net s) w n
@@ -84,15 +60,20 @@ module _ (graph : Graph) (content : Pointstamp → ℕ) (s : Shown) (kept : IsKe
 
     -- From a number below which each epoch has passed one comes to the number that has.
     pub counts : (start : ℕ) → HavePassed s start → (n : ℕ) → start ≤ n → n ≤ seals
-        → ((e : ℕ) → start ≤ e → e < n → NoneOf (CouldResultIn graph) (λ q. 0 < content q) (at_vertex (output_number (shown_graph s.graph)) (at_epoch e)))
-        → (n < seals → NoneOf (CouldResultIn graph) (λ q. 0 < content q) (at_vertex (output_number (shown_graph s.graph)) (at_epoch n)) → ⊥) → CountsPassed s n
-    counts start before n order within passed first w is = record { sealed = sealed_most w is n within; passed = λ v e role l. at v e role l (below_or e start); greatest = λ m to all. least m (at_most_seals w is m to) all (below_or n m) }
+        → ((e : ℕ) → start ≤ e → e < n → NoneLeftAtAll graph content s e)
+        → (n < seals → NoneLeftAtAll graph content s n → ⊥) → CountsPassed s n
+    counts start before n order within passed first w is = record {
+      sealed = sealed_most w is n within;
+      passed = (passed_below (shown_graph s.graph) (length s.sides) w n).1 (λ k e l b. at k e l b (below_or e start));
+      greatest = λ m to all. least m (at_most_seals w is m to) all (below_or n m);
+    }
       where
-        at : (v e : ℕ) → (net s).role v ≡ Role.output → e < n → (e < start) ⊎ (start ≤ e) → Passed (net s) w v e
-        at v e role l (inl b) = (before w is).1 v e role b
-        at v e role l (inr b) = everywhere w v e (has_passed e (passed e b l) w is) role
+        at : (k e : ℕ) → k < length (output_numbers (shown_graph s.graph)) → e < n → (e < start) ⊎ (start ≤ e) → Passed (net s) w (output_number (shown_graph s.graph) k) e
+        at k e l b (inl early) = (passed_below (shown_graph s.graph) (length s.sides) w start).0 (before w is).1 k e l early
+        at k e l b (inr late) = has_passed k e (passed e late b k l) w is
 
         least : (m : ℕ) → m ≤ seals → PassedBelow (net s) w m → (n < m) ⊎ (m ≤ n) → m ≤ n
         least m l all (inr x) = x
         least m l all (inl x) =
-            absurd (first (omega (arith, l, x)) (has_passed_back n (λ w' is'. passed_there s kept.flows kept.some w w' is is' (output_number (shown_graph s.graph)) n (all (output_number (shown_graph s.graph)) n (ap role kept.flows.shaped.has_output) x))))
+            let each = (passed_below (shown_graph s.graph) (length s.sides) w m).0 all in
+            absurd (first (omega (arith, l, x)) (λ k there. has_passed_back k n (λ w' is'. passed_there s kept.flows kept.some w w' is is' (output_number (shown_graph s.graph) k) n (each k n there x))))

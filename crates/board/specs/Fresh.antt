@@ -6,7 +6,7 @@ use Rattle.vertices.specs.Shards.{Shows}
 use Rattle.vertices.specs.declared.shard.Shard.{Shard}
 use Rattle.events.specs.Stations.{IsShardAt, arity_in}
 use Rattle.events.specs.Wired.{Wired, graph_in}
-use Rattle.board.specs.Shown.{Shown, Side, input_at, no_input, side_in}
+use Rattle.board.specs.Shown.{Shown, Side, emitted_by, input_at, no_input, side_in}
 use Rattle.board.specs.Showing.{OnShard}
 use Rattle.board.specs.Desks.{IsIdle}
 
@@ -36,5 +36,6 @@ pub record IsNew (g : GraphValue) (n : ℕ) (s : Shown) : Type 0 where
   pub inputs : length s.inputs ≡ input_count (shown_graph g)
   pub unfed : (i : ℕ) → input_at s i ≡ no_input
   pub sides : HasFreshSides (record { graph = g; workers = n }) n s.sides
-  pub emitted : s.emitted ≡ []
+  pub room : length s.emitted ≡ length (shown_graph g)
+  pub emitted : (v : ℕ) → emitted_by s.emitted v ≡ []
   pub runs : s.stopped ≡ false

@@ -22,6 +22,7 @@ pub record IsKept (graph : Graph) (content : Pointstamp → ℕ) (s : Shown) : T
   pub few : length s.sides ≤ 64
   pub same : graph ≡ shown_graph s.graph
   pub inputs : length s.inputs ≡ input_count (shown_graph s.graph)
+  pub room : length s.emitted ≡ length (shown_graph s.graph)
   pub sides : AreSidesOf s (length s.sides)
   pub typed : IsTyped (shown_graph s.graph) (arity_in s.graph)
   pub fitting : EachShard s (FitsPlace s.graph)

@@ -1,41 +1,62 @@
 -- What is seen of an epoch.
-use Rattle.std.specs.Prelude.{◌≡◌, ◌↔◌, [], ℕ, Bool, true, List, slice_index_or}
+use Rattle.std.specs.Prelude.{◌≡◌, ◌<◌, ◌↔◌, [], ℕ, true, false, List, length, slice_index_or}
 use Rattle.semantics.specs.Multiset.{Record, IsPartOf, ◌≈◌}
 use Rattle.semantics.specs.Query.{Program}
 use Rattle.semantics.specs.Meaning.{program_meaning}
 use Rattle.semantics.specs.Typing.{WellTyped}
+use Rattle.semantics.specs.Graph.{output_number, output_numbers}
 use Rattle.semantics.specs.Lower.{lowered}
 use Rattle.lowering.specs.Shown.{GraphValue, shown_graph}
-use Rattle.board.specs.Shown.{Shown, input_at, joined}
-use Rattle.board.specs.Promises.{HasPassed}
+use Rattle.board.specs.Shown.{Shown, emitted_by, input_at, joined}
+use Rattle.board.specs.Promises.{HasPassed, IsOutputPlace}
+use Rattle.board.specs.declared.look.OutputLook.{OutputLook}
 
--- the batches fed, by input, those emitted, and whether the epoch had passed
+-- the batches fed, by input, and what each output shows
 pub record LookShown : Type 0 where
   pub graph : GraphValue
   pub fed : List (List (List Record))
-  pub emitted : List (List Record)
-  pub passed : Bool
+  pub outputs : List OutputLook
+
+-- what is seen where there is no such output
+abbrev pub no_output : OutputLook
+no_output = record { emitted = []; passed = false }
+
+abbrev pub output_in : LookShown → (output : ℕ) → OutputLook
+output_in l k = slice_index_or l.outputs k no_output
+
+-- the epoch had passed at each output
+abbrev pub ShowsPassed : LookShown → Type 0
+ShowsPassed l = (k : ℕ) → k < length l.outputs → (output_in l k).passed ≡ true
 
 -- the batches that were fed to an input
 abbrev pub fed_by : LookShown → (input : ℕ) → List (List Record)
 fed_by l i = slice_index_or l.fed i []
 
--- what a program means on what was fed
-abbrev pub meant_by : Program → LookShown → List Record
-meant_by p l = program_meaning p (λ i. joined (fed_by l i))
+-- what a program means at an output on what was fed
+abbrev pub meant_by : Program → LookShown → (output : ℕ) → List Record
+meant_by p l k = program_meaning p k (λ i. joined (fed_by l i))
 
--- what was emitted is part of what the program means, and all of it if the epoch had passed
-pub record IsPromisedBy (p : Program) (l : LookShown) : Type 0 where
-  pub part : IsPartOf (joined l.emitted) (meant_by p l)
-  pub whole : l.passed ≡ true → joined l.emitted ≈ meant_by p l
+-- what was emitted at an output is part of what the program means there, and all of it if the epoch had passed
+pub record IsPromisedBy (p : Program) (l : LookShown) (k : ℕ) : Type 0 where
+  pub part : IsPartOf (joined (output_in l k).emitted) (meant_by p l k)
+  pub whole : (output_in l k).passed ≡ true → joined (output_in l k).emitted ≈ meant_by p l k
 
--- the same of each well-typed program with that graph
+-- the same of each well-typed program with that graph, and each of its outputs
 abbrev pub IsPromised : LookShown → Type 0
-IsPromised l = (p : Program) (n : ℕ) → WellTyped p n → shown_graph l.graph ≡ lowered p → IsPromisedBy p l
+IsPromised l = (p : Program) (ns : List ℕ) → WellTyped p ns → shown_graph l.graph ≡ lowered p → (k : ℕ) → k < length p.outputs → IsPromisedBy p l k
+
+-- it is what the board shows of an output at the epoch
+pub record IsOutputLookAt (s : Shown) (e k : ℕ) (o : OutputLook) : Type 0 where
+  pub emitted : o.emitted ≡ slice_index_or (emitted_by s.emitted (output_number (shown_graph s.graph) k)) e []
+  pub passed : (o.passed ≡ true) ↔ HasPassed s k e
+
+-- they are what the board shows of its outputs at the epoch
+pub record AreOutputLooks (s : Shown) (e : ℕ) (outputs : List OutputLook) : Type 0 where
+  pub places : length outputs ≡ length (output_numbers (shown_graph s.graph))
+  pub each : (k : ℕ) → IsOutputPlace s k → IsOutputLookAt s e k (slice_index_or outputs k no_output)
 
 -- it is what the board shows of the epoch
 pub record IsLookAt (s : Shown) (e : ℕ) (l : LookShown) : Type 0 where
   pub graph : l.graph ≡ s.graph
   pub fed : (i : ℕ) → fed_by l i ≡ slice_index_or (input_at s i).fed e []
-  pub emitted : l.emitted ≡ slice_index_or s.emitted e []
-  pub passed : (l.passed ≡ true) ↔ HasPassed s e
+  pub outputs : AreOutputLooks s e l.outputs

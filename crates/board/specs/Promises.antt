@@ -4,38 +4,50 @@ use Rattle.semantics.specs.Multiset.{Record, IsPartOf, ◌≈◌}
 use Rattle.semantics.specs.Query.{Program}
 use Rattle.semantics.specs.Meaning.{program_meaning}
 use Rattle.semantics.specs.Typing.{WellTyped}
-use Rattle.semantics.specs.Graph.{output_number, input_count}
+use Rattle.semantics.specs.Graph.{output_number, output_numbers, input_count}
 use Rattle.semantics.specs.Lower.{lowered}
 use Rattle.lowering.specs.Shown.{GraphValue, shown_graph}
 use Rattle.machine.specs.World.{World}
 use Rattle.machine.specs.Frontier.{IsPassedCount, Passed}
-use Rattle.board.specs.Shown.{Shown, net, no_input, input_at, side_at, records_at}
+use Rattle.board.specs.Shown.{Shown, net, no_input, emitted_by, input_at, side_at, records_at}
 use Rattle.board.specs.Showing.{Shows}
 use Rattle.board.specs.Desks.{IsIdle}
 
 -- the board runs the graph of this well-typed program
 pub record RunsProgram (p : Program) (s : Shown) : Type 0 where
-  pub arity : ℕ
-  pub typed : WellTyped p arity
+  pub arities : List ℕ
+  pub typed : WellTyped p arities
   pub graph : shown_graph s.graph ≡ lowered p
 
--- the epoch has passed at the output, in whatever world the board shows
-abbrev pub HasPassed : Shown → (epoch : ℕ) → Type 0
-HasPassed s e = (w : World) → Shows s w → Passed (net s) w (output_number (shown_graph s.graph)) e
+-- the epoch has passed at an output, in whatever world the board shows
+abbrev pub HasPassed : Shown → (output epoch : ℕ) → Type 0
+HasPassed s k e = (w : World) → Shows s w → Passed (net s) w (output_number (shown_graph s.graph) k) e
 
 -- so many epochs have passed
 abbrev pub CountsPassed : Shown → ℕ → Type 0
 CountsPassed s n = (w : World) → Shows s w → IsPassedCount (net s) w n
 
--- what a program means on what was fed for an epoch
-abbrev pub meant_of : Program → Shown → (epoch : ℕ) → List Record
-meant_of p s e = program_meaning p (λ i. records_at (input_at s i).fed e)
+-- what was emitted at an output for an epoch
+abbrev pub emitted_at : Shown → (output epoch : ℕ) → List Record
+emitted_at s k e = records_at (emitted_by s.emitted (output_number (shown_graph s.graph) k)) e
 
--- The promise: what was emitted for an epoch is part of what the program means on what was fed for it so far, and all of it once
--- the epoch has passed.
-pub record Headline (p : Program) (s : Shown) (e : ℕ) : Type 0 where
-  pub part : IsPartOf (records_at s.emitted e) (meant_of p s e)
-  pub whole : HasPassed s e → records_at s.emitted e ≈ meant_of p s e
+-- what a program means at an output on what was fed for an epoch
+abbrev pub meant_of : Program → Shown → (output epoch : ℕ) → List Record
+meant_of p s k e = program_meaning p k (λ i. records_at (input_at s i).fed e)
+
+-- The promise: what was emitted at an output for an epoch is part of what the program means there on what was fed for it so far, and
+-- all of it once the epoch has passed at that output.
+pub record Headline (p : Program) (s : Shown) (k e : ℕ) : Type 0 where
+  pub part : IsPartOf (emitted_at s k e) (meant_of p s k e)
+  pub whole : HasPassed s k e → emitted_at s k e ≈ meant_of p s k e
+
+-- the same of each output
+abbrev pub KeepsPromise : Program → Shown → Type 0
+KeepsPromise p s = (k e : ℕ) → k < length p.outputs → Headline p s k e
+
+-- the graph has an output at that place
+abbrev pub IsOutputPlace : Shown → (output : ℕ) → Type 0
+IsOutputPlace s k = k < length (output_numbers (shown_graph s.graph))
 
 -- every input is closed, nothing waits, and no event is out or lost
 pub record IsDrained (s : Shown) : Type 0 where
@@ -48,6 +60,6 @@ pub record IsOpening (g : GraphValue) (n : ℕ) (s : Shown) : Type 0 where
   pub workers : length s.sides ≡ n
   pub inputs : length s.inputs ≡ input_count (shown_graph g)
   pub unfed : (i : ℕ) → input_at s i ≡ no_input
-  pub emitted : s.emitted ≡ []
+  pub emitted : (v : ℕ) → emitted_by s.emitted v ≡ []
   pub runs : s.stopped ≡ false
   pub idle : (k : ℕ) → k < length s.sides → IsIdle (side_at s k)

@@ -1,6 +1,5 @@
 -- The world that a board shows.
-use Rattle.std.specs.Prelude.{◌≡◌, ◌≢◌, ◌<◌, ℕ, ◌==◌, cond, [], length, Option, Some, None, slice_index_or}
-use Rattle.semantics.specs.Graph.{output_number}
+use Rattle.std.specs.Prelude.{◌≡◌, ◌≢◌, ◌<◌, ℕ, length, Option, Some, None, slice_index_or}
 use Rattle.lowering.specs.Shown.{shown_graph}
 use Rattle.machine.specs.World.{World}
 use Rattle.vertices.specs.Shards as shards
@@ -8,7 +7,7 @@ use Rattle.vertices.specs.declared.shard.Shard.{Shard}
 use Rattle.tokens.specs.declared.rule.Place.{Place}
 use Rattle.tokens.specs.declared.rule.Place.TheVariants.{Home, Out, Lost}
 use Rattle.events.specs.Jobs.{Job}
-use Rattle.board.specs.Shown.{Shown, Side, input_at, side_at, records_at, held_of, event_at}
+use Rattle.board.specs.Shown.{Shown, Side, input_at, side_at, emitted_by, records_at, held_of, event_at}
 
 -- a shard that is at home, or the one that is out as it was
 abbrev pub known : Option Shard → Place Job → Option Shard
@@ -43,7 +42,7 @@ pub record Shows (s : Shown) (w : World) : Type 0 where
   pub requests : (k : ℕ) → k < length s.sides → w.requests k ≡ (side_at s k).requests
   pub held : (k : ℕ) → k < length s.sides → w.held k ≡ held_of (side_at s k).place
   pub absorbed : EachShard s (ShowsIn w)
-  pub emitted : (v e : ℕ) → w.emitted v e ≡ cond (v == output_number (shown_graph s.graph)) (records_at s.emitted e) []
+  pub emitted : (v e : ℕ) → w.emitted v e ≡ records_at (emitted_by s.emitted v) e
 
 -- An event that is out is of this board; its shard alone isn't at home.
 pub record IsOwn (s : Shown) (x : Side) (j : Job) : Type 0 where

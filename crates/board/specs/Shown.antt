@@ -26,6 +26,10 @@ joined (b ∷ bs) = b ++ joined bs
 abbrev pub records_at : Epochs → ℕ → List Record
 records_at es e = joined (slice_index_or es e [])
 
+-- what a vertex has emitted, among what each has
+abbrev pub emitted_by : List Epochs → (vertex : ℕ) → Epochs
+emitted_by es v = slice_index_or es v []
+
 -- an input
 pub record InputShown : Type 0 where
   pub open_epoch : ℕ
@@ -42,11 +46,12 @@ pub record Side : Type 0 where
   pub place : Place Job
   pub shards : List (Option Shard)
 
+-- `emitted` is by vertex
 pub record Shown : Type 0 where
   pub graph : GraphValue
   pub inputs : List InputShown
   pub sides : List Side
-  pub emitted : Epochs
+  pub emitted : List Epochs
   pub stopped : Bool
 
 -- the network that it runs
@@ -61,7 +66,7 @@ abbrev pub no_table : TableId
 no_table = record { words = 0; slots = 0; views_name = 0; atom = 0; block = 0; offset = 0; slot_names = [] }
 
 abbrev pub no_wired : Wired
-no_wired = record { graph = record { vertices = []; inputs = []; arities = [] }; workers = 0 }
+no_wired = record { graph = record { vertices = []; inputs = []; outputs = []; arities = [] }; workers = 0 }
 
 abbrev pub no_side : Side
 no_side = record { wired = no_wired; table = no_table; mail = []; requests = []; place = Home; shards = [] }

@@ -9,7 +9,7 @@ use Rattle.lowering.specs.Shown.{shown_graph}
 use Rattle.events.specs.Jobs.{Job}
 use Rattle.events.specs.Happenings.{requests_of}
 use Rattle.events.specs.declared.letter.Letter.{Letter}
-use Rattle.board.specs.Shown.{Shown, Side, InputShown, Epochs, input_at, side_at, side_in, event_at}
+use Rattle.board.specs.Shown.{Shown, Side, InputShown, Epochs, input_at, side_at, side_in, emitted_by, event_at}
 
 abbrev pub with_input : Shown → ℕ → InputShown → Shown
 with_input s i x = record s { inputs = slice_set s.inputs i x }
@@ -50,10 +50,10 @@ more_at zero bs (x ∷ xs) = (x ++ bs) ∷ xs
 more_at (suc e) bs [] = [] ∷ more_at e bs []
 more_at (suc e) bs (x ∷ xs) = x ∷ more_at e bs xs
 
--- a batch more, if there is one
-abbrev pub with_batch : ℕ → Option (List Record) → Epochs → Epochs
-with_batch e None es = es
-with_batch e (Some b) es = more_at e (b ∷ []) es
+-- a batch more of a vertex, if there is one
+abbrev pub with_emitted : (vertex epoch : ℕ) → Option (List Record) → List Epochs → List Epochs
+with_emitted v e None es = es
+with_emitted v e (Some b) es = slice_set es v (more_at e (b ∷ []) (emitted_by es v))
 
 -- the shard is back at home, and what was asked for is a request
 abbrev pub settled : Side → (vertex : ℕ) → Shard → Option Request → Side
@@ -63,7 +63,7 @@ abbrev pub after_commit : Shown → (worker : ℕ) → Job → Shard → List Le
 after_commit s k j shard outgoing emitted asked =
     record s {
       sides = delivered (slice_set s.sides k (settled (side_at s k) (event_at (shown_graph s.graph) j.happening) shard asked)) outgoing;
-      emitted = with_batch (event_time j.happening).epoch emitted s.emitted;
+      emitted = with_emitted (event_at (shown_graph s.graph) j.happening) (event_time j.happening).epoch emitted s.emitted;
     }
 
 abbrev pub after_feed : Shown → (input : ℕ) → List Record → List Letter → Shown

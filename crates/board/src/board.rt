@@ -1,9 +1,9 @@
 //! The board: the core state of a run.
 
-ghost use Rattle.std.specs.Prelude.{◌≡◌, ◌==◌, ◌↔◌, ◌<◌, ◌≤◌, ℕ, [], cond, length, slice_index_or, IfOk, IsTrue, MatchBool, OnOk, OnErr};
+ghost use Rattle.std.specs.Prelude.{◌≡◌, ◌↔◌, ◌<◌, ◌≤◌, ℕ, [], length, slice_index_or, IfOk, IsTrue, MatchBool, OnOk, OnErr};
 ghost use Rattle.lowering.specs.Shown.{shown_graph};
 ghost use Rattle.semantics.specs.Could.{Pointstamp as Active, at_vertex};
-ghost use Rattle.semantics.specs.Graph.{input_count, output_number};
+ghost use Rattle.semantics.specs.Graph.{input_count, output_number, output_numbers};
 ghost use Rattle.semantics.specs.Query.{Program};
 ghost use Rattle.semantics.specs.Time.{at_epoch};
 ghost use Rattle.machine.specs.Step.{Step};
@@ -12,15 +12,15 @@ ghost use Rattle.board.specs.Answers.{AnswersOnly, AnswersOr, Claims, Commits, H
 ghost use Rattle.board.specs.Kept.{Goes};
 ghost use Rattle.board.specs.Commits.{IsOf};
 ghost use Rattle.board.specs.Desks.{is_out};
-ghost use Rattle.board.specs.Looks.{IsLookAt};
+ghost use Rattle.board.specs.Looks.{AreOutputLooks, IsLookAt};
 ghost use Rattle.board.specs.Picks.{Picks};
-ghost use Rattle.board.specs.Promises.{CountsPassed, HasPassed, Headline, IsDrained, IsOpening, RunsProgram};
+ghost use Rattle.board.specs.Promises.{CountsPassed, HasPassed, IsDrained, IsOpening, IsOutputPlace, KeepsPromise, RunsProgram};
 ghost use Rattle.board.specs.Showing.{Shows};
-ghost use Rattle.board.specs.Shown.{Shown, input_at, side_at, tables};
+ghost use Rattle.board.specs.Shown.{Shown, emitted_by, input_at, side_at, tables};
 
 use crate::choices::kth_deliverable;
 use crate::frontier::first_deliverable;
-use crate::look::Look;
+use crate::look::{Look, OutputLook};
 use crate::making::open_inputs;
 use crate::passed::{output_place, passed_now};
 use crate::refusal::StepRefusal;
@@ -307,32 +307,33 @@ impl<P: Progress> Board<P> {
         }
     }
 
-    /// Whether an epoch has passed: no more records will come to the output for it.
-    pub fn passed(&self, epoch: u32) -> bool
-        ensures { IsTrue result ↔ HasPassed self.now epoch }
+    /// Whether an epoch has passed at an output, by the output's place: no more records will come there for it.
+    pub fn passed(&self, output: u32, epoch: u32) -> bool
+        requires { IsOutputPlace self.now output }
+        ensures { IsTrue result ↔ HasPassed self.now output epoch }
     {
-        self.tracker
-            .none_before(&output_place(self.state.output(), epoch))
+        let vertex = self.state.output(output as usize);
+        self.tracker.none_before(&output_place(vertex, epoch))
     }
 
-    /// How many epochs have passed, from epoch 0 on: at most as many as the most that an input was sealed. It takes no time.
+    /// How many epochs have passed at every output, from epoch 0 on: at most as many as the most that an input was sealed. It takes no time.
     pub fn passed_count(&self) -> u64
         ensures { CountsPassed self.now result }
     {
         self.passed as u64
     }
 
-    /// One number alone is that of the passed epochs, and each epoch below it has passed. Nothing is done.
+    /// One number alone is that of the passed epochs, and each epoch below it has passed at each output. Nothing is done.
     pub fn law_count(&self)
         ensures one { (m n : ℕ) → CountsPassed self.now m → CountsPassed self.now n → m ≡ n }
-        ensures below { (n : ℕ) → CountsPassed self.now n → (epoch : ℕ) → epoch < n → HasPassed self.now epoch }
+        ensures below { (n : ℕ) → CountsPassed self.now n → (epoch : ℕ) → epoch < n → (output : ℕ) → IsOutputPlace self.now output → HasPassed self.now output epoch }
     {
         let _ = &self.state;
     }
 
     /// What has passed stays so, and the number of passed epochs doesn't fall, by any step from here. Nothing is done.
     pub fn law_stays(&self)
-        ensures passed { (step : Step) (next : Shown) → Goes self.now step next → (epoch : ℕ) → HasPassed self.now epoch → HasPassed next epoch }
+        ensures passed { (step : Step) (next : Shown) → Goes self.now step next → (output epoch : ℕ) → HasPassed self.now output epoch → HasPassed next output epoch }
         ensures count { (step : Step) (next : Shown) → Goes self.now step next → (m n : ℕ) → CountsPassed self.now m → CountsPassed next n → m ≤ n }
     {
         let _ = &self.state;
@@ -424,16 +425,19 @@ impl<P: Progress> Board<P> {
         self.state.fed(input, epoch)
     }
 
-    /// The batches that were emitted for an epoch, in order; none at a vertex that isn't the output.
-    pub fn emitted(&self, output: VertexId, epoch: u32) -> &[Batch]
-        ensures { result.now ≡ cond (output.0 == output_number (shown_graph self.now.graph)) (slice_index_or self.now.emitted epoch []) [] }
+    /// The number of outputs.
+    pub fn output_count(&self) -> u32
+        ensures { result ≡ length (output_numbers (shown_graph self.now.graph)) }
     {
-        let last = self.state.graph().vertex_count().saturating_sub(1);
-        if output.0 as usize == last {
-            self.state.emitted(epoch)
-        } else {
-            &[]
-        }
+        self.state.output_count() as u32
+    }
+
+    /// The batches that were emitted at an output for an epoch, in order, by the output's place.
+    pub fn emitted(&self, output: u32, epoch: u32) -> &[Batch]
+        requires { IsOutputPlace self.now output }
+        ensures { result.now ≡ slice_index_or (emitted_by self.now.emitted (output_number (shown_graph self.now.graph) output)) epoch [] }
+    {
+        self.state.emitted(output as usize, epoch)
     }
 
     /// What the board shows of an epoch, to be kept while the board goes on. The batches are shared.
@@ -442,10 +446,24 @@ impl<P: Progress> Board<P> {
     {
         let wiring = self.state.share_wiring()?;
         let fed = self.state.share_fed(alloc, epoch)?;
-        let emitted = self.state.share_emitted(alloc, epoch)?;
-        let passed = self.passed(epoch);
+        let outputs = self.look_at_outputs(alloc, epoch)?;
         self.law_headline();
-        Ok(Look::of(wiring, fed, emitted, passed))
+        Ok(Look::of(wiring, fed, outputs))
+    }
+
+    /// What each output shows of an epoch.
+    fn look_at_outputs(&self, alloc: Global, epoch: u32) -> Result<Vec<OutputLook>, NoMemory>
+        ensures { IfOk result (λ v. AreOutputLooks self.now epoch v.items) }
+    {
+        let count = self.output_count();
+        let mut outputs = Vec::with_capacity(alloc, count as usize)?;
+        for output in 0..count {
+            outputs.push(OutputLook {
+                emitted: self.state.share_emitted(alloc, output as usize, epoch)?,
+                passed: self.passed(output, epoch),
+            })?;
+        }
+        Ok(outputs)
     }
 
     /// How many changes of active pointstamps wait to be seen by a worker: none, since all workers see one tracker.
@@ -455,9 +473,9 @@ impl<P: Progress> Board<P> {
         0
     }
 
-    /// The promise, of whatever program the board runs. Nothing is done.
+    /// The promise at each output, of whatever program the board runs. Nothing is done.
     pub fn law_headline(&self)
-        ensures { (p : Program) → RunsProgram p self.now → (e : ℕ) → Headline p self.now e }
+        ensures { (p : Program) → RunsProgram p self.now → KeepsPromise p self.now }
     {
         let _ = &self.state;
     }
@@ -469,9 +487,9 @@ impl<P: Progress> Board<P> {
         let _ = &self.state;
     }
 
-    /// A drained board has passed every epoch. Nothing is done.
+    /// A drained board has passed every epoch at every output. Nothing is done.
     pub fn law_drained(&self)
-        ensures { IsDrained self.now → (e : ℕ) → HasPassed self.now e }
+        ensures { IsDrained self.now → (output epoch : ℕ) → HasPassed self.now output epoch }
     {
         let _ = &self.state;
     }

@@ -1,7 +1,7 @@
 //! Batches by epoch.
 
-ghost use Rattle.std.specs.Prelude.{◌≡◌, ◌++◌, ◌∷◌, [], ℕ, List, ℤ, Option, ◌+◌, ◌<◌, ◌≤◌, length, slice_index_or, vec_len, vec_capacity, IfErr, OnOk, OnErr};
-ghost use Rattle.board.specs.Steps.{more_at, with_batch};
+ghost use Rattle.std.specs.Prelude.{◌≡◌, ◌++◌, ◌∷◌, [], ℕ, List, ℤ, ◌+◌, ◌<◌, ◌≤◌, length, slice_index_or, vec_len, vec_capacity, IfErr, OnOk, OnErr};
+ghost use Rattle.board.specs.Steps.{more_at};
 
 use rows::Batch;
 use std::alloc::Global;
@@ -109,21 +109,6 @@ impl Epochs {
                 Ok(())
             }
             Err(batch) => Err(batch),
-        }
-    }
-
-    /// The same of a batch that may be there.
-    pub fn add_some(&mut self, epoch: u32, batch: Option<Batch>) -> Result<(), Option<Batch>>
-        ensures ok { OnOk result (self.new ≡ with_batch epoch batch self.old) }
-        ensures err { OnErr result (self.new ≡ self.old) }
-        ensures back { IfErr result (λ back. back ≡ batch) }
-    {
-        match batch {
-            None => Ok(()),
-            Some(batch) => match self.add(epoch, batch) {
-                Ok(()) => Ok(()),
-                Err(batch) => Err(Some(batch)),
-            },
         }
     }
 }

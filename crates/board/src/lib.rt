@@ -6,8 +6,8 @@
 //!
 //! - A call that changes a board is one step of the engine's definition (`machine`), allowed and taken in whatever world the board
 //!   shows (`specs/Kept.antt`, `Goes`); or it is refused, and the board is as it was.
-//! - At every moment, for every epoch, what was emitted is part of what the program means on what was fed, and all of it once the
-//!   epoch has passed (`Board::law_headline`, `specs/Promises.antt`). That holds for every well-typed program, every number of workers
+//! - At every moment, for every epoch and each output, what was emitted there is part of what the program means there on what was fed,
+//!   and all of it once the epoch has passed at that output (`Board::law_headline`, `specs/Promises.antt`). That holds for every well-typed program, every number of workers
 //!   and every order of the calls. A `Look` keeps it while the board goes on.
 //! - Whether an epoch has passed is answered exactly, and what has passed stays so. A drained board has passed every epoch
 //!   (`Board::law_drained`).
@@ -45,6 +45,7 @@
 mod board;
 mod choices;
 mod delivery;
+mod emitted;
 mod epochs;
 mod frontier;
 mod inputs;
@@ -57,5 +58,5 @@ mod state;
 mod worker;
 
 pub use board::{Board, Claimed, CommitRefusal};
-pub use look::Look;
+pub use look::{Look, OutputLook};
 pub use refusal::StepRefusal;

@@ -1,7 +1,7 @@
 //! What a board shows of an epoch, to be kept while the board goes on.
 
 ghost use Rattle.std.specs.Prelude.{◌≡◌, ℕ, [], map, slice_index_or, IfOk};
-ghost use Rattle.board.specs.Looks.{IsPromised, fed_by};
+ghost use Rattle.board.specs.Looks.{IsPromised, fed_by, output_in};
 
 use crate::epochs::Batches;
 use crate::inputs::Input;
@@ -12,13 +12,19 @@ use std::alloc::Global;
 use std::marker::Model;
 use std::sync::Arc;
 
-/// What was fed and emitted for an epoch, and whether the epoch had passed. The batches are shared with the board, and the graph too.
+/// What was emitted at an output for an epoch, and whether the epoch had passed there.
+#[derive(Drop)]
+pub struct OutputLook {
+    pub(crate) emitted: Batches,
+    pub(crate) passed: bool,
+}
+
+/// What was fed for an epoch, and what each output shows. The batches are shared with the board, and the graph too.
 #[derive(Drop)]
 pub struct Look {
     wiring: Arc<Wiring, Global>,
     fed: Vec<Batches>,
-    emitted: Batches,
-    passed: bool,
+    outputs: Vec<OutputLook>,
 }
 
 impl Model for Look {
@@ -33,9 +39,9 @@ impl Model for Look {
 
     ghost coded = { Prim.hlevel (codes, (scalar.the_row heap.the_row allocates.ghosts).coded, (condition.the_row heap.the_row allocates.ghosts).coded) };
 
-    ghost view = { λ l. record { graph = l.wiring.value.graph; fed = l.fed.items; emitted = l.emitted; passed = l.passed } };
+    ghost view = { λ l. record { graph = l.wiring.value.graph; fed = l.fed.items; outputs = l.outputs.items } };
 
-    ghost invariant = { λ l. IsPromised (record { graph = l.wiring.value.graph; fed = l.fed.items; emitted = l.emitted; passed = l.passed }) };
+    ghost invariant = { λ l. IsPromised (record { graph = l.wiring.value.graph; fed = l.fed.items; outputs = l.outputs.items }) };
 }
 
 impl Look {
@@ -43,17 +49,15 @@ impl Look {
     pub(crate) fn of(
         wiring: Arc<Wiring, Global>,
         fed: Vec<Batches>,
-        emitted: Batches,
-        passed: bool,
+        outputs: Vec<OutputLook>,
     ) -> Look
-        requires { IsPromised (record { graph = wiring.value.graph; fed = fed.items; emitted = emitted; passed = passed }) }
-        ensures { result ≡ record { graph = wiring.value.graph; fed = fed.items; emitted = emitted; passed = passed } }
+        requires { IsPromised (record { graph = wiring.value.graph; fed = fed.items; outputs = outputs.items }) }
+        ensures { result ≡ record { graph = wiring.value.graph; fed = fed.items; outputs = outputs.items } }
     {
         Look {
             wiring,
             fed,
-            emitted,
-            passed,
+            outputs,
         }
     }
 
@@ -67,21 +71,27 @@ impl Look {
         }
     }
 
-    /// The batches that were emitted, in order.
-    pub fn emitted(&self) -> &[Batch]
-        ensures { result.now ≡ self.now.emitted }
+    /// The batches that were emitted at an output, in order; none where there is no such output.
+    pub fn emitted(&self, output: u32) -> &[Batch]
+        ensures { result.now ≡ (output_in self.now output).emitted }
     {
-        self.emitted.as_slice()
+        match self.outputs.get(output as usize) {
+            Some(look) => look.emitted.as_slice(),
+            None => &[],
+        }
     }
 
-    /// Whether the epoch had passed.
-    pub fn passed(&self) -> bool
-        ensures { result ≡ self.now.passed }
+    /// Whether the epoch had passed at an output; no where there is no such output.
+    pub fn passed(&self, output: u32) -> bool
+        ensures { result ≡ (output_in self.now output).passed }
     {
-        self.passed
+        match self.outputs.get(output as usize) {
+            Some(look) => look.passed,
+            None => false,
+        }
     }
 
-    /// The promise, of whatever program the board ran. Nothing is done.
+    /// The promise at each output, of whatever program the board ran. Nothing is done.
     pub fn law_headline(&self)
         ensures { IsPromised self.now }
     {

@@ -2,7 +2,7 @@
 
 ghost use Rattle.std.specs.Prelude.{◌≡◌, ◌≢◌, ◌<◌, ◌≤◌, ℕ, [], length, map, slice_index_or, false, MatchBool, OnOk, OnErr, IfOk, IfErr};
 ghost use Rattle.semantics.specs.Could.{Location as Where, Pointstamp as Active};
-ghost use Rattle.semantics.specs.Graph.{edge_count, output_number, target, Graph as Definition};
+ghost use Rattle.semantics.specs.Graph.{edge_count, output_number, output_numbers, target, Graph as Definition};
 ghost use Rattle.tokens.specs.declared.rule.Place.TheVariants.{Home, Out};
 ghost use Rattle.board.specs.Claims.{HandsMessage, HandsRequest};
 ghost use Rattle.lowering.specs.Locations.{IsIn, location_of};
@@ -13,13 +13,14 @@ ghost use Rattle.board.specs.Desks.{is_out};
 ghost use Rattle.board.specs.Fresh.{IsNew};
 ghost use Rattle.board.specs.Kept.{IsKept};
 ghost use Rattle.board.specs.Desks.{AreClosed, AreIdle};
-ghost use Rattle.board.specs.Promises.{IsDrained};
+ghost use Rattle.board.specs.Promises.{IsDrained, IsOutputPlace};
 ghost use Rattle.board.specs.Seals.{IsMostSeals};
-ghost use Rattle.board.specs.Shown.{input_at, location_vertex, side_at};
-ghost use Rattle.board.specs.Steps.{after_abandon, after_close, after_seal, with_batch};
+ghost use Rattle.board.specs.Shown.{emitted_by, input_at, location_vertex, side_at};
+ghost use Rattle.board.specs.Steps.{after_abandon, after_close, after_seal, with_emitted};
 
 use crate::delivery::{deliver, finish, prepare, prepare_letters};
-use crate::epochs::{Batches, Epochs};
+use crate::emitted::Emitted;
+use crate::epochs::Batches;
 use crate::inputs::Input;
 use crate::look::{share_batches, share_fed};
 use crate::making::{new_inputs, new_workers};
@@ -42,7 +43,7 @@ pub struct State {
     wiring: Arc<Wiring, Global>,
     inputs: Vec<Input>,
     workers: Vec<Worker>,
-    emitted: Epochs,
+    emitted: Emitted,
     stopped: bool,
 }
 
@@ -74,6 +75,7 @@ impl State {
         ensures { IfOk result (λ s. IsNew graph.value count s) }
     {
         let inputs = new_inputs(alloc, graph.input_count())?;
+        let emitted = Emitted::new(alloc, graph.vertex_count())?;
         let Ok(plan) = Wiring::of(alloc, graph, count) else {
             return Err(NoMemory);
         };
@@ -83,7 +85,7 @@ impl State {
             wiring,
             inputs,
             workers,
-            emitted: Epochs::new(alloc),
+            emitted,
             stopped: false,
         })
     }
@@ -114,12 +116,22 @@ impl State {
         self.wiring.graph()
     }
 
-    /// The output's vertex.
-    pub fn output(&self) -> VertexId
-        requires { 0 < length (shown_graph self.now.graph) }
-        ensures { result.0 ≡ output_number (shown_graph self.now.graph) }
+    /// The number of outputs.
+    pub fn output_count(&self) -> usize
+        ensures value { result ≡ length (output_numbers (shown_graph self.now.graph)) }
+        ensures few { result ≤ 4096 }
     {
-        VertexId(self.wiring.graph().vertex_count() as u32 - 1)
+        let graph = self.wiring.graph();
+        let _few = graph.vertex_count();
+        graph.outputs().len()
+    }
+
+    /// The vertex of an output, by its place.
+    pub fn output(&self, place: usize) -> VertexId
+        requires { IsOutputPlace self.now place }
+        ensures { result.0 ≡ output_number (shown_graph self.now.graph) place }
+    {
+        self.wiring.graph().outputs()[place].vertex
     }
 
     /// How often the input was sealed that was sealed most.
@@ -220,11 +232,12 @@ impl State {
         self.wiring.workers()
     }
 
-    /// What was emitted for an epoch; nothing where the epoch isn't there.
-    pub fn emitted(&self, epoch: u32) -> &[Batch]
-        ensures { result.now ≡ slice_index_or self.now.emitted epoch [] }
+    /// What was emitted at an output for an epoch; nothing where the epoch isn't there.
+    pub fn emitted(&self, output: usize, epoch: u32) -> &[Batch]
+        requires { IsOutputPlace self.now output }
+        ensures { result.now ≡ slice_index_or (emitted_by self.now.emitted (output_number (shown_graph self.now.graph) output)) epoch [] }
     {
-        self.emitted.at(epoch)
+        self.emitted.at(self.output(output).0 as usize, epoch)
     }
 
     /// What was fed to an input for an epoch; nothing where the input or the epoch isn't there.
@@ -259,11 +272,17 @@ impl State {
         Ok(fed)
     }
 
-    /// What was emitted for an epoch, shared.
-    pub fn share_emitted(&self, alloc: Global, epoch: u32) -> Result<Batches, NoMemory>
-        ensures { IfOk result (λ emitted. emitted ≡ slice_index_or self.now.emitted epoch []) }
+    /// What was emitted at an output for an epoch, shared.
+    pub fn share_emitted(
+        &self,
+        alloc: Global,
+        output: usize,
+        epoch: u32,
+    ) -> Result<Batches, NoMemory>
+        requires { IsOutputPlace self.now output }
+        ensures { IfOk result (λ emitted. emitted ≡ slice_index_or (emitted_by self.now.emitted (output_number (shown_graph self.now.graph) output)) epoch []) }
     {
-        let emitted = share_batches(alloc, self.emitted.at(epoch))?;
+        let emitted = share_batches(alloc, self.emitted(output, epoch))?;
         Ok(emitted)
     }
 
@@ -371,7 +390,7 @@ impl State {
         }
         let vertex = vertex_at(self.wiring.graph(), output.place.location());
         let epoch = output.place.time().epoch();
-        match emit(&mut self.emitted, epoch, output) {
+        match emit(&mut self.emitted, vertex, epoch, output) {
             Ok(output) => {
                 finish(&mut self.workers, tracker, worker, vertex, stub, output);
                 Ok(())
@@ -393,8 +412,9 @@ fn vertex_at(graph: &Graph, location: Location) -> usize
 }
 
 /// Adds what is emitted, if there is memory.
-fn emit(emitted: &mut Epochs, epoch: u32, output: Output) -> Result<Output, Output>
-    ensures ok { IfOk result (λ o. emitted.new ≡ with_batch epoch output.emitted emitted.old) }
+fn emit(emitted: &mut Emitted, vertex: usize, epoch: u32, output: Output) -> Result<Output, Output>
+    requires { vertex < length emitted.old }
+    ensures ok { IfOk result (λ o. emitted.new ≡ with_emitted vertex epoch output.emitted emitted.old) }
     ensures rest { IfOk result (λ o. record o { emitted = output.emitted } ≡ output) }
     ensures same { OnErr result (emitted.new ≡ emitted.old) }
     ensures back { IfErr result (λ o. o ≡ output) }
@@ -407,7 +427,7 @@ fn emit(emitted: &mut Epochs, epoch: u32, output: Output) -> Result<Output, Outp
         asked,
         emitted: batch,
     } = output;
-    match emitted.add_some(epoch, batch) {
+    match emitted.add_some(vertex, epoch, batch) {
         Ok(()) => Ok(Output {
             place,
             wiring,

@@ -5,7 +5,7 @@ ghost use Rattle.board.specs.Commits.{IsOf};
 
 use board::{Board, Claimed, CommitRefusal};
 use events::Work;
-use lowering::{Graph, VertexId, lower};
+use lowering::{Graph, lower};
 use parser::parse;
 use progress::{LocationTracker, Progress};
 use rows::{Batch, Rows};
@@ -89,9 +89,18 @@ pub fn claimed(board: &mut Board<LocationTracker>) -> Option<Work>
     }
 }
 
-/// The output vertex, which is the last one.
-pub fn output_of<P: Progress>(board: &Board<P>) -> VertexId {
-    VertexId(board.graph().vertex_count().saturating_sub(1) as u32)
+/// What was emitted at an output for an epoch; nothing where there is no such output.
+pub fn emitted_at<P: Progress>(board: &Board<P>, output: u32, epoch: u32) -> &[Batch] {
+    if output < board.output_count() {
+        board.emitted(output, epoch)
+    } else {
+        &[]
+    }
+}
+
+/// Whether an epoch has passed at an output; no where there is no such output.
+pub fn passed_at<P: Progress>(board: &Board<P>, output: u32, epoch: u32) -> bool {
+    output < board.output_count() && board.passed(output, epoch)
 }
 
 /// The fields of all records, in order.

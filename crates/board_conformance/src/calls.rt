@@ -1,6 +1,8 @@
 //! Each call once on its happy path, and each refusal in its order.
 
-use crate::boards::{Turn, batch_of, board_of, claimed, commit, fields_of, output_of, take_turn};
+use crate::boards::{
+    Turn, batch_of, board_of, claimed, commit, emitted_at, fields_of, passed_at, take_turn,
+};
 use board::{Board, Look, StepRefusal};
 use progress::LocationTracker;
 use std::alloc::Global;
@@ -10,6 +12,8 @@ const COPY: &str = "input a/1; output a;";
 
 const COUNTS: &str = "input a/1; output group(a; #0; count);";
 
+const TWO_OUTPUTS: &str = "input a/1; output small = where(a; #0 < 5); output all = a;";
+
 #[test]
 fn feeds_and_emits(rt: HostRuntime) -> Result<(), Fail> {
     let alloc = rt.alloc();
@@ -17,17 +21,17 @@ fn feeds_and_emits(rt: HostRuntime) -> Result<(), Fail> {
     let batch = batch_of(alloc, &[7]).ok_or("no batch")?;
     assert_eq!(rt; board.feed(alloc, 0, batch), Ok(()));
     assert_eq!(rt; board.seal(0), Ok(()));
-    assert!(rt; !board.passed(0));
+    assert!(rt; !passed_at(&board, 0, 0));
     assert_eq!(rt; take_turn(alloc, &mut board, 0), Turn::Committed);
-    assert!(rt; board.passed(0));
+    assert!(rt; passed_at(&board, 0, 0));
     assert_eq!(rt; board.passed_count(), 1);
-    assert_eq!(rt; board.emitted(output_of(&board), 0).len(), 1);
+    assert_eq!(rt; emitted_at(&board, 0, 0).len(), 1);
     assert_eq!(rt; board.fed(0, 0).len(), 1);
     assert_eq!(rt; board.fed(1, 0).len(), 0);
     assert_eq!(rt; take_turn(alloc, &mut board, 0), Turn::Idle);
     assert_eq!(rt; board.close(0), Ok(()));
     assert_eq!(rt; take_turn(alloc, &mut board, 0), Turn::Drained);
-    assert!(rt; board.passed(4_294_967_295));
+    assert!(rt; passed_at(&board, 0, 4_294_967_295));
     Ok(())
 }
 
@@ -68,12 +72,25 @@ fn stops(rt: HostRuntime) -> Result<(), Fail> {
     let work = claimed(&mut board).ok_or("no event")?;
     board.abandon(work);
     assert!(rt; !board.holding(0));
-    assert!(rt; !board.passed(0));
+    assert!(rt; !passed_at(&board, 0, 0));
     assert_eq!(rt; board.feed(alloc, 0, late), Err(StepRefusal::Stopped));
     assert_eq!(rt; board.seal(1), Err(StepRefusal::Stopped));
     assert_eq!(rt; board.close(0), Err(StepRefusal::Stopped));
     assert_eq!(rt; take_turn(alloc, &mut board, 0), Turn::Stopped);
     Ok(())
+}
+
+/// Commits the worker's event of that number.
+fn commit_picked(
+    alloc: Global,
+    board: &mut Board<LocationTracker>,
+    worker: u32,
+    choice: u64,
+) -> Result<Turn, StepRefusal> {
+    match board.pick(worker, choice) {
+        Ok(work) => Ok(commit(alloc, board, work)),
+        Err(refusal) => Err(refusal),
+    }
 }
 
 // Of two workers each has its keys, and the group's notification waits until the input is sealed.
@@ -85,22 +102,55 @@ fn picks(rt: HostRuntime) -> Result<(), Fail> {
     let two = batch_of(alloc, &[2]).ok_or("no batch")?;
     assert_eq!(rt; board.feed(alloc, 0, one), Ok(()));
     assert_eq!(rt; board.feed(alloc, 0, two), Ok(()));
-    for (worker, choice, refusal) in [
-        (0, 1, Some(StepRefusal::NoSuchEvent)),
-        (2, 0, Some(StepRefusal::NoSuchEvent)),
-        (0, 0, None),
-        (1, 0, None),
-        (0, 0, Some(StepRefusal::NoSuchEvent)),
+    for (worker, choice, told) in [
+        (0, 1, Err(StepRefusal::NoSuchEvent)),
+        (2, 0, Err(StepRefusal::NoSuchEvent)),
+        (0, 0, Ok(Turn::Committed)),
+        (1, 0, Ok(Turn::Committed)),
+        (0, 0, Err(StepRefusal::NoSuchEvent)),
     ] {
-        let told = match board.pick(worker, choice) {
-            Ok(work) => match commit(alloc, &mut board, work) {
-                Turn::Committed => None,
-                _ => return Err(Fail::from("not committed")),
-            },
-            Err(refusal) => Some(refusal),
-        };
-        assert_eq!(rt; told, refusal);
+        assert_eq!(rt; commit_picked(alloc, &mut board, worker, choice), told);
     }
+    Ok(())
+}
+
+/// Whether an output shows these fields for epoch 0, and whether it shows the epoch as passed.
+fn shows_at(
+    alloc: Global,
+    board: &Board<LocationTracker>,
+    output: u32,
+    emitted: &[i64],
+    passed: bool,
+) -> bool {
+    match fields_of(alloc, emitted_at(board, output, 0)) {
+        Ok(fields) => fields.as_slice() == emitted && passed_at(board, output, 0) == passed,
+        Err(_) => false,
+    }
+}
+
+// What is fed goes to the where and to the second output. The latter message is taken first: its output has passed, and the first
+// one not yet.
+#[test]
+fn passes_at_each_output(rt: HostRuntime) -> Result<(), Fail> {
+    let alloc = rt.alloc();
+    let mut board = board_of(alloc, TWO_OUTPUTS, 1).ok_or("no board")?;
+    let batch = batch_of(alloc, &[3]).ok_or("no batch")?;
+    assert_eq!(rt; board.feed(alloc, 0, batch), Ok(()));
+    assert_eq!(rt; board.seal(0), Ok(()));
+    assert_eq!(rt;
+        commit_picked(alloc, &mut board, 0, 2),
+        Err(StepRefusal::NoSuchEvent)
+    );
+    assert_eq!(rt; commit_picked(alloc, &mut board, 0, 1), Ok(Turn::Committed));
+    assert!(rt; shows_at(alloc, &board, 0, &[], false));
+    assert!(rt; shows_at(alloc, &board, 1, &[3], true));
+    assert_eq!(rt; board.passed_count(), 0);
+    for turn in [Turn::Committed, Turn::Committed, Turn::Idle] {
+        assert_eq!(rt; take_turn(alloc, &mut board, 0), turn);
+    }
+    assert!(rt; shows_at(alloc, &board, 0, &[3], true));
+    assert!(rt; shows_at(alloc, &board, 1, &[3], true));
+    assert_eq!(rt; board.passed_count(), 1);
     Ok(())
 }
 
@@ -127,13 +177,13 @@ fn holds_one_event_a_worker(rt: HostRuntime) -> Result<(), Fail> {
 fn is_shown(alloc: Global, look: &Look, emitted: &[i64], passed: bool) -> bool {
     match (
         fields_of(alloc, look.fed(0)),
-        fields_of(alloc, look.emitted()),
+        fields_of(alloc, look.emitted(0)),
     ) {
         (Ok(fed), Ok(fields)) => {
             fed.as_slice() == [5].as_slice()
                 && fields.as_slice() == emitted
                 && look.fed(1).is_empty()
-                && look.passed() == passed
+                && look.passed(0) == passed
         }
         _ => false,
     }

@@ -6,7 +6,7 @@ ghost use Rattle.semantics.specs.Could.{Pointstamp as Active};
 ghost use Rattle.progress.specs.Content.{times_at};
 ghost use Rattle.board.specs.Commits.{IsOf};
 
-use crate::boards::{batch_of, board_of, fields_of, graph_of, output_of};
+use crate::boards::{batch_of, board_of, emitted_at, fields_of, graph_of, passed_at};
 use board::{Board, Claimed, CommitRefusal, StepRefusal};
 use events::{Done, Work};
 use expr_tree::NoMemory;
@@ -101,7 +101,7 @@ enum Fault {
 /// How many records the board has emitted for an epoch.
 fn emitted_count<P: Progress>(board: &Board<P>, epoch: u32) -> usize {
     let mut count = 0usize;
-    for batch in board.emitted(output_of(board), epoch) {
+    for batch in emitted_at(board, 0, epoch) {
         count = count.saturating_add(batch.len());
     }
     count
@@ -217,12 +217,12 @@ fn refused<P: Progress>(alloc: Global, board: &mut Board<P>) -> Result<u32, Faul
 
 /// Whether the board emitted what `COUNTS` means on what `refused` feeds.
 fn is_answered<P: Progress>(alloc: Global, board: &Board<P>) -> Result<bool, AllocError> {
-    let first = fields_of(alloc, board.emitted(output_of(board), 0))?;
-    let second = fields_of(alloc, board.emitted(output_of(board), 1))?;
+    let first = fields_of(alloc, emitted_at(board, 0, 0))?;
+    let second = fields_of(alloc, emitted_at(board, 0, 1))?;
     Ok(
         matches!(first.as_slice(), [2, 2, 4, 1] | [4, 1, 2, 2])
             && matches!(second.as_slice(), [4, 1])
-            && board.passed(1),
+            && passed_at(board, 0, 1),
     )
 }
 
@@ -268,7 +268,7 @@ fn refused_by_the_heap(rt: HostRuntime) -> Result<(), Fail> {
         }
         Err(fault) => {
             assert_eq!(rt; fault, Fault::GivenUp);
-            assert!(rt; !board.passed(1));
+            assert!(rt; !passed_at(&board, 0, 1));
         }
     }
     Ok(())

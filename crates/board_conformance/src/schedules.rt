@@ -3,7 +3,7 @@
 
 ghost use Rattle.std.specs.Prelude.{◌<◌};
 
-use crate::boards::{Turn, batch_of, board_of, output_of, take_turn};
+use crate::boards::{Turn, batch_of, board_of, emitted_at, passed_at, take_turn};
 use crate::reach::{is_part, pairs_of, within_three};
 use board::Board;
 use progress::LocationTracker;
@@ -38,10 +38,10 @@ impl Dice {
 /// Whether the records emitted for each epoch are part of what the query means on those fed for it, and all of them where it has passed.
 fn keeps_its_promise(alloc: Global, board: &Board<LocationTracker>) -> Result<bool, AllocError> {
     for epoch in 0..EPOCHS {
-        let emitted = pairs_of(alloc, board.emitted(output_of(board), epoch))?;
+        let emitted = pairs_of(alloc, emitted_at(board, 0, epoch))?;
         let fed = pairs_of(alloc, board.fed(0, epoch))?;
         let meant = within_three(alloc, &fed)?;
-        if !is_part(&emitted, &meant) || board.passed(epoch) && emitted != meant {
+        if !is_part(&emitted, &meant) || passed_at(board, 0, epoch) && emitted != meant {
             return Ok(false);
         }
     }
@@ -87,7 +87,9 @@ fn runs(alloc: Global, seed: u64, steps: u32) -> Result<bool, AllocError> {
     }
     for turn in 0..10_000u32 {
         match take_turn(alloc, &mut board, turn % 2) {
-            Turn::Drained => return Ok(board.passed(0) && keeps_its_promise(alloc, &board)?),
+            Turn::Drained => return Ok(
+                passed_at(&board, 0, 0) && keeps_its_promise(alloc, &board)?,
+            ),
             Turn::Committed | Turn::Idle => {}
             Turn::Stopped | Turn::Busy | Turn::NoMemory => return Ok(false),
         }

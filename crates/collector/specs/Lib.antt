@@ -9,4 +9,5 @@ pub mod Growth
 pub mod Watching
 pub mod Written
 pub mod OutputText
+pub mod Emitted
 pub mod Quick

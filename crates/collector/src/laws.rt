@@ -1,6 +1,6 @@
 //! What the definitions of the texts come to.
 
-ghost use Rattle.std.specs.Prelude.{◌≡◌, ◌<◌, ℕ, List, [], length, slice_index_or};
+ghost use Rattle.std.specs.Prelude.{◌≡◌, ◌<◌, ℕ, List, length};
 ghost use Rattle.semantics.specs.Multiset.{Record, ◌≈◌};
 ghost use Rattle.semantics.specs.Query.{Input};
 ghost use Rattle.collector.specs.InputText.{IsInputText, IsRefused};
@@ -14,9 +14,11 @@ pub fn law_one_reading()
     ensures refusal { (inputs : List Input) (text : List ℕ) (code line other place : ℕ) → IsRefused inputs text (At code line) → IsRefused inputs text (At other place) → (code ≡ other) × (line ≡ place) }
 {}
 
-/// Epochs that have the same multisets have one output text.
+/// Epochs that have the same multisets at each output have one output text.
 pub fn law_one_answer()
-    ensures { (xs ys : List (List Record)) (t u : List ℕ) → length xs ≡ length ys → ((k : ℕ) → k < length xs → slice_index_or xs k [] ≈ slice_index_or ys k []) → IsTextFrom 0 xs t → IsTextFrom 0 ys u → t ≡ u }
+    ensures { (names : List (List ℕ)) (r s : (output epoch : ℕ) → List Record) (count : ℕ) (t u : List ℕ) →
+        ((output epoch : ℕ) → output < length names → epoch < count → r output epoch ≈ s output epoch) →
+        IsTextFrom names r 0 count t → IsTextFrom names s 0 count u → t ≡ u }
 {
     semantics::multisets::law_equal_multisets();
 }

@@ -25,7 +25,7 @@ pub use bytes::{ReadFault, read_all, read_at_most};
 pub use epochs::Epochs;
 pub use laws::{law_one_answer, law_one_reading};
 pub use line::{Declared, find_input, first_word, is_word, read_fields, rest_is_filled};
-pub use output::{OutFault, push_sorted, write_epochs};
+pub use output::{OutFault, OutputEpochs, push_sorted, write_epochs};
 pub use reading::read_input;
 pub use refusal::{Fault, InputRefusal};
 pub use sameness::same_batches;

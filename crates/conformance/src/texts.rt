@@ -1,8 +1,8 @@
 //! Input texts read and output texts written, with readers and writers that fail.
 
 use collector::{
-    Declared, Epochs, InputRefusal, OutFault, ReadFault, Watched, read_all, read_at_most,
-    read_input, write_epochs,
+    Declared, Epochs, InputRefusal, OutFault, OutputEpochs, ReadFault, Watched, read_all,
+    read_at_most, read_input, write_epochs,
 };
 use record_core::Name;
 use rows::{Batch, MAX_ARITY, Rows};
@@ -158,14 +158,21 @@ fn writes(rt: HostRuntime) -> Result<(), Fail> {
     let first = batches(&rt, [[10, -1].as_slice(), &[-5], &[10], &[-5]].as_slice())?;
     let none = batches(&rt, [].as_slice())?;
     let last = batches(&rt, [[i64::MIN].as_slice()].as_slice())?;
-    let epochs = [first.as_slice(), none.as_slice(), last.as_slice()];
+    let mut epochs = Vec::new(rt.alloc());
+    for batches in [first.as_slice(), none.as_slice(), last.as_slice()] {
+        epochs.push(batches)?;
+    }
+    let outputs = [OutputEpochs {
+        name: b"out",
+        epochs,
+    }];
     let mut out = Watched::new(Full {
         room: 1000,
         fails: true,
         written: Vec::new(rt.alloc()),
     });
     assert_eq!(rt;
-        write_epochs(rt.alloc(), epochs.as_slice(), &mut out),
+        write_epochs(rt.alloc(), outputs.as_slice(), 3, &mut out),
         Ok(())
     );
     let text = b"epoch 0\n-5\n-5\n10\n10 -1\nepoch 1\nepoch 2\n-9223372036854775808\n";
@@ -176,7 +183,12 @@ fn writes(rt: HostRuntime) -> Result<(), Fail> {
 #[test]
 fn full_writers(rt: HostRuntime) -> Result<(), Fail> {
     let rows = batches(&rt, [[12].as_slice()].as_slice())?;
-    let epochs = [rows.as_slice()];
+    let mut epochs = Vec::new(rt.alloc());
+    epochs.push(rows.as_slice())?;
+    let outputs = [OutputEpochs {
+        name: b"out",
+        epochs,
+    }];
     let text = b"epoch 0\n12\n";
     for room in 0..12 {
         for fails in [false, true] {
@@ -185,7 +197,7 @@ fn full_writers(rt: HostRuntime) -> Result<(), Fail> {
                 fails,
                 written: Vec::new(rt.alloc()),
             });
-            let done = write_epochs(rt.alloc(), epochs.as_slice(), &mut out);
+            let done = write_epochs(rt.alloc(), outputs.as_slice(), 1, &mut out);
             if room < text.len() {
                 assert_eq!(rt; done, Err(OutFault::Write));
             } else {
@@ -196,7 +208,7 @@ fn full_writers(rt: HostRuntime) -> Result<(), Fail> {
     }
     let mut out = Watched::new(Holding);
     assert_eq!(rt;
-        write_epochs(rt.alloc(), [].as_slice(), &mut out),
+        write_epochs(rt.alloc(), outputs.as_slice(), 0, &mut out),
         Err(OutFault::Write)
     );
     Ok(())

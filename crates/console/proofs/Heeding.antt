@@ -23,8 +23,8 @@ responds_heeds query p count records old new (Err ReadQuery) t r = absurd r
 responds_heeds query p count records old new (Err ReadInput) t r = absurd r
 
 pub replay_heeds : (query : List ℕ) (workers : ℕ) (schedule : List ℕ) (old new : Option (List ℕ)) (result : Result (Unit {0}) Fault) → ReplayEnds query workers schedule old new result → Heeds query old new result
-replay_heeds query workers schedule old new (Ok u) e = (e.1.graph, e.1.inputs, e.1.compiled, e.1.few)
-replay_heeds query workers schedule old new (Err Write) e = (e.1.graph, e.1.inputs, e.1.compiled, e.1.few)
+replay_heeds query workers schedule old new (Ok u) e = (e.1.graph, e.1.inputs, e.1.outputs, e.1.compiled, e.1.few)
+replay_heeds query workers schedule old new (Err Write) e = (e.1.graph, e.1.inputs, e.1.outputs, e.1.compiled, e.1.few)
 replay_heeds query workers schedule old new (Err (Query code start end)) e = e
 replay_heeds query workers schedule old new (Err TooManyVertices) e = e
 replay_heeds query workers schedule old new (Err (Schedule code line)) e = (e.0, e.1.0)

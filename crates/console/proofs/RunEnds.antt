@@ -1,7 +1,7 @@
 -- A run answers as its board does.
 use Rattle.std.proofs.Common.{◌≡◌, ℕ, List, Option, Result, Ok, Err, IfErr, subst}
 use Rattle.semantics.specs.Multiset.{Record}
-use Rattle.semantics.specs.Query.{Input, Program}
+use Rattle.semantics.specs.Query.{Input, Name, Program}
 use Rattle.semantics.specs.Graph.{Graph}
 use Rattle.collector.specs.InputText.{IsInputText}
 use Rattle.execution.specs.declared.unfinished.Unfinished.{Unfinished}
@@ -13,21 +13,21 @@ use Rattle.console.specs.Runs.{Ends, IsAfterReading}
 use Rattle.console.specs.declared.fault.Fault.{Fault}
 use Rattle.console.specs.declared.fault.Fault.TheVariants.{Query, TooManyVertices, Input as InputFault, Schedule, NoMemory, NoWorker, Incomplete, ReadQuery, ReadInput, Write}
 
-pub run_ends : (query input : List ℕ) (g : Graph) (inputs : List Input) (count : ℕ) (records : ℕ → ℕ → List Record) (old new : Option (List ℕ)) (result : Result (Unit {0}) Fault) → (c : IsCompiled query g inputs)
+pub run_ends : (query input : List ℕ) (g : Graph) (inputs : List Input) (names : List Name) (count : ℕ) (records : ℕ → ℕ → List Record) (old new : Option (List ℕ)) (result : Result (Unit {0}) Fault) → (c : IsCompiled query g inputs names)
     → IsInputText inputs input count records → Responds c.program count records old new result → Ends query input old new result
-run_ends query input g inputs count records old new (Ok u) c h r =
+run_ends query input g inputs names count records old new (Ok u) c h r =
     (r.0, record { program = c.program; count = count; records = records; reads = c.reads; epochs = subst (λ is. IsInputText is input count records) c.named h; answer = r.1 }, r.2)
-run_ends query input g inputs count records old new (Err Write) c h r =
+run_ends query input g inputs names count records old new (Err Write) c h r =
     (r.0, record { program = c.program; count = count; records = records; reads = c.reads; epochs = subst (λ is. IsInputText is input count records) c.named h; answer = r.1 }, r.2)
-run_ends query input g inputs count records old new (Err NoMemory) c h r = r
-run_ends query input g inputs count records old new (Err (Query code start end)) c h r = absurd r
-run_ends query input g inputs count records old new (Err TooManyVertices) c h r = absurd r
-run_ends query input g inputs count records old new (Err (InputFault code line)) c h r = absurd r
-run_ends query input g inputs count records old new (Err (Schedule code line)) c h r = absurd r
-run_ends query input g inputs count records old new (Err NoWorker) c h r = r
-run_ends query input g inputs count records old new (Err Incomplete) c h r = r
-run_ends query input g inputs count records old new (Err ReadQuery) c h r = absurd r
-run_ends query input g inputs count records old new (Err ReadInput) c h r = absurd r
+run_ends query input g inputs names count records old new (Err NoMemory) c h r = r
+run_ends query input g inputs names count records old new (Err (Query code start end)) c h r = absurd r
+run_ends query input g inputs names count records old new (Err TooManyVertices) c h r = absurd r
+run_ends query input g inputs names count records old new (Err (InputFault code line)) c h r = absurd r
+run_ends query input g inputs names count records old new (Err (Schedule code line)) c h r = absurd r
+run_ends query input g inputs names count records old new (Err NoWorker) c h r = r
+run_ends query input g inputs names count records old new (Err Incomplete) c h r = r
+run_ends query input g inputs names count records old new (Err ReadQuery) c h r = absurd r
+run_ends query input g inputs names count records old new (Err ReadInput) c h r = absurd r
 
 pub after_reading : (p : Program) (count : ℕ) (records : ℕ → ℕ → List Record) (old new : Option (List ℕ)) (result : Result (Unit {0}) Fault) → Responds p count records old new result → IfErr result IsAfterReading
 after_reading p count records old new (Ok u) r = tt

@@ -1,20 +1,20 @@
 -- What a query answers.
-use Rattle.std.specs.Prelude.{◌≡◌, ◌<◌, ℕ, List, [], length, slice_index_or, Option, Result, Ok, Err}
+use Rattle.std.specs.Prelude.{◌≡◌, ◌<◌, ℕ, List, length, Option, Result, Ok, Err}
 use Rattle.std.specs.Io.KnownBytes.{Appends}
 use Rattle.semantics.specs.Multiset.{Record, ◌≈◌}
 use Rattle.semantics.specs.Query.{Program}
+use Rattle.console.specs.Queries.{output_names}
 use Rattle.semantics.specs.Meaning.{program_meaning}
 use Rattle.collector.specs.OutputText.{IsTextFrom}
 use Rattle.collector.specs.Written.{AppendsFront}
 use Rattle.console.specs.declared.fault.Fault.{Fault}
 use Rattle.console.specs.declared.fault.Fault.TheVariants.{Query, TooManyVertices, Input, Schedule, NoMemory, NoWorker, Incomplete, ReadQuery, ReadInput, Write}
 
--- the text has, for each epoch of so many, the multiset that the program means on the records of its inputs there
+-- the text has, for each epoch of so many and each output, the multiset that the program means there on the records of its inputs
 pub record IsAnswer (p : Program) (count : ℕ) (records : ℕ → ℕ → List Record) (text : List ℕ) : Type 0 where
-  pub epochs : List (List Record)
-  pub size : length epochs ≡ count
-  pub meant : (epoch : ℕ) → epoch < count → slice_index_or epochs epoch [] ≈ program_meaning p (records epoch)
-  pub told : IsTextFrom 0 epochs text
+  pub emitted : (output epoch : ℕ) → List Record
+  pub meant : (output epoch : ℕ) → output < length p.outputs → epoch < count → emitted output epoch ≈ program_meaning p output (records epoch)
+  pub told : IsTextFrom (output_names p) emitted 0 count text
 
 -- the answer is written whole at Ok, a beginning of it where the writer failed, and else nothing
 abbrev pub Responds : Program → ℕ → (ℕ → ℕ → List Record) → Option (List ℕ) → Option (List ℕ) → Result (Unit {0}) Fault → Type 0

@@ -1,27 +1,28 @@
 -- Which graph a query text has, and why it has none.
 use Rattle.std.specs.Prelude.{◌≡◌, ◌<◌, ◌≤◌, ℕ, List, length}
 use Rattle.record_core.specs.declared.span.Refusal.TheVariants.{At}
-use Rattle.semantics.specs.Query.{Input, Program}
+use Rattle.semantics.specs.Query.{Input, Name, Program}
 use Rattle.semantics.specs.Rewriting.{IsNormalForm}
 use Rattle.semantics.specs.Graph.{Graph}
 use Rattle.semantics.specs.Lower.{lowered}
 use Rattle.lowering.specs.GraphLaws.{Computes}
-use Rattle.console.specs.Queries.{IsQuery, IsRefusal}
+use Rattle.console.specs.Queries.{IsQuery, IsRefusal, output_names}
 use Rattle.console.specs.declared.fault.CompileFault.{CompileFault}
 use Rattle.console.specs.declared.fault.CompileFault.TheVariants as compile
 use Rattle.console.specs.declared.fault.Fault.{Fault}
 use Rattle.console.specs.declared.fault.Fault.TheVariants.{Query, TooManyVertices, Input as InputFault, Schedule, NoMemory, NoWorker, Incomplete, ReadQuery, ReadInput, Write}
 
--- The text is a well-typed program with these inputs. The graph is the one that the definition makes of the normal form that
--- the program rewrites to.
--- On any inputs it has exactly one flow, which brings what the text's program means to the output.
-pub record IsCompiled (text : List ℕ) (g : Graph) (inputs : List Input) : Type 0 where
+-- The text is a well-typed program with these inputs and outputs of these names. The graph is the one that the definition makes of the
+-- normal form that the program rewrites to.
+-- On any inputs it has exactly one flow, which brings to each output what the text's program means there.
+pub record IsCompiled (text : List ℕ) (g : Graph) (inputs : List Input) (outputs : List Name) : Type 0 where
   pub program : Program
   pub reads : IsQuery text program
   pub rewritten : Program
   pub normal : IsNormalForm rewritten program
   pub graph : g ≡ lowered rewritten
   pub named : inputs ≡ program.inputs
+  pub named_outputs : outputs ≡ output_names program
   pub computes : Computes g program
 
 -- the text is a well-typed program, and the graph of the normal form that it rewrites to has more than 4096 vertices
@@ -34,7 +35,7 @@ pub record IsTooLarge (text : List ℕ) : Type 0 where
 
 -- the text is a query whose graph has at most 4096 vertices
 abbrev pub IsTaken : List ℕ → Type 0
-IsTaken text = (g : Graph) × (inputs : List Input) × IsCompiled text g inputs × (length g ≤ 4096)
+IsTaken text = (g : Graph) × (inputs : List Input) × (outputs : List Name) × IsCompiled text g inputs outputs × (length g ≤ 4096)
 
 -- why a query text has no graph
 abbrev pub IsUncompiled : List ℕ → CompileFault → Type 0

@@ -1,7 +1,7 @@
 -- What is written of a query's graph.
 use Rattle.std.specs.Prelude.{◌≡◌, ℕ, List, Option, Result, Ok, Err}
 use Rattle.std.specs.Io.KnownBytes.{Appends}
-use Rattle.semantics.specs.Query.{Input as Declared}
+use Rattle.semantics.specs.Query.{Input as Declared, Name}
 use Rattle.semantics.specs.Graph.{Graph}
 use Rattle.lowering.specs.Text.{graph_text}
 use Rattle.collector.specs.Written.{AppendsFront}
@@ -12,16 +12,17 @@ use Rattle.console.specs.declared.fault.Fault.{Fault}
 use Rattle.console.specs.declared.fault.Fault.TheVariants.{Query, TooManyVertices, Input, Schedule, NoMemory, NoWorker, Incomplete, ReadQuery, ReadInput, Write}
 
 -- the text is that of a graph in this form; what Graphviz draws is left open
-abbrev pub IsTextIn : GraphForm → Graph → List ℕ → Type 0
-IsTextIn Lines g text = text ≡ graph_text g
-IsTextIn Dot g text = Unit {0}
+abbrev pub IsTextIn : GraphForm → (outputs : List Name) → Graph → List ℕ → Type 0
+IsTextIn Lines outputs g text = text ≡ graph_text g outputs
+IsTextIn Dot outputs g text = Unit {0}
 
 -- the text shows the graph of the query
 pub record ShowsGraph (form : GraphForm) (query text : List ℕ) : Type 0 where
   pub graph : Graph
   pub inputs : List Declared
-  pub compiled : IsCompiled query graph inputs
-  pub shown : IsTextIn form graph text
+  pub outputs : List Name
+  pub compiled : IsCompiled query graph inputs outputs
+  pub shown : IsTextIn form outputs graph text
 
 -- The graph is written whole at Ok, and a beginning of it where the writer failed. Else nothing is written: the query is refused,
 -- or its graph is too large, or its reader failed, or there was no memory.

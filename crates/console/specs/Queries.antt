@@ -1,9 +1,9 @@
 -- Which program a query text is, and why a text is none.
-use Rattle.std.specs.Prelude.{◌≡◌, ◌⊎◌, ℕ, List}
+use Rattle.std.specs.Prelude.{◌≡◌, ◌⊎◌, ℕ, List, map}
 use Rattle.record_core.specs.declared.span.Refusal.{Refusal}
 use Rattle.record_core.specs.declared.span.Refusal.TheVariants as refusal
 use Rattle.record_core.specs.declared.span.Refusal.TheVariants.{At}
-use Rattle.semantics.specs.Query.{Program}
+use Rattle.semantics.specs.Query.{Name, Output, Program}
 use Rattle.semantics.specs.Typing.{WellTyped}
 use Rattle.expr_tree.specs.Trees.{ProgramTree}
 use Rattle.expr_tree.specs.Plain.{plain_program}
@@ -13,13 +13,17 @@ use Rattle.typing.specs.FirstFault.{Told}
 use Rattle.typing.specs.Shown.{typed_program}
 use Rattle.typing.specs.declared.typed.Typed.{Typed}
 
+-- the names of a program's outputs, in order
+abbrev pub output_names : Program → List Name
+output_names p = map (λ (o : Output). o.name) p.outputs
+
 -- the text reads as a tree that is well typed and is the program, spans aside
 pub record IsQuery (text : List ℕ) (p : Program) : Type 0 where
   pub tree : ProgramTree
-  pub arity : ℕ
+  pub arities : List ℕ
   pub read : grammar.Reads text tree
   pub plain : p ≡ plain_program tree
-  pub typed : WellTyped p arity
+  pub typed : WellTyped p arities
 
 -- the text reads as the tree of a typed program
 abbrev pub IsTypedQuery : {A : Type 0} → List ℕ → Typed A → Type 0

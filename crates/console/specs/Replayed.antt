@@ -1,7 +1,7 @@
 -- What the replay of a schedule writes.
 use Rattle.std.specs.Prelude.{◌≡◌, ◌≤◌, ℕ, List, length, Option, Result, Ok, Err}
 use Rattle.std.specs.Io.KnownBytes.{Appends}
-use Rattle.semantics.specs.Query.{Input as Declared}
+use Rattle.semantics.specs.Query.{Input as Declared, Name}
 use Rattle.semantics.specs.Graph.{Graph}
 use Rattle.machine.specs.World.{World, opening}
 use Rattle.collector.specs.Written.{AppendsFront}
@@ -17,12 +17,13 @@ use Rattle.console.specs.declared.fault.Fault.TheVariants.{Query, TooManyVertice
 pub record IsReplay (query : List ℕ) (workers : ℕ) (schedule text : List ℕ) : Type 0 where
   pub graph : Graph
   pub inputs : List Declared
-  pub compiled : IsCompiled query graph inputs
+  pub outputs : List Name
+  pub compiled : IsCompiled query graph inputs outputs
   pub few : length graph ≤ 4096
   pub commands : List Command
   pub read : IsScheduleText schedule commands
   pub last : World
-  pub replays : Replays (record { graph = graph; workers = workers; inputs = inputs }) opening commands last text
+  pub replays : Replays (record { graph = graph; workers = workers; inputs = inputs; outputs = outputs }) opening commands last text
 
 -- why there is no such text: the query is refused, or it is taken and the schedule is refused, or there was no memory
 abbrev pub IsReplayFault : List ℕ → List ℕ → Fault → Type 0

@@ -1,9 +1,11 @@
 //! The check of a query: its inputs and its arities.
 
-ghost use Rattle.std.specs.Prelude.{◌≡◌, ◌++◌, ◌⊎◌, true, codes, decimal, map, take, IfErr, IfOk, IfSome, IsErrOf, OnOk};
-ghost use Rattle.expr_tree.specs.Plain.{plain_input};
+ghost use Rattle.std.specs.Prelude.{◌≡◌, ◌++◌, ◌⊎◌, true, map, take, IfErr, IfOk, IfSome, IsErrOf, OnOk};
+ghost use Rattle.std.specs.List.{flat_map};
+ghost use Rattle.expr_tree.specs.Plain.{plain_input, plain_output, plain_program};
+ghost use Rattle.expr_tree.specs.Views.{output_tree, program_tree};
 ghost use Rattle.collector.specs.Watching.{has_failed, inner_of};
-ghost use Rattle.console.specs.Checks.{CheckEnds, IsCheckFault, IsChecked, arities_text, input_line};
+ghost use Rattle.console.specs.Checks.{CheckEnds, IsCheckFault, IsChecked, arities_text, input_line, output_line, output_lines};
 ghost use Rattle.console.specs.Runs.{IsAfterReading, IsUnreadQuery};
 ghost use Rattle.console.specs.declared.fault.Fault.TheVariants as fault;
 
@@ -12,7 +14,7 @@ use crate::fault::{Fault, query_fault};
 use crate::running::read_query;
 use crate::texts::Texts;
 use collector::{Watched, put};
-use expr_tree::Input;
+use expr_tree::{Input, Output, Program};
 use itoa::Buffer;
 use std::alloc::{AllocError, Allocator, Global};
 use std::io::{Read, Write};
@@ -30,27 +32,68 @@ fn push_input(text: &mut Vec<u8>, input: &Input) -> Result<(), AllocError>
     Ok(())
 }
 
-/// Appends `output ARITY`.
-fn push_output(text: &mut Vec<u8>, arity: u64) -> Result<(), AllocError>
-    ensures { OnOk result (text.new.items ≡ text.old.items ++ (codes "output " ++ (decimal arity ++ codes "\n"))) }
+/// Appends `output ARITY`, or `output NAME/ARITY` where the output isn't named `out`.
+fn push_output<A: Allocator>(
+    text: &mut Vec<u8>,
+    output: &Output<A>,
+    arity: u64,
+) -> Result<(), AllocError>
+    ensures { OnOk result (text.new.items ≡ text.old.items ++ output_line (plain_output (output_tree output.now)) arity) }
 {
     let mut buffer = Buffer::new();
+    let name = output.name.bytes();
     text.extend_from_slice(b"output ")?;
+    if name != b"out".as_slice() {
+        text.extend_from_slice(name)?;
+        text.extend_from_slice(b"/")?;
+    }
     text.extend_from_slice(buffer.format(arity).as_bytes())?;
     text.extend_from_slice(b"\n")?;
     Ok(())
 }
 
-/// The lines of the inputs in order, and of the output.
+/// Appends the lines of the inputs in order.
 #[tactic(auto, using(crate::proofs::InputLines::one_input_more))]
-fn arities(alloc: Global, inputs: &[Input], output: u64) -> Result<Vec<u8>, AllocError>
-    ensures { IfOk result (λ t. t.items ≡ arities_text (map plain_input inputs.now) output) }
+fn push_inputs(text: &mut Vec<u8>, inputs: &[Input]) -> Result<(), AllocError>
+    ensures { OnOk result (text.new.items ≡ text.old.items ++ flat_map input_line (map plain_input inputs.now)) }
+{
+    for i in 0..inputs.len() {
+        push_input(text, &inputs[i])?;
+    }
+    Ok(())
+}
+
+/// Appends the lines of the outputs in order, with their arities.
+fn push_outputs<A: Allocator>(
+    text: &mut Vec<u8>,
+    outputs: &[Output<A>],
+    arities: &[u64],
+) -> Result<(), AllocError>
+    ensures { OnOk result (text.new.items ≡ text.old.items ++ output_lines (map plain_output (map output_tree outputs.now)) arities.now) }
+{
+    match outputs {
+        [] => Ok(()),
+        [output, outputs @ ..] => match arities {
+            [] => Ok(()),
+            [arity, arities @ ..] => {
+                push_output(text, output, *arity)?;
+                push_outputs(text, outputs, arities)
+            }
+        },
+    }
+}
+
+/// The lines of the inputs in order, and of the outputs.
+fn arities_of<A: Allocator>(
+    alloc: Global,
+    program: &Program<A>,
+    arities: &[u64],
+) -> Result<Vec<u8>, AllocError>
+    ensures { IfOk result (λ t. t.items ≡ arities_text (plain_program (program_tree program.now)).inputs (plain_program (program_tree program.now)).outputs arities.now) }
 {
     let mut text = Vec::new(alloc);
-    for i in 0..inputs.len() {
-        push_input(&mut text, &inputs[i])?;
-    }
-    push_output(&mut text, output)?;
+    push_inputs(&mut text, &program.inputs)?;
+    push_outputs(&mut text, &program.outputs, arities)?;
     Ok(text)
 }
 
@@ -64,8 +107,7 @@ fn checked<A: Allocator + Copy>(alloc: Global, arena: A, query: &[u8]) -> Result
         Ok(typed) => typed,
         Err(refusal) => return Err(query_fault(refusal)),
     };
-    let program = typed.program();
-    match arities(alloc, &program.inputs, typed.output_arity()) {
+    match arities_of(alloc, typed.program(), typed.output_arities()) {
         Ok(text) => Ok(text),
         Err(_) => Err(Fault::NoMemory),
     }
@@ -92,8 +134,9 @@ fn write_checked<A: Allocator + Copy, W: Write>(
     }
 }
 
-/// Reads a query, checks it, and writes its arities: a line `input NAME/ARITY` for each input in order, and `output ARITY`. They
-/// are written only once all of them stand. The text that was read is left in `texts`.
+/// Reads a query, checks it, and writes its arities: a line `input NAME/ARITY` for each input in order, and for each output
+/// `output NAME/ARITY`, or `output ARITY` where it is named `out`. They are written only once all of them stand. The text that was read is
+/// left in `texts`.
 pub fn check_query<A: Allocator + Copy, Q: Read, W: Write>(
     alloc: Global,
     arena: A,

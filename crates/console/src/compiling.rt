@@ -4,8 +4,8 @@ ghost use Rattle.std.specs.Prelude.{◌≡◌, ◌≤◌, length, IfOk, IfErr};
 ghost use Rattle.expr_tree.specs.Plain.{plain_program};
 ghost use Rattle.semantics.specs.Rewriting.{IsNormalForm};
 ghost use Rattle.semantics.specs.Typing.{WellTyped};
-ghost use Rattle.typing.specs.Shown.{typed_program as shown_program, output_arity};
-ghost use Rattle.lowering.specs.Shown.{shown_graph, shown_inputs};
+ghost use Rattle.typing.specs.Shown.{typed_program as shown_program, output_arities};
+ghost use Rattle.lowering.specs.Shown.{shown_graph, shown_inputs, shown_names};
 ghost use Rattle.console.specs.Compiled.{IsCompiled, IsUncompiled};
 ghost use Rattle.console.specs.Queries.{IsRefusal, IsTypedQuery};
 
@@ -25,7 +25,7 @@ pub fn typed_program<A: Allocator + Copy>(
     text: &[u8],
 ) -> Result<Typed<A>, Refusal>
     ensures typed { IfOk result (λ t. IsTypedQuery text.now t) }
-    ensures well { IfOk result (λ t. WellTyped (plain_program (shown_program t)) (output_arity t)) }
+    ensures well { IfOk result (λ t. WellTyped (plain_program (shown_program t)) (output_arities t)) }
     ensures refusal { IfErr result (IsRefusal text.now) }
 {
     let program = match parse(arena, text) {
@@ -49,14 +49,14 @@ fn normal_form<A: Allocator + Copy>(typed: Typed<A>) -> Result<Typed<A>, NoMemor
     Ok(normal)
 }
 
-/// The dataflow graph of a query text's normal form, at most 4096 vertices. On any inputs it has exactly one flow, and what comes to its output
-/// is at each epoch what the text's program means. The tree lies in the arena, and is gone once the graph stands.
+/// The dataflow graph of a query text's normal form, at most 4096 vertices. On any inputs it has exactly one flow, and what comes to each output
+/// is at each epoch what the text's program means there. The tree lies in the arena, and is gone once the graph stands.
 pub fn compile<A: Allocator + Copy>(
     alloc: Global,
     arena: A,
     text: &[u8],
 ) -> Result<Graph, CompileFault>
-    ensures graph { IfOk result (λ g. IsCompiled text.now (shown_graph g) (shown_inputs g)) }
+    ensures graph { IfOk result (λ g. IsCompiled text.now (shown_graph g) (shown_inputs g) (shown_names g)) }
     ensures few { IfOk result (λ g. length (shown_graph g) ≤ 4096) }
     ensures fault { IfErr result (IsUncompiled text.now) }
 {

@@ -47,13 +47,15 @@ fn of_byte(byte: u8) -> Option<&'static str> {
 
 /// Whether a text ends in the name of a form whose parts stand in round brackets.
 fn is_form(before: &[u8]) -> bool {
-    let forms: [&[u8]; 7] = [
+    let forms: [&[u8]; 9] = [
         b"select",
         b"where",
         b"concat",
         b"join",
         b"group",
         b"distinct",
+        b"except",
+        b"intersect",
         b"iterate",
     ];
     forms.iter().any(|form| before.ends_with(form))
@@ -81,6 +83,10 @@ fn of_word(before: &[u8], word: &[u8], behind: &[u8]) -> Option<&'static str> {
             "a column without brackets follows, as in sum #1",
         ),
         (_, b"(", _) if before.ends_with(b"count") => Some("count stands alone"),
+        (_, b"(", _) if before.ends_with(b"minus") => Some("it is written except(a, b)"),
+        (_, b"(", _) if before.ends_with(b"union") => Some(
+            "it is written concat(a, b), and distinct(concat(a, b)) without repeats",
+        ),
         ([.., last], b"input" | b"let" | b"output", _) if *last != b';' => Some(
             "a ; ends what stands before it",
         ),

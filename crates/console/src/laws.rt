@@ -2,14 +2,14 @@
 
 ghost use Rattle.std.specs.Prelude.{◌≡◌, ◌<◌, ℕ, List, length};
 ghost use Rattle.semantics.specs.Graph as graph;
-ghost use Rattle.semantics.specs.Query.{Input};
+ghost use Rattle.semantics.specs.Query.{Input, Name};
 ghost use Rattle.console.specs.Compiled.{IsCompiled, IsTooLarge};
 ghost use Rattle.console.specs.Runs.{IsRun};
 
 /// A text has at most one graph, and where it is too large that graph has over 4096 vertices, so that none is given.
 pub fn law_one_graph()
-    ensures same { (text : List ℕ) (g h : graph.Graph) (i j : List Input) → IsCompiled text g i → IsCompiled text h j → g ≡ h }
-    ensures large { (text : List ℕ) (g : graph.Graph) (i : List Input) → IsCompiled text g i → IsTooLarge text → 4096 < length g }
+    ensures same { (text : List ℕ) (g h : graph.Graph) (i j : List Input) (m n : List Name) → IsCompiled text g i m → IsCompiled text h j n → g ≡ h }
+    ensures large { (text : List ℕ) (g : graph.Graph) (i : List Input) (m : List Name) → IsCompiled text g i m → IsTooLarge text → 4096 < length g }
 {}
 
 /// A query and an input have one answer: whatever the engine did on the way, what is written of them is the same text.

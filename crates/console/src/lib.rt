@@ -4,8 +4,8 @@
 //! `check_query` reads a query and writes its arities, and `graph_query` its graph, which `compile` makes; `replay_schedule` reads a
 //! query and a schedule, and writes what the schedule's lines print. The contract: where `run`
 //! answers Ok, what was written is the output text of what the query means on the epochs that the input text tells; a graph that
-//! `compile` makes has exactly one flow on any inputs, whose output is what the query means. Below stand the parser, typing,
-//! the normaliser, lowering, the board and the collector; above stands the program alone.
+//! `compile` makes has exactly one flow on any inputs, which brings to each output what the query means there. Below stand the
+//! parser, typing, the normaliser, lowering, the board and the collector; above stands the program alone.
 #![tactic(auto)]
 
 mod checking;

@@ -74,12 +74,18 @@ fn write_naming<W: Write>(code: u8, word: &[u8], writer: &mut W) -> io::Result<(
     match code {
         11 => writeln!(writer, "no relation is called {shown} here"),
         12 => writeln!(writer, "the name {shown} is taken already"),
-        17 => writeln!(writer, "{shown} turns: a loop takes at most 1024"),
+        17 => writeln!(writer, "{shown} turns: a loop takes at most 65535"),
         18 => writeln!(
             writer,
-            "this loop stands in the bodies of 8 others: at most 7 are allowed"
+            "this loop stands in the bodies of 16 others: at most 15 are allowed"
         ),
         19 => writeln!(writer, "{shown} is the 17th input: a query has at most 16"),
+        20 if word == b"output".as_slice() => writeln!(
+            writer,
+            "an output without a name is called out, and so is an earlier one"
+        ),
+        20 => writeln!(writer, "an earlier output is called {shown}"),
+        23 => writeln!(writer, "this is the 17th output: a query has at most 16"),
         _ => write_summary(code, writer),
     }
 }

@@ -1,7 +1,7 @@
 //! What a graph makes of epochs, computed and written.
 
 ghost use Rattle.std.specs.Prelude.{◌≡◌, ◌<◌, ◌≤◌, ℕ, List, true, IsErrOf};
-ghost use Rattle.lowering.specs.Shown.{shown_graph, shown_inputs};
+ghost use Rattle.lowering.specs.Shown.{shown_graph, shown_inputs, shown_names};
 ghost use Rattle.collector.specs.Held.{epoch_count, records_at};
 ghost use Rattle.collector.specs.Watching.{has_failed, inner_of};
 ghost use Rattle.console.specs.Answers.{Responds};
@@ -29,16 +29,16 @@ fn write_emitted<W: Write>(
     writer: &mut Watched<W>,
 ) -> Result<(), Fault>
     requires { IsWorkedOff report.now.graph report.now epochs.now }
-    ensures text { (query : List ℕ) (c : IsCompiled query (shown_graph report.now.graph) (shown_inputs report.now.graph)) → Responds c.program (epoch_count epochs.now) (records_at epochs.now) (W.contents (inner_of writer.old)) (W.contents (inner_of writer.new)) result }
+    ensures text { (query : List ℕ) (c : IsCompiled query (shown_graph report.now.graph) (shown_inputs report.now.graph) (shown_names report.now.graph)) → Responds c.program (epoch_count epochs.now) (records_at epochs.now) (W.contents (inner_of writer.old)) (W.contents (inner_of writer.new)) result }
     ensures failed { IsErrOf result fault.Write → has_failed writer.new ≡ true }
 {
     report.law_headline();
     report.law_drained();
-    let lists = match emitted(alloc, report, epochs.count()) {
-        Ok(lists) => lists,
+    let outputs = match emitted(alloc, report, epochs.count()) {
+        Ok(outputs) => outputs,
         Err(_) => return Err(Fault::NoMemory),
     };
-    match write_epochs(alloc, lists.as_slice(), writer) {
+    match write_epochs(alloc, outputs.as_slice(), epochs.count(), writer) {
         Ok(()) => Ok(()),
         Err(OutFault::NoMemory) => Err(Fault::NoMemory),
         Err(OutFault::Write) => Err(Fault::Write),
@@ -56,7 +56,7 @@ pub fn respond<R: Threads + Wait + Sync, W: Write, O: Write + Send>(
     writer: &mut Watched<W>,
     observer: &mut Option<O>,
 ) -> Result<(), Fault>
-    ensures text { (query : List ℕ) (c : IsCompiled query (shown_graph graph) (shown_inputs graph)) → Responds c.program (epoch_count epochs.now) (records_at epochs.now) (W.contents (inner_of writer.old)) (W.contents (inner_of writer.new)) result }
+    ensures text { (query : List ℕ) (c : IsCompiled query (shown_graph graph) (shown_inputs graph) (shown_names graph)) → Responds c.program (epoch_count epochs.now) (records_at epochs.now) (W.contents (inner_of writer.old)) (W.contents (inner_of writer.new)) result }
     ensures failed { IsErrOf result fault.Write → has_failed writer.new ≡ true }
 {
     match execute(rt, alloc, graph, workers.count(), epochs, observer) {

@@ -1,7 +1,7 @@
 //! A run, from bytes to bytes.
 
 ghost use Rattle.std.specs.Prelude.{◌≡◌, ◌≤◌, ◌⊎◌, length, take, true, map, IfOk, IfErr, IfSome, IsErrOf};
-ghost use Rattle.lowering.specs.Shown.{shown_graph, shown_inputs};
+ghost use Rattle.lowering.specs.Shown.{shown_graph, shown_inputs, shown_names};
 ghost use Rattle.lowering.specs.Views.{input_of};
 ghost use Rattle.collector.specs.Held.{epoch_count, records_at};
 ghost use Rattle.collector.specs.InputText.{IsInputText, IsRefused};
@@ -72,7 +72,7 @@ fn declared<'a>(alloc: Global, inputs: &'a [DeclaredInput]) -> Result<Vec<Declar
 
 /// The graph of a query text; its tree is gone.
 pub fn graph_of_text(alloc: Global, query: &[u8]) -> Result<Graph, Fault>
-    ensures graph { IfOk result (λ g. IsCompiled query.now (shown_graph g) (shown_inputs g)) }
+    ensures graph { IfOk result (λ g. IsCompiled query.now (shown_graph g) (shown_inputs g) (shown_names g)) }
     ensures few { IfOk result (λ g. length (shown_graph g) ≤ 4096) }
     ensures fault { IfErr result (IsQueryFault query.now) }
 {

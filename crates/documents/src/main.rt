@@ -15,7 +15,8 @@ mod sessions;
 use crate::explanations::{has_table, rows, tells};
 use crate::lines::printed;
 use crate::sessions::{Session, sessions};
-use refusals::EXPLANATIONS;
+use refusals::{Explanation, explanation_of};
+use std::alloc::{AllocError, Global};
 use std::process::ExitCode;
 use std::sync::Wait;
 use std::thread::Threads;
@@ -49,15 +50,31 @@ fn replays(
     Ok(is_right)
 }
 
-/// Whether a document's table of refusals is that of the explanations; the rows that aren't are told.
-fn explains(rt: &HostRuntime, path: &str, text: &str) -> io::Result<bool> {
+/// All explanations, in the order of their codes.
+fn all_explanations(alloc: Global) -> Result<Vec<&'static Explanation>, AllocError> {
+    let mut all = Vec::new(alloc);
+    for code in 0..=u8::MAX {
+        if let Some(explanation) = explanation_of(code) {
+            all.push(explanation)?;
+        }
+    }
+    Ok(all)
+}
+
+/// Whether a document's table of refusals is that of these explanations; the rows that aren't are told.
+fn explains(
+    rt: &HostRuntime,
+    path: &str,
+    text: &str,
+    explanations: &[&'static Explanation],
+) -> io::Result<bool> {
     let rows = rows(rt.alloc(), text)?;
-    let (told, all) = (rows.len(), EXPLANATIONS.len());
+    let (told, all) = (rows.len(), explanations.len());
     let mut is_right = told == all;
     if !is_right {
         println!(rt; "{path}: the table has {told} refusals, and there are {all}")?;
     }
-    for (row, explanation) in rows.iter().zip(EXPLANATIONS.as_slice()) {
+    for (row, explanation) in rows.iter().zip(explanations) {
         if !tells(row, explanation) {
             let line = row.line;
             let (code, summary, place) = (explanation.code, explanation.summary, explanation.place);
@@ -81,9 +98,10 @@ fn holds(rt: &HostRuntime, threads: &(impl Threads + Wait + Sync), path: &str) -
         }
         return Ok(are_replayed);
     }
-    let is_right = explains(rt, path, text.as_str())? && are_replayed;
+    let explanations = all_explanations(rt.alloc())?;
+    let is_right = explains(rt, path, text.as_str(), explanations.as_slice())? && are_replayed;
     if is_right {
-        let refusals = EXPLANATIONS.len();
+        let refusals = explanations.len();
         println!(rt; "{path}: {count} sessions as written, {refusals} refusals as told")?;
     }
     Ok(is_right)

@@ -2,8 +2,8 @@
 
 use expr_tree::{Agg, Column, Comparison, Cond, Pair, Scalar};
 use operators::{
-    Concat, Distinct, Egress, Feedback, Gate, Group, Hold, Ingress, Input, Join, Operator, Output,
-    Select, Where,
+    Concat, Distinct, Egress, Except, Feedback, Gate, Group, Hold, Ingress, Input, Intersect, Join,
+    Operator, Output, Select, Where,
 };
 use record_core::Span;
 use std::test::Fail;
@@ -33,6 +33,8 @@ fn ports_of_forwarders(rt: HostRuntime) {
 #[test]
 fn ports_of_the_others(rt: HostRuntime) {
     assert_eq!(rt; ports(&Distinct), (1, 1));
+    assert_eq!(rt; ports(&Except), (2, 1));
+    assert_eq!(rt; ports(&Intersect), (2, 1));
     assert_eq!(rt; ports(&Gate { turns: 3 }), (1, 2));
     assert_eq!(rt; ports(&Hold { turns: 3 }), (1, 2));
 }

@@ -2,6 +2,8 @@
 #![tactic(auto)]
 
 #[cfg(test)]
+mod compared_shards;
+#[cfg(test)]
 mod count_tracker;
 #[cfg(test)]
 mod flat_rows;

@@ -1,5 +1,5 @@
 -- The records of batches, as the board and the collector see them.
-use Rattle.std.proofs.Common.{◌≡◌, ℕ, List, [], ◌∷◌, ◌++◌, ◌==◌, cond, slice_index_or, refl, sym, ap, ◌∙◌, eq-eqb}
+use Rattle.std.proofs.Common.{◌≡◌, ℕ, List, [], ◌∷◌, ◌++◌, slice_index_or, refl, sym, ap, ◌∙◌}
 use Rattle.semantics.specs.Multiset.{Record}
 use Rattle.semantics.specs.Graph.{output_number}
 use Rattle.lowering.specs.Shown.{shown_graph}
@@ -7,7 +7,8 @@ use Rattle.board.specs.Shown as board
 use Rattle.collector.specs.Held.{records_at}
 use Rattle.collector.specs.Piles.{joined}
 use Rattle.collector.specs.declared.epochs.Epochs.{Epochs}
-use Rattle.execution.specs.Fed.{emitted_at, fed_at}
+use Rattle.board.specs.Promises.{emitted_at}
+use Rattle.execution.specs.Fed.{fed_at}
 
 joined_same : (bs : List (List Record)) → board.joined bs ≡ joined bs
 joined_same [] = refl
@@ -17,7 +18,5 @@ pub fed_same : (s : board.Shown) (epochs : Epochs) (input epoch : ℕ) (fed read
     → fed_at s input epoch ≡ records_at epochs epoch input
 fed_same s epochs input epoch fed read e f same = ap board.joined (sym e) ∙ joined_same fed ∙ ap joined same ∙ f
 
-pub emitted_same : (s : board.Shown) (output epoch : ℕ) (batches : List (List Record)) → batches ≡ cond (output == output_number (shown_graph s.graph)) (slice_index_or s.emitted epoch []) [] → output ≡ output_number (shown_graph s.graph)
-    → joined batches ≡ emitted_at s epoch
-emitted_same s output epoch batches e o =
-    ap joined (e ∙ ap (λ b. cond b (slice_index_or s.emitted epoch []) []) (eq-eqb output (output_number (shown_graph s.graph)) o)) ∙ sym (joined_same (slice_index_or s.emitted epoch []))
+pub emitted_same : (s : board.Shown) (output epoch : ℕ) (batches : List (List Record)) → batches ≡ slice_index_or (board.emitted_by s.emitted (output_number (shown_graph s.graph) output)) epoch [] → joined batches ≡ emitted_at s output epoch
+emitted_same s output epoch batches e = ap joined e ∙ sym (joined_same (slice_index_or (board.emitted_by s.emitted (output_number (shown_graph s.graph) output)) epoch []))

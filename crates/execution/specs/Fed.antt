@@ -3,7 +3,7 @@ use Rattle.std.specs.Prelude.{◌≡◌, ◌<◌, ℕ, List, [], length, slice_i
 use Rattle.semantics.specs.Multiset.{Record}
 use Rattle.lowering.specs.Shown.{GraphValue, shown_inputs}
 use Rattle.board.specs.Shown as board
-use Rattle.board.specs.Promises.{IsDrained}
+use Rattle.board.specs.Promises.{IsDrained, IsOutputPlace, emitted_at}
 use Rattle.collector.specs.Held.{epoch_count, records_at}
 use Rattle.collector.specs.declared.epochs.Epochs.{Epochs}
 
@@ -11,18 +11,18 @@ use Rattle.collector.specs.declared.epochs.Epochs.{Epochs}
 abbrev pub fed_at : board.Shown → (input epoch : ℕ) → List Record
 fed_at s input epoch = board.records_at (board.input_at s input).fed epoch
 
--- what was emitted for an epoch
-abbrev pub emitted_at : board.Shown → (epoch : ℕ) → List Record
-emitted_at s epoch = board.records_at s.emitted epoch
-
 -- each input of so many was fed, at each epoch of so many, what was read
 abbrev pub HoldsFed : board.Shown → ℕ → Epochs → ℕ → Type 0
 HoldsFed s inputs epochs count = (epoch input : ℕ) → epoch < count → input < inputs → fed_at s input epoch ≡ records_at epochs epoch input
 
--- the lists are what was emitted, for each epoch of so many
-pub record EmittedBelow (s : board.Shown) (count : ℕ) (lists : List (List Record)) : Type 0 where
+-- the lists are what was emitted at an output, for each epoch of so many
+pub record HasEpochs (s : board.Shown) (output count : ℕ) (lists : List (List Record)) : Type 0 where
   pub size : length lists ≡ count
-  pub each : (epoch : ℕ) → epoch < count → slice_index_or lists epoch [] ≡ emitted_at s epoch
+  pub each : (epoch : ℕ) → epoch < count → slice_index_or lists epoch [] ≡ emitted_at s output epoch
+
+-- the records are what was emitted at each output, for each epoch of so many
+abbrev pub EmittedBelow : board.Shown → (count : ℕ) → (records : (output epoch : ℕ) → List Record) → Type 0
+EmittedBelow s count records = (output epoch : ℕ) → IsOutputPlace s output → epoch < count → records output epoch ≡ emitted_at s output epoch
 
 -- the board, over that graph, was fed just the epochs, and has nothing left to do
 pub record IsWorkedOff (graph : GraphValue) (s : board.Shown) (epochs : Epochs) : Type 0 where

@@ -7,10 +7,10 @@
 //! | Call | What it does | Fails |
 //! |---|---|---|
 //! | `execute` | feeds the epochs to an engine over the graph, and works it off | `Unfinished`: no report |
-//! | `emitted` | what a report's output has, by epoch | memory |
+//! | `emitted` | what a report has emitted, by output and epoch | memory |
 //!
 //! The contract for `console` above: the report that `execute` gives is of that graph, it is drained, and what its inputs were fed is
-//! what was read. The report keeps the promise of its board, so what it has emitted for each epoch is what the query means there.
+//! what was read. The report keeps the promise of its board, so what it has emitted at each output for each epoch is what the query means there.
 //! Nothing of it rests on what the threads did: the report is asked. Below stand `workers`, `board` and `collector`.
 #![tactic(auto)]
 

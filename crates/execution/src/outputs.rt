@@ -1,43 +1,59 @@
 //! What a report has emitted.
 
 ghost use Rattle.std.specs.Prelude.{◌≡◌, IfOk, map};
-ghost use Rattle.semantics.specs.Graph.{output_number};
-ghost use Rattle.lowering.specs.Shown.{shown_graph};
+ghost use Rattle.board.specs.Promises.{IsOutputPlace, emitted_at};
+ghost use Rattle.lowering.specs.Shown.{shown_names};
+ghost use Rattle.collector.specs.Emitted.{names_of, records_of};
 ghost use Rattle.collector.specs.Piles.{joined};
-ghost use Rattle.execution.specs.Fed.{EmittedBelow, emitted_at};
+ghost use Rattle.execution.specs.Fed.{EmittedBelow, HasEpochs};
 
-use lowering::{Graph, VertexId};
+use collector::OutputEpochs;
 use progress::LocationTracker;
 use rows::Batch;
 use std::alloc::{AllocError, Global};
 use workers::Report;
 
-/// The graph's last vertex.
-fn output_vertex(graph: &Graph) -> VertexId
-    ensures { result.0 ≡ output_number (shown_graph graph.now) }
+/// What was emitted at an output for an epoch.
+fn emitted_for<'a>(report: &'a Report<LocationTracker>, output: u32, epoch: u32) -> &'a [Batch]
+    requires { IsOutputPlace report.now output }
+    ensures { joined result.now ≡ emitted_at report.entry.now output epoch }
 {
-    let count = graph.vertex_count();
-    VertexId(count.saturating_sub(1) as u32)
+    report.emitted(output, epoch)
 }
 
-/// What was emitted at the output for an epoch.
-fn emitted_for<'a>(report: &'a Report<LocationTracker>, epoch: u32) -> &'a [Batch]
-    ensures { joined result.now ≡ emitted_at report.entry.now epoch }
+/// What was emitted at an output, for each epoch of so many.
+fn emitted_at_output<'a>(
+    alloc: Global,
+    report: &'a Report<LocationTracker>,
+    output: u32,
+    count: u32,
+) -> Result<Vec<&'a [Batch]>, AllocError>
+    requires { IsOutputPlace report.now output }
+    ensures { IfOk result (λ v. HasEpochs report.entry.now output count (map (λ r. joined r.now) v.items)) }
 {
-    report.emitted(output_vertex(report.graph()), epoch)
+    let mut lists = Vec::with_capacity(alloc, count as usize)?;
+    for epoch in 0..count {
+        lists.push(emitted_for(report, output, epoch))?;
+    }
+    Ok(lists)
 }
 
-/// What was emitted at the output, for each epoch of so many.
+/// What was emitted at each output, by its name, for each epoch of so many.
 pub fn emitted<'a>(
     alloc: Global,
     report: &'a Report<LocationTracker>,
     count: u32,
-) -> Result<Vec<&'a [Batch]>, AllocError>
-    ensures { IfOk result (λ v. EmittedBelow report.entry.now count (map (λ r. joined r.now) v.items)) }
+) -> Result<Vec<OutputEpochs<'a>>, AllocError>
+    ensures names { IfOk result (λ v. names_of v.items ≡ shown_names report.entry.now.graph) }
+    ensures each { IfOk result (λ v. EmittedBelow report.entry.now count (records_of v.items)) }
 {
-    let mut lists = Vec::with_capacity(alloc, count as usize)?;
-    for epoch in 0..count {
-        lists.push(emitted_for(report, epoch))?;
+    let outputs = report.graph().outputs();
+    let mut emitted = Vec::with_capacity(alloc, outputs.len())?;
+    for output in 0..report.output_count() {
+        emitted.push(OutputEpochs {
+            name: outputs[output as usize].name.bytes(),
+            epochs: emitted_at_output(alloc, report, output, count)?,
+        })?;
     }
-    Ok(lists)
+    Ok(emitted)
 }

@@ -1,7 +1,7 @@
 -- Sizes and depths of lists with one more item, and of groups.
 use Rattle.std.proofs.Common.{◌≡◌, suc, ◌+◌, ◌≤◌, max, List, [], ◌∷◌, ◌++◌, arith}
-use Rattle.semantics.specs.Query.{Scalar, Rel, Agg, Let}
-use Rattle.semantics.specs.Size.{scalar_size, scalars_size, rel_size, lets_size, scalar_depth, scalars_depth, aggs_depth, rel_depth, lets_depth}
+use Rattle.semantics.specs.Query.{Scalar, Rel, Agg, Let, Output}
+use Rattle.semantics.specs.Size.{scalar_size, scalars_size, rel_size, lets_size, outputs_size, scalar_depth, scalars_depth, aggs_depth, rel_depth, lets_depth, outputs_depth}
 
 -- the size of scalars with one more
 pub scalars_size-push : (ss : List Scalar) (s : Scalar) → scalars_size (ss ++ s ∷ []) ≡ scalars_size ss + scalar_size s
@@ -23,6 +23,16 @@ pub lets_depth-push : (ls : List Let) (l : Let) → lets_depth (ls ++ l ∷ []) 
 lets_depth-push [] l = omega arith
 lets_depth-push (m ∷ ms) l = omega (arith, lets_depth-push ms l)
 
+-- the size of outputs with one more
+pub outputs_size-push : (os : List Output) (o : Output) → outputs_size (os ++ o ∷ []) ≡ outputs_size os + rel_size o.value
+outputs_size-push [] o = omega arith
+outputs_size-push (p ∷ ps) o = omega (arith, outputs_size-push ps o)
+
+-- the depth of outputs with one more
+pub outputs_depth-push : (os : List Output) (o : Output) → outputs_depth (os ++ o ∷ []) ≡ max (outputs_depth os) (rel_depth o.value)
+outputs_depth-push [] o = omega arith
+outputs_depth-push (p ∷ ps) o = omega (arith, outputs_depth-push ps o)
+
 -- a relation is a node at least
 pub rel_depth-positive : (r : Rel) → 1 ≤ rel_depth r
 rel_depth-positive (Rel.named x) = omega arith
@@ -32,6 +42,8 @@ rel_depth-positive (Rel.concat p q) = omega arith
 rel_depth-positive (Rel.join p q ps) = omega arith
 rel_depth-positive (Rel.group r ks as') = omega arith
 rel_depth-positive (Rel.distinct r) = omega arith
+rel_depth-positive (Rel.except p q) = omega arith
+rel_depth-positive (Rel.intersect p q) = omega arith
 rel_depth-positive (Rel.iterate n x r b) = omega arith
 
 -- aggregates are at most 1 deep

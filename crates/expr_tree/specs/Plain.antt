@@ -9,9 +9,11 @@ use Rattle.expr_tree.specs.declared.condition.Connective.TheVariants as connecti
 use Rattle.expr_tree.specs.declared.relation.Pair as declared_pair
 use Rattle.expr_tree.specs.declared.relation.Agg as declared_agg
 use Rattle.expr_tree.specs.declared.relation.Agg.TheVariants as agg
+use Rattle.expr_tree.specs.declared.relation.SetOperator.{SetOperator}
+use Rattle.expr_tree.specs.declared.relation.SetOperator.TheVariants as operation
 use Rattle.expr_tree.specs.declared.program.Input as declared_input
-use Rattle.expr_tree.specs.Trees.{ScalarTree, CondTree, RelTree, LetTree, ProgramTree}
-use Rattle.semantics.specs.Query.{Scalar, Comparison, Cond, Agg, Pair, Rel, Input, Let, Program}
+use Rattle.expr_tree.specs.Trees.{ScalarTree, CondTree, RelTree, LetTree, OutputTree, ProgramTree}
+use Rattle.semantics.specs.Query.{Scalar, Comparison, Cond, Agg, Pair, Rel, Input, Let, Output, Program}
 
 -- two scalars under an operator
 abbrev pub plain_operator : Operator → Scalar → Scalar → Scalar
@@ -57,12 +59,18 @@ plain_agg (agg.Sum s c) = Agg.sum c.index
 plain_agg (agg.Min s c) = Agg.min c.index
 plain_agg (agg.Max s c) = Agg.max c.index
 
+-- two relations under a set operator
+abbrev pub plain_set_operation : SetOperator → Rel → Rel → Rel
+plain_set_operation operation.Concat p q = Rel.concat p q
+plain_set_operation operation.Except p q = Rel.except p q
+plain_set_operation operation.Intersect p q = Rel.intersect p q
+
 -- of a relation
 abbrev pub plain_rel : RelTree → Rel
 plain_rel (RelTree.named s x) = Rel.named x
 plain_rel (RelTree.select s r ts) = Rel.select (plain_rel r) (map plain_scalar ts)
 plain_rel (RelTree.filter s r c) = Rel.filter (plain_rel r) (plain_cond c)
-plain_rel (RelTree.concat s p q) = Rel.concat (plain_rel p) (plain_rel q)
+plain_rel (RelTree.set_operation s o p q) = plain_set_operation o (plain_rel p) (plain_rel q)
 plain_rel (RelTree.join s p q xs) = Rel.join (plain_rel p) (plain_rel q) (map plain_pair xs)
 plain_rel (RelTree.group s r ks gs) = Rel.group (plain_rel r) (map (λ k. k.index) ks) (map plain_agg gs)
 plain_rel (RelTree.distinct s r) = Rel.distinct (plain_rel r)
@@ -76,6 +84,10 @@ plain_input i = record { name = i.name; arity = i.arity }
 abbrev pub plain_let : LetTree → Let
 plain_let l = record { name = l.name; value = plain_rel l.relation }
 
+-- of an output
+abbrev pub plain_output : OutputTree → Output
+plain_output o = record { name = o.name; value = plain_rel o.relation }
+
 -- of a program
 abbrev pub plain_program : ProgramTree → Program
-plain_program p = record { inputs = map plain_input p.inputs; lets = map plain_let p.lets; output = plain_rel p.output }
+plain_program p = record { inputs = map plain_input p.inputs; lets = map plain_let p.lets; outputs = map plain_output p.outputs }

@@ -7,6 +7,7 @@ use Rattle.expr_tree.specs.declared.condition.Connective.{Connective}
 use Rattle.expr_tree.specs.declared.relation.Column.{Column}
 use Rattle.expr_tree.specs.declared.relation.Pair.{Pair}
 use Rattle.expr_tree.specs.declared.relation.Agg.{Agg}
+use Rattle.expr_tree.specs.declared.relation.SetOperator.{SetOperator}
 use Rattle.expr_tree.specs.declared.program.Input.{Input}
 
 -- a scalar
@@ -27,7 +28,7 @@ pub data RelTree : Type 0 where
   named : Span → List ℕ → RelTree
   select : Span → RelTree → List ScalarTree → RelTree
   filter : Span → RelTree → CondTree → RelTree
-  concat : Span → RelTree → RelTree → RelTree
+  set_operation : Span → SetOperator → RelTree → RelTree → RelTree
   join : Span → RelTree → RelTree → List Pair → RelTree
   group : Span → RelTree → List Column → List Agg → RelTree
   distinct : Span → RelTree → RelTree
@@ -39,8 +40,15 @@ pub record LetTree : Type 0 where
   pub name : List ℕ
   pub relation : RelTree
 
+-- an output, with the spans of its keyword and of its name
+pub record OutputTree : Type 0 where
+  pub keyword_span : Span
+  pub name_span : Span
+  pub name : List ℕ
+  pub relation : RelTree
+
 -- a program
 pub record ProgramTree : Type 0 where
   pub inputs : List Input
   pub lets : List LetTree
-  pub output : RelTree
+  pub outputs : List OutputTree

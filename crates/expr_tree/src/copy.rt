@@ -1,11 +1,11 @@
 //! Copies of trees under another allocator: the same tree with the same spans.
 
 ghost use Rattle.std.specs.Prelude.{◌≡◌, IfOk, map};
-ghost use Rattle.expr_tree.specs.Views.{cond_tree, let_tree, rel_tree, scalar_tree};
+ghost use Rattle.expr_tree.specs.Views.{cond_tree, let_tree, output_tree, rel_tree, scalar_tree};
 
 use crate::condition::Cond;
 use crate::no_memory::NoMemory;
-use crate::program::{Input, Let};
+use crate::program::{Input, Let, Output};
 use crate::relation::Rel;
 use crate::scalar::Scalar;
 use record_core::Name;
@@ -78,10 +78,10 @@ pub fn copy_rel<A: Allocator, B: Allocator + Copy>(
             let condition = copy_cond(alloc, condition)?;
             Ok(Rel::Where(*span, of, condition))
         }
-        Rel::Concat(span, left, right) => {
+        Rel::SetOperation(span, operator, left, right) => {
             let left = copy_boxed(alloc, left)?;
             let right = copy_boxed(alloc, right)?;
-            Ok(Rel::Concat(*span, left, right))
+            Ok(Rel::SetOperation(*span, *operator, left, right))
         }
         Rel::Join(span, left, right, pairs) => {
             let left = copy_boxed(alloc, left)?;
@@ -205,6 +205,26 @@ pub(crate) fn copy_lets<A: Allocator, B: Allocator + Copy>(
         copy.push(Let {
             name_span: item.name_span,
             name: copy_name(&item.name),
+            relation,
+        })?;
+    }
+    Ok(copy)
+}
+
+/// The same outputs, in order.
+pub(crate) fn copy_outputs<A: Allocator, B: Allocator + Copy>(
+    alloc: B,
+    outputs: &Vec<Output<A>, A>,
+) -> Result<Vec<Output<B>, B>, NoMemory>
+    ensures { IfOk result (λ copy. map output_tree copy.items ≡ map output_tree outputs.now.items) }
+{
+    let mut copy = Vec::new(alloc);
+    for output in outputs {
+        let relation = Box::new(alloc, copy_rel(alloc, &output.relation)?)?;
+        copy.push(Output {
+            keyword_span: output.keyword_span,
+            name_span: output.name_span,
+            name: copy_name(&output.name),
             relation,
         })?;
     }

@@ -19,7 +19,9 @@ pub fn rel_depth<A: Allocator>(relation: &Rel<A>) -> u64
         Rel::Named(_, _) => 1,
         Rel::Select(_, of, scalars) => rel_depth(of).max(scalars_depth(scalars)).saturating_add(1),
         Rel::Where(_, of, condition) => rel_depth(of).max(cond_depth(condition)).saturating_add(1),
-        Rel::Concat(_, left, right) => rel_depth(left).max(rel_depth(right)).saturating_add(1),
+        Rel::SetOperation(_, _, left, right) => {
+            rel_depth(left).max(rel_depth(right)).saturating_add(1)
+        }
         Rel::Join(_, left, right, _) => rel_depth(left).max(rel_depth(right)).saturating_add(1),
         // An aggregate is no deeper than the relation beside it.
         Rel::Group(_, of, _, _) => rel_depth(of).saturating_add(1),

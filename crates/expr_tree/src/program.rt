@@ -1,11 +1,11 @@
-//! Programs: inputs, named relations, one output.
+//! Programs: inputs, named relations, named outputs.
 
 ghost use Rattle.std.specs.Prelude.{◌≡◌, ◌-◌, ◌^◌, IfOk, min};
 ghost use Rattle.semantics.specs.Size.{program_depth, program_size};
 ghost use Rattle.expr_tree.specs.Plain.{plain_program};
 ghost use Rattle.expr_tree.specs.Views.{program_tree};
 
-use crate::copy::{copy_inputs, copy_lets, copy_rel};
+use crate::copy::{copy_inputs, copy_lets, copy_outputs};
 use crate::depth::rel_depth;
 use crate::no_memory::NoMemory;
 use crate::relation::Rel;
@@ -30,12 +30,21 @@ pub struct Let<A: Allocator> {
     pub relation: Box<Rel<A>, A>,
 }
 
-/// A query: its inputs, its named relations in order, and the relation that it puts out.
+/// A relation that is put out, and its name. Where the text gives no name, the name is `out` and its span is the keyword's.
+#[derive(Drop)]
+pub struct Output<A: Allocator> {
+    pub keyword_span: Span,
+    pub name_span: Span,
+    pub name: Name,
+    pub relation: Box<Rel<A>, A>,
+}
+
+/// A query: its inputs, its named relations and its outputs, in order.
 #[derive(Drop)]
 pub struct Program<A: Allocator> {
     pub inputs: Vec<Input, A>,
     pub lets: Vec<Let<A>, A>,
-    pub output: Box<Rel<A>, A>,
+    pub outputs: Vec<Output<A>, A>,
 }
 
 impl<A: Allocator> Program<A> {
@@ -45,11 +54,11 @@ impl<A: Allocator> Program<A> {
     {
         let inputs = copy_inputs(alloc, &self.inputs)?;
         let lets = copy_lets(alloc, &self.lets)?;
-        let output = Box::new(alloc, copy_rel(alloc, &self.output)?)?;
+        let outputs = copy_outputs(alloc, &self.outputs)?;
         Ok(Program {
             inputs,
             lets,
-            output,
+            outputs,
         })
     }
 
@@ -63,7 +72,10 @@ impl<A: Allocator> Program<A> {
                 .saturating_add(rel_size(&item.relation))
                 .saturating_add(1);
         }
-        size.saturating_add(rel_size(&self.output))
+        for output in &self.outputs {
+            size = size.saturating_add(rel_size(&output.relation));
+        }
+        size
     }
 
     /// The depth; at most 18446744073709551615, which stands for every greater number too. No memory is taken.
@@ -74,6 +86,9 @@ impl<A: Allocator> Program<A> {
         for item in &self.lets {
             deepest = deepest.max(rel_depth(&item.relation));
         }
-        deepest.max(rel_depth(&self.output))
+        for output in &self.outputs {
+            deepest = deepest.max(rel_depth(&output.relation));
+        }
+        deepest
     }
 }

@@ -36,6 +36,17 @@ pub enum Agg {
     Max(Span, Column),
 }
 
+/// How two relations of one arity are put together.
+#[derive(Clone, Copy, Debug, PartialEq, Eq)]
+pub enum SetOperator {
+    /// All records of both, with repeats.
+    Concat,
+    /// Once each, what is present on the left and not on the right.
+    Except,
+    /// Once each, what is present on both sides.
+    Intersect,
+}
+
 /// A relation.
 #[derive(Drop)]
 pub enum Rel<A: Allocator> {
@@ -45,7 +56,7 @@ pub enum Rel<A: Allocator> {
     Select(Span, Box<Rel<A>, A>, Vec<Scalar<A>, A>),
     /// The records at which the condition holds.
     Where(Span, Box<Rel<A>, A>, Cond<A>),
-    Concat(Span, Box<Rel<A>, A>, Box<Rel<A>, A>),
+    SetOperation(Span, SetOperator, Box<Rel<A>, A>, Box<Rel<A>, A>),
     Join(Span, Box<Rel<A>, A>, Box<Rel<A>, A>, Vec<Pair, A>),
     /// One record for each key that is present: the key columns, then the aggregates.
     Group(Span, Box<Rel<A>, A>, Vec<Column, A>, Vec<Agg, A>),
@@ -84,13 +95,19 @@ impl<A: Allocator + Copy> Rel<A> {
         Ok(Rel::Where(span, of, condition))
     }
 
-    /// A `concat` of two relations, which are moved into boxes.
-    pub fn concat(alloc: A, span: Span, left: Rel<A>, right: Rel<A>) -> Result<Rel<A>, NoMemory>
-        ensures { IfOk result (λ made. rel_tree made ≡ RelTree.concat span (rel_tree left) (rel_tree right)) }
+    /// A `concat`, an `except` or an `intersect` of two relations, which are moved into boxes.
+    pub fn set_operation(
+        alloc: A,
+        span: Span,
+        operator: SetOperator,
+        left: Rel<A>,
+        right: Rel<A>,
+    ) -> Result<Rel<A>, NoMemory>
+        ensures { IfOk result (λ made. rel_tree made ≡ RelTree.set_operation span operator (rel_tree left) (rel_tree right)) }
     {
         let left = Box::new(alloc, left)?;
         let right = Box::new(alloc, right)?;
-        Ok(Rel::Concat(span, left, right))
+        Ok(Rel::SetOperation(span, operator, left, right))
     }
 
     /// A `join` of two relations, which are moved into boxes.

@@ -1,11 +1,11 @@
 //! Whether two trees are the same query: equal but for spans, whatever their allocators.
 
 ghost use Rattle.std.specs.Prelude.{◌≡◌, ◌↔◌, IsTrue, map};
-ghost use Rattle.expr_tree.specs.Plain.{plain_agg, plain_cond, plain_input, plain_let, plain_pair, plain_program, plain_rel, plain_scalar};
-ghost use Rattle.expr_tree.specs.Views.{cond_tree, let_tree, program_tree, rel_tree, scalar_tree};
+ghost use Rattle.expr_tree.specs.Plain.{plain_agg, plain_cond, plain_input, plain_let, plain_output, plain_pair, plain_program, plain_rel, plain_scalar};
+ghost use Rattle.expr_tree.specs.Views.{cond_tree, let_tree, output_tree, program_tree, rel_tree, scalar_tree};
 
 use crate::condition::Cond;
-use crate::program::{Input, Let, Program};
+use crate::program::{Input, Let, Output, Program};
 use crate::relation::{Agg, Column, Pair, Rel};
 use crate::scalar::Scalar;
 use record_core::Name;
@@ -17,7 +17,7 @@ pub fn same<A: Allocator, B: Allocator>(left: &Program<A>, right: &Program<B>) -
 {
     same_inputs(&left.inputs, &right.inputs)
         && same_lets(&left.lets, &right.lets)
-        && same_rel(&left.output, &right.output)
+        && same_outputs(&left.outputs, &right.outputs)
 }
 
 /// Whether two relations are equal, spans aside. No memory is taken.
@@ -28,7 +28,9 @@ pub fn same_rel<A: Allocator, B: Allocator>(left: &Rel<A>, right: &Rel<B>) -> bo
         (Rel::Named(_, x), Rel::Named(_, y)) => same_name(x, y),
         (Rel::Select(_, p, ss), Rel::Select(_, q, ts)) => same_rel(p, q) && same_scalars(ss, ts),
         (Rel::Where(_, p, c), Rel::Where(_, q, d)) => same_rel(p, q) && same_cond(c, d),
-        (Rel::Concat(_, p, q), Rel::Concat(_, r, s)) => same_rel(p, r) && same_rel(q, s),
+        (Rel::SetOperation(_, o, p, q), Rel::SetOperation(_, n, r, s)) => {
+            *o == *n && same_rel(p, r) && same_rel(q, s)
+        }
         (Rel::Join(_, p, q, xs), Rel::Join(_, r, s, ys)) => {
             same_rel(p, r) && same_rel(q, s) && same_pairs(xs, ys)
         }
@@ -174,6 +176,21 @@ fn same_lets<A: Allocator, B: Allocator>(left: &[Let<A>], right: &[Let<B>]) -> b
         ([], []) => true,
         ([x, xs @ ..], [y, ys @ ..]) => {
             same_name(&x.name, &y.name) && same_rel(&x.relation, &y.relation) && same_lets(xs, ys)
+        }
+        _ => false,
+    }
+}
+
+/// Whether the outputs are equal, one by one.
+fn same_outputs<A: Allocator, B: Allocator>(left: &[Output<A>], right: &[Output<B>]) -> bool
+    ensures { IsTrue result ↔ (map plain_output (map output_tree left.now) ≡ map plain_output (map output_tree right.now)) }
+{
+    match (left, right) {
+        ([], []) => true,
+        ([x, xs @ ..], [y, ys @ ..]) => {
+            same_name(&x.name, &y.name)
+                && same_rel(&x.relation, &y.relation)
+                && same_outputs(xs, ys)
         }
         _ => false,
     }

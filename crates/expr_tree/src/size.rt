@@ -1,6 +1,6 @@
 //! Sizes: the number of relation, condition, scalar and aggregate nodes, and one for each let.
 //!
-//! A group's keys, a join's pairs and an aggregate's column are no nodes.
+//! An output, a group's keys, a join's pairs and an aggregate's column are no nodes.
 
 ghost use Rattle.std.specs.Prelude.{◌≡◌, ◌-◌, ◌^◌, map, min};
 ghost use Rattle.semantics.specs.Size as semantics;
@@ -24,7 +24,7 @@ pub fn rel_size<A: Allocator>(relation: &Rel<A>) -> u64
         Rel::Where(_, of, condition) => rel_size(of)
             .saturating_add(cond_size(condition))
             .saturating_add(1),
-        Rel::Concat(_, left, right) => rel_size(left)
+        Rel::SetOperation(_, _, left, right) => rel_size(left)
             .saturating_add(rel_size(right))
             .saturating_add(1),
         Rel::Join(_, left, right, _) => rel_size(left)

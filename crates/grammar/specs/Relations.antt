@@ -11,6 +11,8 @@ use Rattle.expr_tree.specs.declared.relation.Agg.{Agg}
 use Rattle.expr_tree.specs.declared.relation.Agg.TheVariants.{Count, Sum, Min, Max}
 use Rattle.expr_tree.specs.declared.relation.Column.{Column}
 use Rattle.expr_tree.specs.declared.relation.Pair.{Pair}
+use Rattle.expr_tree.specs.declared.relation.SetOperator.{SetOperator}
+use Rattle.expr_tree.specs.declared.relation.SetOperator.TheVariants.{Concat, Except, Intersect}
 use Rattle.expr_tree.specs.Trees.{ScalarTree, CondTree, RelTree}
 use Rattle.grammar.specs.Tokens.{reaching, token, mark_at, keyword_at}
 use Rattle.grammar.specs.Phrases.{Listed}
@@ -48,6 +50,12 @@ AggAt ts (Sum s c) h us = AggOf keyword.Sum s c ts us × (h ≡ 1)
 AggAt ts (Min s c) h us = AggOf keyword.Min s c ts us × (h ≡ 1)
 AggAt ts (Max s c) h us = AggOf keyword.Max s c ts us × (h ≡ 1)
 
+-- the keyword of a set operator
+abbrev pub operator_keyword : SetOperator → Keyword
+operator_keyword Concat = keyword.Concat
+operator_keyword Except = keyword.Except
+operator_keyword Intersect = keyword.Intersect
+
 -- the tokens begin with a relation, which is this tree and has this height, and these tokens are left
 pub data Reads (text : List ℕ) : List Token → RelTree → ℕ → List Token → Type 0 where
   -- rel = NAME
@@ -56,8 +64,8 @@ pub data Reads (text : List ℕ) : List Token → RelTree → ℕ → List Token
   select : {s o p q : Span} {r : RelTree} {xs : List ScalarTree} {h k : ℕ} {ts us vs : List Token} → Reads text ts r h (mark_at mark.Semicolon p ∷ us) → Listed ScalarAt us xs k (mark_at mark.CloseRound q ∷ vs) → Reads text (keyword_at keyword.Select s ∷ mark_at mark.OpenRound o ∷ ts) (RelTree.select (reaching s q) r xs) (suc (max h k)) vs
   -- | "where" "(" rel ";" cond ")"
   filter : {s o p q : Span} {r : RelTree} {c : CondTree} {h k : ℕ} {ts us vs : List Token} → Reads text ts r h (mark_at mark.Semicolon p ∷ us) → ConditionAt us c k (mark_at mark.CloseRound q ∷ vs) → Reads text (keyword_at keyword.Where s ∷ mark_at mark.OpenRound o ∷ ts) (RelTree.filter (reaching s q) r c) (suc (max h k)) vs
-  -- | "concat" "(" rel "," rel ")"
-  concat : {s o p q : Span} {a b : RelTree} {h k : ℕ} {ts us vs : List Token} → Reads text ts a h (mark_at mark.Comma p ∷ us) → Reads text us b k (mark_at mark.CloseRound q ∷ vs) → Reads text (keyword_at keyword.Concat s ∷ mark_at mark.OpenRound o ∷ ts) (RelTree.concat (reaching s q) a b) (suc (max h k)) vs
+  -- | ( "concat" | "except" | "intersect" ) "(" rel "," rel ")"
+  set_operation : {w : SetOperator} {x : Keyword} {s o p q : Span} {a b : RelTree} {h k : ℕ} {ts us vs : List Token} → x ≡ operator_keyword w → Reads text ts a h (mark_at mark.Comma p ∷ us) → Reads text us b k (mark_at mark.CloseRound q ∷ vs) → Reads text (keyword_at x s ∷ mark_at mark.OpenRound o ∷ ts) (RelTree.set_operation (reaching s q) w a b) (suc (max h k)) vs
   -- | "join" "(" rel "," rel ";" pair { "," pair } ")"
   join : {s o p i q : Span} {a b : RelTree} {xs : List Pair} {h k n : ℕ} {ts us vs ws : List Token} → Reads text ts a h (mark_at mark.Comma p ∷ us) → Reads text us b k (mark_at mark.Semicolon i ∷ vs) → Listed PairAt vs xs n (mark_at mark.CloseRound q ∷ ws) → Reads text (keyword_at keyword.Join s ∷ mark_at mark.OpenRound o ∷ ts) (RelTree.join (reaching s q) a b xs) (suc (max (max h k) n)) ws
   -- | "group" "(" rel ";" COLUMN { "," COLUMN } ";" agg { "," agg } ")"

@@ -26,7 +26,7 @@ fn written(memory: Global, text: &[u8]) -> Result<Vec<u8>, Fail> {
 
 #[test]
 fn canonical_texts(rt: HostRuntime) -> Result<(), Fail> {
-    let rows: [(&[u8], &[u8]); 4] = [
+    let rows: [(&[u8], &[u8]); 7] = [
         (
             b"input a/1;output where(a;not[#0<1]and(1+#0)*2>=-3);",
             b"input a/1;\noutput where(a; not [#0 < 1] and (1 + #0) * 2 >= -3);\n",
@@ -43,6 +43,18 @@ fn canonical_texts(rt: HostRuntime) -> Result<(), Fail> {
             b"output where(a;[#0=1 or#0!=2]and[#0<3 and[#0<=4 or#0>5]]or[[#0>=6]or#0=7]);",
             b"output where(a; [#0 = 1 or #0 != 2] and [#0 < 3 and [#0 <= 4 or #0 > 5]] or [#0 >= 6 or #0 = 7]);\n",
         ),
+        (
+            b"output except(a,intersect(except(b,c),a));",
+            b"output except(a, intersect(except(b, c), a));\n",
+        ),
+        (
+            b"output out=a;output small=where(a;#0<5);output all=a;",
+            b"output a;\noutput small = where(a; #0 < 5);\noutput all = a;\n",
+        ),
+        (
+            b"output a=out;output out;",
+            b"output a = out;\noutput out;\n",
+        ),
     ];
     for (text, want) in rows {
         let out = written(rt.alloc(), text)?;
@@ -54,7 +66,8 @@ fn canonical_texts(rt: HostRuntime) -> Result<(), Fail> {
 /// Whether `select(a; SCALAR)` is a source.
 fn is_selected(memory: Global, scalar: Scalar<Global>) -> Result<bool, Fail> {
     let mut program = parse(memory, b"output select(a; #0);")?;
-    if let Rel::Select(_, _, scalars) = &mut *program.output {
+    let output = program.outputs.first_mut().ok_or("no output")?;
+    if let Rel::Select(_, _, scalars) = &mut *output.relation {
         scalars.clear();
         scalars.push(scalar)?;
     }
@@ -80,7 +93,8 @@ fn scalars_that_are_no_source(rt: HostRuntime) -> Result<(), Fail> {
 fn a_join_without_pairs_is_no_source(rt: HostRuntime) -> Result<(), Fail> {
     let mut program = parse(rt.alloc(), b"output join(a, b; #0 = #0);")?;
     assert!(rt; is_source(&program));
-    if let Rel::Join(_, _, _, pairs) = &mut *program.output {
+    let output = program.outputs.first_mut().ok_or("no output")?;
+    if let Rel::Join(_, _, _, pairs) = &mut *output.relation {
         pairs.clear();
     }
     assert!(rt; !is_source(&program));

@@ -1,6 +1,6 @@
-//! Graphs of query texts: their edges, depths and drawings.
+//! Graphs of query texts: their texts, edges, depths and drawings.
 
-use lowering::{EdgeId, Graph, Location, Port, VertexId, graph_dot, lower};
+use lowering::{EdgeId, Graph, Location, Port, VertexId, graph_dot, graph_text, lower};
 use parser::parse;
 use std::alloc::Global;
 use std::test::Fail;
@@ -11,6 +11,33 @@ fn graph_of(alloc: Global, text: &[u8]) -> Result<Graph, Fail> {
     let program = parse(alloc, text)?;
     let typed = check(alloc, program).ok().ok_or("not well typed")?;
     Ok(lower(alloc, &typed).ok().ok_or("no graph")?)
+}
+
+/// The text of a query's graph.
+fn text_of(alloc: Global, query: &[u8]) -> Result<Vec<u8>, Fail> {
+    let graph = graph_of(alloc, query)?;
+    let mut text = Vec::new(alloc);
+    graph_text(alloc, &graph, &mut text)?;
+    Ok(text)
+}
+
+#[test]
+fn graph_texts(rt: HostRuntime) -> Result<(), Fail> {
+    let rows: [(&[u8], &[u8]); 2] = [
+        (
+            b"input a/1; output small = where(a; #0 < 5); output all = a;",
+            b"0 input 0 <-\n1 where 0 <- 0.0\n2 output(small) 0 <- 1.0\n3 output(all) 0 <- 0.0\n",
+        ),
+        (
+            b"input a/1; input b/1; output except(a, intersect(b, a));",
+            b"0 input 0 <-\n1 input 0 <-\n2 intersect 0 <- 1.0 0.0\n3 except 0 <- 0.0 2.0\n4 output 0 <- 3.0\n",
+        ),
+    ];
+    for (query, want) in rows {
+        let text = text_of(rt.alloc(), query)?;
+        assert_eq!(rt; text.as_slice(), want);
+    }
+    Ok(())
 }
 
 /// The edges of the loop of a name from outside, and its depths.

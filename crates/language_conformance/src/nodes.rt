@@ -73,7 +73,8 @@ fn nodes_with_spans(rt: HostRuntime) -> Result<(), Fail> {
     let text = b"input a/1;output where(a;not[#0<1]and(1+#0)*2>=-3);".as_slice();
     let program = parse(rt.alloc(), text)?;
     let mut nodes = Vec::new(rt.alloc());
-    match &*program.output {
+    let output = program.outputs.first().ok_or("no output")?;
+    match &*output.relation {
         Rel::Where(span, inner, condition) => {
             nodes.push(("where", span.start, span.end))?;
             assert!(rt; matches!(&**inner, Rel::Named(Span { start: 23, end: 24 }, _)));

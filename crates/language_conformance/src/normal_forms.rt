@@ -12,7 +12,7 @@ use typing::check;
 use writer::{is_source, write_program};
 
 /// A query with the items, and the text of its normal form after `input a/1;`; empty where that has no text.
-const NORMAL_FORMS: [(&str, &str); 19] = [
+const NORMAL_FORMS: [(&str, &str); 22] = [
     (
         "input a/1; let u = a; let v = distinct(distinct(a)); output select(select(iterate(0; x = v; x); #0 + 1, 2 * 3); #1 - #0);",
         "let v = distinct(a);\noutput select(v; 6 - (#0 + 1));\n",
@@ -86,6 +86,18 @@ const NORMAL_FORMS: [(&str, &str); 19] = [
         "input a/1; let v = distinct(a); output distinct(v);",
         "let v = distinct(a);\noutput distinct(v);\n",
     ),
+    (
+        "input a/1; input b/1; output distinct(except(a, b)); output c = distinct(intersect(a, b));",
+        "input b/1;\noutput except(a, b);\noutput c = intersect(a, b);\n",
+    ),
+    (
+        "input a/1; output distinct(concat(a, distinct(distinct(except(a, a)))));",
+        "output distinct(concat(a, except(a, a)));\n",
+    ),
+    (
+        "input a/1; let v = distinct(a); let w = distinct(v); output a; output b = v;",
+        "let v = distinct(a);\noutput a;\noutput b = v;\n",
+    ),
 ];
 
 /// The text of a query's normal form after its first line; empty where it has no text.
@@ -152,7 +164,8 @@ fn folded(alloc: Global, query: &[u8]) -> Result<Option<i64>, Fail> {
     let program = parse(alloc, query)?;
     let typed = check(alloc, program).ok().ok_or("not well typed")?;
     let normal = normalise(typed)?;
-    match &*normal.program().output {
+    let output = normal.program().outputs.first().ok_or("no output")?;
+    match &*output.relation {
         Rel::Select(_, _, scalars) => match scalars.as_slice() {
             [Scalar::Literal(_, number)] => Ok(Some(*number)),
             _ => Ok(None),
@@ -224,9 +237,10 @@ fn filtered(alloc: Global, of: Rel<Global>) -> Result<Rel<Global>, Fail> {
 /// The size of the normal form of a thousand selects or wheres over one another, which is higher than a text may be.
 fn size_of_chain(alloc: Global, wheres: bool) -> Result<u64, Fail> {
     let mut program = parse(alloc, b"input a/1; output a;")?;
+    let output = program.outputs.first_mut().ok_or("no output")?;
     for _ in 0..1000 {
-        let of = program.output.take();
-        *program.output = if wheres {
+        let of = output.relation.take();
+        *output.relation = if wheres {
             filtered(alloc, of)?
         } else {
             selected(alloc, of)?
@@ -234,7 +248,8 @@ fn size_of_chain(alloc: Global, wheres: bool) -> Result<u64, Fail> {
     }
     let typed = check(alloc, program).ok().ok_or("not well typed")?;
     let normal = normalise(typed)?;
-    Ok(rel_size(&normal.program().output))
+    let output = normal.program().outputs.first().ok_or("no output")?;
+    Ok(rel_size(&output.relation))
 }
 
 #[test]

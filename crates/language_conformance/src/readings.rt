@@ -14,7 +14,7 @@ fn at(code: u8, start: u32, end: u32) -> Refusal {
 
 #[test]
 fn refusals(rt: HostRuntime) {
-    let rows: [(&[u8], u8, u32, u32); 34] = [
+    let rows: [(&[u8], u8, u32, u32); 42] = [
         (b"input a/1 output a;!", 1, 19, 20),
         (b"input A/1; output a;", 1, 6, 7),
         (b"input a/1; output a; #", 1, 21, 22),
@@ -29,7 +29,6 @@ fn refusals(rt: HostRuntime) {
         (b"input a/1; output a", 4, 19, 19),
         (b"input a/1; output a\n", 4, 20, 20),
         (b"input a/1 output a;", 4, 10, 16),
-        (b"input a/1; output a; output a;", 4, 21, 27),
         (b"input a/1; output a;;", 4, 20, 21),
         (b"output a; let b = a;", 4, 10, 13),
         (b"let a = b; input c/1; output a;", 4, 11, 16),
@@ -49,6 +48,15 @@ fn refusals(rt: HostRuntime) {
         (b"output group(a; #0; count #0);", 4, 26, 28),
         (b"output iterate(#1; x = a; x);", 4, 15, 17),
         (b"output epoch;", 4, 7, 12),
+        (b"input a/1;", 4, 10, 10),
+        (b"input a/1; let b = a;", 4, 21, 21),
+        (b"input a/1; output a (", 4, 20, 21),
+        (b"output small a;", 4, 13, 14),
+        (b"output a = b = c;", 4, 13, 14),
+        (b"output a; input b/1;", 4, 10, 15),
+        (b"input except/1; output a;", 4, 6, 12),
+        (b"let intersect = a; output a;", 4, 4, 13),
+        (b"output except = a;", 4, 14, 15),
     ];
     for (text, code, start, end) in rows {
         assert_eq!(rt;

@@ -54,7 +54,7 @@ fn faults(rt: HostRuntime) {
 #[test]
 fn longest_tokens(rt: HostRuntime) -> Result<(), Fail> {
     let name = TokenKind::Name;
-    let rows: [(&[u8], &[(TokenKind, u32, u32)]); 12] = [
+    let rows: [(&[u8], &[(TokenKind, u32, u32)]); 13] = [
         (b"", &[]),
         (b" \t\r\n", &[]),
         (b"1a", &[(TokenKind::Number(1), 0, 1), (name, 1, 2)]),
@@ -92,6 +92,14 @@ fn longest_tokens(rt: HostRuntime) -> Result<(), Fail> {
         (
             b"\tlets let\n",
             &[(name, 1, 5), (TokenKind::Keyword(Keyword::Let), 6, 9)],
+        ),
+        (
+            b"excepts except intersect",
+            &[
+                (name, 0, 7),
+                (TokenKind::Keyword(Keyword::Except), 8, 14),
+                (TokenKind::Keyword(Keyword::Intersect), 15, 24),
+            ],
         ),
         (b"abcdefghijklmnopqrstuvwxyz_01234", &[(name, 0, 32)]),
     ];

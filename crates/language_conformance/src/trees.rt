@@ -1,4 +1,4 @@
-//! Trees of query texts, under three allocators; sizes and depths counted by hand.
+//! Trees of query texts, under three allocators; which are the same; sizes and depths counted by hand.
 
 use bumpalo::Bump;
 use expr_tree::same;
@@ -52,6 +52,29 @@ fn a_small_heap_refuses(rt: HostRuntime) -> Result<(), Fail> {
     assert_eq!(rt; heap.used(), 0);
     assert!(rt; parse(rt.alloc(), REACHABLE).is_ok());
     Ok(())
+}
+
+/// Whether the trees of two texts are the same.
+fn are_alike(alloc: Global, first: &[u8], second: &[u8]) -> Result<bool, Refusal> {
+    Ok(same(&parse(alloc, first)?, &parse(alloc, second)?))
+}
+
+#[test]
+fn trees_compared(rt: HostRuntime) {
+    let rows: [(&[u8], &[u8], bool); 5] = [
+        (b"output a;", b"output out = a;", true),
+        (b"output a;", b"output b = a;", false),
+        (
+            b"output a; output b = c;",
+            b"output b = c; output a;",
+            false,
+        ),
+        (b"output except(a, b);", b"output intersect(a, b);", false),
+        (b"output except(a, b);", b"output except(b, a);", false),
+    ];
+    for (first, second, want) in rows {
+        assert_eq!(rt; are_alike(rt.alloc(), first, second), Ok(want), "{first:?}");
+    }
 }
 
 #[test]

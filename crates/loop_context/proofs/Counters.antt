@@ -1,12 +1,12 @@
 -- Lists of counters: their last, and Rust's `<=` on them.
-use Rattle.std.proofs.Common.{◌≡◌, ◌⊎◌, ℕ, Bool, true, false, nat_lt, nat_eq, ◌&&◌, ◌||◌, List, [], ◌∷◌, ◌++◌, refl, sym, inl, inr, arith, IsTrue}
+use Rattle.std.proofs.Common.{◌≡◌, ◌⊎◌, ℕ, Bool, true, false, nat_lt, nat_eq, ◌&&◌, ◌||◌, ◌-◌, List, [], ◌∷◌, ◌++◌, length, slice_index_or, refl, sym, ap, ◌∙◌, inl, inr, arith, IsTrue}
 use Rattle.std.proofs.lemmas.Bool.{true≢false}
 use Rattle.std.proofs.lemmas.Bool.Decides.{nat_tests}
 use Rattle.std.proofs.lemmas.Cmp.{same_from_slice_cmp_tested}
 use Rattle.std.specs.Ordering.{nat_cmp, is_le, is_some_and}
 use Rattle.std.specs.Cmp.Lexicographic.{slice_partial_cmp}
 use Rattle.std.specs.Prelude.{Some}
-use Rattle.semantics.specs.Time.{last, last_from, is_before}
+use Rattle.semantics.specs.Time.{last, last_from, front, front_from, is_before}
 
 last_from_append : (d : ℕ) (cs : List ℕ) (c : ℕ) → last_from d (cs ++ (c ∷ [])) ≡ c
 last_from_append d [] c = refl
@@ -15,6 +15,26 @@ last_from_append d (x ∷ cs) c = last_from_append x cs c
 -- what was put at the end is the last
 pub last_append : (cs : List ℕ) (c : ℕ) → last (cs ++ (c ∷ [])) ≡ c
 last_append cs c = last_from_append 0 cs c
+
+front_from_append : (d : ℕ) (cs : List ℕ) (c : ℕ) → front_from d (cs ++ (c ∷ [])) ≡ d ∷ cs
+front_from_append d [] c = refl
+front_from_append d (x ∷ cs) c = ap (λ l. d ∷ l) (front_from_append x cs c)
+
+-- what was there before something was put at the end is all but the last
+pub front_append : (cs : List ℕ) (c : ℕ) → front (cs ++ (c ∷ [])) ≡ cs
+front_append [] c = refl
+front_append (x ∷ cs) c = front_from_append x cs c
+
+last_from_index : (d : ℕ) (cs : List ℕ) → last_from d cs ≡ slice_index_or (d ∷ cs) (length cs) 0
+last_from_index d [] = refl
+last_from_index d (x ∷ cs) = last_from_index x cs
+
+-- the last is at the greatest index
+pub last_index : (cs : List ℕ) → slice_index_or cs (length cs - 1) 0 ≡ last cs
+last_index [] = refl
+last_index (x ∷ cs) =
+    let i : length (x ∷ cs) - 1 ≡ length cs = omega arith in
+    ap (λ k. slice_index_or (x ∷ cs) k 0) i ∙ sym (last_from_index x cs)
 
 -- `<=` on slices, by recursion
 abbrev pub is_at_most : List ℕ → List ℕ → Bool

@@ -6,7 +6,7 @@ use std::process::Abort;
 fn time(rt: &impl Abort, epoch: u32, counters: &[u32]) -> Time
     ensures { result ≡ record { epoch = epoch; counters = counters.now } }
 {
-    Time::new(epoch, counters).expect(rt, "at most 8 counters")
+    Time::new(epoch, counters).expect(rt, "at most 16 counters")
 }
 
 #[test]
@@ -45,17 +45,19 @@ fn a_way_into_a_loop_round_it_and_out(rt: HostRuntime) {
 }
 
 #[test]
-fn at_most_8_loops(rt: HostRuntime) {
-    let deepest = time(&rt, 0, &[1, 2, 3, 4, 5, 6, 7, 8]);
+fn at_most_16_loops(rt: HostRuntime) {
+    let deepest = time(
+        &rt,
+        0,
+        &[1, 2, 3, 4, 5, 6, 7, 8, 9, 10, 11, 12, 13, 14, 15, 16],
+    );
     assert!(rt; deepest.enter().is_none());
     assert_eq!(rt;
-        deepest
-            .leave()
-            .enter()
-            .map(|t| t.counters() == [1, 2, 3, 4, 5, 6, 7, 0].as_slice()),
+        deepest.leave().enter().map(|t| t.counters()
+            == [1, 2, 3, 4, 5, 6, 7, 8, 9, 10, 11, 12, 13, 14, 15, 0].as_slice()),
         Some(true)
     );
-    assert!(rt; Time::new(0, &[0; 9]).is_none());
+    assert!(rt; Time::new(0, &[0; 17]).is_none());
 }
 
 #[test]

@@ -9,9 +9,9 @@ use std::alloc::AllocError;
 use std::marker::Model;
 
 /// The greatest number of loops around a place.
-pub const MAX_LOOPS: usize = 8;
+pub const MAX_LOOPS: usize = 16;
 
-/// An epoch, and the counters of the loops around a place, outermost first: at most 8.
+/// An epoch, and the counters of the loops around a place, outermost first: at most `MAX_LOOPS`.
 #[derive(Clone, Drop, Debug, PartialEq, Eq, PartialOrd, Ord, Hash)]
 pub struct Time {
     epoch: u32,
@@ -33,7 +33,7 @@ impl Model for Time {
 }
 
 impl Time {
-    /// The time of these; `None` exactly for more than 8 counters.
+    /// The time of these; `None` exactly for more than `MAX_LOOPS` counters.
     pub fn new(epoch: u32, counters: &[u32]) -> Option<Time>
         ensures { SomeIff result (length counters.now ≤ max_loops) (record { epoch = epoch; counters = counters.now }) }
     {
@@ -63,7 +63,7 @@ impl Time {
         self.epoch
     }
 
-    /// The counters, outermost first: at most 8.
+    /// The counters, outermost first: at most `MAX_LOOPS`.
     pub fn counters(&self) -> &[u32]
         ensures value { result.now ≡ self.now.counters }
         ensures short { length self.now.counters ≤ max_loops }
@@ -80,6 +80,7 @@ impl Time {
     }
 
     /// The counter of the innermost loop; 0 outside all loops.
+    #[tactic(auto, using(crate::proofs::Counters::last_index))]
     pub fn last_counter(&self) -> u32
         ensures { result ≡ last self.now.counters }
     {
@@ -113,7 +114,7 @@ impl Time {
         in_order(self.counters(), other.counters())
     }
 
-    /// The time on the way into a loop, at its first turn; `None` exactly where 8 loops are around it already.
+    /// The time on the way into a loop, at its first turn; `None` exactly where `MAX_LOOPS` loops are around it already.
     pub fn enter(&self) -> Option<Time>
         ensures entered { IfSome result (λ t. t ≡ after_action Action.enter self.now) }
         ensures deepest { IsNone result ↔ (length self.now.counters ≡ max_loops) }
@@ -126,6 +127,7 @@ impl Time {
     }
 
     /// The time on the way out of the innermost loop.
+    #[tactic(auto, using(crate::proofs::Counters::front_append))]
     pub fn leave(&self) -> Time
         requires { 0 < length self.now.counters }
         ensures { result ≡ after_action Action.leave self.now }
@@ -136,7 +138,7 @@ impl Time {
     }
 
     /// The time at the next turn of the innermost loop; `None` exactly where its counter is the greatest u32.
-    #[tactic(auto, using(crate::proofs::Counters::last_append))]
+    #[tactic(auto, using(crate::proofs::Counters::last_append, crate::proofs::Counters::front_append))]
     pub fn next(&self) -> Option<Time>
         requires { 0 < length self.now.counters }
         ensures next { IfSome result (λ t. t ≡ after_action Action.next self.now) }

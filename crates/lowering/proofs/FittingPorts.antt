@@ -1,9 +1,9 @@
 -- The ports of each vertex of a graph in memory fit its kind.
-use Rattle.std.proofs.Common.{◌≡◌, ℕ, zero, suc, ◌<◌, ◌≤◌, List, map, length, slice_index_or, sym, subst, subst₂, ◌⊎◌, inl, inr, arith}
+use Rattle.std.proofs.Common.{◌≡◌, ℕ, zero, suc, ◌<◌, ◌≤◌, List, length, slice_index_or, sym, subst, subst₂, ◌⊎◌, inl, inr, arith}
 use Rattle.std.proofs.lemmas.List.{get_or_past}
 use Rattle.std.proofs.Math.Bridge.{le_prop}
 use Rattle.std.proofs.Math.Logic.{∥∥₁_elim}
-use Rattle.std.specs.List.{AllByRecursion, AllByRecursion-prop}
+use Rattle.std.specs.List.{AllByRecursion-prop}
 use Rattle.std.proofs.Math.Nat.{ℕ_set}
 use mathlib.Core.HLevel.{×_prop, Unit-prop}
 use Rattle.std.proofs.Math.Path.{fun_ext}
@@ -14,7 +14,6 @@ use Rattle.semantics.specs.Dataflow.{IsDataflow}
 use Rattle.semantics.specs.Graph.{Graph, Port, no_port, source, vertex}
 use Rattle.semantics.specs.Lower.{lowered}
 use Rattle.semantics.specs.PortArity.{IsTyped, PortsFit, program_arities}
-use Rattle.lowering.specs.Arities.{AreArities}
 use Rattle.lowering.specs.GraphLaws.{HasProgramArities}
 
 -- ---- what fits, fits in one way alone
@@ -54,6 +53,8 @@ one_fit Kind.concat ins out = hlevel ℕ_set
 one_fit (Kind.join ps) ins out = hlevel (ℕ_set, AllByRecursion-prop (λ (x : Pair). (x.left < ins 0) × (x.right < ins 1)) (one_pair (ins 0) (ins 1)) ps)
 one_fit (Kind.group ks as') ins out = hlevel (ℕ_set, AllByRecursion-prop (λ k. k < ins 0) (λ k a b. le_prop a b) ks, AllByRecursion-prop (AggFits (ins 0)) (one_agg (ins 0)) as')
 one_fit Kind.distinct ins out = hlevel ℕ_set
+one_fit Kind.except ins out = hlevel ℕ_set
+one_fit Kind.intersect ins out = hlevel ℕ_set
 one_fit Kind.ingress ins out = hlevel ℕ_set
 one_fit Kind.egress ins out = hlevel ℕ_set
 one_fit Kind.feedback ins out = hlevel ℕ_set
@@ -87,8 +88,8 @@ typed_alike g as' bs d same t = record {
 
 pub typed_ports : (g : Graph) (inputs : List Input) (arities : List ℕ)
     → ∥ HasProgramArities g inputs arities ∥₁
-    → ((p : Program) (n : ℕ) → WellTyped p n → IsTyped (lowered p) (λ v. slice_index_or (program_arities p) v 0))
-    → ((p : Program) (n : ℕ) → WellTyped p n → IsDataflow (lowered p))
+    → ((p : Program) (ns : List ℕ) → WellTyped p ns → IsTyped (lowered p) (λ v. slice_index_or (program_arities p) v 0))
+    → ((p : Program) (ns : List ℕ) → WellTyped p ns → IsDataflow (lowered p))
     → IsTyped g (λ v. slice_index_or arities v 0)
 typed_ports g inputs arities h typed dataflow = ∥∥₁_elim h (one_typed g (λ v. slice_index_or arities v 0)) (λ k. go k)
   where

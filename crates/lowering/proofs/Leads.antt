@@ -1,13 +1,13 @@
 -- In the graph of a program each vertex stands after those that its arity comes from.
-use Rattle.std.proofs.Common.{◌≡◌, ℕ, zero, suc, ◌+◌, ◌<◌, ◌≤◌, Bool, true, false, cond, ◌⊎◌, inl, inr, List, [], ◌∷◌, ◌++◌, length, refl, ap, subst, arith, length-append, slice_index_or}
+use Rattle.std.proofs.Common.{◌≡◌, ℕ, zero, suc, ◌+◌, ◌<◌, ◌≤◌, Bool, true, false, cond, ◌⊎◌, inl, inr, List, [], ◌∷◌, ◌++◌, length, refl, ap, subst, ◌∙◌, arith, length-append, slice_index_or}
 use Rattle.std.specs.List.{AllByRecursion}
-use Rattle.semantics.specs.Query.{Name, Rel, Input, Let, Program}
+use Rattle.semantics.specs.Query.{Name, Rel, Input, Let, Output, Program}
 use Rattle.semantics.specs.FreeNames.{carried}
 use Rattle.semantics.specs.Kinds.{Kind, is_input}
 use Rattle.semantics.specs.Graph.{Graph, Port, Vertex, no_vertex}
-use Rattle.semantics.specs.Lower.{Lowered, LoweredLets, Ports, after_start, carried_ports, carry, input_ports, input_vertices, lets_of, looped, lower, lower_lets, new_vertex, output_of, port, stands_for, then_one, then_two}
+use Rattle.semantics.specs.Lower.{Lowered, LoweredLets, Ports, after_start, carried_ports, carry, input_ports, input_vertices, lets_of, looped, lower, lower_lets, lower_outputs, lowered, new_vertex, outputs_of, port, stands_for, then_one, then_two}
 use Rattle.semantics.specs.Meaning.{same_name}
-use Rattle.semantics.specs.Typing.{HasArity, RestFits, WellTyped}
+use Rattle.semantics.specs.Typing.{HasArity, OutputsFit, RestFits, WellTyped}
 
 -- ---- vertices that stand after their sources
 
@@ -133,6 +133,12 @@ rel_leads (Rel.join p q ps) ports d k b =
     two_leads k (lower p ports d k) (lower q ports d j) (Kind.join ps) d refl (rel_leads p ports d k b) (rel_leads q ports d j (below_more k j ports (omega arith) b))
 rel_leads (Rel.group r ks gs) ports d k b = one_leads k (lower r ports d k) (Kind.group ks gs) d refl (rel_leads r ports d k b)
 rel_leads (Rel.distinct r) ports d k b = one_leads k (lower r ports d k) Kind.distinct d refl (rel_leads r ports d k b)
+rel_leads (Rel.except p q) ports d k b =
+    let j = k + length (lower p ports d k).made in
+    two_leads k (lower p ports d k) (lower q ports d j) Kind.except d refl (rel_leads p ports d k b) (rel_leads q ports d j (below_more k j ports (omega arith) b))
+rel_leads (Rel.intersect p q) ports d k b =
+    let j = k + length (lower p ports d k).made in
+    two_leads k (lower p ports d k) (lower q ports d j) Kind.intersect d refl (rel_leads p ports d k b) (rel_leads q ports d j (below_more k j ports (omega arith) b))
 rel_leads (Rel.iterate n x r body) ports d k b =
     let S = lower r ports d k in
     let z = k + length S.made in
@@ -182,26 +188,51 @@ no_leaf (Rel.concat p q) d n h = no_leaf p d n h.0
 no_leaf (Rel.join p q ps) d n h = no_leaf p d h.0 h.2
 no_leaf (Rel.group r ks gs) d n h = no_leaf r d h.0 h.1
 no_leaf (Rel.distinct r) d n h = no_leaf r d n h
+no_leaf (Rel.except p q) d n h = no_leaf p d n h.0
+no_leaf (Rel.intersect p q) d n h = no_leaf p d n h.0
 no_leaf (Rel.iterate k x r b) d n h = no_leaf r d n h.2
 
-no_rest : (as' : List Let) (out : Rel) (n : ℕ) → RestFits [] as' out n → ⊥
-no_rest [] out n h = no_leaf out 0 n h
-no_rest (a ∷ as') out n h = no_leaf a.value 0 h.0 h.1
+no_outputs : (os : List Output) (ns : List ℕ) → OutputsFit [] [] os ns → os ≡ []
+no_outputs [] ns h = refl
+no_outputs (o ∷ os) [] h = absurd h
+no_outputs (o ∷ os) (n ∷ ns) h = absurd (no_leaf o.value 0 n h.0)
 
-pub some_input : (as' : List Input) (p : Program) (n : ℕ) → p.inputs ≡ as' → WellTyped p n → 0 < length as'
-some_input [] p n e w = absurd (no_rest p.lets p.output n (rw e at w.rest))
-some_input (a ∷ as') p n e w = omega arith
+no_rest : (as' : List Let) (os : List Output) (ns : List ℕ) → RestFits [] as' os ns → (as' ≡ []) × (os ≡ [])
+no_rest [] os ns h = (refl, no_outputs os ns h)
+no_rest (a ∷ as') os ns h = absurd (no_leaf a.value 0 h.0 h.1)
+
+nothing_lowered : (p : Program) → p.inputs ≡ [] → p.lets ≡ [] → p.outputs ≡ [] → length (lowered p) ≡ 0
+unfolding lowered lower_lets lower_outputs
+nothing_lowered p i l o =
+    ap (λ is. length (input_vertices is ++ ((lower_lets p.lets (input_ports is 0) (length is)).made ++ lower_outputs p.outputs (lower_lets p.lets (input_ports is 0) (length is)).ports (length is + length (lower_lets p.lets (input_ports is 0) (length is)).made)))) i
+    ∙ ap (λ ls. length ((lower_lets ls (input_ports [] 0) 0).made ++ lower_outputs p.outputs (lower_lets ls (input_ports [] 0) 0).ports (0 + length (lower_lets ls (input_ports [] 0) 0).made))) l
+    ∙ ap (λ os. length (lower_outputs os (input_ports [] 0) 0)) o
+
+-- a well-typed program whose graph has a vertex has an input
+pub some_input : (as' : List Input) (p : Program) (ns : List ℕ) → p.inputs ≡ as' → WellTyped p ns → 0 < length (lowered p) → 0 < length as'
+some_input [] p ns e w h =
+    let rest = no_rest p.lets p.outputs ns (rw e at w.rest) in
+    let none = nothing_lowered p e rest.0 rest.1 in
+    absurd (omega (arith, h, none))
+some_input (a ∷ as') p ns e w h = omega arith
+
+outputs_lead : (os : List Output) (ports : Ports) (k : ℕ) → Below k ports → AllLead k (lower_outputs os ports k)
+unfolding lower_outputs
+outputs_lead [] ports k b = tt
+outputs_lead (o ∷ os) ports k b =
+    let r = lower o.value ports 0 k in
+    let j = k + length r.made in
+    let first = rel_leads o.value ports 0 k b in
+    leads_append k r.made (new_vertex Kind.output 0 (r.gives ∷ []) ∷ lower_outputs os ports (suc j)) first.made
+    ((refl, inl (first.gives, tt)), outputs_lead os ports (suc j) (below_more k (suc j) ports (omega arith) b))
 
 -- the vertices of a program behind its inputs'
 abbrev pub behind_inputs : Program → Graph
-behind_inputs p = (lets_of p).made ++ ((output_of p).made ++ (new_vertex Kind.output 0 ((output_of p).gives ∷ []) ∷ []))
+behind_inputs p = (lets_of p).made ++ outputs_of p
 
-pub program_leads : (p : Program) (n : ℕ) → WellTyped p n → AllLead (length p.inputs) (behind_inputs p)
-program_leads p n w =
+pub program_leads : (p : Program) → 0 < length p.inputs → AllLead (length p.inputs) (behind_inputs p)
+program_leads p h =
     let k = length p.inputs in
     let L = lets_of p in
-    let O = output_of p in
-    let v = new_vertex Kind.output 0 (O.gives ∷ []) in
-    let lets = lets_lead p.lets (input_ports p.inputs 0) k (inputs_below p.inputs 0 k (omega arith) (some_input p.inputs p n refl w)) in
-    let out = rel_leads p.output L.ports 0 (k + length L.made) lets.ports in
-    leads_append k L.made (O.made ++ (v ∷ [])) lets.made (leads_append (k + length L.made) O.made (v ∷ []) out.made ((refl, inl (out.gives, tt)), tt))
+    let lets = lets_lead p.lets (input_ports p.inputs 0) k (inputs_below p.inputs 0 k (omega arith) h) in
+    leads_append k L.made (outputs_of p) lets.made (outputs_lead p.outputs L.ports (k + length L.made) lets.ports)

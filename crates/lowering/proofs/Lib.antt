@@ -3,7 +3,11 @@ pub mod Tables
 pub mod Gathers
 pub mod Numbers
 pub mod Forms
+pub mod Answered
+pub mod SetOperations
 pub mod NamedRelations
+pub mod NamedOutputs
+pub mod OutputPlaces
 pub mod WholePrograms
 pub mod Nesting
 pub mod Lines

@@ -21,6 +21,8 @@ fits_sent Kind.concat n ins out e h = h.0
 fits_sent (Kind.join ps) n ins out e h = h.1
 fits_sent (Kind.group ks gs) n ins out e h = h.2
 fits_sent Kind.distinct n ins out e h = h
+fits_sent Kind.except n ins out e h = h.0
+fits_sent Kind.intersect n ins out e h = h.0
 fits_sent Kind.ingress n ins out e h = h
 fits_sent Kind.egress n ins out e h = h
 fits_sent Kind.feedback n ins out e h = h
@@ -70,12 +72,12 @@ split zero (suc m) = inl (omega arith)
 split (suc v) (suc m) = elim (split v m) [ inl h ↦ inl (omega arith) | inr h ↦ inr (omega arith) ]
 
 -- the arity of vertex v, where those before it are known; d is the declared one, if it is an input
-pub one_arity : (p : Program) (n : ℕ) (as' : List ℕ) (x : Vertex) (v d : ℕ) → WellTyped p n → IsTyped (lowered p) (λ u. slice_index_or (program_arities p) u 0)
+pub one_arity : (p : Program) (ns : List ℕ) (as' : List ℕ) (x : Vertex) (v d : ℕ) → WellTyped p ns → IsTyped (lowered p) (λ u. slice_index_or (program_arities p) u 0)
     → ((i : ℕ) → i < length p.inputs → slice_index_or (program_arities p) i 0 ≡ slice_index_or (map (λ a. a.arity) p.inputs) i 0)
     → v < length (lowered p) → x ≡ vertex (lowered p) v → d ≡ slice_index_or (map (λ a. a.arity) p.inputs) v 0 → ((u : ℕ) → u < v → slice_index_or as' u 0 ≡ slice_index_or (program_arities p) u 0)
     → sent x.kind d (arity_in as' x.ins 0) (arity_in as' x.ins 1) ≡ slice_index_or (program_arities p) v 0
 unfolding lowered vertex source
-one_arity p n as' x v d w typed declared lt e q k = go (split v m)
+one_arity p ns as' x v d w typed declared lt e q k = go (split v m)
   where
     m : ℕ
     m = length p.inputs
@@ -86,11 +88,11 @@ one_arity p n as' x v d w typed declared lt e q k = go (split v m)
     go : (v < m) ⊎ (m ≤ v) → sent x.kind d (arity_in as' x.ins 0) (arity_in as' x.ins 1) ≡ slice_index_or (program_arities p) v 0
     go (inl h) = input_sent x.kind d (arity_in as' x.ins 0) (arity_in as' x.ins 1) (ap (λ y. y.kind) (e ∙ input_at p.inputs (behind_inputs p) v h)) ∙ q ∙ sym (declared v h)
     go (inr h) =
-        let z = some_input p.inputs p n refl w in
+        let z = some_input p.inputs p ns refl w (omega arith) in
         let j : m + (v - m) ≡ v = omega arith in
         let short : v - m < length (behind_inputs p) = omega (arith, lt, length-append (input_vertices p.inputs) (behind_inputs p), length_inputs p.inputs) in
         let there : x ≡ slice_index_or (behind_inputs p) (v - m) no_vertex = e ∙ get_or-append_right (input_vertices p.inputs) (behind_inputs p) m v no_vertex (length_inputs p.inputs) h in
-        let leads : Leads v x = subst (λ y. Leads v y) (sym there) (subst (λ i. Leads i (slice_index_or (behind_inputs p) (v - m) no_vertex)) j (leads_at (behind_inputs p) m (v - m) (program_leads p n w) short)) in
+        let leads : Leads v x = subst (λ y. Leads v y) (sym there) (subst (λ i. Leads i (slice_index_or (behind_inputs p) (v - m) no_vertex)) j (leads_at (behind_inputs p) m (v - m) (program_leads p z) short)) in
         let fits : PortsFit x.kind (λ i. A (slice_index_or x.ins i no_port).vertex) (A v) = subst (λ y. PortsFit y.kind (λ i. A (slice_index_or y.ins i no_port).vertex) (A v)) (sym e) (typed.ports v lt) in
         vertex_sent x v d (A v) A as' (omega arith) leads k fits
 

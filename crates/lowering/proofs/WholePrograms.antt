@@ -1,15 +1,15 @@
 -- A program lowered by the code as by the definition.
-use Rattle.std.proofs.Common.{◌≡◌, ℕ, suc, ◌+◌, ◌<◌, ◌≤◌, List, [], ◌∷◌, ◌++◌, map, length, sym, ap, ap₂, subst, ◌∙◌, arith, append_assoc, length-append}
+use Rattle.std.proofs.Common.{◌≡◌, ℕ, suc, ◌+◌, ◌<◌, List, [], ◌∷◌, ◌++◌, map, length, sym, ap, ap₂, subst, ◌∙◌, arith, append_assoc, length-append}
 use Rattle.std.proofs.lemmas.List.{length-map}
 use Rattle.expr_tree.specs.declared.program.Input.{Input}
 use Rattle.expr_tree.specs.Plain.{plain_input}
 use Rattle.semantics.specs.Query.{Name, Program}
 use Rattle.semantics.specs.Kinds as semantics
 use Rattle.semantics.specs.Graph as graph
-use Rattle.semantics.specs.Lower.{lower, lower_lets, Ports, new_vertex, port, stands_for, input_vertices, input_ports, lets_of, output_of, lowered}
+use Rattle.semantics.specs.Lower.{lower_lets, lower_outputs, Ports, new_vertex, port, stands_for, input_vertices, input_ports, lets_of, outputs_of, lowered}
 use Rattle.lowering.specs.Views.{graph_of, port_of}
 use Rattle.lowering.specs.Faults.{IsTooMany, IsOver}
-use Rattle.lowering.specs.Steps.{IsLowered, AreLowered}
+use Rattle.lowering.specs.Steps.{AreLowered}
 use Rattle.lowering.specs.Scopes.{ports_of}
 use Rattle.lowering.specs.declared.scope.Entry.{Entry}
 use Rattle.lowering.specs.declared.vertex.Port.{Port}
@@ -35,30 +35,24 @@ lets_made p m1 m2 s1 s2 e s a =
 after_lets : (p : Program) (m1 m2 : List Vertex) (s2 : Ports) → graph_of m1 ≡ input_vertices p.inputs → AreLowered (graph_of m1) (graph_of m2) s2 (lets_of p) → length m2 ≡ length p.inputs + length (lets_of p).made
 after_lets p m1 m2 s2 e a = number_of m1 m2 (lets_of p).made a.made ∙ ap (λ k. k + length (lets_of p).made) (inputs_length p m1 e)
 
-output_made : (p : Program) (m1 m2 m3 : List Vertex) (s2 : Ports) (out : graph.Port) → graph_of m1 ≡ input_vertices p.inputs → AreLowered (graph_of m1) (graph_of m2) s2 (lets_of p) → IsLowered (graph_of m2) (graph_of m3) out (lower p.output s2 0 (length m2)) → IsLowered (graph_of m2) (graph_of m3) out (output_of p)
-output_made p m1 m2 m3 s2 out e a i =
-    subst (λ k. IsLowered (graph_of m2) (graph_of m3) out (lower p.output (lets_of p).ports 0 k)) (after_lets p m1 m2 s2 e a) (subst (λ f. IsLowered (graph_of m2) (graph_of m3) out (lower p.output f 0 (length m2))) a.names i)
+outputs_after : (p : Program) (m1 m2 m3 : List Vertex) (s2 : Ports) → graph_of m1 ≡ input_vertices p.inputs → AreLowered (graph_of m1) (graph_of m2) s2 (lets_of p) → graph_of m3 ≡ graph_of m2 ++ lower_outputs p.outputs s2 (length m2) → graph_of m3 ≡ graph_of m2 ++ outputs_of p
+outputs_after p m1 m2 m3 s2 e a o =
+    o ∙ ap₂ (λ f k. graph_of m2 ++ lower_outputs p.outputs f k) a.names (after_lets p m1 m2 s2 e a)
 
-pub program_made : (p : Program) (m1 m2 m3 m4 : List Vertex) (s1 s2 : Ports) (out : graph.Port) → graph_of m1 ≡ input_vertices p.inputs → s1 ≡ input_ports p.inputs 0 → AreLowered (graph_of m1) (graph_of m2) s2 (lower_lets p.lets s1 (length m1)) → IsLowered (graph_of m2) (graph_of m3) out (lower p.output s2 0 (length m2)) → graph_of m4 ≡ graph_of m3 ++ (new_vertex semantics.Kind.output 0 (out ∷ []) ∷ []) → graph_of m4 ≡ lowered p
+pub program_made : (p : Program) (m1 m2 m3 : List Vertex) (s1 s2 : Ports) → graph_of m1 ≡ input_vertices p.inputs → s1 ≡ input_ports p.inputs 0 → AreLowered (graph_of m1) (graph_of m2) s2 (lower_lets p.lets s1 (length m1)) → graph_of m3 ≡ graph_of m2 ++ lower_outputs p.outputs s2 (length m2) → graph_of m3 ≡ lowered p
 unfolding lowered
-program_made p m1 m2 m3 m4 s1 s2 out e s a i o =
+program_made p m1 m2 m3 s1 s2 e s a o =
     let l = lets_made p m1 m2 s1 s2 e s a in
-    let r = output_made p m1 m2 m3 s2 out e l i in
     let I = input_vertices p.inputs in
     let L = (lets_of p).made in
-    let O = (output_of p).made in
-    let T = new_vertex semantics.Kind.output 0 ((output_of p).gives ∷ []) ∷ [] in
-    o ∙ ap₂ (λ g q. g ++ (new_vertex semantics.Kind.output 0 (q ∷ []) ∷ [])) (r.made ∙ ap (λ g. g ++ O) (l.made ∙ ap (λ g. g ++ L) e)) r.gives
-    ∙ append_assoc (I ++ L) O T ∙ append_assoc I L (O ++ T)
+    outputs_after p m1 m2 m3 s2 e l o ∙ ap (λ g. g ++ outputs_of p) (l.made ∙ ap (λ g. g ++ L) e) ∙ append_assoc I L (outputs_of p)
 
-program_length : (p : Program) → length (lowered p) ≡ length p.inputs + length (lets_of p).made + length (output_of p).made + 1
+program_length : (p : Program) → length (lowered p) ≡ length p.inputs + length (lets_of p).made + length (outputs_of p)
 unfolding lowered
 program_length p =
     let I = input_vertices p.inputs in
     let L = (lets_of p).made in
-    let O = (output_of p).made in
-    let T = new_vertex semantics.Kind.output 0 ((output_of p).gives ∷ []) ∷ [] in
-    omega (arith, length-append I (L ++ (O ++ T)), length-append L (O ++ T), length-append O T, length-map p.inputs (λ a. new_vertex semantics.Kind.input 0 []))
+    omega (arith, length-append I (L ++ outputs_of p), length-append L (outputs_of p), length-map p.inputs (λ a. new_vertex semantics.Kind.input 0 []))
 
 pub over_inputs : (e : LowerFault) (p : Program) → IsOver e (0 + length (input_vertices p.inputs)) → IsTooMany e → 4096 < length (lowered p)
 over_inputs e p o t = let a = o.over t in omega (arith, program_length p, length-map p.inputs (λ a. new_vertex semantics.Kind.input 0 []))
@@ -69,16 +63,9 @@ over_lets e p m1 s1 g s o t =
     let a = (subst (λ j. IsOver e (j + length (lower_lets p.lets (input_ports p.inputs 0) j).made)) n (subst (λ f. IsOver e (length m1 + length (lower_lets p.lets f (length m1)).made)) s o)).over t in
     omega (arith, program_length p)
 
-pub over_output : (e : LowerFault) (p : Program) (m1 m2 : List Vertex) (s1 s2 : Ports) → graph_of m1 ≡ input_vertices p.inputs → s1 ≡ input_ports p.inputs 0 → AreLowered (graph_of m1) (graph_of m2) s2 (lower_lets p.lets s1 (length m1)) → IsOver e (length m2 + length (lower p.output s2 0 (length m2)).made) → IsTooMany e → 4096 < length (lowered p)
-over_output e p m1 m2 s1 s2 g s a o t =
+pub over_outputs : (e : LowerFault) (p : Program) (m1 m2 : List Vertex) (s1 s2 : Ports) → graph_of m1 ≡ input_vertices p.inputs → s1 ≡ input_ports p.inputs 0 → AreLowered (graph_of m1) (graph_of m2) s2 (lower_lets p.lets s1 (length m1)) → IsOver e (length m2 + length (lower_outputs p.outputs s2 (length m2))) → IsTooMany e → 4096 < length (lowered p)
+over_outputs e p m1 m2 s1 s2 g s a o t =
     let l = lets_made p m1 m2 s1 s2 g s a in
     let n = after_lets p m1 m2 s2 g l in
-    let b = (subst (λ k. IsOver e (k + length (lower p.output (lets_of p).ports 0 k).made)) n (subst (λ f. IsOver e (length m2 + length (lower p.output f 0 (length m2)).made)) l.names o)).over t in
+    let b = (subst (λ k. IsOver e (k + length (lower_outputs p.outputs (lets_of p).ports k))) n (subst (λ f. IsOver e (length m2 + length (lower_outputs p.outputs f (length m2)))) l.names o)).over t in
     omega (arith, program_length p)
-
-pub full_output : (e : LowerFault) (p : Program) (m1 m2 m3 : List Vertex) (s1 s2 : Ports) (out : graph.Port) → graph_of m1 ≡ input_vertices p.inputs → s1 ≡ input_ports p.inputs 0 → AreLowered (graph_of m1) (graph_of m2) s2 (lower_lets p.lets s1 (length m1)) → IsLowered (graph_of m2) (graph_of m3) out (lower p.output s2 0 (length m2)) → (IsTooMany e → 4096 ≤ length m3) → IsTooMany e → 4096 < length (lowered p)
-full_output e p m1 m2 m3 s1 s2 out g s a i o t =
-    let l = lets_made p m1 m2 s1 s2 g s a in
-    let r = output_made p m1 m2 m3 s2 out g l i in
-    let b = o t in
-    omega (arith, program_length p, after_lets p m1 m2 s2 g l, number_of m2 m3 (output_of p).made r.made)

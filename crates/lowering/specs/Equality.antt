@@ -1,5 +1,5 @@
 -- Tests of equality: each is true exactly of two that are equal.
-use Rattle.std.specs.Prelude.{ℕ, Bool, true, false, nat_eq, ◌&&◌, List}
+use Rattle.std.specs.Prelude.{Bool, true, false, nat_eq, ◌&&◌}
 use Rattle.std.specs.Cmp.Lexicographic.{pointwise}
 use Rattle.std.specs.Ordering.{int_eq}
 use Rattle.semantics.specs.Query.{Scalar, Comparison, Cond, Agg, Pair, Input}
@@ -7,7 +7,7 @@ use Rattle.semantics.specs.Kinds.{Kind}
 use Rattle.semantics.specs.Graph.{Vertex}
 use Rattle.semantics.specs.Meaning.{same_name}
 use Rattle.lowering.specs.Edges.{same_port}
-use Rattle.lowering.specs.Shown.{GraphValue, shown_arities, shown_graph, shown_inputs}
+use Rattle.lowering.specs.Shown.{GraphValue, shown_arities, shown_graph, shown_inputs, shown_names}
 
 -- of scalars
 abbrev pub scalar_eq : Scalar → Scalar → Bool
@@ -59,6 +59,8 @@ kind_eq Kind.concat Kind.concat = true
 kind_eq (Kind.join ps) (Kind.join qs) = pointwise pair_eq ps qs
 kind_eq (Kind.group ks gs) (Kind.group ls hs) = pointwise nat_eq ks ls && pointwise agg_eq gs hs
 kind_eq Kind.distinct Kind.distinct = true
+kind_eq Kind.except Kind.except = true
+kind_eq Kind.intersect Kind.intersect = true
 kind_eq Kind.ingress Kind.ingress = true
 kind_eq Kind.egress Kind.egress = true
 kind_eq Kind.feedback Kind.feedback = true
@@ -76,4 +78,4 @@ input_eq a b = nat_eq a.arity b.arity && same_name a.name b.name
 
 -- of what graphs in memory show
 abbrev pub graph_eq : GraphValue → GraphValue → Bool
-graph_eq g h = pointwise vertex_eq (shown_graph g) (shown_graph h) && (pointwise input_eq (shown_inputs g) (shown_inputs h) && pointwise nat_eq (shown_arities g) (shown_arities h))
+graph_eq g h = pointwise vertex_eq (shown_graph g) (shown_graph h) && (pointwise input_eq (shown_inputs g) (shown_inputs h) && (pointwise same_name (shown_names g) (shown_names h) && pointwise nat_eq (shown_arities g) (shown_arities h)))

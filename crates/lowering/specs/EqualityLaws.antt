@@ -7,10 +7,11 @@ use Rattle.semantics.specs.Query.{Scalar, Comparison, Cond, Agg, Pair, Name, Inp
 use Rattle.semantics.specs.Kinds.{Kind}
 use Rattle.semantics.specs.Graph.{Port, Vertex}
 use Rattle.semantics.specs.Lower.{new_vertex, port}
+use Rattle.semantics.specs.Meaning.{same_name}
 use Rattle.semantics.proofs.NamesAmong.{Decides-same_name}
 use Rattle.lowering.specs.Edges.{same_port}
 use Rattle.lowering.specs.Equality.{agg_eq, comparison_eq, cond_eq, graph_eq, input_eq, kind_eq, pair_eq, scalar_eq, vertex_eq}
-use Rattle.lowering.specs.Shown.{GraphValue, shown_arities, shown_graph, shown_inputs}
+use Rattle.lowering.specs.Shown.{GraphValue, ShowSame, shown_arities, shown_graph, shown_inputs, shown_names}
 
 -- what decides equality is an equivalence
 equiv_from_decides : {K : Type 0} (E : K → K → Bool) → ((x y : K) → Decides (E x y) (x ≡ y)) → IsEquivalence E
@@ -78,6 +79,8 @@ kind_decides Kind.concat Kind.concat = (λ e. refl, λ e. refl)
 kind_decides (Kind.join ps) (Kind.join qs) = Decides-like _ (λ e. ap Kind.join e) (λ e. cc) (pointwise_decides pair_decides ps qs)
 kind_decides (Kind.group ks gs) (Kind.group ls hs) = Decides-like _ (λ h. ap₂ Kind.group h.0 h.1) (λ e. (cc, cc)) (Decides-and _ _ (pointwise_decides Decides-eqb ks ls) (pointwise_decides agg_decides gs hs))
 kind_decides Kind.distinct Kind.distinct = (λ e. refl, λ e. refl)
+kind_decides Kind.except Kind.except = (λ e. refl, λ e. refl)
+kind_decides Kind.intersect Kind.intersect = (λ e. refl, λ e. refl)
 kind_decides Kind.ingress Kind.ingress = (λ e. refl, λ e. refl)
 kind_decides Kind.egress Kind.egress = (λ e. refl, λ e. refl)
 kind_decides Kind.feedback Kind.feedback = (λ e. refl, λ e. refl)
@@ -103,15 +106,19 @@ vertex_equiv = equiv_from_decides vertex_eq vertex_decides
 pub input_equiv : IsEquivalence input_eq
 input_equiv = equiv_from_decides input_eq input_decides
 
-pub graph_equiv : IsEquivalence graph_eq
-graph_equiv = and_equiv (on_equiv shown_graph (lists_equiv vertex_equiv)) (and_equiv (on_equiv shown_inputs (lists_equiv input_equiv)) (on_equiv shown_arities (lists_equiv nat_eq_equiv)))
+pub name_equiv : IsEquivalence same_name
+name_equiv = equiv_from_decides same_name Decides-same_name
 
-pub graph_decides : (g h : GraphValue) → Decides (graph_eq g h) ((shown_graph g ≡ shown_graph h) × (shown_inputs g ≡ shown_inputs h) × (shown_arities g ≡ shown_arities h))
+pub graph_equiv : IsEquivalence graph_eq
+graph_equiv = and_equiv (on_equiv shown_graph (lists_equiv vertex_equiv)) (and_equiv (on_equiv shown_inputs (lists_equiv input_equiv)) (and_equiv (on_equiv shown_names (lists_equiv name_equiv)) (on_equiv shown_arities (lists_equiv nat_eq_equiv))))
+
+pub graph_decides : (g h : GraphValue) → Decides (graph_eq g h) (ShowSame g h)
 graph_decides g h =
-    Decides-like (graph_eq g h) (λ s. (s.0, s.1.0, s.1.1)) (λ s. (s.0, (s.1, s.2)))
+    Decides-like (graph_eq g h) (λ s. (s.0, s.1.0, s.1.1.0, s.1.1.1)) (λ s. (s.0, (s.1, (s.2, s.3))))
     (Decides-and _ _ (pointwise_decides vertex_decides (shown_graph g) (shown_graph h))
-    (Decides-and _ _ (pointwise_decides input_decides (shown_inputs g) (shown_inputs h)) (pointwise_decides Decides-eqb (shown_arities g) (shown_arities h))))
+    (Decides-and _ _ (pointwise_decides input_decides (shown_inputs g) (shown_inputs h))
+    (Decides-and _ _ (pointwise_decides Decides-same_name (shown_names g) (shown_names h)) (pointwise_decides Decides-eqb (shown_arities g) (shown_arities h)))))
 
 -- a test that is `graph_eq` decides whether both show the same
-pub graph_tested : (r : Bool) (g h : GraphValue) → r ≡ graph_eq g h → IsTrue r ↔ ((shown_graph g ≡ shown_graph h) × (shown_inputs g ≡ shown_inputs h) × (shown_arities g ≡ shown_arities h))
+pub graph_tested : (r : Bool) (g h : GraphValue) → r ≡ graph_eq g h → IsTrue r ↔ ShowSame g h
 graph_tested r g h e = (λ t. (graph_decides g h).0 (sym e ∙ t), λ s. e ∙ (graph_decides g h).1 s)

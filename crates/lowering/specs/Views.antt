@@ -1,17 +1,21 @@
 -- The definition's graph that vertices in memory show.
-use Rattle.std.specs.Prelude.{List, [], ◌∷◌, map}
+use Rattle.std.specs.Prelude.{ℕ, List, [], ◌∷◌, map}
 use Rattle.semantics.specs.Kinds as semantics
 use Rattle.semantics.specs.Graph as graph
 use Rattle.semantics.specs.Query as query
 use Rattle.expr_tree.specs.Views.{scalar_tree, cond_tree}
+use Rattle.expr_tree.specs.declared.relation.SetOperator.{SetOperator}
+use Rattle.expr_tree.specs.declared.relation.SetOperator.TheVariants as operation
 use Rattle.expr_tree.specs.Plain.{plain_scalar, plain_cond, plain_pair, plain_agg}
 use Rattle.lowering.specs.declared.vertex.Kind.{Kind}
-use Rattle.lowering.specs.declared.vertex.Kind.TheVariants.{Input, Output, Select, Where, Concat, Join, Group, Distinct, Ingress, Egress, Feedback, Gate, Hold}
+use Rattle.lowering.specs.declared.vertex.Kind.TheVariants.{Input, Output, Select, Where, Concat, Join, Group, Distinct, Except, Intersect, Ingress, Egress, Feedback, Gate, Hold}
 use Rattle.lowering.specs.declared.vertex.Port.{Port}
 use Rattle.lowering.specs.declared.vertex.Sources.{Sources}
 use Rattle.lowering.specs.declared.vertex.Sources.TheVariants.{Nothing, One, Two}
 use Rattle.lowering.specs.declared.vertex.Vertex.{Vertex}
+use Rattle.lowering.specs.declared.vertex.VertexId.{VertexId}
 use Rattle.lowering.specs.declared.graph.DeclaredInput.{DeclaredInput}
+use Rattle.lowering.specs.declared.outputs.GraphOutput.{GraphOutput}
 
 -- of a kind
 abbrev pub kind_of : Kind → semantics.Kind
@@ -23,11 +27,19 @@ kind_of Concat = semantics.Kind.concat
 kind_of (Join ps) = semantics.Kind.join (map plain_pair ps.items)
 kind_of (Group ks gs) = semantics.Kind.group (map (λ k. k.index) ks.items) (map plain_agg gs.items)
 kind_of Distinct = semantics.Kind.distinct
+kind_of Except = semantics.Kind.except
+kind_of Intersect = semantics.Kind.intersect
 kind_of Ingress = semantics.Kind.ingress
 kind_of Egress = semantics.Kind.egress
 kind_of Feedback = semantics.Kind.feedback
 kind_of (Gate n) = semantics.Kind.gate n
 kind_of (Hold n) = semantics.Kind.hold n
+
+-- of a set operator
+abbrev pub operator_kind : SetOperator → semantics.Kind
+operator_kind operation.Concat = semantics.Kind.concat
+operator_kind operation.Except = semantics.Kind.except
+operator_kind operation.Intersect = semantics.Kind.intersect
 
 -- of an out port
 abbrev pub port_of : Port → graph.Port
@@ -50,3 +62,15 @@ graph_of vs = map vertex_of vs
 -- of an input
 abbrev pub input_of : DeclaredInput → query.Input
 input_of i = record { name = i.name; arity = i.arity }
+
+-- the number of a vertex
+abbrev pub vertex_number : VertexId → ℕ
+vertex_number v = v.0
+
+-- the name of an output
+abbrev pub name_of_output : GraphOutput → query.Name
+name_of_output o = o.name
+
+-- the number of an output's vertex
+abbrev pub number_of_output : GraphOutput → ℕ
+number_of_output o = o.vertex.0

@@ -1,6 +1,6 @@
 //! The arities of a graph's ports.
 
-ghost use Rattle.std.specs.Prelude.{◌≡◌, ◌≤◌, ◌<◌, ℕ, length, map, slice_index_or, IfOk};
+ghost use Rattle.std.specs.Prelude.{◌≡◌, ◌≤◌, ◌<◌, ℕ, List, length, map, slice_index_or, IfOk};
 ghost use Rattle.expr_tree.specs.Plain.{plain_program};
 ghost use Rattle.expr_tree.specs.Views.{program_tree};
 ghost use Rattle.semantics.specs.Graph.{no_port};
@@ -19,7 +19,7 @@ pub fn arities_of<A: Allocator>(
     program: &Program<A>,
     vertices: &[Vertex],
 ) -> Result<Vec<u64>, NoMemory>
-    requires typed { (n : ℕ) × WellTyped (plain_program (program_tree program.now)) n }
+    requires typed { (ns : List ℕ) × WellTyped (plain_program (program_tree program.now)) ns }
     requires graph { graph_of vertices.now ≡ lowered (plain_program (program_tree program.now)) }
     ensures { IfOk result (λ a. AreArities a.items (plain_program (program_tree program.now))) }
 {
@@ -59,6 +59,8 @@ fn sent_arity(vertex: &Vertex, declared: u64, arities: &[u64]) -> u64
         Kind::Where(_) => first,
         Kind::Concat => first,
         Kind::Distinct => first,
+        Kind::Except => first,
+        Kind::Intersect => first,
         Kind::Ingress => first,
         Kind::Egress => first,
         Kind::Feedback => first,

@@ -3,7 +3,8 @@
 ghost use Rattle.std.specs.Prelude.{◌≡◌, OnErr};
 
 use crate::graph::Graph;
-use crate::text::{put_kind, put_number};
+use crate::outputs::GraphOutput;
+use crate::text::{name_of, put_kind, put_number};
 use crate::vertex::{Kind, Vertex};
 use expr_tree::NoMemory;
 use std::alloc::Global;
@@ -14,7 +15,7 @@ pub fn graph_dot(alloc: Global, graph: &Graph, text: &mut Vec<u8>) -> Result<(),
     ensures { OnErr result (text.new.items ≡ text.old.items) }
 {
     let mut whole = Vec::from_slice(alloc, b"digraph {\n")?;
-    put_nodes(alloc, &mut whole, graph.vertices())?;
+    put_nodes(alloc, &mut whole, graph.vertices(), graph.outputs())?;
     put_arrows(&mut whole, graph)?;
     whole.extend_from_slice(b"}\n")?;
     text.extend_from_slice(&whole)?;
@@ -22,7 +23,12 @@ pub fn graph_dot(alloc: Global, graph: &Graph, text: &mut Vec<u8>) -> Result<(),
 }
 
 /// The nodes. A vertex deeper than the loops that are open begins one, and an egress ends the innermost.
-fn put_nodes(alloc: Global, text: &mut Vec<u8>, vertices: &[Vertex]) -> Result<(), NoMemory> {
+fn put_nodes(
+    alloc: Global,
+    text: &mut Vec<u8>,
+    vertices: &[Vertex],
+    outputs: &[GraphOutput],
+) -> Result<(), NoMemory> {
     let mut open: Vec<u64> = Vec::new(alloc);
     let mut number = 0u64;
     for vertex in vertices {
@@ -30,7 +36,7 @@ fn put_nodes(alloc: Global, text: &mut Vec<u8>, vertices: &[Vertex]) -> Result<(
             open.push(number)?;
         }
         let loops = &open[..open.len().min(vertex.depth as usize)];
-        put_node(text, number, vertex, loops)?;
+        put_node(text, number, vertex, name_of(outputs, number), loops)?;
         if matches!(&vertex.kind, Kind::Egress) {
             let _ = open.pop();
         }
@@ -44,6 +50,7 @@ fn put_node(
     text: &mut Vec<u8>,
     number: u64,
     vertex: &Vertex,
+    name: &[u8],
     loops: &[u64],
 ) -> Result<(), NoMemory> {
     for first in loops {
@@ -55,7 +62,7 @@ fn put_node(
     text.extend_from_slice(b" [label=\"")?;
     put_number(text, number)?;
     text.extend_from_slice(b" ")?;
-    put_kind(text, &vertex.kind)?;
+    put_kind(text, &vertex.kind, name)?;
     text.extend_from_slice(b" ")?;
     put_number(text, vertex.depth as u64)?;
     text.extend_from_slice(b"\"];")?;

@@ -5,13 +5,15 @@ ghost use Rattle.std.specs.Cmp.{on_equiv, partial_equiv_from_equiv};
 ghost use Rattle.std.specs.Cmp.Lexicographic.{pointwise};
 ghost use Rattle.expr_tree.specs.Plain.{plain_agg, plain_cond, plain_pair, plain_scalar};
 ghost use Rattle.expr_tree.specs.Views.{cond_tree, scalar_tree};
+ghost use Rattle.semantics.specs.Meaning.{same_name};
 ghost use Rattle.lowering.specs.Edges.{same_port};
 ghost use Rattle.lowering.specs.Equality.{agg_eq, cond_eq, graph_eq, input_eq, kind_eq, pair_eq, scalar_eq, vertex_eq};
 ghost use Rattle.lowering.specs.EqualityLaws.{graph_equiv, input_equiv, kind_equiv, vertex_equiv};
-ghost use Rattle.lowering.specs.Shown.{shown_arities, shown_graph, shown_inputs};
-ghost use Rattle.lowering.specs.Views.{graph_of, input_of, kind_of, port_of, sources_of, vertex_of};
+ghost use Rattle.lowering.specs.Shown.{ShowSame};
+ghost use Rattle.lowering.specs.Views.{graph_of, input_of, kind_of, name_of_output, port_of, sources_of, vertex_of};
 
 use crate::graph::{DeclaredInput, Graph};
+use crate::outputs::GraphOutput;
 use crate::vertex::{Kind, Port, Sources, Vertex};
 use expr_tree::{Agg, Column, Cond, Pair, Scalar, same_cond, same_scalar};
 use std::alloc::Global;
@@ -21,10 +23,10 @@ impl PartialEq for Graph {
 
     ghost laws = { partial_equiv_from_equiv graph_equiv };
 
-    /// Whether both graphs show the same vertices, inputs and arities, in order. No memory is taken.
+    /// Whether both graphs show the same vertices, inputs, names of outputs and arities, in order. No memory is taken.
     fn eq(&self, other: &Self) -> bool
         ensures value { result ≡ graph_eq self.now other.now }
-        ensures decides { IsTrue result ↔ ((shown_graph self.now ≡ shown_graph other.now) × (shown_inputs self.now ≡ shown_inputs other.now) × (shown_arities self.now ≡ shown_arities other.now)) }
+        ensures decides { IsTrue result ↔ ShowSame self.now other.now }
     {
         equal_graphs(self, other)
     }
@@ -79,6 +81,8 @@ impl PartialEq for Kind {
                 same_columns(ks, ls) && same_aggs(gs, hs)
             }
             (Kind::Distinct, Kind::Distinct) => true,
+            (Kind::Except, Kind::Except) => true,
+            (Kind::Intersect, Kind::Intersect) => true,
             (Kind::Ingress, Kind::Ingress) => true,
             (Kind::Egress, Kind::Egress) => true,
             (Kind::Feedback, Kind::Feedback) => true,
@@ -99,6 +103,7 @@ fn equal_graphs(left: &Graph, right: &Graph) -> bool
 {
     equal_vertices(left.vertices(), right.vertices())
         && equal_inputs(left.inputs(), right.inputs())
+        && same_outputs(left.outputs(), right.outputs())
         && left.arities() == right.arities()
 }
 
@@ -114,6 +119,17 @@ fn equal_inputs(left: &[DeclaredInput], right: &[DeclaredInput]) -> bool
     ensures { result ≡ pointwise input_eq (map input_of left.now) (map input_of right.now) }
 {
     left == right
+}
+
+/// Whether the outputs have the same names, one by one.
+fn same_outputs(left: &[GraphOutput], right: &[GraphOutput]) -> bool
+    ensures { result ≡ pointwise same_name (map name_of_output left.now) (map name_of_output right.now) }
+{
+    match (left, right) {
+        ([], []) => true,
+        ([x, xs @ ..], [y, ys @ ..]) => x.name == y.name && same_outputs(xs, ys),
+        _ => false,
+    }
 }
 
 /// Whether two lists of ports are equal.

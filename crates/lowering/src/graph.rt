@@ -1,10 +1,10 @@
 //! The graph of a query.
 
-ghost use Rattle.std.specs.Prelude.{◌≡◌, ◌≤◌, ◌<◌, ℕ, length, map, slice_index_or, IfOk, IfErr};
+ghost use Rattle.std.specs.Prelude.{◌≡◌, ◌≤◌, ◌<◌, ℕ, List, length, map, slice_index_or, IfOk, IfErr};
 ghost use Rattle.expr_tree.specs.Plain.{plain_input, plain_program};
 ghost use Rattle.expr_tree.specs.Views.{program_tree};
 ghost use Rattle.semantics.specs.Dataflow.{IsDataflow};
-ghost use Rattle.semantics.specs.Graph.{edge_count, edge_source, in_port, input_count, source, target, vertex};
+ghost use Rattle.semantics.specs.Graph.{edge_count, edge_source, in_port, input_count, output_numbers, source, target, vertex};
 ghost use Rattle.semantics.specs.Kinds.{is_input};
 ghost use Rattle.semantics.specs.Lower.{lowered};
 ghost use Rattle.semantics.specs.PortArity.{IsTyped};
@@ -14,12 +14,13 @@ ghost use Rattle.lowering.specs.Arities.{AreArities};
 ghost use Rattle.lowering.specs.Edges.{edge_list, edge_number, edge_of, edges_out};
 ghost use Rattle.lowering.specs.Faults.{IsTooMany};
 ghost use Rattle.lowering.specs.GraphLaws.{Computes, HasProgramArities, IsProgramGraph};
-ghost use Rattle.lowering.specs.Shown.{shown_arities, shown_graph, shown_inputs};
-ghost use Rattle.lowering.specs.Views.{graph_of, input_of, kind_of, port_of, vertex_of};
+ghost use Rattle.lowering.specs.Shown.{shown_arities, shown_graph, shown_inputs, shown_names};
+ghost use Rattle.lowering.specs.Views.{graph_of, input_of, kind_of, name_of_output, number_of_output, port_of, vertex_of};
 
 use crate::arities::{arities_of, arity_at, two_sources};
 use crate::edges::{Edge, EdgeId, Outs, edges_of, outs_of_edges};
 use crate::fault::LowerFault;
+use crate::outputs::{GraphOutput, outputs_of};
 use crate::program::lower_vertices;
 use crate::vertex::{Kind, Port, Vertex, VertexId};
 use expr_tree::{Input, NoMemory, Program};
@@ -40,13 +41,14 @@ pub struct DeclaredInput {
 pub struct Graph {
     vertices: Vec<Vertex>,
     inputs: Vec<DeclaredInput>,
+    outputs: Vec<GraphOutput>,
     arities: Vec<u64>,
     edges: Vec<Edge>,
     outs: Vec<Outs>,
 }
 
 impl Model for Graph {
-    ghost use Rattle.std.specs.Prelude.{◌≤◌, length, map, vec_items};
+    ghost use Rattle.std.specs.Prelude.{◌≡◌, ◌≤◌, length, map, vec_items};
     ghost use Rattle.std.specs.Coded.{codes};
     ghost use Rattle.std.specs.contracts.alloc.Global as heap;
     ghost use Rattle.std.specs.contracts.impls.GlobalAllocator.TheImpl as allocates;
@@ -55,24 +57,27 @@ impl Model for Graph {
     ghost use Rattle.lowering.specs.Edges.{HasTables, edge_of, outs_of};
     ghost use Rattle.lowering.specs.GraphLaws.{HasProgramArities, IsProgramGraph};
     ghost use Rattle.semantics.specs.Dataflow.{IsDataflow};
+    ghost use Rattle.semantics.specs.Graph.{output_numbers};
     ghost use Rattle.lowering.specs.Shown.{GraphValue};
-    ghost use Rattle.lowering.specs.Views.{graph_of, input_of};
+    ghost use Rattle.lowering.specs.Views.{graph_of, input_of, number_of_output};
 
     ghost Value = { GraphValue };
 
     ghost coded = { Prim.hlevel (codes, (scalar.the_row heap.the_row allocates.ghosts).coded, (condition.the_row heap.the_row allocates.ghosts).coded) };
 
-    ghost view = { λ g. record { vertices = vec_items g.vertices; inputs = vec_items g.inputs; arities = vec_items g.arities } };
+    ghost view = { λ g. record { vertices = vec_items g.vertices; inputs = vec_items g.inputs; outputs = vec_items g.outputs; arities = vec_items g.arities } };
 
-    ghost invariant = { λ g. ∥ IsProgramGraph (graph_of (vec_items g.vertices)) (map input_of (vec_items g.inputs)) ∥₁ × HasTables (graph_of (vec_items g.vertices)) (map edge_of (vec_items g.edges)) (map outs_of (vec_items g.outs)) × (length (vec_items g.vertices) ≤ 4096) × ∥ HasProgramArities (graph_of (vec_items g.vertices)) (map input_of (vec_items g.inputs)) (vec_items g.arities) ∥₁ × IsDataflow (graph_of (vec_items g.vertices)) };
+    ghost invariant = { λ g. ∥ IsProgramGraph (graph_of (vec_items g.vertices)) (map input_of (vec_items g.inputs)) ∥₁ × HasTables (graph_of (vec_items g.vertices)) (map edge_of (vec_items g.edges)) (map outs_of (vec_items g.outs)) × (length (vec_items g.vertices) ≤ 4096) × ∥ HasProgramArities (graph_of (vec_items g.vertices)) (map input_of (vec_items g.inputs)) (vec_items g.arities) ∥₁ × IsDataflow (graph_of (vec_items g.vertices)) × (map number_of_output (vec_items g.outputs) ≡ output_numbers (graph_of (vec_items g.vertices))) };
 }
 
-/// The graph of a well-typed query: exactly the one that the definition makes of it. On any inputs it has exactly one flow, whose
-/// records at the output are at each epoch the query's meaning, and which is empty over the limit of turns where a turn ends.
+/// The graph of a well-typed query: exactly the one that the definition makes of it. It has the query's outputs. On any inputs it has
+/// exactly one flow, whose records at each output are at each epoch what the query means there, and which is empty over the limit of
+/// turns where a turn ends.
 /// `TooMany` comes exactly where it would have more than 4096 vertices.
 pub fn lower<A: Allocator>(alloc: Global, typed: &Typed<A>) -> Result<Graph, LowerFault>
     ensures graph { IfOk result (λ g. shown_graph g ≡ lowered (plain_program (typed_program typed.now))) }
     ensures inputs { IfOk result (λ g. shown_inputs g ≡ (plain_program (typed_program typed.now)).inputs) }
+    ensures names { IfOk result (λ g. shown_names g ≡ map (λ o. o.name) (plain_program (typed_program typed.now)).outputs) }
     ensures flow { IfOk result (λ g. Computes (shown_graph g) (plain_program (typed_program typed.now))) }
     ensures arities { IfOk result (λ g. AreArities (shown_arities g) (plain_program (typed_program typed.now))) }
     ensures few { IfOk result (λ g. length (shown_graph g) ≤ 4096) }
@@ -83,9 +88,10 @@ pub fn lower<A: Allocator>(alloc: Global, typed: &Typed<A>) -> Result<Graph, Low
 
 /// The graph of a program that is well typed.
 fn lower_program<A: Allocator>(alloc: Global, program: &Program<A>) -> Result<Graph, LowerFault>
-    requires { (n : ℕ) × WellTyped (plain_program (program_tree program.now)) n }
+    requires { (ns : List ℕ) × WellTyped (plain_program (program_tree program.now)) ns }
     ensures graph { IfOk result (λ g. shown_graph g ≡ lowered (plain_program (program_tree program.now))) }
     ensures inputs { IfOk result (λ g. shown_inputs g ≡ (plain_program (program_tree program.now)).inputs) }
+    ensures names { IfOk result (λ g. shown_names g ≡ map (λ o. o.name) (plain_program (program_tree program.now)).outputs) }
     ensures flow { IfOk result (λ g. Computes (shown_graph g) (plain_program (program_tree program.now))) }
     ensures arities { IfOk result (λ g. AreArities (shown_arities g) (plain_program (program_tree program.now))) }
     ensures few { IfOk result (λ g. length (shown_graph g) ≤ 4096) }
@@ -94,12 +100,14 @@ fn lower_program<A: Allocator>(alloc: Global, program: &Program<A>) -> Result<Gr
     semantics::graphs::law_program();
     let vertices = lower_vertices(alloc, program)?;
     let inputs = copy_inputs(alloc, &program.inputs)?;
+    let outputs = outputs_of(alloc, &program.outputs, &vertices)?;
     let edges = edges_of(alloc, &vertices)?;
     let outs = outs_of_edges(alloc, vertices.len(), &edges)?;
     let arities = arities_of(alloc, program, &vertices)?;
     Ok(Graph {
         vertices,
         inputs,
+        outputs,
         arities,
         edges,
         outs,
@@ -243,6 +251,14 @@ impl Graph {
         ensures { map input_of result.now ≡ shown_inputs self.now }
     {
         &self.inputs
+    }
+
+    /// The outputs in order: the name of each, and its vertex.
+    pub fn outputs(&self) -> &[GraphOutput]
+        ensures names { map name_of_output result.now ≡ shown_names self.now }
+        ensures numbers { map number_of_output result.now ≡ output_numbers (shown_graph self.now) }
+    {
+        &self.outputs
     }
 
     /// The number of inputs.

@@ -4,7 +4,8 @@
 //! feed it.
 //!
 //! The contract for the layers above: the graph is exactly the one that the definition (`semantics`) makes of the tree, so on any
-//! inputs it has exactly one flow, and what comes to its output is the query's meaning. A graph owns what it needs; the tree may go.
+//! inputs it has exactly one flow, and what comes to each output is what the query means there. A graph owns what it needs; the
+//! tree may go.
 //!
 //! Below stand `expr_tree`, `typing` and `semantics`. Path summaries, trackers, shards and the board stand on graphs.
 #![tactic(auto)]
@@ -15,10 +16,12 @@ mod dot;
 mod edges;
 mod equality;
 mod fault;
+mod form_vertices;
 mod graph;
 mod location;
 mod loops;
 mod names;
+mod outputs;
 mod program;
 mod relation;
 mod scope;
@@ -30,5 +33,6 @@ pub use edges::{Edge, EdgeId};
 pub use fault::LowerFault;
 pub use graph::{DeclaredInput, Graph, lower};
 pub use location::Location;
+pub use outputs::GraphOutput;
 pub use text::graph_text;
 pub use vertex::{Kind, MAX_VERTICES, Port, Sources, Vertex, VertexId};

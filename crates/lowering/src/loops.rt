@@ -5,6 +5,7 @@ ghost use Rattle.expr_tree.specs.Plain.{plain_rel};
 ghost use Rattle.expr_tree.specs.Views.{rel_tree};
 ghost use Rattle.semantics.specs.Kinds as semantics;
 ghost use Rattle.semantics.specs.FreeNames.{carried};
+ghost use Rattle.semantics.specs.Limits.{max_loops};
 ghost use Rattle.semantics.specs.Lower.{carried_ports, carry, new_vertex, port, stands_for};
 ghost use Rattle.lowering.specs.Faults.{IsOver};
 ghost use Rattle.lowering.specs.Scopes.{Extends, ports_of};
@@ -31,7 +32,7 @@ pub fn open_loop<A: Allocator>(
     depth: u32,
     made: &mut Vec<Vertex>,
 ) -> Result<Port, LowerFault>
-    requires { depth < 8 }
+    requires { depth < max_loops }
     ensures made { OnOk result (graph_of made.new.items ≡ graph_of made.old.items ++ (new_vertex semantics.Kind.ingress depth (port_of start ∷ []) ∷ new_vertex semantics.Kind.concat (suc depth) (port (length made.old.items) 0 ∷ port (length made.old.items) 0 ∷ []) ∷ new_vertex (semantics.Kind.gate turns) (suc depth) (port (suc (length made.old.items)) 0 ∷ []) ∷ carry turns (ports_of scope.old) depth (suc (suc (suc (length made.old.items)))) (carried variable.now (plain_rel (rel_tree body.now))))) }
     ensures gives { IfOk result (λ p. port_of p ≡ port (suc (suc (length made.old.items))) 0) }
     ensures inside { OnOk result (ports_of scope.new ≡ stands_for variable.now (port (suc (suc (length made.old.items))) 0) (carried_ports (ports_of scope.old) (suc (suc (suc (length made.old.items)))) (carried variable.now (plain_rel (rel_tree body.now))))) }
@@ -54,7 +55,7 @@ pub fn close_loop(
     body: Port,
     depth: u32,
 ) -> Result<Port, LowerFault>
-    requires shallow { depth < 8 }
+    requires shallow { depth < max_loops }
     requires first { 2 ≤ gate.vertex.0 }
     requires made { gate.vertex.0 < length made.old.items }
     ensures made { OnOk result (graph_of made.new.items ≡ slice_set (graph_of made.old.items) (gate.vertex.0 - 1) (new_vertex semantics.Kind.concat (suc depth) (port (gate.vertex.0 - 2) 0 ∷ port (length made.old.items) 0 ∷ [])) ++ (new_vertex semantics.Kind.feedback (suc depth) (port_of body ∷ []) ∷ new_vertex semantics.Kind.egress (suc depth) (port gate.vertex.0 1 ∷ []) ∷ [])) }
@@ -90,7 +91,7 @@ fn carry_names(
     depth: u32,
     made: &mut Vec<Vertex>,
 ) -> Result<(), LowerFault>
-    requires { depth < 8 }
+    requires { depth < max_loops }
     ensures made { OnOk result (graph_of made.new.items ≡ graph_of made.old.items ++ carry turns (ports_of scope.old) depth (length made.old.items) names.now) }
     ensures inside { OnOk result (ports_of scope.new ≡ carried_ports (ports_of scope.old) (length made.old.items) names.now) }
     ensures outside { OnOk result (Extends scope.old scope.new) }
@@ -111,7 +112,7 @@ fn carry_names(
 /// Makes the four vertices of a carried name: it comes in at turn 0, and the hold sends it on at each turn but the last. Gives the
 /// hold's out port 0.
 fn carry_one(turns: u64, from: Port, depth: u32, made: &mut Vec<Vertex>) -> Result<Port, LowerFault>
-    requires { depth < 8 }
+    requires { depth < max_loops }
     ensures made { OnOk result (graph_of made.new.items ≡ graph_of made.old.items ++ (new_vertex semantics.Kind.ingress depth (port_of from ∷ []) ∷ new_vertex semantics.Kind.concat (suc depth) (port (length made.old.items) 0 ∷ port (suc (suc (suc (length made.old.items)))) 0 ∷ []) ∷ new_vertex (semantics.Kind.hold turns) (suc depth) (port (suc (length made.old.items)) 0 ∷ []) ∷ new_vertex semantics.Kind.feedback (suc depth) (port (suc (suc (length made.old.items))) 1 ∷ []) ∷ [])) }
     ensures gives { IfOk result (λ p. port_of p ≡ port (suc (suc (length made.old.items))) 0) }
     ensures many { IfErr result (λ e. IsOver e (length made.old.items + 4)) }

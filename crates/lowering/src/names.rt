@@ -30,7 +30,7 @@ pub fn carried_names<A: Allocator>(
 
 /// Puts the names that occur free in the relation, and are not bound, after those that are there, each once. The bound names are
 /// few: the variables of the loops around.
-#[tactic(auto, using(crate::proofs::Gathers::gathered_append, crate::proofs::Gathers::gathered_bound))]
+#[tactic(auto, using(crate::proofs::Gathers::gathered_append, crate::proofs::Gathers::gathered_bound, crate::proofs::SetOperations::set_free))]
 fn gather<A: Allocator>(
     relation: &Rel<A>,
     bound: &mut Vec<Name>,
@@ -43,7 +43,7 @@ fn gather<A: Allocator>(
         Rel::Named(_, name) => gather_name(name, bound, names),
         Rel::Select(_, of, _) => gather(of, bound, names),
         Rel::Where(_, of, _) => gather(of, bound, names),
-        Rel::Concat(_, left, right) => {
+        Rel::SetOperation(_, _, left, right) => {
             gather(left, bound, names)?;
             gather(right, bound, names)?;
             Ok(())

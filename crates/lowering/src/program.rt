@@ -1,22 +1,22 @@
 //! Programs to vertices.
 
 ghost use Rattle.std.specs.Prelude.{◌≡◌, ◌≤◌, ◌<◌, ◌++◌, ◌∷◌, ◌+◌, [], length, map, IfOk, IfErr, OnOk};
-ghost use Rattle.expr_tree.specs.Plain.{plain_input, plain_let, plain_program};
-ghost use Rattle.expr_tree.specs.Views.{let_tree, program_tree};
-ghost use Rattle.semantics.specs.Lower.{input_ports, input_vertices, lower_lets, lowered};
+ghost use Rattle.expr_tree.specs.Plain.{plain_input, plain_let, plain_output, plain_program};
+ghost use Rattle.expr_tree.specs.Views.{let_tree, output_tree, program_tree};
+ghost use Rattle.semantics.specs.Lower.{input_ports, input_vertices, lower_lets, lower_outputs, lowered};
 ghost use Rattle.lowering.specs.Faults.{IsOver, IsTooMany};
 ghost use Rattle.lowering.specs.Scopes.{ports_of};
-ghost use Rattle.lowering.specs.Steps.{AreLowered, AreNested, IsNested};
+ghost use Rattle.lowering.specs.Steps.{AreLowered, AreNested, IsNested, OutputsNested};
 ghost use Rattle.lowering.specs.Views.{graph_of};
 
 use crate::fault::LowerFault;
 use crate::relation::lower_rel;
 use crate::scope::Scope;
-use crate::vertex::{Kind, Sources, Vertex, add_vertex};
-use expr_tree::{Input, Let, Program};
+use crate::vertex::{Kind, MAX_VERTICES, Sources, Vertex, add_vertex};
+use expr_tree::{Input, Let, Output, Program};
 use std::alloc::{Allocator, Global};
 
-/// The vertices of a program: its inputs, its named relations in order, its output's relation, its output.
+/// The vertices of a program: its inputs, its named relations in order, then each output's relation and the output.
 pub fn lower_vertices<A: Allocator>(
     alloc: Global,
     program: &Program<A>,
@@ -30,8 +30,10 @@ pub fn lower_vertices<A: Allocator>(
     let mut made = Vec::new(alloc);
     lower_inputs(&program.inputs, &mut scope, &mut made)?;
     lower_relations(alloc, &program.lets, &mut scope, &mut made)?;
-    let from = lower_rel(alloc, &program.output, &mut scope, 0, &mut made)?;
-    add_vertex(&mut made, Kind::Output, 0, Sources::One(from))?;
+    lower_outputs(alloc, &program.outputs, &mut scope, &mut made)?;
+    if made.len() > MAX_VERTICES {
+        return Err(LowerFault::TooMany);
+    }
     Ok(made)
 }
 
@@ -88,4 +90,26 @@ fn lower_let<A: Allocator>(
     let port = lower_rel(alloc, &item.relation, scope, 0, made)?;
     scope.bind(&item.name, port)?;
     Ok(())
+}
+
+/// Makes the vertices of the outputs in order, at most 16: of each those of its relation, and then its own.
+fn lower_outputs<A: Allocator>(
+    alloc: Global,
+    outputs: &[Output<A>],
+    scope: &mut Scope,
+    made: &mut Vec<Vertex>,
+) -> Result<(), LowerFault>
+    requires nested { OutputsNested (map plain_output (map output_tree outputs.now)) }
+    ensures made { OnOk result (graph_of made.new.items ≡ graph_of made.old.items ++ lower_outputs (map plain_output (map output_tree outputs.now)) (ports_of scope.old) (length made.old.items)) }
+    ensures many { IfErr result (λ e. IsOver e (length made.old.items + length (lower_outputs (map plain_output (map output_tree outputs.now)) (ports_of scope.old) (length made.old.items)))) }
+{
+    match outputs {
+        [] => Ok(()),
+        [output, rest @ ..] => {
+            let from = lower_rel(alloc, &output.relation, scope, 0, made)?;
+            add_vertex(made, Kind::Output, 0, Sources::One(from))?;
+            lower_outputs(alloc, rest, scope, made)?;
+            Ok(())
+        }
+    }
 }

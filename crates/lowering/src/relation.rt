@@ -10,8 +10,8 @@ ghost use Rattle.lowering.specs.Scopes.{ports_of};
 ghost use Rattle.lowering.specs.Steps.{IsLowered};
 ghost use Rattle.lowering.specs.Views.{graph_of, port_of};
 
-use crate::copies::{copy_boxed, copy_scalars, copy_values};
 use crate::fault::LowerFault;
+use crate::form_vertices::{add_group, add_join, add_select, add_set_operation, add_where};
 use crate::loops::{close_loop, open_loop};
 use crate::scope::Scope;
 use crate::vertex::{Kind, Port, Sources, Vertex, add_vertex};
@@ -35,45 +35,29 @@ pub fn lower_rel<A: Allocator>(
         Rel::Named(_, name) => Ok(scope.find(name)),
         Rel::Select(_, of, scalars) => {
             let from = lower_rel(alloc, of, scope, depth, made)?;
-            let copies = copy_scalars(alloc, scalars)?;
-            let port = add_vertex(made, Kind::Select(copies), depth, Sources::One(from))?;
-            Ok(port)
+            add_select(alloc, scalars, from, depth, made)
         }
         Rel::Where(_, of, condition) => {
             let from = lower_rel(alloc, of, scope, depth, made)?;
-            let copy = copy_boxed(alloc, condition)?;
-            let port = add_vertex(made, Kind::Where(copy), depth, Sources::One(from))?;
-            Ok(port)
+            add_where(alloc, condition, from, depth, made)
         }
-        Rel::Concat(_, left, right) => {
+        Rel::SetOperation(_, operator, left, right) => {
             let left = lower_rel(alloc, left, scope, depth, made)?;
             let right = lower_rel(alloc, right, scope, depth, made)?;
-            let port = add_vertex(made, Kind::Concat, depth, Sources::Two(left, right))?;
-            Ok(port)
+            add_set_operation(*operator, left, right, depth, made)
         }
         Rel::Join(_, left, right, pairs) => {
             let left = lower_rel(alloc, left, scope, depth, made)?;
             let right = lower_rel(alloc, right, scope, depth, made)?;
-            let copies = copy_values(alloc, pairs)?;
-            let port = add_vertex(made, Kind::Join(copies), depth, Sources::Two(left, right))?;
-            Ok(port)
+            add_join(alloc, pairs, left, right, depth, made)
         }
         Rel::Group(_, of, keys, aggregates) => {
             let from = lower_rel(alloc, of, scope, depth, made)?;
-            let keys = copy_values(alloc, keys)?;
-            let aggregates = copy_values(alloc, aggregates)?;
-            let port = add_vertex(
-                made,
-                Kind::Group(keys, aggregates),
-                depth,
-                Sources::One(from),
-            )?;
-            Ok(port)
+            add_group(alloc, keys, aggregates, from, depth, made)
         }
         Rel::Distinct(_, of) => {
             let from = lower_rel(alloc, of, scope, depth, made)?;
-            let port = add_vertex(made, Kind::Distinct, depth, Sources::One(from))?;
-            Ok(port)
+            add_vertex(made, Kind::Distinct, depth, Sources::One(from))
         }
         Rel::Iterate {
             turns,
@@ -87,8 +71,7 @@ pub fn lower_rel<A: Allocator>(
             let gate = open_loop(alloc, *turns, name, body, from, scope, depth, made)?;
             let last = lower_rel(alloc, body, scope, depth + 1, made)?;
             scope.leave(outside);
-            let port = close_loop(made, gate, last, depth)?;
-            Ok(port)
+            close_loop(made, gate, last, depth)
         }
     }
 }

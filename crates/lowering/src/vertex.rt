@@ -27,6 +27,8 @@ pub enum Kind {
     Join(Vec<Pair>),
     Group(Vec<Column>, Vec<Agg>),
     Distinct,
+    Except,
+    Intersect,
     Ingress,
     Egress,
     Feedback,

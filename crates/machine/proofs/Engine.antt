@@ -4,11 +4,11 @@ use Rattle.std.proofs.Math.Nat.{mod-lt}
 use Rattle.std.specs.List.{AllByRecursion}
 use Rattle.semantics.specs.Multiset.{Record, same, one_if, total, count, end_to_end, ◌≈◌, IsPartOf}
 use Rattle.semantics.specs.Could.{IsTimeAt, PathStep, Location}
-use Rattle.semantics.specs.Kinds.{route_key, Kind, action, ends_turn, in_ports, is_input, role, Role}
+use Rattle.semantics.specs.Kinds.{route_key, Kind, action, ends_turn, in_ports, out_ports, is_input, role, Role}
 use Rattle.semantics.specs.Op.{IsCut, op}
 use Rattle.semantics.specs.Dataflow.{Goes, IsDataflow}
 use Rattle.semantics.specs.Flow.{edge_flow, Inputs, Flow, sent_by, sent_or_fed, port_flow, IsEdgeTime, IsFlow}
-use Rattle.semantics.specs.Graph.{edge_count, target, in_port, edge_into, edge_source, Vertex, Graph, no_vertex, vertex, input_count, output_number}
+use Rattle.semantics.specs.Graph.{edge_count, target, in_port, edge_into, edge_source, Vertex, Graph, no_vertex, vertex, input_count}
 use Rattle.semantics.specs.Route.{route, home_by, home}
 use Rattle.semantics.specs.Time.{in_first_turn, Time, last, deeper, outer, Action, after_action, times_before, below, turn_count, same_counters, same_time, at_epoch}
 use Rattle.semantics.proofs.MultisetSums.{Decides-same, ≈-refl, ≈-trans, ≈-from, total-append, empty_from_same, count_here}
@@ -36,6 +36,8 @@ role_input Kind.input e = refl
 role_input Kind.output e = absurd cc
 role_input Kind.concat e = absurd cc
 role_input Kind.distinct e = absurd cc
+role_input Kind.except e = absurd cc
+role_input Kind.intersect e = absurd cc
 role_input Kind.ingress e = absurd cc
 role_input Kind.egress e = absurd cc
 role_input Kind.feedback e = absurd cc
@@ -46,11 +48,13 @@ role_input (Kind.group ks as') e = absurd cc
 role_input (Kind.gate n) e = absurd cc
 role_input (Kind.hold n) e = absurd cc
 
-role_output : (k : Kind) → role k ≡ Role.output → k ≡ Kind.output
+pub role_output : (k : Kind) → role k ≡ Role.output → k ≡ Kind.output
 role_output Kind.input e = absurd cc
 role_output Kind.output e = refl
 role_output Kind.concat e = absurd cc
 role_output Kind.distinct e = absurd cc
+role_output Kind.except e = absurd cc
+role_output Kind.intersect e = absurd cc
 role_output Kind.ingress e = absurd cc
 role_output Kind.egress e = absurd cc
 role_output Kind.feedback e = absurd cc
@@ -67,6 +71,8 @@ role_grows Kind.input n = tt
 role_grows Kind.output n = tt
 role_grows Kind.concat n = tt
 role_grows Kind.distinct n = tt
+role_grows Kind.except n = absurd (n refl)
+role_grows Kind.intersect n = tt
 role_grows Kind.ingress n = tt
 role_grows Kind.egress n = tt
 role_grows Kind.feedback n = tt
@@ -96,6 +102,8 @@ has_route_key (Kind.join ps) h zero = (_, refl)
 has_route_key (Kind.join ps) h (suc port) = (_, refl)
 has_route_key (Kind.group ks as') h port = (_, refl)
 has_route_key Kind.distinct h port = (_, refl)
+has_route_key Kind.except h port = (_, refl)
+has_route_key Kind.intersect h port = (_, refl)
 has_route_key Kind.input h port = absurd (source_no_keys Kind.input refl h)
 has_route_key Kind.output h port = absurd (output_no_keys Kind.output refl h)
 has_route_key Kind.concat h port = absurd (neither Role.stateless refl h)
@@ -111,6 +119,8 @@ no_route_key : (k : Kind) → role k ≡ Role.stateless → (port : ℕ) (key : 
 no_route_key (Kind.join ps) h port key e = cc
 no_route_key (Kind.group ks as') h port key e = cc
 no_route_key Kind.distinct h port key e = cc
+no_route_key Kind.except h port key e = cc
+no_route_key Kind.intersect h port key e = cc
 no_route_key Kind.input h port key e = cc
 no_route_key Kind.output h port key e = cc
 no_route_key Kind.concat h port key e = cc
@@ -146,6 +156,8 @@ is_input_kind Kind.input e = refl
 is_input_kind Kind.output e = absurd cc
 is_input_kind Kind.concat e = absurd cc
 is_input_kind Kind.distinct e = absurd cc
+is_input_kind Kind.except e = absurd cc
+is_input_kind Kind.intersect e = absurd cc
 is_input_kind Kind.ingress e = absurd cc
 is_input_kind Kind.egress e = absurd cc
 is_input_kind Kind.feedback e = absurd cc
@@ -272,6 +284,8 @@ uncounted k t inside none = go k inside (λ d. let x = among_times t (times_befo
     go Kind.output i f = absurd (f tt)
     go Kind.concat i f = absurd (f tt)
     go Kind.distinct i f = absurd (f tt)
+    go Kind.except i f = absurd (f tt)
+    go Kind.intersect i f = absurd (f tt)
     go Kind.ingress i f = absurd (f tt)
     go (Kind.select ss) i f = absurd (f tt)
     go (Kind.filter c) i f = absurd (f tt)
@@ -332,21 +346,20 @@ module _ (g : Graph) (flows : IsDataflow g) (workers : ℕ) (some : 0 < workers)
 
   no_output_source : (e : ℕ) → e < edge_count g → role (kind (edge_source g e).vertex) ≢ Role.output
   no_output_source e l s =
+      let k = entered g e l in
       let o = role_output (kind (edge_source g e).vertex) s in
-      let v : (edge_source g e).vertex ≡ output_number g = flows.shaped.output_last (edge_source g e).vertex (feeder_known e l) o in
-      let up : (edge_source g e).vertex < target g e = goes_up flows.loops (edge_source g e).vertex (target g e) _ (goes_at e l) (ap action o) in
-      let k = (entered g e l).known in
+      let none : out_ports (kind (edge_source g e).vertex) ≡ 0 = ap out_ports o in
+      let some : (edge_source g e).out < out_ports (kind (edge_source g e).vertex) = flows.wired.from_port (target g e) (in_port g e) k.known k.port in
       omega arith
 
   keyed_known : (v : ℕ) → HasKeys (kind v) → v < length g
   keyed_known v h = known_kind g v (λ e. output_no_keys (kind v) e h)
 
-  -- the output's vertex
-  pub output_is : IsOutput net (output_number g)
-  output_is =
-      let s = flows.shaped.some in
-      let p : length (vertex g (output_number g)).ins ≡ 1 = full (output_number g) (omega arith) ∙ ap in_ports flows.shaped.has_output in
-      (ap role flows.shaped.has_output, omega arith)
+  -- an output's vertex
+  pub output_is : (v : ℕ) → v < length g → kind v ≡ Kind.output → IsOutput net v
+  output_is v l o =
+      let p : length (vertex g v).ins ≡ 1 = full v l ∙ ap in_ports o in
+      (ap role o, omega arith)
 
   -- beyond the last vertex there are no ports
   has_port : (v : ℕ) → 0 < length (vertex g v).ins → v < length g
@@ -479,6 +492,8 @@ module _ (g : Graph) (flows : IsDataflow g) (workers : ℕ) (some : 0 < workers)
   not_input_sends inputs Kind.output f v out u n = refl
   not_input_sends inputs Kind.concat f v out u n = refl
   not_input_sends inputs Kind.distinct f v out u n = refl
+  not_input_sends inputs Kind.except f v out u n = refl
+  not_input_sends inputs Kind.intersect f v out u n = refl
   not_input_sends inputs Kind.ingress f v out u n = refl
   not_input_sends inputs Kind.egress f v out u n = refl
   not_input_sends inputs Kind.feedback f v out u n = refl

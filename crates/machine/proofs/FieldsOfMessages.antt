@@ -3,7 +3,7 @@ use Rattle.std.proofs.Common.{◌≡◌, ◌⊎◌, ◌≤◌, ◌<◌, ◌∙�
 use Rattle.semantics.specs.Multiset.{Record, count}
 use Rattle.semantics.specs.Time.{Time, at_epoch}
 use Rattle.semantics.specs.Kinds.{Kind, Role, role}
-use Rattle.semantics.specs.Graph.{Graph, vertex, source, output_number, edge_count, target, in_port, edge_into, edge_source}
+use Rattle.semantics.specs.Graph.{Graph, vertex, source, edge_count, target, in_port, edge_into, edge_source}
 use Rattle.semantics.specs.Flow.{HasOneFlow}
 use Rattle.semantics.specs.Could.{Location, IsTimeAt}
 use Rattle.semantics.specs.PortArity.{HaveFields, PortsFit, IsTyped}
@@ -60,14 +60,13 @@ module _ (g : Graph) (workers : ℕ) (steps : List Step) (w : World) (is : IsRun
       let f : length r ≡ arity (edge_source g e).vertex = sent_fields e t i.edge (law.fits_into v port t lp fits) r (omega arith) in
       f ∙ ap (λ y. arity (source g y (in_port g e)).vertex) i.vertex ∙ ap (λ y. arity (source g v y).vertex) i.port
 
-  pub emitted_fields : (epoch : ℕ) → HaveFields (arity (output_number g)) (w.emitted (output_number g) epoch)
-  emitted_fields epoch r some =
+  pub emitted_fields : (v epoch : ℕ) → v < length g → (vertex g v).kind ≡ Kind.output → HaveFields (arity v) (w.emitted v epoch)
+  emitted_fields v epoch known o r some =
       let law = network_is g is.flows workers is.some in
-      let out = output_is g is.flows workers is.some in
-      let v : ℕ = output_number g in
+      let out = output_is g is.flows workers is.some v known o in
       let e : ℕ = edge_into g v 0 in
       let i = into g v 0 out.1 in
       let a : count r (w.emitted v epoch) ≤ count r (one.flow (target g e) (in_port g e) (at_epoch epoch)) = ((kept g workers steps w is one.flow one.is_only.is_flow).emitted_part v epoch out).within r in
       let f : length r ≡ arity (edge_source g e).vertex = edge_fields e (at_epoch epoch) i.edge (law.fits_into v 0 (at_epoch epoch) out.1 (law.fits_output v epoch out)) r (omega arith) in
-      let p : PortsFit Kind.output (λ j. arity (source g v j).vertex) (arity v) = subst (λ (k : Kind). PortsFit k (λ j. arity (source g v j).vertex) (arity v)) is.flows.shaped.has_output (typed.ports v (let s = is.flows.shaped.some in omega arith)) in
+      let p : PortsFit Kind.output (λ j. arity (source g v j).vertex) (arity v) = subst (λ (k : Kind). PortsFit k (λ j. arity (source g v j).vertex) (arity v)) o (typed.ports v known) in
       f ∙ ap (λ y. arity (source g y (in_port g e)).vertex) i.vertex ∙ ap (λ y. arity (source g v y).vertex) i.port ∙ sym p

@@ -14,18 +14,19 @@ use Rattle.machine.specs.Engine.{network, engine}
 
 -- the program is well typed, and the steps lead its engine from the opening world to w
 pub record IsRunOf (p : Program) (workers : ℕ) (steps : List Step) (w : World) : Type 0 where
-  pub arity : ℕ
-  pub typed : WellTyped p arity
+  -- of the outputs, in order
+  pub arities : List ℕ
+  pub typed : WellTyped p arities
   pub some : 0 < workers
   pub run : Run (engine p workers) opening steps w
 
--- what the program means on the records fed for an epoch
-abbrev pub meant : Program → World → (epoch : ℕ) → List Record
-meant p w epoch = program_meaning p (λ i. w.fed i epoch)
+-- what the program means at an output, by its place, on the records fed for an epoch
+abbrev pub meant : Program → World → (output epoch : ℕ) → List Record
+meant p w k epoch = program_meaning p k (λ i. w.fed i epoch)
 
--- the output vertex of a program's graph
-abbrev pub output_of : Program → ℕ
-output_of p = output_number (lowered p)
+-- the vertex of a program's output, by the output's place
+abbrev pub output_of : Program → (output : ℕ) → ℕ
+output_of p k = output_number (lowered p) k
 
 -- the same of any dataflow graph
 pub record IsRunOn (g : Graph) (workers : ℕ) (steps : List Step) (w : World) : Type 0 where

@@ -3,7 +3,7 @@ use Rattle.std.specs.Prelude.{ℕ, List, [], ◌∷◌, ◌++◌, pos}
 use Rattle.semantics.specs.Multiset.{Record}
 use Rattle.semantics.specs.Time.{at_epoch}
 use Rattle.semantics.specs.Query.{Agg, Rel, Program}
-use Rattle.semantics.specs.Examples.{name_a, input_of, one_field, two_fields, query_on}
+use Rattle.semantics.specs.Examples.{name_a, input_of, one_field, two_fields, query_on, in_a_alone, in_a_and_b, small_and_all}
 use Rattle.machine.specs.Network.{Network}
 use Rattle.machine.specs.World.{Message, Request, Event, World}
 use Rattle.machine.specs.Step.{Step, after_step}
@@ -96,3 +96,64 @@ counts_of_0 q = two_fields 1 1 ∷ two_fields 3 1 ∷ []
 -- and commits it
 abbrev pub first_committed : List Step
 first_committed = first_notified ++ Step.commit 0 (Event.notification the_request) counts_of_0 ∷ []
+
+-- ---- input a/1; input b/1; output except(a, b);
+
+-- its engine on one worker
+abbrev pub differ : Network
+differ = engine in_a_alone 1
+
+-- the record 1, on an edge
+abbrev pub one_on : (edge : ℕ) → Message
+one_on e = message_on e (one_field (pos 1) ∷ [])
+
+-- the record 1 is fed to a, and taken in by the except; then a is sealed
+abbrev pub a_sealed : List Step
+a_sealed = Step.feed 0 (one_field (pos 1) ∷ []) ∷ Step.claim_message 0 0 (one_on 0) ∷ Step.commit 0 (Event.arrival (one_on 0)) nothing_sent ∷ Step.seal 0 ∷ []
+
+-- what the except asks for
+abbrev pub except_request : Request
+except_request = record { vertex = 2; time = at_epoch 0 }
+
+-- b is sealed too
+abbrev pub a_and_b_sealed : List Step
+a_and_b_sealed = a_sealed ++ Step.seal 1 ∷ []
+
+-- a vertex sends the record 1
+abbrev pub one_sent : ℕ → List Record
+one_sent q = one_field (pos 1) ∷ []
+
+-- the except takes its notification and commits it
+abbrev pub difference_committed : List Step
+difference_committed = a_and_b_sealed ++ Step.claim_request 0 0 except_request ∷ Step.commit 0 (Event.notification except_request) one_sent ∷ []
+
+-- ---- input a/1; input b/1; output intersect(a, b);
+
+-- its engine on one worker
+abbrev pub meeter : Network
+meeter = engine in_a_and_b 1
+
+-- the record 1 is fed to a and taken in
+abbrev pub one_in_a : List Step
+one_in_a = Step.feed 0 (one_field (pos 1) ∷ []) ∷ Step.claim_message 0 0 (one_on 0) ∷ Step.commit 0 (Event.arrival (one_on 0)) nothing_sent ∷ []
+
+-- and then to b, and what the intersect sends is emitted
+abbrev pub one_in_both : List Step
+one_in_both =
+    one_in_a
+    ++ Step.feed 1 (one_field (pos 1) ∷ []) ∷ Step.claim_message 0 0 (one_on 1) ∷ Step.commit 0 (Event.arrival (one_on 1)) one_sent
+    ∷ Step.claim_message 0 0 (one_on 2) ∷ Step.commit 0 (Event.arrival (one_on 2)) nothing_sent ∷ []
+
+-- ---- input a/1; output x = where(a; #0 < 5); output y = a;
+
+-- its engine on one worker
+abbrev pub splitter : Network
+splitter = engine small_and_all 1
+
+-- the record 3, on an edge
+abbrev pub three_on : (edge : ℕ) → Message
+three_on e = message_on e (one_field (pos 3) ∷ [])
+
+-- the record 3 is fed and the input sealed; the second output's worker takes and commits it, and that of the `where` doesn't yet
+abbrev pub second_first : List Step
+second_first = Step.feed 0 (one_field (pos 3) ∷ []) ∷ Step.seal 0 ∷ Step.claim_message 0 1 (three_on 2) ∷ Step.commit 0 (Event.arrival (three_on 2)) nothing_sent ∷ []

@@ -1,10 +1,10 @@
-ghost use Rattle.std.specs.Prelude.{◌≡◌, ◌<◌, ◌≤◌, ◌↔◌, ℕ, List};
-ghost use Rattle.semantics.specs.Graph.{Graph};
+ghost use Rattle.std.specs.Prelude.{◌≡◌, ◌<◌, ◌≤◌, ◌↔◌, ℕ, List, length};
+ghost use Rattle.semantics.specs.Graph.{Graph, output_numbers, output_number};
 ghost use Rattle.semantics.specs.Could.{Pointstamp};
 ghost use Rattle.semantics.specs.Dataflow.{IsDataflow};
 ghost use Rattle.machine.specs.World.{World};
 ghost use Rattle.machine.specs.Active.{IsActive};
-ghost use Rattle.machine.specs.Frontier.{IsPassedCount, NoOtherBefore, NoneBefore, Passed};
+ghost use Rattle.machine.specs.Frontier.{IsPassedCount, NoOtherBefore, NoneBefore, Passed, PassedBelow};
 ghost use Rattle.machine.specs.Drained.{IsDrained};
 ghost use Rattle.machine.specs.Step.{Allowed, Step, after_step};
 ghost use Rattle.machine.specs.Engine.{network};
@@ -28,6 +28,14 @@ pub fn law_passed()
         IsRunOn g workers steps w → (step : Step) → Allowed (network g workers) w step →
         (output epoch : ℕ) → Passed (network g workers) w output epoch →
         Passed (network g workers) (after_step (network g workers) w step) output epoch }
+{}
+
+/// That each epoch below n has passed at each output is told by the graph's outputs, by their places.
+pub fn law_passed_below()
+    ensures { (g : Graph) (workers : ℕ) (w : World) (n : ℕ) →
+        PassedBelow (network g workers) w n
+        ↔ ((output epoch : ℕ) → output < length (output_numbers g) → epoch < n →
+        Passed (network g workers) w (output_number g output) epoch) }
 {}
 
 /// The number of passed epochs is one, and doesn't fall by any step.

@@ -1,8 +1,8 @@
 ghost use Rattle.std.specs.Prelude.{◌≡◌, ◌⊎◌, ◌<◌, ℕ, Bool, List, Some, slice_get, slice_index_or, length};
 ghost use Rattle.semantics.specs.Query.{Program};
 ghost use Rattle.semantics.specs.Time.{Time};
-ghost use Rattle.semantics.specs.Kinds.{Role, role};
-ghost use Rattle.semantics.specs.Graph.{Graph, edge_source, output_number, source, vertex};
+ghost use Rattle.semantics.specs.Kinds.{Kind, Role, role};
+ghost use Rattle.semantics.specs.Graph.{Graph, edge_source, source, vertex};
 ghost use Rattle.semantics.specs.Could.{IsTimeAt, Location};
 ghost use Rattle.semantics.specs.PortArity.{HaveFields, IsTyped, program_arities};
 ghost use Rattle.semantics.specs.Lower.{lowered};
@@ -25,7 +25,7 @@ pub fn law_in_transit()
 {}
 
 /// Where each record that was fed has its input's arity, each record under way, absorbed or emitted has its port's, and what a
-/// program's engine emits has the program's.
+/// program's engine emits at an output has that output's.
 pub fn law_arities()
     ensures messages { (g : Graph) (workers : ℕ) (steps : List Step) (w : World) →
         IsRunOn g workers steps w → (arity : ℕ → ℕ) → IsTyped g arity → FedFits g arity w →
@@ -44,8 +44,9 @@ pub fn law_arities()
         HaveFields (arity (source g v port).vertex) (w.absorbed worker v port t) }
     ensures emitted { (g : Graph) (workers : ℕ) (steps : List Step) (w : World) →
         IsRunOn g workers steps w → (arity : ℕ → ℕ) → IsTyped g arity → FedFits g arity w →
-        (epoch : ℕ) → HaveFields (arity (output_number g)) (w.emitted (output_number g) epoch) }
+        (v epoch : ℕ) → v < length g → (vertex g v).kind ≡ Kind.output → HaveFields (arity v) (w.emitted v epoch) }
     ensures program { (p : Program) (workers : ℕ) (steps : List Step) (w : World) (is : IsRunOf p workers steps w) →
         FedFits (lowered p) (λ v. slice_index_or (program_arities p) v 0) w →
-        (epoch : ℕ) → HaveFields is.arity (w.emitted (output_of p) epoch) }
+        (output epoch : ℕ) → output < length p.outputs →
+        HaveFields (slice_index_or is.arities output 0) (w.emitted (output_of p output) epoch) }
 {}

@@ -1,9 +1,13 @@
 -- Sets of names to which the free names of relations are added.
-use Rattle.std.proofs.Common.{◌≡◌, ◌⊎◌, ◌↔◌, Bool, true, false, cond, not, List, [], ◌∷◌, ◌++◌, filter, refl, sym, ap, subst, inl, inr, ◌∙◌, IsTrue}
+use Rattle.std.proofs.Common.{◌≡◌, ◌⊎◌, ◌↔◌, ◌<◌, ◌-◌, length, take, drop, get_or, map, arith, Bool, true, false, cond, not, List, [], ◌∷◌, ◌++◌, filter, refl, sym, ap, subst, inl, inr, ◌∙◌, IsTrue}
+use Rattle.std.proofs.lemmas.Grind.{common_steps}
 use Rattle.semantics.specs.Multiset.{IsAmong}
-use Rattle.semantics.specs.Query.{Name}
+use Rattle.expr_tree.specs.declared.relation.SetOperator.{SetOperator}
+use Rattle.expr_tree.specs.declared.relation.SetOperator.TheVariants as operation
+use Rattle.expr_tree.specs.Plain.{plain_set_operation}
+use Rattle.semantics.specs.Query.{Name, Rel}
 use Rattle.semantics.specs.Meaning.{same_name}
-use Rattle.semantics.specs.FreeNames.{other_than}
+use Rattle.semantics.specs.FreeNames.{free, other_than}
 use Rattle.semantics.proofs.NamesAmong.{Decides-same_name, among_left, among_right, among_others, from_others}
 use Rattle.normalise.specs.Reached.{Adds}
 
@@ -50,6 +54,22 @@ adds_both xs ys before between after f g = record { has = λ y. (λ t. there y (
         which : IsAmong y xs ⊎ IsAmong y ys → IsTrue (after y)
         which (inl a) = (g.has y).1 (inl ((f.has y).1 (inr a)))
         which (inr a) = (g.has y).1 (inr a)
+
+-- the two of a set operation
+pub adds_set_operation : (o : SetOperator) (p q : Rel) (before between after : Name → Bool) → Adds (free p) between before → Adds (free q) after between → Adds (free (plain_set_operation o p q)) after before
+adds_set_operation operation.Concat p q before between after f g = adds_both (free p) (free q) before between after f g
+adds_set_operation operation.Except p q before between after f g = adds_both (free p) (free q) before between after f g
+adds_set_operation operation.Intersect p q before between after f g = adds_both (free p) (free q) before between after f g
+
+-- ---- a list by its first element
+
+rest : {A : Type 0} (x : A) (xs : List A) → take (length (x ∷ xs) - 1) xs ≡ xs
+rest x xs = grind (arith, common_steps)
+
+-- the first, and then the others
+pub first_then : {A B : Type 0} (f : A → B) (xs : List A) (x : A) → 0 < length xs → x ≡ get_or xs 0 x → map f xs ≡ f x ∷ map f (take (length xs - 1) (drop 1 xs))
+first_then f [] x h e = absurd (omega arith)
+first_then f (y ∷ ys) x h e = ap (λ v. f v ∷ map f ys) (sym e) ∙ ap (λ zs. f x ∷ map f zs) (sym (rest y ys))
 
 -- ---- a loop's variable
 

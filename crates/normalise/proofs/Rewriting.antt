@@ -1,12 +1,16 @@
 -- Rewritten parts make rewritten relations, by the rules and by steps of the parts.
 use Rattle.std.proofs.Common.{Result, Ok, Err, IfOk, ◌≡◌, ℕ, suc, ◌≤◌, ◌<◌, List, [], ◌∷◌, ◌++◌, map, arith}
 use Rattle.std.specs.List.{AllZip, AllByRecursion}
+use Rattle.expr_tree.specs.declared.relation.SetOperator.{SetOperator}
+use Rattle.expr_tree.specs.declared.relation.SetOperator.TheVariants as operation
+use Rattle.expr_tree.specs.Plain.{plain_set_operation}
 use Rattle.semantics.specs.Limits.{max_fields}
 use Rattle.semantics.specs.Query.{Scalar, Cond, Agg, Name, Pair, Rel}
 use Rattle.semantics.specs.Typing.{ScalarFits, Scope, entry, HasArity}
-use Rattle.semantics.specs.Normal.{NormalScalar, NormalCond, NormalRel, IsFilter, IsSelect, IsDistinct, UsesOnce, uses, uses_all, replaced}
+use Rattle.semantics.specs.Normal.{NormalScalar, NormalCond, NormalRel, IsFilter, IsSelect, IsSet, UsesOnce, uses, uses_all, replaced}
 use Rattle.semantics.specs.Rewriting.{Steps, RelStep}
 use Rattle.semantics.proofs.StepsKeep.{steps_then, steps_within, steps_arity}
+use Rattle.typing.proofs.Decided.{set_arity}
 use Rattle.normalise.specs.Rewritten.{IsFolded, IsFoldedCond, IsReached, Reduced, IsRewritten}
 use Rattle.normalise.proofs.Folding.{scalars_steps}
 
@@ -37,6 +41,8 @@ few_fields (Rel.concat p q) scope d m i h = absurd i
 few_fields (Rel.join p q ps) scope d m i h = absurd i
 few_fields (Rel.group r ks as') scope d m i h = absurd i
 few_fields (Rel.distinct r) scope d m i h = absurd i
+few_fields (Rel.except p q) scope d m i h = absurd i
+few_fields (Rel.intersect p q) scope d m i h = absurd i
 few_fields (Rel.iterate n x r b) scope d m i h = absurd i
 
 pub normal_reduced : (r : Rel) (scope : Scope) (d n : ℕ) → HasArity r scope d n → Reduced r → NormalRel r
@@ -48,6 +54,8 @@ normal_reduced (Rel.concat p q) scope d n h k = (normal_reduced p scope d n h.0 
 normal_reduced (Rel.join p q ps) scope d n h k = (normal_reduced p scope d h.0 h.2 k.0, normal_reduced q scope d h.1 h.3 k.1)
 normal_reduced (Rel.group r ks as') scope d n h k = normal_reduced r scope d h.0 h.1 k
 normal_reduced (Rel.distinct r) scope d n h k = (normal_reduced r scope d n h k.0, k.1)
+normal_reduced (Rel.except p q) scope d n h k = (normal_reduced p scope d n h.0 k.0, normal_reduced q scope d n h.1 k.1)
+normal_reduced (Rel.intersect p q) scope d n h k = (normal_reduced p scope d n h.0 k.0, normal_reduced q scope d n h.1 k.1)
 normal_reduced (Rel.iterate t x r b) scope d n h k = (normal_reduced r scope d n h.2 k.0, normal_reduced b (entry x n ∷ scope) (suc d) n h.4 k.1, k.2)
 
 -- ---- steps one after the other
@@ -76,12 +84,21 @@ reached_filter p q c d f h = record {
       (steps_within (λ e. Rel.filter p e) (λ e e' s. RelStep.where_cond s) h.steps);
 }
 
-pub reached_concat : (p q r s : Rel) → IsReached p r → IsReached q s → IsReached (Rel.concat p q) (Rel.concat r s)
-unfolding HasArity
-reached_concat p q r s f g = record {
-  steps = λ scope d n t. steps_then
-      (steps_within (λ u. Rel.concat u s) (λ u u' k. RelStep.concat_left k) (f.steps scope d n t.0))
-      (steps_within (λ u. Rel.concat p u) (λ u u' k. RelStep.concat_right k) (g.steps scope d n t.1));
+set_left : (o : SetOperator) (p p' q : Rel) → RelStep p p' → RelStep (plain_set_operation o p q) (plain_set_operation o p' q)
+set_left operation.Concat p p' q s = RelStep.concat_left s
+set_left operation.Except p p' q s = RelStep.except_left s
+set_left operation.Intersect p p' q s = RelStep.intersect_left s
+
+set_right : (o : SetOperator) (p q q' : Rel) → RelStep q q' → RelStep (plain_set_operation o p q) (plain_set_operation o p q')
+set_right operation.Concat p q q' s = RelStep.concat_right s
+set_right operation.Except p q q' s = RelStep.except_right s
+set_right operation.Intersect p q q' s = RelStep.intersect_right s
+
+reached_set_operation : (o : SetOperator) (p q r s : Rel) → IsReached p r → IsReached q s → IsReached (plain_set_operation o p q) (plain_set_operation o r s)
+reached_set_operation o p q r s f g = record {
+  steps = λ scope d n t. (let both = (set_arity o r s scope d n).0 t in steps_then
+      (steps_within (λ u. plain_set_operation o u s) (λ u u' k. set_left o u u' s k) (f.steps scope d n both.0))
+      (steps_within (λ u. plain_set_operation o p u) (λ u u' k. set_right o p u u' k) (g.steps scope d n both.1)));
 }
 
 pub reached_join : (p q r s : Rel) (ps : List Pair) → IsReached p r → IsReached q s → IsReached (Rel.join p q ps) (Rel.join r s ps)
@@ -113,6 +130,14 @@ reached_iterate n x p q b c f g = record {
 pub rewritten_then : (p q r : Rel) → IsRewritten p q → IsReached q r → IsRewritten p r
 rewritten_then p q r f g = record { reached = reached_then p q r f.reached g; reduced = f.reduced }
 
+reduced_set_operation : (o : SetOperator) (p q : Rel) → Reduced p → Reduced q → Reduced (plain_set_operation o p q)
+reduced_set_operation operation.Concat p q h k = (h, k)
+reduced_set_operation operation.Except p q h k = (h, k)
+reduced_set_operation operation.Intersect p q h k = (h, k)
+
+pub rewritten_set_operation : (o : SetOperator) (p q r s : Rel) → IsRewritten p r → IsRewritten q s → IsRewritten (plain_set_operation o p q) (plain_set_operation o r s)
+rewritten_set_operation o p q r s f g = record { reached = reached_set_operation o p q r s f.reached g.reached; reduced = reduced_set_operation o p q f.reduced g.reduced }
+
 -- ---- the rules
 
 -- a where of a where is one
@@ -130,18 +155,16 @@ rewritten_wheres q r c d e i j h n = rw (i, j) (wheres r c d (rw i at h) n)
 pub rewritten_where : (r : Rel) (c : Cond) → (IsFilter r → ⊥) → Reduced r → NormalCond c → IsRewritten (Rel.filter r c) (Rel.filter r c)
 rewritten_where r c n h k = record { reached = reached_itself (Rel.filter r c); reduced = (h, k, n) }
 
--- a distinct of a distinct is one
-distincts : (r : Rel) → Reduced (Rel.distinct r) → IsRewritten (Rel.distinct r) (Rel.distinct (Rel.distinct r))
+-- a distinct of a set is that
+pub rewritten_set : (r : Rel) → IsSet r → Reduced r → IsRewritten r (Rel.distinct r)
 unfolding HasArity
-distincts r h = record {
-  reached = record { steps = λ scope l m t. Steps.next (RelStep.distincts (normal_reduced (Rel.distinct r) scope l m t h)) Steps.stay };
+rewritten_set r i h = record {
+  reached = record { steps = λ scope l m t. Steps.next (RelStep.distincts (normal_reduced r scope l m t h) i) Steps.stay };
   reduced = h;
 }
 
-pub rewritten_distincts : (q r : Rel) → q ≡ Rel.distinct r → Reduced q → IsRewritten (Rel.distinct r) (Rel.distinct q)
-rewritten_distincts q r e h = rw e (distincts r (rw e at h))
-
-pub rewritten_distinct : (r : Rel) → (IsDistinct r → ⊥) → Reduced r → IsRewritten (Rel.distinct r) (Rel.distinct r)
+-- a distinct of another relation stays
+pub rewritten_distinct : (r : Rel) → (IsSet r → ⊥) → Reduced r → IsRewritten (Rel.distinct r) (Rel.distinct r)
 rewritten_distinct r n h = record { reached = reached_itself (Rel.distinct r); reduced = (h, n) }
 
 -- a loop of no turns is its start

@@ -1,9 +1,9 @@
 -- What a rewritten part of a query is reached by, and what is then true of it.
 use Rattle.std.specs.Prelude.{◌≡◌, ℕ, ◌<◌}
 use Rattle.std.specs.List.{AllByRecursion}
-use Rattle.semantics.specs.Query.{Scalar, Cond, Rel}
+use Rattle.semantics.specs.Query.{Scalar, Cond, Rel, Output}
 use Rattle.semantics.specs.Typing.{Scope, HasArity}
-use Rattle.semantics.specs.Normal.{NormalScalar, NormalCond, IsFilter, IsSelect, IsDistinct, UsesOnce, uses_all}
+use Rattle.semantics.specs.Normal.{NormalScalar, NormalCond, IsFilter, IsSelect, IsSet, UsesOnce, uses_all}
 use Rattle.semantics.specs.Rewriting.{Steps, ScalarStep, CondStep, RelStep}
 use Rattle.semantics.specs.Limits.{max_fields}
 
@@ -29,10 +29,17 @@ Reduced (Rel.filter r c) = Reduced r × NormalCond c × (IsFilter r → ⊥)
 Reduced (Rel.concat p q) = Reduced p × Reduced q
 Reduced (Rel.join p q ps) = Reduced p × Reduced q
 Reduced (Rel.group r ks as') = Reduced r
-Reduced (Rel.distinct r) = Reduced r × (IsDistinct r → ⊥)
+Reduced (Rel.distinct r) = Reduced r × (IsSet r → ⊥)
+Reduced (Rel.except p q) = Reduced p × Reduced q
+Reduced (Rel.intersect p q) = Reduced p × Reduced q
 Reduced (Rel.iterate n x r b) = Reduced r × Reduced b × (n ≡ 0 → ⊥)
 
 -- a relation rewritten until no rule applies
 pub record IsRewritten (after before : Rel) : Type 0 where
   pub reached : IsReached after before
   pub reduced : Reduced after
+
+-- an output of the same name, with its relation rewritten
+pub record IsRewrittenOutput (after before : Output) : Type 0 where
+  pub name : after.name ≡ before.name
+  pub value : IsRewritten after.value before.value

@@ -1,14 +1,14 @@
 //! The names that a relation takes from outside.
 
-ghost use Rattle.std.specs.Prelude.{OnOk};
+ghost use Rattle.std.specs.Prelude.{OnOk, map};
 ghost use Rattle.std.specs.HashSet.{contains};
-ghost use Rattle.semantics.specs.FreeNames.{free};
+ghost use Rattle.semantics.specs.FreeNames.{free, free_in_outputs};
 ghost use Rattle.semantics.specs.Meaning.{same_name};
-ghost use Rattle.expr_tree.specs.Plain.{plain_rel};
-ghost use Rattle.expr_tree.specs.Views.{rel_tree};
+ghost use Rattle.expr_tree.specs.Plain.{plain_output, plain_rel};
+ghost use Rattle.expr_tree.specs.Views.{output_tree, rel_tree};
 ghost use Rattle.normalise.specs.Reached.{Adds};
 
-use expr_tree::{NoMemory, Rel};
+use expr_tree::{NoMemory, Output, Rel};
 use record_core::Name;
 use std::alloc::Allocator;
 use std::collections::HashSet;
@@ -33,7 +33,7 @@ pub(crate) fn add_free<A: Allocator + Copy>(
         | Rel::Where(_, of, _)
         | Rel::Group(_, of, _, _)
         | Rel::Distinct(_, of) => add_free(names, of),
-        Rel::Concat(_, left, right) => {
+        Rel::SetOperation(_, _, left, right) => {
             add_free(names, left)?;
             add_free(names, right)
         }
@@ -54,6 +54,22 @@ pub(crate) fn add_free<A: Allocator + Copy>(
                 let _bound = names.remove(name);
             }
             Ok(())
+        }
+    }
+}
+
+/// Adds the names that are free in the outputs.
+pub(crate) fn add_free_in_outputs<A: Allocator + Copy>(
+    names: &mut Names<A>,
+    outputs: &[Output<A>],
+) -> Result<(), NoMemory>
+    ensures { OnOk result (Adds (free_in_outputs (map plain_output (map output_tree outputs.now))) (contains same_name names.new) (contains same_name names.old)) }
+{
+    match outputs {
+        [] => Ok(()),
+        [output, rest @ ..] => {
+            add_free(names, &output.relation)?;
+            add_free_in_outputs(names, rest)
         }
     }
 }

@@ -1,32 +1,56 @@
-//! Programs rewritten: the output, then the lets from the last to the first, of which those that nothing reaches are dropped.
+//! Programs rewritten: the outputs, then the lets from the last to the first, of which those that nothing reaches are dropped.
 
-ghost use Rattle.std.specs.Prelude.{◌≡◌, ◌≤◌, ℕ, List, IfOk, map};
+ghost use Rattle.std.specs.Prelude.{◌≡◌, ◌≤◌, ℕ, List, IfOk, OnOk, map};
+ghost use Rattle.std.specs.List.{AllZip};
 ghost use Rattle.semantics.specs.Meaning.{program_meaning};
 ghost use Rattle.semantics.specs.Multiset.{Record};
 ghost use Rattle.semantics.specs.Normal.{NormalProgram};
 ghost use Rattle.semantics.specs.Rewriting.{RewritesTo};
 ghost use Rattle.semantics.specs.Size.{program_size};
-ghost use Rattle.expr_tree.specs.Plain.{plain_let, plain_program, plain_rel};
-ghost use Rattle.expr_tree.specs.Views.{let_tree, rel_tree};
-ghost use Rattle.typing.specs.Shown.{output_arity, typed_program};
+ghost use Rattle.expr_tree.specs.Plain.{plain_let, plain_output, plain_program};
+ghost use Rattle.expr_tree.specs.Views.{let_tree, output_tree};
+ghost use Rattle.typing.specs.Shown.{output_arities, typed_program};
 ghost use Rattle.normalise.specs.Reached.{IsReachedOf};
+ghost use Rattle.normalise.specs.Rewritten.{IsRewrittenOutput};
 
-use crate::names::{Names, add_free};
-use crate::relation::rewritten_in_box;
-use expr_tree::{Let, NoMemory, Program, Rel};
+use crate::names::{Names, add_free, add_free_in_outputs};
+use crate::relation::{rewritten, rewritten_in_box};
+use expr_tree::{Let, NoMemory, Output, Program};
 use std::alloc::Allocator;
 use typing::Typed;
 
-/// The lets that the output reaches, each rewritten, in their order.
+/// Rewrites the relation of an output.
+fn rewrite_output<A: Allocator + Copy>(alloc: A, output: &mut Output<A>) -> Result<(), NoMemory>
+    ensures { OnOk result (IsRewrittenOutput (plain_output (output_tree output.new)) (plain_output (output_tree output.old))) }
+{
+    let relation = output.relation.take();
+    *output.relation = rewritten(alloc, relation)?;
+    Ok(())
+}
+
+/// Rewrites the relation of each output.
+fn rewrite_outputs<A: Allocator + Copy>(
+    alloc: A,
+    outputs: &mut Vec<Output<A>, A>,
+) -> Result<(), NoMemory>
+    ensures { OnOk result (AllZip IsRewrittenOutput (map plain_output (map output_tree outputs.new.items)) (map plain_output (map output_tree outputs.old.items))) }
+{
+    for output in outputs.iter_mut() {
+        rewrite_output(alloc, output)?;
+    }
+    Ok(())
+}
+
+/// The lets that the outputs reach, each rewritten, in their order.
 fn reached_lets<A: Allocator + Copy>(
     mut lets: Vec<Let<A>, A>,
-    output: &Rel<A>,
+    outputs: &[Output<A>],
 ) -> Result<Vec<Let<A>, A>, NoMemory>
-    ensures { IfOk result (λ kept. IsReachedOf (map plain_let (map let_tree kept.items)) (map plain_let (map let_tree lets.items)) (plain_rel (rel_tree output.now))) }
+    ensures { IfOk result (λ kept. IsReachedOf (map plain_let (map let_tree kept.items)) (map plain_let (map let_tree lets.items)) (map plain_output (map output_tree outputs.now))) }
 {
     let alloc = *lets.allocator();
     let mut reached: Names<A> = Names::new(alloc);
-    add_free(&mut reached, output)?;
+    add_free_in_outputs(&mut reached, outputs)?;
     let mut kept = Vec::new(alloc);
     while let Some(item) = lets.pop() {
         let Let {
@@ -53,36 +77,36 @@ fn reached_lets<A: Allocator + Copy>(
 /// - `+`, `-` and `*` of two literals and the negation of a literal become the literal of the wrapped value;
 /// - a `where` of a `where` becomes one, with the inner condition first;
 /// - a `select` of a `select` becomes one, where the outer scalars together use each column at most once;
-/// - a `distinct` of a `distinct` becomes one, and a loop of no turns its start;
-/// - a let that the output doesn't reach, directly or through other lets, is dropped.
+/// - a `distinct` of a `distinct`, an `except` or an `intersect` becomes what it holds, and a loop of no turns its start;
+/// - a let that no output reaches, directly or through other lets, is dropped.
 ///
 /// Conditions and comparisons aren't folded, inputs are never dropped, and nothing crosses a name. A literal may become negative, and
 /// then the query is none that a text has. Nodes are moved, in the tree's own allocator, which gives what memory is taken; what a rule
 /// drops is dropped at once. An `Err` comes only where a growth was refused; then the tree is gone, and dropped.
 pub fn normalise<A: Allocator + Copy>(typed: Typed<A>) -> Result<Typed<A>, NoMemory>
     ensures inputs { IfOk result (λ made. (typed_program made).inputs ≡ (typed_program typed).inputs) }
-    ensures arity { IfOk result (λ made. output_arity made ≡ output_arity typed) }
-    ensures meaning { IfOk result (λ made. (records : ℕ → List Record) →
-        program_meaning (plain_program (typed_program made)) records ≡ program_meaning (plain_program (typed_program typed)) records) }
+    ensures arities { IfOk result (λ made. output_arities made ≡ output_arities typed) }
+    ensures meaning { IfOk result (λ made. (output : ℕ) (records : ℕ → List Record) →
+        program_meaning (plain_program (typed_program made)) output records ≡ program_meaning (plain_program (typed_program typed)) output records) }
     ensures no_larger { IfOk result (λ made. program_size (plain_program (typed_program made)) ≤ program_size (plain_program (typed_program typed))) }
     ensures normal { IfOk result (λ made. NormalProgram (plain_program (typed_program made))) }
     ensures reached { IfOk result (λ made. RewritesTo (plain_program (typed_program typed)) (plain_program (typed_program made))) }
 {
-    let arity = typed.output_arity();
+    let (program, arities) = typed.into_parts();
     let Program {
         inputs,
         lets,
-        output,
-    } = typed.into_program();
+        mut outputs,
+    } = program;
     let alloc = *lets.allocator();
-    let output = rewritten_in_box(alloc, output)?;
-    let lets = reached_lets(lets, &output)?;
+    rewrite_outputs(alloc, &mut outputs)?;
+    let lets = reached_lets(lets, &outputs)?;
     Ok(Typed::new(
         Program {
             inputs,
             lets,
-            output,
+            outputs,
         },
-        arity,
+        arities,
     ))
 }

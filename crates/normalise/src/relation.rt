@@ -1,9 +1,9 @@
 //! Relations rewritten: the parts first, then the rules at each node, which find the parts done.
 
-ghost use Rattle.std.specs.Prelude.{IfOk, map};
+ghost use Rattle.std.specs.Prelude.{IfOk, IsFalse, IsTrue, map};
 ghost use Rattle.std.specs.List.{AllByRecursion};
 ghost use Rattle.semantics.specs.Query as query;
-ghost use Rattle.semantics.specs.Normal.{NormalCond, NormalScalar};
+ghost use Rattle.semantics.specs.Normal.{IsSet, NormalCond, NormalScalar};
 ghost use Rattle.expr_tree.specs.Plain.{plain_cond, plain_rel, plain_scalar};
 ghost use Rattle.expr_tree.specs.Views.{cond_tree, rel_tree, scalar_tree};
 ghost use Rattle.normalise.specs.Rewritten.{IsRewritten, Reduced};
@@ -11,7 +11,7 @@ ghost use Rattle.normalise.specs.Rewritten.{IsRewritten, Reduced};
 use crate::columns::use_once;
 use crate::replacement::replace_all;
 use crate::scalars::{fold_all, folded_cond};
-use expr_tree::{Cond, Connective, NoMemory, Rel, Scalar};
+use expr_tree::{Cond, Connective, NoMemory, Rel, Scalar, SetOperator};
 use record_core::Span;
 use std::alloc::Allocator;
 
@@ -64,17 +64,30 @@ fn where_of<A: Allocator + Copy>(
     }
 }
 
-/// A `distinct` of a rewritten relation; of a `distinct` it is that.
-fn distinct_of<A: Allocator>(span: Span, mut of: Box<Rel<A>, A>) -> Rel<A>
+/// Whether a relation is a set by its form: a `distinct`, an `except` or an `intersect`.
+fn is_set<A: Allocator>(relation: &Rel<A>) -> bool
+    ensures yes { IsTrue result → IsSet (plain_rel (rel_tree relation.now)) }
+    ensures no { IsFalse result → IsSet (plain_rel (rel_tree relation.now)) → ⊥ }
+{
+    match relation {
+        Rel::Distinct(_, _) => true,
+        Rel::SetOperation(_, operator, _, _) => match operator {
+            SetOperator::Concat => false,
+            SetOperator::Except | SetOperator::Intersect => true,
+        },
+        _ => false,
+    }
+}
+
+/// A `distinct` of a rewritten relation; of a set by its form it is that.
+fn distinct_of<A: Allocator>(span: Span, of: Box<Rel<A>, A>) -> Rel<A>
     requires { Reduced (plain_rel (rel_tree of.value)) }
     ensures { IsRewritten (plain_rel (rel_tree result)) (query.Rel.distinct (plain_rel (rel_tree of.value))) }
 {
-    match of.take() {
-        Rel::Distinct(_, inner) => Rel::Distinct(span, inner),
-        other => {
-            *of = other;
-            Rel::Distinct(span, of)
-        }
+    if is_set(&*of) {
+        Box::into_inner(of)
+    } else {
+        Rel::Distinct(span, of)
     }
 }
 
@@ -95,10 +108,10 @@ pub(crate) fn rewritten<A: Allocator + Copy>(alloc: A, relation: Rel<A>) -> Resu
             let condition = folded_cond(condition);
             where_of(alloc, span, of, condition)
         }
-        Rel::Concat(span, left, right) => {
+        Rel::SetOperation(span, operator, left, right) => {
             let left = rewritten_in_box(alloc, left)?;
             let right = rewritten_in_box(alloc, right)?;
-            Ok(Rel::Concat(span, left, right))
+            Ok(Rel::SetOperation(span, operator, left, right))
         }
         Rel::Join(span, left, right, pairs) => {
             let left = rewritten_in_box(alloc, left)?;

@@ -4,4 +4,5 @@ pub mod Conditions
 pub mod Lists
 pub mod Relations
 pub mod Items
+pub mod Outputs
 pub mod Programs

@@ -1,81 +1,40 @@
 -- Programs, at tokens that are known by an equation; and refusals.
-use Rattle.std.proofs.Common.{◌≡◌, ◌≢◌, ℕ, ◌<◌, max, arith, ap, List, [], ◌∷◌, length, Result, refl, sym, ◌∙◌, inl, inr}
+use Rattle.std.proofs.Common.{◌≡◌, ◌≢◌, ℕ, max, arith, List, Result, refl, ◌∙◌, inl, inr}
 use Rattle.std.specs.Prelude.{IfErr}
 use Rattle.std.proofs.lemmas.Result.{IfErr-weaker}
-use Rattle.record_core.specs.declared.span.Span.{Span}
 use Rattle.record_core.specs.declared.span.Refusal.{Refusal}
 use Rattle.record_core.specs.declared.span.Refusal.TheVariants.{At, NoMemory}
-use Rattle.record_core.specs.declared.keyword.Keyword.TheVariants as keyword
 use Rattle.lexer.specs.declared.token.Token.{Token}
-use Rattle.lexer.specs.declared.mark.Mark.TheVariants as mark
 use Rattle.lexer.specs.Tokens.{Lexes}
 use Rattle.lexer.proofs.Unique.{lexes_one, refused_none}
 use Rattle.expr_tree.specs.declared.program.Input.{Input}
-use Rattle.expr_tree.specs.Trees.{RelTree, LetTree, ProgramTree}
-use Rattle.grammar.specs.Tokens.{mark_at, keyword_at, NoKeyword}
-use Rattle.grammar.specs.Phrases.{Unread, Ended}
-use Rattle.grammar.specs.Relations as relation
-use Rattle.grammar.specs.Programs.{Inputs, Lets, ReadsProgram}
+use Rattle.expr_tree.specs.Trees.{LetTree, ProgramTree}
+use Rattle.grammar.specs.Phrases.{Unread}
+use Rattle.grammar.specs.Programs.{Inputs, Lets, Outputs, ReadsProgram}
 use Rattle.grammar.specs.Texts.{Reads}
-use Rattle.grammar.proofs.Tokens.{rest_one}
-use Rattle.grammar.proofs.Relations.{one_relation}
 use Rattle.grammar.proofs.Programs.{one_inputs, one_lets}
 use Rattle.parser.specs.declared.fault.Fault.{Fault}
 use Rattle.parser.specs.declared.fault.Fault.TheVariants as fault
 use Rattle.parser.specs.Faults.{Denies}
-use Rattle.parser.specs.Items.{NoInputs}
+use Rattle.parser.specs.Items.{NoInputs, NoOutputs}
 use Rattle.parser.specs.Refusals.{NoProgram, Refuses, Tells}
 
 pub no_inputs : (text : List ℕ) (ts : List Token) (m : ℕ) → NoInputs text ts → NoProgram text ts m
 no_inputs text ts m n p h d = absurd (n _ _ d.inputs)
-
--- the tokens after the inputs are the ones
-after_inputs : {text : List ℕ} {ts us : List Token} {is : List Input} {p : ProgramTree} {h : ℕ} → Inputs text ts is us → (d : ReadsProgram text ts p h) → d.us ≡ us
-after_inputs i d = let a = one_inputs i d.inputs in sym a.left
 
 pub no_lets : (text : List ℕ) (ts us : List Token) (is : List Input) (m : ℕ) → Inputs text ts is us → Unread (Lets text) us m → NoProgram text ts m
 no_lets text ts us is m i u p h d =
     let a = one_inputs i d.inputs in
     let w = u _ _ _ (rw (← a.left) at d.lets) in let e = d.is in omega arith
 
--- the tokens after the named relations are the ones
-after_lets : {text : List ℕ} {ts us vs : List Token} {is : List Input} {ls : List LetTree} {k h : ℕ} {p : ProgramTree} → Inputs text ts is us → Lets text us ls k vs → (d : ReadsProgram text ts p h) → vs ≡ keyword_at keyword.Output d.start ∷ d.vs
-after_lets i l d = let a = one_inputs i d.inputs in let b = one_lets l (rw (← a.left) at d.lets) in b.left
+pub no_outputs : (text : List ℕ) (ts us vs : List Token) (is : List Input) (ls : List LetTree) (k m : ℕ) → Inputs text ts is us → Lets text us ls k vs → NoOutputs text vs m → NoProgram text ts m
+no_outputs text ts us vs is ls k m i l n p h d =
+    let a = one_inputs i d.inputs in
+    let b = one_lets l (rw (← a.left) at d.lets) in
+    let w = n _ _ (rw (← b.left) at d.outputs) in let e = d.is in omega arith
 
-pub no_keyword : (text : List ℕ) (ts us vs : List Token) (is : List Input) (ls : List LetTree) (k m : ℕ) → Inputs text ts is us → Lets text us ls k vs → NoKeyword keyword.Output vs → NoProgram text ts m
-no_keyword text ts us vs is ls k m i l n p h d = absurd ((rw (after_lets i l d) at n) refl)
-
-pub no_output : (text : List ℕ) (ts us vs ws : List Token) (is : List Input) (ls : List LetTree) (s : Span) (k m : ℕ) → Inputs text ts is us → Lets text us ls k vs → vs ≡ keyword_at keyword.Output s ∷ ws → Unread (Ended (relation.Reads text) mark.Semicolon) ws m → NoProgram text ts m
-no_output text ts us vs ws is ls s k m i l e u p h d =
-    let same = rest_one (sym e ∙ after_lets i l d) in
-    let w = u p.output d.height [] (d.end, rw (← same) at d.output) in let q = d.is in omega arith
-
-not_empty : (zs : List Token) → 0 < length zs → zs ≡ [] → ⊥
-not_empty zs f e = let l = ap length e in omega arith
-
-is_empty : (zs : List Token) → length zs ≡ 0 → zs ≡ []
-is_empty [] e = refl
-is_empty (z ∷ zs) e = absurd (omega arith)
-
-pub no_more : (text : List ℕ) (ts us vs ws zs : List Token) (is : List Input) (ls : List LetTree) (s r : Span) (o : RelTree) (k n m : ℕ) → Inputs text ts is us → Lets text us ls k vs → vs ≡ keyword_at keyword.Output s ∷ ws → relation.Reads text ws o n (mark_at mark.Semicolon r ∷ zs) → 0 < length zs → NoProgram text ts m
-no_more text ts us vs ws zs is ls s r o k n m i l e q f p h d =
-    let same = rest_one (sym e ∙ after_lets i l d) in
-    let a = one_relation text _ _ _ _ _ _ _ q (rw (← same) at d.output) in
-    absurd (not_empty zs f (rest_one a.left))
-
-pub program_at : (text : List ℕ) (ts us vs ws zs : List Token) (s r : Span) (p : ProgramTree) (o : RelTree) (k n : ℕ) → Inputs text ts p.inputs us → Lets text us p.lets k vs → vs ≡ keyword_at keyword.Output s ∷ ws → relation.Reads text ws o n (mark_at mark.Semicolon r ∷ zs) → p.output ≡ o → length zs ≡ 0 → ReadsProgram text ts p (max k n)
-program_at text ts us vs ws zs s r p o k n i l e q j f = record {
-  us = us;
-  vs = ws;
-  start = s;
-  end = r;
-  lets_height = k;
-  height = n;
-  inputs = i;
-  lets = rw e at l;
-  output = rw j (rw (is_empty zs f) at q);
-  is = refl;
-}
+pub program_at : (text : List ℕ) (ts us vs : List Token) (p : ProgramTree) (k n : ℕ) → Inputs text ts p.inputs us → Lets text us p.lets k vs → Outputs text vs p.outputs n → ReadsProgram text ts p (max k n)
+program_at text ts us vs p k n i l o = record { us = us; vs = vs; lets_height = k; outputs_height = n; inputs = i; lets = l; outputs = o; is = refl }
 
 -- a fault in the program of a text's tokens, as it is told
 pub told : (text : List ℕ) (ts : List Token) (f : Fault) (e : Refusal) → Lexes text ts → Denies f (NoProgram text ts) 64 → Tells f e → Refuses text e

@@ -8,12 +8,15 @@ use Rattle.expr_tree.specs.Trees.{ScalarTree, CondTree, RelTree}
 use Rattle.expr_tree.specs.declared.relation.Agg.{Agg}
 use Rattle.expr_tree.specs.declared.relation.Column.{Column}
 use Rattle.expr_tree.specs.declared.relation.Pair.{Pair}
+use Rattle.expr_tree.specs.declared.relation.SetOperator.{SetOperator}
+use Rattle.expr_tree.specs.declared.relation.SetOperator.TheVariants.{Concat, Except, Intersect}
 use Rattle.grammar.specs.Tokens.{reaching, token, mark_at, NoMark}
 use Rattle.grammar.specs.Phrases.{Listed, IsOne, Unread, Ended}
 use Rattle.grammar.specs.Scalars.{ScalarAt}
 use Rattle.grammar.specs.Conditions.{ConditionAt}
-use Rattle.grammar.specs.Relations.{Reads, named, select, filter, concat, join, group, iterate, distinct, ColumnAt, PairAt, AggAt, IsNameAt, piece}
+use Rattle.grammar.specs.Relations.{Reads, named, select, filter, set_operation, join, group, iterate, distinct, ColumnAt, PairAt, AggAt, IsNameAt, piece}
 use Rattle.grammar.proofs.Tokens.{first_one, rest_one}
+use Rattle.grammar.proofs.Relations.{no_operator}
 use Rattle.parser.specs.Scanning.{NoName, NoNumber}
 use Rattle.parser.specs.Forms.{keyword_of, form_token, opening, NoForm, Heads, NoHead}
 use Rattle.parser.specs.declared.relation.Form.{Form}
@@ -77,9 +80,11 @@ three_high P Q R ts us vs ws x y h k m n q r d f e t =
 
 pub inside_select : {text : List ℕ} {s o : Span} {ts us : List Token} {q : RelTree} {n : ℕ} → Reads text (opening form.Select s o ts) q n us → Two (Ended (Reads text) mark.Semicolon) (Ended (Listed ScalarAt) mark.CloseRound) ts n us
 inside_select (select {p = p} {q = q} {r = r} {xs = xs} {h = h} {k = k} {us = us} d e) = record { x = r; y = xs; h = h; k = k; us = us; first = (p, d); second = (q, e); is = refl }
+inside_select (set_operation i d e) = absurd (no_operator _ refl i)
 
 pub inside_where : {text : List ℕ} {s o : Span} {ts us : List Token} {q : RelTree} {n : ℕ} → Reads text (opening form.Where s o ts) q n us → Two (Ended (Reads text) mark.Semicolon) (Ended ConditionAt mark.CloseRound) ts n us
 inside_where (filter {p = p} {q = q} {r = r} {c = c} {h = h} {k = k} {us = us} d e) = record { x = r; y = c; h = h; k = k; us = us; first = (p, d); second = (q, e); is = refl }
+inside_where (set_operation i d e) = absurd (no_operator _ refl i)
 
 pub named_at : (text : List ℕ) (ts us : List Token) (s : Span) (n : List ℕ) → ts ≡ token kind.Name s ∷ us → n ≡ piece text s → IsNameAt text s → Reads text ts (RelTree.named s n) 1 us
 named_at text ts us s n e h i = rw (e, h) (named i)
@@ -87,7 +92,9 @@ named_at text ts us s n e h i = rw (e, h) (named i)
 no_form_token : (f : Form) (s : Span) (ts : List Token) → NoForm (form_token f s ∷ ts) → ⊥
 no_form_token form.Select s ts e = absurd cc
 no_form_token form.Where s ts e = absurd cc
-no_form_token form.Concat s ts e = absurd cc
+no_form_token (form.SetOperation Concat) s ts e = absurd cc
+no_form_token (form.SetOperation Except) s ts e = absurd cc
+no_form_token (form.SetOperation Intersect) s ts e = absurd cc
 no_form_token form.Join s ts e = absurd cc
 no_form_token form.Group s ts e = absurd cc
 no_form_token form.Distinct s ts e = absurd cc
@@ -97,7 +104,7 @@ pub no_rel : (text : List ℕ) (ts : List Token) (m : ℕ) → NoName text ts �
 no_rel text ts m h k q n us (named d) = absurd (h d)
 no_rel text ts m h k q n us (select {s = s} {o = o} {ts = vs} d e) = absurd (no_form_token form.Select s (mark_at mark.OpenRound o ∷ vs) k)
 no_rel text ts m h k q n us (filter {s = s} {o = o} {ts = vs} d e) = absurd (no_form_token form.Where s (mark_at mark.OpenRound o ∷ vs) k)
-no_rel text ts m h k q n us (concat {s = s} {o = o} {ts = vs} d e) = absurd (no_form_token form.Concat s (mark_at mark.OpenRound o ∷ vs) k)
+no_rel text ts m h k q n us (set_operation {w = w} {s = s} {o = o} {ts = vs} i d e) = absurd (no_form_token (form.SetOperation w) s (mark_at mark.OpenRound o ∷ vs) (rw i at k))
 no_rel text ts m h k q n us (join {s = s} {o = o} {ts = vs} d e f) = absurd (no_form_token form.Join s (mark_at mark.OpenRound o ∷ vs) k)
 no_rel text ts m h k q n us (group {s = s} {o = o} {ts = vs} d e f) = absurd (no_form_token form.Group s (mark_at mark.OpenRound o ∷ vs) k)
 no_rel text ts m h k q n us (distinct {s = s} {o = o} {ts = vs} d) = absurd (no_form_token form.Distinct s (mark_at mark.OpenRound o ∷ vs) k)
@@ -108,7 +115,7 @@ not_bare : {text : List ℕ} {ts vs : List Token} {q : RelTree} {n : ℕ} (f : F
 not_bare f s us (named d) e k = let a : kind.Name ≡ kind.Keyword (keyword_of f) = ap (λ (t : Token). t.kind) (first_one e) in absurd cc
 not_bare f s us (select d c) e k = (rw (← rest_one e) at k) refl
 not_bare f s us (filter d c) e k = (rw (← rest_one e) at k) refl
-not_bare f s us (concat d c) e k = (rw (← rest_one e) at k) refl
+not_bare f s us (set_operation i d c) e k = (rw (← rest_one e) at k) refl
 not_bare f s us (join d c b) e k = (rw (← rest_one e) at k) refl
 not_bare f s us (group d c b) e k = (rw (← rest_one e) at k) refl
 not_bare f s us (distinct d) e k = (rw (← rest_one e) at k) refl
@@ -122,7 +129,7 @@ higher : {text : List ℕ} {ts us : List Token} {q : RelTree} {n : ℕ} → Read
 higher (named d) = omega arith
 higher (select d e) = omega arith
 higher (filter d e) = omega arith
-higher (concat d e) = omega arith
+higher (set_operation i d e) = omega arith
 higher (join d e f) = omega arith
 higher (group d e f) = omega arith
 higher (distinct d) = omega arith
@@ -131,11 +138,13 @@ higher (iterate a b e f) = omega arith
 pub unread_open : (text : List ℕ) (ts : List Token) (m : ℕ) → m ≡ 0 → Unread (Reads text) ts m
 unread_open text ts m e q n us d = let w = higher d in omega arith
 
-pub inside_concat : {text : List ℕ} {s o : Span} {ts us : List Token} {q : RelTree} {n : ℕ} → Reads text (opening form.Concat s o ts) q n us → Two (Ended (Reads text) mark.Comma) (Ended (Reads text) mark.CloseRound) ts n us
-inside_concat (concat {p = p} {q = q} {a = a} {b = b} {h = h} {k = k} {us = us} d e) = record { x = a; y = b; h = h; k = k; us = us; first = (p, d); second = (q, e); is = refl }
+pub inside_set_operation : (w : SetOperator) {text : List ℕ} {s o : Span} {ts us : List Token} {q : RelTree} {n : ℕ} → Reads text (opening (form.SetOperation w) s o ts) q n us → Two (Ended (Reads text) mark.Comma) (Ended (Reads text) mark.CloseRound) ts n us
+inside_set_operation Concat (set_operation {p = p} {q = q} {a = a} {b = b} {h = h} {k = k} {us = us} i d e) = record { x = a; y = b; h = h; k = k; us = us; first = (p, d); second = (q, e); is = refl }
+inside_set_operation Except (set_operation {p = p} {q = q} {a = a} {b = b} {h = h} {k = k} {us = us} i d e) = record { x = a; y = b; h = h; k = k; us = us; first = (p, d); second = (q, e); is = refl }
+inside_set_operation Intersect (set_operation {p = p} {q = q} {a = a} {b = b} {h = h} {k = k} {us = us} i d e) = record { x = a; y = b; h = h; k = k; us = us; first = (p, d); second = (q, e); is = refl }
 
-pub concat_at : (text : List ℕ) (ts us ws : List Token) (s o p q x : Span) (a b l : RelTree) (h k n : ℕ) → Reads text ts a h (mark_at mark.Comma p ∷ us) → Reads text us b k (mark_at mark.CloseRound q ∷ ws) → x ≡ reaching s q → l ≡ RelTree.concat x a b → n ≡ max h k + 1 → Reads text (opening form.Concat s o ts) l n ws
-concat_at text ts us ws s o p q x a b l h k n d e j i w = rw (i, j, w, add-one) (concat d e)
+pub set_operation_at : (text : List ℕ) (w : SetOperator) (ts us ws : List Token) (s o p q x : Span) (a b l : RelTree) (h k n : ℕ) → Reads text ts a h (mark_at mark.Comma p ∷ us) → Reads text us b k (mark_at mark.CloseRound q ∷ ws) → x ≡ reaching s q → l ≡ RelTree.set_operation x w a b → n ≡ max h k + 1 → Reads text (opening (form.SetOperation w) s o ts) l n ws
+set_operation_at text w ts us ws s o p q x a b l h k n d e j i m = rw (i, j, m, add-one) (set_operation refl d e)
 
 pub no_head_number : (text : List ℕ) (ts : List Token) → NoNumber ts → NoHead text ts
 no_head_number text ts h d n x us k = (rw k.4 at h) k.2
@@ -163,6 +172,7 @@ pub record Loop (text : List ℕ) (ts : List Token) (n : ℕ) (us : List Token) 
 
 pub inside_iterate : {text : List ℕ} {s o : Span} {ts us : List Token} {q : RelTree} {n : ℕ} → Reads text (opening form.Iterate s o ts) q n us → Loop text ts n us
 inside_iterate (iterate {d = d} {p = p} {x = x} {i = i} {j = j} {q = q} {n = n} {h = h} {k = k} {r = r} {b = b} {ts = ts} {us = us} f g e c) = record { d = d; turns = n; x = x; vs = ts; head = (p, i, f, g, refl); two = record { x = r; y = b; h = h; k = k; us = us; first = (j, e); second = (q, c); is = refl } }
+inside_iterate (set_operation i d e) = absurd (no_operator _ refl i)
 
 -- a head is followed by one rest
 pub one_head : (text : List ℕ) (ts us vs : List Token) (d e : Span) (m n : ℕ) (x y : Span) → Heads text ts d m x us → Heads text ts e n y vs → us ≡ vs
@@ -185,12 +195,14 @@ where_at text ts us ws s o p q x r c l h k n d e j i w = rw (i, j, w, add-one) (
 
 pub inside_join : {text : List ℕ} {s o : Span} {ts us : List Token} {q : RelTree} {n : ℕ} → Reads text (opening form.Join s o ts) q n us → Three (Ended (Reads text) mark.Comma) (Ended (Reads text) mark.Semicolon) (Ended (Listed PairAt) mark.CloseRound) ts n us
 inside_join (join {p = p} {i = i} {q = q} {a = a} {b = b} {xs = xs} {h = h} {k = k} {n = n} {us = us} {vs = vs} d e f) = record { x = a; y = b; z = xs; h = h; k = k; l = n; us = us; vs = vs; first = (p, d); second = (i, e); third = (q, f); is = refl }
+inside_join (set_operation i d e) = absurd (no_operator _ refl i)
 
 pub join_at : (text : List ℕ) (ts us vs ws : List Token) (s o p i q x : Span) (a b l : RelTree) (xs : List Pair) (h k n : ℕ) → Reads text ts a h (mark_at mark.Comma p ∷ us) → Reads text us b k (mark_at mark.Semicolon i ∷ vs) → Listed PairAt vs xs 1 (mark_at mark.CloseRound q ∷ ws) → x ≡ reaching s q → l ≡ RelTree.join x a b xs → n ≡ max (max h k) 1 + 1 → Reads text (opening form.Join s o ts) l n ws
 join_at text ts us vs ws s o p i q x a b l xs h k n d e f j m w = rw (m, j, w, add-one) (join d e f)
 
 pub inside_group : {text : List ℕ} {s o : Span} {ts us : List Token} {q : RelTree} {n : ℕ} → Reads text (opening form.Group s o ts) q n us → Three (Ended (Reads text) mark.Semicolon) (Ended (Listed ColumnAt) mark.Semicolon) (Ended (Listed AggAt) mark.CloseRound) ts n us
 inside_group (group {p = p} {i = i} {q = q} {r = r} {ks = ks} {xs = xs} {h = h} {k = k} {n = n} {us = us} {vs = vs} d e f) = record { x = r; y = ks; z = xs; h = h; k = k; l = n; us = us; vs = vs; first = (p, d); second = (i, e); third = (q, f); is = refl }
+inside_group (set_operation i d e) = absurd (no_operator _ refl i)
 
 pub group_at : (text : List ℕ) (ts us vs ws : List Token) (s o p i q x : Span) (r l : RelTree) (ks : List Column) (xs : List Agg) (h n : ℕ) → Reads text ts r h (mark_at mark.Semicolon p ∷ us) → Listed ColumnAt us ks 1 (mark_at mark.Semicolon i ∷ vs) → Listed AggAt vs xs 1 (mark_at mark.CloseRound q ∷ ws) → x ≡ reaching s q → l ≡ RelTree.group x r ks xs → n ≡ max (max h 1) 1 + 1 → Reads text (opening form.Group s o ts) l n ws
 group_at text ts us vs ws s o p i q x r l ks xs h n d e f j m w = rw (m, j, w, add-one) (group d e f)
@@ -204,6 +216,7 @@ pub record Once (text : List ℕ) (ts : List Token) (n : ℕ) (us : List Token) 
 
 pub inside_distinct : {text : List ℕ} {s o : Span} {ts us : List Token} {q : RelTree} {n : ℕ} → Reads text (opening form.Distinct s o ts) q n us → Once text ts n us
 inside_distinct (distinct {q = q} {r = r} {h = h} d) = record { r = r; h = h; first = (q, d); is = refl }
+inside_distinct (set_operation i d e) = absurd (no_operator _ refl i)
 
 pub once_first : (text : List ℕ) (ts us : List Token) (m l n : ℕ) → m ≤ l + 1 → Unread (Ended (Reads text) mark.CloseRound) ts l → Once text ts n us → m < n
 once_first text ts us m l n e u t = let a = u _ _ _ t.first in let i = t.is in omega arith

@@ -7,8 +7,9 @@ use Rattle.lexer.specs.declared.token.Token.{Token}
 use Rattle.lexer.specs.declared.token.TokenKind.{TokenKind}
 use Rattle.lexer.specs.declared.token.TokenKind.TheVariants as kind
 use Rattle.lexer.specs.declared.mark.Mark.TheVariants as mark
+use Rattle.expr_tree.specs.declared.relation.SetOperator.TheVariants.{Concat, Except, Intersect}
 use Rattle.grammar.specs.Tokens.{token, mark_at, keyword_at}
-use Rattle.grammar.specs.Relations.{IsNameAt}
+use Rattle.grammar.specs.Relations.{operator_keyword, IsNameAt}
 use Rattle.parser.specs.declared.relation.Form.{Form}
 use Rattle.parser.specs.declared.relation.Form.TheVariants as form
 use Rattle.parser.specs.declared.relation.Opening.{Opening}
@@ -17,7 +18,9 @@ use Rattle.parser.specs.declared.relation.Opening.{Opening}
 abbrev pub form_of : Keyword → Option Form
 form_of keyword.Select = Some form.Select
 form_of keyword.Where = Some form.Where
-form_of keyword.Concat = Some form.Concat
+form_of keyword.Concat = Some (form.SetOperation Concat)
+form_of keyword.Except = Some (form.SetOperation Except)
+form_of keyword.Intersect = Some (form.SetOperation Intersect)
 form_of keyword.Join = Some form.Join
 form_of keyword.Group = Some form.Group
 form_of keyword.Distinct = Some form.Distinct
@@ -28,7 +31,7 @@ form_of k = None
 abbrev pub keyword_of : Form → Keyword
 keyword_of form.Select = keyword.Select
 keyword_of form.Where = keyword.Where
-keyword_of form.Concat = keyword.Concat
+keyword_of (form.SetOperation w) = operator_keyword w
 keyword_of form.Join = keyword.Join
 keyword_of form.Group = keyword.Group
 keyword_of form.Distinct = keyword.Distinct

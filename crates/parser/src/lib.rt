@@ -12,6 +12,7 @@ mod condition;
 mod fault;
 mod item;
 mod list;
+mod output;
 mod program;
 mod relation;
 mod scalar;

@@ -9,13 +9,12 @@ ghost use Rattle.grammar.specs.Texts.{Reads};
 ghost use Rattle.parser.specs.Faults.{Denies};
 ghost use Rattle.parser.specs.Refusals.{NoProgram, Refuses, Tells};
 
-use crate::fault::{Fault, MAX_HEIGHT};
+use crate::fault::Fault;
 use crate::item::{parse_inputs, parse_lets};
-use crate::relation::parse_rel_then;
-use crate::scan::{after_keyword, front};
+use crate::output::parse_outputs;
 use expr_tree::Program;
-use lexer::{Mark, Token, lex};
-use record_core::{Keyword, Refusal, Span};
+use lexer::{Token, lex};
+use record_core::{Refusal, Span};
 use std::alloc::Allocator;
 
 /// The program that the tokens of a text are.
@@ -29,17 +28,11 @@ fn parse_program<A: Allocator + Copy>(
 {
     let (inputs, second) = parse_inputs(alloc, text, tokens)?;
     let (lets, _, third) = parse_lets(alloc, text, second)?;
-    let Some((_, last)) = after_keyword(Keyword::Output, third) else {
-        return Err(Fault::Unexpected(front(third)));
-    };
-    let (output, _, _, rest) = parse_rel_then(alloc, Mark::Semicolon, text, last, MAX_HEIGHT)?;
-    if !rest.is_empty() {
-        return Err(Fault::Unexpected(front(rest)));
-    }
+    let (outputs, _) = parse_outputs(alloc, text, third)?;
     Ok(Program {
         inputs,
         lets,
-        output,
+        outputs,
     })
 }
 

@@ -15,17 +15,17 @@ use crate::list::{
     parse_columns, parse_last_aggs, parse_last_condition, parse_last_pairs, parse_last_scalars,
 };
 use crate::scan::{after_mark, after_name, after_number, front, spanning};
-use expr_tree::Rel;
+use expr_tree::{Rel, SetOperator};
 use lexer::{Mark, Token, TokenKind};
 use record_core::{Keyword, Name, Span};
 use std::alloc::Allocator;
 
 /// A form of relation, by its keyword.
-#[derive(Clone, Copy, Debug, PartialEq, Eq)]
+#[derive(Clone, Copy)]
 pub enum Form {
     Select,
     Where,
-    Concat,
+    SetOperation(SetOperator),
     Join,
     Group,
     Distinct,
@@ -55,7 +55,9 @@ fn form_at(keyword: Keyword) -> Option<Form>
     match keyword {
         Keyword::Select => Some(Form::Select),
         Keyword::Where => Some(Form::Where),
-        Keyword::Concat => Some(Form::Concat),
+        Keyword::Concat => Some(Form::SetOperation(SetOperator::Concat)),
+        Keyword::Except => Some(Form::SetOperation(SetOperator::Except)),
+        Keyword::Intersect => Some(Form::SetOperation(SetOperator::Intersect)),
         Keyword::Join => Some(Form::Join),
         Keyword::Group => Some(Form::Group),
         Keyword::Distinct => Some(Form::Distinct),
@@ -199,19 +201,20 @@ fn parse_where<'a, A: Allocator + Copy>(
     Ok((Rel::Where(span, relation, condition), most + 1, rest))
 }
 
-/// What follows `concat (`.
+/// What follows the keyword and the bracket of that set operator.
 #[cycle(parse)]
-fn parse_concat<'a, A: Allocator + Copy>(
+fn parse_set_operation<'a, A: Allocator + Copy>(
     alloc: A,
+    operator: SetOperator,
     opening: Opening,
     text: &[u8],
     tokens: &'a [Token],
     room: u32,
 ) -> Result<(Rel<A>, u32, &'a [Token]), Fault>
     requires { room < 64 }
-    ensures found { IfOk result (λ r. Reads text.now (opened form.Concat opening tokens.now) (rel_tree r.0) r.1 r.2.now) }
+    ensures found { IfOk result (λ r. Reads text.now (opened (form.SetOperation operator) opening tokens.now) (rel_tree r.0) r.1 r.2.now) }
     ensures low { IfOk result (λ r. (1 ≤ r.1) × (r.1 ≤ 64)) }
-    ensures denied { IfErr result (λ f. Denies f (Unread (Reads text.now) (opened form.Concat opening tokens.now)) (room + 1)) }
+    ensures denied { IfErr result (λ f. Denies f (Unread (Reads text.now) (opened (form.SetOperation operator) opening tokens.now)) (room + 1)) }
     ensures shorter { IfOk result (λ r. length r.2.now < length tokens.now) }
 {
     let (left, height, _, inner) = parse_rel_then(alloc, Mark::Comma, text, tokens, room)?;
@@ -221,7 +224,11 @@ fn parse_concat<'a, A: Allocator + Copy>(
         return Err(Fault::TooHigh(opening.keyword));
     }
     let span = spanning(opening.keyword, end);
-    Ok((Rel::Concat(span, left, right), most + 1, rest))
+    Ok((
+        Rel::SetOperation(span, operator, left, right),
+        most + 1,
+        rest,
+    ))
 }
 
 /// What follows `join (`.
@@ -361,7 +368,9 @@ fn parse_rel<'a, A: Allocator + Copy>(
     match form {
         Form::Select => parse_select(alloc, opening, text, inner, room),
         Form::Where => parse_where(alloc, opening, text, inner, room),
-        Form::Concat => parse_concat(alloc, opening, text, inner, room),
+        Form::SetOperation(operator) => {
+            parse_set_operation(alloc, operator, opening, text, inner, room)
+        }
         Form::Join => parse_join(alloc, opening, text, inner, room),
         Form::Group => parse_group(alloc, opening, text, inner, room),
         Form::Distinct => parse_distinct(alloc, opening, text, inner, room),

@@ -1,5 +1,6 @@
 pub mod InOrder
 pub mod Carrying
+pub mod Following
 pub mod DecidedCould
 pub mod Standing
 pub mod Passes

@@ -4,6 +4,7 @@ use Rattle.std.proofs.Math.Bridge.{le_prop}
 use Rattle.std.proofs.Math.Logic.{∥∥₁_elim}
 use Rattle.semantics.specs.Dataflow.{Goes}
 use Rattle.semantics.specs.Time.{Action, last, last_from, front_from}
+use Rattle.semantics.specs.Limits.{max_loops}
 use Rattle.semantics.specs.Summary.{Summary, left_by, turned_by, then_action}
 use Rattle.semantics.proofs.PathSummaries.{MayTake}
 use Rattle.path_summary.specs.Linking.{Link, Links}
@@ -59,16 +60,16 @@ walk_small w v zero x f h = subst (IsSmall 0) (sym h.1) (record { add = omega ar
 walk_small w v (suc n) x f h = subst (IsSmall (suc n)) (sym h.6) (small_then n h.1.acts h.2 (walk_small w v n h.1.source h.2 h.4))
 
 module _ (w : Links) (some : ∥ HaveLoops w ∥₁) (v : ℕ) (known : v < length w.depths) where
-  places : (l : HaveLoops w) (b e : ℕ) (k : Link) (f : Summary) → slice_get w.edges e ≡ Some k → IsOfWalk w v b k.source f → k.acts ≡ Action.enter → length f.tail < 8
+  places : (l : HaveLoops w) (b e : ℕ) (k : Link) (f : Summary) → slice_get w.edges e ≡ Some k → IsOfWalk w v b k.source f → k.acts ≡ Action.enter → length f.tail < max_loops
   places l b e k f h o q = go k.acts q (l.nested.goes e k h)
     where
-      deep : length (l.loops k.target) ≤ 8
+      deep : length (l.loops k.target) ≤ max_loops
       deep = let n = l.nested.into e k h in omega (arith, l.nested.homes k.target n, l.nested.shallow k.target n)
 
       never : {X : Type 0} → (a b : Action) → a ≡ Action.enter → a ≡ b → (b ≡ Action.enter → ⊥) → X
       never a b p q r = absurd (r (sym q ∙ p))
 
-      go : (a : Action) → a ≡ Action.enter → Goes l.loops k.source k.target a → length f.tail < 8
+      go : (a : Action) → a ≡ Action.enter → Goes l.loops k.source k.target a → length f.tail < max_loops
       go a q (Goes.same_loop e m) = absurd (let p = q in cc)
       go a q (Goes.into_loop e p m) = let s = stands_by w some v known l b k.source f o in omega (arith, s.long, deep, ap length p, length-append (l.loops k.source) (e ∷ []))
       go a q (Goes.out_of_loop p m) = absurd (let p = q in cc)

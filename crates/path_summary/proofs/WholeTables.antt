@@ -137,14 +137,14 @@ same_pointstamp p q a b = λ i. record { time = a i; location = b i }
 
 -- ---- the graph of a program
 
-program_dataflow : (g : Graph) (is : List Input) → IsProgramGraph g is → ((p : Program) (n : ℕ) → WellTyped p n → IsDataflow (lowered p)) → IsDataflow g
+program_dataflow : (g : Graph) (is : List Input) → IsProgramGraph g is → ((p : Program) (ns : List ℕ) → WellTyped p ns → IsDataflow (lowered p)) → IsDataflow g
 program_dataflow g is h law = subst IsDataflow (sym h.3) (law h.0 h.1 h.2)
 
-pub dataflow_known : (g : Graph) (is : List Input) → ∥ IsProgramGraph g is ∥₁ → ((p : Program) (n : ℕ) → WellTyped p n → IsDataflow (lowered p)) → ∥ IsDataflow g ∥₁
+pub dataflow_known : (g : Graph) (is : List Input) → ∥ IsProgramGraph g is ∥₁ → ((p : Program) (ns : List ℕ) → WellTyped p ns → IsDataflow (lowered p)) → ∥ IsDataflow g ∥₁
 dataflow_known g is h law = ∥∥₁_map h (λ w. program_dataflow g is w law)
 
 -- an edge leaves a vertex of the graph
-pub source_known : (g : Graph) (is : List Input) → ∥ IsProgramGraph g is ∥₁ → ((p : Program) (n : ℕ) → WellTyped p n → IsDataflow (lowered p)) → (e : ℕ) → e < edge_count g → (edge_source g e).vertex < length g
+pub source_known : (g : Graph) (is : List Input) → ∥ IsProgramGraph g is ∥₁ → ((p : Program) (ns : List ℕ) → WellTyped p ns → IsDataflow (lowered p)) → (e : ℕ) → e < edge_count g → (edge_source g e).vertex < length g
 source_known g is h law e l =
     let k = entered g e l in
     ∥∥₁_elim h (λ a b. le_prop a b) (λ w. (program_dataflow g is w law).wired.fed (target g e) (in_port g e) k.known k.port)

@@ -1,5 +1,6 @@
 -- A row of the table while it is made: the entries from one vertex to each.
 use Rattle.std.specs.Prelude.{◌≡◌, ℕ, ◌+◌, ◌^◌, ◌<◌, nat_lt, nat_eq, Bool, true, false, cond, ◌&&◌, ◌||◌, List, length, Option, Some, None, slice_get, slice_set, slice_index_or}
+use Rattle.semantics.specs.Limits.{max_loops}
 use Rattle.semantics.specs.Summary.{Summary, then_action}
 use Rattle.semantics.specs.Time.{Action, last}
 use Rattle.semantics.proofs.PathSummaries.{MayTake}
@@ -27,11 +28,11 @@ pub record Follows (a : Action) (f h : Summary) : Type 0 where
   pub is : h ≡ then_action a f
   pub may : MayTake a f
 
--- In 32 bit numbers and 8 places a summary may be followed by the action: the counter that it needs is there, and there is room
+-- In 32 bit numbers and as many places as loops may stand inside one another, a summary may be followed by the action: the counter that it needs is there, and there is room
 -- for what is added.
 abbrev pub HasRoom : Action → Summary → Type 0
 HasRoom Action.stay f = Unit {0}
-HasRoom Action.enter f = length f.tail < 8
+HasRoom Action.enter f = length f.tail < max_loops
 HasRoom Action.leave f = 0 < f.keep + length f.tail
 HasRoom Action.next f = (0 < f.keep + length f.tail) × (f.add + 1 < 2 ^ 32) × (last f.tail + 1 < 2 ^ 32)
 

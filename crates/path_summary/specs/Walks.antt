@@ -1,6 +1,7 @@
 -- Walks over the edges of a graph, and how far a row has got by passes over them.
 use Rattle.std.specs.Prelude.{◌≡◌, ℕ, zero, suc, ◌*◌, ◌≤◌, ◌<◌, Bool, true, cond, List, length, Option, Some, slice_get, slice_index_or}
 use Rattle.semantics.specs.Dataflow.{Goes}
+use Rattle.semantics.specs.Limits.{max_loops}
 use Rattle.semantics.specs.Summary.{Summary, then_action}
 use Rattle.path_summary.specs.Carried.{identity}
 use Rattle.path_summary.specs.Linking.{Link, Links}
@@ -9,7 +10,7 @@ use Rattle.path_summary.specs.Rows.{entry, HasBelow, IsClosed}
 -- each edge keeps to the loops, and a vertex is as deep as it stands in loops: as in the definition's IsNested
 pub record AreNested (w : Links) (loops : ℕ → List ℕ) : Type 0 where
   pub homes : (v : ℕ) → v < length w.depths → length (loops v) ≡ slice_index_or w.depths v 0
-  pub shallow : (v : ℕ) → v < length w.depths → slice_index_or w.depths v 0 ≤ 8
+  pub shallow : (v : ℕ) → v < length w.depths → slice_index_or w.depths v 0 ≤ max_loops
   pub goes : (e : ℕ) (k : Link) → slice_get w.edges e ≡ Some k → Goes loops k.source k.target k.acts
   pub into : (e : ℕ) (k : Link) → slice_get w.edges e ≡ Some k → k.target < length w.depths
 

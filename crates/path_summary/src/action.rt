@@ -32,6 +32,8 @@ pub fn action_at(kind: &Kind) -> Action
         | Kind::Join(_)
         | Kind::Group(_, _)
         | Kind::Distinct
+        | Kind::Except
+        | Kind::Intersect
         | Kind::Gate(_)
         | Kind::Hold(_) => Action::Stay,
     }

@@ -2,6 +2,7 @@
 
 ghost use Rattle.std.specs.Prelude.{◌≡◌, ◌<◌, ◌≤◌, ◌+◌, ◌-◌, ◌^◌, ◌↔◌, ◌++◌, IsTrue, length};
 ghost use Rattle.std.specs.List.{All};
+ghost use Rattle.semantics.specs.Limits.{max_loops};
 ghost use Rattle.semantics.specs.Summary.{Summary as Definition};
 ghost use Rattle.semantics.specs.Time.{last};
 ghost use Rattle.path_summary.specs.Carried.{carried, counters_after, identity, kept, raised_at};
@@ -13,6 +14,9 @@ use crate::action::Action;
 use arrayvec::ArrayVec;
 use loop_context::MAX_LOOPS;
 use std::marker::Model;
+
+/// The most counters that a summary carries others to: those that it keeps, those that it appends, and one that an action may add.
+const MAX_CARRIED: usize = 2 * MAX_LOOPS + 1;
 
 /// Keep so many counters, add to the last of these, append the tail.
 #[derive(Drop)]
@@ -56,7 +60,7 @@ impl Summary {
     }
 
     fn entered(&self) -> Summary
-        requires { length self.now.tail < 8 }
+        requires { length self.now.tail < max_loops }
         ensures { Follows (action_of Action.Enter) self.now result }
     {
         let mut after = self.copied();
@@ -69,7 +73,7 @@ impl Summary {
         ensures { Follows (action_of Action.Leave) self.now result }
     {
         let mut tail = copied_counters(self.tail.as_slice());
-        if tail.pop().is_some() {
+        if let Some(_) = tail.pop() {
             return Summary {
                 keep: self.keep,
                 add: self.add,
@@ -140,7 +144,7 @@ impl Summary {
 
     /// Whether this one, and then the action, carry these counters to ones at or before those.
     pub fn reaches(&self, action: Action, counters: &[u32], until: &[u32]) -> bool
-        requires { length counters.now ≤ 8 }
+        requires { length counters.now ≤ max_loops }
         ensures { result ≡ in_order (counters_after (action_of action) (carried self.now counters.now)) until.now }
     {
         let mut carried = self.carried(counters);
@@ -148,10 +152,10 @@ impl Summary {
         in_order_wide(carried.as_slice(), until)
     }
 
-    fn carried(&self, counters: &[u32]) -> ArrayVec<u64, 17>
-        requires { length counters.now ≤ 8 }
+    fn carried(&self, counters: &[u32]) -> ArrayVec<u64, MAX_CARRIED>
+        requires { length counters.now ≤ max_loops }
         ensures items { result.items ≡ carried self.now counters.now }
-        ensures few { length result.items ≤ 16 }
+        ensures few { length result.items ≤ max_loops + max_loops }
         ensures small { All (λ c. c < 2 ^ 33) result.items }
     {
         let mut out = ArrayVec::new();
@@ -165,7 +169,7 @@ impl Summary {
 
 /// The same counters.
 fn copied_counters(counters: &[u32]) -> ArrayVec<u32, MAX_LOOPS>
-    requires { length counters.now ≤ 8 }
+    requires { length counters.now ≤ max_loops }
     ensures { result.items ≡ counters.now }
 {
     let mut copied = ArrayVec::new();
@@ -222,8 +226,8 @@ fn raise_last(keep: u32, add: u32, counter: u32) -> u64
 
 /// Appends the kept counters.
 #[tactic(auto, using(crate::proofs::Carrying::kept_none))]
-fn push_kept(out: &mut ArrayVec<u64, 17>, keep: u32, add: u32, counters: &[u32])
-    requires { length out.old.items + length counters.now ≤ 8 }
+fn push_kept(out: &mut ArrayVec<u64, MAX_CARRIED>, keep: u32, add: u32, counters: &[u32])
+    requires { length out.old.items + length counters.now ≤ max_loops }
     ensures items { out.new.items ≡ out.old.items ++ kept keep add counters.now }
     ensures few { length out.new.items ≤ length out.old.items + length counters.now }
     ensures small { All (λ c. c < 2 ^ 33) out.old.items → All (λ c. c < 2 ^ 33) out.new.items }
@@ -242,8 +246,8 @@ fn push_kept(out: &mut ArrayVec<u64, 17>, keep: u32, add: u32, counters: &[u32])
 
 /// What an action does to counters.
 #[tactic(auto, using(crate::proofs::Carrying::popped_front, crate::proofs::Carrying::popped_last))]
-fn act(counters: &mut ArrayVec<u64, 17>, action: Action)
-    requires few { length counters.old.items ≤ 16 }
+fn act(counters: &mut ArrayVec<u64, MAX_CARRIED>, action: Action)
+    requires few { length counters.old.items ≤ max_loops + max_loops }
     requires small { All (λ c. c < 2 ^ 33) counters.old.items }
     ensures { counters.new.items ≡ counters_after (action_of action) counters.old.items }
 {

@@ -6,7 +6,7 @@ use Rattle.std.proofs.lemmas.Option.{get_or_from_slice_get}
 use Rattle.std.proofs.lemmas.Bool.{cases_lt}
 use Rattle.std.proofs.lemmas.Slice.Eq.{bytes_eq-Decides}
 use Rattle.record_core.specs.declared.keyword.Keyword.{Keyword}
-use Rattle.record_core.specs.declared.keyword.Keyword.TheVariants.{Input, Let, Output, Select, Where, Concat, Join, Group, Distinct, Iterate, Count, Sum, Min, Max, And, Or, Not, Epoch}
+use Rattle.record_core.specs.declared.keyword.Keyword.TheVariants.{Input, Let, Output, Select, Where, Concat, Join, Group, Distinct, Except, Intersect, Iterate, Count, Sum, Min, Max, And, Or, Not, Epoch}
 use Rattle.record_core.specs.declared.keyword.TheConstants.{KEYWORDS}
 use Rattle.record_core.specs.Names.{keyword_text}
 
@@ -26,7 +26,7 @@ not_there ks word text n before e f k i lt at is = elim (cases_lt i n) [
 ]
 
 -- where a keyword stands in the table
-pub place : (k : Keyword) → (i : ℕ) × (i < 18) × (slice_get KEYWORDS i ≡ Some k)
+pub place : (k : Keyword) → (i : ℕ) × (i < 20) × (slice_get KEYWORDS i ≡ Some k)
 place Input = (0, omega arith, refl)
 place Let = (1, omega arith, refl)
 place Output = (2, omega arith, refl)
@@ -36,15 +36,17 @@ place Concat = (5, omega arith, refl)
 place Join = (6, omega arith, refl)
 place Group = (7, omega arith, refl)
 place Distinct = (8, omega arith, refl)
-place Iterate = (9, omega arith, refl)
-place Count = (10, omega arith, refl)
-place Sum = (11, omega arith, refl)
-place Min = (12, omega arith, refl)
-place Max = (13, omega arith, refl)
-place And = (14, omega arith, refl)
-place Or = (15, omega arith, refl)
-place Not = (16, omega arith, refl)
-place Epoch = (17, omega arith, refl)
+place Except = (9, omega arith, refl)
+place Intersect = (10, omega arith, refl)
+place Iterate = (11, omega arith, refl)
+place Count = (12, omega arith, refl)
+place Sum = (13, omega arith, refl)
+place Min = (14, omega arith, refl)
+place Max = (15, omega arith, refl)
+place And = (16, omega arith, refl)
+place Or = (17, omega arith, refl)
+place Not = (18, omega arith, refl)
+place Epoch = (19, omega arith, refl)
 
 -- the first keyword of a table with a spelling
 abbrev keyword_at : List ℕ → List Keyword → Keyword
@@ -61,6 +63,8 @@ found_back Concat = refl
 found_back Join = refl
 found_back Group = refl
 found_back Distinct = refl
+found_back Except = refl
+found_back Intersect = refl
 found_back Iterate = refl
 found_back Count = refl
 found_back Sum = refl

@@ -15,6 +15,8 @@ pub enum Keyword {
     Join,
     Group,
     Distinct,
+    Except,
+    Intersect,
     Iterate,
     Count,
     Sum,
@@ -26,7 +28,7 @@ pub enum Keyword {
     Epoch,
 }
 
-const KEYWORDS: [Keyword; 18] = [
+const KEYWORDS: [Keyword; 20] = [
     Keyword::Input,
     Keyword::Let,
     Keyword::Output,
@@ -36,6 +38,8 @@ const KEYWORDS: [Keyword; 18] = [
     Keyword::Join,
     Keyword::Group,
     Keyword::Distinct,
+    Keyword::Except,
+    Keyword::Intersect,
     Keyword::Iterate,
     Keyword::Count,
     Keyword::Sum,
@@ -62,6 +66,8 @@ impl Keyword {
             Keyword::Join => b"join",
             Keyword::Group => b"group",
             Keyword::Distinct => b"distinct",
+            Keyword::Except => b"except",
+            Keyword::Intersect => b"intersect",
             Keyword::Iterate => b"iterate",
             Keyword::Count => b"count",
             Keyword::Sum => b"sum",

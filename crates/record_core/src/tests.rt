@@ -62,6 +62,7 @@ fn names(rt: HostRuntime) {
 #[test]
 fn keywords(rt: HostRuntime) {
     assert_eq!(rt; Keyword::of(b"distinct"), Some(Keyword::Distinct));
+    assert_eq!(rt; Keyword::of(b"except"), Some(Keyword::Except));
     assert_eq!(rt; Keyword::of(b"not"), Some(Keyword::Not));
     for text in ["", "Let", "le", "lets", "name"] {
         assert_eq!(rt; Keyword::of(text.as_bytes()), None, "{text}");

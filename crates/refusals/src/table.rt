@@ -1,4 +1,4 @@
-//! The table of the refusals, in the order of their codes.
+//! The table of the refusals, in three parts: a part is as long as one proof can well compute with.
 
 ghost use Rattle.std.specs.Prelude.{◌≡◌, ◌==◌, option_map, IfSome};
 ghost use Rattle.std.specs.List.{find};
@@ -6,7 +6,7 @@ ghost use Rattle.std.specs.List.{find};
 /// What a refusal means. Texts are UTF-8; a sentence of `text` is a line.
 #[derive(Clone, Copy, Debug, PartialEq, Eq)]
 pub struct Explanation {
-    /// The number by which it is told: 1 to 21 of queries, 31 to 38 of a schedule's steps, 41 to 47 of the lines of inputs, of which 43,
+    /// The number by which it is told: 1 to 23 of queries, 31 to 38 of a schedule's steps, 41 to 47 of the lines of inputs, of which 43,
     /// 44 and 46 are told of a schedule's lines too.
     pub code: u8,
     /// What is wrong, in a phrase.
@@ -23,10 +23,10 @@ pub struct Explanation {
 }
 
 /// The numbers that refusals have, in words.
-pub const NUMBERS: &str = "1 to 6, 11 to 19, 21, 31 to 38 and 41 to 47";
+pub const NUMBERS: &str = "1 to 6, 11 to 21, 23, 31 to 38 and 41 to 47";
 
-/// The refusals, each code once, in ascending order.
-pub static EXPLANATIONS: [Explanation; 31] = [
+/// The refusals of a query, each code once, in ascending order.
+pub static OF_QUERIES: [Explanation; 18] = [
     Explanation {
         code: 1,
         summary: "a byte that begins no word, `#` without a number, `!` without `=`",
@@ -55,7 +55,7 @@ pub static EXPLANATIONS: [Explanation; 31] = [
         code: 4,
         summary: "a word that can't stand here, or the text ends too early",
         place: "the word, or the end of the text",
-        text: "Up to this word the text could still become a query, and with it no more.\nOften a `;`, a `,` or a bracket is missing just before it, or a word of the language stands where a name should.\nInputs come first, then lets, then the one output.",
+        text: "Up to this word the text could still become a query, and with it no more.\nOften a `;`, a `,` or a bracket is missing just before it, or a word of the language stands where a name should.\nInputs come first, then lets, then one output or more.",
         wrong: "input a/1 output a;",
         right: "input a/1; output a;",
     },
@@ -101,9 +101,9 @@ pub static EXPLANATIONS: [Explanation; 31] = [
     },
     Explanation {
         code: 14,
-        summary: "`concat` of relations of different arities",
+        summary: "`concat`, `except` or `intersect` of relations of different arities",
         place: "the whole form",
-        text: "`concat` puts the records of both relations together, so both must have the same number of fields.\nA `select` brings one of them to the fields that the other has.",
+        text: "These forms bring the records of two relations together, so both must have the same number of fields.\nA `select` brings one of them to the fields that the other has.",
         wrong: "input a/1; input b/2; output concat(a, b);",
         right: "input a/1; input b/2; output concat(a, select(b; #0));",
     },
@@ -125,19 +125,19 @@ pub static EXPLANATIONS: [Explanation; 31] = [
     },
     Explanation {
         code: 17,
-        summary: "over 1024 turns",
+        summary: "over 65535 turns",
         place: "the number",
-        text: "A loop takes 0 to 1024 turns.\nA loop in the body of another one takes its turns at each turn of the outer one, so two of them together can take more.",
-        wrong: "input a/1; output iterate(1025; x = a; x);",
-        right: "input a/1; output iterate(1024; x = a; x);",
+        text: "A loop takes 0 to 65535 turns.\nA loop in the body of another one takes its turns at each turn of the outer one, so two of them together can take more.",
+        wrong: "input a/1; output iterate(65536; x = a; x);",
+        right: "input a/1; output iterate(65535; x = a; x);",
     },
     Explanation {
         code: 18,
-        summary: "loops over 8 deep",
+        summary: "loops over 16 deep",
         place: "the whole form",
-        text: "A loop can stand in the bodies of at most 7 others.\nA loop that doesn't read the variables of those outside it can be named by a `let` before them.",
-        wrong: "input a/1; output iterate(1; b = a; iterate(1; c = a; iterate(1; d = a; iterate(1; e = a; iterate(1; f = a; iterate(1; g = a; iterate(1; h = a; iterate(1; i = a; iterate(1; j = a; j)))))))));",
-        right: "input a/1; output iterate(1; b = a; iterate(1; c = a; iterate(1; d = a; iterate(1; e = a; iterate(1; f = a; iterate(1; g = a; iterate(1; h = a; iterate(1; i = a; i))))))));",
+        text: "A loop can stand in the bodies of at most 15 others.\nA loop that doesn't read the variables of those outside it can be named by a `let` before them.",
+        wrong: "input a/1; output iterate(1; b = a; iterate(1; c = a; iterate(1; d = a; iterate(1; e = a; iterate(1; f = a; iterate(1; g = a; iterate(1; h = a; iterate(1; i = a; iterate(1; j = a; iterate(1; k = a; iterate(1; l = a; iterate(1; m = a; iterate(1; n = a; iterate(1; o = a; iterate(1; p = a; iterate(1; q = a; iterate(1; r = a; r)))))))))))))))));",
+        right: "input a/1; output iterate(1; b = a; iterate(1; c = a; iterate(1; d = a; iterate(1; e = a; iterate(1; f = a; iterate(1; g = a; iterate(1; h = a; iterate(1; i = a; iterate(1; j = a; iterate(1; k = a; iterate(1; l = a; iterate(1; m = a; iterate(1; n = a; iterate(1; o = a; iterate(1; p = a; iterate(1; q = a; q))))))))))))))));",
     },
     Explanation {
         code: 19,
@@ -148,6 +148,14 @@ pub static EXPLANATIONS: [Explanation; 31] = [
         right: "input a/1; input b/1; input c/1; input d/1; input e/1; input f/1; input g/1; input h/1; input i/1; input j/1; input k/1; input l/1; input m/1; input n/1; input o/1; input p/1; output a;",
     },
     Explanation {
+        code: 20,
+        summary: "a name that an earlier output has",
+        place: "the name, or the word `output` where no name is given",
+        text: "No two outputs have one name, and an output without a name is called `out`.\nThe names of outputs are apart from all others: an output may have the name of an input, a `let` or a loop's variable.",
+        wrong: "input a/1; output a; output distinct(a);",
+        right: "input a/1; output a; output once = distinct(a);",
+    },
+    Explanation {
         code: 21,
         summary: "a dataflow graph of over 4096 vertices",
         place: "",
@@ -155,6 +163,18 @@ pub static EXPLANATIONS: [Explanation; 31] = [
         wrong: "",
         right: "",
     },
+    Explanation {
+        code: 23,
+        summary: "over 16 outputs",
+        place: "the 17th output's word `output`",
+        text: "A query has 1 to 16 outputs.\nOutputs with the same number of fields can be one, the `concat` of them, with one more field that tells them apart.",
+        wrong: "input a/1; output a = a; output b = a; output c = a; output d = a; output e = a; output f = a; output g = a; output h = a; output i = a; output j = a; output k = a; output l = a; output m = a; output n = a; output o = a; output p = a; output q = a;",
+        right: "input a/1; output a = a; output b = a; output c = a; output d = a; output e = a; output f = a; output g = a; output h = a; output i = a; output j = a; output k = a; output l = a; output m = a; output n = a; output o = a; output p = a;",
+    },
+];
+
+/// The refusals of a schedule's steps, each code once, in ascending order.
+pub static OF_STEPS: [Explanation; 8] = [
     Explanation {
         code: 31,
         summary: "a step on an input that is closed",
@@ -219,6 +239,10 @@ pub static EXPLANATIONS: [Explanation; 31] = [
         wrong: "",
         right: "",
     },
+];
+
+/// The refusals of lines, each code once, in ascending order.
+pub static OF_LINES: [Explanation; 7] = [
     Explanation {
         code: 41,
         summary: "a record before the first `epoch` line",
@@ -285,9 +309,34 @@ pub fn row_of(rows: &'static [Explanation], code: u8) -> Option<&'static Explana
     rows.iter().find(|row| row.code == code)
 }
 
-/// The table's row of a code: what `row_of` finds in `EXPLANATIONS`, which no clause can name.
+/// The row of a query's refusal.
+fn of_query(code: u8) -> Option<&'static Explanation>
+    ensures { IfSome result (λ e. e.now.code ≡ code) }
+{
+    row_of(&OF_QUERIES, code)
+}
+
+/// The row of a step's refusal.
+fn of_step(code: u8) -> Option<&'static Explanation>
+    ensures { IfSome result (λ e. e.now.code ≡ code) }
+{
+    row_of(&OF_STEPS, code)
+}
+
+/// The row of a line's refusal.
+fn of_line(code: u8) -> Option<&'static Explanation>
+    ensures { IfSome result (λ e. e.now.code ≡ code) }
+{
+    row_of(&OF_LINES, code)
+}
+
+/// The table's row of a code: what `row_of` finds in its part of the table, which no clause can name.
 pub fn explanation_of(code: u8) -> Option<&'static Explanation>
     ensures { IfSome result (λ e. e.now.code ≡ code) }
 {
-    row_of(&EXPLANATIONS, code)
+    match code {
+        0..=30 => of_query(code),
+        31..=40 => of_step(code),
+        41..=255 => of_line(code),
+    }
 }

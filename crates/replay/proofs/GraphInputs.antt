@@ -4,19 +4,18 @@ use Rattle.std.specs.Prelude.{option_map, slice_get, slice_index_or}
 use Rattle.std.proofs.Math.Logic.{∥∥₁_elim}
 use Rattle.std.proofs.Math.Nat.{ℕ_set}
 use Rattle.std.proofs.Math.Bridge.{le_prop}
-use Rattle.semantics.specs.Kinds.{Kind}
 use Rattle.board.proofs.Ended.{few_inputs}
 use Rattle.std.proofs.lemmas.Option.{slice_get_within, get_or_from_slice_get, slice_get-map}
 use Rattle.semantics.specs.Query.{Input, Program}
 use Rattle.semantics.specs.Graph.{Graph, Vertex, input_count}
-use Rattle.semantics.specs.Lower.{lowered, input_vertices, lets_of, new_vertex, output_of}
+use Rattle.semantics.specs.Lower.{lowered, input_vertices, lets_of, outputs_of}
 use Rattle.semantics.specs.PortArity.{program_arities}
 use Rattle.lowering.specs.Shown.{GraphValue, shown_graph, shown_inputs, shown_arities}
 use Rattle.lowering.specs.GraphLaws.{HasProgramArities}
 use Rattle.replay.specs.Steps.{AreInputsOf}
 
 abbrev rest_of : Program → List Vertex
-rest_of p = (lets_of p).made ++ ((output_of p).made ++ (new_vertex Kind.output 0 ((output_of p).gives ∷ []) ∷ []))
+rest_of p = (lets_of p).made ++ outputs_of p
 
 counted : (as' : List Input) (rest : List Vertex) → length as' ≤ input_count (input_vertices as' ++ rest)
 counted [] rest = omega arith

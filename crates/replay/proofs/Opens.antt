@@ -1,6 +1,6 @@
 -- On a board that has just been opened.
 use Rattle.std.proofs.Common.{◌≡◌, ◌∙◌, ℕ, List, length, refl, ap, subst}
-use Rattle.lowering.specs.Shown.{GraphValue, shown_graph, shown_inputs}
+use Rattle.lowering.specs.Shown.{GraphValue, shown_graph, shown_inputs, shown_names}
 use Rattle.machine.specs.World.{World, opening}
 use Rattle.board.specs.Shown.{Shown}
 use Rattle.board.specs.Showing.{Shows}
@@ -11,10 +11,10 @@ use Rattle.replay.specs.Hands.{HoldsNone}
 use Rattle.replay.specs.Replays.{Replays, Setting}
 use Rattle.replay.specs.Steps.{AnswersText, setting_of}
 
-set : (s : Shown) (g : GraphValue) (n : ℕ) → s.graph ≡ g → length s.sides ≡ n → setting_of s ≡ record { graph = shown_graph g; workers = n; inputs = shown_inputs g }
+set : (s : Shown) (g : GraphValue) (n : ℕ) → s.graph ≡ g → length s.sides ≡ n → setting_of s ≡ record { graph = shown_graph g; workers = n; inputs = shown_inputs g; outputs = shown_names g }
 set s g n same count =
-    ap (λ x. record { graph = shown_graph x; workers = length s.sides; inputs = shown_inputs x }) same
-    ∙ ap (λ (k : ℕ). record { graph = shown_graph g; workers = k; inputs = shown_inputs g }) count
+    ap (λ x. record { graph = shown_graph x; workers = length s.sides; inputs = shown_inputs x; outputs = shown_names x }) same
+    ∙ ap (λ (k : ℕ). record { graph = shown_graph g; workers = k; inputs = shown_inputs g; outputs = shown_names g }) count
 
 pub opened_replays : (g h : GraphValue) (workers : ℕ) (s : Shown) (text answer : List ℕ) (commands : List Command) → IsOpening h workers s → h ≡ g → IsScheduleText text commands → Shows s opening
     → ((w : World) → Shows s w → HoldsNone w (length s.sides) → (v : World) × Replays (setting_of s) w commands v answer) → AnswersText g workers text answer

@@ -1,7 +1,7 @@
 -- Lines done one after another.
 use Rattle.std.proofs.Common.{◌≡◌, ◌<◌, ◌+◌, ◌∙◌, ℕ, List, [], ◌∷◌, ◌++◌, length, Option, map, refl, sym, ap, subst, append_assoc}
 use Rattle.std.specs.Prelude.{Result, Ok, Err}
-use Rattle.lowering.specs.Shown.{shown_graph, shown_inputs}
+use Rattle.lowering.specs.Shown.{shown_graph, shown_inputs, shown_names}
 use Rattle.machine.specs.World.{World}
 use Rattle.events.specs.Jobs.{Pass}
 use Rattle.board.specs.Shown.{Shown}
@@ -18,8 +18,8 @@ pub setting_same : (s t : Shown) → Stays s t → setting_of t ≡ setting_of s
 setting_same s t h =
     let g = h.graph in
     let n = h.workers in
-    ap (λ x. record { graph = shown_graph x; workers = length t.sides; inputs = shown_inputs x }) g
-    ∙ ap (λ (k : ℕ). record { graph = shown_graph s.graph; workers = k; inputs = shown_inputs s.graph }) n
+    ap (λ x. record { graph = shown_graph x; workers = length t.sides; inputs = shown_inputs x; outputs = shown_names x }) g
+    ∙ ap (λ (k : ℕ). record { graph = shown_graph s.graph; workers = k; inputs = shown_inputs s.graph; outputs = shown_names s.graph }) n
 
 -- from whatever world the board showed at first, the lines lead to one that it shows now
 pub record Replayed (s t : Shown) (old new : List (Option Pass)) (commands : List Command) (text : List ℕ) : Type 0 where

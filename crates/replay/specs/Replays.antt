@@ -1,9 +1,9 @@
 -- What a schedule does to the engine's world, line by line, and what it prints.
-use Rattle.std.specs.Prelude.{◌≡◌, ◌<◌, ◌⊎◌, ℕ, ℤ, true, false, List, [], ◌∷◌, ◌++◌, length, codes, decimal}
+use Rattle.std.specs.Prelude.{◌≡◌, ◌<◌, ◌⊎◌, ℕ, ◌+◌, ℤ, Bool, true, false, List, [], ◌∷◌, ◌++◌, length, codes, decimal}
 use Rattle.std.specs.List.{flat_map}
 use Rattle.record_core.specs.Records.{IsRecord}
 use Rattle.semantics.specs.Multiset.{Record, IsPartOf, ◌≈◌}
-use Rattle.semantics.specs.Query.{Input, Program}
+use Rattle.semantics.specs.Query.{Input, Name, Program}
 use Rattle.semantics.specs.Typing.{WellTyped}
 use Rattle.semantics.specs.Graph.{Graph, output_number}
 use Rattle.semantics.specs.Lower.{lowered}
@@ -15,22 +15,23 @@ use Rattle.machine.specs.Frontier.{Passed}
 use Rattle.machine.specs.Engine.{network}
 use Rattle.machine.specs.Headline.{meant}
 use Rattle.collector.specs.Lines.{IsInput, IsAbsent, MakeRecord}
-use Rattle.collector.specs.OutputText.{IsInOrder, record_line}
+use Rattle.collector.specs.OutputText.{IsInOrder, is_plain, record_line}
 use Rattle.schedule.specs.Commands.{Command}
 
--- what a schedule runs on: a graph on so many workers, and the graph's inputs in order
+-- what a schedule runs on: a graph on so many workers, and the graph's inputs and the names of its outputs, in order
 pub record Setting : Type 0 where
   pub graph : Graph
   pub workers : ℕ
   pub inputs : List Input
+  pub outputs : List Name
 
 abbrev pub net_of : Setting → Network
 net_of s = network s.graph s.workers
 
 -- the setting's graph is that of this well-typed program
 pub record IsGraphOf (s : Setting) (p : Program) : Type 0 where
-  pub arity : ℕ
-  pub typed : WellTyped p arity
+  pub arities : List ℕ
+  pub typed : WellTyped p arities
   pub graph : s.graph ≡ lowered p
 
 -- ---- refusals: each is told by its number, the first in the order written here
@@ -71,32 +72,48 @@ HasNothingHeld s w worker = (event : Event) → worker < s.workers → w.held wo
 abbrev pub refusal_line : ℕ → List ℕ
 refusal_line code = codes "refused " ++ decimal code ++ 10 ∷ []
 
--- whether an epoch has passed, with the word for it
-pub data HasWord (s : Setting) (w : World) (epoch : ℕ) : (word : List ℕ) → Type 0 where
-  has_passed : Passed (net_of s) w (output_number s.graph) epoch → HasWord s w epoch (codes " passed")
-  is_open : (Passed (net_of s) w (output_number s.graph) epoch → ⊥) → HasWord s w epoch (codes " open")
+-- whether an epoch has passed at an output, with the word for it
+pub data HasWord (s : Setting) (w : World) (output epoch : ℕ) : (word : List ℕ) → Type 0 where
+  has_passed : Passed (net_of s) w (output_number s.graph output) epoch → HasWord s w output epoch (codes " passed")
+  is_open : (Passed (net_of s) w (output_number s.graph output) epoch → ⊥) → HasWord s w output epoch (codes " open")
 
--- the line of an epoch and a word
-abbrev pub heading : ℕ → List ℕ → List ℕ
-heading epoch word = codes "epoch " ++ decimal epoch ++ word ++ 10 ∷ []
+-- the line of an epoch, a label and a word
+abbrev pub heading : ℕ → (label word : List ℕ) → List ℕ
+heading epoch label word = codes "epoch " ++ (decimal epoch ++ (label ++ (word ++ 10 ∷ [])))
 
--- the records that were emitted for an epoch
-abbrev pub answer_of : Setting → World → (epoch : ℕ) → List Record
-answer_of s w epoch = w.emitted (output_number s.graph) epoch
+-- what tells an output: nothing where the only one is named `out`, and else a space and its name
+abbrev pub label_of : (plain : Bool) → Name → List ℕ
+label_of true name = []
+label_of false name = 32 ∷ name
 
--- the answer for an epoch so far is part of what the program means on what was fed for it, and all of it once the epoch has passed
-pub record KeepsPromise (s : Setting) (w : World) (epoch : ℕ) (p : Program) : Type 0 where
-  pub part : IsPartOf (answer_of s w epoch) (meant p w epoch)
-  pub whole : Passed (net_of s) w (output_number s.graph) epoch → answer_of s w epoch ≈ meant p w epoch
+-- the records that were emitted at an output for an epoch
+abbrev pub answer_of : Setting → World → (output epoch : ℕ) → List Record
+answer_of s w output epoch = w.emitted (output_number s.graph output) epoch
 
--- a line that says whether the epoch has passed, and the answer so far, each record on a line, in order
-pub record Tells (s : Setting) (w : World) (epoch : ℕ) (text : List ℕ) : Type 0 where
+-- the answer at an output for an epoch so far is part of what the program means there on what was fed for it, and all of it once the
+-- epoch has passed
+pub record KeepsPromise (s : Setting) (w : World) (output epoch : ℕ) (p : Program) : Type 0 where
+  pub part : IsPartOf (answer_of s w output epoch) (meant p w output epoch)
+  pub whole : Passed (net_of s) w (output_number s.graph output) epoch → answer_of s w output epoch ≈ meant p w output epoch
+
+-- a line that says whether the epoch has passed at an output, and the answer there so far, each record on a line, in order
+pub record TellsOutput (s : Setting) (w : World) (epoch output : ℕ) (label text : List ℕ) : Type 0 where
   pub word : List ℕ
-  pub says : HasWord s w epoch word
+  pub says : HasWord s w output epoch word
   pub rows : List Record
-  pub ordered : IsInOrder (answer_of s w epoch) rows
-  pub lines : text ≡ heading epoch word ++ flat_map record_line rows
-  pub promise : (p : Program) → IsGraphOf s p → KeepsPromise s w epoch p
+  pub ordered : IsInOrder (answer_of s w output epoch) rows
+  pub lines : text ≡ heading epoch label word ++ flat_map record_line rows
+  pub promise : (p : Program) → IsGraphOf s p → KeepsPromise s w output epoch p
+
+-- the same of each output of these names, from a place on
+abbrev pub TellsFrom : Setting → World → (epoch : ℕ) → (names : List Name) → (output : ℕ) → (text : List ℕ) → Type 0
+TellsFrom s w epoch [] output text = text ≡ []
+TellsFrom s w epoch (name ∷ names) output text =
+    (first rest : List ℕ) × TellsOutput s w epoch output (label_of (is_plain s.outputs) name) first × TellsFrom s w epoch names (output + 1) rest × (text ≡ first ++ rest)
+
+-- of all outputs
+abbrev pub Tells : Setting → World → (epoch : ℕ) → (text : List ℕ) → Type 0
+Tells s w epoch text = TellsFrom s w epoch s.outputs 0 text
 
 -- ---- what a line does
 

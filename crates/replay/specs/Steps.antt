@@ -3,7 +3,7 @@ use Rattle.std.specs.Prelude.{Bool, true, false, codes, ◌≡◌, ◌<◌, ◌�
 use Rattle.semantics.specs.Multiset.{Record}
 use Rattle.semantics.specs.Query.{Input}
 use Rattle.semantics.specs.Graph.{input_count}
-use Rattle.lowering.specs.Shown.{GraphValue, shown_graph, shown_inputs, shown_arities}
+use Rattle.lowering.specs.Shown.{GraphValue, shown_graph, shown_inputs, shown_names, shown_arities}
 use Rattle.machine.specs.Step.{Step}
 use Rattle.machine.specs.World.{World, opening}
 use Rattle.events.specs.Jobs.{Pass}
@@ -37,7 +37,7 @@ refusal_of r = told_by (refusal_code r)
 
 -- where the board's schedule runs
 abbrev pub setting_of : Shown → Setting
-setting_of s = record { graph = shown_graph s.graph; workers = length s.sides; inputs = shown_inputs s.graph }
+setting_of s = record { graph = shown_graph s.graph; workers = length s.sides; inputs = shown_inputs s.graph; outputs = shown_names s.graph }
 
 -- the inputs are the graph's, with the arities of its vertices
 pub record AreInputsOf (g : GraphValue) (inputs : List Input) : Type 0 where
@@ -96,4 +96,4 @@ pub record AnswersText (g : GraphValue) (workers : ℕ) (text answer : List ℕ)
   pub commands : List Command
   pub read : IsScheduleText text commands
   pub last : World
-  pub replays : Replays (record { graph = shown_graph g; workers = workers; inputs = shown_inputs g }) opening commands last answer
+  pub replays : Replays (record { graph = shown_graph g; workers = workers; inputs = shown_inputs g; outputs = shown_names g }) opening commands last answer

@@ -1,16 +1,20 @@
 //! What is printed.
 
-ghost use Rattle.std.specs.Prelude.{◌≡◌, ◌++◌, ℕ, List, OnOk, decimal};
+ghost use Rattle.std.specs.Prelude.{◌≡◌, ◌++◌, ℕ, List, OnOk, decimal, map};
 ghost use Rattle.machine.specs.World.{World};
 ghost use Rattle.board.specs.Showing.{Shows};
-ghost use Rattle.replay.specs.Replays.{Tells, heading, refusal_line};
+ghost use Rattle.board.specs.Promises.{IsOutputPlace};
+ghost use Rattle.lowering.specs.Views.{name_of_output};
+ghost use Rattle.collector.specs.OutputText.{is_plain};
+ghost use Rattle.replay.specs.Replays.{Tells, TellsOutput, heading, label_of, refusal_line};
 ghost use Rattle.replay.specs.Steps.{setting_of, word_of};
 
 use board::Board;
 use collector::push_sorted;
 use itoa::Buffer;
-use lowering::VertexId;
+use lowering::GraphOutput;
 use progress::Progress;
+use record_core::Name;
 use std::alloc::{AllocError, Global};
 
 fn push_text(out: &mut Vec<u8>, text: &[u8]) -> Result<(), AllocError>
@@ -43,17 +47,56 @@ fn passed_word(has_passed: bool) -> &'static [u8]
     if has_passed { b" passed" } else { b" open" }
 }
 
-/// Appends the line of an epoch.
-fn push_heading(out: &mut Vec<u8>, epoch: u64, has_passed: bool) -> Result<(), AllocError>
-    ensures { OnOk result (out.new.items ≡ out.old.items ++ heading epoch (word_of has_passed)) }
+/// Appends the line of an epoch, at an output that is told by a label.
+fn push_heading(
+    out: &mut Vec<u8>,
+    epoch: u64,
+    plain: bool,
+    name: &Name,
+    has_passed: bool,
+) -> Result<(), AllocError>
+    ensures { OnOk result (out.new.items ≡ out.old.items ++ heading epoch (label_of plain name.now) (word_of has_passed)) }
 {
     push_text(out, b"epoch ")?;
     push_number(out, epoch)?;
+    if !plain {
+        push_text(out, b" ")?;
+        push_text(out, name.bytes())?;
+    }
     push_text(out, passed_word(has_passed))?;
     push_text(out, b"\n")
 }
 
-/// Appends whether the epoch has passed, and what was emitted for it so far.
+/// Whether the only output is named `out`.
+fn are_plain(outputs: &[GraphOutput]) -> bool
+    ensures { result ≡ is_plain (map name_of_output outputs.now) }
+{
+    match outputs {
+        [only] => only.name.bytes() == b"out".as_slice(),
+        _ => false,
+    }
+}
+
+/// Appends whether the epoch has passed at an output, and what was emitted there for it so far.
+fn push_output<P: Progress>(
+    alloc: Global,
+    board: &Board<P>,
+    epoch: u32,
+    output: u32,
+    plain: bool,
+    name: &Name,
+    out: &mut Vec<u8>,
+) -> Result<(), AllocError>
+    requires { IsOutputPlace board.now output }
+    ensures { OnOk result ((text : List ℕ) × (out.new.items ≡ out.old.items ++ text) × ((w : World) → Shows board.now w → TellsOutput (setting_of board.now) w epoch output (label_of plain name.now) text)) }
+{
+    board.law_headline();
+    push_heading(out, epoch as u64, plain, name, board.passed(output, epoch))?;
+    push_sorted(alloc, out, board.emitted(output, epoch))?;
+    Ok(())
+}
+
+/// Appends, of each output, whether the epoch has passed there, and what was emitted for it so far.
 pub fn push_answer<P: Progress>(
     alloc: Global,
     board: &Board<P>,
@@ -62,9 +105,11 @@ pub fn push_answer<P: Progress>(
 ) -> Result<(), AllocError>
     ensures { OnOk result ((text : List ℕ) × (out.new.items ≡ out.old.items ++ text) × ((w : World) → Shows board.now w → Tells (setting_of board.now) w epoch text)) }
 {
-    board.law_headline();
-    let output = VertexId((board.graph().vertex_count() as u32).saturating_sub(1));
-    push_heading(out, epoch as u64, board.passed(epoch))?;
-    push_sorted(alloc, out, board.emitted(output, epoch))?;
+    let outputs = board.graph().outputs();
+    let plain = are_plain(outputs);
+    for output in 0..board.output_count() {
+        let name = &outputs[output as usize].name;
+        push_output(alloc, board, epoch, output, plain, name, out)?;
+    }
     Ok(())
 }

@@ -1,8 +1,10 @@
 -- The graphs of the example programs, vertex by vertex, by computation.
-use Rattle.std.proofs.Common.{◌≡◌, [], ◌∷◌, refl}
+use Rattle.std.proofs.Common.{◌≡◌, [], ◌∷◌, pos, refl}
+use Rattle.semantics.specs.Query.{Scalar, Comparison, Cond}
 use Rattle.semantics.specs.Kinds.{Kind}
-use Rattle.semantics.specs.Lower.{lower, lower_lets, lowered, port, new_vertex}
-use Rattle.semantics.specs.Examples.{first_plus_1, two_turns, outer_name, outer_name_in_loops}
+use Rattle.semantics.specs.Graph.{output_numbers}
+use Rattle.semantics.specs.Lower.{lower, lower_lets, lower_outputs, lowered, port, new_vertex}
+use Rattle.semantics.specs.Examples.{first_plus_1, two_turns, outer_name, outer_name_in_loops, in_a_alone, small_and_all}
 
 pub graph_of_two_turns : lowered two_turns ≡
     new_vertex Kind.input 0 []
@@ -14,7 +16,7 @@ pub graph_of_two_turns : lowered two_turns ≡
     ∷ new_vertex Kind.egress 1 (port 3 1 ∷ [])
     ∷ new_vertex Kind.output 0 (port 6 0 ∷ [])
     ∷ []
-unfolding lowered lower lower_lets
+unfolding lowered lower lower_lets lower_outputs
 graph_of_two_turns = refl
 
 pub graph_of_outer_name : lowered outer_name ≡
@@ -31,7 +33,7 @@ pub graph_of_outer_name : lowered outer_name ≡
     ∷ new_vertex Kind.egress 1 (port 4 1 ∷ [])
     ∷ new_vertex Kind.output 0 (port 10 0 ∷ [])
     ∷ []
-unfolding lowered lower lower_lets
+unfolding lowered lower lower_lets lower_outputs
 graph_of_outer_name = refl
 
 pub graph_of_loops : lowered outer_name_in_loops ≡
@@ -58,5 +60,27 @@ pub graph_of_loops : lowered outer_name_in_loops ≡
     ∷ new_vertex Kind.egress 1 (port 4 1 ∷ [])
     ∷ new_vertex Kind.output 0 (port 20 0 ∷ [])
     ∷ []
-unfolding lowered lower lower_lets
+unfolding lowered lower lower_lets lower_outputs
 graph_of_loops = refl
+
+pub graph_of_in_a_alone : lowered in_a_alone ≡
+    new_vertex Kind.input 0 []
+    ∷ new_vertex Kind.input 0 []
+    ∷ new_vertex Kind.except 0 (port 0 0 ∷ port 1 0 ∷ [])
+    ∷ new_vertex Kind.output 0 (port 2 0 ∷ [])
+    ∷ []
+unfolding lowered lower lower_lets lower_outputs
+graph_of_in_a_alone = refl
+
+pub graph_of_small_and_all : lowered small_and_all ≡
+    new_vertex Kind.input 0 []
+    ∷ new_vertex (Kind.filter (Cond.compare Comparison.less (Scalar.column 0) (Scalar.literal (pos 5)))) 0 (port 0 0 ∷ [])
+    ∷ new_vertex Kind.output 0 (port 1 0 ∷ [])
+    ∷ new_vertex Kind.output 0 (port 0 0 ∷ [])
+    ∷ []
+unfolding lowered lower lower_lets lower_outputs
+graph_of_small_and_all = refl
+
+pub outputs_of_small_and_all : output_numbers (lowered small_and_all) ≡ 2 ∷ 3 ∷ []
+unfolding lowered lower lower_lets lower_outputs
+outputs_of_small_and_all = refl

@@ -3,7 +3,7 @@ use Rattle.std.specs.Prelude.{ℕ, suc, ◌≤◌, ◌<◌, List, [], ◌∷◌,
 use Rattle.semantics.specs.Multiset.{IsAmong}
 use Rattle.semantics.specs.FreeNames.{free}
 use Rattle.semantics.specs.Limits.{max_loops}
-use Rattle.semantics.specs.Query.{Name, Rel, Input, Let, Program}
+use Rattle.semantics.specs.Query.{Name, Rel, Input, Let, Output, Program}
 use Rattle.semantics.specs.Time.{turn_count}
 
 -- each name that occurs free is known
@@ -19,9 +19,11 @@ Limited (Rel.concat p q) = Limited p × Limited q
 Limited (Rel.join p q ps) = Limited p × Limited q
 Limited (Rel.group r ks as') = Limited r
 Limited (Rel.distinct r) = Limited r
+Limited (Rel.except p q) = Limited p × Limited q
+Limited (Rel.intersect p q) = Limited p × Limited q
 Limited (Rel.iterate n x r b) = (n < turn_count) × Limited r × Limited b
 
--- at most 8 loops inside one another, where d are already open
+-- no more loops inside one another than may be, where d are already open
 abbrev pub Nested : ℕ → Rel → Type 0
 Nested d (Rel.named x) = Unit {0}
 Nested d (Rel.select r ss) = Nested d r
@@ -30,6 +32,8 @@ Nested d (Rel.concat p q) = Nested d p × Nested d q
 Nested d (Rel.join p q ps) = Nested d p × Nested d q
 Nested d (Rel.group r ks as') = Nested d r
 Nested d (Rel.distinct r) = Nested d r
+Nested d (Rel.except p q) = Nested d p × Nested d q
+Nested d (Rel.intersect p q) = Nested d p × Nested d q
 Nested d (Rel.iterate n x r b) = Nested d r × (suc d ≤ max_loops) × Nested (suc d) b
 
 pub record FitsIn (xs : List Name) (r : Rel) : Type 0 where
@@ -48,6 +52,10 @@ names_after xs (a ∷ as') = names_after (a.name ∷ xs) as'
 abbrev pub input_list : List Input → List Name
 input_list as' = map (λ a. a.name) as'
 
+abbrev pub AllFit : List Name → List Output → Type 0
+AllFit xs [] = Unit {0}
+AllFit xs (o ∷ os) = FitsIn xs o.value × AllFit xs os
+
 pub record IsFitting (p : Program) : Type 0 where
   pub lets : LetsFit (input_list p.inputs) p.lets
-  pub output : FitsIn (names_after (input_list p.inputs) p.lets) p.output
+  pub outputs : AllFit (names_after (input_list p.inputs) p.lets) p.outputs

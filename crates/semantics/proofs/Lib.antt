@@ -4,6 +4,7 @@ pub mod LeastAndGreatest
 pub mod DistinctAndGroups
 pub mod KeyedParts
 pub mod CountsOfForms
+pub mod ExceptAndIntersect
 pub mod MeaningOfMultisets
 pub mod NamesAmong
 pub mod RulesKeepMeaning
@@ -30,6 +31,7 @@ pub mod LoweredRelations
 pub mod LoweredPrograms
 pub mod LoweredLoops
 pub mod QuietEnds
+pub mod OutputNumbers
 pub mod LoweredDataflow
 pub mod TypedPorts
 pub mod FieldsKept

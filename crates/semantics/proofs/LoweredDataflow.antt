@@ -1,5 +1,5 @@
 -- The graph of a well-typed program is a dataflow graph.
-use Rattle.std.proofs.Common.{◌≤◌, ◌≡◌, ℕ, zero, suc, ◌+◌, ◌<◌, Bool, true, false, List, [], ◌∷◌, ◌++◌, length, slice_index_or, refl, sym, ap, subst, ◌∙◌, arith, append_assoc, length-append, inl, inr, ◌⊎◌}
+use Rattle.std.proofs.Common.{◌≤◌, ◌≡◌, ℕ, zero, suc, ◌+◌, ◌<◌, true, false, cond, List, [], ◌∷◌, ◌++◌, length, slice_index_or, refl, sym, ap, ◌∙◌, arith, inl, inr, ◌⊎◌}
 use Rattle.std.proofs.lemmas.Bool.{true≢false}
 use Rattle.std.specs.List.{AllByRecursion}
 use Rattle.semantics.specs.FreeNames.{carried}
@@ -10,11 +10,11 @@ use Rattle.semantics.specs.Flow.{IsEdgeTime, HasOneFlow, Inputs, Flow, IsFlow}
 use Rattle.semantics.proofs.RankRises.{dataflow_one_flow}
 use Rattle.semantics.proofs.MultisetSums.{≈-trans, ≈-from}
 use Rattle.semantics.specs.Dataflow.{IsShaped, IsDataflow}
-use Rattle.semantics.specs.Kinds.{Kind, ends_turn, is_input}
-use Rattle.semantics.specs.Graph.{Vertex, Graph, no_vertex, vertex, input_count, output_number}
-use Rattle.semantics.proofs.LoweredPrograms.{output_vertex, at_length, length-input_vertices, lowered_means}
-use Rattle.semantics.specs.Lower.{Ports, stands_for, port, new_vertex, carry, carried_ports, lower, input_vertices, input_ports, lower_lets, lets_of, output_of, lowered}
-use Rattle.semantics.specs.Query.{Name, Rel, Input, Let, Program}
+use Rattle.semantics.specs.Kinds.{Kind, ends_turn, is_input, is_output}
+use Rattle.semantics.specs.Graph.{Port, Vertex, Graph, no_vertex, vertex, input_count, outputs_from, output_numbers, output_number}
+use Rattle.semantics.proofs.LoweredPrograms.{outputs_at, outputs_at_of, length-input_vertices, lowered_means}
+use Rattle.semantics.specs.Lower.{Ports, stands_for, port, new_vertex, carry, carried_ports, lower, input_vertices, input_ports, lower_lets, lets_of, lower_outputs, outputs_of, lowered}
+use Rattle.semantics.specs.Query.{Name, Rel, Input, Let, Output, Program}
 use Rattle.semantics.specs.Typing.{WellTyped}
 use Rattle.semantics.proofs.TypedPrograms.{typed_fits}
 use Rattle.semantics.proofs.QuietEnds.{lowered_quiet}
@@ -33,10 +33,6 @@ all_vertex : (P : Vertex → Type 0) (g : Graph) (v : ℕ) → AllByRecursion P 
 all_vertex P [] v a l = absurd (omega arith)
 all_vertex P (x ∷ g) zero a l = a.0
 all_vertex P (x ∷ g) (suc v) a l = all_vertex P g v a.1 (omega arith)
-
-is_output : Kind → Bool
-is_output Kind.output = true
-is_output _ = false
 
 -- neither input nor output
 record Inner (v : Vertex) : Type 0 where
@@ -58,18 +54,19 @@ two_inner : (vs ws : List Vertex) (v : Vertex) → AllInner vs → AllInner ws �
 two_inner vs ws v a b i = all_append Inner vs (ws ++ (v ∷ [])) a (one_inner ws v b i)
 
 carry_inner : (n : ℕ) (ports : Ports) (d k : ℕ) (ys : List Name) → AllInner (carry n ports d k ys)
-unfolding is_output
 carry_inner n ports d k [] = tt
 carry_inner n ports d k (y ∷ ys) = (plain_inner _ refl refl refl, (plain_inner _ refl refl refl, (plain_inner _ refl refl refl, (record { no_input = refl; no_output = refl; inside = λ e. omega arith }, carry_inner n ports d (suc (suc (suc (suc k)))) ys))))
 
 lower_inner : (r : Rel) (ports : Ports) (d k : ℕ) → AllInner (lower r ports d k).made
-unfolding lower is_output
+unfolding lower
 lower_inner (Rel.named x) ports d k = tt
 lower_inner (Rel.select r ss) ports d k = one_inner (lower r ports d k).made _ (lower_inner r ports d k) (plain_inner _ refl refl refl)
 lower_inner (Rel.filter r c) ports d k = one_inner (lower r ports d k).made _ (lower_inner r ports d k) (plain_inner _ refl refl refl)
 lower_inner (Rel.group r ks as') ports d k = one_inner (lower r ports d k).made _ (lower_inner r ports d k) (plain_inner _ refl refl refl)
 lower_inner (Rel.distinct r) ports d k = one_inner (lower r ports d k).made _ (lower_inner r ports d k) (plain_inner _ refl refl refl)
 lower_inner (Rel.concat p q) ports d k = two_inner (lower p ports d k).made (lower q ports d (k + length (lower p ports d k).made)).made _ (lower_inner p ports d k) (lower_inner q ports d (k + length (lower p ports d k).made)) (plain_inner _ refl refl refl)
+lower_inner (Rel.except p q) ports d k = two_inner (lower p ports d k).made (lower q ports d (k + length (lower p ports d k).made)).made _ (lower_inner p ports d k) (lower_inner q ports d (k + length (lower p ports d k).made)) (plain_inner _ refl refl refl)
+lower_inner (Rel.intersect p q) ports d k = two_inner (lower p ports d k).made (lower q ports d (k + length (lower p ports d k).made)).made _ (lower_inner p ports d k) (lower_inner q ports d (k + length (lower p ports d k).made)) (plain_inner _ refl refl refl)
 lower_inner (Rel.join p q ps) ports d k = two_inner (lower p ports d k).made (lower q ports d (k + length (lower p ports d k).made)).made _ (lower_inner p ports d k) (lower_inner q ports d (k + length (lower p ports d k).made)) (plain_inner _ refl refl refl)
 lower_inner (Rel.iterate n x r b) ports d k =
     let start = lower r ports d k in
@@ -111,16 +108,39 @@ inputs_first [] rest v a l e = absurd (no_input_here rest v a l e)
 inputs_first (x ∷ as') rest zero a l e = omega arith
 inputs_first (x ∷ as') rest (suc v) a l e = let h = inputs_first as' rest v a (omega arith) e in omega arith
 
--- ---- the output last
+-- ---- outputs
 
-output_last : (xs : List Vertex) (end : Vertex) (v : ℕ) → AllByRecursion (λ x. is_output x.kind ≡ false) xs → v < length (xs ++ (end ∷ [])) → (vertex (xs ++ (end ∷ [])) v).kind ≡ Kind.output → v ≡ length xs
-unfolding vertex is_output
-output_last [] end v a l e = omega arith
-output_last (x ∷ xs) end zero a l e = absurd (true≢false (sym (ap is_output e) ∙ a.0))
-output_last (x ∷ xs) end (suc v) a l e = ap suc (output_last xs end v a.1 (omega arith) e)
+-- what holds of inner vertices and of those of outputs
+outputs_all : (P : Vertex → Type 0) → ((x : Vertex) → Inner x → P x) → ((p : Port) → P (new_vertex Kind.output 0 (p ∷ []))) → (os : List Output) (ports : Ports) (k : ℕ) → AllByRecursion P (lower_outputs os ports k)
+unfolding lower_outputs
+outputs_all P inner end [] ports k = tt
+outputs_all P inner end (o ∷ os) ports k =
+    let r = lower o.value ports 0 k in
+    all_append P r.made _ (all_more Inner P r.made inner (lower_inner o.value ports 0 k)) (end r.gives, outputs_all P inner end os ports (suc (k + length r.made)))
+
+-- vertices without an output before others
+outputs_after : (xs ys : List Vertex) (k : ℕ) → AllByRecursion (λ x. is_output x.kind ≡ false) xs → outputs_from k (xs ++ ys) ≡ outputs_from (k + length xs) ys
+outputs_after [] ys k a = ap (λ n. outputs_from n ys) (let z : k ≡ k + 0 = omega arith in z)
+outputs_after (x ∷ xs) ys k a =
+    ap (λ b. cond b (k ∷ outputs_from (suc k) (xs ++ ys)) (outputs_from (suc k) (xs ++ ys))) a.0
+    ∙ outputs_after xs ys (suc k) a.1
+    ∙ ap (λ n. outputs_from n ys) (let z : suc k + length xs ≡ k + suc (length xs) = omega arith in z)
+
+-- the outputs' own vertices, where they are made
+pub outputs_made : (os : List Output) (ports : Ports) (k : ℕ) → outputs_from k (lower_outputs os ports k) ≡ outputs_at os ports k
+unfolding lower_outputs
+outputs_made [] ports k = refl
+outputs_made (o ∷ os) ports k =
+    let r = lower o.value ports 0 k in
+    let last = k + length r.made in
+    outputs_after r.made (new_vertex Kind.output 0 (r.gives ∷ []) ∷ lower_outputs os ports (suc last)) k (all_more Inner _ r.made (λ x i. i.no_output) (lower_inner o.value ports 0 k))
+    ∙ ap (λ ns. last ∷ ns) (outputs_made os ports (suc last))
+
+length-outputs_at : (os : List Output) (ports : Ports) (k : ℕ) → length (outputs_at os ports k) ≡ length os
+length-outputs_at [] ports k = refl
+length-outputs_at (o ∷ os) ports k = ap suc (length-outputs_at os ports (suc (k + length (lower o.value ports 0 k).made)))
 
 inputs_no_output : (as' : List Input) → AllByRecursion (λ (x : Vertex). is_output x.kind ≡ false) (input_vertices as')
-unfolding is_output
 inputs_no_output [] = tt
 inputs_no_output (a ∷ as') = (refl, inputs_no_output as')
 
@@ -136,20 +156,28 @@ inputs_flat [] = tt
 inputs_flat (a ∷ as') = (λ _. refl, inputs_flat as')
 
 inner_flat : (v : Vertex) → Inner v → Flat v
-unfolding is_output
 inner_flat v i (inl e) = absurd (true≢false (sym (ap is_input e) ∙ i.no_input))
 inner_flat v i (inr e) = absurd (true≢false (sym (ap is_output e) ∙ i.no_output))
+
+-- the outputs' own vertices are the output vertices
+pub output_numbers_are : (p : Program) → output_numbers (lowered p) ≡ outputs_at_of p
+unfolding lowered
+output_numbers_are p =
+    outputs_after (input_vertices p.inputs) ((lets_of p).made ++ outputs_of p) 0 (inputs_no_output p.inputs)
+    ∙ outputs_after (lets_of p).made (outputs_of p) (0 + length (input_vertices p.inputs)) (all_more Inner _ (lets_of p).made (λ x i. i.no_output) (lets_inner p.lets (input_ports p.inputs 0) (length p.inputs)))
+    ∙ ap (λ k. outputs_from k (outputs_of p)) (let z : 0 + length (input_vertices p.inputs) + length (lets_of p).made ≡ length p.inputs + length (lets_of p).made = omega (arith, length-input_vertices p.inputs) in z)
+    ∙ outputs_made p.outputs (lets_of p).ports (length p.inputs + length (lets_of p).made)
+
+-- as many as the program has
+pub lowered_outputs : (p : Program) → length (output_numbers (lowered p)) ≡ length p.outputs
+lowered_outputs p = ap length (output_numbers_are p) ∙ length-outputs_at p.outputs (lets_of p).ports (length p.inputs + length (lets_of p).made)
 
 pub lowered_shaped : (p : Program) → IsShaped (lowered p)
 unfolding lowered vertex
 lowered_shaped p =
     record {
-      some = omega (arith, long);
-      inputs_first = λ v l e. inputs_first p.inputs (lets ++ (outs ++ (end ∷ []))) v
-          (all_append _ lets (outs ++ (end ∷ [])) (all_more Inner _ lets (λ x i. i.no_input) in_lets)
-          (all_append _ outs (end ∷ []) (all_more Inner _ outs (λ x i. i.no_input) in_outs) (refl, tt))) l e;
-      output_last = λ v l e. last v (subst (λ (g : Graph). v < length g) split l) (subst (λ (g : Graph). (vertex g v).kind ≡ Kind.output) split e) ∙ number;
-      has_output = subst (λ (g : Graph). (vertex g (output_number whole)).kind ≡ Kind.output) (sym split) (subst (λ (n : ℕ). (vertex (before ++ (end ∷ [])) n).kind ≡ Kind.output) number here);
+      inputs_first = λ v l e. inputs_first p.inputs (lets ++ outs) v
+          (all_append _ lets outs (all_more Inner _ lets (λ x i. i.no_input) in_lets) (outputs_all (λ x. is_input x.kind ≡ false) (λ x i. i.no_input) (λ q. refl) p.outputs (lets_of p).ports m)) l e;
       inside = λ v l. inside v l;
       flat = λ v l. flat v l;
     }
@@ -161,46 +189,25 @@ lowered_shaped p =
     lets = (lets_of p).made
 
     outs : List Vertex
-    outs = (output_of p).made
+    outs = outputs_of p
 
-    end : Vertex
-    end = new_vertex Kind.output 0 ((output_of p).gives ∷ [])
-
-    before : List Vertex
-    before = ins ++ (lets ++ outs)
+    m : ℕ
+    m = length p.inputs + length lets
 
     whole : List Vertex
-    whole = ins ++ (lets ++ (outs ++ (end ∷ [])))
+    whole = ins ++ (lets ++ outs)
 
     in_lets : AllInner lets
     in_lets = lets_inner p.lets (input_ports p.inputs 0) (length p.inputs)
-
-    in_outs : AllInner outs
-    in_outs = lower_inner p.output (lets_of p).ports 0 (length p.inputs + length lets)
-
-    split : whole ≡ before ++ (end ∷ [])
-    split = ap (λ x. ins ++ x) (sym (append_assoc lets outs (end ∷ []))) ∙ sym (append_assoc ins (lets ++ outs) (end ∷ []))
-
-    long : length whole ≡ suc (length before)
-    long = ap length split ∙ (let e : length (before ++ (end ∷ [])) ≡ suc (length before) = omega (arith, length-append before (end ∷ [])) in e)
-
-    number : length before ≡ output_number whole
-    number = omega (arith, long)
-
-    here : (vertex (before ++ (end ∷ [])) (length before)).kind ≡ Kind.output
-    here = ap (λ (x : Vertex). x.kind) (at_length before [] end)
-
-    last : (v : ℕ) → v < length (before ++ (end ∷ [])) → (vertex (before ++ (end ∷ [])) v).kind ≡ Kind.output → v ≡ length before
-    last v l e = output_last before end v (all_append _ ins (lets ++ outs) (inputs_no_output p.inputs) (all_append _ lets outs (all_more Inner _ lets (λ x i. i.no_output) in_lets) (all_more Inner _ outs (λ x i. i.no_output) in_outs))) l e
 
     Inside : Vertex → Type 0
     Inside x = ends_turn x.kind ≡ true → 0 < x.depth
 
     inside : (v : ℕ) → v < length whole → Inside (vertex whole v)
-    inside v l = all_vertex Inside whole v (all_append Inside ins _ (inputs_inside p.inputs) (all_append Inside lets _ (all_more Inner Inside lets (λ x i. i.inside) in_lets) (all_append Inside outs (end ∷ []) (all_more Inner Inside outs (λ x i. i.inside) in_outs) (λ e. absurd (true≢false (sym e)), tt)))) l
+    inside v l = all_vertex Inside whole v (all_append Inside ins _ (inputs_inside p.inputs) (all_append Inside lets _ (all_more Inner Inside lets (λ x i. i.inside) in_lets) (outputs_all Inside (λ x i. i.inside) (λ q e. absurd (true≢false (sym e))) p.outputs (lets_of p).ports m))) l
 
     flat : (v : ℕ) → v < length whole → Flat (vertex whole v)
-    flat v l = all_vertex Flat whole v (all_append Flat ins _ (inputs_flat p.inputs) (all_append Flat lets _ (all_more Inner Flat lets inner_flat in_lets) (all_append Flat outs (end ∷ []) (all_more Inner Flat outs inner_flat in_outs) (λ _. refl, tt)))) l
+    flat v l = all_vertex Flat whole v (all_append Flat ins _ (inputs_flat p.inputs) (all_append Flat lets _ (all_more Inner Flat lets inner_flat in_lets) (outputs_all Flat inner_flat (λ q e. refl) p.outputs (lets_of p).ports m))) l
 
 pub lowered_dataflow : (p : Program) → IsFitting p → IsDataflow (lowered p)
 lowered_dataflow p fits =
@@ -213,27 +220,17 @@ lowered_dataflow p fits =
       nested = nested_from_sound (lowered p) (program_loops p) s;
     }
 
--- the output vertex is the last
-pub output_is_last : (p : Program) → output_number (lowered p) ≡ output_vertex p
-unfolding lowered
-output_is_last p =
-    omega (
-      arith,
-      length-append (input_vertices p.inputs) ((lets_of p).made ++ ((output_of p).made ++ (new_vertex Kind.output 0 ((output_of p).gives ∷ []) ∷ []))),
-      length-append (lets_of p).made ((output_of p).made ++ (new_vertex Kind.output 0 ((output_of p).gives ∷ []) ∷ [])),
-      length-append (output_of p).made (new_vertex Kind.output 0 ((output_of p).gives ∷ []) ∷ []),
-      length-input_vertices p.inputs,
-    )
+pub typed_dataflow : (p : Program) (ns : List ℕ) → WellTyped p ns → IsDataflow (lowered p)
+typed_dataflow p ns t = lowered_dataflow p (typed_fits p ns t)
 
-pub typed_dataflow : (p : Program) (n : ℕ) → WellTyped p n → IsDataflow (lowered p)
-typed_dataflow p n t = lowered_dataflow p (typed_fits p n t)
+-- the edge into each output has what the program means there
+pub typed_means : (p : Program) (ns : List ℕ) (inputs : Inputs) (f : Flow) (output epoch : ℕ) → WellTyped p ns → IsFlow (lowered p) inputs f → output < length p.outputs → f (output_number (lowered p) output) 0 (at_epoch epoch) ≈ program_meaning p output (λ i. inputs i epoch)
+typed_means p ns inputs f output epoch t h l =
+    ≈-trans (≈-from (ap (λ vs. f (slice_index_or vs output (length (lowered p))) 0 (at_epoch epoch)) (output_numbers_are p)))
+    (lowered_means p (typed_fits p ns t) inputs f h epoch output (length (lowered p)) l)
 
--- the edge into the output has the program's meaning
-pub typed_means : (p : Program) (n : ℕ) (inputs : Inputs) (f : Flow) (epoch : ℕ) → WellTyped p n → IsFlow (lowered p) inputs f → f (output_number (lowered p)) 0 (at_epoch epoch) ≈ program_meaning p (λ i. inputs i epoch)
-typed_means p n inputs f epoch t h = ≈-trans (≈-from (ap (λ v. f v 0 (at_epoch epoch)) (output_is_last p))) (lowered_means p (typed_fits p n t) inputs f h epoch)
+pub typed_one_flow : (p : Program) (ns : List ℕ) (inputs : Inputs) → WellTyped p ns → HasOneFlow (lowered p) inputs
+typed_one_flow p ns inputs t = dataflow_one_flow (lowered p) (typed_dataflow p ns t) inputs
 
-pub typed_one_flow : (p : Program) (n : ℕ) (inputs : Inputs) → WellTyped p n → HasOneFlow (lowered p) inputs
-typed_one_flow p n inputs t = dataflow_one_flow (lowered p) (typed_dataflow p n t) inputs
-
-pub typed_quiet : (p : Program) (n : ℕ) (inputs : Inputs) (f : Flow) (w i : ℕ) (u : Time) → WellTyped p n → IsFlow (lowered p) inputs f → IsEdgeTime (lowered p) w i u → ends_turn (vertex (lowered p) w).kind ≡ true → turn_count ≤ last u.counters → f w i u ≈ []
-typed_quiet p n inputs f w i u t h at e o = lowered_quiet p (typed_fits p n t) inputs f h w i u at e o
+pub typed_quiet : (p : Program) (ns : List ℕ) (inputs : Inputs) (f : Flow) (w i : ℕ) (u : Time) → WellTyped p ns → IsFlow (lowered p) inputs f → IsEdgeTime (lowered p) w i u → ends_turn (vertex (lowered p) w).kind ≡ true → turn_count ≤ last u.counters → f w i u ≈ []
+typed_quiet p ns inputs f w i u t h at e o = lowered_quiet p (typed_fits p ns t) inputs f h w i u at e o

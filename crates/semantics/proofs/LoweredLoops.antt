@@ -10,15 +10,15 @@ use Rattle.semantics.specs.Dataflow.{IsWired, Goes, IsNested}
 use Rattle.semantics.specs.Flow.{Inputs, HasOneFlow}
 use Rattle.semantics.specs.Kinds.{Kind, action, in_ports, out_ports}
 use Rattle.semantics.specs.Graph.{Port, Vertex, Graph, no_vertex, vertex, source}
-use Rattle.semantics.specs.Lower.{Ports, stands_for, port, new_vertex, carry, carried_ports, Lowered, lower, looped, input_vertices, input_ports, lower_lets, lets_of, output_of, lowered}
+use Rattle.semantics.specs.Lower.{Ports, stands_for, port, new_vertex, carry, carried_ports, Lowered, lower, looped, input_vertices, input_ports, lower_lets, lets_of, lower_outputs, outputs_of, lowered}
 use Rattle.semantics.specs.Meaning.{same_name}
-use Rattle.semantics.specs.Query.{Name, Rel, Input, Let, Program}
+use Rattle.semantics.specs.Query.{Name, Rel, Input, Let, Output, Program}
 use Rattle.semantics.specs.Time.{Action}
 use Rattle.semantics.proofs.OneFlow.{one_flow}
 use Rattle.semantics.proofs.LoweredRelations.{Stands, stands_left, stands_right}
 use Rattle.semantics.proofs.LoweredPrograms.{all_at, stands_whole, length-input_vertices}
 use Rattle.semantics.proofs.RankRises.{rises_from_nested}
-use Rattle.semantics.proofs.FittingPrograms.{Nested, LetsFit, names_after, input_list, IsFitting}
+use Rattle.semantics.proofs.FittingPrograms.{Nested, LetsFit, AllFit, names_after, input_list, IsFitting}
 use Rattle.semantics.proofs.VertexFlows.{IsAt}
 
 -- ---- vertices that are wired, in the loops that they are said to be in
@@ -72,6 +72,8 @@ homes (Rel.concat p q) ports d k here = homes p ports d k here ++ (homes q ports
 homes (Rel.join p q ps) ports d k here = homes p ports d k here ++ (homes q ports d (k + length (lower p ports d k).made) here ++ (here ∷ []))
 homes (Rel.group r ks as') ports d k here = homes r ports d k here ++ (here ∷ [])
 homes (Rel.distinct r) ports d k here = homes r ports d k here ++ (here ∷ [])
+homes (Rel.except p q) ports d k here = homes p ports d k here ++ (homes q ports d (k + length (lower p ports d k).made) here ++ (here ∷ []))
+homes (Rel.intersect p q) ports d k here = homes p ports d k here ++ (homes q ports d (k + length (lower p ports d k).made) here ++ (here ∷ []))
 homes (Rel.iterate n x r b) ports d k here =
     let start = lower r ports d k in
     let loop = k + length start.made in
@@ -106,6 +108,8 @@ length-homes (Rel.concat p q) ports d k here = two_longer (homes p ports d k her
 length-homes (Rel.join p q ps) ports d k here = two_longer (homes p ports d k here) (homes q ports d (k + length (lower p ports d k).made) here) here (lower p ports d k).made (lower q ports d (k + length (lower p ports d k).made)).made _ (length-homes p ports d k here) (length-homes q ports d (k + length (lower p ports d k).made) here)
 length-homes (Rel.group r ks as') ports d k here = one_longer (homes r ports d k here) here (lower r ports d k).made _ (length-homes r ports d k here)
 length-homes (Rel.distinct r) ports d k here = one_longer (homes r ports d k here) here (lower r ports d k).made _ (length-homes r ports d k here)
+length-homes (Rel.except p q) ports d k here = two_longer (homes p ports d k here) (homes q ports d (k + length (lower p ports d k).made) here) here (lower p ports d k).made (lower q ports d (k + length (lower p ports d k).made)).made _ (length-homes p ports d k here) (length-homes q ports d (k + length (lower p ports d k).made) here)
+length-homes (Rel.intersect p q) ports d k here = two_longer (homes p ports d k here) (homes q ports d (k + length (lower p ports d k).made) here) here (lower p ports d k).made (lower q ports d (k + length (lower p ports d k).made)).made _ (length-homes p ports d k here) (length-homes q ports d (k + length (lower p ports d k).made) here)
 length-homes (Rel.iterate n x r b) ports d k here =
     let start = lower r ports d k in
     let loop = k + length start.made in
@@ -376,6 +380,20 @@ module _ (g : Graph) (loops : ℕ → List ℕ) where
       two_sound ports d k here Kind.concat a b (homes p ports d k here) (homes q ports d e here) (length-homes p ports d k here) (length-homes q ports d e here) refl refl refl l m s h
       (relation_sound p d t.0 ports k here (stands_left g k a.made _ s) (homed_left loops k (homes p ports d k here) _ h) l m (λ y j. avail y (among_left y (free p) (free q) j)))
       (relation_sound q d t.1 ports e here (stands_left g e b.made _ (stands_right g k a.made _ s)) (homed_left loops e (homes q ports d e here) _ (homed_right loops k (length a.made) (homes p ports d k here) _ (length-homes p ports d k here) h)) l m (λ y j. avail_later (ports y) here k e (omega arith) (avail y (among_right y (free p) (free q) j))))
+  relation_sound (Rel.except p q) d t ports k here s h l m avail =
+      let a = lower p ports d k in
+      let e = k + length a.made in
+      let b = lower q ports d e in
+      two_sound ports d k here Kind.except a b (homes p ports d k here) (homes q ports d e here) (length-homes p ports d k here) (length-homes q ports d e here) refl refl refl l m s h
+      (relation_sound p d t.0 ports k here (stands_left g k a.made _ s) (homed_left loops k (homes p ports d k here) _ h) l m (λ y j. avail y (among_left y (free p) (free q) j)))
+      (relation_sound q d t.1 ports e here (stands_left g e b.made _ (stands_right g k a.made _ s)) (homed_left loops e (homes q ports d e here) _ (homed_right loops k (length a.made) (homes p ports d k here) _ (length-homes p ports d k here) h)) l m (λ y j. avail_later (ports y) here k e (omega arith) (avail y (among_right y (free p) (free q) j))))
+  relation_sound (Rel.intersect p q) d t ports k here s h l m avail =
+      let a = lower p ports d k in
+      let e = k + length a.made in
+      let b = lower q ports d e in
+      two_sound ports d k here Kind.intersect a b (homes p ports d k here) (homes q ports d e here) (length-homes p ports d k here) (length-homes q ports d e here) refl refl refl l m s h
+      (relation_sound p d t.0 ports k here (stands_left g k a.made _ s) (homed_left loops k (homes p ports d k here) _ h) l m (λ y j. avail y (among_left y (free p) (free q) j)))
+      (relation_sound q d t.1 ports e here (stands_left g e b.made _ (stands_right g k a.made _ s)) (homed_left loops e (homes q ports d e here) _ (homed_right loops k (length a.made) (homes p ports d k here) _ (length-homes p ports d k here) h)) l m (λ y j. avail_later (ports y) here k e (omega arith) (avail y (among_right y (free p) (free q) j))))
   relation_sound (Rel.join p q ps) d t ports k here s h l m avail =
       let a = lower p ports d k in
       let e = k + length a.made in
@@ -433,12 +451,29 @@ module _ (g : Graph) (loops : ℕ → List ℕ) where
       go y r false q (inl e) f = absurd (true≢false (sym ((Decides-same_name a.name y).1 e) ∙ q))
       go y r false q (inr j) f = avail_later g loops (ports y) [] k (k + length r.made) (omega arith) (avail y j)
 
--- the loops of each vertex of a program's graph
-abbrev pub output_homes : Program → List (List ℕ)
-output_homes p = homes p.output (lets_of p).ports 0 (length p.inputs + length (lets_of p).made) []
+unfoldable pub outputs_homes : List Output → Ports → ℕ → List (List ℕ)
+outputs_homes [] ports k = []
+outputs_homes (o ∷ os) ports k = homes o.value ports 0 k [] ++ ([] ∷ outputs_homes os ports (suc (k + length (lower o.value ports 0 k).made)))
 
+module _ (g : Graph) (loops : ℕ → List ℕ) where
+  outputs_sound : (os : List Output) (xs : List Name) (ports : Ports) (k : ℕ) → AllFit xs os → Stands g k (lower_outputs os ports k) → Homed loops k (outputs_homes os ports k) → ((y : Name) → IsAmong y xs → Avail g loops (ports y) [] k) → AllSound g loops k (lower_outputs os ports k)
+  unfolding lower_outputs outputs_homes
+  outputs_sound [] xs ports k m s h avail = tt
+  outputs_sound (o ∷ os) xs ports k m s h avail =
+      let r = lower o.value ports 0 k in
+      let w = k + length r.made in
+      let end = new_vertex Kind.output 0 (r.gives ∷ []) in
+      let rest = lower_outputs os ports (suc w) in
+      let at = stands_right g k r.made (end ∷ rest) s in
+      let home = homed_right loops k (length r.made) (homes o.value ports 0 k []) ([] ∷ outputs_homes os ports (suc w)) (length-homes o.value ports 0 k []) h in
+      let here : AllSound g loops k r.made × Avail g loops r.gives [] w = relation_sound g loops o.value 0 m.0.nested ports k [] (stands_left g k r.made (end ∷ rest) s) (homed_left loops k (homes o.value ports 0 k []) ([] ∷ outputs_homes os ports (suc w)) h) refl (omega arith) (λ y j. avail y (m.0.known y j)) in
+      let sound : SoundAs g loops w end = record { full = refl; home = ap length home.0; shallow = omega arith; edges = (edge_from g loops r.gives [] w w here.1 home.0 (le_refl w) at.0.known, tt) } in
+      all_sound-append g loops k r.made (end ∷ rest) here.0
+      (sound, outputs_sound os xs ports (suc w) m.1 at.1 home.1 (λ y j. avail_later g loops (ports y) [] k (suc w) (omega arith) (avail y j)))
+
+-- the loops of each vertex of a program's graph
 abbrev pub program_homes : Program → List (List ℕ)
-program_homes p = map (λ a. []) p.inputs ++ (lets_homes p.lets (input_ports p.inputs 0) (length p.inputs) ++ (output_homes p ++ ([] ∷ [])))
+program_homes p = map (λ a. []) p.inputs ++ (lets_homes p.lets (input_ports p.inputs 0) (length p.inputs) ++ outputs_homes p.outputs (lets_of p).ports (length p.inputs + length (lets_of p).made))
 
 abbrev pub program_loops : Program → ℕ → List ℕ
 program_loops p v = slice_index_or (program_homes p) v []
@@ -465,11 +500,9 @@ length-map_homes (a ∷ as') = ap suc (length-map_homes as')
 pub program_sound : (p : Program) → IsFitting p → AllSound (lowered p) (program_loops p) 0 (lowered p)
 unfolding lowered
 program_sound p fits =
-    all_sound-append g loops 0 ins (lets ++ (outs ++ (end ∷ []))) (inputs_sound g loops p.inputs 0 home_inputs)
-    (subst (λ k. AllSound g loops k (lets ++ (outs ++ (end ∷ [])))) (let z : n ≡ 0 + length (input_vertices p.inputs) = omega (arith, length-input_vertices p.inputs) in z)
-    (all_sound-append g loops n lets (outs ++ (end ∷ [])) sound_lets.0
-    (all_sound-append g loops m outs (end ∷ []) sound_out.0
-    (record { full = refl; home = ap length home_end; shallow = omega arith; edges = (edge_from g loops (output_of p).gives [] (m + length outs) (m + length outs) sound_out.1 home_end (le_refl (m + length outs)) at_end.known, tt) }, tt))))
+    all_sound-append g loops 0 ins (lets ++ outs) (inputs_sound g loops p.inputs 0 home_inputs)
+    (subst (λ k. AllSound g loops k (lets ++ outs)) (let z : n ≡ 0 + length (input_vertices p.inputs) = omega (arith, length-input_vertices p.inputs) in z)
+    (all_sound-append g loops n lets outs sound_lets.0 (outputs_sound g loops p.outputs names (lets_of p).ports m fits.outputs st_out home_out sound_lets.1)))
   where
     g : Graph
     g = lowered p
@@ -480,6 +513,9 @@ program_sound p fits =
     n : ℕ
     n = length p.inputs
 
+    names : List Name
+    names = names_after (input_list p.inputs) p.lets
+
     ins : List Vertex
     ins = input_vertices p.inputs
 
@@ -487,47 +523,38 @@ program_sound p fits =
     lets = (lets_of p).made
 
     outs : List Vertex
-    outs = (output_of p).made
-
-    end : Vertex
-    end = new_vertex Kind.output 0 ((output_of p).gives ∷ [])
+    outs = outputs_of p
 
     m : ℕ
     m = n + length lets
 
-    st_lets : Stands g n (lets ++ (outs ++ (end ∷ [])))
-    st_lets = subst (λ k. Stands g k (lets ++ (outs ++ (end ∷ [])))) (omega (arith, length-input_vertices p.inputs)) (stands_right g 0 ins (lets ++ (outs ++ (end ∷ []))) (stands_whole g))
+    st_lets : Stands g n (lets ++ outs)
+    st_lets = subst (λ k. Stands g k (lets ++ outs)) (omega (arith, length-input_vertices p.inputs)) (stands_right g 0 ins (lets ++ outs) (stands_whole g))
 
-    st_out : Stands g m (outs ++ (end ∷ []))
-    st_out = stands_right g n lets (outs ++ (end ∷ [])) st_lets
-
-    at_end : IsAt g (m + length outs) end
-    at_end = (stands_right g m outs (end ∷ []) st_out).0
+    st_out : Stands g m outs
+    st_out = stands_right g n lets outs st_lets
 
     hlets : List (List ℕ)
     hlets = lets_homes p.lets (input_ports p.inputs 0) n
+
+    houts : List (List ℕ)
+    houts = outputs_homes p.outputs (lets_of p).ports m
 
     home_all : Homed loops 0 (program_homes p)
     home_all = homed_from [] (program_homes p)
 
     home_inputs : Homed loops 0 (map (λ a. []) p.inputs)
-    home_inputs = homed_left loops 0 (map (λ a. []) p.inputs) (hlets ++ (output_homes p ++ ([] ∷ []))) home_all
+    home_inputs = homed_left loops 0 (map (λ a. []) p.inputs) (hlets ++ houts) home_all
 
-    home_lets : Homed loops n (hlets ++ (output_homes p ++ ([] ∷ [])))
-    home_lets = subst (λ k. Homed loops k (hlets ++ (output_homes p ++ ([] ∷ [])))) (let z : 0 + n ≡ n = omega arith in z) (homed_right loops 0 n (map (λ a. []) p.inputs) (hlets ++ (output_homes p ++ ([] ∷ []))) (length-map_homes p.inputs) home_all)
+    home_lets : Homed loops n (hlets ++ houts)
+    home_lets = subst (λ k. Homed loops k (hlets ++ houts)) (let z : 0 + n ≡ n = omega arith in z) (homed_right loops 0 n (map (λ a. []) p.inputs) (hlets ++ houts) (length-map_homes p.inputs) home_all)
 
-    home_out : Homed loops m (output_homes p ++ ([] ∷ []))
-    home_out = homed_right loops n (length lets) hlets (output_homes p ++ ([] ∷ [])) (length-lets_homes p.lets (input_ports p.inputs 0) n) home_lets
+    home_out : Homed loops m houts
+    home_out = homed_right loops n (length lets) hlets houts (length-lets_homes p.lets (input_ports p.inputs 0) n) home_lets
 
-    home_end : loops (m + length outs) ≡ []
-    home_end = (homed_right loops m (length outs) (output_homes p) ([] ∷ []) (length-homes p.output (lets_of p).ports 0 m []) home_out).0
-
-    sound_lets : AllSound g loops n lets × ((y : Name) → IsAmong y (names_after (input_list p.inputs) p.lets) → Avail g loops ((lets_of p).ports y) [] m)
-    sound_lets = lets_sound g loops p.lets (input_list p.inputs) (input_ports p.inputs 0) n fits.lets (stands_left g n lets (outs ++ (end ∷ [])) st_lets) (homed_left loops n hlets (output_homes p ++ ([] ∷ [])) home_lets)
-        (inputs_avail g loops p.inputs 0 n (stands_left g 0 ins (lets ++ (outs ++ (end ∷ []))) (stands_whole g)) home_inputs (omega arith))
-
-    sound_out : AllSound g loops m outs × Avail g loops (output_of p).gives [] (m + length outs)
-    sound_out = relation_sound g loops p.output 0 fits.output.nested (lets_of p).ports m [] (stands_left g m outs (end ∷ []) st_out) (homed_left loops m (output_homes p) ([] ∷ []) home_out) refl (omega arith) (λ y j. sound_lets.1 y (fits.output.known y j))
+    sound_lets : AllSound g loops n lets × ((y : Name) → IsAmong y names → Avail g loops ((lets_of p).ports y) [] m)
+    sound_lets = lets_sound g loops p.lets (input_list p.inputs) (input_ports p.inputs 0) n fits.lets (stands_left g n lets outs st_lets) (homed_left loops n hlets houts home_lets)
+        (inputs_avail g loops p.inputs 0 n (stands_left g 0 ins (lets ++ outs) (stands_whole g)) home_inputs (omega arith))
 
 -- a program's graph has one flow
 pub lowered_has_one_flow : (p : Program) → IsFitting p → (inputs : Inputs) → HasOneFlow (lowered p) inputs

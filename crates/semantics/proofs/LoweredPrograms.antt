@@ -1,5 +1,5 @@
--- In any flow of a program's graph, the edge into the output vertex has the program's meaning.
-use Rattle.std.proofs.Common.{◌<◌, ◌≡◌, ℕ, zero, suc, ◌+◌, Bool, true, false, cond, List, [], ◌∷◌, ◌++◌, length, slice_index_or, refl, sym, ap, subst, ◌∙◌, arith, append_assoc, length-append, inl, inr, ◌⊎◌}
+-- In any flow of a program's graph, the edge into each output vertex has what the program means there.
+use Rattle.std.proofs.Common.{◌<◌, ◌≡◌, ℕ, zero, suc, ◌+◌, Bool, true, false, cond, List, [], ◌∷◌, ◌++◌, map, length, slice_index_or, refl, sym, ap, subst, ◌∙◌, arith, append_assoc, length-append, inl, inr, ◌⊎◌}
 use Rattle.std.specs.List.{AllByRecursion}
 use Rattle.std.proofs.lemmas.Bool.{true≢false}
 use Rattle.semantics.proofs.NamesAmong.{Decides-same_name}
@@ -7,18 +7,25 @@ use Rattle.semantics.specs.Multiset.{IsAmong, Record, ◌≈◌}
 use Rattle.semantics.specs.Flow.{Inputs, Flow, IsFlow, port_flow}
 use Rattle.semantics.specs.Kinds.{Kind}
 use Rattle.semantics.specs.Graph.{no_port, Port, Vertex, Graph, no_vertex, vertex}
-use Rattle.semantics.specs.Lower.{Ports, stands_for, port, new_vertex, lower, input_vertices, input_ports, lower_lets, lets_of, output_of, lowered}
+use Rattle.semantics.specs.Lower.{Ports, stands_for, port, new_vertex, lower, input_vertices, input_ports, lower_lets, lets_of, lower_outputs, outputs_of, lowered}
 use Rattle.semantics.specs.Meaning.{same_name, Names, bind, meaning, input_names, let_names, program_meaning}
-use Rattle.semantics.specs.Query.{Name, Input, Let, Program}
+use Rattle.semantics.specs.Query.{Name, Input, Let, Output, Program}
 use Rattle.semantics.specs.Time.{Time}
 use Rattle.semantics.proofs.MultisetSums.{≈-trans, ≈-from}
 use Rattle.semantics.proofs.LoweredRelations.{Stands, stands_left, stands_right, Agree, lower_means}
-use Rattle.semantics.proofs.FittingPrograms.{LetsFit, names_after, input_list, IsFitting}
+use Rattle.semantics.proofs.FittingPrograms.{LetsFit, AllFit, names_after, input_list, IsFitting}
 use Rattle.semantics.proofs.VertexFlows.{out_at, edge_at}
 
--- the number of the output vertex, the last
-abbrev pub output_vertex : Program → ℕ
-output_vertex p = length p.inputs + length (lets_of p).made + length (output_of p).made
+-- the numbers of the vertices of outputs that are made from number k on
+abbrev pub outputs_at : List Output → Ports → (k : ℕ) → List ℕ
+outputs_at [] ports k = []
+outputs_at (o ∷ os) ports k =
+    let last = k + length (lower o.value ports 0 k).made in
+    last ∷ outputs_at os ports (suc last)
+
+-- of a program's
+abbrev pub outputs_at_of : Program → List ℕ
+outputs_at_of p = outputs_at p.outputs (lets_of p).ports (length p.inputs + length (lets_of p).made)
 
 -- what holds of all ports holds of each
 pub all_at : (P : Port → Type 0) (ps : List Port) (i : ℕ) → AllByRecursion P ps → i < length ps → P (slice_index_or ps i no_port)
@@ -76,15 +83,27 @@ module _ (g : Graph) (inputs : Inputs) (f : Flow) (flow : IsFlow g inputs f) whe
       go y false q (inl e) = absurd (true≢false (sym ((Decides-same_name a.name y).1 e) ∙ q))
       go y false q (inr h) = agree y h
 
-pub lowered_means : (p : Program) → IsFitting p → (inputs : Inputs) (f : Flow) → IsFlow (lowered p) inputs f → (e : ℕ) → f (output_vertex p) 0 (record { epoch = e; counters = [] }) ≈ program_meaning p (λ i. inputs i e)
+  outputs_agree : (os : List Output) (xs : List Name) (ports : Ports) (k : ℕ) (names : Names) (u : Time) → AllFit xs os → Stands g k (lower_outputs os ports k) → length u.counters ≡ 0 → Agree g inputs f flow xs ports u names → (i none : ℕ) → i < length os → f (slice_index_or (outputs_at os ports k) i none) 0 u ≈ slice_index_or (map (λ (o : Output). meaning o.value names) os) i []
+  unfolding lower_outputs
+  outputs_agree [] xs ports k names u m s l agree i none b = absurd (omega arith)
+  outputs_agree (o ∷ os) xs ports k names u m s l agree zero none b =
+      let r = lower o.value ports 0 k in
+      let at = (stands_right g k r.made (new_vertex Kind.output 0 (r.gives ∷ []) ∷ lower_outputs os ports (suc (k + length r.made))) s).0 in
+      ≈-trans (edge_at g inputs f flow (k + length r.made) (new_vertex Kind.output 0 (r.gives ∷ [])) at 0 u (omega arith) l)
+      (lower_means g inputs f flow o.value m.0.limited ports 0 k names u (stands_left g k r.made _ s) l (λ y h. agree y (m.0.known y h)))
+  outputs_agree (o ∷ os) xs ports k names u m s l agree (suc i) none b =
+      let r = lower o.value ports 0 k in
+      let rest = (stands_right g k r.made (new_vertex Kind.output 0 (r.gives ∷ []) ∷ lower_outputs os ports (suc (k + length r.made))) s).1 in
+      outputs_agree os xs ports (suc (k + length r.made)) names u m.1 rest l agree i none (omega arith)
+
+pub lowered_means : (p : Program) → IsFitting p → (inputs : Inputs) (f : Flow) → IsFlow (lowered p) inputs f → (e i none : ℕ) → i < length p.outputs → f (slice_index_or (outputs_at_of p) i none) 0 (record { epoch = e; counters = [] }) ≈ program_meaning p i (λ j. inputs j e)
 unfolding lowered program_meaning
-lowered_means p fits inputs f flow e =
-    ≈-trans (edge_at (lowered p) inputs f flow (output_vertex p) (new_vertex Kind.output 0 ((output_of p).gives ∷ [])) at_output.0 0 u (omega arith) refl)
-    (lower_means (lowered p) inputs f flow p.output fits.output.limited (lets_of p).ports 0 (n + length (lets_of p).made) (let_names p.lets (input_names p.inputs 0 (λ i. inputs i e))) u
-    (stands_left (lowered p) (n + length (lets_of p).made) (output_of p).made _ at_rest) refl
-    (λ y h. lets_agree (lowered p) inputs f flow p.lets (input_list p.inputs) (input_ports p.inputs 0) n (input_names p.inputs 0 (λ i. inputs i e)) u fits.lets
+lowered_means p fits inputs f flow e i none b =
+    outputs_agree (lowered p) inputs f flow p.outputs (names_after (input_list p.inputs) p.lets) (lets_of p).ports (n + length (lets_of p).made) (let_names p.lets (input_names p.inputs 0 (λ j. inputs j e))) u fits.outputs at_outputs refl
+    (lets_agree (lowered p) inputs f flow p.lets (input_list p.inputs) (input_ports p.inputs 0) n (input_names p.inputs 0 (λ j. inputs j e)) u fits.lets
     (stands_left (lowered p) n (lets_of p).made _ at_lets) refl
-    (inputs_agree (lowered p) inputs f flow p.inputs 0 e (stands_left (lowered p) 0 (input_vertices p.inputs) _ (stands_whole (lowered p)))) y (fits.output.known y h)))
+    (inputs_agree (lowered p) inputs f flow p.inputs 0 e (stands_left (lowered p) 0 (input_vertices p.inputs) _ (stands_whole (lowered p)))))
+    i none b
   where
     u : Time
     u = record { epoch = e; counters = [] }
@@ -92,14 +111,8 @@ lowered_means p fits inputs f flow e =
     n : ℕ
     n = length p.inputs
 
-    tail : List Vertex
-    tail = (output_of p).made ++ (new_vertex Kind.output 0 ((output_of p).gives ∷ []) ∷ [])
+    at_lets : Stands (lowered p) n ((lets_of p).made ++ outputs_of p)
+    at_lets = subst (λ k. Stands (lowered p) k ((lets_of p).made ++ outputs_of p)) (omega (arith, length-input_vertices p.inputs)) (stands_right (lowered p) 0 (input_vertices p.inputs) _ (stands_whole (lowered p)))
 
-    at_lets : Stands (lowered p) n ((lets_of p).made ++ tail)
-    at_lets = subst (λ k. Stands (lowered p) k ((lets_of p).made ++ tail)) (omega (arith, length-input_vertices p.inputs)) (stands_right (lowered p) 0 (input_vertices p.inputs) _ (stands_whole (lowered p)))
-
-    at_rest : Stands (lowered p) (n + length (lets_of p).made) tail
-    at_rest = stands_right (lowered p) n (lets_of p).made tail at_lets
-
-    at_output : Stands (lowered p) (output_vertex p) (new_vertex Kind.output 0 ((output_of p).gives ∷ []) ∷ [])
-    at_output = stands_right (lowered p) (n + length (lets_of p).made) (output_of p).made _ at_rest
+    at_outputs : Stands (lowered p) (n + length (lets_of p).made) (outputs_of p)
+    at_outputs = stands_right (lowered p) n (lets_of p).made (outputs_of p) at_lets

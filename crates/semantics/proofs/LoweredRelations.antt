@@ -10,10 +10,11 @@ use Rattle.semantics.specs.Flow.{Inputs, Flow, IsFlow, port_flow}
 use Rattle.semantics.specs.Kinds.{Kind}
 use Rattle.semantics.specs.Graph.{Port, Vertex, Graph}
 use Rattle.semantics.specs.Lower.{Ports, stands_for, port, new_vertex, carry, carried_ports, Lowered, looped, lower}
-use Rattle.semantics.specs.Meaning.{selected, kept, paired, grouped, same_name, Names, bind, repeated, meaning, holds, value}
+use Rattle.semantics.specs.Meaning.{selected, kept, paired, grouped, only_left, in_both, same_name, Names, bind, repeated, meaning, holds, value}
 use Rattle.semantics.specs.Query.{Name, Rel}
 use Rattle.semantics.specs.Time.{Time, deeper, turn_count, below}
 use Rattle.semantics.proofs.MultisetSums.{≈-refl, ≈-trans, ≈-from, append_same, linear_same, map_linear, filter_linear}
+use Rattle.semantics.proofs.ExceptAndIntersect.{only_left_same, in_both_same}
 use Rattle.semantics.proofs.KeyedParts.{paired_same}
 use Rattle.semantics.proofs.DistinctAndGroups.{distinct_same, grouped_same}
 use Rattle.semantics.proofs.FittingPrograms.{Limited}
@@ -132,6 +133,8 @@ module _ (g : Graph) (inputs : Inputs) (f : Flow) (flow : IsFlow g inputs f) whe
   meaning_none (Rel.join p q ps) names e = ap (λ a. paired ps a (meaning q names)) (meaning_none p names e)
   meaning_none (Rel.group r ks as') names e = ap (grouped ks as') (meaning_none r names e)
   meaning_none (Rel.distinct r) names e = ap each_once (meaning_none r names e)
+  meaning_none (Rel.except p q) names e = ap₂ only_left (meaning_none p names e) (meaning_none q names e)
+  meaning_none (Rel.intersect p q) names e = ap₂ in_both (meaning_none p names e) (meaning_none q names e)
   meaning_none (Rel.iterate n x r b) names e =
       ap (repeated (λ xs. meaning b (bind x xs names)) n) (meaning_none r names e)
       ∙ turns_none (λ xs. meaning b (bind x xs names)) (meaning_none b (bind x [] names) (λ y. go y (same_name x y))) n
@@ -297,5 +300,19 @@ module _ (g : Graph) (inputs : Inputs) (f : Flow) (flow : IsFlow g inputs f) whe
       let at : IsAt g (k + length a.made) (new_vertex Kind.distinct d (a.gives ∷ [])) = last_one k a.made _ s in
       one_claim each_once distinct_same (k + length a.made) d Kind.distinct a.gives u (meaning r names) at l (out_at g inputs f flow (k + length a.made) 0 _ u at)
       (lower_means r m ports d k names u (stands_left g k a.made _ s) l agree)
+  lower_means (Rel.except p q) m ports d k names u s l agree =
+      let a = lower p ports d k in
+      let b = lower q ports d (k + length a.made) in
+      let at : IsAt g (k + length a.made + length b.made) (new_vertex Kind.except d (a.gives ∷ b.gives ∷ [])) = last_two k a.made b.made _ s in
+      two_claim only_left only_left_same (k + length a.made + length b.made) d Kind.except a.gives b.gives u (meaning p names) (meaning q names) at l (out_at g inputs f flow (k + length a.made + length b.made) 0 _ u at)
+      (lower_means p m.0 ports d k names u (stands_left g k a.made _ s) l (λ y h. agree y (among_left y (free p) (free q) h)))
+      (lower_means q m.1 ports d (k + length a.made) names u (stands_left g (k + length a.made) b.made _ (stands_right g k a.made _ s)) l (λ y h. agree y (among_right y (free p) (free q) h)))
+  lower_means (Rel.intersect p q) m ports d k names u s l agree =
+      let a = lower p ports d k in
+      let b = lower q ports d (k + length a.made) in
+      let at : IsAt g (k + length a.made + length b.made) (new_vertex Kind.intersect d (a.gives ∷ b.gives ∷ [])) = last_two k a.made b.made _ s in
+      two_claim in_both in_both_same (k + length a.made + length b.made) d Kind.intersect a.gives b.gives u (meaning p names) (meaning q names) at l (out_at g inputs f flow (k + length a.made + length b.made) 0 _ u at)
+      (lower_means p m.0 ports d k names u (stands_left g k a.made _ s) l (λ y h. agree y (among_left y (free p) (free q) h)))
+      (lower_means q m.1 ports d (k + length a.made) names u (stands_left g (k + length a.made) b.made _ (stands_right g k a.made _ s)) l (λ y h. agree y (among_right y (free p) (free q) h)))
   lower_means (Rel.iterate n x r b) m ports d k names u s l agree =
       loop_claim n x r b m.0 (lower_means r m.1) (lower_means b m.2) ports d k names u s l agree

@@ -1,12 +1,13 @@
 -- A meaning is of multisets: it depends on the counts of what the names mean alone.
-use Rattle.std.proofs.Common.{ℕ, zero, suc, List, [], ◌∷◌, true, false, Bool, cond}
+use Rattle.std.proofs.Common.{ℕ, zero, suc, List, [], ◌∷◌, true, false, Bool, cond, map, slice_index_or}
 use Rattle.semantics.specs.Multiset.{Record, ◌≈◌}
-use Rattle.semantics.specs.Query.{Scalar, Cond, Name, Rel, Input, Let, Program}
+use Rattle.semantics.specs.Query.{Scalar, Cond, Name, Rel, Input, Let, Output, Program}
 use Rattle.semantics.specs.Time.{at_epoch}
 use Rattle.semantics.specs.Kinds.{Kind}
 use Rattle.semantics.specs.Op.{op}
 use Rattle.semantics.specs.Meaning.{selected, kept, meaning, Names, bind, repeated, same_name, input_names, let_names, program_meaning}
 use Rattle.semantics.proofs.MultisetSums.{append_same, ≈-refl}
+use Rattle.semantics.proofs.ExceptAndIntersect.{only_left_same, in_both_same}
 use Rattle.semantics.proofs.KeyedParts.{paired_same}
 use Rattle.semantics.proofs.OneFlow.{op_same}
 
@@ -36,6 +37,8 @@ meaning_same (Rel.concat p q) a b h = append_same (meaning p a) (meaning p b) (m
 meaning_same (Rel.join p q ps) a b h = paired_same ps (meaning p a) (meaning p b) (meaning q a) (meaning q b) (meaning_same p a b h) (meaning_same q a b h)
 meaning_same (Rel.group r ks as') a b h = by_op (Kind.group ks as') (meaning r a) (meaning r b) (meaning_same r a b h)
 meaning_same (Rel.distinct r) a b h = by_op Kind.distinct (meaning r a) (meaning r b) (meaning_same r a b h)
+meaning_same (Rel.except p q) a b h = only_left_same (meaning p a) (meaning p b) (meaning q a) (meaning q b) (meaning_same p a b h) (meaning_same q a b h)
+meaning_same (Rel.intersect p q) a b h = in_both_same (meaning p a) (meaning p b) (meaning q a) (meaning q b) (meaning_same p a b h) (meaning_same q a b h)
 meaning_same (Rel.iterate n x r body) a b h =
     turns_same (λ xs. meaning body (bind x xs a)) (λ xs. meaning body (bind x xs b)) (λ xs ys e. meaning_same body (bind x xs a) (bind x ys b) (bind_same x xs ys a b e h)) n (meaning r a) (meaning r b) (meaning_same r a b h)
 
@@ -48,9 +51,14 @@ unfolding let_names
 let_same [] a b h = h
 let_same (l ∷ as') a b h = let_same as' (bind l.name (meaning l.value a) a) (bind l.name (meaning l.value b) b) (bind_same l.name (meaning l.value a) (meaning l.value b) a b (meaning_same l.value a b h) h)
 
-pub program_same : (p : Program) (xs ys : ℕ → List Record) → ((i : ℕ) → xs i ≈ ys i) → program_meaning p xs ≈ program_meaning p ys
+output_same : (os : List Output) (a b : Names) → Alike a b → (k : ℕ) → slice_index_or (map (λ (o : Output). meaning o.value a) os) k [] ≈ slice_index_or (map (λ (o : Output). meaning o.value b) os) k []
+output_same [] a b h k = ≈-refl []
+output_same (o ∷ os) a b h zero = meaning_same o.value a b h
+output_same (o ∷ os) a b h (suc k) = output_same os a b h k
+
+pub program_same : (p : Program) (output : ℕ) (xs ys : ℕ → List Record) → ((i : ℕ) → xs i ≈ ys i) → program_meaning p output xs ≈ program_meaning p output ys
 unfolding program_meaning
-program_same p xs ys h = meaning_same p.output _ _ (let_same p.lets _ _ (input_same p.inputs 0 xs ys h))
+program_same p output xs ys h = output_same p.outputs _ _ (let_same p.lets _ _ (input_same p.inputs 0 xs ys h)) output
 
 -- ---- the forms of one relation
 

@@ -1,4 +1,4 @@
--- More in gives more out, but at a group.
+-- More in gives more out, but at a group and an except.
 use Rattle.std.proofs.Common.{refl, ◌≡◌, ℕ, zero, suc, ◌+◌, ◌<◌, nat_lt, nat_eq, Bool, true, false, cond, List, [], map, arith}
 use Rattle.semantics.specs.Multiset.{Record, IsPartOf}
 use Rattle.semantics.specs.Kinds.{Role, role, Kind, in_ports}
@@ -6,11 +6,13 @@ use Rattle.semantics.specs.Meaning.{selected, kept, value, holds}
 use Rattle.semantics.specs.Op.{op}
 use Rattle.semantics.specs.Time.{Time, last}
 use Rattle.semantics.proofs.MultisetSums.{append_part, linear_part, map_linear, filter_linear}
+use Rattle.semantics.proofs.ExceptAndIntersect.{in_both_part}
 use Rattle.semantics.proofs.KeyedParts.{paired_part}
 use Rattle.semantics.proofs.DistinctAndGroups.{distinct_part}
 
 abbrev pub Grows : Kind → Type 0
 Grows (Kind.group ks as') = ⊥
+Grows Kind.except = ⊥
 Grows _ = Unit {0}
 
 part_refl : (xs : List Record) → IsPartOf xs xs
@@ -25,6 +27,8 @@ op_part Kind.input w t xs ys out h = part_refl []
 op_part Kind.output w t xs ys out h = part_refl []
 op_part Kind.concat w t xs ys out h = append_part (xs 0) (ys 0) (xs 1) (ys 1) (h 0 (omega arith)) (h 1 (omega arith))
 op_part Kind.distinct w t xs ys out h = distinct_part (xs 0) (ys 0) (h 0 (omega arith))
+op_part Kind.except w t xs ys out h = absurd w
+op_part Kind.intersect w t xs ys out h = in_both_part (xs 0) (ys 0) (xs 1) (ys 1) (h 0 (omega arith)) (h 1 (omega arith))
 op_part Kind.ingress w t xs ys out h = h 0 (omega arith)
 op_part Kind.egress w t xs ys out h = h 0 (omega arith)
 op_part Kind.feedback w t xs ys out h = h 0 (omega arith)
@@ -50,6 +54,8 @@ op_more kind n t xs ys out h = op_part kind (grows kind n) t xs ys out h
     grows Kind.concat n = tt
     grows (Kind.join ps) n = tt
     grows Kind.distinct n = tt
+    grows Kind.except n = absurd (n refl)
+    grows Kind.intersect n = tt
     grows Kind.ingress n = tt
     grows Kind.egress n = tt
     grows Kind.feedback n = tt

@@ -13,6 +13,7 @@ use Rattle.semantics.specs.Op.{op}
 use Rattle.semantics.specs.Rank.{woven}
 use Rattle.semantics.specs.Time.{Time, times_before, last, is_before}
 use Rattle.semantics.proofs.MultisetSums.{≈-refl, append_same, linear_same, map_linear, filter_linear}
+use Rattle.semantics.proofs.ExceptAndIntersect.{only_left_same, in_both_same}
 use Rattle.semantics.proofs.KeyedParts.{paired_same}
 use Rattle.semantics.proofs.RecursiveEquations.{one_solution, solution, solution_solves}
 use Rattle.semantics.proofs.LexicographicOrder.{lex_cases}
@@ -82,6 +83,8 @@ op_same Kind.input t xs ys out h = ≈-refl []
 op_same Kind.output t xs ys out h = ≈-refl []
 op_same Kind.concat t xs ys out h = append_same (xs 0) (ys 0) (xs 1) (ys 1) (h 0 (omega arith)) (h 1 (omega arith))
 op_same Kind.distinct t xs ys out h = distinct_same (xs 0) (ys 0) (h 0 (omega arith))
+op_same Kind.except t xs ys out h = only_left_same (xs 0) (ys 0) (xs 1) (ys 1) (h 0 (omega arith)) (h 1 (omega arith))
+op_same Kind.intersect t xs ys out h = in_both_same (xs 0) (ys 0) (xs 1) (ys 1) (h 0 (omega arith)) (h 1 (omega arith))
 op_same Kind.ingress t xs ys out h = h 0 (omega arith)
 op_same Kind.egress t xs ys out h = h 0 (omega arith)
 op_same Kind.feedback t xs ys out h = h 0 (omega arith)
@@ -103,6 +106,8 @@ sends_same inputs Kind.input f h v out u k = ≈-refl (inputs v u.epoch)
 sends_same inputs Kind.output f h v out u k = k
 sends_same inputs Kind.concat f h v out u k = k
 sends_same inputs Kind.distinct f h v out u k = k
+sends_same inputs Kind.except f h v out u k = k
+sends_same inputs Kind.intersect f h v out u k = k
 sends_same inputs Kind.ingress f h v out u k = k
 sends_same inputs Kind.egress f h v out u k = k
 sends_same inputs Kind.feedback f h v out u k = k

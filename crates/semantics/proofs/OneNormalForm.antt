@@ -6,11 +6,11 @@ use Rattle.std.specs.Int.{int_wrap}
 use mir.Syntax.{w64}
 use Rattle.semantics.specs.Multiset.{one_if, IsAmong}
 use Rattle.semantics.specs.Meaning.{same_name}
-use Rattle.semantics.specs.FreeNames.{free, other_than}
+use Rattle.semantics.specs.FreeNames.{free, free_in_outputs, other_than}
 use Rattle.semantics.proofs.NamesAmong.{Decides-same_name, among_left, among_right, among_others, from_others}
-use Rattle.semantics.specs.Query.{Scalar, Cond, Name, Rel, Input, Let, Program}
-use Rattle.semantics.specs.Normal.{IsLiteral, NormalScalar, NormalCond, NormalRel, IsFilter, IsSelect, IsDistinct, UsesOnce, uses_all, use_count, replaced, Reaches, AllReached, NormalProgram}
-use Rattle.semantics.specs.Rewriting.{Steps, OneOf, ScalarStep, CondStep, RelStep, LetsStep, ProgramStep, RewritesTo, IsNormalForm}
+use Rattle.semantics.specs.Query.{Scalar, Cond, Name, Rel, Input, Let, Output, Program}
+use Rattle.semantics.specs.Normal.{IsLiteral, NormalScalar, NormalCond, NormalRel, IsFilter, IsSelect, IsSet, UsesOnce, uses_all, use_count, replaced, Reaches, AllReached, NormalProgram}
+use Rattle.semantics.specs.Rewriting.{Steps, OneOf, ScalarStep, CondStep, RelStep, LetsStep, OutputStep, ProgramStep, RewritesTo, IsNormalForm}
 
 -- ---- scalars
 
@@ -156,6 +156,8 @@ joined r d = Rel.filter r d
 
 abbrev alone : Rel → Rel
 alone (Rel.distinct r) = Rel.distinct r
+alone (Rel.except p q) = Rel.except p q
+alone (Rel.intersect p q) = Rel.intersect p q
 alone r = Rel.distinct r
 
 abbrev turned : ℕ → Name → Rel → Rel → Rel
@@ -170,6 +172,8 @@ norm (Rel.concat p q) = Rel.concat (norm p) (norm q)
 norm (Rel.join p q ps) = Rel.join (norm p) (norm q) ps
 norm (Rel.group r ks as') = Rel.group (norm r) ks as'
 norm (Rel.distinct r) = alone (norm r)
+norm (Rel.except p q) = Rel.except (norm p) (norm q)
+norm (Rel.intersect p q) = Rel.intersect (norm p) (norm q)
 norm (Rel.iterate n x r b) = turned n x (norm r) (norm b)
 
 fused-kept : (r : Rel) (ss : List Scalar) → (IsSelect r → UsesOnce ss → ⊥) → fused r ss ≡ Rel.select r ss
@@ -184,6 +188,8 @@ fused-kept (Rel.concat p q) ss n = refl
 fused-kept (Rel.join p q ps) ss n = refl
 fused-kept (Rel.group r ks as') ss n = refl
 fused-kept (Rel.distinct r) ss n = refl
+fused-kept (Rel.except p q) ss n = refl
+fused-kept (Rel.intersect p q) ss n = refl
 fused-kept (Rel.iterate k x r b) ss n = refl
 
 joined-kept : (r : Rel) (c : Cond) → (IsFilter r → ⊥) → joined r c ≡ Rel.filter r c
@@ -194,10 +200,14 @@ joined-kept (Rel.concat p q) c n = refl
 joined-kept (Rel.join p q ps) c n = refl
 joined-kept (Rel.group r ks as') c n = refl
 joined-kept (Rel.distinct r) c n = refl
+joined-kept (Rel.except p q) c n = refl
+joined-kept (Rel.intersect p q) c n = refl
 joined-kept (Rel.iterate k x r b) c n = refl
 
-alone-kept : (r : Rel) → (IsDistinct r → ⊥) → alone r ≡ Rel.distinct r
+alone-kept : (r : Rel) → (IsSet r → ⊥) → alone r ≡ Rel.distinct r
 alone-kept (Rel.distinct r) n = absurd (n tt)
+alone-kept (Rel.except p q) n = absurd (n tt)
+alone-kept (Rel.intersect p q) n = absurd (n tt)
 alone-kept (Rel.named x) n = refl
 alone-kept (Rel.select r ss) n = refl
 alone-kept (Rel.filter r c) n = refl
@@ -205,6 +215,18 @@ alone-kept (Rel.concat p q) n = refl
 alone-kept (Rel.join p q ps) n = refl
 alone-kept (Rel.group r ks as') n = refl
 alone-kept (Rel.iterate k x r b) n = refl
+
+alone-set : (r : Rel) → IsSet r → alone r ≡ r
+alone-set (Rel.distinct r) s = refl
+alone-set (Rel.except p q) s = refl
+alone-set (Rel.intersect p q) s = refl
+alone-set (Rel.named x) s = absurd s
+alone-set (Rel.select r ss) s = absurd s
+alone-set (Rel.filter r c) s = absurd s
+alone-set (Rel.concat p q) s = absurd s
+alone-set (Rel.join p q ps) s = absurd s
+alone-set (Rel.group r ks as') s = absurd s
+alone-set (Rel.iterate k x r b) s = absurd s
 
 turned-kept : (n : ℕ) (x : Name) (r b : Rel) → (n ≡ 0 → ⊥) → turned n x r b ≡ Rel.iterate n x r b
 turned-kept zero x r b h = absurd (h refl)
@@ -218,6 +240,8 @@ norm-normal (Rel.concat p q) n = ap₂ Rel.concat (norm-normal p n.0) (norm-norm
 norm-normal (Rel.join p q ps) n = ap₂ (λ u v. Rel.join u v ps) (norm-normal p n.0) (norm-normal q n.1)
 norm-normal (Rel.group r ks as') n = ap (λ u. Rel.group u ks as') (norm-normal r n)
 norm-normal (Rel.distinct r) n = ap alone (norm-normal r n.0) ∙ alone-kept r n.1
+norm-normal (Rel.except p q) n = ap₂ Rel.except (norm-normal p n.0) (norm-normal q n.1)
+norm-normal (Rel.intersect p q) n = ap₂ Rel.intersect (norm-normal p n.0) (norm-normal q n.1)
 norm-normal (Rel.iterate k x r b) n = ap₂ (turned k x) (norm-normal r n.0) (norm-normal b n.1) ∙ turned-kept k x r b n.2
 
 pub norm-step : {p q : Rel} → RelStep p q → norm p ≡ norm q
@@ -227,7 +251,7 @@ norm-step (RelStep.selects {r = r} {ss = ss} {ts = ts} h k o) =
     ap₂ fused (norm-normal (Rel.select r ss) h) (folds-normal ts k)
     ∙ ap (λ b. cond b (fused r (map fold (map (replaced ss) ts))) (Rel.select (Rel.select r ss) ts)) (once-is (uses_all ts) o)
     ∙ ap (λ u. fused u (map fold (map (replaced ss) ts))) (sym (norm-normal r h.0))
-norm-step (RelStep.distincts {r = r} h) = ap alone (norm-normal (Rel.distinct r) h) ∙ sym (norm-normal (Rel.distinct r) h)
+norm-step (RelStep.distincts {r = r} h s) = ap alone (norm-normal r h) ∙ alone-set r s ∙ sym (norm-normal r h)
 norm-step (RelStep.no_turns h) = refl
 norm-step (RelStep.select_of {ss = ss} d) = ap (λ u. fused u (map fold ss)) (norm-step d)
 norm-step (RelStep.select_scalar {r = r} d) = ap (fused (norm r)) (folds-step d)
@@ -239,6 +263,10 @@ norm-step (RelStep.join_left {q = q} {ps = ps} d) = ap (λ u. Rel.join u (norm q
 norm-step (RelStep.join_right {p = p} {ps = ps} d) = ap (λ u. Rel.join (norm p) u ps) (norm-step d)
 norm-step (RelStep.group_of {ks = ks} {as' = as'} d) = ap (λ u. Rel.group u ks as') (norm-step d)
 norm-step (RelStep.distinct_of d) = ap alone (norm-step d)
+norm-step (RelStep.except_left {q = q} d) = ap (λ u. Rel.except u (norm q)) (norm-step d)
+norm-step (RelStep.except_right {p = p} d) = ap (Rel.except (norm p)) (norm-step d)
+norm-step (RelStep.intersect_left {q = q} d) = ap (λ u. Rel.intersect u (norm q)) (norm-step d)
+norm-step (RelStep.intersect_right {p = p} d) = ap (Rel.intersect (norm p)) (norm-step d)
 norm-step (RelStep.loop_start {n = n} {x = x} {b = b} d) = ap (λ u. turned n x u (norm b)) (norm-step d)
 norm-step (RelStep.loop_body {n = n} {x = x} {r = r} d) = ap (turned n x (norm r)) (norm-step d)
 
@@ -256,6 +284,8 @@ fused-free (Rel.concat p q) ss = refl
 fused-free (Rel.join p q ps) ss = refl
 fused-free (Rel.group r ks as') ss = refl
 fused-free (Rel.distinct r) ss = refl
+fused-free (Rel.except p q) ss = refl
+fused-free (Rel.intersect p q) ss = refl
 fused-free (Rel.iterate k x r b) ss = refl
 
 joined-free : (r : Rel) (c : Cond) → free (joined r c) ≡ free r
@@ -266,10 +296,14 @@ joined-free (Rel.concat p q) c = refl
 joined-free (Rel.join p q ps) c = refl
 joined-free (Rel.group r ks as') c = refl
 joined-free (Rel.distinct r) c = refl
+joined-free (Rel.except p q) c = refl
+joined-free (Rel.intersect p q) c = refl
 joined-free (Rel.iterate k x r b) c = refl
 
 alone-free : (r : Rel) → free (alone r) ≡ free r
 alone-free (Rel.distinct r) = refl
+alone-free (Rel.except p q) = refl
+alone-free (Rel.intersect p q) = refl
 alone-free (Rel.named x) = refl
 alone-free (Rel.select r ss) = refl
 alone-free (Rel.filter r c) = refl
@@ -300,6 +334,8 @@ free-norm y (Rel.concat p q) h = among_both y (free (norm p)) (free (norm q)) (f
 free-norm y (Rel.join p q ps) h = among_both y (free (norm p)) (free (norm q)) (free p) (free q) (free-norm y p) (free-norm y q) h
 free-norm y (Rel.group r ks as') h = free-norm y r h
 free-norm y (Rel.distinct r) h = free-norm y r (subst (λ l. IsAmong y l) (alone-free (norm r)) h)
+free-norm y (Rel.except p q) h = among_both y (free (norm p)) (free (norm q)) (free p) (free q) (free-norm y p) (free-norm y q) h
+free-norm y (Rel.intersect p q) h = among_both y (free (norm p)) (free (norm q)) (free p) (free q) (free-norm y p) (free-norm y q) h
 free-norm y (Rel.iterate zero x r b) h = among_left y (free r) (filter (other_than x) (free b)) (free-norm y r h)
 free-norm y (Rel.iterate (suc n) x r b) h =
     among_both y (free (norm r)) (filter (other_than x) (free (norm b))) (free r) (filter (other_than x) (free b)) (free-norm y r)
@@ -328,82 +364,102 @@ among-is y (z ∷ zs) (inr h) = go (same_name z y) (among-is y zs h)
     go true k = refl
     go false k = k
 
-abbrev reaches : Name → List Let → Rel → Bool
-reaches x [] out = among x (free out)
-reaches x (a ∷ as') out = cond (reaches x as' out) true (cond (among x (free a.value)) (reaches a.name as' out) false)
+abbrev reaches : Name → List Let → List Output → Bool
+reaches x [] outs = among x (free_in_outputs outs)
+reaches x (a ∷ as') outs = cond (reaches x as' outs) true (cond (among x (free a.value)) (reaches a.name as' outs) false)
 
-reaches-true : (x : Name) (as' : List Let) (out : Rel) → reaches x as' out ≡ true → Reaches x as' out
-reaches-true x [] out e = among-true x (free out) e
-reaches-true x (a ∷ as') out e = go (λ y k. reaches-true y as' out k) (reaches x as' out) refl (among x (free a.value)) refl e
+reaches-true : (x : Name) (as' : List Let) (outs : List Output) → reaches x as' outs ≡ true → Reaches x as' outs
+reaches-true x [] outs e = among-true x (free_in_outputs outs) e
+reaches-true x (a ∷ as') outs e = go (λ y k. reaches-true y as' outs k) (reaches x as' outs) refl (among x (free a.value)) refl e
   where
-    go : ((y : Name) → reaches y as' out ≡ true → Reaches y as' out) → (b : Bool) → reaches x as' out ≡ b → (m : Bool) → among x (free a.value) ≡ m → cond b true (cond m (reaches a.name as' out) false) ≡ true → Reaches x as' out ⊎ (IsAmong x (free a.value) × Reaches a.name as' out)
+    go : ((y : Name) → reaches y as' outs ≡ true → Reaches y as' outs) → (b : Bool) → reaches x as' outs ≡ b → (m : Bool) → among x (free a.value) ≡ m → cond b true (cond m (reaches a.name as' outs) false) ≡ true → Reaches x as' outs ⊎ (IsAmong x (free a.value) × Reaches a.name as' outs)
     go ih true i m j k = inl (ih x i)
     go ih false i true j k = inr (among-true x (free a.value) j, ih a.name k)
     go ih false i false j k = absurd (clash (sym k))
 
-reaches-is : (x : Name) (as' : List Let) (out : Rel) → Reaches x as' out → reaches x as' out ≡ true
-reaches-is x [] out h = among-is x (free out) h
-reaches-is x (a ∷ as') out (inl h) = ap (λ b. cond b true (cond (among x (free a.value)) (reaches a.name as' out) false)) (reaches-is x as' out h)
-reaches-is x (a ∷ as') out (inr h) = go (reaches x as' out) (among-is x (free a.value) h.0) (reaches-is a.name as' out h.1)
+reaches-is : (x : Name) (as' : List Let) (outs : List Output) → Reaches x as' outs → reaches x as' outs ≡ true
+reaches-is x [] outs h = among-is x (free_in_outputs outs) h
+reaches-is x (a ∷ as') outs (inl h) = ap (λ b. cond b true (cond (among x (free a.value)) (reaches a.name as' outs) false)) (reaches-is x as' outs h)
+reaches-is x (a ∷ as') outs (inr h) = go (reaches x as' outs) (among-is x (free a.value) h.0) (reaches-is a.name as' outs h.1)
   where
-    go : (b : Bool) → among x (free a.value) ≡ true → reaches a.name as' out ≡ true → cond b true (cond (among x (free a.value)) (reaches a.name as' out) false) ≡ true
+    go : (b : Bool) → among x (free a.value) ≡ true → reaches a.name as' outs ≡ true → cond b true (cond (among x (free a.value)) (reaches a.name as' outs) false) ≡ true
     go true m r = refl
-    go false m r = ap (λ c. cond c (reaches a.name as' out) false) m ∙ r
+    go false m r = ap (λ c. cond c (reaches a.name as' outs) false) m ∙ r
 
 -- ---- programs
+
+abbrev output_norm : Output → Output
+output_norm o = record { name = o.name; value = norm o.value }
+
+abbrev norms : List Output → List Output
+norms os = map output_norm os
+
+free-norms : (y : Name) (os : List Output) → IsAmong y (free_in_outputs (norms os)) → IsAmong y (free_in_outputs os)
+free-norms y [] h = h
+free-norms y (o ∷ os) h = among_both y (free (norm o.value)) (free_in_outputs (norms os)) (free o.value) (free_in_outputs os) (free-norm y o.value) (free-norms y os) h
 
 abbrev let_norm : Let → Let
 let_norm a = record { name = a.name; value = norm a.value }
 
-abbrev pruned : List Let → Rel → List Let
-pruned [] out = []
-pruned (a ∷ as') out = cond (reaches a.name (pruned as' out) out) (let_norm a ∷ pruned as' out) (pruned as' out)
+abbrev pruned : List Let → List Output → List Let
+pruned [] outs = []
+pruned (a ∷ as') outs = cond (reaches a.name (pruned as' outs) outs) (let_norm a ∷ pruned as' outs) (pruned as' outs)
 
-pruned-normal : (as' : List Let) (out : Rel) → AllByRecursion (λ (a : Let). NormalRel a.value) as' → AllReached as' out → pruned as' out ≡ as'
-pruned-normal [] out n r = refl
-pruned-normal (a ∷ as') out n r =
-    ap (λ l. cond (reaches a.name l out) (let_norm a ∷ l) l) (pruned-normal as' out n.1 r.1)
-    ∙ ap (λ b. cond b (let_norm a ∷ as') as') (reaches-is a.name as' out r.0)
+pruned-normal : (as' : List Let) (outs : List Output) → AllByRecursion (λ (a : Let). NormalRel a.value) as' → AllReached as' outs → pruned as' outs ≡ as'
+pruned-normal [] outs n r = refl
+pruned-normal (a ∷ as') outs n r =
+    ap (λ l. cond (reaches a.name l outs) (let_norm a ∷ l) l) (pruned-normal as' outs n.1 r.1)
+    ∙ ap (λ b. cond b (let_norm a ∷ as') as') (reaches-is a.name as' outs r.0)
     ∙ ap (λ v. record { name = a.name; value = v } ∷ as') (norm-normal a.value n.0)
 
-reaches-shrinks : (x : Name) (as' : List Let) (out : Rel) → Reaches x (pruned as' (norm out)) (norm out) → Reaches x as' out
-reaches-shrinks x [] out h = free-norm x out h
-reaches-shrinks x (a ∷ as') out h = go (λ y k. reaches-shrinks y as' out k) (reaches a.name (pruned as' (norm out)) (norm out)) h
+reaches-shrinks : (x : Name) (as' : List Let) (outs : List Output) → Reaches x (pruned as' (norms outs)) (norms outs) → Reaches x as' outs
+reaches-shrinks x [] outs h = free-norms x outs h
+reaches-shrinks x (a ∷ as') outs h = go (λ y k. reaches-shrinks y as' outs k) (reaches a.name (pruned as' (norms outs)) (norms outs)) h
   where
-    go : ((y : Name) → Reaches y (pruned as' (norm out)) (norm out) → Reaches y as' out) → (b : Bool) → Reaches x (cond b (let_norm a ∷ pruned as' (norm out)) (pruned as' (norm out))) (norm out) → Reaches x as' out ⊎ (IsAmong x (free a.value) × Reaches a.name as' out)
+    go : ((y : Name) → Reaches y (pruned as' (norms outs)) (norms outs) → Reaches y as' outs) → (b : Bool) → Reaches x (cond b (let_norm a ∷ pruned as' (norms outs)) (pruned as' (norms outs))) (norms outs) → Reaches x as' outs ⊎ (IsAmong x (free a.value) × Reaches a.name as' outs)
     go ih true (inl k) = inl (ih x k)
     go ih true (inr k) = inr (free-norm x a.value k.0, ih a.name k.1)
     go ih false k = inl (ih x k)
 
-not_kept : (a : Let) (as' : List Let) (out : Rel) → (Reaches a.name as' out → ⊥) → reaches a.name (pruned as' (norm out)) (norm out) ≡ false
-not_kept a as' out u = go (reaches a.name (pruned as' (norm out)) (norm out)) refl
+not_kept : (a : Let) (as' : List Let) (outs : List Output) → (Reaches a.name as' outs → ⊥) → reaches a.name (pruned as' (norms outs)) (norms outs) ≡ false
+not_kept a as' outs u = go (reaches a.name (pruned as' (norms outs)) (norms outs)) refl
   where
-    go : (b : Bool) → reaches a.name (pruned as' (norm out)) (norm out) ≡ b → b ≡ false
-    go true e = absurd (u (reaches-shrinks a.name as' out (reaches-true a.name (pruned as' (norm out)) (norm out) e)))
+    go : (b : Bool) → reaches a.name (pruned as' (norms outs)) (norms outs) ≡ b → b ≡ false
+    go true e = absurd (u (reaches-shrinks a.name as' outs (reaches-true a.name (pruned as' (norms outs)) (norms outs) e)))
     go false e = refl
 
-lets-step : {out : Rel} {as' bs : List Let} → LetsStep out as' bs → pruned as' (norm out) ≡ pruned bs (norm out)
-lets-step {out} (LetsStep.unreached {a = a} {as' = as'} all u) = ap (λ b. cond b (let_norm a ∷ pruned as' (norm out)) (pruned as' (norm out))) (not_kept a as' out u)
-lets-step {out} (LetsStep.value {x = x} {as' = as'} d) =
-    ap (λ v. cond (reaches x (pruned as' (norm out)) (norm out)) (record { name = x; value = v } ∷ pruned as' (norm out)) (pruned as' (norm out))) (norm-step d)
-lets-step {out} (LetsStep.later {a = a} d) = ap (λ l. cond (reaches a.name l (norm out)) (let_norm a ∷ l) l) (lets-step d)
+lets-step : {outs : List Output} {as' bs : List Let} → LetsStep outs as' bs → pruned as' (norms outs) ≡ pruned bs (norms outs)
+lets-step {outs} (LetsStep.unreached {a = a} {as' = as'} all u) = ap (λ b. cond b (let_norm a ∷ pruned as' (norms outs)) (pruned as' (norms outs))) (not_kept a as' outs u)
+lets-step {outs} (LetsStep.value {x = x} {as' = as'} d) =
+    ap (λ v. cond (reaches x (pruned as' (norms outs)) (norms outs)) (record { name = x; value = v } ∷ pruned as' (norms outs)) (pruned as' (norms outs))) (norm-step d)
+lets-step {outs} (LetsStep.later {a = a} d) = ap (λ l. cond (reaches a.name l (norms outs)) (let_norm a ∷ l) l) (lets-step d)
 
-abbrev program : List Input → List Let → Rel → Program
-program inputs lets out = record { inputs = inputs; lets = lets; output = out }
+abbrev program : List Input → List Let → List Output → Program
+program inputs lets outs = record { inputs = inputs; lets = lets; outputs = outs }
 
 abbrev normed : Program → Program
-normed p = program p.inputs (pruned p.lets (norm p.output)) (norm p.output)
+normed p = program p.inputs (pruned p.lets (norms p.outputs)) (norms p.outputs)
+
+norms-step : {os os' : List Output} → OneOf OutputStep os os' → norms os ≡ norms os'
+norms-step (OneOf.here {xs = os} (OutputStep.value {x = x} d)) = ap (λ v. record { name = x; value = v } ∷ norms os) (norm-step d)
+norms-step (OneOf.later {x = o} d) = ap (λ l. output_norm o ∷ l) (norms-step d)
+
+norms-normal : (os : List Output) → AllByRecursion (λ (o : Output). NormalRel o.value) os → norms os ≡ os
+norms-normal [] n = refl
+norms-normal (o ∷ os) n = ap₂ (λ v l. record { name = o.name; value = v } ∷ l) (norm-normal o.value n.0) (norms-normal os n.1)
 
 program-step : {p q : Program} → ProgramStep p q → normed p ≡ normed q
-program-step (ProgramStep.lets {inputs = inputs} {out = out} d) = ap (λ l. program inputs l (norm out)) (lets-step d)
-program-step (ProgramStep.output {inputs = inputs} {as' = as'} d) = ap (λ o. program inputs (pruned as' o) o) (norm-step d)
+program-step (ProgramStep.lets {inputs = inputs} {outs = outs} d) = ap (λ l. program inputs l (norms outs)) (lets-step d)
+program-step (ProgramStep.outputs {inputs = inputs} {as' = as'} d) = ap (λ o. program inputs (pruned as' o) o) (norms-step d)
 
 program-steps : {p q : Program} → RewritesTo p q → normed p ≡ normed q
 program-steps Steps.stay = refl
 program-steps (Steps.next s d) = program-step s ∙ program-steps d
 
 program-normal : (p : Program) → NormalProgram p → normed p ≡ p
-program-normal p n = ap (λ o. program p.inputs (pruned p.lets o) o) (norm-normal p.output n.output) ∙ ap (λ l. program p.inputs l p.output) (pruned-normal p.lets p.output n.lets n.reached)
+program-normal p n =
+    ap (λ o. program p.inputs (pruned p.lets o) o) (norms-normal p.outputs n.outputs)
+    ∙ ap (λ l. program p.inputs l p.outputs) (pruned-normal p.lets p.outputs n.lets n.reached)
 
 pub one_normal_form : (p q q' : Program) → IsNormalForm q p → IsNormalForm q' p → q ≡ q'
 one_normal_form p q q' f g = sym (program-normal q f.normal) ∙ sym (program-steps f.reached) ∙ program-steps g.reached ∙ program-normal q' g.normal

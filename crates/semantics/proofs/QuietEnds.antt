@@ -8,14 +8,14 @@ use Rattle.semantics.specs.Multiset.{IsAmong, Record, ◌≈◌}
 use Rattle.semantics.specs.Flow.{IsEdgeTime, Inputs, Flow, IsFlow, port_flow}
 use Rattle.semantics.specs.Kinds.{Kind, ends_turn}
 use Rattle.semantics.specs.Graph.{Port, Vertex, Graph, no_vertex, vertex, source}
-use Rattle.semantics.specs.Lower.{Ports, stands_for, port, new_vertex, carry, carried_ports, Lowered, lower, looped, input_vertices, input_ports, lower_lets, lets_of, output_of, lowered}
+use Rattle.semantics.specs.Lower.{Ports, stands_for, port, new_vertex, carry, carried_ports, Lowered, lower, looped, input_vertices, input_ports, lower_lets, lets_of, lower_outputs, outputs_of, lowered}
 use Rattle.semantics.specs.Meaning.{same_name}
-use Rattle.semantics.specs.Query.{Name, Rel, Input, Let, Program}
+use Rattle.semantics.specs.Query.{Name, Rel, Input, Let, Output, Program}
 use Rattle.semantics.specs.Time.{Time, last_from, front_from, last, front, deeper, outer, turn_count}
 use Rattle.semantics.proofs.MultisetSums.{≈-trans, ≈-from}
 use Rattle.semantics.proofs.LoweredRelations.{Stands, stands_left, stands_right, held_port, meaning_none, lower_means}
 use Rattle.semantics.proofs.LoweredPrograms.{length-input_vertices, all_at, stands_whole}
-use Rattle.semantics.proofs.FittingPrograms.{Limited, LetsFit, IsFitting}
+use Rattle.semantics.proofs.FittingPrograms.{Limited, LetsFit, AllFit, IsFitting}
 use Rattle.semantics.proofs.VertexFlows.{length-deeper, out_gate_round, out_gate_done, out_hold_next}
 
 -- a time inside a loop is that of a turn
@@ -159,6 +159,14 @@ module _ (g : Graph) (inputs : Inputs) (f : Flow) (flow : IsFlow g inputs f) whe
       let a = lower p ports d k in
       let b = lower q ports d (k + length a.made) in
       all_quiet-append a.made _ (relation_quiet p m.0 ports d k (stands_left g k a.made _ s)) (one_quiet b.made _ (relation_quiet q m.1 ports d (k + length a.made) (stands_left g (k + length a.made) b.made _ (stands_right g k a.made _ s))) refl)
+  relation_quiet (Rel.except p q) m ports d k s =
+      let a = lower p ports d k in
+      let b = lower q ports d (k + length a.made) in
+      all_quiet-append a.made _ (relation_quiet p m.0 ports d k (stands_left g k a.made _ s)) (one_quiet b.made _ (relation_quiet q m.1 ports d (k + length a.made) (stands_left g (k + length a.made) b.made _ (stands_right g k a.made _ s))) refl)
+  relation_quiet (Rel.intersect p q) m ports d k s =
+      let a = lower p ports d k in
+      let b = lower q ports d (k + length a.made) in
+      all_quiet-append a.made _ (relation_quiet p m.0 ports d k (stands_left g k a.made _ s)) (one_quiet b.made _ (relation_quiet q m.1 ports d (k + length a.made) (stands_left g (k + length a.made) b.made _ (stands_right g k a.made _ s))) refl)
   relation_quiet (Rel.join p q ps) m ports d k s =
       let a = lower p ports d k in
       let b = lower q ports d (k + length a.made) in
@@ -177,6 +185,16 @@ module _ (g : Graph) (inputs : Inputs) (f : Flow) (flow : IsFlow g inputs f) whe
       let rest = lower_lets as' (stands_for a.name r.gives ports) (k + length r.made) in
       all_quiet-append r.made rest.made (relation_quiet a.value m.0.limited ports 0 k (stands_left g k r.made rest.made s)) (lets_quiet as' (a.name ∷ xs) (stands_for a.name r.gives ports) (k + length r.made) m.1 (stands_right g k r.made rest.made s))
 
+  outputs_quiet : (os : List Output) (xs : List Name) (ports : Ports) (k : ℕ) → AllFit xs os → Stands g k (lower_outputs os ports k) → AllQuiet (lower_outputs os ports k)
+  unfolding lower_outputs
+  outputs_quiet [] xs ports k m s = tt
+  outputs_quiet (o ∷ os) xs ports k m s =
+      let r = lower o.value ports 0 k in
+      let rest = lower_outputs os ports (suc (k + length r.made)) in
+      let end = new_vertex Kind.output 0 (r.gives ∷ []) in
+      all_quiet-append r.made (end ∷ rest) (relation_quiet o.value m.0.limited ports 0 k (stands_left g k r.made (end ∷ rest) s))
+      (other_kind end refl, outputs_quiet os xs ports (suc (k + length r.made)) m.1 (stands_right g k r.made (end ∷ rest) s).1)
+
   quiet_at : (vs : List Vertex) → AllQuiet vs → (w : ℕ) → w < length vs → QuietAs (slice_index_or vs w no_vertex)
   quiet_at [] s w l = absurd (omega arith)
   quiet_at (v ∷ vs) s zero l = s.0
@@ -193,10 +211,9 @@ lowered_quiet p fits inputs f flow =
     let n = length p.inputs in
     let ins = input_vertices p.inputs in
     let lets = (lets_of p).made in
-    let outs = (output_of p).made in
-    let end : List Vertex = new_vertex Kind.output 0 ((output_of p).gives ∷ []) ∷ [] in
-    let st_lets : Stands g n (lets ++ (outs ++ end)) = subst (λ k. Stands g k (lets ++ (outs ++ end))) (omega (arith, length-input_vertices p.inputs)) (stands_right g 0 ins (lets ++ (outs ++ end)) (stands_whole g)) in
+    let outs = outputs_of p in
+    let st_lets : Stands g n (lets ++ outs) = subst (λ k. Stands g k (lets ++ outs)) (omega (arith, length-input_vertices p.inputs)) (stands_right g 0 ins (lets ++ outs) (stands_whole g)) in
     quiet_edge g inputs f flow
-    (all_quiet-append g inputs f flow ins (lets ++ (outs ++ end)) (inputs_quiet g inputs f flow p.inputs)
-    (all_quiet-append g inputs f flow lets (outs ++ end) (lets_quiet g inputs f flow p.lets _ (input_ports p.inputs 0) n fits.lets (stands_left g n lets (outs ++ end) st_lets))
-    (one_quiet g inputs f flow outs _ (relation_quiet g inputs f flow p.output fits.output.limited (lets_of p).ports 0 (n + length lets) (stands_left g (n + length lets) outs end (stands_right g n lets (outs ++ end) st_lets))) refl)))
+    (all_quiet-append g inputs f flow ins (lets ++ outs) (inputs_quiet g inputs f flow p.inputs)
+    (all_quiet-append g inputs f flow lets outs (lets_quiet g inputs f flow p.lets _ (input_ports p.inputs 0) n fits.lets (stands_left g n lets outs st_lets))
+    (outputs_quiet g inputs f flow p.outputs _ (lets_of p).ports (n + length lets) fits.outputs (stands_right g n lets outs st_lets))))

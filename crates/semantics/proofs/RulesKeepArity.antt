@@ -4,9 +4,9 @@ use Rattle.std.specs.List.{AllByRecursion}
 use Rattle.semantics.proofs.NamesAmong.{Decides-same_name, among_left, among_right, among_others}
 use Rattle.semantics.specs.Multiset.{IsAmong}
 use Rattle.semantics.specs.Meaning.{same_name}
-use Rattle.semantics.specs.FreeNames.{free}
-use Rattle.semantics.specs.Query.{Scalar, Cond, Name, Rel, Input, Let}
-use Rattle.semantics.specs.Typing.{ScalarFits, Scope, lookup, entry, HasArity, after_inputs, RestFits, WellTyped}
+use Rattle.semantics.specs.FreeNames.{free, free_in_outputs}
+use Rattle.semantics.specs.Query.{Scalar, Cond, Name, Rel, Input, Let, Output}
+use Rattle.semantics.specs.Typing.{ScalarFits, Scope, lookup, entry, HasArity, after_inputs, OutputsFit, RestFits, WellTyped}
 use Rattle.semantics.specs.Normal.{replaced, Reaches, AllReached}
 
 -- ---- the rules on relations
@@ -45,6 +45,14 @@ pub arity_distinct : (r : Rel) (scope : Scope) (l n : ℕ) → HasArity (Rel.dis
 unfolding HasArity
 arity_distinct r scope l n t = t
 
+pub arity_distinct_except : (p q : Rel) (scope : Scope) (l n : ℕ) → HasArity (Rel.distinct (Rel.except p q)) scope l n → HasArity (Rel.except p q) scope l n
+unfolding HasArity
+arity_distinct_except p q scope l n t = t
+
+pub arity_distinct_intersect : (p q : Rel) (scope : Scope) (l n : ℕ) → HasArity (Rel.distinct (Rel.intersect p q)) scope l n → HasArity (Rel.intersect p q) scope l n
+unfolding HasArity
+arity_distinct_intersect p q scope l n t = t
+
 pub arity_no_turns : (x : Name) (r b : Rel) (scope : Scope) (l n : ℕ) → HasArity (Rel.iterate 0 x r b) scope l n → HasArity r scope l n
 unfolding HasArity
 arity_no_turns x r b scope l n t = t.2
@@ -60,6 +68,8 @@ arity_free (Rel.concat p q) scope scope' l n h none t = (arity_free p scope scop
 arity_free (Rel.join p q ps) scope scope' l n h none t = (t.0, t.1, arity_free p scope scope' l t.0 (λ y j. h y (among_left y (free p) (free q) j)) none t.2, arity_free q scope scope' l t.1 (λ y j. h y (among_right y (free p) (free q) j)) none t.3, t.4, t.5, t.6)
 arity_free (Rel.group r ks as') scope scope' l n h none t = (t.0, arity_free r scope scope' l t.0 h none t.1, t.2, t.3, t.4, t.5)
 arity_free (Rel.distinct r) scope scope' l n h none t = arity_free r scope scope' l n h none t
+arity_free (Rel.except p q) scope scope' l n h none t = (arity_free p scope scope' l n (λ y j. h y (among_left y (free p) (free q) j)) none t.0, arity_free q scope scope' l n (λ y j. h y (among_right y (free p) (free q) j)) none t.1)
+arity_free (Rel.intersect p q) scope scope' l n h none t = (arity_free p scope scope' l n (λ y j. h y (among_left y (free p) (free q) j)) none t.0, arity_free q scope scope' l n (λ y j. h y (among_right y (free p) (free q) j)) none t.1)
 arity_free (Rel.iterate k x r b) scope scope' l n h none t = (
   t.0,
   t.1,
@@ -76,18 +86,28 @@ arity_free (Rel.iterate k x r b) scope scope' l n h none t = (
     absent y true e = e
     absent y false e = none y e
 
--- ---- a let that the output doesn't reach may be dropped, where those after it are reached
+-- ---- a let that no output reaches may be dropped, where those after it are reached
 
-rest_reached : (as' : List Let) (out : Rel) (n : ℕ) (scope scope' : Scope) → AllReached as' out → ((y : Name) → Reaches y as' out → lookup scope y ≡ lookup scope' y) → ((y : Name) → lookup scope y ≡ None → lookup scope' y ≡ None) → RestFits scope as' out n → RestFits scope' as' out n
-rest_reached [] out n scope scope' all h none t = arity_free out scope scope' 0 n h none t
-rest_reached (a ∷ as') out n scope scope' all h none t = (
+outputs_free : (os : List Output) (ns : List ℕ) (before scope scope' : Scope) → ((y : Name) → IsAmong y (free_in_outputs os) → lookup scope y ≡ lookup scope' y) → ((y : Name) → lookup scope y ≡ None → lookup scope' y ≡ None) → OutputsFit scope before os ns → OutputsFit scope' before os ns
+outputs_free [] [] before scope scope' h none t = tt
+outputs_free [] (n ∷ ns) before scope scope' h none t = t
+outputs_free (o ∷ os) [] before scope scope' h none t = t
+outputs_free (o ∷ os) (n ∷ ns) before scope scope' h none t = (
+  arity_free o.value scope scope' 0 n (λ y j. h y (among_left y (free o.value) (free_in_outputs os) j)) none t.0,
+  t.1,
+  outputs_free os ns (entry o.name n ∷ before) scope scope' (λ y j. h y (among_right y (free o.value) (free_in_outputs os) j)) none t.2,
+)
+
+rest_reached : (as' : List Let) (outs : List Output) (ns : List ℕ) (scope scope' : Scope) → AllReached as' outs → ((y : Name) → Reaches y as' outs → lookup scope y ≡ lookup scope' y) → ((y : Name) → lookup scope y ≡ None → lookup scope' y ≡ None) → RestFits scope as' outs ns → RestFits scope' as' outs ns
+rest_reached [] outs ns scope scope' all h none t = outputs_free outs ns [] scope scope' h none t
+rest_reached (a ∷ as') outs ns scope scope' all h none t = (
   t.0,
   arity_free a.value scope scope' 0 t.0 (λ y j. h y (inr (j, all.0))) none t.1,
   none a.name t.2,
-  rest_reached as' out n (entry a.name t.0 ∷ scope) (entry a.name t.0 ∷ scope') all.1 (λ y j. agree y t.0 j (same_name a.name y)) (λ y. absent y t.0 (same_name a.name y)) t.3,
+  rest_reached as' outs ns (entry a.name t.0 ∷ scope) (entry a.name t.0 ∷ scope') all.1 (λ y j. agree y t.0 j (same_name a.name y)) (λ y. absent y t.0 (same_name a.name y)) t.3,
 )
   where
-    agree : (y : Name) (m : ℕ) → Reaches y as' out → (q : Bool) → cond q (Some m) (lookup scope y) ≡ cond q (Some m) (lookup scope' y)
+    agree : (y : Name) (m : ℕ) → Reaches y as' outs → (q : Bool) → cond q (Some m) (lookup scope y) ≡ cond q (Some m) (lookup scope' y)
     agree y m j true = refl
     agree y m j false = h y (inl j)
 
@@ -95,11 +115,11 @@ rest_reached (a ∷ as') out n scope scope' all h none t = (
     absent y m true e = e
     absent y m false e = none y e
 
-pub rest_dropped : (before : List Let) (a : Let) (after : List Let) (out : Rel) (n : ℕ) (scope : Scope) → AllReached after out → (Reaches a.name after out → ⊥) → RestFits scope (before ++ (a ∷ after)) out n → RestFits scope (before ++ after) out n
-rest_dropped [] a after out n scope all u t = rest_reached after out n (entry a.name t.0 ∷ scope) scope all (λ y j. agree y j (same_name a.name y) refl) (λ y. absent y (same_name a.name y)) t.3
+pub rest_dropped : (before : List Let) (a : Let) (after : List Let) (outs : List Output) (ns : List ℕ) (scope : Scope) → AllReached after outs → (Reaches a.name after outs → ⊥) → RestFits scope (before ++ (a ∷ after)) outs ns → RestFits scope (before ++ after) outs ns
+rest_dropped [] a after outs ns scope all u t = rest_reached after outs ns (entry a.name t.0 ∷ scope) scope all (λ y j. agree y j (same_name a.name y) refl) (λ y. absent y (same_name a.name y)) t.3
   where
-    agree : (y : Name) → Reaches y after out → (q : Bool) → same_name a.name y ≡ q → cond q (Some t.0) (lookup scope y) ≡ lookup scope y
-    agree y j true e = absurd (u (subst (λ w. Reaches w after out) (sym ((Decides-same_name a.name y).0 e)) j))
+    agree : (y : Name) → Reaches y after outs → (q : Bool) → same_name a.name y ≡ q → cond q (Some t.0) (lookup scope y) ≡ lookup scope y
+    agree y j true e = absurd (u (subst (λ w. Reaches w after outs) (sym ((Decides-same_name a.name y).0 e)) j))
     agree y j false e = refl
 
     absent : (y : Name) (q : Bool) → cond q (Some t.0) (lookup scope y) ≡ None → lookup scope y ≡ None
@@ -108,8 +128,8 @@ rest_dropped [] a after out n scope all u t = rest_reached after out n (entry a.
         clash : Some t.0 ≡ None → ⊥
         clash k = cc
     absent y false e = e
-rest_dropped (b ∷ before) a after out n scope all u t = (t.0, t.1, t.2, rest_dropped before a after out n (entry b.name t.0 ∷ scope) all u t.3)
+rest_dropped (b ∷ before) a after outs ns scope all u t = (t.0, t.1, t.2, rest_dropped before a after outs ns (entry b.name t.0 ∷ scope) all u t.3)
 
-pub typed_dropped : (inputs : List Input) (before : List Let) (a : Let) (after : List Let) (out : Rel) (n : ℕ) → AllReached after out → (Reaches a.name after out → ⊥)
-    → WellTyped (record { inputs = inputs; lets = before ++ (a ∷ after); output = out }) n → WellTyped (record { inputs = inputs; lets = before ++ after; output = out }) n
-typed_dropped inputs before a after out n all u t = record { few = t.few; inputs = t.inputs; rest = rest_dropped before a after out n (after_inputs [] inputs) all u t.rest }
+pub typed_dropped : (inputs : List Input) (before : List Let) (a : Let) (after : List Let) (outs : List Output) (ns : List ℕ) → AllReached after outs → (Reaches a.name after outs → ⊥)
+    → WellTyped (record { inputs = inputs; lets = before ++ (a ∷ after); outputs = outs }) ns → WellTyped (record { inputs = inputs; lets = before ++ after; outputs = outs }) ns
+typed_dropped inputs before a after outs ns all u t = record { few = t.few; few_outputs = t.few_outputs; inputs = t.inputs; rest = rest_dropped before a after outs ns (after_inputs [] inputs) all u t.rest }

@@ -1,14 +1,14 @@
 -- The rules of the normaliser keep the meaning.
-use Rattle.std.proofs.Common.{inr, ◌≡◌, ℕ, zero, suc, nat_lt, Bool, true, false, cond, ◌&&◌, List, [], ◌∷◌, ◌++◌, map, filter, slice_index_or, refl, sym, ap, ap₂, subst, ◌∙◌, arith, inl, ℤ, pos, ◌+ℤ◌, ◌-ℤ◌, ◌*ℤ◌, neg_ℤ}
+use Rattle.std.proofs.Common.{inr, ◌≡◌, ℕ, zero, suc, nat_lt, Bool, true, false, cond, not, ◌&&◌, List, [], ◌∷◌, ◌++◌, map, filter, slice_index_or, refl, sym, ap, ap₂, subst, ◌∙◌, arith, inl, ℤ, pos, ◌+ℤ◌, ◌-ℤ◌, ◌*ℤ◌, neg_ℤ}
 use Rattle.std.specs.Int.{int_wrap}
 use Rattle.std.proofs.lemmas.Int.{ints, int_wrap-add_left, int_wrap-add_right, int_wrap-sub_right, int_wrap-mul_left, int_wrap-mul_right}
 use mir.Syntax.{w64}
 use Rattle.semantics.proofs.NamesAmong.{Decides-same_name, among_left, among_right, among_others}
-use Rattle.semantics.specs.FreeNames.{free, other_than}
-use Rattle.semantics.specs.Multiset.{IsAmong, Record, one_if, count, each_once}
-use Rattle.semantics.specs.Meaning.{field, exact, value, holds, selected, kept, same_name, Names, bind, repeated, meaning, let_names, input_names, program_meaning, paired, grouped}
+use Rattle.semantics.specs.FreeNames.{free, free_in_outputs, other_than}
+use Rattle.semantics.specs.Multiset.{IsAmong, Record, one_if, count, is_present, each_once}
+use Rattle.semantics.specs.Meaning.{field, exact, value, holds, selected, kept, same_name, Names, bind, repeated, meaning, let_names, input_names, program_meaning, paired, grouped, only_left, in_both}
 use Rattle.semantics.specs.Normal.{replaced, Reaches}
-use Rattle.semantics.specs.Query.{Scalar, Cond, Name, Rel, Input, Let}
+use Rattle.semantics.specs.Query.{Scalar, Cond, Name, Rel, Input, Let, Output}
 use Rattle.semantics.proofs.DistinctAndGroups.{count-distinct}
 
 -- ---- scalars: the value of a sum is that of its parts' values
@@ -118,6 +118,8 @@ meaning-free (Rel.concat p q) names names' h = ap₂ (λ a b. a ++ b) (meaning-f
 meaning-free (Rel.join p q ps) names names' h = ap₂ (paired ps) (meaning-free p names names' (λ y j. h y (among_left y (free p) (free q) j))) (meaning-free q names names' (λ y j. h y (among_right y (free p) (free q) j)))
 meaning-free (Rel.group r ks as') names names' h = ap (grouped ks as') (meaning-free r names names' h)
 meaning-free (Rel.distinct r) names names' h = ap each_once (meaning-free r names names' h)
+meaning-free (Rel.except p q) names names' h = ap₂ only_left (meaning-free p names names' (λ y j. h y (among_left y (free p) (free q) j))) (meaning-free q names names' (λ y j. h y (among_right y (free p) (free q) j)))
+meaning-free (Rel.intersect p q) names names' h = ap₂ in_both (meaning-free p names names' (λ y j. h y (among_left y (free p) (free q) j))) (meaning-free q names names' (λ y j. h y (among_right y (free p) (free q) j)))
 meaning-free (Rel.iterate n x r b) names names' h =
     turns-same (λ xs. meaning b (bind x xs names)) (λ xs. meaning b (bind x xs names')) (λ xs. meaning-free b (bind x xs names) (bind x xs names') (λ y j. go xs y (same_name x y) refl j)) n (meaning r names) (meaning r names')
     (meaning-free r names names' (λ y j. h y (among_left y (free r) (filter (other_than x) (free b)) j)))
@@ -128,23 +130,33 @@ meaning-free (Rel.iterate n x r b) names names' h =
 
 -- ---- unreached lets
 
--- names that agree where the output reaches them give it one meaning
-pub meaning-reached : (as' : List Let) (out : Rel) (names names' : Names) → ((y : Name) → Reaches y as' out → names y ≡ names' y) → meaning out (let_names as' names) ≡ meaning out (let_names as' names')
+-- what each output means
+abbrev outputs_meanings : List Output → Names → List (List Record)
+outputs_meanings os names = map (λ (o : Output). meaning o.value names) os
+
+outputs-free : (os : List Output) (names names' : Names) → ((y : Name) → IsAmong y (free_in_outputs os) → names y ≡ names' y) → outputs_meanings os names ≡ outputs_meanings os names'
+outputs-free [] names names' h = refl
+outputs-free (o ∷ os) names names' h =
+    ap₂ (λ a l. a ∷ l) (meaning-free o.value names names' (λ y j. h y (among_left y (free o.value) (free_in_outputs os) j)))
+    (outputs-free os names names' (λ y j. h y (among_right y (free o.value) (free_in_outputs os) j)))
+
+-- names that agree where an output reaches them give each output one meaning
+pub meaning-reached : (as' : List Let) (outs : List Output) (names names' : Names) → ((y : Name) → Reaches y as' outs → names y ≡ names' y) → outputs_meanings outs (let_names as' names) ≡ outputs_meanings outs (let_names as' names')
 unfolding let_names
-meaning-reached [] out names names' h = meaning-free out names names' h
-meaning-reached (a ∷ as') out names names' h = meaning-reached as' out (bind a.name (meaning a.value names) names) (bind a.name (meaning a.value names') names') (λ y j. go y j (same_name a.name y) refl)
+meaning-reached [] outs names names' h = outputs-free outs names names' h
+meaning-reached (a ∷ as') outs names names' h = meaning-reached as' outs (bind a.name (meaning a.value names) names) (bind a.name (meaning a.value names') names') (λ y j. go y j (same_name a.name y) refl)
   where
-    go : (y : Name) → Reaches y as' out → (t : Bool) → same_name a.name y ≡ t → cond t (meaning a.value names) (names y) ≡ cond t (meaning a.value names') (names' y)
-    go y j true e = meaning-free a.value names names' (λ z k. h z (inr (k, subst (λ w. Reaches w as' out) (sym ((Decides-same_name a.name y).0 e)) j)))
+    go : (y : Name) → Reaches y as' outs → (t : Bool) → same_name a.name y ≡ t → cond t (meaning a.value names) (names y) ≡ cond t (meaning a.value names') (names' y)
+    go y j true e = meaning-free a.value names names' (λ z k. h z (inr (k, subst (λ w. Reaches w as' outs) (sym ((Decides-same_name a.name y).0 e)) j)))
     go y j false e = h y (inl j)
 
--- a first let that the output doesn't reach may be dropped
-pub unreached_let : (a : Let) (as' : List Let) (out : Rel) (names : Names) → (Reaches a.name as' out → ⊥) → meaning out (let_names (a ∷ as') names) ≡ meaning out (let_names as' names)
+-- a first let that no output reaches may be dropped
+pub unreached_let : (a : Let) (as' : List Let) (outs : List Output) (names : Names) → (Reaches a.name as' outs → ⊥) → outputs_meanings outs (let_names (a ∷ as') names) ≡ outputs_meanings outs (let_names as' names)
 unfolding let_names
-unreached_let a as' out names n = meaning-reached as' out (bind a.name (meaning a.value names) names) names (λ y j. go y j (same_name a.name y) refl)
+unreached_let a as' outs names n = meaning-reached as' outs (bind a.name (meaning a.value names) names) names (λ y j. go y j (same_name a.name y) refl)
   where
-    go : (y : Name) → Reaches y as' out → (t : Bool) → same_name a.name y ≡ t → cond t (meaning a.value names) (names y) ≡ names y
-    go y j true e = absurd (n (subst (λ w. Reaches w as' out) (sym ((Decides-same_name a.name y).0 e)) j))
+    go : (y : Name) → Reaches y as' outs → (t : Bool) → same_name a.name y ≡ t → cond t (meaning a.value names) (names y) ≡ names y
+    go y j true e = absurd (n (subst (λ w. Reaches w as' outs) (sym ((Decides-same_name a.name y).0 e)) j))
     go y j false e = refl
 
 -- lets one after the other
@@ -167,15 +179,24 @@ pub rule_distinct : (r : Rel) (names : Names) → meaning (Rel.distinct (Rel.dis
 unfolding meaning
 rule_distinct r names = distinct_distinct (meaning r names)
 
+pub rule_distinct_except : (p q : Rel) (names : Names) → meaning (Rel.distinct (Rel.except p q)) names ≡ meaning (Rel.except p q) names
+unfolding meaning
+rule_distinct_except p q names = distinct_distinct (filter (λ r. not (is_present r (meaning q names))) (meaning p names))
+
+pub rule_distinct_intersect : (p q : Rel) (names : Names) → meaning (Rel.distinct (Rel.intersect p q)) names ≡ meaning (Rel.intersect p q) names
+unfolding meaning
+rule_distinct_intersect p q names = distinct_distinct (filter (λ r. is_present r (meaning q names)) (meaning p names))
+
 pub rule_no_turns : (x : Name) (r b : Rel) (names : Names) → meaning (Rel.iterate 0 x r b) names ≡ meaning r names
 unfolding meaning
 rule_no_turns x r b names = refl
 
-pub rule_let : (inputs : List Input) (before : List Let) (a : Let) (after : List Let) (out : Rel) (records : ℕ → List Record) → (Reaches a.name after out → ⊥)
-    → program_meaning (record { inputs = inputs; lets = before ++ (a ∷ after); output = out }) records ≡ program_meaning (record { inputs = inputs; lets = before ++ after; output = out }) records
+pub rule_let : (inputs : List Input) (before : List Let) (a : Let) (after : List Let) (outs : List Output) (output : ℕ) (records : ℕ → List Record) → (Reaches a.name after outs → ⊥)
+    → program_meaning (record { inputs = inputs; lets = before ++ (a ∷ after); outputs = outs }) output records ≡ program_meaning (record { inputs = inputs; lets = before ++ after; outputs = outs }) output records
 unfolding program_meaning
-rule_let inputs before a after out records n =
+rule_let inputs before a after outs output records n =
     let names = input_names inputs 0 records in
-    ap (meaning out) (let_names-append before (a ∷ after) names)
-    ∙ unreached_let a after out (let_names before names) n
-    ∙ sym (ap (meaning out) (let_names-append before after names))
+    ap (λ ms. slice_index_or ms output [])
+    (ap (outputs_meanings outs) (let_names-append before (a ∷ after) names)
+    ∙ unreached_let a after outs (let_names before names) n
+    ∙ sym (ap (outputs_meanings outs) (let_names-append before after names)))

@@ -1,11 +1,13 @@
 -- A stateful shard can always send what is gained, and that alone, up to order.
-use Rattle.std.proofs.Common.{subst, ◌≡◌, ℕ, ◌<◌, List, sym, ◌∙◌, arith}
-use Rattle.semantics.specs.Multiset.{Record, same, one_if, ◌≈◌, IsPartOf, less}
+use Rattle.std.proofs.Common.{subst, ◌≡◌, ◌↔◌, ℕ, ◌+◌, ◌≤◌, ◌<◌, Bool, true, false, not, ◌&&◌, List, ◌++◌, sym, ◌∙◌, arith}
+use Rattle.semantics.specs.Multiset.{Record, same, one_if, count, is_present, ◌≈◌, IsPartOf, less}
 use Rattle.semantics.specs.Time.{Time}
 use Rattle.semantics.specs.Kinds.{Kind, in_ports, role, Role}
+use Rattle.semantics.specs.Meaning.{in_both}
 use Rattle.semantics.specs.Op.{op}
-use Rattle.semantics.specs.Shard.{SendsBy}
+use Rattle.semantics.specs.Shard.{SendsBy, SendsAtNotification}
 use Rattle.semantics.proofs.MultisetSums.{less-append, total-append}
+use Rattle.semantics.proofs.ExceptAndIntersect.{count-except, count-intersect, in_both_part}
 use Rattle.semantics.proofs.MonotoneVertices.{op_more}
 
 pub gained : (kind : Kind) → role kind ≡ Role.stateful → (t : Time) (before now : ℕ → List Record) → ((i : ℕ) → i < in_ports kind → IsPartOf (before i) (now i)) → (port : ℕ) (records : List Record)
@@ -28,3 +30,52 @@ gained_alone op before now port records out other a b q = record {
       let y = b q in
       omega (arith, x.counts r, y.counts r, total-append f (out q) (op q before), total-append f (other q) (op q before));
 }
+
+-- ---- the two kinds that compare their ports
+
+pub difference_sent : (t : Time) (absorbed : ℕ → List Record) (out : ℕ → List Record)
+    → SendsAtNotification (λ q ins. op Kind.except t ins q) absorbed out ↔ ((q : ℕ) (r : Record) → count r (out q) ≡ one_if (is_present r (absorbed 0) && not (is_present r (absorbed 1))))
+difference_sent t absorbed out = (
+  λ s q r. (s q).counts r ∙ count-except (absorbed 0) (absorbed 1) r,
+  λ c q. record { counts = λ r. c q r ∙ sym (count-except (absorbed 0) (absorbed 1) r) },
+)
+
+pub common_gained : (t : Time) (before now : ℕ → List Record) → ((i : ℕ) → i < in_ports Kind.intersect → IsPartOf (before i) (now i)) → (port : ℕ) (records : List Record) (out : ℕ → List Record)
+    → SendsBy (role Kind.intersect) (λ q ins. op Kind.intersect t ins q) before now port records out
+    ↔ ((q : ℕ) (r : Record) → count r (out q) ≡ one_if (is_present r (now 0) && is_present r (now 1) && not (is_present r (before 0) && is_present r (before 1))))
+common_gained t before now h port records out = (
+  λ s q r. told (is_present r (now 0)) (is_present r (now 1)) (in_both_before r) (count r (out q)) (sum q r ((s q).counts r)) (less_before r),
+  λ c q. record { counts = λ r. let a = appended q r in let b = count-intersect (before 0) (before 1) r in let n = count-intersect (now 0) (now 1) r in let e = right (is_present r (now 0)) (is_present r (now 1)) (in_both_before r) (count r (out q)) (c q r) (less_before r) in omega arith },
+)
+  where
+    in_both_before : Record → Bool
+    in_both_before r = is_present r (before 0) && is_present r (before 1)
+
+    appended : (q : ℕ) (r : Record) → count r (out q ++ op Kind.intersect t before q) ≡ count r (out q) + count r (in_both (before 0) (before 1))
+    appended q r = total-append (λ x. one_if (same x r)) (out q) (op Kind.intersect t before q)
+
+    sum : (q : ℕ) (r : Record) → count r (out q ++ op Kind.intersect t before q) ≡ count r (op Kind.intersect t now q) → count r (out q) + one_if (in_both_before r) ≡ one_if (is_present r (now 0) && is_present r (now 1))
+    sum q r k = let a = appended q r in let b = count-intersect (before 0) (before 1) r in let n = count-intersect (now 0) (now 1) r in omega arith
+
+    less_before : (r : Record) → one_if (in_both_before r) ≤ one_if (is_present r (now 0) && is_present r (now 1))
+    less_before r =
+        let b = count-intersect (before 0) (before 1) r in
+        let n = count-intersect (now 0) (now 1) r in
+        let l = (in_both_part (before 0) (now 0) (before 1) (now 1) (h 0 (omega arith)) (h 1 (omega arith))).within r in
+        omega arith
+
+    told : (m n b : Bool) (c : ℕ) → c + one_if b ≡ one_if (m && n) → one_if b ≤ one_if (m && n) → c ≡ one_if (m && n && not b)
+    told true true true c e l = omega arith
+    told true true false c e l = omega arith
+    told true false true c e l = omega arith
+    told true false false c e l = omega arith
+    told false n true c e l = omega arith
+    told false n false c e l = omega arith
+
+    right : (m n b : Bool) (c : ℕ) → c ≡ one_if (m && n && not b) → one_if b ≤ one_if (m && n) → c + one_if b ≡ one_if (m && n)
+    right true true true c e l = omega arith
+    right true true false c e l = omega arith
+    right true false true c e l = absurd (omega arith)
+    right true false false c e l = omega arith
+    right false n true c e l = absurd (omega arith)
+    right false n false c e l = omega arith

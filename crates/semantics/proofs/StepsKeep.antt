@@ -1,17 +1,17 @@
 -- What a rewriting step keeps: the meaning, the arity, and the size within what it was. And a normal form has no step.
-use Rattle.std.proofs.Common.{◌≡◌, ℕ, suc, ◌≤◌, cond, not, ◌&&◌, ◌||◌, List, [], ◌∷◌, ◌++◌, map, length, refl, sym, ap, ◌∙◌, arith, ◌+ℤ◌, ◌-ℤ◌, ◌*ℤ◌, neg_ℤ}
+use Rattle.std.proofs.Common.{◌≡◌, ℕ, suc, ◌≤◌, cond, not, ◌&&◌, ◌||◌, List, [], ◌∷◌, ◌++◌, map, length, slice_index_or, refl, sym, ap, ◌∙◌, arith, ◌+ℤ◌, ◌-ℤ◌, ◌*ℤ◌, neg_ℤ}
 use Rattle.std.specs.List.{AllByRecursion}
 use Rattle.std.specs.Int.{int_wrap}
 use mir.Syntax.{w64}
 use Rattle.semantics.specs.Multiset.{Record, each_once}
-use Rattle.semantics.specs.Query.{Scalar, Cond, Rel, Let, Program}
-use Rattle.semantics.specs.Meaning.{value, holds, compares, selected, kept, paired, grouped, Names, bind, repeated, meaning, let_names, input_names, program_meaning}
-use Rattle.semantics.specs.Size.{scalar_size, scalars_size, cond_size, rel_size, lets_size, program_size}
-use Rattle.semantics.specs.Typing.{ScalarFits, CondFits, Scope, entry, HasArity, after_inputs, RestFits, WellTyped}
-use Rattle.semantics.specs.Normal.{NormalScalar, NormalCond, NormalRel, NormalProgram, AllReached}
-use Rattle.semantics.specs.Rewriting.{Steps, OneOf, ScalarStep, CondStep, RelStep, LetsStep, ProgramStep, RewritesTo}
-use Rattle.semantics.proofs.RulesKeepMeaning.{value-plus, value-minus, value-times, value-negated, fold-plus, fold-minus, fold-times, fold-negated, rule_where, rule_select, rule_distinct, rule_no_turns, unreached_let, turns-same}
-use Rattle.semantics.proofs.RulesKeepArity.{arity_where, arity_select, arity_distinct, arity_no_turns, rest_dropped}
+use Rattle.semantics.specs.Query.{Scalar, Cond, Rel, Let, Output, Program}
+use Rattle.semantics.specs.Meaning.{value, holds, compares, selected, kept, paired, grouped, Names, bind, repeated, meaning, let_names, input_names, program_meaning, only_left, in_both}
+use Rattle.semantics.specs.Size.{scalar_size, scalars_size, cond_size, rel_size, lets_size, outputs_size, program_size}
+use Rattle.semantics.specs.Typing.{ScalarFits, CondFits, Scope, entry, HasArity, after_inputs, OutputsFit, RestFits, WellTyped}
+use Rattle.semantics.specs.Normal.{NormalScalar, NormalCond, IsSet, NormalRel, NormalProgram, AllReached}
+use Rattle.semantics.specs.Rewriting.{Steps, OneOf, ScalarStep, CondStep, RelStep, LetsStep, OutputStep, ProgramStep, RewritesTo}
+use Rattle.semantics.proofs.RulesKeepMeaning.{value-plus, value-minus, value-times, value-negated, fold-plus, fold-minus, fold-times, fold-negated, rule_where, rule_select, rule_distinct, rule_distinct_except, rule_distinct_intersect, rule_no_turns, unreached_let, turns-same}
+use Rattle.semantics.proofs.RulesKeepArity.{arity_where, arity_select, arity_no_turns, rest_dropped}
 use Rattle.semantics.proofs.FusedSelects.{size-select_select}
 
 -- ---- steps one after the other
@@ -123,11 +123,24 @@ cond_smaller (CondStep.not_of d) = omega (arith, cond_smaller d)
 
 -- ---- relations
 
+-- a set has each record once
+set_meaning : (r : Rel) → IsSet r → (names : Names) → meaning (Rel.distinct r) names ≡ meaning r names
+set_meaning (Rel.named x) s names = absurd s
+set_meaning (Rel.select r ss) s names = absurd s
+set_meaning (Rel.filter r c) s names = absurd s
+set_meaning (Rel.concat p q) s names = absurd s
+set_meaning (Rel.join p q ps) s names = absurd s
+set_meaning (Rel.group r ks as') s names = absurd s
+set_meaning (Rel.distinct r) s names = rule_distinct r names
+set_meaning (Rel.except p q) s names = rule_distinct_except p q names
+set_meaning (Rel.intersect p q) s names = rule_distinct_intersect p q names
+set_meaning (Rel.iterate n x r b) s names = absurd s
+
 pub rel_meaning : {p q : Rel} → RelStep p q → (names : Names) → meaning p names ≡ meaning q names
 unfolding meaning
 rel_meaning (RelStep.wheres {r = r} {c = c} {d = d} h k) names = rule_where r c d names
 rel_meaning (RelStep.selects {r = r} {ss = ss} {ts = ts} h k o) names = rule_select r ss ts names
-rel_meaning (RelStep.distincts {r = r} h) names = rule_distinct r names
+rel_meaning (RelStep.distincts {r = r} h s) names = set_meaning r s names
 rel_meaning (RelStep.no_turns {x = x} {r = r} {b = b} h) names = rule_no_turns x r b names
 rel_meaning (RelStep.select_of {ss = ss} d) names = ap (selected ss) (rel_meaning d names)
 rel_meaning (RelStep.select_scalar {r = r} d) names = selected_same d (meaning r names)
@@ -139,6 +152,10 @@ rel_meaning (RelStep.join_left {q = q} {ps = ps} d) names = ap (λ a. paired ps 
 rel_meaning (RelStep.join_right {p = p} {ps = ps} d) names = ap (λ a. paired ps (meaning p names) a) (rel_meaning d names)
 rel_meaning (RelStep.group_of {ks = ks} {as' = as'} d) names = ap (grouped ks as') (rel_meaning d names)
 rel_meaning (RelStep.distinct_of d) names = ap each_once (rel_meaning d names)
+rel_meaning (RelStep.except_left {q = q} d) names = ap (λ a. only_left a (meaning q names)) (rel_meaning d names)
+rel_meaning (RelStep.except_right {p = p} d) names = ap (λ a. only_left (meaning p names) a) (rel_meaning d names)
+rel_meaning (RelStep.intersect_left {q = q} d) names = ap (λ a. in_both a (meaning q names)) (rel_meaning d names)
+rel_meaning (RelStep.intersect_right {p = p} d) names = ap (λ a. in_both (meaning p names) a) (rel_meaning d names)
 rel_meaning (RelStep.loop_start {n = n} {x = x} {b = b} d) names = ap (repeated (λ xs. meaning b (bind x xs names)) n) (rel_meaning d names)
 rel_meaning (RelStep.loop_body {n = n} {x = x} {r = r} {b = b} {b' = b'} d) names =
     turns-same (λ xs. meaning b (bind x xs names)) (λ xs. meaning b' (bind x xs names)) (λ xs. rel_meaning d (bind x xs names)) n (meaning r names) (meaning r names) refl
@@ -147,7 +164,7 @@ pub rel_arity : {p q : Rel} → RelStep p q → (scope : Scope) (l n : ℕ) → 
 unfolding HasArity
 rel_arity (RelStep.wheres {r = r} {c = c} {d = d} h k) scope l n t = arity_where r c d scope l n t
 rel_arity (RelStep.selects {r = r} {ss = ss} {ts = ts} h k o) scope l n t = arity_select r ss ts scope l n t
-rel_arity (RelStep.distincts {r = r} h) scope l n t = arity_distinct r scope l n t
+rel_arity (RelStep.distincts h s) scope l n t = t
 rel_arity (RelStep.no_turns {x = x} {r = r} {b = b} h) scope l n t = arity_no_turns x r b scope l n t
 rel_arity (RelStep.select_of d) scope l n t = (t.0, rel_arity d scope l t.0 t.1, t.2, t.3, t.4)
 rel_arity (RelStep.select_scalar d) scope l n t = (t.0, t.1, scalars_fit d t.0 t.2, t.3 ∙ scalars_length d, t.4)
@@ -159,13 +176,17 @@ rel_arity (RelStep.join_left d) scope l n t = (t.0, t.1, rel_arity d scope l t.0
 rel_arity (RelStep.join_right d) scope l n t = (t.0, t.1, t.2, rel_arity d scope l t.1 t.3, t.4, t.5, t.6)
 rel_arity (RelStep.group_of d) scope l n t = (t.0, rel_arity d scope l t.0 t.1, t.2, t.3, t.4, t.5)
 rel_arity (RelStep.distinct_of d) scope l n t = rel_arity d scope l n t
+rel_arity (RelStep.except_left d) scope l n t = (rel_arity d scope l n t.0, t.1)
+rel_arity (RelStep.except_right d) scope l n t = (t.0, rel_arity d scope l n t.1)
+rel_arity (RelStep.intersect_left d) scope l n t = (rel_arity d scope l n t.0, t.1)
+rel_arity (RelStep.intersect_right d) scope l n t = (t.0, rel_arity d scope l n t.1)
 rel_arity (RelStep.loop_start d) scope l n t = (t.0, t.1, rel_arity d scope l n t.2, t.3, t.4)
 rel_arity (RelStep.loop_body {x = x} d) scope l n t = (t.0, t.1, t.2, t.3, rel_arity d (entry x n ∷ scope) (suc l) n t.4)
 
 pub rel_smaller : {p q : Rel} → RelStep p q → rel_size q ≤ rel_size p
 rel_smaller (RelStep.wheres h k) = omega arith
 rel_smaller (RelStep.selects {r = r} {ss = ss} {ts = ts} h k o) = size-select_select r ss ts o
-rel_smaller (RelStep.distincts h) = omega arith
+rel_smaller (RelStep.distincts h s) = omega arith
 rel_smaller (RelStep.no_turns h) = omega arith
 rel_smaller (RelStep.select_of d) = omega (arith, rel_smaller d)
 rel_smaller (RelStep.select_scalar d) = omega (arith, scalars_smaller d)
@@ -177,47 +198,82 @@ rel_smaller (RelStep.join_left d) = omega (arith, rel_smaller d)
 rel_smaller (RelStep.join_right d) = omega (arith, rel_smaller d)
 rel_smaller (RelStep.group_of d) = omega (arith, rel_smaller d)
 rel_smaller (RelStep.distinct_of d) = omega (arith, rel_smaller d)
+rel_smaller (RelStep.except_left d) = omega (arith, rel_smaller d)
+rel_smaller (RelStep.except_right d) = omega (arith, rel_smaller d)
+rel_smaller (RelStep.intersect_left d) = omega (arith, rel_smaller d)
+rel_smaller (RelStep.intersect_right d) = omega (arith, rel_smaller d)
 rel_smaller (RelStep.loop_start d) = omega (arith, rel_smaller d)
 rel_smaller (RelStep.loop_body d) = omega (arith, rel_smaller d)
 
 -- ---- programs
 
-lets_meaning : {out : Rel} {as' bs : List Let} → LetsStep out as' bs → (names : Names) → meaning out (let_names as' names) ≡ meaning out (let_names bs names)
+-- what each output means
+abbrev each_meaning : List Output → Names → List (List Record)
+each_meaning os names = map (λ (o : Output). meaning o.value names) os
+
+lets_meaning : {outs : List Output} {as' bs : List Let} → LetsStep outs as' bs → (names : Names) → each_meaning outs (let_names as' names) ≡ each_meaning outs (let_names bs names)
 unfolding let_names
-lets_meaning {out} (LetsStep.unreached {a = a} {as' = as'} all n) names = unreached_let a as' out names n
-lets_meaning {out} (LetsStep.value {x = x} {as' = as'} d) names = ap (λ xs. meaning out (let_names as' (bind x xs names))) (rel_meaning d names)
+lets_meaning {outs} (LetsStep.unreached {a = a} {as' = as'} all n) names = unreached_let a as' outs names n
+lets_meaning {outs} (LetsStep.value {x = x} {as' = as'} d) names = ap (λ xs. each_meaning outs (let_names as' (bind x xs names))) (rel_meaning d names)
 lets_meaning (LetsStep.later {a = a} d) names = lets_meaning d (bind a.name (meaning a.value names) names)
 
-pub lets_fit : {out : Rel} {as' bs : List Let} → LetsStep out as' bs → (scope : Scope) (n : ℕ) → RestFits scope as' out n → RestFits scope bs out n
-lets_fit {out} (LetsStep.unreached {a = a} {as' = as'} all u) scope n t = rest_dropped [] a as' out n scope all u t
-lets_fit (LetsStep.value d) scope n t = (t.0, rel_arity d scope 0 t.0 t.1, t.2, t.3)
-lets_fit (LetsStep.later {a = a} d) scope n t = (t.0, t.1, t.2, lets_fit d (entry a.name t.0 ∷ scope) n t.3)
+outputs_meaning : {os os' : List Output} → OneOf OutputStep os os' → (names : Names) → each_meaning os names ≡ each_meaning os' names
+outputs_meaning (OneOf.here {xs = os} (OutputStep.value d)) names = ap (λ a. a ∷ each_meaning os names) (rel_meaning d names)
+outputs_meaning (OneOf.later {x = o} d) names = ap (λ l. meaning o.value names ∷ l) (outputs_meaning d names)
 
-lets_smaller : {out : Rel} {as' bs : List Let} → LetsStep out as' bs → lets_size bs ≤ lets_size as'
+pub lets_fit : {outs : List Output} {as' bs : List Let} → LetsStep outs as' bs → (scope : Scope) (ns : List ℕ) → RestFits scope as' outs ns → RestFits scope bs outs ns
+lets_fit {outs} (LetsStep.unreached {a = a} {as' = as'} all u) scope ns t = rest_dropped [] a as' outs ns scope all u t
+lets_fit (LetsStep.value d) scope ns t = (t.0, rel_arity d scope 0 t.0 t.1, t.2, t.3)
+lets_fit (LetsStep.later {a = a} d) scope ns t = (t.0, t.1, t.2, lets_fit d (entry a.name t.0 ∷ scope) ns t.3)
+
+lets_smaller : {outs : List Output} {as' bs : List Let} → LetsStep outs as' bs → lets_size bs ≤ lets_size as'
 lets_smaller (LetsStep.unreached all u) = omega arith
 lets_smaller (LetsStep.value d) = omega (arith, rel_smaller d)
 lets_smaller (LetsStep.later d) = omega (arith, lets_smaller d)
 
-pub output_fits : {p q : Rel} → RelStep p q → (as' : List Let) (scope : Scope) (n : ℕ) → RestFits scope as' p n → RestFits scope as' q n
-output_fits d [] scope n t = rel_arity d scope 0 n t
-output_fits d (a ∷ as') scope n t = (t.0, t.1, t.2, output_fits d as' (entry a.name t.0 ∷ scope) n t.3)
+outputs_fit : {os os' : List Output} → OneOf OutputStep os os' → (scope before : Scope) (ns : List ℕ) → OutputsFit scope before os ns → OutputsFit scope before os' ns
+outputs_fit (OneOf.here d) scope before [] t = absurd t
+outputs_fit (OneOf.later d) scope before [] t = absurd t
+outputs_fit (OneOf.here (OutputStep.value d)) scope before (n ∷ ns) t = (rel_arity d scope 0 n t.0, t.1, t.2)
+outputs_fit (OneOf.later {x = o} d) scope before (n ∷ ns) t = (t.0, t.1, outputs_fit d scope (entry o.name n ∷ before) ns t.2)
 
-program_same : {p q : Program} → ProgramStep p q → (records : ℕ → List Record) → program_meaning p records ≡ program_meaning q records
+pub rest_fits : {os os' : List Output} → OneOf OutputStep os os' → (as' : List Let) (scope : Scope) (ns : List ℕ) → RestFits scope as' os ns → RestFits scope as' os' ns
+rest_fits d [] scope ns t = outputs_fit d scope [] ns t
+rest_fits d (a ∷ as') scope ns t = (t.0, t.1, t.2, rest_fits d as' (entry a.name t.0 ∷ scope) ns t.3)
+
+outputs_smaller : {os os' : List Output} → OneOf OutputStep os os' → outputs_size os' ≤ outputs_size os
+outputs_smaller (OneOf.here (OutputStep.value d)) = omega (arith, rel_smaller d)
+outputs_smaller (OneOf.later d) = omega (arith, outputs_smaller d)
+
+outputs_many : {os os' : List Output} → OneOf OutputStep os os' → length os' ≡ length os
+outputs_many (OneOf.here d) = refl
+outputs_many (OneOf.later d) = ap suc (outputs_many d)
+
+program_same : {p q : Program} → ProgramStep p q → (output : ℕ) (records : ℕ → List Record) → program_meaning p output records ≡ program_meaning q output records
 unfolding program_meaning
-program_same (ProgramStep.lets {inputs = inputs} d) records = lets_meaning d (input_names inputs 0 records)
-program_same (ProgramStep.output {inputs = inputs} {as' = as'} d) records = rel_meaning d (let_names as' (input_names inputs 0 records))
+program_same (ProgramStep.lets {inputs = inputs} d) output records = ap (λ ms. slice_index_or ms output []) (lets_meaning d (input_names inputs 0 records))
+program_same (ProgramStep.outputs {inputs = inputs} {as' = as'} d) output records = ap (λ ms. slice_index_or ms output []) (outputs_meaning d (let_names as' (input_names inputs 0 records)))
 
-program_typed : {p q : Program} → ProgramStep p q → (n : ℕ) → WellTyped p n → WellTyped q n
-program_typed (ProgramStep.lets {inputs = inputs} d) n w = record { few = w.few; inputs = w.inputs; rest = lets_fit d (after_inputs [] inputs) n w.rest }
-program_typed (ProgramStep.output {inputs = inputs} {as' = as'} d) n w = record { few = w.few; inputs = w.inputs; rest = output_fits d as' (after_inputs [] inputs) n w.rest }
+program_typed : {p q : Program} → ProgramStep p q → (ns : List ℕ) → WellTyped p ns → WellTyped q ns
+program_typed (ProgramStep.lets {inputs = inputs} d) ns w = record { few = w.few; few_outputs = w.few_outputs; inputs = w.inputs; rest = lets_fit d (after_inputs [] inputs) ns w.rest }
+program_typed (ProgramStep.outputs {inputs = inputs} {as' = as'} d) ns w =
+    record { few = w.few; few_outputs = omega (arith, outputs_many d, w.few_outputs); inputs = w.inputs; rest = rest_fits d as' (after_inputs [] inputs) ns w.rest }
 
 program_smaller : {p q : Program} → ProgramStep p q → program_size q ≤ program_size p
 program_smaller (ProgramStep.lets d) = omega (arith, lets_smaller d)
-program_smaller (ProgramStep.output d) = omega (arith, rel_smaller d)
+program_smaller (ProgramStep.outputs d) = omega (arith, outputs_smaller d)
 
 program_inputs : {p q : Program} → ProgramStep p q → q.inputs ≡ p.inputs
 program_inputs (ProgramStep.lets d) = refl
-program_inputs (ProgramStep.output d) = refl
+program_inputs (ProgramStep.outputs d) = refl
+
+outputs_named : {os os' : List Output} → OneOf OutputStep os os' → map (λ (o : Output). o.name) os' ≡ map (λ (o : Output). o.name) os
+outputs_named (OneOf.here (OutputStep.value d)) = refl
+outputs_named (OneOf.later {x = o} d) = ap (λ l. o.name ∷ l) (outputs_named d)
+
+program_names : {p q : Program} → ProgramStep p q → map (λ (o : Output). o.name) q.outputs ≡ map (λ (o : Output). o.name) p.outputs
+program_names (ProgramStep.lets d) = refl
+program_names (ProgramStep.outputs d) = outputs_named d
 
 -- ---- any number of steps
 
@@ -229,13 +285,13 @@ pub steps_arity : {p q : Rel} → Steps RelStep p q → (scope : Scope) (l n : �
 steps_arity Steps.stay scope l n t = t
 steps_arity (Steps.next s d) scope l n t = steps_arity d scope l n (rel_arity s scope l n t)
 
-pub rewrites_meaning : {p q : Program} → RewritesTo p q → (records : ℕ → List Record) → program_meaning q records ≡ program_meaning p records
-rewrites_meaning Steps.stay records = refl
-rewrites_meaning (Steps.next s d) records = rewrites_meaning d records ∙ sym (program_same s records)
+pub rewrites_meaning : {p q : Program} → RewritesTo p q → (output : ℕ) (records : ℕ → List Record) → program_meaning q output records ≡ program_meaning p output records
+rewrites_meaning Steps.stay output records = refl
+rewrites_meaning (Steps.next s d) output records = rewrites_meaning d output records ∙ sym (program_same s output records)
 
-pub rewrites_typed : {p q : Program} → RewritesTo p q → (n : ℕ) → WellTyped p n → WellTyped q n
-rewrites_typed Steps.stay n w = w
-rewrites_typed (Steps.next s d) n w = rewrites_typed d n (program_typed s n w)
+pub rewrites_typed : {p q : Program} → RewritesTo p q → (ns : List ℕ) → WellTyped p ns → WellTyped q ns
+rewrites_typed Steps.stay ns w = w
+rewrites_typed (Steps.next s d) ns w = rewrites_typed d ns (program_typed s ns w)
 
 pub rewrites_smaller : {p q : Program} → RewritesTo p q → program_size q ≤ program_size p
 rewrites_smaller Steps.stay = omega arith
@@ -244,6 +300,10 @@ rewrites_smaller (Steps.next s d) = omega (arith, program_smaller s, rewrites_sm
 pub rewrites_inputs : {p q : Program} → RewritesTo p q → q.inputs ≡ p.inputs
 rewrites_inputs Steps.stay = refl
 rewrites_inputs (Steps.next s d) = rewrites_inputs d ∙ program_inputs s
+
+pub rewrites_names : {p q : Program} → RewritesTo p q → map (λ (o : Output). o.name) q.outputs ≡ map (λ (o : Output). o.name) p.outputs
+rewrites_names Steps.stay = refl
+rewrites_names (Steps.next s d) = rewrites_names d ∙ program_names s
 
 -- ---- a normal form has no step
 
@@ -276,7 +336,7 @@ cond_normal (CondStep.not_of d) n = cond_normal d n
 pub rel_normal : {p q : Rel} → RelStep p q → NormalRel p → ⊥
 rel_normal (RelStep.wheres h k) n = n.2 tt
 rel_normal (RelStep.selects h k o) n = n.2 tt o
-rel_normal (RelStep.distincts h) n = n.1 tt
+rel_normal (RelStep.distincts h s) n = n.1 s
 rel_normal (RelStep.no_turns h) n = n.2 refl
 rel_normal (RelStep.select_of d) n = rel_normal d n.0
 rel_normal (RelStep.select_scalar d) n = scalars_normal d n.1
@@ -288,14 +348,22 @@ rel_normal (RelStep.join_left d) n = rel_normal d n.0
 rel_normal (RelStep.join_right d) n = rel_normal d n.1
 rel_normal (RelStep.group_of d) n = rel_normal d n
 rel_normal (RelStep.distinct_of d) n = rel_normal d n.0
+rel_normal (RelStep.except_left d) n = rel_normal d n.0
+rel_normal (RelStep.except_right d) n = rel_normal d n.1
+rel_normal (RelStep.intersect_left d) n = rel_normal d n.0
+rel_normal (RelStep.intersect_right d) n = rel_normal d n.1
 rel_normal (RelStep.loop_start d) n = rel_normal d n.0
 rel_normal (RelStep.loop_body d) n = rel_normal d n.1
 
-lets_normal : {out : Rel} {as' bs : List Let} → LetsStep out as' bs → AllByRecursion (λ (a : Let). NormalRel a.value) as' → AllReached as' out → ⊥
+lets_normal : {outs : List Output} {as' bs : List Let} → LetsStep outs as' bs → AllByRecursion (λ (a : Let). NormalRel a.value) as' → AllReached as' outs → ⊥
 lets_normal (LetsStep.unreached all u) n r = u r.0
 lets_normal (LetsStep.value d) n r = rel_normal d n.0
 lets_normal (LetsStep.later d) n r = lets_normal d n.1 r.1
 
+outputs_normal : {os os' : List Output} → OneOf OutputStep os os' → AllByRecursion (λ (o : Output). NormalRel o.value) os → ⊥
+outputs_normal (OneOf.here (OutputStep.value d)) n = rel_normal d n.0
+outputs_normal (OneOf.later d) n = outputs_normal d n.1
+
 pub program_normal : {p q : Program} → ProgramStep p q → NormalProgram p → ⊥
 program_normal (ProgramStep.lets d) n = lets_normal d n.lets n.reached
-program_normal (ProgramStep.output d) n = rel_normal d n.output
+program_normal (ProgramStep.outputs d) n = outputs_normal d n.outputs

@@ -7,15 +7,15 @@ use Rattle.semantics.specs.Multiset.{IsAmong}
 use Rattle.semantics.specs.FreeNames.{other_than, free, carried}
 use Rattle.semantics.specs.Graph.{Port, Vertex, no_vertex, no_port, vertex, source, output_number}
 use Rattle.semantics.specs.Kinds.{Kind}
-use Rattle.semantics.specs.Lower.{Ports, stands_for, port, new_vertex, carry, carried_ports, Lowered, lower, looped, input_vertices, input_ports, lower_lets, lets_of, output_of, lowered}
+use Rattle.semantics.specs.Lower.{Ports, stands_for, port, new_vertex, carry, carried_ports, Lowered, lower, looped, input_vertices, input_ports, lower_lets, lets_of, lower_outputs, outputs_of, lowered}
 use Rattle.semantics.specs.Meaning.{same_name}
-use Rattle.semantics.specs.PortArity.{PortsFit, IsTyped, Arities, with_arity, rel_arity, carry_arities, made_arities, input_arities, let_arities, lets_made_arities, program_arities}
-use Rattle.semantics.specs.Query.{Name, Pair, Rel, Input, Let, Program}
-use Rattle.semantics.specs.Typing.{IsArity, ScalarFits, CondFits, AggFits, Scope, lookup, entry, HasArity, InputsFit, after_inputs, RestFits, WellTyped}
-use Rattle.semantics.proofs.FittingPrograms.{LetsFit, names_after, input_list, IsFitting}
+use Rattle.semantics.specs.PortArity.{PortsFit, IsTyped, Arities, with_arity, rel_arity, carry_arities, made_arities, input_arities, let_arities, lets_made_arities, outputs_made_arities, program_arities}
+use Rattle.semantics.specs.Query.{Name, Pair, Rel, Input, Let, Output, Program}
+use Rattle.semantics.specs.Typing.{IsArity, ScalarFits, CondFits, AggFits, Scope, lookup, entry, HasArity, InputsFit, after_inputs, OutputsFit, RestFits, WellTyped}
+use Rattle.semantics.proofs.FittingPrograms.{LetsFit, AllFit, names_after, input_list, IsFitting}
 use Rattle.semantics.proofs.LoweredLoops.{one_longer, two_longer, loop_longer}
-use Rattle.semantics.proofs.LoweredPrograms.{length-input_vertices, output_vertex}
-use Rattle.semantics.proofs.LoweredDataflow.{output_is_last}
+use Rattle.semantics.proofs.LoweredPrograms.{length-input_vertices, outputs_at}
+use Rattle.semantics.proofs.LoweredDataflow.{output_numbers_are}
 use Rattle.semantics.proofs.TypedPrograms.{typed_fits}
 
 -- ---- as many arities as vertices
@@ -33,6 +33,8 @@ length-made_arities (Rel.concat p q) of ports d k = two_longer (made_arities p o
 length-made_arities (Rel.join p q ps) of ports d k = two_longer (made_arities p of) (made_arities q of) _ (lower p ports d k).made (lower q ports d (k + length (lower p ports d k).made)).made _ (length-made_arities p of ports d k) (length-made_arities q of ports d (k + length (lower p ports d k).made))
 length-made_arities (Rel.group r ks as') of ports d k = one_longer (made_arities r of) _ (lower r ports d k).made _ (length-made_arities r of ports d k)
 length-made_arities (Rel.distinct r) of ports d k = one_longer (made_arities r of) _ (lower r ports d k).made _ (length-made_arities r of ports d k)
+length-made_arities (Rel.except p q) of ports d k = two_longer (made_arities p of) (made_arities q of) _ (lower p ports d k).made (lower q ports d (k + length (lower p ports d k).made)).made _ (length-made_arities p of ports d k) (length-made_arities q of ports d (k + length (lower p ports d k).made))
+length-made_arities (Rel.intersect p q) of ports d k = two_longer (made_arities p of) (made_arities q of) _ (lower p ports d k).made (lower q ports d (k + length (lower p ports d k).made)).made _ (length-made_arities p of ports d k) (length-made_arities q of ports d (k + length (lower p ports d k).made))
 length-made_arities (Rel.iterate n x r b) of ports d k =
     let start = lower r ports d k in
     let outside = suc (suc (suc (k + length start.made))) in
@@ -65,6 +67,8 @@ rel_arity_typed (Rel.concat p q) scope of d n t h = rel_arity_typed p scope of d
 rel_arity_typed (Rel.join p q ps) scope of d n t h = ap₂ (λ a b. a + b) (rel_arity_typed p scope of d t.0 t.2 h) (rel_arity_typed q scope of d t.1 t.3 h) ∙ sym t.5
 rel_arity_typed (Rel.group r ks as') scope of d n t h = sym t.4
 rel_arity_typed (Rel.distinct r) scope of d n t h = rel_arity_typed r scope of d n t h
+rel_arity_typed (Rel.except p q) scope of d n t h = rel_arity_typed p scope of d n t.0 h
+rel_arity_typed (Rel.intersect p q) scope of d n t h = rel_arity_typed p scope of d n t.0 h
 rel_arity_typed (Rel.iterate k x r b) scope of d n t h = rel_arity_typed r scope of d n t.2 h
 
 module _ (arity : ℕ → ℕ) where
@@ -301,6 +305,20 @@ module _ (arity : ℕ → ℕ) where
       let e : rel_arity r of ≡ n = rel_arity_typed r scope of d n t agrees in
       let ih = relation_typed r scope of d n t agrees ports k (listed_left k (made_arities r of) _ h) names in
       one_typed k n n (lower r ports d k) Kind.distinct d (made_arities r of) ih (length-made_arities r of ports d k) (subst (λ a. Listed k (made_arities r of ++ (a ∷ []))) e h) (λ ins q. sym q) ih.fields
+  relation_typed (Rel.except p q) scope of d n t agrees ports k h names =
+      let a = lower p ports d k in
+      let e : rel_arity p of ≡ n = rel_arity_typed p scope of d n t.0 agrees in
+      let left = relation_typed p scope of d n t.0 agrees ports k (listed_left k (made_arities p of) _ h) (λ y j. names y (among_left y (free p) (free q) j)) in
+      let right = relation_typed q scope of d n t.1 agrees ports (k + length a.made) (listed_left (k + length a.made) (made_arities q of) _ (listed_right k (length a.made) (made_arities p of) _ (length-made_arities p of ports d k) h)) (λ y j. names y (among_right y (free p) (free q) j)) in
+      two_typed k n n n a (lower q ports d (k + length a.made)) Kind.except d (made_arities p of) (made_arities q of) left right (length-made_arities p of ports d k) (length-made_arities q of ports d (k + length a.made)) (subst (λ z. Listed k (made_arities p of ++ (made_arities q of ++ (z ∷ [])))) e h)
+      (λ ins x y. (sym x, sym y)) left.fields
+  relation_typed (Rel.intersect p q) scope of d n t agrees ports k h names =
+      let a = lower p ports d k in
+      let e : rel_arity p of ≡ n = rel_arity_typed p scope of d n t.0 agrees in
+      let left = relation_typed p scope of d n t.0 agrees ports k (listed_left k (made_arities p of) _ h) (λ y j. names y (among_left y (free p) (free q) j)) in
+      let right = relation_typed q scope of d n t.1 agrees ports (k + length a.made) (listed_left (k + length a.made) (made_arities q of) _ (listed_right k (length a.made) (made_arities p of) _ (length-made_arities p of ports d k) h)) (λ y j. names y (among_right y (free p) (free q) j)) in
+      two_typed k n n n a (lower q ports d (k + length a.made)) Kind.intersect d (made_arities p of) (made_arities q of) left right (length-made_arities p of ports d k) (length-made_arities q of ports d (k + length a.made)) (subst (λ z. Listed k (made_arities p of ++ (made_arities q of ++ (z ∷ [])))) e h)
+      (λ ins x y. (sym x, sym y)) left.fields
   relation_typed (Rel.iterate m x r b) scope of d n t agrees ports k h names = loop_typed m x r b (relation_typed r) (relation_typed b) scope of d n t agrees ports k h names
 
   -- ---- programs
@@ -327,30 +345,60 @@ module _ (arity : ℕ → ℕ) where
       let ports' = stands_for a.name r.gives ports in
       omega (arith, length-made_arities a.value of ports 0 k, length-lets_made as' of' ports' (k + length r.made), length-append (made_arities a.value of) (lets_made_arities as' of'), length-append r.made (lower_lets as' ports' (k + length r.made)).made)
 
-  -- what the lets leave for the output
-  pub record AfterLets (as' : List Let) (of : Arities) (ports : Ports) (k : ℕ) (xs : List Name) (out : Rel) (n : ℕ) : Type 0 where
+  -- what the lets leave for the outputs
+  pub record AfterLets (as' : List Let) (of : Arities) (ports : Ports) (k : ℕ) (xs : List Name) (outs : List Output) (ns : List ℕ) : Type 0 where
     pub all : AllTyped k (lower_lets as' ports k).made
     pub names : (y : Name) → IsAmong y (names_after xs as') → NameOf ((lower_lets as' ports k).ports y) (let_arities as' of y)
     pub scope : Scope
     pub agrees : Agrees scope (let_arities as' of)
-    pub output : HasArity out scope 0 n
+    pub outputs : OutputsFit scope [] outs ns
 
-  lets_typed : (as' : List Let) (out : Rel) (n : ℕ) (xs : List Name) (scope : Scope) (of : Arities) (ports : Ports) (k : ℕ) → LetsFit xs as' → RestFits scope as' out n → Agrees scope of → Listed k (lets_made_arities as' of) → ((y : Name) → IsAmong y xs → NameOf (ports y) (of y)) → AfterLets as' of ports k xs out n
+  lets_typed : (as' : List Let) (outs : List Output) (ns : List ℕ) (xs : List Name) (scope : Scope) (of : Arities) (ports : Ports) (k : ℕ) → LetsFit xs as' → RestFits scope as' outs ns → Agrees scope of → Listed k (lets_made_arities as' of) → ((y : Name) → IsAmong y xs → NameOf (ports y) (of y)) → AfterLets as' of ports k xs outs ns
   unfolding lower_lets
-  lets_typed [] out n xs scope of ports k m t agrees h names = record { all = tt; names = names; scope = scope; agrees = agrees; output = t }
-  lets_typed (a ∷ as') out n xs scope of ports k m t agrees h names =
+  lets_typed [] outs ns xs scope of ports k m t agrees h names = record { all = tt; names = names; scope = scope; agrees = agrees; outputs = t }
+  lets_typed (a ∷ as') outs ns xs scope of ports k m t agrees h names =
       let r = lower a.value ports 0 k in
       let e : rel_arity a.value of ≡ t.0 = rel_arity_typed a.value scope of 0 t.0 t.1 agrees in
       let of' = with_arity a.name (rel_arity a.value of) of in
       let here : Typed k r t.0 = relation_typed a.value scope of 0 t.0 t.1 agrees ports k (listed_left k (made_arities a.value of) _ h) (λ y j. names y (m.0.known y j)) in
-      let later : AfterLets as' of' (stands_for a.name r.gives ports) (k + length r.made) (a.name ∷ xs) out n = lets_typed as' out n (a.name ∷ xs) (entry a.name t.0 ∷ scope) of' (stands_for a.name r.gives ports) (k + length r.made) m.1 t.3 (agrees_more scope of a.name t.0 (rel_arity a.value of) e agrees)
+      let later : AfterLets as' of' (stands_for a.name r.gives ports) (k + length r.made) (a.name ∷ xs) outs ns = lets_typed as' outs ns (a.name ∷ xs) (entry a.name t.0 ∷ scope) of' (stands_for a.name r.gives ports) (k + length r.made) m.1 t.3 (agrees_more scope of a.name t.0 (rel_arity a.value of) e agrees)
       (listed_right k (length r.made) (made_arities a.value of) _ (length-made_arities a.value of ports 0 k) h) (λ y j. go y r t.0 here e (same_name a.name y) refl j) in
-      record { all = all_typed-append k r.made _ here.all later.all; names = later.names; scope = later.scope; agrees = later.agrees; output = later.output }
+      record { all = all_typed-append k r.made _ here.all later.all; names = later.names; scope = later.scope; agrees = later.agrees; outputs = later.outputs }
     where
       go : (y : Name) (r : Lowered) (m : ℕ) → Typed k r m → rel_arity a.value of ≡ m → (b : Bool) → same_name a.name y ≡ b → (a.name ≡ y) ⊎ IsAmong y xs → NameOf (cond b r.gives (ports y)) (cond b (rel_arity a.value of) (of y))
       go y r m t e true q j = record { has = t.gives ∙ sym e; fields = subst IsArity (sym e) t.fields }
       go y r m t e false q (inl k) = absurd (true≢false (sym ((Decides-same_name a.name y).1 k) ∙ q))
       go y r m t e false q (inr j) = names y j
+
+  -- the outputs' vertices, and the arities of the outputs
+  pub record OutputsTyped (os : List Output) (ports : Ports) (k : ℕ) (ns : List ℕ) : Type 0 where
+    pub all : AllTyped k (lower_outputs os ports k)
+    pub as_many : length ns ≡ length os
+    pub each : (i none : ℕ) → i < length os → arity (slice_index_or (outputs_at os ports k) i none) ≡ slice_index_or ns i 0
+
+  outputs_typed : (os : List Output) (ns : List ℕ) (xs : List Name) (scope before : Scope) (of : Arities) (ports : Ports) (k : ℕ) → AllFit xs os → OutputsFit scope before os ns → Agrees scope of → Listed k (outputs_made_arities os of) → ((y : Name) → IsAmong y xs → NameOf (ports y) (of y)) → OutputsTyped os ports k ns
+  unfolding lower_outputs
+  outputs_typed [] [] xs scope before of ports k m t agrees h names = record { all = tt; as_many = refl; each = λ i none l. absurd (omega arith) }
+  outputs_typed [] (n ∷ ns) xs scope before of ports k m t agrees h names = absurd t
+  outputs_typed (o ∷ os) [] xs scope before of ports k m t agrees h names = absurd t
+  outputs_typed (o ∷ os) (n ∷ ns) xs scope before of ports k m t agrees h names =
+      let r = lower o.value ports 0 k in
+      let w = k + length r.made in
+      let end = new_vertex Kind.output 0 (r.gives ∷ []) in
+      let here : Typed k r n = relation_typed o.value scope of 0 n t.0 agrees ports k (listed_left k (made_arities o.value of) _ h) (λ y j. names y (m.0.known y j)) in
+      let after = listed_right k (length r.made) (made_arities o.value of) (rel_arity o.value of ∷ outputs_made_arities os of) (length-made_arities o.value of ports 0 k) h in
+      let is : arity w ≡ n = after.0 ∙ rel_arity_typed o.value scope of 0 n t.0 agrees in
+      let typed : TypedAs w end = record { ports = is ∙ sym here.gives; fields = subst IsArity (sym is) here.fields } in
+      let later = outputs_typed os ns xs scope (entry o.name n ∷ before) of ports (suc w) m.1 t.2 agrees after.1 names in
+      record {
+        all = all_typed-append k r.made (end ∷ lower_outputs os ports (suc w)) here.all (typed, later.all);
+        as_many = ap suc later.as_many;
+        each = λ i none l. go w n is i none l later;
+      }
+    where
+      go : (w n : ℕ) → arity w ≡ n → (i none : ℕ) → i < suc (length os) → OutputsTyped os ports (suc w) ns → arity (slice_index_or (w ∷ outputs_at os ports (suc w)) i none) ≡ slice_index_or (n ∷ ns) i 0
+      go w n is zero none l later = is
+      go w n is (suc i) none l later = later.each i none (omega arith)
 
 -- an input's name isn't one that was there before
 fresh : (as' : List Input) (scope : Scope) (y : Name) (m : ℕ) → InputsFit scope as' → lookup scope y ≡ Some m → IsAmong y (input_list as') → ⊥
@@ -408,14 +456,14 @@ length-map_arities : (as' : List Input) → length (map (λ a. a.arity) as') ≡
 length-map_arities [] = refl
 length-map_arities (a ∷ as') = ap suc (length-map_arities as')
 
--- the vertices' ports, and the output's arity
-pub record ProgramTyped (p : Program) (n : ℕ) : Type 0 where
+-- the vertices' ports, and the outputs' arities
+pub record ProgramTyped (p : Program) (ns : List ℕ) : Type 0 where
   pub all : AllTyped (program_arity p) 0 (lowered p)
-  pub output : program_arity p (output_vertex p) ≡ n
+  pub outputs : OutputsTyped (program_arity p) p.outputs (lets_of p).ports (length p.inputs + length (lets_of p).made) ns
 
-pub program_typed : (p : Program) (n : ℕ) → WellTyped p n → ProgramTyped p n
+pub program_typed : (p : Program) (ns : List ℕ) → WellTyped p ns → ProgramTyped p ns
 unfolding lowered
-program_typed p n t = record { all = all; output = at_end ∙ is }
+program_typed p ns t = record { all = all; outputs = outs_typed }
   where
     arity : ℕ → ℕ
     arity = program_arity p
@@ -429,14 +477,11 @@ program_typed p n t = record { all = all; output = at_end ∙ is }
     lets : List Vertex
     lets = (lets_of p).made
 
-    outs : Lowered
-    outs = output_of p
-
-    end : Vertex
-    end = new_vertex Kind.output 0 (outs.gives ∷ [])
+    outs : List Vertex
+    outs = outputs_of p
 
     fits : IsFitting p
-    fits = typed_fits p n t
+    fits = typed_fits p ns t
 
     in_inputs : List ℕ
     in_inputs = map (λ a. a.arity) p.inputs
@@ -444,49 +489,34 @@ program_typed p n t = record { all = all; output = at_end ∙ is }
     in_lets : List ℕ
     in_lets = lets_made_arities p.lets of
 
-    in_output : List ℕ
-    in_output = made_arities p.output (let_arities p.lets of)
+    in_outputs : List ℕ
+    in_outputs = outputs_made_arities p.outputs (let_arities p.lets of)
 
-    last : List ℕ
-    last = rel_arity p.output (let_arities p.lets of) ∷ []
-
-    from_inputs : Listed arity 0 (in_inputs ++ (in_lets ++ (in_output ++ last)))
+    from_inputs : Listed arity 0 (in_inputs ++ (in_lets ++ in_outputs))
     from_inputs = listed_from [] (program_arities p)
 
-    from_lets : Listed arity m (in_lets ++ (in_output ++ last))
-    from_lets = subst (λ k. Listed arity k (in_lets ++ (in_output ++ last))) (let z : 0 + m ≡ m = omega arith in z) (listed_right arity 0 m in_inputs _ (length-map_arities p.inputs) from_inputs)
+    from_lets : Listed arity m (in_lets ++ in_outputs)
+    from_lets = subst (λ k. Listed arity k (in_lets ++ in_outputs)) (let z : 0 + m ≡ m = omega arith in z) (listed_right arity 0 m in_inputs _ (length-map_arities p.inputs) from_inputs)
 
-    from_output : Listed arity (m + length lets) (in_output ++ last)
-    from_output = listed_right arity m (length lets) in_lets _ (length-lets_made arity p.lets of (input_ports p.inputs 0) m) from_lets
+    from_outputs : Listed arity (m + length lets) in_outputs
+    from_outputs = listed_right arity m (length lets) in_lets in_outputs (length-lets_made arity p.lets of (input_ports p.inputs 0) m) from_lets
 
-    from_end : Listed arity (m + length lets + length outs.made) last
-    from_end = listed_right arity (m + length lets) (length outs.made) in_output last (length-made_arities p.output (let_arities p.lets of) (lets_of p).ports 0 (m + length lets)) from_output
-
-    after_lets : AfterLets arity p.lets of (input_ports p.inputs 0) m (input_list p.inputs) p.output n
-    after_lets = lets_typed arity p.lets p.output n (input_list p.inputs) (after_inputs [] p.inputs) of (input_ports p.inputs 0) m fits.lets t.rest (inputs_agree p.inputs t.inputs) (listed_left arity m in_lets _ from_lets)
+    after_lets : AfterLets arity p.lets of (input_ports p.inputs 0) m (input_list p.inputs) p.outputs ns
+    after_lets = lets_typed arity p.lets p.outputs ns (input_list p.inputs) (after_inputs [] p.inputs) of (input_ports p.inputs 0) m fits.lets t.rest (inputs_agree p.inputs t.inputs) (listed_left arity m in_lets _ from_lets)
         (input_name arity p.inputs 0 [] t.inputs (listed_left arity 0 in_inputs _ from_inputs))
 
-    output_typed : Typed arity (m + length lets) outs n
-    output_typed = relation_typed arity p.output after_lets.scope (let_arities p.lets of) 0 n after_lets.output after_lets.agrees (lets_of p).ports (m + length lets) (listed_left arity (m + length lets) in_output last from_output) (λ y j. after_lets.names y (fits.output.known y j))
+    outs_typed : OutputsTyped arity p.outputs (lets_of p).ports (m + length lets) ns
+    outs_typed = outputs_typed arity p.outputs ns (names_after (input_list p.inputs) p.lets) after_lets.scope [] (let_arities p.lets of) (lets_of p).ports (m + length lets) fits.outputs after_lets.outputs after_lets.agrees from_outputs after_lets.names
 
-    is : rel_arity p.output (let_arities p.lets of) ≡ n
-    is = rel_arity_typed p.output after_lets.scope (let_arities p.lets of) 0 n after_lets.output after_lets.agrees
-
-    at_end : arity (m + length lets + length outs.made) ≡ rel_arity p.output (let_arities p.lets of)
-    at_end = from_end.0
-
-    end_typed : TypedAs arity (m + length lets + length outs.made) end
-    end_typed = record { ports = at_end ∙ is ∙ sym output_typed.gives; fields = subst IsArity (sym (at_end ∙ is)) output_typed.fields }
-
-    all : AllTyped arity 0 (input_vertices p.inputs ++ (lets ++ (outs.made ++ (end ∷ []))))
+    all : AllTyped arity 0 (input_vertices p.inputs ++ (lets ++ outs))
     all = all_typed-append arity 0 (input_vertices p.inputs) _ (inputs_typed arity p.inputs 0 [] t.inputs (listed_left arity 0 in_inputs _ from_inputs))
-        (subst (λ k. AllTyped arity k (lets ++ (outs.made ++ (end ∷ [])))) (let z : m ≡ 0 + length (input_vertices p.inputs) = omega (arith, length-input_vertices p.inputs) in z)
-        (all_typed-append arity m lets _ after_lets.all (all_typed-append arity (m + length lets) outs.made (end ∷ []) output_typed.all (end_typed, tt))))
+        (subst (λ k. AllTyped arity k (lets ++ outs)) (let z : m ≡ 0 + length (input_vertices p.inputs) = omega (arith, length-input_vertices p.inputs) in z)
+        (all_typed-append arity m lets _ after_lets.all outs_typed.all))
 
-pub typed_ports : (p : Program) (n : ℕ) → WellTyped p n → IsTyped (lowered p) (program_arity p)
+pub typed_ports : (p : Program) (ns : List ℕ) → WellTyped p ns → IsTyped (lowered p) (program_arity p)
 unfolding vertex source
-typed_ports p n t =
-    let all = (program_typed p n t).all in
+typed_ports p ns t =
+    let all = (program_typed p ns t).all in
     record {
       ports = λ v l. (at v l all).ports;
       fields = λ v l. (at v l all).fields;
@@ -495,8 +525,14 @@ typed_ports p n t =
     at : (v : ℕ) → v < length (lowered p) → AllTyped (program_arity p) 0 (lowered p) → TypedAs (program_arity p) v (slice_index_or (lowered p) v no_vertex)
     at v l all = subst (λ k. TypedAs (program_arity p) k (slice_index_or (lowered p) v no_vertex)) (let z : 0 + v ≡ v = omega arith in z) (all_typed_at (program_arity p) 0 (lowered p) all v l)
 
-pub typed_output : (p : Program) (n : ℕ) → WellTyped p n → program_arity p (output_number (lowered p)) ≡ n
-typed_output p n t = ap (program_arity p) (output_is_last p) ∙ (program_typed p n t).output
+-- an arity for each output
+pub typed_outputs : (p : Program) (ns : List ℕ) → WellTyped p ns → length ns ≡ length p.outputs
+typed_outputs p ns t = (program_typed p ns t).outputs.as_many
+
+pub typed_output : (p : Program) (ns : List ℕ) (output : ℕ) → WellTyped p ns → output < length p.outputs → program_arity p (output_number (lowered p) output) ≡ slice_index_or ns output 0
+typed_output p ns output t l =
+    ap (λ vs. program_arity p (slice_index_or vs output (length (lowered p)))) (output_numbers_are p)
+    ∙ (program_typed p ns t).outputs.each output (length (lowered p)) l
 
 -- an input's vertex has the input's arity
 pub typed_input : (p : Program) (i : ℕ) → i < length p.inputs → program_arity p i ≡ slice_index_or (map (λ a. a.arity) p.inputs) i 0

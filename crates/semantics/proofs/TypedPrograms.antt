@@ -6,10 +6,10 @@ use Rattle.semantics.specs.Multiset.{IsAmong}
 use Rattle.semantics.specs.FreeNames.{free, other_than}
 use Rattle.semantics.specs.Limits.{max_turns}
 use Rattle.semantics.specs.Meaning.{same_name}
-use Rattle.semantics.specs.Query.{Name, Rel, Input, Let, Program}
+use Rattle.semantics.specs.Query.{Name, Rel, Input, Let, Output, Program}
 use Rattle.semantics.specs.Time.{turn_count}
-use Rattle.semantics.specs.Typing.{Scope, lookup, entry, HasArity, after_inputs, RestFits, WellTyped}
-use Rattle.semantics.proofs.FittingPrograms.{Known, Limited, Nested, FitsIn, LetsFit, names_after, input_list, IsFitting}
+use Rattle.semantics.specs.Typing.{Scope, lookup, entry, HasArity, after_inputs, OutputsFit, RestFits, WellTyped}
+use Rattle.semantics.proofs.FittingPrograms.{Known, Limited, Nested, FitsIn, LetsFit, AllFit, names_after, input_list, IsFitting}
 
 -- xs has every name of the scope
 abbrev Covers : Scope → List Name → Type 0
@@ -58,6 +58,8 @@ typed_known (Rel.concat p q) scope d n xs t c y h = both (free p) (free q) xs (t
 typed_known (Rel.join p q ps) scope d n xs t c y h = both (free p) (free q) xs (typed_known p scope d t.0 xs t.2 c) (typed_known q scope d t.1 xs t.3 c) y h
 typed_known (Rel.group r ks as') scope d n xs t c y h = typed_known r scope d t.0 xs t.1 c y h
 typed_known (Rel.distinct r) scope d n xs t c y h = typed_known r scope d n xs t c y h
+typed_known (Rel.except p q) scope d n xs t c y h = both (free p) (free q) xs (typed_known p scope d n xs t.0 c) (typed_known q scope d n xs t.1 c) y h
+typed_known (Rel.intersect p q) scope d n xs t c y h = both (free p) (free q) xs (typed_known p scope d n xs t.0 c) (typed_known q scope d n xs t.1 c) y h
 typed_known (Rel.iterate k x r b) scope d n xs t c y h =
     both (free r) (filter (other_than x) (free b)) xs (typed_known r scope d n xs t.2 c)
     (λ y h. let a = from_others_apart x y (free b) h in inner y a.1 (typed_known b (entry x n ∷ scope) (suc d) n (x ∷ xs) t.4 (covers_more scope xs x n c) y a.0)) y h
@@ -79,6 +81,8 @@ typed_limited (Rel.concat p q) scope d n t = (typed_limited p scope d n t.0, typ
 typed_limited (Rel.join p q ps) scope d n t = (typed_limited p scope d t.0 t.2, typed_limited q scope d t.1 t.3)
 typed_limited (Rel.group r ks as') scope d n t = typed_limited r scope d t.0 t.1
 typed_limited (Rel.distinct r) scope d n t = typed_limited r scope d n t
+typed_limited (Rel.except p q) scope d n t = (typed_limited p scope d n t.0, typed_limited q scope d n t.1)
+typed_limited (Rel.intersect p q) scope d n t = (typed_limited p scope d n t.0, typed_limited q scope d n t.1)
 typed_limited (Rel.iterate k x r b) scope d n t = (at_most k t.0, typed_limited r scope d n t.2, typed_limited b (entry x n ∷ scope) (suc d) n t.4)
 
 pub typed_nested : (r : Rel) (scope : Scope) (d n : ℕ) → HasArity r scope d n → Nested d r
@@ -90,15 +94,22 @@ typed_nested (Rel.concat p q) scope d n t = (typed_nested p scope d n t.0, typed
 typed_nested (Rel.join p q ps) scope d n t = (typed_nested p scope d t.0 t.2, typed_nested q scope d t.1 t.3)
 typed_nested (Rel.group r ks as') scope d n t = typed_nested r scope d t.0 t.1
 typed_nested (Rel.distinct r) scope d n t = typed_nested r scope d n t
+typed_nested (Rel.except p q) scope d n t = (typed_nested p scope d n t.0, typed_nested q scope d n t.1)
+typed_nested (Rel.intersect p q) scope d n t = (typed_nested p scope d n t.0, typed_nested q scope d n t.1)
 typed_nested (Rel.iterate k x r b) scope d n t = (typed_nested r scope d n t.2, t.1, typed_nested b (entry x n ∷ scope) (suc d) n t.4)
 
 fits_in : (r : Rel) (scope : Scope) (n : ℕ) (xs : List Name) → HasArity r scope 0 n → Covers scope xs → FitsIn xs r
 fits_in r scope n xs t c = record { known = typed_known r scope 0 n xs t c; limited = typed_limited r scope 0 n t; nested = typed_nested r scope 0 n t }
 
-rest_fits : (as' : List Let) (out : Rel) (scope : Scope) (n : ℕ) (xs : List Name) → RestFits scope as' out n → Covers scope xs → LetsFit xs as' × FitsIn (names_after xs as') out
-rest_fits [] out scope n xs t c = (tt, fits_in out scope n xs t c)
-rest_fits (a ∷ as') out scope n xs t c =
-    let later = rest_fits as' out (entry a.name t.0 ∷ scope) n (a.name ∷ xs) t.3 (covers_more scope xs a.name t.0 c) in
+outputs_fit : (os : List Output) (scope before : Scope) (ns : List ℕ) (xs : List Name) → OutputsFit scope before os ns → Covers scope xs → AllFit xs os
+outputs_fit [] scope before ns xs t c = tt
+outputs_fit (o ∷ os) scope before [] xs t c = absurd t
+outputs_fit (o ∷ os) scope before (n ∷ ns) xs t c = (fits_in o.value scope n xs t.0 c, outputs_fit os scope (entry o.name n ∷ before) ns xs t.2 c)
+
+rest_fits : (as' : List Let) (outs : List Output) (scope : Scope) (ns : List ℕ) (xs : List Name) → RestFits scope as' outs ns → Covers scope xs → LetsFit xs as' × AllFit (names_after xs as') outs
+rest_fits [] outs scope ns xs t c = (tt, outputs_fit outs scope [] ns xs t c)
+rest_fits (a ∷ as') outs scope ns xs t c =
+    let later = rest_fits as' outs (entry a.name t.0 ∷ scope) ns (a.name ∷ xs) t.3 (covers_more scope xs a.name t.0 c) in
     ((fits_in a.value scope t.0 xs t.1 c, later.0), later.1)
 
 inputs_fit : (as' : List Input) (scope : Scope) (xs : List Name) (all : List Name) → Covers scope xs → ((y : Name) → IsAmong y xs ⊎ IsAmong y (input_list as') → IsAmong y all) → Covers (after_inputs scope as') all
@@ -114,11 +125,11 @@ none_in_scope : Covers [] []
 none_in_scope y n h = absurd (cc)
 
 -- what `check` accepts
-pub typed_fits : (p : Program) (n : ℕ) → WellTyped p n → IsFitting p
-typed_fits p n t =
+pub typed_fits : (p : Program) (ns : List ℕ) → WellTyped p ns → IsFitting p
+typed_fits p ns t =
     let c = inputs_fit p.inputs [] [] (input_list p.inputs) none_in_scope (λ y. only y) in
-    let r = rest_fits p.lets p.output (after_inputs [] p.inputs) n (input_list p.inputs) t.rest c in
-    record { lets = r.0; output = r.1 }
+    let r = rest_fits p.lets p.outputs (after_inputs [] p.inputs) ns (input_list p.inputs) t.rest c in
+    record { lets = r.0; outputs = r.1 }
   where
     only : (y : Name) → IsAmong y [] ⊎ IsAmong y (input_list p.inputs) → IsAmong y (input_list p.inputs)
     only y (inl h) = absurd h

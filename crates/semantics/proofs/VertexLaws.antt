@@ -6,6 +6,7 @@ use Rattle.semantics.specs.Kinds.{route_key, Kind, in_ports}
 use Rattle.semantics.specs.Meaning.{project, left_columns, right_columns, selected, kept, holds, value}
 use Rattle.semantics.specs.Time.{Time, last}
 use Rattle.semantics.proofs.MultisetSums.{≈-refl, ≈-trans, ≈-from, append_same, total-append, total-map, linear_sum, map_linear, filter_linear}
+use Rattle.semantics.proofs.ExceptAndIntersect.{only_left_cut, in_both_cut}
 use Rattle.semantics.proofs.KeyedParts.{paired_cut, distinct_cut, grouped_cut}
 use Rattle.semantics.proofs.OneFlow.{op_same}
 
@@ -18,6 +19,8 @@ op_nothing Kind.input t out = refl
 op_nothing Kind.output t out = refl
 op_nothing Kind.concat t out = refl
 op_nothing Kind.distinct t out = refl
+op_nothing Kind.except t out = refl
+op_nothing Kind.intersect t out = refl
 op_nothing Kind.ingress t out = refl
 op_nothing Kind.egress t out = refl
 op_nothing Kind.feedback t out = refl
@@ -51,6 +54,8 @@ op_two Kind.input t xs ys out h = ≈-refl []
 op_two Kind.output t xs ys out h = ≈-refl []
 op_two Kind.concat t xs ys out h = crossed (xs 0) (xs 1) (ys 0) (ys 1)
 op_two Kind.distinct t xs ys out h = distinct_cut (xs 0) (ys 0) (h 0 0 (omega arith) (omega arith) (λ r. r) (λ r. r) refl refl).0
+op_two Kind.except t xs ys out h = only_left_cut (xs 0) (ys 0) (xs 1) (ys 1) (h 0 0 (omega arith) (omega arith) (λ r. r) (λ r. r) refl refl).0 (h 0 1 (omega arith) (omega arith) (λ r. r) (λ r. r) refl refl).0 (h 0 1 (omega arith) (omega arith) (λ r. r) (λ r. r) refl refl).1
+op_two Kind.intersect t xs ys out h = in_both_cut (xs 0) (ys 0) (xs 1) (ys 1) (h 0 0 (omega arith) (omega arith) (λ r. r) (λ r. r) refl refl).0 (h 0 1 (omega arith) (omega arith) (λ r. r) (λ r. r) refl refl).0 (h 0 1 (omega arith) (omega arith) (λ r. r) (λ r. r) refl refl).1
 op_two Kind.ingress t xs ys out h = ≈-refl (xs 0 ++ ys 0)
 op_two Kind.egress t xs ys out h = ≈-refl (xs 0 ++ ys 0)
 op_two Kind.feedback t xs ys out h = ≈-refl (xs 0 ++ ys 0)

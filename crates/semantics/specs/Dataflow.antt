@@ -4,7 +4,7 @@ use Rattle.semantics.specs.Limits.{max_loops}
 use Rattle.semantics.specs.Multiset.{◌≈◌}
 use Rattle.semantics.specs.Time.{Time, Action, last, turn_count}
 use Rattle.semantics.specs.Kinds.{Kind, action, ends_turn, in_ports, out_ports}
-use Rattle.semantics.specs.Graph.{Graph, vertex, source, input_count, output_number}
+use Rattle.semantics.specs.Graph.{Graph, vertex, source, input_count}
 use Rattle.semantics.specs.Flow.{IsEdgeTime, Inputs, Flow, IsFlow}
 
 -- each in port is fed by an out port of a vertex of the graph
@@ -30,12 +30,9 @@ pub record IsNested (g : Graph) (loops : ℕ → List ℕ) : Type 0 where
   pub goes : (w i : ℕ) → w < length g → i < length (vertex g w).ins →
       Goes loops (source g w i).vertex w (action (vertex g (source g w i).vertex).kind)
 
--- inputs first and the output last, both outside all loops
+-- inputs first, and inputs and outputs outside all loops
 pub record IsShaped (g : Graph) : Type 0 where
-  pub some : 0 < length g
   pub inputs_first : (v : ℕ) → v < length g → (vertex g v).kind ≡ Kind.input → v < input_count g
-  pub output_last : (v : ℕ) → v < length g → (vertex g v).kind ≡ Kind.output → v ≡ output_number g
-  pub has_output : (vertex g (output_number g)).kind ≡ Kind.output
   -- each end of a turn is inside a loop
   pub inside : (v : ℕ) → v < length g → ends_turn (vertex g v).kind ≡ true → 0 < (vertex g v).depth
   pub flat : (v : ℕ) → v < length g → ((vertex g v).kind ≡ Kind.input) ⊎ ((vertex g v).kind ≡ Kind.output) → (vertex g v).depth ≡ 0

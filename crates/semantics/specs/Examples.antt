@@ -1,8 +1,8 @@
 -- Small programs whose meanings and graphs are computed, as checks of the definitions.
-use Rattle.std.specs.Prelude.{ℕ, ℤ, List, [], ◌∷◌, pos}
+use Rattle.std.specs.Prelude.{ℕ, zero, suc, ℤ, List, [], ◌∷◌, pos}
 use Rattle.semantics.specs.Multiset.{Record}
 use Rattle.semantics.specs.Time.{Time}
-use Rattle.semantics.specs.Query.{Name, Scalar, Comparison, Cond, Agg, Rel, Input, Program}
+use Rattle.semantics.specs.Query.{Name, Scalar, Comparison, Cond, Agg, Rel, Input, Output, Program}
 
 -- the names `a`, `b`, `e`, `x` and `y`
 abbrev pub name_a : Name
@@ -34,13 +34,21 @@ two_fields m n = pos m ∷ pos n ∷ []
 abbrev pub three_fields : ℤ → ℤ → ℤ → Record
 three_fields l m n = l ∷ m ∷ n ∷ []
 
+-- the name of an output that is given none: `out`
+abbrev pub name_out : Name
+name_out = 111 ∷ 117 ∷ 116 ∷ []
+
+-- an output of that name
+abbrev pub output_as : Name → Rel → Output
+output_as x r = record { name = x; value = r }
+
 -- a query of one input
 abbrev pub query_on : Input → Rel → Program
-query_on i r = record { inputs = i ∷ []; lets = []; output = r }
+query_on i r = record { inputs = i ∷ []; lets = []; outputs = output_as name_out r ∷ [] }
 
 -- a query of the inputs `a` and `b`, of one field each
 abbrev pub query_on_a_and_b : Rel → Program
-query_on_a_and_b r = record { inputs = input_of name_a 1 ∷ input_of name_b 1 ∷ []; lets = []; output = r }
+query_on_a_and_b r = record { inputs = input_of name_a 1 ∷ input_of name_b 1 ∷ []; lets = []; outputs = output_as name_out r ∷ [] }
 
 -- #0 + 1
 abbrev pub first_plus_1 : List Scalar
@@ -92,6 +100,47 @@ outer_name_in_loops =
     query_on_a_and_b
     (Rel.iterate 2 name_x (Rel.named name_a)
     (Rel.iterate 1 name_y (Rel.named name_x) (Rel.concat (Rel.named name_y) (Rel.named name_b))))
+
+-- input a/1; input b/1; output except(a, b);
+abbrev pub in_a_alone : Program
+in_a_alone = query_on_a_and_b (Rel.except (Rel.named name_a) (Rel.named name_b))
+
+-- input a/1; input b/1; output intersect(a, b);
+abbrev pub in_a_and_b : Program
+in_a_and_b = query_on_a_and_b (Rel.intersect (Rel.named name_a) (Rel.named name_b))
+
+-- input a/1; input b/1; output iterate(2; x = a; except(b, x));
+abbrev pub except_in_loop : Program
+except_in_loop = query_on_a_and_b (Rel.iterate 2 name_x (Rel.named name_a) (Rel.except (Rel.named name_b) (Rel.named name_x)))
+
+-- input a/1; output x = where(a; #0 < 5); output y = a;
+abbrev pub small_and_all : Program
+small_and_all =
+    record {
+      inputs = input_of name_a 1 ∷ [];
+      lets = [];
+      outputs = output_as name_x (Rel.filter (Rel.named name_a) (Cond.compare Comparison.less (Scalar.column 0) (Scalar.literal (pos 5))))
+          ∷ output_as name_y (Rel.named name_a) ∷ [];
+    }
+
+-- input a/1; output a; output out = a;
+abbrev pub twice_out : Program
+twice_out =
+    record {
+      inputs = input_of name_a 1 ∷ [];
+      lets = [];
+      outputs = output_as name_out (Rel.named name_a) ∷ output_as name_out (Rel.named name_a) ∷ [];
+    }
+
+-- the records 1, 1 and 2 of the first input, and 2 and 3 of the second
+abbrev pub a_and_b : (input : ℕ) → List Record
+a_and_b zero = one_field (pos 1) ∷ one_field (pos 1) ∷ one_field (pos 2) ∷ []
+a_and_b (suc i) = one_field (pos 2) ∷ one_field (pos 3) ∷ []
+
+-- the record 1 of the first input, and 1 and 2 of the second
+abbrev pub one_and_two : (input : ℕ) → List Record
+one_and_two zero = one_field (pos 1) ∷ []
+one_and_two (suc i) = one_field (pos 1) ∷ one_field (pos 2) ∷ []
 
 -- a time in one loop, in epoch 0
 abbrev pub turn : ℕ → Time

@@ -1,7 +1,7 @@
 -- The names that a relation takes from outside, in the order of the text.
 use Rattle.std.specs.Prelude.{Bool, not, List, [], ◌∷◌, ◌++◌, filter}
 use Rattle.semantics.specs.Meaning.{same_name}
-use Rattle.semantics.specs.Query.{Name, Rel}
+use Rattle.semantics.specs.Query.{Name, Rel, Output}
 
 -- y is another name than x
 abbrev pub other_than : Name → Name → Bool
@@ -16,7 +16,14 @@ free (Rel.concat p q) = free p ++ free q
 free (Rel.join p q ps) = free p ++ free q
 free (Rel.group r ks as') = free r
 free (Rel.distinct r) = free r
+free (Rel.except p q) = free p ++ free q
+free (Rel.intersect p q) = free p ++ free q
 free (Rel.iterate n x r b) = free r ++ filter (other_than x) (free b)
+
+-- of all outputs, in order
+abbrev pub free_in_outputs : List Output → List Name
+free_in_outputs [] = []
+free_in_outputs (o ∷ os) = free o.value ++ free_in_outputs os
 
 -- each name once, where it occurs first
 abbrev pub firsts : List Name → List Name

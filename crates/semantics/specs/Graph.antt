@@ -1,6 +1,6 @@
 -- Dataflow graphs: vertices by number, each with the ports that feed it. (Naiad, SOSP 2013, section 2.1.)
 use Rattle.std.specs.Prelude.{ℕ, zero, suc, ◌+◌, ◌-◌, nat_lt, cond, List, [], ◌∷◌, length, slice_index_or}
-use Rattle.semantics.specs.Kinds.{Kind, is_input}
+use Rattle.semantics.specs.Kinds.{Kind, is_input, is_output}
 
 -- an out port of a vertex
 pub record Port : Type 0 where
@@ -34,9 +34,18 @@ abbrev pub input_count : Graph → ℕ
 input_count [] = 0
 input_count (x ∷ g) = cond (is_input x.kind) (suc (input_count g)) 0
 
--- the last vertex
-abbrev pub output_number : Graph → ℕ
-output_number g = length g - 1
+-- the numbers of those vertices that are outputs, in order; the first vertex has the number k
+abbrev pub outputs_from : (k : ℕ) → List Vertex → List ℕ
+outputs_from k [] = []
+outputs_from k (x ∷ xs) = cond (is_output x.kind) (k ∷ outputs_from (suc k) xs) (outputs_from (suc k) xs)
+
+-- the numbers of the output vertices, in order
+abbrev pub output_numbers : Graph → List ℕ
+output_numbers g = outputs_from 0 g
+
+-- the number of the vertex of an output, by the output's place; beyond the last output that of no vertex
+abbrev pub output_number : Graph → (output : ℕ) → ℕ
+output_number g k = slice_index_or (output_numbers g) k (length g)
 
 -- ---- edges: an edge is the vertex that it enters with the in port, or a number, in the order of these two
 

@@ -8,7 +8,7 @@ use Rattle.semantics.specs.Time.{Action}
 
 -- A gate has the number of turns of its loop, and so has a hold, which keeps a name from outside for each turn.
 pub data Kind : Type 0 where
-  input output concat distinct ingress egress feedback : Kind
+  input output concat distinct except intersect ingress egress feedback : Kind
   select : List Scalar → Kind
   filter : Cond → Kind
   join : List Pair → Kind
@@ -25,6 +25,8 @@ in_ports Kind.concat = 2
 in_ports (Kind.join ps) = 2
 in_ports (Kind.group ks as') = 1
 in_ports Kind.distinct = 1
+in_ports Kind.except = 2
+in_ports Kind.intersect = 2
 in_ports Kind.ingress = 1
 in_ports Kind.egress = 1
 in_ports Kind.feedback = 1
@@ -41,6 +43,8 @@ out_ports Kind.concat = 1
 out_ports (Kind.join ps) = 1
 out_ports (Kind.group ks as') = 1
 out_ports Kind.distinct = 1
+out_ports Kind.except = 1
+out_ports Kind.intersect = 1
 out_ports Kind.ingress = 1
 out_ports Kind.egress = 1
 out_ports Kind.feedback = 1
@@ -57,6 +61,8 @@ action Kind.concat = Action.stay
 action (Kind.join ps) = Action.stay
 action (Kind.group ks as') = Action.stay
 action Kind.distinct = Action.stay
+action Kind.except = Action.stay
+action Kind.intersect = Action.stay
 action Kind.ingress = Action.enter
 action Kind.egress = Action.leave
 action Kind.feedback = Action.next
@@ -74,6 +80,8 @@ route_key (Kind.join ps) zero = Some (project (left_columns ps))
 route_key (Kind.join ps) (suc port) = Some (project (right_columns ps))
 route_key (Kind.group ks as') port = Some (project ks)
 route_key Kind.distinct port = Some (λ r. r)
+route_key Kind.except port = Some (λ r. r)
+route_key Kind.intersect port = Some (λ r. r)
 route_key Kind.ingress port = None
 route_key Kind.egress port = None
 route_key Kind.feedback port = None
@@ -90,6 +98,8 @@ ends_turn Kind.concat = false
 ends_turn (Kind.join ps) = false
 ends_turn (Kind.group ks as') = false
 ends_turn Kind.distinct = false
+ends_turn Kind.except = false
+ends_turn Kind.intersect = false
 ends_turn Kind.ingress = false
 ends_turn Kind.egress = true
 ends_turn Kind.feedback = true
@@ -106,11 +116,31 @@ is_input Kind.concat = false
 is_input (Kind.join ps) = false
 is_input (Kind.group ks as') = false
 is_input Kind.distinct = false
+is_input Kind.except = false
+is_input Kind.intersect = false
 is_input Kind.ingress = false
 is_input Kind.egress = false
 is_input Kind.feedback = false
 is_input (Kind.gate n) = false
 is_input (Kind.hold n) = false
+
+-- the kind is an output
+abbrev pub is_output : Kind → Bool
+is_output Kind.input = false
+is_output Kind.output = true
+is_output (Kind.select ss) = false
+is_output (Kind.filter c) = false
+is_output Kind.concat = false
+is_output (Kind.join ps) = false
+is_output (Kind.group ks as') = false
+is_output Kind.distinct = false
+is_output Kind.except = false
+is_output Kind.intersect = false
+is_output Kind.ingress = false
+is_output Kind.egress = false
+is_output Kind.feedback = false
+is_output (Kind.gate n) = false
+is_output (Kind.hold n) = false
 
 -- How a vertex answers what comes in. An input has no in port. A stateless vertex sends what its equation makes of each
 -- message; a stateful one absorbs the message, and sends what its equation gains by it; a notified one absorbs it, and sends
@@ -128,6 +158,8 @@ role Kind.concat = Role.stateless
 role (Kind.join ps) = Role.stateful
 role (Kind.group ks as') = Role.notified
 role Kind.distinct = Role.stateful
+role Kind.except = Role.notified
+role Kind.intersect = Role.stateful
 role Kind.ingress = Role.stateless
 role Kind.egress = Role.stateless
 role Kind.feedback = Role.stateless

@@ -9,10 +9,14 @@ max_fields = 16
 abbrev pub max_inputs : ℕ
 max_inputs = 16
 
+-- the outputs of a program, at most
+abbrev pub max_outputs : ℕ
+max_outputs = 16
+
 -- the turns of one loop, at most
 abbrev pub max_turns : ℕ
-max_turns = 1024
+max_turns = 65535
 
 -- the loops inside one another, at most
 abbrev pub max_loops : ℕ
-max_loops = 8
+max_loops = 16

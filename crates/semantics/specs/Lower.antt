@@ -6,7 +6,7 @@ use Rattle.semantics.specs.Kinds.{Kind}
 use Rattle.semantics.specs.Graph.{Port, no_port, Vertex, Graph}
 use Rattle.semantics.specs.FreeNames.{carried}
 use Rattle.semantics.specs.Meaning.{same_name}
-use Rattle.semantics.specs.Query.{Name, Rel, Input, Let, Program}
+use Rattle.semantics.specs.Query.{Name, Rel, Input, Let, Output, Program}
 
 -- ---- the vertices that a relation makes, and the port that it gives
 
@@ -92,6 +92,12 @@ lower (Rel.join p q ps) ports d k =
     then_two k l (lower q ports d (k + length l.made)) (Kind.join ps) d
 lower (Rel.group r ks as') ports d k = then_one k (lower r ports d k) (Kind.group ks as') d
 lower (Rel.distinct r) ports d k = then_one k (lower r ports d k) Kind.distinct d
+lower (Rel.except p q) ports d k =
+    let l = lower p ports d k in
+    then_two k l (lower q ports d (k + length l.made)) Kind.except d
+lower (Rel.intersect p q) ports d k =
+    let l = lower p ports d k in
+    then_two k l (lower q ports d (k + length l.made)) Kind.intersect d
 lower (Rel.iterate n x r b) ports d k =
     let start = lower r ports d k in
     let loop = k + length start.made in
@@ -128,12 +134,17 @@ lower_lets (a ∷ as') ports k =
 abbrev pub lets_of : Program → LoweredLets
 lets_of p = lower_lets p.lets (input_ports p.inputs 0) (length p.inputs)
 
--- the output of a program
-abbrev pub output_of : Program → Lowered
-output_of p = lower p.output (lets_of p).ports 0 (length p.inputs + length (lets_of p).made)
+-- each output in order: the vertices of its relation, and then its own
+unfoldable pub lower_outputs : List Output → Ports → (k : ℕ) → List Vertex
+lower_outputs [] ports k = []
+lower_outputs (o ∷ os) ports k =
+    let r = lower o.value ports 0 k in
+    r.made ++ (new_vertex Kind.output 0 (r.gives ∷ []) ∷ lower_outputs os ports (suc (k + length r.made)))
+
+-- the outputs of a program
+abbrev pub outputs_of : Program → List Vertex
+outputs_of p = lower_outputs p.outputs (lets_of p).ports (length p.inputs + length (lets_of p).made)
 
 -- the graph of a program
 unfoldable pub lowered : Program → Graph
-lowered p =
-    input_vertices p.inputs
-    ++ ((lets_of p).made ++ ((output_of p).made ++ (new_vertex Kind.output 0 ((output_of p).gives ∷ []) ∷ [])))
+lowered p = input_vertices p.inputs ++ ((lets_of p).made ++ outputs_of p)

@@ -6,8 +6,8 @@ use Rattle.std.specs.Ordering.{int_eq}
 use Rattle.std.specs.Int.RustNames.{int_lt, int_le}
 use Rattle.std.specs.Int.{int_wrap, int_min, int_max}
 use mir.Syntax.{w64}
-use Rattle.semantics.specs.Multiset.{Record, same, total, each_once}
-use Rattle.semantics.specs.Query.{Scalar, Comparison, Cond, Agg, Name, Pair, Rel, Input, Let, Program}
+use Rattle.semantics.specs.Multiset.{Record, same, total, is_present, each_once}
+use Rattle.semantics.specs.Query.{Scalar, Comparison, Cond, Agg, Name, Pair, Rel, Input, Let, Output, Program}
 
 -- a field by its number
 abbrev pub field : ℕ → Record → ℤ
@@ -98,6 +98,14 @@ with_key ks k xs = filter (λ r. same (project ks r) k) xs
 abbrev pub grouped : List ℕ → List Agg → List Record → List Record
 grouped ks as' xs = map (λ k. k ++ map (λ a. aggregate a (with_key ks k xs)) as') (each_once (map (project ks) xs))
 
+-- once each, what is present on the left and not on the right (LINQ: Except)
+abbrev pub only_left : List Record → List Record → List Record
+only_left xs ys = each_once (filter (λ r. not (is_present r ys)) xs)
+
+-- once each, what is present on both sides (LINQ: Intersect)
+abbrev pub in_both : List Record → List Record → List Record
+in_both xs ys = each_once (filter (λ r. is_present r ys) xs)
+
 -- ---- relations
 
 -- what each name means
@@ -126,6 +134,8 @@ meaning (Rel.concat p q) names = meaning p names ++ meaning q names
 meaning (Rel.join p q ps) names = paired ps (meaning p names) (meaning q names)
 meaning (Rel.group r ks as') names = grouped ks as' (meaning r names)
 meaning (Rel.distinct r) names = each_once (meaning r names)
+meaning (Rel.except p q) names = only_left (meaning p names) (meaning q names)
+meaning (Rel.intersect p q) names = in_both (meaning p names) (meaning q names)
 meaning (Rel.iterate n x r b) names = repeated (λ xs. meaning b (bind x xs names)) n (meaning r names)
 
 -- ---- programs, for the multisets of one epoch
@@ -140,6 +150,8 @@ unfoldable pub let_names : List Let → Names → Names
 let_names [] names = names
 let_names (a ∷ as') names = let_names as' (bind a.name (meaning a.value names) names)
 
--- what a program means on the records of its inputs
-unfoldable pub program_meaning : Program → (ℕ → List Record) → List Record
-program_meaning p records = meaning p.output (let_names p.lets (input_names p.inputs 0 records))
+-- what a program means at each output, by its place, on the records of its inputs; nothing beyond the last
+unfoldable pub program_meaning : Program → (output : ℕ) → (ℕ → List Record) → List Record
+program_meaning p k records =
+    let names = let_names p.lets (input_names p.inputs 0 records) in
+    slice_index_or (map (λ (o : Output). meaning o.value names) p.outputs) k []

@@ -39,10 +39,14 @@ abbrev pub IsAmong : {X : Type 0} → X → List X → Type 0
 IsAmong x [] = ⊥
 IsAmong x (y ∷ ys) = (y ≡ x) ⊎ IsAmong x ys
 
+-- r stands in xs
+abbrev pub is_present : Record → List Record → Bool
+is_present r xs = nat_lt 0 (count r xs)
+
 -- each record that is present, once
 abbrev pub each_once : List Record → List Record
 each_once [] = []
-each_once (x ∷ xs) = cond (nat_lt 0 (count x xs)) (each_once xs) (x ∷ each_once xs)
+each_once (x ∷ xs) = cond (is_present x xs) (each_once xs) (x ∷ each_once xs)
 
 -- the parts below n, end to end
 abbrev pub end_to_end : (ℕ → List Record) → ℕ → List Record

@@ -1,11 +1,11 @@
 -- The rules of the normaliser, and the trees to which none of them applies: literals are folded, a `where` of a `where`
--- becomes one, so does a `select` of a `select` that copies no scalar, a `distinct` of a `distinct` and a loop of no turns
--- become what they hold, and a let that the output doesn't reach is dropped.
+-- becomes one, so does a `select` of a `select` that copies no scalar, a `distinct` of a `distinct`, an `except` or an
+-- `intersect` and a loop of no turns become what they hold, and a let that no output reaches is dropped.
 use Rattle.std.specs.Prelude.{◌≡◌, ◌⊎◌, ℕ, ◌+◌, ◌≤◌, nat_eq, List, [], ◌∷◌, ◌++◌, slice_index_or, pos}
 use Rattle.std.specs.List.{AllByRecursion}
 use Rattle.semantics.specs.Multiset.{IsAmong, one_if}
-use Rattle.semantics.specs.Query.{Name, Scalar, Cond, Rel, Let, Program}
-use Rattle.semantics.specs.FreeNames.{free}
+use Rattle.semantics.specs.Query.{Name, Scalar, Cond, Rel, Let, Output, Program}
+use Rattle.semantics.specs.FreeNames.{free, free_in_outputs}
 
 -- ---- select of select
 
@@ -43,15 +43,15 @@ replaced ss (Scalar.negation s) = Scalar.negation (replaced ss s)
 
 -- ---- unreached lets
 
--- x is used by the output, or by a let that is itself reached
-abbrev pub Reaches : (x : Name) → (later : List Let) → (output : Rel) → Type 0
-Reaches x [] out = IsAmong x (free out)
-Reaches x (a ∷ as') out = Reaches x as' out ⊎ (IsAmong x (free a.value) × Reaches a.name as' out)
+-- x is used by an output, or by a let that is itself reached
+abbrev pub Reaches : (x : Name) → (later : List Let) → List Output → Type 0
+Reaches x [] outs = IsAmong x (free_in_outputs outs)
+Reaches x (a ∷ as') outs = Reaches x as' outs ⊎ (IsAmong x (free a.value) × Reaches a.name as' outs)
 
 -- every let is reached
-abbrev pub AllReached : List Let → Rel → Type 0
-AllReached [] out = Unit {0}
-AllReached (a ∷ as') out = Reaches a.name as' out × AllReached as' out
+abbrev pub AllReached : List Let → List Output → Type 0
+AllReached [] outs = Unit {0}
+AllReached (a ∷ as') outs = Reaches a.name as' outs × AllReached as' outs
 
 -- ---- no rule applies
 
@@ -89,6 +89,8 @@ IsFilter (Rel.concat p q) = ⊥
 IsFilter (Rel.join p q ps) = ⊥
 IsFilter (Rel.group r ks as') = ⊥
 IsFilter (Rel.distinct r) = ⊥
+IsFilter (Rel.except p q) = ⊥
+IsFilter (Rel.intersect p q) = ⊥
 IsFilter (Rel.iterate n x r b) = ⊥
 
 -- the relation is a `select`
@@ -100,18 +102,22 @@ IsSelect (Rel.concat p q) = ⊥
 IsSelect (Rel.join p q ps) = ⊥
 IsSelect (Rel.group r ks as') = ⊥
 IsSelect (Rel.distinct r) = ⊥
+IsSelect (Rel.except p q) = ⊥
+IsSelect (Rel.intersect p q) = ⊥
 IsSelect (Rel.iterate n x r b) = ⊥
 
--- the relation is a `distinct`
-abbrev pub IsDistinct : Rel → Type 0
-IsDistinct (Rel.named x) = ⊥
-IsDistinct (Rel.select r ss) = ⊥
-IsDistinct (Rel.filter r c) = ⊥
-IsDistinct (Rel.concat p q) = ⊥
-IsDistinct (Rel.join p q ps) = ⊥
-IsDistinct (Rel.group r ks as') = ⊥
-IsDistinct (Rel.distinct r) = Unit {0}
-IsDistinct (Rel.iterate n x r b) = ⊥
+-- a set by its form: a `distinct`, an `except` or an `intersect`, each of which has no record twice
+abbrev pub IsSet : Rel → Type 0
+IsSet (Rel.named x) = ⊥
+IsSet (Rel.select r ss) = ⊥
+IsSet (Rel.filter r c) = ⊥
+IsSet (Rel.concat p q) = ⊥
+IsSet (Rel.join p q ps) = ⊥
+IsSet (Rel.group r ks as') = ⊥
+IsSet (Rel.distinct r) = Unit {0}
+IsSet (Rel.except p q) = Unit {0}
+IsSet (Rel.intersect p q) = Unit {0}
+IsSet (Rel.iterate n x r b) = ⊥
 
 -- no rule on scalars and relations applies anywhere in it
 abbrev pub NormalRel : Rel → Type 0
@@ -121,11 +127,13 @@ NormalRel (Rel.filter r c) = NormalRel r × NormalCond c × (IsFilter r → ⊥)
 NormalRel (Rel.concat p q) = NormalRel p × NormalRel q
 NormalRel (Rel.join p q ps) = NormalRel p × NormalRel q
 NormalRel (Rel.group r ks as') = NormalRel r
-NormalRel (Rel.distinct r) = NormalRel r × (IsDistinct r → ⊥)
+NormalRel (Rel.distinct r) = NormalRel r × (IsSet r → ⊥)
+NormalRel (Rel.except p q) = NormalRel p × NormalRel q
+NormalRel (Rel.intersect p q) = NormalRel p × NormalRel q
 NormalRel (Rel.iterate n x r b) = NormalRel r × NormalRel b × (n ≡ 0 → ⊥)
 
 -- no rule applies anywhere in the program, and every let is reached
 pub record NormalProgram (p : Program) : Type 0 where
   pub lets : AllByRecursion (λ (a : Let). NormalRel a.value) p.lets
-  pub output : NormalRel p.output
-  pub reached : AllReached p.lets p.output
+  pub outputs : AllByRecursion (λ (o : Output). NormalRel o.value) p.outputs
+  pub reached : AllReached p.lets p.outputs

@@ -2,7 +2,7 @@
 -- forms do what the forms mean; those of a loop go by the last counter.
 use Rattle.std.specs.Prelude.{◌≡◌, ℕ, zero, suc, ◌+◌, ◌<◌, nat_lt, nat_eq, cond, List, [], ◌++◌, map, Some}
 use Rattle.semantics.specs.Multiset.{Record, count, ◌≈◌, each_once, end_to_end}
-use Rattle.semantics.specs.Meaning.{selected, kept, paired, grouped}
+use Rattle.semantics.specs.Meaning.{selected, kept, paired, grouped, only_left, in_both}
 use Rattle.semantics.specs.Time.{Time, last}
 use Rattle.semantics.specs.Kinds.{Kind, in_ports, route_key}
 
@@ -16,6 +16,8 @@ op Kind.concat t ins out = ins 0 ++ ins 1
 op (Kind.join ps) t ins out = paired ps (ins 0) (ins 1)
 op (Kind.group ks as') t ins out = grouped ks as' (ins 0)
 op Kind.distinct t ins out = each_once (ins 0)
+op Kind.except t ins out = only_left (ins 0) (ins 1)
+op Kind.intersect t ins out = in_both (ins 0) (ins 1)
 op Kind.ingress t ins out = ins 0
 op Kind.egress t ins out = ins 0
 op Kind.feedback t ins out = ins 0

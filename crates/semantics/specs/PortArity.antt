@@ -2,7 +2,7 @@
 use Rattle.std.specs.Prelude.{◌≡◌, ℕ, ◌+◌, ◌<◌, cond, List, [], ◌∷◌, ◌++◌, map, length}
 use Rattle.std.specs.List.{AllByRecursion}
 use Rattle.semantics.specs.Multiset.{Record, count}
-use Rattle.semantics.specs.Query.{Name, Pair, Rel, Input, Let, Program}
+use Rattle.semantics.specs.Query.{Name, Pair, Rel, Input, Let, Output, Program}
 use Rattle.semantics.specs.Meaning.{same_name}
 use Rattle.semantics.specs.Typing.{IsArity, ScalarFits, CondFits, AggFits}
 use Rattle.semantics.specs.FreeNames.{carried}
@@ -23,6 +23,8 @@ PortsFit Kind.concat ins out = (out ≡ ins 0) × (out ≡ ins 1)
 PortsFit (Kind.join ps) ins out = AllByRecursion (λ (x : Pair). (x.left < ins 0) × (x.right < ins 1)) ps × (out ≡ ins 0 + ins 1)
 PortsFit (Kind.group ks as') ins out = AllByRecursion (λ k. k < ins 0) ks × AllByRecursion (AggFits (ins 0)) as' × (out ≡ length ks + length as')
 PortsFit Kind.distinct ins out = out ≡ ins 0
+PortsFit Kind.except ins out = (out ≡ ins 0) × (out ≡ ins 1)
+PortsFit Kind.intersect ins out = (out ≡ ins 0) × (out ≡ ins 1)
 PortsFit Kind.ingress ins out = out ≡ ins 0
 PortsFit Kind.egress ins out = out ≡ ins 0
 PortsFit Kind.feedback ins out = out ≡ ins 0
@@ -53,6 +55,8 @@ rel_arity (Rel.concat p q) of = rel_arity p of
 rel_arity (Rel.join p q ps) of = rel_arity p of + rel_arity q of
 rel_arity (Rel.group r ks as') of = length ks + length as'
 rel_arity (Rel.distinct r) of = rel_arity r of
+rel_arity (Rel.except p q) of = rel_arity p of
+rel_arity (Rel.intersect p q) of = rel_arity p of
 rel_arity (Rel.iterate n x r b) of = rel_arity r of
 
 -- for each carried name: ingress, concat, hold and feedback
@@ -69,6 +73,8 @@ made_arities (Rel.concat p q) of = made_arities p of ++ (made_arities q of ++ (r
 made_arities (Rel.join p q ps) of = made_arities p of ++ (made_arities q of ++ ((rel_arity p of + rel_arity q of) ∷ []))
 made_arities (Rel.group r ks as') of = made_arities r of ++ ((length ks + length as') ∷ [])
 made_arities (Rel.distinct r) of = made_arities r of ++ (rel_arity r of ∷ [])
+made_arities (Rel.except p q) of = made_arities p of ++ (made_arities q of ++ (rel_arity p of ∷ []))
+made_arities (Rel.intersect p q) of = made_arities p of ++ (made_arities q of ++ (rel_arity p of ∷ []))
 made_arities (Rel.iterate n x r b) of =
     let a = rel_arity r of in
     made_arities r of ++ (a ∷ a ∷ a ∷ (carry_arities of (carried x b) ++ (made_arities b (with_arity x a of) ++ (a ∷ a ∷ []))))
@@ -88,10 +94,13 @@ abbrev pub lets_made_arities : List Let → Arities → List ℕ
 lets_made_arities [] of = []
 lets_made_arities (a ∷ as') of = made_arities a.value of ++ lets_made_arities as' (with_arity a.name (rel_arity a.value of) of)
 
+-- of the vertices that the outputs make
+abbrev pub outputs_made_arities : List Output → Arities → List ℕ
+outputs_made_arities [] of = []
+outputs_made_arities (o ∷ os) of = made_arities o.value of ++ (rel_arity o.value of ∷ outputs_made_arities os of)
+
 -- of all vertices of a program's graph
 abbrev pub program_arities : Program → List ℕ
 program_arities p =
     let of = input_arities p.inputs in
-    let after_lets = let_arities p.lets of in
-    map (λ a. a.arity) p.inputs
-    ++ (lets_made_arities p.lets of ++ (made_arities p.output after_lets ++ (rel_arity p.output after_lets ∷ [])))
+    map (λ a. a.arity) p.inputs ++ (lets_made_arities p.lets of ++ outputs_made_arities p.outputs (let_arities p.lets of))

@@ -1,5 +1,5 @@
 -- The trees of a query, without the places of the text where they stand. The forms are LINQ's Select, Where, Concat, Join,
--- GroupBy and Distinct, and a loop of a fixed number of turns.
+-- GroupBy, Distinct, Except and Intersect, and a loop of a fixed number of turns.
 use Rattle.std.specs.Prelude.{ℕ, ℤ, List}
 
 -- what is computed of a record: a column, a number, or an operation on scalars
@@ -42,6 +42,7 @@ pub data Rel : Type 0 where
   join : Rel → Rel → List Pair → Rel
   group : Rel → List ℕ → List Agg → Rel
   distinct : Rel → Rel
+  except intersect : Rel → Rel → Rel
   iterate : ℕ → Name → Rel → Rel → Rel
 
 -- an input and its arity
@@ -54,8 +55,13 @@ pub record Let : Type 0 where
   pub name : Name
   pub value : Rel
 
--- inputs, named relations in order, and what is put out
+-- a named output, and what is put out there
+pub record Output : Type 0 where
+  pub name : Name
+  pub value : Rel
+
+-- inputs, named relations and outputs, each in order
 pub record Program : Type 0 where
   pub inputs : List Input
   pub lets : List Let
-  pub output : Rel
+  pub outputs : List Output

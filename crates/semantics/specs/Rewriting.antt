@@ -4,8 +4,8 @@ use Rattle.std.specs.Prelude.{ℕ, List, ◌∷◌, map, ℤ, ◌+ℤ◌, ◌-�
 use Rattle.std.specs.List.{AllByRecursion}
 use Rattle.std.specs.Int.{int_wrap}
 use mir.Syntax.{w64}
-use Rattle.semantics.specs.Query.{Scalar, Comparison, Cond, Agg, Name, Pair, Rel, Input, Let, Program}
-use Rattle.semantics.specs.Normal.{UsesOnce, replaced, Reaches, AllReached, NormalScalar, NormalCond, NormalRel, NormalProgram}
+use Rattle.semantics.specs.Query.{Scalar, Comparison, Cond, Agg, Name, Pair, Rel, Input, Let, Output, Program}
+use Rattle.semantics.specs.Normal.{UsesOnce, replaced, Reaches, AllReached, NormalScalar, NormalCond, IsSet, NormalRel, NormalProgram}
 
 -- ---- steps one after the other
 
@@ -54,8 +54,8 @@ pub data RelStep : Rel → Rel → Type 0 where
   wheres : {r : Rel} {c d : Cond} → NormalRel (Rel.filter r c) → NormalCond d → RelStep (Rel.filter (Rel.filter r c) d) (Rel.filter r (Cond.conjunction c d))
   -- select of select, where no scalar is copied
   selects : {r : Rel} {ss ts : List Scalar} → NormalRel (Rel.select r ss) → AllByRecursion NormalScalar ts → UsesOnce ts → RelStep (Rel.select (Rel.select r ss) ts) (Rel.select r (map (replaced ss) ts))
-  -- distinct of distinct
-  distincts : {r : Rel} → NormalRel (Rel.distinct r) → RelStep (Rel.distinct (Rel.distinct r)) (Rel.distinct r)
+  -- distinct of a distinct, an except or an intersect
+  distincts : {r : Rel} → NormalRel r → IsSet r → RelStep (Rel.distinct r) r
   -- a loop of no turns is its start
   no_turns : {x : Name} {r b : Rel} → NormalRel r → RelStep (Rel.iterate 0 x r b) r
   -- a step of a part
@@ -69,22 +69,30 @@ pub data RelStep : Rel → Rel → Type 0 where
   join_right : {p q q' : Rel} {ps : List Pair} → RelStep q q' → RelStep (Rel.join p q ps) (Rel.join p q' ps)
   group_of : {r r' : Rel} {ks : List ℕ} {as' : List Agg} → RelStep r r' → RelStep (Rel.group r ks as') (Rel.group r' ks as')
   distinct_of : {r r' : Rel} → RelStep r r' → RelStep (Rel.distinct r) (Rel.distinct r')
+  except_left : {p p' q : Rel} → RelStep p p' → RelStep (Rel.except p q) (Rel.except p' q)
+  except_right : {p q q' : Rel} → RelStep q q' → RelStep (Rel.except p q) (Rel.except p q')
+  intersect_left : {p p' q : Rel} → RelStep p p' → RelStep (Rel.intersect p q) (Rel.intersect p' q)
+  intersect_right : {p q q' : Rel} → RelStep q q' → RelStep (Rel.intersect p q) (Rel.intersect p q')
   loop_start : {n : ℕ} {x : Name} {r r' b : Rel} → RelStep r r' → RelStep (Rel.iterate n x r b) (Rel.iterate n x r' b)
   loop_body : {n : ℕ} {x : Name} {r b b' : Rel} → RelStep b b' → RelStep (Rel.iterate n x r b) (Rel.iterate n x r b')
 
 -- ---- one step of a program
 
--- one step of the lets before an output
-pub data LetsStep (out : Rel) : List Let → List Let → Type 0 where
-  -- the last let that the output doesn't reach is dropped
-  unreached : {a : Let} {as' : List Let} → AllReached as' out → (Reaches a.name as' out → ⊥) → LetsStep out (a ∷ as') as'
+-- one step of the lets before the outputs
+pub data LetsStep (outs : List Output) : List Let → List Let → Type 0 where
+  -- the last let that no output reaches is dropped
+  unreached : {a : Let} {as' : List Let} → AllReached as' outs → (Reaches a.name as' outs → ⊥) → LetsStep outs (a ∷ as') as'
   -- a step of a part
-  value : {x : Name} {r r' : Rel} {as' : List Let} → RelStep r r' → LetsStep out (record { name = x; value = r } ∷ as') (record { name = x; value = r' } ∷ as')
-  later : {a : Let} {as' bs : List Let} → LetsStep out as' bs → LetsStep out (a ∷ as') (a ∷ bs)
+  value : {x : Name} {r r' : Rel} {as' : List Let} → RelStep r r' → LetsStep outs (record { name = x; value = r } ∷ as') (record { name = x; value = r' } ∷ as')
+  later : {a : Let} {as' bs : List Let} → LetsStep outs as' bs → LetsStep outs (a ∷ as') (a ∷ bs)
+
+-- one step of an output: of its relation
+pub data OutputStep : Output → Output → Type 0 where
+  value : {x : Name} {r r' : Rel} → RelStep r r' → OutputStep (record { name = x; value = r }) (record { name = x; value = r' })
 
 pub data ProgramStep : Program → Program → Type 0 where
-  lets : {inputs : List Input} {as' bs : List Let} {out : Rel} → LetsStep out as' bs → ProgramStep (record { inputs = inputs; lets = as'; output = out }) (record { inputs = inputs; lets = bs; output = out })
-  output : {inputs : List Input} {as' : List Let} {r r' : Rel} → RelStep r r' → ProgramStep (record { inputs = inputs; lets = as'; output = r }) (record { inputs = inputs; lets = as'; output = r' })
+  lets : {inputs : List Input} {as' bs : List Let} {outs : List Output} → LetsStep outs as' bs → ProgramStep (record { inputs = inputs; lets = as'; outputs = outs }) (record { inputs = inputs; lets = bs; outputs = outs })
+  outputs : {inputs : List Input} {as' : List Let} {os os' : List Output} → OneOf OutputStep os os' → ProgramStep (record { inputs = inputs; lets = as'; outputs = os }) (record { inputs = inputs; lets = as'; outputs = os' })
 
 -- by any number of steps
 abbrev pub RewritesTo : Program → Program → Type 0

@@ -1,6 +1,6 @@
 -- The size and the depth of a query's tree.
 use Rattle.std.specs.Prelude.{ℕ, suc, ◌+◌, max, List, [], ◌∷◌, length}
-use Rattle.semantics.specs.Query.{Scalar, Cond, Agg, Rel, Let, Program}
+use Rattle.semantics.specs.Query.{Scalar, Cond, Agg, Rel, Let, Output, Program}
 
 -- ---- size: the number of relation, condition, scalar and aggregate nodes, and one for each let
 
@@ -34,6 +34,8 @@ rel_size (Rel.concat p q) = suc (rel_size p + rel_size q)
 rel_size (Rel.join p q ps) = suc (rel_size p + rel_size q)
 rel_size (Rel.group r ks as') = suc (rel_size r + length as')
 rel_size (Rel.distinct r) = suc (rel_size r)
+rel_size (Rel.except p q) = suc (rel_size p + rel_size q)
+rel_size (Rel.intersect p q) = suc (rel_size p + rel_size q)
 rel_size (Rel.iterate n x r b) = suc (rel_size r + rel_size b)
 
 -- of lets together
@@ -41,9 +43,14 @@ abbrev pub lets_size : List Let → ℕ
 lets_size [] = 0
 lets_size (a ∷ as') = suc (rel_size a.value + lets_size as')
 
+-- of outputs together; an output is no node itself
+abbrev pub outputs_size : List Output → ℕ
+outputs_size [] = 0
+outputs_size (o ∷ os) = rel_size o.value + outputs_size os
+
 -- of a program
 abbrev pub program_size : Program → ℕ
-program_size p = lets_size p.lets + rel_size p.output
+program_size p = lets_size p.lets + outputs_size p.outputs
 
 -- ---- depth: the greatest number of nodes on one way down, each a child of the one before
 
@@ -82,6 +89,8 @@ rel_depth (Rel.concat p q) = suc (max (rel_depth p) (rel_depth q))
 rel_depth (Rel.join p q ps) = suc (max (rel_depth p) (rel_depth q))
 rel_depth (Rel.group r ks as') = suc (max (rel_depth r) (aggs_depth as'))
 rel_depth (Rel.distinct r) = suc (rel_depth r)
+rel_depth (Rel.except p q) = suc (max (rel_depth p) (rel_depth q))
+rel_depth (Rel.intersect p q) = suc (max (rel_depth p) (rel_depth q))
 rel_depth (Rel.iterate n x r b) = suc (max (rel_depth r) (rel_depth b))
 
 -- of the deepest of lets
@@ -89,6 +98,11 @@ abbrev pub lets_depth : List Let → ℕ
 lets_depth [] = 0
 lets_depth (a ∷ as') = max (rel_depth a.value) (lets_depth as')
 
+-- of the deepest of outputs
+abbrev pub outputs_depth : List Output → ℕ
+outputs_depth [] = 0
+outputs_depth (o ∷ os) = max (rel_depth o.value) (outputs_depth os)
+
 -- of a program
 abbrev pub program_depth : Program → ℕ
-program_depth p = max (lets_depth p.lets) (rel_depth p.output)
+program_depth p = max (lets_depth p.lets) (outputs_depth p.outputs)

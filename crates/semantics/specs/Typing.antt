@@ -2,9 +2,9 @@
 -- check of a query refuses is what some case here asks.
 use Rattle.std.specs.Prelude.{◌≡◌, ℕ, suc, ◌+◌, ◌≤◌, ◌<◌, cond, List, [], ◌∷◌, length, Option, Some, None}
 use Rattle.std.specs.List.{AllByRecursion}
-use Rattle.semantics.specs.Limits.{max_fields, max_inputs, max_turns, max_loops}
+use Rattle.semantics.specs.Limits.{max_fields, max_inputs, max_outputs, max_turns, max_loops}
 use Rattle.semantics.specs.Meaning.{same_name}
-use Rattle.semantics.specs.Query.{Scalar, Cond, Agg, Name, Pair, Rel, Input, Let, Program}
+use Rattle.semantics.specs.Query.{Scalar, Cond, Agg, Name, Pair, Rel, Input, Let, Output, Program}
 
 -- a name in scope and its arity
 pub record Entry : Type 0 where
@@ -65,6 +65,8 @@ HasArity (Rel.group r ks as') scope d n =
     (m : ℕ) × HasArity r scope d m × AllByRecursion (λ k. k < m) ks × AllByRecursion (AggFits m) as'
     × (n ≡ length ks + length as') × IsArity n
 HasArity (Rel.distinct r) scope d n = HasArity r scope d n
+HasArity (Rel.except p q) scope d n = HasArity p scope d n × HasArity q scope d n
+HasArity (Rel.intersect p q) scope d n = HasArity p scope d n × HasArity q scope d n
 HasArity (Rel.iterate k x r b) scope d n =
     (k ≤ max_turns) × (d < max_loops) × HasArity r scope d n × (lookup scope x ≡ None) × HasArity b (entry x n ∷ scope) (suc d) n
 
@@ -78,14 +80,24 @@ abbrev pub after_inputs : Scope → List Input → Scope
 after_inputs scope [] = scope
 after_inputs scope (a ∷ as') = after_inputs (entry a.name a.arity ∷ scope) as'
 
--- lets in order, and the output, of arity n
-abbrev pub RestFits : Scope → List Let → Rel → ℕ → Type 0
-RestFits scope [] out n = HasArity out scope 0 n
-RestFits scope (a ∷ as') out n =
-    (m : ℕ) × HasArity a.value scope 0 m × (lookup scope a.name ≡ None) × RestFits (entry a.name m ∷ scope) as' out n
+-- outputs in order, of these arities, each name new among those `before` it; output names are a scope of their own, which no
+-- relation sees
+abbrev pub OutputsFit : Scope → (before : Scope) → List Output → List ℕ → Type 0
+OutputsFit scope before [] [] = Unit {0}
+OutputsFit scope before [] (n ∷ ns) = ⊥
+OutputsFit scope before (o ∷ os) [] = ⊥
+OutputsFit scope before (o ∷ os) (n ∷ ns) =
+    HasArity o.value scope 0 n × (lookup before o.name ≡ None) × OutputsFit scope (entry o.name n ∷ before) os ns
 
--- the program is well typed, and its output has that arity
-pub record WellTyped (p : Program) (n : ℕ) : Type 0 where
+-- lets in order, and then the outputs, of these arities
+abbrev pub RestFits : Scope → List Let → List Output → List ℕ → Type 0
+RestFits scope [] outs ns = OutputsFit scope [] outs ns
+RestFits scope (a ∷ as') outs ns =
+    (m : ℕ) × HasArity a.value scope 0 m × (lookup scope a.name ≡ None) × RestFits (entry a.name m ∷ scope) as' outs ns
+
+-- the program is well typed, and its outputs have these arities, in order
+pub record WellTyped (p : Program) (ns : List ℕ) : Type 0 where
   pub few : length p.inputs ≤ max_inputs
+  pub few_outputs : length p.outputs ≤ max_outputs
   pub inputs : InputsFit [] p.inputs
-  pub rest : RestFits (after_inputs [] p.inputs) p.lets p.output n
+  pub rest : RestFits (after_inputs [] p.inputs) p.lets p.outputs ns

@@ -1,35 +1,47 @@
 ghost use Rattle.std.specs.Prelude.{◌≡◌, ◌++◌, ℕ, List, [], ◌∷◌, pos, negsuc};
 ghost use Rattle.semantics.specs.Multiset.{Record, ◌≈◌};
-ghost use Rattle.semantics.specs.Query.{Program};
+ghost use Rattle.semantics.specs.Query.{Program, Scalar, Comparison, Cond};
 ghost use Rattle.semantics.specs.Meaning.{program_meaning};
 ghost use Rattle.semantics.specs.Typing.{WellTyped};
 ghost use Rattle.semantics.specs.Time.{at_epoch};
 ghost use Rattle.semantics.specs.Could.{at_vertex, CouldResultIn};
 ghost use Rattle.semantics.specs.Kinds.{Kind};
+ghost use Rattle.semantics.specs.Graph.{output_numbers};
 ghost use Rattle.semantics.specs.Lower.{lowered, port, new_vertex};
-ghost use Rattle.semantics.specs.Examples.{one_field, two_fields, three_fields, first_plus_1, twice, sums_by_key, reachability, no_turns, outer_name, loop_in_loop, two_turns, outer_name_in_loops, turn};
+ghost use Rattle.semantics.specs.Examples.{one_field, two_fields, three_fields, first_plus_1, twice, sums_by_key, reachability, no_turns, outer_name, loop_in_loop, two_turns, outer_name_in_loops, in_a_alone, in_a_and_b, except_in_loop, small_and_all, twice_out, a_and_b, one_and_two, turn};
 
 /// What small programs mean: `a` twice is each record twice; a sum wraps at 64 bits; the edges 1-2, 2-3 and 3-4 give all pairs
 /// that are connected by up to four of them; a loop of no turns gives its start; a loop whose body is a name from outside
-/// gives what that name means; and two turns of three turns of `#0 + 1` add 6.
+/// gives what that name means; and two turns of three turns of `#0 + 1` add 6. Of `a` and `b`, what is in `a` alone and what is in
+/// both is told once. Two outputs each mean their own relation, and beyond the last there is nothing.
 pub fn law_meanings()
-    ensures twice { (records : List Record) → program_meaning twice (λ i. records) ≡ records ++ records }
-    ensures sum_wraps { program_meaning sums_by_key (λ i. two_fields 1 9223372036854775807 ∷ two_fields 1 1 ∷ [])
+    ensures twice { (records : List Record) → program_meaning twice 0 (λ i. records) ≡ records ++ records }
+    ensures sum_wraps { program_meaning sums_by_key 0 (λ i. two_fields 1 9223372036854775807 ∷ two_fields 1 1 ∷ [])
         ≡ three_fields (pos 1) (negsuc 9223372036854775807) (pos 2) ∷ [] }
-    ensures reaches { program_meaning reachability (λ i. two_fields 1 2 ∷ two_fields 2 3 ∷ two_fields 3 4 ∷ [])
+    ensures reaches { program_meaning reachability 0 (λ i. two_fields 1 2 ∷ two_fields 2 3 ∷ two_fields 3 4 ∷ [])
         ≈ (two_fields 1 2 ∷ two_fields 1 3 ∷ two_fields 1 4 ∷ two_fields 2 3 ∷ two_fields 2 4 ∷ two_fields 3 4 ∷ []) }
-    ensures no_turns { program_meaning no_turns (λ i. one_field (pos 5) ∷ []) ≡ one_field (pos 5) ∷ [] }
-    ensures outer_name { (records : ℕ → List Record) → program_meaning outer_name records ≡ records 1 }
-    ensures loop_in_loop { program_meaning loop_in_loop (λ i. one_field (pos 10) ∷ []) ≡ one_field (pos 16) ∷ [] }
+    ensures no_turns { program_meaning no_turns 0 (λ i. one_field (pos 5) ∷ []) ≡ one_field (pos 5) ∷ [] }
+    ensures outer_name { (records : ℕ → List Record) → program_meaning outer_name 0 records ≡ records 1 }
+    ensures loop_in_loop { program_meaning loop_in_loop 0 (λ i. one_field (pos 10) ∷ []) ≡ one_field (pos 16) ∷ [] }
+    ensures in_a_alone { program_meaning in_a_alone 0 a_and_b ≡ one_field (pos 1) ∷ [] }
+    ensures in_a_and_b { program_meaning in_a_and_b 0 a_and_b ≡ one_field (pos 2) ∷ [] }
+    ensures except_in_loop { program_meaning except_in_loop 0 one_and_two ≡ one_field (pos 1) ∷ [] }
+    ensures small { program_meaning small_and_all 0 (λ i. one_field (pos 3) ∷ one_field (pos 7) ∷ []) ≡ one_field (pos 3) ∷ [] }
+    ensures all { program_meaning small_and_all 1 (λ i. one_field (pos 3) ∷ one_field (pos 7) ∷ [])
+        ≡ one_field (pos 3) ∷ one_field (pos 7) ∷ [] }
+    ensures no_more { program_meaning small_and_all 2 (λ i. one_field (pos 3) ∷ one_field (pos 7) ∷ []) ≡ [] }
 {}
 
-/// Programs with loops are well typed.
+/// Programs with loops are well typed, and one with two outputs; one whose outputs have one name isn't.
 pub fn law_well_typed()
-    ensures reachability { WellTyped reachability 2 }
-    ensures loops { WellTyped outer_name_in_loops 1 }
+    ensures reachability { WellTyped reachability (2 ∷ []) }
+    ensures loops { WellTyped outer_name_in_loops (1 ∷ []) }
+    ensures outputs { WellTyped small_and_all (1 ∷ 1 ∷ []) }
+    ensures one_name { (ns : List ℕ) → WellTyped twice_out ns → ⊥ }
 {}
 
-/// The graphs of three programs with loops, vertex by vertex: a vertex is its kind, its depth and the ports that feed it.
+/// The graphs of three programs with loops, of an except and of two outputs, vertex by vertex: a vertex is its kind, its depth and
+/// the ports that feed it. The outputs' vertices are 2 and 3.
 pub fn law_graphs()
     ensures two_turns { lowered two_turns ≡
         new_vertex Kind.input 0 []
@@ -79,6 +91,19 @@ pub fn law_graphs()
         ∷ new_vertex Kind.egress 1 (port 4 1 ∷ [])
         ∷ new_vertex Kind.output 0 (port 20 0 ∷ [])
         ∷ [] }
+    ensures in_a_alone { lowered in_a_alone ≡
+        new_vertex Kind.input 0 []
+        ∷ new_vertex Kind.input 0 []
+        ∷ new_vertex Kind.except 0 (port 0 0 ∷ port 1 0 ∷ [])
+        ∷ new_vertex Kind.output 0 (port 2 0 ∷ [])
+        ∷ [] }
+    ensures small_and_all { lowered small_and_all ≡
+        new_vertex Kind.input 0 []
+        ∷ new_vertex (Kind.filter (Cond.compare Comparison.less (Scalar.column 0) (Scalar.literal (pos 5)))) 0 (port 0 0 ∷ [])
+        ∷ new_vertex Kind.output 0 (port 1 0 ∷ [])
+        ∷ new_vertex Kind.output 0 (port 0 0 ∷ [])
+        ∷ [] }
+    ensures outputs { output_numbers (lowered small_and_all) ≡ 2 ∷ 3 ∷ [] }
 {}
 
 /// In the graph of `two_turns`: the gate (vertex 3) at one turn could result in itself, in the concat (vertex 2) at the next turn

@@ -5,7 +5,7 @@ ghost use Rattle.semantics.specs.Meaning.{program_meaning};
 ghost use Rattle.semantics.specs.Typing.{WellTyped};
 ghost use Rattle.semantics.specs.Time.{Time, at_epoch, last, turn_count};
 ghost use Rattle.semantics.specs.Kinds.{Kind, ends_turn};
-ghost use Rattle.semantics.specs.Graph.{Graph, vertex, source, output_number};
+ghost use Rattle.semantics.specs.Graph.{Graph, vertex, source, output_numbers, output_number};
 ghost use Rattle.semantics.specs.PortArity.{HaveFields, IsTyped, program_arities};
 ghost use Rattle.semantics.specs.Flow.{Inputs, Flow, IsFlow, IsEdgeTime, HasOneFlow};
 ghost use Rattle.semantics.specs.Dataflow.{IsDataflow};
@@ -16,29 +16,40 @@ pub fn law_one_flow()
     ensures { (g : Graph) → IsDataflow g → (inputs : Inputs) → HasOneFlow g inputs }
 {}
 
-/// The graph of a well-typed program is a dataflow graph, so it has exactly one flow. Its edge into the output vertex has, at
-/// each epoch, the meaning of the program on that epoch's inputs, and a flow is empty on an edge into a feedback or an egress
-/// at last counters over the limit of turns.
+/// A graph's outputs by their places: each is an output vertex, each output vertex has a place, and the numbers rise.
+pub fn law_outputs()
+    ensures output { (g : Graph) (output : ℕ) → output < length (output_numbers g) →
+        (output_number g output < length g) × ((vertex g (output_number g output)).kind ≡ Kind.output) }
+    ensures all { (g : Graph) (v : ℕ) → v < length g → (vertex g v).kind ≡ Kind.output →
+        (output : ℕ) × (output < length (output_numbers g)) × (output_number g output ≡ v) }
+    ensures in_order { (g : Graph) (j k : ℕ) → j < k → k < length (output_numbers g) → output_number g j < output_number g k }
+{}
+
+/// The graph of a well-typed program is a dataflow graph, so it has exactly one flow. It has the program's outputs. Its edge
+/// into each output vertex has, at each epoch, what the program means at that output on that epoch's inputs, and a flow is empty
+/// on an edge into a feedback or an egress at last counters over the limit of turns.
 pub fn law_program()
-    ensures dataflow { (p : Program) (n : ℕ) → WellTyped p n → IsDataflow (lowered p) }
-    ensures one_flow { (p : Program) (n : ℕ) (inputs : Inputs) → WellTyped p n → HasOneFlow (lowered p) inputs }
-    ensures meaning { (p : Program) (n : ℕ) (inputs : Inputs) (f : Flow) (epoch : ℕ) →
-        WellTyped p n → IsFlow (lowered p) inputs f →
-        f (output_number (lowered p)) 0 (at_epoch epoch) ≈ program_meaning p (λ i. inputs i epoch) }
-    ensures quiet { (p : Program) (n : ℕ) (inputs : Inputs) (f : Flow) (w i : ℕ) (u : Time) →
-        WellTyped p n → IsFlow (lowered p) inputs f → IsEdgeTime (lowered p) w i u →
+    ensures dataflow { (p : Program) (ns : List ℕ) → WellTyped p ns → IsDataflow (lowered p) }
+    ensures one_flow { (p : Program) (ns : List ℕ) (inputs : Inputs) → WellTyped p ns → HasOneFlow (lowered p) inputs }
+    ensures outputs { (p : Program) → length (output_numbers (lowered p)) ≡ length p.outputs }
+    ensures meaning { (p : Program) (ns : List ℕ) (inputs : Inputs) (f : Flow) (output epoch : ℕ) →
+        WellTyped p ns → IsFlow (lowered p) inputs f → output < length p.outputs →
+        f (output_number (lowered p) output) 0 (at_epoch epoch) ≈ program_meaning p output (λ i. inputs i epoch) }
+    ensures quiet { (p : Program) (ns : List ℕ) (inputs : Inputs) (f : Flow) (w i : ℕ) (u : Time) →
+        WellTyped p ns → IsFlow (lowered p) inputs f → IsEdgeTime (lowered p) w i u →
         ends_turn (vertex (lowered p) w).kind ≡ true → turn_count ≤ last u.counters →
         f w i u ≈ [] }
 {}
 
-/// The ports of a well-typed program's graph have their arities, the inputs' and the output's among them. In a flow on inputs
-/// of the right arities each edge's records have the arity of the port where it begins.
+/// The ports of a well-typed program's graph have their arities, those of the inputs and of each output among them. In a flow on
+/// inputs of the right arities each edge's records have the arity of the port where it begins.
 pub fn law_arities()
-    ensures ports { (p : Program) (n : ℕ) → WellTyped p n → IsTyped (lowered p) (λ v. slice_index_or (program_arities p) v 0) }
+    ensures ports { (p : Program) (ns : List ℕ) → WellTyped p ns → IsTyped (lowered p) (λ v. slice_index_or (program_arities p) v 0) }
     ensures inputs { (p : Program) (i : ℕ) → i < length p.inputs →
         slice_index_or (program_arities p) i 0 ≡ slice_index_or (map (λ a. a.arity) p.inputs) i 0 }
-    ensures output { (p : Program) (n : ℕ) → WellTyped p n →
-        slice_index_or (program_arities p) (output_number (lowered p)) 0 ≡ n }
+    ensures outputs { (p : Program) (ns : List ℕ) → WellTyped p ns → length ns ≡ length p.outputs }
+    ensures output { (p : Program) (ns : List ℕ) (output : ℕ) → WellTyped p ns → output < length p.outputs →
+        slice_index_or (program_arities p) (output_number (lowered p) output) 0 ≡ slice_index_or ns output 0 }
     ensures flow { (g : Graph) → IsDataflow g → (arity : ℕ → ℕ) → IsTyped g arity → (inputs : Inputs) →
         ((v epoch : ℕ) → v < length g → (vertex g v).kind ≡ Kind.input → HaveFields (arity v) (inputs v epoch)) →
         (f : Flow) → IsFlow g inputs f → (w i : ℕ) (u : Time) → IsEdgeTime g w i u →

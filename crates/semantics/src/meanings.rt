@@ -1,6 +1,6 @@
-ghost use Rattle.std.specs.Prelude.{◌≡◌, ◌≤◌, ◌<◌, ◌+◌, ◌*◌, ◌++◌, cond, nat_lt, List, ℕ, map, length, ◌∷◌, ◌≤ℤ◌};
-ghost use Rattle.semantics.specs.Multiset.{Record, same, one_if, count, total, ◌≈◌, IsPartOf, each_once};
-ghost use Rattle.semantics.specs.Meaning.{field, value, holds, project, left_columns, right_columns, aggregate, selected, kept, paired, grouped, meaning, Names, program_meaning};
+ghost use Rattle.std.specs.Prelude.{◌≡◌, ◌≤◌, ◌<◌, ◌+◌, ◌*◌, ◌++◌, ◌&&◌, not, cond, nat_lt, List, ℕ, map, filter, length, ◌∷◌, ◌≤ℤ◌};
+ghost use Rattle.semantics.specs.Multiset.{Record, same, one_if, count, total, ◌≈◌, IsPartOf, is_present, each_once};
+ghost use Rattle.semantics.specs.Meaning.{field, value, holds, project, left_columns, right_columns, aggregate, selected, kept, paired, grouped, only_left, in_both, meaning, Names, program_meaning};
 ghost use Rattle.semantics.specs.Query.{Scalar, Cond, Agg, Pair, Rel, Name, Program};
 
 /// How often a record stands in what each form means.
@@ -13,7 +13,17 @@ pub fn law_counts()
         ((x : Record) → 0 < count x xs → length x ≡ length a) →
         count (a ++ b) (paired ps xs ys)
         ≡ cond (same (project (left_columns ps) a) (project (right_columns ps) b)) (count a xs * count b ys) 0 }
-    ensures distinct { (r : Record) (xs : List Record) → count r (each_once xs) ≡ one_if (nat_lt 0 (count r xs)) }
+    ensures distinct { (r : Record) (xs : List Record) → count r (each_once xs) ≡ one_if (is_present r xs) }
+    ensures except { (xs ys : List Record) (r : Record) → count r (only_left xs ys) ≡ one_if (is_present r xs && not (is_present r ys)) }
+    ensures intersect { (xs ys : List Record) (r : Record) → count r (in_both xs ys) ≡ one_if (is_present r xs && is_present r ys) }
+{}
+
+/// An except and an intersect are told by sets: of what is present on the left, once each, that which is not, or is, present on the
+/// right; and a record is present in a set where it was present before.
+pub fn law_of_sets()
+    ensures except { (xs ys : List Record) → only_left xs ys ≈ filter (λ r. not (is_present r ys)) (each_once xs) }
+    ensures intersect { (xs ys : List Record) → in_both xs ys ≈ filter (λ r. is_present r ys) (each_once xs) }
+    ensures present { (r : Record) (xs : List Record) → is_present r (each_once xs) ≡ is_present r xs }
 {}
 
 /// The least and the greatest field of a group's records: a bound for all of them, and a field of one of them.
@@ -36,8 +46,10 @@ pub fn law_of_multisets()
     ensures join { (ps : List Pair) (xs zs ys us : List Record) → xs ≈ zs → ys ≈ us → paired ps xs ys ≈ paired ps zs us }
     ensures group { (ks : List ℕ) (aggs : List Agg) (xs ys : List Record) → xs ≈ ys → grouped ks aggs xs ≈ grouped ks aggs ys }
     ensures distinct { (xs ys : List Record) → xs ≈ ys → each_once xs ≈ each_once ys }
+    ensures except { (xs zs ys us : List Record) → xs ≈ zs → ys ≈ us → only_left xs ys ≈ only_left zs us }
+    ensures intersect { (xs zs ys us : List Record) → xs ≈ zs → ys ≈ us → in_both xs ys ≈ in_both zs us }
     ensures aggregate { (a : Agg) (xs ys : List Record) → xs ≈ ys → aggregate a xs ≡ aggregate a ys }
     ensures relation { (r : Rel) (a b : Names) → ((x : Name) → a x ≈ b x) → meaning r a ≈ meaning r b }
-    ensures program { (p : Program) (xs ys : ℕ → List Record) → ((i : ℕ) → xs i ≈ ys i) →
-        program_meaning p xs ≈ program_meaning p ys }
+    ensures program { (p : Program) (output : ℕ) (xs ys : ℕ → List Record) → ((i : ℕ) → xs i ≈ ys i) →
+        program_meaning p output xs ≈ program_meaning p output ys }
 {}

@@ -2,7 +2,7 @@ ghost use Rattle.std.specs.Prelude.{◌≡◌, ◌≤◌, ◌++◌, List, ℕ, �
 ghost use Rattle.std.specs.Int.{int_wrap};
 ghost use mir.Syntax.{w64};
 ghost use Rattle.semantics.specs.Multiset.{Record};
-ghost use Rattle.semantics.specs.Query.{Scalar, Cond, Name, Rel, Input, Let, Program};
+ghost use Rattle.semantics.specs.Query.{Scalar, Cond, Name, Rel, Input, Let, Output, Program};
 ghost use Rattle.semantics.specs.Meaning.{value, Names, meaning, program_meaning};
 ghost use Rattle.semantics.specs.Size.{rel_size, program_size};
 ghost use Rattle.semantics.specs.Normal.{UsesOnce, replaced, Reaches, AllReached, NormalRel, NormalProgram};
@@ -40,15 +40,20 @@ pub fn law_rules()
         rel_size (Rel.select r (map (replaced ss) ts)) ≤ rel_size (Rel.select (Rel.select r ss) ts) }
     ensures distinct_of_distinct { (r : Rel) (names : Names) →
         meaning (Rel.distinct (Rel.distinct r)) names ≡ meaning (Rel.distinct r) names }
+    ensures distinct_of_except { (p q : Rel) (names : Names) →
+        meaning (Rel.distinct (Rel.except p q)) names ≡ meaning (Rel.except p q) names }
+    ensures distinct_of_intersect { (p q : Rel) (names : Names) →
+        meaning (Rel.distinct (Rel.intersect p q)) names ≡ meaning (Rel.intersect p q) names }
     ensures loop_of_no_turns { (x : Name) (r b : Rel) (names : Names) → meaning (Rel.iterate 0 x r b) names ≡ meaning r names }
 {}
 
-/// A let that the output doesn't reach, directly or through later lets, may be dropped.
+/// A let that no output reaches, directly or through later lets, may be dropped.
 pub fn law_unreached_let()
-    ensures { (inputs : List Input) (before : List Let) (a : Let) (after : List Let) (out : Rel) (records : ℕ → List Record) →
-        (Reaches a.name after out → ⊥) →
-        program_meaning (record { inputs = inputs; lets = before ++ (a ∷ after); output = out }) records
-        ≡ program_meaning (record { inputs = inputs; lets = before ++ after; output = out }) records }
+    ensures { (inputs : List Input) (before : List Let) (a : Let) (after : List Let) (outs : List Output) (output : ℕ)
+        (records : ℕ → List Record) →
+        (Reaches a.name after outs → ⊥) →
+        program_meaning (record { inputs = inputs; lets = before ++ (a ∷ after); outputs = outs }) output records
+        ≡ program_meaning (record { inputs = inputs; lets = before ++ after; outputs = outs }) output records }
 {}
 
 /// Each rule on relations keeps the arity.
@@ -61,17 +66,21 @@ pub fn law_rules_keep_arity()
         HasArity (Rel.select r (map (replaced ss) ts)) scope loops n }
     ensures distinct_of_distinct { (r : Rel) (scope : Scope) (loops n : ℕ) →
         HasArity (Rel.distinct (Rel.distinct r)) scope loops n → HasArity (Rel.distinct r) scope loops n }
+    ensures distinct_of_except { (p q : Rel) (scope : Scope) (loops n : ℕ) →
+        HasArity (Rel.distinct (Rel.except p q)) scope loops n → HasArity (Rel.except p q) scope loops n }
+    ensures distinct_of_intersect { (p q : Rel) (scope : Scope) (loops n : ℕ) →
+        HasArity (Rel.distinct (Rel.intersect p q)) scope loops n → HasArity (Rel.intersect p q) scope loops n }
     ensures loop_of_no_turns { (x : Name) (r b : Rel) (scope : Scope) (loops n : ℕ) →
         HasArity (Rel.iterate 0 x r b) scope loops n → HasArity r scope loops n }
 {}
 
-/// A program stays well typed without a let that the output doesn't reach, where the lets after that one are reached: so
-/// unreached lets are dropped from the last to the first.
+/// A program stays well typed without a let that no output reaches, where the lets after that one are reached: so unreached lets
+/// are dropped from the last to the first.
 pub fn law_unreached_let_keeps_arity()
-    ensures { (inputs : List Input) (before : List Let) (a : Let) (after : List Let) (out : Rel) (n : ℕ) →
-        AllReached after out → (Reaches a.name after out → ⊥) →
-        WellTyped (record { inputs = inputs; lets = before ++ (a ∷ after); output = out }) n →
-        WellTyped (record { inputs = inputs; lets = before ++ after; output = out }) n }
+    ensures { (inputs : List Input) (before : List Let) (a : Let) (after : List Let) (outs : List Output) (ns : List ℕ) →
+        AllReached after outs → (Reaches a.name after outs → ⊥) →
+        WellTyped (record { inputs = inputs; lets = before ++ (a ∷ after); outputs = outs }) ns →
+        WellTyped (record { inputs = inputs; lets = before ++ after; outputs = outs }) ns }
 {}
 
 /// A step of a relation keeps the meaning and the arity and makes it no larger, and a relation to which no rule applies has none.
@@ -82,12 +91,14 @@ pub fn law_steps()
     ensures normal { (p q : Rel) → NormalRel p → RelStep p q → ⊥ }
 {}
 
-/// A program that is rewritten keeps its inputs, its meaning and its type, and is no larger; one may go on from where it came to, and
+/// A program that is rewritten keeps its inputs, its outputs' names, its meaning and its type, and is no larger; one may go on from where it came to, and
 /// from a normal form there is no step.
 pub fn law_rewriting()
     ensures inputs { (p q : Program) → RewritesTo p q → q.inputs ≡ p.inputs }
-    ensures meaning { (p q : Program) (records : ℕ → List Record) → RewritesTo p q → program_meaning q records ≡ program_meaning p records }
-    ensures typed { (p q : Program) (n : ℕ) → RewritesTo p q → WellTyped p n → WellTyped q n }
+    ensures names { (p q : Program) → RewritesTo p q → map (λ (o : Output). o.name) q.outputs ≡ map (λ (o : Output). o.name) p.outputs }
+    ensures meaning { (p q : Program) (output : ℕ) (records : ℕ → List Record) →
+        RewritesTo p q → program_meaning q output records ≡ program_meaning p output records }
+    ensures typed { (p q : Program) (ns : List ℕ) → RewritesTo p q → WellTyped p ns → WellTyped q ns }
     ensures no_larger { (p q : Program) → RewritesTo p q → program_size q ≤ program_size p }
     ensures composed { (p q r : Program) → RewritesTo p q → RewritesTo q r → RewritesTo p r }
     ensures normal { (p q : Program) → NormalProgram p → ProgramStep p q → ⊥ }

@@ -1,9 +1,9 @@
-ghost use Rattle.std.specs.Prelude.{◌≡◌, ◌<◌, ℕ, List, []};
-ghost use Rattle.semantics.specs.Multiset.{Record, ◌≈◌, IsPartOf, end_to_end, less};
+ghost use Rattle.std.specs.Prelude.{◌≡◌, ◌<◌, ◌↔◌, ◌&&◌, not, ℕ, List, []};
+ghost use Rattle.semantics.specs.Multiset.{Record, one_if, count, is_present, ◌≈◌, IsPartOf, end_to_end, less};
 ghost use Rattle.semantics.specs.Time.{Time};
 ghost use Rattle.semantics.specs.Kinds.{Kind, in_ports, role, Role};
 ghost use Rattle.semantics.specs.Op.{op, IsSum, IsCut};
-ghost use Rattle.semantics.specs.Shard.{SendsBy};
+ghost use Rattle.semantics.specs.Shard.{SendsBy, SendsAtNotification};
 ghost use Rattle.semantics.specs.PortArity.{HaveFields, PortsFit};
 
 /// The laws of the equation of a vertex: nothing in gives nothing out; where the inputs are cut into parts with no route key in
@@ -34,4 +34,19 @@ pub fn law_stateful_shard()
         (out other : ℕ → List Record) →
         SendsBy Role.stateful op before now port records out → SendsBy Role.stateful op before now port records other →
         (q : ℕ) → out q ≈ other q }
+{}
+
+/// What is right to send at the two kinds that compare their ports, told by each record. An except sends it at the notification,
+/// once where it is present on port 0 and not on port 1. An intersect sends it once, by the message that makes it present on both.
+pub fn law_compared_ports()
+    ensures except { (t : Time) (absorbed : ℕ → List Record) (out : ℕ → List Record) →
+        SendsAtNotification (λ q ins. op Kind.except t ins q) absorbed out
+        ↔ ((q : ℕ) (r : Record) → count r (out q) ≡ one_if (is_present r (absorbed 0) && not (is_present r (absorbed 1)))) }
+    ensures intersect { (t : Time) (before now : ℕ → List Record) →
+        ((i : ℕ) → i < in_ports Kind.intersect → IsPartOf (before i) (now i)) → (port : ℕ) (records : List Record)
+        (out : ℕ → List Record) →
+        SendsBy (role Kind.intersect) (λ q ins. op Kind.intersect t ins q) before now port records out
+        ↔ ((q : ℕ) (r : Record) →
+        count r (out q)
+        ≡ one_if (is_present r (now 0) && is_present r (now 1) && not (is_present r (before 0) && is_present r (before 1)))) }
 {}

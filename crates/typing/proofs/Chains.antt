@@ -2,8 +2,9 @@
 use Rattle.std.proofs.Common.{◌≡◌, ◌≢◌, ℕ, ◌<◌, ◌≤◌, Bool, true, false, cond, nat_lt, nat_le, nat_eq, ◌&&◌, Option, None, Some, Result, Ok, Err, refl, arith, eq-eqb}
 use Rattle.std.proofs.lemmas.Bool.{ltb-true, lt-ltb, leb-true, le-leb, eqb-true}
 use Rattle.record_core.specs.declared.span.Span.{Span}
+use Rattle.semantics.specs.Limits.{max_fields}
 use Rattle.semantics.specs.Typing.{IsArity}
-use Rattle.typing.specs.declared.refusals.TheConstants.{UNKNOWN_NAME, NAME_TAKEN, NO_SUCH_COLUMN, BAD_ARITY}
+use Rattle.typing.specs.declared.refusals.TheConstants.{UNKNOWN_NAME, NO_SUCH_COLUMN, BAD_ARITY}
 use Rattle.typing.specs.Fault.{Fault, fault}
 use Rattle.typing.specs.Verdict.{chain, within, unless_taken, known, is_arity, sized}
 
@@ -25,13 +26,13 @@ module _ {X : Type 0} where
   within_is_err None v f G h here later = later refl h
   within_is_err (Some s) v f G h here later = here s refl (cc)
 
-  pub unless_is_ok : (o : Option ℕ) (s : Span) (v : Result X Fault) (x : X) → unless_taken o s v ≡ Ok x → (o ≡ None) × (v ≡ Ok x)
-  unless_is_ok None s v x h = (refl, h)
-  unless_is_ok (Some k) s v x h = absurd (cc)
+  pub unless_is_ok : (o : Option ℕ) (e : Fault) (v : Result X Fault) (x : X) → unless_taken o e v ≡ Ok x → (o ≡ None) × (v ≡ Ok x)
+  unless_is_ok None e v x h = (refl, h)
+  unless_is_ok (Some k) e v x h = absurd (cc)
 
-  pub unless_is_err : (o : Option ℕ) (s : Span) (v : Result X Fault) (f : Fault) (G : Type 0) → unless_taken o s v ≡ Err f → ((k : ℕ) → o ≡ Some k → fault NAME_TAKEN s ≡ f → G) → (o ≡ None → v ≡ Err f → G) → G
-  unless_is_err None s v f G h here later = later refl h
-  unless_is_err (Some k) s v f G h here later = here k refl (cc)
+  pub unless_is_err : (o : Option ℕ) (e : Fault) (v : Result X Fault) (f : Fault) (G : Type 0) → unless_taken o e v ≡ Err f → ((k : ℕ) → o ≡ Some k → e ≡ f → G) → (o ≡ None → v ≡ Err f → G) → G
+  unless_is_err None e v f G h here later = later refl h
+  unless_is_err (Some k) e v f G h here later = here k refl (cc)
 
   pub test_is_ok : (b : Bool) (v : Result X Fault) (e : Fault) (x : X) → cond b v (Err e) ≡ Ok x → (b ≡ true) × (v ≡ Ok x)
   test_is_ok true v e x h = (refl, h)
@@ -50,13 +51,13 @@ known_is_err None s f h = (refl, (cc))
 known_is_err (Some k) s f h = absurd (cc)
 
 pub arity_true : (n : ℕ) → IsArity n → is_arity n ≡ true
-arity_true n h = rw (lt-ltb 0 n h.0, le-leb n 16 h.1)
+arity_true n h = rw (lt-ltb 0 n h.0, le-leb n max_fields h.1)
 
 pub true_arity : (n : ℕ) → is_arity n ≡ true → IsArity n
-true_arity n h = go (nat_lt 0 n) refl (nat_le n 16) refl h
+true_arity n h = go (nat_lt 0 n) refl (nat_le n max_fields) refl h
   where
-    go : (a : Bool) → nat_lt 0 n ≡ a → (b : Bool) → nat_le n 16 ≡ b → a && b ≡ true → (0 < n) × (n ≤ 16)
-    go true p true q k = (ltb-true 0 n p, leb-true n 16 q)
+    go : (a : Bool) → nat_lt 0 n ≡ a → (b : Bool) → nat_le n max_fields ≡ b → a && b ≡ true → (0 < n) × (n ≤ max_fields)
+    go true p true q k = (ltb-true 0 n p, leb-true n max_fields q)
     go true p false q k = absurd (cc)
     go false p true q k = absurd (cc)
     go false p false q k = absurd (cc)

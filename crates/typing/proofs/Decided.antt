@@ -1,16 +1,27 @@
 -- A relation has an arity exactly where the checks say so, and a first fault exactly where they say that.
-use Rattle.std.proofs.Common.{◌≡◌, ℕ, suc, ◌+◌, cond, nat_lt, nat_le, nat_eq, ◌∷◌, length, flat_map, None, Ok, Err, refl, sym, ◌∙◌, ap, subst, eq-eqb}
+use Rattle.std.proofs.Common.{◌≡◌, ◌↔◌, ℕ, suc, ◌+◌, cond, nat_lt, nat_le, nat_eq, ◌∷◌, length, flat_map, None, Ok, Err, refl, sym, ◌∙◌, ap, subst, eq-eqb}
 use Rattle.std.proofs.lemmas.Bool.{ltb-true, lt-ltb, leb-true, le-leb, eqb-true}
 use Rattle.std.proofs.lemmas.List.{length-map}
 use Rattle.expr_tree.specs.Trees.{RelTree}
-use Rattle.expr_tree.specs.Plain.{plain_scalar, plain_agg, plain_rel}
+use Rattle.expr_tree.specs.declared.relation.SetOperator.{SetOperator}
+use Rattle.expr_tree.specs.declared.relation.SetOperator.TheVariants as operation
+use Rattle.expr_tree.specs.Plain.{plain_scalar, plain_agg, plain_rel, plain_set_operation}
+use Rattle.semantics.specs.Query.{Rel}
+use Rattle.semantics.specs.Limits.{max_turns, max_loops}
 use Rattle.semantics.specs.Typing.{Scope, lookup, entry, IsArity, HasArity}
-use Rattle.typing.specs.declared.refusals.TheConstants.{ARITIES_DIFFER, BODY_DIFFERS, TOO_MANY_TURNS, TOO_DEEP}
+use Rattle.typing.specs.declared.refusals.TheConstants.{NAME_TAKEN, ARITIES_DIFFER, BODY_DIFFERS, TOO_MANY_TURNS, TOO_DEEP}
 use Rattle.typing.specs.Columns.{scalar_columns, cond_columns, pair_columns, key_columns, agg_columns, first_beyond}
 use Rattle.typing.specs.Fault.{fault, span_of}
 use Rattle.typing.specs.Verdict.{chain, within, unless_taken, known, sized, verdict}
 use Rattle.typing.proofs.Fits.{scalars_fit, scalars_none, cond_fits, cond_none, pairs_fit, pairs_none, keys_fit, keys_none, aggs_fit, aggs_none}
 use Rattle.typing.proofs.Chains.{chain_is_ok, within_is_ok, unless_is_ok, test_is_ok, known_is_ok, sized_is_ok, arity_true}
+
+-- under a set operator both relations have the arity
+pub set_arity : (o : SetOperator) (p q : Rel) (scope : Scope) (d n : ℕ) → HasArity (plain_set_operation o p q) scope d n ↔ (HasArity p scope d n × HasArity q scope d n)
+unfolding HasArity
+set_arity operation.Concat p q scope d n = (λ h. h, λ h. h)
+set_arity operation.Except p q scope d n = (λ h. h, λ h. h)
+set_arity operation.Intersect p q scope d n = (λ h. h, λ h. h)
 
 -- what has an arity passes
 pub typed_told : (r : RelTree) (scope : Scope) (d n : ℕ) → HasArity (plain_rel r) scope d n → verdict r scope d ≡ Ok n
@@ -19,7 +30,9 @@ typed_told (RelTree.named s x) scope d n h = ap (λ o. known o s) h
 typed_told (RelTree.select s r ts) scope d n h =
     rw (typed_told r scope d h.0 h.1, scalars_fit h.0 ts h.2, arity_true (length ts) (subst IsArity (h.3 ∙ length-map ts plain_scalar) h.4)) (ap Ok (sym (h.3 ∙ length-map ts plain_scalar)))
 typed_told (RelTree.filter s r c) scope d n h = rw (typed_told r scope d n h.0, cond_fits n c h.1)
-typed_told (RelTree.concat s p q) scope d n h = rw (typed_told p scope d n h.0, typed_told q scope d n h.1, eq-eqb n n refl)
+typed_told (RelTree.set_operation s o p q) scope d n h =
+    let both = (set_arity o (plain_rel p) (plain_rel q) scope d n).0 h in
+    rw (typed_told p scope d n both.0, typed_told q scope d n both.1, eq-eqb n n refl)
 typed_told (RelTree.join s p q ps) scope d n h =
     rw (typed_told p scope d h.0 h.2, typed_told q scope d h.1 h.3, pairs_fit h.0 h.1 ps h.4, arity_true (h.0 + h.1) (subst IsArity h.5 h.6)) (ap Ok (sym h.5))
 typed_told (RelTree.group s r ks gs) scope d n h =
@@ -27,7 +40,7 @@ typed_told (RelTree.group s r ks gs) scope d n h =
     rw (typed_told r scope d h.0 h.1, keys_fit h.0 ks h.2, aggs_fit h.0 gs h.3, arity_true (length ks + length gs) (subst IsArity e h.5)) (ap Ok (sym e))
 typed_told (RelTree.distinct s r) scope d n h = typed_told r scope d n h
 typed_told (RelTree.iterate s t k u x r b) scope d n h =
-    rw (le-leb k 1024 h.0, lt-ltb d 8 h.1, typed_told r scope d n h.2, h.3, typed_told b (entry x n ∷ scope) (suc d) n h.4, eq-eqb n n refl)
+    rw (le-leb k max_turns h.0, lt-ltb d max_loops h.1, typed_told r scope d n h.2, h.3, typed_told b (entry x n ∷ scope) (suc d) n h.4, eq-eqb n n refl)
 
 -- what passes has the arity
 pub told_typed : (r : RelTree) (scope : Scope) (d n : ℕ) → verdict r scope d ≡ Ok n → HasArity (plain_rel r) scope d n
@@ -43,13 +56,13 @@ told_typed (RelTree.filter s r c) scope d n h =
     let b = within_is_ok (first_beyond (cond_columns a.0 c)) (Ok a.0) n a.2 in
     let e : a.0 ≡ n = cc in
     (told_typed r scope d n (a.1 ∙ ap Ok e), cond_none n c (subst (λ m. first_beyond (cond_columns m c) ≡ None) e b.0))
-told_typed (RelTree.concat s p q) scope d n h =
+told_typed (RelTree.set_operation s o p q) scope d n h =
     let a = chain_is_ok (verdict p scope d) (λ l. chain (verdict q scope d) (λ m. cond (nat_eq l m) (Ok l) (Err (fault ARITIES_DIFFER s)))) n h in
     let b = chain_is_ok (verdict q scope d) (λ m. cond (nat_eq a.0 m) (Ok a.0) (Err (fault ARITIES_DIFFER s))) n a.2 in
     let c = test_is_ok (nat_eq a.0 b.0) (Ok a.0) (fault ARITIES_DIFFER s) n b.2 in
     let e : a.0 ≡ n = cc in
     let k = eqb-true a.0 b.0 c.0 in
-    (told_typed p scope d n (a.1 ∙ ap Ok e), told_typed q scope d n (b.1 ∙ ap Ok (sym k ∙ e)))
+    (set_arity o (plain_rel p) (plain_rel q) scope d n).1 (told_typed p scope d n (a.1 ∙ ap Ok e), told_typed q scope d n (b.1 ∙ ap Ok (sym k ∙ e)))
 told_typed (RelTree.join s p q ps) scope d n h =
     let a = chain_is_ok (verdict p scope d) (λ l. chain (verdict q scope d) (λ m. within (first_beyond (flat_map (pair_columns l m) ps)) (sized s (l + m)))) n h in
     let b = chain_is_ok (verdict q scope d) (λ m. within (first_beyond (flat_map (pair_columns a.0 m) ps)) (sized s (a.0 + m))) n a.2 in
@@ -65,17 +78,17 @@ told_typed (RelTree.group s r ks gs) scope d n h =
 told_typed (RelTree.distinct s r) scope d n h = told_typed r scope d n h
 told_typed (RelTree.iterate s t k u x r b) scope d n h =
     let turned = λ (m : ℕ) (j : ℕ). cond (nat_eq j m) (Ok m) (Err (fault BODY_DIFFERS (span_of b))) in
-    let bound = λ (m : ℕ). unless_taken (lookup scope x) u (chain (verdict b (entry x m ∷ scope) (suc d)) (turned m)) in
-    let a = test_is_ok (nat_le k 1024) (cond (nat_lt d 8) (chain (verdict r scope d) bound) (Err (fault TOO_DEEP s))) (fault TOO_MANY_TURNS t) n h in
-    let c = test_is_ok (nat_lt d 8) (chain (verdict r scope d) bound) (fault TOO_DEEP s) n a.1 in
+    let bound = λ (m : ℕ). unless_taken (lookup scope x) (fault NAME_TAKEN u) (chain (verdict b (entry x m ∷ scope) (suc d)) (turned m)) in
+    let a = test_is_ok (nat_le k max_turns) (cond (nat_lt d max_loops) (chain (verdict r scope d) bound) (Err (fault TOO_DEEP s))) (fault TOO_MANY_TURNS t) n h in
+    let c = test_is_ok (nat_lt d max_loops) (chain (verdict r scope d) bound) (fault TOO_DEEP s) n a.1 in
     let e = chain_is_ok (verdict r scope d) bound n c.1 in
-    let f = unless_is_ok (lookup scope x) u (chain (verdict b (entry x e.0 ∷ scope) (suc d)) (turned e.0)) n e.2 in
+    let f = unless_is_ok (lookup scope x) (fault NAME_TAKEN u) (chain (verdict b (entry x e.0 ∷ scope) (suc d)) (turned e.0)) n e.2 in
     let g = chain_is_ok (verdict b (entry x e.0 ∷ scope) (suc d)) (turned e.0) n f.1 in
     let i = test_is_ok (nat_eq g.0 e.0) (Ok e.0) (fault BODY_DIFFERS (span_of b)) n g.2 in
     let j : e.0 ≡ n = cc in
     let l = eqb-true g.0 e.0 i.0 in (
-      leb-true k 1024 a.0,
-      ltb-true d 8 c.0,
+      leb-true k max_turns a.0,
+      ltb-true d max_loops c.0,
       told_typed r scope d n (e.1 ∙ ap Ok j),
       f.0,
       told_typed b (entry x n ∷ scope) (suc d) n (subst (λ m. verdict b (entry x m ∷ scope) (suc d) ≡ Ok m) j (g.1 ∙ ap Ok l)),

@@ -1,7 +1,8 @@
 -- Each program is well typed or has a first fault, not both, and neither in two ways.
-use Rattle.std.proofs.Common.{◌≡◌, ℕ, suc, ap, Result, Ok, Err, ◌⊎◌, inl, inr, refl, sym, ◌∙◌}
+use Rattle.std.proofs.Common.{◌≡◌, ℕ, List, [], ◌∷◌, ap, Result, Ok, Err, ◌⊎◌, inl, inr, refl, sym, ◌∙◌}
 use Rattle.std.proofs.Math.Logic.{∥∥₁_elim}
 use Rattle.std.proofs.Math.Nat.{ℕ_set}
+use mathlib.Core.List.{is_set}
 use Rattle.expr_tree.specs.Trees.{ProgramTree}
 use Rattle.expr_tree.specs.Plain.{plain_program}
 use Rattle.semantics.specs.Typing.{WellTyped}
@@ -12,44 +13,44 @@ use Rattle.typing.specs.FirstFault.{FirstFault, Told}
 use Rattle.typing.specs.Verdict.{program_verdict, Says}
 use Rattle.typing.proofs.Programs.{program_typed_told, program_told_typed, program_fault_told, program_told_fault}
 
-pub decided : (p : ProgramTree) → ((n : ℕ) × WellTyped (plain_program p) n) ⊎ ((f : Fault) × FirstFault p f)
+pub decided : (p : ProgramTree) → ((ns : List ℕ) × WellTyped (plain_program p) ns) ⊎ ((f : Fault) × FirstFault p f)
 decided p = go (program_verdict p) refl
   where
-    go : (v : Result ℕ Fault) → program_verdict p ≡ v → ((n : ℕ) × WellTyped (plain_program p) n) ⊎ ((f : Fault) × FirstFault p f)
-    go (Ok n) e = inl (n, program_told_typed p n e)
+    go : (v : Result (List ℕ) Fault) → program_verdict p ≡ v → ((ns : List ℕ) × WellTyped (plain_program p) ns) ⊎ ((f : Fault) × FirstFault p f)
+    go (Ok ns) e = inl (ns, program_told_typed p ns e)
     go (Err f) e = inr (f, program_told_fault p f e)
 
-pub apart : (p : ProgramTree) (n : ℕ) (f : Fault) → WellTyped (plain_program p) n → FirstFault p f → ⊥
-apart p n f h k = let a = sym (program_typed_told p n h) ∙ program_fault_told k in cc
+pub apart : (p : ProgramTree) (ns : List ℕ) (f : Fault) → WellTyped (plain_program p) ns → FirstFault p f → ⊥
+apart p ns f h k = let a = sym (program_typed_told p ns h) ∙ program_fault_told k in cc
 
 pub one_fault : (p : ProgramTree) (f g : Fault) → FirstFault p f → FirstFault p g → f ≡ g
 one_fault p f g h k = let a = sym (program_fault_told h) ∙ program_fault_told k in cc
 
-pub one_arity : (p : ProgramTree) (m n : ℕ) → WellTyped (plain_program p) m → WellTyped (plain_program p) n → m ≡ n
-one_arity p m n h k = let a = sym (program_typed_told p m h) ∙ program_typed_told p n k in cc
+pub same_arities : (p : ProgramTree) (ms ns : List ℕ) → WellTyped (plain_program p) ms → WellTyped (plain_program p) ns → ms ≡ ns
+same_arities p ms ns h k = let a = sym (program_typed_told p ms h) ∙ program_typed_told p ns k in cc
 
 -- a refusal that the checks say is told of the program
 pub says_told : (p : ProgramTree) (e : Refusal) → Says e (program_verdict p) → Told p e
 says_told p (At c s) h = program_told_fault p (fault c s) h
 says_told p NoMemory h = tt
 
--- an outcome as a number: 0 for a fault
-outcome : Result ℕ Fault → ℕ
-outcome (Ok n) = suc n
-outcome (Err f) = 0
+-- an outcome as a list: empty for a fault
+outcome : Result (List ℕ) Fault → List ℕ
+outcome (Ok ns) = 0 ∷ ns
+outcome (Err f) = []
 
-outcome_ok : (v : Result ℕ Fault) (n : ℕ) → outcome v ≡ suc n → v ≡ Ok n
+outcome_ok : (v : Result (List ℕ) Fault) (ns : List ℕ) → outcome v ≡ 0 ∷ ns → v ≡ Ok ns
 unfolding outcome
-outcome_ok (Ok m) n e = cc
-outcome_ok (Err f) n e = absurd (cc)
+outcome_ok (Ok ms) ns e = cc
+outcome_ok (Err f) ns e = absurd (cc)
 
-outcome_of : (v : Result ℕ Fault) (n : ℕ) → v ≡ Ok n → outcome v ≡ suc n
+outcome_of : (v : Result (List ℕ) Fault) (ns : List ℕ) → v ≡ Ok ns → outcome v ≡ 0 ∷ ns
 unfolding outcome
-outcome_of v n e = ap outcome e
+outcome_of v ns e = ap outcome e
 
 -- what is known to be well typed is so by the checks
-pub well_typed : (p : ProgramTree) (n : ℕ) → ∥ WellTyped (plain_program p) n ∥₁ → WellTyped (plain_program p) n
-well_typed p n h =
-    program_told_typed p n
-    (outcome_ok (program_verdict p) n
-    (∥∥₁_elim h (ℕ_set (outcome (program_verdict p)) (suc n)) (λ k. outcome_of (program_verdict p) n (program_typed_told p n k))))
+pub well_typed : (p : ProgramTree) (ns : List ℕ) → ∥ WellTyped (plain_program p) ns ∥₁ → WellTyped (plain_program p) ns
+well_typed p ns h =
+    program_told_typed p ns
+    (outcome_ok (program_verdict p) ns
+    (∥∥₁_elim h (is_set ℕ_set (outcome (program_verdict p)) (0 ∷ ns)) (λ k. outcome_of (program_verdict p) ns (program_typed_told p ns k))))

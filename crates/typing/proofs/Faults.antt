@@ -2,8 +2,9 @@
 use Rattle.std.proofs.Common.{◌≡◌, ℕ, suc, ◌+◌, cond, nat_lt, nat_le, nat_eq, ◌∷◌, length, flat_map, Ok, Err, ap, subst}
 use Rattle.std.proofs.lemmas.Bool.{ltb-true, lt-ltb, leb-true, le-leb, leb-false, ltb-false}
 use Rattle.expr_tree.specs.Trees.{RelTree}
+use Rattle.semantics.specs.Limits.{max_turns, max_loops}
 use Rattle.semantics.specs.Typing.{Scope, lookup, entry}
-use Rattle.typing.specs.declared.refusals.TheConstants.{UNKNOWN_NAME, ARITIES_DIFFER, BODY_DIFFERS, TOO_MANY_TURNS, TOO_DEEP}
+use Rattle.typing.specs.declared.refusals.TheConstants.{UNKNOWN_NAME, NAME_TAKEN, ARITIES_DIFFER, BODY_DIFFERS, TOO_MANY_TURNS, TOO_DEEP}
 use Rattle.typing.specs.Columns.{scalar_columns, cond_columns, pair_columns, key_columns, agg_columns, first_beyond}
 use Rattle.typing.specs.Fault.{Fault, fault, span_of}
 use Rattle.typing.specs.FirstFault.{FaultIn}
@@ -19,9 +20,9 @@ fault_told (FaultIn.select_column {r = r} {scope = scope} {d = d} m h e) = rw (t
 fault_told (FaultIn.select_arity {r = r} {ts = ts} {scope = scope} {d = d} m h e k) = rw (typed_told r scope d m h, e, arity_false (length ts) k)
 fault_told (FaultIn.filter_part p) = rw (fault_told p)
 fault_told (FaultIn.filter_column {r = r} {scope = scope} {d = d} m h e) = rw (typed_told r scope d m h, e)
-fault_told (FaultIn.concat_left p) = rw (fault_told p)
-fault_told (FaultIn.concat_right {p = q} {scope = scope} {d = d} l h p) = rw (typed_told q scope d l h, fault_told p)
-fault_told (FaultIn.concat_arity {p = p} {q = q} {scope = scope} {d = d} l m h k e) = rw (typed_told p scope d l h, typed_told q scope d m k, differ_false l m e)
+fault_told (FaultIn.set_left p) = rw (fault_told p)
+fault_told (FaultIn.set_right {p = q} {scope = scope} {d = d} l h p) = rw (typed_told q scope d l h, fault_told p)
+fault_told (FaultIn.set_arity {p = p} {q = q} {scope = scope} {d = d} l m h k e) = rw (typed_told p scope d l h, typed_told q scope d m k, differ_false l m e)
 fault_told (FaultIn.join_left p) = rw (fault_told p)
 fault_told (FaultIn.join_right {p = q} {scope = scope} {d = d} l h p) = rw (typed_told q scope d l h, fault_told p)
 fault_told (FaultIn.join_column {p = p} {q = q} {scope = scope} {d = d} l m h k e) = rw (typed_told p scope d l h, typed_told q scope d m k, e)
@@ -31,12 +32,12 @@ fault_told (FaultIn.group_key {r = r} {scope = scope} {d = d} m h e) = rw (typed
 fault_told (FaultIn.group_column {r = r} {scope = scope} {d = d} m h e k) = rw (typed_told r scope d m h, e, k)
 fault_told (FaultIn.group_arity {r = r} {ks = ks} {gs = gs} {scope = scope} {d = d} m h e k i) = rw (typed_told r scope d m h, e, k, arity_false (length ks + length gs) i)
 fault_told (FaultIn.distinct_part p) = fault_told p
-fault_told (FaultIn.iterate_turns {n = n} h) = rw (above_false n 1024 h)
-fault_told (FaultIn.iterate_depth {n = n} {d = d} h k) = rw (le-leb n 1024 h, least_false d 8 k)
-fault_told (FaultIn.iterate_start {n = n} {d = d} h k p) = rw (le-leb n 1024 h, lt-ltb d 8 k, fault_told p)
-fault_told (FaultIn.iterate_variable {n = n} {r = r} {scope = scope} {d = d} m j h k i e) = rw (le-leb n 1024 h, lt-ltb d 8 k, typed_told r scope d m i, e)
-fault_told (FaultIn.iterate_body {n = n} {r = r} {scope = scope} {d = d} m h k i e p) = rw (le-leb n 1024 h, lt-ltb d 8 k, typed_told r scope d m i, e, fault_told p)
-fault_told (FaultIn.iterate_arity {n = n} {x = x} {r = r} {b = b} {scope = scope} {d = d} m j h k i e a q) = rw (le-leb n 1024 h, lt-ltb d 8 k, typed_told r scope d m i, e, typed_told b (entry x m ∷ scope) (suc d) j a, differ_false j m q)
+fault_told (FaultIn.iterate_turns {n = n} h) = rw (above_false n max_turns h)
+fault_told (FaultIn.iterate_depth {n = n} {d = d} h k) = rw (le-leb n max_turns h, least_false d max_loops k)
+fault_told (FaultIn.iterate_start {n = n} {d = d} h k p) = rw (le-leb n max_turns h, lt-ltb d max_loops k, fault_told p)
+fault_told (FaultIn.iterate_variable {n = n} {r = r} {scope = scope} {d = d} m j h k i e) = rw (le-leb n max_turns h, lt-ltb d max_loops k, typed_told r scope d m i, e)
+fault_told (FaultIn.iterate_body {n = n} {r = r} {scope = scope} {d = d} m h k i e p) = rw (le-leb n max_turns h, lt-ltb d max_loops k, typed_told r scope d m i, e, fault_told p)
+fault_told (FaultIn.iterate_arity {n = n} {x = x} {r = r} {b = b} {scope = scope} {d = d} m j h k i e a q) = rw (le-leb n max_turns h, lt-ltb d max_loops k, typed_told r scope d m i, e, typed_told b (entry x m ∷ scope) (suc d) j a, differ_false j m q)
 
 at_fault : (r : RelTree) (scope : Scope) (d : ℕ) (f g : Fault) → g ≡ f → FaultIn r scope d g → FaultIn r scope d f
 at_fault r scope d f g e h = subst (FaultIn r scope d) e h
@@ -60,15 +61,15 @@ told_fault (RelTree.filter s r c) scope d f h =
     (λ m e k. within_is_err (first_beyond (cond_columns m c)) (Ok m) f (G f) k
     (λ at b i. subst G i (FaultIn.filter_column m (told_typed r scope d m e) b))
     (λ b i. absurd (cc)))
-told_fault (RelTree.concat s p q) scope d f h =
-    let G = FaultIn (RelTree.concat s p q) scope d in
+told_fault (RelTree.set_operation s o p q) scope d f h =
+    let G = FaultIn (RelTree.set_operation s o p q) scope d in
     let last = λ (l m : ℕ). cond (nat_eq l m) (Ok l) (Err (fault ARITIES_DIFFER s)) in
     chain_is_err (verdict p scope d) (λ l. chain (verdict q scope d) (last l)) f (G f) h
-    (λ e. FaultIn.concat_left (told_fault p scope d f e))
+    (λ e. FaultIn.set_left (told_fault p scope d f e))
     (λ l e k. chain_is_err (verdict q scope d) (last l) f (G f) k
-    (λ i. FaultIn.concat_right l (told_typed p scope d l e) (told_fault q scope d f i))
+    (λ i. FaultIn.set_right l (told_typed p scope d l e) (told_fault q scope d f i))
     (λ m i j. test_is_err (nat_eq l m) (Ok l) (fault ARITIES_DIFFER s) f (G f) j
-    (λ a b. subst G b (FaultIn.concat_arity l m (told_typed p scope d l e) (told_typed q scope d m i) (false_differ l m a)))
+    (λ a b. subst G b (FaultIn.set_arity l m (told_typed p scope d l e) (told_typed q scope d m i) (false_differ l m a)))
     (λ a b. absurd (cc))))
 told_fault (RelTree.join s p q ps) scope d f h =
     let G = FaultIn (RelTree.join s p q ps) scope d in
@@ -95,17 +96,17 @@ told_fault (RelTree.iterate s t n u x r b) scope d f h =
     let G = FaultIn (RelTree.iterate s t n u x r b) scope d in
     let last = λ (m k : ℕ). cond (nat_eq k m) (Ok m) (Err (fault BODY_DIFFERS (span_of b))) in
     let inner = λ (m : ℕ). chain (verdict b (entry x m ∷ scope) (suc d)) (last m) in
-    let next = λ (m : ℕ). unless_taken (lookup scope x) u (inner m) in
-    test_is_err (nat_le n 1024) (cond (nat_lt d 8) (chain (verdict r scope d) next) (Err (fault TOO_DEEP s))) (fault TOO_MANY_TURNS t) f (G f) h
-    (λ e k. subst G k (FaultIn.iterate_turns (leb-false n 1024 e)))
-    (λ few k. test_is_err (nat_lt d 8) (chain (verdict r scope d) next) (fault TOO_DEEP s) f (G f) k
-    (λ e i. subst G i (FaultIn.iterate_depth (leb-true n 1024 few) (ltb-false d 8 e)))
+    let next = λ (m : ℕ). unless_taken (lookup scope x) (fault NAME_TAKEN u) (inner m) in
+    test_is_err (nat_le n max_turns) (cond (nat_lt d max_loops) (chain (verdict r scope d) next) (Err (fault TOO_DEEP s))) (fault TOO_MANY_TURNS t) f (G f) h
+    (λ e k. subst G k (FaultIn.iterate_turns (leb-false n max_turns e)))
+    (λ few k. test_is_err (nat_lt d max_loops) (chain (verdict r scope d) next) (fault TOO_DEEP s) f (G f) k
+    (λ e i. subst G i (FaultIn.iterate_depth (leb-true n max_turns few) (ltb-false d max_loops e)))
     (λ shallow i. chain_is_err (verdict r scope d) next f (G f) i
-    (λ e. FaultIn.iterate_start (leb-true n 1024 few) (ltb-true d 8 shallow) (told_fault r scope d f e))
-    (λ m e j. unless_is_err (lookup scope x) u (inner m) f (G f) j
-    (λ k a c. subst G c (FaultIn.iterate_variable m k (leb-true n 1024 few) (ltb-true d 8 shallow) (told_typed r scope d m e) a))
+    (λ e. FaultIn.iterate_start (leb-true n max_turns few) (ltb-true d max_loops shallow) (told_fault r scope d f e))
+    (λ m e j. unless_is_err (lookup scope x) (fault NAME_TAKEN u) (inner m) f (G f) j
+    (λ k a c. subst G c (FaultIn.iterate_variable m k (leb-true n max_turns few) (ltb-true d max_loops shallow) (told_typed r scope d m e) a))
     (λ free c. chain_is_err (verdict b (entry x m ∷ scope) (suc d)) (last m) f (G f) c
-    (λ a. FaultIn.iterate_body m (leb-true n 1024 few) (ltb-true d 8 shallow) (told_typed r scope d m e) free (told_fault b (entry x m ∷ scope) (suc d) f a))
+    (λ a. FaultIn.iterate_body m (leb-true n max_turns few) (ltb-true d max_loops shallow) (told_typed r scope d m e) free (told_fault b (entry x m ∷ scope) (suc d) f a))
     (λ k a c. test_is_err (nat_eq k m) (Ok m) (fault BODY_DIFFERS (span_of b)) f (G f) c
-    (λ no i. subst G i (FaultIn.iterate_arity m k (leb-true n 1024 few) (ltb-true d 8 shallow) (told_typed r scope d m e) free (told_typed b (entry x m ∷ scope) (suc d) k a) (false_differ k m no)))
+    (λ no i. subst G i (FaultIn.iterate_arity m k (leb-true n max_turns few) (ltb-true d max_loops shallow) (told_typed r scope d m e) free (told_typed b (entry x m ∷ scope) (suc d) k a) (false_differ k m no)))
     (λ yes i. absurd (cc)))))))

@@ -5,6 +5,7 @@ use Rattle.std.specs.Map.{keys_of}
 use Rattle.std.specs.Map as table
 use Rattle.std.proofs.lemmas.Bool.Decides.{Decides-eqb}
 use Rattle.std.specs.Cmp.Lexicographic.{pointwise_decides}
+use Rattle.semantics.specs.Limits.{max_fields}
 use Rattle.semantics.specs.Meaning.{same_name}
 use Rattle.semantics.specs.Typing.{Entry, Scope, lookup, entry}
 use Rattle.typing.specs.Scope.{scope_of}
@@ -64,22 +65,22 @@ lookup_seen (e ∷ es) x h = go (same_name x e.0) refl (table.lookup (same_name 
     go false p (Some n) q ih = lookup_first (scope_of es) (entry e.0 e.1) x n (ih ∙ q) ∙ sym q
 
 -- entries within the limit
-small_append : (es fs : List (List ℕ × ℕ)) → AllByRecursion (λ e. e.1 ≤ 16) es → AllByRecursion (λ e. e.1 ≤ 16) fs → AllByRecursion (λ e. e.1 ≤ 16) (es ++ fs)
+small_append : (es fs : List (List ℕ × ℕ)) → AllByRecursion (λ e. e.1 ≤ max_fields) es → AllByRecursion (λ e. e.1 ≤ max_fields) fs → AllByRecursion (λ e. e.1 ≤ max_fields) (es ++ fs)
 small_append [] fs h k = k
 small_append (e ∷ es) fs h k = (h.0, small_append es fs h.1 k)
 
-pub small_declared : (es fs : List (List ℕ × ℕ)) (x : List ℕ) (n : ℕ) → fs ≡ es ++ (x, n) ∷ [] → AllByRecursion (λ e. e.1 ≤ 16) es → n ≤ 16 → AllByRecursion (λ e. e.1 ≤ 16) fs
+pub small_declared : (es fs : List (List ℕ × ℕ)) (x : List ℕ) (n : ℕ) → fs ≡ es ++ (x, n) ∷ [] → AllByRecursion (λ e. e.1 ≤ max_fields) es → n ≤ max_fields → AllByRecursion (λ e. e.1 ≤ max_fields) fs
 small_declared es fs x n e h k = rw e (small_append es ((x, n) ∷ []) h (k, tt))
 
-pub small_front : (es fs : List (List ℕ × ℕ)) → AllByRecursion (λ e. e.1 ≤ 16) (es ++ fs) → AllByRecursion (λ e. e.1 ≤ 16) es
+pub small_front : (es fs : List (List ℕ × ℕ)) → AllByRecursion (λ e. e.1 ≤ max_fields) (es ++ fs) → AllByRecursion (λ e. e.1 ≤ max_fields) es
 small_front [] fs h = tt
 small_front (e ∷ es) fs h = (h.0, small_front es fs h.1)
 
-pub small_found : (es : List (List ℕ × ℕ)) (x : List ℕ) → AllByRecursion (λ e. e.1 ≤ 16) es → IfSome (table.lookup (same_name x) es) (λ n. n ≤ 16)
+pub small_found : (es : List (List ℕ × ℕ)) (x : List ℕ) → AllByRecursion (λ e. e.1 ≤ max_fields) es → IfSome (table.lookup (same_name x) es) (λ n. n ≤ max_fields)
 small_found [] x h = tt
 small_found (e ∷ es) x h = go (same_name x e.0) (small_found es x h.1)
   where
-    go : (b : Bool) → IfSome (table.lookup (same_name x) es) (λ n. n ≤ 16) → IfSome (cond b (Some e.1) (table.lookup (same_name x) es)) (λ n. n ≤ 16)
+    go : (b : Bool) → IfSome (table.lookup (same_name x) es) (λ n. n ≤ max_fields) → IfSome (cond b (Some e.1) (table.lookup (same_name x) es)) (λ n. n ≤ max_fields)
     go true ih = h.0
     go false ih = ih
 
@@ -87,8 +88,8 @@ not_some : IsSome {T = List ℕ × ℕ} None → ⊥
 not_some h = cc
 
 -- an arity that is found is within the limit
-pub small_at : (es : List (List ℕ × ℕ)) (x : List ℕ) (n : ℕ) → AllByRecursion (λ e. e.1 ≤ 16) es → table.lookup (same_name x) es ≡ Some n → n ≤ 16
-small_at es x n h e = subst (λ r. IfSome r (λ n. n ≤ 16)) e (small_found es x h)
+pub small_at : (es : List (List ℕ × ℕ)) (x : List ℕ) (n : ℕ) → AllByRecursion (λ e. e.1 ≤ max_fields) es → table.lookup (same_name x) es ≡ Some n → n ≤ max_fields
+small_at es x n h e = subst (λ r. IfSome r (λ n. n ≤ max_fields)) e (small_found es x h)
 
 -- once the last entry is taken out, the scope has lost its first
 pub scope_forgotten : (es fs : List (List ℕ × ℕ)) (r : Option (List ℕ × ℕ)) → es ≡ fs ++ option_to_list r → (IsSome r ↔ (0 < length es)) → scope_of fs ≡ drop 1 (scope_of es)

@@ -17,7 +17,7 @@ abbrev pub span_of : RelTree → Span
 span_of (RelTree.named s x) = s
 span_of (RelTree.select s r ts) = s
 span_of (RelTree.filter s r c) = s
-span_of (RelTree.concat s p q) = s
+span_of (RelTree.set_operation s o p q) = s
 span_of (RelTree.join s p q ps) = s
 span_of (RelTree.group s r ks gs) = s
 span_of (RelTree.distinct s r) = s

@@ -6,12 +6,13 @@ use Rattle.record_core.specs.declared.span.Refusal.TheVariants.{At, NoMemory}
 use Rattle.expr_tree.specs.declared.relation.Column.{Column}
 use Rattle.expr_tree.specs.declared.relation.Pair.{Pair}
 use Rattle.expr_tree.specs.declared.relation.Agg.{Agg}
+use Rattle.expr_tree.specs.declared.relation.SetOperator.{SetOperator}
 use Rattle.expr_tree.specs.declared.program.Input.{Input}
-use Rattle.expr_tree.specs.Trees.{ScalarTree, CondTree, RelTree, LetTree, ProgramTree}
+use Rattle.expr_tree.specs.Trees.{ScalarTree, CondTree, RelTree, LetTree, OutputTree, ProgramTree}
 use Rattle.expr_tree.specs.Plain.{plain_rel, plain_input}
-use Rattle.semantics.specs.Limits.{max_inputs, max_turns, max_loops}
+use Rattle.semantics.specs.Limits.{max_inputs, max_outputs, max_turns, max_loops}
 use Rattle.semantics.specs.Typing.{Scope, lookup, entry, IsArity, HasArity, InputsFit, after_inputs}
-use Rattle.typing.specs.declared.refusals.TheConstants.{UNKNOWN_NAME, NAME_TAKEN, NO_SUCH_COLUMN, ARITIES_DIFFER, BODY_DIFFERS, BAD_ARITY, TOO_MANY_TURNS, TOO_DEEP, TOO_MANY_INPUTS}
+use Rattle.typing.specs.declared.refusals.TheConstants.{UNKNOWN_NAME, NAME_TAKEN, NO_SUCH_COLUMN, ARITIES_DIFFER, BODY_DIFFERS, BAD_ARITY, TOO_MANY_TURNS, TOO_DEEP, TOO_MANY_INPUTS, OUTPUT_TAKEN, TOO_MANY_OUTPUTS}
 use Rattle.typing.specs.Columns.{first_beyond, scalar_columns, cond_columns, pair_columns, key_columns, agg_columns}
 use Rattle.typing.specs.Fault.{Fault, fault, span_of}
 
@@ -26,10 +27,10 @@ pub data FaultIn : RelTree → Scope → ℕ → Fault → Type 0 where
   -- where: its relation, its columns
   filter_part : {s : Span} {r : RelTree} {c : CondTree} {scope : Scope} {d : ℕ} {f : Fault} → FaultIn r scope d f → FaultIn (RelTree.filter s r c) scope d f
   filter_column : {s at : Span} {r : RelTree} {c : CondTree} {scope : Scope} {d : ℕ} (m : ℕ) → HasArity (plain_rel r) scope d m → first_beyond (cond_columns m c) ≡ Some at → FaultIn (RelTree.filter s r c) scope d (fault NO_SUCH_COLUMN at)
-  -- concat: left, right, the arities
-  concat_left : {s : Span} {p q : RelTree} {scope : Scope} {d : ℕ} {f : Fault} → FaultIn p scope d f → FaultIn (RelTree.concat s p q) scope d f
-  concat_right : {s : Span} {p q : RelTree} {scope : Scope} {d : ℕ} {f : Fault} (l : ℕ) → HasArity (plain_rel p) scope d l → FaultIn q scope d f → FaultIn (RelTree.concat s p q) scope d f
-  concat_arity : {s : Span} {p q : RelTree} {scope : Scope} {d : ℕ} (l m : ℕ) → HasArity (plain_rel p) scope d l → HasArity (plain_rel q) scope d m → l ≢ m → FaultIn (RelTree.concat s p q) scope d (fault ARITIES_DIFFER s)
+  -- a set operation: left, right, the arities
+  set_left : {s : Span} {o : SetOperator} {p q : RelTree} {scope : Scope} {d : ℕ} {f : Fault} → FaultIn p scope d f → FaultIn (RelTree.set_operation s o p q) scope d f
+  set_right : {s : Span} {o : SetOperator} {p q : RelTree} {scope : Scope} {d : ℕ} {f : Fault} (l : ℕ) → HasArity (plain_rel p) scope d l → FaultIn q scope d f → FaultIn (RelTree.set_operation s o p q) scope d f
+  set_arity : {s : Span} {o : SetOperator} {p q : RelTree} {scope : Scope} {d : ℕ} (l m : ℕ) → HasArity (plain_rel p) scope d l → HasArity (plain_rel q) scope d m → l ≢ m → FaultIn (RelTree.set_operation s o p q) scope d (fault ARITIES_DIFFER s)
   -- join: left, right, the columns, the arity
   join_left : {s : Span} {p q : RelTree} {ps : List Pair} {scope : Scope} {d : ℕ} {f : Fault} → FaultIn p scope d f → FaultIn (RelTree.join s p q ps) scope d f
   join_right : {s : Span} {p q : RelTree} {ps : List Pair} {scope : Scope} {d : ℕ} {f : Fault} (l : ℕ) → HasArity (plain_rel p) scope d l → FaultIn q scope d f → FaultIn (RelTree.join s p q ps) scope d f
@@ -57,17 +58,24 @@ pub data InputFault : List Input → Scope → Fault → Type 0 where
   too_many : {i : Input} {rest : List Input} {scope : Scope} → lookup scope i.name ≡ None → IsArity i.arity → max_inputs ≤ length scope → InputFault (i ∷ rest) scope (fault TOO_MANY_INPUTS i.name_span)
   later : {i : Input} {rest : List Input} {scope : Scope} {f : Fault} → lookup scope i.name ≡ None → IsArity i.arity → length scope < max_inputs → InputFault rest (entry i.name i.arity ∷ scope) f → InputFault (i ∷ rest) scope f
 
--- the first fault of lets, then of the output: of each let its relation, its name
-pub data RestFault : List LetTree → RelTree → Scope → Fault → Type 0 where
-  relation : {l : LetTree} {rest : List LetTree} {out : RelTree} {scope : Scope} {f : Fault} → FaultIn l.relation scope 0 f → RestFault (l ∷ rest) out scope f
-  taken : {l : LetTree} {rest : List LetTree} {out : RelTree} {scope : Scope} (m k : ℕ) → HasArity (plain_rel l.relation) scope 0 m → lookup scope l.name ≡ Some k → RestFault (l ∷ rest) out scope (fault NAME_TAKEN l.name_span)
-  later : {l : LetTree} {rest : List LetTree} {out : RelTree} {scope : Scope} {f : Fault} (m : ℕ) → HasArity (plain_rel l.relation) scope 0 m → lookup scope l.name ≡ None → RestFault rest out (entry l.name m ∷ scope) f → RestFault (l ∷ rest) out scope f
-  output : {out : RelTree} {scope : Scope} {f : Fault} → FaultIn out scope 0 f → RestFault [] out scope f
+-- the first fault of outputs that follow those `before` them, in that scope: of each its relation, its name, its number
+pub data OutputFault : List OutputTree → (scope before : Scope) → Fault → Type 0 where
+  relation : {o : OutputTree} {rest : List OutputTree} {scope before : Scope} {f : Fault} → FaultIn o.relation scope 0 f → OutputFault (o ∷ rest) scope before f
+  taken : {o : OutputTree} {rest : List OutputTree} {scope before : Scope} (m k : ℕ) → HasArity (plain_rel o.relation) scope 0 m → lookup before o.name ≡ Some k → OutputFault (o ∷ rest) scope before (fault OUTPUT_TAKEN o.name_span)
+  too_many : {o : OutputTree} {rest : List OutputTree} {scope before : Scope} (m : ℕ) → HasArity (plain_rel o.relation) scope 0 m → lookup before o.name ≡ None → max_outputs ≤ length before → OutputFault (o ∷ rest) scope before (fault TOO_MANY_OUTPUTS o.keyword_span)
+  later : {o : OutputTree} {rest : List OutputTree} {scope before : Scope} {f : Fault} (m : ℕ) → HasArity (plain_rel o.relation) scope 0 m → lookup before o.name ≡ None → length before < max_outputs → OutputFault rest scope (entry o.name m ∷ before) f → OutputFault (o ∷ rest) scope before f
+
+-- the first fault of lets, then of the outputs: of each let its relation, its name
+pub data RestFault : List LetTree → List OutputTree → Scope → Fault → Type 0 where
+  relation : {l : LetTree} {rest : List LetTree} {outs : List OutputTree} {scope : Scope} {f : Fault} → FaultIn l.relation scope 0 f → RestFault (l ∷ rest) outs scope f
+  taken : {l : LetTree} {rest : List LetTree} {outs : List OutputTree} {scope : Scope} (m k : ℕ) → HasArity (plain_rel l.relation) scope 0 m → lookup scope l.name ≡ Some k → RestFault (l ∷ rest) outs scope (fault NAME_TAKEN l.name_span)
+  later : {l : LetTree} {rest : List LetTree} {outs : List OutputTree} {scope : Scope} {f : Fault} (m : ℕ) → HasArity (plain_rel l.relation) scope 0 m → lookup scope l.name ≡ None → RestFault rest outs (entry l.name m ∷ scope) f → RestFault (l ∷ rest) outs scope f
+  output : {outs : List OutputTree} {scope : Scope} {f : Fault} → OutputFault outs scope [] f → RestFault [] outs scope f
 
 -- the first fault of a program
 pub data FirstFault : ProgramTree → Fault → Type 0 where
   input : {p : ProgramTree} {f : Fault} → InputFault p.inputs [] f → FirstFault p f
-  rest : {p : ProgramTree} {f : Fault} → length p.inputs ≤ max_inputs → InputsFit [] (map plain_input p.inputs) → RestFault p.lets p.output (after_inputs [] (map plain_input p.inputs)) f → FirstFault p f
+  rest : {p : ProgramTree} {f : Fault} → length p.inputs ≤ max_inputs → InputsFit [] (map plain_input p.inputs) → RestFault p.lets p.outputs (after_inputs [] (map plain_input p.inputs)) f → FirstFault p f
 
 -- a numbered refusal is the first fault of the program; want of memory says nothing of it
 abbrev pub Told : ProgramTree → Refusal → Type 0

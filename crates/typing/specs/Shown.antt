@@ -1,5 +1,5 @@
 -- What a typed program shows.
-use Rattle.std.specs.Prelude.{ℕ}
+use Rattle.std.specs.Prelude.{ℕ, List}
 use Rattle.expr_tree.specs.Trees.{ProgramTree}
 use Rattle.expr_tree.specs.Views.{program_tree}
 use Rattle.typing.specs.declared.typed.Typed.{Typed}
@@ -8,6 +8,6 @@ use Rattle.typing.specs.declared.typed.Typed.{Typed}
 abbrev pub typed_program : {A : Type 0} → Typed A → ProgramTree
 typed_program t = program_tree t.program
 
--- the arity of its output
-abbrev pub output_arity : {A : Type 0} → Typed A → ℕ
-output_arity t = t.arity
+-- the arities of its outputs, in order
+abbrev pub output_arities : {A : Type 0} → Typed A → List ℕ
+output_arities t = t.arities.items

@@ -1,8 +1,10 @@
 //! The numbers of fields at the place of a refusal, for whoever explains it.
 
 ghost use Rattle.std.specs.Prelude.{◌≤◌, IfSome};
+ghost use Rattle.semantics.specs.Limits.{max_fields, max_loops};
 
 use crate::columns::{in_aggs, in_cond, in_keys, in_pairs, in_scalars};
+use crate::limits::MAX_LOOPS;
 use crate::names::Names;
 use crate::program::{declare_inputs, declare_let};
 use crate::refusals::{ARITIES_DIFFER, BAD_ARITY, BODY_DIFFERS, NO_SUCH_COLUMN};
@@ -16,7 +18,7 @@ use std::alloc::{Allocator, Global};
 pub enum Arities {
     /// Of the relation that hasn't the column; or of the input or the form that has 0 fields, or over 16.
     One(u64),
-    /// Of the two relations end to end; or of a loop's start and its body.
+    /// Of the two relations of a `concat`, an `except` or an `intersect`; or of a loop's start and its body.
     Two(u64, u64),
 }
 
@@ -44,8 +46,8 @@ impl Fault {
 
 /// The arity of a relation that is refused nowhere.
 fn fields<A: Allocator>(names: &mut Names, relation: &Rel<A>, depth: u32) -> Option<u64>
-    requires { depth ≤ 8 }
-    ensures { IfSome result (λ n. n ≤ 16) }
+    requires { depth ≤ max_loops }
+    ensures { IfSome result (λ n. n ≤ max_fields) }
 {
     match arity_of(names, relation, depth) {
         Ok(arity) => Some(arity),
@@ -72,8 +74,8 @@ fn at_form(
 
 /// At a join of relations of these arities.
 fn at_join(fault: Fault, span: Span, left: u64, right: u64, pairs: &[Pair]) -> Option<Arities>
-    requires left { left ≤ 16 }
-    requires right { right ≤ 16 }
+    requires left { left ≤ max_fields }
+    requires right { right ≤ max_fields }
 {
     if fault.is_beyond(in_pairs(pairs, left, right)) {
         let on_left = pairs.iter().any(|pair| pair.left.span == fault.span);
@@ -94,7 +96,7 @@ fn at_body<A: Allocator>(
     body: &Rel<A>,
     depth: u32,
 ) -> Option<Arities>
-    requires { depth ≤ 8 }
+    requires { depth ≤ max_loops }
 {
     if fault.is(BODY_DIFFERS, place(body)) {
         Some(Arities::Two(start, fields(names, body, depth)?))
@@ -110,7 +112,7 @@ fn at_itself<A: Allocator>(
     relation: &Rel<A>,
     depth: u32,
 ) -> Option<Arities>
-    requires { depth ≤ 8 }
+    requires { depth ≤ max_loops }
 {
     match relation {
         Rel::Select(span, of, scalars) => {
@@ -122,7 +124,7 @@ fn at_itself<A: Allocator>(
             let arity = fields(names, of, depth)?;
             at_form(fault, *span, arity, in_cond(condition, arity), arity)
         }
-        Rel::Concat(span, left, right) if fault.is(ARITIES_DIFFER, *span) => {
+        Rel::SetOperation(span, _, left, right) if fault.is(ARITIES_DIFFER, *span) => {
             let first = fields(names, left, depth)?;
             Some(Arities::Two(first, fields(names, right, depth)?))
         }
@@ -148,7 +150,7 @@ fn at_relation<A: Allocator>(
     relation: &Rel<A>,
     depth: u32,
 ) -> Option<Arities>
-    requires { depth ≤ 8 }
+    requires { depth ≤ max_loops }
 {
     let inside = match relation {
         Rel::Named(_, _) => None,
@@ -156,7 +158,7 @@ fn at_relation<A: Allocator>(
         | Rel::Where(_, of, _)
         | Rel::Group(_, of, _, _)
         | Rel::Distinct(_, of) => at_relation(names, fault, of, depth),
-        Rel::Concat(_, left, right) | Rel::Join(_, left, right, _) => {
+        Rel::SetOperation(_, _, left, right) | Rel::Join(_, left, right, _) => {
             match at_relation(names, fault, left, depth) {
                 Some(found) => Some(found),
                 None => at_relation(names, fault, right, depth),
@@ -172,7 +174,7 @@ fn at_relation<A: Allocator>(
                 return Some(found);
             }
             let arity = fields(names, start, depth)?;
-            if depth >= 8 || names.arity(name).is_some() {
+            if depth >= MAX_LOOPS || names.arity(name).is_some() {
                 return None;
             }
             names.declare(name, arity).ok()?;
@@ -222,5 +224,10 @@ pub fn arities_at<A: Allocator>(
         }
         declare_let(&mut names, item).ok()?;
     }
-    at_relation(&mut names, fault, &program.output, 0)
+    for output in &program.outputs {
+        if let Some(found) = at_relation(&mut names, fault, &output.relation, 0) {
+            return Some(found);
+        }
+    }
+    None
 }

@@ -1,7 +1,7 @@
 //! Names, arities and loops of a query, checked.
 //!
 //! `check` takes a program and gives it back typed, or whole with the first of its faults in the order of the checks: the
-//! inputs, the lets, the output, each relation from its parts to itself.
+//! inputs, the lets, the outputs, each relation from its parts to itself.
 //!
 //! The contract for the layers above: a `Typed` is well typed, with the arities that it shows. Below stand `expr_tree`, whose
 //! trees are checked, and `semantics`, which says what is well typed; the normaliser and lowering take a `Typed`.
@@ -10,6 +10,7 @@
 mod arities;
 mod columns;
 pub mod laws;
+mod limits;
 mod names;
 mod program;
 mod refusals;
@@ -17,5 +18,6 @@ mod relation;
 mod typed;
 
 pub use arities::{Arities, arities_at};
+pub use limits::{MAX_INPUTS, MAX_LOOPS, MAX_OUTPUTS, MAX_TURNS};
 pub use program::check;
-pub use typed::Typed;
+pub use typed::{OutputArities, Typed};

@@ -1,6 +1,7 @@
 //! The names in scope.
 
 ghost use Rattle.std.specs.Prelude.{◌≡◌, ◌≤◌, ◌∷◌, [], None, drop, length, IfSome, OnOk, OnErr};
+ghost use Rattle.semantics.specs.Limits.{max_fields};
 ghost use Rattle.semantics.specs.Typing.{lookup, entry};
 
 use indexmap::IndexMap;
@@ -19,6 +20,7 @@ impl Model for Names {
     ghost use Rattle.std.specs.List.{AllByRecursion};
     ghost use Rattle.std.specs.Cmp.Lexicographic.{pointwise};
     ghost use Rattle.indexmap.specs.IndexMap.{IsUnique};
+    ghost use Rattle.semantics.specs.Limits.{max_fields};
     ghost use Rattle.semantics.specs.Typing.{Scope};
     ghost use Rattle.typing.specs.Scope.{scope_of, scope_code};
 
@@ -28,7 +30,7 @@ impl Model for Names {
 
     ghost view = { λ n. scope_of n.table.entries };
 
-    ghost invariant = { λ n. IsUnique (pointwise nat_eq) n.table × AllByRecursion (λ e. e.1 ≤ 16) n.table.entries };
+    ghost invariant = { λ n. IsUnique (pointwise nat_eq) n.table × AllByRecursion (λ e. e.1 ≤ max_fields) n.table.entries };
 }
 
 impl Names {
@@ -51,7 +53,7 @@ impl Names {
     /// The arity of a name in scope.
     pub(crate) fn arity(&self, name: &Name) -> Option<u64>
         ensures value { result ≡ lookup self.now name.now }
-        ensures small { IfSome result (λ n. n ≤ 16) }
+        ensures small { IfSome result (λ n. n ≤ max_fields) }
     {
         match self.table.get(name) {
             Some(arity) => Some(*arity),
@@ -62,7 +64,7 @@ impl Names {
     /// Declares a name that isn't in scope. An `Err` leaves the scope as it was.
     pub(crate) fn declare(&mut self, name: &Name, arity: u64) -> Result<(), AllocError>
         requires free { lookup self.old name.now ≡ None }
-        requires small { arity ≤ 16 }
+        requires small { arity ≤ max_fields }
         ensures ok { OnOk result (self.new ≡ entry name.now arity ∷ self.old) }
         ensures err { OnErr result (self.new ≡ self.old) }
     {

@@ -11,18 +11,22 @@ pub const UNKNOWN_NAME: u8 = 11;
 pub const NAME_TAKEN: u8 = 12;
 /// A column that its relation hasn't. Told at the column.
 pub const NO_SUCH_COLUMN: u8 = 13;
-/// Two relations of different arities end to end. Told at the whole `concat`.
+/// Two relations of different arities in a `concat`, an `except` or an `intersect`. Told at the whole form.
 pub const ARITIES_DIFFER: u8 = 14;
 /// A loop's body of another arity than its start. Told at the body.
 pub const BODY_DIFFERS: u8 = 15;
 /// An arity of 0 or over 16. Told at the number of an input, else at the whole form.
 pub const BAD_ARITY: u8 = 16;
-/// Over 1024 turns. Told at their number.
+/// Over 65535 turns. Told at their number.
 pub const TOO_MANY_TURNS: u8 = 17;
-/// A loop in the bodies of 8 others. Told at the whole loop.
+/// A loop in the bodies of 16 others. Told at the whole loop.
 pub const TOO_DEEP: u8 = 18;
 /// An input after 16 others. Told at its name.
 pub const TOO_MANY_INPUTS: u8 = 19;
+/// An output's name that an earlier output has. Told at the second output's name.
+pub const OUTPUT_TAKEN: u8 = 20;
+/// An output after 16 others. Told at its word `output`.
+pub const TOO_MANY_OUTPUTS: u8 = 23;
 
 /// A refusal with its place.
 pub(crate) fn at(code: u8, span: Span) -> Refusal

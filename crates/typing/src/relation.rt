@@ -3,18 +3,20 @@
 ghost use Rattle.std.specs.Prelude.{◌≡◌, ◌≤◌, ◌+◌, IfOk, OnOk, Ok, Err, MatchOption, nat_le};
 ghost use Rattle.record_core.specs.declared.span.Refusal.TheVariants.{At};
 ghost use Rattle.expr_tree.specs.Views.{rel_tree};
+ghost use Rattle.semantics.specs.Limits.{max_fields, max_loops, max_turns};
 ghost use Rattle.typing.specs.Fault.{span_of};
 ghost use Rattle.typing.specs.declared.refusals.TheConstants.{NO_SUCH_COLUMN};
 ghost use Rattle.typing.specs.Verdict.{verdict, sized, Tells};
 
 use crate::columns::{in_aggs, in_cond, in_keys, in_pairs, in_scalars};
+use crate::limits::{MAX_LOOPS, MAX_TURNS};
 use crate::names::Names;
 use crate::refusals::{
     ARITIES_DIFFER, BAD_ARITY, BODY_DIFFERS, NAME_TAKEN, NO_SUCH_COLUMN, TOO_DEEP, TOO_MANY_TURNS,
     UNKNOWN_NAME, at,
 };
 use expr_tree::Rel;
-use record_core::{Refusal, Span};
+use record_core::{MAX_FIELDS, Refusal, Span};
 use std::alloc::Allocator;
 
 /// Refused where a column is beyond.
@@ -30,19 +32,19 @@ fn within(beyond: Option<Span>) -> Result<(), Refusal>
 /// The arity of a form that has these two numbers of fields.
 fn form_arity(span: Span, fields: usize, more: usize) -> Result<u64, Refusal>
     ensures told { Tells result (sized span (fields + more)) }
-    ensures small { IfOk result (λ n. n ≤ 16) }
+    ensures small { IfOk result (λ n. n ≤ max_fields) }
 {
     match fields.checked_add(more) {
-        Some(arity) if 0 < arity && arity <= 16 => Ok(arity as u64),
+        Some(arity) if 0 < arity && arity <= MAX_FIELDS => Ok(arity as u64),
         _ => Err(at(BAD_ARITY, span)),
     }
 }
 
 /// Whether a loop may have so many turns.
 fn may_turn(turns: u64) -> bool
-    ensures { result ≡ nat_le turns 1024 }
+    ensures { result ≡ nat_le turns max_turns }
 {
-    turns <= 1024
+    turns <= MAX_TURNS
 }
 
 /// The place of a relation.
@@ -53,7 +55,7 @@ pub(crate) fn place<A: Allocator>(relation: &Rel<A>) -> Span
         Rel::Named(span, _)
         | Rel::Select(span, _, _)
         | Rel::Where(span, _, _)
-        | Rel::Concat(span, _, _)
+        | Rel::SetOperation(span, _, _, _)
         | Rel::Join(span, _, _, _)
         | Rel::Group(span, _, _, _)
         | Rel::Distinct(span, _) => *span,
@@ -67,9 +69,9 @@ pub(crate) fn arity_of<A: Allocator>(
     relation: &Rel<A>,
     depth: u32,
 ) -> Result<u64, Refusal>
-    requires { depth ≤ 8 }
+    requires { depth ≤ max_loops }
     ensures told { Tells result (verdict (rel_tree relation.now) names.old depth) }
-    ensures small { IfOk result (λ n. n ≤ 16) }
+    ensures small { IfOk result (λ n. n ≤ max_fields) }
     ensures names { OnOk result (names.new ≡ names.old) }
 {
     match relation {
@@ -84,7 +86,7 @@ pub(crate) fn arity_of<A: Allocator>(
             within(in_cond(condition, arity))?;
             Ok(arity)
         }
-        Rel::Concat(span, left, right) => {
+        Rel::SetOperation(span, _, left, right) => {
             let first = arity_of(names, left, depth)?;
             let second = arity_of(names, right, depth)?;
             if first == second {
@@ -118,7 +120,7 @@ pub(crate) fn arity_of<A: Allocator>(
             if !may_turn(*turns) {
                 return Err(at(TOO_MANY_TURNS, *turns_span));
             }
-            if depth >= 8 {
+            if depth >= MAX_LOOPS {
                 return Err(at(TOO_DEEP, *span));
             }
             let arity = arity_of(names, start, depth)?;

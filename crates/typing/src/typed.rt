@@ -5,33 +5,38 @@ ghost use Rattle.expr_tree.specs.Views.{program_tree};
 ghost use Rattle.expr_tree.specs.Plain.{plain_program};
 ghost use Rattle.semantics.specs.Typing.{WellTyped};
 
+use crate::limits::MAX_OUTPUTS;
+use arrayvec::ArrayVec;
 use expr_tree::{Input, Program};
 use std::alloc::Allocator;
 
-/// A program that is well typed, with the arity of its output.
+/// The arities of a program's outputs, in order, each 1 to 16.
+pub type OutputArities = ArrayVec<u64, MAX_OUTPUTS>;
+
+/// A program that is well typed, with the arities of its outputs.
 #[derive(Drop)]
 pub struct Typed<A: Allocator> {
     program: Program<A>,
-    arity: u64,
-    ghost typed: { ∥ WellTyped (plain_program (program_tree program)) arity ∥₁ },
+    arities: OutputArities,
+    ghost typed: { ∥ WellTyped (plain_program (program_tree program)) arities.items ∥₁ },
 }
 
 impl<A: Allocator> Typed<A> {
-    ghost use Rattle.typing.specs.Shown.{typed_program, output_arity};
+    ghost use Rattle.typing.specs.Shown.{typed_program, output_arities};
 
     /// A program that is known to be well typed. Nothing is checked.
-    pub fn new(program: Program<A>, arity: u64) -> Typed<A>
-        requires { WellTyped (plain_program (program_tree program)) arity }
+    pub fn new(program: Program<A>, arities: OutputArities) -> Typed<A>
+        requires { WellTyped (plain_program (program_tree program)) arities.items }
         ensures program { typed_program result ≡ program_tree program }
-        ensures arity { output_arity result ≡ arity }
+        ensures arities { output_arities result ≡ arities.items }
     {
-        Typed { program, arity }
+        Typed { program, arities }
     }
 
     /// The program.
     pub fn program(&self) -> &Program<A>
         ensures value { program_tree result.now ≡ typed_program self.now }
-        ensures typed { WellTyped (plain_program (program_tree result.now)) (output_arity self.now) }
+        ensures typed { WellTyped (plain_program (program_tree result.now)) (output_arities self.now) }
     {
         &self.program
     }
@@ -43,18 +48,19 @@ impl<A: Allocator> Typed<A> {
         &self.program.inputs
     }
 
-    /// The arity of the output: 1 to 16.
-    pub fn output_arity(&self) -> u64
-        ensures { result ≡ output_arity self.now }
+    /// The arities of the outputs in order, each 1 to 16.
+    pub fn output_arities(&self) -> &[u64]
+        ensures { result.now ≡ output_arities self.now }
     {
-        self.arity
+        self.arities.as_slice()
     }
 
-    /// The program itself.
-    pub fn into_program(self) -> Program<A>
-        ensures value { program_tree result ≡ typed_program self }
-        ensures typed { WellTyped (plain_program (program_tree result)) (output_arity self) }
+    /// The program itself, and the arities of its outputs.
+    pub fn into_parts(self) -> (Program<A>, OutputArities)
+        ensures program { program_tree result.0 ≡ typed_program self }
+        ensures arities { result.1.items ≡ output_arities self }
+        ensures typed { WellTyped (plain_program (program_tree result.0)) result.1.items }
     {
-        self.program
+        (self.program, self.arities)
     }
 }

@@ -1,4 +1,5 @@
 pub mod Sets
+pub mod PortSets
 pub mod Times
 pub mod Pairs
 pub mod Grouping

@@ -1,9 +1,9 @@
 -- What is sent is what the kind's equation makes.
-use Rattle.std.proofs.Common.{◌≡◌, ℕ, zero, suc, ◌+◌, ◌<◌, nat_lt, nat_eq, Bool, true, cond, ◌&&◌, List, [], ◌++◌, Some, None, refl, sym, ap, ◌∙◌, arith, append-nil}
+use Rattle.std.proofs.Common.{◌≡◌, ℕ, zero, suc, ◌+◌, ◌<◌, ◌==◌, nat_lt, nat_eq, Bool, true, cond, ◌&&◌, List, [], ◌++◌, Some, None, refl, sym, ap, ◌∙◌, arith, append-nil}
 use Rattle.std.proofs.lemmas.Bool.Decides.{Decides-eqb}
 use Rattle.std.specs.Cmp.Lexicographic.{pointwise_decides}
 use Rattle.semantics.specs.Kinds.{Kind}
-use Rattle.semantics.specs.Meaning.{selected, kept, paired, grouped}
+use Rattle.semantics.specs.Meaning.{selected, kept, paired, grouped, only_left, in_both}
 use Rattle.semantics.specs.Multiset.{Record, ◌≈◌, each_once}
 use Rattle.semantics.specs.Query.{Scalar, Cond, Pair, Agg}
 use Rattle.semantics.specs.Shard.{only_at, SendsAtNotification}
@@ -77,3 +77,15 @@ group_sends ks as' t a batch out e q = ap records_of e
 
 pub group_notified : (ks : List ℕ) (as' : List Agg) (t : Time) (a : Absorbed) (out : Out) → records_of out.first ≈ grouped ks as' (a 0 t) → SendsAtNotification (λ q ins. op (Kind.group ks as') t ins q) (λ p. a p t) (sent 1 out)
 group_notified ks as' t a out h q = h
+
+pub intersect_sends : (t : Time) (a : Absorbed) (p : ℕ) (batch : List Record) (out : Out) → (records_of out.first ++ in_both (a 0 t) (a 1 t)) ≈ in_both (a 0 t ++ cond (p == 0) batch []) (a 1 t ++ cond (p == 1) batch []) → SendsFor Kind.intersect t a p batch out
+intersect_sends t a p batch out h q = ≈-trans h (≈-from (λ j. in_both (a 0 t ++ cond (p == 0) (then j) []) (a 1 t ++ cond (p == 1) (then j) [])))
+  where
+    then : batch ≡ cond (same_time t t) batch []
+    then = sym (ap (λ b. cond b batch []) (same_time_refl t))
+
+pub except_sends : (t : Time) (a : Absorbed) (p : ℕ) (batch : List Record) (out : Out) → out.first ≡ None → SendsFor Kind.except t a p batch out
+except_sends t a p batch out e q = ap records_of e
+
+pub except_notified : (t : Time) (a : Absorbed) (out : Out) → records_of out.first ≈ only_left (a 0 t) (a 1 t) → SendsAtNotification (λ q ins. op Kind.except t ins q) (λ p. a p t) (sent 1 out)
+except_notified t a out h q = h

@@ -29,9 +29,13 @@ module _ {S H : Type 0} (m : HashMap Time S H) (time : Time) (P : S → (ℕ →
   pub none_there : get same_time m time ≡ None → AreStatesOf P m a → (p : ℕ) → a p time ≡ []
   none_there e h = subst (λ o. IsStateOf P o (λ p. a p time)) e (h time)
 
+  -- what is so of no records, where there is no state
+  pub so_of_none : (Q : (ℕ → List Record) → Type 0) → get same_time m time ≡ None → AreStatesOf P m a → Q (λ p. []) → Q (λ p. a p time)
+  so_of_none Q e h made = subst Q (fun_ext (λ p. sym (none_there e h p))) made
+
   -- a state that is made where there is none
   pub state_made : (s : S) → get same_time m time ≡ None → AreStatesOf P m a → P s (λ p. []) → P s (λ p. a p time)
-  state_made s e h made = subst (P s) (fun_ext (λ p. sym (none_there e h p))) made
+  state_made s e h made = so_of_none (P s) e h made
 
 -- nothing at all
 pub before_all : {S H : Type 0} (m : HashMap Time S H) (P : S → (ℕ → List Record) → Type 0) → ((t : Time) → get same_time m t ≡ None) → AreStatesOf P m (λ p t. [])

@@ -7,9 +7,9 @@ use Rattle.vertices.specs.Absorbed.{Absorbed}
 use Rattle.vertices.specs.ByTime.{AreStatesOf}
 use Rattle.vertices.specs.Groups.{AreGroupsThen, columns_of, aggregates_of}
 use Rattle.vertices.specs.Joins.{IsSidesOf}
-use Rattle.vertices.specs.States.{IsSetOf}
+use Rattle.vertices.specs.States.{IsSetOf, AreSetsOf, AreSetsThen}
 use Rattle.vertices.specs.declared.shard.Shard.{Shard}
-use Rattle.vertices.specs.declared.shard.Shard.TheVariants.{Input, Output, Select, Where, Concat, Join, Group, Distinct, Ingress, Egress, Feedback, Gate, Hold}
+use Rattle.vertices.specs.declared.shard.Shard.TheVariants.{Input, Output, Select, Where, Concat, Join, Group, Distinct, Except, Intersect, Ingress, Egress, Feedback, Gate, Hold}
 
 -- the kind of its vertex
 abbrev pub shard_kind : Shard → semantics.Kind
@@ -21,6 +21,8 @@ shard_kind (Concat s) = semantics.Kind.concat
 shard_kind (Join s) = semantics.Kind.join (map plain_pair s.plan.operator.pairs.items)
 shard_kind (Group s) = semantics.Kind.group (columns_of s.operator) (aggregates_of s.operator)
 shard_kind (Distinct s) = semantics.Kind.distinct
+shard_kind (Except s) = semantics.Kind.except
+shard_kind (Intersect s) = semantics.Kind.intersect
 shard_kind (Ingress s) = semantics.Kind.ingress
 shard_kind (Egress s) = semantics.Kind.egress
 shard_kind (Feedback s) = semantics.Kind.feedback
@@ -42,6 +44,8 @@ TakesArity (Concat s) port n = Unit {0}
 TakesArity (Join s) port n = n ≡ by_port s.plan.left_arity s.plan.right_arity port
 TakesArity (Group s) port n = Unit {0}
 TakesArity (Distinct s) port n = n ≡ s.arity
+TakesArity (Except s) port n = n ≡ s.arity
+TakesArity (Intersect s) port n = n ≡ s.arity
 TakesArity (Ingress s) port n = Unit {0}
 TakesArity (Egress s) port n = Unit {0}
 TakesArity (Feedback s) port n = Unit {0}
@@ -58,6 +62,8 @@ Shows (Concat s) a = Unit {0}
 Shows (Join s) a = AreStatesOf (IsSidesOf s.plan) s.times a
 Shows (Group s) a = AreStatesOf (AreGroupsThen s.operator) s.times a
 Shows (Distinct s) a = AreStatesOf (IsSetOf s.arity) s.times a
+Shows (Except s) a = AreStatesOf (AreSetsThen s.arity) s.times a
+Shows (Intersect s) a = AreStatesOf (AreSetsOf s.arity) s.times a
 Shows (Ingress s) a = Unit {0}
 Shows (Egress s) a = Unit {0}
 Shows (Feedback s) a = Unit {0}

@@ -2,31 +2,38 @@
 //!
 //! `new_shard` makes the shard of a vertex of a graph. `Shard::on_records` takes in a batch that comes to an in port at a time, and
 //! `Shard::on_notify` is told that nothing more comes at a time. What is sent, and whether a notification is asked for, goes into
-//! an `Out`. A join, a distinct and a group keep a state for each exact time: indexes alone, no list of what came.
+//! an `Out`. A join, a group, a distinct, an except and an intersect keep a state for each exact time: indexes alone, no list of what
+//! came.
 //!
 //! The contract for the layers above: whatever records a shard shows to have absorbed (`specs/Shards.antt`, `Shows`), what it sends and
 //! asks for is what the definitions (`semantics`, Shard) name for its vertex, and the shard then shows those records and the batch. A call
-//! costs what comes in and what goes out, never what was absorbed. After a refusal the shard is spoiled, and fit only to be given up.
+//! costs what comes in and what goes out, never what was absorbed; only an except's notification looks, once, at each record that came to
+//! port 0 at its time. After a refusal the shard is spoiled, and fit only to be given up.
 //!
 //! Below stand `operators`, `rows`, `loop_context` and `lowering`; the board hands shards out with their events.
 #![tactic(auto)]
 
 mod distinct;
+mod except;
 mod fault;
 mod group;
 mod groups;
+mod intersect;
 mod join;
 mod join_plan;
 mod making;
 mod out;
+mod port_sets;
 mod shard;
 mod sides;
 mod stateful;
 mod stateless;
 
 pub use distinct::DistinctShard;
+pub use except::ExceptShard;
 pub use fault::ShardFault;
 pub use group::GroupShard;
+pub use intersect::IntersectShard;
 pub use join::JoinShard;
 pub use join_plan::JoinPlan;
 pub use making::new_shard;

@@ -11,8 +11,10 @@ ghost use Rattle.semantics.specs.Typing.{CondFits, IsArity, ScalarFits};
 ghost use Rattle.vertices.specs.Shards.{IsFreshShard, by_port};
 
 use crate::distinct::DistinctShard;
+use crate::except::ExceptShard;
 use crate::fault::ShardFault;
 use crate::group::GroupShard;
+use crate::intersect::IntersectShard;
 use crate::join::JoinShard;
 use crate::join_plan::JoinPlan;
 use crate::shard::Shard;
@@ -59,6 +61,14 @@ pub fn new_shard(
         Kind::Distinct => {
             let shard = DistinctShard::new(alloc, first)?;
             Ok(Shard::Distinct(shard))
+        }
+        Kind::Except => {
+            let shard = ExceptShard::new(alloc, first)?;
+            Ok(Shard::Except(shard))
+        }
+        Kind::Intersect => {
+            let shard = IntersectShard::new(alloc, first)?;
+            Ok(Shard::Intersect(shard))
         }
         Kind::Ingress => Ok(Shard::Ingress(Ingress)),
         Kind::Egress => Ok(Shard::Egress(Egress)),

@@ -11,11 +11,15 @@ ghost use Rattle.vertices.specs.Outs.{SendsFor, sent};
 ghost use Rattle.vertices.specs.Shards.{Shows, TakesArity, shard_kind};
 
 use crate::distinct::DistinctShard;
+use crate::except::ExceptShard;
 use crate::fault::ShardFault;
 use crate::group::GroupShard;
+use crate::intersect::IntersectShard;
 use crate::join::JoinShard;
 use crate::out::Out;
-use crate::stateful::{distinct, group, group_notified, join_left, join_right};
+use crate::stateful::{
+    distinct, except, except_notified, group, group_notified, intersect, join_left, join_right,
+};
 use crate::stateless::{filter, forward, gate, hold, select};
 use loop_context::Time;
 use operators::{Concat, Egress, Feedback, Gate, Hold, Ingress, Input, Output, Select, Where};
@@ -33,6 +37,8 @@ pub enum Shard {
     Join(JoinShard),
     Group(GroupShard),
     Distinct(DistinctShard),
+    Except(ExceptShard),
+    Intersect(IntersectShard),
     Ingress(Ingress),
     Egress(Egress),
     Feedback(Feedback),
@@ -81,6 +87,10 @@ impl Shard {
                 group_notified(shard, alloc, time, out)?;
                 Ok(())
             }
+            Shard::Except(shard) => {
+                except_notified(shard, alloc, time, out)?;
+                Ok(())
+            }
             Shard::Input(_) => unreachable!(),
             Shard::Output(_) => unreachable!(),
             Shard::Select(_) => unreachable!(),
@@ -88,6 +98,7 @@ impl Shard {
             Shard::Concat(_) => unreachable!(),
             Shard::Join(_) => unreachable!(),
             Shard::Distinct(_) => unreachable!(),
+            Shard::Intersect(_) => unreachable!(),
             Shard::Ingress(_) => unreachable!(),
             Shard::Egress(_) => unreachable!(),
             Shard::Feedback(_) => unreachable!(),
@@ -135,6 +146,14 @@ impl Shard {
             }
             Shard::Distinct(shard) => {
                 distinct(shard, alloc, time, &batch, out)?;
+                Ok(())
+            }
+            Shard::Except(shard) => {
+                except(shard, 0, time, &batch, out)?;
+                Ok(())
+            }
+            Shard::Intersect(shard) => {
+                intersect(shard, alloc, 0, time, &batch, out)?;
                 Ok(())
             }
             Shard::Concat(_) => {
@@ -189,6 +208,14 @@ impl Shard {
             }
             Shard::Join(shard) => {
                 join_right(shard, alloc, time, &batch, out)?;
+                Ok(())
+            }
+            Shard::Except(shard) => {
+                except(shard, 1, time, &batch, out)?;
+                Ok(())
+            }
+            Shard::Intersect(shard) => {
+                intersect(shard, alloc, 1, time, &batch, out)?;
                 Ok(())
             }
             Shard::Input(_) => unreachable!(),

@@ -33,6 +33,7 @@ use Rattle.expr_tree.proofs.relation.Column.TheSendSync as columns
 use Rattle.expr_tree.proofs.relation.Agg.TheSendSync as aggregates
 use Rattle.lowering.proofs.vertex.Sources.TheSendSync as sources
 use Rattle.lowering.proofs.graph.DeclaredInput.TheSendSync as declared
+use Rattle.lowering.proofs.outputs.GraphOutput.TheSendSync as graph_outputs
 use Rattle.lowering.proofs.edges.Edge.TheSendSync as edges
 use Rattle.lowering.proofs.edges.Outs.TheSendSync as outs
 use Rattle.lowering.proofs.location.Location.TheSendSync as locations
@@ -45,8 +46,10 @@ use Rattle.tokens.proofs.tie.Tie.TheSendSync as ties
 use Rattle.vertices.proofs.join.JoinShard.TheSendSync as joins
 use Rattle.vertices.proofs.group.GroupShard.TheSendSync as groups
 use Rattle.vertices.proofs.distinct.DistinctShard.TheSendSync as distincts
+use Rattle.vertices.proofs.except.ExceptShard.TheSendSync as excepts
+use Rattle.vertices.proofs.intersect.IntersectShard.TheSendSync as intersects
 use Rattle.board.proofs.inputs.Input.TheSendSync as inputs
-use Rattle.board.proofs.epochs.Epochs.TheSendSync as epochs
+use Rattle.board.proofs.emitted.Emitted.TheSendSync as emitted
 use Rattle.path_summary.proofs.links.Links.TheSendSync as links
 use Rattle.path_summary.proofs.kept.Kept.TheSendSync as kept
 use Rattle.path_summary.proofs.summaries.Summaries.TheSendSync as summaries
@@ -85,10 +88,10 @@ vertex_send : IsSend vertex.the_row
 vertex_send = search (sendable, crosses, kind_field_send, sources.the_field_send) depth 20
 
 graph_sync : IsSync graph.the_row
-graph_sync = search (sendable, crosses, vertex_sync, declared.the_sync, edges.the_sync, outs.the_sync) depth 20
+graph_sync = search (sendable, crosses, vertex_sync, declared.the_sync, graph_outputs.the_sync, edges.the_sync, outs.the_sync) depth 20
 
 graph_send : IsSend graph.the_row
-graph_send = search (sendable, crosses, vertex_send, declared.the_send, edges.the_send, outs.the_send) depth 20
+graph_send = search (sendable, crosses, vertex_send, declared.the_send, graph_outputs.the_send, edges.the_send, outs.the_send) depth 20
 
 wiring_sync : IsSync wiring.the_row
 wiring_sync = search (sendable, crosses, graph_sync, graph_send, fanouts.the_sync) depth 20
@@ -118,7 +121,7 @@ select_send : IsSend select.the_field.row
 select_send = search (sendable, crosses, scalar_send) depth 20
 
 shard_send : IsSend shard.the_row
-shard_send = search (sendable, crosses, filter_send, select_send, joins.the_field_send, groups.the_field_send, distincts.the_field_send) depth 20
+shard_send = search (sendable, crosses, filter_send, select_send, joins.the_field_send, groups.the_field_send, distincts.the_field_send, excepts.the_field_send, intersects.the_field_send) depth 40
 
 event_send : IsSend event.the_row
 event_send = search (sendable, crosses, shard_send, wiring_send, wiring_sync, happenings.the_field_send) depth 20
@@ -132,7 +135,7 @@ worker_send =
     search (sendable, crosses, event_send, wiring_send, wiring_sync, mailboxes.the_send, messages.the_send, requests.the_send, ties.the_send) depth 20
 
 state_field_send : IsSend state.the_field.row
-state_field_send = search (sendable, crosses, worker_send, wiring_send, wiring_sync, inputs.the_send, epochs.the_send) depth 20
+state_field_send = search (sendable, crosses, worker_send, wiring_send, wiring_sync, inputs.the_send, emitted.the_send) depth 20
 
 -- a `&` of an engine may go to any thread, whoever names its board
 pub engine_sync : (J : RattleType) (n : naming.Ghosts J.Denot) (p : progress.Ghosts (tracker.the_row).Denot)

@@ -1,6 +1,7 @@
 //! A board under a lock, for any number of threads.
 
 ghost use Rattle.std.specs.Prelude.{◌≡◌, ◌≤◌, ◌<◌, true, IfErr, IfOk, IfSome};
+ghost use Rattle.board.specs.Looks.{ShowsPassed};
 ghost use Rattle.board.specs.Shown.{tables};
 ghost use Rattle.workers.specs.Names.{GivesNamed, IsNamed};
 
@@ -105,7 +106,7 @@ impl<J: Naming, P: Progress> Engine<J, P> {
         requires { seat.old.table ≡ mark.now }
         ensures table { seat.new.table ≡ seat.old.table }
         ensures rises { seat.old.number ≤ seat.new.number }
-        ensures passed { IfOk result (λ o. IfSome o (λ l. epoch < seat.new.number → l.passed ≡ true)) }
+        ensures passed { IfOk result (λ o. IfSome o (λ l. epoch < seat.new.number → ShowsPassed l)) }
         ensures graph { IfOk result (λ o. IfSome o (λ l. l.graph ≡ J.graph)) }
     {
         let floor = self.floor.lock(rt);

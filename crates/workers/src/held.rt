@@ -4,7 +4,7 @@ ghost use Rattle.std.specs.Prelude.{◌≡◌, ◌<◌, ℕ, true, IfOk, MatchBo
 ghost use Rattle.machine.specs.Step.{Step};
 ghost use Rattle.board.specs.Answers.{AnswersOnly, AnswersOr, Claims, Commits, HasChoice, HasNoChoice, Holds, feed_refusal, input_refusal, seal_refusal};
 ghost use Rattle.board.specs.Kept.{Goes};
-ghost use Rattle.board.specs.Looks.{IsLookAt};
+ghost use Rattle.board.specs.Looks.{IsLookAt, ShowsPassed};
 ghost use Rattle.board.specs.Promises.{CountsPassed, IsDrained};
 ghost use Rattle.board.specs.Shown.{tables};
 ghost use Rattle.workers.specs.Names.{GivesNamed, IsNamed};
@@ -34,7 +34,7 @@ impl Naming for Brand {
 
     ghost names = { [] };
 
-    ghost graph = { record { vertices = []; inputs = []; arities = [] } };
+    ghost graph = { record { vertices = []; inputs = []; outputs = []; arities = [] } };
 }
 
 /// A board and its publisher. Each call is the board's, and then what has passed is published.
@@ -221,7 +221,7 @@ impl<J: Naming, P: Progress> Held<J, P> {
     pub fn look(&self, alloc: Global, epoch: u32) -> Result<Look, NoMemory>
         ensures look { IfOk result (λ l. IsLookAt self.now.board epoch l) }
         ensures graph { IfOk result (λ l. l.graph ≡ J.graph) }
-        ensures passed { IfOk result (λ l. (n : ℕ) → CountsPassed self.now.board n → epoch < n → l.passed ≡ true) }
+        ensures passed { IfOk result (λ l. (n : ℕ) → CountsPassed self.now.board n → epoch < n → ShowsPassed l) }
     {
         self.board.law_count();
         let look = self.board.look(alloc, epoch)?;

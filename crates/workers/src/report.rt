@@ -1,17 +1,17 @@
 //! What a run has come to.
 
-ghost use Rattle.std.specs.Prelude.{◌≡◌, ◌==◌, ◌≤◌, ◌<◌, ℕ, [], All, IfSome, IsTrue, MatchBool, cond, length, slice_index_or};
+ghost use Rattle.std.specs.Prelude.{◌≡◌, ◌≤◌, ◌<◌, ℕ, [], All, IfSome, IsTrue, MatchBool, length, slice_index_or};
 ghost use Rattle.lowering.specs.Shown.{shown_graph};
-ghost use Rattle.semantics.specs.Graph.{input_count, output_number};
+ghost use Rattle.semantics.specs.Graph.{input_count, output_number, output_numbers};
 ghost use Rattle.semantics.specs.Query.{Program};
-ghost use Rattle.board.specs.Promises.{CountsPassed, HasPassed, Headline, IsDrained, RunsProgram};
-ghost use Rattle.board.specs.Shown.{input_at};
+ghost use Rattle.board.specs.Promises.{CountsPassed, HasPassed, IsDrained, IsOutputPlace, KeepsPromise, RunsProgram};
+ghost use Rattle.board.specs.Shown.{emitted_by, input_at};
 
 use crate::engine::Engine;
 use crate::held::Naming;
 use crate::mark::{Mark, Seat};
 use board::Board;
-use lowering::{Graph, VertexId};
+use lowering::Graph;
 use progress::Progress;
 use rows::Batch;
 use std::marker::Model;
@@ -74,16 +74,24 @@ impl<P: Progress> Report<P> {
         self.board.fed(input, epoch)
     }
 
-    /// The batches that were emitted for an epoch, in order; none at a vertex that isn't the output.
-    pub fn emitted(&self, output: VertexId, epoch: u32) -> &[Batch]
-        ensures { result.now ≡ cond (output.0 == output_number (shown_graph self.now.graph)) (slice_index_or self.now.emitted epoch []) [] }
+    /// The number of outputs.
+    pub fn output_count(&self) -> u32
+        ensures { result ≡ length (output_numbers (shown_graph self.now.graph)) }
+    {
+        self.board.output_count()
+    }
+
+    /// The batches that were emitted at an output for an epoch, in order, by the output's place.
+    pub fn emitted(&self, output: u32, epoch: u32) -> &[Batch]
+        requires { IsOutputPlace self.now output }
+        ensures { result.now ≡ slice_index_or (emitted_by self.now.emitted (output_number (shown_graph self.now.graph) output)) epoch [] }
     {
         self.board.emitted(output, epoch)
     }
 
-    /// The promise, of whatever program was run. Nothing is done.
+    /// The promise at each output, of whatever program was run. Nothing is done.
     pub fn law_headline(&self)
-        ensures { (p : Program) → RunsProgram p self.now → (e : ℕ) → Headline p self.now e }
+        ensures { (p : Program) → RunsProgram p self.now → KeepsPromise p self.now }
     {
         self.board.law_headline();
     }
@@ -95,9 +103,9 @@ impl<P: Progress> Report<P> {
         self.board.law_inputs();
     }
 
-    /// Where nothing is left to do, every epoch has passed. Nothing is done.
+    /// Where nothing is left to do, every epoch has passed at every output. Nothing is done.
     pub fn law_drained(&self)
-        ensures { IsDrained self.now → (e : ℕ) → HasPassed self.now e }
+        ensures { IsDrained self.now → (output epoch : ℕ) → HasPassed self.now output epoch }
     {
         self.board.law_drained();
     }

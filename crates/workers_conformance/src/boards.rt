@@ -3,7 +3,7 @@
 ghost use Rattle.std.specs.Prelude.{◌≡◌, ◌<◌, ◌≤◌, length};
 
 use board::Board;
-use lowering::{VertexId, lower};
+use lowering::lower;
 use parser::parse;
 use progress::LocationTracker;
 use rows::{Batch, Rows};
@@ -43,8 +43,10 @@ pub fn count_of(batches: &[Batch], field: i64) -> u64 {
     count
 }
 
-/// What was emitted for an epoch.
+/// What was emitted at the first output for an epoch; nothing where there is no output.
 pub fn emitted(report: &Report<LocationTracker>, epoch: u32) -> &[Batch] {
-    let last = report.graph().vertex_count().saturating_sub(1);
-    report.emitted(VertexId(last as u32), epoch)
+    if report.output_count() == 0 {
+        return &[];
+    }
+    report.emitted(0, epoch)
 }

@@ -36,8 +36,8 @@ fn look_of<J: Naming, R: Wait>(
     let look = engine.look(rt, alloc, 0, mark, seat).ok()??;
     Some((
         count_of(look.fed(0), 7),
-        count_of(look.emitted(), 7),
-        look.passed(),
+        count_of(look.emitted(0), 7),
+        look.passed(0),
     ))
 }
 

@@ -1,21 +1,27 @@
 -- A program that is read is a source.
-use Rattle.std.proofs.Common.{◌≡◌, ◌≤◌, ℕ, List, [], ◌∷◌, arith}
+use Rattle.std.proofs.Common.{◌≡◌, ◌≤◌, ℕ, List, [], ◌∷◌, true, false, refl, arith}
+use Rattle.std.specs.Prelude.{bytes_eq}
+use Rattle.std.proofs.lemmas.Slice.Eq.{bytes_eq-Decides}
+use Rattle.record_core.specs.Names.{IsName, keyword_text}
+use Rattle.record_core.specs.declared.keyword.Keyword.{Keyword}
+use Rattle.record_core.specs.declared.keyword.Keyword.TheVariants as keyword
 use Rattle.expr_tree.specs.declared.program.Input.{Input}
 use Rattle.expr_tree.specs.declared.relation.Agg.TheVariants.{Count, Sum, Min, Max}
-use Rattle.expr_tree.specs.Trees.{RelTree, LetTree, ProgramTree}
+use Rattle.expr_tree.specs.Trees.{RelTree, LetTree, OutputTree, ProgramTree}
 use Rattle.lexer.specs.declared.token.Token.{Token}
 use Rattle.lexer.specs.declared.token.TokenKind.{TokenKind}
 use Rattle.lexer.specs.declared.token.TokenKind.TheVariants as kind
 use Rattle.lexer.specs.Tokens.{Spells, LexesTo}
 use Rattle.grammar.specs.Phrases.{Listed, one, more}
 use Rattle.grammar.specs.Scalars.{ScalarAt}
-use Rattle.grammar.specs.Relations.{Reads, named, select, filter, concat, join, group, distinct, iterate, ColumnAt, PairAt, AggAt}
-use Rattle.grammar.specs.Programs.{Inputs, no_input, input, Lets, no_let, binding}
+use Rattle.grammar.specs.Relations.{Reads, named, select, filter, set_operation, join, group, distinct, iterate, ColumnAt, PairAt, AggAt}
+use Rattle.grammar.specs.Programs.{Inputs, no_input, input, Lets, no_let, binding, default_name, OutputAt, Outputs}
+use Rattle.grammar.specs.Programs as program
 use Rattle.grammar.specs.Texts as text
 use Rattle.writer.specs.Scalars.{scalar_height}
 use Rattle.writer.specs.Relations.{heights, rel_height}
-use Rattle.writer.specs.Programs.{lets_height}
-use Rattle.writer.specs.Sources.{Each, Filled, IsScalarSource, IsColumnSource, IsPairSource, IsAggSource, IsRelSource, IsInputSource, IsLetSource, IsSource}
+use Rattle.writer.specs.Programs.{lets_height, output_height}
+use Rattle.writer.specs.Sources.{Each, Filled, IsScalarSource, IsColumnSource, IsPairSource, IsAggSource, IsRelSource, IsInputSource, IsLetSource, IsOutputSource, IsSource}
 use Rattle.writer.proofs.Checks.{filled_each}
 use Rattle.writer.proofs.Parsed.{IsSmall, Small, from_scalar, scalar_low, from_cond, cond_low}
 
@@ -73,7 +79,7 @@ from_rel (filter {c = c} {k = k} d r) s =
     let l = a.low in
     let m = cond_low c k b.low in
     record { source = (a.source, b.source); low = omega arith; rest = b.rest.1 }
-from_rel (concat d r) s =
+from_rel (set_operation e d r) s =
     let a = from_rel d s.1.1 in
     let b = from_rel r a.rest.1 in
     let l = a.low in
@@ -119,6 +125,30 @@ from_lets (binding i d r) s =
     let m = b.low in
     record { source = ((i.1, a.source), b.source); low = omega arith; rest = b.rest }
 
+-- `out` is a name
+not_spelled : (k : Keyword) → bytes_eq default_name (keyword_text k) ≡ false
+not_spelled keyword.Output = refl
+not_spelled k = refl
+
+no_keyword : (k : Keyword) → default_name ≡ keyword_text k → ⊥
+no_keyword k e = let same : bytes_eq default_name (keyword_text k) ≡ true = (bytes_eq-Decides default_name (keyword_text k)).1 e in let other = not_spelled k in absurd cc
+
+name_out : IsName default_name
+name_out = record { begins = refl; goes_on = refl; short = omega arith; free = no_keyword }
+
+find_output : (body : List ℕ) → Finds (OutputAt body) IsOutputSource output_height
+find_output body ts us o h (program.unnamed d) s = let a = from_rel d s.1 in record { source = (name_out, a.source); low = a.low; rest = a.rest.1 }
+find_output body ts us o h (program.named i d) s = let a = from_rel d s.1.1.1 in record { source = (i.1, a.source); low = a.low; rest = a.rest.1 }
+
+from_outputs : {body : List ℕ} {os : List OutputTree} {h : ℕ} {ts : List Token} → Outputs body ts os h → Small ts → Filled IsOutputSource os × (heights output_height os ≤ h)
+from_outputs {body = body} (program.last d) s = let a = find_output body _ _ _ _ d s in let l = a.low in ((a.source, tt), omega arith)
+from_outputs {body = body} (program.more {os = os} d r) s =
+    let a = find_output body _ _ _ _ d s in
+    let b = from_outputs r a.rest in
+    let l = a.low in
+    let m = b.1 in
+    ((a.source, filled_each IsOutputSource os b.0), omega arith)
+
 -- the tokens of a text are so small
 small_kind : (w : List ℕ) (k : TokenKind) → Spells w k → IsSmall k
 small_kind w (kind.Column n) s = s.1
@@ -136,9 +166,9 @@ is_source body p d =
     let s = small_tokens body 0 d.tokens d.lexed.stop d.lexed.tokens in
     let a = from_inputs d.program.inputs s in
     let b = from_lets d.program.lets a.1 in
-    let c = from_rel d.program.output b.rest.1 in
+    let c = from_outputs d.program.outputs b.rest in
     let l = b.low in
-    let m = c.low in
+    let m = c.1 in
     let e = d.program.is in
     let h = d.low in
-    record { inputs = a.0; lets = b.source; output = c.source; low = omega arith }
+    record { inputs = a.0; lets = b.source; outputs = c.0; low = omega arith }

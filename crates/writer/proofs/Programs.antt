@@ -1,22 +1,27 @@
 -- The canonical text of a program reads as that program.
-use Rattle.std.proofs.Common.{◌≡◌, ℕ, List, [], ◌∷◌, ◌++◌, map, refl, ap, ap₂, ◌∙◌}
+use Rattle.std.proofs.Common.{◌≡◌, ℕ, max, List, [], ◌∷◌, ◌++◌, map, Bool, true, false, cond, refl, ap, ap₂, sym, ◌∙◌, arith}
+use Rattle.std.specs.Prelude.{bytes_eq}
+use Rattle.std.proofs.lemmas.Slice.Eq.{bytes_eq-Decides}
 use Rattle.std.specs.List.{flat_map}
 use Rattle.record_core.specs.declared.span.Span.{Span}
+use Rattle.record_core.specs.Names.{IsName}
 use Rattle.record_core.specs.declared.keyword.Keyword.TheVariants as keyword
 use Rattle.expr_tree.specs.declared.program.Input.{Input}
-use Rattle.expr_tree.specs.Trees.{RelTree, LetTree, ProgramTree}
-use Rattle.expr_tree.specs.Plain.{plain_input, plain_let, plain_program}
+use Rattle.expr_tree.specs.Trees.{RelTree, LetTree, OutputTree, ProgramTree}
+use Rattle.expr_tree.specs.Plain.{plain_input, plain_let, plain_output, plain_program}
 use Rattle.semantics.specs.Query as query
 use Rattle.lexer.specs.declared.token.Token.{Token}
 use Rattle.lexer.specs.declared.token.TokenKind.TheVariants as kind
 use Rattle.lexer.specs.declared.mark.Mark.TheVariants as sign
 use Rattle.grammar.specs.Tokens.{token, mark_at, keyword_at, NoKeyword}
-use Rattle.grammar.specs.Relations.{piece}
-use Rattle.grammar.specs.Programs.{Inputs, no_input, input, Lets, no_let, binding, ReadsProgram}
-use Rattle.writer.specs.Pieces.{Piece, of_keyword, space}
-use Rattle.writer.specs.Relations.{rel_pieces, rel_height}
-use Rattle.writer.specs.Programs.{line_end, input_pieces, let_pieces, program_pieces, lets_height, program_height}
-use Rattle.writer.specs.Sources.{Each, IsInputSource, IsLetSource, IsSource}
+use Rattle.grammar.specs.Relations.{piece, IsNameAt}
+use Rattle.grammar.specs.Relations as relation
+use Rattle.grammar.specs.Programs.{Inputs, no_input, input, Lets, no_let, binding, default_name, OutputAt, Outputs, ReadsProgram}
+use Rattle.grammar.specs.Programs as program
+use Rattle.writer.specs.Pieces.{word, Word, spaced}
+use Rattle.writer.specs.Relations.{rel_pieces, heights, rel_height}
+use Rattle.writer.specs.Programs.{line_end, input_pieces, let_pieces, naming, output_pieces, program_pieces, lets_height, output_height, program_height}
+use Rattle.writer.specs.Sources.{Each, Filled, IsInputSource, IsLetSource, IsOutputSource, IsSource}
 use Rattle.writer.proofs.Says.{Says, cut}
 use Rattle.writer.proofs.Relations.{rel_back, is_name_at}
 
@@ -84,46 +89,107 @@ lets_back text (l ∷ ls) w ts us s last =
       reads = lets_at (s.2 ∙ ap (λ v. keyword_at keyword.Let s.0 ∷ v) (n.2 ∙ ap (λ v. token kind.Name n.0 ∷ v) p.2)) (binding (is_name_at text n.0 l.name w.0.0 n.3) r.reads b.reads);
     }
 
--- no input stands where the named relations begin
-after_inputs : (text : List ℕ) (ls : List LetTree) (ps : List Piece) (ts us : List Token) → Says text (flat_map let_pieces ls ++ (of_keyword keyword.Output ∷ ps)) ts us → NoKeyword keyword.Input ts
-after_inputs text [] ps ts us s = rw s.2 (λ e. cc)
-after_inputs text (l ∷ ls) ps ts us s = rw s.2 (λ e. cc)
+abbrev output_of : Span → Span → List ℕ → RelTree → OutputTree
+output_of s x n r = record { keyword_span = s; name_span = x; name = n; relation = r }
 
-abbrev made : List query.Input → List query.Let → query.Rel → query.Program
-made is ls o = record { inputs = is; lets = ls; output = o }
+-- what names an output, and the output
+record NamingBack (text : List ℕ) (s : Span) (x : List ℕ) (r : RelTree) (h : ℕ) (ts us : List Token) : Type 0 where
+  pub place : Span
+  pub name : List ℕ
+  pub same : name ≡ x
+  pub reads : OutputAt text (keyword_at keyword.Output s ∷ ts) (output_of s place name r) h us
+
+unnamed_at : {text : List ℕ} {s q : Span} {r : RelTree} {h : ℕ} {ts vs us : List Token} → ts ≡ vs → relation.Reads text vs r h (mark_at sign.Semicolon q ∷ us) → OutputAt text (keyword_at keyword.Output s ∷ ts) (output_of s s default_name r) h us
+unnamed_at e d = rw e (program.unnamed d)
+
+named_at : {text : List ℕ} {s x p q : Span} {r : RelTree} {h : ℕ} {ts vs us : List Token} → ts ≡ token kind.Name x ∷ mark_at sign.Equal p ∷ vs → IsNameAt text x → relation.Reads text vs r h (mark_at sign.Semicolon q ∷ us) → OutputAt text (keyword_at keyword.Output s ∷ ts) (output_of s x (piece text x) r) h us
+named_at e n d = rw e (program.named n d)
+
+naming_back : (text : List ℕ) (s q : Span) (x : List ℕ) (b : Bool) → (b ≡ true → x ≡ default_name) → IsName x → (r : RelTree) (h : ℕ) (ts vs us : List Token) → Says text (cond b [] (word (Word.name x) ∷ spaced sign.Equal)) ts vs → relation.Reads text vs r h (mark_at sign.Semicolon q ∷ us) → NamingBack text s x r h ts us
+naming_back text s q x true is n r h ts vs us said d = record { place = s; name = default_name; same = sym (is refl); reads = unnamed_at said d }
+naming_back text s q x false is n r h ts vs us said d =
+    let p = said.4 in
+    record { place = said.0; name = piece text said.0; same = said.3.1; reads = named_at (said.2 ∙ ap (λ v. token kind.Name said.0 ∷ v) (p.2 ∙ ap (λ v. mark_at sign.Equal p.0 ∷ v) p.4)) (is_name_at text said.0 x n said.3) d }
+
+pub record OutputBack (text : List ℕ) (o : OutputTree) (ts us : List Token) : Type 0 where
+  pub tree : OutputTree
+  pub same : plain_output tree ≡ plain_output o
+  pub reads : OutputAt text ts tree (rel_height o.relation) us
+
+abbrev plain_output_of : List ℕ → query.Rel → query.Output
+plain_output_of x r = record { name = x; value = r }
+
+output_at : {text : List ℕ} {o : OutputTree} {h : ℕ} {ts us zs : List Token} → ts ≡ zs → OutputAt text zs o h us → OutputAt text ts o h us
+output_at e d = rw e d
+
+output_back : (text : List ℕ) (o : OutputTree) → IsOutputSource o → (ts us : List Token) → Says text (output_pieces o) ts us → OutputBack text o ts us
+output_back text o w ts us s =
+    let c = cut (naming o.name) (rel_pieces o.relation ++ line_end) s.4 in
+    let e = cut (rel_pieces o.relation) line_end c.second in
+    let q = e.second in
+    let r = rel_back text o.relation w.1 c.vs (mark_at sign.Semicolon q.0 ∷ us) (rw (q.2, q.4) at e.first) in
+    let n = naming_back text s.0 q.0 o.name (bytes_eq o.name default_name) (λ e. (bytes_eq-Decides o.name default_name).0 e) w.0 r.tree (rel_height o.relation) s.1 c.vs us c.first r.reads in
+    record { tree = output_of s.0 n.place n.name r.tree; same = ap₂ plain_output_of n.same r.same; reads = output_at s.2 n.reads }
+
+pub record OutputsBack (text : List ℕ) (os : List OutputTree) (n : ℕ) (ts : List Token) : Type 0 where
+  pub outputs : List OutputTree
+  pub same : map plain_output outputs ≡ map plain_output os
+  pub reads : Outputs text ts outputs n
+
+last_at : {text : List ℕ} {o : OutputTree} {h : ℕ} {ts : List Token} → OutputAt text ts o h [] → Outputs text ts (o ∷ []) (max h 0)
+last_at {h = h} d = let same : max h 0 ≡ h = omega arith in rw same (program.last d)
+
+outputs_back : (text : List ℕ) (os : List OutputTree) → Filled IsOutputSource os → (ts : List Token) → Says text (flat_map output_pieces os) ts [] → OutputsBack text os (heights output_height os) ts
+outputs_back text [] w ts s = absurd w
+outputs_back text (o ∷ []) w ts s =
+    let c = cut (output_pieces o) [] s in
+    let b = output_back text o w.0 ts [] (rw c.second at c.first) in
+    record { outputs = b.tree ∷ []; same = ap (λ x. x ∷ []) b.same; reads = last_at b.reads }
+outputs_back text (o ∷ p ∷ os) w ts s =
+    let c = cut (output_pieces o) (flat_map output_pieces (p ∷ os)) s in
+    let b = output_back text o w.0 ts c.vs c.first in
+    let r = outputs_back text (p ∷ os) w.1 c.vs c.second in
+    record { outputs = b.tree ∷ r.outputs; same = ap₂ (λ x xs. x ∷ xs) b.same r.same; reads = program.more b.reads r.reads }
+
+-- no input stands where the named relations begin, and none of those where the outputs begin
+after_inputs : (text : List ℕ) (ls : List LetTree) (os : List OutputTree) → Filled IsOutputSource os → (ts us : List Token) → Says text (flat_map let_pieces ls ++ flat_map output_pieces os) ts us → NoKeyword keyword.Input ts
+after_inputs text (l ∷ ls) os w ts us s = rw s.2 (λ e. cc)
+after_inputs text [] (o ∷ os) w ts us s = rw s.2 (λ e. cc)
+after_inputs text [] [] w ts us s = absurd w
+
+after_lets : (text : List ℕ) (os : List OutputTree) → Filled IsOutputSource os → (ts us : List Token) → Says text (flat_map output_pieces os) ts us → NoKeyword keyword.Let ts
+after_lets text [] w ts us s = absurd w
+after_lets text (o ∷ os) w ts us s = rw s.2 (λ e. cc)
+
+abbrev made : List query.Input → List query.Let → List query.Output → query.Program
+made is ls os = record { inputs = is; lets = ls; outputs = os }
 
 pub record ProgramBack (text : List ℕ) (p : ProgramTree) (n : ℕ) (ts : List Token) : Type 0 where
   pub tree : ProgramTree
   pub same : plain_program tree ≡ plain_program p
   pub reads : ReadsProgram text ts tree n
 
-abbrev tree_of : List Input → List LetTree → RelTree → ProgramTree
-tree_of is ls o = record { inputs = is; lets = ls; output = o }
+abbrev tree_of : List Input → List LetTree → List OutputTree → ProgramTree
+tree_of is ls os = record { inputs = is; lets = ls; outputs = os }
 
 pub program_back : (text : List ℕ) (p : ProgramTree) → IsSource p → (ts : List Token) → Says text (program_pieces p) ts [] → ProgramBack text p (program_height p) ts
 program_back text p w ts s =
-    let last : List Piece = of_keyword keyword.Output ∷ space ∷ rel_pieces p.output ++ line_end in
-    let c = cut (flat_map input_pieces p.inputs) (flat_map let_pieces p.lets ++ last) s in
-    let e = cut (flat_map let_pieces p.lets) last c.second in
-    let o = e.second in
-    let f = cut (rel_pieces p.output) line_end o.4 in
-    let q = f.second in
-    let a = inputs_back text p.inputs w.inputs ts c.vs c.first (after_inputs text p.lets (space ∷ rel_pieces p.output ++ line_end) c.vs [] c.second) in
-    let b = lets_back text p.lets w.lets c.vs (keyword_at keyword.Output o.0 ∷ o.1) (rw o.2 at e.first) (λ e. cc) in
-    let r = rel_back text p.output w.output o.1 (mark_at sign.Semicolon q.0 ∷ []) (rw (q.2, q.4) at f.first) in
+    let c = cut (flat_map input_pieces p.inputs) (flat_map let_pieces p.lets ++ flat_map output_pieces p.outputs) s in
+    let e = cut (flat_map let_pieces p.lets) (flat_map output_pieces p.outputs) c.second in
+    let a = inputs_back text p.inputs w.inputs ts c.vs c.first (after_inputs text p.lets p.outputs w.outputs c.vs [] c.second) in
+    let b = lets_back text p.lets w.lets c.vs e.vs e.first (after_lets text p.outputs w.outputs e.vs [] e.second) in
+    let o = outputs_back text p.outputs w.outputs e.vs e.second in
     record {
-      tree = tree_of a.inputs b.lets r.tree;
-      same = ap₂ (λ (i : List query.Input × List query.Let) u. made i.0 i.1 u) (ap₂ (λ i l. (i, l)) a.same b.same) r.same;
+      tree = tree_of a.inputs b.lets o.outputs;
+      same = ap₂ (λ (i : List query.Input × List query.Let) u. made i.0 i.1 u) (ap₂ (λ i l. (i, l)) a.same b.same) o.same;
       reads = record {
         us = c.vs;
-        vs = o.1;
-        start = o.0;
-        end = q.0;
+        vs = e.vs;
         lets_height = lets_height p.lets;
-        height = rel_height p.output;
+        outputs_height = heights output_height p.outputs;
         inputs = a.reads;
         lets = b.reads;
-        output = r.reads;
+        outputs = o.reads;
         is = refl;
       };
     }

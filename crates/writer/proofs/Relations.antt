@@ -1,18 +1,18 @@
 -- The canonical text of a relation reads as that relation.
-use Rattle.std.proofs.Common.{◌≡◌, ℕ, List, [], ◌∷◌, ◌++◌, refl, ap, ◌∙◌}
+use Rattle.std.proofs.Common.{◌≡◌, ℕ, List, [], ◌∷◌, ◌++◌, refl, ap, ap₂, ◌∙◌}
 use Rattle.record_core.specs.declared.span.Span.{Span}
 use Rattle.record_core.specs.declared.keyword.Keyword.{Keyword}
 use Rattle.record_core.specs.declared.keyword.Keyword.TheVariants as keyword
 use Rattle.record_core.specs.Names.{IsName}
 use Rattle.expr_tree.specs.Trees.{RelTree}
-use Rattle.expr_tree.specs.Plain.{plain_rel, plain_scalar, plain_pair, plain_agg}
+use Rattle.expr_tree.specs.Plain.{plain_rel, plain_set_operation, plain_scalar, plain_pair, plain_agg}
 use Rattle.lexer.specs.declared.token.Token.{Token}
 use Rattle.lexer.specs.declared.token.TokenKind.TheVariants as kind
 use Rattle.lexer.specs.declared.mark.Mark.{Mark}
 use Rattle.lexer.specs.declared.mark.Mark.TheVariants as sign
 use Rattle.grammar.specs.Tokens.{reaching, token, mark_at, keyword_at}
 use Rattle.grammar.specs.Scalars.{ScalarAt}
-use Rattle.grammar.specs.Relations.{Reads, named, select, filter, concat, join, group, distinct, iterate, piece, IsNameAt, ColumnAt, PairAt, AggAt}
+use Rattle.grammar.specs.Relations.{Reads, named, select, filter, set_operation, join, group, distinct, iterate, piece, IsNameAt, ColumnAt, PairAt, AggAt}
 use Rattle.writer.specs.Pieces.{Piece, word, Word, of_mark, space, spaced, comma, semicolon, listed, form}
 use Rattle.writer.specs.Scalars.{scalar_pieces, scalar_height}
 use Rattle.writer.specs.Conditions.{cond_pieces}
@@ -88,12 +88,12 @@ rel_back text (RelTree.filter r a c) w ts us s =
     let p = rel_back text a w.0 f.inside (mark_at sign.Semicolon h.place ∷ h.vs) h.first in
     let q = conditions.reads_back text c w.1 h.vs (mark_at sign.CloseRound f.end ∷ us) h.second (refl, refl) refl refl in
     record { tree = RelTree.filter (reaching f.start f.end) p.tree q.tree; same = cc (p.same, q.same); reads = reads_at f.is refl (filter p.reads (q.extent, q.reads)) }
-rel_back text (RelTree.concat r a b) w ts us s =
+rel_back text (RelTree.set_operation r o a b) w ts us s =
     let f = formed (rel_pieces a ++ (comma ++ rel_pieces b)) s in
     let h = halves (rel_pieces a) (rel_pieces b) f.said in
     let p = rel_back text a w.0 f.inside (mark_at sign.Comma h.place ∷ h.vs) h.first in
     let q = rel_back text b w.1 h.vs (mark_at sign.CloseRound f.end ∷ us) h.second in
-    record { tree = RelTree.concat (reaching f.start f.end) p.tree q.tree; same = cc (p.same, q.same); reads = reads_at f.is refl (concat p.reads q.reads) }
+    record { tree = RelTree.set_operation (reaching f.start f.end) o p.tree q.tree; same = ap₂ (plain_set_operation o) p.same q.same; reads = reads_at f.is refl (set_operation refl p.reads q.reads) }
 rel_back text (RelTree.join r a b xs) w ts us s =
     let f = formed (rel_pieces a ++ (comma ++ (rel_pieces b ++ (semicolon ++ listed pair_pieces xs)))) s in
     let h = halves (rel_pieces a) (rel_pieces b ++ (semicolon ++ listed pair_pieces xs)) f.said in

@@ -20,7 +20,7 @@ abbrev pub rel_nodes : RelTree → ℕ
 rel_nodes (RelTree.named s x) = 1
 rel_nodes (RelTree.select s r xs) = rel_nodes r + 1
 rel_nodes (RelTree.filter s r c) = rel_nodes r + 1
-rel_nodes (RelTree.concat s a b) = rel_nodes a + rel_nodes b + 1
+rel_nodes (RelTree.set_operation s o a b) = rel_nodes a + rel_nodes b + 1
 rel_nodes (RelTree.join s a b ps) = rel_nodes a + rel_nodes b + 1
 rel_nodes (RelTree.group s r ks gs) = rel_nodes r + 1
 rel_nodes (RelTree.distinct s r) = rel_nodes r + 1
@@ -41,7 +41,7 @@ pub rel_high : (t : RelTree) → 1 ≤ rel_height t
 rel_high (RelTree.named s x) = omega arith
 rel_high (RelTree.select s r xs) = omega arith
 rel_high (RelTree.filter s r c) = omega arith
-rel_high (RelTree.concat s a b) = omega arith
+rel_high (RelTree.set_operation s o a b) = omega arith
 rel_high (RelTree.join s a b ps) = omega arith
 rel_high (RelTree.group s r ks gs) = omega arith
 rel_high (RelTree.distinct s r) = omega arith

@@ -1,6 +1,8 @@
 -- The words of a canonical text stand apart.
-use Rattle.std.proofs.Common.{◌≡◌, ℤ, pos, negsuc, List, [], ◌∷◌, ◌++◌, Bool, true, false, refl, append_assoc}
+use Rattle.std.proofs.Common.{◌≡◌, ℕ, ℤ, pos, negsuc, List, [], ◌∷◌, ◌++◌, Bool, true, false, cond, refl, append_assoc}
+use Rattle.std.specs.Prelude.{bytes_eq}
 use Rattle.std.specs.List.{flat_map}
+use Rattle.record_core.specs.Names.{IsName}
 use Rattle.record_core.specs.declared.keyword.Keyword.{Keyword}
 use Rattle.record_core.specs.declared.keyword.Keyword.TheVariants as keyword
 use Rattle.lexer.specs.declared.mark.Mark.{Mark}
@@ -8,7 +10,9 @@ use Rattle.lexer.specs.declared.mark.Mark.TheVariants as sign
 use Rattle.expr_tree.specs.declared.relation.Column.{Column}
 use Rattle.expr_tree.specs.declared.relation.Agg.TheVariants.{Count, Sum, Min, Max}
 use Rattle.expr_tree.specs.declared.program.Input.{Input}
-use Rattle.expr_tree.specs.Trees.{ScalarTree, CondTree, RelTree, LetTree, ProgramTree}
+use Rattle.expr_tree.specs.Trees.{ScalarTree, CondTree, RelTree, LetTree, OutputTree, ProgramTree}
+use Rattle.grammar.specs.Relations.{operator_keyword}
+use Rattle.grammar.specs.Programs.{default_name}
 use Rattle.writer.specs.declared.rank.ScalarRank.TheVariants.{Single}
 use Rattle.writer.specs.Pieces.{Piece, word, Word, of_mark, of_keyword, space, spaced, in_round, in_square, comma, semicolon, listed, form}
 use Rattle.writer.specs.Scalars as scalar
@@ -16,8 +20,9 @@ use Rattle.writer.specs.Scalars.{scalar_pieces, scalar_rank}
 use Rattle.writer.specs.Conditions as condition
 use Rattle.writer.specs.Conditions.{cond_pieces, cond_rank}
 use Rattle.writer.specs.Relations.{column_pieces, pair_pieces, agg_of, agg_pieces, rel_pieces}
-use Rattle.writer.specs.Programs.{line_end, input_pieces, let_pieces, program_pieces}
-use Rattle.writer.specs.Sources.{Each, Filled, IsLiteral, IsScalarSource, IsCondSource, IsColumnSource, IsPairSource, IsAggSource, IsRelSource, IsInputSource, IsLetSource, IsSource}
+use Rattle.writer.specs.Programs.{line_end, input_pieces, let_pieces, naming, output_pieces, program_pieces}
+use Rattle.writer.specs.Sources.{Each, Filled, IsLiteral, IsScalarSource, IsCondSource, IsColumnSource, IsPairSource, IsAggSource, IsRelSource, IsInputSource, IsLetSource, IsOutputSource, IsSource}
+use Rattle.writer.proofs.Checks.{filled_each}
 use Rattle.writer.proofs.Apart.{Apart, Soft, apart_append, opens, opens_append, no_equal_first}
 
 -- a phrase: words apart, and no `=` first
@@ -107,7 +112,7 @@ pub fine_rel : (t : RelTree) → IsRelSource t → Fine (rel_pieces t)
 fine_rel (RelTree.named s x) w = record { apart = (w, refl, tt); opens = refl }
 fine_rel (RelTree.select s r xs) w = fine_form keyword.Select (rel_pieces r ++ (semicolon ++ listed scalar_pieces xs)) (fine_semicolon (rel_pieces r) (listed scalar_pieces xs) (fine_rel r w.0) (fine_listed scalar_pieces IsScalarSource fine_scalar xs w.1).apart)
 fine_rel (RelTree.filter s r c) w = fine_form keyword.Where (rel_pieces r ++ (semicolon ++ cond_pieces c)) (fine_semicolon (rel_pieces r) (cond_pieces c) (fine_rel r w.0) (fine_cond c w.1).apart)
-fine_rel (RelTree.concat s a b) w = fine_form keyword.Concat (rel_pieces a ++ (comma ++ rel_pieces b)) (fine_comma (rel_pieces a) (rel_pieces b) (fine_rel a w.0) (fine_rel b w.1).apart)
+fine_rel (RelTree.set_operation s o a b) w = fine_form (operator_keyword o) (rel_pieces a ++ (comma ++ rel_pieces b)) (fine_comma (rel_pieces a) (rel_pieces b) (fine_rel a w.0) (fine_rel b w.1).apart)
 fine_rel (RelTree.join s a b ps) w =
     let second = fine_semicolon (rel_pieces b) (listed pair_pieces ps) (fine_rel b w.1) (fine_listed pair_pieces IsPairSource fine_pair ps w.2).apart in
     fine_form keyword.Join (rel_pieces a ++ (comma ++ (rel_pieces b ++ (semicolon ++ listed pair_pieces ps)))) (fine_comma (rel_pieces a) (rel_pieces b ++ (semicolon ++ listed pair_pieces ps)) (fine_rel a w.0) second.apart)
@@ -134,7 +139,19 @@ apart_lets (l ∷ ls) rest w a =
     let c : Apart (((rel_pieces l.relation ++ line_end) ++ flat_map let_pieces ls) ++ rest) = rw (append_assoc (rel_pieces l.relation ++ line_end) (flat_map let_pieces ls) rest) b in
     (refl, refl, (refl, (w.0.0, refl, (refl, (refl, refl, (refl, c))))))
 
+apart_naming : (b : Bool) (x : List ℕ) (ps : List Piece) → IsName x → Apart ps → Apart (cond b [] (word (Word.name x) ∷ spaced sign.Equal) ++ ps)
+apart_naming true x ps n a = a
+apart_naming false x ps n a = (n, refl, (refl, (refl, refl, (refl, a))))
+
+apart_outputs : (os : List OutputTree) → Each IsOutputSource os → Apart (flat_map output_pieces os)
+apart_outputs [] w = tt
+apart_outputs (o ∷ os) w =
+    let b : Apart ((rel_pieces o.relation ++ line_end) ++ flat_map output_pieces os) = apart_line (rel_pieces o.relation) (flat_map output_pieces os) (fine_rel o.relation w.0.1).apart (apart_outputs os w.1) in
+    let c : Apart (naming o.name ++ ((rel_pieces o.relation ++ line_end) ++ flat_map output_pieces os)) = apart_naming (bytes_eq o.name default_name) o.name ((rel_pieces o.relation ++ line_end) ++ flat_map output_pieces os) w.0.0 b in
+    let d : Apart ((naming o.name ++ (rel_pieces o.relation ++ line_end)) ++ flat_map output_pieces os) = rw (append_assoc (naming o.name) (rel_pieces o.relation ++ line_end) (flat_map output_pieces os)) c in
+    (refl, refl, (refl, d))
+
 pub apart_program : (p : ProgramTree) → IsSource p → Apart (program_pieces p)
 apart_program p w =
-    let o : Apart (of_keyword keyword.Output ∷ space ∷ rel_pieces p.output ++ line_end) = (refl, refl, (refl, apart_append (rel_pieces p.output) line_end (fine_rel p.output w.output).apart (refl, refl, (refl, tt)) (refl, refl))) in
-    apart_inputs p.inputs (flat_map let_pieces p.lets ++ (of_keyword keyword.Output ∷ space ∷ rel_pieces p.output ++ line_end)) w.inputs (apart_lets p.lets (of_keyword keyword.Output ∷ space ∷ rel_pieces p.output ++ line_end) w.lets o)
+    let o = apart_outputs p.outputs (filled_each IsOutputSource p.outputs w.outputs) in
+    apart_inputs p.inputs (flat_map let_pieces p.lets ++ flat_map output_pieces p.outputs) w.inputs (apart_lets p.lets (flat_map output_pieces p.outputs) w.lets o)

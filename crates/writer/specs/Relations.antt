@@ -7,7 +7,9 @@ use Rattle.expr_tree.specs.declared.relation.Column.{Column}
 use Rattle.expr_tree.specs.declared.relation.Pair.{Pair}
 use Rattle.expr_tree.specs.declared.relation.Agg.{Agg}
 use Rattle.expr_tree.specs.declared.relation.Agg.TheVariants.{Count, Sum, Min, Max}
+use Rattle.expr_tree.specs.declared.relation.SetOperator.{SetOperator}
 use Rattle.expr_tree.specs.Trees.{RelTree}
+use Rattle.grammar.specs.Relations.{operator_keyword}
 use Rattle.writer.specs.Pieces.{Piece, word, Word, of_mark, of_keyword, space, spaced, comma, semicolon, listed, form}
 use Rattle.writer.specs.Scalars.{scalar_pieces, scalar_height}
 use Rattle.writer.specs.Conditions.{cond_pieces, cond_height}
@@ -28,6 +30,10 @@ agg_pieces (Sum s c) = agg_of keyword.Sum c
 agg_pieces (Min s c) = agg_of keyword.Min c
 agg_pieces (Max s c) = agg_of keyword.Max c
 
+-- what a set operation begins with
+abbrev pub operation_head : SetOperator → List Piece
+operation_head o = of_keyword (operator_keyword o) ∷ of_mark sign.OpenRound ∷ []
+
 -- what a loop begins with: its turns and its variable
 abbrev pub iterate_head : ℕ → List ℕ → List Piece
 iterate_head n x = of_keyword keyword.Iterate ∷ of_mark sign.OpenRound ∷ word (Word.number n) ∷ semicolon ++ (word (Word.name x) ∷ spaced sign.Equal)
@@ -37,7 +43,7 @@ abbrev pub rel_pieces : RelTree → List Piece
 rel_pieces (RelTree.named s x) = word (Word.name x) ∷ []
 rel_pieces (RelTree.select s r xs) = form keyword.Select (rel_pieces r ++ (semicolon ++ listed scalar_pieces xs))
 rel_pieces (RelTree.filter s r c) = form keyword.Where (rel_pieces r ++ (semicolon ++ cond_pieces c))
-rel_pieces (RelTree.concat s a b) = form keyword.Concat (rel_pieces a ++ (comma ++ rel_pieces b))
+rel_pieces (RelTree.set_operation s o a b) = form (operator_keyword o) (rel_pieces a ++ (comma ++ rel_pieces b))
 rel_pieces (RelTree.join s a b ps) = form keyword.Join (rel_pieces a ++ (comma ++ (rel_pieces b ++ (semicolon ++ listed pair_pieces ps))))
 rel_pieces (RelTree.group s r ks gs) = form keyword.Group (rel_pieces r ++ (semicolon ++ (listed column_pieces ks ++ (semicolon ++ listed agg_pieces gs))))
 rel_pieces (RelTree.distinct s r) = form keyword.Distinct (rel_pieces r)
@@ -53,7 +59,7 @@ abbrev pub rel_height : RelTree → ℕ
 rel_height (RelTree.named s x) = 1
 rel_height (RelTree.select s r xs) = suc (max (rel_height r) (heights scalar_height xs))
 rel_height (RelTree.filter s r c) = suc (max (rel_height r) (cond_height c))
-rel_height (RelTree.concat s a b) = suc (max (rel_height a) (rel_height b))
+rel_height (RelTree.set_operation s o a b) = suc (max (rel_height a) (rel_height b))
 rel_height (RelTree.join s a b ps) = suc (max (max (rel_height a) (rel_height b)) 1)
 rel_height (RelTree.group s r ks gs) = suc (max (max (rel_height r) 1) 1)
 rel_height (RelTree.distinct s r) = suc (rel_height r)

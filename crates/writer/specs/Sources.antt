@@ -6,7 +6,7 @@ use Rattle.expr_tree.specs.declared.relation.Pair.{Pair}
 use Rattle.expr_tree.specs.declared.relation.Agg.{Agg}
 use Rattle.expr_tree.specs.declared.relation.Agg.TheVariants.{Count, Sum, Min, Max}
 use Rattle.expr_tree.specs.declared.program.Input.{Input}
-use Rattle.expr_tree.specs.Trees.{ScalarTree, CondTree, RelTree, LetTree, ProgramTree}
+use Rattle.expr_tree.specs.Trees.{ScalarTree, CondTree, RelTree, LetTree, OutputTree, ProgramTree}
 use Rattle.expr_tree.specs.Plain.{plain_program}
 use Rattle.grammar.specs.Texts.{Reads, max_height}
 use Rattle.writer.specs.Programs.{program_height}
@@ -58,7 +58,7 @@ abbrev pub IsRelSource : RelTree → Type 0
 IsRelSource (RelTree.named s x) = IsName x
 IsRelSource (RelTree.select s r xs) = IsRelSource r × Filled IsScalarSource xs
 IsRelSource (RelTree.filter s r c) = IsRelSource r × IsCondSource c
-IsRelSource (RelTree.concat s a b) = IsRelSource a × IsRelSource b
+IsRelSource (RelTree.set_operation s o a b) = IsRelSource a × IsRelSource b
 IsRelSource (RelTree.join s a b ps) = IsRelSource a × IsRelSource b × Filled IsPairSource ps
 IsRelSource (RelTree.group s r ks gs) = IsRelSource r × Filled IsColumnSource ks × Filled IsAggSource gs
 IsRelSource (RelTree.distinct s r) = IsRelSource r
@@ -70,11 +70,14 @@ IsInputSource i = IsName i.name × IsNumber i.arity
 abbrev pub IsLetSource : LetTree → Type 0
 IsLetSource l = IsName l.name × IsRelSource l.relation
 
+abbrev pub IsOutputSource : OutputTree → Type 0
+IsOutputSource o = IsName o.name × IsRelSource o.relation
+
 -- the program has a text, and no phrase of it is too high
 pub record IsSource (p : ProgramTree) : Type 0 where
   pub inputs : Each IsInputSource p.inputs
   pub lets : Each IsLetSource p.lets
-  pub output : IsRelSource p.output
+  pub outputs : Filled IsOutputSource p.outputs
   pub low : program_height p ≤ max_height
 
 -- the text is that program, spans aside

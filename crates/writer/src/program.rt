@@ -2,15 +2,16 @@
 
 ghost use Rattle.std.specs.Prelude.{◌≡◌, ◌≤◌, ◌++◌, length, map, OnOk, OnErr};
 ghost use Rattle.std.specs.List.{flat_map};
-ghost use Rattle.expr_tree.specs.Views.{let_tree, program_tree};
+ghost use Rattle.expr_tree.specs.Views.{let_tree, output_tree, program_tree};
 ghost use Rattle.lexer.specs.Tokens.{max_length};
 ghost use Rattle.writer.specs.Pieces.{Extends, text_of};
-ghost use Rattle.writer.specs.Programs.{input_pieces, let_pieces, program_text};
+ghost use Rattle.writer.specs.Programs.{input_pieces, let_pieces, naming, output_pieces, program_text};
 ghost use Rattle.writer.specs.Sources.{IsSource, ReadsAs};
 
 use crate::push::{push, push_number};
 use crate::relation::write_rel;
-use expr_tree::{Input, Let, NoMemory, Program};
+use expr_tree::{Input, Let, NoMemory, Output, Program};
+use record_core::Name;
 use std::alloc::{AllocError, Allocator};
 
 /// Appends an input's line.
@@ -37,6 +38,29 @@ fn write_let<A: Allocator>(out: &mut Vec<u8>, item: &Let<A>) -> Result<(), Alloc
     push(out, b";\n")
 }
 
+/// Appends the name of an output and the sign after it; nothing where it is `out`.
+fn write_naming(out: &mut Vec<u8>, name: &Name) -> Result<(), AllocError>
+    ensures ok { OnOk result (out.new.items ≡ out.old.items ++ text_of (naming name.now)) }
+    ensures err { OnErr result (Extends out.old.items out.new.items) }
+{
+    if name.bytes() == b"out".as_slice() {
+        return Ok(());
+    }
+    push(out, name.bytes())?;
+    push(out, b" = ")
+}
+
+/// Appends an output's line.
+fn write_output<A: Allocator>(out: &mut Vec<u8>, output: &Output<A>) -> Result<(), AllocError>
+    ensures ok { OnOk result (out.new.items ≡ out.old.items ++ text_of (output_pieces (output_tree output.now))) }
+    ensures err { OnErr result (Extends out.old.items out.new.items) }
+{
+    push(out, b"output ")?;
+    write_naming(out, &output.name)?;
+    write_rel(out, &output.relation)?;
+    push(out, b";\n")
+}
+
 /// Appends the inputs' lines.
 fn write_inputs(out: &mut Vec<u8>, inputs: &[Input]) -> Result<(), AllocError>
     ensures ok { OnOk result (out.new.items ≡ out.old.items ++ text_of (flat_map input_pieces inputs.now)) }
@@ -59,6 +83,17 @@ fn write_lets<A: Allocator>(out: &mut Vec<u8>, lets: &[Let<A>]) -> Result<(), Al
     Ok(())
 }
 
+/// Appends the outputs' lines.
+fn write_outputs<A: Allocator>(out: &mut Vec<u8>, outputs: &[Output<A>]) -> Result<(), AllocError>
+    ensures ok { OnOk result (out.new.items ≡ out.old.items ++ text_of (flat_map output_pieces (map output_tree outputs.now))) }
+    ensures err { OnErr result (Extends out.old.items out.new.items) }
+{
+    for output in outputs {
+        write_output(out, output)?;
+    }
+    Ok(())
+}
+
 /// Appends a program's lines; after a refusal some of them may stand there.
 fn write_items<A: Allocator>(out: &mut Vec<u8>, program: &Program<A>) -> Result<(), AllocError>
     ensures ok { OnOk result (out.new.items ≡ out.old.items ++ program_text (program_tree program.now)) }
@@ -66,12 +101,10 @@ fn write_items<A: Allocator>(out: &mut Vec<u8>, program: &Program<A>) -> Result<
 {
     write_inputs(out, &program.inputs)?;
     write_lets(out, &program.lets)?;
-    push(out, b"output ")?;
-    write_rel(out, &program.output)?;
-    push(out, b";\n")
+    write_outputs(out, &program.outputs)
 }
 
-/// Appends the canonical text of a source (`is_source`): a line for each input, each named relation and the output, with one
+/// Appends the canonical text of a source (`is_source`): a line for each input, each named relation and each output, with one
 /// space where there is any, and brackets only where the tree asks for them. The vector's allocator alone gives the memory.
 ///
 /// The text is that program, spans aside, where it is no longer than 1,048,576 bytes: `parse` reads it as such a tree, under any

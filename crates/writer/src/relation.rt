@@ -5,13 +5,13 @@ ghost use Rattle.expr_tree.specs.Trees.{RelTree};
 ghost use Rattle.expr_tree.specs.Views.{cond_tree, rel_tree, scalar_tree};
 ghost use Rattle.writer.specs.Pieces.{Extends, text_of};
 ghost use Rattle.writer.specs.Scalars.{nowhere};
-ghost use Rattle.writer.specs.Relations.{iterate_head, rel_pieces};
+ghost use Rattle.writer.specs.Relations.{iterate_head, operation_head, rel_pieces};
 
 use crate::condition::write_cond;
 use crate::list::{write_aggs, write_columns, write_pairs};
 use crate::push::{push, push_number};
 use crate::scalar::write_scalars;
-use expr_tree::{Agg, Column, Cond, Pair, Rel, Scalar};
+use expr_tree::{Agg, Column, Cond, Pair, Rel, Scalar, SetOperator};
 use record_core::Name;
 use std::alloc::{AllocError, Allocator};
 
@@ -25,7 +25,9 @@ pub fn write_rel<A: Allocator>(out: &mut Vec<u8>, relation: &Rel<A>) -> Result<(
         Rel::Named(_, name) => write_named(out, name),
         Rel::Select(_, of, scalars) => write_select(out, of, scalars),
         Rel::Where(_, of, condition) => write_filter(out, of, condition),
-        Rel::Concat(_, left, right) => write_concat(out, left, right),
+        Rel::SetOperation(_, operator, left, right) => {
+            write_set_operation(out, *operator, left, right)
+        }
         Rel::Join(_, left, right, pairs) => write_join(out, left, right, pairs),
         Rel::Group(_, of, keys, aggregates) => write_group(out, of, keys, aggregates),
         Rel::Distinct(_, of) => write_distinct(out, of),
@@ -79,16 +81,29 @@ fn write_filter<A: Allocator>(
     push(out, b")")
 }
 
+/// Appends what a set operation begins with.
+fn write_operator(out: &mut Vec<u8>, operator: SetOperator) -> Result<(), AllocError>
+    ensures ok { OnOk result (out.new.items ≡ out.old.items ++ text_of (operation_head operator)) }
+    ensures err { OnErr result (Extends out.old.items out.new.items) }
+{
+    match operator {
+        SetOperator::Concat => push(out, b"concat("),
+        SetOperator::Except => push(out, b"except("),
+        SetOperator::Intersect => push(out, b"intersect("),
+    }
+}
+
 #[cycle(write)]
-fn write_concat<A: Allocator>(
+fn write_set_operation<A: Allocator>(
     out: &mut Vec<u8>,
+    operator: SetOperator,
     left: &Rel<A>,
     right: &Rel<A>,
 ) -> Result<(), AllocError>
-    ensures ok { OnOk result (out.new.items ≡ out.old.items ++ text_of (rel_pieces (RelTree.concat nowhere (rel_tree left.now) (rel_tree right.now)))) }
+    ensures ok { OnOk result (out.new.items ≡ out.old.items ++ text_of (rel_pieces (RelTree.set_operation nowhere operator (rel_tree left.now) (rel_tree right.now)))) }
     ensures err { OnErr result (Extends out.old.items out.new.items) }
 {
-    push(out, b"concat(")?;
+    write_operator(out, operator)?;
     write_rel(out, left)?;
     push(out, b", ")?;
     write_rel(out, right)?;

@@ -5,17 +5,17 @@
 
 ghost use Rattle.std.specs.Prelude.{◌≡◌, ◌≤◌, ◌↔◌, IsTrue, map};
 ghost use Rattle.record_core.specs.Names.{IsName};
-ghost use Rattle.expr_tree.specs.Views.{cond_tree, let_tree, program_tree, rel_tree, scalar_tree};
+ghost use Rattle.expr_tree.specs.Views.{cond_tree, let_tree, output_tree, program_tree, rel_tree, scalar_tree};
 ghost use Rattle.writer.specs.Scalars as scalars;
 ghost use Rattle.writer.specs.Scalars.{raised, scalar_height, scalar_rank};
 ghost use Rattle.writer.specs.Conditions as conditions;
 ghost use Rattle.writer.specs.Conditions.{cond_height, cond_rank};
 ghost use Rattle.writer.specs.Relations.{heights, rel_height};
-ghost use Rattle.writer.specs.Programs.{lets_height};
-ghost use Rattle.writer.specs.Sources.{Each, Filled, IsAggSource, IsColumnSource, IsCondSource, IsInputSource, IsLetSource, IsLiteral, IsNumber, IsPairSource, IsRelSource, IsScalarSource, IsSource};
+ghost use Rattle.writer.specs.Programs.{lets_height, output_height};
+ghost use Rattle.writer.specs.Sources.{Each, Filled, IsAggSource, IsColumnSource, IsCondSource, IsInputSource, IsLetSource, IsLiteral, IsNumber, IsOutputSource, IsPairSource, IsRelSource, IsScalarSource, IsSource};
 
 use crate::rank::{CondRank, ScalarRank};
-use expr_tree::{Agg, Column, Cond, Input, Let, Pair, Program, Rel, Scalar};
+use expr_tree::{Agg, Column, Cond, Input, Let, Output, Pair, Program, Rel, Scalar};
 use record_core::Name;
 use std::alloc::Allocator;
 
@@ -186,7 +186,7 @@ fn rel_fits<A: Allocator>(relation: &Rel<A>, room: u32) -> bool
         Rel::Named(_, name) => is_name(name),
         Rel::Select(_, of, scalars) => rel_fits(of, inside) && scalars_fit(scalars, inside),
         Rel::Where(_, of, condition) => rel_fits(of, inside) && cond_fits(condition, inside),
-        Rel::Concat(_, left, right) => rel_fits(left, inside) && rel_fits(right, inside),
+        Rel::SetOperation(_, _, left, right) => rel_fits(left, inside) && rel_fits(right, inside),
         Rel::Join(_, left, right, pairs) => {
             rel_fits(left, inside) && rel_fits(right, inside) && are_pairs(pairs)
         }
@@ -240,6 +240,24 @@ fn lets_fit<A: Allocator>(lets: &[Let<A>]) -> bool
     true
 }
 
+fn output_fits<A: Allocator>(output: &Output<A>) -> bool
+    ensures { IsTrue result ↔ (IsOutputSource (output_tree output.now) × (output_height (output_tree output.now) ≤ 64)) }
+{
+    is_name(&output.name) && rel_fits(&output.relation, MAX_HEIGHT)
+}
+
+/// Whether there are outputs, and each has a text of at most the greatest height.
+fn outputs_fit<A: Allocator>(outputs: &[Output<A>]) -> bool
+    ensures { IsTrue result ↔ (Filled IsOutputSource (map output_tree outputs.now) × (heights output_height (map output_tree outputs.now) ≤ 64)) }
+{
+    for output in outputs {
+        if !output_fits(output) {
+            return false;
+        }
+    }
+    !outputs.is_empty()
+}
+
 /// Whether a program has a text that reads as it: no literal is negative, no number is above 9223372036854775807, no list that
 /// the grammar wants filled is empty, and no phrase of the canonical text is higher than 64. No memory is taken.
 ///
@@ -247,5 +265,5 @@ fn lets_fit<A: Allocator>(lets: &[Let<A>]) -> bool
 pub fn is_source<A: Allocator>(program: &Program<A>) -> bool
     ensures { IsTrue result ↔ IsSource (program_tree program.now) }
 {
-    are_inputs(&program.inputs) && lets_fit(&program.lets) && rel_fits(&program.output, MAX_HEIGHT)
+    are_inputs(&program.inputs) && lets_fit(&program.lets) && outputs_fit(&program.outputs)
 }

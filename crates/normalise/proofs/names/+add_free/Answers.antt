@@ -4,17 +4,17 @@ use Rattle.semantics.specs.Meaning.{same_name}
 use Rattle.semantics.specs.FreeNames.{free}
 use Rattle.expr_tree.specs.Plain.{plain_rel}
 use Rattle.expr_tree.specs.Views.{rel_tree}
-use Rattle.normalise.proofs.AddedNames.{adds_one, adds_both, adds_known, adds_bound}
+use Rattle.normalise.proofs.AddedNames.{adds_one, adds_both, adds_set_operation, adds_known, adds_bound}
 use Rattle.normalise.proofs.Rewriting.{ok_then}
 use Rattle.normalise.proofs.names.+add_free.Goals as goal
 
 pub returns-in_ok-insert-in-Named : goal.returns-in_ok-insert-in-Named
 returns-in_ok-insert-in-Named g t c = rw (c.in-Named.is, ← c.copied.ensures) (adds_one _ _ _ c.in_ok-insert-in-Named.ensures.updates.0)
 
-pub returns-in_ok-add_free-in-Concat : goal.returns-in_ok-add_free-in-Concat
-returns-in_ok-add_free-in-Concat g t c =
-    rw (c.in-Concat.is, ← c.deref.ensures, ← c.deref-in-Concat.ensures)
-    (ok_then _ _ _ (λ _ h. adds_both _ _ _ _ _ c.in_ok-add_free-in-Concat.ensures h) c.add_free-in-Concat.ensures)
+pub returns-in_ok-add_free-in-SetOperation : goal.returns-in_ok-add_free-in-SetOperation
+returns-in_ok-add_free-in-SetOperation g t c =
+    rw (c.in-SetOperation.is, ← c.deref.ensures, ← c.deref-in-SetOperation.ensures)
+    (ok_then _ _ _ (λ _ h. adds_set_operation c.in-SetOperation.field-1 (plain_rel (rel_tree c.deref.result.now)) (plain_rel (rel_tree c.deref-in-SetOperation.result.now)) _ _ _ c.in_ok-add_free-in-SetOperation.ensures h) c.add_free-in-SetOperation.ensures)
 
 pub returns-in_ok-add_free-in-Join : goal.returns-in_ok-add_free-in-Join
 returns-in_ok-add_free-in-Join g t c =

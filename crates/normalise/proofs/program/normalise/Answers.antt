@@ -10,28 +10,28 @@ use Rattle.normalise.proofs.program.normalise.Goals as goal
 
 pub new-requires : goal.new-requires
 new-requires g c =
-    let kept = rw c.deref.ensures at c.in_ok-lets.ensures in
-    let typed = c.into_program-inputs.ensures.typed in
-    rw c.output_arity-arity.ensures (rewrites_typed (program_rewritten _ _ _ _ _ _ c.in_ok-output.ensures.reached kept.steps typed) _ typed)
+    let kept = rw c.deref.ensures.value at c.in_ok-lets.ensures in
+    let typed = c.into_parts-program.ensures.typed in
+    rewrites_typed (program_rewritten _ _ _ _ _ _ c.in_ok-rewrite_outputs.ensures kept.steps typed) _ typed
 
 pub returns-clause-reached : goal.returns-clause-reached
 returns-clause-reached g c =
-    let kept = rw c.deref.ensures at c.in_ok-lets.ensures in
-    let steps = program_rewritten _ _ _ _ _ _ c.in_ok-output.ensures.reached kept.steps c.into_program-inputs.ensures.typed in
-    let made = subst (λ p. RewritesTo (plain_program (program_tree c.into_program-inputs.result)) (plain_program p)) (sym c.new.ensures.program) steps in
-    subst (λ p. RewritesTo (plain_program p) (plain_program (typed_program c.new.result))) c.into_program-inputs.ensures.value made
+    let kept = rw c.deref.ensures.value at c.in_ok-lets.ensures in
+    let steps = program_rewritten _ _ _ _ _ _ c.in_ok-rewrite_outputs.ensures kept.steps c.into_parts-program.ensures.typed in
+    let made = subst (λ p. RewritesTo (plain_program (program_tree c.into_parts-program.result.0)) (plain_program p)) (sym c.new.ensures.program) steps in
+    subst (λ p. RewritesTo (plain_program p) (plain_program (typed_program c.new.result))) c.into_parts-program.ensures.program made
 
 -- what steps keep
 pub returns-clause-meaning : goal.returns-clause-meaning
-returns-clause-meaning g c records = rewrites_meaning (returns-clause-reached g c) records
+returns-clause-meaning g c output records = rewrites_meaning (returns-clause-reached g c) output records
 
 pub returns-clause-no_larger : goal.returns-clause-no_larger
 returns-clause-no_larger g c = rewrites_smaller (returns-clause-reached g c)
 
 pub returns-clause-normal : goal.returns-clause-normal
 returns-clause-normal g c =
-    let made = c.in_ok-output.ensures in
-    let kept = rw c.deref.ensures at c.in_ok-lets.ensures in
-    let typed = c.into_program-inputs.ensures.typed in
-    let steps = program_rewritten _ _ _ _ _ _ made.reached kept.steps typed in
-    subst (λ p. NormalProgram (plain_program p)) (sym c.new.ensures.program) (normal_program _ _ _ _ (rewrites_typed steps _ typed) kept.reduced made.reduced kept.reached)
+    let made = c.in_ok-rewrite_outputs.ensures in
+    let kept = rw c.deref.ensures.value at c.in_ok-lets.ensures in
+    let typed = c.into_parts-program.ensures.typed in
+    let steps = program_rewritten _ _ _ _ _ _ made kept.steps typed in
+    subst (λ p. NormalProgram (plain_program p)) (sym c.new.ensures.program) (normal_program _ _ _ _ _ (rewrites_typed steps _ typed) kept.reduced made kept.reached)

@@ -4,7 +4,7 @@ use Rattle.std.specs.List.{list_any}
 use Rattle.semantics.specs.Meaning.{same_name}
 use Rattle.expr_tree.specs.Plain.{plain_let, plain_rel}
 use Rattle.expr_tree.specs.Views.{let_tree, rel_tree}
-use Rattle.normalise.proofs.KeptLets.{lets_at_first, popped, last_first, not_reached, lets_dropped, lets_rewritten, finds_output, finds_more}
+use Rattle.normalise.proofs.KeptLets.{lets_at_first, popped, last_first, not_reached, lets_dropped, lets_rewritten, finds_outputs, finds_more}
 use Rattle.normalise.proofs.program.reached_lets.Goals as goal
 
 pub loop-item-init : goal.loop-item-init
@@ -12,7 +12,7 @@ loop-item-init g c = record {
   steps = rw c.new-kept.ensures.items (lets_at_first _ _);
   reduced = rw c.new-kept.ensures.items tt;
   reached = rw c.new-kept.ensures.items tt;
-  finds = rw c.new-kept.ensures.items (finds_output (contains same_name c.add_free.new.names) (contains same_name c.new-reached.result) _ (λ y. ap (list_any (same_name y)) c.new-reached.ensures.empty) c.in_ok-add_free.ensures);
+  finds = rw c.new-kept.ensures.items (finds_outputs (contains same_name c.add_free_in_outputs.new.names) (contains same_name c.new-reached.result) _ (λ y. ap (list_any (same_name y)) c.new-reached.ensures.empty) c.in_ok-add_free_in_outputs.ensures);
 }
 
 pub loop-item-preserved : goal.loop-item-preserved
@@ -41,5 +41,5 @@ loop-item-preserved-in-Continue-branch-4 g c =
       steps = rw front (lets_rewritten _ now.name after now.value _ _ _ made.reached (popped let_tree plain_let c.loop-item.lets.items c.pop.new.self.items c.in-Some.item _ _ _ c.in-Some.ensures.items inv.steps));
       reduced = rw front (made.reduced, inv.reduced);
       reached = rw front (reached, inv.reached);
-      finds = rw front (finds_more (contains same_name c.loop-item.reached) (contains same_name c.add_free-then-contains.new.names) now.name after _ _ reached inv.finds (rw c.deref.ensures at c.in_ok-add_free-2.ensures));
+      finds = rw front (finds_more (contains same_name c.loop-item.reached) (contains same_name c.add_free.new.names) now.name after _ _ reached inv.finds (rw c.deref.ensures at c.in_ok-add_free.ensures));
     }

@@ -1,5 +1,5 @@
 use Rattle.normalise.proofs.Folding.{normal-folded}
-use Rattle.normalise.proofs.Rewriting.{ok_then, reached_itself, rewritten_then, reached_select, reached_filter, reached_concat, reached_join, reached_group, reached_distinct, rewritten_no_turns, rewritten_iterate}
+use Rattle.normalise.proofs.Rewriting.{ok_then, reached_itself, rewritten_then, reached_select, reached_filter, rewritten_set_operation, reached_join, reached_group, reached_distinct, rewritten_no_turns, rewritten_iterate}
 use Rattle.normalise.proofs.relation.+rewrite.Goals as goal
 
 pub rewritten-returns-in_ok-of-in-Select : goal.rewritten-returns-in_ok-of-in-Select
@@ -12,11 +12,8 @@ rewritten-returns-in_ok-of-in-Where g t c =
     let of = c.in_ok-of-in-Where.ensures in
     rw c.in-Where.is (ok_then c.where_of.result _ _ (λ made h. rewritten_then _ _ _ h (reached_filter _ _ _ _ of.reached c.folded_cond-condition.ensures)) c.where_of.ensures)
 
-pub rewritten-returns-in_ok-right-in-Concat : goal.rewritten-returns-in_ok-right-in-Concat
-rewritten-returns-in_ok-right-in-Concat g t c =
-    let left = c.in_ok-left-in-Concat.ensures in
-    let right = c.in_ok-right-in-Concat.ensures in
-    rw c.in-Concat.is (record { reached = reached_concat _ _ _ _ left.reached right.reached; reduced = (left.reduced, right.reduced) })
+pub rewritten-returns-in_ok-right-in-SetOperation : goal.rewritten-returns-in_ok-right-in-SetOperation
+rewritten-returns-in_ok-right-in-SetOperation g t c = rw c.in-SetOperation.is (rewritten_set_operation c.in-SetOperation.operator _ _ _ _ c.in_ok-left-in-SetOperation.ensures c.in_ok-right-in-SetOperation.ensures)
 
 pub rewritten-returns-in_ok-right-in-Join : goal.rewritten-returns-in_ok-right-in-Join
 rewritten-returns-in_ok-right-in-Join g t c =

@@ -1,18 +1,11 @@
-use Rattle.std.proofs.Common.{rules, ◌≡◌, sym, ap, ◌∙◌}
-use Rattle.semantics.specs.Query.{Rel}
 use Rattle.expr_tree.specs.Plain.{plain_rel}
 use Rattle.expr_tree.specs.Views.{rel_tree}
-use Rattle.normalise.proofs.Rewriting.{rewritten_distincts, rewritten_distinct}
-use Rattle.semantics.specs.Normal.{IsDistinct}
+use Rattle.normalise.proofs.Rewriting.{rewritten_set, rewritten_distinct}
 use Rattle.normalise.proofs.relation.distinct_of.Goals as goal
 
-pub returns-in-Distinct : goal.returns-in-Distinct
-returns-in-Distinct g c =
-    let e : plain_rel (rel_tree c.args.of.value) ≡ Rel.distinct (plain_rel (rel_tree c.in-Distinct.inner.value)) = ap (λ v. plain_rel (rel_tree v)) (sym (c.in-Distinct.ensures.moved ∙ c.deref_mut.ensures.value)) in
-    rewritten_distincts _ _ e c.requires
+pub returns-then-is_set : goal.returns-then-is_set
+returns-then-is_set g c =
+    rw c.into_inner.ensures (rewritten_set (plain_rel (rel_tree c.args.of.value)) (rw c.deref.ensures at (c.is_set.ensures.yes c.if-is_set.true)) c.requires)
 
-pub returns-in_default : goal.returns-in_default
-returns-in_default g c =
-    let e : plain_rel (rel_tree c.args.of.value) ≡ plain_rel (rel_tree c.take.result) = ap (λ v. plain_rel (rel_tree v)) (sym (c.take.ensures.moved ∙ c.deref_mut.ensures.value)) in
-    let not : IsDistinct (plain_rel (rel_tree c.take.result)) → ⊥ = search rules in
-    rw e (rewritten_distinct (plain_rel (rel_tree c.take.result)) not (rw e at c.requires))
+pub returns-else-is_set : goal.returns-else-is_set
+returns-else-is_set g c = rewritten_distinct (plain_rel (rel_tree c.args.of.value)) (rw c.deref.ensures at (c.is_set.ensures.no c.if-is_set.false)) c.requires

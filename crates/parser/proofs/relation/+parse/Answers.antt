@@ -12,7 +12,7 @@ use Rattle.parser.specs.Forms.{opening}
 use Rattle.parser.specs.declared.relation.Form.TheVariants as form
 use Rattle.parser.proofs.Faults.{denied_with, denied_around, denied_always, passed_on}
 use Rattle.parser.proofs.Lists.{one_ended, unread_ended, no_end}
-use Rattle.parser.proofs.Relations.{named_at, no_rel, no_bracket, unread_open, two_first, two_second, two_high, three_first, three_second, three_third, three_high, once_first, once_high, inside_select, inside_where, inside_concat, inside_join, inside_group, inside_distinct, loop_two, no_loop, select_at, where_at, concat_at, join_at, group_at, distinct_at, iterate_at}
+use Rattle.parser.proofs.Relations.{named_at, no_rel, no_bracket, unread_open, two_first, two_second, two_high, three_first, three_second, three_third, three_high, once_first, once_high, inside_select, inside_where, inside_set_operation, inside_join, inside_group, inside_distinct, loop_two, no_loop, select_at, where_at, set_operation_at, join_at, group_at, distinct_at, iterate_at}
 use Rattle.parser.proofs.relation.+parse.Goals as goal
 
 pub parse_rel-returns-in-Some-clause-found : goal.parse_rel-returns-in-Some-clause-found
@@ -75,23 +75,23 @@ pub parse_where-returns-clause-found : goal.parse_where-returns-clause-found
 parse_where-returns-clause-found g t c =
     where_at _ _ _ _ _ _ _ _ _ _ _ _ _ _ _ c.in_ok-relation.ensures.found c.in_ok-condition.ensures.found c.spanning-span.ensures refl (ap (λ v. v + 1) c.max-most.ensures)
 
-pub parse_concat-returns-in_err-left-clause-denied : goal.parse_concat-returns-in_err-left-clause-denied
-parse_concat-returns-in_err-left-clause-denied g t c =
-    passed_on c.from_residual.result c.in_err-left.field-0.0 (Unread (Reads c.args.text.now) (opening form.Concat c.args.opening.keyword c.args.opening.bracket c.args.tokens.now)) (c.args.room + 1) (search rules) (denied_around (Unread (Ended (Reads c.args.text.now) mark.Comma) c.args.tokens.now) (Unread (Reads c.args.text.now) (opening form.Concat c.args.opening.keyword c.args.opening.bracket c.args.tokens.now)) c.in_err-left.field-0.0 c.args.room (c.args.room + 1) (omega arith) (λ m l e u q k us d. two_first (Ended (Reads c.args.text.now) mark.Comma) (Ended (Reads c.args.text.now) mark.CloseRound) _ _ m l _ e u (inside_concat d)) (c.in_err-left.ensures.denied))
+pub parse_set_operation-returns-in_err-left-clause-denied : goal.parse_set_operation-returns-in_err-left-clause-denied
+parse_set_operation-returns-in_err-left-clause-denied g t c =
+    passed_on c.from_residual.result c.in_err-left.field-0.0 (Unread (Reads c.args.text.now) (opening (form.SetOperation c.args.operator) c.args.opening.keyword c.args.opening.bracket c.args.tokens.now)) (c.args.room + 1) (search rules) (denied_around (Unread (Ended (Reads c.args.text.now) mark.Comma) c.args.tokens.now) (Unread (Reads c.args.text.now) (opening (form.SetOperation c.args.operator) c.args.opening.keyword c.args.opening.bracket c.args.tokens.now)) c.in_err-left.field-0.0 c.args.room (c.args.room + 1) (omega arith) (λ m l e u q k us d. two_first (Ended (Reads c.args.text.now) mark.Comma) (Ended (Reads c.args.text.now) mark.CloseRound) _ _ m l _ e u (inside_set_operation c.args.operator d)) (c.in_err-left.ensures.denied))
 
-pub parse_concat-returns-in_err-right-clause-denied : goal.parse_concat-returns-in_err-right-clause-denied
-parse_concat-returns-in_err-right-clause-denied g t c =
-    passed_on c.from_residual-in_err-right.result c.in_err-right.field-0.0 (Unread (Reads c.args.text.now) (opening form.Concat c.args.opening.keyword c.args.opening.bracket c.args.tokens.now)) (c.args.room + 1) (search rules) (denied_around (Unread (Ended (Reads c.args.text.now) mark.CloseRound) c.in_ok-left.inner.now) (Unread (Reads c.args.text.now) (opening form.Concat c.args.opening.keyword c.args.opening.bracket c.args.tokens.now)) c.in_err-right.field-0.0 c.args.room (c.args.room + 1) (omega arith) (λ m l e u q k us d. two_second (Ended (Reads c.args.text.now) mark.Comma) (Ended (Reads c.args.text.now) mark.CloseRound) _ _ _ _ _ m l _ e (one_ended (Reads c.args.text.now) mark.Comma (one_relation c.args.text.now)) (_, c.in_ok-left.ensures.found) u (inside_concat d)) (c.in_err-right.ensures.denied))
+pub parse_set_operation-returns-in_err-right-clause-denied : goal.parse_set_operation-returns-in_err-right-clause-denied
+parse_set_operation-returns-in_err-right-clause-denied g t c =
+    passed_on c.from_residual-in_err-right.result c.in_err-right.field-0.0 (Unread (Reads c.args.text.now) (opening (form.SetOperation c.args.operator) c.args.opening.keyword c.args.opening.bracket c.args.tokens.now)) (c.args.room + 1) (search rules) (denied_around (Unread (Ended (Reads c.args.text.now) mark.CloseRound) c.in_ok-left.inner.now) (Unread (Reads c.args.text.now) (opening (form.SetOperation c.args.operator) c.args.opening.keyword c.args.opening.bracket c.args.tokens.now)) c.in_err-right.field-0.0 c.args.room (c.args.room + 1) (omega arith) (λ m l e u q k us d. two_second (Ended (Reads c.args.text.now) mark.Comma) (Ended (Reads c.args.text.now) mark.CloseRound) _ _ _ _ _ m l _ e (one_ended (Reads c.args.text.now) mark.Comma (one_relation c.args.text.now)) (_, c.in_ok-left.ensures.found) u (inside_set_operation c.args.operator d)) (c.in_err-right.ensures.denied))
 
-pub parse_concat-returns-then-most-eq-MAX_HEIGHT-clause-denied : goal.parse_concat-returns-then-most-eq-MAX_HEIGHT-clause-denied
-parse_concat-returns-then-most-eq-MAX_HEIGHT-clause-denied g t c =
+pub parse_set_operation-returns-then-most-eq-MAX_HEIGHT-clause-denied : goal.parse_set_operation-returns-then-most-eq-MAX_HEIGHT-clause-denied
+parse_set_operation-returns-then-most-eq-MAX_HEIGHT-clause-denied g t c =
     λ q k us d.
     let most : c.args.room + 1 ≤ max c.in_ok-left.height c.in_ok-right.other = omega arith in
-    two_high (Ended (Reads c.args.text.now) mark.Comma) (Ended (Reads c.args.text.now) mark.CloseRound) _ _ _ _ _ _ _ _ (c.args.room + 1) _ (one_ended (Reads c.args.text.now) mark.Comma (one_relation c.args.text.now)) (one_ended (Reads c.args.text.now) mark.CloseRound (one_relation c.args.text.now)) (_, c.in_ok-left.ensures.found) (_, c.in_ok-right.ensures.found) most (inside_concat d)
+    two_high (Ended (Reads c.args.text.now) mark.Comma) (Ended (Reads c.args.text.now) mark.CloseRound) _ _ _ _ _ _ _ _ (c.args.room + 1) _ (one_ended (Reads c.args.text.now) mark.Comma (one_relation c.args.text.now)) (one_ended (Reads c.args.text.now) mark.CloseRound (one_relation c.args.text.now)) (_, c.in_ok-left.ensures.found) (_, c.in_ok-right.ensures.found) most (inside_set_operation c.args.operator d)
 
-pub parse_concat-returns-clause-found : goal.parse_concat-returns-clause-found
-parse_concat-returns-clause-found g t c =
-    concat_at _ _ _ _ _ _ _ _ _ _ _ _ _ _ _ c.in_ok-left.ensures.found c.in_ok-right.ensures.found c.spanning-span.ensures refl (ap (λ v. v + 1) c.max-most.ensures)
+pub parse_set_operation-returns-clause-found : goal.parse_set_operation-returns-clause-found
+parse_set_operation-returns-clause-found g t c =
+    set_operation_at _ _ _ _ _ _ _ _ _ _ _ _ _ _ _ _ c.in_ok-left.ensures.found c.in_ok-right.ensures.found c.spanning-span.ensures refl (ap (λ v. v + 1) c.max-most.ensures)
 
 pub parse_iterate-returns-in_err-head-clause-denied : goal.parse_iterate-returns-in_err-head-clause-denied
 parse_iterate-returns-in_err-head-clause-denied g t c =

@@ -13,8 +13,8 @@ decreases-parse_select g l = 4 * l.room + 2
 abbrev pub decreases-parse_where : goal.decreases-parse_where
 decreases-parse_where g l = 4 * l.room + 2
 
-abbrev pub decreases-parse_concat : goal.decreases-parse_concat
-decreases-parse_concat g l = 4 * l.room + 2
+abbrev pub decreases-parse_set_operation : goal.decreases-parse_set_operation
+decreases-parse_set_operation g l = 4 * l.room + 2
 
 abbrev pub decreases-parse_join : goal.decreases-parse_join
 decreases-parse_join g l = 4 * l.room + 2

@@ -1,4 +1,4 @@
-use Rattle.semantics.proofs.ExampleMeanings.{twice_means, sum_wraps, reaches, no_turn_means, outer_name_means, loop_in_loop_means}
+use Rattle.semantics.proofs.ExampleMeanings.{twice_means, sum_wraps, reaches, no_turn_means, outer_name_means, loop_in_loop_means, in_a_alone_means, in_a_and_b_means, except_in_loop_means, small_means, all_means, no_more_means}
 use Rattle.semantics.proofs.examples.law_meanings.Goals as goal
 
 pub returns-clause-twice : goal.returns-clause-twice
@@ -18,3 +18,21 @@ returns-clause-outer_name c = outer_name_means
 
 pub returns-clause-loop_in_loop : goal.returns-clause-loop_in_loop
 returns-clause-loop_in_loop c = loop_in_loop_means
+
+pub returns-clause-in_a_alone : goal.returns-clause-in_a_alone
+returns-clause-in_a_alone c = in_a_alone_means
+
+pub returns-clause-in_a_and_b : goal.returns-clause-in_a_and_b
+returns-clause-in_a_and_b c = in_a_and_b_means
+
+pub returns-clause-except_in_loop : goal.returns-clause-except_in_loop
+returns-clause-except_in_loop c = except_in_loop_means
+
+pub returns-clause-small : goal.returns-clause-small
+returns-clause-small c = small_means
+
+pub returns-clause-all : goal.returns-clause-all
+returns-clause-all c = all_means
+
+pub returns-clause-no_more : goal.returns-clause-no_more
+returns-clause-no_more c = no_more_means

@@ -1,5 +1,5 @@
-use Rattle.typing.proofs.Decisions.{decided, apart, one_fault, one_arity}
+use Rattle.typing.proofs.Decisions.{decided, apart, one_fault, same_arities}
 use Rattle.typing.proofs.laws.law_first_fault.Goals as goal
 
 pub returns : goal.returns
-returns c = record { decided = decided; apart = apart; one_fault = one_fault; one_arity = one_arity }
+returns c = record { decided = decided; apart = apart; one_fault = one_fault; same_arities = same_arities }

@@ -4,7 +4,7 @@ use Rattle.typing.proofs.Decisions.{says_told}
 use Rattle.typing.proofs.program.check.Goals as goal
 
 pub new-requires : goal.new-requires
-new-requires g c = program_told_typed (program_tree c.args.program) c.in-Ok.arity c.in-Ok.ensures.told
+new-requires g c = program_told_typed (program_tree c.args.program) c.in-Ok.arities.items c.in-Ok.ensures.ok
 
 pub returns-in-Err-clause-fault : goal.returns-in-Err-clause-fault
-returns-in-Err-clause-fault g c = says_told (program_tree c.args.program) c.in-Err.refusal c.in-Err.ensures.told
+returns-in-Err-clause-fault g c = says_told (program_tree c.args.program) c.in-Err.refusal c.in-Err.ensures.err

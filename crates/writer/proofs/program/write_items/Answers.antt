@@ -8,11 +8,5 @@ returns-in_err-write_inputs-clause-err g c = refused c.from_residual.result _ c.
 pub returns-in_err-write_lets-clause-err : goal.returns-in_err-write_lets-clause-err
 returns-in_err-write_lets-clause-err g c = refused c.from_residual-in_err-write_lets.result _ (extends_from _ _ _ _ c.in_ok-write_inputs.ensures.ok c.in_err-write_lets.ensures.err)
 
-pub returns-in_err-push-clause-err : goal.returns-in_err-push-clause-err
-returns-in_err-push-clause-err g c = refused c.from_residual-in_err-push.result _ (extends_from _ _ _ _ c.in_ok-write_inputs.ensures.ok (extends_from _ _ _ _ c.in_ok-write_lets.ensures.ok c.in_err-push.ensures.err))
-
-pub returns-in_err-write_rel-clause-err : goal.returns-in_err-write_rel-clause-err
-returns-in_err-write_rel-clause-err g c = refused c.from_residual-in_err-write_rel.result _ (extends_from _ _ _ _ c.in_ok-write_inputs.ensures.ok (extends_from _ _ _ _ c.in_ok-write_lets.ensures.ok (extends_from _ _ _ _ c.in_ok-push.ensures.ok c.in_err-write_rel.ensures.err)))
-
 pub returns-clause-err : goal.returns-clause-err
-returns-clause-err g c = (refused_last c.push-2.result _ _ _ _ c.in_ok-write_inputs.ensures.ok (refused_last c.push-2.result _ _ _ _ c.in_ok-write_lets.ensures.ok (refused_last c.push-2.result _ _ _ _ c.in_ok-push.ensures.ok (refused_last c.push-2.result _ _ _ _ c.in_ok-write_rel.ensures.ok c.push-2.ensures.err))))
+returns-clause-err g c = refused_last c.write_outputs.result _ _ _ _ c.in_ok-write_inputs.ensures.ok (refused_last c.write_outputs.result _ _ _ _ c.in_ok-write_lets.ensures.ok c.write_outputs.ensures.err)

@@ -40,23 +40,23 @@ write_filter-returns-clause-err g t c = (refused_last c.push-3.result _ _ _ _ c.
 pub write_filter-returns-clause-ok : goal.write_filter-returns-clause-ok
 write_filter-returns-clause-ok g t c = on_ok c.push-3.result _ _ c.push-3.ensures.ok (λ e. rw (e, c.in_ok-write_cond.ensures.ok, c.in_ok-push-2.ensures.ok, c.in_ok-write_rel.ensures.ok, c.in_ok-push.ensures.ok) (simp (append_assoc, flat_map-append)))
 
-pub write_concat-returns-in_err-push-clause-err : goal.write_concat-returns-in_err-push-clause-err
-write_concat-returns-in_err-push-clause-err g t c = refused c.from_residual.result _ c.in_err-push.ensures.err
+pub write_set_operation-returns-in_err-write_operator-clause-err : goal.write_set_operation-returns-in_err-write_operator-clause-err
+write_set_operation-returns-in_err-write_operator-clause-err g t c = refused c.from_residual.result _ c.in_err-write_operator.ensures.err
 
-pub write_concat-returns-in_err-write_rel-clause-err : goal.write_concat-returns-in_err-write_rel-clause-err
-write_concat-returns-in_err-write_rel-clause-err g t c = refused c.from_residual-in_err-write_rel.result _ (extends_from _ _ _ _ c.in_ok-push.ensures.ok c.in_err-write_rel.ensures.err)
+pub write_set_operation-returns-in_err-write_rel-clause-err : goal.write_set_operation-returns-in_err-write_rel-clause-err
+write_set_operation-returns-in_err-write_rel-clause-err g t c = refused c.from_residual-in_err-write_rel.result _ (extends_from _ _ _ _ c.in_ok-write_operator.ensures.ok c.in_err-write_rel.ensures.err)
 
-pub write_concat-returns-in_err-push-2-clause-err : goal.write_concat-returns-in_err-push-2-clause-err
-write_concat-returns-in_err-push-2-clause-err g t c = refused c.from_residual-in_err-push-2.result _ (extends_from _ _ _ _ c.in_ok-push.ensures.ok (extends_from _ _ _ _ c.in_ok-write_rel.ensures.ok c.in_err-push-2.ensures.err))
+pub write_set_operation-returns-in_err-push-clause-err : goal.write_set_operation-returns-in_err-push-clause-err
+write_set_operation-returns-in_err-push-clause-err g t c = refused c.from_residual-in_err-push.result _ (extends_from _ _ _ _ c.in_ok-write_operator.ensures.ok (extends_from _ _ _ _ c.in_ok-write_rel.ensures.ok c.in_err-push.ensures.err))
 
-pub write_concat-returns-in_err-write_rel-2-clause-err : goal.write_concat-returns-in_err-write_rel-2-clause-err
-write_concat-returns-in_err-write_rel-2-clause-err g t c = refused c.from_residual-in_err-write_rel-2.result _ (extends_from _ _ _ _ c.in_ok-push.ensures.ok (extends_from _ _ _ _ c.in_ok-write_rel.ensures.ok (extends_from _ _ _ _ c.in_ok-push-2.ensures.ok c.in_err-write_rel-2.ensures.err)))
+pub write_set_operation-returns-in_err-write_rel-2-clause-err : goal.write_set_operation-returns-in_err-write_rel-2-clause-err
+write_set_operation-returns-in_err-write_rel-2-clause-err g t c = refused c.from_residual-in_err-write_rel-2.result _ (extends_from _ _ _ _ c.in_ok-write_operator.ensures.ok (extends_from _ _ _ _ c.in_ok-write_rel.ensures.ok (extends_from _ _ _ _ c.in_ok-push.ensures.ok c.in_err-write_rel-2.ensures.err)))
 
-pub write_concat-returns-clause-err : goal.write_concat-returns-clause-err
-write_concat-returns-clause-err g t c = (refused_last c.push-3.result _ _ _ _ c.in_ok-push.ensures.ok (refused_last c.push-3.result _ _ _ _ c.in_ok-write_rel.ensures.ok (refused_last c.push-3.result _ _ _ _ c.in_ok-push-2.ensures.ok (refused_last c.push-3.result _ _ _ _ c.in_ok-write_rel-2.ensures.ok c.push-3.ensures.err))))
+pub write_set_operation-returns-clause-err : goal.write_set_operation-returns-clause-err
+write_set_operation-returns-clause-err g t c = (refused_last c.push-2.result _ _ _ _ c.in_ok-write_operator.ensures.ok (refused_last c.push-2.result _ _ _ _ c.in_ok-write_rel.ensures.ok (refused_last c.push-2.result _ _ _ _ c.in_ok-push.ensures.ok (refused_last c.push-2.result _ _ _ _ c.in_ok-write_rel-2.ensures.ok c.push-2.ensures.err))))
 
-pub write_concat-returns-clause-ok : goal.write_concat-returns-clause-ok
-write_concat-returns-clause-ok g t c = on_ok c.push-3.result _ _ c.push-3.ensures.ok (λ e. rw (e, c.in_ok-write_rel-2.ensures.ok, c.in_ok-push-2.ensures.ok, c.in_ok-write_rel.ensures.ok, c.in_ok-push.ensures.ok) (simp (append_assoc, flat_map-append)))
+pub write_set_operation-returns-clause-ok : goal.write_set_operation-returns-clause-ok
+write_set_operation-returns-clause-ok g t c = on_ok c.push-2.result _ _ c.push-2.ensures.ok (λ e. rw (e, c.in_ok-write_rel-2.ensures.ok, c.in_ok-push.ensures.ok, c.in_ok-write_rel.ensures.ok, c.in_ok-write_operator.ensures.ok) (simp (append_assoc, flat_map-append)))
 
 pub write_join-returns-in_err-push-clause-err : goal.write_join-returns-in_err-push-clause-err
 write_join-returns-in_err-push-clause-err g t c = refused c.from_residual.result _ c.in_err-push.ensures.err

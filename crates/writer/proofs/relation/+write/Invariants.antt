@@ -12,8 +12,8 @@ decreases-write_select g l = 2 * rel_nodes (rel_tree l.of.now) + 1
 abbrev pub decreases-write_filter : goal.decreases-write_filter
 decreases-write_filter g l = 2 * rel_nodes (rel_tree l.of.now) + 1
 
-abbrev pub decreases-write_concat : goal.decreases-write_concat
-decreases-write_concat g l = 2 * rel_nodes (rel_tree l.left.now) + 2 * rel_nodes (rel_tree l.right.now) + 1
+abbrev pub decreases-write_set_operation : goal.decreases-write_set_operation
+decreases-write_set_operation g l = 2 * rel_nodes (rel_tree l.left.now) + 2 * rel_nodes (rel_tree l.right.now) + 1
 
 abbrev pub decreases-write_join : goal.decreases-write_join
 decreases-write_join g l = 2 * rel_nodes (rel_tree l.left.now) + 2 * rel_nodes (rel_tree l.right.now) + 1

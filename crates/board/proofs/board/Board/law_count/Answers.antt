@@ -1,5 +1,5 @@
 use Rattle.std.proofs.Common.{◌≡◌, ◌<◌, ℕ, subst}
-use Rattle.board.specs.Promises.{CountsPassed, HasPassed}
+use Rattle.board.specs.Promises.{CountsPassed, HasPassed, IsOutputPlace}
 use Rattle.board.specs.Shown.{Shown}
 use Rattle.board.proofs.Counts.{counted, one_count}
 use Rattle.board.proofs.board.Board.law_count.Goals as goal
@@ -11,5 +11,5 @@ returns-clause-one g c =
 
 pub returns-clause-below : goal.returns-clause-below
 returns-clause-below g c =
-    let P : Shown → Type 0 = λ s. (n : ℕ) → CountsPassed s n → (e : ℕ) → e < n → HasPassed s e in
+    let P : Shown → Type 0 = λ s. (n : ℕ) → CountsPassed s n → (e : ℕ) → e < n → (k : ℕ) → IsOutputPlace s k → HasPassed s k e in
     subst P c.self.view_is (counted (g.P.Progress.graph c.self.inside.tracker) (g.P.Progress.content c.self.inside.tracker) c.self.inside.state c.self.invariant.kept)

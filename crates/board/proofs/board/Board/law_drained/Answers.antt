@@ -6,5 +6,5 @@ use Rattle.board.proofs.board.Board.law_drained.Goals as goal
 
 pub returns : goal.returns
 returns g c =
-    let P : Shown → Type 0 = λ z. IsDrained z → (e : ℕ) → HasPassed z e in
+    let P : Shown → Type 0 = λ z. IsDrained z → (k e : ℕ) → HasPassed z k e in
     subst P c.self.view_is (drained (g.P.Progress.graph c.self.inside.tracker) (g.P.Progress.content c.self.inside.tracker) c.self.inside.state c.self.invariant.kept)

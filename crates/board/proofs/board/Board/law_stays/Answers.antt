@@ -8,7 +8,7 @@ use Rattle.board.proofs.board.Board.law_stays.Goals as goal
 
 pub returns-clause-passed : goal.returns-clause-passed
 returns-clause-passed g c =
-    let P : Shown → Type 0 = λ s. (step : Step) (next : Shown) → Goes s step next → (e : ℕ) → HasPassed s e → HasPassed next e in
+    let P : Shown → Type 0 = λ s. (step : Step) (next : Shown) → Goes s step next → (k e : ℕ) → HasPassed s k e → HasPassed next k e in
     subst P c.self.view_is (λ step next goes. has_passed_stays (g.P.Progress.graph c.self.inside.tracker) (g.P.Progress.content c.self.inside.tracker) c.self.inside.state c.self.invariant.kept step next goes)
 
 pub returns-clause-count : goal.returns-clause-count

@@ -15,7 +15,7 @@ use Rattle.events.specs.declared.letter.Letter.{Letter}
 use Rattle.events.specs.declared.work.Output.{Output}
 use Rattle.board.specs.Desks.{Desk, AreAtEdges, AreWithin, sides_of}
 use Rattle.board.specs.Shown.{Shown, Side, side_at, side_in, event_at, location_vertex}
-use Rattle.board.specs.Steps.{with_batch}
+use Rattle.board.specs.Steps.{with_emitted}
 use Rattle.board.proofs.Facts as facts
 use Rattle.board.proofs.Ending.{many_settled, out_there, is_in, event_vertex_is, event_time_is, worker_there, side_there, read_side, own_table, state_then, content_then}
 use Rattle.board.proofs.Rooms.{sides_same, sides_length, as_many}
@@ -100,6 +100,25 @@ finish-requires-clause-table g c =
     let now : sides_of c.prepare.new.workers.items ≡ s.sides = c.prepare.ensures.sides ∙ shown ∙ same in
     own_table s p c.requires.own c.prepare.new.workers.items k c.worker-number.ensures now c.show-stub.result.table
     (ap (λ (t : Ticket Job). t.table) (c.show-stub.ensures.stub ∙ c.into_parts-stub.ensures.stub))
+
+pub emit-requires : goal.emit-requires
+emit-requires g c =
+    let s : Shown = c.args.self.now in
+    let p : Pass = c.args.done in
+    let ds : List Desk = c.self.inside.workers.items in
+    let k : ℕ = c.worker-number.result in
+    let same : sides_of ds ≡ s.sides = ap (λ (x : Shown). x.sides) c.self.view_is in
+    let x : c.index_mut.result.now.side ≡ side_at s p.worker = read_side s p c.requires.own ds k c.worker-number.ensures same c.index_mut.result.now c.index_mut.ensures.value in
+    let out : (side_at s p.worker).place ≡ Out p.job = out_there s p c.index_mut.result.now.side c.into_parts-stub.result.0.job x c.show-stub.ensures.out (ap (λ (t : Ticket Job). t.job) c.into_parts-stub.ensures.stub) in
+    let is : IsOutputOf p.worker p.job c.into_parts-stub.result.1 = c.into_parts-stub.ensures.output in
+    let own = facts.own_side s p c.requires.own in
+    let graph : c.graph.result.now ≡ s.graph = c.graph.ensures ∙ ap (λ (z : Wired). z.graph) c.deref-2.ensures ∙ ap (λ (x : Shown). x.graph) c.self.view_is in
+    let place : location_of c.location.result ≡ (event_pointstamp p.job.happening).location = c.location.ensures ∙ ap (λ (x : Pointstamp). x.location) is.place in
+    let vertex : c.vertex_at-vertex.result ≡ event_at (shown_graph s.graph) p.job.happening =
+    c.vertex_at-vertex.ensures ∙ (λ i. location_vertex (shown_graph (graph i)) (place i)) ∙ event_vertex_is (shown_graph s.graph) p.job.happening in
+    let there = (facts.own (g.P.Progress.graph c.args.tracker.now) (g.P.Progress.content c.args.tracker.now) s c.requires.kept p.worker own.0 p.job out).vertex in
+    let room : length c.self.inside.emitted ≡ length (shown_graph s.graph) = ap (λ (x : Shown). length x.emitted) c.self.view_is ∙ c.requires.kept.room in
+    omega (arith, there, vertex, room)
 
 pub finish-requires-clause-vertex : goal.finish-requires-clause-vertex
 finish-requires-clause-vertex g c =
@@ -254,7 +273,7 @@ returns-in-Ok-clause-settles g c =
       is = is;
       state = state_then s t p o c.in-Ok.output k c.vertex_at-vertex.result c.epoch-epoch.result (sides_of c.prepare.new.workers.items)
           (ap (λ (x : Shown). x.graph) c.self.view_is) (ap (λ (x : Shown). x.inputs) c.self.view_is) (ap (λ (x : Shown). x.stopped) c.self.view_is)
-          c.finish.ensures.sides (c.in-Ok.ensures.ok ∙ ap (λ (x : Shown). with_batch c.epoch-epoch.result o.emitted x.emitted) c.self.view_is) now c.worker-number.ensures vertex epoch rest;
+          c.finish.ensures.sides (c.in-Ok.ensures.ok ∙ ap (λ (x : Shown). with_emitted c.vertex_at-vertex.result c.epoch-epoch.result o.emitted x.emitted) c.self.view_is) now c.worker-number.ensures vertex epoch rest;
       content = content_then (g.P.Progress.content c.args.tracker.now) (g.P.Progress.content c.prepare.new.tracker) (g.P.Progress.content c.finish.new.tracker) o c.in-Ok.output (event_pointstamp p.job.happening) c.prepare.ensures.content rest is.place c.finish.ensures.content;
     }
 

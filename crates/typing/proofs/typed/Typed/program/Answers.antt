@@ -3,4 +3,4 @@ use Rattle.typing.proofs.Decisions.{well_typed}
 use Rattle.typing.proofs.typed.Typed.program.Goals as goal
 
 pub returns-clause-typed : goal.returns-clause-typed
-returns-clause-typed g c = well_typed (program_tree c.args.self.now.program) c.args.self.now.arity c.args.self.now.typed
+returns-clause-typed g c = well_typed (program_tree c.args.self.now.program) c.args.self.now.arities.items c.args.self.now.typed

@@ -36,3 +36,9 @@ returns-in-Gate-clause-sends c = λ a h. subst (λ (s : Shard). SendsFor (shard_
 
 pub returns-in_ok-hold-in-Hold-clause-sends : goal.returns-in_ok-hold-in-Hold-clause-sends
 returns-in_ok-hold-in-Hold-clause-sends c = λ a h. subst (λ (s : Shard). SendsFor (shard_kind s) c.args.time.now a 0 c.args.batch c.hold.new.out) (sym c.in-Hold.is) (c.in_ok-hold-in-Hold.ensures.sends a)
+
+pub returns-in_ok-except-in-Except-clause-sends : goal.returns-in_ok-except-in-Except-clause-sends
+returns-in_ok-except-in-Except-clause-sends c = λ a h. subst (λ (s : Shard). SendsFor (shard_kind s) c.args.time.now a 0 c.args.batch c.except.new.out) (sym c.in-Except.is) (c.in_ok-except-in-Except.ensures.sends a)
+
+pub returns-in_ok-intersect-in-Intersect-clause-sends : goal.returns-in_ok-intersect-in-Intersect-clause-sends
+returns-in_ok-intersect-in-Intersect-clause-sends c = λ a h. subst (λ (s : Shard). SendsFor (shard_kind s) c.args.time.now a 0 c.args.batch c.intersect.new.out) (sym c.in-Intersect.is) (c.in_ok-intersect-in-Intersect.ensures.sends a (subst (λ (s : Shard). Shows s a) c.in-Intersect.is h))

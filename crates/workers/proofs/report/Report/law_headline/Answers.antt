@@ -1,8 +1,8 @@
 use Rattle.std.proofs.Common.{ℕ, subst}
 use Rattle.semantics.specs.Query.{Program}
-use Rattle.board.specs.Promises.{Headline, RunsProgram}
+use Rattle.board.specs.Promises.{KeepsPromise, RunsProgram}
 use Rattle.board.specs.Shown.{Shown}
 use Rattle.workers.proofs.report.Report.law_headline.Goals as goal
 
 pub returns : goal.returns
-returns g c = let P : Shown → Type 0 = λ s. (p : Program) → RunsProgram p s → (e : ℕ) → Headline p s e in subst P c.self.view_is c.law_headline.ensures
+returns g c = let P : Shown → Type 0 = λ s. (p : Program) → RunsProgram p s → KeepsPromise p s in subst P c.self.view_is c.law_headline.ensures

@@ -1,0 +1,7 @@
+use Rattle.std.proofs.Common.{map}
+use Rattle.collector.specs.Piles.{joined}
+use Rattle.execution.specs.Fed.{HasEpochs}
+use Rattle.execution.proofs.outputs.emitted_at_output.Given as goal
+
+abbrev pub invariant-loop-epoch : goal.invariant-loop-epoch
+invariant-loop-epoch l = HasEpochs l.report l.output l.epoch (map (λ r. joined r.now) l.lists.items)

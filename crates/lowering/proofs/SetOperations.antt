@@ -1,0 +1,29 @@
+-- The three set operations, as one form.
+use Rattle.std.proofs.Common.{◌≡◌, ℕ, ◌+◌, ◌++◌, length, refl}
+use Rattle.expr_tree.specs.declared.relation.SetOperator.{SetOperator}
+use Rattle.expr_tree.specs.declared.relation.SetOperator.TheVariants as operation
+use Rattle.expr_tree.specs.Plain.{plain_set_operation}
+use Rattle.semantics.specs.FreeNames.{free}
+use Rattle.semantics.specs.Lower.{Ports, lower, then_two}
+use Rattle.semantics.specs.Query.{Rel}
+use Rattle.semantics.proofs.FittingPrograms.{Nested}
+use Rattle.lowering.specs.Views.{operator_kind}
+
+-- the names that occur free in both parts
+pub set_free : (o : SetOperator) (p q : Rel) → free (plain_set_operation o p q) ≡ free p ++ free q
+set_free operation.Concat p q = refl
+set_free operation.Except p q = refl
+set_free operation.Intersect p q = refl
+
+-- the loops of both parts
+pub set_nested : (d : ℕ) (o : SetOperator) (p q : Rel) → Nested d (plain_set_operation o p q) → Nested d p × Nested d q
+set_nested d operation.Concat p q n = n
+set_nested d operation.Except p q n = n
+set_nested d operation.Intersect p q n = n
+
+-- the vertices of both parts, and one of the operator's kind
+pub set_lowered : (o : SetOperator) (p q : Rel) (ports : Ports) (d k : ℕ) → lower (plain_set_operation o p q) ports d k ≡ then_two k (lower p ports d k) (lower q ports d (k + length (lower p ports d k).made)) (operator_kind o) d
+unfolding lower
+set_lowered operation.Concat p q ports d k = refl
+set_lowered operation.Except p q ports d k = refl
+set_lowered operation.Intersect p q ports d k = refl
