@@ -1,6 +1,6 @@
 //! Shards fed with batches of 1,024 records of two fields, at one time.
 
-ghost use Rattle.std.specs.Prelude.{◌≡◌, ◌<◌, ℕ, IfOk, IfSome, OnOk};
+ghost use Rattle.std.specs.Prelude.{◌≡◌, ◌<◌, ◌≤◌, ℕ, IfOk, IfSome, OnOk};
 ghost use Rattle.lowering.specs.Views.{kind_of};
 ghost use Rattle.rows.specs.FlatRows.{arity_of};
 ghost use Rattle.semantics.specs.Kinds.{Role, in_ports, role};
@@ -96,56 +96,82 @@ fn absorb(alloc: Global, shard: &mut Shard, port: u32, batch: Batch) -> Result<u
     Ok(sent(&mut out))
 }
 
-/// How many records a join sends by its first columns.
-pub fn join(alloc: Global, records: u64) -> Result<usize, ShardFault> {
+/// Gives a shard so many records at each of its ports. How many a distinct or a join sends for them.
+fn absorb_all(
+    alloc: Global,
+    shard: &mut Shard,
+    ports: u32,
+    records: u64,
+    keys: u64,
+    values: u64,
+) -> Result<usize, ShardFault>
+    requires keys { 0 < keys }
+    requires values { 0 < values }
+    requires ports { ports ≤ in_ports (shard_kind shard.old) }
+    requires work { IsAtWork (role (shard_kind shard.old)) (in_ports (shard_kind shard.old)) 2 shard.old }
+    ensures { OnOk result (IsAtWork (role (shard_kind shard.old)) (in_ports (shard_kind shard.old)) 2 shard.new) }
+{
+    let mut sent = 0usize;
+    for number in 0..records.div_ceil(BATCH) {
+        for port in 0..ports {
+            let Some(batch) = batch(alloc, number, records, keys, values)? else {
+                return Ok(sent);
+            };
+            sent = sent.saturating_add(absorb(alloc, shard, port, batch)?);
+        }
+    }
+    Ok(sent)
+}
+
+/// A join by the first columns.
+fn join_shard(alloc: Global) -> Result<Shard, ShardFault>
+    ensures { IfOk result (IsAtWork Role.stateful 2 2) }
+{
     let pairs = vec![in alloc;
         Pair {
             left: FIRST,
             right: FIRST
         },
     ]?;
-    let mut shard = shard_of(alloc, Kind::Join(pairs))?;
-    let keys = (records / 2).max(1);
-    let mut pairs = 0usize;
-    for number in 0..records.div_ceil(BATCH) {
-        for port in 0..2 {
-            let Some(batch) = batch(alloc, number, records, keys, u64::MAX)? else {
-                return Ok(pairs);
-            };
-            pairs = pairs.saturating_add(absorb(alloc, &mut shard, port, batch)?);
-        }
-    }
-    Ok(pairs)
+    shard_of(alloc, Kind::Join(pairs))
+}
+
+/// How many records a join sends by its first columns.
+pub fn join(alloc: Global, records: u64) -> Result<usize, ShardFault> {
+    let mut shard = join_shard(alloc)?;
+    absorb_all(
+        alloc,
+        &mut shard,
+        2,
+        records,
+        (records / 2).max(1),
+        u64::MAX,
+    )
 }
 
 /// How many different records a distinct sends.
 pub fn distinct(alloc: Global, records: u64) -> Result<usize, ShardFault> {
     let mut shard = shard_of(alloc, Kind::Distinct)?;
-    let mut different = 0usize;
-    for number in 0..records.div_ceil(BATCH) {
-        let Some(batch) = batch(alloc, number, records, 4000, 4000)? else {
-            return Ok(different);
-        };
-        different = different.saturating_add(absorb(alloc, &mut shard, 0, batch)?);
-    }
-    Ok(different)
+    absorb_all(alloc, &mut shard, 1, records, 4000, 4000)
 }
 
-/// How many groups there are.
-pub fn group(alloc: Global, records: u64) -> Result<usize, ShardFault> {
+/// A group by the first column: the count, sum, least and greatest of the second.
+fn group_shard(alloc: Global) -> Result<Shard, ShardFault>
+    ensures { IfOk result (IsAtWork Role.notified 1 2) }
+{
     let columns = vec![in alloc; FIRST]?;
     let mut aggregates = Vec::with_capacity(alloc, 4)?;
     aggregates.push(Agg::Count(NOWHERE))?;
     aggregates.push(Agg::Sum(NOWHERE, SECOND))?;
     aggregates.push(Agg::Min(NOWHERE, SECOND))?;
     aggregates.push(Agg::Max(NOWHERE, SECOND))?;
-    let mut shard = shard_of(alloc, Kind::Group(columns, aggregates))?;
-    for number in 0..records.div_ceil(BATCH) {
-        let Some(batch) = batch(alloc, number, records, 12_500, u64::MAX)? else {
-            return Ok(0);
-        };
-        absorb(alloc, &mut shard, 0, batch)?;
-    }
+    shard_of(alloc, Kind::Group(columns, aggregates))
+}
+
+/// How many groups there are.
+pub fn group(alloc: Global, records: u64) -> Result<usize, ShardFault> {
+    let mut shard = group_shard(alloc)?;
+    absorb_all(alloc, &mut shard, 1, records, 12_500, u64::MAX)?;
     let mut out = Out::new();
     shard.on_notify(alloc, &Time::at_epoch(0), &mut out)?;
     Ok(sent(&mut out))
