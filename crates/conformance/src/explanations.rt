@@ -1,7 +1,8 @@
 //! The examples of the table of refusals, and what is told of faults that no short text brings.
 
 use collector::Watched;
-use console::{Fault, Texts, Workers, check_query, explain_fault, explained, replay_schedule, run};
+use console::{Fault, Texts, Workers, check_query, replay_schedule, run};
+use diagnostics::{explain_fault, explained};
 use refusals::{Explanation, OF_LINES, OF_QUERIES, OF_STEPS, explanation_of};
 use std::sync::Wait;
 use std::test::Fail;

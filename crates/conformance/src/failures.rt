@@ -1,7 +1,7 @@
 //! Fault lines, and runs whose readers and writers fail.
 
 use collector::Watched;
-use console::{Fault, Texts, Workers, run};
+use console::{Fault, Sources, Texts, Workers, answer, run};
 use std::io;
 use std::io::{ErrorKind, Read, Write};
 use std::test::Fail;
@@ -95,6 +95,65 @@ impl Write for Full {
     fn flush(&mut self) -> io::Result<()> {
         Ok(())
     }
+}
+
+/// The query `q` and the input `i`, whose readers fail after so many reads.
+#[derive(Clone, Copy)]
+struct Shelf {
+    left: usize,
+}
+
+impl<'a> Sources<'a> for Shelf {
+    type Reader = Slow<'a>;
+
+    fn open(&self, name: &'a str) -> Slow<'a> {
+        let text = match name.as_bytes() {
+            b"q" => b"input a/1; output a;".as_slice(),
+            _ => b"epoch\na 1\n".as_slice(),
+        };
+        Slow {
+            text,
+            left: self.left,
+        }
+    }
+}
+
+/// A line ends with its fault's status, also where the fault can't be told.
+#[test]
+fn lines_that_fail(rt: HostRuntime) -> Result<(), Fail> {
+    let words = ["loom", "run", "q", "i"];
+    let rows = [
+        (8, 10, 0, ""),
+        (7, 10, 6, "cannot read q\n"),
+        (8, 9, 6, "cannot write\n"),
+    ];
+    for (left, room, status, text) in rows {
+        for (space, said) in [(99, text), (0, "")] {
+            let mut out = Watched::new(Full {
+                room,
+                fails: true,
+                written: Vec::new(rt.alloc()),
+            });
+            let mut err = Full {
+                room: space,
+                fails: true,
+                written: Vec::new(rt.alloc()),
+            };
+            let shelf = Shelf { left };
+            let ended = answer(
+                &rt,
+                rt.alloc(),
+                &shelf,
+                words.as_slice(),
+                &mut out,
+                &mut err,
+                &mut None::<Vec<u8>>,
+            );
+            assert_eq!(rt; ended, status);
+            assert_eq!(rt; err.written.as_slice(), said.as_bytes());
+        }
+    }
+    Ok(())
 }
 
 #[test]

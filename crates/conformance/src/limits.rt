@@ -1,7 +1,8 @@
 //! Queries at the limits of size, which are too long for a page.
 
 use collector::Watched;
-use console::{Fault, GraphForm, Texts, Workers, check_query, explain_fault, graph_query, run};
+use console::{Fault, GraphForm, Texts, Workers, check_query, graph_query, run};
+use diagnostics::explain_fault;
 use std::test::Fail;
 
 /// What `graph_query` answers: the graph's text, or the fault's line.

@@ -1,13 +1,13 @@
 -- A command heeds its query.
-use Rattle.std.proofs.Common.{◌≡◌, ◌≤◌, ℕ, List, Option, Result, Ok, Err}
+use Rattle.std.proofs.Common.{ℕ, List, Option, Result, Ok, Err}
 use Rattle.semantics.specs.Multiset.{Record}
 use Rattle.semantics.specs.Query.{Program}
 use Rattle.console.specs.Answers.{Responds}
-use Rattle.console.specs.Compiled.{IsQueryFault, IsTaken}
+use Rattle.console.specs.Compiled.{IsTaken}
 use Rattle.console.specs.Heeded.{Heeds}
 use Rattle.console.specs.Replayed.{ReplayEnds}
-use Rattle.console.specs.declared.fault.Fault.{Fault}
-use Rattle.console.specs.declared.fault.Fault.TheVariants.{Query, TooManyVertices, Input as InputFault, Schedule, NoMemory, NoWorker, Incomplete, ReadQuery, ReadInput, Write}
+use Rattle.diagnostics.specs.declared.fault.Fault.{Fault}
+use Rattle.diagnostics.specs.declared.fault.Fault.TheVariants.{Query, TooManyVertices, Input as InputFault, Schedule, NoMemory, NoWorker, Incomplete, ReadQuery, ReadInput, Write}
 
 pub responds_heeds : (query : List ℕ) (p : Program) (count : ℕ) (records : ℕ → ℕ → List Record) (old new : Option (List ℕ)) (result : Result (Unit {0}) Fault) → IsTaken query → Responds p count records old new result → Heeds query old new result
 responds_heeds query p count records old new (Ok u) t r = t

@@ -8,3 +8,4 @@ pub mod Rewritten
 pub mod OneGraph
 pub mod Heeding
 pub mod OneAnswer
+pub mod Commanding

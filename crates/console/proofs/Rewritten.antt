@@ -1,5 +1,5 @@
 -- What is lowered stands for what was read.
-use Rattle.std.proofs.Common.{◌≡◌, ◌<◌, ℕ, List, length, map, refl, sym, ap, subst, ◌∙◌, arith}
+use Rattle.std.proofs.Common.{◌≡◌, ◌<◌, ℕ, List, length, refl, sym, ap, subst, ◌∙◌, arith}
 use Rattle.std.proofs.lemmas.List.{length-map}
 use Rattle.expr_tree.specs.Plain.{plain_program}
 use Rattle.expr_tree.specs.Trees.{ProgramTree}

@@ -10,8 +10,8 @@ use Rattle.console.specs.Answers.{Responds}
 use Rattle.console.specs.Compiled.{IsCompiled}
 use Rattle.console.specs.Faults.{run_fault_of}
 use Rattle.console.specs.Runs.{Ends, IsAfterReading}
-use Rattle.console.specs.declared.fault.Fault.{Fault}
-use Rattle.console.specs.declared.fault.Fault.TheVariants.{Query, TooManyVertices, Input as InputFault, Schedule, NoMemory, NoWorker, Incomplete, ReadQuery, ReadInput, Write}
+use Rattle.diagnostics.specs.declared.fault.Fault.{Fault}
+use Rattle.diagnostics.specs.declared.fault.Fault.TheVariants.{Query, TooManyVertices, Input as InputFault, Schedule, NoMemory, NoWorker, Incomplete, ReadQuery, ReadInput, Write}
 
 pub run_ends : (query input : List ℕ) (g : Graph) (inputs : List Input) (names : List Name) (count : ℕ) (records : ℕ → ℕ → List Record) (old new : Option (List ℕ)) (result : Result (Unit {0}) Fault) → (c : IsCompiled query g inputs names)
     → IsInputText inputs input count records → Responds c.program count records old new result → Ends query input old new result

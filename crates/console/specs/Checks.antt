@@ -3,7 +3,7 @@ use Rattle.std.specs.Prelude.{◌≡◌, ℕ, List, [], ◌∷◌, ◌++◌, if�
 use Rattle.std.specs.List.{flat_map}
 use Rattle.std.specs.Str.{bytes_eq}
 use Rattle.std.specs.Io.KnownBytes.{Appends}
-use Rattle.semantics.specs.Query.{Input, Output, Program}
+use Rattle.semantics.specs.Query.{Input, Output}
 use Rattle.semantics.specs.Typing.{WellTyped}
 use Rattle.expr_tree.specs.Trees.{ProgramTree}
 use Rattle.expr_tree.specs.Plain.{plain_program}
@@ -11,8 +11,8 @@ use Rattle.grammar.specs.Texts as grammar
 use Rattle.collector.specs.Written.{AppendsFront}
 use Rattle.record_core.specs.declared.span.Refusal.TheVariants.{At}
 use Rattle.console.specs.Queries.{IsRefusal}
-use Rattle.console.specs.declared.fault.Fault.{Fault}
-use Rattle.console.specs.declared.fault.Fault.TheVariants.{Query, TooManyVertices, Input as InputFault, Schedule, NoMemory, NoWorker, Incomplete, ReadQuery, ReadInput, Write}
+use Rattle.diagnostics.specs.declared.fault.Fault.{Fault}
+use Rattle.diagnostics.specs.declared.fault.Fault.TheVariants.{Query, TooManyVertices, Input as InputFault, Schedule, NoMemory, NoWorker, Incomplete, ReadQuery, ReadInput, Write}
 
 -- `input NAME/ARITY`
 abbrev pub input_line : Input → List ℕ

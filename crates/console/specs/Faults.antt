@@ -1,5 +1,4 @@
--- The statuses of faults, and the faults of refusals.
-use Rattle.std.specs.Prelude.{ℕ}
+-- The faults of what the layers below refuse.
 use Rattle.record_core.specs.declared.span.Refusal as query_refusal
 use Rattle.record_core.specs.declared.span.Refusal.TheVariants as query
 use Rattle.collector.specs.declared.refusal.InputRefusal as input_refusal
@@ -8,33 +7,10 @@ use Rattle.schedule.specs.declared.refusal.ScheduleRefusal as schedule_refusal
 use Rattle.schedule.specs.declared.refusal.ScheduleRefusal.TheVariants as schedule
 use Rattle.execution.specs.declared.unfinished.Unfinished.{Unfinished}
 use Rattle.execution.specs.declared.unfinished.Unfinished.TheVariants as run
-use Rattle.console.specs.declared.choice.LineFault.{LineFault}
-use Rattle.console.specs.declared.choice.LineFault.TheVariants as line
 use Rattle.console.specs.declared.fault.CompileFault.{CompileFault}
 use Rattle.console.specs.declared.fault.CompileFault.TheVariants as compile
-use Rattle.console.specs.declared.fault.Fault.{Fault}
-use Rattle.console.specs.declared.fault.Fault.TheVariants.{Query, TooManyVertices, Input, Schedule, NoMemory, NoWorker, Incomplete, ReadQuery, ReadInput, Write}
-
--- 3 of the query, 4 of the input or the schedule, 5 of memory and threads, 6 of files
-abbrev pub status_of : Fault → ℕ
-status_of (Query code start end) = 3
-status_of TooManyVertices = 3
-status_of (Input code line) = 4
-status_of (Schedule code line) = 4
-status_of NoMemory = 5
-status_of NoWorker = 5
-status_of Incomplete = 5
-status_of ReadQuery = 6
-status_of ReadInput = 6
-status_of Write = 6
-
--- 2 of a command line, 5 where there was no memory to read it
-abbrev pub line_status_of : LineFault → ℕ
-line_status_of line.NoMemory = 5
-line_status_of (line.Workers word) = 2
-line_status_of line.NoText = 2
-line_status_of line.NoCommand = 2
-line_status_of (line.Line error) = 2
+use Rattle.diagnostics.specs.declared.fault.Fault.{Fault}
+use Rattle.diagnostics.specs.declared.fault.Fault.TheVariants.{Query, TooManyVertices, Input, Schedule, NoMemory, NoWorker, Incomplete}
 
 -- of a refused query
 abbrev pub fault_of : query_refusal.Refusal → Fault

@@ -6,10 +6,10 @@ use Rattle.semantics.specs.Graph.{Graph}
 use Rattle.lowering.specs.Text.{graph_text}
 use Rattle.collector.specs.Written.{AppendsFront}
 use Rattle.console.specs.Compiled.{IsCompiled, IsQueryFault}
-use Rattle.console.specs.declared.choice.GraphForm.{GraphForm}
-use Rattle.console.specs.declared.choice.GraphForm.TheVariants.{Lines, Dot}
-use Rattle.console.specs.declared.fault.Fault.{Fault}
-use Rattle.console.specs.declared.fault.Fault.TheVariants.{Query, TooManyVertices, Input, Schedule, NoMemory, NoWorker, Incomplete, ReadQuery, ReadInput, Write}
+use Rattle.command_line.specs.declared.line_options.GraphForm.{GraphForm}
+use Rattle.command_line.specs.declared.line_options.GraphForm.TheVariants.{Lines, Dot}
+use Rattle.diagnostics.specs.declared.fault.Fault.{Fault}
+use Rattle.diagnostics.specs.declared.fault.Fault.TheVariants.{Query, TooManyVertices, Input, Schedule, NoMemory, NoWorker, Incomplete, ReadQuery, ReadInput, Write}
 
 -- the text is that of a graph in this form; what Graphviz draws is left open
 abbrev pub IsTextIn : GraphForm → (outputs : List Name) → Graph → List ℕ → Type 0

@@ -1,6 +1,4 @@
 pub mod Faults
-pub mod Numbers
-pub mod Line
 pub mod Answers
 pub mod Queries
 pub mod Compiled
@@ -9,4 +7,4 @@ pub mod Graphs
 pub mod Runs
 pub mod Checks
 pub mod Replayed
-pub mod Explained
+pub mod Commands

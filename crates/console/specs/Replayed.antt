@@ -10,8 +10,8 @@ use Rattle.schedule.specs.ScheduleText.{IsRefused, IsScheduleText}
 use Rattle.schedule.specs.declared.refusal.ScheduleRefusal.TheVariants.{At}
 use Rattle.replay.specs.Replays.{Replays}
 use Rattle.console.specs.Compiled.{IsCompiled, IsQueryFault, IsTaken}
-use Rattle.console.specs.declared.fault.Fault.{Fault}
-use Rattle.console.specs.declared.fault.Fault.TheVariants.{Query, TooManyVertices, Input, Schedule, NoMemory, NoWorker, Incomplete, ReadQuery, ReadInput, Write}
+use Rattle.diagnostics.specs.declared.fault.Fault.{Fault}
+use Rattle.diagnostics.specs.declared.fault.Fault.TheVariants.{Query, TooManyVertices, Input, Schedule, NoMemory, NoWorker, Incomplete, ReadQuery, ReadInput, Write}
 
 -- over the graph of the query, so many workers lead the schedule's commands from the opening world on, and the text is what they print
 pub record IsReplay (query : List ℕ) (workers : ℕ) (schedule text : List ℕ) : Type 0 where

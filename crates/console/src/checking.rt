@@ -7,13 +7,13 @@ ghost use Rattle.expr_tree.specs.Views.{output_tree, program_tree};
 ghost use Rattle.collector.specs.Watching.{has_failed, inner_of};
 ghost use Rattle.console.specs.Checks.{CheckEnds, IsCheckFault, IsChecked, arities_text, input_line, output_line, output_lines};
 ghost use Rattle.console.specs.Runs.{IsAfterReading, IsUnreadQuery};
-ghost use Rattle.console.specs.declared.fault.Fault.TheVariants as fault;
+ghost use Rattle.diagnostics.specs.declared.fault.Fault.TheVariants as fault;
 
 use crate::compiling::typed_program;
-use crate::fault::{Fault, query_fault};
+use crate::fault::query_fault;
 use crate::running::read_query;
-use crate::texts::Texts;
 use collector::{Watched, put};
+use diagnostics::{Fault, Texts};
 use expr_tree::{Input, Output, Program};
 use itoa::Buffer;
 use std::alloc::{AllocError, Allocator, Global};

@@ -5,14 +5,14 @@ ghost use Rattle.collector.specs.Watching.{has_failed, inner_of};
 ghost use Rattle.console.specs.Compiled.{IsQueryFault};
 ghost use Rattle.console.specs.Graphs.{GraphEnds, ShowsGraph};
 ghost use Rattle.console.specs.Runs.{IsAfterReading, IsUnreadQuery};
-ghost use Rattle.console.specs.declared.fault.Fault.TheVariants as fault;
+ghost use Rattle.diagnostics.specs.declared.fault.Fault.TheVariants as fault;
 
-use crate::choice::GraphForm;
 use crate::compiling::compile;
-use crate::fault::{Fault, graph_fault};
+use crate::fault::graph_fault;
 use crate::running::read_query;
-use crate::texts::Texts;
 use collector::{Watched, put};
+use command_line::GraphForm;
+use diagnostics::{Fault, Texts};
 use lowering::{graph_dot, graph_text};
 use std::alloc::{Allocator, Global};
 use std::io::{Read, Write};

@@ -2,16 +2,17 @@
 
 ghost use Rattle.std.specs.Prelude.{◌≡◌, ◌⊎◌, true, take, IfErr, IfOk, IfSome, IsErrOf};
 ghost use Rattle.collector.specs.Watching.{has_failed, inner_of};
+ghost use Rattle.command_line.specs.Counts.{count_of};
 ghost use Rattle.console.specs.Heeded.{Heeds};
 ghost use Rattle.console.specs.Replayed.{IsReplay, IsReplayFault, ReplayEnds};
 ghost use Rattle.console.specs.Runs.{IsAfterReading, IsUnreadInput, IsUnreadQuery};
-ghost use Rattle.console.specs.declared.fault.Fault.TheVariants as fault;
+ghost use Rattle.diagnostics.specs.declared.fault.Fault.TheVariants as fault;
 
-use crate::fault::{Fault, schedule_fault};
+use crate::fault::schedule_fault;
 use crate::running::{graph_of_text, read_input_text, read_query};
-use crate::texts::Texts;
-use crate::worker_count::Workers;
 use collector::{Watched, put};
+use command_line::Workers;
+use diagnostics::{Fault, Texts};
 use replay::replay_text;
 use std::alloc::Global;
 use std::io::{Read, Write};
@@ -23,7 +24,7 @@ fn replayed(
     query: &[u8],
     schedule: &[u8],
 ) -> Result<Vec<u8>, Fault>
-    ensures text { IfOk result (λ t. IsReplay query.now workers.count schedule.now t.items) }
+    ensures text { IfOk result (λ t. IsReplay query.now (count_of workers) schedule.now t.items) }
     ensures fault { IfErr result (IsReplayFault query.now schedule.now) }
 {
     let graph = match graph_of_text(alloc, query) {
@@ -44,7 +45,7 @@ fn write_replayed<W: Write>(
     schedule: &[u8],
     writer: &mut Watched<W>,
 ) -> Result<(), Fault>
-    ensures ends { ReplayEnds query.now workers.count schedule.now (W.contents (inner_of writer.old)) (W.contents (inner_of writer.new)) result }
+    ensures ends { ReplayEnds query.now (count_of workers) schedule.now (W.contents (inner_of writer.old)) (W.contents (inner_of writer.new)) result }
     ensures writer { IsErrOf result fault.Write → has_failed writer.new ≡ true }
     ensures read { IfErr result IsAfterReading }
 {
@@ -72,7 +73,7 @@ pub fn replay_schedule<Q: Read, S: Read, W: Write>(
     texts: &mut Texts,
     writer: &mut Watched<W>,
 ) -> Result<(), Fault>
-    ensures ends { IfSome (Q.remaining (inner_of query.old)) (λ q. IfSome (S.remaining (inner_of schedule.old)) (λ s. ReplayEnds (take 1048577 q) workers.count s (W.contents (inner_of writer.old)) (W.contents (inner_of writer.new)) result)) }
+    ensures ends { IfSome (Q.remaining (inner_of query.old)) (λ q. IfSome (S.remaining (inner_of schedule.old)) (λ s. ReplayEnds (take 1048577 q) (count_of workers) s (W.contents (inner_of writer.old)) (W.contents (inner_of writer.new)) result)) }
     ensures heeds { IfSome (Q.remaining (inner_of query.old)) (λ q. Heeds (take 1048577 q) (W.contents (inner_of writer.old)) (W.contents (inner_of writer.new)) result) }
     ensures query { IsErrOf result fault.ReadQuery → has_failed query.new ≡ true }
     ensures schedule { IsErrOf result fault.ReadInput → has_failed schedule.new ≡ true }

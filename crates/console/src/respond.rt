@@ -7,11 +7,12 @@ ghost use Rattle.collector.specs.Watching.{has_failed, inner_of};
 ghost use Rattle.console.specs.Answers.{Responds};
 ghost use Rattle.console.specs.Compiled.{IsCompiled};
 ghost use Rattle.execution.specs.Fed.{IsWorkedOff};
-ghost use Rattle.console.specs.declared.fault.Fault.TheVariants as fault;
+ghost use Rattle.diagnostics.specs.declared.fault.Fault.TheVariants as fault;
 
-use crate::fault::{Fault, run_fault};
-use crate::worker_count::Workers;
+use crate::fault::run_fault;
 use collector::{Epochs, OutFault, Watched, write_epochs};
+use command_line::Workers;
+use diagnostics::Fault;
 use execution::{emitted, execute};
 use lowering::Graph;
 use progress::LocationTracker;

@@ -10,17 +10,17 @@ ghost use Rattle.collector.specs.Watching.{has_failed, inner_of};
 ghost use Rattle.console.specs.Compiled.{IsCompiled, IsQueryFault};
 ghost use Rattle.console.specs.Heeded.{Heeds};
 ghost use Rattle.console.specs.Runs.{Ends, IsAfterReading, IsUnreadInput, IsUnreadQuery};
-ghost use Rattle.console.specs.declared.fault.Fault.TheVariants as fault;
+ghost use Rattle.diagnostics.specs.declared.fault.Fault.TheVariants as fault;
 
 use crate::compiling::compile;
-use crate::fault::{Fault, graph_fault, input_fault};
+use crate::fault::{graph_fault, input_fault};
 use crate::respond::respond;
-use crate::texts::Texts;
-use crate::worker_count::Workers;
 use bumpalo::Bump;
 use collector::{
     Declared, Epochs, InputRefusal, ReadFault, Watched, read_all, read_at_most, read_input,
 };
+use command_line::Workers;
+use diagnostics::{Fault, Texts};
 use lowering::{DeclaredInput, Graph};
 use std::alloc::{AllocError, Global};
 use std::io::{Read, Write};

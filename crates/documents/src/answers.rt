@@ -1,222 +1,99 @@
-//! What `./loom` prints, by the calls that the program `loom` makes.
+//! What `./loom` prints, by the call that the program `loom` makes.
 
-use bumpalo::Bump;
 use collector::Watched;
-use console::{
-    Fault, GraphForm, LineFault, Options, Texts, Workers, check_query, explain_fault, explained,
-    graph_query, options, replay_schedule, run, write_explanation,
-};
-use refusals::NUMBERS;
-use std::io::{ErrorKind, Write};
+use console::{Disk, LateFile, Sources, answer};
+use std::io;
+use std::io::Read;
 use std::sync::Wait;
 use std::thread::Threads;
-use std::{fs, io};
 
 /// How often a run is repeated with each other number of workers.
 const TIMES: usize = 20;
 
-/// What is printed, kept.
-type Printed = Watched<Vec<u8>>;
+/// The status of a line that is refused.
+const REFUSED: u8 = 2;
 
-/// The bytes of a file, or those that are piped where it is `/dev/stdin`.
-fn read(rt: &HostRuntime, piped: Option<&[u8]>, path: &str) -> io::Result<Vec<u8>> {
-    match piped {
-        Some(text) if path == "/dev/stdin" => Ok(text.to_vec(rt.alloc())?),
-        _ => fs::read(rt, path),
+/// The texts that a line of a page names: files, and as `/dev/stdin` what is piped to it.
+#[derive(Clone, Copy)]
+struct Page<'a> {
+    disk: Disk<'a>,
+    piped: Option<&'a [u8]>,
+}
+
+/// A text that a line of a page names.
+#[derive(Drop)]
+enum PageText<'a> {
+    Piped(&'a [u8]),
+    File(LateFile<'a>),
+}
+
+impl Read for PageText<'_> {
+    fn read(&mut self, buf: &mut [u8]) -> io::Result<usize> {
+        match self {
+            PageText::Piped(bytes) => bytes.read(buf),
+            PageText::File(file) => file.read(buf),
+        }
     }
 }
 
-fn run_files(
-    rt: &HostRuntime,
-    threads: &(impl Threads + Wait + Sync),
-    piped: Option<&[u8]>,
-    workers: Workers,
-    query: &str,
-    input: &str,
-    texts: &mut Texts,
-    writer: &mut Printed,
-    observer: &mut Option<Vec<u8>>,
-) -> Result<(), Fault> {
-    let Ok(query) = read(rt, piped, query) else {
-        return Err(Fault::ReadQuery);
-    };
-    let Ok(input) = read(rt, piped, input) else {
-        return Err(Fault::ReadInput);
-    };
-    let mut query = Watched::new(query.as_slice());
-    let mut input = Watched::new(input.as_slice());
-    run(
-        threads,
-        rt.alloc(),
-        workers,
-        &mut query,
-        &mut input,
-        texts,
-        writer,
-        observer,
-    )
-}
+impl<'a> Sources<'a> for Page<'a> {
+    type Reader = PageText<'a>;
 
-fn check_file(
-    rt: &HostRuntime,
-    piped: Option<&[u8]>,
-    query: &str,
-    texts: &mut Texts,
-    writer: &mut Printed,
-) -> Result<(), Fault> {
-    let Ok(query) = read(rt, piped, query) else {
-        return Err(Fault::ReadQuery);
-    };
-    let mut query = Watched::new(query.as_slice());
-    let arena = Bump::new(rt.alloc());
-    check_query(rt.alloc(), &arena, &mut query, texts, writer)
-}
-
-fn graph_file(
-    rt: &HostRuntime,
-    piped: Option<&[u8]>,
-    form: GraphForm,
-    query: &str,
-    texts: &mut Texts,
-    writer: &mut Printed,
-) -> Result<(), Fault> {
-    let Ok(query) = read(rt, piped, query) else {
-        return Err(Fault::ReadQuery);
-    };
-    let mut query = Watched::new(query.as_slice());
-    let arena = Bump::new(rt.alloc());
-    graph_query(rt.alloc(), &arena, form, &mut query, texts, writer)
-}
-
-fn replay_files(
-    rt: &HostRuntime,
-    piped: Option<&[u8]>,
-    workers: Workers,
-    query: &str,
-    schedule: &str,
-    texts: &mut Texts,
-    writer: &mut Printed,
-) -> Result<(), Fault> {
-    let Ok(query) = read(rt, piped, query) else {
-        return Err(Fault::ReadQuery);
-    };
-    let Ok(schedule) = read(rt, piped, schedule) else {
-        return Err(Fault::ReadInput);
-    };
-    let mut query = Watched::new(query.as_slice());
-    let mut schedule = Watched::new(schedule.as_slice());
-    replay_schedule(
-        rt.alloc(),
-        workers,
-        &mut query,
-        &mut schedule,
-        texts,
-        writer,
-    )
-}
-
-/// What the program prints of a refusal's number.
-fn explain_code(rt: &HostRuntime, code: &str) -> io::Result<Vec<u8>> {
-    let Some(row) = explained(code) else {
-        let line = format!(in rt.alloc();
-            "no refusal has the number {code}: they are {NUMBERS}\n"
-        )?;
-        return Ok(line.into_bytes());
-    };
-    let mut writer = Watched::new(Vec::new(rt.alloc()));
-    let done = write_explanation(rt.alloc(), row, &mut writer);
-    let mut shown = writer.into_inner();
-    if let Err(fault) = done {
-        fault.write_line("", "", &mut shown)?;
+    fn open(&self, name: &'a str) -> PageText<'a> {
+        match self.piped {
+            Some(bytes) if name == "/dev/stdin" => PageText::Piped(bytes),
+            _ => PageText::File(self.disk.open(name)),
+        }
     }
-    Ok(shown)
 }
 
-/// What the program prints that is called with these words, the first of which is its own name: standard output, and then standard
-/// error. A run is on so many workers, where a number is given.
-fn answer_on(
+/// What the program prints.
+#[derive(Drop)]
+struct Printed {
+    status: u8,
+    /// Standard output, and then standard error.
+    shown: Vec<u8>,
+}
+
+/// What the program prints that is called with these words, the first of which is its own name.
+fn prints(
     rt: &HostRuntime,
     threads: &(impl Threads + Wait + Sync),
     piped: Option<&[u8]>,
     words: &[&str],
-    number: Option<Workers>,
-) -> io::Result<Vec<u8>> {
-    let mut texts = Texts::new(rt.alloc());
-    let mut writer = Watched::new(Vec::new(rt.alloc()));
-    let mut told = None;
-    let (query, input, explain, done) = match options(rt.alloc(), words) {
-        Ok(
-            Options::Run {
-                query,
-                input,
-                workers,
-                watch,
-                explain,
-            },
-        ) => {
-            if watch {
-                told = Some(Vec::new(rt.alloc()));
-            }
-            let done = run_files(
-                rt,
-                threads,
-                piped,
-                number.unwrap_or(workers),
-                query,
-                input,
-                &mut texts,
-                &mut writer,
-                &mut told,
-            );
-            (query, input, explain, done)
-        }
-        Ok(Options::Check { query, explain }) => {
-            let done = check_file(rt, piped, query, &mut texts, &mut writer);
-            (query, "", explain, done)
-        }
-        Ok(
-            Options::Graph {
-                query,
-                form,
-                explain,
-            },
-        ) => {
-            let done = graph_file(rt, piped, form, query, &mut texts, &mut writer);
-            (query, "", explain, done)
-        }
-        Ok(
-            Options::Replay {
-                query,
-                schedule,
-                workers,
-                explain,
-            },
-        ) => {
-            let done = replay_files(rt, piped, workers, query, schedule, &mut texts, &mut writer);
-            (query, schedule, explain, done)
-        }
-        Ok(Options::Explain { code }) => return explain_code(rt, code),
-        Err(LineFault::NoMemory) => return Err(io::Error::from(ErrorKind::OutOfMemory)),
-        Err(fault) => {
-            let mut shown = Vec::new(rt.alloc());
-            match &fault {
-                LineFault::Line(text) => write!(shown, "{text}")?,
-                _ => writeln!(shown, "{fault}")?,
-            }
-            return Ok(shown);
-        }
+) -> io::Result<Printed> {
+    let page = Page {
+        disk: Disk::new(rt),
+        piped,
     };
-    let mut shown = writer.into_inner();
+    let mut out = Watched::new(Vec::new(rt.alloc()));
+    let mut err = Vec::new(rt.alloc());
+    let mut told = Some(Vec::new(rt.alloc()));
+    let status = answer(
+        threads,
+        rt.alloc(),
+        &page,
+        words,
+        &mut out,
+        &mut err,
+        &mut told,
+    );
+    let mut shown = out.into_inner();
     if let Some(told) = told {
         shown.extend_from_slice(told.as_slice())?;
     }
-    if let Err(fault) = done {
-        fault.write_line(query, input, &mut shown)?;
-        if explain {
-            explain_fault(rt.alloc(), &fault, &texts, &mut shown)?;
-        }
-    }
-    Ok(shown)
+    shown.extend_from_slice(err.as_slice())?;
+    Ok(Printed { status, shown })
+}
+
+/// The words of a run on that many workers.
+fn words_on<'a>(rt: &HostRuntime, words: &[&'a str], number: &'a str) -> io::Result<Vec<&'a str>> {
+    let (front, rest) = words.split_at(words.len().min(2));
+    let mut others = front.to_vec(rt.alloc())?;
+    others.push("--workers")?;
+    others.push(number)?;
+    others.extend_from_slice(rest)?;
+    Ok(others)
 }
 
 /// Whether a run prints the same with 2 and with 64 workers, each time.
@@ -229,8 +106,9 @@ fn is_steady(
 ) -> io::Result<bool> {
     for _time in 0..TIMES {
         for number in ["2", "64"] {
-            let other = answer_on(rt, threads, piped, words, Workers::of_word(number))?;
-            if other.as_slice() != shown {
+            let others = words_on(rt, words, number)?;
+            let other = prints(rt, threads, piped, others.as_slice())?;
+            if other.shown.as_slice() != shown {
                 return Ok(false);
             }
         }
@@ -240,14 +118,14 @@ fn is_steady(
 
 /// What the program prints that is called with these words: standard output, and then standard error. A run that asks for no number of
 /// workers is repeated with several of them; where that prints something else, a line says so in place of what is printed.
-pub fn answer(
+pub fn shown_of(
     rt: &HostRuntime,
     threads: &(impl Threads + Wait + Sync),
     piped: Option<&[u8]>,
     words: &[&str],
 ) -> io::Result<Vec<u8>> {
-    let shown = answer_on(rt, threads, piped, words, None)?;
-    let is_run = words.get(1).is_some_and(|word| *word == "run");
+    let Printed { status, shown } = prints(rt, threads, piped, words)?;
+    let is_run = status != REFUSED && words.get(1).is_some_and(|word| *word == "run");
     let asks = words.iter().any(|word| word.starts_with("--w"));
     if is_run && !asks && !is_steady(rt, threads, piped, words, shown.as_slice())? {
         return Ok(b"(with more workers it prints something else)\n".to_vec(rt.alloc())?);

@@ -1,6 +1,6 @@
 //! What a line of a session prints: the few forms of a shell's line that are replayed.
 
-use crate::answers::answer;
+use crate::answers::shown_of;
 use std::alloc::{AllocError, Global};
 use std::io::ErrorKind;
 use std::sync::Wait;
@@ -62,7 +62,7 @@ fn shown(
     let words: Vec<&str> = command.split(' ').collect(rt.alloc())?;
     match words.as_slice() {
         [program, file] if *program == "cat" => content(rt, file),
-        [program, ..] if *program == "./loom" => answer(rt, threads, piped, words.as_slice()),
+        [program, ..] if *program == "./loom" => shown_of(rt, threads, piped, words.as_slice()),
         _ => remark(rt, "no command that is replayed"),
     }
 }

@@ -5,34 +5,105 @@ use crate::unfinished::Unfinished;
 use progress::LocationTracker;
 use rows::Batch;
 use std::alloc::Global;
+use std::mem::replace;
 use std::sync::Wait;
-use workers::{Ended, Engine, Naming, NoGate, work_along};
+use workers::{Ended, Engine, Feed, Naming, NoGate, work_along};
 
-/// Feeds the batches of one input's epoch. They are shared, not copied.
+/// So many epochs are fed under one taking of the lock at most.
+const EPOCHS_AT_ONCE: u32 = AHEAD / 2;
+
+/// Once so many records are gathered, they are fed.
+const RECORDS_AT_ONCE: usize = 4096;
+
+/// What is to be fed next, and how many records that is.
+#[derive(Drop)]
+struct Portion {
+    feeds: Vec<Feed>,
+    records: usize,
+}
+
+impl Portion {
+    fn new(alloc: Global) -> Portion {
+        Portion {
+            feeds: Vec::new(alloc),
+            records: 0,
+        }
+    }
+
+    /// With a batch more, which is shared, not copied.
+    fn add(&mut self, input: u32, batch: &Batch) -> Result<(), Unfinished> {
+        self.records = self.records.saturating_add(batch.len());
+        let batch = batch.share()?;
+        self.put(Feed::Batch { input, batch })
+    }
+
+    /// With the end of an epoch.
+    fn seal(&mut self, input: u32) -> Result<(), Unfinished> {
+        self.put(Feed::Seal { input })
+    }
+
+    fn put(&mut self, feed: Feed) -> Result<(), Unfinished> {
+        match self.feeds.push(feed) {
+            Ok(()) => Ok(()),
+            Err(_) => Err(Unfinished::NoMemory),
+        }
+    }
+
+    fn is_large(&self) -> bool {
+        self.records >= RECORDS_AT_ONCE
+    }
+}
+
+/// Feeds what is gathered.
+fn feed_portion<J: Naming, R: Wait>(
+    rt: &R,
+    alloc: Global,
+    engine: &Engine<J, LocationTracker>,
+    portion: &mut Portion,
+) -> Result<(), Unfinished> {
+    portion.records = 0;
+    let feeds = replace(&mut portion.feeds, Vec::new(alloc));
+    engine.feed_all(rt, alloc, feeds)?;
+    Ok(())
+}
+
+/// Gathers the batches of one input's epoch, and feeds them where they are many.
 fn feed_batches<J: Naming, R: Wait>(
     rt: &R,
     alloc: Global,
     engine: &Engine<J, LocationTracker>,
+    portion: &mut Portion,
     input: u32,
     batches: &[Batch],
 ) -> Result<(), Unfinished> {
     for batch in batches {
-        engine.feed(rt, alloc, input, batch.share()?)?;
+        portion.add(input, batch)?;
+        if portion.is_large() {
+            feed_portion(rt, alloc, engine, portion)?;
+        }
     }
     Ok(())
 }
 
-/// Feeds and seals one epoch of every input.
+/// Gathers one epoch of every input, and its end.
 fn feed_epoch<J: Naming, R: Wait>(
     rt: &R,
     alloc: Global,
     engine: &Engine<J, LocationTracker>,
     task: Task<'_>,
+    portion: &mut Portion,
     epoch: u32,
 ) -> Result<(), Unfinished> {
     for input in 0..task.inputs {
-        feed_batches(rt, alloc, engine, input, task.epochs.batches(epoch, input))?;
-        engine.seal(rt, input)?;
+        feed_batches(
+            rt,
+            alloc,
+            engine,
+            portion,
+            input,
+            task.epochs.batches(epoch, input),
+        )?;
+        portion.seal(input)?;
     }
     Ok(())
 }
@@ -50,25 +121,27 @@ fn work_now<J: Naming, R: Wait>(
     }
 }
 
-/// Feeds and seals epoch by epoch, and never more of them ahead of what has passed than `AHEAD`: a thread that is alone works between,
-/// another one sleeps until half of them are gone.
+/// Feeds and seals epoch by epoch, many small ones at once, and never more of them ahead of what has passed than `AHEAD`: a thread that
+/// is alone works between, another one sleeps until half of them are gone.
 pub fn feed_epochs<J: Naming, R: Wait>(
     rt: &R,
     alloc: Global,
     engine: &Engine<J, LocationTracker>,
     task: Task<'_>,
 ) -> Result<(), Unfinished> {
+    let mut portion = Portion::new(alloc);
     for epoch in 0..task.epochs.count() {
-        feed_epoch(rt, alloc, engine, task, epoch)?;
-        if task.is_alone() {
-            if epoch % AHEAD == AHEAD - 1 {
+        feed_epoch(rt, alloc, engine, task, &mut portion, epoch)?;
+        if epoch % EPOCHS_AT_ONCE == EPOCHS_AT_ONCE - 1 {
+            feed_portion(rt, alloc, engine, &mut portion)?;
+            if task.is_alone() {
                 work_now(rt, alloc, engine)?;
+            } else {
+                engine.wait_for(rt, u64::from(epoch.saturating_sub(EPOCHS_AT_ONCE - 1)));
             }
-        } else if epoch % (AHEAD / 2) == AHEAD / 2 - 1 {
-            engine.wait_for(rt, u64::from(epoch.saturating_sub(AHEAD / 2 - 1)));
         }
     }
-    Ok(())
+    feed_portion(rt, alloc, engine, &mut portion)
 }
 
 /// Closes every input. On a stopped board none can be closed, nor needs to be.

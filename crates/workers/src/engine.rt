@@ -5,16 +5,18 @@ ghost use Rattle.board.specs.Looks.{ShowsPassed};
 ghost use Rattle.board.specs.Shown.{tables};
 ghost use Rattle.workers.specs.Names.{GivesNamed, IsNamed};
 
+use crate::burden::Brought;
 use crate::floor::{Floor, Wakes};
 use crate::held::{Held, Naming};
 use crate::mark::{Mark, Publisher, Seat};
-use crate::plan::Plan;
+use crate::plan::{Feed, Plan};
 use board::{Board, Claimed, Look, StepRefusal};
 use events::{Done, Work};
 use expr_tree::NoMemory;
 use progress::Progress;
 use rows::Batch;
 use std::alloc::Global;
+use std::collections::VecDeque;
 use std::sync::{Condvar, Mutex, Wait};
 
 /// A board under a lock, with a bell for each worker and one for those who wait for epochs to pass.
@@ -55,16 +57,40 @@ impl<J: Naming, P: Progress> Engine<J, P> {
         input: u32,
         batch: Batch,
     ) -> Result<(), StepRefusal> {
-        match self.plan.cut(alloc, input, batch) {
-            Ok(cut) => {
-                let (result, _left, wakes) = self.floor.lock(rt).feed_cut(cut);
+        match self.plan.slice(alloc, input, batch) {
+            Ok(slice) => {
+                let (result, _left, wakes) = self.floor.lock(rt).feed_cut(slice);
                 self.wake(wakes);
                 result
             }
-            Err(refusal) => match self.floor.lock(rt).held.input_refusal(input) {
-                Some(first) => Err(first),
-                None => Err(refusal),
-            },
+            Err(refusal) => Err(self.first_refusal(rt, input, refusal)),
+        }
+    }
+
+    /// Feeds and seals in this order, as the calls would one after another, up to the first that is refused. All batches are cut before,
+    /// and the lock is taken once.
+    pub fn feed_all<R: Wait>(
+        &self,
+        rt: &R,
+        alloc: Global,
+        feeds: Vec<Feed>,
+    ) -> Result<(), StepRefusal> {
+        let mut cut = VecDeque::new(alloc);
+        let sliced = self.plan.slice_all(alloc, feeds, &mut cut);
+        let (result, _left, wakes) = self.floor.lock(rt).feed_all(&mut cut);
+        self.wake(wakes);
+        result?;
+        match sliced {
+            Ok(()) => Ok(()),
+            Err(uncut) => Err(self.first_refusal(rt, uncut.input, uncut.refusal)),
+        }
+    }
+
+    /// Why a batch that can't be cut would be refused at first.
+    fn first_refusal<R: Wait>(&self, rt: &R, input: u32, refusal: StepRefusal) -> StepRefusal {
+        match self.floor.lock(rt).held.input_refusal(input) {
+            Some(first) => first,
+            None => refusal,
         }
     }
 
@@ -118,14 +144,14 @@ impl<J: Naming, P: Progress> Engine<J, P> {
         Ok(Some(held.look(alloc, epoch)?))
     }
 
-    /// Claims an event for the worker, and answers what it finds.
+    /// Claims an event for the worker's thread, and answers what it finds.
     pub(crate) fn try_claim<R: Wait>(&self, rt: &R, worker: u32) -> Claimed
         ensures { GivesNamed J.names result }
     {
         self.floor.lock(rt).claim(worker)
     }
 
-    /// Claims an event for the worker, and sleeps while there is nothing that it could do.
+    /// Claims an event for the worker's thread, and sleeps while there is nothing that it could do.
     pub(crate) fn claim<R: Wait>(&self, rt: &R, worker: u32) -> Claimed
         ensures { GivesNamed J.names result }
     {
@@ -135,20 +161,24 @@ impl<J: Naming, P: Progress> Engine<J, P> {
         let mut floor = self.floor.lock(rt);
         for _turn in rt.forever() {
             match floor.claim(worker) {
-                Claimed::Idle => floor = bell.wait(rt, floor),
+                Claimed::Idle => {
+                    floor.fall_asleep(worker);
+                    floor = bell.wait(rt, floor);
+                }
                 claimed => return claimed,
             }
         }
         unreachable!()
     }
 
-    /// Ends an event and claims the worker's next one, in one taking of the lock. Without memory all stays, and the event comes back.
+    /// Ends an event and claims the thread's next one, in one taking of the lock. Without memory all stays, and the event comes back.
     pub(crate) fn commit<R: Wait>(&self, rt: &R, worker: u32, done: Done) -> Result<Claimed, Done>
         requires { IsNamed J.names done }
         ensures next { IfOk result (λ claimed. GivesNamed J.names claimed) }
         ensures back { IfErr result (λ back. back ≡ done) }
     {
-        let (result, wakes) = self.floor.lock(rt).commit(worker, done);
+        let (brought, done) = Brought::by_event(done);
+        let (result, wakes) = self.floor.lock(rt).commit(worker, done, brought);
         self.wake(wakes);
         result
     }
@@ -171,10 +201,10 @@ impl<J: Naming, P: Progress> Engine<J, P> {
 
     /// Wakes them. No lock is held.
     fn wake(&self, wakes: Wakes) {
-        if wakes.has_workers() {
+        if !wakes.workers().is_empty() {
             let mut worker = 0;
             for bell in &self.bells {
-                if wakes.has_worker(worker) {
+                if wakes.workers().has(worker) {
                     bell.notify_all();
                 }
                 worker = worker.saturating_add(1);

@@ -5,8 +5,8 @@ ghost use Rattle.std.specs.Prelude.{◌≡◌, true, IfErr, IfOk};
 use events::{Done, Work};
 use std::alloc::Global;
 
-/// What a worker does with an event that it has claimed. Both calls are made with no lock held. `turn` counts the worker's events from 0
-/// and stays at 18446744073709551615.
+/// What a worker's thread does with an event that it has claimed, which may be that of a worker whose thread sleeps. Both calls are made
+/// with no lock held. `turn` counts the thread's events from 0 and stays at 18446744073709551615.
 pub trait Gate {
     /// Computes the event, as `Work::compute`: `Err` comes only for want of memory, and then again.
     fn compute(&self, alloc: Global, worker: u32, turn: u64, work: Work) -> Result<Done, Work>

@@ -1,14 +1,19 @@
 //! Many workers on one board, and observers.
 //!
 //! An `Engine` is a board under a lock. A worker's thread `work`s: it claims an event, computes it with no lock held, and commits it. A
-//! commit and the same worker's next claim are one taking of the lock. What is fed is cut into messages by a `Plan`, with no lock held. Whom a call has given something to do is told so once the lock
-//! is given back; nobody else is woken.
+//! commit and the same thread's next claim are one taking of the lock. What is fed is cut into messages by a `Plan`, with no lock held,
+//! and many small batches are fed in one taking.
+//!
+//! A thread that has nothing to do for its own worker computes what waits for workers whose threads sleep. A thread is woken where that
+//! is worth its while, once the lock is given back: where many records wait for its worker, or nobody else is up. So many small events
+//! cost no wakings, and large ones are computed side by side (`floor.rt` has the rules, and why no wakeup is lost).
 //!
 //! | Call | By | What it does | Answers |
 //! |---|---|---|---|
 //! | `Engine::feed`, `seal`, `close` | who has the input | the board's call | as the board's; refused, all is as before |
+//! | `Engine::feed_all` | who has the input | feeds and seals in order, in one taking of the lock | as the first that is refused; those before it are done |
 //! | `Engine::wait_for` | who has the input, or observes | sleeps until so many epochs have passed, or no more will | nothing |
-//! | `work` | a worker's thread | works, and sleeps while there is nothing that it could do | drained, stopped, busy |
+//! | `work` | a worker's thread | works, also for workers who sleep, and sleeps while there is nothing that it could do | drained, stopped, busy |
 //! | `work_along` | the one thread of a run | works while there is something to do now | the same, or nothing |
 //! | `Mark::observe` | an observer | one load: no lock, no memory, no waiting | how many epochs have passed, never less than its seat has read |
 //! | `Engine::look` | an observer | one load by the seat, and what the board shows of an epoch | what is below the mark has passed; nothing, where the mark is another engine's and ahead |
@@ -29,6 +34,8 @@
 //! tests show these (`workers_conformance`). Below stand `board` and `events`.
 #![tactic(auto)]
 
+mod burden;
+mod crew;
 mod engine;
 mod floor;
 mod gate;
@@ -43,5 +50,6 @@ pub use engine::Engine;
 pub use gate::{Gate, NoGate};
 pub use held::{Held, Naming};
 pub use mark::{Mark, Publisher, Seat};
+pub use plan::Feed;
 pub use report::{Report, finish};
 pub use working::{Ended, work, work_along};

@@ -5,12 +5,14 @@ ghost use Rattle.lowering.specs.Views.{vertex_of};
 ghost use Rattle.semantics.specs.Kinds.{is_input as is_input_kind};
 ghost use Rattle.workers.specs.Plans.{RefusesBatch};
 
+use crate::burden::Brought;
 use crate::held::Naming;
 use board::StepRefusal;
 use events::{CutBatch, Wiring};
 use lowering::{Kind, Vertex, VertexId};
 use rows::Batch;
 use std::alloc::Global;
+use std::collections::VecDeque;
 use std::marker::{Model, PhantomData};
 use std::sync::Arc;
 
@@ -37,6 +39,83 @@ impl<J: Naming> Model for Plan<J> {
     ghost view = { λ p. p.wiring.value };
 
     ghost invariant = { λ p. p.wiring.value ≡ record { graph = J.graph; workers = length J.names } };
+}
+
+/// What is to be fed.
+#[derive(Drop)]
+pub enum Feed {
+    /// A batch, to an input at its open epoch.
+    Batch { input: u32, batch: Batch },
+    /// The end of the open epoch of an input.
+    Seal { input: u32 },
+}
+
+/// The same, cut.
+#[derive(Drop)]
+pub enum CutFeed<J: Naming> {
+    Batch(Slice<J>),
+    Seal(u32),
+}
+
+/// A batch that was cut for the board, and what it brings.
+#[derive(Drop)]
+pub struct Slice<J: Naming> {
+    cut: CutBatch,
+    brought: Brought,
+    of: PhantomData<J>,
+}
+
+impl<J: Naming> Model for Slice<J> {
+    ghost use Rattle.std.specs.Prelude.{◌≡◌, length};
+    ghost use Rattle.std.specs.Coded.{codes};
+    ghost use Rattle.std.specs.contracts.alloc.Global as heap;
+    ghost use Rattle.std.specs.contracts.impls.GlobalAllocator.TheImpl as allocates;
+    ghost use Rattle.expr_tree.specs.contracts.scalar.Scalar as scalar;
+    ghost use Rattle.expr_tree.specs.contracts.condition.Cond as condition;
+    ghost use Rattle.events.specs.Cuts.{Cut};
+
+    ghost Value = { Cut };
+
+    ghost coded = { Prim.hlevel (codes, (scalar.the_row heap.the_row allocates.ghosts).coded, (condition.the_row heap.the_row allocates.ghosts).coded) };
+
+    ghost view = { λ s. s.cut };
+
+    ghost invariant = { λ s. s.cut.wired ≡ record { graph = J.graph; workers = length J.names } };
+}
+
+impl<J: Naming> Slice<J> {
+    /// Of a cut batch.
+    fn of(cut: CutBatch) -> Slice<J>
+        requires { cut.wired ≡ record { graph = J.graph; workers = length J.names } }
+        ensures { result ≡ cut }
+    {
+        let brought = Brought::by(cut.letters());
+        Slice {
+            cut,
+            brought,
+            of: PhantomData,
+        }
+    }
+
+    /// The batch, and what it brings.
+    pub fn into_parts(self) -> (CutBatch, Brought)
+        ensures cut { result.0 ≡ self }
+        ensures wired { result.0.wired ≡ record { graph = J.graph; workers = length J.names } }
+    {
+        let Slice {
+            cut,
+            brought,
+            of: _,
+        } = self;
+        (cut, brought)
+    }
+}
+
+/// Why cutting came to no end, and at which input.
+#[derive(Clone, Copy)]
+pub struct Uncut {
+    pub input: u32,
+    pub refusal: StepRefusal,
 }
 
 impl<J: Naming> Plan<J> {
@@ -68,6 +147,59 @@ impl<J: Naming> Plan<J> {
         match CutBatch::of(alloc, &self.wiring, input, batch) {
             Ok(cut) => Ok(cut),
             Err(_) => Err(StepRefusal::NoMemory),
+        }
+    }
+}
+
+impl<J: Naming> Plan<J> {
+    /// The same, with what the batch brings.
+    pub fn slice(&self, alloc: Global, input: u32, batch: Batch) -> Result<Slice<J>, StepRefusal>
+        ensures input { IfOk result (λ c. c.input ≡ input) }
+        ensures batch { IfOk result (λ c. c.batch ≡ batch) }
+        ensures refused { IfErr result (λ e. RefusesBatch J.graph input batch e) }
+    {
+        match self.cut(alloc, input, batch) {
+            Ok(cut) => Ok(Slice::of(cut)),
+            Err(refusal) => Err(refusal),
+        }
+    }
+
+    /// All of them in order, put behind the others, up to the first that can't be cut.
+    pub fn slice_all(
+        &self,
+        alloc: Global,
+        feeds: Vec<Feed>,
+        cut: &mut VecDeque<CutFeed<J>>,
+    ) -> Result<(), Uncut> {
+        for feed in feeds {
+            self.slice_next(alloc, feed, cut)?;
+        }
+        Ok(())
+    }
+
+    /// One more of them, put behind the others.
+    fn slice_next(
+        &self,
+        alloc: Global,
+        feed: Feed,
+        cut: &mut VecDeque<CutFeed<J>>,
+    ) -> Result<(), Uncut> {
+        let (input, next) = match feed {
+            Feed::Batch { input, batch } => (
+                input,
+                match self.slice(alloc, input, batch) {
+                    Ok(slice) => CutFeed::Batch(slice),
+                    Err(refusal) => return Err(Uncut { input, refusal }),
+                },
+            ),
+            Feed::Seal { input } => (input, CutFeed::Seal(input)),
+        };
+        match cut.push_back(next) {
+            Ok(()) => Ok(()),
+            Err(_) => Err(Uncut {
+                input,
+                refusal: StepRefusal::NoMemory,
+            }),
         }
     }
 }

@@ -13,7 +13,7 @@ use std::sync::Wait;
 use std::test::Fail;
 use std::thread;
 use std::thread::Threads;
-use workers::{Ended, Engine, Gate, Mark, Naming, NoGate, finish, work};
+use workers::{Ended, Engine, Feed, Gate, Mark, Naming, NoGate, finish, work};
 
 /// What a run by two workers and two feeders came to.
 #[derive(Clone, Copy, Debug, PartialEq, Eq)]
@@ -82,7 +82,7 @@ fn feed_both<J: Naming + Send + Sync, R: Threads + Wait + Sync>(
     let ((), ()) = thread::join(
         rt,
         move || feed_range(rt, alloc, engine, 0, 100),
-        move || feed_range(rt, alloc, engine, 100, 200),
+        move || feed_at_once(rt, alloc, engine, 100, 200),
     );
     let _sealed = engine.seal(rt, 0);
     let _closed = engine.close(rt, 0);
@@ -101,6 +101,23 @@ fn feed_range<J: Naming, R: Wait>(
             let _done = engine.feed(rt, alloc, 0, batch);
         }
     }
+}
+
+/// The same in one call.
+fn feed_at_once<J: Naming, R: Wait>(
+    rt: &R,
+    alloc: Global,
+    engine: &Engine<J, LocationTracker>,
+    from: i64,
+    to: i64,
+) {
+    let mut feeds = Vec::new(alloc);
+    for field in from..to {
+        if let Some(batch) = batch_of(alloc, field) {
+            let _pushed = feeds.push(Feed::Batch { input: 0, batch });
+        }
+    }
+    let _done = engine.feed_all(rt, alloc, feeds);
 }
 
 fn run_two<G: Gate + Sync, R: Threads + Wait + Sync>(

@@ -1,0 +1,20 @@
+use Rattle.std.proofs.Common.{ap, ap₂, ◌∙◌, true}
+use Rattle.std.proofs.lemmas.Result.{IfOk-weaker}
+use Rattle.clap.specs.Simple.{app_of_fields}
+use Rattle.clap.specs.Words.{App, Shape, with_subcommand}
+use Rattle.command_line.proofs.command.line_command.Goals as goal
+
+abbrev requiring : App → App
+requiring a = record a { top = record a.top { subcommand_required = true } }
+
+abbrev top_of : App → Shape
+top_of a = a.top
+
+pub returns : goal.returns
+returns c =
+    let top = ap app_of_fields c.subcommand_required.ensures ∙ ap requiring c.new.ensures.app in
+    let one = c.in_ok-subcommand.ensures.shape c.in_ok-run_command.ensures.local ∙ ap₂ with_subcommand top (ap top_of c.in_ok-run_command.ensures.app) in
+    let two = c.in_ok-subcommand-2.ensures.shape c.in_ok-check_command.ensures.local ∙ ap₂ with_subcommand one (ap top_of c.in_ok-check_command.ensures.app) in
+    let three = c.in_ok-subcommand-3.ensures.shape c.in_ok-graph_command.ensures.local ∙ ap₂ with_subcommand two (ap top_of c.in_ok-graph_command.ensures.app) in
+    let four = c.in_ok-subcommand-4.ensures.shape c.in_ok-replay_command.ensures.local ∙ ap₂ with_subcommand three (ap top_of c.in_ok-replay_command.ensures.app) in
+    IfOk-weaker c.subcommand-5.result _ _ (λ r h. h.shape c.in_ok-explain_command.ensures.local ∙ ap₂ with_subcommand four (ap top_of c.in_ok-explain_command.ensures.app)) c.subcommand-5.ensures

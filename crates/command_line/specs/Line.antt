@@ -1,0 +1,86 @@
+-- The command line: its commands, and what the matches of the words hold.
+use Rattle.std.specs.Prelude.{◌≡◌, ℕ, Bool, true, false, List, [], Option, Some, None, codes}
+use Rattle.clap.specs.Words.{App, Row, Rule, Text, first_of, new_app, new_rule, one_of, subcommand_of, with_rule, with_subcommand}
+use Rattle.clap.specs.declared.builder.action.ArgAction.TheVariants.{SetTrue}
+use Rattle.command_line.specs.Numbers.{Spells}
+use Rattle.command_line.specs.declared.line_options.GraphForm.{GraphForm}
+use Rattle.command_line.specs.declared.line_options.GraphForm.TheVariants.{Lines, Dot}
+use Rattle.command_line.specs.declared.line_options.Options.{Options}
+use Rattle.command_line.specs.declared.line_options.Options.TheVariants.{Run, Check, Graph, Replay, Explain}
+
+-- a word that has to be given
+abbrev pub word_rule : Text → Rule
+word_rule id = record (new_rule id) { required = true }
+
+-- a flag, `--` and its name
+abbrev pub flag_rule : Text → Rule
+flag_rule id = record (new_rule id) { long = Some id; action = Some SetTrue }
+
+-- an option, `--` and its name, and then a word
+abbrev pub option_rule : Text → Rule
+option_rule id = record (new_rule id) { long = Some id; value_names = 1 }
+
+-- `check QUERY`, with or without `--explain`
+abbrev pub check_app : App
+check_app = with_rule (with_rule (new_app (codes "check")) (flag_rule (codes "explain"))) (word_rule (codes "QUERY"))
+
+-- `graph QUERY`, with or without `--dot` and `--explain`
+abbrev pub graph_app : App
+graph_app = with_rule (with_rule (with_rule (new_app (codes "graph")) (flag_rule (codes "dot"))) (flag_rule (codes "explain"))) (word_rule (codes "QUERY"))
+
+-- `run QUERY INPUT`, with or without `--workers N`, `--watch` and `--explain`
+abbrev pub run_app : App
+run_app =
+    with_rule
+    (with_rule (with_rule (with_rule (with_rule (new_app (codes "run")) (option_rule (codes "workers"))) (flag_rule (codes "watch"))) (flag_rule (codes "explain"))) (word_rule (codes "QUERY")))
+    (word_rule (codes "INPUT"))
+
+-- `replay QUERY SCHEDULE`, with or without `--workers N` and `--explain`
+abbrev pub replay_app : App
+replay_app =
+    with_rule (with_rule (with_rule (with_rule (new_app (codes "replay")) (option_rule (codes "workers"))) (flag_rule (codes "explain"))) (word_rule (codes "QUERY")))
+    (word_rule (codes "SCHEDULE"))
+
+-- `explain CODE`
+abbrev pub explain_app : App
+explain_app = with_rule (new_app (codes "explain")) (word_rule (codes "CODE"))
+
+-- the whole line
+abbrev pub line_app : App
+line_app =
+    let top : App = record { top = record (new_app (codes "loom")).top { subcommand_required = true }; subs = [] } in
+    with_subcommand (with_subcommand (with_subcommand (with_subcommand (with_subcommand top run_app.top) check_app.top) graph_app.top) replay_app.top) explain_app.top
+
+-- the flag is what the matches hold of it
+abbrev pub IsFlag : Text → List Row → Bool → Type 0
+IsFlag id rows flag = (one_of id rows ≡ Some (codes "true") → flag ≡ true) × (one_of id rows ≡ Some (codes "false") → flag ≡ false) × (one_of id rows ≡ None → flag ≡ false)
+
+-- a graph is drawn where the flag is given
+abbrev pub is_dot : GraphForm → Bool
+is_dot Lines = false
+is_dot Dot = true
+
+-- so many workers are asked for: one where no word tells it
+abbrev pub AreAskedFor : Option Text → (workers : ℕ) → Type 0
+AreAskedFor None workers = workers ≡ 1
+AreAskedFor (Some word) workers = Spells word workers
+
+-- the options are what the matches of a command hold
+abbrev pub HoldsAt : Text → List Row → Options → Type 0
+HoldsAt name rows (Run query input workers watch explain) =
+    (name ≡ codes "run") × (first_of (codes "QUERY") rows ≡ Some query.now) × (first_of (codes "INPUT") rows ≡ Some input.now) × AreAskedFor (first_of (codes "workers") rows) workers.count
+    × IsFlag (codes "watch") rows watch × IsFlag (codes "explain") rows explain
+HoldsAt name rows (Check query explain) = (name ≡ codes "check") × (first_of (codes "QUERY") rows ≡ Some query.now) × IsFlag (codes "explain") rows explain
+HoldsAt name rows (Graph query form explain) = (name ≡ codes "graph") × (first_of (codes "QUERY") rows ≡ Some query.now) × IsFlag (codes "dot") rows (is_dot form) × IsFlag (codes "explain") rows explain
+HoldsAt name rows (Replay query schedule workers explain) =
+    (name ≡ codes "replay") × (first_of (codes "QUERY") rows ≡ Some query.now) × (first_of (codes "SCHEDULE") rows ≡ Some schedule.now) × AreAskedFor (first_of (codes "workers") rows) workers.count
+    × IsFlag (codes "explain") rows explain
+HoldsAt name rows (Explain code) = (name ≡ codes "explain") × (first_of (codes "CODE") rows ≡ Some code.now)
+
+abbrev pub HoldsOf : Option (Text × List Row) → Options → Type 0
+HoldsOf None options = ⊥
+HoldsOf (Some found) options = HoldsAt found.0 found.1 options
+
+-- the options are what the matches of the words hold
+abbrev pub Holds : List Text → Options → Type 0
+Holds words options = HoldsOf (subcommand_of line_app words) options

@@ -1,0 +1,310 @@
+//! The commands of the line, read by `clap`.
+
+ghost use Rattle.std.specs.Prelude.{◌≡◌, map, option_map, IfOk, IfSome, codes, false};
+ghost use Rattle.clap.specs.Words.{app_of, first_of, found_of, new_app, rows_of, rule_of};
+ghost use Rattle.clap.specs.declared.builder.Command.TheViews.{out-Command as fields_of};
+ghost use Rattle.command_line.specs.Line.{AreAskedFor, Holds, HoldsAt, IsFlag, check_app, explain_app, flag_rule, graph_app, line_app, option_rule, replay_app, run_app, word_rule};
+
+use crate::line_fault::LineFault;
+use crate::line_options::{GraphForm, Options};
+use crate::worker_count::Workers;
+use clap::error::ErrorKind;
+use clap::{Arg, ArgAction, ArgMatches, Command, Error};
+use std::alloc::{AllocError, Global};
+
+/// A word that has to be given.
+fn word_arg<'a>(alloc: Global, id: &'a str) -> Arg<'a>
+    ensures rule { rule_of result ≡ word_rule id.entry.now }
+    ensures local { result.global ≡ false }
+{
+    Arg::new(alloc, id).required(true)
+}
+
+/// A flag: `--` and its name.
+fn flag_arg<'a>(alloc: Global, id: &'a str, about: &'a str) -> Arg<'a>
+    ensures rule { rule_of result ≡ flag_rule id.entry.now }
+    ensures local { result.global ≡ false }
+{
+    Arg::new(alloc, id)
+        .long(id)
+        .action(ArgAction::SetTrue)
+        .help(about)
+}
+
+/// The flag `--explain`.
+fn explain_arg<'a>(alloc: Global) -> Arg<'a>
+    ensures rule { rule_of result ≡ flag_rule (codes "explain") }
+    ensures local { result.global ≡ false }
+{
+    flag_arg(
+        alloc,
+        "explain",
+        "Show the place of a fault, and what is wrong there",
+    )
+}
+
+/// The option `--workers N`.
+fn workers_arg<'a>(alloc: Global) -> Arg<'a>
+    ensures rule { rule_of result ≡ option_rule (codes "workers") }
+    ensures local { result.global ≡ false }
+{
+    Arg::new(alloc, "workers")
+        .long("workers")
+        .value_name("N")
+        .help("How many workers, 1 to 64; one where it is not given")
+}
+
+/// A command of that name, with its line of help.
+fn named<'a>(alloc: Global, name: &'a str, about: &'a str) -> Command<'a>
+    ensures app { app_of result ≡ new_app name.entry.now }
+    ensures local { (fields_of result).has_globals ≡ false }
+{
+    Command::new(alloc, name).about(about)
+}
+
+fn check_command<'a>(alloc: Global) -> Result<Command<'a>, AllocError>
+    ensures app { IfOk result (λ c. app_of c ≡ check_app) }
+    ensures local { IfOk result (λ c. (fields_of c).has_globals ≡ false) }
+{
+    named(alloc, "check", "Check a query, and write its arities")
+        .arg(explain_arg(alloc))?
+        .arg(word_arg(alloc, "QUERY"))
+}
+
+fn graph_command<'a>(alloc: Global) -> Result<Command<'a>, AllocError>
+    ensures app { IfOk result (λ c. app_of c ≡ graph_app) }
+    ensures local { IfOk result (λ c. (fields_of c).has_globals ≡ false) }
+{
+    named(
+        alloc,
+        "graph",
+        "Compile a query, and write its dataflow graph",
+    )
+    .arg(flag_arg(alloc, "dot", "Write the graph for Graphviz to draw"))?
+    .arg(explain_arg(alloc))?
+    .arg(word_arg(alloc, "QUERY"))
+}
+
+fn run_command<'a>(alloc: Global) -> Result<Command<'a>, AllocError>
+    ensures app { IfOk result (λ c. app_of c ≡ run_app) }
+    ensures local { IfOk result (λ c. (fields_of c).has_globals ≡ false) }
+{
+    named(alloc, "run", "Answer a query over an input, epoch by epoch")
+        .arg(workers_arg(alloc))?
+        .arg(flag_arg(
+            alloc,
+            "watch",
+            "Tell on standard error how many epochs have passed",
+        ))?
+        .arg(explain_arg(alloc))?
+        .arg(word_arg(alloc, "QUERY"))?
+        .arg(word_arg(alloc, "INPUT"))
+}
+
+fn replay_command<'a>(alloc: Global) -> Result<Command<'a>, AllocError>
+    ensures app { IfOk result (λ c. app_of c ≡ replay_app) }
+    ensures local { IfOk result (λ c. (fields_of c).has_globals ≡ false) }
+{
+    named(
+        alloc,
+        "replay",
+        "Do a schedule's steps one by one, and write the answers so far that it asks for",
+    )
+    .arg(workers_arg(alloc))?
+    .arg(explain_arg(alloc))?
+    .arg(word_arg(alloc, "QUERY"))?
+    .arg(word_arg(alloc, "SCHEDULE"))
+}
+
+fn explain_command<'a>(alloc: Global) -> Result<Command<'a>, AllocError>
+    ensures app { IfOk result (λ c. app_of c ≡ explain_app) }
+    ensures local { IfOk result (λ c. (fields_of c).has_globals ≡ false) }
+{
+    named(
+        alloc,
+        "explain",
+        "Tell what a refusal's number means, with examples",
+    )
+    .arg(word_arg(alloc, "CODE"))
+}
+
+fn line_command<'a>(alloc: Global) -> Result<Command<'a>, AllocError>
+    ensures { IfOk result (λ c. app_of c ≡ line_app) }
+{
+    Command::new(alloc, "loom")
+        .subcommand_required(true)
+        .subcommand(run_command(alloc)?)?
+        .subcommand(check_command(alloc)?)?
+        .subcommand(graph_command(alloc)?)?
+        .subcommand(replay_command(alloc)?)?
+        .subcommand(explain_command(alloc)?)
+}
+
+/// The first text of an argument.
+fn text_of<'a>(found: &ArgMatches<'a>, id: &str) -> Option<&'a str>
+    ensures { option_map (λ s. s.now) result ≡ first_of id.now (rows_of (found_of found.now)) }
+{
+    found.get_str(id)
+}
+
+/// Whether the flag is given.
+fn flag_of<'a>(found: &ArgMatches<'a>, id: &str) -> bool
+    ensures { IsFlag id.now (rows_of (found_of found.now)) result }
+{
+    found.get_flag(id)
+}
+
+/// The options of a run on so many workers.
+fn run_options<'a>(found: &ArgMatches<'a>, workers: Workers) -> Option<Options<'a>>
+    requires { AreAskedFor (first_of (codes "workers") (rows_of (found_of found.now))) workers.count }
+    ensures { IfSome result (HoldsAt (codes "run") (rows_of (found_of found.now))) }
+{
+    let query = text_of(found, "QUERY")?;
+    let input = text_of(found, "INPUT")?;
+    let watch = flag_of(found, "watch");
+    let explain = flag_of(found, "explain");
+    Some(Options::Run {
+        query,
+        input,
+        workers,
+        watch,
+        explain,
+    })
+}
+
+fn check_options<'a>(found: &ArgMatches<'a>) -> Option<Options<'a>>
+    ensures { IfSome result (HoldsAt (codes "check") (rows_of (found_of found.now))) }
+{
+    let query = text_of(found, "QUERY")?;
+    let explain = flag_of(found, "explain");
+    Some(Options::Check { query, explain })
+}
+
+fn graph_options<'a>(found: &ArgMatches<'a>) -> Option<Options<'a>>
+    ensures { IfSome result (HoldsAt (codes "graph") (rows_of (found_of found.now))) }
+{
+    let query = text_of(found, "QUERY")?;
+    let form = if flag_of(found, "dot") {
+        GraphForm::Dot
+    } else {
+        GraphForm::Lines
+    };
+    let explain = flag_of(found, "explain");
+    Some(Options::Graph {
+        query,
+        form,
+        explain,
+    })
+}
+
+/// The number of workers: one where no word tells it. A word that tells none is handed back.
+fn workers_of<'a>(found: &ArgMatches<'a>) -> Result<Workers, &'a str>
+    ensures { IfOk result (λ w. AreAskedFor (first_of (codes "workers") (rows_of (found_of found.now))) w.count) }
+{
+    match text_of(found, "workers") {
+        None => Ok(Workers::one()),
+        Some(word) => match Workers::of_word(word) {
+            Some(workers) => Ok(workers),
+            None => Err(word),
+        },
+    }
+}
+
+/// The options of a replay on so many workers.
+fn replay_options<'a>(found: &ArgMatches<'a>, workers: Workers) -> Option<Options<'a>>
+    requires { AreAskedFor (first_of (codes "workers") (rows_of (found_of found.now))) workers.count }
+    ensures { IfSome result (HoldsAt (codes "replay") (rows_of (found_of found.now))) }
+{
+    let query = text_of(found, "QUERY")?;
+    let schedule = text_of(found, "SCHEDULE")?;
+    let explain = flag_of(found, "explain");
+    Some(Options::Replay {
+        query,
+        schedule,
+        workers,
+        explain,
+    })
+}
+
+/// The fault of a word that is no number of workers.
+fn workers_fault(alloc: Global, word: &str) -> LineFault {
+    match String::from_str(alloc, word) {
+        Ok(word) => LineFault::Workers { word },
+        Err(_) => LineFault::NoMemory,
+    }
+}
+
+/// What the matches of `run` hold.
+fn run_line<'a>(alloc: Global, found: &ArgMatches<'a>) -> Result<Options<'a>, LineFault>
+    ensures { IfOk result (HoldsAt (codes "run") (rows_of (found_of found.now))) }
+{
+    match workers_of(found) {
+        Ok(workers) => run_options(found, workers).ok_or(LineFault::NoCommand),
+        Err(word) => Err(workers_fault(alloc, word)),
+    }
+}
+
+/// What the matches of `replay` hold.
+fn replay_line<'a>(alloc: Global, found: &ArgMatches<'a>) -> Result<Options<'a>, LineFault>
+    ensures { IfOk result (HoldsAt (codes "replay") (rows_of (found_of found.now))) }
+{
+    match workers_of(found) {
+        Ok(workers) => replay_options(found, workers).ok_or(LineFault::NoCommand),
+        Err(word) => Err(workers_fault(alloc, word)),
+    }
+}
+
+/// The options that the matches of a command hold which has no workers.
+fn options_at<'a>(name: &str, found: &ArgMatches<'a>) -> Option<Options<'a>>
+    ensures { IfSome result (HoldsAt name.now (rows_of (found_of found.now))) }
+{
+    match name.as_bytes() {
+        b"check" => check_options(found),
+        b"graph" => graph_options(found),
+        b"explain" => Some(Options::Explain {
+            code: text_of(found, "CODE")?,
+        }),
+        _ => None,
+    }
+}
+
+/// The options that the matches of a command hold.
+fn line_options<'a>(
+    alloc: Global,
+    name: &str,
+    found: &ArgMatches<'a>,
+) -> Result<Options<'a>, LineFault>
+    ensures { IfOk result (HoldsAt name.now (rows_of (found_of found.now))) }
+{
+    match name.as_bytes() {
+        b"run" => run_line(alloc, found),
+        b"replay" => replay_line(alloc, found),
+        _ => options_at(name, found).ok_or(LineFault::NoCommand),
+    }
+}
+
+/// Reads the line, whose first word is the program's own.
+pub fn options<'a>(alloc: Global, words: &'a [&'a str]) -> Result<Options<'a>, LineFault>
+    ensures { IfOk result (Holds (map (λ s. s.now) words.entry.now)) }
+{
+    let command = match line_command(alloc) {
+        Ok(command) => command,
+        Err(_) => return Err(LineFault::NoMemory),
+    };
+    let found = match command.try_get_matches_from(words) {
+        Ok(found) => found,
+        Err(error) => return Err(refusal(error)),
+    };
+    match found.subcommand() {
+        None => Err(LineFault::NoCommand),
+        Some((name, matches)) => line_options(alloc, name, matches),
+    }
+}
+
+fn refusal(error: Error) -> LineFault {
+    if error.kind() == ErrorKind::OutOfMemory {
+        LineFault::NoMemory
+    } else {
+        LineFault::Line(error)
+    }
+}

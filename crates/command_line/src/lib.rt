@@ -1,0 +1,15 @@
+//! The command line: its words, what they ask for, and why they are refused.
+//!
+//! `options` reads the words. The contract for the layer above: the options are what the matches of the words hold, by clap's own
+//! definition of what matches. Nothing of Loom stands below; the console does what the options ask for.
+#![tactic(auto)]
+
+mod command;
+mod line_fault;
+mod line_options;
+mod worker_count;
+
+pub use command::options;
+pub use line_fault::LineFault;
+pub use line_options::{GraphForm, Options};
+pub use worker_count::Workers;

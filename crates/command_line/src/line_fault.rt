@@ -1,0 +1,40 @@
+//! Why a command line is refused.
+
+ghost use Rattle.std.specs.Prelude.{◌≡◌};
+ghost use Rattle.command_line.specs.Faults.{line_status_of};
+
+use clap::Error;
+
+/// Why a line is refused.
+#[derive(Debug, Drop, thiserror::Error)]
+pub enum LineFault {
+    #[error("out of memory")]
+    NoMemory,
+    /// The word after `--workers` is no number of workers.
+    #[error("error: invalid value '{word}' for '--workers <N>': {word} is not in 1..=64")]
+    Workers { word: String },
+    /// A word of the line is no UTF-8 text.
+    #[error("error: invalid UTF-8 was detected in one or more arguments")]
+    NoText,
+    /// The words were taken, and yet hold no command or not all of its words. No line is known at which it comes.
+    #[error("error: the arguments hold no command")]
+    NoCommand,
+    /// The words are none of a command, or they ask for help: with the text to be shown, whose last line is ended.
+    #[error(transparent)]
+    Line(Error),
+}
+
+impl LineFault {
+    /// The status that the program ends with.
+    pub fn status(&self) -> u8
+        ensures { result ≡ line_status_of self.now }
+    {
+        match self {
+            LineFault::NoMemory => 5,
+            LineFault::Workers { .. }
+            | LineFault::NoText
+            | LineFault::NoCommand
+            | LineFault::Line(_) => 2,
+        }
+    }
+}

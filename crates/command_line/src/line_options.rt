@@ -1,0 +1,48 @@
+//! What a command line asks for.
+
+use crate::worker_count::Workers;
+
+/// What the words of the line ask for. Paths are kept as they were given.
+#[derive(Clone, Copy, Debug, PartialEq, Eq)]
+pub enum Options<'a> {
+    /// `loom run QUERY INPUT`, on one worker or `--workers N`; with `--watch` it tells how many epochs have passed; and a fault explained
+    /// with `--explain`
+    Run {
+        query: &'a str,
+        input: &'a str,
+        workers: Workers,
+        watch: bool,
+        explain: bool,
+    },
+    /// `loom check QUERY`, and a fault explained with `--explain`
+    Check {
+        query: &'a str,
+        explain: bool,
+    },
+    /// `loom graph QUERY`, or `loom graph --dot QUERY`, and a fault explained with `--explain`
+    Graph {
+        query: &'a str,
+        form: GraphForm,
+        explain: bool,
+    },
+    /// `loom replay QUERY SCHEDULE`, on one worker or `--workers N`, and a fault explained with `--explain`
+    Replay {
+        query: &'a str,
+        schedule: &'a str,
+        workers: Workers,
+        explain: bool,
+    },
+    /// `loom explain CODE`: the word that should be a refusal's number
+    Explain {
+        code: &'a str,
+    },
+}
+
+/// How a graph is written.
+#[derive(Clone, Copy, Debug, PartialEq, Eq)]
+pub enum GraphForm {
+    /// A line for each vertex.
+    Lines,
+    /// A text that Graphviz draws.
+    Dot,
+}

@@ -1,0 +1,73 @@
+-- What a command line comes to: what is written of it to standard output, and its status.
+use Rattle.std.specs.Prelude.{◌≡◌, ◌⊎◌, ℕ, List, take, decimal, Option, Result, Ok, Err, IfSome}
+use Rattle.clap.specs.Words.{Text}
+use Rattle.refusals.specs.declared.table.Explanation.{Explanation}
+use Rattle.command_line.specs.Counts.{count_of}
+use Rattle.command_line.specs.Line.{Holds}
+use Rattle.command_line.specs.declared.line_options.GraphForm.{GraphForm}
+use Rattle.command_line.specs.declared.line_options.Options.{Options}
+use Rattle.command_line.specs.declared.line_options.Options.TheVariants.{Run, Check, Graph, Replay, Explain}
+use Rattle.command_line.specs.declared.worker_count.Workers.{Workers}
+use Rattle.diagnostics.specs.Explanations.{ExplanationEnds}
+use Rattle.diagnostics.specs.Faults.{status_of}
+use Rattle.diagnostics.specs.declared.fault.Fault.{Fault}
+use Rattle.console.specs.Checks.{CheckEnds}
+use Rattle.console.specs.Graphs.{GraphEnds}
+use Rattle.console.specs.Heeded.{Heeds}
+use Rattle.console.specs.Replayed.{ReplayEnds}
+use Rattle.console.specs.Runs.{Ends}
+
+-- the bytes of the text of each name, where they are known
+abbrev pub Known : Type 0
+Known = List ℕ → Option (List ℕ)
+
+-- each command ends as its function promises, on the texts that are known
+abbrev pub RunsOn : Known → (query input : List ℕ) → Option (List ℕ) → Option (List ℕ) → Result (Unit {0}) Fault → Type 0
+RunsOn texts query input old new result =
+    IfSome (texts query) (λ q. Heeds (take 1048577 q) old new result × IfSome (texts input) (λ i. Ends (take 1048577 q) i old new result))
+
+abbrev pub ChecksOn : Known → (query : List ℕ) → Option (List ℕ) → Option (List ℕ) → Result (Unit {0}) Fault → Type 0
+ChecksOn texts query old new result = IfSome (texts query) (λ q. CheckEnds (take 1048577 q) old new result)
+
+abbrev pub GraphsOn : Known → GraphForm → (query : List ℕ) → Option (List ℕ) → Option (List ℕ) → Result (Unit {0}) Fault → Type 0
+GraphsOn texts form query old new result = IfSome (texts query) (λ q. GraphEnds form (take 1048577 q) old new result)
+
+abbrev pub ReplaysOn : Known → Workers → (query schedule : List ℕ) → Option (List ℕ) → Option (List ℕ) → Result (Unit {0}) Fault → Type 0
+ReplaysOn texts workers query schedule old new result =
+    IfSome (texts query)
+    (λ q. Heeds (take 1048577 q) old new result × IfSome (texts schedule) (λ s. ReplayEnds (take 1048577 q) (count_of workers) s old new result))
+
+-- what a refusal's number means is written
+abbrev pub Explains : (code : List ℕ) → Option (List ℕ) → Option (List ℕ) → Result (Unit {0}) Fault → Type 0
+Explains code old new result = (row : Explanation) × (code ≡ decimal row.code) × ExplanationEnds row old new result
+
+-- the command of these options ends so
+abbrev pub EndsOn : Known → Options → Option (List ℕ) → Option (List ℕ) → Result (Unit {0}) Fault → Type 0
+EndsOn texts (Run query input workers watch explain) old new result = RunsOn texts query.now input.now old new result
+EndsOn texts (Check query explain) old new result = ChecksOn texts query.now old new result
+EndsOn texts (Graph query form explain) old new result = GraphsOn texts form query.now old new result
+EndsOn texts (Replay query schedule workers explain) old new result = ReplaysOn texts workers query.now schedule.now old new result
+EndsOn texts (Explain code) old new result = Explains code.now old new result
+
+-- 0 of a command that is done, and else its fault's
+abbrev pub status_after : Result (Unit {0}) Fault → ℕ
+status_after (Ok u) = 0
+status_after (Err fault) = status_of fault
+
+-- the command has ended, and the status says how
+pub record HasEnded (texts : Known) (options : Options) (old new : Option (List ℕ)) (status : ℕ) : Type 0 where
+  pub result : Result (Unit {0}) Fault
+  pub ends : EndsOn texts options old new result
+  pub told : status ≡ status_after result
+
+-- nothing is written: the line is refused, or no refusal has the number that is to be explained, or there was no memory to read the line
+abbrev pub IsTurnedDown : Option (List ℕ) → Option (List ℕ) → ℕ → Type 0
+IsTurnedDown old new status = (new ≡ old) × ((status ≡ 2) ⊎ (status ≡ 5))
+
+-- what the options ask for is done, or they are turned down
+abbrev pub Obeys : Known → Options → Option (List ℕ) → Option (List ℕ) → ℕ → Type 0
+Obeys texts options old new status = IsTurnedDown old new status ⊎ HasEnded texts options old new status
+
+-- the line is turned down, or the options are what its words hold, and their command has ended
+abbrev pub Answers : Known → (words : List Text) → Option (List ℕ) → Option (List ℕ) → ℕ → Type 0
+Answers texts words old new status = IsTurnedDown old new status ⊎ ((options : Options) × Holds words options × HasEnded texts options old new status)

@@ -1,0 +1,228 @@
+//! The dispatcher: from the words of a command line to what is written, and the status.
+
+ghost use Rattle.std.specs.Prelude.{◌≡◌, map};
+ghost use Rattle.collector.specs.Watching.{inner_of};
+ghost use Rattle.command_line.specs.Faults.{line_status_of};
+ghost use Rattle.console.specs.Commands.{Answers, ChecksOn, GraphsOn, Obeys, ReplaysOn, RunsOn, status_after};
+
+use crate::checking::check_query;
+use crate::graphing::graph_query;
+use crate::replaying::replay_schedule;
+use crate::running::run;
+use crate::sources::Sources;
+use bumpalo::Bump;
+use collector::Watched;
+use command_line::{GraphForm, LineFault, Options, Workers, options};
+use diagnostics::{Fault, Texts, explain_fault, explained, write_explanation};
+use refusals::NUMBERS;
+use std::alloc::Global;
+use std::io::Write;
+use std::sync::Wait;
+use std::thread::Threads;
+
+/// Runs a query over an input. The watcher is let go where it isn't asked for.
+fn run_named<'a, R: Threads + Wait + Sync, S: Sources<'a>, W: Write, O: Write + Send + Drop>(
+    rt: &R,
+    alloc: Global,
+    sources: &S,
+    workers: Workers,
+    watch: bool,
+    query: &'a str,
+    input: &'a str,
+    texts: &mut Texts,
+    out: &mut Watched<W>,
+    watcher: &mut Option<O>,
+) -> Result<(), Fault>
+    ensures { RunsOn (S.content sources.now) query.now input.now (W.contents (inner_of out.old)) (W.contents (inner_of out.new)) result }
+{
+    let mut query = Watched::new(sources.open(query));
+    let mut input = Watched::new(sources.open(input));
+    if !watch {
+        *watcher = None;
+    }
+    run(
+        rt, alloc, workers, &mut query, &mut input, texts, out, watcher,
+    )
+}
+
+/// Checks a query.
+fn check_named<'a, S: Sources<'a>, W: Write>(
+    alloc: Global,
+    sources: &S,
+    query: &'a str,
+    texts: &mut Texts,
+    out: &mut Watched<W>,
+) -> Result<(), Fault>
+    ensures { ChecksOn (S.content sources.now) query.now (W.contents (inner_of out.old)) (W.contents (inner_of out.new)) result }
+{
+    let mut query = Watched::new(sources.open(query));
+    let arena = Bump::new(alloc);
+    check_query(alloc, &arena, &mut query, texts, out)
+}
+
+/// Writes the graph of a query.
+fn graph_named<'a, S: Sources<'a>, W: Write>(
+    alloc: Global,
+    sources: &S,
+    form: GraphForm,
+    query: &'a str,
+    texts: &mut Texts,
+    out: &mut Watched<W>,
+) -> Result<(), Fault>
+    ensures { GraphsOn (S.content sources.now) form query.now (W.contents (inner_of out.old)) (W.contents (inner_of out.new)) result }
+{
+    let mut query = Watched::new(sources.open(query));
+    let arena = Bump::new(alloc);
+    graph_query(alloc, &arena, form, &mut query, texts, out)
+}
+
+/// Does a schedule's steps over a query.
+fn replay_named<'a, S: Sources<'a>, W: Write>(
+    alloc: Global,
+    sources: &S,
+    workers: Workers,
+    query: &'a str,
+    schedule: &'a str,
+    texts: &mut Texts,
+    out: &mut Watched<W>,
+) -> Result<(), Fault>
+    ensures { ReplaysOn (S.content sources.now) workers query.now schedule.now (W.contents (inner_of out.old)) (W.contents (inner_of out.new)) result }
+{
+    let mut query = Watched::new(sources.open(query));
+    let mut schedule = Watched::new(sources.open(schedule));
+    replay_schedule(alloc, workers, &mut query, &mut schedule, texts, out)
+}
+
+/// The names of a command's texts, and whether a fault is to be explained. A name is empty where the command has no such text.
+fn texts_of<'a>(asked: &Options<'a>) -> (&'a str, &'a str, bool) {
+    match *asked {
+        Options::Run {
+            query,
+            input,
+            explain,
+            ..
+        } => (query, input, explain),
+        Options::Replay {
+            query,
+            schedule,
+            explain,
+            ..
+        } => (query, schedule, explain),
+        Options::Check { query, explain } | Options::Graph { query, explain, .. } => {
+            (query, "", explain)
+        }
+        Options::Explain { .. } => ("", "", false),
+    }
+}
+
+/// Tells how a command has ended: a fault's line, and what is wrong at its place where that is asked for. Gives the status, which says it
+/// also where the writer of errors fails, here and below.
+fn tell<E: Write>(
+    alloc: Global,
+    asked: &Options,
+    done: &Result<(), Fault>,
+    texts: &Texts,
+    err: &mut E,
+) -> u8
+    ensures { result ≡ status_after done.now }
+{
+    match done {
+        Ok(()) => 0,
+        Err(fault) => {
+            let (query, input, explain) = texts_of(asked);
+            let _ = fault.write_line(query, input, err);
+            if explain {
+                let _ = explain_fault(alloc, fault, texts, err);
+            }
+            fault.status()
+        }
+    }
+}
+
+/// Tells which numbers refusals have, where none has that one.
+fn tell_numbers<E: Write>(code: &str, err: &mut E) -> u8
+    ensures { result ≡ 2 }
+{
+    let _ = writeln!(err, "no refusal has the number {code}: they are {NUMBERS}");
+    2
+}
+
+/// Does what the options ask for, and tells a fault. Gives the status.
+#[tactic(auto, using(crate::proofs::Commanding::ended))]
+fn obey<'a, R: Threads + Wait + Sync, S: Sources<'a>, W: Write, E: Write, O: Write + Send + Drop>(
+    rt: &R,
+    alloc: Global,
+    sources: &S,
+    asked: Options<'a>,
+    out: &mut Watched<W>,
+    err: &mut E,
+    watcher: &mut Option<O>,
+) -> u8
+    ensures { Obeys (S.content sources.now) asked.entry (W.contents (inner_of out.old)) (W.contents (inner_of out.new)) result }
+{
+    let mut texts = Texts::new(alloc);
+    let done = match asked {
+        Options::Run {
+            query,
+            input,
+            workers,
+            watch,
+            ..
+        } => run_named(
+            rt, alloc, sources, workers, watch, query, input, &mut texts, out, watcher,
+        ),
+        Options::Check { query, .. } => check_named(alloc, sources, query, &mut texts, out),
+        Options::Graph { query, form, .. } => {
+            graph_named(alloc, sources, form, query, &mut texts, out)
+        }
+        Options::Replay {
+            query,
+            schedule,
+            workers,
+            ..
+        } => replay_named(alloc, sources, workers, query, schedule, &mut texts, out),
+        Options::Explain { code } => match explained(code) {
+            Some(row) => write_explanation(alloc, row, out),
+            None => return tell_numbers(code, err),
+        },
+    };
+    tell(alloc, &asked, &done, &texts, err)
+}
+
+/// Tells why a line is refused, and gives the status.
+pub fn refuse<E: Write>(fault: &LineFault, err: &mut E) -> u8
+    ensures { result ≡ line_status_of fault.now }
+{
+    let _ = match fault {
+        LineFault::Line(text) => write!(err, "{text}"),
+        _ => writeln!(err, "{fault}"),
+    };
+    fault.status()
+}
+
+/// Answers a command line, whose first word is the program's own: does what it asks for over the texts that it names, and tells a fault.
+/// Gives the status. What `--watch` tells goes to the watcher, which is let go where a run isn't to be watched.
+#[tactic(auto, using(crate::proofs::Commanding::obeyed, crate::proofs::Commanding::refused))]
+pub fn answer<
+    'a,
+    R: Threads + Wait + Sync,
+    S: Sources<'a>,
+    W: Write,
+    E: Write,
+    O: Write + Send + Drop,
+>(
+    rt: &R,
+    alloc: Global,
+    sources: &S,
+    words: &'a [&'a str],
+    out: &mut Watched<W>,
+    err: &mut E,
+    watcher: &mut Option<O>,
+) -> u8
+    ensures { Answers (S.content sources.now) (map (λ s. s.now) words.entry.now) (W.contents (inner_of out.old)) (W.contents (inner_of out.new)) result }
+{
+    match options(alloc, words) {
+        Ok(asked) => obey(rt, alloc, sources, asked, out, err, watcher),
+        Err(fault) => refuse(&fault, err),
+    }
+}

@@ -1,0 +1,168 @@
+//! A line of a text, shown with its number, and what stands at a place in it marked.
+
+ghost use Rattle.std.specs.Prelude.{◌<◌, ◌≤◌, length, IfSome};
+
+use crate::display::Shown;
+use record_core::Span;
+use std::io;
+use std::io::Write;
+
+/// The most bytes of a line that are shown.
+const WIDTH: usize = 200;
+
+/// How many bytes of a longer line are shown before the place.
+const BEFORE: usize = 80;
+
+/// A line of a text: its number, counted from 1, its bytes without the line feed, and the place in it, which may be its end.
+#[derive(Clone, Copy)]
+struct Line<'a> {
+    number: u64,
+    bytes: &'a [u8],
+    place: usize,
+}
+
+/// Where the first line feed stands.
+fn feed(text: &[u8]) -> Option<usize>
+    ensures { IfSome result (λ n. n < length text.now) }
+{
+    text.iter().position(|byte| *byte == b'\n')
+}
+
+/// Where the first line feed stands, and the text after it.
+fn next_line(text: &[u8]) -> Option<(usize, &[u8])>
+    ensures { IfSome result (λ p. (p.0 < length text.now) × (length p.1.now < length text.now)) }
+{
+    let end = feed(text)?;
+    let (_, rest) = text.split_at(end);
+    match rest {
+        [_, after @ ..] => Some((end, after)),
+        [] => None,
+    }
+}
+
+/// The text up to the first line feed.
+fn first_line(text: &[u8]) -> &[u8] {
+    match feed(text) {
+        Some(end) => &text[..end],
+        None => text,
+    }
+}
+
+/// The line in which a place stands. A line feed stands at the end of its line.
+fn line_at(text: &[u8], place: usize) -> Line<'_> {
+    let mut number: u64 = 1;
+    let mut rest = text;
+    let mut place = place;
+    'lines: while let Some((end, after)) = next_line(rest) {
+        if place <= end {
+            break;
+        }
+        place -= end + 1;
+        rest = after;
+        number = number.saturating_add(1);
+    }
+    Line {
+        number,
+        bytes: first_line(rest),
+        place,
+    }
+}
+
+/// The line of that number, counted from 1; empty where the text has fewer.
+pub fn numbered_line(text: &[u8], number: u64) -> &[u8] {
+    let mut rest = text;
+    for _before in 1..number {
+        match next_line(rest) {
+            Some((_, after)) => rest = after,
+            None => return &[],
+        }
+    }
+    first_line(rest)
+}
+
+/// How many bytes at the front of a line are left out, so that the place is seen.
+fn skipped(length: usize, place: usize) -> usize
+    ensures { result ≤ length }
+{
+    if length <= WIDTH {
+        0
+    } else {
+        place.saturating_sub(BEFORE).min(length - WIDTH)
+    }
+}
+
+/// Writes `  1 | ` and the line, of a long one the part round the place, with `..` where bytes are left out.
+fn write_line<W: Write>(line: &Line<'_>, writer: &mut W) -> io::Result<()> {
+    let number = line.number;
+    let from = skipped(line.bytes.len(), line.place);
+    let rest = &line.bytes[from..];
+    let front = if from == 0 { "" } else { ".." };
+    match rest.get(..WIDTH) {
+        Some(part) if WIDTH < rest.len() => {
+            let part = Shown(part);
+            writeln!(writer, "{number:>3} | {front}{part}..")
+        }
+        _ => {
+            let part = Shown(rest);
+            writeln!(writer, "{number:>3} | {front}{part}")
+        }
+    }
+}
+
+/// How many digits a number has.
+fn digits(number: u64) -> u32 {
+    match number.checked_ilog10() {
+        Some(log) => log.saturating_add(1),
+        None => 1,
+    }
+}
+
+/// Writes what stands below a line's number, and the spaces and tabs that bring the carets below the place.
+fn write_margin<W: Write>(line: &Line<'_>, from: usize, writer: &mut W) -> io::Result<()>
+    requires { from ≤ length line.now.bytes.now }
+{
+    for _digit in 0..digits(line.number).max(3) {
+        write!(writer, " ")?;
+    }
+    write!(writer, " | ")?;
+    if from > 0 {
+        write!(writer, "  ")?;
+    }
+    for byte in line.bytes[from..]
+        .iter()
+        .take(line.place.saturating_sub(from))
+    {
+        let blank = if *byte == b'\t' { "\t" } else { " " };
+        write!(writer, "{blank}")?;
+    }
+    Ok(())
+}
+
+/// Writes carets below so many bytes from the place on, as far as the line is shown; at least one.
+fn write_carets<W: Write>(line: &Line<'_>, count: usize, writer: &mut W) -> io::Result<()> {
+    let from = skipped(line.bytes.len(), line.place);
+    write_margin(line, from, writer)?;
+    let end = line.bytes.len().min(from.saturating_add(WIDTH));
+    let count = count.min(end.saturating_sub(line.place)).max(1);
+    for _caret in 0..count {
+        write!(writer, "^")?;
+    }
+    writeln!(writer)
+}
+
+/// Writes the line of a text in which a span begins, and carets below the span.
+pub fn write_marked<W: Write>(text: &[u8], span: Span, writer: &mut W) -> io::Result<()> {
+    let line = line_at(text, span.start as usize);
+    write_line(&line, writer)?;
+    write_carets(&line, span.end.saturating_sub(span.start) as usize, writer)
+}
+
+/// Writes the line of a text that has that number, with its number.
+pub fn write_numbered<W: Write>(text: &[u8], number: u64, writer: &mut W) -> io::Result<()> {
+    let line = Line {
+        number,
+        bytes: numbered_line(text, number),
+        place: 0,
+    };
+    write_line(&line, writer)
+}

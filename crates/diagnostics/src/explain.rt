@@ -1,0 +1,48 @@
+//! Explains a fault by the texts that it came of.
+
+use crate::excerpt::{numbered_line, write_marked, write_numbered};
+use crate::fault::Fault;
+use crate::input_fault::write_input_fault;
+use crate::query_fault::{write_query_fault, write_summary};
+use crate::schedule_fault::write_schedule_fault;
+use crate::texts::Texts;
+use record_core::Span;
+use std::alloc::Global;
+use std::io;
+use std::io::Write;
+
+/// Writes below a fault's line what is at hand: of a query the line with carets under the place, of an input or a schedule the
+/// faulty line, and then a sentence with the names and the numbers. Nothing for a fault of memory, threads or files.
+pub fn explain_fault<W: Write>(
+    alloc: Global,
+    fault: &Fault,
+    texts: &Texts,
+    writer: &mut W,
+) -> io::Result<()> {
+    match fault {
+        Fault::Query { code, start, end } => {
+            let span = Span {
+                start: *start,
+                end: *end,
+            };
+            write_marked(&texts.query, span, writer)?;
+            write_query_fault(alloc, &texts.query, *code, span, writer)
+        }
+        Fault::TooManyVertices => write_summary(21, writer),
+        Fault::Input { code, line } => {
+            write_numbered(&texts.input, *line, writer)?;
+            let faulty = numbered_line(&texts.input, *line);
+            write_input_fault(alloc, &texts.query, *code, faulty, writer)
+        }
+        Fault::Schedule { code, line } => {
+            write_numbered(&texts.input, *line, writer)?;
+            write_schedule_fault(*code, writer)
+        }
+        Fault::NoMemory
+        | Fault::NoWorker
+        | Fault::Incomplete
+        | Fault::ReadQuery
+        | Fault::ReadInput
+        | Fault::Write => Ok(()),
+    }
+}
