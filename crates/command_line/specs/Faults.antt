@@ -7,6 +7,7 @@ use Rattle.command_line.specs.declared.line_fault.LineFault.TheVariants as line
 abbrev pub line_status_of : LineFault → ℕ
 line_status_of line.NoMemory = 5
 line_status_of (line.Workers word) = 2
+line_status_of (line.Heap word) = 2
 line_status_of line.NoText = 2
 line_status_of line.NoCommand = 2
 line_status_of (line.Line error) = 2

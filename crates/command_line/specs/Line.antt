@@ -1,16 +1,21 @@
 -- The command line: its commands, and what the matches of the words hold.
-use Rattle.std.specs.Prelude.{◌≡◌, ℕ, Bool, true, false, List, [], Option, Some, None, codes}
+use Rattle.std.specs.Prelude.{◌≡◌, ℕ, Bool, true, false, List, [], Option, Some, None, option_map, codes}
 use Rattle.clap.specs.Words.{App, Row, Rule, Text, first_of, new_app, new_rule, one_of, subcommand_of, with_rule, with_subcommand}
 use Rattle.clap.specs.declared.builder.action.ArgAction.TheVariants.{SetTrue}
 use Rattle.command_line.specs.Numbers.{Spells}
+use Rattle.command_line.specs.declared.heap_size.HeapSize.{HeapSize}
 use Rattle.command_line.specs.declared.line_options.GraphForm.{GraphForm}
 use Rattle.command_line.specs.declared.line_options.GraphForm.TheVariants.{Lines, Dot}
 use Rattle.command_line.specs.declared.line_options.Options.{Options}
-use Rattle.command_line.specs.declared.line_options.Options.TheVariants.{Run, Check, Graph, Replay, Explain}
+use Rattle.command_line.specs.declared.line_options.Options.TheVariants.{Run, Check, Graph, Format, Replay, Explain}
 
 -- a word that has to be given
 abbrev pub word_rule : Text → Rule
 word_rule id = record (new_rule id) { required = true }
+
+-- a word that may be given
+abbrev pub optional_rule : Text → Rule
+optional_rule id = new_rule id
 
 -- a flag, `--` and its name
 abbrev pub flag_rule : Text → Rule
@@ -20,13 +25,21 @@ flag_rule id = record (new_rule id) { long = Some id; action = Some SetTrue }
 abbrev pub option_rule : Text → Rule
 option_rule id = record (new_rule id) { long = Some id; value_names = 1 }
 
--- `check QUERY`, with or without `--explain`
+-- `check QUERY` or `check QUERY INPUT`, with or without `--heap BYTES` and `--explain`
 abbrev pub check_app : App
-check_app = with_rule (with_rule (new_app (codes "check")) (flag_rule (codes "explain"))) (word_rule (codes "QUERY"))
+check_app =
+    with_rule (with_rule (with_rule (with_rule (new_app (codes "check")) (option_rule (codes "heap"))) (flag_rule (codes "explain"))) (word_rule (codes "QUERY")))
+    (optional_rule (codes "INPUT"))
 
--- `graph QUERY`, with or without `--dot` and `--explain`
+-- `graph QUERY`, with or without `--dot`, `--heap BYTES` and `--explain`
 abbrev pub graph_app : App
-graph_app = with_rule (with_rule (with_rule (new_app (codes "graph")) (flag_rule (codes "dot"))) (flag_rule (codes "explain"))) (word_rule (codes "QUERY"))
+graph_app =
+    with_rule (with_rule (with_rule (with_rule (new_app (codes "graph")) (flag_rule (codes "dot"))) (option_rule (codes "heap"))) (flag_rule (codes "explain")))
+    (word_rule (codes "QUERY"))
+
+-- `format QUERY`, with or without `--explain`
+abbrev pub format_app : App
+format_app = with_rule (with_rule (new_app (codes "format")) (flag_rule (codes "explain"))) (word_rule (codes "QUERY"))
 
 -- `run QUERY INPUT`, with or without `--workers N`, `--watch` and `--explain`
 abbrev pub run_app : App
@@ -49,7 +62,9 @@ explain_app = with_rule (new_app (codes "explain")) (word_rule (codes "CODE"))
 abbrev pub line_app : App
 line_app =
     let top : App = record { top = record (new_app (codes "loom")).top { subcommand_required = true }; subs = [] } in
-    with_subcommand (with_subcommand (with_subcommand (with_subcommand (with_subcommand top run_app.top) check_app.top) graph_app.top) replay_app.top) explain_app.top
+    with_subcommand
+    (with_subcommand (with_subcommand (with_subcommand (with_subcommand (with_subcommand top run_app.top) check_app.top) graph_app.top) format_app.top) replay_app.top)
+    explain_app.top
 
 -- the flag is what the matches hold of it
 abbrev pub IsFlag : Text → List Row → Bool → Type 0
@@ -65,13 +80,25 @@ abbrev pub AreAskedFor : Option Text → (workers : ℕ) → Type 0
 AreAskedFor None workers = workers ≡ 1
 AreAskedFor (Some word) workers = Spells word workers
 
+-- a heap of that size is asked for; none where no word tells it
+abbrev pub IsAskedHeap : Option Text → Option HeapSize → Type 0
+IsAskedHeap None None = Unit {0}
+IsAskedHeap (Some word) (Some heap) = Spells word heap.bytes
+IsAskedHeap None (Some heap) = ⊥
+IsAskedHeap (Some word) None = ⊥
+
 -- the options are what the matches of a command hold
 abbrev pub HoldsAt : Text → List Row → Options → Type 0
 HoldsAt name rows (Run query input workers watch explain) =
     (name ≡ codes "run") × (first_of (codes "QUERY") rows ≡ Some query.now) × (first_of (codes "INPUT") rows ≡ Some input.now) × AreAskedFor (first_of (codes "workers") rows) workers.count
     × IsFlag (codes "watch") rows watch × IsFlag (codes "explain") rows explain
-HoldsAt name rows (Check query explain) = (name ≡ codes "check") × (first_of (codes "QUERY") rows ≡ Some query.now) × IsFlag (codes "explain") rows explain
-HoldsAt name rows (Graph query form explain) = (name ≡ codes "graph") × (first_of (codes "QUERY") rows ≡ Some query.now) × IsFlag (codes "dot") rows (is_dot form) × IsFlag (codes "explain") rows explain
+HoldsAt name rows (Check query input heap explain) =
+    (name ≡ codes "check") × (first_of (codes "QUERY") rows ≡ Some query.now) × (option_map (λ s. s.now) input ≡ first_of (codes "INPUT") rows) × IsAskedHeap (first_of (codes "heap") rows) heap
+    × IsFlag (codes "explain") rows explain
+HoldsAt name rows (Graph query form heap explain) =
+    (name ≡ codes "graph") × (first_of (codes "QUERY") rows ≡ Some query.now) × IsFlag (codes "dot") rows (is_dot form) × IsAskedHeap (first_of (codes "heap") rows) heap
+    × IsFlag (codes "explain") rows explain
+HoldsAt name rows (Format query explain) = (name ≡ codes "format") × (first_of (codes "QUERY") rows ≡ Some query.now) × IsFlag (codes "explain") rows explain
 HoldsAt name rows (Replay query schedule workers explain) =
     (name ≡ codes "replay") × (first_of (codes "QUERY") rows ≡ Some query.now) × (first_of (codes "SCHEDULE") rows ≡ Some schedule.now) × AreAskedFor (first_of (codes "workers") rows) workers.count
     × IsFlag (codes "explain") rows explain

@@ -3,8 +3,9 @@
 ghost use Rattle.std.specs.Prelude.{◌≡◌, map, option_map, IfOk, IfSome, codes, false};
 ghost use Rattle.clap.specs.Words.{app_of, first_of, found_of, new_app, rows_of, rule_of};
 ghost use Rattle.clap.specs.declared.builder.Command.TheViews.{out-Command as fields_of};
-ghost use Rattle.command_line.specs.Line.{AreAskedFor, Holds, HoldsAt, IsFlag, check_app, explain_app, flag_rule, graph_app, line_app, option_rule, replay_app, run_app, word_rule};
+ghost use Rattle.command_line.specs.Line.{AreAskedFor, Holds, HoldsAt, IsAskedHeap, IsFlag, check_app, explain_app, flag_rule, format_app, graph_app, line_app, option_rule, optional_rule, replay_app, run_app, word_rule};
 
+use crate::heap_size::HeapSize;
 use crate::line_fault::LineFault;
 use crate::line_options::{GraphForm, Options};
 use crate::worker_count::Workers;
@@ -18,6 +19,14 @@ fn word_arg<'a>(alloc: Global, id: &'a str) -> Arg<'a>
     ensures local { result.global ≡ false }
 {
     Arg::new(alloc, id).required(true)
+}
+
+/// A word that may be given.
+fn optional_arg<'a>(alloc: Global, id: &'a str) -> Arg<'a>
+    ensures rule { rule_of result ≡ optional_rule id.entry.now }
+    ensures local { result.global ≡ false }
+{
+    Arg::new(alloc, id)
 }
 
 /// A flag: `--` and its name.
@@ -54,6 +63,17 @@ fn workers_arg<'a>(alloc: Global) -> Arg<'a>
         .help("How many workers, 1 to 64; one where it is not given")
 }
 
+/// The option `--heap BYTES`.
+fn heap_arg<'a>(alloc: Global) -> Arg<'a>
+    ensures rule { rule_of result ≡ option_rule (codes "heap") }
+    ensures local { result.global ≡ false }
+{
+    Arg::new(alloc, "heap")
+        .long("heap")
+        .value_name("BYTES")
+        .help("Keep the query's tree in a heap of so many bytes, 64 to 16777216")
+}
+
 /// A command of that name, with its line of help.
 fn named<'a>(alloc: Global, name: &'a str, about: &'a str) -> Command<'a>
     ensures app { app_of result ≡ new_app name.entry.now }
@@ -66,9 +86,15 @@ fn check_command<'a>(alloc: Global) -> Result<Command<'a>, AllocError>
     ensures app { IfOk result (λ c. app_of c ≡ check_app) }
     ensures local { IfOk result (λ c. (fields_of c).has_globals ≡ false) }
 {
-    named(alloc, "check", "Check a query, and write its arities")
-        .arg(explain_arg(alloc))?
-        .arg(word_arg(alloc, "QUERY"))
+    named(
+        alloc,
+        "check",
+        "Check a query, and an input where one is given, and write the arities",
+    )
+    .arg(heap_arg(alloc))?
+    .arg(explain_arg(alloc))?
+    .arg(word_arg(alloc, "QUERY"))?
+    .arg(optional_arg(alloc, "INPUT"))
 }
 
 fn graph_command<'a>(alloc: Global) -> Result<Command<'a>, AllocError>
@@ -81,8 +107,18 @@ fn graph_command<'a>(alloc: Global) -> Result<Command<'a>, AllocError>
         "Compile a query, and write its dataflow graph",
     )
     .arg(flag_arg(alloc, "dot", "Write the graph for Graphviz to draw"))?
+    .arg(heap_arg(alloc))?
     .arg(explain_arg(alloc))?
     .arg(word_arg(alloc, "QUERY"))
+}
+
+fn format_command<'a>(alloc: Global) -> Result<Command<'a>, AllocError>
+    ensures app { IfOk result (λ c. app_of c ≡ format_app) }
+    ensures local { IfOk result (λ c. (fields_of c).has_globals ≡ false) }
+{
+    named(alloc, "format", "Write a query in its canonical form")
+        .arg(explain_arg(alloc))?
+        .arg(word_arg(alloc, "QUERY"))
 }
 
 fn run_command<'a>(alloc: Global) -> Result<Command<'a>, AllocError>
@@ -136,6 +172,7 @@ fn line_command<'a>(alloc: Global) -> Result<Command<'a>, AllocError>
         .subcommand(run_command(alloc)?)?
         .subcommand(check_command(alloc)?)?
         .subcommand(graph_command(alloc)?)?
+        .subcommand(format_command(alloc)?)?
         .subcommand(replay_command(alloc)?)?
         .subcommand(explain_command(alloc)?)
 }
@@ -172,15 +209,33 @@ fn run_options<'a>(found: &ArgMatches<'a>, workers: Workers) -> Option<Options<'
     })
 }
 
-fn check_options<'a>(found: &ArgMatches<'a>) -> Option<Options<'a>>
+/// The options of a check in a heap of that size.
+fn check_options<'a>(found: &ArgMatches<'a>, heap: Option<HeapSize>) -> Option<Options<'a>>
+    requires { IsAskedHeap (first_of (codes "heap") (rows_of (found_of found.now))) heap }
     ensures { IfSome result (HoldsAt (codes "check") (rows_of (found_of found.now))) }
 {
     let query = text_of(found, "QUERY")?;
+    let input = text_of(found, "INPUT");
     let explain = flag_of(found, "explain");
-    Some(Options::Check { query, explain })
+    Some(Options::Check {
+        query,
+        input,
+        heap,
+        explain,
+    })
 }
 
-fn graph_options<'a>(found: &ArgMatches<'a>) -> Option<Options<'a>>
+fn format_options<'a>(found: &ArgMatches<'a>) -> Option<Options<'a>>
+    ensures { IfSome result (HoldsAt (codes "format") (rows_of (found_of found.now))) }
+{
+    let query = text_of(found, "QUERY")?;
+    let explain = flag_of(found, "explain");
+    Some(Options::Format { query, explain })
+}
+
+/// The options of a graph in a heap of that size.
+fn graph_options<'a>(found: &ArgMatches<'a>, heap: Option<HeapSize>) -> Option<Options<'a>>
+    requires { IsAskedHeap (first_of (codes "heap") (rows_of (found_of found.now))) heap }
     ensures { IfSome result (HoldsAt (codes "graph") (rows_of (found_of found.now))) }
 {
     let query = text_of(found, "QUERY")?;
@@ -193,6 +248,7 @@ fn graph_options<'a>(found: &ArgMatches<'a>) -> Option<Options<'a>>
     Some(Options::Graph {
         query,
         form,
+        heap,
         explain,
     })
 }
@@ -205,6 +261,19 @@ fn workers_of<'a>(found: &ArgMatches<'a>) -> Result<Workers, &'a str>
         None => Ok(Workers::one()),
         Some(word) => match Workers::of_word(word) {
             Some(workers) => Ok(workers),
+            None => Err(word),
+        },
+    }
+}
+
+/// The size of the heap: none where no word tells it. A word that tells none is handed back.
+fn heap_of<'a>(found: &ArgMatches<'a>) -> Result<Option<HeapSize>, &'a str>
+    ensures { IfOk result (IsAskedHeap (first_of (codes "heap") (rows_of (found_of found.now)))) }
+{
+    match text_of(found, "heap") {
+        None => Ok(None),
+        Some(word) => match HeapSize::of_word(word) {
+            Some(heap) => Ok(Some(heap)),
             None => Err(word),
         },
     }
@@ -234,6 +303,34 @@ fn workers_fault(alloc: Global, word: &str) -> LineFault {
     }
 }
 
+/// The fault of a word that is no size of a heap.
+fn heap_fault(alloc: Global, word: &str) -> LineFault {
+    match String::from_str(alloc, word) {
+        Ok(word) => LineFault::Heap { word },
+        Err(_) => LineFault::NoMemory,
+    }
+}
+
+/// What the matches of `check` hold.
+fn check_line<'a>(alloc: Global, found: &ArgMatches<'a>) -> Result<Options<'a>, LineFault>
+    ensures { IfOk result (HoldsAt (codes "check") (rows_of (found_of found.now))) }
+{
+    match heap_of(found) {
+        Ok(heap) => check_options(found, heap).ok_or(LineFault::NoCommand),
+        Err(word) => Err(heap_fault(alloc, word)),
+    }
+}
+
+/// What the matches of `graph` hold.
+fn graph_line<'a>(alloc: Global, found: &ArgMatches<'a>) -> Result<Options<'a>, LineFault>
+    ensures { IfOk result (HoldsAt (codes "graph") (rows_of (found_of found.now))) }
+{
+    match heap_of(found) {
+        Ok(heap) => graph_options(found, heap).ok_or(LineFault::NoCommand),
+        Err(word) => Err(heap_fault(alloc, word)),
+    }
+}
+
 /// What the matches of `run` hold.
 fn run_line<'a>(alloc: Global, found: &ArgMatches<'a>) -> Result<Options<'a>, LineFault>
     ensures { IfOk result (HoldsAt (codes "run") (rows_of (found_of found.now))) }
@@ -254,13 +351,12 @@ fn replay_line<'a>(alloc: Global, found: &ArgMatches<'a>) -> Result<Options<'a>,
     }
 }
 
-/// The options that the matches of a command hold which has no workers.
+/// The options that the matches of a command hold which takes no number.
 fn options_at<'a>(name: &str, found: &ArgMatches<'a>) -> Option<Options<'a>>
     ensures { IfSome result (HoldsAt name.now (rows_of (found_of found.now))) }
 {
     match name.as_bytes() {
-        b"check" => check_options(found),
-        b"graph" => graph_options(found),
+        b"format" => format_options(found),
         b"explain" => Some(Options::Explain {
             code: text_of(found, "CODE")?,
         }),
@@ -279,6 +375,8 @@ fn line_options<'a>(
     match name.as_bytes() {
         b"run" => run_line(alloc, found),
         b"replay" => replay_line(alloc, found),
+        b"check" => check_line(alloc, found),
+        b"graph" => graph_line(alloc, found),
         _ => options_at(name, found).ok_or(LineFault::NoCommand),
     }
 }

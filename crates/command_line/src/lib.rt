@@ -5,11 +5,13 @@
 #![tactic(auto)]
 
 mod command;
+mod heap_size;
 mod line_fault;
 mod line_options;
 mod worker_count;
 
 pub use command::options;
+pub use heap_size::HeapSize;
 pub use line_fault::LineFault;
 pub use line_options::{GraphForm, Options};
 pub use worker_count::Workers;

@@ -13,6 +13,9 @@ pub enum LineFault {
     /// The word after `--workers` is no number of workers.
     #[error("error: invalid value '{word}' for '--workers <N>': {word} is not in 1..=64")]
     Workers { word: String },
+    /// The word after `--heap` is no size of a heap.
+    #[error("error: invalid value '{word}' for '--heap <BYTES>': {word} is not in 64..=16777216")]
+    Heap { word: String },
     /// A word of the line is no UTF-8 text.
     #[error("error: invalid UTF-8 was detected in one or more arguments")]
     NoText,
@@ -32,6 +35,7 @@ impl LineFault {
         match self {
             LineFault::NoMemory => 5,
             LineFault::Workers { .. }
+            | LineFault::Heap { .. }
             | LineFault::NoText
             | LineFault::NoCommand
             | LineFault::Line(_) => 2,

@@ -1,5 +1,6 @@
 //! What a command line asks for.
 
+use crate::heap_size::HeapSize;
 use crate::worker_count::Workers;
 
 /// What the words of the line ask for. Paths are kept as they were given.
@@ -14,15 +15,24 @@ pub enum Options<'a> {
         watch: bool,
         explain: bool,
     },
-    /// `loom check QUERY`, and a fault explained with `--explain`
+    /// `loom check QUERY`, or `loom check QUERY INPUT`, which reads the input too; in a heap of that size with `--heap BYTES`; and a fault
+    /// explained with `--explain`
     Check {
         query: &'a str,
+        input: Option<&'a str>,
+        heap: Option<HeapSize>,
         explain: bool,
     },
-    /// `loom graph QUERY`, or `loom graph --dot QUERY`, and a fault explained with `--explain`
+    /// `loom graph QUERY`, or `loom graph --dot QUERY`, in a heap of that size with `--heap BYTES`, and a fault explained with `--explain`
     Graph {
         query: &'a str,
         form: GraphForm,
+        heap: Option<HeapSize>,
+        explain: bool,
+    },
+    /// `loom format QUERY`, and a fault explained with `--explain`
+    Format {
+        query: &'a str,
         explain: bool,
     },
     /// `loom replay QUERY SCHEDULE`, on one worker or `--workers N`, and a fault explained with `--explain`

@@ -12,6 +12,7 @@ use Rattle.console.specs.Commands.{Answers, EndsOn, Known, Obeys, status_after}
 two_or_five : (fault : LineFault) → (line_status_of fault ≡ 2) ⊎ (line_status_of fault ≡ 5)
 two_or_five line.NoMemory = inr refl
 two_or_five (line.Workers word) = inl refl
+two_or_five (line.Heap word) = inl refl
 two_or_five line.NoText = inl refl
 two_or_five line.NoCommand = inl refl
 two_or_five (line.Line error) = inl refl

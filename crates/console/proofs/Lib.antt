@@ -4,6 +4,7 @@ pub mod DeclaredInputs
 pub mod SameGraph
 pub mod InputLines
 pub mod QueryFaults
+pub mod CheckedInputs
 pub mod Rewritten
 pub mod OneGraph
 pub mod Heeding

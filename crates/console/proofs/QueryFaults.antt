@@ -4,10 +4,13 @@ use Rattle.record_core.specs.declared.span.Refusal.{Refusal}
 use Rattle.record_core.specs.declared.span.Refusal.TheVariants.{At, NoMemory}
 use Rattle.expr_tree.specs.Trees.{ProgramTree}
 use Rattle.grammar.specs.Texts.{Reads}
+use Rattle.parser.specs.Refusals as parser
 use Rattle.typing.specs.FirstFault.{Told}
 use Rattle.console.specs.Checks.{IsCheckFault}
 use Rattle.console.specs.Compiled.{IsUncompiled}
 use Rattle.console.specs.Faults.{compile_fault_of, fault_of}
+use Rattle.console.specs.Formats.{IsFormatFault}
+use Rattle.console.specs.InputChecks.{IsInputCheckFault}
 use Rattle.console.specs.Queries.{IsRefusal}
 
 pub ill_typed : (text : List ℕ) (tree : ProgramTree) (e : Refusal) → Reads text tree → Told tree e → IsRefusal text e
@@ -21,3 +24,11 @@ graph_refused text NoMemory h = tt
 pub check_refused : (text : List ℕ) (e : Refusal) → IsRefusal text e → IsCheckFault text (fault_of e)
 check_refused text (At code span) h = h
 check_refused text NoMemory h = tt
+
+pub format_refused : (text : List ℕ) (e : Refusal) → parser.Refuses text e → IsFormatFault text (fault_of e)
+format_refused text (At code span) h = h
+format_refused text NoMemory h = tt
+
+pub input_check_refused : (text input : List ℕ) (e : Refusal) → IsRefusal text e → IsInputCheckFault text input (fault_of e)
+input_check_refused text input (At code span) h = h
+input_check_refused text input NoMemory h = tt

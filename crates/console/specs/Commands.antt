@@ -1,19 +1,21 @@
 -- What a command line comes to: what is written of it to standard output, and its status.
-use Rattle.std.specs.Prelude.{◌≡◌, ◌⊎◌, ℕ, List, take, decimal, Option, Result, Ok, Err, IfSome}
+use Rattle.std.specs.Prelude.{◌≡◌, ◌⊎◌, ℕ, List, take, decimal, Option, Some, None, Result, Ok, Err, IfSome, option_map}
 use Rattle.clap.specs.Words.{Text}
 use Rattle.refusals.specs.declared.table.Explanation.{Explanation}
 use Rattle.command_line.specs.Counts.{count_of}
 use Rattle.command_line.specs.Line.{Holds}
 use Rattle.command_line.specs.declared.line_options.GraphForm.{GraphForm}
 use Rattle.command_line.specs.declared.line_options.Options.{Options}
-use Rattle.command_line.specs.declared.line_options.Options.TheVariants.{Run, Check, Graph, Replay, Explain}
+use Rattle.command_line.specs.declared.line_options.Options.TheVariants.{Run, Check, Graph, Format, Replay, Explain}
 use Rattle.command_line.specs.declared.worker_count.Workers.{Workers}
 use Rattle.diagnostics.specs.Explanations.{ExplanationEnds}
 use Rattle.diagnostics.specs.Faults.{status_of}
 use Rattle.diagnostics.specs.declared.fault.Fault.{Fault}
 use Rattle.console.specs.Checks.{CheckEnds}
+use Rattle.console.specs.Formats.{FormatEnds}
 use Rattle.console.specs.Graphs.{GraphEnds}
 use Rattle.console.specs.Heeded.{Heeds}
+use Rattle.console.specs.InputChecks.{CheckInputEnds}
 use Rattle.console.specs.Replayed.{ReplayEnds}
 use Rattle.console.specs.Runs.{Ends}
 
@@ -26,8 +28,13 @@ abbrev pub RunsOn : Known → (query input : List ℕ) → Option (List ℕ) →
 RunsOn texts query input old new result =
     IfSome (texts query) (λ q. Heeds (take 1048577 q) old new result × IfSome (texts input) (λ i. Ends (take 1048577 q) i old new result))
 
-abbrev pub ChecksOn : Known → (query : List ℕ) → Option (List ℕ) → Option (List ℕ) → Result (Unit {0}) Fault → Type 0
-ChecksOn texts query old new result = IfSome (texts query) (λ q. CheckEnds (take 1048577 q) old new result)
+-- the query alone where no input is named, and else both
+abbrev pub ChecksOn : Known → (query : List ℕ) → (input : Option (List ℕ)) → Option (List ℕ) → Option (List ℕ) → Result (Unit {0}) Fault → Type 0
+ChecksOn texts query None old new result = IfSome (texts query) (λ q. CheckEnds (take 1048577 q) old new result)
+ChecksOn texts query (Some input) old new result = IfSome (texts query) (λ q. IfSome (texts input) (λ i. CheckInputEnds (take 1048577 q) i old new result))
+
+abbrev pub FormatsOn : Known → (query : List ℕ) → Option (List ℕ) → Option (List ℕ) → Result (Unit {0}) Fault → Type 0
+FormatsOn texts query old new result = IfSome (texts query) (λ q. FormatEnds (take 1048577 q) old new result)
 
 abbrev pub GraphsOn : Known → GraphForm → (query : List ℕ) → Option (List ℕ) → Option (List ℕ) → Result (Unit {0}) Fault → Type 0
 GraphsOn texts form query old new result = IfSome (texts query) (λ q. GraphEnds form (take 1048577 q) old new result)
@@ -44,8 +51,9 @@ Explains code old new result = (row : Explanation) × (code ≡ decimal row.code
 -- the command of these options ends so
 abbrev pub EndsOn : Known → Options → Option (List ℕ) → Option (List ℕ) → Result (Unit {0}) Fault → Type 0
 EndsOn texts (Run query input workers watch explain) old new result = RunsOn texts query.now input.now old new result
-EndsOn texts (Check query explain) old new result = ChecksOn texts query.now old new result
-EndsOn texts (Graph query form explain) old new result = GraphsOn texts form query.now old new result
+EndsOn texts (Check query input heap explain) old new result = ChecksOn texts query.now (option_map (λ s. s.now) input) old new result
+EndsOn texts (Graph query form heap explain) old new result = GraphsOn texts form query.now old new result
+EndsOn texts (Format query explain) old new result = FormatsOn texts query.now old new result
 EndsOn texts (Replay query schedule workers explain) old new result = ReplaysOn texts workers query.now schedule.now old new result
 EndsOn texts (Explain code) old new result = Explains code.now old new result
 

@@ -6,5 +6,7 @@ pub mod Heeded
 pub mod Graphs
 pub mod Runs
 pub mod Checks
+pub mod InputChecks
+pub mod Formats
 pub mod Replayed
 pub mod Commands

@@ -84,7 +84,7 @@ fn push_outputs<A: Allocator>(
 }
 
 /// The lines of the inputs in order, and of the outputs.
-fn arities_of<A: Allocator>(
+pub fn arities_of<A: Allocator>(
     alloc: Global,
     program: &Program<A>,
     arities: &[u64],

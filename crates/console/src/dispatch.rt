@@ -1,21 +1,24 @@
 //! The dispatcher: from the words of a command line to what is written, and the status.
 
-ghost use Rattle.std.specs.Prelude.{◌≡◌, map};
+ghost use Rattle.std.specs.Prelude.{◌≡◌, map, option_map};
 ghost use Rattle.collector.specs.Watching.{inner_of};
 ghost use Rattle.command_line.specs.Faults.{line_status_of};
-ghost use Rattle.console.specs.Commands.{Answers, ChecksOn, GraphsOn, Obeys, ReplaysOn, RunsOn, status_after};
+ghost use Rattle.console.specs.Commands.{Answers, ChecksOn, FormatsOn, GraphsOn, Obeys, ReplaysOn, RunsOn, status_after};
 
 use crate::checking::check_query;
+use crate::formatting::format_query;
 use crate::graphing::graph_query;
+use crate::input_check::check_input;
 use crate::replaying::replay_schedule;
 use crate::running::run;
 use crate::sources::Sources;
 use bumpalo::Bump;
 use collector::Watched;
-use command_line::{GraphForm, LineFault, Options, Workers, options};
+use command_line::{GraphForm, HeapSize, LineFault, Options, Workers, options};
 use diagnostics::{Fault, Texts, explain_fault, explained, write_explanation};
+use linked_list_allocator::LocalHeap;
 use refusals::NUMBERS;
-use std::alloc::Global;
+use std::alloc::{Allocator, Global};
 use std::io::Write;
 use std::sync::Wait;
 use std::thread::Threads;
@@ -45,25 +48,57 @@ fn run_named<'a, R: Threads + Wait + Sync, S: Sources<'a>, W: Write, O: Write + 
     )
 }
 
-/// Checks a query.
-fn check_named<'a, S: Sources<'a>, W: Write>(
+/// Checks a query, and an input where one is named, with the query's tree in the arena.
+fn check_in<'a, A: Allocator + Copy, S: Sources<'a>, W: Write>(
     alloc: Global,
+    arena: A,
     sources: &S,
     query: &'a str,
+    input: Option<&'a str>,
     texts: &mut Texts,
     out: &mut Watched<W>,
 ) -> Result<(), Fault>
-    ensures { ChecksOn (S.content sources.now) query.now (W.contents (inner_of out.old)) (W.contents (inner_of out.new)) result }
+    ensures { ChecksOn (S.content sources.now) query.now (option_map (λ s. s.now) input.entry) (W.contents (inner_of out.old)) (W.contents (inner_of out.new)) result }
 {
     let mut query = Watched::new(sources.open(query));
-    let arena = Bump::new(alloc);
-    check_query(alloc, &arena, &mut query, texts, out)
+    match input {
+        None => check_query(alloc, arena, &mut query, texts, out),
+        Some(input) => {
+            let mut records = Watched::new(sources.open(input));
+            check_input(alloc, arena, &mut query, &mut records, texts, out)
+        }
+    }
 }
 
-/// Writes the graph of a query.
+/// Checks a query, and an input where one is named, in a heap of the size that is asked for.
+fn check_named<'a, S: Sources<'a>, W: Write>(
+    alloc: Global,
+    sources: &S,
+    heap: Option<HeapSize>,
+    query: &'a str,
+    input: Option<&'a str>,
+    texts: &mut Texts,
+    out: &mut Watched<W>,
+) -> Result<(), Fault>
+    ensures { ChecksOn (S.content sources.now) query.now (option_map (λ s. s.now) input.entry) (W.contents (inner_of out.old)) (W.contents (inner_of out.new)) result }
+{
+    match heap {
+        None => {
+            let arena = Bump::new(alloc);
+            check_in(alloc, &arena, sources, query, input, texts, out)
+        }
+        Some(size) => match LocalHeap::new(alloc, size.bytes() as usize) {
+            Ok(heap) => check_in(alloc, &heap, sources, query, input, texts, out),
+            Err(_) => Err(Fault::NoMemory),
+        },
+    }
+}
+
+/// Writes the graph of a query, whose tree is kept in a heap of the size that is asked for.
 fn graph_named<'a, S: Sources<'a>, W: Write>(
     alloc: Global,
     sources: &S,
+    heap: Option<HeapSize>,
     form: GraphForm,
     query: &'a str,
     texts: &mut Texts,
@@ -72,8 +107,31 @@ fn graph_named<'a, S: Sources<'a>, W: Write>(
     ensures { GraphsOn (S.content sources.now) form query.now (W.contents (inner_of out.old)) (W.contents (inner_of out.new)) result }
 {
     let mut query = Watched::new(sources.open(query));
+    match heap {
+        None => {
+            let arena = Bump::new(alloc);
+            graph_query(alloc, &arena, form, &mut query, texts, out)
+        }
+        Some(size) => match LocalHeap::new(alloc, size.bytes() as usize) {
+            Ok(heap) => graph_query(alloc, &heap, form, &mut query, texts, out),
+            Err(_) => Err(Fault::NoMemory),
+        },
+    }
+}
+
+/// Writes a query in its canonical form.
+fn format_named<'a, S: Sources<'a>, W: Write>(
+    alloc: Global,
+    sources: &S,
+    query: &'a str,
+    texts: &mut Texts,
+    out: &mut Watched<W>,
+) -> Result<(), Fault>
+    ensures { FormatsOn (S.content sources.now) query.now (W.contents (inner_of out.old)) (W.contents (inner_of out.new)) result }
+{
+    let mut query = Watched::new(sources.open(query));
     let arena = Bump::new(alloc);
-    graph_query(alloc, &arena, form, &mut query, texts, out)
+    format_query(alloc, &arena, &mut query, texts, out)
 }
 
 /// Does a schedule's steps over a query.
@@ -108,7 +166,13 @@ fn texts_of<'a>(asked: &Options<'a>) -> (&'a str, &'a str, bool) {
             explain,
             ..
         } => (query, schedule, explain),
-        Options::Check { query, explain } | Options::Graph { query, explain, .. } => {
+        Options::Check {
+            query,
+            input,
+            explain,
+            ..
+        } => (query, input.unwrap_or(""), explain),
+        Options::Graph { query, explain, .. } | Options::Format { query, explain } => {
             (query, "", explain)
         }
         Options::Explain { .. } => ("", "", false),
@@ -171,10 +235,19 @@ fn obey<'a, R: Threads + Wait + Sync, S: Sources<'a>, W: Write, E: Write, O: Wri
         } => run_named(
             rt, alloc, sources, workers, watch, query, input, &mut texts, out, watcher,
         ),
-        Options::Check { query, .. } => check_named(alloc, sources, query, &mut texts, out),
-        Options::Graph { query, form, .. } => {
-            graph_named(alloc, sources, form, query, &mut texts, out)
-        }
+        Options::Check {
+            query,
+            input,
+            heap,
+            ..
+        } => check_named(alloc, sources, heap, query, input, &mut texts, out),
+        Options::Graph {
+            query,
+            form,
+            heap,
+            ..
+        } => graph_named(alloc, sources, heap, form, query, &mut texts, out),
+        Options::Format { query, .. } => format_named(alloc, sources, query, &mut texts, out),
         Options::Replay {
             query,
             schedule,

@@ -2,7 +2,8 @@
 //!
 //! `answer` reads the words, opens the texts that they name, does what they ask for, tells a fault, and gives the status. `run` reads a
 //! query and an input, has the board compute, and writes the answer; `check_query` reads a query and writes its arities, and
-//! `graph_query` its graph, which `compile` makes; `replay_schedule` reads a query and a schedule, and writes what the schedule's lines
+//! `graph_query` its graph, which `compile` makes; `check_input` reads an input too, and `format_query` writes the query in its canonical
+//! form; `replay_schedule` reads a query and a schedule, and writes what the schedule's lines
 //! print. The contract: where `run` answers Ok, what was written is the output text of what the query means on the epochs that the
 //! input text tells; a graph that `compile` makes has exactly one flow on any inputs, which brings to each output what the query means
 //! there. Below stand the command line and diagnostics, and the parser, typing, the normaliser, lowering, the board and the collector;
@@ -14,7 +15,9 @@ mod compiling;
 mod disk;
 mod dispatch;
 mod fault;
+mod formatting;
 mod graphing;
+mod input_check;
 mod laws;
 mod replaying;
 mod respond;
@@ -22,13 +25,15 @@ mod running;
 mod sources;
 
 pub use checking::check_query;
-pub use command_line::{GraphForm, LineFault, Options, Workers};
+pub use command_line::{GraphForm, HeapSize, LineFault, Options, Workers};
 pub use compiling::compile;
 pub use diagnostics::{Fault, Texts};
 pub use disk::{Disk, LateFile};
 pub use dispatch::{answer, refuse};
 pub use fault::CompileFault;
+pub use formatting::format_query;
 pub use graphing::graph_query;
+pub use input_check::check_input;
 pub use laws::{law_one_answer, law_one_graph};
 pub use replaying::replay_schedule;
 pub use running::run;

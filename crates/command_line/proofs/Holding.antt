@@ -1,0 +1,25 @@
+-- The subcommand that was found, with its matches, is the one that the words name.
+use Rattle.std.proofs.Common.{◌≡◌, List, Option, Some, None, option_map, refl, sym, subst, ◌∙◌}
+use Rattle.std.specs.Box.{box_value}
+use Rattle.clap.specs.Words.{App, Row, Text, found_of, rows_of, subcommand_rows}
+use Rattle.clap.specs.Simple.{HasMatchesOf}
+use Rattle.clap.specs.Matches.{subcommand_name_of}
+use Rattle.clap.specs.declared.parser.matches.ArgMatches.{ArgMatches}
+use Rattle.clap.specs.declared.parser.matches.ArgMatches.TheViews.{out-ArgMatches, out-SubCommand}
+use Rattle.command_line.specs.Line.{Holds, HoldsAt, HoldsOf, line_app}
+use Rattle.command_line.specs.declared.line_options.Options.{Options}
+
+-- a pair of which both parts are known
+both : {X : Type 0} (found : Option X) (f : X → Text) (g : X → List Row) (name : Text) (rows : List Row) → Some name ≡ option_map f found → Some rows ≡ option_map (λ (p : Text × List Row). p.1) (option_map {U = Text × List Row} (λ x. (f x, g x)) found)
+    → option_map {U = Text × List Row} (λ x. (f x, g x)) found ≡ Some (name, rows)
+both None f g name rows n r = absurd cc
+both (Some x) f g name rows n r =
+    let first : name ≡ f x = cc in
+    let second : rows ≡ g x = cc in
+    rw (first, second) refl
+
+pub holds : (a : App) (words : List Text) (m : ArgMatches) (name : Text) (rows : List Row) → a ≡ line_app → HasMatchesOf a words m → Some name ≡ subcommand_name_of m → Some rows ≡ option_map (λ p. p.1) (subcommand_rows (out-ArgMatches m).subcommand)
+    → (options : Options) → HoldsAt name rows options → Holds words options
+holds a words m name rows e has n r options h =
+    subst (λ f. HoldsOf f options)
+    (sym (both (out-ArgMatches m).subcommand (λ b. (out-SubCommand (box_value b)).name.now) (λ b. rows_of (found_of (out-SubCommand (box_value b)).matches)) name rows n r) ∙ (subst (λ b. HasMatchesOf b words m) e has refl).1) h

@@ -1,0 +1,115 @@
+//! The check of a query together with an input.
+
+ghost use Rattle.std.specs.Prelude.{◌≡◌, ◌⊎◌, true, map, take, IfErr, IfOk, IfSome, IsErrOf};
+ghost use Rattle.expr_tree.specs.Plain.{plain_input};
+ghost use Rattle.collector.specs.Said.{plain};
+ghost use Rattle.collector.specs.Watching.{has_failed, inner_of};
+ghost use Rattle.console.specs.InputChecks.{CheckInputEnds, IsCheckedInput, IsInputCheckFault};
+ghost use Rattle.console.specs.Runs.{IsAfterReading, IsUnreadInput, IsUnreadQuery};
+ghost use Rattle.diagnostics.specs.declared.fault.Fault.TheVariants as fault;
+
+use crate::checking::arities_of;
+use crate::compiling::typed_program;
+use crate::fault::{input_fault, query_fault};
+use crate::running::{read_input_text, read_query};
+use collector::{Declared, Watched, put, read_input};
+use diagnostics::{Fault, Texts};
+use expr_tree::Input;
+use std::alloc::{AllocError, Allocator, Global};
+use std::io::{Read, Write};
+
+/// The inputs of a program as the reader of texts takes them.
+fn declared<'a>(alloc: Global, inputs: &'a [Input]) -> Result<Vec<Declared<'a>>, AllocError>
+    ensures { IfOk result (λ v. map plain v.items ≡ map plain_input inputs.entry.now) }
+{
+    let mut declared = Vec::with_capacity(alloc, inputs.len())?;
+    for input in inputs {
+        declared.push(Declared {
+            name: &input.name,
+            arity: input.arity,
+        })?;
+    }
+    Ok(declared)
+}
+
+/// The text of a checked query whose input is right too.
+#[tactic(auto, using(crate::proofs::QueryFaults::input_check_refused))]
+fn checked<A: Allocator + Copy>(
+    alloc: Global,
+    arena: A,
+    query: &[u8],
+    input: &[u8],
+) -> Result<Vec<u8>, Fault>
+    ensures text { IfOk result (λ t. IsCheckedInput query.now input.now t.items) }
+    ensures fault { IfErr result (IsInputCheckFault query.now input.now) }
+{
+    let typed = match typed_program(alloc, arena, query) {
+        Ok(typed) => typed,
+        Err(refusal) => return Err(query_fault(refusal)),
+    };
+    let program = typed.program();
+    let inputs = match declared(alloc, &program.inputs) {
+        Ok(inputs) => inputs,
+        Err(_) => return Err(Fault::NoMemory),
+    };
+    match read_input(alloc, input, inputs.as_slice()) {
+        Ok(_) => {}
+        Err(refusal) => return Err(input_fault(refusal)),
+    }
+    match arities_of(alloc, program, typed.output_arities()) {
+        Ok(text) => Ok(text),
+        Err(_) => Err(Fault::NoMemory),
+    }
+}
+
+/// Checks a query text and an input text, and writes the arities.
+fn write_checked<A: Allocator + Copy, W: Write>(
+    alloc: Global,
+    arena: A,
+    query: &[u8],
+    input: &[u8],
+    writer: &mut Watched<W>,
+) -> Result<(), Fault>
+    ensures ends { CheckInputEnds query.now input.now (W.contents (inner_of writer.old)) (W.contents (inner_of writer.new)) result }
+    ensures writer { IsErrOf result fault.Write → has_failed writer.new ≡ true }
+    ensures read { IfErr result IsAfterReading }
+{
+    let text = match checked(alloc, arena, query, input) {
+        Ok(text) => text,
+        Err(fault) => return Err(fault),
+    };
+    match put(writer, text.as_slice()) {
+        Ok(()) => Ok(()),
+        Err(_) => Err(Fault::Write),
+    }
+}
+
+/// Reads a query and an input, checks both, and writes the query's arities as `check_query` does, once both are right.
+///
+/// The faults in the order in which they are told: the query can't be read, the input can't be read, the query is refused, the input
+/// is refused, the writer failed. Want of memory may come at any place. The texts that were read are left in `texts`.
+pub fn check_input<A: Allocator + Copy, Q: Read, I: Read, W: Write>(
+    alloc: Global,
+    arena: A,
+    query: &mut Watched<Q>,
+    input: &mut Watched<I>,
+    texts: &mut Texts,
+    writer: &mut Watched<W>,
+) -> Result<(), Fault>
+    ensures ends { IfSome (Q.remaining (inner_of query.old)) (λ q. IfSome (I.remaining (inner_of input.old)) (λ i. CheckInputEnds (take 1048577 q) i (W.contents (inner_of writer.old)) (W.contents (inner_of writer.new)) result)) }
+    ensures query { IsErrOf result fault.ReadQuery → has_failed query.new ≡ true }
+    ensures input { IsErrOf result fault.ReadInput → has_failed input.new ≡ true }
+    ensures writer { IsErrOf result fault.Write → has_failed writer.new ≡ true }
+    ensures kept_query { IfSome (Q.remaining (inner_of query.old)) (λ q. IfErr result (λ e. IsUnreadQuery e ⊎ (texts.new.query.items ≡ take 1048577 q))) }
+    ensures kept_input { IfSome (I.remaining (inner_of input.old)) (λ i. IfErr result (λ e. IsUnreadQuery e ⊎ (IsUnreadInput e ⊎ (texts.new.input.items ≡ i)))) }
+{
+    match read_query(alloc, query) {
+        Ok(text) => texts.query = text,
+        Err(fault) => return Err(fault),
+    }
+    match read_input_text(alloc, input) {
+        Ok(text) => texts.input = text,
+        Err(fault) => return Err(fault),
+    }
+    write_checked(alloc, arena, &texts.query, &texts.input, writer)
+}
