@@ -2,9 +2,12 @@
 
 use collector::Watched;
 use console::{Fault, Sources, Texts, Workers, answer, run};
+use std::alloc::Global;
 use std::io;
 use std::io::{ErrorKind, Read, Write};
+use std::sync::Wait;
 use std::test::Fail;
+use std::thread::Threads;
 
 /// The fault's line, where the query is the file `q` and the input the file `i`.
 fn line(rt: &HostRuntime, fault: Fault) -> Result<String, Fail> {
@@ -97,25 +100,130 @@ impl Write for Full {
     }
 }
 
-/// The query `q` and the input `i`, whose readers fail after so many reads.
+/// The query `q`, the input `i` and the schedule `s`, whose readers fail after so many reads: the query's, and the others'.
 #[derive(Clone, Copy)]
 struct Shelf {
-    left: usize,
+    query: usize,
+    other: usize,
 }
 
 impl<'a> Sources<'a> for Shelf {
     type Reader = Slow<'a>;
 
     fn open(&self, name: &'a str) -> Slow<'a> {
-        let text = match name.as_bytes() {
-            b"q" => b"input a/1; output a;".as_slice(),
-            _ => b"epoch\na 1\n".as_slice(),
-        };
-        Slow {
-            text,
-            left: self.left,
+        match name.as_bytes() {
+            b"q" => Slow {
+                text: b"input a/1; output a;",
+                left: self.query,
+            },
+            b"s" => Slow {
+                text: b"p 0\n",
+                left: self.other,
+            },
+            _ => Slow {
+                text: b"epoch\na 1\n",
+                left: self.other,
+            },
         }
     }
+}
+
+/// How a line ends over these texts where so many bytes can be written: its status, what was written, and what was told.
+fn ended<'a, R: Threads + Wait + Sync>(
+    rt: &R,
+    alloc: Global,
+    words: &'a [&'a str],
+    shelf: Shelf,
+    room: usize,
+) -> (u8, Vec<u8>, Vec<u8>) {
+    let mut out = Watched::new(Full {
+        room,
+        fails: true,
+        written: Vec::new(alloc),
+    });
+    let mut err = Vec::new(alloc);
+    let status = answer(
+        rt,
+        alloc,
+        &shelf,
+        words,
+        &mut out,
+        &mut err,
+        &mut None::<Vec<u8>>,
+    );
+    (status, out.into_inner().written, err)
+}
+
+/// Each command, with any read refused and with any write refused.
+#[test]
+fn commands_that_fail(rt: HostRuntime) -> Result<(), Fail> {
+    let rows: [(&[&str], usize, &str, &str); 6] = [
+        (
+            &["loom", "run", "q", "i"],
+            5,
+            "cannot read i\n",
+            "epoch 0\n1\n",
+        ),
+        (&["loom", "check", "q"], 0, "", "input a/1\noutput 1\n"),
+        (
+            &["loom", "check", "q", "i"],
+            5,
+            "cannot read i\n",
+            "input a/1\noutput 1\n",
+        ),
+        (
+            &["loom", "graph", "q"],
+            0,
+            "",
+            "0 input 0 <-\n1 output 0 <- 0.0\n",
+        ),
+        (&["loom", "format", "q"], 0, "", "input a/1;\noutput a;\n"),
+        (
+            &["loom", "replay", "q", "s"],
+            3,
+            "cannot read s\n",
+            "epoch 0 open\n",
+        ),
+    ];
+    for (words, reads, line, text) in rows {
+        let text = text.as_bytes();
+        for query in 0..8 {
+            let (status, written, told) = ended(
+                &rt,
+                rt.alloc(),
+                words,
+                Shelf { query, other: 9 },
+                99,
+            );
+            assert_eq!(rt; status, 6);
+            assert_eq!(rt; written.len(), 0);
+            assert_eq!(rt; told.as_slice(), b"cannot read q\n".as_slice());
+        }
+        for other in 0..reads {
+            let (status, written, told) = ended(
+                &rt,
+                rt.alloc(),
+                words,
+                Shelf { query: 9, other },
+                99,
+            );
+            assert_eq!(rt; status, 6);
+            assert_eq!(rt; written.len(), 0);
+            assert_eq!(rt; told.as_slice(), line.as_bytes());
+        }
+        let shelf = Shelf { query: 9, other: 9 };
+        for room in 0..text.len() {
+            let (status, written, told) = ended(&rt, rt.alloc(), words, shelf, room);
+            assert_eq!(rt; status, 6);
+            assert_eq!(rt; written.as_slice(), &text[..room]);
+            assert_eq!(rt; told.as_slice(), b"cannot write\n".as_slice());
+        }
+        let (status, written, told) = ended(&rt, rt.alloc(), words, shelf, text.len());
+        assert_eq!(rt; status, 0);
+        assert_eq!(rt; written.as_slice(), text);
+        assert_eq!(rt; told.len(), 0);
+    }
+    Ok(())
 }
 
 /// A line ends with its fault's status, also where the fault can't be told.
@@ -139,7 +247,10 @@ fn lines_that_fail(rt: HostRuntime) -> Result<(), Fail> {
                 fails: true,
                 written: Vec::new(rt.alloc()),
             };
-            let shelf = Shelf { left };
+            let shelf = Shelf {
+                query: left,
+                other: left,
+            };
             let ended = answer(
                 &rt,
                 rt.alloc(),
