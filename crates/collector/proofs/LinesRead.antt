@@ -19,13 +19,13 @@ use Rattle.collector.specs.declared.refusal.InputRefusal.TheVariants.{At}
 abbrev Records : Type 0
 Records = List (List ℤ)
 
-say_push : (inputs : List Input) (n : ℕ) (lines : List (List ℕ)) (items : List Item) (line : List ℕ) (item : Item) → LinesSay inputs n lines items → Says inputs (epochs_after n items) line item → LinesSay inputs n (lines ++ line ∷ []) (items ++ item ∷ [])
+pub say_push : (inputs : List Input) (n : ℕ) (lines : List (List ℕ)) (items : List Item) (line : List ℕ) (item : Item) → LinesSay inputs n lines items → Says inputs (epochs_after n items) line item → LinesSay inputs n (lines ++ line ∷ []) (items ++ item ∷ [])
 say_push inputs n [] [] line item h g = (g, tt)
 say_push inputs n [] (i ∷ is) line item h g = absurd h
 say_push inputs n (l ∷ ls) [] line item h g = absurd h
 say_push inputs n (l ∷ ls) (i ∷ is) line item h g = (h.0, say_push inputs (begun_after n i) ls is line item h.1 g)
 
-epochs_push : (n : ℕ) (items : List Item) (item : Item) → epochs_after n (items ++ item ∷ []) ≡ begun_after (epochs_after n items) item
+pub epochs_push : (n : ℕ) (items : List Item) (item : Item) → epochs_after n (items ++ item ∷ []) ≡ begun_after (epochs_after n items) item
 epochs_push n [] item = refl
 epochs_push n (i ∷ is) item = epochs_push (begun_after n i) is item
 
@@ -35,12 +35,12 @@ one_more true false y z rs new e = ap (λ (xs : Records). y ∷ xs) e
 one_more false true y z rs new e = e
 one_more false false y z rs new e = e
 
-epoch_push : (epoch input n : ℕ) (items : List Item) → records_in epoch input n (items ++ Item.epoch ∷ []) ≡ records_in epoch input n items
+pub epoch_push : (epoch input n : ℕ) (items : List Item) → records_in epoch input n (items ++ Item.epoch ∷ []) ≡ records_in epoch input n items
 epoch_push epoch input n [] = refl
 epoch_push epoch input n (Item.epoch ∷ is) = epoch_push epoch input (n + 1) is
 epoch_push epoch input n (Item.row i zs ∷ is) = ap (λ (rs : Records). cond ((input == i) && (epoch + 1 == n)) (zs ∷ rs) rs) (epoch_push epoch input n is)
 
-row_push : (epoch input n : ℕ) (items : List Item) (j : ℕ) (z : List ℤ) → records_in epoch input n (items ++ Item.row j z ∷ []) ≡ cond ((input == j) && (epoch + 1 == epochs_after n items)) (records_in epoch input n items ++ z ∷ []) (records_in epoch input n items)
+pub row_push : (epoch input n : ℕ) (items : List Item) (j : ℕ) (z : List ℤ) → records_in epoch input n (items ++ Item.row j z ∷ []) ≡ cond ((input == j) && (epoch + 1 == epochs_after n items)) (records_in epoch input n items ++ z ∷ []) (records_in epoch input n items)
 row_push epoch input n [] j z = refl
 row_push epoch input n (Item.epoch ∷ is) j z = row_push epoch input (n + 1) is j z
 row_push epoch input n (Item.row i zs ∷ is) j z = one_more ((input == i) && (epoch + 1 == n)) ((input == j) && (epoch + 1 == epochs_after n is)) zs z (records_in epoch input n is) _ (row_push epoch input n is j z)

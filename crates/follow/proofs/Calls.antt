@@ -1,0 +1,88 @@
+-- What calls leave, put together.
+use Rattle.std.proofs.Common.{◌≡◌, ◌<◌, ◌⊎◌, ◌-◌, ◌∙◌, ℕ, List, [], length, map, refl, sym, ap, subst, arith, inl, inr, get_or}
+use Rattle.std.specs.Prelude.{Bool, true, false, Option, Some, None, Result, Ok, Err, OnOk, IfOk, IfNone, if◌then◌else◌, is_err, is_ok, is_some, not, slice_index_or}
+use Rattle.std.proofs.lemmas.List.{get_or-map}
+use Rattle.lowering.specs.Shown.{GraphValue, shown_names}
+use Rattle.lowering.specs.Views.{name_of_output}
+use Rattle.lowering.specs.declared.outputs.GraphOutput.{GraphOutput}
+use Rattle.board.specs.Shown.{Shown}
+use Rattle.board.specs.Answers.{Claims}
+use Rattle.board.specs.declared.board.Claimed.{Claimed}
+use Rattle.board.specs.declared.board.Claimed.TheVariants.{Drained, Idle}
+use Rattle.collector.specs.Lines.{Item}
+use Rattle.collector.specs.OutputText.{is_plain}
+use Rattle.follow.specs.Entries.{Entry, label_of}
+use Rattle.follow.specs.Follows.{said_records}
+use Rattle.follow.specs.Scenes.{Grows, IsLive, Works, told_count}
+use Rattle.follow.specs.Steps.{CanTell, Ends, Goes, SentAll, Tells, ToldSo}
+use Rattle.follow.specs.declared.intake.Intake.{Intake}
+use Rattle.follow.specs.declared.telling.Telling.{Telling}
+use Rattle.follow.proofs.Fed.{all_fed, all_worked, worked}
+use Rattle.follow.proofs.Moved.{grows_on, works_on}
+use Rattle.follow.proofs.Told.{told_later}
+
+pub on_ok : {T E A B : Type 0} (r : Result T E) → (A → B) → OnOk r A → OnOk r B
+on_ok (Ok t) f h = f h
+on_ok (Err e) f h = tt
+
+pub both_ok : {T E : Type 0} {P Q S : T → Type 0} (r : Result T E) → ((t : T) → P t → Q t → S t) → IfOk r P → IfOk r Q → IfOk r S
+both_ok (Ok t) f p q = f t p q
+both_ok (Err e) f p q = tt
+
+-- a claim that hands nothing out leaves the board as it was
+pub idle_works : (s t u : Shown) (k : ℕ) (claimed : Claimed) → Claims t u k claimed → (claimed ≡ Idle) ⊎ (claimed ≡ Drained) → Works s t → Works s u
+idle_works s t u k claimed h (inl is) works = let idle : Claims t u k Idle = subst (Claims t u k) is h in subst (Works s) (sym idle.5) works
+idle_works s t u k claimed h (inr is) works = let drained : Claims t u k Drained = subst (Claims t u k) is h in subst (Works s) (sym drained.3) works
+
+-- an output's label
+pub label_at : (g : GraphValue) (outputs : List GraphOutput) (k : ℕ) (x : GraphOutput) (is_alone : _) → map name_of_output outputs ≡ shown_names g → k < length outputs → x ≡ get_or outputs k x → is_alone ≡ is_plain (map name_of_output outputs)
+    → label_of is_alone (name_of_output x) ≡ label_of (is_plain (shown_names g)) (slice_index_or (shown_names g) k [])
+label_at g outputs k x is_alone names lt is same =
+    let name : name_of_output x ≡ slice_index_or (shown_names g) k [] = ap name_of_output is ∙ sym (get_or-map name_of_output outputs k x [] lt) ∙ ap (λ ns. slice_index_or ns k []) names in
+    ap (λ b. label_of b (name_of_output x)) (same ∙ ap is_plain names) ∙ ap (label_of (is_plain (shown_names g))) name
+
+-- what was told, after more work
+can_later : (s t : Shown) (u : Telling) (items : List Item) (begun begun2 sealed sealed2 : ℕ) (entries : List Entry) (text : List ℕ) → Grows s t → begun2 ≡ begun → sealed2 ≡ sealed → CanTell s u items begun sealed entries text → CanTell t u items begun2 sealed2 entries text
+can_later s t u items begun begun2 sealed sealed2 entries text grows b c can = record {
+  told = told_later s t u.done (told_count u) (said_records items) (said_records items) entries text can.told grows (λ e i lt. refl);
+  order = omega (arith, can.order, c);
+  none = λ e. can.none (e ∙ b);
+}
+
+told_at : (s : Shown) (u : Telling) (items : List Item) (begun begun2 sealed sealed2 : ℕ) (text old new : List ℕ) → begun2 ≡ begun → sealed2 ≡ sealed → ToldSo s u items begun2 sealed2 text old new → ToldSo s u items begun sealed text old new
+told_at s u items begun begun2 sealed sealed2 text old new b c told = subst (λ n. ToldSo s u items n sealed text old new) b (subst (λ n. ToldSo s u items begun2 n text old new) c told)
+
+pub goes_by : (s t w : Shown) (x y : Intake) (u v : Telling) (sealed : ℕ) (start out : List ℕ) → SentAll s t x y → (IsLive t → Works t w) → sealed ≡ y.begun - 1 → start ≡ [] → Tells w u v y.begun sealed start out → Goes s w x y u v out
+goes_by s t w x y u v sealed start out sent works at none tells = λ items entries text f can.
+    let g = sent.fed items f in
+    let worked_off = works g.0.live in
+    let grows = grows_on s t w g.1 worked_off.grows in
+    let c : sealed ≡ x.begun - 1 = at ∙ ap (λ n. n - 1) sent.holds.begun in
+    let told = tells items entries text (all_worked t w items (all_fed t y items g.0 sent.none) worked_off) (omega (arith, at)) (can_later s w u items x.begun y.begun (x.begun - 1) sealed entries text grows sent.holds.begun c can) in
+    record {
+      graph = grows.graph;
+      holds = sent.holds;
+      fed = worked t w y items g.0 worked_off;
+      told = told_at w v items x.begun y.begun (x.begun - 1) sealed text [] out sent.holds.begun c (subst (λ xs. ToldSo w v items y.begun sealed text xs out) none told);
+    }
+
+pub ends_by : (s t r w : Shown) (x y : Intake) (u v : Telling) (start out : List ℕ) → SentAll s t x y → (IsLive t → Works t r) → (IsLive r → Works r w) → start ≡ [] → v.done ≡ y.begun → Tells w u v y.begun y.begun start out → Ends s w x u v out
+ends_by s t r w x y u v start out sent closed works none complete tells = λ items entries text f can.
+    let g = sent.fed items f in
+    let a = closed g.0.live in
+    let worked_off = works_on t r w a (works a.grows.live) in
+    let grows = grows_on s t w g.1 worked_off.grows in
+    let told = tells items entries text (all_worked t w items (all_fed t y items g.0 sent.none) worked_off) (omega arith) (can_later s w u items x.begun y.begun x.begun y.begun entries text grows sent.holds.begun sent.holds.begun can) in
+    record {
+      graph = grows.graph;
+      complete = complete ∙ sent.holds.begun;
+      told = told_at w v items x.begun y.begun x.begun y.begun text [] out sent.holds.begun sent.holds.begun (subst (λ xs. ToldSo w v items y.begun y.begun text xs out) none told);
+    }
+
+pub ok_items : {T E : Type 0} (r : Result T E) (b : Bool) (new xs ys : List ℕ) → b ≡ is_err r → b ≡ false → new ≡ (if is_ok r then xs else ys) → new ≡ xs
+ok_items (Ok t) b new xs ys e f h = h
+ok_items (Err x) b new xs ys e f h = absurd (let p : false ≡ true = sym f ∙ e in cc)
+
+pub none_of : {T A : Type 0} (o : Option T) (b : Bool) → is_some o ≡ not b → b ≡ true → IfNone o A → A
+none_of None b e f h = h
+none_of (Some x) b e f h = absurd (let p : true ≡ false = e ∙ ap not f in cc)

@@ -1,0 +1,93 @@
+-- Entries and their lines.
+use Rattle.std.proofs.Common.{◌≡◌, ◌≢◌, ◌<◌, ◌≤◌, ◌+◌, ◌-◌, ◌∙◌, ℕ, zero, suc, Bool, true, false, List, [], ◌∷◌, ◌++◌, length, map, take, drop, cond, refl, sym, ap, arith, append_assoc, inl, inr, slice_index_or}
+use Rattle.std.specs.Prelude.{◌==◌}
+use Rattle.std.specs.List.{flat_map}
+use Rattle.std.proofs.lemmas.Bool.Decides.{eqb_tells}
+use Rattle.std.proofs.lemmas.List.{append-nil, drop_all, drop_more, length-append, take_more}
+use Rattle.collector.specs.Piles.{joined}
+use Rattle.semantics.specs.Multiset.{Record}
+use Rattle.semantics.specs.Query.{Name}
+use Rattle.collector.specs.OutputText.{is_plain}
+use Rattle.follow.specs.Entries.{AreAt, Entry, entry_line, label_of, records_of, row_line}
+
+-- records of one output
+abbrev pub entries_at : (output : ℕ) → List Record → List Entry
+entries_at k rows = map (λ (r : Record). (k, r)) rows
+
+pub lines_at : (names : List Name) (epoch k : ℕ) (rows : List Record) → flat_map (entry_line names epoch) (entries_at k rows) ≡ flat_map (row_line epoch (label_of (is_plain names) (slice_index_or names k []))) rows
+lines_at names epoch k [] = refl
+lines_at names epoch k (r ∷ rows) = ap (λ (xs : List ℕ). row_line epoch (label_of (is_plain names) (slice_index_or names k [])) r ++ xs) (lines_at names epoch k rows)
+
+pub lines_append : (f : Entry → List ℕ) (xs ys : List Entry) → flat_map f (xs ++ ys) ≡ flat_map f xs ++ flat_map f ys
+lines_append f [] ys = refl
+lines_append f (x ∷ xs) ys = ap (λ (zs : List ℕ). f x ++ zs) (lines_append f xs ys) ∙ sym (append_assoc (f x) (flat_map f xs) (flat_map f ys))
+
+pub at_append : (n : ℕ) (xs ys : List Entry) → AreAt n xs → AreAt n ys → AreAt n (xs ++ ys)
+at_append n [] ys p q = q
+at_append n (x ∷ xs) ys p q = (p.0, at_append n xs ys p.1 q)
+
+pub at_place : (n k : ℕ) (rows : List Record) → k < n → AreAt n (entries_at k rows)
+at_place n k [] lt = tt
+at_place n k (r ∷ rows) lt = (lt, at_place n k rows lt)
+
+of_cond : (t : Bool) (r : Record) (xs ys zs : List Record) → zs ≡ xs ++ ys → cond t (r ∷ zs) zs ≡ cond t (r ∷ xs) xs ++ ys
+of_cond true r xs ys zs e = ap (λ (rs : List Record). r ∷ rs) e
+of_cond false r xs ys zs e = e
+
+pub of_append : (k : ℕ) (xs ys : List Entry) → records_of k (xs ++ ys) ≡ records_of k xs ++ records_of k ys
+of_append k [] ys = refl
+of_append k (x ∷ xs) ys = of_cond (x.0 == k) x.1 (records_of k xs) (records_of k ys) (records_of k (xs ++ ys)) (of_append k xs ys)
+
+pub of_same : (k : ℕ) (rows : List Record) → records_of k (entries_at k rows) ≡ rows
+of_same k [] = refl
+of_same k (r ∷ rows) = elim (eqb_tells k k) [
+  | inl same ↦ ap (λ (t : Bool). cond t (r ∷ records_of k (entries_at k rows)) (records_of k (entries_at k rows))) same.0 ∙ ap (λ (rs : List Record). r ∷ rs) (of_same k rows)
+  | inr other ↦ absurd (other.1 refl)
+]
+
+pub of_other : (j k : ℕ) (rows : List Record) → j ≢ k → records_of j (entries_at k rows) ≡ []
+of_other j k [] other = refl
+of_other j k (r ∷ rows) other = elim (eqb_tells k j) [
+  | inl same ↦ absurd (other (sym same.1))
+  | inr no_way ↦ ap (λ (t : Bool). cond t (r ∷ records_of j (entries_at k rows)) (records_of j (entries_at k rows))) no_way.0 ∙ of_other j k rows other
+]
+
+-- a list beyond a number, of two parts
+pub drop_both : (n : ℕ) (xs ys : List Record) → drop n (xs ++ ys) ≡ drop n xs ++ drop (n - length xs) ys
+drop_both zero xs ys = let e : 0 ≡ 0 - length xs = omega arith in ap (λ (k : ℕ). xs ++ drop k ys) e
+drop_both (suc n) [] ys = let e : suc n ≡ suc n - 0 = omega arith in ap (λ (k : ℕ). drop k ys) e
+drop_both (suc n) (x ∷ xs) ys = let e : n - length xs ≡ suc n - suc (length xs) = omega arith in drop_both n xs ys ∙ ap (λ (k : ℕ). drop n xs ++ drop k ys) e
+
+pub rows_append : (f : Record → List ℕ) (xs ys : List Record) → flat_map f (xs ++ ys) ≡ flat_map f xs ++ flat_map f ys
+rows_append f [] ys = refl
+rows_append f (x ∷ xs) ys = ap (λ (zs : List ℕ). f x ++ zs) (rows_append f xs ys) ∙ sym (append_assoc (f x) (flat_map f xs) (flat_map f ys))
+
+-- one row more, of those that are left
+pub rows_more : (f : Record → List ℕ) (rows : List Record) (place skip : ℕ) (row : Record) (start out new : List ℕ) → place < length rows → row ≡ slice_index_or rows place [] → new ≡ out ++ f row → out ++ flat_map f (drop place rows) ≡ start ++ flat_map f (drop skip rows)
+    → new ++ flat_map f (drop (place + 1) rows) ≡ start ++ flat_map f (drop skip rows)
+rows_more f rows place skip row start out new lt is e h =
+    let left : flat_map f (drop place rows) ≡ f row ++ flat_map f (drop (place + 1) rows) = ap (flat_map f) (drop_more rows place [] lt) ∙ ap (λ (r : Record). f r ++ flat_map f (drop (place + 1) rows)) (sym is) in
+    ap (λ (xs : List ℕ). xs ++ flat_map f (drop (place + 1) rows)) e ∙ append_assoc out (f row) (flat_map f (drop (place + 1) rows)) ∙ ap (λ (xs : List ℕ). out ++ xs) (sym left) ∙ h
+
+pub rows_done : (f : Record → List ℕ) (rows : List Record) (place skip : ℕ) (start out : List ℕ) → length rows ≤ place → out ++ flat_map f (drop place rows) ≡ start ++ flat_map f (drop skip rows) → out ≡ start ++ flat_map f (drop skip rows)
+rows_done f rows place skip start out le h = sym (append-nil out) ∙ ap (λ (xs : List Record). out ++ flat_map f xs) (sym (drop_all place rows le)) ∙ h
+
+joined_push : (batches : List (List Record)) (batch : List Record) → joined (batches ++ batch ∷ []) ≡ joined batches ++ batch
+joined_push [] batch = append-nil batch
+joined_push (b ∷ bs) batch = ap (λ (xs : List Record). b ++ xs) (joined_push bs batch) ∙ sym (append_assoc b (joined bs) batch)
+
+pub joined_more : (batches : List (List Record)) (i : ℕ) (batch : List Record) → i < length batches → batch ≡ slice_index_or batches i batch → joined (take (i + 1) batches) ≡ joined (take i batches) ++ batch
+joined_more batches i batch lt is = ap joined (take_more batches i batch lt) ∙ joined_push (take i batches) (slice_index_or batches i batch) ∙ ap (λ (x : List Record). joined (take i batches) ++ x) (sym is)
+
+-- one batch more
+pub batches_more : (f : Record → List ℕ) (batches : List (List Record)) (i told seen skip after : ℕ) (batch : List Record) (start out new : List ℕ) → i < length batches → batch ≡ slice_index_or batches i batch
+    → seen ≡ length (joined (take i batches)) → out ≡ start ++ flat_map f (drop told (joined (take i batches))) → skip ≡ told - seen → new ≡ out ++ flat_map f (drop skip batch) → after ≡ seen + length batch
+    → (after ≡ length (joined (take (i + 1) batches))) × (new ≡ start ++ flat_map f (drop told (joined (take (i + 1) batches))))
+batches_more f batches i told seen skip after batch start out new lt is size e skipped f' sum =
+    let more = joined_more batches i batch lt is in
+    let before = joined (take i batches) in
+    let both : flat_map f (drop told (joined (take (i + 1) batches))) ≡ flat_map f (drop told before) ++ flat_map f (drop skip batch) =
+    ap (λ (xs : List Record). flat_map f (drop told xs)) more ∙ ap (flat_map f) (drop_both told before batch) ∙ ap (λ (n : ℕ). flat_map f (drop told before ++ drop n batch)) (ap (λ (n : ℕ). told - n) (sym size) ∙ sym skipped) ∙ rows_append f (drop told before) (drop skip batch) in (
+      omega (arith, sum, size, ap length more, length-append before batch),
+      f' ∙ ap (λ (xs : List ℕ). xs ++ flat_map f (drop skip batch)) e ∙ append_assoc start (flat_map f (drop told before)) (flat_map f (drop skip batch)) ∙ ap (λ (xs : List ℕ). start ++ xs) (sym both),
+    )

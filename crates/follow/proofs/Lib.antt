@@ -1,0 +1,11 @@
+pub mod Calls
+pub mod Cuts
+pub mod DeclaredInputs
+pub mod Entries
+pub mod Fed
+pub mod Items
+pub mod Lines
+pub mod Moved
+pub mod Stood
+pub mod Told
+pub mod Waiting

@@ -1,0 +1,11 @@
+use Rattle.std.proofs.Common.{◌≡◌, length}
+use Rattle.semantics.specs.Graph.{output_numbers}
+use Rattle.lowering.specs.Shown.{shown_graph}
+use Rattle.follow.specs.Steps.{TellsTo}
+use Rattle.follow.proofs.telling.tell_open.Given as goal
+
+abbrev pub invariant-loop-output : goal.invariant-loop-output
+invariant-loop-output g l = record {
+  end_is : l.output-end ≡ length (output_numbers (shown_graph l.board.graph));
+  tells : TellsTo l.board l.output l.fn.telling l.telling l.fn.out.items l.out.items;
+}

@@ -1,0 +1,103 @@
+-- Answers that are told while the input still comes.
+use Rattle.std.specs.Prelude.{◌≡◌, ◌<◌, ◌≤◌, ◌⊎◌, ℕ, ◌+◌, ◌-◌, List, [], ◌∷◌, ◌++◌, length, Option, Result, Ok, Err}
+use Rattle.std.specs.Io.KnownBytes.{Appends, IsAtEnd}
+use Rattle.std.specs.List.{flat_map}
+use Rattle.semantics.specs.Multiset.{Record, IsPartOf, ◌≈◌}
+use Rattle.semantics.specs.Query.{Input, Program}
+use Rattle.semantics.specs.Meaning.{program_meaning}
+use Rattle.semantics.specs.Typing.{WellTyped}
+use Rattle.semantics.specs.Lower.{lowered}
+use Rattle.lowering.specs.Shown.{GraphValue, shown_graph, shown_inputs, shown_names}
+use Rattle.collector.specs.Pieces.{split_on}
+use Rattle.collector.specs.Lines.{Item}
+use Rattle.collector.specs.InputText.{IsInputText, IsRefused, LinesSay, epochs_after, records_in}
+use Rattle.collector.specs.Written.{AppendsFront}
+use Rattle.collector.specs.declared.refusal.InputRefusal.TheVariants.{At}
+use Rattle.follow.specs.Entries.{AreAt, Entry, complete_line, entry_line, records_of}
+use Rattle.follow.specs.declared.ending.Ending.{Ending}
+use Rattle.follow.specs.declared.ending.Ending.TheVariants as ending
+
+-- the graph is that of this well-typed program
+pub record IsGraphOf (g : GraphValue) (p : Program) : Type 0 where
+  pub arities : List ℕ
+  pub typed : WellTyped p arities
+  pub graph : shown_graph g ≡ lowered p
+
+-- at each output the entries are all of what the program means there on the records of an epoch, by input
+abbrev pub IsWhole : GraphValue → (records : ℕ → List Record) → List Entry → Type 0
+IsWhole g records entries = (p : Program) (k : ℕ) → IsGraphOf g p → k < length p.outputs → records_of k entries ≈ program_meaning p k records
+
+-- they are part of it
+abbrev pub IsPart : GraphValue → (records : ℕ → List Record) → List Entry → Type 0
+IsPart g records entries = (p : Program) (k : ℕ) → IsGraphOf g p → k < length p.outputs → IsPartOf (records_of k entries) (program_meaning p k records)
+
+-- The text tells the epochs in order. So many are complete: of each, all lines of its answer, and then the line that says so. Of the
+-- next one it tells these entries.
+pub data IsTold (g : GraphValue) (records : (epoch input : ℕ) → List Record) : (done : ℕ) → List Entry → (text : List ℕ) → Type 0 where
+  tells_nothing : IsTold g records 0 [] []
+  tells_more : (done : ℕ) (entries more : List Entry) (text : List ℕ) → IsTold g records done entries text → AreAt (length (shown_names g)) more
+      → IsTold g records done (entries ++ more) (text ++ flat_map (entry_line (shown_names g) done) more)
+  tells_whole : (done : ℕ) (entries : List Entry) (text : List ℕ) → IsTold g records done entries text → IsWhole g (records done) entries → IsTold g records (done + 1) [] (text ++ complete_line done)
+
+-- the records that lines say of an input in an epoch
+abbrev pub said_records : List Item → (epoch input : ℕ) → List Record
+said_records items epoch input = records_in epoch input 0 items
+
+-- what is told of the lines so far: the complete epochs' answers are whole, and that of the next one is part of what is meant
+pub record IsAnswer (g : GraphValue) (items : List Item) (done : ℕ) (entries : List Entry) (text : List ℕ) : Type 0 where
+  pub told : IsTold g (said_records items) done entries text
+  pub part : IsPart g (said_records items done) entries
+
+-- the bytes begin with these lines, which say these items; the rest is pieces that aren't read as lines
+pub record IsRead (inputs : List Input) (bytes : List ℕ) (lines : List (List ℕ)) (items : List Item) (rest : List (List ℕ)) : Type 0 where
+  pub parts : split_on 10 bytes ≡ lines ++ rest
+  pub said : LinesSay inputs 0 lines items
+
+-- only epochs that have ended are complete: those before the last one that began, or all once the input is at its end
+abbrev pub IsSealed : (begun done : ℕ) → (left : Option (List ℕ)) → Type 0
+IsSealed begun done left = (done ≤ begun - 1) ⊎ ((done ≤ begun) × IsAtEnd left)
+
+-- the input is read to its end, and every epoch of it is complete
+pub record IsAllTold (inputs : List Input) (bytes : List ℕ) (left : Option (List ℕ)) (items : List Item) (done : ℕ) (entries : List Entry) : Type 0 where
+  pub whole : IsInputText inputs bytes (epochs_after 0 items) (said_records items)
+  pub ended : IsAtEnd left
+  pub complete : done ≡ epochs_after 0 items
+  pub none : entries ≡ []
+
+-- the line after those that were read is the first faulty one; a last line without line feed is one only at the end
+pub record IsFaulty (inputs : List Input) (bytes : List ℕ) (left : Option (List ℕ)) (lines : List (List ℕ)) (code line : ℕ) : Type 0 where
+  pub refused : IsRefused inputs bytes (At code line)
+  pub next : line ≡ length lines + 1
+  pub last : code ≡ 43 → IsAtEnd left
+
+-- how far it was read: to the end, to a faulty line, to the last whole line before the reader failed, or not said how far
+abbrev pub Reaches : List Input → (bytes : List ℕ) → (left : Option (List ℕ)) → (lines : List (List ℕ)) → List Item → (rest : List (List ℕ)) → (done : ℕ) → List Entry → Result (Unit {0}) Ending → Type 0
+Reaches inputs bytes left lines items rest done entries (Ok _) = IsAllTold inputs bytes left items done entries
+Reaches inputs bytes left lines items rest done entries (Err (ending.Input code line)) = IsFaulty inputs bytes left lines code line
+Reaches inputs bytes left lines items rest done entries (Err ending.Read) = (piece : List ℕ) × (rest ≡ piece ∷ [])
+Reaches inputs bytes left lines items rest done entries (Err ending.Write) = Unit {0}
+Reaches inputs bytes left lines items rest done entries (Err ending.NoMemory) = Unit {0}
+Reaches inputs bytes left lines items rest done entries (Err ending.Incomplete) = Unit {0}
+
+-- the text was written; where the writer failed, a beginning of it
+abbrev pub Writes : (old new : Option (List ℕ)) → (text : List ℕ) → Result (Unit {0}) Ending → Type 0
+Writes old new text (Ok _) = Appends old new text
+Writes old new text (Err (ending.Input code line)) = Appends old new text
+Writes old new text (Err ending.Read) = Appends old new text
+Writes old new text (Err ending.Write) = AppendsFront old new text
+Writes old new text (Err ending.NoMemory) = Appends old new text
+Writes old new text (Err ending.Incomplete) = Appends old new text
+
+-- These bytes were read, and this is left; what was written is an answer to the lines that were read.
+pub record Follows (g : GraphValue) (bytes : List ℕ) (left old new : Option (List ℕ)) (result : Result (Unit {0}) Ending) : Type 0 where
+  pub lines : List (List ℕ)
+  pub items : List Item
+  pub rest : List (List ℕ)
+  pub done : ℕ
+  pub entries : List Entry
+  pub text : List ℕ
+  pub read : IsRead (shown_inputs g) bytes lines items rest
+  pub answer : IsAnswer g items done entries text
+  pub sealed : IsSealed (epochs_after 0 items) done left
+  pub reaches : Reaches (shown_inputs g) bytes left lines items rest done entries result
+  pub writes : Writes old new text result

@@ -1,0 +1,4 @@
+pub mod Entries
+pub mod Follows
+pub mod Scenes
+pub mod Steps

@@ -1,0 +1,49 @@
+//! What was taken, answered.
+
+ghost use Rattle.std.specs.Prelude.{IfOk};
+ghost use Rattle.follow.specs.Steps.{Ends, Goes};
+
+use crate::ending::Halt;
+use crate::intake::{Intake, feed_portion};
+use crate::telling::{Telling, tell};
+use crate::working::{close_inputs, work_off};
+use board::Board;
+use progress::Progress;
+use std::alloc::Global;
+
+/// Feeds all that waits and works it off; the text of what is to be told then.
+pub fn answer_open<P: Progress>(
+    alloc: Global,
+    board: &mut Board<P>,
+    intake: &mut Intake,
+    telling: &mut Telling,
+) -> Result<Vec<u8>, Halt>
+    ensures { IfOk result (λ out. Goes board.old board.new intake.old intake.new telling.old telling.new out.items) }
+{
+    feed_portion(alloc, board, intake)?;
+    work_off(alloc, board)?;
+    let mut out = Vec::new(alloc);
+    let sealed = intake.begun.saturating_sub(1);
+    tell(board, telling, intake.begun, sealed, &mut out)?;
+    Ok(out)
+}
+
+/// The same at the end of the input: every input is closed.
+pub fn answer_last<P: Progress>(
+    alloc: Global,
+    board: &mut Board<P>,
+    intake: &mut Intake,
+    telling: &mut Telling,
+) -> Result<Vec<u8>, Halt>
+    ensures { IfOk result (λ out. Ends board.old board.new intake.old telling.old telling.new out.items) }
+{
+    feed_portion(alloc, board, intake)?;
+    close_inputs(board, intake.portion.len())?;
+    work_off(alloc, board)?;
+    let mut out = Vec::new(alloc);
+    tell(board, telling, intake.begun, intake.begun, &mut out)?;
+    if telling.done != intake.begun {
+        return Err(Halt::Incomplete);
+    }
+    Ok(out)
+}

@@ -1,0 +1,84 @@
+//! How following ends.
+
+ghost use Rattle.std.specs.Prelude.{◌≡◌};
+ghost use Rattle.follow.specs.Steps.{ending_of};
+
+use board::StepRefusal;
+use expr_tree::NoMemory;
+use rows::RowsError;
+use std::alloc::{AllocError, AllocFailed};
+
+/// Why following ended before the whole input was answered.
+#[derive(Clone, Copy, Debug, PartialEq, Eq)]
+pub enum Ending {
+    /// The first faulty line of the input, counted from 1, and the number by which its fault is told; 43 is a last line without line feed.
+    Input { code: u8, line: u64 },
+    /// The reader failed.
+    Read,
+    /// The writer failed: a beginning of the text was written.
+    Write,
+    /// An allocator refused a growth.
+    NoMemory,
+    /// The board refused a call for another reason than memory, or an epoch isn't complete at the end. It isn't known to come.
+    Incomplete,
+}
+
+/// Why the work stopped in its middle. Nothing is written then.
+#[derive(Clone, Copy, Debug, PartialEq, Eq)]
+pub enum Halt {
+    /// An allocator refused a growth.
+    NoMemory,
+    /// A case that isn't known to come.
+    Incomplete,
+}
+
+impl From<AllocError> for Halt {
+    fn from(_error: AllocError) -> Halt {
+        Halt::NoMemory
+    }
+}
+
+impl<T: Drop> From<AllocFailed<T>> for Halt {
+    fn from(_error: AllocFailed<T>) -> Halt {
+        Halt::NoMemory
+    }
+}
+
+impl From<RowsError> for Halt {
+    fn from(_error: RowsError) -> Halt {
+        Halt::NoMemory
+    }
+}
+
+impl From<NoMemory> for Halt {
+    fn from(_error: NoMemory) -> Halt {
+        Halt::NoMemory
+    }
+}
+
+impl From<StepRefusal> for Halt {
+    fn from(refusal: StepRefusal) -> Halt {
+        match refusal {
+            // A board is stopped by an event that was given up for want of memory.
+            StepRefusal::NoMemory | StepRefusal::Stopped => Halt::NoMemory,
+            StepRefusal::UnknownInput
+            | StepRefusal::InputClosed
+            | StepRefusal::WrongFieldCount
+            | StepRefusal::LastEpoch
+            | StepRefusal::HoldsEvent
+            | StepRefusal::NoSuchEvent => Halt::Incomplete,
+        }
+    }
+}
+
+impl Halt {
+    /// How following ends then.
+    pub fn ending(self) -> Ending
+        ensures { result ≡ ending_of self }
+    {
+        match self {
+            Halt::NoMemory => Ending::NoMemory,
+            Halt::Incomplete => Ending::Incomplete,
+        }
+    }
+}

@@ -1,0 +1,180 @@
+//! What was taken of the input.
+
+ghost use Rattle.std.specs.Prelude.{◌≡◌, ◌<◌, ◌∷◌, ◌++◌, [], ℕ, List, length, map, IfOk, OnOk};
+ghost use Rattle.collector.specs.Lines.{Item};
+ghost use Rattle.collector.specs.Said.{item_of, plain};
+ghost use Rattle.follow.specs.Scenes.{HasTaken, IsFed, waiting};
+ghost use Rattle.follow.specs.Steps.{CanTake, Counts, Empties, Gathers, IsNew, Moves, Sent, SentAll, TakesLines};
+
+use crate::ending::Halt;
+use crate::working::{feed, seal_inputs};
+use board::Board;
+use collector::{Declared, Line, Stop, next_line};
+use progress::Progress;
+use record_core::MAX_FIELDS;
+use rows::{Batch, Rows};
+use std::alloc::Global;
+use std::mem::replace;
+
+/// How many epochs have begun, how many lines were taken, and of each input the records of the last epoch that wait to be fed.
+#[derive(Drop)]
+pub struct Intake {
+    pub begun: u32,
+    pub line: u64,
+    pub portion: Vec<Rows>,
+}
+
+impl Intake {
+    /// Nothing was taken.
+    pub fn new(alloc: Global, inputs: &[Declared<'_>]) -> Result<Intake, Halt>
+        ensures { IfOk result IsNew }
+    {
+        let mut portion = Vec::with_capacity(alloc, inputs.len())?;
+        for declared in inputs {
+            portion.push(no_rows(alloc, declared.arity)?)?;
+        }
+        Ok(Intake {
+            begun: 0,
+            line: 0,
+            portion,
+        })
+    }
+
+    /// A record of an input waits to be fed.
+    fn gather(&mut self, input: usize, row: &[i64]) -> Result<(), Halt>
+        ensures { OnOk result (Gathers self.old self.new input row.now) }
+    {
+        if input >= self.portion.len() || self.portion[input].arity() != row.len() {
+            return Err(Halt::Incomplete);
+        }
+        self.portion[input].push(row)?;
+        Ok(())
+    }
+
+    /// Counts a line that was taken.
+    fn count_line(&mut self) -> Result<(), Halt>
+        ensures { OnOk result (Counts self.old self.new) }
+    {
+        let Some(line) = self.line.checked_add(1) else {
+            return Err(Halt::Incomplete);
+        };
+        self.line = line;
+        Ok(())
+    }
+}
+
+/// No rows of that arity.
+fn no_rows(alloc: Global, arity: u64) -> Result<Rows, Halt>
+    ensures { IfOk result (λ r. r.rows ≡ []) }
+{
+    let arity = arity as usize;
+    if arity < 1 || arity > MAX_FIELDS {
+        return Err(Halt::Incomplete);
+    }
+    Ok(Rows::new(alloc, arity))
+}
+
+/// Takes the rows of an input that wait.
+fn take_rows(alloc: Global, intake: &mut Intake, input: usize) -> Rows
+    requires { input < length intake.old.portion.items }
+    ensures { Empties intake.old intake.new input result.rows }
+{
+    let arity = intake.portion[input].arity();
+    replace(&mut intake.portion[input], Rows::new(alloc, arity))
+}
+
+/// Feeds what waits of an input.
+fn feed_rows<P: Progress>(
+    alloc: Global,
+    board: &mut Board<P>,
+    intake: &mut Intake,
+    input: usize,
+) -> Result<(), Halt>
+    requires { input < length intake.old.portion.items }
+    ensures { OnOk result (Sent board.old board.new intake.old intake.new input) }
+{
+    let rows = take_rows(alloc, intake, input);
+    let Ok(number) = u32::try_from(input) else {
+        return Err(Halt::Incomplete);
+    };
+    match Batch::from_rows(alloc, rows)? {
+        None => Ok(()),
+        Some(batch) => match feed(alloc, board, number, batch) {
+            Ok(()) => Ok(()),
+            Err(halt) => Err(halt),
+        },
+    }
+}
+
+/// Feeds all that waits.
+pub fn feed_portion<P: Progress>(
+    alloc: Global,
+    board: &mut Board<P>,
+    intake: &mut Intake,
+) -> Result<(), Halt>
+    ensures { OnOk result (SentAll board.old board.new intake.old intake.new) }
+{
+    for input in 0..intake.portion.len() {
+        feed_rows(alloc, board, intake, input)?;
+    }
+    Ok(())
+}
+
+/// The next epoch begins: what waits is fed, and the epoch before it is sealed at each input.
+fn begin<P: Progress>(alloc: Global, board: &mut Board<P>, intake: &mut Intake) -> Result<(), Halt>
+    requires few { intake.old.begun < 4294967295 }
+    ensures { OnOk result (Moves board.old board.new intake.old intake.new Item.epoch) }
+{
+    feed_portion(alloc, board, intake)?;
+    if intake.begun == 0 {
+        intake.begun = 1;
+        return Ok(());
+    }
+    seal_inputs(board, intake.portion.len())?;
+    intake.begun += 1;
+    Ok(())
+}
+
+/// Takes what a line says; the fields of a record stand in the buffer.
+fn take_item<P: Progress>(
+    alloc: Global,
+    board: &mut Board<P>,
+    intake: &mut Intake,
+    said: Line,
+    fields: &[i64],
+) -> Result<(), Halt>
+    requires can { CanTake intake.old (item_of said fields.now) }
+    ensures { OnOk result (Moves board.old board.new intake.old intake.new (item_of said fields.now)) }
+{
+    match said {
+        Line::Epoch => begin(alloc, board, intake),
+        Line::Row { input } => intake.gather(input, fields),
+    }
+}
+
+/// Takes the lines of a text, one after another: what stands after them, and the number of the fault that the first of it has.
+pub fn take_lines<'a, P: Progress>(
+    alloc: Global,
+    board: &mut Board<P>,
+    inputs: &[Declared<'_>],
+    intake: &mut Intake,
+    text: &'a [u8],
+) -> Result<(&'a [u8], Option<u8>), Halt>
+    ensures { IfOk result (λ r. TakesLines board.old board.new intake.old intake.new (map plain inputs.now) text.entry.now r.0.now r.1) }
+{
+    let mut fields = Vec::new(alloc);
+    let mut rest = text;
+    while !rest.is_empty() {
+        match next_line(rest, inputs, intake.begun, &mut fields) {
+            Ok((said, after)) => {
+                take_item(alloc, board, intake, said, fields.as_slice())?;
+                intake.count_line()?;
+                rest = after;
+            }
+            Err(Stop::NoMemory) => return Err(Halt::NoMemory),
+            Err(Stop::Fault(fault)) => return Ok((rest, Some(fault.code()))),
+            Err(Stop::NoLineFeed) => return Ok((rest, None)),
+        }
+    }
+    Ok((rest, None))
+}

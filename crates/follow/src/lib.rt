@@ -1,0 +1,21 @@
+//! Answers while the input still comes.
+//!
+//! `follow` reads an input text piece by piece. It feeds each record as its line arrives, seals every input at the next line `epoch`, and
+//! writes what is emitted: a line for each record of the first epoch that isn't complete, and the line that says it is, once it has passed at
+//! every output. The contract for the layers above is `Follows` of `specs/`: what was written is an answer to the lines that were read. A
+//! complete epoch's lines are its whole answer, and those of the next one are part of what is meant.
+//!
+//! Below stand the board and the reader of lines; nothing here uses threads.
+#![tactic(auto)]
+
+mod answering;
+mod batches;
+mod ending;
+mod following;
+mod intake;
+mod telling;
+mod texts;
+mod working;
+
+pub use ending::Ending;
+pub use following::follow;

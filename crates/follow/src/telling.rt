@@ -1,0 +1,158 @@
+//! What is told of what was emitted.
+
+ghost use Rattle.std.specs.Prelude.{◌≡◌, ◌<◌, ◌↔◌, ℕ, List, IfOk, IsTrue, OnOk, map};
+ghost use Rattle.board.specs.Promises.{HasPassed, IsOutputPlace, emitted_at};
+ghost use Rattle.collector.specs.OutputText.{is_plain};
+ghost use Rattle.lowering.specs.Views.{name_of_output};
+ghost use Rattle.follow.specs.Entries.{label_of};
+ghost use Rattle.follow.specs.Steps.{IsFresh, Nexts, Tells, TellsHere, TellsOne, TellsOpen};
+
+use crate::batches::push_new;
+use crate::ending::Halt;
+use crate::texts::push_complete;
+use board::Board;
+use lowering::GraphOutput;
+use progress::Progress;
+use record_core::Name;
+use std::alloc::Global;
+
+/// How many epochs are complete, and of each output, how many records were told of the first one that isn't.
+#[derive(Drop)]
+pub struct Telling {
+    pub done: u32,
+    pub told: Vec<usize>,
+}
+
+impl Telling {
+    /// Nothing was told, at so many outputs.
+    pub fn new(alloc: Global, outputs: u32) -> Result<Telling, Halt>
+        ensures { IfOk result IsFresh }
+    {
+        let mut told = Vec::with_capacity(alloc, outputs as usize)?;
+        for _output in 0..outputs {
+            told.push(0)?;
+        }
+        Ok(Telling { done: 0, told })
+    }
+
+    /// The epoch is complete; nothing was told of the next one.
+    fn complete(&mut self) -> Result<(), Halt>
+        ensures { OnOk result (Nexts self.old self.new) }
+    {
+        let Some(done) = self.done.checked_add(1) else {
+            return Err(Halt::Incomplete);
+        };
+        for place in 0..self.told.len() {
+            self.told[place] = 0;
+        }
+        self.done = done;
+        Ok(())
+    }
+}
+
+/// Whether the only output is named `out`.
+fn are_plain(outputs: &[GraphOutput]) -> bool
+    ensures { result ≡ is_plain (map name_of_output outputs.now) }
+{
+    match outputs {
+        [only] => only.name.bytes() == b"out".as_slice(),
+        _ => false,
+    }
+}
+
+/// Whether an epoch has passed at every output.
+fn has_passed<P: Progress>(board: &Board<P>, epoch: u32) -> bool
+    ensures { IsTrue result → (k : ℕ) → IsOutputPlace board.now k → HasPassed board.now k epoch }
+{
+    for output in 0..board.output_count() {
+        if !board.passed(output, epoch) {
+            return false;
+        }
+    }
+    true
+}
+
+/// Appends the lines of what was emitted at an output for an epoch, after the first so many; how many there are.
+fn push_output<P: Progress>(
+    board: &Board<P>,
+    epoch: u32,
+    output: u32,
+    plain: bool,
+    name: &Name,
+    told: usize,
+    out: &mut Vec<u8>,
+) -> Result<usize, Halt>
+    requires { IsOutputPlace board.now output }
+    ensures { IfOk result (λ n. TellsHere (emitted_at board.now output epoch) (label_of plain name.now) epoch told out.old.items out.new.items n) }
+{
+    push_new(out, epoch, plain, name, board.emitted(output, epoch), told)
+}
+
+/// Appends the lines of what was emitted at an output for the first epoch that isn't complete and wasn't told.
+fn tell_output<P: Progress>(
+    board: &Board<P>,
+    telling: &mut Telling,
+    output: u32,
+    plain: bool,
+    name: &Name,
+    out: &mut Vec<u8>,
+) -> Result<(), Halt>
+    requires { IsOutputPlace board.now output }
+    ensures { OnOk result (TellsOne board.now telling.old telling.new output (label_of plain name.now) out.old.items out.new.items) }
+{
+    let place = output as usize;
+    if place >= telling.told.len() {
+        return Err(Halt::Incomplete);
+    }
+    let told = telling.told[place];
+    match push_output(board, telling.done, output, plain, name, told, out) {
+        Ok(count) => {
+            telling.told[place] = count;
+            Ok(())
+        }
+        Err(halt) => Err(halt),
+    }
+}
+
+/// Appends the lines of what was emitted at each output for the first epoch that isn't complete and wasn't told.
+fn tell_open<P: Progress>(
+    board: &Board<P>,
+    telling: &mut Telling,
+    out: &mut Vec<u8>,
+) -> Result<(), Halt>
+    ensures { OnOk result (TellsOpen board.now telling.old telling.new out.old.items out.new.items) }
+{
+    let outputs = board.graph().outputs();
+    let plain = are_plain(outputs);
+    for output in 0..board.output_count() {
+        let name = &outputs[output as usize].name;
+        tell_output(board, telling, output, plain, name, out)?;
+    }
+    Ok(())
+}
+
+/// Appends what is to be told: the epochs in order, each up to the first that isn't complete. Those below `sealed` are complete once they
+/// have passed.
+pub fn tell<P: Progress>(
+    board: &Board<P>,
+    telling: &mut Telling,
+    begun: u32,
+    sealed: u32,
+    out: &mut Vec<u8>,
+) -> Result<(), Halt>
+    ensures { OnOk result (Tells board.now telling.old telling.new begun sealed out.old.items out.new.items) }
+{
+    board.law_headline();
+    for epoch in telling.done..begun {
+        tell_open(board, telling, out)?;
+        if epoch >= sealed {
+            return Ok(());
+        }
+        if !has_passed(board, epoch) {
+            return Ok(());
+        }
+        push_complete(out, epoch)?;
+        telling.complete()?;
+    }
+    Ok(())
+}
