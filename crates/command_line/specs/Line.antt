@@ -7,7 +7,7 @@ use Rattle.command_line.specs.declared.heap_size.HeapSize.{HeapSize}
 use Rattle.command_line.specs.declared.line_options.GraphForm.{GraphForm}
 use Rattle.command_line.specs.declared.line_options.GraphForm.TheVariants.{Lines, Dot}
 use Rattle.command_line.specs.declared.line_options.Options.{Options}
-use Rattle.command_line.specs.declared.line_options.Options.TheVariants.{Run, Check, Graph, Format, Replay, Explain}
+use Rattle.command_line.specs.declared.line_options.Options.TheVariants.{Run, Follow, Check, Graph, Format, Replay, Explain}
 
 -- a word that has to be given
 abbrev pub word_rule : Text → Rule
@@ -48,6 +48,10 @@ run_app =
     (with_rule (with_rule (with_rule (with_rule (new_app (codes "run")) (option_rule (codes "workers"))) (flag_rule (codes "watch"))) (flag_rule (codes "explain"))) (word_rule (codes "QUERY")))
     (word_rule (codes "INPUT"))
 
+-- `follow QUERY INPUT`, with or without `--explain`
+abbrev pub follow_app : App
+follow_app = with_rule (with_rule (with_rule (new_app (codes "follow")) (flag_rule (codes "explain"))) (word_rule (codes "QUERY"))) (word_rule (codes "INPUT"))
+
 -- `replay QUERY SCHEDULE`, with or without `--workers N` and `--explain`
 abbrev pub replay_app : App
 replay_app =
@@ -63,7 +67,9 @@ abbrev pub line_app : App
 line_app =
     let top : App = record { top = record (new_app (codes "loom")).top { subcommand_required = true }; subs = [] } in
     with_subcommand
-    (with_subcommand (with_subcommand (with_subcommand (with_subcommand (with_subcommand top run_app.top) check_app.top) graph_app.top) format_app.top) replay_app.top)
+    (with_subcommand
+    (with_subcommand (with_subcommand (with_subcommand (with_subcommand (with_subcommand top run_app.top) follow_app.top) check_app.top) graph_app.top) format_app.top)
+    replay_app.top)
     explain_app.top
 
 -- the flag is what the matches hold of it
@@ -92,6 +98,8 @@ abbrev pub HoldsAt : Text → List Row → Options → Type 0
 HoldsAt name rows (Run query input workers watch explain) =
     (name ≡ codes "run") × (first_of (codes "QUERY") rows ≡ Some query.now) × (first_of (codes "INPUT") rows ≡ Some input.now) × AreAskedFor (first_of (codes "workers") rows) workers.count
     × IsFlag (codes "watch") rows watch × IsFlag (codes "explain") rows explain
+HoldsAt name rows (Follow query input explain) =
+    (name ≡ codes "follow") × (first_of (codes "QUERY") rows ≡ Some query.now) × (first_of (codes "INPUT") rows ≡ Some input.now) × IsFlag (codes "explain") rows explain
 HoldsAt name rows (Check query input heap explain) =
     (name ≡ codes "check") × (first_of (codes "QUERY") rows ≡ Some query.now) × (option_map (λ s. s.now) input ≡ first_of (codes "INPUT") rows) × IsAskedHeap (first_of (codes "heap") rows) heap
     × IsFlag (codes "explain") rows explain

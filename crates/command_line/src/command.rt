@@ -3,7 +3,7 @@
 ghost use Rattle.std.specs.Prelude.{◌≡◌, map, option_map, IfOk, IfSome, codes, false};
 ghost use Rattle.clap.specs.Words.{app_of, first_of, found_of, new_app, rows_of, rule_of};
 ghost use Rattle.clap.specs.declared.builder.Command.TheViews.{out-Command as fields_of};
-ghost use Rattle.command_line.specs.Line.{AreAskedFor, Holds, HoldsAt, IsAskedHeap, IsFlag, check_app, explain_app, flag_rule, format_app, graph_app, line_app, option_rule, optional_rule, replay_app, run_app, word_rule};
+ghost use Rattle.command_line.specs.Line.{AreAskedFor, Holds, HoldsAt, IsAskedHeap, IsFlag, check_app, explain_app, flag_rule, follow_app, format_app, graph_app, line_app, option_rule, optional_rule, replay_app, run_app, word_rule};
 
 use crate::heap_size::HeapSize;
 use crate::line_fault::LineFault;
@@ -137,6 +137,20 @@ fn run_command<'a>(alloc: Global) -> Result<Command<'a>, AllocError>
         .arg(word_arg(alloc, "INPUT"))
 }
 
+fn follow_command<'a>(alloc: Global) -> Result<Command<'a>, AllocError>
+    ensures app { IfOk result (λ c. app_of c ≡ follow_app) }
+    ensures local { IfOk result (λ c. (fields_of c).has_globals ≡ false) }
+{
+    named(
+        alloc,
+        "follow",
+        "Answer a query while its input comes, and tell which epochs are complete",
+    )
+    .arg(explain_arg(alloc))?
+    .arg(word_arg(alloc, "QUERY"))?
+    .arg(word_arg(alloc, "INPUT"))
+}
+
 fn replay_command<'a>(alloc: Global) -> Result<Command<'a>, AllocError>
     ensures app { IfOk result (λ c. app_of c ≡ replay_app) }
     ensures local { IfOk result (λ c. (fields_of c).has_globals ≡ false) }
@@ -170,6 +184,7 @@ fn line_command<'a>(alloc: Global) -> Result<Command<'a>, AllocError>
     Command::new(alloc, "loom")
         .subcommand_required(true)
         .subcommand(run_command(alloc)?)?
+        .subcommand(follow_command(alloc)?)?
         .subcommand(check_command(alloc)?)?
         .subcommand(graph_command(alloc)?)?
         .subcommand(format_command(alloc)?)?
@@ -221,6 +236,19 @@ fn check_options<'a>(found: &ArgMatches<'a>, heap: Option<HeapSize>) -> Option<O
         query,
         input,
         heap,
+        explain,
+    })
+}
+
+fn follow_options<'a>(found: &ArgMatches<'a>) -> Option<Options<'a>>
+    ensures { IfSome result (HoldsAt (codes "follow") (rows_of (found_of found.now))) }
+{
+    let query = text_of(found, "QUERY")?;
+    let input = text_of(found, "INPUT")?;
+    let explain = flag_of(found, "explain");
+    Some(Options::Follow {
+        query,
+        input,
         explain,
     })
 }
@@ -356,6 +384,7 @@ fn options_at<'a>(name: &str, found: &ArgMatches<'a>) -> Option<Options<'a>>
     ensures { IfSome result (HoldsAt name.now (rows_of (found_of found.now))) }
 {
     match name.as_bytes() {
+        b"follow" => follow_options(found),
         b"format" => format_options(found),
         b"explain" => Some(Options::Explain {
             code: text_of(found, "CODE")?,

@@ -15,6 +15,12 @@ pub enum Options<'a> {
         watch: bool,
         explain: bool,
     },
+    /// `loom follow QUERY INPUT`, and a fault explained with `--explain`
+    Follow {
+        query: &'a str,
+        input: &'a str,
+        explain: bool,
+    },
     /// `loom check QUERY`, or `loom check QUERY INPUT`, which reads the input too; in a heap of that size with `--heap BYTES`; and a fault
     /// explained with `--explain`
     Check {

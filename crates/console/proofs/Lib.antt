@@ -6,6 +6,7 @@ pub mod InputLines
 pub mod QueryFaults
 pub mod CheckedInputs
 pub mod Rewritten
+pub mod FollowedText
 pub mod OneGraph
 pub mod Heeding
 pub mod OneAnswer

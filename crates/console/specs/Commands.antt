@@ -6,12 +6,13 @@ use Rattle.command_line.specs.Counts.{count_of}
 use Rattle.command_line.specs.Line.{Holds}
 use Rattle.command_line.specs.declared.line_options.GraphForm.{GraphForm}
 use Rattle.command_line.specs.declared.line_options.Options.{Options}
-use Rattle.command_line.specs.declared.line_options.Options.TheVariants.{Run, Check, Graph, Format, Replay, Explain}
+use Rattle.command_line.specs.declared.line_options.Options.TheVariants.{Run, Follow, Check, Graph, Format, Replay, Explain}
 use Rattle.command_line.specs.declared.worker_count.Workers.{Workers}
 use Rattle.diagnostics.specs.Explanations.{ExplanationEnds}
 use Rattle.diagnostics.specs.Faults.{status_of}
 use Rattle.diagnostics.specs.declared.fault.Fault.{Fault}
 use Rattle.console.specs.Checks.{CheckEnds}
+use Rattle.console.specs.Followed.{FollowEnds}
 use Rattle.console.specs.Formats.{FormatEnds}
 use Rattle.console.specs.Graphs.{GraphEnds}
 use Rattle.console.specs.Heeded.{Heeds}
@@ -27,6 +28,9 @@ Known = List ℕ → Option (List ℕ)
 abbrev pub RunsOn : Known → (query input : List ℕ) → Option (List ℕ) → Option (List ℕ) → Result (Unit {0}) Fault → Type 0
 RunsOn texts query input old new result =
     IfSome (texts query) (λ q. Heeds (take 1048577 q) old new result × IfSome (texts input) (λ i. Ends (take 1048577 q) i old new result))
+
+abbrev pub FollowsOn : Known → (query input : List ℕ) → Option (List ℕ) → Option (List ℕ) → Result (Unit {0}) Fault → Type 0
+FollowsOn texts query input old new result = IfSome (texts query) (λ q. FollowEnds (take 1048577 q) (texts input) old new result)
 
 -- the query alone where no input is named, and else both
 abbrev pub ChecksOn : Known → (query : List ℕ) → (input : Option (List ℕ)) → Option (List ℕ) → Option (List ℕ) → Result (Unit {0}) Fault → Type 0
@@ -51,6 +55,7 @@ Explains code old new result = (row : Explanation) × (code ≡ decimal row.code
 -- the command of these options ends so
 abbrev pub EndsOn : Known → Options → Option (List ℕ) → Option (List ℕ) → Result (Unit {0}) Fault → Type 0
 EndsOn texts (Run query input workers watch explain) old new result = RunsOn texts query.now input.now old new result
+EndsOn texts (Follow query input explain) old new result = FollowsOn texts query.now input.now old new result
 EndsOn texts (Check query input heap explain) old new result = ChecksOn texts query.now (option_map (λ s. s.now) input) old new result
 EndsOn texts (Graph query form heap explain) old new result = GraphsOn texts form query.now old new result
 EndsOn texts (Format query explain) old new result = FormatsOn texts query.now old new result

@@ -7,10 +7,12 @@ use Rattle.schedule.specs.declared.refusal.ScheduleRefusal as schedule_refusal
 use Rattle.schedule.specs.declared.refusal.ScheduleRefusal.TheVariants as schedule
 use Rattle.execution.specs.declared.unfinished.Unfinished.{Unfinished}
 use Rattle.execution.specs.declared.unfinished.Unfinished.TheVariants as run
+use Rattle.follow.specs.declared.ending.Ending.{Ending}
+use Rattle.follow.specs.declared.ending.Ending.TheVariants as ending
 use Rattle.console.specs.declared.fault.CompileFault.{CompileFault}
 use Rattle.console.specs.declared.fault.CompileFault.TheVariants as compile
 use Rattle.diagnostics.specs.declared.fault.Fault.{Fault}
-use Rattle.diagnostics.specs.declared.fault.Fault.TheVariants.{Query, TooManyVertices, Input, Schedule, NoMemory, NoWorker, Incomplete}
+use Rattle.diagnostics.specs.declared.fault.Fault.TheVariants.{Query, TooManyVertices, Input, Schedule, NoMemory, NoWorker, Incomplete, ReadInput, Write}
 
 -- of a refused query
 abbrev pub fault_of : query_refusal.Refusal → Fault
@@ -42,3 +44,11 @@ abbrev pub run_fault_of : Unfinished → Fault
 run_fault_of run.NoMemory = NoMemory
 run_fault_of run.NoWorker = NoWorker
 run_fault_of run.Incomplete = Incomplete
+
+-- of following that ended before the whole input was answered
+abbrev pub follow_fault_of : Ending → Fault
+follow_fault_of (ending.Input code line) = Input code line
+follow_fault_of ending.Read = ReadInput
+follow_fault_of ending.Write = Write
+follow_fault_of ending.NoMemory = NoMemory
+follow_fault_of ending.Incomplete = Incomplete

@@ -9,4 +9,5 @@ pub mod Checks
 pub mod InputChecks
 pub mod Formats
 pub mod Replayed
+pub mod Followed
 pub mod Commands

@@ -35,7 +35,7 @@ impl Read for LateFile<'_> {
     }
 }
 
-/// The files, by their paths.
+/// The files, by their paths; `-` is standard input.
 #[derive(Clone, Copy)]
 pub struct Disk<'a> {
     rt: &'a HostRuntime,
@@ -51,6 +51,7 @@ impl<'a> Sources<'a> for Disk<'a> {
     type Reader = LateFile<'a>;
 
     fn open(&self, name: &'a str) -> LateFile<'a> {
-        LateFile::new(self.rt, name)
+        let path = if name == "-" { "/dev/stdin" } else { name };
+        LateFile::new(self.rt, path)
     }
 }

@@ -3,9 +3,10 @@
 ghost use Rattle.std.specs.Prelude.{◌≡◌, map, option_map};
 ghost use Rattle.collector.specs.Watching.{inner_of};
 ghost use Rattle.command_line.specs.Faults.{line_status_of};
-ghost use Rattle.console.specs.Commands.{Answers, ChecksOn, FormatsOn, GraphsOn, Obeys, ReplaysOn, RunsOn, status_after};
+ghost use Rattle.console.specs.Commands.{Answers, ChecksOn, FollowsOn, FormatsOn, GraphsOn, Obeys, ReplaysOn, RunsOn, status_after};
 
 use crate::checking::check_query;
+use crate::following::follow_query;
 use crate::formatting::format_query;
 use crate::graphing::graph_query;
 use crate::input_check::check_input;
@@ -46,6 +47,22 @@ fn run_named<'a, R: Threads + Wait + Sync, S: Sources<'a>, W: Write, O: Write + 
     run(
         rt, alloc, workers, &mut query, &mut input, texts, out, watcher,
     )
+}
+
+/// Follows an input.
+fn follow_named<'a, S: Sources<'a>, W: Write>(
+    alloc: Global,
+    sources: &S,
+    query: &'a str,
+    input: &'a str,
+    texts: &mut Texts,
+    out: &mut Watched<W>,
+) -> Result<(), Fault>
+    ensures { FollowsOn (S.content sources.now) query.now input.now (W.contents (inner_of out.old)) (W.contents (inner_of out.new)) result }
+{
+    let mut query = Watched::new(sources.open(query));
+    let mut records = Watched::new(sources.open(input));
+    follow_query(alloc, &mut query, &mut records, texts, out)
 }
 
 /// Checks a query, and an input where one is named, with the query's tree in the arena.
@@ -166,6 +183,11 @@ fn texts_of<'a>(asked: &Options<'a>) -> (&'a str, &'a str, bool) {
             explain,
             ..
         } => (query, schedule, explain),
+        Options::Follow {
+            query,
+            input,
+            explain,
+        } => (query, input, explain),
         Options::Check {
             query,
             input,
@@ -177,6 +199,14 @@ fn texts_of<'a>(asked: &Options<'a>) -> (&'a str, &'a str, bool) {
         }
         Options::Explain { .. } => ("", "", false),
     }
+}
+
+/// Whether the text in which a fault stands was kept. The input that is followed isn't.
+fn is_kept(asked: &Options, fault: &Fault) -> bool {
+    !matches!(
+        (asked, fault),
+        (Options::Follow { .. }, Fault::Input { .. })
+    )
 }
 
 /// Tells how a command has ended: a fault's line, and what is wrong at its place where that is asked for. Gives the status, which says it
@@ -195,7 +225,7 @@ fn tell<E: Write>(
         Err(fault) => {
             let (query, input, explain) = texts_of(asked);
             let _ = fault.write_line(query, input, err);
-            if explain {
+            if explain && is_kept(asked, fault) {
                 let _ = explain_fault(alloc, fault, texts, err);
             }
             fault.status()
@@ -235,6 +265,9 @@ fn obey<'a, R: Threads + Wait + Sync, S: Sources<'a>, W: Write, E: Write, O: Wri
         } => run_named(
             rt, alloc, sources, workers, watch, query, input, &mut texts, out, watcher,
         ),
+        Options::Follow { query, input, .. } => {
+            follow_named(alloc, sources, query, input, &mut texts, out)
+        }
         Options::Check {
             query,
             input,

@@ -1,12 +1,13 @@
 //! Why a query has no graph, and the faults of what the layers below refuse.
 
 ghost use Rattle.std.specs.Prelude.{◌≡◌};
-ghost use Rattle.console.specs.Faults.{compile_fault_of, fault_of, graph_fault_of, input_fault_of, run_fault_of, schedule_fault_of};
+ghost use Rattle.console.specs.Faults.{compile_fault_of, fault_of, follow_fault_of, graph_fault_of, input_fault_of, run_fault_of, schedule_fault_of};
 ghost use Rattle.diagnostics.specs.declared.fault.Fault.TheVariants.{NoMemory};
 
 use collector::InputRefusal;
 use diagnostics::Fault;
 use execution::Unfinished;
+use follow::Ending;
 use record_core::{Refusal, Span};
 use schedule::ScheduleRefusal;
 
@@ -28,6 +29,19 @@ pub fn run_fault(unfinished: Unfinished) -> Fault
         Unfinished::NoMemory => Fault::NoMemory,
         Unfinished::NoWorker => Fault::NoWorker,
         Unfinished::Incomplete => Fault::Incomplete,
+    }
+}
+
+/// The fault of following that ended before the whole input was answered.
+pub fn follow_fault(ending: Ending) -> Fault
+    ensures { result ≡ follow_fault_of ending }
+{
+    match ending {
+        Ending::Input { code, line } => Fault::Input { code, line },
+        Ending::Read => Fault::ReadInput,
+        Ending::Write => Fault::Write,
+        Ending::NoMemory => Fault::NoMemory,
+        Ending::Incomplete => Fault::Incomplete,
     }
 }
 

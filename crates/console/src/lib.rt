@@ -1,7 +1,7 @@
 //! The commands, from bytes to bytes, and the dispatcher that a program calls with the words of its line.
 //!
 //! `answer` reads the words, opens the texts that they name, does what they ask for, tells a fault, and gives the status. `run` reads a
-//! query and an input, has the board compute, and writes the answer; `check_query` reads a query and writes its arities, and
+//! query and an input, has the board compute, and writes the answer; `follow_query` answers while the input still comes; `check_query` reads a query and writes its arities, and
 //! `graph_query` its graph, which `compile` makes; `check_input` reads an input too, and `format_query` writes the query in its canonical
 //! form; `replay_schedule` reads a query and a schedule, and writes what the schedule's lines
 //! print. The contract: where `run` answers Ok, what was written is the output text of what the query means on the epochs that the
@@ -15,6 +15,7 @@ mod compiling;
 mod disk;
 mod dispatch;
 mod fault;
+mod following;
 mod formatting;
 mod graphing;
 mod input_check;
@@ -31,10 +32,11 @@ pub use diagnostics::{Fault, Texts};
 pub use disk::{Disk, LateFile};
 pub use dispatch::{answer, refuse};
 pub use fault::CompileFault;
+pub use following::follow_query;
 pub use formatting::format_query;
 pub use graphing::graph_query;
 pub use input_check::check_input;
-pub use laws::{law_one_answer, law_one_graph};
+pub use laws::{law_followed, law_one_answer, law_one_graph};
 pub use replaying::replay_schedule;
 pub use running::run;
 pub use sources::Sources;

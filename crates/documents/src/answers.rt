@@ -41,7 +41,7 @@ impl<'a> Sources<'a> for Page<'a> {
 
     fn open(&self, name: &'a str) -> PageText<'a> {
         match self.piped {
-            Some(bytes) if name == "/dev/stdin" => PageText::Piped(bytes),
+            Some(bytes) if name == "/dev/stdin" || name == "-" => PageText::Piped(bytes),
             _ => PageText::File(self.disk.open(name)),
         }
     }

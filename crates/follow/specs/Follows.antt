@@ -1,6 +1,6 @@
 -- Answers that are told while the input still comes.
 use Rattle.std.specs.Prelude.{◌≡◌, ◌<◌, ◌≤◌, ◌⊎◌, ℕ, ◌+◌, ◌-◌, List, [], ◌∷◌, ◌++◌, length, Option, Result, Ok, Err}
-use Rattle.std.specs.Io.KnownBytes.{Appends, IsAtEnd}
+use Rattle.std.specs.Io.KnownBytes.{Appends, Consumes, IsAtEnd}
 use Rattle.std.specs.List.{flat_map}
 use Rattle.semantics.specs.Multiset.{Record, IsPartOf, ◌≈◌}
 use Rattle.semantics.specs.Query.{Input, Program}
@@ -101,3 +101,7 @@ pub record Follows (g : GraphValue) (bytes : List ℕ) (left old new : Option (L
   pub sealed : IsSealed (epochs_after 0 items) done left
   pub reaches : Reaches (shown_inputs g) bytes left lines items rest done entries result
   pub writes : Writes old new text result
+
+-- some bytes were read, and following them ended so
+abbrev pub FollowsInput : GraphValue → (unread left old new : Option (List ℕ)) → Result (Unit {0}) Ending → Type 0
+FollowsInput g unread left old new result = (bytes : List ℕ) × Consumes unread left bytes × Follows g bytes left old new result

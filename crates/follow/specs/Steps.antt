@@ -3,7 +3,7 @@ use Rattle.std.specs.Prelude.{◌≡◌, ◌≢◌, ◌<◌, ◌≤◌, ℕ, ◌
 use Rattle.std.specs.List.{flat_map}
 use Rattle.semantics.specs.Multiset.{Record}
 use Rattle.semantics.specs.Query.{Input}
-use Rattle.lowering.specs.Shown.{GraphValue}
+use Rattle.lowering.specs.Shown.{GraphValue, shown_inputs}
 use Rattle.board.specs.Shown.{Shown}
 use Rattle.board.specs.Promises.{IsOutputPlace, emitted_at}
 use Rattle.collector.specs.Pieces.{split_on}
@@ -11,7 +11,8 @@ use Rattle.collector.specs.Lines.{Item}
 use Rattle.collector.specs.InputText.{IsRefused, epochs_after, records_in}
 use Rattle.collector.specs.declared.refusal.InputRefusal.TheVariants.{At}
 use Rattle.follow.specs.Entries.{Entry, records_of, row_line}
-use Rattle.follow.specs.Follows.{Follows, IsPart, said_records}
+use Rattle.std.specs.Io.KnownBytes.{IsAtEnd}
+use Rattle.follow.specs.Follows.{Follows, FollowsInput, IsPart, said_records}
 use Rattle.follow.specs.Scenes.{Grows, HasTaken, HasTold, IsAllFed, IsFed, Stands, fed_at, open_at, told_count, waiting}
 use Rattle.follow.specs.declared.ending.Ending.{Ending}
 use Rattle.follow.specs.declared.ending.Ending.TheVariants as ending
@@ -193,3 +194,15 @@ Ends s t x u v out = (items : List Item) (entries : List Entry) (text : List ℕ
 abbrev pub GoesOn : GraphValue → (bytes : List ℕ) → (left start new : Option (List ℕ)) → Shown → Intake → Telling → (pending : List ℕ) → Result (Unit {0}) Ending → Type 0
 GoesOn g bytes left start new s x t pending (Ok _) = Stands g s x t bytes pending start new
 GoesOn g bytes left start new s x t pending (Err e) = Follows g bytes left start new (Err e)
+
+-- the same after a piece, from wherever following stood
+abbrev pub FollowsPiece : List Input → (s t : Shown) → (x y : Intake) → (u v : Telling) → (pending rest piece : List ℕ) → (old new : Option (List ℕ)) → Result (Unit {0}) Ending → Type 0
+FollowsPiece inputs s t x y u v pending rest piece old new result = (g : GraphValue) (bytes : List ℕ) (left start : Option (List ℕ)) → inputs ≡ shown_inputs g → Stands g s x u bytes pending start old → GoesOn g (bytes ++ piece) left start new t y v rest result
+
+-- following ends where nothing is left
+abbrev pub FollowsEnd : Shown → Intake → Telling → (pending : List ℕ) → (old new : Option (List ℕ)) → Result (Unit {0}) Ending → Type 0
+FollowsEnd s x u pending old new result = (g : GraphValue) (bytes : List ℕ) (left start : Option (List ℕ)) → IsAtEnd left → Stands g s x u bytes pending start old → Follows g bytes left start new result
+
+-- the whole input is followed, from where it opens
+abbrev pub FollowsAll : List Input → Shown → Intake → Telling → (unread left old new : Option (List ℕ)) → Result (Unit {0}) Ending → Type 0
+FollowsAll inputs s x u unread left old new result = (g : GraphValue) → inputs ≡ shown_inputs g → Stands g s x u [] [] old old → FollowsInput g unread left old new result

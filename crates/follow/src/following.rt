@@ -1,17 +1,14 @@
 //! An input, followed from its first byte to its end.
 
-ghost use Rattle.std.specs.Prelude.{◌≡◌, ◌++◌, [], ℕ, List, Option, map, true, IfOk, IsErrOf, OnErr, ◌⊎◌, ◌+◌};
-ghost use Rattle.std.specs.Io.KnownBytes.{Consumes, IsAtEnd};
-ghost use Rattle.lowering.specs.Shown.{GraphValue, shown_inputs};
+ghost use Rattle.std.specs.Prelude.{◌≡◌, ◌⊎◌, ◌+◌, map, true, IfOk, IsErrOf, OnErr};
 ghost use Rattle.lowering.specs.Views.{input_of};
 ghost use Rattle.machine.specs.World.{opening};
 ghost use Rattle.board.specs.Promises.{IsOpening};
 ghost use Rattle.board.specs.Showing.{Shows};
 ghost use Rattle.collector.specs.Said.{plain};
 ghost use Rattle.collector.specs.Watching.{has_failed, inner_of};
-ghost use Rattle.follow.specs.Follows.{Follows};
-ghost use Rattle.follow.specs.Scenes.{Stands};
-ghost use Rattle.follow.specs.Steps.{GoesOn, TakesLines};
+ghost use Rattle.follow.specs.Follows.{FollowsInput};
+ghost use Rattle.follow.specs.Steps.{FollowsAll, FollowsEnd, FollowsPiece, TakesLines};
 ghost use Rattle.follow.specs.declared.ending.Ending.TheVariants as ending;
 
 use crate::answering::{answer_last, answer_open};
@@ -71,7 +68,7 @@ fn follow_piece<P: Progress, W: Write>(
     piece: &[u8],
     writer: &mut Watched<W>,
 ) -> Result<(), Ending>
-    ensures follows { (g : GraphValue) (bytes : List ℕ) (left start : Option (List ℕ)) → map plain inputs.now ≡ shown_inputs g → Stands g board.old intake.old telling.old bytes pending.old.items start (W.contents (inner_of writer.old)) → GoesOn g (bytes ++ piece.now) left start (W.contents (inner_of writer.new)) board.new intake.new telling.new pending.new.items result }
+    ensures follows { FollowsPiece (map plain inputs.now) board.old board.new intake.old intake.new telling.old telling.new pending.old.items pending.new.items piece.now (W.contents (inner_of writer.old)) (W.contents (inner_of writer.new)) result }
     ensures writer { IsErrOf result ending.Write → has_failed writer.new ≡ true }
     ensures reader { IsErrOf result ending.Read → ⊥ }
 {
@@ -107,7 +104,7 @@ fn follow_end<P: Progress, W: Write>(
     pending: &[u8],
     writer: &mut Watched<W>,
 ) -> Result<(), Ending>
-    ensures follows { (g : GraphValue) (bytes : List ℕ) (left start : Option (List ℕ)) → IsAtEnd left → Stands g board.old intake.old telling.old bytes pending.now start (W.contents (inner_of writer.old)) → Follows g bytes left start (W.contents (inner_of writer.new)) result }
+    ensures follows { FollowsEnd board.old intake.old telling.old pending.now (W.contents (inner_of writer.old)) (W.contents (inner_of writer.new)) result }
     ensures writer { IsErrOf result ending.Write → has_failed writer.new ≡ true }
     ensures reader { IsErrOf result ending.Read → ⊥ }
 {
@@ -134,7 +131,7 @@ fn follow_pieces<P: Progress, R: Read, W: Write>(
     reader: &mut Watched<R>,
     writer: &mut Watched<W>,
 ) -> Result<(), Ending>
-    ensures follows { (g : GraphValue) → map plain inputs.now ≡ shown_inputs g → Stands g board.old intake.old telling.old [] [] (W.contents (inner_of writer.old)) (W.contents (inner_of writer.old)) → (bytes : List ℕ) × Consumes (R.remaining (inner_of reader.old)) (R.remaining (inner_of reader.new)) bytes × Follows g bytes (R.remaining (inner_of reader.new)) (W.contents (inner_of writer.old)) (W.contents (inner_of writer.new)) result }
+    ensures follows { FollowsAll (map plain inputs.now) board.old intake.old telling.old (R.remaining (inner_of reader.old)) (R.remaining (inner_of reader.new)) (W.contents (inner_of writer.old)) (W.contents (inner_of writer.new)) result }
     ensures reader { IsErrOf result ending.Read → has_failed reader.new ≡ true }
     ensures writer { IsErrOf result ending.Write → has_failed writer.new ≡ true }
 {
@@ -200,7 +197,7 @@ fn follow_graph<R: Read, W: Write>(
 ) -> Result<Result<(), Ending>, Halt>
     requires opening { IsOpening graph.now 1 board.old }
     requires shows { Shows board.old opening }
-    ensures follows { IfOk result (λ r. (bytes : List ℕ) × Consumes (R.remaining (inner_of reader.old)) (R.remaining (inner_of reader.new)) bytes × Follows graph.now bytes (R.remaining (inner_of reader.new)) (W.contents (inner_of writer.old)) (W.contents (inner_of writer.new)) r) }
+    ensures follows { IfOk result (λ r. FollowsInput graph.now (R.remaining (inner_of reader.old)) (R.remaining (inner_of reader.new)) (W.contents (inner_of writer.old)) (W.contents (inner_of writer.new)) r) }
     ensures reader { IfOk result (λ r. IsErrOf r ending.Read → has_failed reader.new ≡ true) }
     ensures writer { IfOk result (λ r. IsErrOf r ending.Write → has_failed writer.new ≡ true) }
     ensures unread { OnErr result (reader.new ≡ reader.old) }
@@ -232,7 +229,7 @@ pub fn follow<R: Read, W: Write>(
     reader: &mut Watched<R>,
     writer: &mut Watched<W>,
 ) -> Result<(), Ending>
-    ensures follows { (bytes : List ℕ) × Consumes (R.remaining (inner_of reader.old)) (R.remaining (inner_of reader.new)) bytes × Follows graph bytes (R.remaining (inner_of reader.new)) (W.contents (inner_of writer.old)) (W.contents (inner_of writer.new)) result }
+    ensures follows { FollowsInput graph (R.remaining (inner_of reader.old)) (R.remaining (inner_of reader.new)) (W.contents (inner_of writer.old)) (W.contents (inner_of writer.new)) result }
     ensures reader { IsErrOf result ending.Read → has_failed reader.new ≡ true }
     ensures writer { IsErrOf result ending.Write → has_failed writer.new ≡ true }
 {

@@ -1,9 +1,8 @@
 //! What was taken of the input.
 
-ghost use Rattle.std.specs.Prelude.{◌≡◌, ◌<◌, ◌∷◌, ◌++◌, [], ℕ, List, length, map, IfOk, OnOk};
+ghost use Rattle.std.specs.Prelude.{◌≡◌, ◌<◌, [], length, map, IfOk, OnOk};
 ghost use Rattle.collector.specs.Lines.{Item};
 ghost use Rattle.collector.specs.Said.{item_of, plain};
-ghost use Rattle.follow.specs.Scenes.{HasTaken, IsFed, waiting};
 ghost use Rattle.follow.specs.Steps.{CanTake, Counts, Empties, Gathers, IsNew, Moves, Sent, SentAll, TakesLines};
 
 use crate::ending::Halt;

@@ -1,6 +1,6 @@
 //! What is told of what was emitted.
 
-ghost use Rattle.std.specs.Prelude.{◌≡◌, ◌<◌, ◌↔◌, ℕ, List, IfOk, IsTrue, OnOk, map};
+ghost use Rattle.std.specs.Prelude.{◌≡◌, ◌<◌, ℕ, IfOk, IsTrue, OnOk, map};
 ghost use Rattle.board.specs.Promises.{HasPassed, IsOutputPlace, emitted_at};
 ghost use Rattle.collector.specs.OutputText.{is_plain};
 ghost use Rattle.lowering.specs.Views.{name_of_output};

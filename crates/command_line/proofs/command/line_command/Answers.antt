@@ -14,8 +14,9 @@ pub returns : goal.returns
 returns c =
     let top = ap app_of_fields c.subcommand_required.ensures ∙ ap requiring c.new.ensures.app in
     let one = c.in_ok-subcommand.ensures.shape c.in_ok-run_command.ensures.local ∙ ap₂ with_subcommand top (ap top_of c.in_ok-run_command.ensures.app) in
-    let two = c.in_ok-subcommand-2.ensures.shape c.in_ok-check_command.ensures.local ∙ ap₂ with_subcommand one (ap top_of c.in_ok-check_command.ensures.app) in
-    let three = c.in_ok-subcommand-3.ensures.shape c.in_ok-graph_command.ensures.local ∙ ap₂ with_subcommand two (ap top_of c.in_ok-graph_command.ensures.app) in
-    let four = c.in_ok-subcommand-4.ensures.shape c.in_ok-format_command.ensures.local ∙ ap₂ with_subcommand three (ap top_of c.in_ok-format_command.ensures.app) in
-    let five = c.in_ok-subcommand-5.ensures.shape c.in_ok-replay_command.ensures.local ∙ ap₂ with_subcommand four (ap top_of c.in_ok-replay_command.ensures.app) in
-    IfOk-weaker c.subcommand-6.result _ _ (λ r h. h.shape c.in_ok-explain_command.ensures.local ∙ ap₂ with_subcommand five (ap top_of c.in_ok-explain_command.ensures.app)) c.subcommand-6.ensures
+    let two = c.in_ok-subcommand-2.ensures.shape c.in_ok-follow_command.ensures.local ∙ ap₂ with_subcommand one (ap top_of c.in_ok-follow_command.ensures.app) in
+    let three = c.in_ok-subcommand-3.ensures.shape c.in_ok-check_command.ensures.local ∙ ap₂ with_subcommand two (ap top_of c.in_ok-check_command.ensures.app) in
+    let four = c.in_ok-subcommand-4.ensures.shape c.in_ok-graph_command.ensures.local ∙ ap₂ with_subcommand three (ap top_of c.in_ok-graph_command.ensures.app) in
+    let five = c.in_ok-subcommand-5.ensures.shape c.in_ok-format_command.ensures.local ∙ ap₂ with_subcommand four (ap top_of c.in_ok-format_command.ensures.app) in
+    let six = c.in_ok-subcommand-6.ensures.shape c.in_ok-replay_command.ensures.local ∙ ap₂ with_subcommand five (ap top_of c.in_ok-replay_command.ensures.app) in
+    IfOk-weaker c.subcommand-7.result _ _ (λ r h. h.shape c.in_ok-explain_command.ensures.local ∙ ap₂ with_subcommand six (ap top_of c.in_ok-explain_command.ensures.app)) c.subcommand-7.ensures

@@ -1,4 +1,4 @@
-use Rattle.std.proofs.Common.{◌<◌, ◌++◌, ℕ, arith, refl, ap, sym, subst, ◌∙◌}
+use Rattle.std.proofs.Common.{◌≡◌, ◌<◌, ◌++◌, ◌∙◌, ℕ, arith, refl, ap, sym, subst}
 use Rattle.board.specs.Promises.{HasPassed, IsOutputPlace}
 use Rattle.follow.specs.Entries.{complete_line}
 use Rattle.follow.proofs.Told.{nothing_till, told_all, told_complete, told_open}
@@ -23,7 +23,7 @@ loop-epoch-preserved g c =
     let done = c.loop-epoch.invariant.done in
     let opened = c.in_ok-tell_open.ensures in
     let nexts = c.in_ok-complete.ensures in
-    let line = c.in_ok-push_complete.ensures ∙ ap (λ (n : ℕ). c.tell_open.new.out.items ++ complete_line n) (sym done) in
+    let line : c.push_complete.new.out.items ≡ c.tell_open.new.out.items ++ complete_line t.done = c.in_ok-push_complete.ensures ∙ ap (λ (n : ℕ). c.tell_open.new.out.items ++ complete_line n) (sym done) in
     let lt : t.done < c.args.sealed = omega (arith, done, c.if-epoch-sealed.false) in
     let passed : (k : ℕ) → IsOutputPlace c.args.board.now k → HasPassed c.args.board.now k t.done = λ k place. subst (λ (e : ℕ). HasPassed c.args.board.now k e) (sym done) (c.has_passed.ensures c.if-not-has_passed.false k place) in
     record {

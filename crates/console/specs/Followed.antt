@@ -1,0 +1,32 @@
+-- What following an input does.
+use Rattle.std.specs.Prelude.{◌≡◌, ◌⊎◌, ℕ, List, Option, Result, Ok, Err}
+use Rattle.lowering.specs.Shown.{GraphValue, shown_graph, shown_inputs, shown_names}
+use Rattle.follow.specs.Follows.{FollowsInput}
+use Rattle.follow.specs.declared.ending.Ending.{Ending}
+use Rattle.follow.specs.declared.ending.Ending.TheVariants as ending
+use Rattle.console.specs.Compiled.{IsCompiled, IsQueryFault}
+use Rattle.diagnostics.specs.declared.fault.Fault.{Fault}
+use Rattle.diagnostics.specs.declared.fault.Fault.TheVariants.{Query, TooManyVertices, Input, Schedule, NoMemory, NoWorker, Incomplete, ReadQuery, ReadInput, Write}
+
+-- Over the graph of the query, some bytes of the input were read, and what was written is an answer to the lines among them. `before` is
+-- what there was of the input.
+pub record IsFollowed (query : List ℕ) (before old new : Option (List ℕ)) (result : Result (Unit {0}) Ending) : Type 0 where
+  pub graph : GraphValue
+  pub compiled : IsCompiled query (shown_graph graph) (shown_inputs graph) (shown_names graph)
+  pub left : Option (List ℕ)
+  pub follows : FollowsInput graph before left old new result
+
+-- The input is answered to its end at Ok. At a faulty line, or where the reader or the writer failed, what was written is an answer to
+-- what was read before. Nothing is written where the query can't be read or is refused. Want of memory may come at any place.
+abbrev pub FollowEnds : List ℕ → (before : Option (List ℕ)) → Option (List ℕ) → Option (List ℕ) → Result (Unit {0}) Fault → Type 0
+FollowEnds query before old new (Ok u) = IsFollowed query before old new (Ok u)
+FollowEnds query before old new (Err (Input code line)) = IsFollowed query before old new (Err (ending.Input code line))
+FollowEnds query before old new (Err ReadInput) = IsFollowed query before old new (Err ending.Read)
+FollowEnds query before old new (Err Write) = IsFollowed query before old new (Err ending.Write)
+FollowEnds query before old new (Err NoMemory) = (new ≡ old) ⊎ IsFollowed query before old new (Err ending.NoMemory)
+FollowEnds query before old new (Err Incomplete) = IsFollowed query before old new (Err ending.Incomplete)
+FollowEnds query before old new (Err (Query code start end)) = (new ≡ old) × IsQueryFault query (Query code start end)
+FollowEnds query before old new (Err TooManyVertices) = (new ≡ old) × IsQueryFault query TooManyVertices
+FollowEnds query before old new (Err ReadQuery) = new ≡ old
+FollowEnds query before old new (Err (Schedule code line)) = ⊥
+FollowEnds query before old new (Err NoWorker) = ⊥

@@ -1,0 +1,61 @@
+//! The answer to an input that is followed, from bytes to bytes.
+
+ghost use Rattle.std.specs.Prelude.{◌≡◌, ◌⊎◌, true, take, IfErr, IfSome, IsErrOf};
+ghost use Rattle.collector.specs.Watching.{has_failed, inner_of};
+ghost use Rattle.console.specs.Followed.{FollowEnds};
+ghost use Rattle.diagnostics.specs.declared.fault.Fault.TheVariants as fault;
+
+use crate::fault::follow_fault;
+use crate::running::{graph_of_text, read_query};
+use collector::Watched;
+use diagnostics::{Fault, Texts};
+use follow::follow;
+use std::alloc::Global;
+use std::io::{Read, Write};
+
+/// Follows an input over the graph of a query text.
+#[tactic(auto, using(crate::proofs::FollowedText::ends_well, crate::proofs::FollowedText::ends_ill, crate::proofs::FollowedText::refused_ends, crate::proofs::FollowedText::not_query, crate::proofs::FollowedText::not_read, crate::proofs::FollowedText::not_written, crate::proofs::FollowedText::query_of, crate::proofs::FollowedText::read_of, crate::proofs::FollowedText::written_of))]
+fn follow_text<I: Read, W: Write>(
+    alloc: Global,
+    query: &[u8],
+    input: &mut Watched<I>,
+    writer: &mut Watched<W>,
+) -> Result<(), Fault>
+    ensures ends { FollowEnds query.now (I.remaining (inner_of input.old)) (W.contents (inner_of writer.old)) (W.contents (inner_of writer.new)) result }
+    ensures query { IsErrOf result fault.ReadQuery → ⊥ }
+    ensures input { IsErrOf result fault.ReadInput → has_failed input.new ≡ true }
+    ensures writer { IsErrOf result fault.Write → has_failed writer.new ≡ true }
+{
+    let graph = match graph_of_text(alloc, query) {
+        Ok(graph) => graph,
+        Err(fault) => return Err(fault),
+    };
+    match follow(alloc, graph, input, writer) {
+        Ok(()) => Ok(()),
+        Err(ending) => Err(follow_fault(ending)),
+    }
+}
+
+/// Reads a query, then its input as it comes, and writes the answer line by line while it does. Its promise holds if it ends.
+///
+/// A line `E f1 f2 ..` is a record of epoch E's answer, with its output's name after E where there are several outputs, and a line
+/// `complete E` says that all of them stand above. Epochs come in order. After a fault what was written stays true of the lines before
+/// it: the faults are those of a run, and the query is told before the input is opened. Of the texts only the query is left in `texts`.
+pub fn follow_query<Q: Read, I: Read, W: Write>(
+    alloc: Global,
+    query: &mut Watched<Q>,
+    input: &mut Watched<I>,
+    texts: &mut Texts,
+    writer: &mut Watched<W>,
+) -> Result<(), Fault>
+    ensures ends { IfSome (Q.remaining (inner_of query.old)) (λ q. FollowEnds (take 1048577 q) (I.remaining (inner_of input.old)) (W.contents (inner_of writer.old)) (W.contents (inner_of writer.new)) result) }
+    ensures query { IsErrOf result fault.ReadQuery → has_failed query.new ≡ true }
+    ensures input { IsErrOf result fault.ReadInput → has_failed input.new ≡ true }
+    ensures writer { IsErrOf result fault.Write → has_failed writer.new ≡ true }
+{
+    match read_query(alloc, query) {
+        Ok(text) => texts.query = text,
+        Err(fault) => return Err(fault),
+    }
+    follow_text(alloc, &texts.query, input, writer)
+}

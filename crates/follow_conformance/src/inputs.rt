@@ -1,0 +1,120 @@
+//! Whole inputs, with answers worked out by hand.
+
+use collector::Watched;
+use follow::{Ending, follow};
+use lowering::{Graph, lower};
+use parser::parse;
+use std::alloc::{AllocError, Global};
+use std::io;
+use std::io::{ErrorKind, Read};
+use typing::check;
+
+/// The graph of a query.
+fn graph_of(alloc: Global, text: &str) -> Option<Graph> {
+    let program = parse(alloc, text.as_bytes()).ok()?;
+    let typed = check(alloc, program).ok()?;
+    lower(alloc, &typed).ok()
+}
+
+/// A reader that gives a text, so many bytes at a time, and fails after so many reads.
+#[derive(Drop)]
+struct Slow<'a> {
+    text: &'a [u8],
+    most: usize,
+    left: usize,
+}
+
+impl<'a> Read for Slow<'a> {
+    fn read(&mut self, buf: &mut [u8]) -> io::Result<usize> {
+        if self.left == 0 {
+            return Err(io::Error::from(ErrorKind::Other));
+        }
+        self.left -= 1;
+        let count = self.text.len().min(buf.len()).min(self.most);
+        let (front, back) = self.text.split_at(count);
+        for (to, from) in buf.iter_mut().zip(front) {
+            *to = *from;
+        }
+        self.text = back;
+        Ok(count)
+    }
+}
+
+const AUDIENCE: &str = "input buyer/1; input reader/1; output distinct(concat(buyer, reader));";
+
+#[test]
+fn whole_input(rt: HostRuntime) -> Result<(), AllocError> {
+    let Some(graph) = graph_of(rt.alloc(), AUDIENCE) else {
+        return Err(AllocError);
+    };
+    let mut out = Watched::new(Vec::new(rt.alloc()));
+    let mut reader = Watched::new(
+        b"epoch\nbuyer 7\nbuyer 7\nreader 3\nepoch\nepoch\nreader 5\n".as_slice(),
+    );
+    let ended = follow(rt.alloc(), graph, &mut reader, &mut out);
+    assert!(rt; matches!(ended, Ok(())));
+    assert_eq!(rt;
+        out.into_inner().as_slice(),
+        b"0 7\n0 3\ncomplete 0\ncomplete 1\n2 5\ncomplete 2\n".as_slice()
+    );
+    Ok(())
+}
+
+#[test]
+fn byte_by_byte(rt: HostRuntime) -> Result<(), AllocError> {
+    let Some(graph) = graph_of(rt.alloc(), AUDIENCE) else {
+        return Err(AllocError);
+    };
+    let mut out = Watched::new(Vec::new(rt.alloc()));
+    let mut reader = Watched::new(Slow {
+        text: b"epoch\nbuyer 7\nreader 7\nepoch\nreader 5\nbuyer x\n",
+        most: 1,
+        left: 100,
+    });
+    let ended = follow(rt.alloc(), graph, &mut reader, &mut out);
+    assert_eq!(rt; ended, Err(Ending::Input { code: 44, line: 6 }));
+    assert_eq!(rt;
+        out.into_inner().as_slice(),
+        b"0 7\ncomplete 0\n1 5\n".as_slice()
+    );
+    Ok(())
+}
+
+#[test]
+fn broken_reader(rt: HostRuntime) -> Result<(), AllocError> {
+    let Some(graph) = graph_of(rt.alloc(), AUDIENCE) else {
+        return Err(AllocError);
+    };
+    let mut out = Watched::new(Vec::new(rt.alloc()));
+    let mut reader = Watched::new(Slow {
+        text: b"epoch\nbuyer 7\nreader 7\nepoch\n",
+        most: 1,
+        left: 15,
+    });
+    let ended = follow(rt.alloc(), graph, &mut reader, &mut out);
+    assert_eq!(rt; ended, Err(Ending::Read));
+    assert_eq!(rt; out.into_inner().as_slice(), b"0 7\n".as_slice());
+    Ok(())
+}
+
+#[test]
+fn two_outputs(rt: HostRuntime) -> Result<(), AllocError> {
+    let text =
+        "input reading/2; let frost = where(reading; #1 < 0); output frost = frost; output stations = group(frost; #0; count);";
+    let Some(graph) = graph_of(rt.alloc(), text) else {
+        return Err(AllocError);
+    };
+    let mut out = Watched::new(Vec::new(rt.alloc()));
+    let mut reader = Watched::new(Slow {
+        text: b"epoch\nreading 5 -12\nreading 5 -3\nepoch\nreading 6 1",
+        most: 7,
+        left: 100,
+    });
+    let ended = follow(rt.alloc(), graph, &mut reader, &mut out);
+    assert_eq!(rt; ended, Err(Ending::Input { code: 43, line: 5 }));
+    assert_eq!(rt;
+        out.into_inner().as_slice(),
+        b"0 frost 5 -12\n0 frost 5 -3\n0 stations 5 2\ncomplete 0\n".as_slice()
+    );
+    Ok(())
+}

@@ -1,0 +1,5 @@
+//! What `follow` writes for inputs that come piece by piece, and when readers and writers fail. No other crate stands on it.
+#![tactic(auto)]
+
+#[cfg(test)]
+mod inputs;
