@@ -31,6 +31,7 @@ use Rattle.board.specs.Fitting.{FitsPlace, FitsVertex}
 use Rattle.vertices.specs.declared.shard.Shard.{Shard}
 use Rattle.board.proofs.Shards.{each_back}
 use Rattle.board.specs.Steps.{settled, delivered, after_commit, more_at, with_emitted}
+use Rattle.board.proofs.Emitting.{emits_with}
 use Rattle.board.specs.Kept.{IsKept, Goes}
 use Rattle.board.specs.Commits.{IsOf}
 use Rattle.board.proofs.Committing.{EndsAt, was, may_commit, shows_commit}
@@ -113,6 +114,8 @@ module _ (graph : Graph) (content : Pointstamp → ℕ) (s : Shown) (kept : IsKe
     graph = refl;
     workers = delivered_length o.sent.items (slice_set s.sides p.worker (settled (side_at s p.worker) (event_at (shown_graph s.graph) p.job.happening) o.shard.value o.asked))
         ∙ length-set s.sides p.worker (settled (side_at s p.worker) (event_at (shown_graph s.graph) p.job.happening) o.shard.value o.asked);
+    emitted =
+        emits_with (event_at (shown_graph s.graph) p.job.happening) (event_time p.job.happening).epoch o.emitted s.emitted (let l = own.vertex in let r = kept.room in omega (arith, l, r));
   }
 
   sides_then : AreSidesOf (after_commit s p.worker p.job o.shard.value o.sent.items o.emitted o.asked) (length s.sides)

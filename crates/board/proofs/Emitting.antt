@@ -3,7 +3,7 @@ use Rattle.std.proofs.Common.{◌≡◌, ◌≢◌, ◌⊎◌, inl, inr, ◌<◌
 use Rattle.std.proofs.lemmas.Bool.Decides.{eqb_tells}
 use Rattle.semantics.specs.Multiset.{Record}
 use Rattle.vertices.specs.Outs.{records_of}
-use Rattle.board.specs.Shown.{Epochs, emitted_by, joined, records_at}
+use Rattle.board.specs.Shown.{EmitsBehind, Epochs, batches_at, emitted_by, joined, records_at}
 use Rattle.board.specs.Steps.{more_at, with_emitted}
 use Rattle.board.proofs.Places.{index_set_here, index_set_other}
 
@@ -54,6 +54,22 @@ at_more (suc e) zero bs [] = refl
 at_more (suc e) (suc n) bs [] = at_more e n bs [] ∙ ap (λ l. l ++ cond (is e n) bs []) (index_nil n)
 at_more (suc e) zero bs (x ∷ xs) = sym (append-nil _)
 at_more (suc e) (suc n) bs (x ∷ xs) = at_more e n bs xs
+
+pub emits_same : (es : List Epochs) → EmitsBehind es es
+emits_same es v e = ([], sym (append-nil (batches_at es v e)))
+
+pub emits_with : (v0 e : ℕ) (o : Option (List Record)) (es : List Epochs) → v0 < length es → EmitsBehind es (with_emitted v0 e o es)
+emits_with v0 e None es l v n = ([], sym (append-nil (batches_at es v n)))
+emits_with v0 e (Some b) es l v n = go (eqb_tells v0 v)
+  where
+    go : ((v0 == v) ≡ true) × (v0 ≡ v) ⊎ ((v0 == v) ≡ false) × (v0 ≢ v) → (more : List (List Record)) × (batches_at (with_emitted v0 e (Some b) es) v n ≡ batches_at es v n ++ more)
+    go (inl (t, q)) =
+        let here : emitted_by (slice_set es v0 (more_at e (b ∷ []) (emitted_by es v0))) v ≡ more_at e (b ∷ []) (emitted_by es v) =
+        ap (λ u. emitted_by (slice_set es v0 (more_at e (b ∷ []) (emitted_by es v0))) u) (sym q) ∙ index_set_here es v0 (more_at e (b ∷ []) (emitted_by es v0)) [] l ∙ ap (λ u. more_at e (b ∷ []) (emitted_by es u)) q in
+        (cond (is e n) (b ∷ []) [], ap (λ x. slice_index_or x n []) here ∙ at_more e n (b ∷ []) (emitted_by es v))
+    go (inr (t, q)) =
+        let other : emitted_by (slice_set es v0 (more_at e (b ∷ []) (emitted_by es v0))) v ≡ emitted_by es v = index_set_other es v0 v (more_at e (b ∷ []) (emitted_by es v0)) [] (λ z. q (sym z)) in
+        ([], ap (λ x. slice_index_or x n []) other ∙ sym (append-nil (batches_at es v n)))
 
 joined_cond : (t : Bool) (b : List Record) → joined (cond t (b ∷ []) []) ≡ cond t b []
 joined_cond true b = append-nil b

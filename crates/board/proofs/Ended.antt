@@ -14,6 +14,7 @@ use Rattle.machine.proofs.Tracking.{active_counts}
 use Rattle.rows.specs.FlatRows.{arity_of}
 use Rattle.board.specs.Answers.{first, feed_refusal, input_refusal}
 use Rattle.board.specs.Fitting.{arity_in}
+use Rattle.board.proofs.Emitting.{emits_same}
 use Rattle.board.specs.Kept.{IsKept, Goes}
 use Rattle.board.specs.Shown.{Shown, InputShown, input_at, net}
 use Rattle.board.specs.Showing.{AreSidesOf}
@@ -101,10 +102,10 @@ module _ (graph : Graph) (content : Pointstamp → ℕ) (s : Shown) (kept : IsKe
       subst P (sym at_open) (let t = kept.tracked (at_vertex i (at_epoch (kept.world.open_epoch i))) in omega (arith, a, t))
 
   pub seal_goes : Goes s (Step.seal i) (after_seal s i)
-  seal_goes = record { step = λ w shows. (may_seal s w shows i takes.1 role_is takes.2 takes.0, shows_seal s w shows i takes.1); graph = refl; workers = refl }
+  seal_goes = record { step = λ w shows. (may_seal s w shows i takes.1 role_is takes.2 takes.0, shows_seal s w shows i takes.1); graph = refl; workers = refl; emitted = emits_same s.emitted }
 
   pub close_goes : Goes s (Step.close i) (after_close s i)
-  close_goes = record { step = λ w shows. (may_close s w shows i takes.1 role_is takes.2 takes.0, shows_close s w shows i takes.1); graph = refl; workers = refl }
+  close_goes = record { step = λ w shows. (may_close s w shows i takes.1 role_is takes.2 takes.0, shows_close s w shows i takes.1); graph = refl; workers = refl; emitted = emits_same s.emitted }
 
   with_inputs : (inputs : List InputShown) → AreSidesOf (record s { inputs = inputs }) (length s.sides)
   with_inputs inputs k l =

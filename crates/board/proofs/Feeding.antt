@@ -28,7 +28,7 @@ use Rattle.board.specs.Commits.{Feeds}
 use Rattle.std.specs.List.{All}
 use Rattle.board.proofs.Committed.{with_mail_of}
 use Rattle.board.proofs.Deliveries.{delivered_at, delivered_length}
-use Rattle.board.proofs.Emitting.{records_more}
+use Rattle.board.proofs.Emitting.{records_more, emits_same}
 use Rattle.board.proofs.Ended.{feed_tells, open_tells, role_is}
 use Rattle.board.proofs.Keeping.{kept_more}
 use Rattle.board.proofs.Mails.{by_workers}
@@ -113,6 +113,7 @@ module _ (graph : Graph) (content : Pointstamp → ℕ) (s : Shown) (kept : IsKe
     step = λ w shows. (((role_is graph content s kept i takes, shows.closed i ∙ takes.2, shows.stopped ∙ takes.0), some), shows_feed s w shows i takes.1 batch some letters parcels_are);
     graph = refl;
     workers = delivered_length letters s.sides;
+    emitted = emits_same s.emitted;
   }
 
   sides_then : AreSidesOf (after_feed s i batch letters) (length s.sides)

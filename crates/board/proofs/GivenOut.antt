@@ -13,6 +13,7 @@ use Rattle.board.specs.Shown.{Shown, Side, side_at, side_in, no_side, event_at, 
 use Rattle.board.specs.Showing.{IsOwn, IsSideOf, AreSidesOf, EachShard}
 use Rattle.board.specs.Steps.{out_with, with_side, after_claim_message, after_claim_request}
 use Rattle.board.specs.Fitting.{FitsPlace}
+use Rattle.board.proofs.Emitting.{emits_same}
 use Rattle.board.specs.Kept.{IsKept, Goes}
 use Rattle.board.specs.Commits.{IsOf}
 use Rattle.board.specs.Claims.{IsTaken, HandsMessage, HandsRequest}
@@ -95,6 +96,7 @@ module _ (graph : Graph) (content : Pointstamp → ℕ) (s : Shown) (kept : IsKe
             step = λ w shows. (may_claim_message s w shows k there free p.job slot h.taken.shard at h.message h.happening h.got runs, shows_claim_message s w shows k there free p.job slot h.taken.shard at h.message h.happening h.got);
             graph = refl;
             workers = length-set s.sides k x;
+            emitted = emits_same s.emitted;
           }
 
       pub hands_message_kept : IsKept graph content t
@@ -141,6 +143,7 @@ module _ (graph : Graph) (content : Pointstamp → ℕ) (s : Shown) (kept : IsKe
             step = λ w shows. (may_claim_request s w shows k there free p.job slot h.taken.shard at h.request h.happening h.got runs (no_other graph content s kept w shows (request_pointstamp h.request) front), shows_claim_request s w shows k there free p.job slot h.taken.shard at h.request h.happening h.got);
             graph = refl;
             workers = length-set s.sides k x;
+            emitted = emits_same s.emitted;
           }
 
       pub hands_request_kept : IsKept graph content t

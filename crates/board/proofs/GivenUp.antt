@@ -13,6 +13,7 @@ use Rattle.board.specs.Shown.{Shown, Side, side_at, side_in, no_side, net, held_
 use Rattle.board.specs.Showing.{Shows, ShowsIn, IsSideOf, EachShard, OnShard, known, known_shard}
 use Rattle.board.specs.Steps.{after_abandon}
 use Rattle.board.specs.Fitting.{FitsPlace}
+use Rattle.board.proofs.Emitting.{emits_same}
 use Rattle.board.specs.Kept.{IsKept, Goes}
 use Rattle.board.proofs.Boards.{same_names}
 use Rattle.board.proofs.Committed.{sides_put}
@@ -53,7 +54,7 @@ module _ (s : Shown) (k : ℕ) (there : k < length s.sides) (j : Job) (out : (si
 
   pub abandon_goes : Goes s (Step.abandon k j.happening) (after_abandon s k j)
   unfolding x
-  abandon_goes = record { step = λ w shows. ((there, shows.held k there ∙ ap held_of out), shows_abandon w shows); graph = refl; workers = length-set s.sides k x }
+  abandon_goes = record { step = λ w shows. ((there, shows.held k there ∙ ap held_of out), shows_abandon w shows); graph = refl; workers = length-set s.sides k x; emitted = emits_same s.emitted }
 
   pub abandon_kept : (graph : Graph) (content : Pointstamp → ℕ) → IsKept graph content s → IsKept graph content (after_abandon s k j)
   unfolding x

@@ -9,7 +9,7 @@ use Rattle.machine.specs.Active.{active_count}
 use Rattle.machine.specs.Step.{Step, Allowed, after_step}
 use Rattle.machine.specs.Run.{Run}
 use Rattle.machine.specs.Engine.{network}
-use Rattle.board.specs.Shown.{Shown, net}
+use Rattle.board.specs.Shown.{EmitsBehind, Shown, net}
 use Rattle.machine.specs.InTransit.{FedFits}
 use Rattle.semantics.specs.PortArity.{IsTyped}
 use Rattle.board.specs.Fitting.{FitsPlace, arity_in}
@@ -38,8 +38,9 @@ pub record Keeps (graph : Graph) (content : Pointstamp → ℕ) (passed : ℕ) (
   pub kept : IsKept graph content s
   pub counts : CountsPassed s passed
 
--- whatever world it showed before, it shows after one that the step leaves, and the step is allowed there
+-- Whatever world it showed before, it shows after one that the step leaves, and the step is allowed there. What was emitted stays.
 pub record Goes (s : Shown) (taken : Step) (t : Shown) : Type 0 where
   pub step : (w : World) → Shows s w → Allowed (net s) w taken × Shows t (after_step (net s) w taken)
   pub graph : t.graph ≡ s.graph
   pub workers : length t.sides ≡ length s.sides
+  pub emitted : EmitsBehind s.emitted t.emitted

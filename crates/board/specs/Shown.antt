@@ -1,5 +1,5 @@
 -- What a board shows.
-use Rattle.std.specs.Prelude.{ℕ, Bool, true, false, List, [], ◌∷◌, ◌++◌, length, map, Option, slice_index_or}
+use Rattle.std.specs.Prelude.{◌≡◌, ℕ, Bool, true, false, List, [], ◌∷◌, ◌++◌, length, map, Option, slice_index_or}
 use Rattle.atomic_table.specs.Seated.{TableId}
 use Rattle.semantics.specs.Multiset.{Record}
 use Rattle.semantics.specs.Graph.{Graph, target}
@@ -29,6 +29,14 @@ records_at es e = joined (slice_index_or es e [])
 -- what a vertex has emitted, among what each has
 abbrev pub emitted_by : List Epochs → (vertex : ℕ) → Epochs
 emitted_by es v = slice_index_or es v []
+
+-- the batches that it has emitted for an epoch
+abbrev pub batches_at : List Epochs → (vertex epoch : ℕ) → List (List Record)
+batches_at es v e = slice_index_or (emitted_by es v) e []
+
+-- what was emitted stays, and more comes only behind it
+abbrev pub EmitsBehind : (old new : List Epochs) → Type 0
+EmitsBehind old new = (v e : ℕ) → (more : List (List Record)) × (batches_at new v e ≡ batches_at old v e ++ more)
 
 -- an input
 pub record InputShown : Type 0 where

@@ -1,10 +1,10 @@
 -- Entries and their lines.
-use Rattle.std.proofs.Common.{◌≡◌, ◌≢◌, ◌<◌, ◌≤◌, ◌+◌, ◌-◌, ◌∙◌, ℕ, zero, suc, Bool, true, false, List, [], ◌∷◌, ◌++◌, length, map, take, drop, cond, refl, sym, ap, arith, append_assoc, inl, inr, slice_index_or}
+use Rattle.std.proofs.Common.{◌≡◌, ◌≢◌, ◌<◌, ◌≤◌, ◌+◌, ◌∙◌, ℕ, Bool, true, false, List, [], ◌∷◌, ◌++◌, length, map, take, drop, cond, refl, sym, ap, append_assoc, inl, inr, slice_index_or}
 use Rattle.std.specs.Prelude.{◌==◌}
 use Rattle.std.specs.List.{flat_map}
 use Rattle.std.proofs.lemmas.Bool.Decides.{eqb_tells}
-use Rattle.std.proofs.lemmas.List.{append-nil, drop_all, drop_more, length-append, take_more}
-use Rattle.collector.specs.Piles.{joined}
+use Rattle.std.proofs.lemmas.List.{append-nil, drop_all, drop_more, take-append-drop, take_more}
+use Rattle.board.specs.Shown.{joined}
 use Rattle.semantics.specs.Multiset.{Record}
 use Rattle.semantics.specs.Query.{Name}
 use Rattle.collector.specs.OutputText.{is_plain}
@@ -52,12 +52,6 @@ of_other j k (r ∷ rows) other = elim (eqb_tells k j) [
   | inr no_way ↦ ap (λ (t : Bool). cond t (r ∷ records_of j (entries_at k rows)) (records_of j (entries_at k rows))) no_way.0 ∙ of_other j k rows other
 ]
 
--- a list beyond a number, of two parts
-pub drop_both : (n : ℕ) (xs ys : List Record) → drop n (xs ++ ys) ≡ drop n xs ++ drop (n - length xs) ys
-drop_both zero xs ys = let e : 0 ≡ 0 - length xs = omega arith in ap (λ (k : ℕ). xs ++ drop k ys) e
-drop_both (suc n) [] ys = let e : suc n ≡ suc n - 0 = omega arith in ap (λ (k : ℕ). drop k ys) e
-drop_both (suc n) (x ∷ xs) ys = let e : n - length xs ≡ suc n - suc (length xs) = omega arith in drop_both n xs ys ∙ ap (λ (k : ℕ). drop n xs ++ drop k ys) e
-
 pub rows_append : (f : Record → List ℕ) (xs ys : List Record) → flat_map f (xs ++ ys) ≡ flat_map f xs ++ flat_map f ys
 rows_append f [] ys = refl
 rows_append f (x ∷ xs) ys = ap (λ (zs : List ℕ). f x ++ zs) (rows_append f xs ys) ∙ sym (append_assoc (f x) (flat_map f xs) (flat_map f ys))
@@ -80,14 +74,17 @@ pub joined_more : (batches : List (List Record)) (i : ℕ) (batch : List Record)
 joined_more batches i batch lt is = ap joined (take_more batches i batch lt) ∙ joined_push (take i batches) (slice_index_or batches i batch) ∙ ap (λ (x : List Record). joined (take i batches) ++ x) (sym is)
 
 -- one batch more
-pub batches_more : (f : Record → List ℕ) (batches : List (List Record)) (i told seen skip after : ℕ) (batch : List Record) (start out new : List ℕ) → i < length batches → batch ≡ slice_index_or batches i batch
-    → seen ≡ length (joined (take i batches)) → out ≡ start ++ flat_map f (drop told (joined (take i batches))) → skip ≡ told - seen → new ≡ out ++ flat_map f (drop skip batch) → after ≡ seen + length batch
-    → (after ≡ length (joined (take (i + 1) batches))) × (new ≡ start ++ flat_map f (drop told (joined (take (i + 1) batches))))
-batches_more f batches i told seen skip after batch start out new lt is size e skipped f' sum =
-    let more = joined_more batches i batch lt is in
+pub batches_more : (f : Record → List ℕ) (batches : List (List Record)) (i : ℕ) (batch : List Record) (start out new : List ℕ) → i < length batches → batch ≡ slice_index_or batches i batch → out ≡ start ++ flat_map f (joined (take i batches)) → new ≡ out ++ flat_map f batch
+    → new ≡ start ++ flat_map f (joined (take (i + 1) batches))
+batches_more f batches i batch start out new lt is e more =
     let before = joined (take i batches) in
-    let both : flat_map f (drop told (joined (take (i + 1) batches))) ≡ flat_map f (drop told before) ++ flat_map f (drop skip batch) =
-    ap (λ (xs : List Record). flat_map f (drop told xs)) more ∙ ap (flat_map f) (drop_both told before batch) ∙ ap (λ (n : ℕ). flat_map f (drop told before ++ drop n batch)) (ap (λ (n : ℕ). told - n) (sym size) ∙ sym skipped) ∙ rows_append f (drop told before) (drop skip batch) in (
-      omega (arith, sum, size, ap length more, length-append before batch),
-      f' ∙ ap (λ (xs : List ℕ). xs ++ flat_map f (drop skip batch)) e ∙ append_assoc start (flat_map f (drop told before)) (flat_map f (drop skip batch)) ∙ ap (λ (xs : List ℕ). start ++ xs) (sym both),
-    )
+    let both : flat_map f (joined (take (i + 1) batches)) ≡ flat_map f before ++ flat_map f batch = ap (flat_map f) (joined_more batches i batch lt is) ∙ rows_append f before batch in
+    more ∙ ap (λ (xs : List ℕ). xs ++ flat_map f batch) e ∙ append_assoc start (flat_map f before) (flat_map f batch) ∙ ap (λ (xs : List ℕ). start ++ xs) (sym both)
+
+pub joined_append : (xs ys : List (List Record)) → joined (xs ++ ys) ≡ joined xs ++ joined ys
+joined_append [] ys = refl
+joined_append (x ∷ xs) ys = ap (λ (zs : List Record). x ++ zs) (joined_append xs ys) ∙ sym (append_assoc x (joined xs) (joined ys))
+
+-- the first batches and the rest
+pub joined_parts : (n : ℕ) (batches : List (List Record)) → joined (take n batches) ++ joined (drop n batches) ≡ joined batches
+joined_parts n batches = sym (joined_append (take n batches) (drop n batches)) ∙ ap joined (take-append-drop n batches)

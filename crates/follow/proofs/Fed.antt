@@ -30,16 +30,26 @@ one_waits true false fed before after r z e h = h
 one_waits false true fed before after r z e h = ap (λ (xs : List Record). fed ++ xs) e ∙ h
 one_waits false false fed before after r z e h = h
 
-pub gathered : (s : Shown) (x y : Intake) (items : List Item) (i : ℕ) (z : Record) → IsFed s x items → Gathers x y i z → 0 < x.begun → IsFed s y (items ++ Item.row i z ∷ [])
-gathered s x y items i z f g some = record {
+-- an epoch of the board is the last one that began where that of the input is
+same_test : (base e begun epochs : ℕ) → base + begun ≡ epochs → (e + 1 == begun) ≡ (base + e + 1 == epochs)
+same_test base e begun epochs is = elim (eqb_tells (e + 1) begun) [
+  | inl here ↦ here.0 ∙ sym (eq-eqb (base + e + 1) epochs (omega (arith, here.1, is)))
+  | inr other ↦ elim (eqb_tells (base + e + 1) epochs) [
+    | inl there ↦ absurd (other.1 (omega (arith, there.1, is)))
+    | inr apart ↦ other.0 ∙ sym apart.0
+  ]
+]
+
+pub gathered : (s : Shown) (x y : Intake) (base : ℕ) (items : List Item) (i : ℕ) (z : Record) → IsFed s base x items → Gathers x y i z → IsFed s base y (items ++ Item.row i z ∷ [])
+gathered s x y base items i z f g = record {
   live = f.live;
-  begun = g.holds.begun ∙ f.begun ∙ sym (epochs_push 0 items (Item.row i z));
+  begun = ap (λ (n : ℕ). base + n) g.holds.begun ∙ f.begun ∙ sym (epochs_push 0 items (Item.row i z));
   fed = λ j e.
-      let begun : y.begun ≡ epochs_after 0 items = g.holds.begun ∙ f.begun in
-      let before : fed_at s j e ++ cond (e + 1 == epochs_after 0 items) (waiting x j) [] ≡ records_in e j 0 items = ap (λ (n : ℕ). fed_at s j e ++ cond (e + 1 == n) (waiting x j) []) (sym f.begun) ∙ f.fed j e in
-      ap (λ (n : ℕ). fed_at s j e ++ cond (e + 1 == n) (waiting y j) []) begun ∙ one_waits (j == i) (e + 1 == epochs_after 0 items) (fed_at s j e) (waiting x j) (waiting y j) (records_in e j 0 items) z (g.waits j) before ∙ sym (row_push e j 0 items i z);
+      let said = records_in (base + e) j 0 items in
+      ap (λ (n : ℕ). fed_at s j e ++ cond (e + 1 == n) (waiting y j) []) g.holds.begun ∙ one_waits (j == i) (e + 1 == x.begun) (fed_at s j e) (waiting x j) (waiting y j) said z (g.waits j) (f.fed j e)
+      ∙ ap (λ (b : Bool). cond ((j == i) && b) (said ++ z ∷ []) said) (same_test base e x.begun (epochs_after 0 items) f.begun) ∙ sym (row_push (base + e) j 0 items i z);
   opened = λ j lt. f.opened j (omega (arith, lt, g.holds.inputs)) ∙ ap (λ (n : ℕ). n - 1) (sym g.holds.begun);
-  none = λ zero. absurd (omega (arith, zero, some, g.holds.begun));
+  none = λ zero. absurd (omega (arith, zero, g.some, g.holds.begun));
 }
 
 -- ---- what waits is fed
@@ -66,14 +76,14 @@ fed_there : (a b : Bool) (here fed missed : ℕ → List Record) (e : ℕ) (r wa
 fed_there true b here fed missed e r waits after is h g = ap (λ (xs : List Record). here e ++ xs) (nothing_either b after is) ∙ append-nil (here e) ∙ h refl
 fed_there false b here fed missed e r waits after is h g = ap (λ (xs : List Record). fed e ++ cond b xs []) is ∙ g refl
 
-pub fed_one : (s t : Shown) (x y : Intake) (items : List Item) (i : ℕ) (batch : List Record) → IsFed s x items → Empties x y i batch → i < length x.portion.items → Feeds s t i batch → IsFed t y items
-fed_one s t x y items i batch f g lt feeds = record {
+pub fed_one : (s t : Shown) (x y : Intake) (base : ℕ) (items : List Item) (i : ℕ) (batch : List Record) → IsFed s base x items → Empties x y i batch → i < length x.portion.items → Feeds s t i batch → IsFed t base y items
+fed_one s t x y base items i batch f g lt feeds = record {
   live = feeds.grows.live;
-  begun = g.holds.begun ∙ f.begun;
+  begun = ap (λ (n : ℕ). base + n) g.holds.begun ∙ f.begun;
   fed = λ j e.
       let here : ℕ → List Record = put (fed_at s i) (open_at s i) (fed_at s i (open_at s i) ++ batch) in
       ap (λ (xs : List Record). xs ++ missing y j e) (feeds.fed j e) ∙ ap (λ (n : ℕ). cond (j == i) here (fed_at s j) e ++ cond (e + 1 == n) (waiting y j) []) g.holds.begun
-      ∙ fed_there (j == i) (e + 1 == x.begun) here (fed_at s j) here e (said_records items e j) (waiting x j) (waiting y j) (g.waits j) (at_input j e) (λ other. f.fed j e);
+      ∙ fed_there (j == i) (e + 1 == x.begun) here (fed_at s j) here e (said_records items (base + e) j) (waiting x j) (waiting y j) (g.waits j) (at_input j e) (λ other. f.fed j e);
   opened = λ j less. feeds.opened j ∙ f.opened j (omega (arith, less, g.holds.inputs)) ∙ ap (λ (n : ℕ). n - 1) (sym g.holds.begun);
   none = λ zero j. g.waits j ∙ nothing_here (j == i) (waiting x j) (f.none (sym g.holds.begun ∙ zero) j);
 }
@@ -82,19 +92,19 @@ fed_one s t x y items i batch f g lt feeds = record {
     nothing_here true xs e = refl
     nothing_here false xs e = e
 
-    at_input : (j e : ℕ) → (j == i) ≡ true → put (fed_at s i) (open_at s i) (fed_at s i (open_at s i) ++ batch) e ≡ said_records items e j
+    at_input : (j e : ℕ) → (j == i) ≡ true → put (fed_at s i) (open_at s i) (fed_at s i (open_at s i) ++ batch) e ≡ said_records items (base + e) j
     at_input j e yes_way = elim (eqb_tells j i) [
       | inl same ↦
-          let waited : fed_at s i e ++ cond (e + 1 == x.begun) batch [] ≡ said_records items e i = ap (λ (xs : List Record). fed_at s i e ++ cond (e + 1 == x.begun) xs []) g.taken ∙ f.fed i e in
-          fed_here (fed_at s i) batch x.begun (open_at s i) e (said_records items e i) (f.opened i lt) (λ zero. g.taken ∙ f.none zero i) waited ∙ ap (λ (k : ℕ). said_records items e k) (sym same.1)
+          let waited : fed_at s i e ++ cond (e + 1 == x.begun) batch [] ≡ said_records items (base + e) i = ap (λ (xs : List Record). fed_at s i e ++ cond (e + 1 == x.begun) xs []) g.taken ∙ f.fed i e in
+          fed_here (fed_at s i) batch x.begun (open_at s i) e (said_records items (base + e) i) (f.opened i lt) (λ zero. g.taken ∙ f.none zero i) waited ∙ ap (λ (k : ℕ). said_records items (base + e) k) (sym same.1)
       | inr other ↦ absurd (let p : true ≡ false = sym yes_way ∙ other.0 in cc)
     ]
 
 -- where nothing waits nothing is to be fed
-pub fed_none : (s : Shown) (x y : Intake) (items : List Item) (i : ℕ) → IsFed s x items → Empties x y i [] → IsFed s y items
-fed_none s x y items i f g = record {
+pub fed_none : (s : Shown) (x y : Intake) (base : ℕ) (items : List Item) (i : ℕ) → IsFed s base x items → Empties x y i [] → IsFed s base y items
+fed_none s x y base items i f g = record {
   live = f.live;
-  begun = g.holds.begun ∙ f.begun;
+  begun = ap (λ (n : ℕ). base + n) g.holds.begun ∙ f.begun;
   fed = λ j e. ap (λ (n : ℕ). fed_at s j e ++ cond (e + 1 == n) (waiting y j) []) g.holds.begun ∙ ap (λ (xs : List Record). fed_at s j e ++ cond (e + 1 == x.begun) xs []) (same j) ∙ f.fed j e;
   opened = λ j less. f.opened j (omega (arith, less, g.holds.inputs)) ∙ ap (λ (n : ℕ). n - 1) (sym g.holds.begun);
   none = λ zero j. same j ∙ f.none (sym g.holds.begun ∙ zero) j;
@@ -108,19 +118,19 @@ fed_none s x y items i f g = record {
 
 -- ---- an epoch begins
 
-all_there : (s : Shown) (x : Intake) (items : List Item) → IsFed s x items → ((i : ℕ) → waiting x i ≡ []) → (i e : ℕ) → fed_at s i e ≡ said_records items e i
-all_there s x items f none i e = sym (append-nil (fed_at s i e)) ∙ ap (λ (xs : List Record). fed_at s i e ++ xs) (sym (nothing_either (e + 1 == x.begun) (waiting x i) (none i))) ∙ f.fed i e
+all_there : (s : Shown) (x : Intake) (base : ℕ) (items : List Item) → IsFed s base x items → ((i : ℕ) → waiting x i ≡ []) → (i e : ℕ) → fed_at s i e ≡ said_records items (base + e) i
+all_there s x base items f none i e = sym (append-nil (fed_at s i e)) ∙ ap (λ (xs : List Record). fed_at s i e ++ xs) (sym (nothing_either (e + 1 == x.begun) (waiting x i) (none i))) ∙ f.fed i e
 
-pub all_fed : (s : Shown) (x : Intake) (items : List Item) → IsFed s x items → ((i : ℕ) → waiting x i ≡ []) → IsAllFed s items
-all_fed s x items f none = record { live = f.live; fed = all_there s x items f none }
+pub all_fed : (s : Shown) (x : Intake) (base : ℕ) (items : List Item) → IsFed s base x items → ((i : ℕ) → waiting x i ≡ []) → IsAllFed s base items
+all_fed s x base items f none = record { live = f.live; fed = all_there s x base items f none }
 
 -- what another step of the board leaves, where the open epochs are known
-begun_at : (s t : Shown) (x y : Intake) (items : List Item) → IsFed s x items → ((i : ℕ) → waiting x i ≡ []) → Grows s t → ((i e : ℕ) → fed_at t i e ≡ fed_at s i e) → y.begun ≡ x.begun + 1 → y.portion.items ≡ x.portion.items
-    → ((i : ℕ) → i < length x.portion.items → open_at t i ≡ x.begun) → IsFed t y (items ++ Item.epoch ∷ [])
-begun_at s t x y items f none grows fed begun same opened = record {
+begun_at : (s t : Shown) (x y : Intake) (base : ℕ) (items : List Item) → IsFed s base x items → ((i : ℕ) → waiting x i ≡ []) → Grows s t → ((i e : ℕ) → fed_at t i e ≡ fed_at s i e) → y.begun ≡ x.begun + 1 → y.portion.items ≡ x.portion.items
+    → ((i : ℕ) → i < length x.portion.items → open_at t i ≡ x.begun) → IsFed t base y (items ++ Item.epoch ∷ [])
+begun_at s t x y base items f none grows fed begun same opened = record {
   live = grows.live;
-  begun = begun ∙ ap (λ (n : ℕ). n + 1) f.begun ∙ sym (epochs_push 0 items Item.epoch);
-  fed = λ i e. ap (λ (xs : List Record). fed_at t i e ++ xs) (nothing_either (e + 1 == y.begun) (waiting y i) (empty i)) ∙ append-nil (fed_at t i e) ∙ fed i e ∙ all_there s x items f none i e ∙ sym (epoch_push e i 0 items);
+  begun = omega (arith, begun, f.begun, epochs_push 0 items Item.epoch);
+  fed = λ i e. ap (λ (xs : List Record). fed_at t i e ++ xs) (nothing_either (e + 1 == y.begun) (waiting y i) (empty i)) ∙ append-nil (fed_at t i e) ∙ fed i e ∙ all_there s x base items f none i e ∙ sym (epoch_push (base + e) i 0 items);
   opened = λ i lt. opened i (omega (arith, lt, ap length same)) ∙ (let e : x.begun ≡ y.begun - 1 = omega (arith, begun) in e);
   none = λ zero. absurd (omega (arith, zero, begun));
 }
@@ -131,8 +141,8 @@ begun_at s t x y items f none grows fed begun same opened = record {
     empty : (i : ℕ) → waiting y i ≡ []
     empty i = waits_same i ∙ none i
 
-pub worked : (s t : Shown) (x : Intake) (items : List Item) → IsFed s x items → Works s t → IsFed t x items
-worked s t x items f w = record {
+pub worked : (s t : Shown) (x : Intake) (base : ℕ) (items : List Item) → IsFed s base x items → Works s t → IsFed t base x items
+worked s t x base items f w = record {
   live = w.grows.live;
   begun = f.begun;
   fed = λ i e. ap (λ (xs : List Record). xs ++ missing x i e) (w.fed i e) ∙ f.fed i e;
@@ -140,29 +150,29 @@ worked s t x items f w = record {
   none = f.none;
 }
 
-pub all_worked : (s t : Shown) (items : List Item) → IsAllFed s items → Works s t → IsAllFed t items
-all_worked s t items f w = record { live = w.grows.live; fed = λ i e. w.fed i e ∙ f.fed i e }
+pub all_worked : (s t : Shown) (base : ℕ) (items : List Item) → IsAllFed s base items → Works s t → IsAllFed t base items
+all_worked s t base items f w = record { live = w.grows.live; fed = λ i e. w.fed i e ∙ f.fed i e }
 
 -- an item of the next epoch, with or without a seal of the one before
 pub begun_sealed : (s t u : Shown) (x y z : Intake) (n : ℕ) → SentAll s t x y → (IsLive t → Seals t u n) → n ≡ length y.portion.items → (y.begun ≡ 0 → ⊥) → z.begun ≡ y.begun + 1 → z.line ≡ y.line → z.portion.items ≡ y.portion.items → Moves s u x z Item.epoch
 begun_sealed s t u x y z n sent sealed all some begun line same = record {
   line = line ∙ sent.holds.line;
-  fed = λ items f.
-      let g = sent.fed items f in
+  fed = λ base items f.
+      let g = sent.fed base items f in
       let seals = sealed g.0.live in
-      (begun_at t u y z items g.0 sent.none seals.grows seals.fed begun same (λ i lt. seals.sealed i (omega (arith, lt, all)) ∙ ap (λ (n : ℕ). n + 1) (g.0.opened i lt) ∙ (let e : y.begun - 1 + 1 ≡ y.begun = omega (arith, some) in e)), grows_on s t u g.1 seals.grows);
+      (begun_at t u y z base items g.0 sent.none seals.grows seals.fed begun same (λ i lt. seals.sealed i (omega (arith, lt, all)) ∙ ap (λ (n : ℕ). n + 1) (g.0.opened i lt) ∙ (let e : y.begun - 1 + 1 ≡ y.begun = omega (arith, some) in e)), grows_on s t u g.1 seals.grows);
 }
 
 pub begun_first : (s t : Shown) (x y z : Intake) → SentAll s t x y → y.begun ≡ 0 → z.begun ≡ y.begun + 1 → z.line ≡ y.line → z.portion.items ≡ y.portion.items → Moves s t x z Item.epoch
 begun_first s t x y z sent none begun line same = record {
   line = line ∙ sent.holds.line;
-  fed = λ items f.
-      let g = sent.fed items f in
-      (begun_at t t y z items g.0 sent.none (grows_not t g.0.live) (λ i e. refl) begun same (λ i lt. g.0.opened i lt ∙ (let e : y.begun - 1 ≡ y.begun = omega (arith, none) in e)), g.1);
+  fed = λ base items f.
+      let g = sent.fed base items f in
+      (begun_at t t y z base items g.0 sent.none (grows_not t g.0.live) (λ i e. refl) begun same (λ i lt. g.0.opened i lt ∙ (let e : y.begun - 1 ≡ y.begun = omega (arith, none) in e)), g.1);
 }
 
-pub gathers_moves : (s : Shown) (x y : Intake) (i : ℕ) (z : Record) → Gathers x y i z → 0 < x.begun → Moves s s x y (Item.row i z)
-gathers_moves s x y i z g some = record { line = g.holds.line; fed = λ items f. (gathered s x y items i z f g some, grows_not s f.live) }
+pub gathers_moves : (s : Shown) (x y : Intake) (i : ℕ) (z : Record) → Gathers x y i z → Moves s s x y (Item.row i z)
+gathers_moves s x y i z g = record { line = g.holds.line; fed = λ base items f. (gathered s x y base items i z f g, grows_not s f.live) }
 
 -- ---- what waits at each input is fed, one after another
 
@@ -173,27 +183,27 @@ pub sent_one : (s t : Shown) (x y : Intake) (i : ℕ) (batch : List Record) → 
 sent_one s t x y i batch g lt feeds = record {
   holds = g.holds;
   waits = g.waits;
-  fed = λ items f. let d = feeds f.live in (fed_one s t x y items i batch f g lt d, d.grows);
+  fed = λ base items f. let d = feeds f.live in (fed_one s t x y base items i batch f g lt d, d.grows);
 }
 
 pub sent_none : (s : Shown) (x y : Intake) (i : ℕ) (rows : List Record) → Empties x y i rows → rows ≡ [] → Sent s s x y i
 sent_none s x y i rows g none = record {
   holds = g.holds;
   waits = g.waits;
-  fed = λ items f. (fed_none s x y items i f (subst (Empties x y i) none g), grows_not s f.live);
+  fed = λ base items f. (fed_none s x y base items i f (subst (Empties x y i) none g), grows_not s f.live);
 }
 
 -- of the first n inputs nothing waits
 pub record SentSome (s t : Shown) (x y : Intake) (n : ℕ) : Type 0 where
   pub holds : Holds x y
   pub none : (i : ℕ) → i < n → waiting y i ≡ []
-  pub fed : (items : List Item) → IsFed s x items → IsFed t y items × Grows s t
+  pub fed : (base : ℕ) (items : List Item) → IsFed s base x items → IsFed t base y items × Grows s t
 
 pub none_sent : (s : Shown) (x : Intake) → SentSome s s x x 0
 none_sent s x = record {
   holds = record { begun = refl; line = refl; inputs = refl };
   none = λ i lt. absurd (omega (arith, lt));
-  fed = λ items f. (f, grows_not s f.live);
+  fed = λ base items f. (f, grows_not s f.live);
 }
 
 pub more_sent : (s t u : Shown) (x y z : Intake) (n : ℕ) → SentSome s t x y n → Sent t u y z n → SentSome s u x z (n + 1)
@@ -203,7 +213,7 @@ more_sent s t u x y z n p q = record {
     | inl same ↦ ap (λ t. cond t [] (waiting y i)) same.0
     | inr other ↦ ap (λ t. cond t [] (waiting y i)) other.0 ∙ p.none i (omega (arith, lt, other.1))
   ];
-  fed = λ items f. let a = p.fed items f in let b = q.fed items a.0 in (b.0, grows_on s t u a.1 b.1);
+  fed = λ base items f. let a = p.fed base items f in let b = q.fed base items a.0 in (b.0, grows_on s t u a.1 b.1);
 }
 
 pub all_sent : (s t : Shown) (x y : Intake) (n : ℕ) → SentSome s t x y n → length x.portion.items ≤ n → SentAll s t x y
@@ -221,10 +231,10 @@ pub nothing_waits : (x : Intake) (i e : ℕ) {fed : List Record} → waiting x i
 nothing_waits x i e none f = ap (λ (xs : List Record). xs ++ missing x i e) f ∙ nothing_either (e + 1 == x.begun) (waiting x i) none
 
 -- a line is counted, which changes nothing else
-pub counted_fed : (s : Shown) (x y : Intake) (items : List Item) → Counts x y → IsFed s x items → IsFed s y items
-counted_fed s x y items c f = record {
+pub counted_fed : (s : Shown) (x y : Intake) (base : ℕ) (items : List Item) → Counts x y → IsFed s base x items → IsFed s base y items
+counted_fed s x y base items c f = record {
   live = f.live;
-  begun = c.begun ∙ f.begun;
+  begun = ap (λ (n : ℕ). base + n) c.begun ∙ f.begun;
   fed = λ i e. ap (λ (n : ℕ). fed_at s i e ++ cond (e + 1 == n) (waiting y i) []) c.begun ∙ ap (λ (xs : List Record). fed_at s i e ++ cond (e + 1 == x.begun) xs []) (same i) ∙ f.fed i e;
   opened = λ i lt. f.opened i (omega (arith, lt, ap length c.portion)) ∙ ap (λ (n : ℕ). n - 1) (sym c.begun);
   none = λ zero i. same i ∙ f.none (sym c.begun ∙ zero) i;

@@ -1,5 +1,5 @@
 -- Lines that are taken, one after another.
-use Rattle.std.proofs.Common.{◌≡◌, ◌<◌, ◌+◌, ◌∙◌, ℕ, List, [], ◌∷◌, ◌++◌, length, refl, sym, ap, subst, arith, append_assoc, inl, inr, Some, None, Bool, true, false}
+use Rattle.std.proofs.Common.{◌≡◌, ◌<◌, ◌+◌, ◌∙◌, ℕ, List, [], ◌∷◌, ◌++◌, length, refl, sym, ap, subst, arith, append_assoc, inl, inr, Bool, true, false}
 use Rattle.std.proofs.lemmas.Bool.Decides.{eqb_tells}
 use Rattle.std.proofs.lemmas.List.{length-append, nil_from_length}
 use Rattle.std.proofs.lemmas.List.Splits.{length-slice_split}
@@ -12,47 +12,62 @@ use Rattle.collector.specs.declared.refusal.Fault.{Fault}
 use Rattle.collector.specs.declared.refusal.Fault.TheVariants.{Malformed, TooManyEpochs, NoEpoch, Unknown, BadNumber, WrongFields}
 use Rattle.collector.proofs.LinesRead.{say_push}
 use Rattle.follow.specs.Scenes.{Grows, HasTaken}
-use Rattle.follow.specs.Steps.{CanTake, Continues, Counts, Moves, Took}
+use Rattle.follow.specs.Steps.{Continues, Counts, Moves, TakesLines}
 use Rattle.follow.specs.declared.intake.Intake.{Intake}
+use Rattle.follow.specs.declared.taken.Taken.TheVariants as taken
 use Rattle.follow.proofs.Fed.{counted_fed}
 use Rattle.follow.proofs.Items.{continues_here, continues_item, continues_on}
 use Rattle.follow.proofs.Moved.{grows_not, grows_on}
 
 -- lines were taken, from those that were taken at first
-pub record TakenSo (s t : Shown) (y : Intake) (inputs : List Input) (bytes rest : List ℕ) (items : List Item) : Type 0 where
+pub record TakenSo (base : ℕ) (s t : Shown) (y : Intake) (inputs : List Input) (bytes rest : List ℕ) (items : List Item) : Type 0 where
   pub lines : List (List ℕ)
   pub later : List Item
-  pub taken : HasTaken t y inputs bytes rest lines later
+  pub taken : HasTaken t base y inputs bytes rest lines later
   pub continues : Continues items later
   pub grows : Grows s t
 
 -- whatever was taken at first
-abbrev pub Takes : (s t : Shown) → (x y : Intake) → List Input → (text rest : List ℕ) → Type 0
-Takes s t x y inputs text rest = (bytes : List ℕ) (lines : List (List ℕ)) (items : List Item) → HasTaken s x inputs bytes text lines items → TakenSo s t y inputs bytes rest items
+abbrev pub Takes : (base : ℕ) → (s t : Shown) → (x y : Intake) → List Input → (text rest : List ℕ) → Type 0
+Takes base s t x y inputs text rest = (bytes : List ℕ) (lines : List (List ℕ)) (items : List Item) → HasTaken s base x inputs bytes text lines items → TakenSo base s t y inputs bytes rest items
 
-pub takes_none : (s : Shown) (x : Intake) (inputs : List Input) (text : List ℕ) → Takes s s x x inputs text text
-takes_none s x inputs text = λ bytes lines items h. record { lines = lines; later = items; taken = h; continues = continues_here items; grows = grows_not s h.fed.live }
+pub takes_none : (base : ℕ) (s : Shown) (x : Intake) (inputs : List Input) (text : List ℕ) → Takes base s s x x inputs text text
+takes_none base s x inputs text = λ bytes lines items h. record { lines = lines; later = items; taken = h; continues = continues_here items; grows = grows_not s h.fed.live }
 
-pub can_take : (inputs : List Input) (x : Intake) (line : List ℕ) (item : Item) → Says inputs x.begun line item → CanTake x item
-can_take inputs x line Item.epoch says = says.1
-can_take inputs x line (Item.row i zs) says = says.3
+-- one line more
+taken_more : (base : ℕ) (s t u : Shown) (y z v : Intake) (inputs : List Input) (bytes rest after line : List ℕ) (items : List Item) (item : Item) (r : TakenSo base s t y inputs bytes rest items) → split_on 10 rest ≡ line ∷ split_on 10 after → Says inputs (base + y.begun) line item → Moves t u y z item → Counts z v
+    → HasTaken u base v inputs bytes after (r.lines ++ line ∷ []) (r.later ++ item ∷ [])
+taken_more base s t u y z v inputs bytes rest after line items item r cut says moves counts = record {
+  fed = counted_fed u z v base (r.later ++ item ∷ []) counts (moves.fed base r.later r.taken.fed).0;
+  parts = r.taken.parts ∙ ap (λ (ls : List (List ℕ)). r.lines ++ ls) cut ∙ sym (append_assoc r.lines (line ∷ []) (split_on 10 after));
+  said = say_push inputs 0 r.lines r.later line item r.taken.said (subst (λ (k : ℕ). Says inputs k line item) r.taken.fed.begun says);
+  counted = counts.line ∙ ap (λ (n : ℕ). n + 1) (moves.line ∙ r.taken.counted) ∙ sym (length-append r.lines (line ∷ []));
+}
 
-pub takes_more : (s t u : Shown) (x y z v : Intake) (inputs : List Input) (text rest after line : List ℕ) (item : Item) → Takes s t x y inputs text rest → split_on 10 rest ≡ line ∷ split_on 10 after → Says inputs y.begun line item → Moves t u y z item → Counts z v
-    → Takes s u x v inputs text after
-takes_more s t u x y z v inputs text rest after line item takes cut says moves counts = λ bytes lines items h.
+pub takes_more : (base : ℕ) (s t u : Shown) (x y z v : Intake) (inputs : List Input) (text rest after line : List ℕ) (item : Item) → Takes base s t x y inputs text rest → split_on 10 rest ≡ line ∷ split_on 10 after → Says inputs (base + y.begun) line item → Moves t u y z item → Counts z v
+    → Takes base s u x v inputs text after
+takes_more base s t u x y z v inputs text rest after line item takes cut says moves counts = λ bytes lines items h.
     let r = takes bytes lines items h in
-    let moved = moves.fed r.later r.taken.fed in
     record {
       lines = r.lines ++ line ∷ [];
       later = r.later ++ item ∷ [];
-      taken = record {
-        fed = counted_fed u z v (r.later ++ item ∷ []) counts moved.0;
-        parts = r.taken.parts ∙ ap (λ (ls : List (List ℕ)). r.lines ++ ls) cut ∙ sym (append_assoc r.lines (line ∷ []) (split_on 10 after));
-        said = say_push inputs 0 r.lines r.later line item r.taken.said (subst (λ (k : ℕ). Says inputs k line item) r.taken.fed.begun says);
-        counted = counts.line ∙ ap (λ (n : ℕ). n + 1) (moves.line ∙ r.taken.counted) ∙ sym (length-append r.lines (line ∷ []));
-      };
+      taken = taken_more base s t u y z v inputs bytes rest after line items item r cut says moves counts;
       continues = continues_on items r.later (r.later ++ item ∷ []) r.continues (continues_item r.later item);
-      grows = grows_on s t u r.grows moved.1;
+      grows = grows_on s t u r.grows (moves.fed base r.later r.taken.fed).1;
+    }
+
+-- the same where it begins an epoch, and no more are taken
+pub took_epoch : (base : ℕ) (s t u : Shown) (x y z v : Intake) (inputs : List Input) (text rest after line : List ℕ) (item : Item) → Takes base s t x y inputs text rest → split_on 10 rest ≡ line ∷ split_on 10 after → Says inputs (base + y.begun) line item → Moves t u y z item → Counts z v → item ≡ Item.epoch
+    → TakesLines base s u x v inputs text after taken.Epoch
+took_epoch base s t u x y z v inputs text rest after line item takes cut says moves counts is = λ bytes lines items h.
+    let r = takes bytes lines items h in
+    record {
+      lines = r.lines ++ line ∷ [];
+      later = r.later ++ item ∷ [];
+      reached = taken_more base s t u y z v inputs bytes rest after line items item r cut says moves counts;
+      continues = continues_on items r.later (r.later ++ item ∷ []) r.continues (continues_item r.later item);
+      grows = grows_on s t u r.grows (moves.fed base r.later r.taken.fed).1;
+      stops = (r.later, ap (λ (i : Item). r.later ++ i ∷ []) is);
     }
 
 no_line_feed : (fault : Fault) → code_of fault ≡ 43 → ⊥
@@ -63,14 +78,14 @@ no_line_feed WrongFields e = let f : 45 ≡ 43 = e in absurd (omega (arith, f))
 no_line_feed Malformed e = let f : 46 ≡ 43 = e in absurd (omega (arith, f))
 no_line_feed TooManyEpochs e = let f : 47 ≡ 43 = e in absurd (omega (arith, f))
 
-pub took_fault : (s t : Shown) (x y : Intake) (inputs : List Input) (text rest line after : List ℕ) (fault : Fault) (code : ℕ) → Takes s t x y inputs text rest → split_on 10 rest ≡ line ∷ split_on 10 after → IsFault inputs y.begun line fault → code ≡ code_of fault
-    → (bytes : List ℕ) (lines : List (List ℕ)) (items : List Item) → HasTaken s x inputs bytes text lines items → Took s t y inputs bytes rest (Some code) items
-took_fault s t x y inputs text rest line after fault code takes cut bad is bytes lines items h =
+pub took_fault : (base : ℕ) (s t : Shown) (x y : Intake) (inputs : List Input) (text rest line after : List ℕ) (fault : Fault) (code : ℕ) → Takes base s t x y inputs text rest → split_on 10 rest ≡ line ∷ split_on 10 after → IsFault inputs (base + y.begun) line fault → code ≡ code_of fault
+    → TakesLines base s t x y inputs text rest (taken.Fault code)
+took_fault base s t x y inputs text rest line after fault code takes cut bad is = λ bytes lines items h.
     let r = takes bytes lines items h in
     record {
       lines = r.lines;
       later = r.later;
-      taken = r.taken;
+      reached = r.taken;
       continues = r.continues;
       grows = r.grows;
       stops = (
@@ -82,11 +97,11 @@ took_fault s t x y inputs text rest line after fault code takes cut bad is bytes
     filled : (bs : List ℕ) → 0 < length (split_on 10 bs)
     filled bs = omega (arith, length-slice_split (λ b. b == 10) bs)
 
-pub took_all : (s t : Shown) (x y : Intake) (inputs : List Input) (text rest : List ℕ) → Takes s t x y inputs text rest → split_on 10 rest ≡ rest ∷ []
-    → (bytes : List ℕ) (lines : List (List ℕ)) (items : List Item) → HasTaken s x inputs bytes text lines items → Took s t y inputs bytes rest None items
-took_all s t x y inputs text rest takes none bytes lines items h =
+pub took_all : (base : ℕ) (s t : Shown) (x y : Intake) (inputs : List Input) (text rest : List ℕ) → Takes base s t x y inputs text rest → split_on 10 rest ≡ rest ∷ []
+    → TakesLines base s t x y inputs text rest taken.Whole
+took_all base s t x y inputs text rest takes none = λ bytes lines items h.
     let r = takes bytes lines items h in
-    record { lines = r.lines; later = r.later; taken = r.taken; continues = r.continues; grows = r.grows; stops = none }
+    record { lines = r.lines; later = r.later; reached = r.taken; continues = r.continues; grows = r.grows; stops = none }
 
 pub unended_nothing : (rest : List ℕ) → rest ≡ [] → split_on 10 rest ≡ rest ∷ []
 unended_nothing rest e = ap (split_on 10) e ∙ ap (λ (bs : List ℕ). bs ∷ []) (sym e)

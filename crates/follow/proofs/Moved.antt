@@ -4,47 +4,30 @@ use Rattle.std.specs.Prelude.{◌==◌}
 use Rattle.std.proofs.lemmas.Bool.Decides.{eqb_tells}
 use Rattle.std.proofs.lemmas.List.{append-nil}
 use Rattle.semantics.specs.Multiset.{Record}
-use Rattle.semantics.specs.Kinds.{Role}
-use Rattle.semantics.specs.Time.{Time}
-use Rattle.machine.specs.Network.{Network}
-use Rattle.machine.specs.World.{World, Event}
+use Rattle.machine.specs.World.{Event}
 use Rattle.machine.specs.Step.{Step, after_step, put}
 use Rattle.machine.specs.Choices.{IsClaimBy}
-use Rattle.machine.specs.Processing.{emitted_after, emitted_by as emitted_by_role}
-use Rattle.board.specs.Shown.{Shown, emitted_by, net, records_at}
+use Rattle.board.specs.Shown.{Shown, batches_at, net}
 use Rattle.board.specs.Kept.{Goes}
 use Rattle.follow.specs.Scenes.{Feeds, Grows, IsLive, Seals, Works, fed_at, open_at}
 use Rattle.follow.specs.Steps.{SealsOne}
 
--- to what was emitted in one world only more has come in another
-abbrev Emits : World → World → Type 0
-Emits w v = (o e : ℕ) → (more : List Record) × (v.emitted o e ≡ w.emitted o e ++ more)
+grows_by : (s t : Shown) (taken : Step) (live : IsLive s) → Goes s taken t → Grows s t
+grows_by s t taken live goes = record { live = (after_step (net s) live.0 taken, (goes.step live.0 live.1).1); graph = goes.graph; emitted = goes.emitted }
 
-same_emits : (xs : List Record) → (more : List Record) × (xs ≡ xs ++ more)
-same_emits xs = ([], sym (append-nil xs))
-
-grows_by : (s t : Shown) (taken : Step) (live : IsLive s) → Goes s taken t → Emits live.0 (after_step (net s) live.0 taken) → Grows s t
-grows_by s t taken live goes emits =
-    let after = (goes.step live.0 live.1).1 in
-    record {
-      live = (after_step (net s) live.0 taken, after);
-      graph = goes.graph;
-      emitted = λ v e. let m = emits v e in (m.0, sym (after.emitted v e) ∙ m.1 ∙ ap (λ (xs : List Record). xs ++ m.0) (live.1.emitted v e));
-    }
-
-works_by : (s t : Shown) (taken : Step) (live : IsLive s) → Goes s taken t → Emits live.0 (after_step (net s) live.0 taken)
+works_by : (s t : Shown) (taken : Step) (live : IsLive s) → Goes s taken t
     → ((i e : ℕ) → (after_step (net s) live.0 taken).fed i e ≡ live.0.fed i e) → ((i : ℕ) → (after_step (net s) live.0 taken).open_epoch i ≡ live.0.open_epoch i) → Works s t
-works_by s t taken live goes emits fed opened =
+works_by s t taken live goes fed opened =
     let after = (goes.step live.0 live.1).1 in
     record {
-      grows = grows_by s t taken live goes emits;
+      grows = grows_by s t taken live goes;
       fed = λ i e. sym (after.fed i e) ∙ fed i e ∙ live.1.fed i e;
       opened = λ i. sym (after.open_epoch i) ∙ opened i ∙ live.1.open_epoch i;
     }
 
 -- nothing at all
 pub works_not : (s : Shown) → IsLive s → Works s s
-works_not s live = record { grows = record { live = live; graph = refl; emitted = λ v e. same_emits (records_at (emitted_by s.emitted v) e) }; fed = λ i e. refl; opened = λ i. refl }
+works_not s live = record { grows = record { live = live; graph = refl; emitted = λ v e. ([], sym (append-nil (batches_at s.emitted v e))) }; fed = λ i e. refl; opened = λ i. refl }
 
 pub grows_not : (s : Shown) → IsLive s → Grows s s
 grows_not s live = (works_not s live).grows
@@ -56,7 +39,7 @@ grows_on s t u p q = record {
   emitted = λ v e.
       let a = p.emitted v e in
       let b = q.emitted v e in
-      (a.0 ++ b.0, b.1 ∙ ap (λ (xs : List Record). xs ++ b.0) a.1 ∙ append_assoc (records_at (emitted_by s.emitted v) e) a.0 b.0);
+      (a.0 ++ b.0, b.1 ∙ ap (λ (bs : List (List Record)). bs ++ b.0) a.1 ∙ append_assoc (batches_at s.emitted v e) a.0 b.0);
 }
 
 pub works_on : (s t u : Shown) → Works s t → Works t u → Works s u
@@ -68,27 +51,16 @@ pub claim_works : (s t : Shown) (k : ℕ) (taken : Step) → IsClaimBy k taken �
 claim_works s t k (Step.feed i records) by goes live = absurd by
 claim_works s t k (Step.seal i) by goes live = absurd by
 claim_works s t k (Step.close i) by goes live = absurd by
-claim_works s t k (Step.claim_message k' at m) by goes live = works_by s t (Step.claim_message k' at m) live goes (λ v e. same_emits (live.0.emitted v e)) (λ i e. refl) (λ i. refl)
-claim_works s t k (Step.claim_request k' at n) by goes live = works_by s t (Step.claim_request k' at n) live goes (λ v e. same_emits (live.0.emitted v e)) (λ i e. refl) (λ i. refl)
+claim_works s t k (Step.claim_message k' at m) by goes live = works_by s t (Step.claim_message k' at m) live goes (λ i e. refl) (λ i. refl)
+claim_works s t k (Step.claim_request k' at n) by goes live = works_by s t (Step.claim_request k' at n) live goes (λ i e. refl) (λ i. refl)
 claim_works s t k (Step.commit k' event out) by goes live = absurd by
 claim_works s t k (Step.abandon k' event) by goes live = absurd by
 
-role_emits : (r : Role) (w : World) (v : ℕ) (t : Time) (records : List Record) (o e : ℕ) → (more : List Record) × (emitted_by_role r w v t records o e ≡ w.emitted o e ++ more)
-role_emits Role.input w v t records o e = same_emits (w.emitted o e)
-role_emits Role.stateless w v t records o e = same_emits (w.emitted o e)
-role_emits Role.stateful w v t records o e = same_emits (w.emitted o e)
-role_emits Role.notified w v t records o e = same_emits (w.emitted o e)
-role_emits Role.output w v t records o e = (_, refl)
-
-event_emits : (g : Network) (w : World) (event : Event) (o e : ℕ) → (more : List Record) × (emitted_after g w event o e ≡ w.emitted o e ++ more)
-event_emits g w (Event.arrival m) o e = role_emits (g.role (g.target m.edge)) w (g.target m.edge) m.time m.records o e
-event_emits g w (Event.notification n) o e = same_emits (w.emitted o e)
-
 pub commit_works : (s t : Shown) (k : ℕ) (event : Event) (out : ℕ → List Record) → Goes s (Step.commit k event out) t → IsLive s → Works s t
-commit_works s t k event out goes live = works_by s t (Step.commit k event out) live goes (event_emits (net s) live.0 event) (λ i e. refl) (λ i. refl)
+commit_works s t k event out goes live = works_by s t (Step.commit k event out) live goes (λ i e. refl) (λ i. refl)
 
 pub close_works : (s t : Shown) (i : ℕ) → Goes s (Step.close i) t → IsLive s → Works s t
-close_works s t i goes live = works_by s t (Step.close i) live goes (λ v e. same_emits (live.0.emitted v e)) (λ j e. refl) (λ j. refl)
+close_works s t i goes live = works_by s t (Step.close i) live goes (λ j e. refl) (λ j. refl)
 
 -- ---- feeds and seals
 
@@ -98,7 +70,7 @@ feed_feeds s t i batch goes live =
     let after = (goes.step w live.1).1 in
     let same : w.fed ≡ fed_at s = λ k. λ a b. (live.1.fed a b) k in
     record {
-      grows = grows_by s t (Step.feed i batch) live goes (λ v e. same_emits (w.emitted v e));
+      grows = grows_by s t (Step.feed i batch) live goes;
       fed = λ j e.
           sym (after.fed j e) ∙ ap (λ (f : ℕ → ℕ → List Record). put f i (put (f i) (w.open_epoch i) (f i (w.open_epoch i) ++ batch)) j e) same
           ∙ ap (λ (o : ℕ). put (fed_at s) i (put (fed_at s i) o (fed_at s i o ++ batch)) j e) (live.1.open_epoch i);
@@ -110,7 +82,7 @@ seal_seals s t i goes live =
     let w = live.0 in
     let after = (goes.step w live.1).1 in
     record {
-      grows = grows_by s t (Step.seal i) live goes (λ v e. same_emits (w.emitted v e));
+      grows = grows_by s t (Step.seal i) live goes;
       fed = λ j e. sym (after.fed j e) ∙ live.1.fed j e;
       here = sym (after.open_epoch i) ∙ at_same (w.open_epoch i + 1) (w.open_epoch i) i ∙ ap (λ (n : ℕ). n + 1) (live.1.open_epoch i);
       others = λ j other. sym (after.open_epoch j) ∙ at_other (w.open_epoch i + 1) (w.open_epoch j) j other ∙ live.1.open_epoch j;

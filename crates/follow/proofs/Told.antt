@@ -1,25 +1,24 @@
 -- What was told, as more is emitted, said and told.
-use Rattle.std.proofs.Common.{◌≡◌, ◌<◌, ◌≤◌, ◌+◌, ◌∙◌, ℕ, List, [], ◌∷◌, ◌++◌, length, take, drop, refl, sym, ap, subst, arith, append_assoc, inl, inr, slice_index_or}
+use Rattle.std.proofs.Common.{◌≡◌, ◌<◌, ◌≤◌, ◌+◌, ◌∙◌, ℕ, List, [], ◌++◌, length, take, drop, refl, sym, ap, subst, arith, append_assoc, inl, inr, slice_index_or}
 use Rattle.std.specs.List.{flat_map}
 use Rattle.std.proofs.lemmas.Bool.Decides.{eqb_tells}
-use Rattle.std.proofs.lemmas.List.{append-nil, length-append, take-append-drop, take-append-le, take_all}
+use Rattle.std.proofs.lemmas.List.{append-nil, length-append, take-append-le, take_all}
 use Rattle.semantics.specs.Multiset.{Record, IsPartOf, ◌≈◌, count}
 use Rattle.semantics.specs.Query.{Program}
 use Rattle.semantics.specs.Meaning.{program_meaning}
 use Rattle.semantics.specs.Graph.{output_number, output_numbers}
 use Rattle.semantics.proofs.LoweredDataflow.{lowered_outputs}
 use Rattle.lowering.specs.Shown.{GraphValue, shown_graph, shown_names}
-use Rattle.board.specs.Shown.{Shown, emitted_by, joined as joined_batches, records_at}
-use Rattle.collector.specs.Piles.{joined as joined_pile}
+use Rattle.board.specs.Shown.{Shown, batches_at, joined}
 use Rattle.board.specs.Promises.{HasPassed, IsOutputPlace, KeepsPromise, RunsProgram, emitted_at, meant_of}
 use Rattle.collector.specs.OutputText.{is_plain}
 use Rattle.collector.specs.Lines.{Item}
 use Rattle.follow.specs.Entries.{Entry, complete_line, entry_line, label_of, records_of, row_line}
 use Rattle.follow.specs.Follows.{IsGraphOf, IsPart, IsTold, IsWhole, said_records}
-use Rattle.follow.specs.Scenes.{Grows, HasTold, IsAllFed, told_count}
-use Rattle.follow.specs.Steps.{CanTell, Nexts, TellsHere, TellsOne, TellsOpen, ToldMore, ToldSo}
+use Rattle.follow.specs.Scenes.{Grows, HasTold, IsAllFed, batches_of, told_count}
+use Rattle.follow.specs.Steps.{CanTell, Nexts, TellsOne, TellsOpen, ToldMore, ToldSo}
 use Rattle.follow.specs.declared.telling.Telling.{Telling}
-use Rattle.follow.proofs.Entries.{at_place, entries_at, lines_at, of_append, of_other, of_same}
+use Rattle.follow.proofs.Entries.{at_place, entries_at, joined_parts, lines_at, of_append, of_other, of_same}
 
 abbrev Records : Type 0
 Records = (epoch input : ℕ) → List Record
@@ -34,16 +33,17 @@ told_same g r q done entries text (IsTold.tells_whole d es t told whole) same =
     IsTold.tells_whole d es t (told_same g r q d es t told (λ e i lt. same e i (omega (arith, lt)))) (subst (λ (x : ℕ → List Record). IsWhole g x es) (sym here) whole)
 
 -- what was emitted at an output grows
-emitted_more : (s t : Shown) (k e : ℕ) → Grows s t → (more : List Record) × (emitted_at t k e ≡ emitted_at s k e ++ more)
+emitted_more : (s t : Shown) (k e : ℕ) → Grows s t → (more : List (List Record)) × (batches_of t k e ≡ batches_of s k e ++ more)
 emitted_more s t k e grows =
     let m = grows.emitted (output_number (shown_graph s.graph) k) e in
-    (m.0, ap (λ (g : GraphValue). records_at (emitted_by t.emitted (output_number (shown_graph g) k)) e) grows.graph ∙ m.1)
+    (m.0, ap (λ (g : GraphValue). batches_at t.emitted (output_number (shown_graph g) k) e) grows.graph ∙ m.1)
 
-pub told_later : (s t : Shown) (done : ℕ) (count : ℕ → ℕ) (r q : Records) (entries : List Entry) (text : List ℕ) → HasTold s done count r entries text → Grows s t → ((e i : ℕ) → e < done → q e i ≡ r e i) → HasTold t done count q entries text
-told_later s t done count r q entries text h grows same = record {
-  told = subst (λ (g : GraphValue). IsTold g q done entries text) (sym grows.graph) (told_same s.graph r q done entries text h.told same);
-  within = λ k. let m = emitted_more s t k done grows in omega (arith, h.within k, ap length m.1, length-append (emitted_at s k done) m.0);
-  first = λ k. let m = emitted_more s t k done grows in h.first k ∙ sym (ap (take (count k)) m.1 ∙ take-append-le (count k) (emitted_at s k done) m.0 (h.within k));
+pub told_later : (s t : Shown) (base done : ℕ) (count : ℕ → ℕ) (r q : Records) (entries : List Entry) (text : List ℕ) → HasTold s base done count r entries text → Grows s t → ((e i : ℕ) → e < base + done → q e i ≡ r e i)
+    → HasTold t base done count q entries text
+told_later s t base done count r q entries text h grows same = record {
+  told = subst (λ (g : GraphValue). IsTold g q (base + done) entries text) (sym grows.graph) (told_same s.graph r q (base + done) entries text h.told same);
+  within = λ k. let m = emitted_more s t k done grows in omega (arith, h.within k, ap length m.1, length-append (batches_of s k done) m.0);
+  first = λ k. let m = emitted_more s t k done grows in h.first k ∙ sym (ap (λ (bs : List (List Record)). joined (take (count k) bs)) m.1 ∙ ap joined (take-append-le (count k) (batches_of s k done) m.0 (h.within k)));
 }
 
 -- ---- more is told at one output
@@ -54,72 +54,72 @@ more_told g r done k label rows entries text told lt is =
     let lines : flat_map (entry_line (shown_names g) done) (entries_at k rows) ≡ flat_map (row_line done label) rows = lines_at (shown_names g) done k rows ∙ ap (λ (l : List ℕ). flat_map (row_line done l) rows) (sym is) in
     subst (λ (xs : List ℕ). IsTold g r done (entries ++ entries_at k rows) (text ++ xs)) lines (IsTold.tells_more done entries (entries_at k rows) text told (at_place (length (shown_names g)) k rows lt))
 
-pub told_one : (s : Shown) (t u : Telling) (k : ℕ) (label old new : List ℕ) (r : Records) (entries : List Entry) (text : List ℕ) → HasTold s t.done (told_count t) r entries text → TellsOne s t u k label old new → k < length (shown_names s.graph)
+pub told_one : (s : Shown) (base : ℕ) (t u : Telling) (k : ℕ) (label old new : List ℕ) (r : Records) (entries : List Entry) (text : List ℕ) → HasTold s base t.done (told_count t) r entries text → TellsOne s base t u k label old new → k < length (shown_names s.graph)
     → label ≡ label_of (is_plain (shown_names s.graph)) (slice_index_or (shown_names s.graph) k [])
-    → HasTold s t.done (told_count u) r (entries ++ entries_at k (drop (told_count t k) (emitted_at s k t.done))) (text ++ flat_map (row_line t.done label) (drop (told_count t k) (emitted_at s k t.done)))
-told_one s t u k label old new r entries text h one lt is = record {
-  told = more_told s.graph r t.done k label rows entries text h.told lt is;
+    → HasTold s base t.done (told_count u) r (entries ++ entries_at k (joined (drop (told_count t k) (batches_of s k t.done)))) (text ++ flat_map (row_line (base + t.done) label) (joined (drop (told_count t k) (batches_of s k t.done))))
+told_one s base t u k label old new r entries text h one lt is = record {
+  told = more_told s.graph r (base + t.done) k label rows entries text h.told lt is;
   within = λ j. elim (eqb_tells j k) [
-    | inl same ↦ subst (λ (i : ℕ). told_count u i ≤ length (emitted_at s i t.done)) (sym same.1) (omega (arith, one.here))
+    | inl same ↦ subst (λ (i : ℕ). told_count u i ≤ length (batches_of s i t.done)) (sym same.1) (omega (arith, one.here))
     | inr other ↦ omega (arith, one.others j other.1, h.within j)
   ];
   first = λ j. of_append j entries (entries_at k rows) ∙ elim (eqb_tells j k) [
-    | inl same ↦ subst (λ (i : ℕ). records_of i entries ++ records_of i (entries_at k rows) ≡ take (told_count u i) (emitted_at s i t.done)) (sym same.1) here
-    | inr other ↦ ap (λ (xs : List Record). records_of j entries ++ xs) (of_other j k rows other.1) ∙ append-nil (records_of j entries) ∙ h.first j ∙ ap (λ (n : ℕ). take n (emitted_at s j t.done)) (sym (one.others j other.1))
+    | inl same ↦ subst (λ (i : ℕ). records_of i entries ++ records_of i (entries_at k rows) ≡ joined (take (told_count u i) (batches_of s i t.done))) (sym same.1) here
+    | inr other ↦ ap (λ (xs : List Record). records_of j entries ++ xs) (of_other j k rows other.1) ∙ append-nil (records_of j entries) ∙ h.first j ∙ ap (λ (n : ℕ). joined (take n (batches_of s j t.done))) (sym (one.others j other.1))
   ];
 }
   where
     rows : List Record
-    rows = drop (told_count t k) (emitted_at s k t.done)
+    rows = joined (drop (told_count t k) (batches_of s k t.done))
 
-    here : records_of k entries ++ records_of k (entries_at k rows) ≡ take (told_count u k) (emitted_at s k t.done)
+    here : records_of k entries ++ records_of k (entries_at k rows) ≡ joined (take (told_count u k) (batches_of s k t.done))
     here =
-        ap (λ (xs : List Record). records_of k entries ++ xs) (of_same k rows) ∙ ap (λ (xs : List Record). xs ++ rows) (h.first k) ∙ take-append-drop (told_count t k) (emitted_at s k t.done)
-        ∙ sym (take_all (told_count u k) (emitted_at s k t.done) (omega (arith, one.here)))
+        ap (λ (xs : List Record). records_of k entries ++ xs) (of_same k rows) ∙ ap (λ (xs : List Record). xs ++ rows) (h.first k) ∙ joined_parts (told_count t k) (batches_of s k t.done)
+        ∙ ap joined (sym (take_all (told_count u k) (batches_of s k t.done) (omega (arith, one.here))))
 
 -- nothing more yet
-pub told_none : (s : Shown) (t : Telling) (r : Records) (entries : List Entry) (text old : List ℕ) → HasTold s t.done (told_count t) r entries text → ToldMore s t.done 0 t r entries text old old
-told_none s t r entries text old h = record {
+pub told_none : (s : Shown) (base : ℕ) (t : Telling) (r : Records) (entries : List Entry) (text old : List ℕ) → HasTold s base t.done (told_count t) r entries text → ToldMore s base t.done 0 t r entries text old old
+told_none s base t r entries text old h = record {
   more = [];
   lines = [];
-  told = subst (λ (es : List Entry). HasTold s t.done (told_count t) r es (text ++ [])) (sym (append-nil entries)) (subst (λ (xs : List ℕ). HasTold s t.done (told_count t) r entries xs) (sym (append-nil text)) h);
+  told = subst (λ (es : List Entry). HasTold s base t.done (told_count t) r es (text ++ [])) (sym (append-nil entries)) (subst (λ (xs : List ℕ). HasTold s base t.done (told_count t) r entries xs) (sym (append-nil text)) h);
   appended = sym (append-nil old);
   all = λ k lt. absurd (omega (arith, lt));
 }
 
 -- ---- one output after another
 
-pub more_outputs : (s : Shown) (t u v : Telling) (k : ℕ) (label old mid new : List ℕ) → u.done ≡ t.done → ((r : Records) (entries : List Entry) (text : List ℕ) → HasTold s t.done (told_count t) r entries text → ToldMore s t.done k u r entries text old mid)
-    → TellsOne s u v k label mid new → k < length (shown_names s.graph) → label ≡ label_of (is_plain (shown_names s.graph)) (slice_index_or (shown_names s.graph) k [])
-    → (r : Records) (entries : List Entry) (text : List ℕ) → HasTold s t.done (told_count t) r entries text → ToldMore s t.done (k + 1) v r entries text old new
-more_outputs s t u v k label old mid new same before one lt is r entries text h = record {
+pub more_outputs : (s : Shown) (base : ℕ) (t u v : Telling) (k : ℕ) (label old mid new : List ℕ) → u.done ≡ t.done → ((r : Records) (entries : List Entry) (text : List ℕ) → HasTold s base t.done (told_count t) r entries text → ToldMore s base t.done k u r entries text old mid)
+    → TellsOne s base u v k label mid new → k < length (shown_names s.graph) → label ≡ label_of (is_plain (shown_names s.graph)) (slice_index_or (shown_names s.graph) k [])
+    → (r : Records) (entries : List Entry) (text : List ℕ) → HasTold s base t.done (told_count t) r entries text → ToldMore s base t.done (k + 1) v r entries text old new
+more_outputs s base t u v k label old mid new same before one lt is r entries text h = record {
   more = m.more ++ entries_at k rows;
-  lines = m.lines ++ flat_map (row_line u.done label) rows;
+  lines = m.lines ++ flat_map (row_line (base + u.done) label) rows;
   told =
-      subst (λ (es : List Entry). HasTold s t.done (told_count v) r es (text ++ (m.lines ++ flat_map (row_line u.done label) rows))) (append_assoc entries m.more (entries_at k rows))
-      (subst (λ (xs : List ℕ). HasTold s t.done (told_count v) r ((entries ++ m.more) ++ entries_at k rows) xs) (append_assoc text m.lines (flat_map (row_line u.done label) rows)) (subst (λ (d : ℕ). HasTold s d (told_count v) r ((entries ++ m.more) ++ entries_at k rows) ((text ++ m.lines) ++ flat_map (row_line u.done label) rows)) same there));
-  appended = one.lines ∙ ap (λ (xs : List ℕ). xs ++ flat_map (row_line u.done label) rows) m.appended ∙ append_assoc old m.lines (flat_map (row_line u.done label) rows);
+      subst (λ (es : List Entry). HasTold s base t.done (told_count v) r es (text ++ (m.lines ++ flat_map (row_line (base + u.done) label) rows))) (append_assoc entries m.more (entries_at k rows))
+      (subst (λ (xs : List ℕ). HasTold s base t.done (told_count v) r ((entries ++ m.more) ++ entries_at k rows) xs) (append_assoc text m.lines (flat_map (row_line (base + u.done) label) rows)) (subst (λ (d : ℕ). HasTold s base d (told_count v) r ((entries ++ m.more) ++ entries_at k rows) ((text ++ m.lines) ++ flat_map (row_line (base + u.done) label) rows)) same there));
+  appended = one.lines ∙ ap (λ (xs : List ℕ). xs ++ flat_map (row_line (base + u.done) label) rows) m.appended ∙ append_assoc old m.lines (flat_map (row_line (base + u.done) label) rows);
   all = λ j less place. ap (records_of j) (sym (append_assoc entries m.more (entries_at k rows))) ∙ of_append j (entries ++ m.more) (entries_at k rows) ∙ elim (eqb_tells j k) [
     | inl yes_way ↦ subst (λ (i : ℕ). records_of i (entries ++ m.more) ++ records_of i (entries_at k rows) ≡ emitted_at s i t.done) (sym yes_way.1) here
     | inr other ↦ ap (λ (xs : List Record). records_of j (entries ++ m.more) ++ xs) (of_other j k rows other.1) ∙ append-nil (records_of j (entries ++ m.more)) ∙ m.all j (omega (arith, less, other.1)) place
   ];
 }
   where
-    m : ToldMore s t.done k u r entries text old mid
+    m : ToldMore s base t.done k u r entries text old mid
     m = before r entries text h
 
     rows : List Record
-    rows = drop (told_count u k) (emitted_at s k u.done)
+    rows = joined (drop (told_count u k) (batches_of s k u.done))
 
-    at_u : HasTold s u.done (told_count u) r (entries ++ m.more) (text ++ m.lines)
-    at_u = subst (λ (d : ℕ). HasTold s d (told_count u) r (entries ++ m.more) (text ++ m.lines)) (sym same) m.told
+    at_u : HasTold s base u.done (told_count u) r (entries ++ m.more) (text ++ m.lines)
+    at_u = subst (λ (d : ℕ). HasTold s base d (told_count u) r (entries ++ m.more) (text ++ m.lines)) (sym same) m.told
 
-    there : HasTold s u.done (told_count v) r ((entries ++ m.more) ++ entries_at k rows) ((text ++ m.lines) ++ flat_map (row_line u.done label) rows)
-    there = told_one s u v k label mid new r (entries ++ m.more) (text ++ m.lines) at_u one lt is
+    there : HasTold s base u.done (told_count v) r ((entries ++ m.more) ++ entries_at k rows) ((text ++ m.lines) ++ flat_map (row_line (base + u.done) label) rows)
+    there = told_one s base u v k label mid new r (entries ++ m.more) (text ++ m.lines) at_u one lt is
 
     here : records_of k (entries ++ m.more) ++ records_of k (entries_at k rows) ≡ emitted_at s k t.done
     here =
-        ap (λ (xs : List Record). records_of k (entries ++ m.more) ++ xs) (of_same k rows) ∙ ap (λ (xs : List Record). xs ++ rows) (at_u.first k) ∙ take-append-drop (told_count u k) (emitted_at s k u.done) ∙ ap (λ (d : ℕ). emitted_at s k d) same
+        ap (λ (xs : List Record). records_of k (entries ++ m.more) ++ xs) (of_same k rows) ∙ ap (λ (xs : List Record). xs ++ rows) (at_u.first k) ∙ joined_parts (told_count u k) (batches_of s k u.done) ∙ ap (λ (d : ℕ). emitted_at s k d) same
 
 -- ---- an epoch's answer
 
@@ -129,19 +129,19 @@ place_of s k p is lt = let n = lowered_outputs p in let m = ap (λ g. length (ou
 runs_of : (s : Shown) (p : Program) → IsGraphOf s.graph p → RunsProgram p s
 runs_of s p is = record { arities = is.arities; typed = is.typed; graph = is.graph }
 
-meant_said : (s : Shown) (items : List Item) (p : Program) (k e : ℕ) → IsAllFed s items → meant_of p s k e ≡ program_meaning p k (said_records items e)
-meant_said s items p k e fed = λ j. program_meaning p k (λ i. (fed.fed i e) j)
+meant_said : (s : Shown) (base : ℕ) (items : List Item) (p : Program) (k e : ℕ) → IsAllFed s base items → meant_of p s k e ≡ program_meaning p k (said_records items (base + e))
+meant_said s base items p k e fed = λ j. program_meaning p k (λ i. (fed.fed i e) j)
 
-pub whole_here : (s : Shown) (items : List Item) (done : ℕ) (entries : List Entry) → IsAllFed s items → ((p : Program) → RunsProgram p s → KeepsPromise p s) → ((k : ℕ) → IsOutputPlace s k → records_of k entries ≡ emitted_at s k done)
-    → ((k : ℕ) → IsOutputPlace s k → HasPassed s k done) → IsWhole s.graph (said_records items done) entries
-whole_here s items done entries fed promise all passed = λ p k is lt.
+pub whole_here : (s : Shown) (base : ℕ) (items : List Item) (done : ℕ) (entries : List Entry) → IsAllFed s base items → ((p : Program) → RunsProgram p s → KeepsPromise p s) → ((k : ℕ) → IsOutputPlace s k → records_of k entries ≡ emitted_at s k done)
+    → ((k : ℕ) → IsOutputPlace s k → HasPassed s k done) → IsWhole s.graph (said_records items (base + done)) entries
+whole_here s base items done entries fed promise all passed = λ p k is lt.
     let there = place_of s k p is lt in
-    subst (λ (xs : List Record). xs ≈ program_meaning p k (said_records items done)) (sym (all k there)) (subst (λ (ys : List Record). emitted_at s k done ≈ ys) (meant_said s items p k done fed) ((promise p (runs_of s p is) k done lt).whole (passed k there)))
+    subst (λ (xs : List Record). xs ≈ program_meaning p k (said_records items (base + done))) (sym (all k there)) (subst (λ (ys : List Record). emitted_at s k done ≈ ys) (meant_said s base items p k done fed) ((promise p (runs_of s p is) k done lt).whole (passed k there)))
 
-pub part_here : (s : Shown) (items : List Item) (done : ℕ) (entries : List Entry) → IsAllFed s items → ((p : Program) → RunsProgram p s → KeepsPromise p s) → ((k : ℕ) → IsOutputPlace s k → records_of k entries ≡ emitted_at s k done) → IsPart s.graph (said_records items done) entries
-part_here s items done entries fed promise all = λ p k is lt.
+pub part_here : (s : Shown) (base : ℕ) (items : List Item) (done : ℕ) (entries : List Entry) → IsAllFed s base items → ((p : Program) → RunsProgram p s → KeepsPromise p s) → ((k : ℕ) → IsOutputPlace s k → records_of k entries ≡ emitted_at s k done) → IsPart s.graph (said_records items (base + done)) entries
+part_here s base items done entries fed promise all = λ p k is lt.
     let there = place_of s k p is lt in
-    subst (λ (xs : List Record). IsPartOf xs (program_meaning p k (said_records items done))) (sym (all k there)) (subst (λ (ys : List Record). IsPartOf (emitted_at s k done) ys) (meant_said s items p k done fed) (promise p (runs_of s p is) k done lt).part)
+    subst (λ (xs : List Record). IsPartOf xs (program_meaning p k (said_records items (base + done)))) (sym (all k there)) (subst (λ (ys : List Record). IsPartOf (emitted_at s k done) ys) (meant_said s base items p k done fed) (promise p (runs_of s p is) k done lt).part)
 
 pub part_nothing : (g : GraphValue) (records : ℕ → List Record) → IsPart g records []
 part_nothing g records = λ p k is lt. record { within = λ r. omega arith }
@@ -149,85 +149,71 @@ part_nothing g records = λ p k is lt. record { within = λ r. omega arith }
 -- ---- one epoch after another
 
 -- what was told so far
-pub record ToldTill (s : Shown) (t : Telling) (items : List Item) (begun sealed : ℕ) (text old new : List ℕ) : Type 0 where
+pub record ToldTill (s : Shown) (base : ℕ) (t : Telling) (items : List Item) (begun sealed : ℕ) (text old new : List ℕ) : Type 0 where
   pub entries : List Entry
   pub lines : List ℕ
-  pub can : CanTell s t items begun sealed entries (text ++ lines)
+  pub can : CanTell s base t items begun sealed entries (text ++ lines)
   pub appended : new ≡ old ++ lines
 
-pub nothing_till : (s : Shown) (t : Telling) (items : List Item) (begun sealed : ℕ) (entries : List Entry) (text old : List ℕ) → CanTell s t items begun sealed entries text → ToldTill s t items begun sealed text old old
-nothing_till s t items begun sealed entries text old can = record {
+pub nothing_till : (s : Shown) (base : ℕ) (t : Telling) (items : List Item) (begun sealed : ℕ) (entries : List Entry) (text old : List ℕ) → CanTell s base t items begun sealed entries text → ToldTill s base t items begun sealed text old old
+nothing_till s base t items begun sealed entries text old can = record {
   entries = entries;
   lines = [];
-  can = subst (CanTell s t items begun sealed entries) (sym (append-nil text)) can;
+  can = subst (CanTell s base t items begun sealed entries) (sym (append-nil text)) can;
   appended = sym (append-nil old);
 }
 
-pub told_open : (s : Shown) (t u : Telling) (items : List Item) (begun sealed : ℕ) (text old mid new : List ℕ) → ToldTill s t items begun sealed text old mid → TellsOpen s t u mid new → IsAllFed s items → ((p : Program) → RunsProgram p s → KeepsPromise p s) → t.done < begun
-    → ToldSo s u items begun sealed text old new
-told_open s t u items begun sealed text old mid new till tells fed promise lt =
+pub told_open : (s : Shown) (base : ℕ) (t u : Telling) (items : List Item) (begun sealed : ℕ) (text old mid new : List ℕ) → ToldTill s base t items begun sealed text old mid → TellsOpen s base t u mid new → IsAllFed s base items → ((p : Program) → RunsProgram p s → KeepsPromise p s) → t.done < begun
+    → ToldSo s base u items begun sealed text old new
+told_open s base t u items begun sealed text old mid new till tells fed promise lt =
     let to = tells.2 in
     let m = to.more (said_records items) till.entries (text ++ till.lines) till.can.told in
     record {
       entries = till.entries ++ m.more;
       lines = till.lines ++ m.lines;
       told =
-          subst (λ (d : ℕ). HasTold s d (told_count u) (said_records items) (till.entries ++ m.more) (text ++ (till.lines ++ m.lines))) (sym to.done)
-          (subst (λ (xs : List ℕ). HasTold s t.done (told_count u) (said_records items) (till.entries ++ m.more) xs) (append_assoc text till.lines m.lines) m.told);
+          subst (λ (d : ℕ). HasTold s base d (told_count u) (said_records items) (till.entries ++ m.more) (text ++ (till.lines ++ m.lines))) (sym to.done)
+          (subst (λ (xs : List ℕ). HasTold s base t.done (told_count u) (said_records items) (till.entries ++ m.more) xs) (append_assoc text till.lines m.lines) m.told);
       appended = m.appended ∙ ap (λ (xs : List ℕ). xs ++ m.lines) till.appended ∙ append_assoc old till.lines m.lines;
-      part = subst (λ (d : ℕ). IsPart s.graph (said_records items d) (till.entries ++ m.more)) (sym to.done) (part_here s items t.done (till.entries ++ m.more) fed promise (λ k place. m.all k (tells.1 k place) place));
+      part = subst (λ (d : ℕ). IsPart s.graph (said_records items (base + d)) (till.entries ++ m.more)) (sym to.done) (part_here s base items t.done (till.entries ++ m.more) fed promise (λ k place. m.all k (tells.1 k place) place));
       order = omega (arith, to.done, till.can.order);
       none = λ e. absurd (omega (arith, e, to.done, lt));
     }
 
-pub told_complete : (s : Shown) (t u v : Telling) (items : List Item) (begun sealed : ℕ) (text old mid next new : List ℕ) → ToldTill s t items begun sealed text old mid → TellsOpen s t u mid next → IsAllFed s items → ((p : Program) → RunsProgram p s → KeepsPromise p s)
-    → ((k : ℕ) → IsOutputPlace s k → HasPassed s k t.done) → t.done < sealed → new ≡ next ++ complete_line t.done → Nexts u v → ToldTill s v items begun sealed text old new
-told_complete s t u v items begun sealed text old mid next new till tells fed promise passed lt line nexts =
+pub told_complete : (s : Shown) (base : ℕ) (t u v : Telling) (items : List Item) (begun sealed : ℕ) (text old mid next new : List ℕ) → ToldTill s base t items begun sealed text old mid → TellsOpen s base t u mid next → IsAllFed s base items → ((p : Program) → RunsProgram p s → KeepsPromise p s)
+    → ((k : ℕ) → IsOutputPlace s k → HasPassed s k t.done) → t.done < sealed → new ≡ next ++ complete_line (base + t.done) → Nexts u v → ToldTill s base v items begun sealed text old new
+told_complete s base t u v items begun sealed text old mid next new till tells fed promise passed lt line nexts =
     let to = tells.2 in
     let m = to.more (said_records items) till.entries (text ++ till.lines) till.can.told in
-    let whole = whole_here s items t.done (till.entries ++ m.more) fed promise (λ k place. m.all k (tells.1 k place) place) passed in
-    let told = IsTold.tells_whole t.done (till.entries ++ m.more) ((text ++ till.lines) ++ m.lines) m.told.told whole in
-    let lines = till.lines ++ (m.lines ++ complete_line t.done) in
-    let joined : ((text ++ till.lines) ++ m.lines) ++ complete_line t.done ≡ text ++ lines = append_assoc (text ++ till.lines) m.lines (complete_line t.done) ∙ append_assoc text till.lines (m.lines ++ complete_line t.done) in
-    let next_is : v.done ≡ t.done + 1 = nexts.done ∙ ap (λ (n : ℕ). n + 1) to.done in
+    let whole = whole_here s base items t.done (till.entries ++ m.more) fed promise (λ k place. m.all k (tells.1 k place) place) passed in
+    let told = IsTold.tells_whole (base + t.done) (till.entries ++ m.more) ((text ++ till.lines) ++ m.lines) m.told.told whole in
+    let lines = till.lines ++ (m.lines ++ complete_line (base + t.done)) in
+    let glued : ((text ++ till.lines) ++ m.lines) ++ complete_line (base + t.done) ≡ text ++ lines = append_assoc (text ++ till.lines) m.lines (complete_line (base + t.done)) ∙ append_assoc text till.lines (m.lines ++ complete_line (base + t.done)) in
+    let next_is : base + v.done ≡ base + t.done + 1 = omega (arith, nexts.done, to.done) in
     record {
       entries = [];
       lines = lines;
       can = record {
         told = record {
-          told = subst (λ (d : ℕ). IsTold s.graph (said_records items) d [] (text ++ lines)) (sym next_is) (subst (λ (xs : List ℕ). IsTold s.graph (said_records items) (t.done + 1) [] xs) joined told);
+          told = subst (λ (d : ℕ). IsTold s.graph (said_records items) d [] (text ++ lines)) (sym next_is) (subst (λ (xs : List ℕ). IsTold s.graph (said_records items) (base + t.done + 1) [] xs) glued told);
           within = λ k. omega (arith, nexts.none k);
-          first = λ k. ap (λ (n : ℕ). take n (emitted_at s k v.done)) (sym (nexts.none k));
+          first = λ k. ap (λ (n : ℕ). joined (take n (batches_of s k v.done))) (sym (nexts.none k));
         };
         order = omega (arith, next_is, lt);
         none = λ e. refl;
       };
-      appended = line ∙ ap (λ (xs : List ℕ). xs ++ complete_line t.done) (m.appended ∙ ap (λ (xs : List ℕ). xs ++ m.lines) till.appended) ∙ append_assoc (old ++ till.lines) m.lines (complete_line t.done) ∙ append_assoc old till.lines (m.lines ++ complete_line t.done);
+      appended = line ∙ ap (λ (xs : List ℕ). xs ++ complete_line (base + t.done)) (m.appended ∙ ap (λ (xs : List ℕ). xs ++ m.lines) till.appended) ∙ append_assoc (old ++ till.lines) m.lines (complete_line (base + t.done)) ∙ append_assoc old till.lines (m.lines ++ complete_line (base + t.done));
     }
 
-pub told_all : (s : Shown) (t : Telling) (items : List Item) (begun sealed : ℕ) (text old new : List ℕ) → ToldTill s t items begun sealed text old new → begun ≤ t.done → sealed ≤ begun → ToldSo s t items begun sealed text old new
-told_all s t items begun sealed text old new till le order =
+pub told_all : (s : Shown) (base : ℕ) (t : Telling) (items : List Item) (begun sealed : ℕ) (text old new : List ℕ) → ToldTill s base t items begun sealed text old new → begun ≤ t.done → sealed ≤ begun → ToldSo s base t items begun sealed text old new
+told_all s base t items begun sealed text old new till le order =
     let none : till.entries ≡ [] = till.can.none (omega (arith, le, order, till.can.order)) in
     record {
       entries = till.entries;
       lines = till.lines;
       told = till.can.told;
       appended = till.appended;
-      part = subst (IsPart s.graph (said_records items t.done)) (sym none) (part_nothing s.graph (said_records items t.done));
+      part = subst (IsPart s.graph (said_records items (base + t.done))) (sym none) (part_nothing s.graph (said_records items (base + t.done)));
       order = till.can.order;
       none = till.can.none;
-    }
-
-joined_same : (batches : List (List Record)) → joined_pile batches ≡ joined_batches batches
-joined_same [] = refl
-joined_same (b ∷ bs) = ap (λ (xs : List Record). b ++ xs) (joined_same bs)
-
--- what was emitted, as batches
-pub told_here : (s : Shown) (k epoch told n : ℕ) (label old new : List ℕ) (batches : List (List Record)) → batches ≡ slice_index_or (emitted_by s.emitted (output_number (shown_graph s.graph) k)) epoch []
-    → new ≡ old ++ flat_map (row_line epoch label) (drop told (joined_pile batches)) → n ≡ length (joined_pile batches) → TellsHere (emitted_at s k epoch) label epoch told old new n
-told_here s k epoch told n label old new batches is lines size =
-    let same : joined_pile batches ≡ emitted_at s k epoch = joined_same batches ∙ ap joined_batches is in
-    record {
-      lines = lines ∙ ap (λ (xs : List Record). old ++ flat_map (row_line epoch label) (drop told xs)) same;
-      counted = size ∙ ap length same;
     }

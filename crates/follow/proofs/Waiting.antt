@@ -37,6 +37,12 @@ zero_more xs n below lt k less = elim (eqb_tells k n) [
   | inr other ↦ get_or-set_other xs n k 0 0 other.1 ∙ below k (omega (arith, less, other.1))
 ]
 
+pub zero_next : (xs : List ℕ) (n : ℕ) → AreZeroBelow xs n → slice_index_or xs n 0 ≡ 0 → AreZeroBelow xs (n + 1)
+zero_next xs n below here k less = elim (eqb_tells k n) [
+  | inl same ↦ ap (λ (j : ℕ). slice_index_or xs j 0) same.1 ∙ here
+  | inr other ↦ below k (omega (arith, less, other.1))
+]
+
 pub zero_all : (xs : List ℕ) (n : ℕ) → AreZeroBelow xs n → length xs ≤ n → AreZero xs
 zero_all xs n below le k = cases_here (cases_lt k n)
   where

@@ -3,19 +3,20 @@ use Rattle.std.specs.Prelude.{◌≡◌, ◌<◌, ◌≤◌, ℕ, ◌+◌, ◌-�
 use Rattle.std.specs.Io.KnownBytes.{Appends}
 use Rattle.semantics.specs.Multiset.{Record}
 use Rattle.semantics.specs.Query.{Input}
-use Rattle.lowering.specs.Shown.{GraphValue, shown_inputs}
+use Rattle.lowering.specs.Shown.{GraphValue, shown_graph, shown_inputs}
 use Rattle.machine.specs.World.{World}
 use Rattle.machine.specs.Step.{put}
 use Rattle.rows.specs.FlatRows.{RowList}
-use Rattle.board.specs.Shown.{Shown, emitted_by, input_at, records_at}
+use Rattle.semantics.specs.Graph.{output_number}
+use Rattle.board.specs.Shown.{EmitsBehind, Shown, batches_at, input_at, joined, records_at}
 use Rattle.board.specs.Showing.{Shows}
-use Rattle.board.specs.Promises.{emitted_at}
 use Rattle.collector.specs.Pieces.{split_on}
 use Rattle.collector.specs.Lines.{Item}
 use Rattle.collector.specs.InputText.{LinesSay, epochs_after}
 use Rattle.follow.specs.Entries.{Entry, records_of}
 use Rattle.follow.specs.Follows.{IsPart, IsTold, said_records}
 use Rattle.follow.specs.declared.intake.Intake.{Intake}
+use Rattle.follow.specs.declared.position.Position.{Position}
 use Rattle.follow.specs.declared.telling.Telling.{Telling}
 
 -- ---- the board
@@ -28,15 +29,19 @@ fed_at s i e = records_at (input_at s i).fed e
 abbrev pub open_at : Shown → (input : ℕ) → ℕ
 open_at s i = (input_at s i).open_epoch
 
+-- the batches that were emitted at an output for an epoch
+abbrev pub batches_of : Shown → (output epoch : ℕ) → List (List Record)
+batches_of s k e = batches_at s.emitted (output_number (shown_graph s.graph) k) e
+
 -- there is a world that the board shows
 abbrev pub IsLive : Shown → Type 0
 IsLive s = (w : World) × Shows s w
 
--- the graph stays, and to what was emitted only more comes
+-- the graph and what was emitted stay
 pub record Grows (s t : Shown) : Type 0 where
   pub live : IsLive t
   pub graph : t.graph ≡ s.graph
-  pub emitted : (v e : ℕ) → (more : List Record) × (records_at (emitted_by t.emitted v) e ≡ records_at (emitted_by s.emitted v) e ++ more)
+  pub emitted : EmitsBehind s.emitted t.emitted
 
 -- nothing is fed or sealed
 pub record Works (s t : Shown) : Type 0 where
@@ -70,53 +75,59 @@ waiting x i = (slice_index_or x.portion.items i no_rows).rows
 abbrev pub missing : Intake → (input epoch : ℕ) → List Record
 missing x i e = cond (e + 1 == x.begun) (waiting x i) []
 
--- what the items say was fed, or waits; and each input's open epoch is the last one that began
-pub record IsFed (s : Shown) (x : Intake) (items : List Item) : Type 0 where
+-- What the items say of the epochs from the base on was fed, or waits. The board counts its epochs from the base, and each input's open one is
+-- the last that began.
+pub record IsFed (s : Shown) (base : ℕ) (x : Intake) (items : List Item) : Type 0 where
   pub live : IsLive s
-  pub begun : x.begun ≡ epochs_after 0 items
-  pub fed : (i e : ℕ) → fed_at s i e ++ missing x i e ≡ said_records items e i
+  pub begun : base + x.begun ≡ epochs_after 0 items
+  pub fed : (i e : ℕ) → fed_at s i e ++ missing x i e ≡ said_records items (base + e) i
   pub opened : (i : ℕ) → i < length x.portion.items → open_at s i ≡ x.begun - 1
   pub none : x.begun ≡ 0 → (i : ℕ) → waiting x i ≡ []
 
--- all that the items say was fed
-pub record IsAllFed (s : Shown) (items : List Item) : Type 0 where
+-- all that the items say of the epochs from the base on was fed
+pub record IsAllFed (s : Shown) (base : ℕ) (items : List Item) : Type 0 where
   pub live : IsLive s
-  pub fed : (i e : ℕ) → fed_at s i e ≡ said_records items e i
+  pub fed : (i e : ℕ) → fed_at s i e ≡ said_records items (base + e) i
 
 -- these lines of the bytes were taken, and the rest wasn't
-pub record HasTaken (s : Shown) (x : Intake) (inputs : List Input) (bytes rest : List ℕ) (lines : List (List ℕ)) (items : List Item) : Type 0 where
-  pub fed : IsFed s x items
+pub record HasTaken (s : Shown) (base : ℕ) (x : Intake) (inputs : List Input) (bytes rest : List ℕ) (lines : List (List ℕ)) (items : List Item) : Type 0 where
+  pub fed : IsFed s base x items
   pub parts : split_on 10 bytes ≡ lines ++ split_on 10 rest
   pub said : LinesSay inputs 0 lines items
   pub counted : x.line ≡ length lines
 
 -- ---- what was told
 
--- how many records of an output were told of the first epoch that isn't complete
+-- how many batches of an output were told of the first epoch that isn't complete
 abbrev pub told_count : Telling → (output : ℕ) → ℕ
 told_count t k = slice_index_or t.told.items k 0
 
--- So many epochs are complete; of the next one the entries are the first of what was emitted, so many at each output.
-pub record HasTold (s : Shown) (done : ℕ) (count : (output : ℕ) → ℕ) (records : (epoch input : ℕ) → List Record) (entries : List Entry) (text : List ℕ) : Type 0 where
-  pub told : IsTold s.graph records done entries text
-  pub within : (k : ℕ) → count k ≤ length (emitted_at s k done)
-  pub first : (k : ℕ) → records_of k entries ≡ take (count k) (emitted_at s k done)
+-- All epochs before the base are complete, and so many after it; of the next one the entries are the first batches that were emitted, so many at each output.
+pub record HasTold (s : Shown) (base done : ℕ) (count : (output : ℕ) → ℕ) (records : (epoch input : ℕ) → List Record) (entries : List Entry) (text : List ℕ) : Type 0 where
+  pub told : IsTold s.graph records (base + done) entries text
+  pub within : (k : ℕ) → count k ≤ length (batches_of s k done)
+  pub first : (k : ℕ) → records_of k entries ≡ joined (take (count k) (batches_of s k done))
 
 -- of the bytes these lines were taken, and the answer to them is told as far as the board has worked
-pub record IsKnown (g : GraphValue) (s : Shown) (x : Intake) (t : Telling) (bytes pending : List ℕ) : Type 0 where
+pub record IsKnown (g : GraphValue) (s : Shown) (base : ℕ) (x : Intake) (t : Telling) (bytes pending : List ℕ) : Type 0 where
   pub lines : List (List ℕ)
   pub items : List Item
   pub entries : List Entry
   pub text : List ℕ
   pub graph : s.graph ≡ g
-  pub taken : HasTaken s x (shown_inputs g) bytes pending lines items
-  pub told : HasTold s t.done (told_count t) (said_records items) entries text
-  pub part : IsPart g (said_records items t.done) entries
+  pub taken : HasTaken s base x (shown_inputs g) bytes pending lines items
+  pub told : HasTold s base t.done (told_count t) (said_records items) entries text
+  pub part : IsPart g (said_records items (base + t.done)) entries
+  pub start : x.begun ≡ 0 → base ≡ 0
   pub sealed : t.done ≤ x.begun - 1
   pub none : t.done ≡ x.begun → entries ≡ []
 
--- what is pending is a piece of a line, and the answer is written
-pub record Stands (g : GraphValue) (s : Shown) (x : Intake) (t : Telling) (bytes pending : List ℕ) (old new : Option (List ℕ)) : Type 0 where
-  pub known : IsKnown g s x t bytes pending
-  pub unended : split_on 10 pending ≡ pending ∷ []
+-- the answer to the lines that were taken is written
+pub record IsWritten (g : GraphValue) (s : Shown) (base : ℕ) (x : Intake) (t : Telling) (bytes pending : List ℕ) (old new : Option (List ℕ)) : Type 0 where
+  pub known : IsKnown g s base x t bytes pending
   pub written : Appends old new known.text
+
+-- the same where following is, and what is pending is a piece of a line
+pub record Stands (g : GraphValue) (s : Shown) (p : Position) (bytes : List ℕ) (old new : Option (List ℕ)) : Type 0 where
+  pub stood : IsWritten g s p.base p.intake p.telling bytes p.pending.items old new
+  pub unended : split_on 10 p.pending.items ≡ p.pending.items ∷ []

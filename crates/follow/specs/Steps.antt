@@ -1,10 +1,10 @@
 -- What the calls of following leave.
-use Rattle.std.specs.Prelude.{◌≡◌, ◌≢◌, ◌<◌, ◌≤◌, ℕ, ◌+◌, ◌-◌, ◌==◌, cond, List, [], ◌∷◌, ◌++◌, length, drop, Option, Some, None, Result, Ok, Err}
+use Rattle.std.specs.Prelude.{◌≡◌, ◌≢◌, ◌<◌, ◌≤◌, ℕ, ◌+◌, ◌-◌, ◌==◌, cond, List, [], ◌∷◌, ◌++◌, length, drop, Option, Result, Ok, Err}
 use Rattle.std.specs.List.{flat_map}
 use Rattle.semantics.specs.Multiset.{Record}
 use Rattle.semantics.specs.Query.{Input}
 use Rattle.lowering.specs.Shown.{GraphValue, shown_inputs}
-use Rattle.board.specs.Shown.{Shown}
+use Rattle.board.specs.Shown.{Shown, joined}
 use Rattle.board.specs.Promises.{IsOutputPlace, emitted_at}
 use Rattle.collector.specs.Pieces.{split_on}
 use Rattle.collector.specs.Lines.{Item}
@@ -13,12 +13,15 @@ use Rattle.collector.specs.declared.refusal.InputRefusal.TheVariants.{At}
 use Rattle.follow.specs.Entries.{Entry, records_of, row_line}
 use Rattle.std.specs.Io.KnownBytes.{IsAtEnd}
 use Rattle.follow.specs.Follows.{Follows, FollowsInput, IsPart, said_records}
-use Rattle.follow.specs.Scenes.{Grows, HasTaken, HasTold, IsAllFed, IsFed, Stands, fed_at, open_at, told_count, waiting}
+use Rattle.follow.specs.Scenes.{Grows, HasTaken, HasTold, IsAllFed, IsFed, IsWritten, Stands, batches_of, fed_at, open_at, told_count, waiting}
 use Rattle.follow.specs.declared.ending.Ending.{Ending}
 use Rattle.follow.specs.declared.ending.Ending.TheVariants as ending
 use Rattle.follow.specs.declared.ending.Halt.{Halt}
 use Rattle.follow.specs.declared.ending.Halt.TheVariants as halt
 use Rattle.follow.specs.declared.intake.Intake.{Intake}
+use Rattle.follow.specs.declared.position.Position.{Position}
+use Rattle.follow.specs.declared.taken.Taken.{Taken}
+use Rattle.follow.specs.declared.taken.Taken.TheVariants as taken
 use Rattle.follow.specs.declared.telling.Telling.{Telling}
 
 -- how following ends where the work stops
@@ -47,8 +50,9 @@ pub record Holds (x y : Intake) : Type 0 where
   pub line : y.line ≡ x.line
   pub inputs : length y.portion.items ≡ length x.portion.items
 
--- a record more waits at an input
+-- a record more waits at an input, of an epoch that began
 pub record Gathers (x y : Intake) (input : ℕ) (row : Record) : Type 0 where
+  pub some : 0 < x.begun
   pub holds : Holds x y
   pub waits : (i : ℕ) → waiting y i ≡ cond (i == input) (waiting x i ++ row ∷ []) (waiting x i)
 
@@ -68,46 +72,46 @@ pub record Empties (x y : Intake) (input : ℕ) (rows : List Record) : Type 0 wh
 pub record Sent (s t : Shown) (x y : Intake) (input : ℕ) : Type 0 where
   pub holds : Holds x y
   pub waits : (i : ℕ) → waiting y i ≡ cond (i == input) [] (waiting x i)
-  pub fed : (items : List Item) → IsFed s x items → IsFed t y items × Grows s t
+  pub fed : (base : ℕ) (items : List Item) → IsFed s base x items → IsFed t base y items × Grows s t
 
 -- all that waited was fed
 pub record SentAll (s t : Shown) (x y : Intake) : Type 0 where
   pub holds : Holds x y
   pub none : (i : ℕ) → waiting y i ≡ []
-  pub fed : (items : List Item) → IsFed s x items → IsFed t y items × Grows s t
+  pub fed : (base : ℕ) (items : List Item) → IsFed s base x items → IsFed t base y items × Grows s t
 
 -- an item was taken
 pub record Moves (s t : Shown) (x y : Intake) (item : Item) : Type 0 where
   pub line : y.line ≡ x.line
-  pub fed : (items : List Item) → IsFed s x items → IsFed t y (items ++ item ∷ []) × Grows s t
-
--- there is room for one more epoch; a record has an epoch
-abbrev pub CanTake : Intake → Item → Type 0
-CanTake x Item.epoch = x.begun < 4294967295
-CanTake x (Item.row i zs) = 0 < x.begun
+  pub fed : (base : ℕ) (items : List Item) → IsFed s base x items → IsFed t base y (items ++ item ∷ []) × Grows s t
 
 -- what was said of the epochs that ended stays
 pub record Continues (items later : List Item) : Type 0 where
   pub begun : epochs_after 0 items ≤ epochs_after 0 later
   pub ended : (epoch input : ℕ) → epoch + 1 < epochs_after 0 items → records_in epoch input 0 later ≡ records_in epoch input 0 items
 
--- why no more lines were taken: the rest is a piece of a line, or the next line has a fault of that number
-abbrev pub Stops : List Input → (bytes rest : List ℕ) → (lines : ℕ) → Option ℕ → Type 0
-Stops inputs bytes rest n None = split_on 10 rest ≡ rest ∷ []
-Stops inputs bytes rest n (Some code) = IsRefused inputs bytes (At code (n + 1)) × (code ≡ 43 → ⊥)
+-- the last item begins an epoch
+abbrev pub EndsInEpoch : List Item → Type 0
+EndsInEpoch items = (before : List Item) × (items ≡ before ++ Item.epoch ∷ [])
+
+-- why no more lines were taken: the rest is a piece of a line, the next line has a fault of that number, or an epoch has begun
+abbrev pub Stops : List Input → (bytes rest : List ℕ) → (lines : ℕ) → List Item → Taken → Type 0
+Stops inputs bytes rest n items taken.Whole = split_on 10 rest ≡ rest ∷ []
+Stops inputs bytes rest n items (taken.Fault code) = IsRefused inputs bytes (At code (n + 1)) × (code ≡ 43 → ⊥)
+Stops inputs bytes rest n items taken.Epoch = EndsInEpoch items
 
 -- lines were taken, and this is left of the bytes
-pub record Took (s t : Shown) (y : Intake) (inputs : List Input) (bytes rest : List ℕ) (fault : Option ℕ) (items : List Item) : Type 0 where
+pub record Took (base : ℕ) (s t : Shown) (y : Intake) (inputs : List Input) (bytes rest : List ℕ) (how : Taken) (items : List Item) : Type 0 where
   pub lines : List (List ℕ)
   pub later : List Item
-  pub taken : HasTaken t y inputs bytes rest lines later
+  pub reached : HasTaken t base y inputs bytes rest lines later
   pub continues : Continues items later
   pub grows : Grows s t
-  pub stops : Stops inputs bytes rest (length lines) fault
+  pub stops : Stops inputs bytes rest (length lines) later how
 
 -- the same, whatever was taken before
-abbrev pub TakesLines : (s t : Shown) → (x y : Intake) → List Input → (text rest : List ℕ) → (fault : Option ℕ) → Type 0
-TakesLines s t x y inputs text rest fault = (bytes : List ℕ) (lines : List (List ℕ)) (items : List Item) → HasTaken s x inputs bytes text lines items → Took s t y inputs bytes rest fault items
+abbrev pub TakesLines : (base : ℕ) → (s t : Shown) → (x y : Intake) → List Input → (text rest : List ℕ) → Taken → Type 0
+TakesLines base s t x y inputs text rest how = (bytes : List ℕ) (lines : List (List ℕ)) (items : List Item) → HasTaken s base x inputs bytes text lines items → Took base s t y inputs bytes rest how items
 
 -- ---- what is told
 
@@ -116,93 +120,120 @@ pub record IsFresh (t : Telling) : Type 0 where
   pub done : t.done ≡ 0
   pub none : (k : ℕ) → told_count t k ≡ 0
 
+-- nothing was taken and told
+pub record IsFirst (p : Position) : Type 0 where
+  pub base : p.base ≡ 0
+  pub new : IsNew p.intake
+  pub fresh : IsFresh p.telling
+  pub none : p.pending.items ≡ []
+
 -- one epoch more is complete
 pub record Nexts (t u : Telling) : Type 0 where
   pub done : u.done ≡ t.done + 1
   pub none : (k : ℕ) → told_count u k ≡ 0
 
--- the lines of what was emitted beyond so many records are appended
-pub record TellsHere (emitted : List Record) (label : List ℕ) (epoch told : ℕ) (old new : List ℕ) (count : ℕ) : Type 0 where
-  pub lines : new ≡ old ++ flat_map (row_line epoch label) (drop told emitted)
-  pub counted : count ≡ length emitted
+-- the lines of the batches beyond the first so many are appended
+pub record TellsHere (batches : List (List Record)) (label : List ℕ) (epoch told : ℕ) (old new : List ℕ) (count : ℕ) : Type 0 where
+  pub lines : new ≡ old ++ flat_map (row_line epoch label) (joined (drop told batches))
+  pub counted : count ≡ length batches
 
 -- all that was emitted at an output for the first epoch that isn't complete is told
-pub record TellsOne (s : Shown) (t u : Telling) (output : ℕ) (label : List ℕ) (old new : List ℕ) : Type 0 where
+pub record TellsOne (s : Shown) (base : ℕ) (t u : Telling) (output : ℕ) (label : List ℕ) (old new : List ℕ) : Type 0 where
   pub done : u.done ≡ t.done
-  pub here : told_count u output ≡ length (emitted_at s output t.done)
+  pub here : told_count u output ≡ length (batches_of s output t.done)
   pub others : (k : ℕ) → k ≢ output → told_count u k ≡ told_count t k
-  pub lines : new ≡ old ++ flat_map (row_line t.done label) (drop (told_count t output) (emitted_at s output t.done))
+  pub lines : new ≡ old ++ flat_map (row_line (base + t.done) label) (joined (drop (told_count t output) (batches_of s output t.done)))
 
 -- more entries were told: at the first n outputs all that was emitted
-pub record ToldMore (s : Shown) (done n : ℕ) (u : Telling) (records : (epoch input : ℕ) → List Record) (entries : List Entry) (text old new : List ℕ) : Type 0 where
+pub record ToldMore (s : Shown) (base done n : ℕ) (u : Telling) (records : (epoch input : ℕ) → List Record) (entries : List Entry) (text old new : List ℕ) : Type 0 where
   pub more : List Entry
   pub lines : List ℕ
-  pub told : HasTold s done (told_count u) records (entries ++ more) (text ++ lines)
+  pub told : HasTold s base done (told_count u) records (entries ++ more) (text ++ lines)
   pub appended : new ≡ old ++ lines
   pub all : (k : ℕ) → k < n → IsOutputPlace s k → records_of k (entries ++ more) ≡ emitted_at s k done
 
 -- the same, whatever was told before
-pub record TellsTo (s : Shown) (n : ℕ) (t u : Telling) (old new : List ℕ) : Type 0 where
+pub record TellsTo (s : Shown) (base n : ℕ) (t u : Telling) (old new : List ℕ) : Type 0 where
   pub done : u.done ≡ t.done
-  pub more : (records : (epoch input : ℕ) → List Record) (entries : List Entry) (text : List ℕ) → HasTold s t.done (told_count t) records entries text → ToldMore s t.done n u records entries text old new
+  pub more : (records : (epoch input : ℕ) → List Record) (entries : List Entry) (text : List ℕ) → HasTold s base t.done (told_count t) records entries text → ToldMore s base t.done n u records entries text old new
 
 -- at every output
-abbrev pub TellsOpen : Shown → (t u : Telling) → (old new : List ℕ) → Type 0
-TellsOpen s t u old new = (n : ℕ) × ((k : ℕ) → IsOutputPlace s k → k < n) × TellsTo s n t u old new
+abbrev pub TellsOpen : Shown → (base : ℕ) → (t u : Telling) → (old new : List ℕ) → Type 0
+TellsOpen s base t u old new = (n : ℕ) × ((k : ℕ) → IsOutputPlace s k → k < n) × TellsTo s base n t u old new
 
 -- what was told is an answer to the items, of epochs below `sealed` a whole one
-pub record ToldSo (s : Shown) (u : Telling) (items : List Item) (begun sealed : ℕ) (text old new : List ℕ) : Type 0 where
+pub record ToldSo (s : Shown) (base : ℕ) (u : Telling) (items : List Item) (begun sealed : ℕ) (text old new : List ℕ) : Type 0 where
   pub entries : List Entry
   pub lines : List ℕ
-  pub told : HasTold s u.done (told_count u) (said_records items) entries (text ++ lines)
+  pub told : HasTold s base u.done (told_count u) (said_records items) entries (text ++ lines)
   pub appended : new ≡ old ++ lines
-  pub part : IsPart s.graph (said_records items u.done) entries
+  pub part : IsPart s.graph (said_records items (base + u.done)) entries
   pub order : u.done ≤ sealed
   pub none : u.done ≡ begun → entries ≡ []
 
 -- what was told before, of which this is to be known
-pub record CanTell (s : Shown) (t : Telling) (items : List Item) (begun sealed : ℕ) (entries : List Entry) (text : List ℕ) : Type 0 where
-  pub told : HasTold s t.done (told_count t) (said_records items) entries text
+pub record CanTell (s : Shown) (base : ℕ) (t : Telling) (items : List Item) (begun sealed : ℕ) (entries : List Entry) (text : List ℕ) : Type 0 where
+  pub told : HasTold s base t.done (told_count t) (said_records items) entries text
   pub order : t.done ≤ sealed
   pub none : t.done ≡ begun → entries ≡ []
 
-abbrev pub Tells : Shown → (t u : Telling) → (begun sealed : ℕ) → (old new : List ℕ) → Type 0
-Tells s t u begun sealed old new = (items : List Item) (entries : List Entry) (text : List ℕ) → IsAllFed s items → sealed ≤ begun → CanTell s t items begun sealed entries text → ToldSo s u items begun sealed text old new
+abbrev pub Tells : Shown → (base : ℕ) → (t u : Telling) → (begun sealed : ℕ) → (old new : List ℕ) → Type 0
+Tells s base t u begun sealed old new =
+    (items : List Item) (entries : List Entry) (text : List ℕ) → IsAllFed s base items → sealed ≤ begun → CanTell s base t items begun sealed entries text → ToldSo s base u items begun sealed text old new
 
 -- ---- answers
 
 -- what waited was fed and worked off, and this is to be told; the epochs before the last one may be complete
-pub record Gone (t : Shown) (x y : Intake) (v : Telling) (items : List Item) (text out : List ℕ) (s : Shown) : Type 0 where
+pub record Gone (base : ℕ) (t : Shown) (x y : Intake) (v : Telling) (items : List Item) (text out : List ℕ) (s : Shown) : Type 0 where
   pub graph : t.graph ≡ s.graph
   pub holds : Holds x y
-  pub fed : IsFed t y items
-  pub told : ToldSo t v items x.begun (x.begun - 1) text [] out
+  pub fed : IsFed t base y items
+  pub told : ToldSo t base v items x.begun (x.begun - 1) text [] out
 
-abbrev pub Goes : (s t : Shown) → (x y : Intake) → (u v : Telling) → (out : List ℕ) → Type 0
-Goes s t x y u v out = (items : List Item) (entries : List Entry) (text : List ℕ) → IsFed s x items → CanTell s u items x.begun (x.begun - 1) entries text → Gone t x y v items text out s
+abbrev pub Goes : (base : ℕ) → (s t : Shown) → (x y : Intake) → (u v : Telling) → (out : List ℕ) → Type 0
+Goes base s t x y u v out =
+    (items : List Item) (entries : List Entry) (text : List ℕ) → IsFed s base x items → CanTell s base u items x.begun (x.begun - 1) entries text → Gone base t x y v items text out s
 
 -- at the end of the input every epoch is complete
-pub record Ended (t : Shown) (x : Intake) (v : Telling) (items : List Item) (text out : List ℕ) (s : Shown) : Type 0 where
+pub record Ended (base : ℕ) (t : Shown) (x : Intake) (v : Telling) (items : List Item) (text out : List ℕ) (s : Shown) : Type 0 where
   pub graph : t.graph ≡ s.graph
   pub complete : v.done ≡ x.begun
-  pub told : ToldSo t v items x.begun x.begun text [] out
+  pub told : ToldSo t base v items x.begun x.begun text [] out
 
-abbrev pub Ends : (s t : Shown) → (x : Intake) → (u v : Telling) → (out : List ℕ) → Type 0
-Ends s t x u v out = (items : List Item) (entries : List Entry) (text : List ℕ) → IsFed s x items → CanTell s u items x.begun x.begun entries text → Ended t x v items text out s
+abbrev pub Ends : (base : ℕ) → (s t : Shown) → (x : Intake) → (u v : Telling) → (out : List ℕ) → Type 0
+Ends base s t x u v out = (items : List Item) (entries : List Entry) (text : List ℕ) → IsFed s base x items → CanTell s base u items x.begun x.begun entries text → Ended base t x v items text out s
+
+-- ---- the whole
+
+-- how far lines were taken and answered, or how following ended there
+abbrev pub TookLines : GraphValue → (bytes : List ℕ) → (left start new : Option (List ℕ)) → Shown → Position → Result Taken Ending → Type 0
+TookLines g bytes left start new s p (Ok how) =
+    (w : IsWritten g s p.base p.intake p.telling bytes p.pending.items start new) × Stops (shown_inputs g) bytes p.pending.items (length w.known.lines) w.known.items how
+TookLines g bytes left start new s p (Err e) = Follows g bytes left start new (Err e)
+
+-- the same, whatever was taken before
+abbrev pub FollowsLines : List Input → (s t : Shown) → (p q : Position) → (old new : Option (List ℕ)) → Result Taken Ending → Type 0
+FollowsLines inputs s t p q old new result =
+    (g : GraphValue) (bytes : List ℕ) (left start : Option (List ℕ)) → inputs ≡ shown_inputs g → IsWritten g s p.base p.intake p.telling bytes p.pending.items start old → TookLines g bytes left start new t q result
+
+-- where an epoch has just begun, a new board may take the place of the old one
+abbrev pub Renews : GraphValue → (s t : Shown) → (p q : Position) → Type 0
+Renews g s t p q =
+    (bytes : List ℕ) (start now : Option (List ℕ)) (w : IsWritten g s p.base p.intake p.telling bytes p.pending.items start now) → EndsInEpoch w.known.items → IsWritten g t q.base q.intake q.telling bytes q.pending.items start now
 
 -- following goes on, or ends
-abbrev pub GoesOn : GraphValue → (bytes : List ℕ) → (left start new : Option (List ℕ)) → Shown → Intake → Telling → (pending : List ℕ) → Result (Unit {0}) Ending → Type 0
-GoesOn g bytes left start new s x t pending (Ok _) = Stands g s x t bytes pending start new
-GoesOn g bytes left start new s x t pending (Err e) = Follows g bytes left start new (Err e)
+abbrev pub GoesOn : GraphValue → (bytes : List ℕ) → (left start new : Option (List ℕ)) → Shown → Position → Result (Unit {0}) Ending → Type 0
+GoesOn g bytes left start new s p (Ok _) = Stands g s p bytes start new
+GoesOn g bytes left start new s p (Err e) = Follows g bytes left start new (Err e)
 
 -- the same after a piece, from wherever following stood
-abbrev pub FollowsPiece : List Input → (s t : Shown) → (x y : Intake) → (u v : Telling) → (pending rest piece : List ℕ) → (old new : Option (List ℕ)) → Result (Unit {0}) Ending → Type 0
-FollowsPiece inputs s t x y u v pending rest piece old new result = (g : GraphValue) (bytes : List ℕ) (left start : Option (List ℕ)) → inputs ≡ shown_inputs g → Stands g s x u bytes pending start old → GoesOn g (bytes ++ piece) left start new t y v rest result
+abbrev pub FollowsPiece : GraphValue → List Input → (s t : Shown) → (p q : Position) → (piece : List ℕ) → (old new : Option (List ℕ)) → Result (Unit {0}) Ending → Type 0
+FollowsPiece g inputs s t p q piece old new result = (bytes : List ℕ) (left start : Option (List ℕ)) → inputs ≡ shown_inputs g → Stands g s p bytes start old → GoesOn g (bytes ++ piece) left start new t q result
 
 -- following ends where nothing is left
-abbrev pub FollowsEnd : Shown → Intake → Telling → (pending : List ℕ) → (old new : Option (List ℕ)) → Result (Unit {0}) Ending → Type 0
-FollowsEnd s x u pending old new result = (g : GraphValue) (bytes : List ℕ) (left start : Option (List ℕ)) → IsAtEnd left → Stands g s x u bytes pending start old → Follows g bytes left start new result
+abbrev pub FollowsEnd : Shown → Position → (old new : Option (List ℕ)) → Result (Unit {0}) Ending → Type 0
+FollowsEnd s p old new result = (g : GraphValue) (bytes : List ℕ) (left start : Option (List ℕ)) → IsAtEnd left → Stands g s p bytes start old → Follows g bytes left start new result
 
 -- the whole input is followed, from where it opens
-abbrev pub FollowsAll : List Input → Shown → Intake → Telling → (unread left old new : Option (List ℕ)) → Result (Unit {0}) Ending → Type 0
-FollowsAll inputs s x u unread left old new result = (g : GraphValue) → inputs ≡ shown_inputs g → Stands g s x u [] [] old old → FollowsInput g unread left old new result
+abbrev pub FollowsAll : GraphValue → List Input → Shown → Position → (unread left old new : Option (List ℕ)) → Result (Unit {0}) Ending → Type 0
+FollowsAll g inputs s p unread left old new result = inputs ≡ shown_inputs g → Stands g s p [] old old → FollowsInput g unread left old new result

@@ -15,16 +15,17 @@ use std::alloc::Global;
 pub fn answer_open<P: Progress>(
     alloc: Global,
     board: &mut Board<P>,
+    base: u32,
     intake: &mut Intake,
     telling: &mut Telling,
 ) -> Result<Vec<u8>, Halt>
-    ensures { IfOk result (λ out. Goes board.old board.new intake.old intake.new telling.old telling.new out.items) }
+    ensures { IfOk result (λ out. Goes base board.old board.new intake.old intake.new telling.old telling.new out.items) }
 {
     feed_portion(alloc, board, intake)?;
     work_off(alloc, board)?;
     let mut out = Vec::new(alloc);
     let sealed = intake.begun.saturating_sub(1);
-    tell(board, telling, intake.begun, sealed, &mut out)?;
+    tell(board, base, telling, intake.begun, sealed, &mut out)?;
     Ok(out)
 }
 
@@ -32,16 +33,17 @@ pub fn answer_open<P: Progress>(
 pub fn answer_last<P: Progress>(
     alloc: Global,
     board: &mut Board<P>,
+    base: u32,
     intake: &mut Intake,
     telling: &mut Telling,
 ) -> Result<Vec<u8>, Halt>
-    ensures { IfOk result (λ out. Ends board.old board.new intake.old telling.old telling.new out.items) }
+    ensures { IfOk result (λ out. Ends base board.old board.new intake.old telling.old telling.new out.items) }
 {
     feed_portion(alloc, board, intake)?;
     close_inputs(board, intake.portion.len())?;
     work_off(alloc, board)?;
     let mut out = Vec::new(alloc);
-    tell(board, telling, intake.begun, intake.begun, &mut out)?;
+    tell(board, base, telling, intake.begun, intake.begun, &mut out)?;
     if telling.done != intake.begun {
         return Err(Halt::Incomplete);
     }

@@ -8,13 +8,15 @@ ghost use Rattle.board.specs.Showing.{Shows};
 ghost use Rattle.collector.specs.Said.{plain};
 ghost use Rattle.collector.specs.Watching.{has_failed, inner_of};
 ghost use Rattle.follow.specs.Follows.{FollowsInput};
-ghost use Rattle.follow.specs.Steps.{FollowsAll, FollowsEnd, FollowsPiece, TakesLines};
+ghost use Rattle.follow.specs.Steps.{FollowsAll, FollowsEnd, FollowsLines, FollowsPiece, TakesLines};
 ghost use Rattle.follow.specs.declared.ending.Ending.TheVariants as ending;
 
 use crate::answering::{answer_last, answer_open};
 use crate::ending::{Ending, Halt};
 use crate::intake::{Intake, take_lines};
-use crate::telling::Telling;
+use crate::position::Position;
+use crate::renewing::{LINES, new_board, renew};
+use crate::taken::Taken;
 use board::Board;
 use collector::{Declared, Watched, find, put};
 use lowering::{DeclaredInput, Graph};
@@ -37,81 +39,125 @@ fn faulty(intake: &Intake, code: u8) -> Ending
     }
 }
 
-/// Takes the lines that are there; what stands after them stays. The number of the fault that the first of it has.
+/// Takes the lines that are there; what stands after them stays.
 fn take_text<P: Progress>(
     alloc: Global,
     board: &mut Board<P>,
     inputs: &[Declared<'_>],
+    base: u32,
+    until: u64,
     intake: &mut Intake,
     pending: &mut Vec<u8>,
-) -> Result<Option<u8>, Halt>
-    ensures { IfOk result (λ fault. TakesLines board.old board.new intake.old intake.new (map plain inputs.now) pending.old.items pending.new.items fault) }
+) -> Result<Taken, Halt>
+    ensures { IfOk result (λ taken. TakesLines base board.old board.new intake.old intake.new (map plain inputs.now) pending.old.items pending.new.items taken) }
 {
     let text = replace(pending, Vec::new(alloc));
-    match take_lines(alloc, board, inputs, intake, text.as_slice()) {
-        Ok((rest, fault)) => {
+    match take_lines(alloc, board, inputs, base, until, intake, text.as_slice()) {
+        Ok((rest, taken)) => {
             pending.extend_from_slice(rest)?;
-            Ok(fault)
+            Ok(taken)
         }
         Err(halt) => Err(halt),
     }
 }
 
-/// Follows a piece of the input, behind what is pending of a line. A piece without line feed only joins it.
-fn follow_piece<P: Progress, W: Write>(
+/// Takes the lines that are pending, up to an epoch that is to get a new board, and writes what can be told then.
+fn follow_lines<P: Progress, W: Write>(
     alloc: Global,
-    board: &mut Board<P>,
     inputs: &[Declared<'_>],
-    intake: &mut Intake,
-    telling: &mut Telling,
-    pending: &mut Vec<u8>,
-    piece: &[u8],
+    board: &mut Board<P>,
+    position: &mut Position,
     writer: &mut Watched<W>,
-) -> Result<(), Ending>
-    ensures follows { FollowsPiece (map plain inputs.now) board.old board.new intake.old intake.new telling.old telling.new pending.old.items pending.new.items piece.now (W.contents (inner_of writer.old)) (W.contents (inner_of writer.new)) result }
+) -> Result<Taken, Ending>
+    ensures follows { FollowsLines (map plain inputs.now) board.old board.new position.old position.new (W.contents (inner_of writer.old)) (W.contents (inner_of writer.new)) result }
     ensures writer { IsErrOf result ending.Write → has_failed writer.new ≡ true }
     ensures reader { IsErrOf result ending.Read → ⊥ }
 {
-    if pending.extend_from_slice(piece).is_err() {
+    let (base, until) = (position.base, position.until);
+    let taken = match take_text(
+        alloc,
+        board,
+        inputs,
+        base,
+        until,
+        &mut position.intake,
+        &mut position.pending,
+    ) {
+        Ok(taken) => taken,
+        Err(halt) => return Err(halt.ending()),
+    };
+    let out = match answer_open(
+        alloc,
+        board,
+        base,
+        &mut position.intake,
+        &mut position.telling,
+    ) {
+        Ok(out) => out,
+        Err(halt) => return Err(halt.ending()),
+    };
+    match put(writer, out.as_slice()) {
+        Ok(()) => Ok(taken),
+        Err(_) => Err(Ending::Write),
+    }
+}
+
+/// Follows a piece of the input, behind what is pending of a line. A piece without line feed only joins it.
+fn follow_piece<W: Write>(
+    alloc: Global,
+    graph: &Arc<Graph, Global>,
+    inputs: &[Declared<'_>],
+    board: &mut Board<LocationTracker>,
+    position: &mut Position,
+    piece: &[u8],
+    writer: &mut Watched<W>,
+) -> Result<(), Ending>
+    ensures follows { FollowsPiece graph.now.value (map plain inputs.now) board.old board.new position.old position.new piece.now (W.contents (inner_of writer.old)) (W.contents (inner_of writer.new)) result }
+    ensures writer { IsErrOf result ending.Write → has_failed writer.new ≡ true }
+    ensures reader { IsErrOf result ending.Read → ⊥ }
+{
+    if position.pending.extend_from_slice(piece).is_err() {
         return Err(Ending::NoMemory);
     }
     if find(piece, b'\n').is_none() {
         return Ok(());
     }
-    let fault = match take_text(alloc, board, inputs, intake, pending) {
-        Ok(fault) => fault,
-        Err(halt) => return Err(halt.ending()),
-    };
-    let out = match answer_open(alloc, board, intake, telling) {
-        Ok(out) => out,
-        Err(halt) => return Err(halt.ending()),
-    };
-    match put(writer, out.as_slice()) {
-        Ok(()) => match fault {
-            None => Ok(()),
-            Some(code) => Err(faulty(intake, code)),
-        },
-        Err(_) => Err(Ending::Write),
+    for _turn in 0..u64::MAX {
+        match follow_lines(alloc, inputs, board, position, writer) {
+            Ok(Taken::Whole) => return Ok(()),
+            Ok(Taken::Fault(code)) => return Err(faulty(&position.intake, code)),
+            Ok(Taken::Epoch) => match renew(alloc, graph, board, position) {
+                Ok(()) => {}
+                Err(halt) => return Err(halt.ending()),
+            },
+            Err(ending) => return Err(ending),
+        }
     }
+    Err(Ending::Incomplete)
 }
 
 /// Ends following where the reader has no more bytes.
 fn follow_end<P: Progress, W: Write>(
     alloc: Global,
     board: &mut Board<P>,
-    intake: &mut Intake,
-    telling: &mut Telling,
-    pending: &[u8],
+    position: &mut Position,
     writer: &mut Watched<W>,
 ) -> Result<(), Ending>
-    ensures follows { FollowsEnd board.old intake.old telling.old pending.now (W.contents (inner_of writer.old)) (W.contents (inner_of writer.new)) result }
+    ensures follows { FollowsEnd board.old position.old (W.contents (inner_of writer.old)) (W.contents (inner_of writer.new)) result }
     ensures writer { IsErrOf result ending.Write → has_failed writer.new ≡ true }
     ensures reader { IsErrOf result ending.Read → ⊥ }
 {
-    if !pending.is_empty() {
-        return Err(faulty(intake, NO_LINE_FEED));
+    if !position.pending.is_empty() {
+        return Err(faulty(&position.intake, NO_LINE_FEED));
     }
-    let out = match answer_last(alloc, board, intake, telling) {
+    let base = position.base;
+    let out = match answer_last(
+        alloc,
+        board,
+        base,
+        &mut position.intake,
+        &mut position.telling,
+    ) {
         Ok(out) => out,
         Err(halt) => return Err(halt.ending()),
     };
@@ -122,35 +168,33 @@ fn follow_end<P: Progress, W: Write>(
 }
 
 /// Follows the input piece by piece.
-fn follow_pieces<P: Progress, R: Read, W: Write>(
+fn follow_pieces<R: Read, W: Write>(
     alloc: Global,
-    board: &mut Board<P>,
+    graph: &Arc<Graph, Global>,
     inputs: &[Declared<'_>],
-    intake: &mut Intake,
-    telling: &mut Telling,
+    board: &mut Board<LocationTracker>,
+    position: &mut Position,
     reader: &mut Watched<R>,
     writer: &mut Watched<W>,
 ) -> Result<(), Ending>
-    ensures follows { FollowsAll (map plain inputs.now) board.old intake.old telling.old (R.remaining (inner_of reader.old)) (R.remaining (inner_of reader.new)) (W.contents (inner_of writer.old)) (W.contents (inner_of writer.new)) result }
+    ensures follows { FollowsAll graph.now.value (map plain inputs.now) board.old position.old (R.remaining (inner_of reader.old)) (R.remaining (inner_of reader.new)) (W.contents (inner_of writer.old)) (W.contents (inner_of writer.new)) result }
     ensures reader { IsErrOf result ending.Read → has_failed reader.new ≡ true }
     ensures writer { IsErrOf result ending.Write → has_failed writer.new ≡ true }
 {
-    let mut pending = Vec::new(alloc);
     let mut piece = [0; 4096];
     for _turn in 0..u64::MAX {
         let Ok(count) = reader.pull(&mut piece) else {
             return Err(Ending::Read);
         };
         if count == 0 {
-            return follow_end(alloc, board, intake, telling, pending.as_slice(), writer);
+            return follow_end(alloc, board, position, writer);
         }
         match follow_piece(
             alloc,
-            board,
+            graph,
             inputs,
-            intake,
-            telling,
-            &mut pending,
+            board,
+            position,
             &piece[..count],
             writer,
         ) {
@@ -182,22 +226,21 @@ fn opened(alloc: Global, graph: Graph) -> Result<(Arc<Graph, Global>, Board<Loca
     ensures shows { IfOk result (λ p. Shows p.1 opening) }
 {
     let graph = Arc::new(alloc, graph)?;
-    let shared = Arc::try_clone(&graph)?;
-    let board = Board::<LocationTracker>::new(alloc, shared, 1)?;
+    let board = new_board(alloc, &graph)?;
     Ok((graph, board))
 }
 
 /// Follows the input of a graph on a new board: what it reads, and what it has written, is an answer to it.
 fn follow_graph<R: Read, W: Write>(
     alloc: Global,
-    graph: &Graph,
+    graph: &Arc<Graph, Global>,
     board: &mut Board<LocationTracker>,
     reader: &mut Watched<R>,
     writer: &mut Watched<W>,
 ) -> Result<Result<(), Ending>, Halt>
-    requires opening { IsOpening graph.now 1 board.old }
+    requires opening { IsOpening graph.now.value 1 board.old }
     requires shows { Shows board.old opening }
-    ensures follows { IfOk result (λ r. FollowsInput graph.now (R.remaining (inner_of reader.old)) (R.remaining (inner_of reader.new)) (W.contents (inner_of writer.old)) (W.contents (inner_of writer.new)) r) }
+    ensures follows { IfOk result (λ r. FollowsInput graph.now.value (R.remaining (inner_of reader.old)) (R.remaining (inner_of reader.new)) (W.contents (inner_of writer.old)) (W.contents (inner_of writer.new)) r) }
     ensures reader { IfOk result (λ r. IsErrOf r ending.Read → has_failed reader.new ≡ true) }
     ensures writer { IfOk result (λ r. IsErrOf r ending.Write → has_failed writer.new ≡ true) }
     ensures unread { OnErr result (reader.new ≡ reader.old) }
@@ -205,17 +248,8 @@ fn follow_graph<R: Read, W: Write>(
 {
     let inputs = declared(alloc, graph.inputs())?;
     let listed = inputs.as_slice();
-    let mut intake = Intake::new(alloc, listed)?;
-    let mut telling = Telling::new(alloc, board.output_count())?;
-    Ok(follow_pieces(
-        alloc,
-        board,
-        listed,
-        &mut intake,
-        &mut telling,
-        reader,
-        writer,
-    ))
+    let mut position = Position::new(alloc, listed, board.output_count(), LINES)?;
+    Ok(follow_pieces(alloc, graph, listed, board, &mut position, reader, writer))
 }
 
 /// Follows an input text to its end, on one worker: a piece is read, its records are fed, what can be done is done, and what was emitted is

@@ -1,11 +1,12 @@
 //! What was taken of the input.
 
-ghost use Rattle.std.specs.Prelude.{◌≡◌, ◌<◌, [], length, map, IfOk, OnOk};
+ghost use Rattle.std.specs.Prelude.{◌≡◌, ◌<◌, ℤ, [], List, length, map, IfOk, IsTrue, OnOk};
 ghost use Rattle.collector.specs.Lines.{Item};
 ghost use Rattle.collector.specs.Said.{item_of, plain};
-ghost use Rattle.follow.specs.Steps.{CanTake, Counts, Empties, Gathers, IsNew, Moves, Sent, SentAll, TakesLines};
+ghost use Rattle.follow.specs.Steps.{Counts, Empties, Gathers, IsNew, Moves, Sent, SentAll, TakesLines};
 
 use crate::ending::Halt;
+use crate::taken::Taken;
 use crate::working::{feed, seal_inputs};
 use board::Board;
 use collector::{Declared, Line, Stop, next_line};
@@ -15,7 +16,7 @@ use rows::{Batch, Rows};
 use std::alloc::Global;
 use std::mem::replace;
 
-/// How many epochs have begun, how many lines were taken, and of each input the records of the last epoch that wait to be fed.
+/// How many epochs of the board have begun, how many lines were taken, and of each input the records of the last epoch that wait to be fed.
 #[derive(Drop)]
 pub struct Intake {
     pub begun: u32,
@@ -43,6 +44,9 @@ impl Intake {
     fn gather(&mut self, input: usize, row: &[i64]) -> Result<(), Halt>
         ensures { OnOk result (Gathers self.old self.new input row.now) }
     {
+        if self.begun == 0 {
+            return Err(Halt::Incomplete);
+        }
         if input >= self.portion.len() || self.portion[input].arity() != row.len() {
             return Err(Halt::Incomplete);
         }
@@ -121,7 +125,6 @@ pub fn feed_portion<P: Progress>(
 
 /// The next epoch begins: what waits is fed, and the epoch before it is sealed at each input.
 fn begin<P: Progress>(alloc: Global, board: &mut Board<P>, intake: &mut Intake) -> Result<(), Halt>
-    requires few { intake.old.begun < 4294967295 }
     ensures { OnOk result (Moves board.old board.new intake.old intake.new Item.epoch) }
 {
     feed_portion(alloc, board, intake)?;
@@ -129,8 +132,11 @@ fn begin<P: Progress>(alloc: Global, board: &mut Board<P>, intake: &mut Intake) 
         intake.begun = 1;
         return Ok(());
     }
+    let Some(begun) = intake.begun.checked_add(1) else {
+        return Err(Halt::Incomplete);
+    };
     seal_inputs(board, intake.portion.len())?;
-    intake.begun += 1;
+    intake.begun = begun;
     Ok(())
 }
 
@@ -142,7 +148,6 @@ fn take_item<P: Progress>(
     said: Line,
     fields: &[i64],
 ) -> Result<(), Halt>
-    requires can { CanTake intake.old (item_of said fields.now) }
     ensures { OnOk result (Moves board.old board.new intake.old intake.new (item_of said fields.now)) }
 {
     match said {
@@ -151,29 +156,48 @@ fn take_item<P: Progress>(
     }
 }
 
-/// Takes the lines of a text, one after another: what stands after them, and the number of the fault that the first of it has.
+/// Whether a line begins an epoch.
+fn begins_epoch(said: Line) -> bool
+    ensures { IsTrue result → (fields : List ℤ) → item_of said fields ≡ Item.epoch }
+{
+    match said {
+        Line::Epoch => true,
+        Line::Row { input: _ } => false,
+    }
+}
+
+/// Takes the lines of a text, one after another, up to one that begins an epoch, from line `until` on: what stands after them, and why no more
+/// were taken. The board's epochs begin at the epoch `base`.
 pub fn take_lines<'a, P: Progress>(
     alloc: Global,
     board: &mut Board<P>,
     inputs: &[Declared<'_>],
+    base: u32,
+    until: u64,
     intake: &mut Intake,
     text: &'a [u8],
-) -> Result<(&'a [u8], Option<u8>), Halt>
-    ensures { IfOk result (λ r. TakesLines board.old board.new intake.old intake.new (map plain inputs.now) text.entry.now r.0.now r.1) }
+) -> Result<(&'a [u8], Taken), Halt>
+    ensures { IfOk result (λ r. TakesLines base board.old board.new intake.old intake.new (map plain inputs.now) text.entry.now r.0.now r.1) }
 {
     let mut fields = Vec::new(alloc);
     let mut rest = text;
     while !rest.is_empty() {
-        match next_line(rest, inputs, intake.begun, &mut fields) {
+        let Some(begun) = base.checked_add(intake.begun) else {
+            return Err(Halt::Incomplete);
+        };
+        match next_line(rest, inputs, begun, &mut fields) {
             Ok((said, after)) => {
                 take_item(alloc, board, intake, said, fields.as_slice())?;
                 intake.count_line()?;
                 rest = after;
+                if intake.line >= until && begins_epoch(said) {
+                    return Ok((rest, Taken::Epoch));
+                }
             }
             Err(Stop::NoMemory) => return Err(Halt::NoMemory),
-            Err(Stop::Fault(fault)) => return Ok((rest, Some(fault.code()))),
-            Err(Stop::NoLineFeed) => return Ok((rest, None)),
+            Err(Stop::Fault(fault)) => return Ok((rest, Taken::Fault(fault.code()))),
+            Err(Stop::NoLineFeed) => return Ok((rest, Taken::Whole)),
         }
     }
-    Ok((rest, None))
+    Ok((rest, Taken::Whole))
 }

@@ -5,6 +5,9 @@
 //! every output. The contract for the layers above is `Follows` of `specs/`: what was written is an answer to the lines that were read. A
 //! complete epoch's lines are its whole answer, and those of the next one are part of what is meant.
 //!
+//! A board takes some 16,000 lines. At the next epoch, once all before it are complete, a new board takes its place, so that memory is that
+//! of those lines and of one epoch, however long the input is: on the old board nothing active is left that could result in a record.
+//!
 //! Below stand the board and the reader of lines; nothing here uses threads.
 #![tactic(auto)]
 
@@ -13,6 +16,9 @@ mod batches;
 mod ending;
 mod following;
 mod intake;
+mod position;
+mod renewing;
+mod taken;
 mod telling;
 mod texts;
 mod working;

@@ -1,13 +1,14 @@
 //! What is told of what was emitted.
 
-ghost use Rattle.std.specs.Prelude.{◌≡◌, ◌<◌, ℕ, IfOk, IsTrue, OnOk, map};
-ghost use Rattle.board.specs.Promises.{HasPassed, IsOutputPlace, emitted_at};
+ghost use Rattle.std.specs.Prelude.{◌≡◌, ◌<◌, ℕ, ◌+◌, ◌++◌, IfOk, IsTrue, OnOk, map};
+ghost use Rattle.board.specs.Promises.{HasPassed, IsOutputPlace};
 ghost use Rattle.collector.specs.OutputText.{is_plain};
 ghost use Rattle.lowering.specs.Views.{name_of_output};
-ghost use Rattle.follow.specs.Entries.{label_of};
+ghost use Rattle.follow.specs.Entries.{complete_line, label_of};
+ghost use Rattle.follow.specs.Scenes.{batches_of, told_count};
 ghost use Rattle.follow.specs.Steps.{IsFresh, Nexts, Tells, TellsHere, TellsOne, TellsOpen};
 
-use crate::batches::push_new;
+use crate::batches::push_batches;
 use crate::ending::Halt;
 use crate::texts::push_complete;
 use board::Board;
@@ -16,7 +17,7 @@ use progress::Progress;
 use record_core::Name;
 use std::alloc::Global;
 
-/// How many epochs are complete, and of each output, how many records were told of the first one that isn't.
+/// How many epochs of the board are complete, and of each output, how many batches were told of the first one that isn't.
 #[derive(Drop)]
 pub struct Telling {
     pub done: u32,
@@ -33,6 +34,18 @@ impl Telling {
             told.push(0)?;
         }
         Ok(Telling { done: 0, told })
+    }
+
+    /// Whether nothing was told of the first epoch that isn't complete.
+    pub fn is_untold(&self) -> bool
+        ensures { IsTrue result → (k : ℕ) → told_count self.now k ≡ 0 }
+    {
+        for place in 0..self.told.len() {
+            if self.told[place] != 0 {
+                return false;
+            }
+        }
+        true
     }
 
     /// The epoch is complete; nothing was told of the next one.
@@ -72,10 +85,11 @@ fn has_passed<P: Progress>(board: &Board<P>, epoch: u32) -> bool
     true
 }
 
-/// Appends the lines of what was emitted at an output for an epoch, after the first so many; how many there are.
+/// Appends the lines of the batches that were emitted at an output for an epoch, after the first so many; how many there are.
 fn push_output<P: Progress>(
     board: &Board<P>,
-    epoch: u32,
+    base: u32,
+    done: u32,
     output: u32,
     plain: bool,
     name: &Name,
@@ -83,14 +97,23 @@ fn push_output<P: Progress>(
     out: &mut Vec<u8>,
 ) -> Result<usize, Halt>
     requires { IsOutputPlace board.now output }
-    ensures { IfOk result (λ n. TellsHere (emitted_at board.now output epoch) (label_of plain name.now) epoch told out.old.items out.new.items n) }
+    ensures { IfOk result (λ n. TellsHere (batches_of board.now output done) (label_of plain name.now) (base + done) told out.old.items out.new.items n) }
 {
-    push_new(out, epoch, plain, name, board.emitted(output, epoch), told)
+    let Some(epoch) = base.checked_add(done) else {
+        return Err(Halt::Incomplete);
+    };
+    let batches = board.emitted(output, done);
+    if told > batches.len() {
+        return Err(Halt::Incomplete);
+    }
+    push_batches(out, epoch, plain, name, &batches[told..])?;
+    Ok(batches.len())
 }
 
 /// Appends the lines of what was emitted at an output for the first epoch that isn't complete and wasn't told.
 fn tell_output<P: Progress>(
     board: &Board<P>,
+    base: u32,
     telling: &mut Telling,
     output: u32,
     plain: bool,
@@ -98,14 +121,14 @@ fn tell_output<P: Progress>(
     out: &mut Vec<u8>,
 ) -> Result<(), Halt>
     requires { IsOutputPlace board.now output }
-    ensures { OnOk result (TellsOne board.now telling.old telling.new output (label_of plain name.now) out.old.items out.new.items) }
+    ensures { OnOk result (TellsOne board.now base telling.old telling.new output (label_of plain name.now) out.old.items out.new.items) }
 {
     let place = output as usize;
     if place >= telling.told.len() {
         return Err(Halt::Incomplete);
     }
     let told = telling.told[place];
-    match push_output(board, telling.done, output, plain, name, told, out) {
+    match push_output(board, base, telling.done, output, plain, name, told, out) {
         Ok(count) => {
             telling.told[place] = count;
             Ok(())
@@ -117,41 +140,54 @@ fn tell_output<P: Progress>(
 /// Appends the lines of what was emitted at each output for the first epoch that isn't complete and wasn't told.
 fn tell_open<P: Progress>(
     board: &Board<P>,
+    base: u32,
     telling: &mut Telling,
     out: &mut Vec<u8>,
 ) -> Result<(), Halt>
-    ensures { OnOk result (TellsOpen board.now telling.old telling.new out.old.items out.new.items) }
+    ensures { OnOk result (TellsOpen board.now base telling.old telling.new out.old.items out.new.items) }
 {
     let outputs = board.graph().outputs();
     let plain = are_plain(outputs);
     for output in 0..board.output_count() {
         let name = &outputs[output as usize].name;
-        tell_output(board, telling, output, plain, name, out)?;
+        tell_output(board, base, telling, output, plain, name, out)?;
     }
     Ok(())
 }
 
-/// Appends what is to be told: the epochs in order, each up to the first that isn't complete. Those below `sealed` are complete once they
-/// have passed.
+/// Appends the line of a complete epoch of the board.
+fn push_done(out: &mut Vec<u8>, base: u32, done: u32) -> Result<(), Halt>
+    ensures { OnOk result (out.new.items ≡ out.old.items ++ complete_line (base + done)) }
+{
+    let Some(epoch) = base.checked_add(done) else {
+        return Err(Halt::Incomplete);
+    };
+    push_complete(out, epoch)?;
+    Ok(())
+}
+
+/// Appends what is to be told: the board's epochs in order, each up to the first that isn't complete. Those below `sealed` are complete once
+/// they have passed. The board's epochs begin at the epoch `base`.
 pub fn tell<P: Progress>(
     board: &Board<P>,
+    base: u32,
     telling: &mut Telling,
     begun: u32,
     sealed: u32,
     out: &mut Vec<u8>,
 ) -> Result<(), Halt>
-    ensures { OnOk result (Tells board.now telling.old telling.new begun sealed out.old.items out.new.items) }
+    ensures { OnOk result (Tells board.now base telling.old telling.new begun sealed out.old.items out.new.items) }
 {
     board.law_headline();
     for epoch in telling.done..begun {
-        tell_open(board, telling, out)?;
+        tell_open(board, base, telling, out)?;
         if epoch >= sealed {
             return Ok(());
         }
         if !has_passed(board, epoch) {
             return Ok(());
         }
-        push_complete(out, epoch)?;
+        push_done(out, base, epoch)?;
         telling.complete()?;
     }
     Ok(())

@@ -10,7 +10,7 @@ use std::io::{ErrorKind, Read};
 use typing::check;
 
 /// The graph of a query.
-fn graph_of(alloc: Global, text: &str) -> Option<Graph> {
+pub fn graph_of(alloc: Global, text: &str) -> Option<Graph> {
     let program = parse(alloc, text.as_bytes()).ok()?;
     let typed = check(alloc, program).ok()?;
     lower(alloc, &typed).ok()
@@ -18,10 +18,10 @@ fn graph_of(alloc: Global, text: &str) -> Option<Graph> {
 
 /// A reader that gives a text, so many bytes at a time, and fails after so many reads.
 #[derive(Drop)]
-struct Slow<'a> {
-    text: &'a [u8],
-    most: usize,
-    left: usize,
+pub struct Slow<'a> {
+    pub text: &'a [u8],
+    pub most: usize,
+    pub left: usize,
 }
 
 impl<'a> Read for Slow<'a> {
@@ -40,7 +40,7 @@ impl<'a> Read for Slow<'a> {
     }
 }
 
-const AUDIENCE: &str = "input buyer/1; input reader/1; output distinct(concat(buyer, reader));";
+pub const AUDIENCE: &str = "input buyer/1; input reader/1; output distinct(concat(buyer, reader));";
 
 #[test]
 fn whole_input(rt: HostRuntime) -> Result<(), AllocError> {

@@ -2,4 +2,8 @@
 #![tactic(auto)]
 
 #[cfg(test)]
+mod failures;
+#[cfg(test)]
 mod inputs;
+#[cfg(test)]
+mod renewals;

@@ -6,8 +6,8 @@ use Rattle.follow.proofs.batches.push_batch.Goals as goal
 pub loop-place-preserved : goal.loop-place-preserved
 loop-place-preserved c = record {
   end_is = c.loop-place.invariant.end_is;
-  rest = rows_more (row_line c.args.epoch (label_of c.args.plain c.args.name.now)) c.args.batch.now c.loop-place.place c.args.skip c.row.result.now c.args.out.now.items c.loop-place.out.items c.push_row.new.out.items (omega (arith, c.loop-place-test.true, c.loop-place.invariant.end_is)) c.row.ensures.value c.in_ok-push_row.ensures c.loop-place.invariant.rest;
+  rest = rows_more (row_line c.args.epoch (label_of c.args.plain c.args.name.now)) c.args.batch.now c.loop-place.place 0 c.row.result.now c.args.out.now.items c.loop-place.out.items c.push_row.new.out.items (omega (arith, c.loop-place-test.true, c.loop-place.invariant.end_is)) c.row.ensures.value c.in_ok-push_row.ensures c.loop-place.invariant.rest;
 }
 
 pub returns : goal.returns
-returns c = rows_done (row_line c.args.epoch (label_of c.args.plain c.args.name.now)) c.args.batch.now c.loop-place.place c.args.skip c.args.out.now.items c.loop-place.out.items (omega (arith, c.loop-place-test.false, c.loop-place.invariant.end_is)) c.loop-place.invariant.rest
+returns c = rows_done (row_line c.args.epoch (label_of c.args.plain c.args.name.now)) c.args.batch.now c.loop-place.place 0 c.args.out.now.items c.loop-place.out.items (omega (arith, c.loop-place-test.false, c.loop-place.invariant.end_is)) c.loop-place.invariant.rest

@@ -6,5 +6,5 @@ use Rattle.follow.proofs.batches.push_batch.Given as goal
 abbrev pub invariant-loop-place : goal.invariant-loop-place
 invariant-loop-place l = record {
   end_is : l.place-end ≡ length l.batch;
-  rest : l.out.items ++ flat_map (row_line l.epoch (label_of l.plain l.name)) (drop l.place l.batch) ≡ l.initial.out.items ++ flat_map (row_line l.epoch (label_of l.plain l.name)) (drop l.skip l.batch);
+  rest : l.out.items ++ flat_map (row_line l.epoch (label_of l.plain l.name)) (drop l.place l.batch) ≡ l.initial.out.items ++ flat_map (row_line l.epoch (label_of l.plain l.name)) l.batch;
 }

@@ -1,4 +1,4 @@
-use Rattle.std.proofs.Common.{◌≡◌, ◌∙◌, [], subst, sym}
+use Rattle.std.proofs.Common.{[], subst, sym}
 use Rattle.std.specs.Prelude.{Err}
 use Rattle.std.specs.Io.KnownBytes.{Consumes}
 use Rattle.collector.specs.Watching.{inner_of}
@@ -18,8 +18,7 @@ returns-in-Ok-follow_graph-clause-follows g c =
     let start = g.W.Write.contents (inner_of c.args.writer.now) in
     let new = g.W.Write.contents (inner_of c.follow_graph.new.writer) in
     let left = g.R.Read.remaining (inner_of c.follow_graph.new.reader) in
-    let same : c.deref.result.now ≡ c.args.graph = c.deref.ensures ∙ c.in-Ok.ensures.same in
-    (f.0, f.1, subst (λ x. Follows x f.0 left start new c.in-Ok-follow_graph.result) same f.2)
+    (f.0, f.1, subst (λ x. Follows x f.0 left start new c.in-Ok-follow_graph.result) c.in-Ok.ensures.same f.2)
 
 pub returns-clause-follows : goal.returns-clause-follows
 returns-clause-follows g c =

@@ -1,12 +1,22 @@
-use Rattle.std.proofs.Common.{◌≡◌, ◌∙◌, ap, map}
+use Rattle.std.proofs.Common.{◌≡◌, ◌∷◌, ◌∙◌, [], ap, map, refl, subst, sym, List, ℕ}
 use Rattle.lowering.specs.Shown.{shown_inputs}
+use Rattle.collector.specs.Pieces.{split_on}
 use Rattle.collector.specs.Said.{plain}
 use Rattle.collector.specs.Watching.{inner_of}
-use Rattle.follow.proofs.Stood.{opened_stands}
+use Rattle.follow.specs.Scenes.{IsWritten, Stands}
+use Rattle.follow.proofs.Stood.{opened}
 use Rattle.follow.proofs.following.follow_graph.Goals as goal
 
 pub returns-clause-follows : goal.returns-clause-follows
 returns-clause-follows g c =
+    let graph = c.args.graph.now.value in
+    let p = c.in_ok-position.position in
+    let first = c.in_ok-position.ensures in
     let start = g.W.Write.contents (inner_of c.args.writer.now) in
-    let inputs : map plain c.as_slice-listed.result.now ≡ shown_inputs c.args.graph.now = ap (map plain) c.as_slice-listed.ensures.value ∙ c.in_ok-inputs.ensures ∙ c.inputs.ensures in
-    c.follow_pieces.ensures.follows c.args.graph.now inputs (opened_stands c.args.graph.now c.args.board.now c.in_ok-intake.intake c.in_ok-telling.telling start c.requires.opening.graph c.requires.shows c.in_ok-intake.ensures c.in_ok-telling.ensures)
+    let inputs : map plain c.as_slice-listed.result.now ≡ shown_inputs graph = ap (map plain) c.as_slice-listed.ensures.value ∙ c.in_ok-inputs.ensures ∙ c.inputs.ensures ∙ ap shown_inputs c.deref.ensures in
+    let at_first = opened graph c.args.board.now p.base p.intake p.telling start c.requires.opening.graph c.requires.shows first.base first.new first.fresh in
+    let stands : Stands graph c.args.board.now p [] start start = record {
+      stood = subst (λ (xs : List ℕ). IsWritten graph c.args.board.now p.base p.intake p.telling [] xs start start) (sym first.none) at_first;
+      unended = subst (λ (xs : List ℕ). split_on 10 xs ≡ xs ∷ []) (sym first.none) refl;
+    } in
+    c.follow_pieces.ensures.follows inputs stands

@@ -1,66 +1,83 @@
-use Rattle.std.proofs.Common.{◌≡◌, ◌++◌, List, ℕ, Option, map, subst, sym}
-use Rattle.std.specs.Prelude.{Err}
-use Rattle.std.specs.Io.KnownBytes.{Appends}
-use Rattle.collector.specs.Said.{plain}
+use Rattle.std.proofs.Common.{◌≡◌, ◌∷◌, ◌++◌, [], List, ℕ, length, subst, sym}
+use Rattle.std.specs.Prelude.{Err, None}
+use Rattle.lowering.specs.Shown.{shown_inputs}
+use Rattle.collector.specs.Pieces.{split_on}
 use Rattle.collector.specs.Watching.{inner_of}
-use Rattle.collector.specs.Written.{AppendsFront}
 use Rattle.collector.proofs.Splits.{split_none}
 use Rattle.follow.specs.Follows.{Follows}
-use Rattle.follow.specs.Scenes.{Stands}
+use Rattle.follow.specs.Scenes.{IsWritten}
+use Rattle.follow.specs.Steps.{Stops}
 use Rattle.follow.specs.declared.ending.Halt.TheVariants as halt
 use Rattle.follow.proofs.Calls.{none_of, ok_items}
-use Rattle.follow.proofs.Stood.{Answered, faults, goes_on, halted, piece_answered, piece_stands, unwritten}
+use Rattle.follow.proofs.Cuts.{unended_both}
+use Rattle.follow.proofs.Stood.{faults, halted, more_pending}
 use Rattle.follow.proofs.following.follow_piece.Goals as goal
 
 pub returns-then-is_err-clause-follows : goal.returns-then-is_err-clause-follows
-returns-then-is_err-clause-follows g c = λ g' bytes left start same st.
-    halted g' c.args.board.now c.args.intake.now c.args.telling.now bytes c.args.pending.now.items c.args.piece.now left start (g.W.Write.contents (inner_of c.args.writer.now)) halt.NoMemory st
+returns-then-is_err-clause-follows g c = λ bytes left start same st.
+    let p = c.args.position.now in
+    let now = g.W.Write.contents (inner_of c.args.writer.now) in
+    let w = more_pending c.args.graph.now.value c.args.board.now p.base p.intake p.telling bytes p.pending.items c.args.piece.now start now st.stood in
+    halted c.args.graph.now.value c.args.board.now p.base p.intake p.telling (bytes ++ c.args.piece.now) (p.pending.items ++ c.args.piece.now) left start now halt.NoMemory w
 
 pub returns-then-is_none-clause-follows : goal.returns-then-is_none-clause-follows
-returns-then-is_none-clause-follows g c = λ g' bytes left start same st.
+returns-then-is_none-clause-follows g c = λ bytes left start same st.
+    let p = c.args.position.now in
     let now = g.W.Write.contents (inner_of c.args.writer.now) in
-    let text : c.extend_from_slice.new.self.items ≡ c.args.pending.now.items ++ c.args.piece.now = ok_items c.extend_from_slice.result c.is_err.result c.extend_from_slice.new.self.items (c.args.pending.now.items ++ c.args.piece.now) c.args.pending.now.items c.is_err.ensures.value c.if-is_err.false c.extend_from_slice.ensures.items in
+    let text : c.extend_from_slice.new.self.items ≡ p.pending.items ++ c.args.piece.now = ok_items c.extend_from_slice.result c.is_err.result c.extend_from_slice.new.self.items (p.pending.items ++ c.args.piece.now) p.pending.items c.is_err.ensures.value c.if-is_err.false c.extend_from_slice.ensures.items in
     let none = split_none 10 c.args.piece.now (none_of c.find.result c.is_none.result c.is_none.ensures c.if-is_none.true c.find.ensures.none) in
-    subst (λ (xs : List ℕ). Stands g' c.args.board.now c.args.intake.now c.args.telling.now (bytes ++ c.args.piece.now) xs start now) (sym text) (piece_stands g' c.args.board.now c.args.intake.now c.args.telling.now bytes c.args.pending.now.items c.args.piece.now start now none st)
+    let w = more_pending c.args.graph.now.value c.args.board.now p.base p.intake p.telling bytes p.pending.items c.args.piece.now start now st.stood in
+    record {
+      stood = subst (λ (xs : List ℕ). IsWritten c.args.graph.now.value c.args.board.now p.base p.intake p.telling (bytes ++ c.args.piece.now) xs start now) (sym text) w;
+      unended = subst (λ (xs : List ℕ). split_on 10 xs ≡ xs ∷ []) (sym text) (unended_both p.pending.items c.args.piece.now st.unended none);
+    }
+
+pub loop-turn-init : goal.loop-turn-init
+loop-turn-init g c = λ bytes start same st.
+    let p = c.args.position.now in
+    let now = g.W.Write.contents (inner_of c.args.writer.now) in
+    let text : c.extend_from_slice.new.self.items ≡ p.pending.items ++ c.args.piece.now = ok_items c.extend_from_slice.result c.is_err.result c.extend_from_slice.new.self.items (p.pending.items ++ c.args.piece.now) p.pending.items c.is_err.ensures.value c.if-is_err.false c.extend_from_slice.ensures.items in
+    let w = more_pending c.args.graph.now.value c.args.board.now p.base p.intake p.telling bytes p.pending.items c.args.piece.now start now st.stood in
+    subst (λ (xs : List ℕ). IsWritten c.args.graph.now.value c.args.board.now p.base p.intake p.telling (bytes ++ c.args.piece.now) xs start now) (sym text) w
+
+pub returns-in-Ok-Whole-clause-follows : goal.returns-in-Ok-Whole-clause-follows
+returns-in-Ok-Whole-clause-follows g c = λ bytes left start same st.
+    let q = c.follow_lines.new.position in
+    let all = bytes ++ c.args.piece.now in
+    let r = c.in-Ok-Whole.ensures.follows c.args.graph.now.value all left start same (c.loop-turn.invariant bytes start same st) in
+    record { stood = r.0; unended = subst (λ k. Stops (shown_inputs c.args.graph.now.value) all q.pending.items (length r.0.known.lines) r.0.known.items k) c.in-Ok-Whole.field-0-is r.1 }
+
+pub returns-in-Ok-Fault-clause-follows : goal.returns-in-Ok-Fault-clause-follows
+returns-in-Ok-Fault-clause-follows g c = λ bytes left start same st.
+    let q = c.follow_lines.new.position in
+    let new = g.W.Write.contents (inner_of c.follow_lines.new.writer) in
+    let all = bytes ++ c.args.piece.now in
+    let r = c.in-Ok-Fault.ensures.follows c.args.graph.now.value all left start same (c.loop-turn.invariant bytes start same st) in
+    let stops = subst (λ k. Stops (shown_inputs c.args.graph.now.value) all q.pending.items (length r.0.known.lines) r.0.known.items k) c.in-Ok-Fault.field-0-is r.1 in
+    faults c.args.graph.now.value c.follow_lines.new.board q.base q.intake q.telling all q.pending.items c.in-Ok-Fault.code left start new c.faulty.result r.0 stops c.faulty.ensures
+
+pub returns-in-Err-renew-clause-follows : goal.returns-in-Err-renew-clause-follows
+returns-in-Err-renew-clause-follows g c = λ bytes left start same st.
+    let q = c.follow_lines.new.position in
+    let new = g.W.Write.contents (inner_of c.follow_lines.new.writer) in
+    let all = bytes ++ c.args.piece.now in
+    let r = c.in-Ok-Epoch.ensures.follows c.args.graph.now.value all left start same (c.loop-turn.invariant bytes start same st) in
+    subst (λ e. Follows c.args.graph.now.value all left start new (Err e)) (sym c.ending.ensures) (halted c.args.graph.now.value c.follow_lines.new.board q.base q.intake q.telling all q.pending.items left start new c.in-Err-renew.halt r.0)
 
 pub returns-in-Err-clause-follows : goal.returns-in-Err-clause-follows
-returns-in-Err-clause-follows g c = λ g' bytes left start same st.
-    let now = g.W.Write.contents (inner_of c.args.writer.now) in
-    subst (λ e. Follows g' (bytes ++ c.args.piece.now) left start now (Err e)) (sym c.ending.ensures) (halted g' c.args.board.now c.args.intake.now c.args.telling.now bytes c.args.pending.now.items c.args.piece.now left start now c.in-Err.halt st)
+returns-in-Err-clause-follows g c = λ bytes left start same st. c.in-Err.ensures.follows c.args.graph.now.value (bytes ++ c.args.piece.now) left start same (c.loop-turn.invariant bytes start same st)
 
-pub returns-in-Err-answer_open-clause-follows : goal.returns-in-Err-answer_open-clause-follows
-returns-in-Err-answer_open-clause-follows g c = λ g' bytes left start same st.
-    let now = g.W.Write.contents (inner_of c.args.writer.now) in
-    subst (λ e. Follows g' (bytes ++ c.args.piece.now) left start now (Err e)) (sym c.ending-in-Err-answer_open.ensures) (halted g' c.args.board.now c.args.intake.now c.args.telling.now bytes c.args.pending.now.items c.args.piece.now left start now c.in-Err-answer_open.halt st)
+pub loop-turn-preserved : goal.loop-turn-preserved
+loop-turn-preserved g c = λ bytes start same st.
+    let q = c.follow_lines.new.position in
+    let new = g.W.Write.contents (inner_of c.follow_lines.new.writer) in
+    let all = bytes ++ c.args.piece.now in
+    let r = c.in-Ok-Epoch.ensures.follows c.args.graph.now.value all None start same (c.loop-turn.invariant bytes start same st) in
+    let begins = subst (λ k. Stops (shown_inputs c.args.graph.now.value) all q.pending.items (length r.0.known.lines) r.0.known.items k) c.in-Ok-Epoch.field-0-is r.1 in
+    c.in-Ok.ensures all start new r.0 begins
 
 pub returns-clause-follows : goal.returns-clause-follows
-returns-clause-follows g c = λ g' bytes left start same st.
-    let now = g.W.Write.contents (inner_of c.args.writer.now) in
-    let new = g.W.Write.contents (inner_of c.put.new.writer) in
-    let text : c.extend_from_slice.new.self.items ≡ c.args.pending.now.items ++ c.args.piece.now = ok_items c.extend_from_slice.result c.is_err.result c.extend_from_slice.new.self.items (c.args.pending.now.items ++ c.args.piece.now) c.args.pending.now.items c.is_err.ensures.value c.if-is_err.false c.extend_from_slice.ensures.items in
-    let out = c.in-Ok-answer_open.out.items in
-    let a = piece_answered g' c.args.board.now c.take_text.new.board c.answer_open.new.board c.args.intake.now c.take_text.new.intake c.answer_open.new.intake c.args.telling.now c.answer_open.new.telling bytes c.args.pending.now.items c.args.piece.now c.extend_from_slice.new.self.items c.take_text.new.pending.items out c.in-Ok.fault (map plain c.args.inputs.now) start now st same text c.in-Ok.ensures c.in-Ok-answer_open.ensures in
-    let written : AppendsFront now new out = subst (λ (xs : List ℕ). AppendsFront now new xs) c.as_slice.ensures.value c.in-Err-put.ensures.err in
-    unwritten g' c.answer_open.new.board c.answer_open.new.intake c.answer_open.new.telling (bytes ++ c.args.piece.now) c.take_text.new.pending.items st.known.text out c.in-Ok.fault left start now new a st.written written
-
-pub returns-in-None-clause-follows : goal.returns-in-None-clause-follows
-returns-in-None-clause-follows g c = λ g' bytes left start same st.
-    let now = g.W.Write.contents (inner_of c.args.writer.now) in
-    let new = g.W.Write.contents (inner_of c.put.new.writer) in
-    let text : c.extend_from_slice.new.self.items ≡ c.args.pending.now.items ++ c.args.piece.now = ok_items c.extend_from_slice.result c.is_err.result c.extend_from_slice.new.self.items (c.args.pending.now.items ++ c.args.piece.now) c.args.pending.now.items c.is_err.ensures.value c.if-is_err.false c.extend_from_slice.ensures.items in
-    let out = c.in-Ok-answer_open.out.items in
-    let a = piece_answered g' c.args.board.now c.take_text.new.board c.answer_open.new.board c.args.intake.now c.take_text.new.intake c.answer_open.new.intake c.args.telling.now c.answer_open.new.telling bytes c.args.pending.now.items c.args.piece.now c.extend_from_slice.new.self.items c.take_text.new.pending.items out c.in-Ok.fault (map plain c.args.inputs.now) start now st same text c.in-Ok.ensures c.in-Ok-answer_open.ensures in
-    let b = subst (λ (f : Option ℕ). Answered g' c.answer_open.new.board c.answer_open.new.intake c.answer_open.new.telling (bytes ++ c.args.piece.now) c.take_text.new.pending.items st.known.text out f) c.in-None.is a in
-    let written : Appends now new out = subst (λ (xs : List ℕ). Appends now new xs) c.as_slice.ensures.value c.in-Ok-put.ensures.ok in
-    goes_on g' c.answer_open.new.board c.answer_open.new.intake c.answer_open.new.telling (bytes ++ c.args.piece.now) c.take_text.new.pending.items st.known.text out start now new b st.written written
-
-pub returns-in-Ok-put-clause-follows : goal.returns-in-Ok-put-clause-follows
-returns-in-Ok-put-clause-follows g c = λ g' bytes left start same st.
-    let now = g.W.Write.contents (inner_of c.args.writer.now) in
-    let new = g.W.Write.contents (inner_of c.put.new.writer) in
-    let text : c.extend_from_slice.new.self.items ≡ c.args.pending.now.items ++ c.args.piece.now = ok_items c.extend_from_slice.result c.is_err.result c.extend_from_slice.new.self.items (c.args.pending.now.items ++ c.args.piece.now) c.args.pending.now.items c.is_err.ensures.value c.if-is_err.false c.extend_from_slice.ensures.items in
-    let out = c.in-Ok-answer_open.out.items in
-    let a = piece_answered g' c.args.board.now c.take_text.new.board c.answer_open.new.board c.args.intake.now c.take_text.new.intake c.answer_open.new.intake c.args.telling.now c.answer_open.new.telling bytes c.args.pending.now.items c.args.piece.now c.extend_from_slice.new.self.items c.take_text.new.pending.items out c.in-Ok.fault (map plain c.args.inputs.now) start now st same text c.in-Ok.ensures c.in-Ok-answer_open.ensures in
-    let b = subst (λ (f : Option ℕ). Answered g' c.answer_open.new.board c.answer_open.new.intake c.answer_open.new.telling (bytes ++ c.args.piece.now) c.take_text.new.pending.items st.known.text out f) c.in-Some.is a in
-    let written : Appends now new out = subst (λ (xs : List ℕ). Appends now new xs) c.as_slice.ensures.value c.in-Ok-put.ensures.ok in
-    faults g' c.answer_open.new.board c.answer_open.new.intake c.answer_open.new.telling (bytes ++ c.args.piece.now) c.take_text.new.pending.items st.known.text out c.in-Some.code left start now new c.faulty.result b st.written written c.faulty.ensures
+returns-clause-follows g c = λ bytes left start same st.
+    let q = c.loop-turn.position in
+    let new = g.W.Write.contents (inner_of c.loop-turn.writer) in
+    halted c.args.graph.now.value c.loop-turn.board q.base q.intake q.telling (bytes ++ c.args.piece.now) q.pending.items left start new halt.Incomplete (c.loop-turn.invariant bytes start same st)

@@ -1,0 +1,8 @@
+use Rattle.std.proofs.Common.{◌≡◌, ◌++◌, take}
+use Rattle.std.specs.List.{flat_map}
+use Rattle.board.specs.Shown.{joined}
+use Rattle.follow.specs.Entries.{label_of, row_line}
+use Rattle.follow.proofs.batches.push_batches.Given as goal
+
+abbrev pub invariant-loop-batch : goal.invariant-loop-batch
+invariant-loop-batch l = l.out.items ≡ l.initial.out.items ++ flat_map (row_line l.epoch (label_of l.plain l.name)) (joined (take l.batch-index l.batches))

@@ -1,0 +1,43 @@
+//! How far following is.
+
+ghost use Rattle.std.specs.Prelude.{IfOk};
+ghost use Rattle.follow.specs.Steps.{IsFirst};
+
+use crate::ending::Halt;
+use crate::intake::Intake;
+use crate::telling::Telling;
+use collector::Declared;
+use std::alloc::Global;
+
+/// What was taken of the input, and what was told.
+#[derive(Drop)]
+pub struct Position {
+    /// The epoch of the input at which the board's epochs begin. Those before it are complete.
+    pub base: u32,
+    /// The line from which on the next epoch gets a new board.
+    pub until: u64,
+    pub intake: Intake,
+    pub telling: Telling,
+    /// What stands behind the last line that was taken.
+    pub pending: Vec<u8>,
+}
+
+impl Position {
+    /// At the beginning of an input; the next epoch gets a new board from that line on.
+    pub fn new(
+        alloc: Global,
+        inputs: &[Declared<'_>],
+        outputs: u32,
+        until: u64,
+    ) -> Result<Position, Halt>
+        ensures { IfOk result IsFirst }
+    {
+        Ok(Position {
+            base: 0,
+            until,
+            intake: Intake::new(alloc, inputs)?,
+            telling: Telling::new(alloc, outputs)?,
+            pending: Vec::new(alloc),
+        })
+    }
+}

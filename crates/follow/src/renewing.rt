@@ -1,0 +1,54 @@
+//! New boards for later epochs, so that memory is that of some epochs and not of all.
+
+ghost use Rattle.std.specs.Prelude.{◌≡◌, IfOk, OnOk};
+ghost use Rattle.machine.specs.World.{opening};
+ghost use Rattle.board.specs.Promises.{IsOpening};
+ghost use Rattle.board.specs.Showing.{Shows};
+ghost use Rattle.follow.specs.Steps.{Renews};
+
+use crate::ending::Halt;
+use crate::position::Position;
+use board::Board;
+use lowering::Graph;
+use progress::LocationTracker;
+use std::alloc::Global;
+use std::sync::Arc;
+
+/// The number of lines that a board takes; the epoch that is open then it takes whole.
+pub const LINES: u64 = 16_384;
+
+/// A new board of one worker over the graph.
+pub fn new_board(alloc: Global, graph: &Arc<Graph, Global>) -> Result<Board<LocationTracker>, Halt>
+    ensures opening { IfOk result (λ b. IsOpening graph.now.value 1 b) }
+    ensures shows { IfOk result (λ b. Shows b opening) }
+{
+    let shared = Arc::try_clone(graph)?;
+    let board = Board::<LocationTracker>::new(alloc, shared, 1)?;
+    Ok(board)
+}
+
+/// Puts a new board in place of one on which all epochs are complete but the last, of which nothing was told. Where that isn't so the board stays.
+pub fn renew(
+    alloc: Global,
+    graph: &Arc<Graph, Global>,
+    board: &mut Board<LocationTracker>,
+    position: &mut Position,
+) -> Result<(), Halt>
+    ensures { OnOk result (Renews graph.now.value board.old board.new position.old position.new) }
+{
+    position.until = position.intake.line.saturating_add(LINES);
+    let Some(last) = position.intake.begun.checked_sub(1) else {
+        return Ok(());
+    };
+    if position.telling.done != last || !position.telling.is_untold() {
+        return Ok(());
+    }
+    let Some(base) = position.base.checked_add(last) else {
+        return Err(Halt::Incomplete);
+    };
+    *board = new_board(alloc, graph)?;
+    position.base = base;
+    position.intake.begun = 1;
+    position.telling.done = 0;
+    Ok(())
+}
