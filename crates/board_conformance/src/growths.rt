@@ -1,6 +1,6 @@
 //! Calls that are refused for want of memory: the board is as before, and takes the same once more.
 
-ghost use Rattle.std.specs.Prelude.{◌≡◌, IfOk};
+ghost use Rattle.std.specs.Prelude.{◌≡◌, IfOk, IfSome};
 ghost use Rattle.lowering.specs.Shown.{shown_graph};
 ghost use Rattle.semantics.specs.Could.{Pointstamp as Active};
 ghost use Rattle.progress.specs.Content.{times_at};
@@ -21,7 +21,7 @@ const COUNTS: &str = "input a/1; output group(select(a; #0 * 2); #0; count);";
 
 /// A tracker that refuses one of its growths.
 #[derive(Drop)]
-struct Refusing {
+pub struct Refusing {
     tracker: LocationTracker,
     /// How many growths there are until that one.
     granted: u32,
@@ -76,8 +76,13 @@ fn tracker_of(alloc: Global, graph: &Arc<Graph, Global>) -> Result<LocationTrack
 }
 
 /// A board of two workers whose tracker refuses a growth after so many; nothing where the opening is refused.
-fn board_after(alloc: Global, granted: u32) -> Option<Board<Refusing>> {
-    let graph = graph_of(alloc, COUNTS)?;
+pub fn board_after(
+    alloc: Global,
+    graph: Arc<Graph, Global>,
+    granted: u32,
+) -> Option<Board<Refusing>>
+    ensures { IfSome result (λ b. b.graph ≡ graph.value) }
+{
     let Ok(tracker) = tracker_of(alloc, &graph) else {
         return None;
     };
@@ -228,7 +233,7 @@ fn is_answered<P: Progress>(alloc: Global, board: &Board<P>) -> Result<bool, All
 
 /// How many calls were refused where the tracker refuses its growth after so many, if the answer is whole.
 fn refused_after(alloc: Global, granted: u32) -> Option<u32> {
-    let mut board = board_after(alloc, granted)?;
+    let mut board = board_after(alloc, graph_of(alloc, COUNTS)?, granted)?;
     match (refused(alloc, &mut board), is_answered(alloc, &board)) {
         (Ok(count), Ok(true)) => Some(count),
         _ => None,
@@ -238,7 +243,8 @@ fn refused_after(alloc: Global, granted: u32) -> Option<u32> {
 // Each feed, seal and commit reserves once, and there are four feeds, two seals and twelve commits at least.
 #[test]
 fn refused_by_the_tracker(rt: HostRuntime) -> Result<(), Fail> {
-    assert!(rt; board_after(rt.alloc(), 0).is_none());
+    let graph = graph_of(rt.alloc(), COUNTS).ok_or("no graph")?;
+    assert!(rt; board_after(rt.alloc(), graph, 0).is_none());
     for granted in 1..100u32 {
         match refused_after(rt.alloc(), granted) {
             Some(0) => {

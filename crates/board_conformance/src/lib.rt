@@ -11,4 +11,6 @@ mod growths;
 #[cfg(test)]
 mod reach;
 #[cfg(test)]
+mod replays;
+#[cfg(test)]
 mod schedules;
