@@ -41,11 +41,13 @@ graph_app =
 abbrev pub format_app : App
 format_app = with_rule (with_rule (new_app (codes "format")) (flag_rule (codes "explain"))) (word_rule (codes "QUERY"))
 
--- `run QUERY INPUT`, with or without `--workers N`, `--watch` and `--explain`
+-- `run QUERY INPUT`, with or without `--workers N`, `--watch`, `--stats` and `--explain`
 abbrev pub run_app : App
 run_app =
     with_rule
-    (with_rule (with_rule (with_rule (with_rule (new_app (codes "run")) (option_rule (codes "workers"))) (flag_rule (codes "watch"))) (flag_rule (codes "explain"))) (word_rule (codes "QUERY")))
+    (with_rule
+    (with_rule (with_rule (with_rule (with_rule (new_app (codes "run")) (option_rule (codes "workers"))) (flag_rule (codes "watch"))) (flag_rule (codes "stats"))) (flag_rule (codes "explain")))
+    (word_rule (codes "QUERY")))
     (word_rule (codes "INPUT"))
 
 -- `follow QUERY INPUT`, with or without `--explain`
@@ -95,9 +97,9 @@ IsAskedHeap (Some word) None = ⊥
 
 -- the options are what the matches of a command hold
 abbrev pub HoldsAt : Text → List Row → Options → Type 0
-HoldsAt name rows (Run query input workers watch explain) =
+HoldsAt name rows (Run query input workers watch stats explain) =
     (name ≡ codes "run") × (first_of (codes "QUERY") rows ≡ Some query.now) × (first_of (codes "INPUT") rows ≡ Some input.now) × AreAskedFor (first_of (codes "workers") rows) workers.count
-    × IsFlag (codes "watch") rows watch × IsFlag (codes "explain") rows explain
+    × IsFlag (codes "watch") rows watch × IsFlag (codes "stats") rows stats × IsFlag (codes "explain") rows explain
 HoldsAt name rows (Follow query input explain) =
     (name ≡ codes "follow") × (first_of (codes "QUERY") rows ≡ Some query.now) × (first_of (codes "INPUT") rows ≡ Some input.now) × IsFlag (codes "explain") rows explain
 HoldsAt name rows (Check query input heap explain) =

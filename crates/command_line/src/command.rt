@@ -132,6 +132,11 @@ fn run_command<'a>(alloc: Global) -> Result<Command<'a>, AllocError>
             "watch",
             "Tell on standard error how many epochs have passed",
         ))?
+        .arg(flag_arg(
+            alloc,
+            "stats",
+            "Tell on standard error, after the run, what each vertex did",
+        ))?
         .arg(explain_arg(alloc))?
         .arg(word_arg(alloc, "QUERY"))?
         .arg(word_arg(alloc, "INPUT"))
@@ -214,12 +219,14 @@ fn run_options<'a>(found: &ArgMatches<'a>, workers: Workers) -> Option<Options<'
     let query = text_of(found, "QUERY")?;
     let input = text_of(found, "INPUT")?;
     let watch = flag_of(found, "watch");
+    let stats = flag_of(found, "stats");
     let explain = flag_of(found, "explain");
     Some(Options::Run {
         query,
         input,
         workers,
         watch,
+        stats,
         explain,
     })
 }

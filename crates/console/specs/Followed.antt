@@ -1,6 +1,10 @@
 -- What following an input does.
-use Rattle.std.specs.Prelude.{◌≡◌, ◌⊎◌, ℕ, List, Option, Result, Ok, Err}
+use Rattle.std.specs.Prelude.{◌≡◌, ◌<◌, ◌⊎◌, ℕ, List, length, Option, Result, Ok, Err}
+use Rattle.semantics.specs.Multiset.{Record, IsPartOf, ◌≈◌}
+use Rattle.semantics.specs.Query.{Program}
+use Rattle.semantics.specs.Meaning.{program_meaning}
 use Rattle.lowering.specs.Shown.{GraphValue, shown_graph, shown_inputs, shown_names}
+use Rattle.follow.specs.Entries.{Entry, records_of}
 use Rattle.follow.specs.Follows.{FollowsInput}
 use Rattle.follow.specs.declared.ending.Ending.{Ending}
 use Rattle.follow.specs.declared.ending.Ending.TheVariants as ending
@@ -8,11 +12,23 @@ use Rattle.console.specs.Compiled.{IsCompiled, IsQueryFault}
 use Rattle.diagnostics.specs.declared.fault.Fault.{Fault}
 use Rattle.diagnostics.specs.declared.fault.Fault.TheVariants.{Query, TooManyVertices, Input, Schedule, NoMemory, NoWorker, Incomplete, ReadQuery, ReadInput, Write}
 
+-- the graph is that of the query's text
+abbrev pub IsGraphOfText : List ℕ → GraphValue → Type 0
+IsGraphOfText query g = IsCompiled query (shown_graph g) (shown_inputs g) (shown_names g)
+
+-- at each output the entries are all of what the program means there on the records, by input
+abbrev pub AreWhole : Program → (records : ℕ → List Record) → List Entry → Type 0
+AreWhole p records entries = (k : ℕ) → k < length p.outputs → records_of k entries ≈ program_meaning p k records
+
+-- they are part of it
+abbrev pub ArePart : Program → (records : ℕ → List Record) → List Entry → Type 0
+ArePart p records entries = (k : ℕ) → k < length p.outputs → IsPartOf (records_of k entries) (program_meaning p k records)
+
 -- Over the graph of the query, some bytes of the input were read, and what was written is an answer to the lines among them. `before` is
 -- what there was of the input.
 pub record IsFollowed (query : List ℕ) (before old new : Option (List ℕ)) (result : Result (Unit {0}) Ending) : Type 0 where
   pub graph : GraphValue
-  pub compiled : IsCompiled query (shown_graph graph) (shown_inputs graph) (shown_names graph)
+  pub compiled : IsGraphOfText query graph
   pub left : Option (List ℕ)
   pub follows : FollowsInput graph before left old new result
 

@@ -25,17 +25,26 @@ use std::sync::Wait;
 use std::thread::Threads;
 
 /// Runs a query over an input. The watcher is let go where it isn't asked for.
-fn run_named<'a, R: Threads + Wait + Sync, S: Sources<'a>, W: Write, O: Write + Send + Drop>(
+fn run_named<
+    'a,
+    R: Threads + Wait + Sync,
+    S: Sources<'a>,
+    W: Write,
+    O: Write + Send + Drop,
+    E: Write,
+>(
     rt: &R,
     alloc: Global,
     sources: &S,
     workers: Workers,
     watch: bool,
+    stats: bool,
     query: &'a str,
     input: &'a str,
     texts: &mut Texts,
     out: &mut Watched<W>,
     watcher: &mut Option<O>,
+    err: &mut E,
 ) -> Result<(), Fault>
     ensures { RunsOn (S.content sources.now) query.now input.now (W.contents (inner_of out.old)) (W.contents (inner_of out.new)) result }
 {
@@ -45,7 +54,7 @@ fn run_named<'a, R: Threads + Wait + Sync, S: Sources<'a>, W: Write, O: Write + 
         *watcher = None;
     }
     run(
-        rt, alloc, workers, &mut query, &mut input, texts, out, watcher,
+        rt, alloc, workers, stats, &mut query, &mut input, texts, out, watcher, err,
     )
 }
 
@@ -261,9 +270,10 @@ fn obey<'a, R: Threads + Wait + Sync, S: Sources<'a>, W: Write, E: Write, O: Wri
             input,
             workers,
             watch,
+            stats,
             ..
         } => run_named(
-            rt, alloc, sources, workers, watch, query, input, &mut texts, out, watcher,
+            rt, alloc, sources, workers, watch, stats, query, input, &mut texts, out, watcher, err,
         ),
         Options::Follow { query, input, .. } => {
             follow_named(alloc, sources, query, input, &mut texts, out)

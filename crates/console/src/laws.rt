@@ -2,13 +2,13 @@
 
 ghost use Rattle.std.specs.Prelude.{◌≡◌, ◌<◌, ℕ, List, length};
 ghost use Rattle.semantics.specs.Graph as graph;
-ghost use Rattle.semantics.specs.Meaning.{program_meaning};
-ghost use Rattle.semantics.specs.Multiset.{Record, IsPartOf, ◌≈◌};
+ghost use Rattle.semantics.specs.Multiset.{Record};
 ghost use Rattle.semantics.specs.Query.{Input, Name};
-ghost use Rattle.lowering.specs.Shown.{GraphValue, shown_graph, shown_inputs, shown_names};
-ghost use Rattle.follow.specs.Entries.{Entry, records_of};
+ghost use Rattle.lowering.specs.Shown.{GraphValue};
+ghost use Rattle.follow.specs.Entries.{Entry};
 ghost use Rattle.follow.specs.Follows.{IsPart, IsWhole};
 ghost use Rattle.console.specs.Compiled.{IsCompiled, IsTooLarge};
+ghost use Rattle.console.specs.Followed.{AreWhole, ArePart, IsGraphOfText};
 ghost use Rattle.console.specs.Runs.{IsRun};
 
 /// A text has at most one graph, and where it is too large that graph has over 4096 vertices, so that none is given.
@@ -29,6 +29,6 @@ pub fn law_one_answer()
 /// What following tells of an epoch is told of the query's text: the lines of a complete epoch are, at each output, all of what its program
 /// means there on the epoch's records; the lines of the next one are part of it.
 pub fn law_followed()
-    ensures whole { (query : List ℕ) (g : GraphValue) (records : ℕ → List Record) (entries : List Entry) (c : IsCompiled query (shown_graph g) (shown_inputs g) (shown_names g)) → IsWhole g records entries → (k : ℕ) → k < length c.program.outputs → records_of k entries ≈ program_meaning c.program k records }
-    ensures part { (query : List ℕ) (g : GraphValue) (records : ℕ → List Record) (entries : List Entry) (c : IsCompiled query (shown_graph g) (shown_inputs g) (shown_names g)) → IsPart g records entries → (k : ℕ) → k < length c.program.outputs → IsPartOf (records_of k entries) (program_meaning c.program k records) }
+    ensures whole { (query : List ℕ) (g : GraphValue) (records : ℕ → List Record) (entries : List Entry) (c : IsGraphOfText query g) → IsWhole g records entries → AreWhole c.program records entries }
+    ensures part { (query : List ℕ) (g : GraphValue) (records : ℕ → List Record) (entries : List Entry) (c : IsGraphOfText query g) → IsPart g records entries → ArePart c.program records entries }
 {}

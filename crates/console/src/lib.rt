@@ -1,7 +1,7 @@
 //! The commands, from bytes to bytes, and the dispatcher that a program calls with the words of its line.
 //!
 //! `answer` reads the words, opens the texts that they name, does what they ask for, tells a fault, and gives the status. `run` reads a
-//! query and an input, has the board compute, and writes the answer; `follow_query` answers while the input still comes; `check_query` reads a query and writes its arities, and
+//! query and an input, has the board compute, and writes the answer, and if asked what each vertex did; `follow_query` answers while the input still comes; `check_query` reads a query and writes its arities, and
 //! `graph_query` its graph, which `compile` makes; `check_input` reads an input too, and `format_query` writes the query in its canonical
 //! form; `replay_schedule` reads a query and a schedule, and writes what the schedule's lines
 //! print. The contract: where `run` answers Ok, what was written is the output text of what the query means on the epochs that the

@@ -16,11 +16,12 @@ use diagnostics::Fault;
 use execution::{emitted, execute};
 use lowering::Graph;
 use progress::LocationTracker;
+use statistics::Tally;
 use std::alloc::Global;
 use std::io::Write;
-use std::sync::Wait;
+use std::sync::{Arc, Wait};
 use std::thread::Threads;
-use workers::Report;
+use workers::{Gate, NoGate, Report};
 
 /// Writes what a run that is worked off has emitted.
 fn write_emitted<W: Write>(
@@ -46,22 +47,73 @@ fn write_emitted<W: Write>(
     }
 }
 
-/// Has the workers work the epochs off over the graph, and writes what was emitted: whatever text the graph was compiled from, what that
-/// means on the epochs. The observer is told how many epochs have passed.
-pub fn respond<R: Threads + Wait + Sync, W: Write, O: Write + Send>(
+/// Has the workers work the epochs off over the graph, each event computed by the gate, and writes what was emitted.
+fn respond_by<R: Threads + Wait + Sync, G: Gate + Sync, W: Write, O: Write + Send>(
     rt: &R,
     alloc: Global,
     workers: Workers,
+    graph: Arc<Graph, Global>,
+    epochs: &Epochs,
+    gate: &G,
+    writer: &mut Watched<W>,
+    observer: &mut Option<O>,
+) -> Result<(), Fault>
+    ensures text { (query : List ℕ) (c : IsCompiled query (shown_graph graph.value) (shown_inputs graph.value) (shown_names graph.value)) → Responds c.program (epoch_count epochs.now) (records_at epochs.now) (W.contents (inner_of writer.old)) (W.contents (inner_of writer.new)) result }
+    ensures failed { IsErrOf result fault.Write → has_failed writer.new ≡ true }
+{
+    match execute(rt, alloc, graph, workers.count(), epochs, gate, observer) {
+        Ok(report) => write_emitted(alloc, &report, epochs, writer),
+        Err(unfinished) => Err(run_fault(unfinished)),
+    }
+}
+
+/// The same, counted; and then tells what was counted, where the answer was written whole. Where that can't be told, nothing else changes.
+fn respond_counted<R: Threads + Wait + Sync, W: Write, O: Write + Send, E: Write>(
+    rt: &R,
+    alloc: Global,
+    workers: Workers,
+    graph: Arc<Graph, Global>,
+    epochs: &Epochs,
+    writer: &mut Watched<W>,
+    observer: &mut Option<O>,
+    err: &mut E,
+) -> Result<(), Fault>
+    ensures text { (query : List ℕ) (c : IsCompiled query (shown_graph graph.value) (shown_inputs graph.value) (shown_names graph.value)) → Responds c.program (epoch_count epochs.now) (records_at epochs.now) (W.contents (inner_of writer.old)) (W.contents (inner_of writer.new)) result }
+    ensures failed { IsErrOf result fault.Write → has_failed writer.new ≡ true }
+{
+    let tally = match Tally::of(alloc, &graph, workers.count(), epochs) {
+        Ok(tally) => tally,
+        Err(_) => return Err(Fault::NoMemory),
+    };
+    let done = respond_by(rt, alloc, workers, graph, epochs, &tally, writer, observer);
+    if done.is_ok() {
+        let _ = tally.write(err);
+    }
+    done
+}
+
+/// Has the workers work the epochs off over the graph, and writes what was emitted: whatever text the graph was compiled from, what that
+/// means on the epochs. The observer is told how many epochs have passed. With `stats` a line for each vertex on `err` says then what it did.
+pub fn respond<R: Threads + Wait + Sync, W: Write, O: Write + Send, E: Write>(
+    rt: &R,
+    alloc: Global,
+    workers: Workers,
+    stats: bool,
     graph: Graph,
     epochs: &Epochs,
     writer: &mut Watched<W>,
     observer: &mut Option<O>,
+    err: &mut E,
 ) -> Result<(), Fault>
     ensures text { (query : List ℕ) (c : IsCompiled query (shown_graph graph) (shown_inputs graph) (shown_names graph)) → Responds c.program (epoch_count epochs.now) (records_at epochs.now) (W.contents (inner_of writer.old)) (W.contents (inner_of writer.new)) result }
     ensures failed { IsErrOf result fault.Write → has_failed writer.new ≡ true }
 {
-    match execute(rt, alloc, graph, workers.count(), epochs, observer) {
-        Ok(report) => write_emitted(alloc, &report, epochs, writer),
-        Err(unfinished) => Err(run_fault(unfinished)),
+    let Ok(graph) = Arc::new(alloc, graph) else {
+        return Err(Fault::NoMemory);
+    };
+    if stats {
+        respond_counted(rt, alloc, workers, graph, epochs, writer, observer, err)
+    } else {
+        respond_by(rt, alloc, workers, graph, epochs, &NoGate, writer, observer)
     }
 }

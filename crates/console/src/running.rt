@@ -93,14 +93,16 @@ fn epochs_of_text(alloc: Global, graph: &Graph, input: &[u8]) -> Result<Epochs, 
 }
 
 /// Answers a query text over an input text.
-fn answer<R: Threads + Wait + Sync, W: Write, O: Write + Send>(
+fn answer<R: Threads + Wait + Sync, W: Write, O: Write + Send, E: Write>(
     rt: &R,
     alloc: Global,
     workers: Workers,
+    stats: bool,
     query: &[u8],
     input: &[u8],
     writer: &mut Watched<W>,
     observer: &mut Option<O>,
+    err: &mut E,
 ) -> Result<(), Fault>
     ensures ends { Ends query.now input.now (W.contents (inner_of writer.old)) (W.contents (inner_of writer.new)) result }
     ensures heeds { Heeds query.now (W.contents (inner_of writer.old)) (W.contents (inner_of writer.new)) result }
@@ -115,7 +117,9 @@ fn answer<R: Threads + Wait + Sync, W: Write, O: Write + Send>(
         Ok(epochs) => epochs,
         Err(refusal) => return Err(input_fault(refusal)),
     };
-    respond(rt, alloc, workers, graph, &epochs, writer, observer)
+    respond(
+        rt, alloc, workers, stats, graph, &epochs, writer, observer, err,
+    )
 }
 
 /// Reads a query and its input, and writes the answer, which so many workers compute. Its promise holds if it ends.
@@ -123,16 +127,20 @@ fn answer<R: Threads + Wait + Sync, W: Write, O: Write + Send>(
 /// The faults in the order in which they are told: the query can't be read, the input can't be read, the query is refused, the
 /// input is refused, the writer failed. Want of memory may come at any place, and a worker that can't be started before anything is
 /// written. The texts that were read are left in `texts`. An observer that is given is told how many epochs have passed, by lines
-/// `passed M` with rising numbers, the last one once all workers have ended; where its writer fails, nothing else changes.
-pub fn run<R: Threads + Wait + Sync, Q: Read, I: Read, W: Write, O: Write + Send>(
+/// `passed M` with rising numbers, the last one once all workers have ended; where its writer fails, nothing else changes. With `stats`
+/// lines on `err` say, once the answer is written, what each vertex of the graph computed, took in and sent; where that writer fails,
+/// nothing else changes.
+pub fn run<R: Threads + Wait + Sync, Q: Read, I: Read, W: Write, O: Write + Send, E: Write>(
     rt: &R,
     alloc: Global,
     workers: Workers,
+    stats: bool,
     query: &mut Watched<Q>,
     input: &mut Watched<I>,
     texts: &mut Texts,
     writer: &mut Watched<W>,
     observer: &mut Option<O>,
+    err: &mut E,
 ) -> Result<(), Fault>
     ensures ends { IfSome (Q.remaining (inner_of query.old)) (λ q. IfSome (I.remaining (inner_of input.old)) (λ i. Ends (take 1048577 q) i (W.contents (inner_of writer.old)) (W.contents (inner_of writer.new)) result)) }
     ensures heeds { IfSome (Q.remaining (inner_of query.old)) (λ q. Heeds (take 1048577 q) (W.contents (inner_of writer.old)) (W.contents (inner_of writer.new)) result) }
@@ -154,9 +162,11 @@ pub fn run<R: Threads + Wait + Sync, Q: Read, I: Read, W: Write, O: Write + Send
         rt,
         alloc,
         workers,
+        stats,
         &texts.query,
         &texts.input,
         writer,
         observer,
+        err,
     )
 }

@@ -117,7 +117,8 @@ fn is_steady(
 }
 
 /// What the program prints that is called with these words: standard output, and then standard error. A run that asks for no number of
-/// workers is repeated with several of them; where that prints something else, a line says so in place of what is printed.
+/// workers, and tells nothing of them, is repeated with several of them; where that prints something else, a line says so in place of what
+/// is printed.
 pub fn shown_of(
     rt: &HostRuntime,
     threads: &(impl Threads + Wait + Sync),
@@ -126,7 +127,9 @@ pub fn shown_of(
 ) -> io::Result<Vec<u8>> {
     let Printed { status, shown } = prints(rt, threads, piped, words)?;
     let is_run = status != REFUSED && words.get(1).is_some_and(|word| *word == "run");
-    let asks = words.iter().any(|word| word.starts_with("--w"));
+    let asks = words
+        .iter()
+        .any(|word| word.starts_with("--w") || word.starts_with("--s"));
     if is_run && !asks && !is_steady(rt, threads, piped, words, shown.as_slice())? {
         return Ok(b"(with more workers it prints something else)\n".to_vec(rt.alloc())?);
     }

@@ -18,10 +18,10 @@ use std::io::Write;
 use std::marker::Brand;
 use std::sync::{Arc, Wait};
 use std::thread::Threads;
-use workers::{Engine, Mark, Naming, Publisher, Report, Seat, finish};
+use workers::{Engine, Gate, Mark, Naming, Publisher, Report, Seat, finish};
 
 /// Works a new board off under a lock of its own. Ok only where it is drained.
-fn drive<J: Naming + Send + Sync, R: Threads + Wait + Sync, W: Write + Send>(
+fn drive<J: Naming + Send + Sync, R: Threads + Wait + Sync, G: Gate + Sync, W: Write + Send>(
     rt: &R,
     alloc: Global,
     board: Board<LocationTracker>,
@@ -29,6 +29,7 @@ fn drive<J: Naming + Send + Sync, R: Threads + Wait + Sync, W: Write + Send>(
     mark: &Mark,
     seat: Seat,
     task: Task<'_>,
+    gate: &G,
     observer: &mut Option<W>,
 ) -> Result<Report<LocationTracker>, Unfinished>
     requires names { tables board ≡ J.names }
@@ -40,8 +41,8 @@ fn drive<J: Naming + Send + Sync, R: Threads + Wait + Sync, W: Write + Send>(
 {
     let engine = Engine::<J, LocationTracker>::new(alloc, board, publisher)?;
     let done = match observer {
-        None => work_off(rt, alloc, &engine, task),
-        Some(writer) => work_off_watched(rt, alloc, &engine, task, mark, seat, writer),
+        None => work_off(rt, alloc, &engine, task, gate),
+        Some(writer) => work_off_watched(rt, alloc, &engine, task, gate, mark, seat, writer),
     };
     let Some(report) = finish(engine, mark, Vec::new(alloc)) else {
         return Err(Unfinished::Incomplete);
@@ -57,11 +58,12 @@ fn drive<J: Naming + Send + Sync, R: Threads + Wait + Sync, W: Write + Send>(
 }
 
 /// The same, whatever the board is.
-fn driven<R: Threads + Wait + Sync, W: Write + Send>(
+fn driven<R: Threads + Wait + Sync, G: Gate + Sync, W: Write + Send>(
     rt: &R,
     alloc: Global,
     board: Board<LocationTracker>,
     task: Task<'_>,
+    gate: &G,
     observer: &mut Option<W>,
 ) -> Result<Report<LocationTracker>, Unfinished>
     ensures graph { IfOk result (λ r. r.graph ≡ board.graph) }
@@ -71,30 +73,31 @@ fn driven<R: Threads + Wait + Sync, W: Write + Send>(
     let Some(seat) = seats.pop() else {
         return Err(Unfinished::Incomplete);
     };
-    drive::<Brand, R, W>(rt, alloc, board, publisher, &mark, seat, task, observer)
+    drive::<Brand, R, G, W>(
+        rt, alloc, board, publisher, &mark, seat, task, gate, observer,
+    )
 }
 
-/// Feeds the epochs to an engine of so many workers over the graph, and works it off. Its promise holds if it ends.
+/// Feeds the epochs to an engine of so many workers over the graph, and works it off: each event is computed by the gate. Its promise
+/// holds if it ends.
 ///
 /// Ok only where nothing is left to do, and each input was fed, at each epoch, just what was read. An observer that is given is told how
 /// many epochs have passed, as lines `passed M` with rising numbers; where its writer fails, nothing else changes.
-pub fn execute<R: Threads + Wait + Sync, W: Write + Send>(
+pub fn execute<R: Threads + Wait + Sync, G: Gate + Sync, W: Write + Send>(
     rt: &R,
     alloc: Global,
-    graph: Graph,
+    graph: Arc<Graph, Global>,
     workers: u32,
     epochs: &Epochs,
+    gate: &G,
     observer: &mut Option<W>,
 ) -> Result<Report<LocationTracker>, Unfinished>
     requires some { 0 < workers }
     requires few { workers ≤ 64 }
-    ensures { IfOk result (λ r. IsWorkedOff graph r epochs.now) }
+    ensures { IfOk result (λ r. IsWorkedOff graph.value r epochs.now) }
 {
     let Ok(inputs) = u32::try_from(graph.inputs().len()) else {
         return Err(Unfinished::Incomplete);
-    };
-    let Ok(graph) = Arc::new(alloc, graph) else {
-        return Err(Unfinished::NoMemory);
     };
     let board = Board::<LocationTracker>::new(alloc, graph, workers)?;
     let task = Task {
@@ -102,7 +105,7 @@ pub fn execute<R: Threads + Wait + Sync, W: Write + Send>(
         inputs,
         workers,
     };
-    let report = driven(rt, alloc, board, task, observer)?;
+    let report = driven(rt, alloc, board, task, gate, observer)?;
     if is_fed(&report, inputs, epochs, epochs.count()) {
         Ok(report)
     } else {

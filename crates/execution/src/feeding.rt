@@ -7,7 +7,7 @@ use rows::Batch;
 use std::alloc::Global;
 use std::mem::replace;
 use std::sync::Wait;
-use workers::{Ended, Engine, Feed, Naming, NoGate, work_along};
+use workers::{Ended, Engine, Feed, Gate, Naming, work_along};
 
 /// So many epochs are fed under one taking of the lock at most.
 const EPOCHS_AT_ONCE: u32 = AHEAD / 2;
@@ -109,12 +109,13 @@ fn feed_epoch<J: Naming, R: Wait>(
 }
 
 /// Works in this thread until there is nothing to do now.
-fn work_now<J: Naming, R: Wait>(
+fn work_now<J: Naming, R: Wait, G: Gate>(
     rt: &R,
     alloc: Global,
     engine: &Engine<J, LocationTracker>,
+    gate: &G,
 ) -> Result<(), Unfinished> {
-    match work_along(rt, alloc, engine, 0, &NoGate, &mut 0) {
+    match work_along(rt, alloc, engine, 0, gate, &mut 0) {
         None | Some(Ended::Drained) => Ok(()),
         Some(Ended::Stopped) => Err(Unfinished::NoMemory),
         Some(Ended::Busy) => Err(Unfinished::Incomplete),
@@ -123,11 +124,12 @@ fn work_now<J: Naming, R: Wait>(
 
 /// Feeds and seals epoch by epoch, many small ones at once, and never more of them ahead of what has passed than `AHEAD`: a thread that
 /// is alone works between, another one sleeps until half of them are gone.
-pub fn feed_epochs<J: Naming, R: Wait>(
+pub fn feed_epochs<J: Naming, R: Wait, G: Gate>(
     rt: &R,
     alloc: Global,
     engine: &Engine<J, LocationTracker>,
     task: Task<'_>,
+    gate: &G,
 ) -> Result<(), Unfinished> {
     let mut portion = Portion::new(alloc);
     for epoch in 0..task.epochs.count() {
@@ -135,7 +137,7 @@ pub fn feed_epochs<J: Naming, R: Wait>(
         if epoch % EPOCHS_AT_ONCE == EPOCHS_AT_ONCE - 1 {
             feed_portion(rt, alloc, engine, &mut portion)?;
             if task.is_alone() {
-                work_now(rt, alloc, engine)?;
+                work_now(rt, alloc, engine, gate)?;
             } else {
                 engine.wait_for(rt, u64::from(epoch.saturating_sub(EPOCHS_AT_ONCE - 1)));
             }

@@ -1,8 +1,9 @@
 //! Runs of a whole input: an engine of 1 to 64 workers is fed epoch by epoch, and worked off.
 //!
 //! With one worker the caller's thread feeds and works in turn, and no thread is started. With more, each worker has a thread of its
-//! own, the caller's thread feeds, and it sleeps while it is 256 epochs ahead of what has passed. Small epochs are fed many at once. Whoever wants to see how far the run
-//! is gives a writer: one thread more writes to it how many epochs have passed.
+//! own, the caller's thread feeds, and it sleeps while it is 256 epochs ahead of what has passed. Small epochs are fed many at once. Each
+//! event is computed by the caller's gate. Whoever wants to see how far the run is gives a writer: one thread more writes to it how many
+//! epochs have passed.
 //!
 //! | Call | What it does | Fails |
 //! |---|---|---|

@@ -11,21 +11,22 @@ use std::alloc::Global;
 use std::io::Write;
 use std::sync::Wait;
 use std::thread::{Scope, Threads, join, scope, scope_env};
-use workers::{Engine, Mark, Naming, NoGate, Seat, work};
+use workers::{Engine, Gate, Mark, Naming, Seat, work};
 
 /// Starts a thread for each worker, where there are several.
-fn start_workers<'s, E, J: Naming + Send + Sync, R: Threads + Wait + Sync>(
+fn start_workers<'s, E, J: Naming + Send + Sync, R: Threads + Wait + Sync, G: Gate + Sync>(
     threads: &'s Scope<'s, E>,
     rt: &'s R,
     alloc: Global,
     engine: &'s Engine<J, LocationTracker>,
     task: Task<'_>,
+    gate: &'s G,
 ) -> Result<(), Unfinished> {
     if task.is_alone() {
         return Ok(());
     }
     for worker in 0..task.workers {
-        let started = threads.spawn(move || work(rt, alloc, engine, worker, &NoGate));
+        let started = threads.spawn(move || work(rt, alloc, engine, worker, gate));
         if started.is_err() {
             return Err(Unfinished::NoWorker);
         }
@@ -34,42 +35,50 @@ fn start_workers<'s, E, J: Naming + Send + Sync, R: Threads + Wait + Sync>(
 }
 
 /// Starts the workers, and feeds. However that goes, all inputs are closed at the end, so that the workers come to theirs.
-fn feed_beside<'s, E, J: Naming + Send + Sync, R: Threads + Wait + Sync>(
+fn feed_beside<'s, E, J: Naming + Send + Sync, R: Threads + Wait + Sync, G: Gate + Sync>(
     threads: &'s Scope<'s, E>,
     rt: &'s R,
     alloc: Global,
     engine: &'s Engine<J, LocationTracker>,
     task: Task<'_>,
+    gate: &'s G,
 ) -> Result<(), Unfinished> {
-    let mut done = start_workers(threads, rt, alloc, engine, task);
+    let mut done = start_workers(threads, rt, alloc, engine, task, gate);
     if done.is_ok() {
-        done = feed_epochs(rt, alloc, engine, task);
+        done = feed_epochs(rt, alloc, engine, task, gate);
     }
     close_inputs(rt, engine, task.inputs);
     if task.is_alone() {
-        let _ended = work(rt, alloc, engine, 0, &NoGate);
+        let _ended = work(rt, alloc, engine, 0, gate);
     }
     done
 }
 
 /// Feeds the engine and works it off, and returns once all threads have ended.
-pub fn work_off<J: Naming + Send + Sync, R: Threads + Wait + Sync>(
+pub fn work_off<J: Naming + Send + Sync, R: Threads + Wait + Sync, G: Gate + Sync>(
     rt: &R,
     alloc: Global,
     engine: &Engine<J, LocationTracker>,
     task: Task<'_>,
+    gate: &G,
 ) -> Result<(), Unfinished> {
     scope(scope_env(), rt, move |threads| {
-        feed_beside(threads, rt, alloc, engine, task)
+        feed_beside(threads, rt, alloc, engine, task, gate)
     })
 }
 
 /// As `work_off`, while a thread more watches. Where it can't be started, this one watches at the end.
-pub fn work_off_watched<J: Naming + Send + Sync, R: Threads + Wait + Sync, W: Write + Send>(
+pub fn work_off_watched<
+    J: Naming + Send + Sync,
+    R: Threads + Wait + Sync,
+    G: Gate + Sync,
+    W: Write + Send,
+>(
     rt: &R,
     alloc: Global,
     engine: &Engine<J, LocationTracker>,
     task: Task<'_>,
+    gate: &G,
     mark: &Mark,
     seat: Seat,
     writer: &mut W,
@@ -80,7 +89,7 @@ pub fn work_off_watched<J: Naming + Send + Sync, R: Threads + Wait + Sync, W: Wr
     let ((), done) = join(
         rt,
         move || watch(rt, engine, mark, seat, lent),
-        move || work_off(rt, alloc, engine, task),
+        move || work_off(rt, alloc, engine, task, gate),
     );
     done
 }

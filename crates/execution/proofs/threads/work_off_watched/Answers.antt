@@ -7,5 +7,5 @@ use Rattle.execution.proofs.threads.work_off_watched.Goals as goal
 
 pub join-done-requires-send-F : goal.join-done-requires-send-F
 join-done-requires-send-F g c κs within =
-    let sj = c.type_bounds.send-J in let yj = c.type_bounds.sync-J in let yr = c.type_bounds.sync-R in let sw = c.type_bounds.send-W in
+    let sj = c.type_bounds.send-J in let yj = c.type_bounds.sync-J in let yr = c.type_bounds.sync-R in let yg = c.type_bounds.sync-G in let sw = c.type_bounds.send-W in
     search (sendable, crosses, engine_sync, marks.the_sync, seats.the_send) depth 40

@@ -1,0 +1,72 @@
+//! What is counted of a vertex at a worker.
+
+use std::sync::atomic::{AtomicU64, Ordering};
+
+/// Three numbers that any thread may add to.
+#[derive(Drop)]
+pub struct Counter {
+    events: AtomicU64,
+    received: AtomicU64,
+    sent: AtomicU64,
+}
+
+/// The numbers as they were read, one after another.
+#[derive(Clone, Copy, PartialEq, Eq)]
+pub struct Counts {
+    pub events: u64,
+    pub received: u64,
+    pub sent: u64,
+}
+
+impl Counter {
+    pub fn new() -> Counter {
+        Counter {
+            events: AtomicU64::new(0),
+            received: AtomicU64::new(0),
+            sent: AtomicU64::new(0),
+        }
+    }
+
+    /// An event more was computed.
+    pub fn add_event(&self) {
+        self.events.fetch_add(1, Ordering::SeqCst);
+    }
+
+    /// So many records more go to the vertex.
+    pub fn add_received(&self, records: u64) {
+        self.received.fetch_add(records, Ordering::SeqCst);
+    }
+
+    /// So many records more were sent by the vertex.
+    pub fn add_sent(&self, records: u64) {
+        self.sent.fetch_add(records, Ordering::SeqCst);
+    }
+
+    pub fn counts(&self) -> Counts {
+        Counts {
+            events: self.events.load(Ordering::SeqCst),
+            received: self.received.load(Ordering::SeqCst),
+            sent: self.sent.load(Ordering::SeqCst),
+        }
+    }
+}
+
+impl Counts {
+    /// No event, and no record.
+    pub fn none() -> Counts {
+        Counts {
+            events: 0,
+            received: 0,
+            sent: 0,
+        }
+    }
+
+    /// Both together.
+    pub fn with(self, more: Counts) -> Counts {
+        Counts {
+            events: self.events.saturating_add(more.events),
+            received: self.received.saturating_add(more.received),
+            sent: self.sent.saturating_add(more.sent),
+        }
+    }
+}

@@ -1,0 +1,82 @@
+//! What feeding brings, counted before the run.
+
+ghost use Rattle.std.specs.Prelude.{◌≡◌, ◌<◌, ◌≤◌};
+ghost use Rattle.lowering.specs.Views.{vertex_of};
+ghost use Rattle.semantics.specs.Kinds.{is_input as is_input_kind};
+
+use crate::tally::Tally;
+use collector::Epochs;
+use events::{CutBatch, EventFault, Wiring};
+use lowering::{Graph, Kind, Vertex, VertexId};
+use rows::Batch;
+use std::alloc::Global;
+use std::sync::Arc;
+
+impl Tally {
+    /// Counts what feeding the epochs to the inputs brings to the vertices behind them: the messages that the engine will make of it.
+    pub(crate) fn count_fed(
+        &self,
+        alloc: Global,
+        graph: &Arc<Graph, Global>,
+        workers: u32,
+        epochs: &Epochs,
+    ) -> Result<(), EventFault>
+        requires some { 0 < workers }
+        requires few { workers ≤ 64 }
+    {
+        let inputs = graph.inputs().len();
+        let wiring = Wiring::of(alloc, Arc::try_clone(graph)?, workers)?;
+        let wiring = Arc::new(alloc, wiring)?;
+        for input in 0..inputs {
+            self.count_input(alloc, &wiring, input, epochs)?;
+        }
+        Ok(())
+    }
+
+    /// Counts what feeding an input brings.
+    fn count_input(
+        &self,
+        alloc: Global,
+        wiring: &Arc<Wiring, Global>,
+        input: usize,
+        epochs: &Epochs,
+    ) -> Result<(), EventFault> {
+        let Ok(input) = u32::try_from(input) else {
+            return Ok(());
+        };
+        for epoch in 0..epochs.count() {
+            for batch in epochs.batches(epoch, input) {
+                self.count_batch(alloc, wiring, input, batch)?;
+            }
+        }
+        Ok(())
+    }
+
+    /// Counts what a batch brings that is fed to an input.
+    fn count_batch(
+        &self,
+        alloc: Global,
+        wiring: &Arc<Wiring, Global>,
+        input: u32,
+        batch: &Batch,
+    ) -> Result<(), EventFault> {
+        let graph = wiring.graph();
+        let id = VertexId(input);
+        if input as usize >= graph.vertex_count() || !is_input(graph.vertex(id)) {
+            return Ok(());
+        }
+        let cut = CutBatch::of(alloc, wiring, input, batch.share()?)?;
+        let records = self.count_letters(cut.letters());
+        if let Some(counter) = self.counter(id, 0) {
+            counter.add_received(batch.len() as u64);
+            counter.add_sent(records);
+        }
+        Ok(())
+    }
+}
+
+fn is_input(vertex: &Vertex) -> bool
+    ensures { result ≡ is_input_kind (vertex_of vertex.now).kind }
+{
+    matches!(vertex.kind, Kind::Input)
+}

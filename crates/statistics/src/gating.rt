@@ -1,0 +1,31 @@
+//! The gate that counts.
+
+ghost use Rattle.std.specs.Prelude.{◌≡◌};
+
+use crate::tally::Tally;
+use events::{Done, Work};
+use std::alloc::Global;
+use workers::Gate;
+
+impl Tally {
+    /// The same event with its output, counted.
+    fn counted(&self, done: Done) -> Done
+        ensures { result ≡ done }
+    {
+        let worker = done.worker();
+        let (stub, output) = done.into_parts();
+        self.count_event(worker, &output);
+        Done::from_parts(worker, stub, output)
+    }
+}
+
+impl Gate for Tally {
+    fn compute(&self, alloc: Global, _worker: u32, _turn: u64, work: Work) -> Result<Done, Work> {
+        match work.compute(alloc) {
+            Ok(done) => Ok(self.counted(done)),
+            Err(work) => Err(work),
+        }
+    }
+
+    fn after_commit(&self, _worker: u32, _turn: u64) {}
+}

@@ -1,0 +1,95 @@
+//! What was counted, as lines.
+
+use crate::counter::{Counter, Counts};
+use crate::tally::Tally;
+use arrayvec::ArrayVec;
+use std::io;
+use std::io::Write;
+use std::sync::atomic::Ordering;
+
+/// A line has no more bytes: a number of a vertex, a kind with a name, a worker and three numbers.
+const LINE_LIMIT: usize = 256;
+
+impl Tally {
+    /// Writes a line for each vertex, by worker too where that tells more, and then how many messages and epochs there were. Nothing is
+    /// written after a write that fails.
+    pub fn write<W: Write>(&self, writer: &mut W) -> io::Result<()> {
+        let lines = self.graph.as_slice().split(|byte| *byte == b'\n');
+        for (counters, line) in self.counters.iter().zip(lines) {
+            write_vertex(head_of(line), counters.as_slice(), writer)?;
+        }
+        self.write_sums(writer)?;
+        writer.flush()
+    }
+
+    /// The last two lines.
+    fn write_sums<W: Write>(&self, writer: &mut W) -> io::Result<()> {
+        let messages = self.messages.load(Ordering::SeqCst);
+        let epochs = self.epochs;
+        let mut line: ArrayVec<u8, LINE_LIMIT> = ArrayVec::new();
+        writeln!(line, "messages {messages}")?;
+        writeln!(line, "epochs {epochs}")?;
+        writer.write_all(line.as_slice())
+    }
+}
+
+/// Of a graph's line the number and the kind: what stands before the second space.
+fn head_of(line: &[u8]) -> &[u8] {
+    let mut spaces = 0u32;
+    for place in 0..line.len() {
+        if line[place] == b' ' {
+            if spaces == 1 {
+                return &line[..place];
+            }
+            spaces = 1;
+        }
+    }
+    line
+}
+
+/// The lines of a vertex: all workers together, and then each, where there are several of them and their counts differ.
+fn write_vertex<W: Write>(head: &[u8], counters: &[Counter], writer: &mut W) -> io::Result<()> {
+    let mut all = Counts::none();
+    for counter in counters {
+        all = all.with(counter.counts());
+    }
+    write_line(head, None, all, writer)?;
+    if are_same(counters) {
+        return Ok(());
+    }
+    for worker in 0..counters.len() {
+        write_line(head, Some(worker), counters[worker].counts(), writer)?;
+    }
+    Ok(())
+}
+
+/// Whether the counts of all workers are the same.
+fn are_same(counters: &[Counter]) -> bool {
+    match counters.first() {
+        None => true,
+        Some(first) => counters
+            .iter()
+            .all(|counter| counter.counts() == first.counts()),
+    }
+}
+
+/// One line, in one write.
+fn write_line<W: Write>(
+    head: &[u8],
+    worker: Option<usize>,
+    counts: Counts,
+    writer: &mut W,
+) -> io::Result<()> {
+    let Counts {
+        events,
+        received,
+        sent,
+    } = counts;
+    let mut line: ArrayVec<u8, LINE_LIMIT> = ArrayVec::new();
+    line.write_all(head)?;
+    if let Some(worker) = worker {
+        write!(line, " worker {worker}")?;
+    }
+    writeln!(line, " events {events} in {received} sent {sent}")?;
+    writer.write_all(line.as_slice())
+}
