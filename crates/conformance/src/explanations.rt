@@ -39,11 +39,13 @@ fn ran(rt: &HostRuntime, threads: &(impl Threads + Wait + Sync), query: &str, in
         threads,
         rt.alloc(),
         Workers::one(),
+        false,
         &mut query,
         &mut input,
         &mut texts,
         &mut out,
         &mut None::<Vec<u8>>,
+        &mut Vec::new(rt.alloc()),
     ))
 }
 

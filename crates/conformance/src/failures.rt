@@ -76,11 +76,13 @@ impl<'a> Read for Slow<'a> {
     }
 }
 
-/// A writer that takes two bytes at a time while it has room, and then fails, or takes none.
+/// A writer that takes two bytes at a time while it has room, and then fails, or takes none. It may hold back what it took, and fail
+/// where it is asked to hand that on.
 #[derive(Drop)]
 struct Full {
     room: usize,
     fails: bool,
+    holds: bool,
     written: Vec<u8>,
 }
 
@@ -96,6 +98,9 @@ impl Write for Full {
     }
 
     fn flush(&mut self) -> io::Result<()> {
+        if self.holds {
+            return Err(io::Error::from(ErrorKind::Other));
+        }
         Ok(())
     }
 }
@@ -128,19 +133,25 @@ impl<'a> Sources<'a> for Shelf {
     }
 }
 
-/// How a line ends over these texts where so many bytes can be written: its status, what was written, and what was told.
+/// A writer with room for so many bytes, which fails beyond that.
+fn room_for(alloc: Global, room: usize) -> Full {
+    Full {
+        room,
+        fails: true,
+        holds: false,
+        written: Vec::new(alloc),
+    }
+}
+
+/// How a line ends over these texts: its status, what was written, and what was told.
 fn ended<'a, R: Threads + Wait + Sync>(
     rt: &R,
     alloc: Global,
     words: &'a [&'a str],
     shelf: Shelf,
-    room: usize,
+    writer: Full,
 ) -> (u8, Vec<u8>, Vec<u8>) {
-    let mut out = Watched::new(Full {
-        room,
-        fails: true,
-        written: Vec::new(alloc),
-    });
+    let mut out = Watched::new(writer);
     let mut err = Vec::new(alloc);
     let status = answer(
         rt,
@@ -154,75 +165,137 @@ fn ended<'a, R: Threads + Wait + Sync>(
     (status, out.into_inner().written, err)
 }
 
-/// Each command, with any read refused and with any write refused.
+/// Whether a line that can read all ends because this writer fails, which by then has taken these bytes.
+fn is_refused<R: Threads + Wait + Sync>(
+    rt: &R,
+    alloc: Global,
+    words: &[&str],
+    writer: Full,
+    taken: &[u8],
+) -> bool {
+    let shelf = Shelf { query: 9, other: 9 };
+    let (status, written, told) = ended(rt, alloc, words, shelf, writer);
+    status == 6 && written.as_slice() == taken && told.as_slice() == b"cannot write\n".as_slice()
+}
+
+/// Whether a line that can read all is answered by this text, or by a beginning of it where any write is refused, and by the bytes held
+/// where the first flush is.
+fn is_written<R: Threads + Wait + Sync>(
+    rt: &R,
+    alloc: Global,
+    words: &[&str],
+    text: &[u8],
+    held: &[u8],
+) -> bool {
+    for room in 0..text.len() {
+        for fails in [false, true] {
+            let writer = Full {
+                fails,
+                ..room_for(alloc, room)
+            };
+            if !is_refused(rt, alloc, words, writer, &text[..room]) {
+                return false;
+            }
+        }
+    }
+    let holding = Full {
+        holds: true,
+        ..room_for(alloc, text.len())
+    };
+    if !is_refused(rt, alloc, words, holding, held) {
+        return false;
+    }
+    let shelf = Shelf { query: 9, other: 9 };
+    let writer = room_for(alloc, text.len());
+    let (status, written, told) = ended(rt, alloc, words, shelf, writer);
+    status == 0 && written.as_slice() == text && told.is_empty()
+}
+
+/// Commands that write once all is read: the words, how many reads the other text than the query takes, what is told where one of them is
+/// refused, and the answer.
+const COMMANDS: [(&[&str], usize, &str, &str); 7] = [
+    (
+        &["loom", "run", "q", "i"],
+        5,
+        "cannot read i\n",
+        "epoch 0\n1\n",
+    ),
+    (
+        &["loom", "run", "--workers", "2", "q", "i"],
+        5,
+        "cannot read i\n",
+        "epoch 0\n1\n",
+    ),
+    (&["loom", "check", "q"], 0, "", "input a/1\noutput 1\n"),
+    (
+        &["loom", "check", "q", "i"],
+        5,
+        "cannot read i\n",
+        "input a/1\noutput 1\n",
+    ),
+    (
+        &["loom", "graph", "q"],
+        0,
+        "",
+        "0 input 0 <-\n1 output 0 <- 0.0\n",
+    ),
+    (&["loom", "format", "q"], 0, "", "input a/1;\noutput a;\n"),
+    (
+        &["loom", "replay", "q", "s"],
+        3,
+        "cannot read s\n",
+        "epoch 0 open\n",
+    ),
+];
+
+/// Each of them, with any read, any write and the flush refused.
 #[test]
 fn commands_that_fail(rt: HostRuntime) -> Result<(), Fail> {
-    let rows: [(&[&str], usize, &str, &str); 6] = [
-        (
-            &["loom", "run", "q", "i"],
-            5,
-            "cannot read i\n",
-            "epoch 0\n1\n",
-        ),
-        (&["loom", "check", "q"], 0, "", "input a/1\noutput 1\n"),
-        (
-            &["loom", "check", "q", "i"],
-            5,
-            "cannot read i\n",
-            "input a/1\noutput 1\n",
-        ),
-        (
-            &["loom", "graph", "q"],
-            0,
-            "",
-            "0 input 0 <-\n1 output 0 <- 0.0\n",
-        ),
-        (&["loom", "format", "q"], 0, "", "input a/1;\noutput a;\n"),
-        (
-            &["loom", "replay", "q", "s"],
-            3,
-            "cannot read s\n",
-            "epoch 0 open\n",
-        ),
-    ];
-    for (words, reads, line, text) in rows {
-        let text = text.as_bytes();
+    for (words, reads, line, text) in COMMANDS {
         for query in 0..8 {
-            let (status, written, told) = ended(
-                &rt,
-                rt.alloc(),
-                words,
-                Shelf { query, other: 9 },
-                99,
-            );
+            let shelf = Shelf { query, other: 9 };
+            let writer = room_for(rt.alloc(), 99);
+            let (status, written, told) = ended(&rt, rt.alloc(), words, shelf, writer);
             assert_eq!(rt; status, 6);
             assert_eq!(rt; written.len(), 0);
             assert_eq!(rt; told.as_slice(), b"cannot read q\n".as_slice());
         }
         for other in 0..reads {
-            let (status, written, told) = ended(
-                &rt,
-                rt.alloc(),
-                words,
-                Shelf { query: 9, other },
-                99,
-            );
+            let shelf = Shelf { query: 9, other };
+            let writer = room_for(rt.alloc(), 99);
+            let (status, written, told) = ended(&rt, rt.alloc(), words, shelf, writer);
             assert_eq!(rt; status, 6);
             assert_eq!(rt; written.len(), 0);
             assert_eq!(rt; told.as_slice(), line.as_bytes());
         }
-        let shelf = Shelf { query: 9, other: 9 };
-        for room in 0..text.len() {
-            let (status, written, told) = ended(&rt, rt.alloc(), words, shelf, room);
-            assert_eq!(rt; status, 6);
-            assert_eq!(rt; written.as_slice(), &text[..room]);
-            assert_eq!(rt; told.as_slice(), b"cannot write\n".as_slice());
-        }
-        let (status, written, told) = ended(&rt, rt.alloc(), words, shelf, text.len());
-        assert_eq!(rt; status, 0);
-        assert_eq!(rt; written.as_slice(), text);
-        assert_eq!(rt; told.len(), 0);
+        let text = text.as_bytes();
+        assert!(rt; is_written(&rt, rt.alloc(), words, text, text));
     }
+    Ok(())
+}
+
+const FOLLOW: &[&str] = &["loom", "follow", "q", "i"];
+
+/// What `follow` has told before a read is refused stays: the record's line, once the line feed behind it came with the fourth read.
+#[test]
+fn follow_that_fails(rt: HostRuntime) -> Result<(), Fail> {
+    for query in 0..8 {
+        let shelf = Shelf { query, other: 9 };
+        let writer = room_for(rt.alloc(), 99);
+        let (status, written, told) = ended(&rt, rt.alloc(), FOLLOW, shelf, writer);
+        assert_eq!(rt; status, 6);
+        assert_eq!(rt; written.len(), 0);
+        assert_eq!(rt; told.as_slice(), b"cannot read q\n".as_slice());
+    }
+    for (other, known) in ["", "", "", "", "0 1\n"].iter().enumerate() {
+        let shelf = Shelf { query: 9, other };
+        let writer = room_for(rt.alloc(), 99);
+        let (status, written, told) = ended(&rt, rt.alloc(), FOLLOW, shelf, writer);
+        assert_eq!(rt; status, 6);
+        assert_eq!(rt; written.as_slice(), known.as_bytes());
+        assert_eq!(rt; told.as_slice(), b"cannot read i\n".as_slice());
+    }
+    assert!(rt; is_written(&rt, rt.alloc(), FOLLOW, b"0 1\ncomplete 0\n", b""));
     Ok(())
 }
 
@@ -240,11 +313,13 @@ fn lines_that_fail(rt: HostRuntime) -> Result<(), Fail> {
             let mut out = Watched::new(Full {
                 room,
                 fails: true,
+                holds: false,
                 written: Vec::new(rt.alloc()),
             });
             let mut err = Full {
                 room: space,
                 fails: true,
+                holds: false,
                 written: Vec::new(rt.alloc()),
             };
             let shelf = Shelf {
@@ -279,11 +354,13 @@ fn slow_readers(rt: HostRuntime) -> Result<(), Fail> {
             &rt,
             rt.alloc(),
             Workers::one(),
+            false,
             &mut first,
             &mut second,
             &mut Texts::new(rt.alloc()),
             &mut out,
             &mut None::<Vec<u8>>,
+            &mut Vec::new(rt.alloc()),
         );
         assert!(rt; matches!(done, Err(Fault::ReadQuery)));
         assert_eq!(rt; out.into_inner().len(), 0);
@@ -296,11 +373,13 @@ fn slow_readers(rt: HostRuntime) -> Result<(), Fail> {
             &rt,
             rt.alloc(),
             Workers::one(),
+            false,
             &mut first,
             &mut second,
             &mut Texts::new(rt.alloc()),
             &mut out,
             &mut None::<Vec<u8>>,
+            &mut Vec::new(rt.alloc()),
         );
         assert!(rt; matches!(done, Err(Fault::ReadInput)));
         assert_eq!(rt; out.into_inner().len(), 0);
@@ -318,17 +397,20 @@ fn full_writers(rt: HostRuntime) -> Result<(), Fail> {
             let mut out = Watched::new(Full {
                 room,
                 fails,
+                holds: false,
                 written: Vec::new(rt.alloc()),
             });
             let done = run(
                 &rt,
                 rt.alloc(),
                 Workers::one(),
+                false,
                 &mut query,
                 &mut input,
                 &mut Texts::new(rt.alloc()),
                 &mut out,
                 &mut None::<Vec<u8>>,
+                &mut Vec::new(rt.alloc()),
             );
             assert_eq!(rt; done.is_ok(), text.len() <= room);
             if room < text.len() {

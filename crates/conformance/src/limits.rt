@@ -63,11 +63,13 @@ fn too_large_to_run(rt: HostRuntime) -> Result<(), Fail> {
         &rt,
         rt.alloc(),
         Workers::one(),
+        false,
         &mut query,
         &mut input,
         &mut texts,
         &mut out,
         &mut None::<Vec<u8>>,
+        &mut Vec::new(rt.alloc()),
     );
     assert!(rt; matches!(done, Err(Fault::TooManyVertices)));
     assert_eq!(rt; out.into_inner().len(), 0);

@@ -22,12 +22,13 @@ impl Write for Broken {
     }
 }
 
-/// What two workers answer to an input of records of one field, which go through as they are.
-fn copied<O: Write + Send>(
+/// What two workers answer to an input of records of one field, which go through as they are. What each vertex did is told to `err`.
+fn copied<O: Write + Send, E: Write>(
     rt: &HostRuntime,
     threads: &(impl Threads + Wait + Sync),
     input: &[u8],
     observer: &mut Option<O>,
+    err: &mut E,
 ) -> Result<Vec<u8>, Fail> {
     let mut query = Watched::new(b"input a/1; output a;".as_slice());
     let mut input = Watched::new(input);
@@ -38,11 +39,13 @@ fn copied<O: Write + Send>(
         threads,
         rt.alloc(),
         workers,
+        true,
         &mut query,
         &mut input,
         &mut texts,
         &mut out,
         observer,
+        err,
     )
     .ok()
     .ok_or("no answer")?;
@@ -68,7 +71,8 @@ fn told_in(rt: &HostRuntime, text: &[u8]) -> Result<Option<Vec<u64>>, Fail> {
 #[test]
 fn three_epochs_pass(rt: HostRuntime) -> Result<(), Fail> {
     let mut observer = Some(Vec::new(rt.alloc()));
-    let text = copied(&rt, &rt, b"epoch\nepoch\nepoch\n", &mut observer)?;
+    let mut err = Vec::new(rt.alloc());
+    let text = copied(&rt, &rt, b"epoch\nepoch\nepoch\n", &mut observer, &mut err)?;
     assert_eq!(rt; text.as_slice(), b"epoch 0\nepoch 1\nepoch 2\n".as_slice());
     let told = observer.ok_or("no observer")?;
     let numbers = told_in(&rt, told.as_slice())?.ok_or("no such line")?;
@@ -80,15 +84,25 @@ fn three_epochs_pass(rt: HostRuntime) -> Result<(), Fail> {
 #[test]
 fn no_epoch_passes(rt: HostRuntime) -> Result<(), Fail> {
     let mut observer = Some(Vec::new(rt.alloc()));
-    let text = copied(&rt, &rt, b"", &mut observer)?;
+    let mut err = Vec::new(rt.alloc());
+    let text = copied(&rt, &rt, b"", &mut observer, &mut err)?;
     assert_eq!(rt; text.len(), 0);
     assert_eq!(rt; observer.ok_or("no observer")?.len(), 0);
+    let told =
+        b"0 input events 0 in 0 sent 0\n1 output events 0 in 0 sent 0\nmessages 0\nepochs 0\n";
+    assert_eq!(rt; err.as_slice(), told.as_slice());
     Ok(())
 }
 
 #[test]
 fn told_to_nobody(rt: HostRuntime) -> Result<(), Fail> {
-    let text = copied(&rt, &rt, b"epoch\na 1\nepoch\n", &mut Some(Broken))?;
+    let text = copied(
+        &rt,
+        &rt,
+        b"epoch\na 1\nepoch\n",
+        &mut Some(Broken),
+        &mut Broken,
+    )?;
     assert_eq!(rt; text.as_slice(), b"epoch 0\n1\nepoch 1\n".as_slice());
     Ok(())
 }
