@@ -1,7 +1,7 @@
 //! The examples of the table of refusals, and what is told of faults that no short text brings.
 
 use collector::Watched;
-use console::{Fault, Texts, Workers, check_query, replay_schedule, run};
+use console::{Fault, Texts, Watcher, Workers, check_query, replay_schedule, run};
 use diagnostics::{explain_fault, explained};
 use refusals::{Explanation, OF_LINES, OF_QUERIES, OF_STEPS, explanation_of};
 use std::sync::Wait;
@@ -44,7 +44,7 @@ fn ran(rt: &HostRuntime, threads: &(impl Threads + Wait + Sync), query: &str, in
         &mut input,
         &mut texts,
         &mut out,
-        &mut None::<Vec<u8>>,
+        &mut None::<Watcher<Vec<u8>>>,
         &mut Vec::new(rt.alloc()),
     ))
 }

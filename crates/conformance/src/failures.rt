@@ -1,7 +1,7 @@
 //! Fault lines, and runs whose readers and writers fail.
 
 use collector::Watched;
-use console::{Fault, Sources, Texts, Workers, answer, run};
+use console::{Fault, Sources, Texts, Watcher, Workers, answer, run};
 use std::alloc::Global;
 use std::io;
 use std::io::{ErrorKind, Read, Write};
@@ -160,7 +160,7 @@ fn ended<'a, R: Threads + Wait + Sync>(
         words,
         &mut out,
         &mut err,
-        &mut None::<Vec<u8>>,
+        &mut None::<Watcher<Vec<u8>>>,
     );
     (status, out.into_inner().written, err)
 }
@@ -333,7 +333,7 @@ fn lines_that_fail(rt: HostRuntime) -> Result<(), Fail> {
                 words.as_slice(),
                 &mut out,
                 &mut err,
-                &mut None::<Vec<u8>>,
+                &mut None::<Watcher<Vec<u8>>>,
             );
             assert_eq!(rt; ended, status);
             assert_eq!(rt; err.written.as_slice(), said.as_bytes());
@@ -359,7 +359,7 @@ fn slow_readers(rt: HostRuntime) -> Result<(), Fail> {
             &mut second,
             &mut Texts::new(rt.alloc()),
             &mut out,
-            &mut None::<Vec<u8>>,
+            &mut None::<Watcher<Vec<u8>>>,
             &mut Vec::new(rt.alloc()),
         );
         assert!(rt; matches!(done, Err(Fault::ReadQuery)));
@@ -378,7 +378,7 @@ fn slow_readers(rt: HostRuntime) -> Result<(), Fail> {
             &mut second,
             &mut Texts::new(rt.alloc()),
             &mut out,
-            &mut None::<Vec<u8>>,
+            &mut None::<Watcher<Vec<u8>>>,
             &mut Vec::new(rt.alloc()),
         );
         assert!(rt; matches!(done, Err(Fault::ReadInput)));
@@ -409,7 +409,7 @@ fn full_writers(rt: HostRuntime) -> Result<(), Fail> {
                 &mut input,
                 &mut Texts::new(rt.alloc()),
                 &mut out,
-                &mut None::<Vec<u8>>,
+                &mut None::<Watcher<Vec<u8>>>,
                 &mut Vec::new(rt.alloc()),
             );
             assert_eq!(rt; done.is_ok(), text.len() <= room);

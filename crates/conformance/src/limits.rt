@@ -1,7 +1,7 @@
 //! Queries at the limits of size, which are too long for a page.
 
 use collector::Watched;
-use console::{Fault, GraphForm, Texts, Workers, check_query, graph_query, run};
+use console::{Fault, GraphForm, Texts, Watcher, Workers, check_query, graph_query, run};
 use diagnostics::explain_fault;
 use std::test::Fail;
 
@@ -68,7 +68,7 @@ fn too_large_to_run(rt: HostRuntime) -> Result<(), Fail> {
         &mut input,
         &mut texts,
         &mut out,
-        &mut None::<Vec<u8>>,
+        &mut None::<Watcher<Vec<u8>>>,
         &mut Vec::new(rt.alloc()),
     );
     assert!(rt; matches!(done, Err(Fault::TooManyVertices)));

@@ -1,7 +1,7 @@
 //! Runs on several workers, and what is told of them while they work.
 
 use collector::Watched;
-use console::{Texts, Workers, run};
+use console::{Telling, Texts, Watcher, Workers, run};
 use std::io;
 use std::io::{ErrorKind, Write};
 use std::sync::Wait;
@@ -27,7 +27,7 @@ fn copied<O: Write + Send, E: Write>(
     rt: &HostRuntime,
     threads: &(impl Threads + Wait + Sync),
     input: &[u8],
-    observer: &mut Option<O>,
+    watcher: &mut Option<Watcher<O>>,
     err: &mut E,
 ) -> Result<Vec<u8>, Fail> {
     let mut query = Watched::new(b"input a/1; output a;".as_slice());
@@ -44,12 +44,18 @@ fn copied<O: Write + Send, E: Write>(
         &mut input,
         &mut texts,
         &mut out,
-        observer,
+        watcher,
         err,
     )
     .ok()
     .ok_or("no answer")?;
     Ok(out.into_inner())
+}
+
+/// A watcher that keeps what it is told.
+fn keeping(rt: &HostRuntime, telling: Telling) -> Option<Watcher<Vec<u8>>> {
+    let writer = Vec::new(rt.alloc());
+    Some(Watcher { writer, telling })
 }
 
 /// The numbers of lines `passed M`; None where a line is another one.
@@ -70,24 +76,50 @@ fn told_in(rt: &HostRuntime, text: &[u8]) -> Result<Option<Vec<u64>>, Fail> {
 /// Which numbers come before the last one is open.
 #[test]
 fn three_epochs_pass(rt: HostRuntime) -> Result<(), Fail> {
-    let mut observer = Some(Vec::new(rt.alloc()));
+    let mut watcher = keeping(&rt, Telling::Lines);
     let mut err = Vec::new(rt.alloc());
-    let text = copied(&rt, &rt, b"epoch\nepoch\nepoch\n", &mut observer, &mut err)?;
+    let text = copied(&rt, &rt, b"epoch\nepoch\nepoch\n", &mut watcher, &mut err)?;
     assert_eq!(rt; text.as_slice(), b"epoch 0\nepoch 1\nepoch 2\n".as_slice());
-    let told = observer.ok_or("no observer")?;
+    let told = watcher.ok_or("no watcher")?.writer;
     let numbers = told_in(&rt, told.as_slice())?.ok_or("no such line")?;
     assert_eq!(rt; numbers.last(), Some(&3));
     assert!(rt; numbers.is_sorted());
     Ok(())
 }
 
+/// A line that rises in place ends once, after the last number.
+#[test]
+fn one_line_rises(rt: HostRuntime) -> Result<(), Fail> {
+    let mut err = Vec::new(rt.alloc());
+    let mut watcher = keeping(&rt, Telling::InPlace);
+    let text = copied(&rt, &rt, b"epoch\na 7\n", &mut watcher, &mut err)?;
+    assert_eq!(rt; text.as_slice(), b"epoch 0\n7\n".as_slice());
+    let told = watcher.ok_or("no watcher")?.writer;
+    assert_eq!(rt; told.as_slice(), b"\rpassed 1\n".as_slice());
+    let mut watcher = keeping(&rt, Telling::InPlace);
+    copied(&rt, &rt, b"epoch\nepoch\nepoch\n", &mut watcher, &mut err)?;
+    let told = watcher.ok_or("no watcher")?.writer;
+    assert!(rt; told.ends_with(b"\rpassed 3\n"));
+    assert_eq!(rt; told.iter().filter(|byte| **byte == b'\n').count(), 1);
+    Ok(())
+}
+
+#[test]
+fn no_line_rises(rt: HostRuntime) -> Result<(), Fail> {
+    let mut err = Vec::new(rt.alloc());
+    let mut watcher = keeping(&rt, Telling::InPlace);
+    copied(&rt, &rt, b"", &mut watcher, &mut err)?;
+    assert_eq!(rt; watcher.ok_or("no watcher")?.writer.len(), 0);
+    Ok(())
+}
+
 #[test]
 fn no_epoch_passes(rt: HostRuntime) -> Result<(), Fail> {
-    let mut observer = Some(Vec::new(rt.alloc()));
+    let mut watcher = keeping(&rt, Telling::Lines);
     let mut err = Vec::new(rt.alloc());
-    let text = copied(&rt, &rt, b"", &mut observer, &mut err)?;
+    let text = copied(&rt, &rt, b"", &mut watcher, &mut err)?;
     assert_eq!(rt; text.len(), 0);
-    assert_eq!(rt; observer.ok_or("no observer")?.len(), 0);
+    assert_eq!(rt; watcher.ok_or("no watcher")?.writer.len(), 0);
     let told =
         b"0 input events 0 in 0 sent 0\n1 output events 0 in 0 sent 0\nmessages 0\nepochs 0\n";
     assert_eq!(rt; err.as_slice(), told.as_slice());
@@ -96,13 +128,13 @@ fn no_epoch_passes(rt: HostRuntime) -> Result<(), Fail> {
 
 #[test]
 fn told_to_nobody(rt: HostRuntime) -> Result<(), Fail> {
-    let text = copied(
-        &rt,
-        &rt,
-        b"epoch\na 1\nepoch\n",
-        &mut Some(Broken),
-        &mut Broken,
-    )?;
-    assert_eq!(rt; text.as_slice(), b"epoch 0\n1\nepoch 1\n".as_slice());
+    for telling in [Telling::Lines, Telling::InPlace] {
+        let mut watcher = Some(Watcher {
+            writer: Broken,
+            telling,
+        });
+        let text = copied(&rt, &rt, b"epoch\na 1\nepoch\n", &mut watcher, &mut Broken)?;
+        assert_eq!(rt; text.as_slice(), b"epoch 0\n1\nepoch 1\n".as_slice());
+    }
     Ok(())
 }

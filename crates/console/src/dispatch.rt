@@ -17,6 +17,7 @@ use bumpalo::Bump;
 use collector::Watched;
 use command_line::{GraphForm, HeapSize, LineFault, Options, Workers, options};
 use diagnostics::{Fault, Texts, explain_fault, explained, write_explanation};
+use execution::Watcher;
 use linked_list_allocator::LocalHeap;
 use refusals::NUMBERS;
 use std::alloc::{Allocator, Global};
@@ -43,7 +44,7 @@ fn run_named<
     input: &'a str,
     texts: &mut Texts,
     out: &mut Watched<W>,
-    watcher: &mut Option<O>,
+    watcher: &mut Option<Watcher<O>>,
     err: &mut E,
 ) -> Result<(), Fault>
     ensures { RunsOn (S.content sources.now) query.now input.now (W.contents (inner_of out.old)) (W.contents (inner_of out.new)) result }
@@ -259,7 +260,7 @@ fn obey<'a, R: Threads + Wait + Sync, S: Sources<'a>, W: Write, E: Write, O: Wri
     asked: Options<'a>,
     out: &mut Watched<W>,
     err: &mut E,
-    watcher: &mut Option<O>,
+    watcher: &mut Option<Watcher<O>>,
 ) -> u8
     ensures { Obeys (S.content sources.now) asked.entry (W.contents (inner_of out.old)) (W.contents (inner_of out.new)) result }
 {
@@ -333,7 +334,7 @@ pub fn answer<
     words: &'a [&'a str],
     out: &mut Watched<W>,
     err: &mut E,
-    watcher: &mut Option<O>,
+    watcher: &mut Option<Watcher<O>>,
 ) -> u8
     ensures { Answers (S.content sources.now) (map (λ s. s.now) words.entry.now) (W.contents (inner_of out.old)) (W.contents (inner_of out.new)) result }
 {

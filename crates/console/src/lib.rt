@@ -31,6 +31,7 @@ pub use compiling::compile;
 pub use diagnostics::{Fault, Texts};
 pub use disk::{Disk, LateFile};
 pub use dispatch::{answer, refuse};
+pub use execution::{Telling, Watcher};
 pub use fault::CompileFault;
 pub use following::follow_query;
 pub use formatting::format_query;

@@ -13,7 +13,7 @@ use crate::fault::run_fault;
 use collector::{Epochs, OutFault, Watched, write_epochs};
 use command_line::Workers;
 use diagnostics::Fault;
-use execution::{emitted, execute};
+use execution::{Watcher, emitted, execute};
 use lowering::Graph;
 use progress::LocationTracker;
 use statistics::Tally;
@@ -56,12 +56,12 @@ fn respond_by<R: Threads + Wait + Sync, G: Gate + Sync, W: Write, O: Write + Sen
     epochs: &Epochs,
     gate: &G,
     writer: &mut Watched<W>,
-    observer: &mut Option<O>,
+    watcher: &mut Option<Watcher<O>>,
 ) -> Result<(), Fault>
     ensures text { (query : List ℕ) (c : IsCompiled query (shown_graph graph.value) (shown_inputs graph.value) (shown_names graph.value)) → Responds c.program (epoch_count epochs.now) (records_at epochs.now) (W.contents (inner_of writer.old)) (W.contents (inner_of writer.new)) result }
     ensures failed { IsErrOf result fault.Write → has_failed writer.new ≡ true }
 {
-    match execute(rt, alloc, graph, workers.count(), epochs, gate, observer) {
+    match execute(rt, alloc, graph, workers.count(), epochs, gate, watcher) {
         Ok(report) => write_emitted(alloc, &report, epochs, writer),
         Err(unfinished) => Err(run_fault(unfinished)),
     }
@@ -75,7 +75,7 @@ fn respond_counted<R: Threads + Wait + Sync, W: Write, O: Write + Send, E: Write
     graph: Arc<Graph, Global>,
     epochs: &Epochs,
     writer: &mut Watched<W>,
-    observer: &mut Option<O>,
+    watcher: &mut Option<Watcher<O>>,
     err: &mut E,
 ) -> Result<(), Fault>
     ensures text { (query : List ℕ) (c : IsCompiled query (shown_graph graph.value) (shown_inputs graph.value) (shown_names graph.value)) → Responds c.program (epoch_count epochs.now) (records_at epochs.now) (W.contents (inner_of writer.old)) (W.contents (inner_of writer.new)) result }
@@ -85,7 +85,7 @@ fn respond_counted<R: Threads + Wait + Sync, W: Write, O: Write + Send, E: Write
         Ok(tally) => tally,
         Err(_) => return Err(Fault::NoMemory),
     };
-    let done = respond_by(rt, alloc, workers, graph, epochs, &tally, writer, observer);
+    let done = respond_by(rt, alloc, workers, graph, epochs, &tally, writer, watcher);
     if done.is_ok() {
         let _ = tally.write(err);
     }
@@ -93,7 +93,7 @@ fn respond_counted<R: Threads + Wait + Sync, W: Write, O: Write + Send, E: Write
 }
 
 /// Has the workers work the epochs off over the graph, and writes what was emitted: whatever text the graph was compiled from, what that
-/// means on the epochs. The observer is told how many epochs have passed. With `stats` a line for each vertex on `err` says then what it did.
+/// means on the epochs. The watcher is told how many epochs have passed. With `stats` a line for each vertex on `err` says then what it did.
 pub fn respond<R: Threads + Wait + Sync, W: Write, O: Write + Send, E: Write>(
     rt: &R,
     alloc: Global,
@@ -102,7 +102,7 @@ pub fn respond<R: Threads + Wait + Sync, W: Write, O: Write + Send, E: Write>(
     graph: Graph,
     epochs: &Epochs,
     writer: &mut Watched<W>,
-    observer: &mut Option<O>,
+    watcher: &mut Option<Watcher<O>>,
     err: &mut E,
 ) -> Result<(), Fault>
     ensures text { (query : List ℕ) (c : IsCompiled query (shown_graph graph) (shown_inputs graph) (shown_names graph)) → Responds c.program (epoch_count epochs.now) (records_at epochs.now) (W.contents (inner_of writer.old)) (W.contents (inner_of writer.new)) result }
@@ -112,8 +112,8 @@ pub fn respond<R: Threads + Wait + Sync, W: Write, O: Write + Send, E: Write>(
         return Err(Fault::NoMemory);
     };
     if stats {
-        respond_counted(rt, alloc, workers, graph, epochs, writer, observer, err)
+        respond_counted(rt, alloc, workers, graph, epochs, writer, watcher, err)
     } else {
-        respond_by(rt, alloc, workers, graph, epochs, &NoGate, writer, observer)
+        respond_by(rt, alloc, workers, graph, epochs, &NoGate, writer, watcher)
     }
 }

@@ -21,6 +21,7 @@ use collector::{
 };
 use command_line::Workers;
 use diagnostics::{Fault, Texts};
+use execution::Watcher;
 use lowering::{DeclaredInput, Graph};
 use std::alloc::{AllocError, Global};
 use std::io::{Read, Write};
@@ -101,7 +102,7 @@ fn answer<R: Threads + Wait + Sync, W: Write, O: Write + Send, E: Write>(
     query: &[u8],
     input: &[u8],
     writer: &mut Watched<W>,
-    observer: &mut Option<O>,
+    watcher: &mut Option<Watcher<O>>,
     err: &mut E,
 ) -> Result<(), Fault>
     ensures ends { Ends query.now input.now (W.contents (inner_of writer.old)) (W.contents (inner_of writer.new)) result }
@@ -118,7 +119,7 @@ fn answer<R: Threads + Wait + Sync, W: Write, O: Write + Send, E: Write>(
         Err(refusal) => return Err(input_fault(refusal)),
     };
     respond(
-        rt, alloc, workers, stats, graph, &epochs, writer, observer, err,
+        rt, alloc, workers, stats, graph, &epochs, writer, watcher, err,
     )
 }
 
@@ -126,7 +127,7 @@ fn answer<R: Threads + Wait + Sync, W: Write, O: Write + Send, E: Write>(
 ///
 /// The faults in the order in which they are told: the query can't be read, the input can't be read, the query is refused, the
 /// input is refused, the writer failed. Want of memory may come at any place, and a worker that can't be started before anything is
-/// written. The texts that were read are left in `texts`. An observer that is given is told how many epochs have passed, by lines
+/// written. The texts that were read are left in `texts`. A watcher that is given is told how many epochs have passed, as
 /// `passed M` with rising numbers, the last one once all workers have ended; where its writer fails, nothing else changes. With `stats`
 /// lines on `err` say, once the answer is written, what each vertex of the graph computed, took in and sent; where that writer fails,
 /// nothing else changes.
@@ -139,7 +140,7 @@ pub fn run<R: Threads + Wait + Sync, Q: Read, I: Read, W: Write, O: Write + Send
     input: &mut Watched<I>,
     texts: &mut Texts,
     writer: &mut Watched<W>,
-    observer: &mut Option<O>,
+    watcher: &mut Option<Watcher<O>>,
     err: &mut E,
 ) -> Result<(), Fault>
     ensures ends { IfSome (Q.remaining (inner_of query.old)) (λ q. IfSome (I.remaining (inner_of input.old)) (λ i. Ends (take 1048577 q) i (W.contents (inner_of writer.old)) (W.contents (inner_of writer.new)) result)) }
@@ -166,7 +167,7 @@ pub fn run<R: Threads + Wait + Sync, Q: Read, I: Read, W: Write, O: Write + Send
         &texts.query,
         &texts.input,
         writer,
-        observer,
+        watcher,
         err,
     )
 }

@@ -1,7 +1,7 @@
 //! What `./loom` prints, by the call that the program `loom` makes.
 
 use collector::Watched;
-use console::{Disk, LateFile, Sources, answer};
+use console::{Disk, LateFile, Sources, Telling, Watcher, answer};
 use std::io;
 use std::io::Read;
 use std::sync::Wait;
@@ -68,7 +68,10 @@ fn prints(
     };
     let mut out = Watched::new(Vec::new(rt.alloc()));
     let mut err = Vec::new(rt.alloc());
-    let mut told = Some(Vec::new(rt.alloc()));
+    let mut watcher = Some(Watcher {
+        writer: Vec::new(rt.alloc()),
+        telling: Telling::Lines,
+    });
     let status = answer(
         threads,
         rt.alloc(),
@@ -76,11 +79,11 @@ fn prints(
         words,
         &mut out,
         &mut err,
-        &mut told,
+        &mut watcher,
     );
     let mut shown = out.into_inner();
-    if let Some(told) = told {
-        shown.extend_from_slice(told.as_slice())?;
+    if let Some(watcher) = watcher {
+        shown.extend_from_slice(watcher.writer.as_slice())?;
     }
     shown.extend_from_slice(err.as_slice())?;
     Ok(Printed { status, shown })

@@ -9,6 +9,7 @@ use crate::readings::is_fed;
 use crate::task::Task;
 use crate::threads::{work_off, work_off_watched};
 use crate::unfinished::Unfinished;
+use crate::watching::Watcher;
 use board::Board;
 use collector::Epochs;
 use lowering::Graph;
@@ -30,7 +31,7 @@ fn drive<J: Naming + Send + Sync, R: Threads + Wait + Sync, G: Gate + Sync, W: W
     seat: Seat,
     task: Task<'_>,
     gate: &G,
-    observer: &mut Option<W>,
+    watcher: &mut Option<Watcher<W>>,
 ) -> Result<Report<LocationTracker>, Unfinished>
     requires names { tables board ≡ J.names }
     requires graph { board.graph ≡ J.graph }
@@ -40,9 +41,9 @@ fn drive<J: Naming + Send + Sync, R: Threads + Wait + Sync, G: Gate + Sync, W: W
     ensures drained { IfOk result IsDrained }
 {
     let engine = Engine::<J, LocationTracker>::new(alloc, board, publisher)?;
-    let done = match observer {
+    let done = match watcher {
         None => work_off(rt, alloc, &engine, task, gate),
-        Some(writer) => work_off_watched(rt, alloc, &engine, task, gate, mark, seat, writer),
+        Some(watcher) => work_off_watched(rt, alloc, &engine, task, gate, mark, seat, watcher),
     };
     let Some(report) = finish(engine, mark, Vec::new(alloc)) else {
         return Err(Unfinished::Incomplete);
@@ -64,7 +65,7 @@ fn driven<R: Threads + Wait + Sync, G: Gate + Sync, W: Write + Send>(
     board: Board<LocationTracker>,
     task: Task<'_>,
     gate: &G,
-    observer: &mut Option<W>,
+    watcher: &mut Option<Watcher<W>>,
 ) -> Result<Report<LocationTracker>, Unfinished>
     ensures graph { IfOk result (λ r. r.graph ≡ board.graph) }
     ensures drained { IfOk result IsDrained }
@@ -74,15 +75,15 @@ fn driven<R: Threads + Wait + Sync, G: Gate + Sync, W: Write + Send>(
         return Err(Unfinished::Incomplete);
     };
     drive::<Brand, R, G, W>(
-        rt, alloc, board, publisher, &mark, seat, task, gate, observer,
+        rt, alloc, board, publisher, &mark, seat, task, gate, watcher,
     )
 }
 
 /// Feeds the epochs to an engine of so many workers over the graph, and works it off: each event is computed by the gate. Its promise
 /// holds if it ends.
 ///
-/// Ok only where nothing is left to do, and each input was fed, at each epoch, just what was read. An observer that is given is told how
-/// many epochs have passed, as lines `passed M` with rising numbers; where its writer fails, nothing else changes.
+/// Ok only where nothing is left to do, and each input was fed, at each epoch, just what was read. A watcher that is given is told how
+/// many epochs have passed, as `passed M` with rising numbers; where its writer fails, nothing else changes.
 pub fn execute<R: Threads + Wait + Sync, G: Gate + Sync, W: Write + Send>(
     rt: &R,
     alloc: Global,
@@ -90,7 +91,7 @@ pub fn execute<R: Threads + Wait + Sync, G: Gate + Sync, W: Write + Send>(
     workers: u32,
     epochs: &Epochs,
     gate: &G,
-    observer: &mut Option<W>,
+    watcher: &mut Option<Watcher<W>>,
 ) -> Result<Report<LocationTracker>, Unfinished>
     requires some { 0 < workers }
     requires few { workers ≤ 64 }
@@ -105,7 +106,7 @@ pub fn execute<R: Threads + Wait + Sync, G: Gate + Sync, W: Write + Send>(
         inputs,
         workers,
     };
-    let report = driven(rt, alloc, board, task, gate, observer)?;
+    let report = driven(rt, alloc, board, task, gate, watcher)?;
     if is_fed(&report, inputs, epochs, epochs.count()) {
         Ok(report)
     } else {

@@ -2,7 +2,7 @@
 //!
 //! With one worker the caller's thread feeds and works in turn, and no thread is started. With more, each worker has a thread of its
 //! own, the caller's thread feeds, and it sleeps while it is 256 epochs ahead of what has passed. Small epochs are fed many at once. Each
-//! event is computed by the caller's gate. Whoever wants to see how far the run is gives a writer: one thread more writes to it how many
+//! event is computed by the caller's gate. Whoever wants to see how far the run is gives a watcher: one thread more tells it how many
 //! epochs have passed.
 //!
 //! | Call | What it does | Fails |
@@ -27,3 +27,4 @@ mod watching;
 pub use executing::execute;
 pub use outputs::emitted;
 pub use unfinished::Unfinished;
+pub use watching::{Telling, Watcher};

@@ -5,7 +5,7 @@ ghost use Rattle.std.specs.Prelude.{◌≡◌};
 use crate::feeding::{close_inputs, feed_epochs};
 use crate::task::Task;
 use crate::unfinished::Unfinished;
-use crate::watching::watch;
+use crate::watching::{Watcher, watch};
 use progress::LocationTracker;
 use std::alloc::Global;
 use std::io::Write;
@@ -81,11 +81,11 @@ pub fn work_off_watched<
     gate: &G,
     mark: &Mark,
     seat: Seat,
-    writer: &mut W,
+    watcher: &mut Watcher<W>,
 ) -> Result<(), Unfinished>
     requires { seat.table ≡ mark.now }
 {
-    let lent = &mut *writer;
+    let lent = &mut *watcher;
     let ((), done) = join(
         rt,
         move || watch(rt, engine, mark, seat, lent),

@@ -9,22 +9,54 @@ use std::io::Write;
 use std::sync::Wait;
 use workers::{Engine, Mark, Naming, Seat};
 
-/// One line, in one write.
-fn write_line<W: Write>(writer: &mut W, passed: u64) -> io::Result<()> {
-    let mut line: ArrayVec<u8, 32> = ArrayVec::new();
-    writeln!(line, "passed {passed}")?;
-    writer.write_all(line.as_slice())?;
-    writer.flush()
+/// How a watcher is told how many epochs have passed.
+#[derive(Clone, Copy, Debug, PartialEq, Eq)]
+pub enum Telling {
+    /// By a line each time, as a file or a pipe needs it.
+    Lines,
+    /// By one line of a terminal, whose number rises in place.
+    InPlace,
 }
 
-/// Writes `passed M` whenever more epochs have passed than were told, and sleeps in between. It ends when no more can pass, or the writer
+/// A writer that is told how many epochs have passed.
+#[derive(Drop)]
+pub struct Watcher<W> {
+    pub writer: W,
+    pub telling: Telling,
+}
+
+impl<W: Write> Watcher<W> {
+    /// Tells one number, in one write.
+    fn tell(&mut self, passed: u64) -> io::Result<()> {
+        let mut text: ArrayVec<u8, 32> = ArrayVec::new();
+        match self.telling {
+            Telling::Lines => writeln!(text, "passed {passed}")?,
+            Telling::InPlace => write!(text, "\rpassed {passed}")?,
+        }
+        self.writer.write_all(text.as_slice())?;
+        self.writer.flush()
+    }
+
+    /// Ends the line that rose in place. Other lines have ended.
+    fn end(&mut self) -> io::Result<()> {
+        match self.telling {
+            Telling::Lines => Ok(()),
+            Telling::InPlace => {
+                self.writer.write_all(b"\n")?;
+                self.writer.flush()
+            }
+        }
+    }
+}
+
+/// Tells the watcher whenever more epochs have passed than were told, and sleeps in between. It ends when no more can pass, or the writer
 /// has failed.
 pub fn watch<J: Naming, R: Wait, W: Write>(
     rt: &R,
     engine: &Engine<J, LocationTracker>,
     mark: &Mark,
     mut seat: Seat,
-    writer: &mut W,
+    watcher: &mut Watcher<W>,
 )
     requires { seat.table ≡ mark.now }
 {
@@ -32,9 +64,15 @@ pub fn watch<J: Naming, R: Wait, W: Write>(
     for _turn in rt.forever() {
         engine.wait_for(rt, told.saturating_add(1));
         let passed = mark.observe(&mut seat);
-        if passed <= told || write_line(writer, passed).is_err() {
+        if passed <= told {
+            break;
+        }
+        if watcher.tell(passed).is_err() {
             return;
         }
         told = passed;
+    }
+    if told > 0 {
+        let _ = watcher.end();
     }
 }

@@ -1,9 +1,9 @@
-//! The program `loom`: words, files, exit status. What it answers is `console`'s; nothing is decided here.
+//! The program `loom`: words, files, exit status. What it answers is `console`'s; only whether standard error is a terminal is asked here.
 #![tactic(auto)]
 
 use collector::Watched;
-use console::{Disk, LineFault, answer, refuse};
-use std::io::ErrorKind;
+use console::{Disk, LineFault, Telling, Watcher, answer, refuse};
+use std::io::{ErrorKind, IsTerminal, Stderr};
 use std::process::ExitCode;
 use std::sync::Wait;
 use std::thread::Threads;
@@ -18,12 +18,23 @@ fn words_given(rt: &HostRuntime) -> Result<Vec<String>, LineFault> {
     }
 }
 
+/// Standard error, which is told how far a run is that is watched: in one line, if it is a terminal.
+fn watcher_of(rt: &HostRuntime) -> Watcher<Stderr> {
+    let writer = rt.stderr();
+    let telling = if writer.is_terminal() {
+        Telling::InPlace
+    } else {
+        Telling::Lines
+    };
+    Watcher { writer, telling }
+}
+
 /// Does what the words ask for, and gives the status.
 fn answer_words(rt: &HostRuntime, threads: &(impl Threads + Wait + Sync), words: &[&str]) -> u8 {
     let disk = Disk::new(rt);
     let mut out = Watched::new(io::writer(rt));
     let mut err = rt.stderr();
-    let mut watcher = Some(rt.stderr());
+    let mut watcher = Some(watcher_of(rt));
     answer(
         threads,
         rt.alloc(),
