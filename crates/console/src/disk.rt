@@ -1,9 +1,15 @@
-//! The files of the system, each opened when it is first read.
+//! The texts of the system: standard input, and files, each opened when it is first read.
 
 use crate::sources::Sources;
 use std::fs::File;
 use std::io;
-use std::io::Read;
+use std::io::{Read, Stdin};
+
+/// Opens a file, by a descriptor above those of the standard streams. The first one is the lowest that is free: where standard input is
+/// closed it is that of standard input, and whoever reads that would read this file.
+fn opened(rt: &HostRuntime, path: &str) -> io::Result<File> {
+    File::open(rt, path)?.try_clone()
+}
 
 /// A file by its path. It is opened by its first read, so that what is read before it is told before it, where neither can be.
 #[derive(Drop)]
@@ -28,10 +34,28 @@ impl Read for LateFile<'_> {
         if let Some(file) = &mut self.file {
             return file.read(buf);
         }
-        let mut file = File::open(self.rt, self.path)?;
+        let mut file = opened(self.rt, self.path)?;
         let count = file.read(buf)?;
         self.file = Some(file);
         Ok(count)
+    }
+}
+
+/// A text of the system.
+#[derive(Drop)]
+pub enum DiskText<'a> {
+    /// What is left of standard input. Where that is closed, a read fails.
+    Input(Stdin),
+    /// The text of a file.
+    File(LateFile<'a>),
+}
+
+impl Read for DiskText<'_> {
+    fn read(&mut self, buf: &mut [u8]) -> io::Result<usize> {
+        match self {
+            DiskText::Input(input) => input.read(buf),
+            DiskText::File(file) => file.read(buf),
+        }
     }
 }
 
@@ -48,10 +72,13 @@ impl<'a> Disk<'a> {
 }
 
 impl<'a> Sources<'a> for Disk<'a> {
-    type Reader = LateFile<'a>;
+    type Reader = DiskText<'a>;
 
-    fn open(&self, name: &'a str) -> LateFile<'a> {
-        let path = if name == "-" { "/dev/stdin" } else { name };
-        LateFile::new(self.rt, path)
+    fn open(&self, name: &'a str) -> DiskText<'a> {
+        if name == "-" {
+            DiskText::Input(self.rt.stdin())
+        } else {
+            DiskText::File(LateFile::new(self.rt, name))
+        }
     }
 }

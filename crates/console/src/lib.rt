@@ -29,7 +29,7 @@ pub use checking::check_query;
 pub use command_line::{GraphForm, HeapSize, LineFault, Options, Workers};
 pub use compiling::compile;
 pub use diagnostics::{Fault, Texts};
-pub use disk::{Disk, LateFile};
+pub use disk::{Disk, DiskText};
 pub use dispatch::{answer, refuse};
 pub use execution::{Telling, Watcher};
 pub use fault::CompileFault;

@@ -1,7 +1,7 @@
 //! What `./loom` prints, by the call that the program `loom` makes.
 
 use collector::Watched;
-use console::{Disk, LateFile, Sources, Telling, Watcher, answer};
+use console::{Disk, DiskText, Sources, Telling, Watcher, answer};
 use std::io;
 use std::io::Read;
 use std::sync::Wait;
@@ -13,7 +13,7 @@ const TIMES: usize = 20;
 /// The status of a line that is refused.
 const REFUSED: u8 = 2;
 
-/// The texts that a line of a page names: files, and as `/dev/stdin` what is piped to it.
+/// The texts that a line of a page names: files, and as `-` or `/dev/stdin` what is piped to it.
 #[derive(Clone, Copy)]
 struct Page<'a> {
     disk: Disk<'a>,
@@ -24,14 +24,14 @@ struct Page<'a> {
 #[derive(Drop)]
 enum PageText<'a> {
     Piped(&'a [u8]),
-    File(LateFile<'a>),
+    Disk(DiskText<'a>),
 }
 
 impl Read for PageText<'_> {
     fn read(&mut self, buf: &mut [u8]) -> io::Result<usize> {
         match self {
             PageText::Piped(bytes) => bytes.read(buf),
-            PageText::File(file) => file.read(buf),
+            PageText::Disk(text) => text.read(buf),
         }
     }
 }
@@ -42,7 +42,7 @@ impl<'a> Sources<'a> for Page<'a> {
     fn open(&self, name: &'a str) -> PageText<'a> {
         match self.piped {
             Some(bytes) if name == "/dev/stdin" || name == "-" => PageText::Piped(bytes),
-            _ => PageText::File(self.disk.open(name)),
+            _ => PageText::Disk(self.disk.open(name)),
         }
     }
 }
