@@ -50,9 +50,11 @@ run_app =
     (word_rule (codes "QUERY")))
     (word_rule (codes "INPUT"))
 
--- `follow QUERY INPUT`, with or without `--explain`
+-- `follow QUERY INPUT`, with or without `--workers N` and `--explain`
 abbrev pub follow_app : App
-follow_app = with_rule (with_rule (with_rule (new_app (codes "follow")) (flag_rule (codes "explain"))) (word_rule (codes "QUERY"))) (word_rule (codes "INPUT"))
+follow_app =
+    with_rule (with_rule (with_rule (with_rule (new_app (codes "follow")) (option_rule (codes "workers"))) (flag_rule (codes "explain"))) (word_rule (codes "QUERY")))
+    (word_rule (codes "INPUT"))
 
 -- `replay QUERY SCHEDULE`, with or without `--workers N` and `--explain`
 abbrev pub replay_app : App
@@ -100,8 +102,9 @@ abbrev pub HoldsAt : Text → List Row → Options → Type 0
 HoldsAt name rows (Run query input workers watch stats explain) =
     (name ≡ codes "run") × (first_of (codes "QUERY") rows ≡ Some query.now) × (first_of (codes "INPUT") rows ≡ Some input.now) × AreAskedFor (first_of (codes "workers") rows) workers.count
     × IsFlag (codes "watch") rows watch × IsFlag (codes "stats") rows stats × IsFlag (codes "explain") rows explain
-HoldsAt name rows (Follow query input explain) =
-    (name ≡ codes "follow") × (first_of (codes "QUERY") rows ≡ Some query.now) × (first_of (codes "INPUT") rows ≡ Some input.now) × IsFlag (codes "explain") rows explain
+HoldsAt name rows (Follow query input workers explain) =
+    (name ≡ codes "follow") × (first_of (codes "QUERY") rows ≡ Some query.now) × (first_of (codes "INPUT") rows ≡ Some input.now) × AreAskedFor (first_of (codes "workers") rows) workers.count
+    × IsFlag (codes "explain") rows explain
 HoldsAt name rows (Check query input heap explain) =
     (name ≡ codes "check") × (first_of (codes "QUERY") rows ≡ Some query.now) × (option_map (λ s. s.now) input ≡ first_of (codes "INPUT") rows) × IsAskedHeap (first_of (codes "heap") rows) heap
     × IsFlag (codes "explain") rows explain

@@ -151,6 +151,7 @@ fn follow_command<'a>(alloc: Global) -> Result<Command<'a>, AllocError>
         "follow",
         "Answer a query while its input comes, and tell which epochs are complete",
     )
+    .arg(workers_arg(alloc))?
     .arg(explain_arg(alloc))?
     .arg(word_arg(alloc, "QUERY"))?
     .arg(word_arg(alloc, "INPUT"))
@@ -247,7 +248,9 @@ fn check_options<'a>(found: &ArgMatches<'a>, heap: Option<HeapSize>) -> Option<O
     })
 }
 
-fn follow_options<'a>(found: &ArgMatches<'a>) -> Option<Options<'a>>
+/// The options of following on so many workers.
+fn follow_options<'a>(found: &ArgMatches<'a>, workers: Workers) -> Option<Options<'a>>
+    requires { AreAskedFor (first_of (codes "workers") (rows_of (found_of found.now))) workers.count }
     ensures { IfSome result (HoldsAt (codes "follow") (rows_of (found_of found.now))) }
 {
     let query = text_of(found, "QUERY")?;
@@ -256,6 +259,7 @@ fn follow_options<'a>(found: &ArgMatches<'a>) -> Option<Options<'a>>
     Some(Options::Follow {
         query,
         input,
+        workers,
         explain,
     })
 }
@@ -376,6 +380,16 @@ fn run_line<'a>(alloc: Global, found: &ArgMatches<'a>) -> Result<Options<'a>, Li
     }
 }
 
+/// What the matches of `follow` hold.
+fn follow_line<'a>(alloc: Global, found: &ArgMatches<'a>) -> Result<Options<'a>, LineFault>
+    ensures { IfOk result (HoldsAt (codes "follow") (rows_of (found_of found.now))) }
+{
+    match workers_of(found) {
+        Ok(workers) => follow_options(found, workers).ok_or(LineFault::NoCommand),
+        Err(word) => Err(workers_fault(alloc, word)),
+    }
+}
+
 /// What the matches of `replay` hold.
 fn replay_line<'a>(alloc: Global, found: &ArgMatches<'a>) -> Result<Options<'a>, LineFault>
     ensures { IfOk result (HoldsAt (codes "replay") (rows_of (found_of found.now))) }
@@ -391,7 +405,6 @@ fn options_at<'a>(name: &str, found: &ArgMatches<'a>) -> Option<Options<'a>>
     ensures { IfSome result (HoldsAt name.now (rows_of (found_of found.now))) }
 {
     match name.as_bytes() {
-        b"follow" => follow_options(found),
         b"format" => format_options(found),
         b"explain" => Some(Options::Explain {
             code: text_of(found, "CODE")?,
@@ -410,6 +423,7 @@ fn line_options<'a>(
 {
     match name.as_bytes() {
         b"run" => run_line(alloc, found),
+        b"follow" => follow_line(alloc, found),
         b"replay" => replay_line(alloc, found),
         b"check" => check_line(alloc, found),
         b"graph" => graph_line(alloc, found),

@@ -16,10 +16,11 @@ pub enum Options<'a> {
         stats: bool,
         explain: bool,
     },
-    /// `loom follow QUERY INPUT`, and a fault explained with `--explain`
+    /// `loom follow QUERY INPUT`, on one worker or `--workers N`, and a fault explained with `--explain`
     Follow {
         query: &'a str,
         input: &'a str,
+        workers: Workers,
         explain: bool,
     },
     /// `loom check QUERY`, or `loom check QUERY INPUT`, which reads the input too; in a heap of that size with `--heap BYTES`; and a fault

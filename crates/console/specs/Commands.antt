@@ -55,7 +55,7 @@ Explains code old new result = (row : Explanation) × (code ≡ decimal row.code
 -- the command of these options ends so
 abbrev pub EndsOn : Known → Options → Option (List ℕ) → Option (List ℕ) → Result (Unit {0}) Fault → Type 0
 EndsOn texts (Run query input workers watch stats explain) old new result = RunsOn texts query.now input.now old new result
-EndsOn texts (Follow query input explain) old new result = FollowsOn texts query.now input.now old new result
+EndsOn texts (Follow query input workers explain) old new result = FollowsOn texts query.now input.now old new result
 EndsOn texts (Check query input heap explain) old new result = ChecksOn texts query.now (option_map (λ s. s.now) input) old new result
 EndsOn texts (Graph query form heap explain) old new result = GraphsOn texts form query.now old new result
 EndsOn texts (Format query explain) old new result = FormatsOn texts query.now old new result

@@ -59,10 +59,12 @@ fn run_named<
     )
 }
 
-/// Follows an input.
-fn follow_named<'a, S: Sources<'a>, W: Write>(
+/// Follows an input with so many workers.
+fn follow_named<'a, R: Threads + Sync, S: Sources<'a>, W: Write>(
+    rt: &R,
     alloc: Global,
     sources: &S,
+    workers: Workers,
     query: &'a str,
     input: &'a str,
     texts: &mut Texts,
@@ -72,7 +74,7 @@ fn follow_named<'a, S: Sources<'a>, W: Write>(
 {
     let mut query = Watched::new(sources.open(query));
     let mut records = Watched::new(sources.open(input));
-    follow_query(alloc, &mut query, &mut records, texts, out)
+    follow_query(rt, alloc, workers, &mut query, &mut records, texts, out)
 }
 
 /// Checks a query, and an input where one is named, with the query's tree in the arena.
@@ -197,6 +199,7 @@ fn texts_of<'a>(asked: &Options<'a>) -> (&'a str, &'a str, bool) {
             query,
             input,
             explain,
+            ..
         } => (query, input, explain),
         Options::Check {
             query,
@@ -209,14 +212,6 @@ fn texts_of<'a>(asked: &Options<'a>) -> (&'a str, &'a str, bool) {
         }
         Options::Explain { .. } => ("", "", false),
     }
-}
-
-/// Whether the text in which a fault stands was kept. The input that is followed isn't.
-fn is_kept(asked: &Options, fault: &Fault) -> bool {
-    !matches!(
-        (asked, fault),
-        (Options::Follow { .. }, Fault::Input { .. })
-    )
 }
 
 /// Tells how a command has ended: a fault's line, and what is wrong at its place where that is asked for. Gives the status, which says it
@@ -235,7 +230,7 @@ fn tell<E: Write>(
         Err(fault) => {
             let (query, input, explain) = texts_of(asked);
             let _ = fault.write_line(query, input, err);
-            if explain && is_kept(asked, fault) {
+            if explain {
                 let _ = explain_fault(alloc, fault, texts, err);
             }
             fault.status()
@@ -276,9 +271,12 @@ fn obey<'a, R: Threads + Wait + Sync, S: Sources<'a>, W: Write, E: Write, O: Wri
         } => run_named(
             rt, alloc, sources, workers, watch, stats, query, input, &mut texts, out, watcher, err,
         ),
-        Options::Follow { query, input, .. } => {
-            follow_named(alloc, sources, query, input, &mut texts, out)
-        }
+        Options::Follow {
+            query,
+            input,
+            workers,
+            ..
+        } => follow_named(rt, alloc, sources, workers, query, input, &mut texts, out),
         Options::Check {
             query,
             input,

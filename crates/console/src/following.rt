@@ -8,17 +8,22 @@ ghost use Rattle.diagnostics.specs.declared.fault.Fault.TheVariants as fault;
 use crate::fault::follow_fault;
 use crate::running::{graph_of_text, read_query};
 use collector::Watched;
+use command_line::Workers;
 use diagnostics::{Fault, Texts};
-use follow::follow;
+use follow::{Crew, follow};
 use std::alloc::Global;
 use std::io::{Read, Write};
+use std::thread::Threads;
 
 /// Follows an input over the graph of a query text.
 #[tactic(auto, using(crate::proofs::FollowedText::ends_well, crate::proofs::FollowedText::ends_ill, crate::proofs::FollowedText::refused_ends, crate::proofs::FollowedText::not_query, crate::proofs::FollowedText::not_read, crate::proofs::FollowedText::not_written, crate::proofs::FollowedText::query_of, crate::proofs::FollowedText::read_of, crate::proofs::FollowedText::written_of))]
-fn follow_text<I: Read, W: Write>(
+fn follow_text<R: Threads + Sync, I: Read, W: Write>(
+    rt: &R,
     alloc: Global,
+    workers: Workers,
     query: &[u8],
     input: &mut Watched<I>,
+    rest: &mut Vec<u8>,
     writer: &mut Watched<W>,
 ) -> Result<(), Fault>
     ensures ends { FollowEnds query.now (I.remaining (inner_of input.old)) (W.contents (inner_of writer.old)) (W.contents (inner_of writer.new)) result }
@@ -30,19 +35,31 @@ fn follow_text<I: Read, W: Write>(
         Ok(graph) => graph,
         Err(fault) => return Err(fault),
     };
-    match follow(alloc, graph, input, writer) {
+    match follow(
+        rt,
+        alloc,
+        Crew::new(workers.count()),
+        graph,
+        input,
+        rest,
+        writer,
+    ) {
         Ok(()) => Ok(()),
         Err(ending) => Err(follow_fault(ending)),
     }
 }
 
-/// Reads a query, then its input as it comes, and writes the answer line by line while it does. Its promise holds if it ends.
+/// Reads a query, then its input as it comes, and writes the answer line by line while it does, with so many workers. Its promise holds if it
+/// ends.
 ///
 /// A line `E f1 f2 ..` is a record of epoch E's answer, with its output's name after E where there are several outputs, and a line
 /// `complete E` says that all of them stand above. Epochs come in order. After a fault what was written stays true of the lines before
-/// it: the faults are those of a run, and the query is told before the input is opened. Of the texts only the query is left in `texts`.
-pub fn follow_query<Q: Read, I: Read, W: Write>(
+/// it: the faults are those of a run, and the query is told before the input is opened. The query is left in `texts`, and of the input
+/// what was read from a faulty line on.
+pub fn follow_query<R: Threads + Sync, Q: Read, I: Read, W: Write>(
+    rt: &R,
     alloc: Global,
+    workers: Workers,
     query: &mut Watched<Q>,
     input: &mut Watched<I>,
     texts: &mut Texts,
@@ -57,5 +74,11 @@ pub fn follow_query<Q: Read, I: Read, W: Write>(
         Ok(text) => texts.query = text,
         Err(fault) => return Err(fault),
     }
-    follow_text(alloc, &texts.query, input, writer)
+    let mut rest = Vec::new(alloc);
+    let ended = follow_text(rt, alloc, workers, &texts.query, input, &mut rest, writer);
+    if let Err(Fault::Input { line, .. }) = ended {
+        texts.input = rest;
+        texts.input_from = line;
+    }
+    ended
 }

@@ -68,10 +68,10 @@ fn line_at(text: &[u8], place: usize) -> Line<'_> {
     }
 }
 
-/// The line of that number, counted from 1; empty where the text has fewer.
-pub fn numbered_line(text: &[u8], number: u64) -> &[u8] {
+/// The line of that number, where the text's first line has the number `first`; empty where the text has fewer.
+pub fn numbered_line(text: &[u8], first: u64, number: u64) -> &[u8] {
     let mut rest = text;
-    for _before in 1..number {
+    for _before in first..number {
         match next_line(rest) {
             Some((_, after)) => rest = after,
             None => return &[],
@@ -157,11 +157,11 @@ pub fn write_marked<W: Write>(text: &[u8], span: Span, writer: &mut W) -> io::Re
     write_carets(&line, span.end.saturating_sub(span.start) as usize, writer)
 }
 
-/// Writes the line of a text that has that number, with its number.
-pub fn write_numbered<W: Write>(text: &[u8], number: u64, writer: &mut W) -> io::Result<()> {
+/// Writes a line of a text with its number.
+pub fn write_numbered<W: Write>(bytes: &[u8], number: u64, writer: &mut W) -> io::Result<()> {
     let line = Line {
         number,
-        bytes: numbered_line(text, number),
+        bytes,
         place: 0,
     };
     write_line(&line, writer)

@@ -30,12 +30,12 @@ pub fn explain_fault<W: Write>(
         }
         Fault::TooManyVertices => write_summary(21, writer),
         Fault::Input { code, line } => {
-            write_numbered(&texts.input, *line, writer)?;
-            let faulty = numbered_line(&texts.input, *line);
+            let faulty = numbered_line(&texts.input, texts.input_from, *line);
+            write_numbered(faulty, *line, writer)?;
             write_input_fault(alloc, &texts.query, *code, faulty, writer)
         }
         Fault::Schedule { code, line } => {
-            write_numbered(&texts.input, *line, writer)?;
+            write_numbered(numbered_line(&texts.input, 1, *line), *line, writer)?;
             write_schedule_fault(*code, writer)
         }
         Fault::NoMemory

@@ -5,11 +5,14 @@ ghost use Rattle.std.specs.Prelude.{◌≡◌, []};
 use std::alloc::Global;
 
 /// The query text, and the input text or the schedule, each empty until it is read. A text that couldn't be read to its end is not kept.
+/// Of an input that is followed, what stands from its faulty line on is kept.
 #[derive(Drop)]
 pub struct Texts {
     /// At most 1,048,577 bytes: one more than a query may have.
     pub query: Vec<u8>,
     pub input: Vec<u8>,
+    /// The number of the first line of `input`, counted from 1.
+    pub input_from: u64,
 }
 
 impl Texts {
@@ -21,6 +24,7 @@ impl Texts {
         Texts {
             query: Vec::new(alloc),
             input: Vec::new(alloc),
+            input_from: 1,
         }
     }
 }

@@ -1,7 +1,8 @@
 -- What calls leave, put together.
-use Rattle.std.proofs.Common.{◌≡◌, ◌<◌, ◌⊎◌, ◌-◌, ◌∙◌, ℕ, List, [], length, map, refl, sym, ap, subst, arith, inl, inr, get_or}
+use Rattle.std.proofs.Common.{◌≡◌, ◌<◌, ◌⊎◌, ◌-◌, ◌∙◌, ◌++◌, All, ℕ, List, [], length, map, refl, sym, ap, subst, arith, inl, inr, get_or}
 use Rattle.std.specs.Prelude.{Bool, true, false, Option, Some, None, Result, Ok, Err, OnOk, IfOk, IfNone, if◌then◌else◌, is_err, is_ok, is_some, not, slice_index_or}
-use Rattle.std.proofs.lemmas.List.{get_or-map}
+use Rattle.std.proofs.Math.ListN.{get_or-append}
+use Rattle.std.proofs.lemmas.List.{get_or-map, length-append}
 use Rattle.lowering.specs.Shown.{GraphValue, shown_names}
 use Rattle.lowering.specs.Views.{name_of_output}
 use Rattle.lowering.specs.declared.outputs.GraphOutput.{GraphOutput}
@@ -24,6 +25,17 @@ use Rattle.follow.proofs.Told.{told_later}
 pub on_ok : {T E A B : Type 0} (r : Result T E) → (A → B) → OnOk r A → OnOk r B
 on_ok (Ok t) f h = f h
 on_ok (Err e) f h = tt
+
+-- what holds of all elements holds of the first ones
+pub All-front : {X : Type 0} (P : X → Type 0) (xs ys : List X) → All P (xs ++ ys) → All P xs
+All-front P xs ys all = λ k d lt. subst P (get_or-append xs ys d k lt) (all k d (omega (arith, lt, length-append xs ys)))
+
+-- what the Ok of two calls says together
+pub on_both : {T U V E A B C : Type 0} (first : Result T E) (second : Result U E) (whole : Result V E) → IfOk whole (λ v. (is_ok first ≡ true) × (is_ok second ≡ true)) → (A → B → C) → OnOk first A → OnOk second B → OnOk whole C
+on_both (Ok t) (Ok u) (Ok v) both f a b = f a b
+on_both (Err e) second (Ok v) both f a b = absurd (let p : false ≡ true = both.0 in cc)
+on_both (Ok t) (Err e) (Ok v) both f a b = absurd (let p : false ≡ true = both.1 in cc)
+on_both first second (Err e) both f a b = tt
 
 pub both_ok : {T E : Type 0} {P Q S : T → Type 0} (r : Result T E) → ((t : T) → P t → Q t → S t) → IfOk r P → IfOk r Q → IfOk r S
 both_ok (Ok t) f p q = f t p q

@@ -1,4 +1,5 @@
 pub mod Calls
+pub mod Crossing
 pub mod Cuts
 pub mod DeclaredInputs
 pub mod Entries

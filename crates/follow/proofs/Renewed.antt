@@ -59,9 +59,9 @@ no_entries (entry ∷ entries) none =
     let one : entry.1 ∷ records_of entry.0 entries ≡ [] = ap (λ t. cond t (entry.1 ∷ records_of entry.0 entries) (records_of entry.0 entries)) (sym own) ∙ none entry.0 in
     absurd cc
 
-pub renewed : (g : GraphValue) (s t : Shown) (base last base2 : ℕ) (x y : Intake) (u v : Telling) (bytes pending : List ℕ) (start now : Option (List ℕ)) → IsOpening g 1 t → Shows t opening → y.begun ≡ 1 → y.line ≡ x.line → y.portion.items ≡ x.portion.items → v.done ≡ 0 → ((k : ℕ) → told_count u k ≡ 0)
+pub renewed : (g : GraphValue) (workers : ℕ) (s t : Shown) (base last base2 : ℕ) (x y : Intake) (u v : Telling) (bytes pending : List ℕ) (start now : Option (List ℕ)) → IsOpening g workers t → Shows t opening → y.begun ≡ 1 → y.line ≡ x.line → y.portion.items ≡ x.portion.items → v.done ≡ 0 → ((k : ℕ) → told_count u k ≡ 0)
     → ((k : ℕ) → told_count v k ≡ 0) → u.done ≡ last → x.begun ≡ last + 1 → base2 ≡ base + last → (w : IsWritten g s base x u bytes pending start now) → EndsInEpoch w.known.items → IsWritten g t base2 y v bytes pending start now
-renewed g s t base last base2 x y u v bytes pending start now opens shows one line portion zero untold fresh done begun moved w ends =
+renewed g workers s t base last base2 x y u v bytes pending start now opens shows one line portion zero untold fresh done begun moved w ends =
     let k = w.known in
     record {
       known = record {

@@ -1,4 +1,5 @@
 pub mod Entries
 pub mod Follows
 pub mod Scenes
+pub mod Slots
 pub mod Steps

@@ -3,17 +3,22 @@
 ghost use Rattle.std.specs.Prelude.{IfOk};
 ghost use Rattle.follow.specs.Steps.{Ends, Goes};
 
+use crate::crew::{Crew, HEAVY, work_off};
 use crate::ending::Halt;
 use crate::intake::{Intake, feed_portion};
 use crate::telling::{Telling, tell};
-use crate::working::{close_inputs, work_off};
+use crate::working::close_inputs;
 use board::Board;
 use progress::Progress;
 use std::alloc::Global;
+use std::thread::Threads;
 
-/// Feeds all that waits and works it off; the text of what is to be told then.
-pub fn answer_open<P: Progress>(
+/// Feeds all that waits and works it off; the text of what is to be told then. So many records were taken since the last time.
+pub fn answer_open<P: Progress, R: Threads + Sync>(
+    rt: &R,
     alloc: Global,
+    crew: Crew,
+    records: u64,
     board: &mut Board<P>,
     base: u32,
     intake: &mut Intake,
@@ -22,7 +27,7 @@ pub fn answer_open<P: Progress>(
     ensures { IfOk result (λ out. Goes base board.old board.new intake.old intake.new telling.old telling.new out.items) }
 {
     feed_portion(alloc, board, intake)?;
-    work_off(alloc, board)?;
+    work_off(rt, alloc, crew, records, board)?;
     let mut out = Vec::new(alloc);
     let sealed = intake.begun.saturating_sub(1);
     tell(board, base, telling, intake.begun, sealed, &mut out)?;
@@ -30,8 +35,10 @@ pub fn answer_open<P: Progress>(
 }
 
 /// The same at the end of the input: every input is closed.
-pub fn answer_last<P: Progress>(
+pub fn answer_last<P: Progress, R: Threads + Sync>(
+    rt: &R,
     alloc: Global,
+    crew: Crew,
     board: &mut Board<P>,
     base: u32,
     intake: &mut Intake,
@@ -41,7 +48,7 @@ pub fn answer_last<P: Progress>(
 {
     feed_portion(alloc, board, intake)?;
     close_inputs(board, intake.portion.len())?;
-    work_off(alloc, board)?;
+    work_off(rt, alloc, crew, HEAVY, board)?;
     let mut out = Vec::new(alloc);
     tell(board, base, telling, intake.begun, intake.begun, &mut out)?;
     if telling.done != intake.begun {

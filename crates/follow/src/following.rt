@@ -12,6 +12,7 @@ ghost use Rattle.follow.specs.Steps.{FollowsAll, FollowsEnd, FollowsLines, Follo
 ghost use Rattle.follow.specs.declared.ending.Ending.TheVariants as ending;
 
 use crate::answering::{answer_last, answer_open};
+use crate::crew::Crew;
 use crate::ending::{Ending, Halt};
 use crate::intake::{Intake, take_lines};
 use crate::position::Position;
@@ -25,6 +26,7 @@ use std::alloc::Global;
 use std::io::{Read, Write};
 use std::mem::replace;
 use std::sync::Arc;
+use std::thread::Threads;
 
 /// The number of a last line that no line feed ends.
 const NO_LINE_FEED: u8 = 43;
@@ -62,8 +64,10 @@ fn take_text<P: Progress>(
 }
 
 /// Takes the lines that are pending, up to an epoch that is to get a new board, and writes what can be told then.
-fn follow_lines<P: Progress, W: Write>(
+fn follow_lines<P: Progress, R: Threads + Sync, W: Write>(
+    rt: &R,
     alloc: Global,
+    crew: Crew,
     inputs: &[Declared<'_>],
     board: &mut Board<P>,
     position: &mut Position,
@@ -73,7 +77,7 @@ fn follow_lines<P: Progress, W: Write>(
     ensures writer { IsErrOf result ending.Write → has_failed writer.new ≡ true }
     ensures reader { IsErrOf result ending.Read → ⊥ }
 {
-    let (base, until) = (position.base, position.until);
+    let (base, until, before) = (position.base, position.until, position.intake.line);
     let taken = match take_text(
         alloc,
         board,
@@ -86,8 +90,12 @@ fn follow_lines<P: Progress, W: Write>(
         Ok(taken) => taken,
         Err(halt) => return Err(halt.ending()),
     };
+    let records = position.intake.line.saturating_sub(before);
     let out = match answer_open(
+        rt,
         alloc,
+        crew,
+        records,
         board,
         base,
         &mut position.intake,
@@ -103,8 +111,10 @@ fn follow_lines<P: Progress, W: Write>(
 }
 
 /// Follows a piece of the input, behind what is pending of a line. A piece without line feed only joins it.
-fn follow_piece<W: Write>(
+fn follow_piece<R: Threads + Sync, W: Write>(
+    rt: &R,
     alloc: Global,
+    crew: Crew,
     graph: &Arc<Graph, Global>,
     inputs: &[Declared<'_>],
     board: &mut Board<LocationTracker>,
@@ -123,10 +133,10 @@ fn follow_piece<W: Write>(
         return Ok(());
     }
     for _turn in 0..u64::MAX {
-        match follow_lines(alloc, inputs, board, position, writer) {
+        match follow_lines(rt, alloc, crew, inputs, board, position, writer) {
             Ok(Taken::Whole) => return Ok(()),
             Ok(Taken::Fault(code)) => return Err(faulty(&position.intake, code)),
-            Ok(Taken::Epoch) => match renew(alloc, graph, board, position) {
+            Ok(Taken::Epoch) => match renew(alloc, graph, crew, board, position) {
                 Ok(()) => {}
                 Err(halt) => return Err(halt.ending()),
             },
@@ -137,8 +147,10 @@ fn follow_piece<W: Write>(
 }
 
 /// Ends following where the reader has no more bytes.
-fn follow_end<P: Progress, W: Write>(
+fn follow_end<P: Progress, R: Threads + Sync, W: Write>(
+    rt: &R,
     alloc: Global,
+    crew: Crew,
     board: &mut Board<P>,
     position: &mut Position,
     writer: &mut Watched<W>,
@@ -152,7 +164,9 @@ fn follow_end<P: Progress, W: Write>(
     }
     let base = position.base;
     let out = match answer_last(
+        rt,
         alloc,
+        crew,
         board,
         base,
         &mut position.intake,
@@ -168,8 +182,10 @@ fn follow_end<P: Progress, W: Write>(
 }
 
 /// Follows the input piece by piece.
-fn follow_pieces<R: Read, W: Write>(
+fn follow_pieces<T: Threads + Sync, R: Read, W: Write>(
+    rt: &T,
     alloc: Global,
+    crew: Crew,
     graph: &Arc<Graph, Global>,
     inputs: &[Declared<'_>],
     board: &mut Board<LocationTracker>,
@@ -187,10 +203,12 @@ fn follow_pieces<R: Read, W: Write>(
             return Err(Ending::Read);
         };
         if count == 0 {
-            return follow_end(alloc, board, position, writer);
+            return follow_end(rt, alloc, crew, board, position, writer);
         }
         match follow_piece(
+            rt,
             alloc,
+            crew,
             graph,
             inputs,
             board,
@@ -219,26 +237,33 @@ fn declared<'a>(alloc: Global, inputs: &'a [DeclaredInput]) -> Result<Vec<Declar
     Ok(declared)
 }
 
-/// A new board of one worker over the graph, beside which the graph is kept.
-fn opened(alloc: Global, graph: Graph) -> Result<(Arc<Graph, Global>, Board<LocationTracker>), Halt>
+/// A new board over the graph, beside which the graph is kept.
+fn opened(
+    alloc: Global,
+    crew: Crew,
+    graph: Graph,
+) -> Result<(Arc<Graph, Global>, Board<LocationTracker>), Halt>
     ensures same { IfOk result (λ p. p.0.value ≡ graph) }
-    ensures opening { IfOk result (λ p. IsOpening graph 1 p.1) }
+    ensures opening { IfOk result (λ p. IsOpening graph crew.count p.1) }
     ensures shows { IfOk result (λ p. Shows p.1 opening) }
 {
     let graph = Arc::new(alloc, graph)?;
-    let board = new_board(alloc, &graph)?;
+    let board = new_board(alloc, &graph, crew)?;
     Ok((graph, board))
 }
 
 /// Follows the input of a graph on a new board: what it reads, and what it has written, is an answer to it.
-fn follow_graph<R: Read, W: Write>(
+fn follow_graph<T: Threads + Sync, R: Read, W: Write>(
+    rt: &T,
     alloc: Global,
+    crew: Crew,
     graph: &Arc<Graph, Global>,
     board: &mut Board<LocationTracker>,
     reader: &mut Watched<R>,
+    rest: &mut Vec<u8>,
     writer: &mut Watched<W>,
 ) -> Result<Result<(), Ending>, Halt>
-    requires opening { IsOpening graph.now.value 1 board.old }
+    requires opening { IsOpening graph.now.value crew.count board.old }
     requires shows { Shows board.old opening }
     ensures follows { IfOk result (λ r. FollowsInput graph.now.value (R.remaining (inner_of reader.old)) (R.remaining (inner_of reader.new)) (W.contents (inner_of writer.old)) (W.contents (inner_of writer.new)) r) }
     ensures reader { IfOk result (λ r. IsErrOf r ending.Read → has_failed reader.new ≡ true) }
@@ -249,29 +274,45 @@ fn follow_graph<R: Read, W: Write>(
     let inputs = declared(alloc, graph.inputs())?;
     let listed = inputs.as_slice();
     let mut position = Position::new(alloc, listed, board.output_count(), LINES)?;
-    Ok(follow_pieces(alloc, graph, listed, board, &mut position, reader, writer))
+    let ended = follow_pieces(
+        rt,
+        alloc,
+        crew,
+        graph,
+        listed,
+        board,
+        &mut position,
+        reader,
+        writer,
+    );
+    *rest = position.pending;
+    Ok(ended)
 }
 
-/// Follows an input text to its end, on one worker: a piece is read, its records are fed, what can be done is done, and what was emitted is
-/// written before more is read.
+/// Follows an input text to its end: a piece is read, its records are fed, what can be done is done, and what was emitted is written before
+/// more is read. With several workers, a thread for each that has an event computes it where many records are on their way.
 ///
 /// The lines of the first epoch that isn't complete are written as they come, and the line that says so once it has passed at every output.
-/// At `Ok` every epoch is complete. What was written before a fault stays true: it is an answer to the lines before it.
-pub fn follow<R: Read, W: Write>(
+/// At `Ok` every epoch is complete. What was written before a fault stays true: it is an answer to the lines before it. What was read behind
+/// the last line that was taken is left in `rest`: at a fault it begins with the faulty line.
+pub fn follow<T: Threads + Sync, R: Read, W: Write>(
+    rt: &T,
     alloc: Global,
+    crew: Crew,
     graph: Graph,
     reader: &mut Watched<R>,
+    rest: &mut Vec<u8>,
     writer: &mut Watched<W>,
 ) -> Result<(), Ending>
     ensures follows { FollowsInput graph (R.remaining (inner_of reader.old)) (R.remaining (inner_of reader.new)) (W.contents (inner_of writer.old)) (W.contents (inner_of writer.new)) result }
     ensures reader { IsErrOf result ending.Read → has_failed reader.new ≡ true }
     ensures writer { IsErrOf result ending.Write → has_failed writer.new ≡ true }
 {
-    let (graph, mut board) = match opened(alloc, graph) {
+    let (graph, mut board) = match opened(alloc, crew, graph) {
         Ok(pair) => pair,
         Err(halt) => return Err(halt.ending()),
     };
-    match follow_graph(alloc, &graph, &mut board, reader, writer) {
+    match follow_graph(rt, alloc, crew, &graph, &mut board, reader, rest, writer) {
         Ok(result) => result,
         Err(halt) => Err(halt.ending()),
     }

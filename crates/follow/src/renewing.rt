@@ -6,6 +6,7 @@ ghost use Rattle.board.specs.Promises.{IsOpening};
 ghost use Rattle.board.specs.Showing.{Shows};
 ghost use Rattle.follow.specs.Steps.{Renews};
 
+use crate::crew::Crew;
 use crate::ending::Halt;
 use crate::position::Position;
 use board::Board;
@@ -17,13 +18,17 @@ use std::sync::Arc;
 /// The number of lines that a board takes; the epoch that is open then it takes whole.
 pub const LINES: u64 = 16_384;
 
-/// A new board of one worker over the graph.
-pub fn new_board(alloc: Global, graph: &Arc<Graph, Global>) -> Result<Board<LocationTracker>, Halt>
-    ensures opening { IfOk result (λ b. IsOpening graph.now.value 1 b) }
+/// A new board over the graph.
+pub fn new_board(
+    alloc: Global,
+    graph: &Arc<Graph, Global>,
+    crew: Crew,
+) -> Result<Board<LocationTracker>, Halt>
+    ensures opening { IfOk result (λ b. IsOpening graph.now.value crew.count b) }
     ensures shows { IfOk result (λ b. Shows b opening) }
 {
     let shared = Arc::try_clone(graph)?;
-    let board = Board::<LocationTracker>::new(alloc, shared, 1)?;
+    let board = Board::<LocationTracker>::new(alloc, shared, crew.count())?;
     Ok(board)
 }
 
@@ -31,6 +36,7 @@ pub fn new_board(alloc: Global, graph: &Arc<Graph, Global>) -> Result<Board<Loca
 pub fn renew(
     alloc: Global,
     graph: &Arc<Graph, Global>,
+    crew: Crew,
     board: &mut Board<LocationTracker>,
     position: &mut Position,
 ) -> Result<(), Halt>
@@ -46,7 +52,7 @@ pub fn renew(
     let Some(base) = position.base.checked_add(last) else {
         return Err(Halt::Incomplete);
     };
-    *board = new_board(alloc, graph)?;
+    *board = new_board(alloc, graph, crew)?;
     position.base = base;
     position.intake.begun = 1;
     position.telling.done = 0;

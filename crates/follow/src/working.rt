@@ -1,13 +1,11 @@
-//! Calls on the board: feeding, sealing and closing, and working until there is nothing to do.
+//! Calls on the board: feeding, sealing and closing.
 
 ghost use Rattle.std.specs.Prelude.{OnOk};
-ghost use Rattle.board.specs.Commits.{IsOf};
 ghost use Rattle.follow.specs.Scenes.{Feeds, IsLive, Seals, Works};
 ghost use Rattle.follow.specs.Steps.{SealsOne};
 
 use crate::ending::Halt;
-use board::{Board, Claimed, CommitRefusal};
-use events::Work;
+use board::Board;
 use progress::Progress;
 use rows::Batch;
 use std::alloc::Global;
@@ -65,40 +63,4 @@ pub fn close_inputs<P: Progress>(board: &mut Board<P>, inputs: usize) -> Result<
         close(board, input)?;
     }
     Ok(())
-}
-
-/// Computes an event, and ends it.
-fn process<P: Progress>(alloc: Global, board: &mut Board<P>, work: Work) -> Result<(), Halt>
-    requires own { IsOf board.old work.0 }
-    ensures { OnOk result (IsLive board.old → Works board.old board.new) }
-{
-    let done = match work.compute(alloc) {
-        Ok(done) => done,
-        Err(work) => {
-            board.abandon(work);
-            return Err(Halt::NoMemory);
-        }
-    };
-    match board.commit(done) {
-        Ok(()) => Ok(()),
-        Err(CommitRefusal::NoMemory(done)) => {
-            board.abandon_done(done);
-            Err(Halt::NoMemory)
-        }
-    }
-}
-
-/// Works until there is nothing to do now.
-pub fn work_off<P: Progress>(alloc: Global, board: &mut Board<P>) -> Result<(), Halt>
-    ensures { OnOk result (IsLive board.old → Works board.old board.new) }
-{
-    for _turn in 0..u64::MAX {
-        match board.claim(0) {
-            Claimed::Work(work) => process(alloc, board, work)?,
-            Claimed::Idle | Claimed::Drained => return Ok(()),
-            Claimed::Stopped => return Err(Halt::NoMemory),
-            Claimed::Busy => return Err(Halt::Incomplete),
-        }
-    }
-    Err(Halt::Incomplete)
 }

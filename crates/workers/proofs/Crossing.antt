@@ -1,4 +1,4 @@
--- An engine may be shared by threads: each layer of it, from the inside out.
+-- An engine may be shared by threads, and an event may go to any of them: each layer, from the inside out.
 use denote.RattleType.{RattleType}
 use denote.Param.Send.{IsSend, IsSync, sendable}
 use Rattle.std.proofs.Crossing.{crosses}
@@ -93,10 +93,10 @@ graph_sync = search (sendable, crosses, vertex_sync, declared.the_sync, graph_ou
 graph_send : IsSend graph.the_row
 graph_send = search (sendable, crosses, vertex_send, declared.the_send, graph_outputs.the_send, edges.the_send, outs.the_send) depth 20
 
-wiring_sync : IsSync wiring.the_row
+pub wiring_sync : IsSync wiring.the_row
 wiring_sync = search (sendable, crosses, graph_sync, graph_send, fanouts.the_sync) depth 20
 
-wiring_send : IsSend wiring.the_row
+pub wiring_send : IsSend wiring.the_row
 wiring_send = search (sendable, crosses, graph_sync, graph_send, fanouts.the_send) depth 20
 
 paths_sync : IsSync paths.the_row
@@ -120,10 +120,10 @@ filter_send = search (sendable, crosses, condition_field_send) depth 20
 select_send : IsSend select.the_field.row
 select_send = search (sendable, crosses, scalar_send) depth 20
 
-shard_send : IsSend shard.the_row
+pub shard_send : IsSend shard.the_row
 shard_send = search (sendable, crosses, filter_send, select_send, joins.the_field_send, groups.the_field_send, distincts.the_field_send, excepts.the_field_send, intersects.the_field_send) depth 40
 
-event_send : IsSend event.the_row
+pub event_send : IsSend event.the_row
 event_send = search (sendable, crosses, shard_send, wiring_send, wiring_sync, happenings.the_field_send) depth 20
 
 slot_send : IsSend slot.the_row

@@ -19,4 +19,4 @@ returns-clause-follows g c =
       stood = subst (λ (xs : List ℕ). IsWritten graph c.args.board.now p.base p.intake p.telling [] xs start start) (sym first.none) at_first;
       unended = subst (λ (xs : List ℕ). split_on 10 xs ≡ xs ∷ []) (sym first.none) refl;
     } in
-    c.follow_pieces.ensures.follows inputs stands
+    c.follow_pieces-ended.ensures.follows inputs stands

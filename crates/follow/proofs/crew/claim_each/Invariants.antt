@@ -1,0 +1,8 @@
+use Rattle.std.proofs.Common.{◌≡◌, All}
+use Rattle.board.specs.Shown.{tables}
+use Rattle.follow.specs.Scenes.{IsLive, Works}
+use Rattle.follow.specs.Slots.{IsSlotOf}
+use Rattle.follow.proofs.crew.claim_each.Given as goal
+
+abbrev pub invariant-loop-worker : goal.invariant-loop-worker
+invariant-loop-worker g l = (tables l.board ≡ tables l.fn.board) × All (IsSlotOf (tables l.fn.board)) l.slots.items × (IsLive l.fn.board → Works l.fn.board l.board)

@@ -1,0 +1,279 @@
+//! The workers of a board, whose events one thread claims and ends, and several compute.
+
+ghost use Rattle.std.specs.Prelude.{◌≡◌, ◌<◌, ◌≤◌, All, IfOk, IfSome, List, OnOk, is_ok, true};
+ghost use Rattle.atomic_table.specs.Seated.{TableId};
+ghost use Rattle.board.specs.Commits.{IsOf};
+ghost use Rattle.board.specs.Shown.{tables};
+ghost use Rattle.follow.specs.Scenes.{IsLive, Works};
+ghost use Rattle.follow.specs.Slots.{IsSlotOf};
+
+use crate::ending::Halt;
+use crate::slot::Slot;
+use board::{Board, Claimed, CommitRefusal};
+use events::{Done, Work};
+use progress::Progress;
+use std::alloc::{AllocFailed, Global};
+use std::thread::{Threads, for_each_mut};
+
+/// So many records on their way are worth a thread for each worker that has an event.
+pub const HEAVY: u64 = 2048;
+
+/// The number of a board's workers, 1 to 64.
+#[derive(Clone, Copy, Debug, PartialEq, Eq)]
+pub struct Crew {
+    count: u32,
+    ghost some: { 0 < count },
+    ghost few: { count ≤ 64 },
+}
+
+impl Crew {
+    /// So many workers.
+    pub fn new(count: u32) -> Crew
+        requires some { 0 < count }
+        requires few { count ≤ 64 }
+        ensures { result.count ≡ count }
+    {
+        Crew { count }
+    }
+
+    /// How many they are.
+    pub fn count(self) -> u32
+        ensures value { result ≡ self.count }
+        ensures some { 0 < result }
+        ensures few { result ≤ 64 }
+    {
+        self.count
+    }
+}
+
+/// What is to be done next: nothing, as no worker has an event; or more, with so many records on their way.
+#[derive(Clone, Copy, Debug, PartialEq, Eq)]
+pub enum Pace {
+    Idle,
+    Sent(u64),
+}
+
+impl Pace {
+    /// As many records more.
+    fn with(self, records: u64) -> Pace {
+        match self {
+            Pace::Idle => Pace::Sent(records),
+            Pace::Sent(sent) => Pace::Sent(sent.saturating_add(records)),
+        }
+    }
+}
+
+/// How many records a computed event sends; it comes back.
+fn weighed(done: Done) -> (u64, Done)
+    ensures { result.1 ≡ done }
+{
+    let worker = done.worker();
+    let (stub, output) = done.into_parts();
+    let mut records = 0u64;
+    for letter in &output.sent {
+        records = records.saturating_add(letter.message.batch.len() as u64);
+    }
+    (records, Done::from_parts(worker, stub, output))
+}
+
+/// Ends an event that was computed: how many records it sent.
+fn end<P: Progress>(board: &mut Board<P>, done: Done) -> Result<u64, Halt>
+    requires own { IsOf board.old done }
+    ensures tables { tables board.new ≡ tables board.old }
+    ensures works { OnOk result (IsLive board.old → Works board.old board.new) }
+{
+    let (records, done) = weighed(done);
+    match board.commit(done) {
+        Ok(()) => Ok(records),
+        Err(CommitRefusal::NoMemory(done)) => {
+            board.abandon_done(done);
+            Err(Halt::NoMemory)
+        }
+    }
+}
+
+/// Computes an event, and ends it: how many records it sent.
+fn process<P: Progress>(alloc: Global, board: &mut Board<P>, work: Work) -> Result<u64, Halt>
+    requires own { IsOf board.old work.0 }
+    ensures tables { tables board.new ≡ tables board.old }
+    ensures works { OnOk result (IsLive board.old → Works board.old board.new) }
+{
+    match work.compute(alloc) {
+        Ok(done) => end(board, done),
+        Err(work) => {
+            board.abandon(work);
+            Err(Halt::NoMemory)
+        }
+    }
+}
+
+/// Ends an event where it was computed, and else gives it up.
+fn settle<P: Progress>(board: &mut Board<P>, slot: Slot) -> Result<u64, Halt>
+    requires own { IsSlotOf (tables board.old) slot }
+    ensures tables { tables board.new ≡ tables board.old }
+    ensures works { OnOk result (IsLive board.old → Works board.old board.new) }
+{
+    let Slot { held, done } = slot;
+    let ended = match done {
+        Some(done) => end(board, done),
+        None => Ok(0),
+    };
+    match held {
+        Some(work) => {
+            board.abandon(work);
+            Err(Halt::NoMemory)
+        }
+        None => ended,
+    }
+}
+
+/// Claims an event of a worker, where it has one.
+fn claim<P: Progress>(board: &mut Board<P>, worker: u32) -> Result<Option<Work>, Halt>
+    ensures tables { tables board.new ≡ tables board.old }
+    ensures own { IfOk result (λ o. IfSome o (λ w. IsOf board.old w.0)) }
+    ensures works { OnOk result (IsLive board.old → Works board.old board.new) }
+{
+    match board.claim(worker) {
+        Claimed::Work(work) => Ok(Some(work)),
+        Claimed::Idle | Claimed::Drained => Ok(None),
+        Claimed::Stopped => Err(Halt::NoMemory),
+        Claimed::Busy => Err(Halt::Incomplete),
+    }
+}
+
+/// Adds an event to those that are to be computed; where there is no memory for that, it is given up.
+fn keep<P: Progress>(board: &mut Board<P>, slots: &mut Vec<Slot>, work: Work) -> Result<(), Halt>
+    requires event { IsOf board.old work.0 }
+    requires own { All (IsSlotOf (tables board.old)) slots.old.items }
+    ensures tables { tables board.new ≡ tables board.old }
+    ensures own { All (IsSlotOf (tables board.old)) slots.new.items }
+    ensures board { OnOk result (board.new ≡ board.old) }
+{
+    match slots.push(Slot::new(work)) {
+        Ok(()) => Ok(()),
+        Err(AllocFailed { value }) => {
+            let _ = settle(board, value);
+            Err(Halt::NoMemory)
+        }
+    }
+}
+
+/// Claims an event of each worker that has one.
+fn claim_each<P: Progress>(
+    board: &mut Board<P>,
+    crew: Crew,
+    slots: &mut Vec<Slot>,
+) -> Result<(), Halt>
+    requires own { All (IsSlotOf (tables board.old)) slots.old.items }
+    ensures tables { tables board.new ≡ tables board.old }
+    ensures own { All (IsSlotOf (tables board.old)) slots.new.items }
+    ensures works { OnOk result (IsLive board.old → Works board.old board.new) }
+{
+    for worker in 0..crew.count() {
+        if let Some(work) = claim(board, worker)? {
+            keep(board, slots, work)?;
+        }
+    }
+    Ok(())
+}
+
+/// Computes them side by side.
+fn compute_each<R: Threads + Sync>(rt: &R, alloc: Global, slots: &mut Vec<Slot>)
+    ensures { (tables : List TableId) → All (IsSlotOf tables) slots.old.items → All (IsSlotOf tables) slots.new.items }
+{
+    let threads = slots.len().max(1);
+    for_each_mut(
+        rt,
+        slots.as_mut_slice(),
+        threads,
+        &|_place, slot| { slot.compute(alloc) },
+    );
+}
+
+/// What comes of one event more; the fault where either has one.
+fn joined(pace: Result<Pace, Halt>, sent: Result<u64, Halt>) -> Result<Pace, Halt>
+    ensures { IfOk result (λ p. (is_ok pace ≡ true) × (is_ok sent ≡ true)) }
+{
+    let records = sent?;
+    Ok(pace?.with(records))
+}
+
+/// Ends all that were computed.
+fn settle_each<P: Progress>(board: &mut Board<P>, mut slots: Vec<Slot>) -> Result<Pace, Halt>
+    requires own { All (IsSlotOf (tables board.old)) slots.items }
+    ensures tables { tables board.new ≡ tables board.old }
+    ensures works { OnOk result (IsLive board.old → Works board.old board.new) }
+{
+    let mut pace = Ok(Pace::Idle);
+    while let Some(slot) = slots.pop() {
+        pace = joined(pace, settle(board, slot));
+    }
+    slots.destroy_empty();
+    pace
+}
+
+/// Claims an event of each worker that has one, computes them side by side, and ends them.
+fn work_beside<P: Progress, R: Threads + Sync>(
+    rt: &R,
+    alloc: Global,
+    crew: Crew,
+    board: &mut Board<P>,
+) -> Result<Pace, Halt>
+    ensures { OnOk result (IsLive board.old → Works board.old board.new) }
+{
+    let mut slots = Vec::with_capacity(alloc, crew.count() as usize)?;
+    let claimed = claim_each(board, crew, &mut slots);
+    compute_each(rt, alloc, &mut slots);
+    let pace = settle_each(board, slots);
+    claimed?;
+    pace
+}
+
+/// Claims, computes and ends an event of each worker that has one, one after another.
+fn work_in_turn<P: Progress>(alloc: Global, crew: Crew, board: &mut Board<P>) -> Result<Pace, Halt>
+    ensures { OnOk result (IsLive board.old → Works board.old board.new) }
+{
+    let mut pace = Pace::Idle;
+    for worker in 0..crew.count() {
+        if let Some(work) = claim(board, worker)? {
+            pace = pace.with(process(alloc, board, work)?);
+        }
+    }
+    Ok(pace)
+}
+
+/// Works on one event of each worker that has one: side by side where many records are on their way.
+fn work_once<P: Progress, R: Threads + Sync>(
+    rt: &R,
+    alloc: Global,
+    crew: Crew,
+    records: u64,
+    board: &mut Board<P>,
+) -> Result<Pace, Halt>
+    ensures { OnOk result (IsLive board.old → Works board.old board.new) }
+{
+    if records >= HEAVY && crew.count() > 1 {
+        return work_beside(rt, alloc, crew, board);
+    }
+    work_in_turn(alloc, crew, board)
+}
+
+/// Works until there is nothing to do now. So many records are on their way at first.
+pub fn work_off<P: Progress, R: Threads + Sync>(
+    rt: &R,
+    alloc: Global,
+    crew: Crew,
+    records: u64,
+    board: &mut Board<P>,
+) -> Result<(), Halt>
+    ensures { OnOk result (IsLive board.old → Works board.old board.new) }
+{
+    let mut records = records;
+    for _turn in 0..u64::MAX {
+        match work_once(rt, alloc, crew, records, board)? {
+            Pace::Idle => return Ok(()),
+            Pace::Sent(sent) => records = (records / 2).saturating_add(sent),
+        }
+    }
+    Err(Halt::Incomplete)
+}
