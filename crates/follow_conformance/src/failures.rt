@@ -1,12 +1,13 @@
 //! Following while each read, each write and each flush fails in turn, with answers worked out by hand.
 
-use crate::inputs::{AUDIENCE, Slow, graph_of};
+use crate::inputs::{AUDIENCE, Slow, ended_by, graph_of};
 use collector::Watched;
-use follow::{Ending, follow};
+use follow::Ending;
 use std::alloc::{AllocError, Global};
 use std::io;
 use std::io::{ErrorKind, Read, Write};
 use std::test::Fail;
+use std::thread::Threads;
 
 /// The lines of an input, each with what is told once it has been read.
 const LINES: [(&str, &str); 8] = [
@@ -98,6 +99,7 @@ fn whole(alloc: Global) -> Result<Vec<u8>, AllocError> {
 
 /// How following ends, and what is written, where the reader gives at most so many bytes at a time and fails after so many reads.
 fn followed(
+    threads: &(impl Threads + Sync),
     alloc: Global,
     most: usize,
     reads: usize,
@@ -111,7 +113,7 @@ fn followed(
         left: reads,
     });
     let mut out = Watched::new(writer);
-    let ended = follow(alloc, graph, &mut reader, &mut out);
+    let ended = ended_by(threads, alloc, 1, graph, &mut reader, &mut out);
     Ok((ended, out.into_inner().written))
 }
 
@@ -126,7 +128,7 @@ fn each_write_fails(rt: HostRuntime) -> Result<(), Fail> {
                 fails,
                 ..sound(rt.alloc())
             };
-            let (ended, text) = followed(rt.alloc(), 1, usize::MAX, writer)?;
+            let (ended, text) = followed(&rt, rt.alloc(), 1, usize::MAX, writer)?;
             assert_eq!(rt; ended, Err(Ending::Write));
             assert_eq!(rt; text.as_slice(), &whole[..writes]);
         }
@@ -135,7 +137,7 @@ fn each_write_fails(rt: HostRuntime) -> Result<(), Fail> {
             fails,
             ..sound(rt.alloc())
         };
-        let (ended, text) = followed(rt.alloc(), 1, usize::MAX, writer)?;
+        let (ended, text) = followed(&rt, rt.alloc(), 1, usize::MAX, writer)?;
         assert_eq!(rt; ended, Ok(()));
         assert_eq!(rt; text.as_slice(), whole.as_slice());
     }
@@ -154,7 +156,7 @@ fn each_large_write_fails(rt: HostRuntime) -> Result<(), Fail> {
                 fails,
                 ..sound(rt.alloc())
             };
-            let (ended, text) = followed(rt.alloc(), 1000, usize::MAX, writer)?;
+            let (ended, text) = followed(&rt, rt.alloc(), 1000, usize::MAX, writer)?;
             assert_eq!(rt; ended, Err(Ending::Write));
             assert_eq!(rt; text.as_slice(), *wanted);
         }
@@ -173,7 +175,7 @@ fn each_flush_fails(rt: HostRuntime) -> Result<(), Fail> {
             flushes,
             ..sound(rt.alloc())
         };
-        let (ended, text) = followed(rt.alloc(), 1, usize::MAX, writer)?;
+        let (ended, text) = followed(&rt, rt.alloc(), 1, usize::MAX, writer)?;
         assert_eq!(rt; ended, Err(Ending::Write));
         assert_eq!(rt; text.as_slice(), told(rt.alloc(), end)?.as_slice());
     }
@@ -182,7 +184,7 @@ fn each_flush_fails(rt: HostRuntime) -> Result<(), Fail> {
             flushes,
             ..sound(rt.alloc())
         };
-        let (ended, text) = followed(rt.alloc(), 1, usize::MAX, writer)?;
+        let (ended, text) = followed(&rt, rt.alloc(), 1, usize::MAX, writer)?;
         assert_eq!(rt; ended, wanted);
         assert_eq!(rt; text.as_slice(), whole.as_slice());
     }
@@ -194,11 +196,17 @@ fn each_flush_fails(rt: HostRuntime) -> Result<(), Fail> {
 fn each_read_fails(rt: HostRuntime) -> Result<(), Fail> {
     let bytes = input(rt.alloc())?.len();
     for reads in 0..bytes.saturating_add(1) {
-        let (ended, text) = followed(rt.alloc(), 1, reads, sound(rt.alloc()))?;
+        let (ended, text) = followed(&rt, rt.alloc(), 1, reads, sound(rt.alloc()))?;
         assert_eq!(rt; ended, Err(Ending::Read));
         assert_eq!(rt; text.as_slice(), told(rt.alloc(), reads)?.as_slice());
     }
-    let (ended, text) = followed(rt.alloc(), 1, bytes.saturating_add(1), sound(rt.alloc()))?;
+    let (ended, text) = followed(
+        &rt,
+        rt.alloc(),
+        1,
+        bytes.saturating_add(1),
+        sound(rt.alloc()),
+    )?;
     assert_eq!(rt; ended, Ok(()));
     assert_eq!(rt; text.as_slice(), whole(rt.alloc())?.as_slice());
     Ok(())
@@ -210,7 +218,7 @@ fn each_large_read_fails(rt: HostRuntime) -> Result<(), Fail> {
     let bytes = input(rt.alloc())?.len();
     for most in [2, 7, 20, 1000] {
         for reads in 0..bytes {
-            let (ended, text) = followed(rt.alloc(), most, reads, sound(rt.alloc()))?;
+            let (ended, text) = followed(&rt, rt.alloc(), most, reads, sound(rt.alloc()))?;
             let given = reads.saturating_mul(most);
             if given < bytes.saturating_add(most) {
                 assert_eq!(rt; ended, Err(Ending::Read));

@@ -1,12 +1,15 @@
 //! Whole inputs, with answers worked out by hand.
 
+ghost use Rattle.std.specs.Prelude.{◌<◌, ◌≤◌};
+
 use collector::Watched;
-use follow::{Ending, follow};
+use follow::{Crew, Ending, follow};
 use lowering::{Graph, lower};
 use parser::parse;
 use std::alloc::{AllocError, Global};
 use std::io;
-use std::io::{ErrorKind, Read};
+use std::io::{ErrorKind, Read, Write};
+use std::thread::Threads;
 use typing::check;
 
 /// The graph of a query.
@@ -14,6 +17,30 @@ pub fn graph_of(alloc: Global, text: &str) -> Option<Graph> {
     let program = parse(alloc, text.as_bytes()).ok()?;
     let typed = check(alloc, program).ok()?;
     lower(alloc, &typed).ok()
+}
+
+/// Follows an input with so many workers.
+pub fn ended_by<R: Read, W: Write>(
+    threads: &(impl Threads + Sync),
+    alloc: Global,
+    workers: u32,
+    graph: Graph,
+    reader: &mut Watched<R>,
+    out: &mut Watched<W>,
+) -> Result<(), Ending>
+    requires some { 0 < workers }
+    requires few { workers ≤ 64 }
+{
+    let mut rest = Vec::new(alloc);
+    follow(
+        threads,
+        alloc,
+        Crew::new(workers),
+        graph,
+        reader,
+        &mut rest,
+        out,
+    )
 }
 
 /// A reader that gives a text, so many bytes at a time, and fails after so many reads.
@@ -51,7 +78,7 @@ fn whole_input(rt: HostRuntime) -> Result<(), AllocError> {
     let mut reader = Watched::new(
         b"epoch\nbuyer 7\nbuyer 7\nreader 3\nepoch\nepoch\nreader 5\n".as_slice(),
     );
-    let ended = follow(rt.alloc(), graph, &mut reader, &mut out);
+    let ended = ended_by(&rt, rt.alloc(), 1, graph, &mut reader, &mut out);
     assert!(rt; matches!(ended, Ok(())));
     assert_eq!(rt;
         out.into_inner().as_slice(),
@@ -71,7 +98,7 @@ fn byte_by_byte(rt: HostRuntime) -> Result<(), AllocError> {
         most: 1,
         left: 100,
     });
-    let ended = follow(rt.alloc(), graph, &mut reader, &mut out);
+    let ended = ended_by(&rt, rt.alloc(), 1, graph, &mut reader, &mut out);
     assert_eq!(rt; ended, Err(Ending::Input { code: 44, line: 6 }));
     assert_eq!(rt;
         out.into_inner().as_slice(),
@@ -91,7 +118,7 @@ fn broken_reader(rt: HostRuntime) -> Result<(), AllocError> {
         most: 1,
         left: 15,
     });
-    let ended = follow(rt.alloc(), graph, &mut reader, &mut out);
+    let ended = ended_by(&rt, rt.alloc(), 1, graph, &mut reader, &mut out);
     assert_eq!(rt; ended, Err(Ending::Read));
     assert_eq!(rt; out.into_inner().as_slice(), b"0 7\n".as_slice());
     Ok(())
@@ -110,7 +137,7 @@ fn two_outputs(rt: HostRuntime) -> Result<(), AllocError> {
         most: 7,
         left: 100,
     });
-    let ended = follow(rt.alloc(), graph, &mut reader, &mut out);
+    let ended = ended_by(&rt, rt.alloc(), 1, graph, &mut reader, &mut out);
     assert_eq!(rt; ended, Err(Ending::Input { code: 43, line: 5 }));
     assert_eq!(rt;
         out.into_inner().as_slice(),

@@ -2,6 +2,8 @@
 #![tactic(auto)]
 
 #[cfg(test)]
+mod crews;
+#[cfg(test)]
 mod failures;
 #[cfg(test)]
 mod inputs;

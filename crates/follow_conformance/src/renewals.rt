@@ -1,8 +1,7 @@
 //! Inputs of more lines than one board takes.
 
-use crate::inputs::{AUDIENCE, graph_of};
+use crate::inputs::{AUDIENCE, ended_by, graph_of};
 use collector::Watched;
-use follow::follow;
 use std::alloc::AllocError;
 
 /// 9,000 epochs with one record each: 18,000 lines.
@@ -28,7 +27,7 @@ fn two_boards(rt: HostRuntime) -> Result<(), AllocError> {
     }
     let mut out = Watched::new(Vec::new(rt.alloc()));
     let mut reader = Watched::new(text.as_slice());
-    let ended = follow(rt.alloc(), graph, &mut reader, &mut out);
+    let ended = ended_by(&rt, rt.alloc(), 1, graph, &mut reader, &mut out);
     assert!(rt; matches!(ended, Ok(())));
     let written = out.into_inner();
     assert_eq!(rt; written.len(), 186_780);
