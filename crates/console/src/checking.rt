@@ -135,8 +135,8 @@ fn write_checked<A: Allocator + Copy, W: Write>(
 }
 
 /// Reads a query, checks it, and writes its arities: a line `input NAME/ARITY` for each input in order, and for each output
-/// `output NAME/ARITY`, or `output ARITY` where it is named `out`. They are written only once all of them stand. The text that was read is
-/// left in `texts`.
+/// `output NAME/ARITY`, or `output ARITY` where it is named `out`. The lines are written together, once all of them are made. The text that
+/// was read is left in `texts`.
 pub fn check_query<A: Allocator + Copy, Q: Read, W: Write>(
     alloc: Global,
     arena: A,

@@ -50,7 +50,7 @@ fn normal_form<A: Allocator + Copy>(typed: Typed<A>) -> Result<Typed<A>, NoMemor
 }
 
 /// The dataflow graph of a query text's normal form, at most 4096 vertices. On any inputs it has exactly one flow, and what comes to each output
-/// is at each epoch what the text's program means there. The tree lies in the arena, and is gone once the graph stands.
+/// is at each epoch what the text's program means there. The tree lies in the arena, and is dropped once the graph is made.
 pub fn compile<A: Allocator + Copy>(
     alloc: Global,
     arena: A,

@@ -57,7 +57,7 @@ fn write_canonical<A: Allocator + Copy, W: Write>(
 
 /// Reads a query, and writes its canonical text: each item on a line, one space between words, and brackets only where they are
 /// needed. It need not be well typed. Where the canonical text is no longer than a query may be, 1,048,576 bytes, it reads as the same
-/// query. It is written only once all of it stands. The text that was read is left in `texts`.
+/// query. It is written only once all of it is made. The text that was read is left in `texts`.
 pub fn format_query<A: Allocator + Copy, Q: Read, W: Write>(
     alloc: Global,
     arena: A,

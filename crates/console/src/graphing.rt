@@ -65,7 +65,7 @@ fn write_shown<A: Allocator + Copy, W: Write>(
 }
 
 /// Reads a query, compiles it, and writes its graph: a line for each vertex, or a text that Graphviz draws. It is written only once
-/// all of it stands. A graph of more than 4096 vertices is refused. The text that was read is left in `texts`.
+/// all of it is made. A graph of more than 4096 vertices is refused. The text that was read is left in `texts`.
 pub fn graph_query<A: Allocator + Copy, Q: Read, W: Write>(
     alloc: Global,
     arena: A,

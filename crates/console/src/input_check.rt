@@ -86,8 +86,8 @@ fn write_checked<A: Allocator + Copy, W: Write>(
 
 /// Reads a query and an input, checks both, and writes the query's arities as `check_query` does, once both are right.
 ///
-/// The faults in the order in which they are told: the query can't be read, the input can't be read, the query is refused, the input
-/// is refused, the writer failed. Want of memory may come at any place. The texts that were read are left in `texts`.
+/// Faults are reported in this order: the query can't be read, the input can't be read, the query is refused, the input is refused, the
+/// writer failed. Lack of memory may come at any point. The texts that were read are left in `texts`.
 pub fn check_input<A: Allocator + Copy, Q: Read, I: Read, W: Write>(
     alloc: Global,
     arena: A,

@@ -1,4 +1,5 @@
-//! A query has one graph, or is too large, and not both; a query and an input have one answer; what following tells is what the query means.
+//! A query has one graph, or is too large, and not both; a query and an input have one answer; what following writes is what the query
+//! means.
 
 ghost use Rattle.std.specs.Prelude.{◌≡◌, ◌<◌, ℕ, List, length};
 ghost use Rattle.semantics.specs.Graph as graph;
@@ -26,8 +27,8 @@ pub fn law_one_answer()
     collector::law_one_answer();
 }
 
-/// What following tells of an epoch is told of the query's text: the lines of a complete epoch are, at each output, all of what its program
-/// means there on the epoch's records; the lines of the next one are part of it.
+/// What is whole, or a part, by the graph is so by the query's text: the lines of a complete epoch are, at each output, all of what the
+/// text's program means there on the epoch's records; the lines of the next one are part of it.
 pub fn law_followed()
     ensures whole { (query : List ℕ) (g : GraphValue) (records : ℕ → List Record) (entries : List Entry) (c : IsGraphOfText query g) → IsWhole g records entries → AreWhole c.program records entries }
     ensures part { (query : List ℕ) (g : GraphValue) (records : ℕ → List Record) (entries : List Entry) (c : IsGraphOfText query g) → IsPart g records entries → ArePart c.program records entries }

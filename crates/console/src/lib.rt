@@ -1,13 +1,19 @@
 //! The commands, from bytes to bytes, and the dispatcher that a program calls with the words of its line.
 //!
-//! `answer` reads the words, opens the texts that they name, does what they ask for, tells a fault, and gives the status. `run` reads a
-//! query and an input, has the board compute, and writes the answer, and if asked what each vertex did; `follow_query` answers while the input still comes; `check_query` reads a query and writes its arities, and
-//! `graph_query` its graph, which `compile` makes; `check_input` reads an input too, and `format_query` writes the query in its canonical
-//! form; `replay_schedule` reads a query and a schedule, and writes what the schedule's lines
-//! print. The contract: where `run` answers Ok, what was written is the output text of what the query means on the epochs that the
-//! input text tells; a graph that `compile` makes has exactly one flow on any inputs, which brings to each output what the query means
-//! there. Below stand the command line and diagnostics, and the parser, typing, the normaliser, lowering, the board and the collector;
-//! above stand the programs alone.
+//! `answer` reads the words, opens the texts that they name, does what they ask for, reports a fault, and gives the status. The commands:
+//!
+//! | Call | Reads | Writes |
+//! |---|---|---|
+//! | `run` | a query and an input | the answer, and if asked what each vertex did |
+//! | `follow_query` | the same | the answer, while the input still comes |
+//! | `check_query`, `check_input` | a query, and an input too | the query's arities |
+//! | `graph_query` | a query | its graph, which `compile` makes |
+//! | `format_query` | a query | its canonical form |
+//! | `replay_schedule` | a query and a schedule | what the schedule's lines print |
+//!
+//! The contract: where `run` answers Ok, what was written is the output text of what the query means on the epochs of the input text. A
+//! graph that `compile` makes has exactly one flow on any inputs, which brings to each output what the query means there. This crate uses
+//! the command line and diagnostics, and the parser, typing, the normaliser, lowering, the board and the collector; only programs use it.
 #![tactic(auto)]
 
 mod checking;

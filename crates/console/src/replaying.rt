@@ -61,9 +61,9 @@ fn write_replayed<W: Write>(
 
 /// Reads a query and a schedule, does the schedule's lines on that many workers over the query's graph, and writes what they print.
 ///
-/// It is written only once all of it stands. The faults in the order in which they are told: the query can't be read, the schedule
-/// can't be read, the query is refused, the schedule is refused, the writer failed. Want of memory may come at any place. The texts
-/// that were read are left in `texts`, the schedule as its input.
+/// It is written only once all of it is made. Faults are reported in this order: the query can't be read, the schedule can't be read, the
+/// query is refused, the schedule is refused, the writer failed. Lack of memory may come at any point. The texts that were read are left
+/// in `texts`, the schedule as its input.
 #[tactic(auto, using(crate::proofs::Heeding::replay_heeds))]
 pub fn replay_schedule<Q: Read, S: Read, W: Write>(
     alloc: Global,

@@ -85,7 +85,7 @@ impl fmt::Display for Columns {
     }
 }
 
-/// What is most likely meant, behind what is wrong; nothing where it isn't known.
+/// What is most likely meant, written after what is wrong; nothing where it isn't known.
 #[derive(Clone, Copy)]
 pub struct Meant(pub Option<&'static str>);
 

@@ -1,4 +1,4 @@
-//! Explains a fault by the texts that it came of.
+//! Explains a fault by the texts in which it was found.
 
 use crate::excerpt::{numbered_line, write_marked, write_numbered};
 use crate::fault::Fault;
@@ -11,8 +11,8 @@ use std::alloc::Global;
 use std::io;
 use std::io::Write;
 
-/// Writes below a fault's line what is at hand: of a query the line with carets under the place, of an input or a schedule the
-/// faulty line, and then a sentence with the names and the numbers. Nothing for a fault of memory, threads or files.
+/// Writes what follows a fault's line: of a query the line with carets under the place, of an input or a schedule the faulty line, and
+/// then a sentence with the names and the numbers. Nothing for a fault of memory, threads or files.
 pub fn explain_fault<W: Write>(
     alloc: Global,
     fault: &Fault,

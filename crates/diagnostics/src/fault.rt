@@ -1,4 +1,4 @@
-//! What may go wrong, and how it is told.
+//! What may go wrong, and the line and the status that report it.
 
 ghost use Rattle.std.specs.Prelude.{◌≡◌};
 ghost use Rattle.diagnostics.specs.Faults.{status_of};
@@ -10,7 +10,7 @@ use thiserror::Error;
 /// Why a command came to no answer.
 #[derive(Debug, Drop, Error)]
 pub enum Fault {
-    /// The query's first fault, with its code and the bytes where it stands.
+    /// The query's first fault: its code, and the bytes that it covers.
     #[error("query refused {code} at {start}..{end}")]
     Query { code: u8, start: u32, end: u32 },
     /// The query's graph would have too many vertices.
@@ -26,7 +26,7 @@ pub enum Fault {
     NoMemory,
     #[error("cannot start a worker")]
     NoWorker,
-    /// The engine has not done all that was read. No run is known in which this comes.
+    /// The engine has not done all that was read. No run is known that ends so.
     #[error("the run is incomplete")]
     Incomplete,
     #[error("cannot read the query")]

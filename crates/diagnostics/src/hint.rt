@@ -33,7 +33,7 @@ fn open_bracket(text: &[u8]) -> Option<OpenBracket<'_>> {
     None
 }
 
-/// Of a byte that begins no word.
+/// The hint for a byte that begins no word.
 fn of_byte(byte: u8) -> Option<&'static str> {
     match byte {
         b'A'..=b'Z' => Some("names and the words of the language are in lower case"),
@@ -71,7 +71,7 @@ fn is_aggregate(before: &[u8]) -> bool {
     before.ends_with(b"sum") || before.ends_with(b"min") || before.ends_with(b"max")
 }
 
-/// Of a word, by what stands before and behind it.
+/// The hint for a word that can't stand there, by what is before and after it.
 fn of_word(before: &[u8], word: &[u8], behind: &[u8]) -> Option<&'static str> {
     match (before, word, behind) {
         ([.., b'='], b"=", _) => Some("equality is one ="),
@@ -99,7 +99,7 @@ fn is_name(word: &[u8]) -> bool {
     matches!(word, [b'a'..=b'z', ..]) && Keyword::of(word).is_none()
 }
 
-/// Whether a text ends in a mark behind which a column can stand.
+/// Whether a text ends in a mark after which a column can come.
 fn wants_operand(before: &[u8]) -> bool {
     matches!(
         before,
@@ -110,7 +110,7 @@ fn wants_operand(before: &[u8]) -> bool {
     )
 }
 
-/// Whether columns stand behind so many `;` of a bracket: that of a form, or one round numbers.
+/// Whether columns come after so many `;` in a bracket: that of a form, or one round numbers.
 fn has_operands(form: &[u8], semicolons: usize) -> bool {
     if semicolons == 0 {
         !is_form(form)
@@ -119,7 +119,7 @@ fn has_operands(form: &[u8], semicolons: usize) -> bool {
     }
 }
 
-/// Of a word in a round bracket, by whose bracket it is and how many of its parts have gone before.
+/// The hint for a word in a round bracket, by whose bracket it is and how many of its parts came before.
 fn in_bracket(before: &[u8], word: &[u8]) -> Option<&'static str> {
     let bracket = open_bracket(before)?;
     let form = bracket.before;
@@ -141,7 +141,7 @@ fn in_bracket(before: &[u8], word: &[u8]) -> Option<&'static str> {
     }
 }
 
-/// Of a text that ends too early.
+/// The hint for a text that ends too early.
 fn of_end(text: &[u8]) -> Option<&'static str> {
     if open_bracket(text).is_some() {
         return Some("a ( is still open");

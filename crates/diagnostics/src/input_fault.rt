@@ -1,4 +1,4 @@
-//! What is wrong with a line of an input, with the names and the numbers at hand.
+//! What is wrong with a line of an input, with the names and the numbers involved.
 
 use crate::display::{Fields, Word};
 use crate::query_fault::write_summary;
@@ -9,7 +9,7 @@ use std::alloc::Global;
 use std::io;
 use std::io::Write;
 
-/// The first word of a line, and how many words stand after it.
+/// The first word of a line, and how many words come after it.
 fn words(line: &[u8]) -> (&[u8], u64) {
     let spaces = line.iter().filter(|byte| **byte == b' ').count() as u64;
     match line.iter().position(|byte| *byte == b' ') {
@@ -40,7 +40,7 @@ fn declared_fields(alloc: Global, query: &[u8], name: &[u8]) -> Option<u64> {
     }
 }
 
-/// Of a line whose words are malformed.
+/// Writes what is wrong with a malformed line.
 fn write_malformed<W: Write>(line: &[u8], writer: &mut W) -> io::Result<()> {
     let (first, _) = words(line);
     match line {
@@ -57,7 +57,7 @@ fn write_malformed<W: Write>(line: &[u8], writer: &mut W) -> io::Result<()> {
     }
 }
 
-/// Of a record with a wrong number of fields.
+/// Writes what is wrong with a record that has a wrong number of fields.
 fn write_fields<W: Write>(
     alloc: Global,
     query: &[u8],
@@ -78,7 +78,7 @@ fn write_fields<W: Write>(
     }
 }
 
-/// Writes what is wrong with a line of an input text, in one line: where nothing more is at hand, what the table says of the code.
+/// Writes what is wrong with a line of an input text, in one line: where no more is known, what the table says of the code.
 pub fn write_input_fault<W: Write>(
     alloc: Global,
     query: &[u8],

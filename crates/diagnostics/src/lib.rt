@@ -1,10 +1,10 @@
-//! Faults, and what is told of them: a line, the place in the text, what is wrong there, and what a refusal's number means.
+//! Faults, and how they are reported: a line, the place in the text, what is wrong there, and what a refusal's number means.
 //!
-//! A `Fault` has what a command can tell: a code, with the bytes or the line where it stands. `explain_fault` shows that place in the
-//! texts that were read, and says what is wrong there with the names and the numbers at hand; `explained` finds the table's row of a
-//! number, and `write_explanation` writes it. The contract for the layer above: a fault's status, and that the text of a row is written
-//! whole, or a beginning of it where the writer failed, or nothing. Below stand the parser and typing, which a query's text is read by
-//! once more, the table of refusals, and the collector's writer.
+//! A `Fault` has a code, with the bytes or the line where it was found. `explain_fault` shows that place in the texts that were read, and
+//! says what is wrong there with the names and the numbers involved; `explained` finds the table's row of a number, and
+//! `write_explanation` writes it. The contract for the layer above: a fault's status, and that the text of a row is written whole, or a
+//! beginning of it where the writer failed, or nothing. This crate uses the parser and typing, which read a query's text once more, the
+//! table of refusals, and the collector's writer.
 #![tactic(auto)]
 
 mod display;

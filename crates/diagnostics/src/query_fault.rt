@@ -1,4 +1,4 @@
-//! What is wrong with a query, with the names and the numbers at hand.
+//! What is wrong with a query, with the names and the numbers involved.
 
 use crate::display::{Columns, Fields, Meant, Word};
 use crate::hint::hint;
@@ -38,7 +38,7 @@ pub fn write_summary<W: Write>(code: u8, writer: &mut W) -> io::Result<()> {
     }
 }
 
-/// Of a text that is no program: codes 1 to 6.
+/// Writes what is wrong with a text that is no program: codes 1 to 6.
 fn write_reading<W: Write>(text: &[u8], code: u8, span: Span, writer: &mut W) -> io::Result<()> {
     let word = covered(text, span);
     let meant = Meant(hint(text, code, span));
@@ -68,7 +68,7 @@ fn write_reading<W: Write>(text: &[u8], code: u8, span: Span, writer: &mut W) ->
     }
 }
 
-/// Of a program that isn't well typed, where no number of fields is at hand or wanted.
+/// Writes what is wrong with a program that isn't well typed, where no number of fields is involved.
 fn write_naming<W: Write>(code: u8, word: &[u8], writer: &mut W) -> io::Result<()> {
     let shown = Word(word);
     match code {
@@ -90,7 +90,7 @@ fn write_naming<W: Write>(code: u8, word: &[u8], writer: &mut W) -> io::Result<(
     }
 }
 
-/// Of a program that isn't well typed, with the numbers of fields at hand.
+/// Writes what is wrong with a program that isn't well typed, with the numbers of fields.
 fn write_arities<W: Write>(
     code: u8,
     word: &[u8],
@@ -126,7 +126,7 @@ fn write_arities<W: Write>(
     }
 }
 
-/// Writes what is wrong at a place of a query text, in one line: where nothing more is at hand, what the table says of the code.
+/// Writes what is wrong at a place of a query text, in one line: where no more is known, what the table says of the code.
 pub fn write_query_fault<W: Write>(
     alloc: Global,
     text: &[u8],

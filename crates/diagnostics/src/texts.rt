@@ -1,4 +1,4 @@
-//! The texts that a command has read, kept for what is told of a fault.
+//! The texts that a command has read, kept so that a fault can be explained.
 
 ghost use Rattle.std.specs.Prelude.{◌≡◌, []};
 

@@ -9,10 +9,10 @@ use std::mem::replace;
 use std::sync::Wait;
 use workers::{Ended, Engine, Feed, Gate, Naming, work_along};
 
-/// So many epochs are fed under one taking of the lock at most.
+/// The most epochs that are fed while the lock is held once.
 const EPOCHS_AT_ONCE: u32 = AHEAD / 2;
 
-/// Once so many records are gathered, they are fed.
+/// From this number on the gathered records are fed.
 const RECORDS_AT_ONCE: usize = 4096;
 
 /// What is to be fed next, and how many records that is.
@@ -30,14 +30,14 @@ impl Portion {
         }
     }
 
-    /// With a batch more, which is shared, not copied.
+    /// Adds a batch, which is shared, not copied.
     fn add(&mut self, input: u32, batch: &Batch) -> Result<(), Unfinished> {
         self.records = self.records.saturating_add(batch.len());
         let batch = batch.share()?;
         self.put(Feed::Batch { input, batch })
     }
 
-    /// With the end of an epoch.
+    /// Adds the end of an epoch.
     fn seal(&mut self, input: u32) -> Result<(), Unfinished> {
         self.put(Feed::Seal { input })
     }

@@ -2,7 +2,7 @@
 
 use collector::Epochs;
 
-/// How many epochs are fed at most before what they bring is worked off. So many messages wait at most, and not all of the input's.
+/// The most epochs that are fed ahead of what has passed, so that only their messages wait, and not those of the whole input.
 pub const AHEAD: u32 = 256;
 
 /// The epochs to be fed to so many inputs, and how many workers there are.

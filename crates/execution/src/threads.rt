@@ -34,7 +34,7 @@ fn start_workers<'s, E, J: Naming + Send + Sync, R: Threads + Wait + Sync, G: Ga
     Ok(())
 }
 
-/// Starts the workers, and feeds. However that goes, all inputs are closed at the end, so that the workers come to theirs.
+/// Starts the workers, and feeds. However that goes, all inputs are closed at the end, so that the workers end too.
 fn feed_beside<'s, E, J: Naming + Send + Sync, R: Threads + Wait + Sync, G: Gate + Sync>(
     threads: &'s Scope<'s, E>,
     rt: &'s R,
@@ -67,7 +67,7 @@ pub fn work_off<J: Naming + Send + Sync, R: Threads + Wait + Sync, G: Gate + Syn
     })
 }
 
-/// As `work_off`, while a thread more watches. Where it can't be started, this one watches at the end.
+/// As `work_off`, while one more thread watches. Where it can't be started, this one watches at the end.
 pub fn work_off_watched<
     J: Naming + Send + Sync,
     R: Threads + Wait + Sync,

@@ -1,4 +1,4 @@
-//! Why a run comes to no end.
+//! Why a run has no report.
 
 use board::StepRefusal;
 use expr_tree::NoMemory;
@@ -8,12 +8,12 @@ use std::alloc::AllocError;
 /// Why there is no report.
 #[derive(Clone, Copy, Debug, PartialEq, Eq)]
 pub enum Unfinished {
-    /// Memory was wanting, to the feeder or to a worker.
+    /// The feeder or a worker had no memory.
     NoMemory,
     /// A worker's thread could not be started.
     NoWorker,
     /// The engine refused a call for another reason than memory, or it isn't drained, or it was fed something else than was read. No run
-    /// is known in which this comes.
+    /// is known that ends so.
     Incomplete,
 }
 

@@ -1,4 +1,4 @@
-//! What is counted of a vertex at a worker.
+//! What is counted for a vertex at a worker.
 
 use std::sync::atomic::{AtomicU64, Ordering};
 
@@ -27,17 +27,17 @@ impl Counter {
         }
     }
 
-    /// An event more was computed.
+    /// Counts one more event that was computed.
     pub fn add_event(&self) {
         self.events.fetch_add(1, Ordering::SeqCst);
     }
 
-    /// So many records more go to the vertex.
+    /// Counts records that go to the vertex.
     pub fn add_received(&self, records: u64) {
         self.received.fetch_add(records, Ordering::SeqCst);
     }
 
-    /// So many records more were sent by the vertex.
+    /// Counts records that the vertex has sent.
     pub fn add_sent(&self, records: u64) {
         self.sent.fetch_add(records, Ordering::SeqCst);
     }

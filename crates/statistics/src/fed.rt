@@ -1,4 +1,4 @@
-//! What feeding brings, counted before the run.
+//! The records that will be fed, counted before the run.
 
 ghost use Rattle.std.specs.Prelude.{◌≡◌, ◌<◌, ◌≤◌};
 ghost use Rattle.lowering.specs.Views.{vertex_of};
@@ -13,7 +13,7 @@ use std::alloc::Global;
 use std::sync::Arc;
 
 impl Tally {
-    /// Counts what feeding the epochs to the inputs brings to the vertices behind them: the messages that the engine will make of it.
+    /// Counts what comes of feeding the epochs to the inputs: the messages that the engine will make for the vertices after them.
     pub(crate) fn count_fed(
         &self,
         alloc: Global,
@@ -33,7 +33,7 @@ impl Tally {
         Ok(())
     }
 
-    /// Counts what feeding an input brings.
+    /// Counts what comes of feeding one input.
     fn count_input(
         &self,
         alloc: Global,
@@ -52,7 +52,7 @@ impl Tally {
         Ok(())
     }
 
-    /// Counts what a batch brings that is fed to an input.
+    /// Counts what comes of feeding a batch to an input.
     fn count_batch(
         &self,
         alloc: Global,

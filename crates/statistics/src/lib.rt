@@ -2,10 +2,10 @@
 //!
 //! A `Tally` is a gate that counts. It computes each event as `NoGate` does, and adds what the event brought to counters that all threads
 //! share, with no lock. What is fed is counted when the tally is made, as the engine cuts it; what is sent is counted at once for the
-//! vertex and the worker that it goes to. So once a run is worked off, a vertex has taken in what is counted for it.
+//! vertex and the worker that it goes to. So once a run is drained, a vertex has taken in what is counted for it.
 //!
-//! The contract for the layers above is that of `workers::Gate`: the answer is the event's own. That the numbers are right no clause
-//! says; tests show them. Below stand `workers`, `events` and `collector`; `console` writes what was counted.
+//! The contract for the layers above is that of `workers::Gate`: the answer is the event's own. No clause says that the numbers are right;
+//! tests show them. This crate uses `workers`, `events` and `collector`; `console` writes what was counted.
 #![tactic(auto)]
 
 mod counter;

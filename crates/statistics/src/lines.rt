@@ -7,12 +7,12 @@ use std::io;
 use std::io::Write;
 use std::sync::atomic::Ordering;
 
-/// A line has no more bytes: a number of a vertex, a kind with a name, a worker and three numbers.
+/// The most bytes of a line: a vertex's number, a kind with a name, a worker and three numbers.
 const LINE_LIMIT: usize = 256;
 
 impl Tally {
-    /// Writes a line for each vertex, by worker too where that tells more, and then how many messages and epochs there were. Nothing is
-    /// written after a write that fails.
+    /// Writes a line for each vertex, and for each worker where the workers' numbers differ, and then how many messages and epochs there
+    /// were. Nothing is written after a write that fails.
     pub fn write<W: Write>(&self, writer: &mut W) -> io::Result<()> {
         let lines = self.graph.as_slice().split(|byte| *byte == b'\n');
         for (counters, line) in self.counters.iter().zip(lines) {

@@ -1,4 +1,4 @@
-//! What is counted of a run.
+//! What is counted in a run.
 
 ghost use Rattle.std.specs.Prelude.{◌<◌, ◌≤◌};
 
@@ -24,7 +24,7 @@ pub struct Tally {
 }
 
 impl Tally {
-    /// For a run of so many workers over the graph, to which the epochs will be fed. What they bring to the first vertices is counted.
+    /// The counters for a run of the graph on so many workers, to which the epochs will be fed. What comes of feeding them is counted.
     pub fn of(
         alloc: Global,
         graph: &Arc<Graph, Global>,
@@ -39,7 +39,7 @@ impl Tally {
         Ok(tally)
     }
 
-    /// With nothing counted.
+    /// The counters with nothing counted.
     fn unfed(alloc: Global, graph: &Graph, workers: u32, epochs: u32) -> Result<Tally, EventFault> {
         let mut text = Vec::new(alloc);
         if graph_text(alloc, graph, &mut text).is_err() {
@@ -79,7 +79,7 @@ impl Tally {
         records
     }
 
-    /// Counts the records of a message for whom it goes to.
+    /// Counts the records of a message for the vertex and the worker that it goes to.
     fn count_letter(&self, letter: &Letter, records: u64) {
         if let Some(vertex) = self.target(letter.message.edge) {
             if let Some(counter) = self.counter(vertex, letter.to) {
@@ -88,7 +88,7 @@ impl Tally {
         }
     }
 
-    /// Counts an event of a worker by its output.
+    /// Counts an event of a worker, and what it sends.
     pub(crate) fn count_event(&self, worker: u32, output: &Output) {
         let vertex = match output.place.location() {
             Location::Edge(edge) => self.target(edge),
@@ -129,7 +129,7 @@ fn counters_of(
     Ok(counters)
 }
 
-/// So many counters.
+/// That many counters.
 fn new_counters(alloc: Global, count: u32) -> Result<Vec<Counter>, AllocError> {
     let mut counters = Vec::with_capacity(alloc, count as usize)?;
     for _counter in 0..count {
