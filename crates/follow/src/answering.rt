@@ -13,7 +13,7 @@ use progress::Progress;
 use std::alloc::Global;
 use std::thread::Threads;
 
-/// Feeds all that waits and works it off; the text of what is to be told then. So many records were taken since the last time.
+/// Feeds all that waits and works it off; the text of what is to be told then. An epoch has `records` of the lines taken since the last time.
 pub fn answer_open<P: Progress, R: Threads + Sync>(
     rt: &R,
     alloc: Global,

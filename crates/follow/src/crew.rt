@@ -15,8 +15,8 @@ use progress::Progress;
 use std::alloc::{AllocFailed, Global};
 use std::thread::{Threads, for_each_mut};
 
-/// So many records on their way are worth a thread for each worker that has an event.
-pub const HEAVY: u64 = 2048;
+/// An event of so many records is worth a thread.
+pub const HEAVY: u64 = 1024;
 
 /// The number of a board's workers, 1 to 64.
 #[derive(Clone, Copy, Debug, PartialEq, Eq)]
@@ -46,7 +46,7 @@ impl Crew {
     }
 }
 
-/// What is to be done next: nothing, as no worker has an event; or more, with so many records on their way.
+/// What was done: nothing, as no worker has an event; or events that sent messages of at most so many records.
 #[derive(Clone, Copy, Debug, PartialEq, Eq)]
 pub enum Pace {
     Idle,
@@ -54,16 +54,16 @@ pub enum Pace {
 }
 
 impl Pace {
-    /// As many records more.
+    /// With an event more, which sent a message of so many records.
     fn with(self, records: u64) -> Pace {
         match self {
             Pace::Idle => Pace::Sent(records),
-            Pace::Sent(sent) => Pace::Sent(sent.saturating_add(records)),
+            Pace::Sent(sent) => Pace::Sent(sent.max(records)),
         }
     }
 }
 
-/// How many records a computed event sends; it comes back.
+/// How many records the largest message of a computed event has; the event comes back.
 fn weighed(done: Done) -> (u64, Done)
     ensures { result.1 ≡ done }
 {
@@ -71,12 +71,12 @@ fn weighed(done: Done) -> (u64, Done)
     let (stub, output) = done.into_parts();
     let mut records = 0u64;
     for letter in &output.sent {
-        records = records.saturating_add(letter.message.batch.len() as u64);
+        records = records.max(letter.message.batch.len() as u64);
     }
     (records, Done::from_parts(worker, stub, output))
 }
 
-/// Ends an event that was computed: how many records it sent.
+/// Ends an event that was computed: how many records its largest message has.
 fn end<P: Progress>(board: &mut Board<P>, done: Done) -> Result<u64, Halt>
     requires own { IsOf board.old done }
     ensures tables { tables board.new ≡ tables board.old }
@@ -92,7 +92,7 @@ fn end<P: Progress>(board: &mut Board<P>, done: Done) -> Result<u64, Halt>
     }
 }
 
-/// Computes an event, and ends it: how many records it sent.
+/// Computes an event, and ends it: how many records its largest message has.
 fn process<P: Progress>(alloc: Global, board: &mut Board<P>, work: Work) -> Result<u64, Halt>
     requires own { IsOf board.old work.0 }
     ensures tables { tables board.new ≡ tables board.old }
@@ -242,7 +242,7 @@ fn work_in_turn<P: Progress>(alloc: Global, crew: Crew, board: &mut Board<P>) ->
     Ok(pace)
 }
 
-/// Works on one event of each worker that has one: side by side where many records are on their way.
+/// Works on one event of each worker that has one: side by side where events may have so many records.
 fn work_once<P: Progress, R: Threads + Sync>(
     rt: &R,
     alloc: Global,
@@ -258,7 +258,8 @@ fn work_once<P: Progress, R: Threads + Sync>(
     work_in_turn(alloc, crew, board)
 }
 
-/// Works until there is nothing to do now. So many records are on their way at first.
+/// Works until there is nothing to do now. Messages of so many records are on their way at first. A notification may come some turns after
+/// the messages that it is about, so what was sent counts for less turn by turn.
 pub fn work_off<P: Progress, R: Threads + Sync>(
     rt: &R,
     alloc: Global,
@@ -272,7 +273,7 @@ pub fn work_off<P: Progress, R: Threads + Sync>(
     for _turn in 0..u64::MAX {
         match work_once(rt, alloc, crew, records, board)? {
             Pace::Idle => return Ok(()),
-            Pace::Sent(sent) => records = (records / 2).saturating_add(sent),
+            Pace::Sent(sent) => records = sent.max(records / 2),
         }
     }
     Err(Halt::Incomplete)

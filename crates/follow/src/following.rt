@@ -63,6 +63,13 @@ fn take_text<P: Progress>(
     }
 }
 
+/// How many lines an epoch has, of those that were taken since so many had been and so many epochs had begun.
+fn lines_of_epoch(intake: &Intake, begun: u32, line: u64) -> u64 {
+    let lines = intake.line.saturating_sub(line);
+    let epochs = intake.begun.saturating_sub(begun);
+    lines / u64::from(epochs).saturating_add(1)
+}
+
 /// Takes the lines that are pending, up to an epoch that is to get a new board, and writes what can be told then.
 fn follow_lines<P: Progress, R: Threads + Sync, W: Write>(
     rt: &R,
@@ -77,7 +84,8 @@ fn follow_lines<P: Progress, R: Threads + Sync, W: Write>(
     ensures writer { IsErrOf result ending.Write → has_failed writer.new ≡ true }
     ensures reader { IsErrOf result ending.Read → ⊥ }
 {
-    let (base, until, before) = (position.base, position.until, position.intake.line);
+    let (base, until) = (position.base, position.until);
+    let (begun, line) = (position.intake.begun, position.intake.line);
     let taken = match take_text(
         alloc,
         board,
@@ -90,7 +98,7 @@ fn follow_lines<P: Progress, R: Threads + Sync, W: Write>(
         Ok(taken) => taken,
         Err(halt) => return Err(halt.ending()),
     };
-    let records = position.intake.line.saturating_sub(before);
+    let records = lines_of_epoch(&position.intake, begun, line);
     let out = match answer_open(
         rt,
         alloc,
@@ -290,7 +298,7 @@ fn follow_graph<T: Threads + Sync, R: Read, W: Write>(
 }
 
 /// Follows an input text to its end: a piece is read, its records are fed, what can be done is done, and what was emitted is written before
-/// more is read. With several workers, a thread for each that has an event computes it where many records are on their way.
+/// more is read. With several workers, events that may be of many records are computed by a thread each.
 ///
 /// The lines of the first epoch that isn't complete are written as they come, and the line that says so once it has passed at every output.
 /// At `Ok` every epoch is complete. What was written before a fault stays true: it is an answer to the lines before it. What was read behind

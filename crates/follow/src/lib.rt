@@ -8,8 +8,8 @@
 //! A board takes some 16,000 lines. At the next epoch, once all before it are complete, a new board takes its place, so that memory is that
 //! of those lines and of one epoch, however long the input is: on the old board nothing active is left that could result in a record.
 //!
-//! One thread reads, claims and ends events, and writes. Where there are several workers and many records are on their way, a thread for each
-//! worker computes its event. Below stand the board and the reader of lines.
+//! One thread reads, claims and ends events, and writes. Where there are several workers and their events may be of many records, a thread
+//! computes each. Below stand the board and the reader of lines.
 #![tactic(auto)]
 
 mod answering;
