@@ -140,21 +140,23 @@ module _ (graph : Graph) (content : Pointstamp → ℕ) (s : Shown) (kept : IsKe
       let C : Side → Type 0 = λ z. OnShard (FitsPlace s.graph i u) (known_shard z u) in
       subst C (sym (delivered_at o.sent.items (slice_set s.sides p.worker y) i (let n = length-set s.sides p.worker y in omega (arith, li, n)))) one
 
-  letters_are : (q : Pointstamp) → letters_count q o.sent.items ≡ parcel_count (net s) p.worker (event_vertex (net s) p.job.happening) ((net s).act (event_vertex (net s) p.job.happening) (event_time p.job.happening)) done.out q
+  pub letters_are : (q : Pointstamp) → letters_count q o.sent.items ≡ parcel_count (net s) p.worker (event_vertex (net s) p.job.happening) ((net s).act (event_vertex (net s) p.job.happening) (event_time p.job.happening)) done.out q
   letters_are q =
       sym (by_workers (length s.sides) (λ m. one_if_same q (message_pointstamp m)) o.sent.items done.sends.within)
       ∙ below_same (length s.sides) _ _ (λ to l. ap (total (λ m. one_if_same q (message_pointstamp m))) (done.sends.each to l))
+
+  pub asks_are : requests_of o.asked ≡ asked (net s) kept.world p.worker p.job.happening
+  asks_are = done.asks kept.world (was (net s) s (facts.net_of s) kept.world kept.shows p.worker there p.job out own)
 
   pub keeps_commit : (graph' : Graph) (content' : Pointstamp → ℕ) → graph' ≡ graph
       → ((q : Pointstamp) → content' q + one_if_same q (event_pointstamp p.job.happening) ≡ letters_count q o.sent.items + total (λ n. one_if_same q (request_pointstamp n)) (requests_of o.asked) + content q)
       → IsKept graph' content' (after_commit s p.worker p.job o.shard.value o.sent.items o.emitted o.asked)
   keeps_commit graph' content' same counts =
       let both = goes_commit.step kept.world kept.shows in
-      let asks : requests_of o.asked ≡ asked (net s) kept.world p.worker p.job.happening = done.asks kept.world (was (net s) s (facts.net_of s) kept.world kept.shows p.worker there p.job out own) in
       kept_more graph content s kept (Step.commit p.worker p.job.happening done.out) s.inputs
       (delivered (slice_set s.sides p.worker (settled (side_at s p.worker) (event_at (shown_graph s.graph) p.job.happening) o.shard.value o.asked)) o.sent.items)
       (with_emitted (event_at (shown_graph s.graph) p.job.happening) (event_time p.job.happening).epoch o.emitted s.emitted) s.stopped graph' content' refl (room_with (event_at (shown_graph s.graph) p.job.happening) (event_time p.job.happening).epoch o.emitted s.emitted) goes_commit.workers same sides_then fits_then kept.fed both.0 both.1
-      (λ q. order _ _ _ _ _ _ _ (counts q) (letters_are q) (ap (total (λ n. one_if_same q (request_pointstamp n))) asks))
+      (λ q. order _ _ _ _ _ _ _ (counts q) (letters_are q) (ap (total (λ n. one_if_same q (request_pointstamp n))) asks_are))
     where
       order : (a r l n c l' n' : ℕ) → a + r ≡ l + n + c → l ≡ l' → n ≡ n' → a + r ≡ c + (l' + n')
       order a r l n c l' n' p q t = omega (arith, p, q, t)

@@ -1,5 +1,5 @@
 -- The number of passed epochs after each call: it stays, or each epoch below it has passed still.
-use Rattle.std.proofs.Common.{◌≡◌, ◌<◌, ◌≤◌, ℕ, zero, suc, false, List, [], ◌∷◌, length, refl, sym, ap, ◌∙◌, subst, arith, slice_set, slice_index_or, Result, Ok, Err, OnOk, OnErr}
+use Rattle.std.proofs.Common.{◌≡◌, ◌<◌, ◌≤◌, ◌+◌, ℕ, zero, suc, Bool, true, false, cond, List, [], ◌∷◌, length, refl, sym, ap, ◌∙◌, subst, arith, slice_set, slice_index_or}
 use Rattle.semantics.specs.Multiset.{Record}
 use Rattle.semantics.specs.Graph.{Graph}
 use Rattle.semantics.specs.Could.{Pointstamp}
@@ -11,24 +11,17 @@ use Rattle.board.specs.Claims.{HandsMessage, HandsRequest}
 use Rattle.board.specs.Commits.{Feeds, IsOf, Settles}
 use Rattle.board.specs.Deliverable.{IsDeliverable}
 use Rattle.board.specs.Fitting.{arity_in}
-use Rattle.board.specs.Kept.{IsKept, Keeps}
-use Rattle.board.specs.Promises.{CountsPassed}
+use Rattle.board.specs.Kept.{Goes, IsKept, Keeps, open_count}
+use Rattle.views.specs.Waiting.{IsSeenBy, Waiting}
 use Rattle.board.specs.Seals.{HavePassed}
 use Rattle.board.specs.Shown.{InputShown, Shown, input_at, no_input, side_at}
-use Rattle.board.specs.Steps.{after_abandon, after_close, after_seal}
+use Rattle.board.specs.Steps.{after_abandon, after_close, after_seal, more_at}
 use Rattle.board.proofs.Boards.{commit_goes}
-use Rattle.board.proofs.Counts.{counts_kept, counts_same, have_passed}
+use Rattle.board.proofs.Counts.{have_passed, most_same}
 use Rattle.board.proofs.Ended.{close_goes, seal_goes}
-use Rattle.board.proofs.Feeding.{feeds_goes, feeds_kept}
+use Rattle.board.proofs.Feeding.{feeds_goes}
 use Rattle.board.proofs.GivenOut.{hands_message, hands_message_kept, hands_request, hands_request_kept}
 use Rattle.board.proofs.GivenUp.{abandon_goes, abandon_kept}
-
-open_set : (xs : List InputShown) (i : ℕ) (x : InputShown) → x.open_epoch ≡ (slice_index_or xs i no_input).open_epoch → (j : ℕ) → (slice_index_or (slice_set xs i x) j no_input).open_epoch ≡ (slice_index_or xs j no_input).open_epoch
-open_set [] i x e j = refl
-open_set (y ∷ ys) zero x e zero = e
-open_set (y ∷ ys) zero x e (suc j) = refl
-open_set (y ∷ ys) (suc i) x e zero = refl
-open_set (y ∷ ys) (suc i) x e (suc j) = open_set ys i x e j
 
 open_rises : (xs : List InputShown) (i : ℕ) (x : InputShown) → (slice_index_or xs i no_input).open_epoch ≤ x.open_epoch → (j : ℕ) → (slice_index_or xs j no_input).open_epoch ≤ (slice_index_or (slice_set xs i x) j no_input).open_epoch
 open_rises [] i x e j = omega arith
@@ -37,64 +30,113 @@ open_rises (y ∷ ys) zero x e (suc j) = omega arith
 open_rises (y ∷ ys) (suc i) x e zero = omega arith
 open_rises (y ∷ ys) (suc i) x e (suc j) = open_rises ys i x e j
 
-module _ (graph : Graph) (content : Pointstamp → ℕ) (passed : ℕ) (s : Shown) (keeps : Keeps graph content passed s) (t : Shown) where
+-- one input less is open
+pub one_closed : (xs : List InputShown) (i : ℕ) → i < length xs → (slice_index_or xs i no_input).closed ≡ false → open_count (slice_set xs i (record (slice_index_or xs i no_input) { closed = true })) + 1 ≡ open_count xs
+one_closed [] i l e = absurd (omega (arith, l))
+one_closed (x ∷ xs) zero l e = order (open_bit x.closed) (open_count xs) (ap open_bit e)
+  where
+    open_bit : Bool → ℕ
+    open_bit b = cond b 0 1
+
+    order : (a n : ℕ) → a ≡ 1 → 0 + n + 1 ≡ a + n
+    order a n h = omega (arith, h)
+one_closed (x ∷ xs) (suc i) l e = let rest = one_closed xs i (omega (arith, l)) e in omega (arith, rest)
+
+-- as many are open as before
+pub as_open : (xs : List InputShown) (i : ℕ) (x : InputShown) → x.closed ≡ (slice_index_or xs i no_input).closed → open_count (slice_set xs i x) ≡ open_count xs
+as_open [] i x e = refl
+as_open (y ∷ ys) zero x e = ap (λ b. cond b 0 1 + open_count ys) e
+as_open (y ∷ ys) (suc i) x e = ap (λ n. cond y.closed 0 1 + n) (as_open ys i x e)
+
+-- no more inputs are open than there are
+pub few_open : (xs : List InputShown) → open_count xs ≤ length xs
+few_open [] = omega arith
+few_open (x ∷ xs) = by x.closed (few_open xs)
+  where
+    by : (b : Bool) → open_count xs ≤ length xs → cond b 0 1 + open_count xs ≤ suc (length xs)
+    by true h = omega (arith, h)
+    by false h = omega (arith, h)
+
+-- the same by other views of the same
+pub kept_same : (graph graph' : Graph) (content content' : Pointstamp → ℕ) (s : Shown) → IsKept graph content s → graph' ≡ graph → ((q : Pointstamp) → content' q ≡ content q) → IsKept graph' content' s
+kept_same graph graph' content content' s kept g c =
+    let e : content' ≡ content = λ i q. c q i in
+    let B : (Pointstamp → ℕ) → Type 0 = λ f. IsKept graph' f s in
+    let C : Graph → Type 0 = λ z. IsKept z content s in
+    subst B (sym e) (subst C (sym g) kept)
+
+module _ (graph : Graph) (viewers : ℕ) (content : Pointstamp → ℕ) (waiting : Waiting) (room : ℕ) (late : Bool) (passed : ℕ) (s : Shown) (keeps : Keeps graph viewers content waiting room late passed s) (t : Shown) where
   -- of a refusal
-  pub keeps_same : (graph' : Graph) (content' : Pointstamp → ℕ) → graph' ≡ graph → content' ≡ content → t ≡ s → Keeps graph' content' passed t
-  keeps_same graph' content' g c e =
-      let A : Shown → Type 0 = λ z. Keeps graph' content' passed z in
-      let B : (Pointstamp → ℕ) → Type 0 = λ f. Keeps graph' f passed s in
-      let C : Graph → Type 0 = λ z. Keeps z content passed s in
-      subst A (sym e) (subst B (sym c) (subst C (sym g) keeps))
+  pub keeps_same : (graph' : Graph) (viewers' : ℕ) (content' : Pointstamp → ℕ) (waiting' : Waiting) (room' : ℕ) → graph' ≡ graph → viewers' ≡ viewers → ((q : Pointstamp) → content' q ≡ content q)
+      → ((w k : ℕ) → waiting' w k ≡ waiting w k) → room ≤ room' → t ≡ s → Keeps graph' viewers' content' waiting' room' late passed t
+  keeps_same graph' viewers' content' waiting' room' g v c w r e =
+      let A : Shown → Type 0 = λ z. Keeps graph' viewers' content' waiting' room' late passed z in
+      let B : (Pointstamp → ℕ) → Type 0 = λ f. Keeps graph' viewers' f waiting' room' late passed s in
+      let C : Graph → Type 0 = λ z. Keeps z viewers' content waiting' room' late passed s in
+      let D : ℕ → Type 0 = λ n. Keeps graph n content waiting' room' late passed s in
+      let E : Waiting → Type 0 = λ f. Keeps graph viewers content f room' late passed s in
+      let content_is : content' ≡ content = λ i q. c q i in
+      let waiting_is : waiting' ≡ waiting = λ i x k. w x k i in
+      let more : Keeps graph viewers content waiting room' late passed s = record {
+        kept = keeps.kept;
+        viewers_are = keeps.viewers_are;
+        closes = (let l = keeps.closes in omega (arith, l, r));
+        prompt = keeps.prompt;
+        passed_are = keeps.passed_are;
+        passed_most = keeps.passed_most;
+      } in
+      subst A (sym e) (subst B (sym content_is) (subst C (sym g) (subst D (sym v) (subst E (sym waiting_is) more))))
+
+  -- of a step that changes no input, and posts nothing
+  keeps_beside : (step : Step) → Goes s step t → t.inputs ≡ s.inputs → IsKept graph content t → Keeps graph viewers content waiting room late passed t
+  keeps_beside step goes inputs kept = record {
+    kept = kept;
+    viewers_are = keeps.viewers_are ∙ sym goes.workers;
+    closes = (let l = keeps.closes in let e = ap open_count inputs in omega (arith, l, e));
+    prompt = keeps.prompt;
+    passed_are = have_passed graph content s keeps.kept step t goes (λ i. let e = ap (λ (xs : List InputShown). (slice_index_or xs i no_input).open_epoch) inputs in omega (arith, e)) passed keeps.passed_are;
+    passed_most = most_same graph (IsSeenBy content waiting viewers 0) s t inputs goes.graph passed keeps.passed_most;
+  }
 
   -- of what is handed out
   module _ (k : ℕ) (there : k < length s.sides) (free : (side_at s k).place ≡ Home) (runs : s.stopped ≡ false) (at : ℕ) (p : Pass) where
-    pub keeps_message : HandsMessage s t k at p → Keeps graph content passed t
+    pub keeps_message : HandsMessage s t k at p → Keeps graph viewers content waiting room late passed t
     keeps_message h =
         let kept : IsKept graph content t = hands_message_kept graph content s keeps.kept k there free runs t at p h in
         let hands = hands_message graph content s keeps.kept k there free runs t at p h in
-        record { kept = kept; counts = counts_kept graph content s keeps.kept hands.taken t hands.goes graph content kept (λ i. ap (λ (z : Shown). (input_at z i).open_epoch) h.state) (λ q. omega arith) passed keeps.counts }
+        keeps_beside hands.taken hands.goes (ap (λ (z : Shown). z.inputs) h.state) kept
 
-    pub keeps_request : (h : HandsRequest s t k at p) → IsDeliverable graph content h.request → Keeps graph content passed t
+    pub keeps_request : (h : HandsRequest s t k at p) → IsDeliverable graph (λ q. 0 < content q) h.request → Keeps graph viewers content waiting room late passed t
     keeps_request h front =
         let kept : IsKept graph content t = hands_request_kept graph content s keeps.kept k there free runs t at p h front in
         let hands = hands_request graph content s keeps.kept k there free runs t at p h front in
-        record { kept = kept; counts = counts_kept graph content s keeps.kept hands.taken t hands.goes graph content kept (λ i. ap (λ (z : Shown). (input_at z i).open_epoch) h.state) (λ q. omega arith) passed keeps.counts }
+        keeps_beside hands.taken hands.goes (ap (λ (z : Shown). z.inputs) h.state) kept
 
   -- of an event that is given up
-  pub keeps_abandon : (k : ℕ) → k < length s.sides → (j : Job) → (side_at s k).place ≡ Out j → t ≡ after_abandon s k j → Keeps graph content passed t
+  pub keeps_abandon : (k : ℕ) → k < length s.sides → (j : Job) → (side_at s k).place ≡ Out j → t ≡ after_abandon s k j → Keeps graph viewers content waiting room late passed t
   keeps_abandon k there j out e =
-      let kept : IsKept graph content (after_abandon s k j) = abandon_kept s k there j out graph content keeps.kept in
-      subst (Keeps graph content passed) (sym e)
-      (record { kept = kept; counts = counts_kept graph content s keeps.kept (Step.abandon k j.happening) (after_abandon s k j) (abandon_goes s k there j out) graph content kept (λ i. refl) (λ q. omega arith) passed keeps.counts })
+      let kept : IsKept graph content t = subst (IsKept graph content) (sym e) (abandon_kept s k there j out graph content keeps.kept) in
+      let goes : Goes s (Step.abandon k j.happening) t = subst (Goes s (Step.abandon k j.happening)) (sym e) (abandon_goes s k there j out) in
+      keeps_beside (Step.abandon k j.happening) goes (ap (λ (z : Shown). z.inputs) e) kept
 
-  -- of a feed, whatever it answers
-  pub keeps_feed : (graph' : Graph) (content' : Pointstamp → ℕ) (i : ℕ) (takes : (s.stopped ≡ false) × (i < length s.inputs) × ((input_at s i).closed ≡ false)) (batch : List Record)
-      → 0 < length batch → HaveFields (arity_in s.graph i) batch → {T E : Type 0} (r : Result T E) → OnOk r (Feeds s t content content' i batch) → graph' ≡ graph → OnErr r (t ≡ s)
-      → OnErr r (content' ≡ content) → Keeps graph' content' passed t
-  keeps_feed graph' content' i takes batch some fields r fed same back counts = record { kept = kept; counts = by r fed back }
-    where
-      kept : IsKept graph' content' t
-      kept = feeds_kept graph graph' content content' s t keeps.kept i takes batch some fields r fed same back counts
+  -- what is asked after a feed, a seal, a close and a commit
+  pub fed_passed : (content' : Pointstamp → ℕ) (i : ℕ) (takes : (s.stopped ≡ false) × (i < length s.inputs) × ((input_at s i).closed ≡ false)) (batch : List Record)
+      → 0 < length batch → HaveFields (arity_in s.graph i) batch → Feeds s t content content' i batch → HavePassed t passed
+  fed_passed content' i takes batch some fields f =
+      have_passed graph content s keeps.kept (Step.feed i batch) t (feeds_goes graph graph content content' s t keeps.kept i takes batch some fields f)
+      (λ j. let e = ap (λ (z : Shown). (input_at z j).open_epoch) f.state in let r = open_rises s.inputs i (record (input_at s i) { fed = more_at (input_at s i).open_epoch (batch ∷ []) (input_at s i).fed }) (omega arith) j in omega (arith, e, r)) passed keeps.passed_are
 
-      by : {T E : Type 0} (r : Result T E) → OnOk r (Feeds s t content content' i batch) → OnErr r (t ≡ s) → CountsPassed t passed
-      by (Ok x) f b =
-          counts_kept graph content s keeps.kept (Step.feed i batch) t (feeds_goes graph graph' content content' s t keeps.kept i takes batch some fields f) graph' content' kept
-          (λ j. ap (λ (z : Shown). (input_at z j).open_epoch) f.state ∙ open_set s.inputs i _ refl j)
-          (λ q. let c = f.content q in omega (arith, c)) passed keeps.counts
-      by (Err x) f b = counts_same s t b passed keeps.counts
-
-  -- what is asked after a seal, a close and a commit
   pub sealed_passed : (i : ℕ) (takes : (s.stopped ≡ false) × (i < length s.inputs) × ((input_at s i).closed ≡ false)) → t ≡ after_seal s i → HavePassed t passed
   sealed_passed i takes e =
       let P : Shown → Type 0 = λ z. HavePassed z passed in
-      subst P (sym e) (have_passed graph content s keeps.kept (Step.seal i) (after_seal s i) (seal_goes graph content s keeps.kept i takes) (λ j. open_rises s.inputs i _ (omega arith) j) passed keeps.counts)
+      subst P (sym e) (have_passed graph content s keeps.kept (Step.seal i) (after_seal s i) (seal_goes graph content s keeps.kept i takes) (λ j. open_rises s.inputs i _ (omega arith) j) passed keeps.passed_are)
 
   pub closed_passed : (i : ℕ) (takes : (s.stopped ≡ false) × (i < length s.inputs) × ((input_at s i).closed ≡ false)) → t ≡ after_close s i → HavePassed t passed
   closed_passed i takes e =
       let P : Shown → Type 0 = λ z. HavePassed z passed in
-      subst P (sym e) (have_passed graph content s keeps.kept (Step.close i) (after_close s i) (close_goes graph content s keeps.kept i takes) (λ j. open_rises s.inputs i _ (omega arith) j) passed keeps.counts)
+      subst P (sym e) (have_passed graph content s keeps.kept (Step.close i) (after_close s i) (close_goes graph content s keeps.kept i takes) (λ j. open_rises s.inputs i _ (omega arith) j) passed keeps.passed_are)
 
-  pub committed_passed : (content' : Pointstamp → ℕ) (graph' : Graph) (p : Pass) → IsOf s p → Settles s t content content' p → HavePassed t passed
-  committed_passed content' graph' p of settles =
-      let g = commit_goes graph graph' content content' s t p keeps.kept of settles in
-      have_passed graph content s keeps.kept (Step.commit p.worker p.job.happening g.1.0) t g.1.1 (λ j. let e = ap (λ (z : Shown). (input_at z j).open_epoch) settles.state in omega (arith, e)) passed keeps.counts
+  pub committed_passed : (content' : Pointstamp → ℕ) (p : Pass) → IsOf s p → Settles s t content content' p → HavePassed t passed
+  committed_passed content' p of settles =
+      let g = commit_goes graph graph content content' s t p keeps.kept of settles in
+      have_passed graph content s keeps.kept (Step.commit p.worker p.job.happening g.1.0) t g.1.1 (λ j. let e = ap (λ (z : Shown). (input_at z j).open_epoch) settles.state in omega (arith, e)) passed keeps.passed_are

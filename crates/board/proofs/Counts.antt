@@ -1,7 +1,7 @@
 -- What has passed stays so, and the number of passed epochs after each call.
-use Rattle.std.proofs.Common.{◌≡◌, inl, inr, ◌<◌, ◌≤◌, ℕ, length, refl, sym, ap, ◌∙◌, subst, arith}
-use Rattle.semantics.specs.Graph.{Graph, input_count, output_number, vertex}
-use Rattle.semantics.specs.Could.{Pointstamp, CouldResultIn, at_vertex}
+use Rattle.std.proofs.Common.{◌≡◌, ◌⊎◌, inl, inr, ◌<◌, ◌≤◌, ℕ, List, length, refl, sym, ap, ◌∙◌, subst, arith, slice_index_or}
+use Rattle.semantics.specs.Graph.{Graph, input_count, output_number, output_numbers, vertex}
+use Rattle.semantics.specs.Could.{Pointstamp, CouldResultIn, NoneOf, at_vertex}
 use Rattle.semantics.specs.Dataflow.{IsDataflow}
 use Rattle.semantics.specs.Kinds.{Role, role}
 use Rattle.semantics.specs.Time.{at_epoch}
@@ -16,11 +16,11 @@ use Rattle.machine.proofs.PassedOutputs.{passed_below}
 use Rattle.machine.proofs.Tracking.{active_counts}
 use Rattle.board.specs.Kept.{IsKept, Goes}
 use Rattle.board.specs.Promises.{CountsPassed, HasPassed, IsOutputPlace}
-use Rattle.board.specs.Seals.{HavePassed}
+use Rattle.board.specs.Seals.{HavePassed, IsMostSeals, IsMostSeen}
 use Rattle.board.specs.Showing.{Shows}
 use Rattle.board.specs.Shown.{InputShown, Shown, input_at, net, no_input}
 use Rattle.board.proofs.Facts.{run_on}
-use Rattle.board.proofs.Worlds.{none, none_back, same_active}
+use Rattle.board.proofs.Worlds.{same_active}
 
 -- all worlds that a board shows agree on what has passed
 module _ (s : Shown) (flows : IsDataflow (shown_graph s.graph)) (some : 0 < length s.sides) (w w' : World) (is : Shows s w) (is' : Shows s w') where
@@ -84,44 +84,31 @@ module _ (graph : Graph) (content : Pointstamp → ℕ) (s : Shown) (kept : IsKe
   sealed_then w is rises n (inr (i, l, m)) =
       inr (i, onto (λ g k. i < input_count g) l, (let a = kept.shows.open_epoch i in let b = is.open_epoch i in let c = rises i in omega (arith, m, a, b, c)))
 
-  pub have_passed : ((i : ℕ) → (input_at s i).open_epoch ≤ (input_at t i).open_epoch) → (n : ℕ) → CountsPassed s n → HavePassed t n
-  have_passed rises n counts w is =
-      let c = counts kept.world kept.shows in
-      (sealed_then w is rises n c.sealed, λ v e r l. stays w is v e (c.passed v e (back (λ g k. role (vertex g v).kind ≡ Role.output) r) l))
-
-  -- where no input is sealed, and what was active stays so, the number stays
-  module _ (graph' : Graph) (content' : Pointstamp → ℕ) (kept' : IsKept graph' content' t) (same : (i : ℕ) → (input_at t i).open_epoch ≡ (input_at s i).open_epoch)
-      (more : (q : Pointstamp) → content q ≤ content' q) where
-    sealed_before : (w : World) → Shows t w → (n : ℕ) → SealedTo (net t) w n → SealedTo (net s) kept.world n
-    sealed_before w is n (inl e) = inl e
-    sealed_before w is n (inr (i, l, m)) =
-        inr (i, back (λ g k. i < input_count g) l, (let a = kept.shows.open_epoch i in let b = is.open_epoch i in let c = same i in omega (arith, m, a, b, c)))
-
-    passed_before : (w : World) → Shows t w → (v e : ℕ) → Passed (net t) w v e → Passed (net s) kept.world v e
-    passed_before w is v e h =
-        none graph content s kept kept.world kept.shows (at_vertex v (at_epoch e))
-        (λ q l c. none_back graph' content' t kept' w is (at_vertex v (at_epoch e)) h q (omega (arith, l, more q)) (subst (λ g. CouldResultIn g q (at_vertex v (at_epoch e))) (kept.same ∙ sym (ap shown_graph goes.graph) ∙ sym kept'.same) c))
-
-    pub counts_kept : (n : ℕ) → CountsPassed s n → CountsPassed t n
-    counts_kept n counts w is =
-        let c = counts kept.world kept.shows in
-        let h = have_passed (λ i. omega (arith, same i)) n counts w is in
-        record {
-          sealed = h.0;
-          passed = h.1;
-          greatest = λ m to all. c.greatest m (sealed_before w is m to) (λ v e r l. passed_before w is v e (all v e (onto (λ g k. role (vertex g v).kind ≡ Role.output) r) l));
-        }
-
-pub counts_same : (s t : Shown) → t ≡ s → (n : ℕ) → CountsPassed s n → CountsPassed t n
-counts_same s t e n h = subst (λ (z : Shown). CountsPassed z n) (sym e) h
+  pub have_passed : ((i : ℕ) → (input_at s i).open_epoch ≤ (input_at t i).open_epoch) → (n : ℕ) → HavePassed s n → HavePassed t n
+  have_passed rises n have w is =
+      let c = have kept.world kept.shows in
+      (sealed_then w is rises n c.0, λ v e r l. stays w is v e (c.1 v e (back (λ g k. role (vertex g v).kind ≡ Role.output) r) l))
 
 -- at the opening none has
-pub counts_new : (s : Shown) → ((i : ℕ) → input_at s i ≡ no_input) → CountsPassed s 0
-counts_new s unfed w is = record { sealed = inl refl; passed = λ v e r l. absurd (omega (arith, l)); greatest = λ m to all. none_sealed m to }
+pub have_new : (s : Shown) → HavePassed s 0
+have_new s w is = (inl refl, λ v e r l. absurd (omega (arith, l)))
+
+-- and no input is sealed
+pub most_new : (graph : Graph) (these : Pointstamp → Type 0) (s : Shown) → ((i : ℕ) → input_at s i ≡ no_input) → IsMostSeen graph these s 0
+most_new graph these s unfed m most = (omega arith, λ l. absurd (none_sealed most.some l))
   where
-    none_sealed : (m : ℕ) → SealedTo (net s) w m → m ≤ 0
-    none_sealed m (inl e) = omega (arith, e)
-    none_sealed m (inr (i, l, b)) = let a = is.open_epoch i in let z = ap (λ (x : InputShown). x.open_epoch) (unfed i) in omega (arith, a, b, z)
+    none_sealed : (m ≡ 0) ⊎ ((i : ℕ) × (i < length s.inputs) × ((input_at s i).open_epoch ≡ m)) → 0 < m → ⊥
+    none_sealed (inl e) l = omega (arith, e, l)
+    none_sealed (inr (i, k, e)) l = let z = ap (λ (x : InputShown). x.open_epoch) (unfed i) in omega (arith, e, z, l)
+
+-- where no input is sealed, what is seen stays so
+pub most_same : (graph : Graph) (these : Pointstamp → Type 0) (s t : Shown) → t.inputs ≡ s.inputs → t.graph ≡ s.graph → (n : ℕ) → IsMostSeen graph these s n → IsMostSeen graph these t n
+most_same graph these s t inputs same n most m seals =
+    let O : List InputShown → Type 0 = λ xs. (m ≡ 0) ⊎ ((i : ℕ) × (i < length xs) × ((slice_index_or xs i no_input).open_epoch ≡ m)) in
+    let M : List InputShown → Type 0 = λ xs. (i : ℕ) → i < length xs → (slice_index_or xs i no_input).open_epoch ≤ m in
+    let before : IsMostSeals s m = record { most = subst M inputs seals.most; some = subst O inputs seals.some } in
+    let N : GraphValue → Type 0 = λ g. (k : ℕ) → k < length (output_numbers (shown_graph g)) → NoneOf (CouldResultIn graph) these (at_vertex (output_number (shown_graph g) k) (at_epoch n)) in
+    ((most m before).0, λ l none. (most m before).1 l (subst N same none))
 
 -- the number is one, and each epoch below it has passed
 module _ (graph : Graph) (content : Pointstamp → ℕ) (s : Shown) (kept : IsKept graph content s) where

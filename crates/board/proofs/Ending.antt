@@ -10,6 +10,7 @@ use Rattle.lowering.specs.Shown.{shown_graph}
 use Rattle.machine.specs.World.{Event}
 use Rattle.machine.specs.Active.{one_if_same, request_pointstamp, event_pointstamp}
 use Rattle.machine.specs.Processing.{event_time}
+use Rattle.progress.specs.Content.{times_in}
 use Rattle.tokens.specs.declared.rule.Place.TheVariants.{Out}
 use Rattle.events.specs.Happenings.{requests_of}
 use Rattle.events.specs.Jobs.{Job, Pass}
@@ -59,14 +60,12 @@ state_then s t p o o' k v e xs graph inputs stopped sides emitted ex ek ev ee re
     let out : t.emitted ≡ with_emitted (event_at (shown_graph s.graph) p.job.happening) (event_time p.job.happening).epoch o.emitted s.emitted = emitted ∙ (λ i. with_emitted (ev i) (ee i) o.emitted s.emitted) in
     λ i. record { graph = graph i; inputs = inputs i; sides = all i; emitted = out i; stopped = stopped i }
 
-pub content_then : (before middle after : Pointstamp → ℕ) (o o' : Output) (place : Pointstamp) → middle ≡ before → record o' { emitted = o.emitted } ≡ o → o.place ≡ place
-    → ((q : Pointstamp) → after q + one_if_same q o'.place ≡ letters_count q o'.sent.items + total (λ n. one_if_same q (request_pointstamp n)) (requests_of o'.asked) + middle q)
-    → (q : Pointstamp) → after q + one_if_same q place ≡ letters_count q o.sent.items + total (λ n. one_if_same q (request_pointstamp n)) (requests_of o.asked) + before q
-content_then before middle after o o' place same rest at counts q =
-    let P : Output → Type 0 = λ x. after q + one_if_same q x.place ≡ letters_count q x.sent.items + total (λ n. one_if_same q (request_pointstamp n)) (requests_of x.asked) + before q in
-    let Q : (Pointstamp → ℕ) → Type 0 = λ f. after q + one_if_same q o'.place ≡ letters_count q o'.sent.items + total (λ n. one_if_same q (request_pointstamp n)) (requests_of o'.asked) + f q in
-    let R : Pointstamp → Type 0 = λ x. after q + one_if_same q x ≡ letters_count q o.sent.items + total (λ n. one_if_same q (request_pointstamp n)) (requests_of o.asked) + before q in
-    subst R at (subst P rest (subst Q same (counts q)))
+pub added_then : (added : List Pointstamp) (o o' : Output) → record o' { emitted = o.emitted } ≡ o
+    → ((q : Pointstamp) → times_in added q ≡ letters_count q o'.sent.items + total (λ n. one_if_same q (request_pointstamp n)) (requests_of o'.asked))
+    → (q : Pointstamp) → times_in added q ≡ letters_count q o.sent.items + total (λ n. one_if_same q (request_pointstamp n)) (requests_of o.asked)
+added_then added o o' rest counts q =
+    let P : Output → Type 0 = λ x. times_in added q ≡ letters_count q x.sent.items + total (λ n. one_if_same q (request_pointstamp n)) (requests_of x.asked) in
+    subst P rest (counts q)
 
 pub out_there : (s : Shown) (p : Pass) (x : Side) (j : Job) → x ≡ side_at s p.worker → x.place ≡ Out j → j ≡ p.job → (side_at s p.worker).place ≡ Out p.job
 out_there s p x j e h q = sym (ap (λ (z : Side). z.place) e) ∙ h ∙ ap Out q

@@ -1,5 +1,5 @@
 -- A feed of a batch is one step, and keeps what a board keeps.
-use Rattle.std.proofs.Common.{◌≡◌, ◌≢◌, ◌⊎◌, inl, inr, ◌<◌, ◌+◌, ℕ, zero, suc, ◌==◌, Bool, true, false, cond, List, [], ◌∷◌, ◌++◌, length, refl, sym, ap, ◌∙◌, subst, arith, slice_set, slice_index_or, append-nil, length-set, None, Result, Ok, Err, OnOk, OnErr}
+use Rattle.std.proofs.Common.{◌≡◌, ◌≢◌, ◌⊎◌, inl, inr, ◌<◌, ◌+◌, ℕ, zero, suc, ◌==◌, Bool, true, false, cond, List, [], ◌∷◌, ◌++◌, length, refl, sym, ap, ◌∙◌, subst, arith, slice_set, slice_index_or, append-nil, length-set, None}
 use Rattle.std.proofs.lemmas.Bool.Decides.{eqb_tells}
 use Rattle.semantics.specs.Multiset.{Record, count, total, same, one_if}
 use Rattle.semantics.specs.Graph.{Graph}
@@ -144,7 +144,7 @@ module _ (graph : Graph) (content : Pointstamp → ℕ) (s : Shown) (kept : IsKe
           subst P (sym (a ∙ put_more (w.fed i) (w.open_epoch i) batch e)) (both_fields (arity_in s.graph v) (w.fed i e) (cond (w.open_epoch i == e) batch []) old (none_fields (arity_in s.graph v) (w.open_epoch i == e) batch new))
       go (inr (q, a)) = let P : List Record → Type 0 = λ l. HaveFields (arity_in s.graph v) l in subst P (sym a) (kept.fed v e lv kind)
 
-  letters_are : (q : Pointstamp) → letters_count q letters ≡ parcel_count (net s) 0 i (at_epoch (kept.world.open_epoch i)) (λ p. batch) q
+  pub letters_are : (q : Pointstamp) → letters_count q letters ≡ parcel_count (net s) 0 i (at_epoch (kept.world.open_epoch i)) (λ p. batch) q
   letters_are q =
       sym (by_workers (length s.sides) (λ m. one_if_same q (message_pointstamp m)) letters parcels_are.within)
       ∙ below_same (length s.sides) _ _ (λ to l. ap (total (λ m. one_if_same q (message_pointstamp m))) (parcels_are.each to l))
@@ -184,17 +184,11 @@ accepted s i batch e some each =
       fields = subst (λ (n : ℕ). HaveFields n batch) tells.1 (fields_of (arity_of batch) batch each);
     }
 
--- what a feed makes, whatever it answers
+-- what a feed makes
 module _ (graph graph' : Graph) (content content' : Pointstamp → ℕ) (s t : Shown) (kept : IsKept graph content s) (i : ℕ) (takes : (s.stopped ≡ false) × (i < length s.inputs) × ((input_at s i).closed ≡ false))
     (batch : List Record) (some : 0 < length batch) (fields : HaveFields (arity_in s.graph i) batch) where
-  pub feeds_kept : {T E : Type 0} (r : Result T E) → OnOk r (Feeds s t content content' i batch) → graph' ≡ graph → OnErr r (t ≡ s) → OnErr r (content' ≡ content) → IsKept graph' content' t
-  feeds_kept (Ok x) f same back counts =
-      subst (IsKept graph' content') (sym f.state) (feed_kept graph content s kept i takes batch some fields f.letters f.parcels graph' content' same f.content)
-  feeds_kept (Err x) f same back counts =
-      let A : Shown → Type 0 = λ z. IsKept graph' content' z in
-      let B : (Pointstamp → ℕ) → Type 0 = λ g. IsKept graph' g s in
-      let C : Graph → Type 0 = λ z. IsKept z content s in
-      subst A (sym back) (subst B (sym counts) (subst C (sym same) kept))
+  pub feeds_kept : Feeds s t content content' i batch → graph' ≡ graph → IsKept graph' content' t
+  feeds_kept f same = subst (IsKept graph' content') (sym f.state) (feed_kept graph content s kept i takes batch some fields f.letters f.parcels graph' content' same f.content)
 
   pub feeds_goes : Feeds s t content content' i batch → Goes s (Step.feed i batch) t
   feeds_goes f = subst (Goes s (Step.feed i batch)) (sym f.state) (feed_goes graph content s kept i takes batch some fields f.letters f.parcels)

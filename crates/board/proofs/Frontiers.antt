@@ -2,11 +2,9 @@
 use Rattle.std.proofs.Common.{◌≡◌, ◌≢◌, ◌⊎◌, inl, inr, ◌<◌, ◌+◌, ◌++◌, ℕ, zero, suc, ◌==◌, true, false, List, [], ◌∷◌, length, sym, ◌∙◌, ap, subst, arith, slice_get, slice_index_or, Some, Result, Ok, Err, OnOk, OnErr}
 use Rattle.std.proofs.lemmas.Bool.Decides.{eqb_tells}
 use Rattle.machine.specs.World.{Request}
-use Rattle.machine.specs.Active.{IsActive, request_pointstamp}
-use Rattle.machine.proofs.Tracking.{active_counts}
-use Rattle.lowering.specs.Shown.{shown_graph}
-use Rattle.board.specs.Kept.{IsKept}
-use Rattle.board.specs.Shown.{Shown, side_at}
+use Rattle.machine.specs.Active.{request_pointstamp}
+use Rattle.semantics.specs.Dataflow.{IsDataflow}
+use Rattle.semantics.proofs.CouldRises.{could_once, could_onward}
 use Rattle.semantics.specs.Graph.{Graph}
 use Rattle.semantics.specs.Could.{CouldResultIn, IsTimeAt, Location, Pointstamp}
 use Rattle.semantics.specs.Time.{IsAtMost}
@@ -33,25 +31,27 @@ blocked_next P rs place r got apart before at x l e h = go (below_next at place 
         apart (subst P same h)
 
 -- A request that may not be delivered hinders each at or after it at its vertex, so that these need no asking.
-pub blocked_behind : (g : Graph) (content : Pointstamp → ℕ) (r r' : Request) → r.vertex ≡ r'.vertex → IsAtMost r.time r'.time
-    → IsTimeAt g (Location.vertex r.vertex) r.time → IsTimeAt g (Location.vertex r'.vertex) r'.time → 0 < content (request_pointstamp r)
-    → (IsDeliverable g content r → ⊥) → IsDeliverable g content r' → ⊥
-blocked_behind g content r r' e order fits fits' active blocked none =
-    let c : CouldResultIn g (request_pointstamp r) (request_pointstamp r') = record { starts = fits; ends = fits'; path = []; leads = ap Location.vertex e; in_time = order } in
-    let same : request_pointstamp r ≡ request_pointstamp r' = none (request_pointstamp r) active c in
-    let P : Pointstamp → Type 0 = λ p. (q : Pointstamp) → 0 < content q → CouldResultIn g q p → q ≡ p in
-    blocked (subst P (sym same) none)
+pub blocked_behind : (g : Graph) → IsDataflow g → (these : Pointstamp → Type 0) (r r' : Request) → r.vertex ≡ r'.vertex → IsAtMost r.time r'.time
+    → IsTimeAt g (Location.vertex r.vertex) r.time → IsTimeAt g (Location.vertex r'.vertex) r'.time
+    → (IsDeliverable g these r → ⊥) → IsDeliverable g these r' → ⊥
+blocked_behind g flows these r r' e order fits fits' blocked none =
+    let p : Pointstamp = request_pointstamp r in
+    let p' : Pointstamp = request_pointstamp r' in
+    let c : CouldResultIn g p p' = record { starts = fits; ends = fits'; path = []; leads = ap Location.vertex e; in_time = order } in
+    blocked (λ q there a.
+    let here : q ≡ p' = none q there (could_onward g flows q p p' a c) in
+    let back : CouldResultIn g p' p = subst (λ (x : Pointstamp). CouldResultIn g x p) here a in
+    here ∙ sym (could_once g flows p p' c back))
 
 -- behind a blocked one
-module _ (g : Graph) (content : Pointstamp → ℕ) (rs : List Request) (known : (at : ℕ) (r : Request) → slice_get rs at ≡ Some r → IsTimeAt g (Location.vertex r.vertex) r.time)
-    (active : (at : ℕ) (r : Request) → slice_get rs at ≡ Some r → 0 < content (request_pointstamp r)) where
-  pub stands_blocked : (place : ℕ) (b : IsBlocked g content rs place) (at : ℕ) (r : Request) → slice_get rs at ≡ Some r → StandsBefore rs r place → IsDeliverable g content r → ⊥
+module _ (g : Graph) (flows : IsDataflow g) (these : Pointstamp → Type 0) (rs : List Request) (known : (at : ℕ) (r : Request) → slice_get rs at ≡ Some r → IsTimeAt g (Location.vertex r.vertex) r.time) where
+  pub stands_blocked : (place : ℕ) (b : IsBlocked g these rs place) (at : ℕ) (r : Request) → slice_get rs at ≡ Some r → StandsBefore rs r place → IsDeliverable g these r → ⊥
   stands_blocked place b at r got before =
       let one : before.request ≡ b.request = (let e : Some before.request ≡ Some b.request = sym before.there ∙ b.there in cc) in
-      let P : Request → Type 0 = λ x. IsDeliverable g content x → ⊥ in
-      blocked_behind g content before.request r before.vertex before.time (known place before.request before.there) (known at r got) (active place before.request before.there) (subst P (sym one) b.blocked)
+      let P : Request → Type 0 = λ x. IsDeliverable g these x → ⊥ in
+      blocked_behind g flows these before.request r before.vertex before.time (known place before.request before.there) (known at r got) (subst P (sym one) b.blocked)
 
-  pub blocked_place : (place : ℕ) → IsBlocked g content rs place → place < length rs
+  pub blocked_place : (place : ℕ) → IsBlocked g these rs place → place < length rs
   blocked_place place b = (get_index rs place b.request b.request b.there).0
 
 -- one number more, of which the same holds
@@ -70,9 +70,3 @@ each_pushed P xs ys x (Ok _) ok err all here =
 each_pushed P xs ys x (Err _) ok err all here =
     let A : List ℕ → Type 0 = λ zs. (i : ℕ) → i < length zs → P (slice_index_or zs i 0) in
     subst A (sym err) all
-
--- what a worker asks for is active
-pub active_request : (graph : Graph) (content : Pointstamp → ℕ) (s : Shown) → IsKept graph content s → (k : ℕ) → k < length s.sides → (at : ℕ) (r : Request) → slice_get (side_at s k).requests at ≡ Some r → 0 < content (request_pointstamp r)
-active_request graph content s kept k there at r got =
-    let a = (active_counts (shown_graph s.graph) kept.flows (length s.sides) kept.some kept.world (request_pointstamp r)).0 (IsActive.of_request k at r there (ap (λ rs. slice_get rs at) (kept.shows.requests k there) ∙ got)) in
-    omega (arith, a, kept.tracked (request_pointstamp r))

@@ -2,6 +2,7 @@ pub mod Places
 pub mod Mails
 pub mod Deliveries
 pub mod Rooms
+pub mod Noted
 pub mod Emitting
 pub mod Outputs
 pub mod Sealing
@@ -27,6 +28,8 @@ pub mod Passing
 pub mod Kths
 pub mod Picking
 pub mod Counted
+pub mod Posts
+pub mod Lateness
 pub mod Opening
 pub mod Promised
 pub mod Opened

@@ -7,6 +7,7 @@ use Rattle.semantics.specs.Graph.{output_numbers}
 use Rattle.semantics.proofs.LoweredDataflow.{lowered_outputs}
 use Rattle.lowering.specs.Shown.{shown_graph}
 use Rattle.board.specs.Shown.{Shown, InputShown, joined, no_input}
+use Rattle.board.specs.Lateness.{BoardShown}
 use Rattle.board.specs.Looks.{IsLookAt, IsOutputLookAt, IsPromised, LookShown, meant_by, no_output, output_in}
 use Rattle.board.specs.declared.look.OutputLook.{OutputLook}
 use Rattle.std.proofs.lemmas.Bool.Decides.{eqb_tells}
@@ -29,8 +30,9 @@ fed_at [] e i = none i ∙ sym (none_fed i)
 fed_at (x ∷ is) e zero = refl
 fed_at (x ∷ is) e (suc i) = fed_at is e i
 
-pub promised : (s : Shown) (e : ℕ) (l : LookShown) → IsLookAt s e l → ((p : Program) → RunsProgram p s → KeepsPromise p s) → IsPromised l
-promised s e l is keeps p ns typed graph k there =
+pub promised : (b : BoardShown) (e : ℕ) (l : LookShown) → IsLookAt b e l → ((p : Program) → RunsProgram p b.shown → KeepsPromise p b.shown) → IsPromised l
+promised b e l is keeps p ns typed graph k there =
+    let s : Shown = b.shown in
     let runs : RunsProgram p s = record { arities = ns; typed = typed; graph = ap shown_graph (sym is.graph) ∙ graph } in
     let h = keeps p runs k e there in
     let place : IsOutputPlace s k = (let n = lowered_outputs p in let m = ap (λ g. length (output_numbers g)) runs.graph in omega (arith, there, n, m)) in
@@ -43,13 +45,13 @@ promised s e l is keeps p ns typed graph k there =
     let D : List Record → Type 0 = λ ys. joined (output_in l k).emitted ≈ ys in
     record {
       part = subst B meant (subst A emitted h.part);
-      whole = λ t. subst D meant (subst C emitted (h.whole (o.passed.0 t)));
+      whole = λ t. subst D meant (subst C emitted (h.whole (o.passed t)));
     }
 
 -- ---- what outputs show, one after another
 
 -- the looks at the outputs before a place
-abbrev pub LooksBelow : Shown → (epoch place : ℕ) → List OutputLook → Type 0
+abbrev pub LooksBelow : BoardShown → (epoch place : ℕ) → List OutputLook → Type 0
 LooksBelow s e place os = (length os ≡ place) × ((k : ℕ) → k < place → IsOutputLookAt s e k (slice_index_or os k no_output))
 
 at_last : (os : List OutputLook) (o : OutputLook) → slice_index_or (os ++ o ∷ []) (length os) no_output ≡ o
@@ -61,7 +63,7 @@ at_before [] o k l = absurd (omega arith)
 at_before (x ∷ os) o zero l = refl
 at_before (x ∷ os) o (suc k) l = at_before os o k (omega arith)
 
-pub looks_more : (s : Shown) (e place : ℕ) (os ps : List OutputLook) (o : OutputLook) → ps ≡ os ++ o ∷ [] → IsOutputLookAt s e place o → LooksBelow s e place os → LooksBelow s e (place + 1) ps
+pub looks_more : (s : BoardShown) (e place : ℕ) (os ps : List OutputLook) (o : OutputLook) → ps ≡ os ++ o ∷ [] → IsOutputLookAt s e place o → LooksBelow s e place os → LooksBelow s e (place + 1) ps
 looks_more s e place os ps o is new below = (
   (let n = ap length is in let m = length-append os (o ∷ []) in let k = below.0 in omega (arith, n, m, k)),
   λ k l. go k l (eqb_tells k place),

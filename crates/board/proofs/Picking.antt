@@ -24,11 +24,11 @@ module _ (graph : Graph) (content : Pointstamp → ℕ) (s : Shown) (kept : IsKe
   chosen_message at m got w is = (refl, refl, ap (λ ms. slice_get ms at) (is.mail k there) ∙ got)
 
   pub chosen_request : (n i at : ℕ) (r : Request) → n ≡ length (side_at s k).mail + i → slice_get (side_at s k).requests at ≡ Some r
-      → Kth (IsDeliverable graph content) (side_at s k).requests i at → IsChoice s k n (Step.claim_request k at r)
+      → Kth (IsDeliverable graph (λ q. 0 < content q)) (side_at s k).requests i at → IsChoice s k n (Step.claim_request k at r)
   chosen_request n i at r e got kth w is =
       let P : List Request → Type 0 = λ rs. Kth (MayDeliver (net s) w) rs i at in
       let may : Kth (MayDeliver (net s) w) (side_at s k).requests i at =
-      kth_same (IsDeliverable graph content) (MayDeliver (net s) w) (λ x. no_other graph content s kept w is (request_pointstamp x)) (λ x. no_other_back graph content s kept w is (request_pointstamp x)) (side_at s k).requests i at kth in
+      kth_same (IsDeliverable graph (λ q. 0 < content q)) (MayDeliver (net s) w) (λ x. no_other graph content s kept w is (request_pointstamp x)) (λ x. no_other_back graph content s kept w is (request_pointstamp x)) (side_at s k).requests i at kth in
       let m = ap (λ (ms : List Message). length ms) (is.mail k there) in
       (refl, ap (λ rs. slice_get rs at) (is.requests k there) ∙ got, i, omega (arith, e, m), subst P (sym (is.requests k there)) may)
 
@@ -39,21 +39,21 @@ module _ (graph : Graph) (content : Pointstamp → ℕ) (s : Shown) (kept : IsKe
         let P : Step → Type 0 = λ x. IsChoice s k at x in
         (hands_message graph content s kept k there free runs t at p h, subst P (sym (message_taken graph content s kept k there free runs t at p h)) (chosen_message at h.message h.got))
 
-    pub kth_front : (h : HandsRequest s t k at p) (i : ℕ) → Kth (IsDeliverable graph content) (side_at s k).requests i at → IsDeliverable graph content h.request
+    pub kth_front : (h : HandsRequest s t k at p) (i : ℕ) → Kth (IsDeliverable graph (λ q. 0 < content q)) (side_at s k).requests i at → IsDeliverable graph (λ q. 0 < content q) h.request
     kth_front h i kth =
-        let o = kth_there (IsDeliverable graph content) (side_at s k).requests i at kth in
+        let o = kth_there (IsDeliverable graph (λ q. 0 < content q)) (side_at s k).requests i at kth in
         let same : o.0 ≡ h.request = (let e : Some o.0 ≡ Some h.request = sym o.1 ∙ h.got in cc) in
-        subst (IsDeliverable graph content) same o.2
+        subst (IsDeliverable graph (λ q. 0 < content q)) same o.2
 
-    pub picks_request : (h : HandsRequest s t k at p) (n i : ℕ) → n ≡ length (side_at s k).mail + i → Kth (IsDeliverable graph content) (side_at s k).requests i at
+    pub picks_request : (h : HandsRequest s t k at p) (n i : ℕ) → n ≡ length (side_at s k).mail + i → Kth (IsDeliverable graph (λ q. 0 < content q)) (side_at s k).requests i at
         → (hands : Hands s k t p) × IsChoice s k n hands.taken
     picks_request h n i e kth =
-        let front : IsDeliverable graph content h.request = kth_front h i kth in
+        let front : IsDeliverable graph (λ q. 0 < content q) h.request = kth_front h i kth in
         let P : Step → Type 0 = λ x. IsChoice s k n x in
         (hands_request graph content s kept k there free runs t at p h front, subst P (sym (request_taken graph content s kept k there free runs t at p h front)) (chosen_request n i at h.request e h.got kth))
 
   -- where no message has that number, and no request does behind the messages
-  pub lacks : (n i : ℕ) → n ≡ length (side_at s k).mail + i → ((at : ℕ) → Kth (IsDeliverable graph content) (side_at s k).requests i at → ⊥) → LacksChoice s k n
+  pub lacks : (n i : ℕ) → n ≡ length (side_at s k).mail + i → ((at : ℕ) → Kth (IsDeliverable graph (λ q. 0 < content q)) (side_at s k).requests i at → ⊥) → LacksChoice s k n
   lacks n i e none w (Step.claim_message k' at m) is c =
       let got : slice_get (side_at s k).mail n ≡ Some m = ap (λ ms. slice_get ms n) (sym (is.mail k there)) ∙ c.2 in
       let l = (get_index (side_at s k).mail n m m got).0 in
@@ -62,9 +62,9 @@ module _ (graph : Graph) (content : Pointstamp → ℕ) (s : Shown) (kept : IsKe
       let m = ap (λ (ms : List Message). length ms) (is.mail k there) in
       let same : c.2 ≡ i = (let f : n ≡ length (w.mail k) + c.2 = c.3 in omega (arith, f, e, m)) in
       let P : List Request → Type 0 = λ rs. Kth (MayDeliver (net s) w) rs c.2 at in
-      let Q : ℕ → Type 0 = λ j. Kth (IsDeliverable graph content) (side_at s k).requests j at in
+      let Q : ℕ → Type 0 = λ j. Kth (IsDeliverable graph (λ q. 0 < content q)) (side_at s k).requests j at in
       none at
-      (subst Q same (kth_same (MayDeliver (net s) w) (IsDeliverable graph content) (λ x. no_other_back graph content s kept w is (request_pointstamp x)) (λ x. no_other graph content s kept w is (request_pointstamp x)) (side_at s k).requests c.2 at
+      (subst Q same (kth_same (MayDeliver (net s) w) (IsDeliverable graph (λ q. 0 < content q)) (λ x. no_other_back graph content s kept w is (request_pointstamp x)) (λ x. no_other graph content s kept w is (request_pointstamp x)) (side_at s k).requests c.2 at
       (subst P (is.requests k there) c.4)))
   lacks n i e none w (Step.feed j records) is c = c
   lacks n i e none w (Step.seal j) is c = c

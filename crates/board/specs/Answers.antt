@@ -57,6 +57,14 @@ Claims s t k (Work x) = Hands s k t x.0 × (x.1 ≡ false)
 Claims s t k Drained = (s.stopped ≡ false) × (k < length s.sides) × IsDrained s × (t ≡ s)
 Claims s t k Idle = (s.stopped ≡ false) × (k < length s.sides) × ((side_at s k).place ≡ Home) × HasNoChoice s k × (IsDrained s → ⊥) × (t ≡ s)
 
+-- the claim found no event, and said so
+abbrev pub IfNothing : Claimed → Type 0 → Type 0
+IfNothing Stopped P = Unit {0}
+IfNothing Busy P = Unit {0}
+IfNothing (Work x) P = Unit {0}
+IfNothing Drained P = P
+IfNothing Idle P = P
+
 -- ---- refusals of calls on an input
 
 -- the first, or else the second

@@ -1,5 +1,5 @@
--- What a board keeps: some run leads to the world that it shows, and its tracker has just the pointstamps that are active there.
-use Rattle.std.specs.Prelude.{◌≡◌, ◌<◌, ◌≤◌, ℕ, List, length}
+-- What a board keeps: some run leads to the world that it shows, and its views are of just the pointstamps that are active there.
+use Rattle.std.specs.Prelude.{◌≡◌, ◌<◌, ◌≤◌, ◌+◌, ℕ, suc, Bool, false, cond, List, [], ◌∷◌, length}
 use Rattle.semantics.specs.Graph.{Graph, input_count}
 use Rattle.semantics.specs.Could.{Pointstamp}
 use Rattle.semantics.specs.Dataflow.{IsDataflow}
@@ -9,12 +9,18 @@ use Rattle.machine.specs.Active.{active_count}
 use Rattle.machine.specs.Step.{Step, Allowed, after_step}
 use Rattle.machine.specs.Run.{Run}
 use Rattle.machine.specs.Engine.{network}
-use Rattle.board.specs.Shown.{EmitsBehind, Shown, net}
+use Rattle.board.specs.Shown.{EmitsBehind, InputShown, Shown, net}
 use Rattle.machine.specs.InTransit.{FedFits}
 use Rattle.semantics.specs.PortArity.{IsTyped}
 use Rattle.board.specs.Fitting.{FitsPlace, arity_in}
 use Rattle.board.specs.Showing.{Shows, AreSidesOf, EachShard}
-use Rattle.board.specs.Promises.{CountsPassed}
+use Rattle.board.specs.Seals.{HavePassed, IsMostSeen}
+use Rattle.views.specs.Waiting.{IsSeenBy, Waiting}
+
+-- how many inputs are open
+abbrev pub open_count : List InputShown → ℕ
+open_count [] = 0
+open_count (x ∷ xs) = cond x.closed 0 1 + open_count xs
 
 pub record IsKept (graph : Graph) (content : Pointstamp → ℕ) (s : Shown) : Type 0 where
   pub flows : IsDataflow (shown_graph s.graph)
@@ -33,10 +39,15 @@ pub record IsKept (graph : Graph) (content : Pointstamp → ℕ) (s : Shown) : T
   pub fed : FedFits (shown_graph s.graph) (arity_in s.graph) world
   pub tracked : (p : Pointstamp) → content p ≡ active_count (net s) world p
 
--- the same, and that so many epochs have passed
-pub record Keeps (graph : Graph) (content : Pointstamp → ℕ) (passed : ℕ) (s : Shown) : Type 0 where
+-- The same; the views are of so many workers, and there is room for the closes of all inputs; so many epochs have passed, and as the
+-- first worker sees it no more have.
+pub record Keeps (graph : Graph) (viewers : ℕ) (content : Pointstamp → ℕ) (waiting : Waiting) (room : ℕ) (late : Bool) (passed : ℕ) (s : Shown) : Type 0 where
   pub kept : IsKept graph content s
-  pub counts : CountsPassed s passed
+  pub viewers_are : viewers ≡ length s.sides
+  pub closes : open_count s.inputs ≤ room
+  pub prompt : late ≡ false → (w k : ℕ) → w < viewers → k < suc viewers → waiting w k ≡ []
+  pub passed_are : HavePassed s passed
+  pub passed_most : IsMostSeen graph (IsSeenBy content waiting viewers 0) s passed
 
 -- Whatever world it showed before, it shows after one that the step leaves, and the step is allowed there. What was emitted stays.
 pub record Goes (s : Shown) (taken : Step) (t : Shown) : Type 0 where

@@ -4,6 +4,7 @@ pub mod Steps
 pub mod Desks
 pub mod Promises
 pub mod Seals
+pub mod Lateness
 pub mod Fitting
 pub mod Kept
 pub mod Commits

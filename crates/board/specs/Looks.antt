@@ -1,5 +1,5 @@
 -- What is seen of an epoch.
-use Rattle.std.specs.Prelude.{◌≡◌, ◌<◌, ◌↔◌, [], ℕ, true, false, List, length, slice_index_or}
+use Rattle.std.specs.Prelude.{◌≡◌, ◌<◌, [], ℕ, true, false, List, length, slice_index_or}
 use Rattle.semantics.specs.Multiset.{Record, IsPartOf, ◌≈◌}
 use Rattle.semantics.specs.Query.{Program}
 use Rattle.semantics.specs.Meaning.{program_meaning}
@@ -7,7 +7,8 @@ use Rattle.semantics.specs.Typing.{WellTyped}
 use Rattle.semantics.specs.Graph.{output_number, output_numbers}
 use Rattle.semantics.specs.Lower.{lowered}
 use Rattle.lowering.specs.Shown.{GraphValue, shown_graph}
-use Rattle.board.specs.Shown.{Shown, emitted_by, input_at, joined}
+use Rattle.board.specs.Lateness.{BoardShown, IsUpToDate}
+use Rattle.board.specs.Shown.{emitted_by, input_at, joined}
 use Rattle.board.specs.Promises.{HasPassed, IsOutputPlace}
 use Rattle.board.specs.declared.look.OutputLook.{OutputLook}
 
@@ -45,18 +46,20 @@ pub record IsPromisedBy (p : Program) (l : LookShown) (k : ℕ) : Type 0 where
 abbrev pub IsPromised : LookShown → Type 0
 IsPromised l = (p : Program) (ns : List ℕ) → WellTyped p ns → shown_graph l.graph ≡ lowered p → (k : ℕ) → k < length p.outputs → IsPromisedBy p l k
 
--- it is what the board shows of an output at the epoch
-pub record IsOutputLookAt (s : Shown) (e k : ℕ) (o : OutputLook) : Type 0 where
-  pub emitted : o.emitted ≡ slice_index_or (emitted_by s.emitted (output_number (shown_graph s.graph) k)) e []
-  pub passed : (o.passed ≡ true) ↔ HasPassed s k e
+-- It is what the board shows of an output at the epoch. What is seen as passed has passed; what has passed is seen so, if the first worker's
+-- view is up to date.
+pub record IsOutputLookAt (b : BoardShown) (e k : ℕ) (o : OutputLook) : Type 0 where
+  pub emitted : o.emitted ≡ slice_index_or (emitted_by b.shown.emitted (output_number (shown_graph b.shown.graph) k)) e []
+  pub passed : o.passed ≡ true → HasPassed b.shown k e
+  pub seen : IsUpToDate b 0 → HasPassed b.shown k e → o.passed ≡ true
 
 -- they are what the board shows of its outputs at the epoch
-pub record AreOutputLooks (s : Shown) (e : ℕ) (outputs : List OutputLook) : Type 0 where
-  pub places : length outputs ≡ length (output_numbers (shown_graph s.graph))
-  pub each : (k : ℕ) → IsOutputPlace s k → IsOutputLookAt s e k (slice_index_or outputs k no_output)
+pub record AreOutputLooks (b : BoardShown) (e : ℕ) (outputs : List OutputLook) : Type 0 where
+  pub places : length outputs ≡ length (output_numbers (shown_graph b.shown.graph))
+  pub each : (k : ℕ) → IsOutputPlace b.shown k → IsOutputLookAt b e k (slice_index_or outputs k no_output)
 
 -- it is what the board shows of the epoch
-pub record IsLookAt (s : Shown) (e : ℕ) (l : LookShown) : Type 0 where
-  pub graph : l.graph ≡ s.graph
-  pub fed : (i : ℕ) → fed_by l i ≡ slice_index_or (input_at s i).fed e []
-  pub outputs : AreOutputLooks s e l.outputs
+pub record IsLookAt (b : BoardShown) (e : ℕ) (l : LookShown) : Type 0 where
+  pub graph : l.graph ≡ b.shown.graph
+  pub fed : (i : ℕ) → fed_by l i ≡ slice_index_or (input_at b.shown i).fed e []
+  pub outputs : AreOutputLooks b e l.outputs

@@ -19,18 +19,19 @@ IsChoice s k n step = (w : World) → Shows s w → Chooses (net s) w k n step
 abbrev pub LacksChoice : Shown → (worker choice : ℕ) → Type 0
 LacksChoice s k n = (w : World) (step : Step) → Shows s w → Chooses (net s) w k n step → ⊥
 
--- why a pick is refused: the board is stopped; the worker holds an event; there is no such worker, or no such choice
-abbrev pub RefusesPick : Shown → (worker choice : ℕ) → StepRefusal → Type 0
-RefusesPick s k n Stopped = s.stopped ≡ true
-RefusesPick s k n HoldsEvent = (s.stopped ≡ false) × (k < length s.sides) × ((side_at s k).place ≢ Home)
-RefusesPick s k n NoSuchEvent = (s.stopped ≡ false) × (k < length s.sides → ((side_at s k).place ≡ Home) × LacksChoice s k n)
-RefusesPick s k n UnknownInput = ⊥
-RefusesPick s k n InputClosed = ⊥
-RefusesPick s k n WrongFieldCount = ⊥
-RefusesPick s k n LastEpoch = ⊥
-RefusesPick s k n NoMemory = ⊥
+-- why a pick is refused, where `prompt` says that the worker's view is up to date: the board is stopped; the worker holds an event; there is no such worker, or no such choice
+abbrev pub RefusesPick : (prompt : Type 0) → Shown → (worker choice : ℕ) → StepRefusal → Type 0
+RefusesPick prompt s k n Stopped = s.stopped ≡ true
+RefusesPick prompt s k n HoldsEvent = (s.stopped ≡ false) × (k < length s.sides) × ((side_at s k).place ≢ Home)
+RefusesPick prompt s k n NoSuchEvent = (s.stopped ≡ false) × (k < length s.sides → ((side_at s k).place ≡ Home) × (prompt → LacksChoice s k n))
+RefusesPick prompt s k n UnknownInput = ⊥
+RefusesPick prompt s k n InputClosed = ⊥
+RefusesPick prompt s k n WrongFieldCount = ⊥
+RefusesPick prompt s k n LastEpoch = ⊥
+RefusesPick prompt s k n NoMemory = ⊥
 
--- an event that isn't spoiled, handed out by the step of the choice; or a refusal, which changes nothing
-abbrev pub Picks : Shown → Shown → (worker choice : ℕ) → Result (Pass × Bool) StepRefusal → Type 0
-Picks s t k n (Ok x) = (hands : Hands s k t x.0) × IsChoice s k n hands.taken × (x.1 ≡ false)
-Picks s t k n (Err e) = RefusesPick s k n e × (t ≡ s)
+-- An event that isn't spoiled, handed out by a step, which is that of the choice if the worker's view is up to date; or a refusal, which
+-- changes nothing.
+abbrev pub Picks : (prompt : Type 0) → Shown → Shown → (worker choice : ℕ) → Result (Pass × Bool) StepRefusal → Type 0
+Picks prompt s t k n (Ok x) = (hands : Hands s k t x.0) × (prompt → IsChoice s k n hands.taken) × (x.1 ≡ false)
+Picks prompt s t k n (Err e) = RefusesPick prompt s k n e × (t ≡ s)

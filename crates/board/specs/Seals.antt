@@ -19,13 +19,18 @@ pub record IsMostSeals (s : Shown) (n : ℕ) : Type 0 where
 abbrev pub HavePassed : Shown → ℕ → Type 0
 HavePassed s n = (w : World) → Shows s w → SealedTo (net s) w n × PassedBelow (net s) w n
 
--- nothing that a tracker has active could result at the output for the epoch
-abbrev pub NoneLeft : Graph → (content : Pointstamp → ℕ) → Shown → (output epoch : ℕ) → Type 0
-NoneLeft graph content s k e = NoneOf (CouldResultIn graph) (λ q. 0 < content q) (at_vertex (output_number (shown_graph s.graph) k) (at_epoch e))
+-- none of these could result at the output for the epoch
+abbrev pub NoneLeft : Graph → (these : Pointstamp → Type 0) → Shown → (output epoch : ℕ) → Type 0
+NoneLeft graph these s k e = NoneOf (CouldResultIn graph) these (at_vertex (output_number (shown_graph s.graph) k) (at_epoch e))
 
 -- the same at each output
-abbrev pub NoneLeftAtAll : Graph → (content : Pointstamp → ℕ) → Shown → (epoch : ℕ) → Type 0
-NoneLeftAtAll graph content s e = (k : ℕ) → IsOutputPlace s k → NoneLeft graph content s k e
+abbrev pub NoneLeftAtAll : Graph → (these : Pointstamp → Type 0) → Shown → (epoch : ℕ) → Type 0
+NoneLeftAtAll graph these s e = (k : ℕ) → IsOutputPlace s k → NoneLeft graph these s k e
+
+-- Each epoch below n is seen to have passed, as far as inputs are sealed: n is at most the greatest number of seals, and if it is below,
+-- some of these could still result at an output for the epoch n.
+abbrev pub IsMostSeen : Graph → (these : Pointstamp → Type 0) → Shown → ℕ → Type 0
+IsMostSeen graph these s n = (m : ℕ) → IsMostSeals s m → (n ≤ m) × (n < m → NoneLeftAtAll graph these s n → ⊥)
 
 -- the outputs are vertices of that graph, outside all loops
 abbrev pub AreOutputsIn : Graph → Shown → Type 0

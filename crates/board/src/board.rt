@@ -1,17 +1,20 @@
 //! The board: the core state of a run.
 
-ghost use Rattle.std.specs.Prelude.{◌≡◌, ◌↔◌, ◌<◌, ◌≤◌, ℕ, [], length, slice_index_or, IfOk, IsTrue, MatchBool, OnOk, OnErr};
+ghost use Rattle.std.specs.Prelude.{◌≡◌, ◌⊎◌, ◌-◌, ◌^◌, ◌<◌, ◌≤◌, ℕ, [], length, min, slice_index_or, false, IfOk, IfSome, IfNone, IsTrue, MatchBool, OnOk, OnErr};
 ghost use Rattle.lowering.specs.Shown.{shown_graph};
 ghost use Rattle.semantics.specs.Could.{Pointstamp as Active, at_vertex};
+ghost use Rattle.views.specs.Opening.{active_at_first};
 ghost use Rattle.semantics.specs.Graph.{input_count, output_number, output_numbers};
 ghost use Rattle.semantics.specs.Query.{Program};
 ghost use Rattle.semantics.specs.Time.{at_epoch};
 ghost use Rattle.machine.specs.Step.{Step};
 ghost use Rattle.machine.specs.World.{opening};
-ghost use Rattle.board.specs.Answers.{AnswersOnly, AnswersOr, Claims, Commits, HasChoice, HasNoChoice, Holds, feed_refusal, input_refusal, seal_refusal};
+ghost use Rattle.board.specs.Answers.{AnswersOnly, AnswersOr, Claims, Commits, Hands, HasChoice, HasNoChoice, Holds, IfNothing, feed_refusal, input_refusal, seal_refusal};
 ghost use Rattle.board.specs.Kept.{Goes};
 ghost use Rattle.board.specs.Commits.{IsOf};
+ghost use Rattle.tokens.specs.declared.rule.Place.TheVariants.{Home};
 ghost use Rattle.board.specs.Desks.{is_out};
+ghost use Rattle.board.specs.Lateness.{Applies, AppliesOne, AreUpToDate, IsAsLate, IsUpToDate, Posts, PostsSome, all_waits, waits_for};
 ghost use Rattle.board.specs.Looks.{AreOutputLooks, IsLookAt};
 ghost use Rattle.board.specs.Picks.{Picks};
 ghost use Rattle.board.specs.Promises.{CountsPassed, HasPassed, IsDrained, IsOpening, IsOutputPlace, KeepsPromise, RunsProgram};
@@ -19,10 +22,11 @@ ghost use Rattle.board.specs.Showing.{Shows};
 ghost use Rattle.board.specs.Shown.{Shown, emitted_by, input_at, side_at, tables};
 
 use crate::choices::kth_deliverable;
-use crate::frontier::first_deliverable;
+use crate::frontier::{first_deliverable, first_seen};
+use crate::lag::Lag;
 use crate::look::{Look, OutputLook};
-use crate::making::open_inputs;
 use crate::passed::{output_place, passed_now};
+use crate::posting::{post, post_noted};
 use crate::refusal::StepRefusal;
 use crate::state::State;
 use events::{CutBatch, Done, Wiring, Work};
@@ -30,11 +34,12 @@ use expr_tree::NoMemory;
 use loop_context::Time;
 use lowering::{Graph, Location, VertexId};
 use path_summary::{Paths, Pointstamp};
-use progress::{LocationTracker, Progress};
+use progress::LocationTracker;
 use rows::Batch;
 use std::alloc::Global;
 use std::marker::Model;
 use std::sync::Arc;
+use views::{Direct, LocalViews, Views, catch_up, law_of_step, law_of_waiting};
 
 /// What a claim answers: the first that applies.
 pub enum Claimed {
@@ -56,86 +61,119 @@ pub enum CommitRefusal {
     NoMemory(Done),
 }
 
-/// The core state, with a tracker of the active pointstamps, and the number of epochs that have passed.
+/// The core state, with each worker's view of the active pointstamps, and the number of epochs that are known to have passed.
 #[derive(Drop)]
-pub struct Board<P: Progress> {
+pub struct Board<V: Views> {
     state: State,
-    tracker: P,
+    views: V,
+    added: Vec<Pointstamp>,
     passed: u32,
+    lag: Lag,
 }
 
-impl<P: Progress> Model for Board<P> {
+impl<V: Views> Model for Board<V> {
     ghost use Rattle.std.specs.Coded.{codes};
     ghost use Rattle.vertices.specs.contracts.shard.Shard as shard_row;
     ghost use Rattle.std.specs.contracts.alloc.Global as heap;
     ghost use Rattle.std.specs.contracts.impls.GlobalAllocator.TheImpl as allocates;
     ghost use Rattle.expr_tree.specs.contracts.scalar.Scalar as scalar;
     ghost use Rattle.expr_tree.specs.contracts.condition.Cond as condition;
-    ghost use Rattle.board.specs.Shown.{Shown};
     ghost use Rattle.board.specs.Kept.{Keeps};
+    ghost use Rattle.board.specs.Lateness.{BoardShown, counts_of};
 
-    ghost Value = { Shown };
+    ghost Value = { BoardShown };
 
     ghost coded = { Prim.hlevel (codes, shard_row.the_row.coded, (scalar.the_row heap.the_row allocates.ghosts).coded, (condition.the_row heap.the_row allocates.ghosts).coded) };
 
-    ghost view = { λ b. b.state };
+    ghost view = { λ b. record { shown = b.state; waits = counts_of (V.workers b.views) (V.waiting b.views); passed = b.passed } };
 
-    ghost invariant = { λ b. Keeps (P.graph b.tracker) (P.content b.tracker) b.passed b.state };
+    ghost invariant = { λ b. Keeps (V.graph b.views) (V.workers b.views) (V.content b.views) (V.waiting b.views) (V.room b.views) V.late b.passed b.state };
 }
 
-impl Board<LocationTracker> {
-    /// A board that runs a graph on 1 to 64 workers, with a tracker of its own. The inputs are open at epoch 0.
+impl Board<Direct<LocationTracker>> {
+    /// A board that runs a graph on 1 to 64 workers, who all see one tracker. The inputs are open at epoch 0.
     pub fn new(
         alloc: Global,
         graph: Arc<Graph, Global>,
         workers: u32,
-    ) -> Result<Board<LocationTracker>, NoMemory>
+    ) -> Result<Board<Direct<LocationTracker>>, NoMemory>
         requires some { 0 < workers }
         requires few { workers ≤ 64 }
-        ensures opening { IfOk result (λ b. IsOpening graph.value workers b) }
-        ensures shows { IfOk result (λ b. Shows b opening) }
+        ensures opening { IfOk result (λ b. IsOpening graph.value workers b.shown) }
+        ensures shows { IfOk result (λ b. Shows b.shown opening) }
+        ensures prompt { IfOk result (λ b. AreUpToDate b) }
     {
         let paths = Arc::new(alloc, Paths::of(alloc, &graph)?)?;
-        let tracker = LocationTracker::new(alloc, paths)?;
-        let board = Board::with_tracker(alloc, graph, workers, tracker)?;
+        let tracker = LocationTracker::new(alloc, Arc::try_clone(&paths)?)?;
+        let views = Direct::new(alloc, &paths, workers, tracker)?;
+        let board = Board::with_views(alloc, graph, workers, views)?;
         Ok(board)
     }
 }
 
-impl<P: Progress> Board<P> {
-    /// A board that runs a graph on 1 to 64 workers, with a tracker of that graph in which nothing is active. The inputs are open at
-    /// epoch 0.
-    pub fn with_tracker(
+impl Board<LocalViews> {
+    /// A board that runs a graph on 1 to 64 workers, each with a view of its own, which may be late. The inputs are open at epoch 0.
+    pub fn with_local_views(
         alloc: Global,
         graph: Arc<Graph, Global>,
         workers: u32,
-        mut tracker: P,
-    ) -> Result<Board<P>, NoMemory>
+    ) -> Result<Board<LocalViews>, NoMemory>
         requires some { 0 < workers }
         requires few { workers ≤ 64 }
-        requires same { P.graph tracker ≡ shown_graph graph.value }
-        requires none { (q : Active) → P.content tracker q ≡ 0 }
-        ensures opening { IfOk result (λ b. IsOpening graph.value workers b) }
-        ensures shows { IfOk result (λ b. Shows b opening) }
+        ensures opening { IfOk result (λ b. IsOpening graph.value workers b.shown) }
+        ensures shows { IfOk result (λ b. Shows b.shown opening) }
+        ensures prompt { IfOk result (λ b. AreUpToDate b) }
     {
+        let paths = Arc::new(alloc, Paths::of(alloc, &graph)?)?;
+        let views = LocalViews::new(alloc, paths, workers)?;
+        let board = Board::with_views(alloc, graph, workers, views)?;
+        Ok(board)
+    }
+}
+
+impl<V: Views> Board<V> {
+    /// A board that runs a graph on 1 to 64 workers, with views for so many workers of that graph, in which each input is active at epoch 0,
+    /// and nothing waits. The inputs are open at epoch 0.
+    pub fn with_views(
+        alloc: Global,
+        graph: Arc<Graph, Global>,
+        workers: u32,
+        mut views: V,
+    ) -> Result<Board<V>, NoMemory>
+        requires some { 0 < workers }
+        requires few { workers ≤ 64 }
+        requires same { V.graph views ≡ shown_graph graph.value }
+        requires viewers { V.workers views ≡ workers }
+        requires first { (q : Active) → V.content views q ≡ active_at_first (shown_graph graph.value) q }
+        requires none { (worker sender : ℕ) → worker < workers → V.waiting views worker sender ≡ [] }
+        ensures opening { IfOk result (λ b. IsOpening graph.value workers b.shown) }
+        ensures shows { IfOk result (λ b. Shows b.shown opening) }
+        ensures prompt { IfOk result (λ b. AreUpToDate b) }
+    {
+        let lag = Lag::new(alloc, workers)?;
         let state = State::opening(alloc, graph, workers)?;
         let plan = state.graph();
         plan.law_of_dataflow();
         plan.law_of_ports();
-        open_inputs(&mut tracker, plan.input_count() as u32)?;
+        views.reserve(plan.input_count() as u32)?;
+        law_of_waiting();
         Ok(Board {
             state,
-            tracker,
+            views,
+            added: Vec::new(alloc),
             passed: 0,
+            lag,
         })
     }
 
     /// Feeds a batch to an input at its open epoch.
     pub fn feed(&mut self, alloc: Global, input: u32, batch: Batch) -> Result<(), StepRefusal>
-        ensures step { OnOk result (Goes self.old (Step.feed input batch) self.new) }
+        ensures step { OnOk result (Goes self.old.shown (Step.feed input batch) self.new.shown) }
         ensures refused { OnErr result (self.new ≡ self.old) }
-        ensures answers { AnswersOr (feed_refusal self.old input batch) result }
-        ensures tables { tables self.new ≡ tables self.old }
+        ensures answers { AnswersOr (feed_refusal self.old.shown input batch) result }
+        ensures tables { tables self.new.shown ≡ tables self.old.shown }
+        ensures posts { OnOk result (PostsSome V.late (length self.old.shown.sides) self.old self.new) }
+        ensures passed { self.old.passed ≤ self.new.passed }
     {
         if let Some(refusal) = self.feed_refusal(input, &batch) {
             return Err(refusal);
@@ -150,11 +188,13 @@ impl<P: Progress> Board<P> {
     /// Feeds a batch that was cut for this board. Nothing is computed. What is left is to be let go of, by a caller with a lock once he
     /// has given it back.
     pub fn feed_cut(&mut self, cut: CutBatch) -> (Result<(), StepRefusal>, Option<CutBatch>)
-        requires { cut.wired ≡ record { graph = self.old.graph; workers = length self.old.sides } }
-        ensures step { OnOk result.0 (Goes self.old (Step.feed cut.input cut.batch) self.new) }
+        requires { cut.wired ≡ record { graph = self.old.shown.graph; workers = length self.old.shown.sides } }
+        ensures step { OnOk result.0 (Goes self.old.shown (Step.feed cut.input cut.batch) self.new.shown) }
         ensures refused { OnErr result.0 (self.new ≡ self.old) }
-        ensures answers { AnswersOr (feed_refusal self.old cut.input cut.batch) result.0 }
-        ensures tables { tables self.new ≡ tables self.old }
+        ensures answers { AnswersOr (feed_refusal self.old.shown cut.input cut.batch) result.0 }
+        ensures tables { tables self.new.shown ≡ tables self.old.shown }
+        ensures posts { OnOk result.0 (PostsSome V.late (length self.old.shown.sides) self.old self.new) }
+        ensures passed { self.old.passed ≤ self.new.passed }
     {
         let batch = cut.batch();
         let _some = batch.len();
@@ -162,15 +202,22 @@ impl<P: Progress> Board<P> {
         if let Some(refusal) = self.feed_refusal(cut.input(), batch) {
             return (Err(refusal), Some(cut));
         }
-        match self.state.feed(&mut self.tracker, cut) {
-            Ok(()) => (Ok(()), None),
+        match self.state.feed(&mut self.views, &mut self.added, cut) {
+            Ok(()) => {
+                law_of_step();
+                let feeder = self.state.worker_count();
+                post_noted(&mut self.views, feeder, &self.added, &[]);
+                self.lag.post();
+                self.passed = passed_now(&self.views, &self.state, self.passed);
+                (Ok(()), None)
+            }
             Err(cut) => (Err(StepRefusal::NoMemory), Some(cut)),
         }
     }
 
     /// Why feeding this batch would be refused; nothing where it would not, or for want of memory alone.
     pub fn feed_refusal(&self, input: u32, batch: &Batch) -> Option<StepRefusal>
-        ensures { result ≡ feed_refusal self.now input batch.now }
+        ensures { result ≡ feed_refusal self.now.shown input batch.now }
     {
         if let Some(refusal) = self.state.input_refusal(input) {
             return Some(refusal);
@@ -183,10 +230,12 @@ impl<P: Progress> Board<P> {
 
     /// Ends the open epoch of an input; the next one opens.
     pub fn seal(&mut self, input: u32) -> Result<(), StepRefusal>
-        ensures step { OnOk result (Goes self.old (Step.seal input) self.new) }
+        ensures step { OnOk result (Goes self.old.shown (Step.seal input) self.new.shown) }
         ensures refused { OnErr result (self.new ≡ self.old) }
-        ensures answers { AnswersOr (seal_refusal self.old input) result }
-        ensures tables { tables self.new ≡ tables self.old }
+        ensures answers { AnswersOr (seal_refusal self.old.shown input) result }
+        ensures tables { tables self.new.shown ≡ tables self.old.shown }
+        ensures posts { OnOk result (Posts V.late (length self.old.shown.sides) self.old self.new) }
+        ensures passed { self.old.passed ≤ self.new.passed }
     {
         if let Some(refusal) = self.state.input_refusal(input) {
             return Err(refusal);
@@ -195,37 +244,53 @@ impl<P: Progress> Board<P> {
         if epoch == u32::MAX {
             return Err(StepRefusal::LastEpoch);
         }
-        if self.tracker.reserve(1).is_err() {
-            return Err(StepRefusal::NoMemory);
+        let closing = self.state.graph().input_count() as u32;
+        match self.views.reserve(closing + 2) {
+            Ok(()) => {
+                law_of_step();
+                let feeder = self.state.worker_count();
+                let opens = input_place(input, epoch + 1);
+                let ends = input_place(input, epoch);
+                post(&mut self.views, feeder, &[opens], &[ends]);
+                self.lag.post();
+                self.state.seal(input as usize);
+                self.passed = passed_now(&self.views, &self.state, self.passed);
+                Ok(())
+            }
+            Err(_) => Err(StepRefusal::NoMemory),
         }
-        self.tracker.remove(&input_place(input, epoch));
-        self.tracker.add(&input_place(input, epoch + 1));
-        self.state.seal(input as usize);
-        self.passed = passed_now(&self.tracker, &self.state, self.passed);
-        Ok(())
     }
 
     /// Closes an input: no more records will come. No memory is taken.
     pub fn close(&mut self, input: u32) -> Result<(), StepRefusal>
-        ensures step { OnOk result (Goes self.old (Step.close input) self.new) }
+        ensures step { OnOk result (Goes self.old.shown (Step.close input) self.new.shown) }
         ensures refused { OnErr result (self.new ≡ self.old) }
-        ensures answers { AnswersOnly (input_refusal self.old input) result }
-        ensures tables { tables self.new ≡ tables self.old }
+        ensures answers { AnswersOnly (input_refusal self.old.shown input) result }
+        ensures tables { tables self.new.shown ≡ tables self.old.shown }
+        ensures posts { OnOk result (Posts V.late (length self.old.shown.sides) self.old self.new) }
+        ensures passed { self.old.passed ≤ self.new.passed }
     {
         if let Some(refusal) = self.state.input_refusal(input) {
             return Err(refusal);
         }
         let epoch = self.state.open_epoch(input as usize);
-        self.tracker.remove(&input_place(input, epoch));
+        law_of_step();
+        let feeder = self.state.worker_count();
+        let ends = input_place(input, epoch);
+        post(&mut self.views, feeder, &[], &[ends]);
+        self.lag.post();
         self.state.close(input as usize);
-        self.passed = passed_now(&self.tracker, &self.state, self.passed);
+        self.passed = passed_now(&self.views, &self.state, self.passed);
         Ok(())
     }
 
-    /// Hands out an event to the worker, wherever it has one. No memory is taken.
+    /// Hands out an event to the worker, wherever it has one. Where the worker sees none, or much waits for it, all that waits for it is
+    /// applied first. No memory is taken.
     pub fn claim(&mut self, worker: u32) -> Claimed
-        ensures claims { Claims self.old self.new worker result }
-        ensures tables { tables self.new ≡ tables self.old }
+        ensures claims { Claims self.old.shown self.new.shown worker result }
+        ensures tables { tables self.new.shown ≡ tables self.old.shown }
+        ensures applies { Applies worker self.old self.new }
+        ensures idle { IfNothing result (IsUpToDate self.new worker) }
     {
         if self.state.is_stopped() {
             return Claimed::Stopped;
@@ -234,10 +299,47 @@ impl<P: Progress> Board<P> {
         if !self.state.has_worker(number) || !self.state.is_free(number) {
             return Claimed::Busy;
         }
-        if self.state.mail_count(number) > 0 {
-            return Claimed::Work(self.state.claim_message(number, 0));
+        self.refresh(worker);
+        if let Some(work) = self.claim_seen(worker) {
+            return Claimed::Work(work);
         }
-        match first_deliverable(&self.tracker, self.state.requests(number)) {
+        self.catch_up(worker);
+        self.claim_rest(worker)
+    }
+
+    /// Hands out the first event that a free worker sees.
+    fn claim_seen(&mut self, worker: u32) -> Option<Work>
+        requires there { worker < length self.old.shown.sides }
+        requires free { (side_at self.old.shown worker).place ≡ Home }
+        requires runs { self.old.shown.stopped ≡ false }
+        ensures hands { IfSome result (λ x. Hands self.old.shown worker self.new.shown x.0 × (x.1 ≡ false)) }
+        ensures none { IfNone result ((self.new.shown ≡ self.old.shown) × (length (side_at self.old.shown worker).mail ≡ 0)) }
+        ensures tables { tables self.new.shown ≡ tables self.old.shown }
+        ensures views { IsAsLate self.old self.new }
+    {
+        let number = worker as usize;
+        if self.state.mail_count(number) > 0 {
+            return Some(self.state.claim_message(number, 0));
+        }
+        match first_seen(&self.views, worker, self.state.requests(number)) {
+            Some(place) => Some(self.state.claim_request(number, place)),
+            None => None,
+        }
+    }
+
+    /// Hands out the first notification that may be delivered to a free worker for whom no message is there and nothing waits.
+    fn claim_rest(&mut self, worker: u32) -> Claimed
+        requires there { worker < length self.old.shown.sides }
+        requires free { (side_at self.old.shown worker).place ≡ Home }
+        requires runs { self.old.shown.stopped ≡ false }
+        requires mail { length (side_at self.old.shown worker).mail ≡ 0 }
+        requires prompt { IsUpToDate self.old worker }
+        ensures claims { Claims self.old.shown self.new.shown worker result }
+        ensures tables { tables self.new.shown ≡ tables self.old.shown }
+        ensures views { IsAsLate self.old self.new }
+    {
+        let number = worker as usize;
+        match first_deliverable(&self.views, worker, self.state.requests(number)) {
             Some(place) => Claimed::Work(self.state.claim_request(number, place)),
             None => {
                 if self.state.is_drained() {
@@ -249,11 +351,59 @@ impl<P: Progress> Board<P> {
         }
     }
 
+    /// Applies all that waits for the worker to its view. Where the worker isn't there, nothing is done. No memory is taken.
+    pub fn catch_up(&mut self, worker: u32)
+        ensures shown { self.new.shown ≡ self.old.shown }
+        ensures applies { Applies worker self.old self.new }
+        ensures prompt { IsUpToDate self.new worker }
+    {
+        let workers = self.state.worker_count();
+        if worker >= workers {
+            return;
+        }
+        catch_up(&mut self.views, worker, workers);
+        self.lag.catch_up(worker);
+        self.passed = passed_now(&self.views, &self.state, self.passed);
+    }
+
+    /// The same if much waits for the worker, so that no view lags without bound.
+    fn refresh(&mut self, worker: u32)
+        ensures shown { self.new.shown ≡ self.old.shown }
+        ensures applies { Applies worker self.old self.new }
+    {
+        if self.lag.is_long(worker) {
+            self.catch_up(worker);
+        }
+    }
+
+    /// Applies the sender's next batch of changes to the worker's view; the senders are the workers, and then whoever feeds, seals and closes.
+    /// False if none waits, or the worker or the sender isn't there. No memory is taken.
+    pub fn apply(&mut self, worker: u32, sender: u32) -> bool
+        ensures shown { self.new.shown ≡ self.old.shown }
+        ensures applied { AppliesOne worker sender self.old self.new result }
+        ensures others { (w s : ℕ) → (w ≡ worker → s ≡ sender → ⊥) → waits_for self.new w s ≡ waits_for self.old w s }
+        ensures passed { self.old.passed ≤ self.new.passed }
+    {
+        let workers = self.state.worker_count();
+        if worker >= workers {
+            return false;
+        }
+        if sender > workers {
+            return false;
+        }
+        if !self.views.apply(worker, sender) {
+            return false;
+        }
+        self.passed = passed_now(&self.views, &self.state, self.passed);
+        true
+    }
+
     /// Hands out the worker's choice of that number: its messages in order of arrival come first, then those of its requests that may
-    /// be delivered now, in the order in which they were made. No memory is taken.
+    /// be delivered as the worker sees it, in the order in which they were made. No memory is taken.
     pub fn pick(&mut self, worker: u32, choice: u64) -> Result<Work, StepRefusal>
-        ensures picks { Picks self.old self.new worker choice result }
-        ensures tables { tables self.new ≡ tables self.old }
+        ensures picks { Picks (IsUpToDate self.old worker) self.old.shown self.new.shown worker choice result }
+        ensures tables { tables self.new.shown ≡ tables self.old.shown }
+        ensures views { IsAsLate self.old self.new }
     {
         if self.state.is_stopped() {
             return Err(StepRefusal::Stopped);
@@ -269,7 +419,13 @@ impl<P: Progress> Board<P> {
         if choice < mail {
             return Ok(self.state.claim_message(number, choice as usize));
         }
-        match kth_deliverable(&self.tracker, self.state.requests(number), choice - mail) {
+        law_of_waiting();
+        match kth_deliverable(
+            &self.views,
+            worker,
+            self.state.requests(number),
+            choice - mail,
+        ) {
             Some(place) => Ok(self.state.claim_request(number, place)),
             None => Err(StepRefusal::NoSuchEvent),
         }
@@ -277,15 +433,16 @@ impl<P: Progress> Board<P> {
 
     /// The graph and the number of workers, shared: what is cut by it may be fed to this board.
     pub fn share_wiring(&self) -> Result<Arc<Wiring, Global>, NoMemory>
-        ensures { IfOk result (λ w. w.value ≡ record { graph = self.now.graph; workers = length self.now.sides }) }
+        ensures { IfOk result (λ w. w.value ≡ record { graph = self.now.shown.graph; workers = length self.now.shown.sides }) }
     {
         let wiring = self.state.share_wiring()?;
         Ok(wiring)
     }
 
-    /// Whether a claim of the worker would hand out an event.
+    /// Whether the worker sees an event for it. What it doesn't see may be there if something waits for it.
     pub fn can_claim(&self, worker: u32) -> bool
-        ensures { MatchBool result (HasChoice self.now worker) (HasNoChoice self.now worker) }
+        ensures some { IsTrue result → HasChoice self.now.shown worker }
+        ensures none { result ≡ false → IsUpToDate self.now worker → HasNoChoice self.now.shown worker }
     {
         if self.state.is_stopped() {
             return false;
@@ -301,50 +458,59 @@ impl<P: Progress> Board<P> {
         if mail > 0 {
             return true;
         }
-        match first_deliverable(&self.tracker, self.state.requests(number)) {
+        law_of_waiting();
+        match first_seen(&self.views, worker, self.state.requests(number)) {
             Some(_) => true,
             None => false,
         }
     }
 
-    /// Whether an epoch has passed at an output, by the output's place: no more records will come there for it.
+    /// Whether an epoch has passed at an output as the first worker sees it, by the output's place: no more records will come there for it.
     pub fn passed(&self, output: u32, epoch: u32) -> bool
-        requires { IsOutputPlace self.now output }
-        ensures { IsTrue result ↔ HasPassed self.now output epoch }
+        requires { IsOutputPlace self.now.shown output }
+        ensures passed { IsTrue result → HasPassed self.now.shown output epoch }
+        ensures seen { IsUpToDate self.now 0 → HasPassed self.now.shown output epoch → IsTrue result }
     {
+        law_of_waiting();
         let vertex = self.state.output(output as usize);
-        self.tracker.none_before(&output_place(vertex, epoch))
+        self.views.none_before(0, &output_place(vertex, epoch))
     }
 
-    /// How many epochs have passed at every output, from epoch 0 on: at most as many as the most that an input was sealed. It takes no time.
+    /// How many epochs have passed at every output as the first worker saw it when it last looked, from epoch 0 on: at most as many as the most
+    /// that an input was sealed. It takes no time.
     pub fn passed_count(&self) -> u64
-        ensures { CountsPassed self.now result }
+        ensures value { result ≡ self.now.passed }
+        ensures most { (n : ℕ) → CountsPassed self.now.shown n → result ≤ n }
+        ensures seen { IsUpToDate self.now 0 → CountsPassed self.now.shown result }
     {
+        law_of_waiting();
         self.passed as u64
     }
 
     /// One number alone is that of the passed epochs, and each epoch below it has passed at each output. Nothing is done.
     pub fn law_count(&self)
-        ensures one { (m n : ℕ) → CountsPassed self.now m → CountsPassed self.now n → m ≡ n }
-        ensures below { (n : ℕ) → CountsPassed self.now n → (epoch : ℕ) → epoch < n → (output : ℕ) → IsOutputPlace self.now output → HasPassed self.now output epoch }
+        ensures one { (m n : ℕ) → CountsPassed self.now.shown m → CountsPassed self.now.shown n → m ≡ n }
+        ensures below { (n : ℕ) → CountsPassed self.now.shown n → (epoch : ℕ) → epoch < n → (output : ℕ) → IsOutputPlace self.now.shown output → HasPassed self.now.shown output epoch }
+        ensures known { (epoch : ℕ) → epoch < self.now.passed → (output : ℕ) → IsOutputPlace self.now.shown output → HasPassed self.now.shown output epoch }
     {
         let _ = &self.state;
     }
 
     /// What has passed stays so, and the number of passed epochs doesn't fall, by any step from here. Nothing is done.
     pub fn law_stays(&self)
-        ensures passed { (step : Step) (next : Shown) → Goes self.now step next → (output epoch : ℕ) → HasPassed self.now output epoch → HasPassed next output epoch }
-        ensures count { (step : Step) (next : Shown) → Goes self.now step next → (m n : ℕ) → CountsPassed self.now m → CountsPassed next n → m ≤ n }
+        ensures passed { (step : Step) (next : Shown) → Goes self.now.shown step next → (output epoch : ℕ) → HasPassed self.now.shown output epoch → HasPassed next output epoch }
+        ensures count { (step : Step) (next : Shown) → Goes self.now.shown step next → (m n : ℕ) → CountsPassed self.now.shown m → CountsPassed next n → m ≤ n }
     {
         let _ = &self.state;
     }
 
     /// The event is given up, and the board stops for good. No memory is taken.
     pub fn abandon(&mut self, work: Work)
-        requires { IsOf self.old work.0 }
-        ensures holds { Holds self.old work.0 }
-        ensures step { Goes self.old (Step.abandon work.0.worker work.0.job.happening) self.new }
-        ensures tables { tables self.new ≡ tables self.old }
+        requires { IsOf self.old.shown work.0 }
+        ensures holds { Holds self.old.shown work.0 }
+        ensures step { Goes self.old.shown (Step.abandon work.0.worker work.0.job.happening) self.new.shown }
+        ensures tables { tables self.new.shown ≡ tables self.old.shown }
+        ensures views { IsAsLate self.old self.new }
     {
         let worker = work.worker();
         self.state.abandon(worker as usize, work.into_stub());
@@ -352,10 +518,11 @@ impl<P: Progress> Board<P> {
 
     /// The same for an event that was computed.
     pub fn abandon_done(&mut self, done: Done)
-        requires { IsOf self.old done }
-        ensures holds { Holds self.old done }
-        ensures step { Goes self.old (Step.abandon done.worker done.job.happening) self.new }
-        ensures tables { tables self.new ≡ tables self.old }
+        requires { IsOf self.old.shown done }
+        ensures holds { Holds self.old.shown done }
+        ensures step { Goes self.old.shown (Step.abandon done.worker done.job.happening) self.new.shown }
+        ensures tables { tables self.new.shown ≡ tables self.old.shown }
+        ensures views { IsAsLate self.old self.new }
     {
         let worker = done.worker();
         let (stub, _output) = done.into_parts();
@@ -364,55 +531,64 @@ impl<P: Progress> Board<P> {
 
     /// Ends an event that the board handed out. A stopped board takes it too.
     pub fn commit(&mut self, done: Done) -> Result<(), CommitRefusal>
-        requires { IsOf self.old done }
-        ensures commits { Commits self.old self.new done result }
-        ensures tables { tables self.new ≡ tables self.old }
+        requires { IsOf self.old.shown done }
+        ensures commits { Commits self.old.shown self.new.shown done result }
+        ensures tables { tables self.new.shown ≡ tables self.old.shown }
+        ensures refused { OnErr result (self.new ≡ self.old) }
+        ensures posts { OnOk result (Posts V.late done.worker self.old self.new) }
+        ensures passed { self.old.passed ≤ self.new.passed }
     {
-        if let Err(done) = self.state.commit(&mut self.tracker, done) {
-            return Err(CommitRefusal::NoMemory(done));
+        let worker = done.worker();
+        match self.state.commit(&mut self.views, &mut self.added, done) {
+            Ok(place) => {
+                law_of_step();
+                post_noted(&mut self.views, worker, &self.added, &[place]);
+                self.lag.post();
+                self.passed = passed_now(&self.views, &self.state, self.passed);
+                Ok(())
+            }
+            Err(done) => Err(CommitRefusal::NoMemory(done)),
         }
-        self.passed = passed_now(&self.tracker, &self.state, self.passed);
-        Ok(())
     }
 
     /// Why a call on that input would be refused, whatever it is; nothing where it would not.
     pub fn input_refusal(&self, input: u32) -> Option<StepRefusal>
-        ensures { result ≡ input_refusal self.now input }
+        ensures { result ≡ input_refusal self.now.shown input }
     {
         self.state.input_refusal(input)
     }
 
     /// Whether the board is stopped: an event was given up.
     pub fn is_stopped(&self) -> bool
-        ensures { result ≡ self.now.stopped }
+        ensures { result ≡ self.now.shown.stopped }
     {
         self.state.is_stopped()
     }
 
     /// Whether every input is closed, nothing waits, and no worker holds an event or lost one.
     pub fn is_drained(&self) -> bool
-        ensures { MatchBool result (IsDrained self.now) (IsDrained self.now → ⊥) }
+        ensures { MatchBool result (IsDrained self.now.shown) (IsDrained self.now.shown → ⊥) }
     {
         self.state.is_drained()
     }
 
     /// The graph that the board runs.
     pub fn graph(&self) -> &Graph
-        ensures { result.now ≡ self.now.graph }
+        ensures { result.now ≡ self.now.shown.graph }
     {
         self.state.graph()
     }
 
     /// The number of workers: 1 to 64.
     pub fn workers(&self) -> u32
-        ensures { result ≡ length self.now.sides }
+        ensures { result ≡ length self.now.shown.sides }
     {
         self.state.worker_count()
     }
 
     /// Whether the worker holds an event that isn't given up; no where there is no such worker.
     pub fn holding(&self, worker: u32) -> bool
-        ensures { result ≡ is_out (side_at self.now worker).place }
+        ensures { result ≡ is_out (side_at self.now.shown worker).place }
     {
         let number = worker as usize;
         self.state.has_worker(number) && self.state.is_holding(number)
@@ -420,22 +596,22 @@ impl<P: Progress> Board<P> {
 
     /// The batches that were fed to an input for an epoch, in order; none where the input isn't there.
     pub fn fed(&self, input: u32, epoch: u32) -> &[Batch]
-        ensures { result.now ≡ slice_index_or (input_at self.now input).fed epoch [] }
+        ensures { result.now ≡ slice_index_or (input_at self.now.shown input).fed epoch [] }
     {
         self.state.fed(input, epoch)
     }
 
     /// The number of outputs.
     pub fn output_count(&self) -> u32
-        ensures { result ≡ length (output_numbers (shown_graph self.now.graph)) }
+        ensures { result ≡ length (output_numbers (shown_graph self.now.shown.graph)) }
     {
         self.state.output_count() as u32
     }
 
     /// The batches that were emitted at an output for an epoch, in order, by the output's place.
     pub fn emitted(&self, output: u32, epoch: u32) -> &[Batch]
-        requires { IsOutputPlace self.now output }
-        ensures { result.now ≡ slice_index_or (emitted_by self.now.emitted (output_number (shown_graph self.now.graph) output)) epoch [] }
+        requires { IsOutputPlace self.now.shown output }
+        ensures { result.now ≡ slice_index_or (emitted_by self.now.shown.emitted (output_number (shown_graph self.now.shown.graph) output)) epoch [] }
     {
         self.state.emitted(output as usize, epoch)
     }
@@ -466,30 +642,44 @@ impl<P: Progress> Board<P> {
         Ok(outputs)
     }
 
-    /// How many changes of active pointstamps wait to be seen by a worker: none, since all workers see one tracker.
+    /// How many batches of changes wait, over all workers, or the greatest `u64` if there are more.
     pub fn waiting_changes(&self) -> u64
-        ensures { result ≡ 0 }
+        ensures { result ≡ min (2 ^ 64 - 1) (all_waits self.now) }
     {
-        0
+        self.views.waiting()
+    }
+
+    /// Nothing waits where there is no such worker or sender. Nothing is done.
+    pub fn law_waits(&self)
+        ensures { (w s : ℕ) → (length self.now.shown.sides ≤ w) ⊎ (length self.now.shown.sides < s) → waits_for self.now w s ≡ 0 }
+    {
+        let _ = &self.state;
+    }
+
+    /// Where views aren't late, nothing waits. Nothing is done.
+    pub fn law_prompt(&self)
+        ensures { V.late ≡ false → AreUpToDate self.now }
+    {
+        let _ = &self.state;
     }
 
     /// The promise at each output, of whatever program the board runs. Nothing is done.
     pub fn law_headline(&self)
-        ensures { (p : Program) → RunsProgram p self.now → KeepsPromise p self.now }
+        ensures { (p : Program) → RunsProgram p self.now.shown → KeepsPromise p self.now.shown }
     {
         let _ = &self.state;
     }
 
     /// A board has as many inputs as its graph. Nothing is done.
     pub fn law_inputs(&self)
-        ensures { length self.now.inputs ≡ input_count (shown_graph self.now.graph) }
+        ensures { length self.now.shown.inputs ≡ input_count (shown_graph self.now.shown.graph) }
     {
         let _ = &self.state;
     }
 
     /// A drained board has passed every epoch at every output. Nothing is done.
     pub fn law_drained(&self)
-        ensures { IsDrained self.now → (output epoch : ℕ) → HasPassed self.now output epoch }
+        ensures { IsDrained self.now.shown → (output epoch : ℕ) → HasPassed self.now.shown output epoch }
     {
         let _ = &self.state;
     }

@@ -1,29 +1,33 @@
 //! The choices of a worker, by number.
 
-ghost use Rattle.std.specs.Prelude.{◌≡◌, ℕ, Some, slice_get, IfSome, IfNone};
+ghost use Rattle.std.specs.Prelude.{◌≡◌, ◌<◌, ℕ, Some, slice_get, IfSome, IfNone};
 ghost use Rattle.semantics.specs.Could.{IsTimeAt, Location as Where};
 ghost use Rattle.machine.specs.Choices.{Kth};
 ghost use Rattle.machine.specs.World.{Request as Wish};
+ghost use Rattle.views.specs.Waiting.{IsSeenBy};
 ghost use Rattle.board.specs.Deliverable.{IsDeliverable};
 
 use crate::frontier::may_deliver;
 use events::Request;
 use exchange::Mailbox;
-use progress::Progress;
+use views::Views;
 
-/// The place of the request that comes at that number, from 0, among those that may be delivered.
-pub fn kth_deliverable<P: Progress>(
-    tracker: &P,
+/// The place of the request that comes at that number, from 0, among those that may be delivered as the worker sees it.
+pub fn kth_deliverable<V: Views>(
+    views: &V,
+    worker: u32,
     requests: &Mailbox<Request>,
     number: u64,
 ) -> Option<usize>
-    requires { (at : ℕ) (r : Wish) → slice_get requests.now.messages at ≡ Some r → IsTimeAt (P.graph tracker.now) (Where.vertex r.vertex) r.time }
-    ensures some { IfSome result (λ at. Kth (IsDeliverable (P.graph tracker.now) (P.content tracker.now)) requests.now.messages number at) }
-    ensures none { IfNone result ((at : ℕ) → Kth (IsDeliverable (P.graph tracker.now) (P.content tracker.now)) requests.now.messages number at → ⊥) }
+    requires worker { worker < V.workers views.now }
+    requires known { (at : ℕ) (r : Wish) → slice_get requests.now.messages at ≡ Some r → IsTimeAt (V.graph views.now) (Where.vertex r.vertex) r.time }
+    ensures some { IfSome result (λ at. Kth (IsDeliverable (V.graph views.now) (IsSeenBy (V.content views.now) (V.waiting views.now) (V.workers views.now) worker)) requests.now.messages number at) }
+    ensures there { IfSome result (λ at. (r : Wish) × (slice_get requests.now.messages at ≡ Some r) × IsDeliverable (V.graph views.now) (λ q. 0 < V.content views.now q) r) }
+    ensures none { IfNone result ((at : ℕ) → Kth (IsDeliverable (V.graph views.now) (IsSeenBy (V.content views.now) (V.waiting views.now) (V.workers views.now) worker)) requests.now.messages number at → ⊥) }
 {
     let mut left = number;
     for place in 0..requests.len() {
-        if may_deliver(tracker, requests.get(place)) {
+        if may_deliver(views, worker, requests.get(place)) {
             if left == 0 {
                 return Some(place);
             }

@@ -1,11 +1,12 @@
-//! Letters to mailboxes.
+//! Letters to mailboxes, and the pointstamps that are active by them.
 
-ghost use Rattle.std.specs.Prelude.{◌≡◌, ◌≢◌, ◌<◌, ◌≤◌, ◌+◌, ℕ, length, slice_set, OnOk, IfSome};
+ghost use Rattle.std.specs.Prelude.{◌≡◌, ◌≢◌, ◌<◌, ◌≤◌, ◌+◌, ℕ, [], length, slice_set, vec_capacity, OnOk};
 ghost use Rattle.semantics.specs.Multiset.{total};
-ghost use Rattle.semantics.specs.Could.{Pointstamp as Active, Location as Where, IsTimeAt};
-ghost use Rattle.machine.specs.Active.{one_if_same, message_pointstamp, request_pointstamp};
+ghost use Rattle.semantics.specs.Could.{Pointstamp as Active};
+ghost use Rattle.progress.specs.Content.{times_in};
+ghost use Rattle.machine.specs.Active.{one_if_same, request_pointstamp};
 ghost use Rattle.events.specs.Happenings.{requests_of};
-ghost use Rattle.board.specs.Desks.{AreAtEdges, AreWithin, HasRoom, desk_in, letters_count, sides_of};
+ghost use Rattle.board.specs.Desks.{AreWithin, HasRoom, desk_in, letters_count, sides_of};
 ghost use Rattle.board.specs.Shown.{side_in};
 ghost use Rattle.board.specs.Steps.{delivered, settled, with_mail};
 
@@ -13,10 +14,10 @@ use crate::worker::Worker;
 use events::{Event, Letter, Output, Request};
 use lowering::Location;
 use path_summary::Pointstamp;
-use progress::Progress;
 use rows::RowsError;
 use std::alloc::AllocError;
 use tokens::tie::Stub;
+use views::Views;
 
 /// Takes room in the mailboxes for these letters.
 pub fn reserve_letters(workers: &mut Vec<Worker>, letters: &[Letter]) -> Result<(), RowsError>
@@ -32,58 +33,97 @@ pub fn reserve_letters(workers: &mut Vec<Worker>, letters: &[Letter]) -> Result<
     Ok(())
 }
 
-/// Puts the letters into their mailboxes, and makes their pointstamps active. No memory is taken.
-pub fn deliver<P: Progress>(workers: &mut Vec<Worker>, tracker: &mut P, letters: Vec<Letter>)
+/// Puts the letters into their mailboxes. No memory is taken.
+pub fn deliver(workers: &mut Vec<Worker>, letters: Vec<Letter>)
     requires within { AreWithin (length workers.old.items) letters.items }
     requires room { HasRoom workers.old.items letters.items }
-    requires spare { length letters.items ≤ P.room tracker.old }
-    requires edges { AreAtEdges (P.graph tracker.old) letters.items }
     ensures sides { sides_of workers.new.items ≡ delivered (sides_of workers.old.items) letters.items }
-    ensures content { (q : Active) → P.content tracker.new q ≡ letters_count q letters.items + P.content tracker.old q }
-    ensures graph { P.graph tracker.new ≡ P.graph tracker.old }
-    ensures spare { P.room tracker.old ≤ P.room tracker.new + length letters.items }
 {
     for letter in letters {
-        put_letter(workers, tracker, letter);
+        put_letter(workers, letter);
     }
 }
 
-/// Puts a letter into its mailbox, and makes its pointstamp active. No memory is taken.
-fn put_letter<P: Progress>(workers: &mut Vec<Worker>, tracker: &mut P, letter: Letter)
+/// Puts a letter into its mailbox. No memory is taken.
+fn put_letter(workers: &mut Vec<Worker>, letter: Letter)
     requires within { letter.to < length workers.old.items }
     requires room { 0 < (desk_in workers.old.items letter.to).mail_room }
-    requires spare { 0 < P.room tracker.old }
-    requires edge { IsTimeAt (P.graph tracker.old) (Where.edge letter.message.edge) letter.message.time }
     ensures sides { sides_of workers.new.items ≡ slice_set (sides_of workers.old.items) letter.to (with_mail (side_in (sides_of workers.old.items) letter.to) letter.message) }
     ensures here { (desk_in workers.new.items letter.to).mail_room + 1 ≡ (desk_in workers.old.items letter.to).mail_room }
     ensures others { (k : ℕ) → k ≢ letter.to → (desk_in workers.new.items k).mail_room ≡ (desk_in workers.old.items k).mail_room }
-    ensures content { (q : Active) → P.content tracker.new q ≡ one_if_same q (message_pointstamp letter.message) + P.content tracker.old q }
-    ensures graph { P.graph tracker.new ≡ P.graph tracker.old }
-    ensures spare { P.room tracker.old ≤ P.room tracker.new + 1 }
 {
     let Letter { to, message } = letter;
-    let place = Pointstamp::new(message.time.copied(), Location::Edge(message.edge));
-    tracker.add(&place);
     workers[to as usize].put(message);
 }
 
-/// Takes room for what a commit adds: the letters, a request of the worker, and their pointstamps. Where it is refused, all shows
-/// as before.
-pub fn prepare<P: Progress>(
+/// Notes the pointstamps of letters behind the others. No memory is taken.
+pub fn note_letters(added: &mut Vec<Pointstamp>, letters: &[Letter])
+    requires room { length added.old.items + length letters.now ≤ vec_capacity added.old }
+    ensures added { (q : Active) → times_in added.new.items q ≡ letters_count q letters.now + times_in added.old.items q }
+    ensures as_many { length added.new.items ≡ length letters.now + length added.old.items }
+    ensures capacity { vec_capacity added.new ≡ vec_capacity added.old }
+{
+    for letter in letters {
+        let message = &letter.message;
+        added.push_reserved(Pointstamp::new(message.time.copied(), Location::Edge(message.edge)));
+    }
+}
+
+/// Notes the pointstamp of a request, if there is one, behind the others. No memory is taken.
+fn note_request(added: &mut Vec<Pointstamp>, asked: &Option<Request>)
+    requires room { length added.old.items < vec_capacity added.old }
+    ensures added { (q : Active) → times_in added.new.items q ≡ total (λ n. one_if_same q (request_pointstamp n)) (requests_of asked.now) + times_in added.old.items q }
+    ensures few { length added.new.items ≤ length added.old.items + 1 }
+    ensures capacity { vec_capacity added.new ≡ vec_capacity added.old }
+{
+    if let Some(request) = asked {
+        added.push_reserved(Pointstamp::new(
+            request.time.copied(),
+            Location::Vertex(request.vertex),
+        ));
+    }
+}
+
+/// Takes room in the views for a step that adds so many pointstamps and removes one or none, and for the closes of so many inputs. None are
+/// noted then, and there is room to note so many. Where it is refused, all that is active or waits is as before.
+pub fn prepare_views<V: Views>(
+    views: &mut V,
+    added: &mut Vec<Pointstamp>,
+    count: u32,
+    closing: u32,
+) -> Result<(), AllocError>
+    requires few { count ≤ 524289 }
+    requires closing { closing ≤ 4096 }
+    ensures graph { V.graph views.new ≡ V.graph views.old }
+    ensures workers { V.workers views.new ≡ V.workers views.old }
+    ensures content { (q : Active) → V.content views.new q ≡ V.content views.old q }
+    ensures waiting { (worker sender : ℕ) → V.waiting views.new worker sender ≡ V.waiting views.old worker sender }
+    ensures kept { V.room views.old ≤ V.room views.new }
+    ensures room { OnOk result (count + 1 + closing ≤ V.room views.new) }
+    ensures none { added.new.items ≡ [] }
+    ensures capacity { OnOk result (count ≤ vec_capacity added.new) }
+{
+    added.clear();
+    if added.reserve(count as usize).is_err() {
+        return Err(AllocError);
+    }
+    if views.reserve(count + 1 + closing).is_err() {
+        return Err(AllocError);
+    }
+    Ok(())
+}
+
+/// Takes room for the letters and a request of a worker. Where it is refused, all shows as before.
+pub fn prepare(
     workers: &mut Vec<Worker>,
-    tracker: &mut P,
     worker: usize,
     letters: &[Letter],
 ) -> Result<(), AllocError>
     requires there { worker < length workers.old.items }
     requires within { AreWithin (length workers.old.items) letters.now }
-    requires few { length letters.now ≤ 524288 }
     ensures sides { sides_of workers.new.items ≡ sides_of workers.old.items }
-    ensures content { P.content tracker.new ≡ P.content tracker.old }
-    ensures graph { P.graph tracker.new ≡ P.graph tracker.old }
     ensures mail { OnOk result (HasRoom workers.new.items letters.now) }
     ensures request { OnOk result (0 < (desk_in workers.new.items worker).request_room) }
-    ensures spare { OnOk result (length letters.now + 1 ≤ P.room tracker.new) }
 {
     if reserve_letters(workers, letters).is_err() {
         return Err(AllocError);
@@ -91,35 +131,19 @@ pub fn prepare<P: Progress>(
     if workers[worker].reserve_request().is_err() {
         return Err(AllocError);
     }
-    if tracker.reserve(letters.len() as u32 + 1).is_err() {
-        return Err(AllocError);
-    }
     Ok(())
 }
 
-/// Makes the pointstamp of a request, if there is one, active. No memory is taken.
-fn note_request<P: Progress>(tracker: &mut P, asked: &Option<Request>)
-    requires spare { 0 < P.room tracker.old }
-    requires there { IfSome asked.now (λ r. IsTimeAt (P.graph tracker.old) (Where.vertex r.vertex) r.time) }
-    ensures content { (q : Active) → P.content tracker.new q ≡ total (λ n. one_if_same q (request_pointstamp n)) (requests_of asked.now) + P.content tracker.old q }
-    ensures graph { P.graph tracker.new ≡ P.graph tracker.old }
-    ensures spare { P.room tracker.old ≤ P.room tracker.new + 1 }
-{
-    if let Some(request) = asked {
-        tracker.add(&Pointstamp::new(request.time.copied(), Location::Vertex(request.vertex)));
-    }
-}
-
-/// Ends an event, where there is room: its shard comes back, what it sends is delivered, and what it asks for is a request. No memory
-/// is taken.
-pub fn finish<P: Progress>(
+/// Ends an event, where there is room: its shard comes back, what it sends is delivered, and what it asks for is a request. What is active
+/// then is noted, and the event's pointstamp comes back. No memory is taken.
+pub fn finish(
     workers: &mut Vec<Worker>,
-    tracker: &mut P,
+    added: &mut Vec<Pointstamp>,
     worker: usize,
     vertex: usize,
     stub: Stub<Event>,
     output: Output,
-)
+) -> Pointstamp
     requires there { worker < length workers.old.items }
     requires table { stub.table ≡ (side_in (sides_of workers.old.items) worker).table }
     requires wired { output.wiring.value ≡ stub.job.wired }
@@ -127,13 +151,12 @@ pub fn finish<P: Progress>(
     requires within { AreWithin (length workers.old.items) output.sent.items }
     requires mail { HasRoom workers.old.items output.sent.items }
     requires request { 0 < (desk_in workers.old.items worker).request_room }
-    requires spare { length output.sent.items + 1 ≤ P.room tracker.old }
-    requires edges { AreAtEdges (P.graph tracker.old) output.sent.items }
-    requires asked { IfSome output.asked (λ r. IsTimeAt (P.graph tracker.old) (Where.vertex r.vertex) r.time) }
-    requires active { 0 < P.content tracker.old output.place }
+    requires none { added.old.items ≡ [] }
+    requires capacity { length output.sent.items + 1 ≤ vec_capacity added.old }
     ensures sides { sides_of workers.new.items ≡ delivered (slice_set (sides_of workers.old.items) worker (settled (side_in (sides_of workers.old.items) worker) vertex output.shard.value output.asked)) output.sent.items }
-    ensures content { (q : Active) → P.content tracker.new q + one_if_same q output.place ≡ letters_count q output.sent.items + total (λ n. one_if_same q (request_pointstamp n)) (requests_of output.asked) + P.content tracker.old q }
-    ensures graph { P.graph tracker.new ≡ P.graph tracker.old }
+    ensures added { (q : Active) → times_in added.new.items q ≡ letters_count q output.sent.items + total (λ n. one_if_same q (request_pointstamp n)) (requests_of output.asked) }
+    ensures few { length added.new.items ≤ length output.sent.items + 1 }
+    ensures place { result ≡ output.place }
 {
     let Output {
         place,
@@ -143,31 +166,9 @@ pub fn finish<P: Progress>(
         asked,
         emitted: _,
     } = output;
-    tracker.remove(&place);
-    note_request(tracker, &asked);
+    note_request(added, &asked);
+    note_letters(added, &sent);
     workers[worker].settle(vertex, stub, wiring, shard, asked);
-    deliver(workers, tracker, sent);
-}
-
-/// Takes room for letters and their pointstamps. Where it is refused, all shows as before.
-pub fn prepare_letters<P: Progress>(
-    workers: &mut Vec<Worker>,
-    tracker: &mut P,
-    letters: &[Letter],
-) -> Result<(), AllocError>
-    requires within { AreWithin (length workers.old.items) letters.now }
-    requires few { length letters.now ≤ 524288 }
-    ensures sides { sides_of workers.new.items ≡ sides_of workers.old.items }
-    ensures content { P.content tracker.new ≡ P.content tracker.old }
-    ensures graph { P.graph tracker.new ≡ P.graph tracker.old }
-    ensures mail { OnOk result (HasRoom workers.new.items letters.now) }
-    ensures spare { OnOk result (length letters.now ≤ P.room tracker.new) }
-{
-    if reserve_letters(workers, letters).is_err() {
-        return Err(AllocError);
-    }
-    if tracker.reserve(letters.len() as u32).is_err() {
-        return Err(AllocError);
-    }
-    Ok(())
+    deliver(workers, sent);
+    place
 }

@@ -1,28 +1,30 @@
 //! What may be delivered.
 
-ghost use Rattle.std.specs.Prelude.{◌≡◌, ◌↔◌, ◌<◌, ℕ, Some, length, slice_get, slice_index, EachIndex, IfSome, IfNone, IsTrue};
+ghost use Rattle.std.specs.Prelude.{◌≡◌, ◌↔◌, ◌<◌, ℕ, suc, [], Some, length, slice_get, slice_index, EachIndex, IfSome, IfNone, IsTrue};
 ghost use Rattle.semantics.specs.Could.{IsTimeAt, Location as Where};
-ghost use Rattle.machine.specs.Active.{request_pointstamp};
 ghost use Rattle.machine.specs.World.{Request as Wish};
-ghost use Rattle.board.specs.Deliverable.{IsBlocked, IsDeliverable, StandsBefore};
+ghost use Rattle.semantics.specs.Dataflow.{IsDataflow};
+ghost use Rattle.views.specs.Waiting.{IsSeenBy};
+ghost use Rattle.board.specs.Deliverable.{IsDeliverable, StandsBefore};
 
 use arrayvec::ArrayVec;
 use events::Request;
 use exchange::Mailbox;
 use lowering::Location;
 use path_summary::Pointstamp;
-use progress::Progress;
+use views::{Views, law_of_waiting};
 
 /// How many requests that may not be delivered a scan remembers.
 const REMEMBERED: usize = 8;
 
-/// The place of the first request that may be delivered. The tracker is asked for a vertex's first requests alone: what stands at or
-/// after one that may not be delivered may not be either.
-pub fn first_deliverable<P: Progress>(tracker: &P, requests: &Mailbox<Request>) -> Option<usize>
-    requires known { (at : ℕ) (r : Wish) → slice_get requests.now.messages at ≡ Some r → IsTimeAt (P.graph tracker.now) (Where.vertex r.vertex) r.time }
-    requires active { (at : ℕ) (r : Wish) → slice_get requests.now.messages at ≡ Some r → 0 < P.content tracker.now (request_pointstamp r) }
-    ensures some { IfSome result (λ at. (r : Wish) × (slice_get requests.now.messages at ≡ Some r) × IsDeliverable (P.graph tracker.now) (P.content tracker.now) r) }
-    ensures none { IfNone result ((at : ℕ) (r : Wish) → slice_get requests.now.messages at ≡ Some r → IsDeliverable (P.graph tracker.now) (P.content tracker.now) r → ⊥) }
+/// The place of the first request that may be delivered as the worker sees it. The views are asked for a vertex's first requests alone:
+/// what stands at or after one that may not be delivered may not be either.
+pub fn first_seen<V: Views>(views: &V, worker: u32, requests: &Mailbox<Request>) -> Option<usize>
+    requires worker { worker < V.workers views.now }
+    requires flows { IsDataflow (V.graph views.now) }
+    requires known { (at : ℕ) (r : Wish) → slice_get requests.now.messages at ≡ Some r → IsTimeAt (V.graph views.now) (Where.vertex r.vertex) r.time }
+    ensures some { IfSome result (λ at. (r : Wish) × (slice_get requests.now.messages at ≡ Some r) × IsDeliverable (V.graph views.now) (λ q. 0 < V.content views.now q) r) }
+    ensures none { IfNone result ((at : ℕ) (r : Wish) → slice_get requests.now.messages at ≡ Some r → IsDeliverable (V.graph views.now) (IsSeenBy (V.content views.now) (V.waiting views.now) (V.workers views.now) worker) r → ⊥) }
 {
     let mut fronts = ArrayVec::<usize, REMEMBERED>::new();
     for place in 0..requests.len() {
@@ -30,7 +32,7 @@ pub fn first_deliverable<P: Progress>(tracker: &P, requests: &Mailbox<Request>) 
         if is_behind(requests, fronts.as_slice(), request) {
             continue;
         }
-        if may_deliver(tracker, request) {
+        if may_deliver(views, worker, request) {
             return Some(place);
         }
         let _remembered = fronts.try_push(place);
@@ -38,12 +40,34 @@ pub fn first_deliverable<P: Progress>(tracker: &P, requests: &Mailbox<Request>) 
     None
 }
 
-/// Whether a request may be delivered.
-pub fn may_deliver<P: Progress>(tracker: &P, request: &Request) -> bool
-    requires { IsTimeAt (P.graph tracker.now) (Where.vertex request.now.vertex) request.now.time }
-    ensures { IsTrue result ↔ IsDeliverable (P.graph tracker.now) (P.content tracker.now) request.now }
+/// The same where nothing waits for the worker: the first request that may be delivered.
+pub fn first_deliverable<V: Views>(
+    views: &V,
+    worker: u32,
+    requests: &Mailbox<Request>,
+) -> Option<usize>
+    requires worker { worker < V.workers views.now }
+    requires flows { IsDataflow (V.graph views.now) }
+    requires known { (at : ℕ) (r : Wish) → slice_get requests.now.messages at ≡ Some r → IsTimeAt (V.graph views.now) (Where.vertex r.vertex) r.time }
+    requires prompt { (s : ℕ) → s < suc (V.workers views.now) → V.waiting views.now worker s ≡ [] }
+    ensures some { IfSome result (λ at. (r : Wish) × (slice_get requests.now.messages at ≡ Some r) × IsDeliverable (V.graph views.now) (λ q. 0 < V.content views.now q) r) }
+    ensures none { IfNone result ((at : ℕ) (r : Wish) → slice_get requests.now.messages at ≡ Some r → IsDeliverable (V.graph views.now) (λ q. 0 < V.content views.now q) r → ⊥) }
 {
-    tracker.in_frontier(&Pointstamp::new(request.time.copied(), Location::Vertex(request.vertex)))
+    law_of_waiting();
+    first_seen(views, worker, requests)
+}
+
+/// Whether a request may be delivered as the worker sees it.
+pub fn may_deliver<V: Views>(views: &V, worker: u32, request: &Request) -> bool
+    requires worker { worker < V.workers views.now }
+    requires known { IsTimeAt (V.graph views.now) (Where.vertex request.now.vertex) request.now.time }
+    ensures seen { IsTrue result ↔ IsDeliverable (V.graph views.now) (IsSeenBy (V.content views.now) (V.waiting views.now) (V.workers views.now) worker) request.now }
+    ensures there { IsTrue result → IsDeliverable (V.graph views.now) (λ q. 0 < V.content views.now q) request.now }
+{
+    views.in_frontier(
+        worker,
+        &Pointstamp::new(request.time.copied(), Location::Vertex(request.vertex)),
+    )
 }
 
 /// Whether a request of the same vertex, at the same time or before it, stands at one of these places.

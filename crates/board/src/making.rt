@@ -1,22 +1,17 @@
 //! What a new board is made of.
 
-ghost use Rattle.std.specs.Prelude.{◌≡◌, ◌+◌, ◌<◌, ◌≤◌, [], ℕ, length, slice_index_or, IfOk, OnOk, None};
+ghost use Rattle.std.specs.Prelude.{◌≡◌, ◌<◌, ◌≤◌, [], ℕ, length, slice_index_or, IfOk, None};
 ghost use Rattle.lowering.specs.Shown.{shown_graph};
-ghost use Rattle.semantics.specs.Could.{IsTimeAt, Location as Where, Pointstamp as Active, at_vertex};
-ghost use Rattle.semantics.specs.Time.{at_epoch};
-ghost use Rattle.machine.specs.Active.{one_if_same, sum_below};
 ghost use Rattle.board.specs.Desks.{sides_of};
 ghost use Rattle.board.specs.Fresh.{HasFreshSides, HasShards, IsFreshSide, IsFreshSlot};
 ghost use Rattle.board.specs.Shown.{no_input};
 
-use crate::board::input_place;
 use crate::inputs::Input;
 use crate::slot::Slot;
 use crate::worker::Worker;
 use events::{Wiring, shard_at};
 use expr_tree::NoMemory;
 use lowering::{Graph, VertexId};
-use progress::Progress;
 use std::alloc::Global;
 use std::sync::Arc;
 
@@ -77,17 +72,4 @@ fn new_slot(alloc: Global, graph: &Graph, id: VertexId) -> Result<Slot, NoMemory
         return Err(NoMemory);
     };
     Ok(Slot::full(Box::new(alloc, shard)?))
-}
-
-/// Makes the first so many inputs active at epoch 0.
-pub fn open_inputs<P: Progress>(tracker: &mut P, count: u32) -> Result<(), NoMemory>
-    requires inputs { (i : ℕ) → i < count → IsTimeAt (P.graph tracker.old) (Where.vertex i) (at_epoch 0) }
-    ensures graph { P.graph tracker.new ≡ P.graph tracker.old }
-    ensures content { OnOk result ((q : Active) → P.content tracker.new q ≡ sum_below count (λ i. one_if_same q (at_vertex i (at_epoch 0))) + P.content tracker.old q) }
-{
-    tracker.reserve(count)?;
-    for input in 0..count {
-        tracker.add(&input_place(input, 0));
-    }
-    Ok(())
 }

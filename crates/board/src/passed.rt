@@ -1,53 +1,62 @@
 //! How many epochs have passed.
 
-ghost use Rattle.std.specs.Prelude.{◌≡◌, ◌↔◌, ◌<◌, ◌≤◌, ℕ, IsTrue, length};
+ghost use Rattle.std.specs.Prelude.{◌≡◌, ◌<◌, ◌≤◌, ℕ, IsTrue, length};
 ghost use Rattle.semantics.specs.Could.{IsTimeAt, Location as Where, at_vertex};
 ghost use Rattle.semantics.specs.Graph.{output_number};
 ghost use Rattle.semantics.specs.Time.{at_epoch};
 ghost use Rattle.lowering.specs.Shown.{shown_graph};
-ghost use Rattle.board.specs.Kept.{IsKept, Keeps};
+ghost use Rattle.views.specs.Waiting.{IsSeenBy};
+ghost use Rattle.board.specs.Kept.{IsKept};
 ghost use Rattle.board.specs.Promises.{IsOutputPlace};
-ghost use Rattle.board.specs.Seals.{AreOutputsIn, HavePassed, NoneLeftAtAll};
+ghost use Rattle.board.specs.Seals.{AreOutputsIn, HavePassed, IsMostSeen, NoneLeftAtAll};
 
 use crate::state::State;
 use loop_context::Time;
 use lowering::{Location, VertexId};
 use path_summary::Pointstamp;
-use progress::Progress;
+use views::Views;
 
-/// How many epochs have passed by now at every output, where each below `from` has. Each epoch that has passed since is asked for once.
-pub fn passed_now<P: Progress>(tracker: &P, state: &State, from: u32) -> u32
-    requires kept { IsKept (P.graph tracker.now) (P.content tracker.now) state.now }
+/// How many epochs have passed by now at every output as the first worker sees it, where each below `from` has. Each epoch that has passed
+/// since is asked for once.
+pub fn passed_now<V: Views>(views: &V, state: &State, from: u32) -> u32
+    requires kept { IsKept (V.graph views.now) (V.content views.now) state.now }
+    requires viewers { V.workers views.now ≡ length state.now.sides }
     requires passed { HavePassed state.now from }
-    ensures { Keeps (P.graph tracker.now) (P.content tracker.now) result state.now }
+    ensures from { from ≤ result }
+    ensures passed { HavePassed state.now result }
+    ensures most { IsMostSeen (V.graph views.now) (IsSeenBy (V.content views.now) (V.waiting views.now) (V.workers views.now) 0) state.now result }
 {
-    passed_from(tracker, state, from, state.seals())
+    passed_from(views, state, from, state.seals())
 }
 
-/// The first epoch from `from` on that hasn't passed at some output, at most `sealed`. Each epoch that has passed since is asked once.
-fn passed_from<P: Progress>(tracker: &P, state: &State, from: u32, sealed: u32) -> u32
+/// The first epoch from `from` on that hasn't passed at some output as the first worker sees it, at most `sealed`. Each epoch that has
+/// passed since is asked once.
+fn passed_from<V: Views>(views: &V, state: &State, from: u32, sealed: u32) -> u32
     requires order { from ≤ sealed }
-    requires outputs { AreOutputsIn (P.graph tracker.now) state.now }
+    requires some { 0 < V.workers views.now }
+    requires outputs { AreOutputsIn (V.graph views.now) state.now }
     ensures from { from ≤ result }
     ensures most { result ≤ sealed }
-    ensures passed { (e : ℕ) → from ≤ e → e < result → NoneLeftAtAll (P.graph tracker.now) (P.content tracker.now) state.now e }
-    ensures first { result < sealed → NoneLeftAtAll (P.graph tracker.now) (P.content tracker.now) state.now result → ⊥ }
+    ensures passed { (e : ℕ) → from ≤ e → e < result → NoneLeftAtAll (V.graph views.now) (λ q. 0 < V.content views.now q) state.now e }
+    ensures first { result < sealed → NoneLeftAtAll (V.graph views.now) (IsSeenBy (V.content views.now) (V.waiting views.now) (V.workers views.now) 0) state.now result → ⊥ }
 {
     for epoch in from..sealed {
-        if !is_over(tracker, state, epoch) {
+        if !is_over(views, state, epoch) {
             return epoch;
         }
     }
     sealed
 }
 
-/// Whether nothing could come to any output for an epoch.
-pub fn is_over<P: Progress>(tracker: &P, state: &State, epoch: u32) -> bool
-    requires { AreOutputsIn (P.graph tracker.now) state.now }
-    ensures { IsTrue result ↔ NoneLeftAtAll (P.graph tracker.now) (P.content tracker.now) state.now epoch }
+/// Whether nothing could come to any output for an epoch as the first worker sees it.
+pub fn is_over<V: Views>(views: &V, state: &State, epoch: u32) -> bool
+    requires some { 0 < V.workers views.now }
+    requires outputs { AreOutputsIn (V.graph views.now) state.now }
+    ensures there { IsTrue result → NoneLeftAtAll (V.graph views.now) (λ q. 0 < V.content views.now q) state.now epoch }
+    ensures seen { NoneLeftAtAll (V.graph views.now) (IsSeenBy (V.content views.now) (V.waiting views.now) (V.workers views.now) 0) state.now epoch → IsTrue result }
 {
     for output in 0..state.output_count() {
-        if !tracker.none_before(&output_place(state.output(output), epoch)) {
+        if !views.none_before(0, &output_place(state.output(output), epoch)) {
             return false;
         }
     }

@@ -1,14 +1,14 @@
-//! What a board holds besides its tracker. Each method is exact; where it is refused, all shows as before.
+//! What a board holds besides its views. Each method is exact; where it is refused, all shows as before.
 
-ghost use Rattle.std.specs.Prelude.{◌≡◌, ◌≢◌, ◌<◌, ◌≤◌, ℕ, [], length, map, slice_index_or, false, MatchBool, OnOk, OnErr, IfOk, IfErr};
+ghost use Rattle.std.specs.Prelude.{◌≡◌, ◌≢◌, ◌+◌, ◌<◌, ◌≤◌, ℕ, [], length, map, slice_index_or, false, MatchBool, OnOk, OnErr, IfOk, IfErr};
 ghost use Rattle.semantics.specs.Could.{Location as Where, Pointstamp as Active};
-ghost use Rattle.semantics.specs.Graph.{edge_count, output_number, output_numbers, target, Graph as Definition};
+ghost use Rattle.semantics.specs.Graph.{edge_count, input_count, output_number, output_numbers, target, Graph as Definition};
 ghost use Rattle.tokens.specs.declared.rule.Place.TheVariants.{Home, Out};
 ghost use Rattle.board.specs.Claims.{HandsMessage, HandsRequest};
 ghost use Rattle.lowering.specs.Locations.{IsIn, location_of};
 ghost use Rattle.lowering.specs.Shown.{shown_graph};
 ghost use Rattle.board.specs.Answers.{input_refusal};
-ghost use Rattle.board.specs.Commits.{Feeds, IsOf, Settles};
+ghost use Rattle.board.specs.Commits.{FeedsBy, IsOf, SettlesBy};
 ghost use Rattle.board.specs.Desks.{is_out};
 ghost use Rattle.board.specs.Fresh.{IsNew};
 ghost use Rattle.board.specs.Kept.{IsKept};
@@ -18,7 +18,7 @@ ghost use Rattle.board.specs.Seals.{IsMostSeals};
 ghost use Rattle.board.specs.Shown.{emitted_by, input_at, location_vertex, side_at};
 ghost use Rattle.board.specs.Steps.{after_abandon, after_close, after_seal, with_emitted};
 
-use crate::delivery::{deliver, finish, prepare, prepare_letters};
+use crate::delivery::{deliver, finish, note_letters, prepare, prepare_views, reserve_letters};
 use crate::emitted::Emitted;
 use crate::epochs::Batches;
 use crate::inputs::Input;
@@ -30,12 +30,13 @@ use events::{CutBatch, Done, Event, Output, Request, Wiring, Work};
 use exchange::Mailbox;
 use expr_tree::NoMemory;
 use lowering::{Graph, Location, VertexId};
-use progress::Progress;
+use path_summary::Pointstamp;
 use rows::Batch;
 use std::alloc::{AllocError, Global};
 use std::marker::Model;
 use std::sync::Arc;
 use tokens::tie::Stub;
+use views::Views;
 
 /// The graph, its inputs, the workers, and what was emitted.
 #[derive(Drop)]
@@ -302,15 +303,24 @@ impl State {
         self.workers[worker].requests()
     }
 
-    /// Takes a batch at the open epoch of its input, if there is memory; else all is as before, and the batch comes back.
-    pub fn feed<P: Progress>(&mut self, tracker: &mut P, cut: CutBatch) -> Result<(), CutBatch>
+    /// Takes a batch at the open epoch of its input, if there is memory, and notes what is active by it; else all is as before, and the batch
+    /// comes back.
+    pub fn feed<V: Views>(
+        &mut self,
+        views: &mut V,
+        added: &mut Vec<Pointstamp>,
+        cut: CutBatch,
+    ) -> Result<(), CutBatch>
         requires there { cut.input < length self.old.inputs }
         requires own { cut.wired ≡ record { graph = self.old.graph; workers = length self.old.sides } }
-        requires same { P.graph tracker.old ≡ shown_graph self.old.graph }
-        ensures feeds { OnOk result (Feeds self.old self.new (P.content tracker.old) (P.content tracker.new) cut.input cut.batch) }
-        ensures graph { P.graph tracker.new ≡ P.graph tracker.old }
+        ensures feeds { OnOk result (FeedsBy self.old self.new added.new.items cut.input cut.batch) }
+        ensures room { OnOk result (length added.new.items + input_count (shown_graph self.old.graph) ≤ V.room views.new) }
         ensures state { OnErr result (self.new ≡ self.old) }
-        ensures content { OnErr result (P.content tracker.new ≡ P.content tracker.old) }
+        ensures graph { V.graph views.new ≡ V.graph views.old }
+        ensures workers { V.workers views.new ≡ V.workers views.old }
+        ensures content { (q : Active) → V.content views.new q ≡ V.content views.old q }
+        ensures waiting { (worker sender : ℕ) → V.waiting views.new worker sender ≡ V.waiting views.old worker sender }
+        ensures kept { V.room views.old ≤ V.room views.new }
     {
         let mut cut = cut;
         let number = cut.input() as usize;
@@ -319,13 +329,19 @@ impl State {
         let Ok(batch) = cut.batch().share() else {
             return Err(cut);
         };
-        if prepare_letters(&mut self.workers, tracker, cut.letters()).is_err() {
+        let closing = self.wiring.graph().input_count() as u32;
+        let count = cut.letters().len() as u32;
+        if prepare_views(views, added, count, closing).is_err() {
+            return Err(cut);
+        }
+        if reserve_letters(&mut self.workers, cut.letters()).is_err() {
             return Err(cut);
         }
         if self.inputs[number].feed(batch).is_err() {
             return Err(cut);
         }
-        deliver(&mut self.workers, tracker, cut.into_letters());
+        note_letters(added, cut.letters());
+        deliver(&mut self.workers, cut.into_letters());
         Ok(())
     }
 
@@ -371,30 +387,41 @@ impl State {
         self.stopped = true;
     }
 
-    /// Ends the event, if there is memory; else all is as before, and the event whole.
-    pub fn commit<P: Progress>(&mut self, tracker: &mut P, done: Done) -> Result<(), Done>
+    /// Ends the event, if there is memory, notes what is active by it, and gives its pointstamp; else all is as before, and the event whole.
+    pub fn commit<V: Views>(
+        &mut self,
+        views: &mut V,
+        added: &mut Vec<Pointstamp>,
+        done: Done,
+    ) -> Result<Pointstamp, Done>
         requires own { IsOf self.old done }
-        requires kept { IsKept (P.graph tracker.old) (P.content tracker.old) self.old }
-        ensures settles { OnOk result (Settles self.old self.new (P.content tracker.old) (P.content tracker.new) done) }
-        ensures graph { P.graph tracker.new ≡ P.graph tracker.old }
+        requires kept { IsKept (V.graph views.old) (V.content views.old) self.old }
+        ensures settles { IfOk result (λ place. SettlesBy self.old self.new added.new.items place done) }
+        ensures room { OnOk result (length added.new.items + 1 + input_count (shown_graph self.old.graph) ≤ V.room views.new) }
         ensures same { OnErr result (self.new ≡ self.old) }
-        ensures content { OnErr result (P.content tracker.new ≡ P.content tracker.old) }
         ensures back { IfErr result (λ back. back ≡ done) }
+        ensures graph { V.graph views.new ≡ V.graph views.old }
+        ensures workers { V.workers views.new ≡ V.workers views.old }
+        ensures content { (q : Active) → V.content views.new q ≡ V.content views.old q }
+        ensures waiting { (worker sender : ℕ) → V.waiting views.new worker sender ≡ V.waiting views.old worker sender }
+        ensures kept { V.room views.old ≤ V.room views.new }
     {
         let number = done.worker();
         let worker = number as usize;
         let (stub, output) = done.into_parts();
         let stub = self.workers[worker].show(stub);
-        if prepare(&mut self.workers, tracker, worker, &output.sent).is_err() {
+        let closing = self.wiring.graph().input_count() as u32;
+        let count = output.sent.len() as u32 + 1;
+        if prepare_views(views, added, count, closing).is_err() {
+            return Err(Done::from_parts(number, stub, output));
+        }
+        if prepare(&mut self.workers, worker, &output.sent).is_err() {
             return Err(Done::from_parts(number, stub, output));
         }
         let vertex = vertex_at(self.wiring.graph(), output.place.location());
         let epoch = output.place.time().epoch();
         match emit(&mut self.emitted, vertex, epoch, output) {
-            Ok(output) => {
-                finish(&mut self.workers, tracker, worker, vertex, stub, output);
-                Ok(())
-            }
+            Ok(output) => Ok(finish(&mut self.workers, added, worker, vertex, stub, output)),
             Err(output) => Err(Done::from_parts(number, stub, output)),
         }
     }

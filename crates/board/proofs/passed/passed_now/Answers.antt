@@ -1,21 +1,27 @@
+use Rattle.std.proofs.Common.{◌≡◌, ◌<◌, ◌≤◌, ℕ, subst, sym, arith}
 use Rattle.board.specs.Shown.{Shown}
-use Rattle.board.proofs.Passing.{at_most_seals, counts, outputs_there}
+use Rattle.board.proofs.Passing.{at_most_seals, have_further, outputs_there, seals_one}
 use Rattle.board.proofs.passed.passed_now.Goals as goal
 
 pub passed_from-requires-clause-order : goal.passed_from-requires-clause-order
 passed_from-requires-clause-order g c =
     let s : Shown = c.args.state.now in
     let kept = c.requires.kept in
-    at_most_seals (g.P.Progress.graph c.args.tracker.now) (g.P.Progress.content c.args.tracker.now) s kept c.seals.result c.seals.ensures kept.world kept.shows c.args.from (c.requires.passed kept.world kept.shows).0
+    at_most_seals (g.V.Views.graph c.args.views.now) (g.V.Views.content c.args.views.now) s kept c.seals.result c.seals.ensures kept.world kept.shows c.args.from (c.requires.passed kept.world kept.shows).0
+
+pub passed_from-requires-clause-some : goal.passed_from-requires-clause-some
+passed_from-requires-clause-some g c = let e = c.requires.viewers in let l = c.requires.kept.some in omega (arith, e, l)
 
 pub passed_from-requires-clause-outputs : goal.passed_from-requires-clause-outputs
-passed_from-requires-clause-outputs g c = outputs_there (g.P.Progress.graph c.args.tracker.now) (g.P.Progress.content c.args.tracker.now) c.args.state.now c.requires.kept
+passed_from-requires-clause-outputs g c = outputs_there (g.V.Views.graph c.args.views.now) (g.V.Views.content c.args.views.now) c.args.state.now c.requires.kept
 
-pub returns : goal.returns
-returns g c =
-    let s : Shown = c.args.state.now in
+pub returns-clause-passed : goal.returns-clause-passed
+returns-clause-passed g c =
     let r = c.passed_from.ensures in
-    record {
-      kept = c.requires.kept;
-      counts = counts (g.P.Progress.graph c.args.tracker.now) (g.P.Progress.content c.args.tracker.now) s c.requires.kept c.seals.result c.seals.ensures c.args.from c.requires.passed c.passed_from.result r.from r.most r.passed r.first;
-    }
+    have_further (g.V.Views.graph c.args.views.now) (g.V.Views.content c.args.views.now) c.args.state.now c.requires.kept c.seals.result c.seals.ensures c.args.from c.requires.passed c.passed_from.result r.most r.passed
+
+pub returns-clause-most : goal.returns-clause-most
+returns-clause-most g c m most =
+    let r = c.passed_from.ensures in
+    let same : m ≡ c.seals.result = seals_one c.args.state.now m c.seals.result most c.seals.ensures in
+    (omega (arith, r.most, same), λ l. r.first (omega (arith, l, same)))

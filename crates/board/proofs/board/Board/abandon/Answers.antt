@@ -10,6 +10,7 @@ use Rattle.board.specs.Steps.{after_abandon}
 use Rattle.board.proofs.Facts.{own_side}
 use Rattle.board.proofs.Counted.{keeps_abandon}
 use Rattle.board.proofs.GivenUp.{abandon_goes, abandon_tables}
+use Rattle.board.specs.Lateness.{BoardShown}
 use Rattle.board.proofs.board.Board.abandon.Goals as goal
 
 pub invariant_of-self : goal.invariant_of-self
@@ -17,31 +18,31 @@ invariant_of-self g c =
     let s : Shown = c.self.inside.state in
     let p : Pass = c.args.work.0 in
     let O : Shown → Type 0 = λ z. IsOf z p in
-    let own = own_side s p (subst O (sym c.self.view_is) c.requires) in
+    let own = own_side s p (subst O (sym (ap (λ (b : BoardShown). b.shown) c.self.view_is)) c.requires) in
     let job : c.into_stub.result.job ≡ p.job = ap (λ (t : Ticket Job). t.job) c.into_stub.ensures in
     let out : (side_at s p.worker).place ≡ Out p.job = ap (λ (n : ℕ). (side_at s n).place) (sym c.worker-worker.ensures) ∙ c.abandon.ensures.out ∙ ap Out job in
     let now : c.abandon.new.self ≡ after_abandon s p.worker p.job = c.abandon.ensures.state ∙ (λ i. after_abandon s (c.worker-worker.ensures i) (job i)) in
-    keeps_abandon (g.P.Progress.graph c.self.inside.tracker) (g.P.Progress.content c.self.inside.tracker) c.self.inside.passed s c.self.invariant c.abandon.new.self p.worker own.0 p.job out now
+    keeps_abandon (g.V.Views.graph c.self.inside.views) (g.V.Views.workers c.self.inside.views) (g.V.Views.content c.self.inside.views) (g.V.Views.waiting c.self.inside.views) (g.V.Views.room c.self.inside.views) g.V.Views.late c.self.inside.passed s c.self.invariant c.abandon.new.self p.worker own.0 p.job out now
 
 pub returns-clause-step : goal.returns-clause-step
 returns-clause-step g c =
     let s : Shown = c.self.inside.state in
     let p : Pass = c.args.work.0 in
     let O : Shown → Type 0 = λ z. IsOf z p in
-    let own = own_side s p (subst O (sym c.self.view_is) c.requires) in
+    let own = own_side s p (subst O (sym (ap (λ (b : BoardShown). b.shown) c.self.view_is)) c.requires) in
     let job : c.into_stub.result.job ≡ p.job = ap (λ (t : Ticket Job). t.job) c.into_stub.ensures in
     let out : (side_at s p.worker).place ≡ Out p.job = ap (λ (n : ℕ). (side_at s n).place) (sym c.worker-worker.ensures) ∙ c.abandon.ensures.out ∙ ap Out job in
     let now : c.abandon.new.self ≡ after_abandon s p.worker p.job = c.abandon.ensures.state ∙ (λ i. after_abandon s (c.worker-worker.ensures i) (job i)) in
     let A : Shown → Type 0 = λ z. Goes z (Step.abandon p.worker p.job.happening) c.abandon.new.self in
-    subst A c.self.view_is (subst (Goes s (Step.abandon p.worker p.job.happening)) (sym now) (abandon_goes s p.worker own.0 p.job out))
+    subst A (ap (λ (b : BoardShown). b.shown) c.self.view_is) (subst (Goes s (Step.abandon p.worker p.job.happening)) (sym now) (abandon_goes s p.worker own.0 p.job out))
 
 pub returns-clause-tables : goal.returns-clause-tables
 returns-clause-tables g c =
     let s : Shown = c.self.inside.state in
     let p : Pass = c.args.work.0 in
     let O : Shown → Type 0 = λ z. IsOf z p in
-    let own = own_side s p (subst O (sym c.self.view_is) c.requires) in
+    let own = own_side s p (subst O (sym (ap (λ (b : BoardShown). b.shown) c.self.view_is)) c.requires) in
     let job : c.into_stub.result.job ≡ p.job = ap (λ (t : Ticket Job). t.job) c.into_stub.ensures in
     let out : (side_at s p.worker).place ≡ Out p.job = ap (λ (n : ℕ). (side_at s n).place) (sym c.worker-worker.ensures) ∙ c.abandon.ensures.out ∙ ap Out job in
     let now : c.abandon.new.self ≡ after_abandon s p.worker p.job = c.abandon.ensures.state ∙ (λ i. after_abandon s (c.worker-worker.ensures i) (job i)) in
-    ap tables now ∙ abandon_tables s p.worker own.0 p.job out ∙ ap tables c.self.view_is
+    ap tables now ∙ abandon_tables s p.worker own.0 p.job out ∙ ap tables (ap (λ (b : BoardShown). b.shown) c.self.view_is)

@@ -1,46 +1,122 @@
-use Rattle.std.proofs.Common.{◌≡◌, ◌<◌, ◌+◌, ℕ, sym, ap, ◌∙◌, subst}
+use Rattle.std.proofs.Common.{◌≡◌, ◌<◌, ◌≤◌, ◌+◌, ℕ, suc, true, false, [], ◌∷◌, List, None, length, refl, sym, ap, ◌∙◌, subst, arith, slice_set, length-set}
+use Rattle.std.specs.List.{All}
+use Rattle.semantics.specs.Multiset.{Record}
 use Rattle.semantics.specs.Could.{Pointstamp, at_vertex}
+use Rattle.semantics.specs.Graph.{Graph, input_count}
 use Rattle.semantics.specs.Time.{at_epoch}
+use Rattle.lowering.specs.Shown.{GraphValue, shown_graph}
 use Rattle.machine.specs.Active.{one_if_same}
+use Rattle.machine.specs.Posting.{MayPost}
 use Rattle.machine.specs.Step.{Step}
-use Rattle.board.specs.Kept.{IsKept, Goes}
-use Rattle.board.specs.Shown.{Shown, input_at}
-use Rattle.board.proofs.Counted.{closed_passed}
-use Rattle.board.proofs.Ended.{open_tells, active_input, close_goes, close_kept}
+use Rattle.rows.specs.FlatRows.{arity_of}
+use Rattle.views.specs.Waiting.{Waiting, batch}
+use Rattle.board.specs.Answers.{Holds, feed_refusal, input_refusal}
+use Rattle.board.specs.Commits.{Feeds, FeedsBy, IsOf, Settles, SettlesBy}
+use Rattle.board.specs.Kept.{Goes, IsKept, open_count}
+use Rattle.board.specs.Lateness.{BoardShown, Posts, PostsSome}
+use Rattle.board.specs.Shown.{Shown, InputShown, input_at, tables}
+use Rattle.board.specs.Steps.{after_close, after_seal}
+use Rattle.board.proofs.Boards.{commit_goes, commit_tables, feed_tables, kept_commit}
+use Rattle.board.proofs.Counted.{as_open, closed_passed, committed_passed, fed_passed, few_open, keeps_same, one_closed, sealed_passed}
+use Rattle.board.proofs.Ended.{close_goes, open_tells, seal_goes}
+use Rattle.board.proofs.Feeding.{accepted, feeds_goes, feeds_kept}
+use Rattle.board.proofs.Lateness.{board_of, counts_same, posted_prompt, posted_some, posts}
+use Rattle.board.proofs.Posts.{close_posted, feeds_from, may_close, may_commit, may_feed, may_seal, fed_inputs, fed_workers, posts_fed, seal_posted, settled_inputs, settled_workers, settles_from}
 use Rattle.board.proofs.board.Board.close.Goals as goal
 
-pub remove-requires : goal.remove-requires
-remove-requires g c =
+pub post-requires-clause-sender : goal.post-requires-clause-sender
+post-requires-clause-sender g c = let n = c.self.invariant.viewers_are in let e = c.worker_count-feeder.ensures in omega (arith, e, n)
+
+pub post-requires-clause-room : goal.post-requires-clause-room
+post-requires-clause-room g c =
     let s : Shown = c.self.inside.state in
     let i : ℕ = c.args.input in
     let takes = open_tells s i (sym c.input_refusal.ensures ∙ c.in_default.is) in
-    let one : c.input_place.result ≡ at_vertex i (at_epoch (input_at s i).open_epoch) = c.input_place.ensures ∙ ap (λ n. at_vertex i (at_epoch n)) c.open_epoch-epoch.ensures in
-    let P : Pointstamp → Type 0 = λ p. 0 < g.P.Progress.content c.self.inside.tracker p in
-    subst P (sym one) (active_input (g.P.Progress.graph c.self.inside.tracker) (g.P.Progress.content c.self.inside.tracker) s c.self.invariant.kept i takes)
+    let n = c.self.invariant.viewers_are in
+    let o = c.self.invariant.closes in
+    let l = one_closed s.inputs i takes.1 takes.2 in
+    omega (arith, o, l)
+
+pub post-requires-clause-may : goal.post-requires-clause-may
+post-requires-clause-may g c =
+    let s : Shown = c.self.inside.state in
+    let i : ℕ = c.args.input in
+    let takes = open_tells s i (sym c.input_refusal.ensures ∙ c.in_default.is) in
+    let n = c.self.invariant.viewers_are in
+    let ends : c.input_place-ends.result ≡ at_vertex i (at_epoch (input_at s i).open_epoch) = c.input_place-ends.ensures ∙ ap (λ m. at_vertex i (at_epoch m)) c.open_epoch-epoch.ensures in
+    may_close c.law_of_step.ensures.may (g.V.Views.graph c.self.inside.views) (g.V.Views.graph c.self.inside.views) (g.V.Views.workers c.self.inside.views) (g.V.Views.content c.self.inside.views) (g.V.Views.content c.self.inside.views) s c.self.invariant.kept n refl (λ q. refl) i takes c.worker_count-feeder.result c.worker_count-feeder.ensures c.input_place-ends.result ends
 
 pub passed_now-self-inside-requires-clause-kept : goal.passed_now-self-inside-requires-clause-kept
 passed_now-self-inside-requires-clause-kept g c =
     let s : Shown = c.self.inside.state in
     let i : ℕ = c.args.input in
     let takes = open_tells s i (sym c.input_refusal.ensures ∙ c.in_default.is) in
-    let one : c.input_place.result ≡ at_vertex i (at_epoch (input_at s i).open_epoch) = c.input_place.ensures ∙ ap (λ n. at_vertex i (at_epoch n)) c.open_epoch-epoch.ensures in
-    let P : Shown → Type 0 = λ z. IsKept (g.P.Progress.graph c.remove.new.self) (g.P.Progress.content c.remove.new.self) z in
-    subst P (sym c.close.ensures) (close_kept (g.P.Progress.graph c.self.inside.tracker) (g.P.Progress.content c.self.inside.tracker) s c.self.invariant.kept i takes (g.P.Progress.graph c.remove.new.self) (g.P.Progress.content c.remove.new.self) c.remove.ensures.graph
-    (λ q. c.remove.ensures.content q ∙ ap (λ p. one_if_same q p + g.P.Progress.content c.remove.new.self q) one))
+    let n = c.self.invariant.viewers_are in
+    let ends : c.input_place-ends.result ≡ at_vertex i (at_epoch (input_at s i).open_epoch) = c.input_place-ends.ensures ∙ ap (λ m. at_vertex i (at_epoch m)) c.open_epoch-epoch.ensures in
+    let kept : IsKept (g.V.Views.graph c.post.new.views) (g.V.Views.content c.post.new.views) c.close.new.self = (let P : Shown → Type 0 = λ z. IsKept (g.V.Views.graph c.post.new.views) (g.V.Views.content c.post.new.views) z in
+    subst P (sym c.close.ensures) (close_posted (g.V.Views.graph c.self.inside.views) (g.V.Views.graph c.post.new.views) (g.V.Views.content c.self.inside.views) (g.V.Views.content c.post.new.views) s c.self.invariant.kept i takes c.post.ensures.graph c.input_place-ends.result ends c.post.ensures.content)) in
+    kept
+
+pub passed_now-self-inside-requires-clause-viewers : goal.passed_now-self-inside-requires-clause-viewers
+passed_now-self-inside-requires-clause-viewers g c =
+    let s : Shown = c.self.inside.state in
+    let i : ℕ = c.args.input in
+    let takes = open_tells s i (sym c.input_refusal.ensures ∙ c.in_default.is) in
+    let n = c.self.invariant.viewers_are in
+    c.post.ensures.workers ∙ n ∙ sym (ap (λ (z : Shown). length z.sides) c.close.ensures)
 
 pub passed_now-self-inside-requires-clause-passed : goal.passed_now-self-inside-requires-clause-passed
 passed_now-self-inside-requires-clause-passed g c =
     let s : Shown = c.self.inside.state in
     let i : ℕ = c.args.input in
     let takes = open_tells s i (sym c.input_refusal.ensures ∙ c.in_default.is) in
-    closed_passed (g.P.Progress.graph c.self.inside.tracker) (g.P.Progress.content c.self.inside.tracker) c.self.inside.passed s c.self.invariant c.close.new.self i takes c.close.ensures
+    let n = c.self.invariant.viewers_are in
+    closed_passed (g.V.Views.graph c.self.inside.views) (g.V.Views.workers c.self.inside.views) (g.V.Views.content c.self.inside.views) (g.V.Views.waiting c.self.inside.views) (g.V.Views.room c.self.inside.views) g.V.Views.late c.self.inside.passed s c.self.invariant c.close.new.self i takes c.close.ensures
+
+pub invariant_of-self : goal.invariant_of-self
+invariant_of-self g c =
+    let s : Shown = c.self.inside.state in
+    let i : ℕ = c.args.input in
+    let takes = open_tells s i (sym c.input_refusal.ensures ∙ c.in_default.is) in
+    let n = c.self.invariant.viewers_are in
+    let ends : c.input_place-ends.result ≡ at_vertex i (at_epoch (input_at s i).open_epoch) = c.input_place-ends.ensures ∙ ap (λ m. at_vertex i (at_epoch m)) c.open_epoch-epoch.ensures in
+    let kept : IsKept (g.V.Views.graph c.post.new.views) (g.V.Views.content c.post.new.views) c.close.new.self = (let P : Shown → Type 0 = λ z. IsKept (g.V.Views.graph c.post.new.views) (g.V.Views.content c.post.new.views) z in
+    subst P (sym c.close.ensures) (close_posted (g.V.Views.graph c.self.inside.views) (g.V.Views.graph c.post.new.views) (g.V.Views.content c.self.inside.views) (g.V.Views.content c.post.new.views) s c.self.invariant.kept i takes c.post.ensures.graph c.input_place-ends.result ends c.post.ensures.content)) in
+    record {
+      kept = kept;
+      viewers_are = c.post.ensures.workers ∙ n ∙ sym (ap (λ (z : Shown). length z.sides) c.close.ensures);
+      closes = (
+          let r = c.self.invariant.closes in
+          let p = c.post.ensures.room in
+          let o = one_closed s.inputs i takes.1 takes.2 in
+          let e = ap (λ (z : Shown). open_count z.inputs) c.close.ensures in
+          omega (arith, r, p, o, e)
+          );
+      prompt = λ late w k l m. posted_prompt g.V.Views.late (g.V.Views.waiting c.self.inside.views) (g.V.Views.waiting c.self.inside.views) (g.V.Views.waiting c.post.new.views) (batch c.worker_count-feeder.result [] (c.input_place-ends.result ∷ [])) (0 + length (c.input_place-ends.result ∷ [])) (g.V.Views.workers c.self.inside.views) (λ w k. refl) c.post.ensures.waiting c.self.invariant.prompt late w k (let e = c.post.ensures.workers in omega (arith, l, e)) (let e = c.post.ensures.workers in omega (arith, m, e));
+      passed_are = c.passed_now-self-inside.ensures.passed;
+      passed_most = c.passed_now-self-inside.ensures.most;
+    }
 
 pub returns-clause-step : goal.returns-clause-step
 returns-clause-step g c =
     let s : Shown = c.self.inside.state in
     let i : ℕ = c.args.input in
     let takes = open_tells s i (sym c.input_refusal.ensures ∙ c.in_default.is) in
-    let one : c.input_place.result ≡ at_vertex i (at_epoch (input_at s i).open_epoch) = c.input_place.ensures ∙ ap (λ n. at_vertex i (at_epoch n)) c.open_epoch-epoch.ensures in
-    let P : Shown → Type 0 = λ z. Goes z (Step.close i) c.close.new.self in
+    let n = c.self.invariant.viewers_are in
+    let P : BoardShown → Type 0 = λ z. Goes z.shown (Step.close i) c.close.new.self in
     let Q : Shown → Type 0 = λ z. Goes s (Step.close i) z in
-    subst P c.self.view_is (subst Q (sym c.close.ensures) (close_goes (g.P.Progress.graph c.self.inside.tracker) (g.P.Progress.content c.self.inside.tracker) s c.self.invariant.kept i takes))
+    subst P c.self.view_is (subst Q (sym c.close.ensures) (close_goes (g.V.Views.graph c.self.inside.views) (g.V.Views.content c.self.inside.views) s c.self.invariant.kept i takes))
+
+pub returns-clause-posts : goal.returns-clause-posts
+returns-clause-posts g c =
+    let s : Shown = c.self.inside.state in
+    let i : ℕ = c.args.input in
+    let takes = open_tells s i (sym c.input_refusal.ensures ∙ c.in_default.is) in
+    let n = c.self.invariant.viewers_are in
+    let after = posted_some g.V.Views.late (g.V.Views.waiting c.self.inside.views) (g.V.Views.waiting c.self.inside.views) (g.V.Views.waiting c.post.new.views) (batch c.worker_count-feeder.result [] (c.input_place-ends.result ∷ [])) (0 + length (c.input_place-ends.result ∷ [])) (g.V.Views.workers c.self.inside.views) (omega arith) (λ w k. refl) c.post.ensures.waiting in
+    let one : Posts g.V.Views.late c.worker_count-feeder.result (board_of s (g.V.Views.workers c.self.inside.views) (g.V.Views.waiting c.self.inside.views) c.self.inside.passed) (board_of c.close.new.self (g.V.Views.workers c.self.inside.views) (g.V.Views.waiting c.post.new.views) c.passed_now-self-inside.result) =
+    posts s (g.V.Views.workers c.self.inside.views) (g.V.Views.waiting c.self.inside.views) c.self.inside.passed c.close.new.self (g.V.Views.waiting c.post.new.views) c.passed_now-self-inside.result g.V.Views.late c.worker_count-feeder.result [] (c.input_place-ends.result ∷ []) (sym n) after in
+    let A : ℕ → Type 0 = λ m. Posts g.V.Views.late m (board_of s (g.V.Views.workers c.self.inside.views) (g.V.Views.waiting c.self.inside.views) c.self.inside.passed) (board_of c.close.new.self (g.V.Views.workers c.post.new.views) (g.V.Views.waiting c.post.new.views) c.passed_now-self-inside.result) in
+    let B : ℕ → Type 0 = λ m. Posts g.V.Views.late c.worker_count-feeder.result (board_of s (g.V.Views.workers c.self.inside.views) (g.V.Views.waiting c.self.inside.views) c.self.inside.passed) (board_of c.close.new.self m (g.V.Views.waiting c.post.new.views) c.passed_now-self-inside.result) in
+    let D : BoardShown → Type 0 = λ z. Posts g.V.Views.late (length z.shown.sides) z (board_of c.close.new.self (g.V.Views.workers c.post.new.views) (g.V.Views.waiting c.post.new.views) c.passed_now-self-inside.result) in
+    subst D c.self.view_is (subst A c.worker_count-feeder.ensures (subst B (sym c.post.ensures.workers) one))

@@ -1,40 +1,164 @@
-use Rattle.std.proofs.Common.{◌∙◌, ap, sym, subst}
-use Rattle.board.specs.Answers.{Holds}
-use Rattle.board.specs.Commits.{IsOf}
-use Rattle.board.specs.Kept.{Goes}
-use Rattle.board.specs.Shown.{Shown, tables}
-use Rattle.machine.specs.Step.{Step}
+use Rattle.std.proofs.Common.{◌≡◌, ◌<◌, ◌≤◌, ◌+◌, ℕ, suc, true, false, [], ◌∷◌, List, None, length, refl, sym, ap, ◌∙◌, subst, arith, slice_set, length-set}
+use Rattle.std.specs.List.{All}
 use Rattle.semantics.specs.Multiset.{Record}
-use Rattle.std.proofs.Common.{ℕ, List}
-use Rattle.board.proofs.Boards.{commit_goes, commit_tables, kept_commit}
-use Rattle.board.proofs.Counted.{committed_passed, keeps_same}
+use Rattle.semantics.specs.Could.{CouldResultIn, Pointstamp, at_vertex}
+use Rattle.semantics.specs.Graph.{Graph, input_count}
+use Rattle.semantics.specs.Time.{at_epoch}
+use Rattle.lowering.specs.Shown.{GraphValue, shown_graph}
+use Rattle.machine.specs.Active.{one_if_same}
+use Rattle.machine.specs.Posting.{MayPost}
+use Rattle.machine.specs.Step.{Step}
+use Rattle.rows.specs.FlatRows.{arity_of}
+use Rattle.views.specs.Waiting.{Waiting, batch}
+use Rattle.board.specs.Answers.{Holds, feed_refusal, input_refusal}
+use Rattle.board.specs.Commits.{Feeds, FeedsBy, IsOf, Settles, SettlesBy}
+use Rattle.board.specs.Kept.{Goes, IsKept, open_count}
+use Rattle.board.specs.Lateness.{BoardShown, Posts, PostsSome}
+use Rattle.board.specs.Shown.{Shown, InputShown, input_at, tables}
+use Rattle.board.specs.Steps.{after_close, after_seal}
+use Rattle.board.proofs.Boards.{commit_goes, commit_tables, feed_tables, kept_commit}
+use Rattle.board.proofs.Counted.{as_open, closed_passed, committed_passed, fed_passed, few_open, keeps_same, one_closed, sealed_passed}
+use Rattle.board.proofs.Ended.{close_goes, open_tells, seal_goes}
+use Rattle.board.proofs.Feeding.{accepted, feeds_goes, feeds_kept}
+use Rattle.board.proofs.Lateness.{board_of, counts_same, posted_prompt, posted_some, posts}
+use Rattle.board.proofs.Posts.{close_posted, feeds_from, may_close, may_commit, may_feed, may_seal, fed_inputs, fed_workers, posts_fed, seal_posted, settled_inputs, settled_workers, settles_from}
+use Rattle.events.specs.Jobs.{Pass}
+use Rattle.board.proofs.Facts.{own_side}
 use Rattle.board.proofs.board.Board.commit.Goals as goal
 
-pub invariant_of-self : goal.invariant_of-self
-invariant_of-self g c =
-    keeps_same (g.P.Progress.graph c.self.inside.tracker) (g.P.Progress.content c.self.inside.tracker) c.self.inside.passed c.self.inside.state c.self.invariant c.commit.new.self (g.P.Progress.graph c.commit.new.tracker) (g.P.Progress.content c.commit.new.tracker)
-    c.commit.ensures.graph c.in-Err.ensures.content c.in-Err.ensures.same
+pub post_noted-requires-clause-sender : goal.post_noted-requires-clause-sender
+post_noted-requires-clause-sender g c =
+    let s : Shown = c.self.inside.state in
+    let p : Pass = c.args.done in
+    let n = c.self.invariant.viewers_are in
+    let of : IsOf s p = subst (λ (b : BoardShown). IsOf b.shown p) (sym c.self.view_is) c.requires in
+    let x : SettlesBy s c.commit.new.self c.commit.new.added.items c.in-Ok.place p = c.in-Ok.ensures.settles in
+    let own = own_side s p of in
+    let e = c.worker-worker.ensures in
+    let w = c.commit.ensures.workers in
+    omega (arith, own.0, e, n, w)
+
+pub post_noted-requires-clause-room : goal.post_noted-requires-clause-room
+post_noted-requires-clause-room g c = let r = c.in-Ok.ensures.room in omega (arith, r)
+
+pub post_noted-requires-clause-may : goal.post_noted-requires-clause-may
+post_noted-requires-clause-may g c =
+    let s : Shown = c.self.inside.state in
+    let p : Pass = c.args.done in
+    let n = c.self.invariant.viewers_are in
+    let of : IsOf s p = subst (λ (b : BoardShown). IsOf b.shown p) (sym c.self.view_is) c.requires in
+    let x : SettlesBy s c.commit.new.self c.commit.new.added.items c.in-Ok.place p = c.in-Ok.ensures.settles in
+    let P : ℕ → Type 0 = λ m. MayPost (CouldResultIn (g.V.Views.graph c.commit.new.views)) (input_count (g.V.Views.graph c.commit.new.views)) (g.V.Views.workers c.commit.new.views) (g.V.Views.content c.commit.new.views) (batch m c.commit.new.added.items (c.in-Ok.place ∷ [])) in
+    subst P (sym c.worker-worker.ensures) (may_commit c.law_of_step.ensures.may (g.V.Views.graph c.self.inside.views) (g.V.Views.graph c.commit.new.views) (g.V.Views.workers c.commit.new.views) (g.V.Views.content c.self.inside.views) (g.V.Views.content c.commit.new.views) s c.self.invariant.kept (c.commit.ensures.workers ∙ n) c.commit.ensures.graph c.commit.ensures.content p of c.commit.new.self c.commit.new.added.items c.in-Ok.place x)
+
+pub commit-requires-clause-own : goal.commit-requires-clause-own
+commit-requires-clause-own g c = subst (λ (b : BoardShown). IsOf b.shown c.args.done) (sym c.self.view_is) c.requires
 
 pub passed_now-self-inside-requires-clause-kept : goal.passed_now-self-inside-requires-clause-kept
 passed_now-self-inside-requires-clause-kept g c =
-    let P : Shown → Type 0 = λ z. IsOf z c.args.done in
-    kept_commit (g.P.Progress.graph c.self.inside.tracker) (g.P.Progress.graph c.commit.new.tracker) (g.P.Progress.content c.self.inside.tracker) (g.P.Progress.content c.commit.new.tracker) c.self.inside.state c.commit.new.self c.args.done
-    c.self.invariant.kept (subst P (sym c.self.view_is) c.requires) c.commit.result c.commit.ensures.settles c.commit.ensures.graph c.commit.ensures.same c.commit.ensures.content
+    let s : Shown = c.self.inside.state in
+    let p : Pass = c.args.done in
+    let n = c.self.invariant.viewers_are in
+    let of : IsOf s p = subst (λ (b : BoardShown). IsOf b.shown p) (sym c.self.view_is) c.requires in
+    let x : SettlesBy s c.commit.new.self c.commit.new.added.items c.in-Ok.place p = c.in-Ok.ensures.settles in
+    let settles : Settles s c.commit.new.self (g.V.Views.content c.self.inside.views) (g.V.Views.content c.post_noted.new.views) p = settles_from (g.V.Views.content c.self.inside.views) (g.V.Views.content c.commit.new.views) (g.V.Views.content c.post_noted.new.views) s c.commit.new.self c.commit.new.added.items c.in-Ok.place p c.commit.ensures.content c.post_noted.ensures.content x in
+    let same : (g.V.Views.graph c.post_noted.new.views) ≡ (g.V.Views.graph c.self.inside.views) = c.post_noted.ensures.graph ∙ c.commit.ensures.graph in
+    kept_commit (g.V.Views.graph c.self.inside.views) (g.V.Views.graph c.post_noted.new.views) (g.V.Views.content c.self.inside.views) (g.V.Views.content c.post_noted.new.views) s c.commit.new.self p c.self.invariant.kept of settles same
+
+pub passed_now-self-inside-requires-clause-viewers : goal.passed_now-self-inside-requires-clause-viewers
+passed_now-self-inside-requires-clause-viewers g c =
+    let s : Shown = c.self.inside.state in
+    let p : Pass = c.args.done in
+    let n = c.self.invariant.viewers_are in
+    let of : IsOf s p = subst (λ (b : BoardShown). IsOf b.shown p) (sym c.self.view_is) c.requires in
+    let x : SettlesBy s c.commit.new.self c.commit.new.added.items c.in-Ok.place p = c.in-Ok.ensures.settles in
+    c.post_noted.ensures.workers ∙ c.commit.ensures.workers ∙ n ∙ sym (settled_workers s c.commit.new.self c.commit.new.added.items c.in-Ok.place p x)
 
 pub passed_now-self-inside-requires-clause-passed : goal.passed_now-self-inside-requires-clause-passed
 passed_now-self-inside-requires-clause-passed g c =
-    let P : Shown → Type 0 = λ z. IsOf z c.args.done in
-    committed_passed (g.P.Progress.graph c.self.inside.tracker) (g.P.Progress.content c.self.inside.tracker) c.self.inside.passed c.self.inside.state c.self.invariant c.commit.new.self (g.P.Progress.content c.commit.new.tracker) (g.P.Progress.graph c.commit.new.tracker) c.args.done
-    (subst P (sym c.self.view_is) c.requires) c.in_default.ensures.settles
+    let s : Shown = c.self.inside.state in
+    let p : Pass = c.args.done in
+    let n = c.self.invariant.viewers_are in
+    let of : IsOf s p = subst (λ (b : BoardShown). IsOf b.shown p) (sym c.self.view_is) c.requires in
+    let x : SettlesBy s c.commit.new.self c.commit.new.added.items c.in-Ok.place p = c.in-Ok.ensures.settles in
+    let settles : Settles s c.commit.new.self (g.V.Views.content c.self.inside.views) (g.V.Views.content c.post_noted.new.views) p = settles_from (g.V.Views.content c.self.inside.views) (g.V.Views.content c.commit.new.views) (g.V.Views.content c.post_noted.new.views) s c.commit.new.self c.commit.new.added.items c.in-Ok.place p c.commit.ensures.content c.post_noted.ensures.content x in
+    let same : (g.V.Views.graph c.post_noted.new.views) ≡ (g.V.Views.graph c.self.inside.views) = c.post_noted.ensures.graph ∙ c.commit.ensures.graph in
+    committed_passed (g.V.Views.graph c.self.inside.views) (g.V.Views.workers c.self.inside.views) (g.V.Views.content c.self.inside.views) (g.V.Views.waiting c.self.inside.views) (g.V.Views.room c.self.inside.views) g.V.Views.late c.self.inside.passed s c.self.invariant c.commit.new.self (g.V.Views.content c.post_noted.new.views) p of settles
 
-pub returns-clause-commits : goal.returns-clause-commits
-returns-clause-commits g c =
-    let P : Shown → Type 0 = λ z. IsOf z c.args.done in
-    let Q : Shown → Type 0 = λ z. Holds z c.args.done × ((out : ℕ → List Record) × Goes z (Step.commit c.args.done.worker c.args.done.job.happening out) c.commit.new.self) in
-    subst Q c.self.view_is (commit_goes (g.P.Progress.graph c.self.inside.tracker) (g.P.Progress.graph c.commit.new.tracker) (g.P.Progress.content c.self.inside.tracker) (g.P.Progress.content c.commit.new.tracker) c.self.inside.state c.commit.new.self c.args.done c.self.invariant.kept (subst P (sym c.self.view_is) c.requires) c.in_default.ensures.settles)
+pub invariant_of-self : goal.invariant_of-self
+invariant_of-self g c =
+    let s : Shown = c.self.inside.state in
+    let p : Pass = c.args.done in
+    let n = c.self.invariant.viewers_are in
+    let of : IsOf s p = subst (λ (b : BoardShown). IsOf b.shown p) (sym c.self.view_is) c.requires in
+    let x : SettlesBy s c.commit.new.self c.commit.new.added.items c.in-Ok.place p = c.in-Ok.ensures.settles in
+    let settles : Settles s c.commit.new.self (g.V.Views.content c.self.inside.views) (g.V.Views.content c.post_noted.new.views) p = settles_from (g.V.Views.content c.self.inside.views) (g.V.Views.content c.commit.new.views) (g.V.Views.content c.post_noted.new.views) s c.commit.new.self c.commit.new.added.items c.in-Ok.place p c.commit.ensures.content c.post_noted.ensures.content x in
+    let same : (g.V.Views.graph c.post_noted.new.views) ≡ (g.V.Views.graph c.self.inside.views) = c.post_noted.ensures.graph ∙ c.commit.ensures.graph in
+    record {
+      kept = kept_commit (g.V.Views.graph c.self.inside.views) (g.V.Views.graph c.post_noted.new.views) (g.V.Views.content c.self.inside.views) (g.V.Views.content c.post_noted.new.views) s c.commit.new.self p c.self.invariant.kept of settles same;
+      viewers_are = c.post_noted.ensures.workers ∙ c.commit.ensures.workers ∙ n ∙ sym (settled_workers s c.commit.new.self c.commit.new.added.items c.in-Ok.place p x);
+      closes = (
+          let r = c.in-Ok.ensures.room in
+          let q = c.post_noted.ensures.room in
+          let o = few_open c.commit.new.self.inputs in
+          let m = ap length (settled_inputs s c.commit.new.self c.commit.new.added.items c.in-Ok.place p x) in
+          let k = c.self.invariant.kept.inputs in
+          omega (arith, r, q, o, m, k)
+          );
+      prompt = λ late w k l m. posted_prompt g.V.Views.late (g.V.Views.waiting c.commit.new.views) (g.V.Views.waiting c.self.inside.views) (g.V.Views.waiting c.post_noted.new.views) (batch c.worker-worker.result c.commit.new.added.items (c.in-Ok.place ∷ [])) (length c.commit.new.added.items + length (c.in-Ok.place ∷ [])) (g.V.Views.workers c.self.inside.views) c.commit.ensures.waiting (λ x y z. c.post_noted.ensures.waiting x y (let e = c.commit.ensures.workers in omega (arith, z, e))) c.self.invariant.prompt late w k (let e = c.post_noted.ensures.workers in let f = c.commit.ensures.workers in omega (arith, l, e, f)) (let e = c.post_noted.ensures.workers in let f = c.commit.ensures.workers in omega (arith, m, e, f));
+      passed_are = c.passed_now-self-inside.ensures.passed;
+      passed_most = c.passed_now-self-inside.ensures.most;
+    }
 
-pub returns-clause-tables : goal.returns-clause-tables
-returns-clause-tables g c =
-    let P : Shown → Type 0 = λ z. IsOf z c.args.done in
-    commit_tables (g.P.Progress.graph c.self.inside.tracker) (g.P.Progress.graph c.commit.new.tracker) (g.P.Progress.content c.self.inside.tracker) (g.P.Progress.content c.commit.new.tracker) c.self.inside.state c.commit.new.self c.args.done
-    c.self.invariant.kept (subst P (sym c.self.view_is) c.requires) c.commit.result c.commit.ensures.settles c.commit.ensures.same ∙ ap tables c.self.view_is
+pub invariant_of-self-in-Err : goal.invariant_of-self-in-Err
+invariant_of-self-in-Err g c =
+    let s : Shown = c.self.inside.state in
+    keeps_same (g.V.Views.graph c.self.inside.views) (g.V.Views.workers c.self.inside.views) (g.V.Views.content c.self.inside.views) (g.V.Views.waiting c.self.inside.views) (g.V.Views.room c.self.inside.views) g.V.Views.late c.self.inside.passed s c.self.invariant c.commit.new.self (g.V.Views.graph c.commit.new.views) (g.V.Views.workers c.commit.new.views) (g.V.Views.content c.commit.new.views) (g.V.Views.waiting c.commit.new.views) (g.V.Views.room c.commit.new.views) c.commit.ensures.graph c.commit.ensures.workers c.commit.ensures.content c.commit.ensures.waiting c.commit.ensures.kept c.in-Err.ensures.same
+
+pub returns-in-Ok-clause-commits : goal.returns-in-Ok-clause-commits
+returns-in-Ok-clause-commits g c =
+    let s : Shown = c.self.inside.state in
+    let p : Pass = c.args.done in
+    let n = c.self.invariant.viewers_are in
+    let of : IsOf s p = subst (λ (b : BoardShown). IsOf b.shown p) (sym c.self.view_is) c.requires in
+    let x : SettlesBy s c.commit.new.self c.commit.new.added.items c.in-Ok.place p = c.in-Ok.ensures.settles in
+    let settles : Settles s c.commit.new.self (g.V.Views.content c.self.inside.views) (g.V.Views.content c.post_noted.new.views) p = settles_from (g.V.Views.content c.self.inside.views) (g.V.Views.content c.commit.new.views) (g.V.Views.content c.post_noted.new.views) s c.commit.new.self c.commit.new.added.items c.in-Ok.place p c.commit.ensures.content c.post_noted.ensures.content x in
+    let same : (g.V.Views.graph c.post_noted.new.views) ≡ (g.V.Views.graph c.self.inside.views) = c.post_noted.ensures.graph ∙ c.commit.ensures.graph in
+    let Q : BoardShown → Type 0 = λ z. Holds z.shown p × ((out : ℕ → List Record) × Goes z.shown (Step.commit p.worker p.job.happening out) c.commit.new.self) in
+    subst Q c.self.view_is (commit_goes (g.V.Views.graph c.self.inside.views) (g.V.Views.graph c.post_noted.new.views) (g.V.Views.content c.self.inside.views) (g.V.Views.content c.post_noted.new.views) s c.commit.new.self p c.self.invariant.kept of settles)
+
+pub returns-in-Ok-clause-tables : goal.returns-in-Ok-clause-tables
+returns-in-Ok-clause-tables g c =
+    let s : Shown = c.self.inside.state in
+    let p : Pass = c.args.done in
+    let n = c.self.invariant.viewers_are in
+    let of : IsOf s p = subst (λ (b : BoardShown). IsOf b.shown p) (sym c.self.view_is) c.requires in
+    let x : SettlesBy s c.commit.new.self c.commit.new.added.items c.in-Ok.place p = c.in-Ok.ensures.settles in
+    let settles : Settles s c.commit.new.self (g.V.Views.content c.self.inside.views) (g.V.Views.content c.post_noted.new.views) p = settles_from (g.V.Views.content c.self.inside.views) (g.V.Views.content c.commit.new.views) (g.V.Views.content c.post_noted.new.views) s c.commit.new.self c.commit.new.added.items c.in-Ok.place p c.commit.ensures.content c.post_noted.ensures.content x in
+    let same : (g.V.Views.graph c.post_noted.new.views) ≡ (g.V.Views.graph c.self.inside.views) = c.post_noted.ensures.graph ∙ c.commit.ensures.graph in
+    commit_tables (g.V.Views.graph c.self.inside.views) (g.V.Views.graph c.post_noted.new.views) (g.V.Views.content c.self.inside.views) (g.V.Views.content c.post_noted.new.views) s c.commit.new.self p c.self.invariant.kept of settles ∙ ap tables (ap (λ (b : BoardShown). b.shown) c.self.view_is)
+
+pub returns-in-Ok-clause-posts : goal.returns-in-Ok-clause-posts
+returns-in-Ok-clause-posts g c =
+    let s : Shown = c.self.inside.state in
+    let p : Pass = c.args.done in
+    let n = c.self.invariant.viewers_are in
+    let of : IsOf s p = subst (λ (b : BoardShown). IsOf b.shown p) (sym c.self.view_is) c.requires in
+    let x : SettlesBy s c.commit.new.self c.commit.new.added.items c.in-Ok.place p = c.in-Ok.ensures.settles in
+    let after = posted_some g.V.Views.late (g.V.Views.waiting c.commit.new.views) (g.V.Views.waiting c.self.inside.views) (g.V.Views.waiting c.post_noted.new.views) (batch c.worker-worker.result c.commit.new.added.items (c.in-Ok.place ∷ [])) (length c.commit.new.added.items + length (c.in-Ok.place ∷ [])) (g.V.Views.workers c.self.inside.views) (omega arith) c.commit.ensures.waiting (λ w k l. c.post_noted.ensures.waiting w k (let e = c.commit.ensures.workers in omega (arith, l, e))) in
+    let one : Posts g.V.Views.late c.worker-worker.result (board_of s (g.V.Views.workers c.self.inside.views) (g.V.Views.waiting c.self.inside.views) c.self.inside.passed) (board_of c.commit.new.self (g.V.Views.workers c.self.inside.views) (g.V.Views.waiting c.post_noted.new.views) c.passed_now-self-inside.result) =
+    posts s (g.V.Views.workers c.self.inside.views) (g.V.Views.waiting c.self.inside.views) c.self.inside.passed c.commit.new.self (g.V.Views.waiting c.post_noted.new.views) c.passed_now-self-inside.result g.V.Views.late c.worker-worker.result c.commit.new.added.items (c.in-Ok.place ∷ []) (sym n) after in
+    let A : ℕ → Type 0 = λ m. Posts g.V.Views.late m (board_of s (g.V.Views.workers c.self.inside.views) (g.V.Views.waiting c.self.inside.views) c.self.inside.passed) (board_of c.commit.new.self (g.V.Views.workers c.post_noted.new.views) (g.V.Views.waiting c.post_noted.new.views) c.passed_now-self-inside.result) in
+    let B : ℕ → Type 0 = λ m. Posts g.V.Views.late c.worker-worker.result (board_of s (g.V.Views.workers c.self.inside.views) (g.V.Views.waiting c.self.inside.views) c.self.inside.passed) (board_of c.commit.new.self m (g.V.Views.waiting c.post_noted.new.views) c.passed_now-self-inside.result) in
+    let D : BoardShown → Type 0 = λ z. Posts g.V.Views.late p.worker z (board_of c.commit.new.self (g.V.Views.workers c.post_noted.new.views) (g.V.Views.waiting c.post_noted.new.views) c.passed_now-self-inside.result) in
+    subst D c.self.view_is (subst A c.worker-worker.ensures (subst B (sym (c.post_noted.ensures.workers ∙ c.commit.ensures.workers)) one))
+
+pub returns-in-Err-clause-refused : goal.returns-in-Err-clause-refused
+returns-in-Err-clause-refused g c =
+    (λ j. record { shown = c.in-Err.ensures.same j; waits = counts_same (g.V.Views.workers c.self.inside.views) (g.V.Views.workers c.commit.new.views) (g.V.Views.waiting c.self.inside.views) (g.V.Views.waiting c.commit.new.views) c.commit.ensures.workers c.commit.ensures.waiting j; passed = c.self.inside.passed }) ∙ c.self.view_is
+
+pub returns-in-Err-clause-commits : goal.returns-in-Err-clause-commits
+returns-in-Err-clause-commits g c = (c.in-Err.ensures.back, c.in-Err.ensures.same ∙ (ap (λ (b : BoardShown). b.shown) c.self.view_is))
+
+pub returns-in-Err-clause-tables : goal.returns-in-Err-clause-tables
+returns-in-Err-clause-tables g c = ap tables (c.in-Err.ensures.same ∙ (ap (λ (b : BoardShown). b.shown) c.self.view_is))

@@ -1,48 +1,190 @@
-use Rattle.std.proofs.Common.{◌≡◌, ◌<◌, ℕ, List, None, length, sym, ◌∙◌, subst}
+use Rattle.std.proofs.Common.{◌≡◌, ◌<◌, ◌≤◌, ◌+◌, ℕ, suc, true, false, [], ◌∷◌, List, None, length, refl, sym, ap, ◌∙◌, subst, arith, slice_set, length-set}
 use Rattle.std.specs.List.{All}
 use Rattle.semantics.specs.Multiset.{Record}
+use Rattle.semantics.specs.Could.{Pointstamp, at_vertex}
+use Rattle.semantics.specs.Graph.{Graph, input_count}
+use Rattle.semantics.specs.Time.{at_epoch}
+use Rattle.lowering.specs.Shown.{GraphValue, shown_graph}
+use Rattle.machine.specs.Active.{one_if_same}
+use Rattle.machine.specs.Posting.{MayPost}
 use Rattle.machine.specs.Step.{Step}
 use Rattle.rows.specs.FlatRows.{arity_of}
-use Rattle.board.specs.Answers.{feed_refusal}
-use Rattle.board.specs.Kept.{Goes}
-use Rattle.board.specs.Shown.{Shown, tables}
-use Rattle.board.proofs.Boards.{feed_tables}
-use Rattle.board.proofs.Counted.{keeps_feed}
-use Rattle.board.proofs.Feeding.{accepted, feeds_goes}
+use Rattle.views.specs.Waiting.{Waiting, batch}
+use Rattle.board.specs.Answers.{Holds, feed_refusal, input_refusal}
+use Rattle.board.specs.Commits.{Feeds, FeedsBy, IsOf, Settles, SettlesBy}
+use Rattle.board.specs.Kept.{Goes, IsKept, open_count}
+use Rattle.board.specs.Lateness.{BoardShown, Posts, PostsSome}
+use Rattle.board.specs.Shown.{Shown, InputShown, input_at, tables}
+use Rattle.board.specs.Steps.{after_close, after_seal}
+use Rattle.board.proofs.Boards.{commit_goes, commit_tables, feed_tables, kept_commit}
+use Rattle.board.proofs.Counted.{as_open, closed_passed, committed_passed, fed_passed, few_open, keeps_same, one_closed, sealed_passed}
+use Rattle.board.proofs.Ended.{close_goes, open_tells, seal_goes}
+use Rattle.board.proofs.Feeding.{accepted, feeds_goes, feeds_kept}
+use Rattle.board.proofs.Lateness.{board_of, counts_same, posted_prompt, posted_some, posts}
+use Rattle.board.proofs.Posts.{close_posted, feeds_from, may_close, may_commit, may_feed, may_seal, fed_inputs, fed_workers, posts_fed, seal_posted, settled_inputs, settled_workers, settles_from}
 use Rattle.board.proofs.board.Board.feed_cut.Goals as goal
-use Rattle.board.proofs.board.Board.feed_cut.Goals.{in-Ok, in-Err}
+
+pub post_noted-requires-clause-sender : goal.post_noted-requires-clause-sender
+post_noted-requires-clause-sender g c =
+    let s : Shown = c.self.inside.state in
+    let i : ℕ = c.args.cut.input in
+    let rs : List Record = c.args.cut.batch in
+    let asked : feed_refusal c.args.self.now.shown c.input.result c.batch-batch.result.now ≡ None = sym c.feed_refusal.ensures ∙ c.in_default.is in
+    let here : feed_refusal c.args.self.now.shown i c.batch-batch.result.now ≡ None = subst (λ (n : ℕ). feed_refusal c.args.self.now.shown n c.batch-batch.result.now ≡ None) c.input.ensures asked in
+    let these : feed_refusal c.args.self.now.shown i rs ≡ None = subst (λ (z : List Record). feed_refusal c.args.self.now.shown i z ≡ None) c.batch-batch.ensures here in
+    let none : feed_refusal s i rs ≡ None = subst (λ (z : BoardShown). feed_refusal z.shown i rs ≡ None) (sym c.self.view_is) these in
+    let a = accepted s i rs none (subst (λ (z : List Record). 0 < length z) c.batch-batch.ensures c.len-some.ensures.some) (subst (λ (z : List Record). All (λ (r : Record). length r ≡ arity_of z) z) c.batch-batch.ensures c.arity-fields.ensures.each) in
+    let f : FeedsBy s c.feed.new.self c.feed.new.added.items i rs = c.in-Ok.ensures.feeds in
+    let n = c.self.invariant.viewers_are in
+    let by : c.worker_count-feeder.result ≡ length s.sides = c.worker_count-feeder.ensures ∙ fed_workers s c.feed.new.self c.feed.new.added.items i rs f in
+    let w = c.feed.ensures.workers in omega (arith, by, n, w)
+
+pub post_noted-requires-clause-room : goal.post_noted-requires-clause-room
+post_noted-requires-clause-room g c = let r = c.in-Ok.ensures.room in omega (arith, r)
+
+pub post_noted-requires-clause-may : goal.post_noted-requires-clause-may
+post_noted-requires-clause-may g c =
+    let s : Shown = c.self.inside.state in
+    let i : ℕ = c.args.cut.input in
+    let rs : List Record = c.args.cut.batch in
+    let asked : feed_refusal c.args.self.now.shown c.input.result c.batch-batch.result.now ≡ None = sym c.feed_refusal.ensures ∙ c.in_default.is in
+    let here : feed_refusal c.args.self.now.shown i c.batch-batch.result.now ≡ None = subst (λ (n : ℕ). feed_refusal c.args.self.now.shown n c.batch-batch.result.now ≡ None) c.input.ensures asked in
+    let these : feed_refusal c.args.self.now.shown i rs ≡ None = subst (λ (z : List Record). feed_refusal c.args.self.now.shown i z ≡ None) c.batch-batch.ensures here in
+    let none : feed_refusal s i rs ≡ None = subst (λ (z : BoardShown). feed_refusal z.shown i rs ≡ None) (sym c.self.view_is) these in
+    let a = accepted s i rs none (subst (λ (z : List Record). 0 < length z) c.batch-batch.ensures c.len-some.ensures.some) (subst (λ (z : List Record). All (λ (r : Record). length r ≡ arity_of z) z) c.batch-batch.ensures c.arity-fields.ensures.each) in
+    let f : FeedsBy s c.feed.new.self c.feed.new.added.items i rs = c.in-Ok.ensures.feeds in
+    let n = c.self.invariant.viewers_are in
+    let by : c.worker_count-feeder.result ≡ length s.sides = c.worker_count-feeder.ensures ∙ fed_workers s c.feed.new.self c.feed.new.added.items i rs f in
+    may_feed c.law_of_step.ensures.may (g.V.Views.graph c.self.inside.views) (g.V.Views.graph c.feed.new.views) (g.V.Views.workers c.feed.new.views) (g.V.Views.content c.self.inside.views) (g.V.Views.content c.feed.new.views) s c.self.invariant.kept (c.feed.ensures.workers ∙ n) c.feed.ensures.graph c.feed.ensures.content i a.takes c.worker_count-feeder.result by rs a.some a.fields c.feed.new.self c.feed.new.added.items f
+
+pub passed_now-self-inside-requires-clause-kept : goal.passed_now-self-inside-requires-clause-kept
+passed_now-self-inside-requires-clause-kept g c =
+    let s : Shown = c.self.inside.state in
+    let i : ℕ = c.args.cut.input in
+    let rs : List Record = c.args.cut.batch in
+    let asked : feed_refusal c.args.self.now.shown c.input.result c.batch-batch.result.now ≡ None = sym c.feed_refusal.ensures ∙ c.in_default.is in
+    let here : feed_refusal c.args.self.now.shown i c.batch-batch.result.now ≡ None = subst (λ (n : ℕ). feed_refusal c.args.self.now.shown n c.batch-batch.result.now ≡ None) c.input.ensures asked in
+    let these : feed_refusal c.args.self.now.shown i rs ≡ None = subst (λ (z : List Record). feed_refusal c.args.self.now.shown i z ≡ None) c.batch-batch.ensures here in
+    let none : feed_refusal s i rs ≡ None = subst (λ (z : BoardShown). feed_refusal z.shown i rs ≡ None) (sym c.self.view_is) these in
+    let a = accepted s i rs none (subst (λ (z : List Record). 0 < length z) c.batch-batch.ensures c.len-some.ensures.some) (subst (λ (z : List Record). All (λ (r : Record). length r ≡ arity_of z) z) c.batch-batch.ensures c.arity-fields.ensures.each) in
+    let f : FeedsBy s c.feed.new.self c.feed.new.added.items i rs = c.in-Ok.ensures.feeds in
+    let n = c.self.invariant.viewers_are in
+    let feeds : Feeds s c.feed.new.self (g.V.Views.content c.self.inside.views) (g.V.Views.content c.post_noted.new.views) i rs = feeds_from (g.V.Views.content c.self.inside.views) (g.V.Views.content c.feed.new.views) (g.V.Views.content c.post_noted.new.views) s c.feed.new.self c.feed.new.added.items i rs c.feed.ensures.content c.post_noted.ensures.content f in
+    let same : (g.V.Views.graph c.post_noted.new.views) ≡ (g.V.Views.graph c.self.inside.views) = c.post_noted.ensures.graph ∙ c.feed.ensures.graph in
+    feeds_kept (g.V.Views.graph c.self.inside.views) (g.V.Views.graph c.post_noted.new.views) (g.V.Views.content c.self.inside.views) (g.V.Views.content c.post_noted.new.views) s c.feed.new.self c.self.invariant.kept i a.takes rs a.some a.fields feeds same
+
+pub passed_now-self-inside-requires-clause-viewers : goal.passed_now-self-inside-requires-clause-viewers
+passed_now-self-inside-requires-clause-viewers g c =
+    let s : Shown = c.self.inside.state in
+    let i : ℕ = c.args.cut.input in
+    let rs : List Record = c.args.cut.batch in
+    let asked : feed_refusal c.args.self.now.shown c.input.result c.batch-batch.result.now ≡ None = sym c.feed_refusal.ensures ∙ c.in_default.is in
+    let here : feed_refusal c.args.self.now.shown i c.batch-batch.result.now ≡ None = subst (λ (n : ℕ). feed_refusal c.args.self.now.shown n c.batch-batch.result.now ≡ None) c.input.ensures asked in
+    let these : feed_refusal c.args.self.now.shown i rs ≡ None = subst (λ (z : List Record). feed_refusal c.args.self.now.shown i z ≡ None) c.batch-batch.ensures here in
+    let none : feed_refusal s i rs ≡ None = subst (λ (z : BoardShown). feed_refusal z.shown i rs ≡ None) (sym c.self.view_is) these in
+    let a = accepted s i rs none (subst (λ (z : List Record). 0 < length z) c.batch-batch.ensures c.len-some.ensures.some) (subst (λ (z : List Record). All (λ (r : Record). length r ≡ arity_of z) z) c.batch-batch.ensures c.arity-fields.ensures.each) in
+    let f : FeedsBy s c.feed.new.self c.feed.new.added.items i rs = c.in-Ok.ensures.feeds in
+    let n = c.self.invariant.viewers_are in
+    let feeds : Feeds s c.feed.new.self (g.V.Views.content c.self.inside.views) (g.V.Views.content c.post_noted.new.views) i rs = feeds_from (g.V.Views.content c.self.inside.views) (g.V.Views.content c.feed.new.views) (g.V.Views.content c.post_noted.new.views) s c.feed.new.self c.feed.new.added.items i rs c.feed.ensures.content c.post_noted.ensures.content f in
+    let same : (g.V.Views.graph c.post_noted.new.views) ≡ (g.V.Views.graph c.self.inside.views) = c.post_noted.ensures.graph ∙ c.feed.ensures.graph in
+    c.post_noted.ensures.workers ∙ c.feed.ensures.workers ∙ n ∙ sym (fed_workers s c.feed.new.self c.feed.new.added.items i rs f)
+
+pub passed_now-self-inside-requires-clause-passed : goal.passed_now-self-inside-requires-clause-passed
+passed_now-self-inside-requires-clause-passed g c =
+    let s : Shown = c.self.inside.state in
+    let i : ℕ = c.args.cut.input in
+    let rs : List Record = c.args.cut.batch in
+    let asked : feed_refusal c.args.self.now.shown c.input.result c.batch-batch.result.now ≡ None = sym c.feed_refusal.ensures ∙ c.in_default.is in
+    let here : feed_refusal c.args.self.now.shown i c.batch-batch.result.now ≡ None = subst (λ (n : ℕ). feed_refusal c.args.self.now.shown n c.batch-batch.result.now ≡ None) c.input.ensures asked in
+    let these : feed_refusal c.args.self.now.shown i rs ≡ None = subst (λ (z : List Record). feed_refusal c.args.self.now.shown i z ≡ None) c.batch-batch.ensures here in
+    let none : feed_refusal s i rs ≡ None = subst (λ (z : BoardShown). feed_refusal z.shown i rs ≡ None) (sym c.self.view_is) these in
+    let a = accepted s i rs none (subst (λ (z : List Record). 0 < length z) c.batch-batch.ensures c.len-some.ensures.some) (subst (λ (z : List Record). All (λ (r : Record). length r ≡ arity_of z) z) c.batch-batch.ensures c.arity-fields.ensures.each) in
+    let f : FeedsBy s c.feed.new.self c.feed.new.added.items i rs = c.in-Ok.ensures.feeds in
+    let n = c.self.invariant.viewers_are in
+    let feeds : Feeds s c.feed.new.self (g.V.Views.content c.self.inside.views) (g.V.Views.content c.post_noted.new.views) i rs = feeds_from (g.V.Views.content c.self.inside.views) (g.V.Views.content c.feed.new.views) (g.V.Views.content c.post_noted.new.views) s c.feed.new.self c.feed.new.added.items i rs c.feed.ensures.content c.post_noted.ensures.content f in
+    let same : (g.V.Views.graph c.post_noted.new.views) ≡ (g.V.Views.graph c.self.inside.views) = c.post_noted.ensures.graph ∙ c.feed.ensures.graph in
+    fed_passed (g.V.Views.graph c.self.inside.views) (g.V.Views.workers c.self.inside.views) (g.V.Views.content c.self.inside.views) (g.V.Views.waiting c.self.inside.views) (g.V.Views.room c.self.inside.views) g.V.Views.late c.self.inside.passed s c.self.invariant c.feed.new.self (g.V.Views.content c.post_noted.new.views) i a.takes rs a.some a.fields feeds
 
 pub invariant_of-self : goal.invariant_of-self
 invariant_of-self g c =
     let s : Shown = c.self.inside.state in
     let i : ℕ = c.args.cut.input in
     let rs : List Record = c.args.cut.batch in
-    let asked : feed_refusal c.args.self.now c.input.result c.batch-batch.result.now ≡ None = sym c.feed_refusal.ensures ∙ c.in_default.is in
-    let here : feed_refusal c.args.self.now i c.batch-batch.result.now ≡ None = subst (λ (n : ℕ). feed_refusal c.args.self.now n c.batch-batch.result.now ≡ None) c.input.ensures asked in
-    let these : feed_refusal c.args.self.now i rs ≡ None = subst (λ (z : List Record). feed_refusal c.args.self.now i z ≡ None) c.batch-batch.ensures here in
-    let none : feed_refusal s i rs ≡ None = subst (λ (z : Shown). feed_refusal z i rs ≡ None) (sym c.self.view_is) these in
+    let asked : feed_refusal c.args.self.now.shown c.input.result c.batch-batch.result.now ≡ None = sym c.feed_refusal.ensures ∙ c.in_default.is in
+    let here : feed_refusal c.args.self.now.shown i c.batch-batch.result.now ≡ None = subst (λ (n : ℕ). feed_refusal c.args.self.now.shown n c.batch-batch.result.now ≡ None) c.input.ensures asked in
+    let these : feed_refusal c.args.self.now.shown i rs ≡ None = subst (λ (z : List Record). feed_refusal c.args.self.now.shown i z ≡ None) c.batch-batch.ensures here in
+    let none : feed_refusal s i rs ≡ None = subst (λ (z : BoardShown). feed_refusal z.shown i rs ≡ None) (sym c.self.view_is) these in
     let a = accepted s i rs none (subst (λ (z : List Record). 0 < length z) c.batch-batch.ensures c.len-some.ensures.some) (subst (λ (z : List Record). All (λ (r : Record). length r ≡ arity_of z) z) c.batch-batch.ensures c.arity-fields.ensures.each) in
-    keeps_feed (g.P.Progress.graph c.self.inside.tracker) (g.P.Progress.content c.self.inside.tracker) c.self.inside.passed s c.self.invariant c.feed.new.self (g.P.Progress.graph c.feed.new.tracker) (g.P.Progress.content c.feed.new.tracker) i a.takes rs a.some a.fields
-    c.feed.result c.feed.ensures.feeds c.feed.ensures.graph c.feed.ensures.state c.feed.ensures.content
+    let f : FeedsBy s c.feed.new.self c.feed.new.added.items i rs = c.in-Ok.ensures.feeds in
+    let n = c.self.invariant.viewers_are in
+    let feeds : Feeds s c.feed.new.self (g.V.Views.content c.self.inside.views) (g.V.Views.content c.post_noted.new.views) i rs = feeds_from (g.V.Views.content c.self.inside.views) (g.V.Views.content c.feed.new.views) (g.V.Views.content c.post_noted.new.views) s c.feed.new.self c.feed.new.added.items i rs c.feed.ensures.content c.post_noted.ensures.content f in
+    let same : (g.V.Views.graph c.post_noted.new.views) ≡ (g.V.Views.graph c.self.inside.views) = c.post_noted.ensures.graph ∙ c.feed.ensures.graph in
+    record {
+      kept = feeds_kept (g.V.Views.graph c.self.inside.views) (g.V.Views.graph c.post_noted.new.views) (g.V.Views.content c.self.inside.views) (g.V.Views.content c.post_noted.new.views) s c.feed.new.self c.self.invariant.kept i a.takes rs a.some a.fields feeds same;
+      viewers_are = c.post_noted.ensures.workers ∙ c.feed.ensures.workers ∙ n ∙ sym (fed_workers s c.feed.new.self c.feed.new.added.items i rs f);
+      closes = (
+          let r = c.in-Ok.ensures.room in
+          let p = c.post_noted.ensures.room in
+          let o = few_open c.feed.new.self.inputs in
+          let m = fed_inputs s c.feed.new.self c.feed.new.added.items i rs f in
+          let k = c.self.invariant.kept.inputs in
+          omega (arith, r, p, o, m, k)
+          );
+      prompt = λ late w k l m. posted_prompt g.V.Views.late (g.V.Views.waiting c.feed.new.views) (g.V.Views.waiting c.self.inside.views) (g.V.Views.waiting c.post_noted.new.views) (batch c.worker_count-feeder.result c.feed.new.added.items []) (length c.feed.new.added.items + 0) (g.V.Views.workers c.self.inside.views) c.feed.ensures.waiting (λ x y z. c.post_noted.ensures.waiting x y (let e = c.feed.ensures.workers in omega (arith, z, e))) c.self.invariant.prompt late w k (let e = c.post_noted.ensures.workers in let e' = c.feed.ensures.workers in omega (arith, l, e, e')) (let e = c.post_noted.ensures.workers in let e' = c.feed.ensures.workers in omega (arith, m, e, e'));
+      passed_are = c.passed_now-self-inside.ensures.passed;
+      passed_most = c.passed_now-self-inside.ensures.most;
+    }
 
-pub returns-clause-tables : goal.returns-clause-tables
-returns-clause-tables g c =
+pub invariant_of-self-in-Err : goal.invariant_of-self-in-Err
+invariant_of-self-in-Err g c =
     let s : Shown = c.self.inside.state in
-    let R : Shown → Type 0 = λ z. tables c.feed.new.self ≡ tables z in
-    subst R c.self.view_is (feed_tables s c.feed.new.self (g.P.Progress.content c.self.inside.tracker) (g.P.Progress.content c.feed.new.tracker) c.args.cut.input c.args.cut.batch c.feed.result c.feed.ensures.feeds c.feed.ensures.state)
+    keeps_same (g.V.Views.graph c.self.inside.views) (g.V.Views.workers c.self.inside.views) (g.V.Views.content c.self.inside.views) (g.V.Views.waiting c.self.inside.views) (g.V.Views.room c.self.inside.views) g.V.Views.late c.self.inside.passed s c.self.invariant c.feed.new.self (g.V.Views.graph c.feed.new.views) (g.V.Views.workers c.feed.new.views) (g.V.Views.content c.feed.new.views) (g.V.Views.waiting c.feed.new.views) (g.V.Views.room c.feed.new.views) c.feed.ensures.graph c.feed.ensures.workers c.feed.ensures.content c.feed.ensures.waiting c.feed.ensures.kept c.in-Err.ensures.state
 
-pub returns-clause-step : goal.returns-clause-step
-returns-clause-step g c =
+pub returns-in-Ok-clause-step : goal.returns-in-Ok-clause-step
+returns-in-Ok-clause-step g c =
     let s : Shown = c.self.inside.state in
     let i : ℕ = c.args.cut.input in
     let rs : List Record = c.args.cut.batch in
-    let asked : feed_refusal c.args.self.now c.input.result c.batch-batch.result.now ≡ None = sym c.feed_refusal.ensures ∙ c.in_default.is in
-    let here : feed_refusal c.args.self.now i c.batch-batch.result.now ≡ None = subst (λ (n : ℕ). feed_refusal c.args.self.now n c.batch-batch.result.now ≡ None) c.input.ensures asked in
-    let these : feed_refusal c.args.self.now i rs ≡ None = subst (λ (z : List Record). feed_refusal c.args.self.now i z ≡ None) c.batch-batch.ensures here in
-    let none : feed_refusal s i rs ≡ None = subst (λ (z : Shown). feed_refusal z i rs ≡ None) (sym c.self.view_is) these in
+    let asked : feed_refusal c.args.self.now.shown c.input.result c.batch-batch.result.now ≡ None = sym c.feed_refusal.ensures ∙ c.in_default.is in
+    let here : feed_refusal c.args.self.now.shown i c.batch-batch.result.now ≡ None = subst (λ (n : ℕ). feed_refusal c.args.self.now.shown n c.batch-batch.result.now ≡ None) c.input.ensures asked in
+    let these : feed_refusal c.args.self.now.shown i rs ≡ None = subst (λ (z : List Record). feed_refusal c.args.self.now.shown i z ≡ None) c.batch-batch.ensures here in
+    let none : feed_refusal s i rs ≡ None = subst (λ (z : BoardShown). feed_refusal z.shown i rs ≡ None) (sym c.self.view_is) these in
     let a = accepted s i rs none (subst (λ (z : List Record). 0 < length z) c.batch-batch.ensures c.len-some.ensures.some) (subst (λ (z : List Record). All (λ (r : Record). length r ≡ arity_of z) z) c.batch-batch.ensures c.arity-fields.ensures.each) in
-    let R : Shown → Type 0 = λ z. Goes z (Step.feed i rs) c.feed.new.self in
-    elim c.match-feed.branch [
-      | in-Ok w ↦ rw w.result-is (subst R c.self.view_is (feeds_goes (g.P.Progress.graph c.self.inside.tracker) (g.P.Progress.graph c.feed.new.tracker) (g.P.Progress.content c.self.inside.tracker) (g.P.Progress.content c.feed.new.tracker) s c.feed.new.self c.self.invariant.kept i a.takes rs a.some a.fields (rw w.in-Ok.is at c.feed.ensures.feeds)))
-      | in-Err w ↦ rw w.result-is tt
-    ]
+    let f : FeedsBy s c.feed.new.self c.feed.new.added.items i rs = c.in-Ok.ensures.feeds in
+    let n = c.self.invariant.viewers_are in
+    let feeds : Feeds s c.feed.new.self (g.V.Views.content c.self.inside.views) (g.V.Views.content c.post_noted.new.views) i rs = feeds_from (g.V.Views.content c.self.inside.views) (g.V.Views.content c.feed.new.views) (g.V.Views.content c.post_noted.new.views) s c.feed.new.self c.feed.new.added.items i rs c.feed.ensures.content c.post_noted.ensures.content f in
+    let same : (g.V.Views.graph c.post_noted.new.views) ≡ (g.V.Views.graph c.self.inside.views) = c.post_noted.ensures.graph ∙ c.feed.ensures.graph in
+    let R : BoardShown → Type 0 = λ z. Goes z.shown (Step.feed i rs) c.feed.new.self in
+    subst R c.self.view_is (feeds_goes (g.V.Views.graph c.self.inside.views) (g.V.Views.graph c.post_noted.new.views) (g.V.Views.content c.self.inside.views) (g.V.Views.content c.post_noted.new.views) s c.feed.new.self c.self.invariant.kept i a.takes rs a.some a.fields feeds)
+
+pub returns-in-Ok-clause-tables : goal.returns-in-Ok-clause-tables
+returns-in-Ok-clause-tables g c =
+    let s : Shown = c.self.inside.state in
+    feed_tables s c.feed.new.self c.feed.new.added.items c.args.cut.input c.args.cut.batch c.in-Ok.ensures.feeds ∙ ap tables (ap (λ (b : BoardShown). b.shown) c.self.view_is)
+
+pub returns-in-Ok-clause-posts : goal.returns-in-Ok-clause-posts
+returns-in-Ok-clause-posts g c =
+    let s : Shown = c.self.inside.state in
+    let i : ℕ = c.args.cut.input in
+    let rs : List Record = c.args.cut.batch in
+    let asked : feed_refusal c.args.self.now.shown c.input.result c.batch-batch.result.now ≡ None = sym c.feed_refusal.ensures ∙ c.in_default.is in
+    let here : feed_refusal c.args.self.now.shown i c.batch-batch.result.now ≡ None = subst (λ (n : ℕ). feed_refusal c.args.self.now.shown n c.batch-batch.result.now ≡ None) c.input.ensures asked in
+    let these : feed_refusal c.args.self.now.shown i rs ≡ None = subst (λ (z : List Record). feed_refusal c.args.self.now.shown i z ≡ None) c.batch-batch.ensures here in
+    let none : feed_refusal s i rs ≡ None = subst (λ (z : BoardShown). feed_refusal z.shown i rs ≡ None) (sym c.self.view_is) these in
+    let a = accepted s i rs none (subst (λ (z : List Record). 0 < length z) c.batch-batch.ensures c.len-some.ensures.some) (subst (λ (z : List Record). All (λ (r : Record). length r ≡ arity_of z) z) c.batch-batch.ensures c.arity-fields.ensures.each) in
+    let f : FeedsBy s c.feed.new.self c.feed.new.added.items i rs = c.in-Ok.ensures.feeds in
+    let n = c.self.invariant.viewers_are in
+    let by : c.worker_count-feeder.result ≡ length s.sides = c.worker_count-feeder.ensures ∙ fed_workers s c.feed.new.self c.feed.new.added.items i rs f in
+    let one : PostsSome g.V.Views.late (length s.sides) (board_of s (g.V.Views.workers c.self.inside.views) (g.V.Views.waiting c.self.inside.views) c.self.inside.passed) (board_of c.feed.new.self (g.V.Views.workers c.self.inside.views) (g.V.Views.waiting c.post_noted.new.views) c.passed_now-self-inside.result) =
+    subst (λ (m : ℕ). PostsSome g.V.Views.late m (board_of s (g.V.Views.workers c.self.inside.views) (g.V.Views.waiting c.self.inside.views) c.self.inside.passed) (board_of c.feed.new.self (g.V.Views.workers c.self.inside.views) (g.V.Views.waiting c.post_noted.new.views) c.passed_now-self-inside.result)) by
+    (posts_fed g.V.Views.late s c.feed.new.self (g.V.Views.workers c.self.inside.views) c.worker_count-feeder.result (g.V.Views.waiting c.feed.new.views) (g.V.Views.waiting c.self.inside.views) (g.V.Views.waiting c.post_noted.new.views) c.self.inside.passed c.passed_now-self-inside.result c.feed.new.added.items i rs f (sym n) c.feed.ensures.waiting (λ w k l. c.post_noted.ensures.waiting w k (let e = c.feed.ensures.workers in omega (arith, l, e)))) in
+    let A : ℕ → Type 0 = λ m. PostsSome g.V.Views.late (length s.sides) (board_of s (g.V.Views.workers c.self.inside.views) (g.V.Views.waiting c.self.inside.views) c.self.inside.passed) (board_of c.feed.new.self m (g.V.Views.waiting c.post_noted.new.views) c.passed_now-self-inside.result) in
+    let B : BoardShown → Type 0 = λ z. PostsSome g.V.Views.late (length z.shown.sides) z (board_of c.feed.new.self (g.V.Views.workers c.post_noted.new.views) (g.V.Views.waiting c.post_noted.new.views) c.passed_now-self-inside.result) in
+    subst B c.self.view_is (subst A (sym (c.post_noted.ensures.workers ∙ c.feed.ensures.workers)) one)
+
+pub returns-in-Err-clause-refused : goal.returns-in-Err-clause-refused
+returns-in-Err-clause-refused g c =
+    (λ j. record { shown = c.in-Err.ensures.state j; waits = counts_same (g.V.Views.workers c.self.inside.views) (g.V.Views.workers c.feed.new.views) (g.V.Views.waiting c.self.inside.views) (g.V.Views.waiting c.feed.new.views) c.feed.ensures.workers c.feed.ensures.waiting j; passed = c.self.inside.passed }) ∙ c.self.view_is
+
+pub returns-in-Err-clause-tables : goal.returns-in-Err-clause-tables
+returns-in-Err-clause-tables g c = ap tables (c.in-Err.ensures.state ∙ (ap (λ (b : BoardShown). b.shown) c.self.view_is))

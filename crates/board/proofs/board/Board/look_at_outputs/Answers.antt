@@ -1,12 +1,13 @@
-use Rattle.std.proofs.Common.{◌≡◌, [], subst, slice_index_or}
+use Rattle.std.proofs.Common.{ap, ◌≡◌, [], subst, slice_index_or}
 use Rattle.semantics.specs.Graph.{output_number}
 use Rattle.lowering.specs.Shown.{shown_graph}
 use Rattle.board.specs.Shown.{Shown, emitted_by}
 use Rattle.board.proofs.Looked.{looks_more}
+use Rattle.board.specs.Lateness.{BoardShown}
 use Rattle.board.proofs.board.Board.look_at_outputs.Goals as goal
 
 pub loop-output-preserved : goal.loop-output-preserved
 loop-output-preserved g c =
-    let P : Shown → Type 0 = λ z. c.in_ok-share_emitted.field-0 ≡ slice_index_or (emitted_by z.emitted (output_number (shown_graph z.graph) c.loop-output.output)) c.args.epoch [] in
+    let P : BoardShown → Type 0 = λ z. c.in_ok-share_emitted.field-0 ≡ slice_index_or (emitted_by z.shown.emitted (output_number (shown_graph z.shown.graph) c.loop-output.output)) c.args.epoch [] in
     looks_more c.args.self.now c.args.epoch c.loop-output.output c.loop-output.outputs.items c.push.new.self.items _ c.in_ok-push.ensures.items
-    (record { emitted = subst P c.self.view_is c.in_ok-share_emitted.ensures; passed = c.passed.ensures }) c.loop-output.invariant
+    (record { emitted = subst P c.self.view_is c.in_ok-share_emitted.ensures; passed = c.passed.ensures.passed; seen = c.passed.ensures.seen }) c.loop-output.invariant

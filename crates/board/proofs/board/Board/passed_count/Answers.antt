@@ -1,7 +1,27 @@
-use Rattle.std.proofs.Common.{subst}
-use Rattle.board.specs.Promises.{CountsPassed}
+use Rattle.std.proofs.Common.{◌≡◌, ◌↔◌, ◌<◌, ◌≤◌, ◌∙◌, ℕ, suc, [], IsTrue, length, ap, sym, subst, arith}
+use Rattle.semantics.specs.Could.{CouldResultIn, IsTimeAt, NoneOf, Pointstamp, at_vertex}
+use Rattle.semantics.specs.Graph.{output_number}
+use Rattle.semantics.specs.Time.{at_epoch}
+use Rattle.lowering.specs.Shown.{shown_graph}
+use Rattle.views.specs.Waiting.{IsSeenBy}
+use Rattle.board.specs.Lateness.{BoardShown, IsUpToDate}
+use Rattle.board.specs.Promises.{CountsPassed, HasPassed, IsOutputPlace}
 use Rattle.board.specs.Shown.{Shown}
+use Rattle.board.proofs.Lateness.{board_of, none_waits}
+use Rattle.board.proofs.Passing.{has_passed, has_passed_back, known_most, known_passed, outputs_there, seen_counts}
 use Rattle.board.proofs.board.Board.passed_count.Goals as goal
 
-pub returns : goal.returns
-returns g c = let P : Shown → Type 0 = λ s. CountsPassed s c.self.inside.passed in subst P c.self.view_is c.self.invariant.counts
+pub returns-clause-value : goal.returns-clause-value
+returns-clause-value g c = ap (λ (b : BoardShown). b.passed) c.self.view_is
+
+pub returns-clause-most : goal.returns-clause-most
+returns-clause-most g c =
+    let P : BoardShown → Type 0 = λ z. (n : ℕ) → CountsPassed z.shown n → c.self.inside.passed ≤ n in
+    subst P c.self.view_is (known_most (g.V.Views.graph c.self.inside.views) (g.V.Views.content c.self.inside.views) c.self.inside.state c.self.invariant.kept c.self.inside.passed c.self.invariant.passed_are)
+
+pub returns-clause-seen : goal.returns-clause-seen
+returns-clause-seen g c =
+    let P : BoardShown → Type 0 = λ z. IsUpToDate z 0 → CountsPassed z.shown c.self.inside.passed in
+    subst P c.self.view_is (λ up.
+    let exactly = c.law_of_waiting.ensures.seen (g.V.Views.content c.self.inside.views) (g.V.Views.waiting c.self.inside.views) (g.V.Views.workers c.self.inside.views) 0 (none_waits c.self.inside.state (g.V.Views.workers c.self.inside.views) (g.V.Views.waiting c.self.inside.views) c.self.inside.passed 0 (let v = c.self.invariant.viewers_are in let l = c.self.invariant.kept.some in omega (arith, v, l)) up) in
+    seen_counts (g.V.Views.graph c.self.inside.views) (g.V.Views.content c.self.inside.views) c.self.inside.state c.self.invariant.kept c.self.inside.passed (IsSeenBy (g.V.Views.content c.self.inside.views) (g.V.Views.waiting c.self.inside.views) (g.V.Views.workers c.self.inside.views) 0) (λ q is. (exactly q).0 is) c.self.invariant.passed_are c.self.invariant.passed_most)

@@ -1,61 +1,129 @@
-use Rattle.std.proofs.Common.{◌≡◌, ◌<◌, ◌+◌, ℕ, sym, ap, ◌∙◌, subst}
-use Rattle.semantics.specs.Graph.{Graph}
-use Rattle.semantics.specs.Could.{IsTimeAt, Location, Pointstamp, at_vertex}
+use Rattle.std.proofs.Common.{◌≡◌, ◌<◌, ◌≤◌, ◌+◌, ℕ, suc, true, false, [], ◌∷◌, List, None, length, refl, sym, ap, ◌∙◌, subst, arith, slice_set, length-set}
+use Rattle.std.specs.List.{All}
+use Rattle.semantics.specs.Multiset.{Record}
+use Rattle.semantics.specs.Could.{Pointstamp, at_vertex}
+use Rattle.semantics.specs.Graph.{Graph, input_count}
 use Rattle.semantics.specs.Time.{at_epoch}
+use Rattle.lowering.specs.Shown.{GraphValue, shown_graph}
 use Rattle.machine.specs.Active.{one_if_same}
+use Rattle.machine.specs.Posting.{MayPost}
 use Rattle.machine.specs.Step.{Step}
-use Rattle.board.specs.Kept.{IsKept, Goes}
-use Rattle.board.specs.Shown.{Shown, input_at}
-use Rattle.board.proofs.Counted.{sealed_passed}
-use Rattle.board.proofs.Ended.{open_tells, active_input, located_there, seal_goes, seal_kept}
+use Rattle.rows.specs.FlatRows.{arity_of}
+use Rattle.views.specs.Waiting.{Waiting, batch}
+use Rattle.board.specs.Answers.{Holds, feed_refusal, input_refusal}
+use Rattle.board.specs.Commits.{Feeds, FeedsBy, IsOf, Settles, SettlesBy}
+use Rattle.board.specs.Kept.{Goes, IsKept, open_count}
+use Rattle.board.specs.Lateness.{BoardShown, Posts, PostsSome}
+use Rattle.board.specs.Shown.{Shown, InputShown, input_at, tables}
+use Rattle.board.specs.Steps.{after_close, after_seal}
+use Rattle.board.proofs.Boards.{commit_goes, commit_tables, feed_tables, kept_commit}
+use Rattle.board.proofs.Counted.{as_open, closed_passed, committed_passed, fed_passed, few_open, keeps_same, one_closed, sealed_passed}
+use Rattle.board.proofs.Ended.{close_goes, open_tells, seal_goes}
+use Rattle.board.proofs.Feeding.{accepted, feeds_goes, feeds_kept}
+use Rattle.board.proofs.Lateness.{board_of, counts_same, posted_prompt, posted_some, posts}
+use Rattle.board.proofs.Posts.{close_posted, feeds_from, may_close, may_commit, may_feed, may_seal, fed_inputs, fed_workers, posts_fed, seal_posted, settled_inputs, settled_workers, settles_from}
 use Rattle.board.proofs.board.Board.seal.Goals as goal
 
-pub remove-requires : goal.remove-requires
-remove-requires g c =
-    let s : Shown = c.self.inside.state in
-    let i : ℕ = c.args.input in
-    let takes = open_tells s i (sym c.input_refusal.ensures ∙ c.in_default.is) in
-    let one : c.input_place.result ≡ at_vertex i (at_epoch (input_at s i).open_epoch) = c.input_place.ensures ∙ ap (λ n. at_vertex i (at_epoch n)) c.open_epoch-epoch.ensures in
-    let P : Pointstamp → Type 0 = λ p. 0 < g.P.Progress.content c.self.inside.tracker p in
-    let Q : (Pointstamp → ℕ) → Type 0 = λ f. 0 < f c.input_place.result in
-    subst Q (sym c.reserve.ensures.content) (subst P (sym one) (active_input (g.P.Progress.graph c.self.inside.tracker) (g.P.Progress.content c.self.inside.tracker) s c.self.invariant.kept i takes))
+pub post-requires-clause-sender : goal.post-requires-clause-sender
+post-requires-clause-sender g c = let n = c.self.invariant.viewers_are in let e = c.worker_count-feeder.ensures in let w = c.reserve.ensures.workers in omega (arith, e, n, w)
 
-pub add-requires-clause-known : goal.add-requires-clause-known
-add-requires-clause-known g c =
+pub post-requires-clause-room : goal.post-requires-clause-room
+post-requires-clause-room g c = let r = c.in-Ok.ensures.room in omega (arith, r)
+
+pub post-requires-clause-may : goal.post-requires-clause-may
+post-requires-clause-may g c =
     let s : Shown = c.self.inside.state in
     let i : ℕ = c.args.input in
     let takes = open_tells s i (sym c.input_refusal.ensures ∙ c.in_default.is) in
-    let one : c.input_place.result ≡ at_vertex i (at_epoch (input_at s i).open_epoch) = c.input_place.ensures ∙ ap (λ n. at_vertex i (at_epoch n)) c.open_epoch-epoch.ensures in
-    let two : c.input_place-2.result ≡ at_vertex i (at_epoch ((input_at s i).open_epoch + 1)) = c.input_place-2.ensures ∙ ap (λ n. at_vertex i (at_epoch (n + 1))) c.open_epoch-epoch.ensures in
-    let P : Pointstamp → Type 0 = λ p. IsTimeAt (g.P.Progress.graph c.remove.new.self) p.location p.time in
-    let Q : Graph → Type 0 = λ x. IsTimeAt x (Location.vertex i) (at_epoch ((input_at s i).open_epoch + 1)) in
-    subst P (sym two) (subst Q (sym (c.remove.ensures.graph ∙ c.reserve.ensures.graph)) (located_there (g.P.Progress.graph c.self.inside.tracker) (g.P.Progress.content c.self.inside.tracker) s c.self.invariant.kept i takes ((input_at s i).open_epoch + 1)))
+    let n = c.self.invariant.viewers_are in
+    let opens : c.input_place-opens.result ≡ at_vertex i (at_epoch ((input_at s i).open_epoch + 1)) = c.input_place-opens.ensures ∙ ap (λ m. at_vertex i (at_epoch (m + 1))) c.open_epoch-epoch.ensures in
+    let ends : c.input_place-ends.result ≡ at_vertex i (at_epoch (input_at s i).open_epoch) = c.input_place-ends.ensures ∙ ap (λ m. at_vertex i (at_epoch m)) c.open_epoch-epoch.ensures in
+    may_seal c.law_of_step.ensures.may (g.V.Views.graph c.self.inside.views) (g.V.Views.graph c.reserve.new.self) (g.V.Views.workers c.reserve.new.self) (g.V.Views.content c.self.inside.views) (g.V.Views.content c.reserve.new.self) s c.self.invariant.kept (c.reserve.ensures.workers ∙ n) c.reserve.ensures.graph c.reserve.ensures.content i takes c.worker_count-feeder.result c.worker_count-feeder.ensures c.input_place-opens.result c.input_place-ends.result opens ends
 
 pub passed_now-self-inside-requires-clause-kept : goal.passed_now-self-inside-requires-clause-kept
 passed_now-self-inside-requires-clause-kept g c =
     let s : Shown = c.self.inside.state in
     let i : ℕ = c.args.input in
     let takes = open_tells s i (sym c.input_refusal.ensures ∙ c.in_default.is) in
-    let one : c.input_place.result ≡ at_vertex i (at_epoch (input_at s i).open_epoch) = c.input_place.ensures ∙ ap (λ n. at_vertex i (at_epoch n)) c.open_epoch-epoch.ensures in
-    let two : c.input_place-2.result ≡ at_vertex i (at_epoch ((input_at s i).open_epoch + 1)) = c.input_place-2.ensures ∙ ap (λ n. at_vertex i (at_epoch (n + 1))) c.open_epoch-epoch.ensures in
-    let P : Shown → Type 0 = λ z. IsKept (g.P.Progress.graph c.add.new.self) (g.P.Progress.content c.add.new.self) z in
-    subst P (sym c.seal.ensures) (seal_kept (g.P.Progress.graph c.self.inside.tracker) (g.P.Progress.content c.self.inside.tracker) s c.self.invariant.kept i takes (g.P.Progress.graph c.add.new.self) (g.P.Progress.content c.add.new.self) (g.P.Progress.content c.remove.new.self) (c.add.ensures.graph ∙ c.remove.ensures.graph ∙ c.reserve.ensures.graph)
-    (λ q. sym (ap (λ (f : Pointstamp → ℕ). f q) c.reserve.ensures.content) ∙ c.remove.ensures.content q ∙ ap (λ p. one_if_same q p + g.P.Progress.content c.remove.new.self q) one)
-    (λ q. c.add.ensures.content q ∙ ap (λ p. one_if_same q p + g.P.Progress.content c.remove.new.self q) two))
+    let n = c.self.invariant.viewers_are in
+    let opens : c.input_place-opens.result ≡ at_vertex i (at_epoch ((input_at s i).open_epoch + 1)) = c.input_place-opens.ensures ∙ ap (λ m. at_vertex i (at_epoch (m + 1))) c.open_epoch-epoch.ensures in
+    let ends : c.input_place-ends.result ≡ at_vertex i (at_epoch (input_at s i).open_epoch) = c.input_place-ends.ensures ∙ ap (λ m. at_vertex i (at_epoch m)) c.open_epoch-epoch.ensures in
+    let kept : IsKept (g.V.Views.graph c.post.new.views) (g.V.Views.content c.post.new.views) c.seal.new.self = (let P : Shown → Type 0 = λ z. IsKept (g.V.Views.graph c.post.new.views) (g.V.Views.content c.post.new.views) z in
+    subst P (sym c.seal.ensures) (seal_posted (g.V.Views.graph c.self.inside.views) (g.V.Views.graph c.post.new.views) (g.V.Views.content c.self.inside.views) (g.V.Views.content c.reserve.new.self) (g.V.Views.content c.post.new.views) s c.self.invariant.kept i takes (c.post.ensures.graph ∙ c.reserve.ensures.graph) c.reserve.ensures.content c.input_place-opens.result c.input_place-ends.result opens ends c.post.ensures.content)) in
+    kept
+
+pub passed_now-self-inside-requires-clause-viewers : goal.passed_now-self-inside-requires-clause-viewers
+passed_now-self-inside-requires-clause-viewers g c =
+    let s : Shown = c.self.inside.state in
+    let i : ℕ = c.args.input in
+    let takes = open_tells s i (sym c.input_refusal.ensures ∙ c.in_default.is) in
+    let n = c.self.invariant.viewers_are in
+    c.post.ensures.workers ∙ c.reserve.ensures.workers ∙ n ∙ sym (ap (λ (z : Shown). length z.sides) c.seal.ensures)
 
 pub passed_now-self-inside-requires-clause-passed : goal.passed_now-self-inside-requires-clause-passed
 passed_now-self-inside-requires-clause-passed g c =
     let s : Shown = c.self.inside.state in
     let i : ℕ = c.args.input in
     let takes = open_tells s i (sym c.input_refusal.ensures ∙ c.in_default.is) in
-    sealed_passed (g.P.Progress.graph c.self.inside.tracker) (g.P.Progress.content c.self.inside.tracker) c.self.inside.passed s c.self.invariant c.seal.new.self i takes c.seal.ensures
+    let n = c.self.invariant.viewers_are in
+    sealed_passed (g.V.Views.graph c.self.inside.views) (g.V.Views.workers c.self.inside.views) (g.V.Views.content c.self.inside.views) (g.V.Views.waiting c.self.inside.views) (g.V.Views.room c.self.inside.views) g.V.Views.late c.self.inside.passed s c.self.invariant c.seal.new.self i takes c.seal.ensures
 
-pub returns-clause-step : goal.returns-clause-step
-returns-clause-step g c =
+pub invariant_of-self-in-Err : goal.invariant_of-self-in-Err
+invariant_of-self-in-Err g c =
+    let s : Shown = c.self.inside.state in
+    keeps_same (g.V.Views.graph c.self.inside.views) (g.V.Views.workers c.self.inside.views) (g.V.Views.content c.self.inside.views) (g.V.Views.waiting c.self.inside.views) (g.V.Views.room c.self.inside.views) g.V.Views.late c.self.inside.passed s c.self.invariant c.self.inside.state (g.V.Views.graph c.reserve.new.self) (g.V.Views.workers c.reserve.new.self) (g.V.Views.content c.reserve.new.self) (g.V.Views.waiting c.reserve.new.self) (g.V.Views.room c.reserve.new.self) c.reserve.ensures.graph c.reserve.ensures.workers c.reserve.ensures.content c.reserve.ensures.waiting c.reserve.ensures.kept refl
+
+pub invariant_of-self : goal.invariant_of-self
+invariant_of-self g c =
     let s : Shown = c.self.inside.state in
     let i : ℕ = c.args.input in
     let takes = open_tells s i (sym c.input_refusal.ensures ∙ c.in_default.is) in
-    let one : c.input_place.result ≡ at_vertex i (at_epoch (input_at s i).open_epoch) = c.input_place.ensures ∙ ap (λ n. at_vertex i (at_epoch n)) c.open_epoch-epoch.ensures in
-    let P : Shown → Type 0 = λ z. Goes z (Step.seal i) c.seal.new.self in
+    let n = c.self.invariant.viewers_are in
+    let opens : c.input_place-opens.result ≡ at_vertex i (at_epoch ((input_at s i).open_epoch + 1)) = c.input_place-opens.ensures ∙ ap (λ m. at_vertex i (at_epoch (m + 1))) c.open_epoch-epoch.ensures in
+    let ends : c.input_place-ends.result ≡ at_vertex i (at_epoch (input_at s i).open_epoch) = c.input_place-ends.ensures ∙ ap (λ m. at_vertex i (at_epoch m)) c.open_epoch-epoch.ensures in
+    let kept : IsKept (g.V.Views.graph c.post.new.views) (g.V.Views.content c.post.new.views) c.seal.new.self = (let P : Shown → Type 0 = λ z. IsKept (g.V.Views.graph c.post.new.views) (g.V.Views.content c.post.new.views) z in
+    subst P (sym c.seal.ensures) (seal_posted (g.V.Views.graph c.self.inside.views) (g.V.Views.graph c.post.new.views) (g.V.Views.content c.self.inside.views) (g.V.Views.content c.reserve.new.self) (g.V.Views.content c.post.new.views) s c.self.invariant.kept i takes (c.post.ensures.graph ∙ c.reserve.ensures.graph) c.reserve.ensures.content c.input_place-opens.result c.input_place-ends.result opens ends c.post.ensures.content)) in
+    record {
+      kept = kept;
+      viewers_are = c.post.ensures.workers ∙ c.reserve.ensures.workers ∙ n ∙ sym (ap (λ (z : Shown). length z.sides) c.seal.ensures);
+      closes = (
+          let r = c.in-Ok.ensures.room in
+          let p = c.post.ensures.room in
+          let o = few_open c.seal.new.self.inputs in
+          let m = ap (λ (z : Shown). length z.inputs) c.seal.ensures ∙ length-set s.inputs i (record (input_at s i) { open_epoch = (input_at s i).open_epoch + 1 }) in
+          let k = c.self.invariant.kept.inputs in
+          let count = c.input_count-closing.ensures.value ∙ ap (λ (x : GraphValue). input_count (shown_graph x)) c.graph.ensures in
+          omega (arith, r, p, o, m, k, count)
+          );
+      prompt = λ late w k l m. posted_prompt g.V.Views.late (g.V.Views.waiting c.reserve.new.self) (g.V.Views.waiting c.self.inside.views) (g.V.Views.waiting c.post.new.views) (batch c.worker_count-feeder.result (c.input_place-opens.result ∷ []) (c.input_place-ends.result ∷ [])) (length (c.input_place-opens.result ∷ []) + length (c.input_place-ends.result ∷ [])) (g.V.Views.workers c.self.inside.views) c.reserve.ensures.waiting (λ x y z. c.post.ensures.waiting x y (let e = c.reserve.ensures.workers in omega (arith, z, e))) c.self.invariant.prompt late w k (let e = c.post.ensures.workers in let f = c.reserve.ensures.workers in omega (arith, l, e, f)) (let e = c.post.ensures.workers in let f = c.reserve.ensures.workers in omega (arith, m, e, f));
+      passed_are = c.passed_now-self-inside.ensures.passed;
+      passed_most = c.passed_now-self-inside.ensures.most;
+    }
+
+pub returns-in-Ok-clause-step : goal.returns-in-Ok-clause-step
+returns-in-Ok-clause-step g c =
+    let s : Shown = c.self.inside.state in
+    let i : ℕ = c.args.input in
+    let takes = open_tells s i (sym c.input_refusal.ensures ∙ c.in_default.is) in
+    let n = c.self.invariant.viewers_are in
+    let P : BoardShown → Type 0 = λ z. Goes z.shown (Step.seal i) c.seal.new.self in
     let Q : Shown → Type 0 = λ z. Goes s (Step.seal i) z in
-    subst P c.self.view_is (subst Q (sym c.seal.ensures) (seal_goes (g.P.Progress.graph c.self.inside.tracker) (g.P.Progress.content c.self.inside.tracker) s c.self.invariant.kept i takes))
+    subst P c.self.view_is (subst Q (sym c.seal.ensures) (seal_goes (g.V.Views.graph c.self.inside.views) (g.V.Views.content c.self.inside.views) s c.self.invariant.kept i takes))
+
+pub returns-in-Ok-clause-posts : goal.returns-in-Ok-clause-posts
+returns-in-Ok-clause-posts g c =
+    let s : Shown = c.self.inside.state in
+    let i : ℕ = c.args.input in
+    let takes = open_tells s i (sym c.input_refusal.ensures ∙ c.in_default.is) in
+    let n = c.self.invariant.viewers_are in
+    let after = posted_some g.V.Views.late (g.V.Views.waiting c.reserve.new.self) (g.V.Views.waiting c.self.inside.views) (g.V.Views.waiting c.post.new.views) (batch c.worker_count-feeder.result (c.input_place-opens.result ∷ []) (c.input_place-ends.result ∷ [])) (length (c.input_place-opens.result ∷ []) + length (c.input_place-ends.result ∷ [])) (g.V.Views.workers c.self.inside.views) (omega arith) c.reserve.ensures.waiting (λ w k l. c.post.ensures.waiting w k (let e = c.reserve.ensures.workers in omega (arith, l, e))) in
+    let one : Posts g.V.Views.late c.worker_count-feeder.result (board_of s (g.V.Views.workers c.self.inside.views) (g.V.Views.waiting c.self.inside.views) c.self.inside.passed) (board_of c.seal.new.self (g.V.Views.workers c.self.inside.views) (g.V.Views.waiting c.post.new.views) c.passed_now-self-inside.result) =
+    posts s (g.V.Views.workers c.self.inside.views) (g.V.Views.waiting c.self.inside.views) c.self.inside.passed c.seal.new.self (g.V.Views.waiting c.post.new.views) c.passed_now-self-inside.result g.V.Views.late c.worker_count-feeder.result (c.input_place-opens.result ∷ []) (c.input_place-ends.result ∷ []) (sym n) after in
+    let A : ℕ → Type 0 = λ m. Posts g.V.Views.late m (board_of s (g.V.Views.workers c.self.inside.views) (g.V.Views.waiting c.self.inside.views) c.self.inside.passed) (board_of c.seal.new.self (g.V.Views.workers c.post.new.views) (g.V.Views.waiting c.post.new.views) c.passed_now-self-inside.result) in
+    let B : ℕ → Type 0 = λ m. Posts g.V.Views.late c.worker_count-feeder.result (board_of s (g.V.Views.workers c.self.inside.views) (g.V.Views.waiting c.self.inside.views) c.self.inside.passed) (board_of c.seal.new.self m (g.V.Views.waiting c.post.new.views) c.passed_now-self-inside.result) in
+    let D : BoardShown → Type 0 = λ z. Posts g.V.Views.late (length z.shown.sides) z (board_of c.seal.new.self (g.V.Views.workers c.post.new.views) (g.V.Views.waiting c.post.new.views) c.passed_now-self-inside.result) in
+    subst D c.self.view_is (subst A c.worker_count-feeder.ensures (subst B (sym (c.post.ensures.workers ∙ c.reserve.ensures.workers)) one))
+
+pub returns-in-Err-clause-refused : goal.returns-in-Err-clause-refused
+returns-in-Err-clause-refused g c =
+    (λ j. record { shown = c.self.inside.state; waits = counts_same (g.V.Views.workers c.self.inside.views) (g.V.Views.workers c.reserve.new.self) (g.V.Views.waiting c.self.inside.views) (g.V.Views.waiting c.reserve.new.self) c.reserve.ensures.workers c.reserve.ensures.waiting j; passed = c.self.inside.passed }) ∙ c.self.view_is

@@ -1,7 +1,6 @@
-use Rattle.std.proofs.Common.{◌≡◌, ◌<◌, ℕ, List, length, sym, ap, ◌∙◌, subst, arith, slice_set, IfSome, length-set}
-use Rattle.semantics.specs.Graph.{Graph}
+use Rattle.std.proofs.Common.{◌≡◌, ◌<◌, ℕ, List, length, sym, ap, ◌∙◌, subst, arith, slice_set, length-set}
 use Rattle.semantics.specs.Time.{Time}
-use Rattle.semantics.specs.Could.{Pointstamp, Location, IsTimeAt}
+use Rattle.semantics.specs.Could.{Pointstamp, Location}
 use Rattle.lowering.specs.Locations.{IsIn, location_of}
 use Rattle.lowering.specs.Shown.{GraphValue, shown_graph}
 use Rattle.machine.specs.Active.{event_pointstamp}
@@ -13,11 +12,11 @@ use Rattle.events.specs.Wired.{Wired}
 use Rattle.events.specs.Outputs.{IsOutputOf}
 use Rattle.events.specs.declared.letter.Letter.{Letter}
 use Rattle.events.specs.declared.work.Output.{Output}
-use Rattle.board.specs.Desks.{Desk, AreAtEdges, AreWithin, sides_of}
+use Rattle.board.specs.Desks.{Desk, AreWithin, sides_of}
 use Rattle.board.specs.Shown.{Shown, Side, side_at, side_in, event_at, location_vertex}
 use Rattle.board.specs.Steps.{with_emitted}
 use Rattle.board.proofs.Facts as facts
-use Rattle.board.proofs.Ending.{many_settled, out_there, is_in, event_vertex_is, event_time_is, worker_there, side_there, read_side, own_table, state_then, content_then}
+use Rattle.board.proofs.Ending.{many_settled, out_there, is_in, event_vertex_is, event_time_is, worker_there, side_there, read_side, own_table, state_then, added_then}
 use Rattle.board.proofs.Rooms.{sides_same, sides_length, as_many}
 use Rattle.board.proofs.state.State.commit.Goals as goal
 
@@ -57,10 +56,10 @@ prepare-requires-clause-within g c =
     let o : Output = c.into_parts-stub.result.1 in
     let is : IsOutputOf p.worker p.job o = c.into_parts-stub.ensures.output in
     let own = facts.own_side s p c.requires.own in
-    let within : AreWithin (length s.sides) o.sent.items = facts.within_here (g.P.Progress.graph c.args.tracker.now) (g.P.Progress.content c.args.tracker.now) s c.requires.kept p.worker own.0 p.job out o is in
+    let within : AreWithin (length s.sides) o.sent.items = facts.within_here (g.V.Views.graph c.args.views.now) (g.V.Views.content c.args.views.now) s c.requires.kept p.worker own.0 p.job out o is in
     let N : ℕ → Type 0 = λ n. AreWithin n o.sent.items in
     let L : List Letter → Type 0 = λ l. AreWithin (length (slice_set ds k c.show-stub.new.self)) l in
-    subst L (sym c.deref.ensures.value) (subst N (sym (many ∙ many_sides)) within)
+    subst L (sym c.deref-2.ensures.value) (subst N (sym (many ∙ many_sides)) within)
 
 pub vertex_at-vertex-requires : goal.vertex_at-vertex-requires
 vertex_at-vertex-requires g c =
@@ -78,9 +77,9 @@ vertex_at-vertex-requires g c =
     let o : Output = c.into_parts-stub.result.1 in
     let is : IsOutputOf p.worker p.job o = c.into_parts-stub.ensures.output in
     let own = facts.own_side s p c.requires.own in
-    let located = facts.located (g.P.Progress.graph c.args.tracker.now) (g.P.Progress.content c.args.tracker.now) s c.requires.kept p.worker own.0 p.job out in
+    let located = facts.located (g.V.Views.graph c.args.views.now) (g.V.Views.content c.args.views.now) s c.requires.kept p.worker own.0 p.job out in
     let h : IsIn (shown_graph s.graph) (event_pointstamp p.job.happening).location = is_in (shown_graph s.graph) (event_pointstamp p.job.happening).location (event_pointstamp p.job.happening).time located in
-    let graph : c.graph.result.now ≡ s.graph = c.graph.ensures ∙ ap (λ (z : Wired). z.graph) c.deref-2.ensures ∙ ap (λ (x : Shown). x.graph) c.self.view_is in
+    let graph : c.graph-2.result.now ≡ s.graph = c.graph-2.ensures ∙ ap (λ (z : Wired). z.graph) c.deref-3.ensures ∙ ap (λ (x : Shown). x.graph) c.self.view_is in
     let place : location_of c.location.result ≡ (event_pointstamp p.job.happening).location = c.location.ensures ∙ ap (λ (x : Pointstamp). x.location) is.place in
     let A : GraphValue → Type 0 = λ x. IsIn (shown_graph x) (location_of c.location.result) in
     let B : Location → Type 0 = λ l. IsIn (shown_graph s.graph) l in
@@ -112,11 +111,11 @@ emit-requires g c =
     let out : (side_at s p.worker).place ≡ Out p.job = out_there s p c.index_mut.result.now.side c.into_parts-stub.result.0.job x c.show-stub.ensures.out (ap (λ (t : Ticket Job). t.job) c.into_parts-stub.ensures.stub) in
     let is : IsOutputOf p.worker p.job c.into_parts-stub.result.1 = c.into_parts-stub.ensures.output in
     let own = facts.own_side s p c.requires.own in
-    let graph : c.graph.result.now ≡ s.graph = c.graph.ensures ∙ ap (λ (z : Wired). z.graph) c.deref-2.ensures ∙ ap (λ (x : Shown). x.graph) c.self.view_is in
+    let graph : c.graph-2.result.now ≡ s.graph = c.graph-2.ensures ∙ ap (λ (z : Wired). z.graph) c.deref-3.ensures ∙ ap (λ (x : Shown). x.graph) c.self.view_is in
     let place : location_of c.location.result ≡ (event_pointstamp p.job.happening).location = c.location.ensures ∙ ap (λ (x : Pointstamp). x.location) is.place in
     let vertex : c.vertex_at-vertex.result ≡ event_at (shown_graph s.graph) p.job.happening =
     c.vertex_at-vertex.ensures ∙ (λ i. location_vertex (shown_graph (graph i)) (place i)) ∙ event_vertex_is (shown_graph s.graph) p.job.happening in
-    let there = (facts.own (g.P.Progress.graph c.args.tracker.now) (g.P.Progress.content c.args.tracker.now) s c.requires.kept p.worker own.0 p.job out).vertex in
+    let there = (facts.own (g.V.Views.graph c.args.views.now) (g.V.Views.content c.args.views.now) s c.requires.kept p.worker own.0 p.job out).vertex in
     let room : length c.self.inside.emitted ≡ length (shown_graph s.graph) = ap (λ (x : Shown). length x.emitted) c.self.view_is ∙ c.requires.kept.room in
     omega (arith, there, vertex, room)
 
@@ -137,11 +136,11 @@ finish-requires-clause-vertex g c =
     let is : IsOutputOf p.worker p.job o = c.into_parts-stub.ensures.output in
     let own = facts.own_side s p c.requires.own in
     let now : sides_of c.prepare.new.workers.items ≡ s.sides = c.prepare.ensures.sides ∙ shown ∙ same in
-    let graph : c.graph.result.now ≡ s.graph = c.graph.ensures ∙ ap (λ (z : Wired). z.graph) c.deref-2.ensures ∙ ap (λ (x : Shown). x.graph) c.self.view_is in
+    let graph : c.graph-2.result.now ≡ s.graph = c.graph-2.ensures ∙ ap (λ (z : Wired). z.graph) c.deref-3.ensures ∙ ap (λ (x : Shown). x.graph) c.self.view_is in
     let place : location_of c.location.result ≡ (event_pointstamp p.job.happening).location = c.location.ensures ∙ ap (λ (x : Pointstamp). x.location) is.place in
     let vertex : c.vertex_at-vertex.result ≡ event_at (shown_graph s.graph) p.job.happening =
     c.vertex_at-vertex.ensures ∙ (λ i. location_vertex (shown_graph (graph i)) (place i)) ∙ event_vertex_is (shown_graph s.graph) p.job.happening in
-    let v = facts.vertex_there (g.P.Progress.graph c.args.tracker.now) (g.P.Progress.content c.args.tracker.now) s c.requires.kept p.worker own.0 p.job out in
+    let v = facts.vertex_there (g.V.Views.graph c.args.views.now) (g.V.Views.content c.args.views.now) s c.requires.kept p.worker own.0 p.job out in
     let side : side_in (sides_of c.prepare.new.workers.items) k ≡ side_at s p.worker = side_there s p c.requires.own c.prepare.new.workers.items k c.worker-number.ensures now in
     omega (arith, v, vertex, ap (λ (z : Side). length z.shards) side)
 
@@ -163,78 +162,11 @@ finish-requires-clause-within g c =
     let own = facts.own_side s p c.requires.own in
     let now : sides_of c.prepare.new.workers.items ≡ s.sides = c.prepare.ensures.sides ∙ shown ∙ same in
     let rest : record c.in-Ok.output { emitted = o.emitted } ≡ o = c.in-Ok.ensures.rest in
-    let within : AreWithin (length s.sides) o.sent.items = facts.within_here (g.P.Progress.graph c.args.tracker.now) (g.P.Progress.content c.args.tracker.now) s c.requires.kept p.worker own.0 p.job out o is in
+    let within : AreWithin (length s.sides) o.sent.items = facts.within_here (g.V.Views.graph c.args.views.now) (g.V.Views.content c.args.views.now) s c.requires.kept p.worker own.0 p.job out o is in
     let n : length c.prepare.new.workers.items ≡ length s.sides = sym (sides_length c.prepare.new.workers.items) ∙ ap length now in
     let N : ℕ → Type 0 = λ m. AreWithin m o.sent.items in
     let L : Output → Type 0 = λ z. AreWithin (length c.prepare.new.workers.items) z.sent.items in
     subst L (sym rest) (subst N (sym n) within)
-
-pub finish-requires-clause-edges : goal.finish-requires-clause-edges
-finish-requires-clause-edges g c =
-    let s : Shown = c.args.self.now in
-    let p : Pass = c.args.done in
-    let ds : List Desk = c.self.inside.workers.items in
-    let k : ℕ = c.worker-number.result in
-    let same : sides_of ds ≡ s.sides = ap (λ (x : Shown). x.sides) c.self.view_is in
-    let there : k < length ds = worker_there s p c.requires.own ds k c.worker-number.ensures same in
-    let shown : sides_of (slice_set ds k c.show-stub.new.self) ≡ sides_of ds = sides_same ds k c.show-stub.new.self c.index_mut.result.now there c.index_mut.ensures.value (ap (λ (x : Desk). x.side) c.show-stub.ensures.state) in
-    let many : length (slice_set ds k c.show-stub.new.self) ≡ length ds = as_many (slice_set ds k c.show-stub.new.self) ds shown in
-    let many_sides : length ds ≡ length s.sides = sym (sides_length ds) ∙ ap length same in
-    let x : c.index_mut.result.now.side ≡ side_at s p.worker = read_side s p c.requires.own ds k c.worker-number.ensures same c.index_mut.result.now c.index_mut.ensures.value in
-    let out : (side_at s p.worker).place ≡ Out p.job = out_there s p c.index_mut.result.now.side c.into_parts-stub.result.0.job x c.show-stub.ensures.out (ap (λ (t : Ticket Job). t.job) c.into_parts-stub.ensures.stub) in
-    let o : Output = c.into_parts-stub.result.1 in
-    let is : IsOutputOf p.worker p.job o = c.into_parts-stub.ensures.output in
-    let own = facts.own_side s p c.requires.own in
-    let rest : record c.in-Ok.output { emitted = o.emitted } ≡ o = c.in-Ok.ensures.rest in
-    let edges : AreAtEdges (g.P.Progress.graph c.args.tracker.now) o.sent.items = facts.edges_here (g.P.Progress.graph c.args.tracker.now) (g.P.Progress.content c.args.tracker.now) s c.requires.kept p.worker own.0 p.job out o is in
-    let N : Graph → Type 0 = λ m. AreAtEdges m o.sent.items in
-    let L : Output → Type 0 = λ z. AreAtEdges (g.P.Progress.graph c.prepare.new.tracker) z.sent.items in
-    subst L (sym rest) (subst N (sym c.prepare.ensures.graph) edges)
-
-pub finish-requires-clause-asked : goal.finish-requires-clause-asked
-finish-requires-clause-asked g c =
-    let s : Shown = c.args.self.now in
-    let p : Pass = c.args.done in
-    let ds : List Desk = c.self.inside.workers.items in
-    let k : ℕ = c.worker-number.result in
-    let same : sides_of ds ≡ s.sides = ap (λ (x : Shown). x.sides) c.self.view_is in
-    let there : k < length ds = worker_there s p c.requires.own ds k c.worker-number.ensures same in
-    let shown : sides_of (slice_set ds k c.show-stub.new.self) ≡ sides_of ds = sides_same ds k c.show-stub.new.self c.index_mut.result.now there c.index_mut.ensures.value (ap (λ (x : Desk). x.side) c.show-stub.ensures.state) in
-    let many : length (slice_set ds k c.show-stub.new.self) ≡ length ds = as_many (slice_set ds k c.show-stub.new.self) ds shown in
-    let many_sides : length ds ≡ length s.sides = sym (sides_length ds) ∙ ap length same in
-    let x : c.index_mut.result.now.side ≡ side_at s p.worker = read_side s p c.requires.own ds k c.worker-number.ensures same c.index_mut.result.now c.index_mut.ensures.value in
-    let out : (side_at s p.worker).place ≡ Out p.job = out_there s p c.index_mut.result.now.side c.into_parts-stub.result.0.job x c.show-stub.ensures.out (ap (λ (t : Ticket Job). t.job) c.into_parts-stub.ensures.stub) in
-    let o : Output = c.into_parts-stub.result.1 in
-    let is : IsOutputOf p.worker p.job o = c.into_parts-stub.ensures.output in
-    let own = facts.own_side s p c.requires.own in
-    let rest : record c.in-Ok.output { emitted = o.emitted } ≡ o = c.in-Ok.ensures.rest in
-    let asked : IfSome o.asked (λ r. IsTimeAt (g.P.Progress.graph c.args.tracker.now) (Location.vertex r.vertex) r.time) = facts.asked_here (g.P.Progress.graph c.args.tracker.now) (g.P.Progress.content c.args.tracker.now) s c.requires.kept p.worker own.0 p.job out o is in
-    let N : Graph → Type 0 = λ m. IfSome o.asked (λ r. IsTimeAt m (Location.vertex r.vertex) r.time) in
-    let L : Output → Type 0 = λ z. IfSome z.asked (λ r. IsTimeAt (g.P.Progress.graph c.prepare.new.tracker) (Location.vertex r.vertex) r.time) in
-    subst L (sym rest) (subst N (sym c.prepare.ensures.graph) asked)
-
-pub finish-requires-clause-active : goal.finish-requires-clause-active
-finish-requires-clause-active g c =
-    let s : Shown = c.args.self.now in
-    let p : Pass = c.args.done in
-    let ds : List Desk = c.self.inside.workers.items in
-    let k : ℕ = c.worker-number.result in
-    let same : sides_of ds ≡ s.sides = ap (λ (x : Shown). x.sides) c.self.view_is in
-    let there : k < length ds = worker_there s p c.requires.own ds k c.worker-number.ensures same in
-    let shown : sides_of (slice_set ds k c.show-stub.new.self) ≡ sides_of ds = sides_same ds k c.show-stub.new.self c.index_mut.result.now there c.index_mut.ensures.value (ap (λ (x : Desk). x.side) c.show-stub.ensures.state) in
-    let many : length (slice_set ds k c.show-stub.new.self) ≡ length ds = as_many (slice_set ds k c.show-stub.new.self) ds shown in
-    let many_sides : length ds ≡ length s.sides = sym (sides_length ds) ∙ ap length same in
-    let x : c.index_mut.result.now.side ≡ side_at s p.worker = read_side s p c.requires.own ds k c.worker-number.ensures same c.index_mut.result.now c.index_mut.ensures.value in
-    let out : (side_at s p.worker).place ≡ Out p.job = out_there s p c.index_mut.result.now.side c.into_parts-stub.result.0.job x c.show-stub.ensures.out (ap (λ (t : Ticket Job). t.job) c.into_parts-stub.ensures.stub) in
-    let o : Output = c.into_parts-stub.result.1 in
-    let is : IsOutputOf p.worker p.job o = c.into_parts-stub.ensures.output in
-    let own = facts.own_side s p c.requires.own in
-    let rest : record c.in-Ok.output { emitted = o.emitted } ≡ o = c.in-Ok.ensures.rest in
-    let active : 0 < g.P.Progress.content c.args.tracker.now (event_pointstamp p.job.happening) = facts.active_there (g.P.Progress.graph c.args.tracker.now) (g.P.Progress.content c.args.tracker.now) s c.requires.kept p.worker own.0 p.job out in
-    let N : (Pointstamp → ℕ) → Type 0 = λ f. 0 < f (event_pointstamp p.job.happening) in
-    let M : Pointstamp → Type 0 = λ z. 0 < g.P.Progress.content c.prepare.new.tracker z in
-    let L : Output → Type 0 = λ z. 0 < g.P.Progress.content c.prepare.new.tracker z.place in
-    subst L (sym rest) (subst M (sym is.place) (subst N (sym c.prepare.ensures.content) active))
 
 pub returns-in-Ok-clause-settles : goal.returns-in-Ok-clause-settles
 returns-in-Ok-clause-settles g c =
@@ -254,7 +186,7 @@ returns-in-Ok-clause-settles g c =
     let own = facts.own_side s p c.requires.own in
     let now : sides_of c.prepare.new.workers.items ≡ s.sides = c.prepare.ensures.sides ∙ shown ∙ same in
     let rest : record c.in-Ok.output { emitted = o.emitted } ≡ o = c.in-Ok.ensures.rest in
-    let graph : c.graph.result.now ≡ s.graph = c.graph.ensures ∙ ap (λ (z : Wired). z.graph) c.deref-2.ensures ∙ ap (λ (x : Shown). x.graph) c.self.view_is in
+    let graph : c.graph-2.result.now ≡ s.graph = c.graph-2.ensures ∙ ap (λ (z : Wired). z.graph) c.deref-3.ensures ∙ ap (λ (x : Shown). x.graph) c.self.view_is in
     let place : location_of c.location.result ≡ (event_pointstamp p.job.happening).location = c.location.ensures ∙ ap (λ (x : Pointstamp). x.location) is.place in
     let vertex : c.vertex_at-vertex.result ≡ event_at (shown_graph s.graph) p.job.happening =
     c.vertex_at-vertex.ensures ∙ (λ i. location_vertex (shown_graph (graph i)) (place i)) ∙ event_vertex_is (shown_graph s.graph) p.job.happening in
@@ -274,7 +206,8 @@ returns-in-Ok-clause-settles g c =
       state = state_then s t p o c.in-Ok.output k c.vertex_at-vertex.result c.epoch-epoch.result (sides_of c.prepare.new.workers.items)
           (ap (λ (x : Shown). x.graph) c.self.view_is) (ap (λ (x : Shown). x.inputs) c.self.view_is) (ap (λ (x : Shown). x.stopped) c.self.view_is)
           c.finish.ensures.sides (c.in-Ok.ensures.ok ∙ ap (λ (x : Shown). with_emitted c.vertex_at-vertex.result c.epoch-epoch.result o.emitted x.emitted) c.self.view_is) now c.worker-number.ensures vertex epoch rest;
-      content = content_then (g.P.Progress.content c.args.tracker.now) (g.P.Progress.content c.prepare.new.tracker) (g.P.Progress.content c.finish.new.tracker) o c.in-Ok.output (event_pointstamp p.job.happening) c.prepare.ensures.content rest is.place c.finish.ensures.content;
+      added_are = added_then c.finish.new.added.items o c.in-Ok.output rest c.finish.ensures.added;
+      place_is = c.finish.ensures.place ∙ ap (λ (x : Output). x.place) rest ∙ is.place;
     }
 
 pub invariant_of-self-in-Ok : goal.invariant_of-self-in-Ok

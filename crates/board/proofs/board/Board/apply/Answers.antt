@@ -1,0 +1,91 @@
+use Rattle.std.proofs.Common.{◌≡◌, ◌≢◌, ◌⊎◌, inl, inr, ◌<◌, ◌≤◌, ◌+◌, ℕ, suc, true, false, [], length, refl, sym, ap, ◌∙◌, subst, arith}
+use Rattle.semantics.specs.Could.{Pointstamp}
+use Rattle.semantics.specs.Graph.{Graph}
+use Rattle.board.specs.Kept.{IsKept}
+use Rattle.board.specs.Lateness.{Applies, AppliesOne, BoardShown, IsUpToDate, waits_for}
+use Rattle.board.specs.Shown.{Shown}
+use Rattle.views.specs.Waiting.{IsApplied}
+use Rattle.board.proofs.Counted.{keeps_same, kept_same}
+use Rattle.board.proofs.Lateness.{applied_none, applied_nothing, applied_one, applied_some, counts_same, board_of, no_sender, no_worker, caught_fewer, caught_prompt, up_to_date, waits_same}
+use Rattle.board.proofs.board.Board.apply.Goals as goal
+
+pub invariant_of-self : goal.invariant_of-self
+invariant_of-self g c =
+    let s : Shown = c.self.inside.state in
+    let none : IsApplied c.args.worker c.args.sender (g.V.Views.waiting c.self.inside.views) (g.V.Views.waiting c.apply.new.self) false = subst (IsApplied c.args.worker c.args.sender (g.V.Views.waiting c.self.inside.views) (g.V.Views.waiting c.apply.new.self)) c.if-not-apply.true c.apply.ensures.applied in
+    keeps_same (g.V.Views.graph c.self.inside.views) (g.V.Views.workers c.self.inside.views) (g.V.Views.content c.self.inside.views) (g.V.Views.waiting c.self.inside.views) (g.V.Views.room c.self.inside.views) g.V.Views.late c.self.inside.passed s c.self.invariant s (g.V.Views.graph c.apply.new.self) (g.V.Views.workers c.apply.new.self) (g.V.Views.content c.apply.new.self) (g.V.Views.waiting c.apply.new.self) (g.V.Views.room c.apply.new.self) c.apply.ensures.graph c.apply.ensures.workers c.apply.ensures.content (applied_nothing c.args.worker c.args.sender (g.V.Views.waiting c.self.inside.views) (g.V.Views.waiting c.apply.new.self) none c.apply.ensures.others) c.apply.ensures.room refl
+
+pub apply-requires-clause-worker : goal.apply-requires-clause-worker
+apply-requires-clause-worker g c = let l = c.if-worker-workers.false in let e = c.worker_count-workers.ensures in let v = c.self.invariant.viewers_are in omega (arith, l, e, v)
+
+pub apply-requires-clause-sender : goal.apply-requires-clause-sender
+apply-requires-clause-sender g c = let l = c.if-sender-workers.false in let e = c.worker_count-workers.ensures in let v = c.self.invariant.viewers_are in omega (arith, l, e, v)
+
+pub passed_now-self-inside-requires-clause-kept : goal.passed_now-self-inside-requires-clause-kept
+passed_now-self-inside-requires-clause-kept g c = kept_same (g.V.Views.graph c.self.inside.views) (g.V.Views.graph c.apply.new.self) (g.V.Views.content c.self.inside.views) (g.V.Views.content c.apply.new.self) c.self.inside.state c.self.invariant.kept c.apply.ensures.graph c.apply.ensures.content
+
+pub passed_now-self-inside-requires-clause-viewers : goal.passed_now-self-inside-requires-clause-viewers
+passed_now-self-inside-requires-clause-viewers g c = c.apply.ensures.workers ∙ c.self.invariant.viewers_are
+
+pub invariant_of-self-2 : goal.invariant_of-self-2
+invariant_of-self-2 g c =
+    let s : Shown = c.self.inside.state in
+    let one : IsApplied c.args.worker c.args.sender (g.V.Views.waiting c.self.inside.views) (g.V.Views.waiting c.apply.new.self) true = subst (IsApplied c.args.worker c.args.sender (g.V.Views.waiting c.self.inside.views) (g.V.Views.waiting c.apply.new.self)) c.if-not-apply.false c.apply.ensures.applied in
+    let v = c.self.invariant.viewers_are in
+    let e = c.worker_count-workers.ensures in
+    record {
+      kept = kept_same (g.V.Views.graph c.self.inside.views) (g.V.Views.graph c.apply.new.self) (g.V.Views.content c.self.inside.views) (g.V.Views.content c.apply.new.self) s c.self.invariant.kept c.apply.ensures.graph c.apply.ensures.content;
+      viewers_are = c.apply.ensures.workers ∙ v;
+      closes = (let r = c.self.invariant.closes in let p = c.apply.ensures.room in omega (arith, r, p));
+      prompt = λ late w k l m. absurd (applied_some c.args.worker c.args.sender (g.V.Views.waiting c.self.inside.views) (g.V.Views.waiting c.apply.new.self) one (c.self.invariant.prompt late c.args.worker c.args.sender (let x = c.if-worker-workers.false in omega (arith, x, e, v)) (let y = c.if-sender-workers.false in omega (arith, y, e, v))));
+      passed_are = c.passed_now-self-inside.ensures.passed;
+      passed_most = c.passed_now-self-inside.ensures.most;
+    }
+
+pub returns-then-worker-workers-clause-applied : goal.returns-then-worker-workers-clause-applied
+returns-then-worker-workers-clause-applied g c =
+    let past : (g.V.Views.workers c.self.inside.views) ≤ c.args.worker = (let l = c.if-worker-workers.true in let e = c.worker_count-workers.ensures in let v = c.self.invariant.viewers_are in omega (arith, l, e, v)) in
+    (subst (λ (b : BoardShown). waits_for b c.args.worker c.args.sender ≡ 0) c.self.view_is (no_worker c.self.inside.state (g.V.Views.workers c.self.inside.views) (g.V.Views.waiting c.self.inside.views) c.self.inside.passed c.args.worker c.args.sender past), refl)
+
+pub returns-then-sender-workers-clause-applied : goal.returns-then-sender-workers-clause-applied
+returns-then-sender-workers-clause-applied g c =
+    let past : suc (g.V.Views.workers c.self.inside.views) ≤ c.args.sender = (let l = c.if-sender-workers.true in let e = c.worker_count-workers.ensures in let v = c.self.invariant.viewers_are in omega (arith, l, e, v)) in
+    (subst (λ (b : BoardShown). waits_for b c.args.worker c.args.sender ≡ 0) c.self.view_is (no_sender c.self.inside.state (g.V.Views.workers c.self.inside.views) (g.V.Views.waiting c.self.inside.views) c.self.inside.passed c.args.worker c.args.sender past), refl)
+
+pub returns-then-not-apply-clause-applied : goal.returns-then-not-apply-clause-applied
+returns-then-not-apply-clause-applied g c =
+    let s : Shown = c.self.inside.state in
+    let v = c.self.invariant.viewers_are in
+    let e = c.worker_count-workers.ensures in
+    let none : IsApplied c.args.worker c.args.sender (g.V.Views.waiting c.self.inside.views) (g.V.Views.waiting c.apply.new.self) false = subst (IsApplied c.args.worker c.args.sender (g.V.Views.waiting c.self.inside.views) (g.V.Views.waiting c.apply.new.self)) c.if-not-apply.true c.apply.ensures.applied in
+    let lw : c.args.worker < (g.V.Views.workers c.self.inside.views) = (let x = c.if-worker-workers.false in omega (arith, x, e, v)) in
+    let lk : c.args.sender < suc (g.V.Views.workers c.self.inside.views) = (let y = c.if-sender-workers.false in omega (arith, y, e, v)) in (
+      subst (λ (b : BoardShown). waits_for b c.args.worker c.args.sender ≡ 0) c.self.view_is (applied_none s (g.V.Views.workers c.self.inside.views) (g.V.Views.waiting c.self.inside.views) (g.V.Views.waiting c.apply.new.self) c.self.inside.passed c.args.worker c.args.sender lw lk none),
+      (λ j. record { shown = s; waits = counts_same (g.V.Views.workers c.self.inside.views) (g.V.Views.workers c.apply.new.self) (g.V.Views.waiting c.self.inside.views) (g.V.Views.waiting c.apply.new.self) c.apply.ensures.workers (applied_nothing c.args.worker c.args.sender (g.V.Views.waiting c.self.inside.views) (g.V.Views.waiting c.apply.new.self) none c.apply.ensures.others) j; passed = c.self.inside.passed }) ∙ c.self.view_is,
+    )
+
+pub returns-then-not-apply-clause-others : goal.returns-then-not-apply-clause-others
+returns-then-not-apply-clause-others g c w k ne =
+    let s : Shown = c.self.inside.state in
+    let A : ℕ → Type 0 = λ m. waits_for (board_of s m (g.V.Views.waiting c.apply.new.self) c.self.inside.passed) w k ≡ waits_for (board_of s (g.V.Views.workers c.self.inside.views) (g.V.Views.waiting c.self.inside.views) c.self.inside.passed) w k in
+    let B : BoardShown → Type 0 = λ z. waits_for (board_of s (g.V.Views.workers c.apply.new.self) (g.V.Views.waiting c.apply.new.self) c.self.inside.passed) w k ≡ waits_for z w k in
+    subst B c.self.view_is (subst A (sym c.apply.ensures.workers) (waits_same s (g.V.Views.workers c.self.inside.views) (g.V.Views.waiting c.self.inside.views) c.self.inside.passed s (g.V.Views.waiting c.apply.new.self) c.self.inside.passed w k (λ lw lk. c.apply.ensures.others w k ne)))
+
+pub returns-clause-applied : goal.returns-clause-applied
+returns-clause-applied g c =
+    let s : Shown = c.self.inside.state in
+    let v = c.self.invariant.viewers_are in
+    let e = c.worker_count-workers.ensures in
+    let one : IsApplied c.args.worker c.args.sender (g.V.Views.waiting c.self.inside.views) (g.V.Views.waiting c.apply.new.self) true = subst (IsApplied c.args.worker c.args.sender (g.V.Views.waiting c.self.inside.views) (g.V.Views.waiting c.apply.new.self)) c.if-not-apply.false c.apply.ensures.applied in
+    let lw : c.args.worker < (g.V.Views.workers c.self.inside.views) = (let x = c.if-worker-workers.false in omega (arith, x, e, v)) in
+    let lk : c.args.sender < suc (g.V.Views.workers c.self.inside.views) = (let y = c.if-sender-workers.false in omega (arith, y, e, v)) in
+    let A : ℕ → Type 0 = λ m. waits_for (board_of s (g.V.Views.workers c.self.inside.views) (g.V.Views.waiting c.self.inside.views) c.self.inside.passed) c.args.worker c.args.sender ≡ suc (waits_for (board_of s m (g.V.Views.waiting c.apply.new.self) c.passed_now-self-inside.result) c.args.worker c.args.sender) in
+    let B : BoardShown → Type 0 = λ z. waits_for z c.args.worker c.args.sender ≡ suc (waits_for (board_of s (g.V.Views.workers c.apply.new.self) (g.V.Views.waiting c.apply.new.self) c.passed_now-self-inside.result) c.args.worker c.args.sender) in
+    subst B c.self.view_is (subst A (sym c.apply.ensures.workers) (applied_one s (g.V.Views.workers c.self.inside.views) (g.V.Views.waiting c.self.inside.views) (g.V.Views.waiting c.apply.new.self) c.self.inside.passed c.passed_now-self-inside.result c.args.worker c.args.sender lw lk one))
+
+pub returns-clause-others : goal.returns-clause-others
+returns-clause-others g c w k ne =
+    let s : Shown = c.self.inside.state in
+    let A : ℕ → Type 0 = λ m. waits_for (board_of s m (g.V.Views.waiting c.apply.new.self) c.passed_now-self-inside.result) w k ≡ waits_for (board_of s (g.V.Views.workers c.self.inside.views) (g.V.Views.waiting c.self.inside.views) c.self.inside.passed) w k in
+    let B : BoardShown → Type 0 = λ z. waits_for (board_of s (g.V.Views.workers c.apply.new.self) (g.V.Views.waiting c.apply.new.self) c.passed_now-self-inside.result) w k ≡ waits_for z w k in
+    subst B c.self.view_is (subst A (sym c.apply.ensures.workers) (waits_same s (g.V.Views.workers c.self.inside.views) (g.V.Views.waiting c.self.inside.views) c.self.inside.passed s (g.V.Views.waiting c.apply.new.self) c.passed_now-self-inside.result w k (λ lw lk. c.apply.ensures.others w k ne)))

@@ -1,0 +1,68 @@
+use Rattle.std.proofs.Common.{◌≡◌, ◌≢◌, ◌⊎◌, inl, inr, ◌<◌, ◌≤◌, ◌+◌, ℕ, suc, true, false, [], length, refl, sym, ap, ◌∙◌, subst, arith}
+use Rattle.semantics.specs.Could.{Pointstamp}
+use Rattle.semantics.specs.Graph.{Graph}
+use Rattle.board.specs.Kept.{IsKept}
+use Rattle.board.specs.Lateness.{Applies, AppliesOne, BoardShown, IsUpToDate, waits_for}
+use Rattle.board.specs.Shown.{Shown}
+use Rattle.board.proofs.Counted.{kept_same}
+use Rattle.board.proofs.Lateness.{applied_none, applied_one, board_of, no_sender, no_worker, caught_fewer, caught_prompt, up_to_date, waits_same}
+use Rattle.board.proofs.board.Board.catch_up.Goals as goal
+
+pub passed_now-self-inside-requires-clause-kept : goal.passed_now-self-inside-requires-clause-kept
+passed_now-self-inside-requires-clause-kept g c = kept_same (g.V.Views.graph c.self.inside.views) (g.V.Views.graph c.catch_up.new.views) (g.V.Views.content c.self.inside.views) (g.V.Views.content c.catch_up.new.views) c.self.inside.state c.self.invariant.kept c.catch_up.ensures.graph c.catch_up.ensures.content
+
+pub catch_up-requires-clause-workers : goal.catch_up-requires-clause-workers
+catch_up-requires-clause-workers g c = c.worker_count-workers.ensures ∙ sym c.self.invariant.viewers_are
+
+pub catch_up-requires-clause-few : goal.catch_up-requires-clause-few
+catch_up-requires-clause-few g c = let e = c.worker_count-workers.ensures in let f = c.self.invariant.kept.few in omega (arith, e, f)
+
+pub catch_up-requires-clause-worker : goal.catch_up-requires-clause-worker
+catch_up-requires-clause-worker g c = let l = c.if-worker-workers.false in let e = c.worker_count-workers.ensures in let v = c.self.invariant.viewers_are in omega (arith, l, e, v)
+
+pub passed_now-self-inside-requires-clause-viewers : goal.passed_now-self-inside-requires-clause-viewers
+passed_now-self-inside-requires-clause-viewers g c = c.catch_up.ensures.workers ∙ c.self.invariant.viewers_are
+
+pub invariant_of-self : goal.invariant_of-self
+invariant_of-self g c =
+    let s : Shown = c.self.inside.state in
+    let same : c.worker_count-workers.result ≡ (g.V.Views.workers c.self.inside.views) = c.worker_count-workers.ensures ∙ sym c.self.invariant.viewers_are in
+    record {
+      kept = kept_same (g.V.Views.graph c.self.inside.views) (g.V.Views.graph c.catch_up.new.views) (g.V.Views.content c.self.inside.views) (g.V.Views.content c.catch_up.new.views) s c.self.invariant.kept c.catch_up.ensures.graph c.catch_up.ensures.content;
+      viewers_are = c.catch_up.ensures.workers ∙ c.self.invariant.viewers_are;
+      closes = (let r = c.self.invariant.closes in let p = c.catch_up.ensures.room in omega (arith, r, p));
+      prompt = λ late w k l m. caught_prompt (g.V.Views.workers c.self.inside.views) c.args.worker (g.V.Views.waiting c.self.inside.views) (g.V.Views.waiting c.catch_up.new.views) (λ j lj. c.catch_up.ensures.none j (omega (arith, lj, same))) c.catch_up.ensures.others (c.self.invariant.prompt late) w k (let e = c.catch_up.ensures.workers in omega (arith, l, e)) (let e = c.catch_up.ensures.workers in omega (arith, m, e));
+      passed_are = c.passed_now-self-inside.ensures.passed;
+      passed_most = c.passed_now-self-inside.ensures.most;
+    }
+
+pub returns-clause-applies : goal.returns-clause-applies
+returns-clause-applies g c =
+    let s : Shown = c.self.inside.state in
+    let same : c.worker_count-workers.result ≡ (g.V.Views.workers c.self.inside.views) = c.worker_count-workers.ensures ∙ sym c.self.invariant.viewers_are in
+    let there : c.args.worker < (g.V.Views.workers c.self.inside.views) = (let l = c.if-worker-workers.false in omega (arith, l, same)) in
+    let old : BoardShown = board_of s (g.V.Views.workers c.self.inside.views) (g.V.Views.waiting c.self.inside.views) c.self.inside.passed in
+    let none : (k : ℕ) → k < (g.V.Views.workers c.self.inside.views) + 1 → (g.V.Views.waiting c.catch_up.new.views) c.args.worker k ≡ [] = λ k l. c.catch_up.ensures.none k (omega (arith, l, same)) in
+    let one : Applies c.args.worker old (board_of s (g.V.Views.workers c.self.inside.views) (g.V.Views.waiting c.catch_up.new.views) c.passed_now-self-inside.result) = record {
+      others = λ w k ne. waits_same s (g.V.Views.workers c.self.inside.views) (g.V.Views.waiting c.self.inside.views) c.self.inside.passed s (g.V.Views.waiting c.catch_up.new.views) c.passed_now-self-inside.result w k (λ lw lk. c.catch_up.ensures.others w k ne);
+      fewer = caught_fewer s (g.V.Views.workers c.self.inside.views) c.args.worker (g.V.Views.waiting c.self.inside.views) (g.V.Views.waiting c.catch_up.new.views) c.self.inside.passed c.passed_now-self-inside.result there none;
+      passed = c.passed_now-self-inside.ensures.from;
+    } in
+    let A : ℕ → Type 0 = λ m. Applies c.args.worker old (board_of s m (g.V.Views.waiting c.catch_up.new.views) c.passed_now-self-inside.result) in
+    let B : BoardShown → Type 0 = λ z. Applies c.args.worker z (board_of s (g.V.Views.workers c.catch_up.new.views) (g.V.Views.waiting c.catch_up.new.views) c.passed_now-self-inside.result) in
+    subst B c.self.view_is (subst A (sym c.catch_up.ensures.workers) one)
+
+pub returns-clause-prompt : goal.returns-clause-prompt
+returns-clause-prompt g c =
+    let s : Shown = c.self.inside.state in
+    let same : c.worker_count-workers.result ≡ (g.V.Views.workers c.self.inside.views) = c.worker_count-workers.ensures ∙ sym c.self.invariant.viewers_are in
+    up_to_date s (g.V.Views.workers c.catch_up.new.views) (g.V.Views.waiting c.catch_up.new.views) c.passed_now-self-inside.result c.args.worker (λ k lw lk. c.catch_up.ensures.none k (let e = c.catch_up.ensures.workers in omega (arith, lk, e, same)))
+
+pub returns-then-worker-workers-clause-applies : goal.returns-then-worker-workers-clause-applies
+returns-then-worker-workers-clause-applies g c = record { others = λ w k ne. refl; fewer = λ k. omega arith; passed = omega arith }
+
+pub returns-then-worker-workers-clause-prompt : goal.returns-then-worker-workers-clause-prompt
+returns-then-worker-workers-clause-prompt g c =
+    let s : Shown = c.self.inside.state in
+    let past : (g.V.Views.workers c.self.inside.views) ≤ c.args.worker = (let l = c.if-worker-workers.true in let e = c.worker_count-workers.ensures in let v = c.self.invariant.viewers_are in omega (arith, l, e, v)) in
+    subst (λ (b : BoardShown). IsUpToDate b c.args.worker) c.self.view_is (λ k. no_worker s (g.V.Views.workers c.self.inside.views) (g.V.Views.waiting c.self.inside.views) c.self.inside.passed c.args.worker k past)
