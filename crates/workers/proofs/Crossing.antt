@@ -19,7 +19,11 @@ use Rattle.board.specs.contracts.worker.Worker as worker
 use Rattle.board.specs.contracts.state.State as state
 use Rattle.workers.specs.contracts.engine.Engine as engine
 use Rattle.workers.specs.declared.held.Naming as naming
-use Rattle.progress.specs.declared.progress.Progress as progress
+use Rattle.views.specs.declared.views.Views as viewing
+use Rattle.views.specs.contracts.direct.Direct as direct
+use Rattle.views.specs.contracts.local_views.LocalViews as local_views
+use Rattle.views.specs.contracts.view.View as view
+use Rattle.views.proofs.queue.Queue.TheSendSync as queues
 use Rattle.workers.proofs.mark.Publisher.TheSendSync as publishers
 use Rattle.board.specs.contracts.slot.Slot as slot
 use Rattle.progress.specs.contracts.tree.Tree as tree
@@ -48,7 +52,9 @@ use Rattle.vertices.proofs.group.GroupShard.TheSendSync as groups
 use Rattle.vertices.proofs.distinct.DistinctShard.TheSendSync as distincts
 use Rattle.vertices.proofs.except.ExceptShard.TheSendSync as excepts
 use Rattle.vertices.proofs.intersect.IntersectShard.TheSendSync as intersects
+use Rattle.path_summary.proofs.pointstamp.Pointstamp.TheSendSync as pointstamps
 use Rattle.board.proofs.inputs.Input.TheSendSync as inputs
+use Rattle.board.proofs.lag.Lag.TheSendSync as lags
 use Rattle.board.proofs.emitted.Emitted.TheSendSync as emitted
 use Rattle.path_summary.proofs.links.Links.TheSendSync as links
 use Rattle.path_summary.proofs.kept.Kept.TheSendSync as kept
@@ -114,6 +120,15 @@ room_send = search (sendable, crosses, tree_send) depth 20
 tracker_send : IsSend tracker.the_row
 tracker_send = search (sendable, crosses, paths_sync, paths_send, tree_send, room_send, locations.the_send) depth 20
 
+pub direct_send : IsSend (direct.the_row tracker.the_row)
+direct_send = search (sendable, crosses, tracker_send) depth 20
+
+view_send : IsSend view.the_row
+view_send = search (sendable, crosses, tracker_send) depth 20
+
+pub local_views_send : IsSend local_views.the_row
+local_views_send = search (sendable, crosses, paths_sync, paths_send, view_send, queues.the_send) depth 20
+
 filter_send : IsSend filter.the_field.row
 filter_send = search (sendable, crosses, condition_field_send) depth 20
 
@@ -137,7 +152,7 @@ worker_send =
 state_field_send : IsSend state.the_field.row
 state_field_send = search (sendable, crosses, worker_send, wiring_send, wiring_sync, inputs.the_send, emitted.the_send) depth 20
 
--- a `&` of an engine may go to any thread, whoever names its board
-pub engine_sync : (J : RattleType) (n : naming.Ghosts J.Denot) (p : progress.Ghosts (tracker.the_row).Denot)
-    → IsSend J → IsSync J → IsSync (engine.the_row J tracker.the_row n p)
-engine_sync J n p s y = search (sendable, crosses, state_field_send, tracker_send, publishers.the_send, wiring_sync, wiring_send) depth 40
+-- a `&` of an engine may go to any thread, whoever names its board, if the views may
+pub engine_sync : (J V : RattleType) (n : naming.Ghosts J.Denot) (v : viewing.Ghosts V.Denot)
+    → IsSend J → IsSync J → IsSend V → IsSync (engine.the_row J V n v)
+engine_sync J V n v s y w = search (sendable, crosses, state_field_send, lags.the_send, pointstamps.the_send, publishers.the_send, wiring_sync, wiring_send) depth 40

@@ -1,54 +1,105 @@
--- After each call of the board, what is published is the number of passed epochs.
-use Rattle.std.proofs.Common.{◌≡◌, ◌≤◌, ℕ, List, max, Result, Ok, Err, OnOk, OnErr, sym, ap, subst, ◌∙◌, arith}
+-- After each call of the board, what is published is the number of passed epochs, and nothing waits for the first worker.
+use Rattle.std.proofs.Common.{◌≡◌, ◌≤◌, ℕ, zero, suc, List, [], max, Bool, true, false, MatchBool, slice_index_or, refl, sym, ap, subst, ◌∙◌, arith}
 use Rattle.atomic_table.specs.Seated.{TableId}
 use Rattle.lowering.specs.Shown.{GraphValue}
 use Rattle.machine.specs.Step.{Step}
-use Rattle.events.specs.Jobs.{Pass}
-use Rattle.board.specs.Answers.{Claims, Commits}
+use Rattle.board.specs.Answers.{Claims, HasChoice, HasNoChoice}
 use Rattle.board.specs.Kept.{Goes}
+use Rattle.board.specs.Lateness.{Applies, BoardShown, IsAsLate, IsUpToDate}
 use Rattle.board.specs.Promises.{CountsPassed}
 use Rattle.board.specs.Shown.{Shown, tables}
 use Rattle.board.specs.declared.board.Claimed.{Claimed}
 use Rattle.board.specs.declared.board.Claimed.TheVariants.{Stopped, Busy, Work, Drained, Idle}
-use Rattle.board.specs.declared.board.CommitRefusal.{CommitRefusal}
-use Rattle.board.specs.declared.board.CommitRefusal.TheVariants.{NoMemory}
-use Rattle.workers.specs.Held.{IsHeld}
+use Rattle.workers.specs.Held.{IsHeld, Publishes}
 
-module _ (names : List TableId) (graph : GraphValue) (s : Shown) (p : ℕ) (held : IsHeld names graph (record { board = s; published = p }))
-    (one : (m n : ℕ) → CountsPassed s m → CountsPassed s n → m ≡ n)
-    (stays : (step : Step) (next : Shown) → Goes s step next → (m n : ℕ) → CountsPassed s m → CountsPassed next n → m ≤ n)
-    (t : Shown) (same : tables t ≡ tables s) (n : ℕ) (counts : CountsPassed t n) where
-  -- the greater of the two is the new number
-  raised : (q : ℕ) → p ≤ n → q ≡ max p n → q ≡ n
-  raised q l e = omega arith
+-- nothing waits for the first worker, whoever applies what waits
+pub prompt_applied : (worker : ℕ) (b t : BoardShown) → IsUpToDate b 0 → Applies worker b t → IsUpToDate t 0
+prompt_applied zero b t prompt applies s = let none = prompt s in let fewer = applies.fewer s in omega arith
+prompt_applied (suc worker) b t prompt applies s = applies.others 0 s (λ e. absurd (cc)) ∙ prompt s
 
-  pub after_step : (step : Step) (q : ℕ) → Goes s step t → q ≡ max p n → IsHeld names graph (record { board = t; published = q })
-  after_step step q goes e = record {
+-- nor where nothing was posted
+pub prompt_kept : (b t : BoardShown) → IsUpToDate b 0 → IsAsLate b t → IsUpToDate t 0
+prompt_kept b t prompt late s = ap (λ (ws : List (List ℕ)). slice_index_or (slice_index_or ws 0 []) s 0) late.waits ∙ prompt s
+
+-- the number that the board says is published
+pub publishes : (old : ℕ) (b : BoardShown) (n new : ℕ) → IsUpToDate b 0 → n ≡ b.passed → (IsUpToDate b 0 → CountsPassed b.shown n) → new ≡ max old n → Publishes old b new
+publishes old b n new prompt value seen number = record {
+  prompt = prompt;
+  counts = subst (CountsPassed b.shown) value (seen prompt);
+  number = subst (λ (k : ℕ). new ≡ max old k) value number;
+}
+
+-- nothing was published before
+pub after_opening : (names : List TableId) (graph : GraphValue) (old : ℕ) (b : BoardShown) (new : ℕ) → tables b.shown ≡ names → b.shown.graph ≡ graph → old ≡ 0
+    → Publishes old b new → IsHeld names graph (record { board = b; published = new })
+after_opening names graph old b new named is_graph fresh p = record {
+  named = named;
+  graph = is_graph;
+  published = let same : b.passed ≡ new = (let number = p.number in omega (arith, number, fresh)) in subst (CountsPassed b.shown) same p.counts;
+  prompt = p.prompt;
+}
+
+module _ (names : List TableId) (graph : GraphValue) (b : BoardShown) (old : ℕ) (held : IsHeld names graph (record { board = b; published = old })) (t : BoardShown) (new : ℕ) where
+  -- the number that was published before isn't above the new one
+  published : old ≤ t.passed → Publishes old t new → CountsPassed t.shown new
+  published l p = let same : t.passed ≡ new = (let number = p.number in omega (arith, number, l)) in subst (CountsPassed t.shown) same p.counts
+
+  -- a step was taken
+  pub after_step : (stays : (step : Step) (next : Shown) → Goes b.shown step next → (m n : ℕ) → CountsPassed b.shown m → CountsPassed next n → m ≤ n)
+      (step : Step) → Goes b.shown step t.shown → tables t.shown ≡ tables b.shown → Publishes old t new → IsHeld names graph (record { board = t; published = new })
+  after_step stays step goes same p = record {
     named = same ∙ held.named;
     graph = goes.graph ∙ held.graph;
-    published = subst (CountsPassed t) (sym (raised q (stays step t goes p n held.published counts) e)) counts;
+    published = published (stays step t.shown goes old t.passed held.published p.counts) p;
+    prompt = p.prompt;
   }
 
-  pub after_nothing : (q : ℕ) → t ≡ s → q ≡ max p n → IsHeld names graph (record { board = t; published = q })
-  after_nothing q is e =
-      let there : p ≡ n = one p n held.published (subst (λ z. CountsPassed z n) is counts) in
+  -- a step was taken, and then the board was caught up with
+  pub after_publishing : (stays : (step : Step) (next : Shown) → Goes b.shown step next → (m n : ℕ) → CountsPassed b.shown m → CountsPassed next n → m ≤ n)
+      (step : Step) (u : BoardShown) → Goes b.shown step u.shown → tables u.shown ≡ tables b.shown → t.shown ≡ u.shown → Publishes old t new
+      → IsHeld names graph (record { board = t; published = new })
+  after_publishing stays step u goes same is p = after_step stays step (subst (Goes b.shown step) (sym is) goes) (ap tables is ∙ same) p
+
+  -- nothing changed, but that what waits may have been applied
+  pub after_nothing : (one : (m n : ℕ) → CountsPassed b.shown m → CountsPassed b.shown n → m ≡ n)
+      → t.shown ≡ b.shown → Publishes old t new → IsHeld names graph (record { board = t; published = new })
+  after_nothing one is p =
+      let there : old ≡ t.passed = one old t.passed held.published (subst (λ (z : Shown). CountsPassed z t.passed) is p.counts) in
       record {
-        named = same ∙ held.named;
+        named = ap tables is ∙ held.named;
         graph = ap (λ (z : Shown). z.graph) is ∙ held.graph;
-        published = subst (CountsPassed t) (sym (raised q (omega (arith, there)) e)) counts;
+        published = published (omega (arith, there)) p;
+        prompt = p.prompt;
       }
 
-  pub after_result : {T E : Type 0} (r : Result T E) (step : Step) (q : ℕ) → OnOk r (Goes s step t) → OnErr r (t ≡ s) → q ≡ max p n → IsHeld names graph (record { board = t; published = q })
-  after_result (Ok x) step q goes is e = after_step step q goes e
-  after_result (Err x) step q goes is e = after_nothing q is e
+  pub after_claim : (one : (m n : ℕ) → CountsPassed b.shown m → CountsPassed b.shown n → m ≡ n)
+      (stays : (step : Step) (next : Shown) → Goes b.shown step next → (m n : ℕ) → CountsPassed b.shown m → CountsPassed next n → m ≤ n)
+      (worker : ℕ) (c : Claimed) → Claims b.shown t.shown worker c → tables t.shown ≡ tables b.shown → Publishes old t new
+      → IsHeld names graph (record { board = t; published = new })
+  after_claim one stays worker Stopped h same p = after_nothing one h.1 p
+  after_claim one stays worker Busy h same p = after_nothing one h.2 p
+  after_claim one stays worker (Work x) h same p = after_step stays h.0.taken h.0.goes same p
+  after_claim one stays worker Drained h same p = after_nothing one h.3 p
+  after_claim one stays worker Idle h same p = after_nothing one h.5 p
 
-  pub after_claim : (k : ℕ) (c : Claimed) (q : ℕ) → Claims s t k c → q ≡ max p n → IsHeld names graph (record { board = t; published = q })
-  after_claim k Stopped q h e = after_nothing q h.1 e
-  after_claim k Busy q h e = after_nothing q h.2 e
-  after_claim k (Work x) q h e = after_step h.0.taken q h.0.goes e
-  after_claim k Drained q h e = after_nothing q h.3 e
-  after_claim k Idle q h e = after_nothing q h.5 e
+-- what waits for a worker was applied
+pub after_catching_up : (names : List TableId) (graph : GraphValue) (b : BoardShown) (n : ℕ) → IsHeld names graph (record { board = b; published = n })
+    → (worker : ℕ) (t : BoardShown) → t.shown ≡ b.shown → Applies worker b t → IsHeld names graph (record { board = t; published = n })
+after_catching_up names graph b n held worker t is applies = record {
+  named = ap tables is ∙ held.named;
+  graph = ap (λ (z : Shown). z.graph) is ∙ held.graph;
+  published = subst (λ (z : Shown). CountsPassed z n) (sym is) held.published;
+  prompt = prompt_applied worker b t held.prompt applies;
+}
 
-  pub after_commit : {T : Type 0} (d : Pass) (r : Result T CommitRefusal) (q : ℕ) → Commits s t d r → q ≡ max p n → IsHeld names graph (record { board = t; published = q })
-  after_commit d (Ok x) q h e = after_step _ q h.1.1 e
-  after_commit d (Err (NoMemory back)) q h e = after_nothing q h.1 e
+-- nothing changed
+pub after_refusal : (names : List TableId) (graph : GraphValue) (b : BoardShown) (n : ℕ) → IsHeld names graph (record { board = b; published = n })
+    → (t : BoardShown) → t ≡ b → IsHeld names graph (record { board = t; published = n })
+after_refusal names graph b n held t is = subst (λ (z : BoardShown). IsHeld names graph (record { board = z; published = n })) (sym is) held
+
+-- what a worker for whom nothing waits is told is so, and was so before
+pub choice : (b t : BoardShown) (worker : ℕ) (answer : Bool) → t.shown ≡ b.shown → IsUpToDate t worker
+    → (answer ≡ true → HasChoice t.shown worker) → (answer ≡ false → IsUpToDate t worker → HasNoChoice t.shown worker)
+    → MatchBool answer (HasChoice b.shown worker) (HasNoChoice b.shown worker)
+choice b t worker true is prompt some none = subst (λ (s : Shown). HasChoice s worker) is (some refl)
+choice b t worker false is prompt some none = subst (λ (s : Shown). HasNoChoice s worker) is (none refl prompt)

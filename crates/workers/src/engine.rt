@@ -1,6 +1,7 @@
 //! A board under a lock, for any number of threads.
 
 ghost use Rattle.std.specs.Prelude.{◌≡◌, ◌≤◌, ◌<◌, true, IfErr, IfOk, IfSome};
+ghost use Rattle.board.specs.Lateness.{IsUpToDate};
 ghost use Rattle.board.specs.Looks.{ShowsPassed};
 ghost use Rattle.board.specs.Shown.{tables};
 ghost use Rattle.workers.specs.Names.{GivesNamed, IsNamed};
@@ -13,30 +14,30 @@ use crate::plan::{Feed, Plan};
 use board::{Board, Claimed, Look, StepRefusal};
 use events::{Done, Work};
 use expr_tree::NoMemory;
-use progress::Progress;
 use rows::Batch;
 use std::alloc::Global;
 use std::collections::VecDeque;
 use std::sync::{Condvar, Mutex, Wait};
+use views::Views;
 
 /// A board under a lock, with a bell for each worker and one for those who wait for epochs to pass.
 #[derive(Drop)]
-pub struct Engine<J: Naming, P: Progress> {
-    floor: Mutex<Floor<J, P>>,
+pub struct Engine<J: Naming, V: Views> {
+    floor: Mutex<Floor<J, V>>,
     plan: Plan<J>,
     bells: Vec<Condvar>,
     passing: Condvar,
 }
 
-impl<J: Naming, P: Progress> Engine<J, P> {
+impl<J: Naming, V: Views> Engine<J, V> {
     /// Of a board, and of a publisher that has published nothing.
     pub fn new(
         alloc: Global,
-        board: Board<P>,
+        board: Board<V>,
         publisher: Publisher,
-    ) -> Result<Engine<J, P>, NoMemory>
-        requires names { tables board ≡ J.names }
-        requires graph { board.graph ≡ J.graph }
+    ) -> Result<Engine<J, V>, NoMemory>
+        requires names { tables board.shown ≡ J.names }
+        requires graph { board.shown.graph ≡ J.graph }
         requires fresh { publisher.number ≡ 0 }
     {
         let plan = Plan::new(board.share_wiring()?);
@@ -216,8 +217,9 @@ impl<J: Naming, P: Progress> Engine<J, P> {
     }
 
     /// The board, once no thread shares the engine any more.
-    pub(crate) fn into_board(self) -> Board<P>
-        ensures { result.graph ≡ J.graph }
+    pub(crate) fn into_board(self) -> Board<V>
+        ensures graph { result.shown.graph ≡ J.graph }
+        ensures prompt { IsUpToDate result 0 }
     {
         let Engine {
             floor,

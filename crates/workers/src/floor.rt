@@ -10,9 +10,11 @@
 //! - when the board is at its end.
 //!
 //! No wakeup is lost: whenever the lock is given back, either somebody is up, or nobody who sleeps has anything to do. For who is up looks
-//! after all who sleep before it sleeps or leaves, at `claim`; and where nobody is up, `due` asks all who sleep.
+//! after all who sleep before it sleeps or leaves, at `claim`; and where nobody is up, `due` asks all who sleep. Both apply what waits for
+//! a worker before they take it that it has nothing to do, so that no event is missed because a worker's view is late.
 
 ghost use Rattle.std.specs.Prelude.{◌≡◌, length, IfErr, IfOk};
+ghost use Rattle.board.specs.Lateness.{IsUpToDate};
 ghost use Rattle.workers.specs.Names.{GivesNamed, IsNamed};
 
 use crate::burden::{Brought, Burdens};
@@ -21,8 +23,8 @@ use crate::held::{Held, Naming};
 use crate::plan::{CutFeed, Slice};
 use board::{Board, Claimed, CommitRefusal, StepRefusal};
 use events::{CutBatch, Done, Work};
-use progress::Progress;
 use std::collections::VecDeque;
+use views::Views;
 
 /// No number of epochs is waited for.
 const NONE: u64 = u64::MAX;
@@ -57,8 +59,8 @@ impl Wakes {
 /// A board with its publisher; whose threads are asleep, and whose are up, that is, hold an event or were woken; whose events another
 /// one's thread has; what has come to each; and the least number of epochs that somebody waits for.
 #[derive(Drop)]
-pub struct Floor<J: Naming, P: Progress> {
-    pub held: Held<J, P>,
+pub struct Floor<J: Naming, V: Views> {
+    pub held: Held<J, V>,
     asleep: Crew,
     up: Crew,
     lent: Crew,
@@ -69,9 +71,9 @@ pub struct Floor<J: Naming, P: Progress> {
     awaited: u64,
 }
 
-impl<J: Naming, P: Progress> Floor<J, P> {
+impl<J: Naming, V: Views> Floor<J, V> {
     /// With nobody asleep.
-    pub fn new(held: Held<J, P>) -> Floor<J, P> {
+    pub fn new(held: Held<J, V>) -> Floor<J, V> {
         Floor {
             held,
             asleep: Crew::nobody(),
@@ -198,8 +200,9 @@ impl<J: Naming, P: Progress> Floor<J, P> {
     }
 
     /// The board.
-    pub fn into_board(self) -> Board<P>
-        ensures { result.graph ≡ J.graph }
+    pub fn into_board(self) -> Board<V>
+        ensures graph { result.shown.graph ≡ J.graph }
+        ensures prompt { IsUpToDate result 0 }
     {
         let Floor {
             held,
@@ -364,7 +367,7 @@ impl<J: Naming, P: Progress> Floor<J, P> {
     }
 
     /// One of them who has something to do, if there is any.
-    fn first_who_can_claim(&self, workers: Crew) -> Crew {
+    fn first_who_can_claim(&mut self, workers: Crew) -> Crew {
         for worker in 0..self.held.workers() {
             if workers.has(worker) && self.held.can_claim(worker) {
                 return Crew::nobody().with(worker);
@@ -374,7 +377,7 @@ impl<J: Naming, P: Progress> Floor<J, P> {
     }
 
     /// Those of them who have something to do.
-    fn who_can_claim(&self, workers: Crew) -> Crew {
+    fn who_can_claim(&mut self, workers: Crew) -> Crew {
         let mut busy = Crew::nobody();
         for worker in 0..self.held.workers() {
             if workers.has(worker) && self.held.can_claim(worker) {

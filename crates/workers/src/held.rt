@@ -1,21 +1,23 @@
 //! What lies under the lock: the board, and who publishes how many epochs have passed.
 
-ghost use Rattle.std.specs.Prelude.{◌≡◌, ◌<◌, ℕ, true, IfOk, MatchBool, OnErr, OnOk, length};
+ghost use Rattle.std.specs.Prelude.{◌≡◌, ◌<◌, ℕ, true, IfOk, MatchBool, OnErr, OnOk, length, max};
 ghost use Rattle.machine.specs.Step.{Step};
-ghost use Rattle.board.specs.Answers.{AnswersOnly, AnswersOr, Claims, Commits, HasChoice, HasNoChoice, Holds, feed_refusal, input_refusal, seal_refusal};
+ghost use Rattle.board.specs.Answers.{AnswersOnly, AnswersOr, Claims, Commits, HasChoice, HasNoChoice, Holds, IfNothing, feed_refusal, input_refusal, seal_refusal};
 ghost use Rattle.board.specs.Kept.{Goes};
+ghost use Rattle.board.specs.Lateness.{Applies, IsAsLate, IsUpToDate};
 ghost use Rattle.board.specs.Looks.{IsLookAt, ShowsPassed};
 ghost use Rattle.board.specs.Promises.{CountsPassed, IsDrained};
 ghost use Rattle.board.specs.Shown.{tables};
+ghost use Rattle.workers.specs.Held.{Publishes};
 ghost use Rattle.workers.specs.Names.{GivesNamed, IsNamed};
 
 use crate::mark::Publisher;
 use board::{Board, Claimed, CommitRefusal, Look, StepRefusal};
 use events::{CutBatch, Done, Work};
 use expr_tree::NoMemory;
-use progress::Progress;
 use std::alloc::Global;
 use std::marker::{Brand, Model, PhantomData};
+use views::Views;
 
 /// Which board it is: the tables by which its events are known, and the graph that it runs. No value is made of it; `Brand` stands for
 /// whatever board one call is about.
@@ -37,15 +39,15 @@ impl Naming for Brand {
     ghost graph = { record { vertices = []; inputs = []; outputs = []; arities = [] } };
 }
 
-/// A board and its publisher. Each call is the board's, and then what has passed is published.
+/// A board and its publisher. Each call is the board's; then all that waits for worker 0 is applied, and what has passed is published.
 #[derive(Drop)]
-pub struct Held<J: Naming, P: Progress> {
-    board: Board<P>,
+pub struct Held<J: Naming, V: Views> {
+    board: Board<V>,
     publisher: Publisher,
     of: PhantomData<J>,
 }
 
-impl<J: Naming, P: Progress> Model for Held<J, P> {
+impl<J: Naming, V: Views> Model for Held<J, V> {
     ghost use Rattle.std.specs.Coded.{codes};
     ghost use Rattle.vertices.specs.contracts.shard.Shard as shard_row;
     ghost use Rattle.std.specs.contracts.alloc.Global as heap;
@@ -63,16 +65,18 @@ impl<J: Naming, P: Progress> Model for Held<J, P> {
     ghost invariant = { λ h. IsHeld J.names J.graph (record { board = h.board; published = h.publisher.number }) };
 }
 
-impl<J: Naming, P: Progress> Held<J, P> {
+impl<J: Naming, V: Views> Held<J, V> {
     /// Publishes what has passed already.
-    pub fn new(board: Board<P>, publisher: Publisher) -> Held<J, P>
-        requires names { tables board ≡ J.names }
-        requires graph { board.graph ≡ J.graph }
+    pub fn new(board: Board<V>, publisher: Publisher) -> Held<J, V>
+        requires names { tables board.shown ≡ J.names }
+        requires graph { board.shown.graph ≡ J.graph }
         requires fresh { publisher.number ≡ 0 }
-        ensures { result.board ≡ board }
+        ensures shown { result.board.shown ≡ board.shown }
+        ensures applies { Applies 0 board result.board }
     {
+        let mut board = board;
         let mut publisher = publisher;
-        publisher.publish(board.passed_count());
+        publish(&mut board, &mut publisher);
         Held {
             board,
             publisher,
@@ -83,58 +87,60 @@ impl<J: Naming, P: Progress> Held<J, P> {
     /// As the board's. The batch must be cut by the board's plan. What is left is to be let go of once the lock is given back.
     pub fn feed_cut(&mut self, cut: CutBatch) -> (Result<(), StepRefusal>, Option<CutBatch>)
         requires { cut.wired ≡ record { graph = J.graph; workers = length J.names } }
-        ensures step { OnOk result.0 (Goes self.old.board (Step.feed cut.input cut.batch) self.new.board) }
+        ensures step { OnOk result.0 (Goes self.old.board.shown (Step.feed cut.input cut.batch) self.new.board.shown) }
         ensures refused { OnErr result.0 (self.new.board ≡ self.old.board) }
-        ensures answers { AnswersOr (feed_refusal self.old.board cut.input cut.batch) result.0 }
-        ensures published { CountsPassed self.new.board self.new.published }
+        ensures answers { AnswersOr (feed_refusal self.old.board.shown cut.input cut.batch) result.0 }
+        ensures published { CountsPassed self.new.board.shown self.new.published }
     {
-        self.board.law_count();
         self.board.law_stays();
         let (result, left) = self.board.feed_cut(cut);
-        self.publisher.publish(self.board.passed_count());
-        (result, left)
+        if let Err(refusal) = result {
+            return (Err(refusal), left);
+        }
+        publish(&mut self.board, &mut self.publisher);
+        (Ok(()), left)
     }
 
     /// As the board's: why a call on that input would be refused, whatever it is.
     pub fn input_refusal(&self, input: u32) -> Option<StepRefusal>
-        ensures { result ≡ input_refusal self.now.board input }
+        ensures { result ≡ input_refusal self.now.board.shown input }
     {
         self.board.input_refusal(input)
     }
 
     /// As the board's.
     pub fn seal(&mut self, input: u32) -> Result<(), StepRefusal>
-        ensures step { OnOk result (Goes self.old.board (Step.seal input) self.new.board) }
+        ensures step { OnOk result (Goes self.old.board.shown (Step.seal input) self.new.board.shown) }
         ensures refused { OnErr result (self.new.board ≡ self.old.board) }
-        ensures answers { AnswersOr (seal_refusal self.old.board input) result }
-        ensures published { CountsPassed self.new.board self.new.published }
+        ensures answers { AnswersOr (seal_refusal self.old.board.shown input) result }
+        ensures published { CountsPassed self.new.board.shown self.new.published }
     {
-        self.board.law_count();
         self.board.law_stays();
-        let result = self.board.seal(input);
-        self.publisher.publish(self.board.passed_count());
-        result
+        self.board.seal(input)?;
+        publish(&mut self.board, &mut self.publisher);
+        Ok(())
     }
 
     /// As the board's. No memory is taken.
     pub fn close(&mut self, input: u32) -> Result<(), StepRefusal>
-        ensures step { OnOk result (Goes self.old.board (Step.close input) self.new.board) }
+        ensures step { OnOk result (Goes self.old.board.shown (Step.close input) self.new.board.shown) }
         ensures refused { OnErr result (self.new.board ≡ self.old.board) }
-        ensures answers { AnswersOnly (input_refusal self.old.board input) result }
-        ensures published { CountsPassed self.new.board self.new.published }
+        ensures answers { AnswersOnly (input_refusal self.old.board.shown input) result }
+        ensures published { CountsPassed self.new.board.shown self.new.published }
     {
-        self.board.law_count();
         self.board.law_stays();
-        let result = self.board.close(input);
-        self.publisher.publish(self.board.passed_count());
-        result
+        self.board.close(input)?;
+        publish(&mut self.board, &mut self.publisher);
+        Ok(())
     }
 
     /// As the board's. No memory is taken.
     pub fn claim(&mut self, worker: u32) -> Claimed
-        ensures claims { Claims self.old.board self.new.board worker result }
+        ensures claims { Claims self.old.board.shown self.new.board.shown worker result }
         ensures named { GivesNamed J.names result }
-        ensures published { CountsPassed self.new.board self.new.published }
+        ensures applies { Applies worker self.old.board self.new.board }
+        ensures idle { IfNothing result (IsUpToDate self.new.board worker) }
+        ensures published { CountsPassed self.new.board.shown self.new.published }
     {
         self.board.law_count();
         self.board.law_stays();
@@ -146,24 +152,24 @@ impl<J: Naming, P: Progress> Held<J, P> {
     /// As the board's.
     pub fn commit(&mut self, done: Done) -> Result<(), CommitRefusal>
         requires { IsNamed J.names done }
-        ensures commits { Commits self.old.board self.new.board done result }
-        ensures published { CountsPassed self.new.board self.new.published }
+        ensures commits { Commits self.old.board.shown self.new.board.shown done result }
+        ensures refused { OnErr result (self.new.board ≡ self.old.board) }
+        ensures published { CountsPassed self.new.board.shown self.new.published }
     {
-        self.board.law_count();
         self.board.law_stays();
-        let result = self.board.commit(done);
-        self.publisher.publish(self.board.passed_count());
-        result
+        self.board.commit(done)?;
+        publish(&mut self.board, &mut self.publisher);
+        Ok(())
     }
 
     /// As the board's. No memory is taken.
     pub fn abandon(&mut self, work: Work)
         requires { IsNamed J.names work.0 }
-        ensures holds { Holds self.old.board work.0 }
-        ensures step { Goes self.old.board (Step.abandon work.0.worker work.0.job.happening) self.new.board }
-        ensures published { CountsPassed self.new.board self.new.published }
+        ensures holds { Holds self.old.board.shown work.0 }
+        ensures step { Goes self.old.board.shown (Step.abandon work.0.worker work.0.job.happening) self.new.board.shown }
+        ensures views { IsAsLate self.old.board self.new.board }
+        ensures published { CountsPassed self.new.board.shown self.new.published }
     {
-        self.board.law_count();
         self.board.law_stays();
         self.board.abandon(work);
         self.publisher.publish(self.board.passed_count());
@@ -172,11 +178,11 @@ impl<J: Naming, P: Progress> Held<J, P> {
     /// As the board's. No memory is taken.
     pub fn abandon_done(&mut self, done: Done)
         requires { IsNamed J.names done }
-        ensures holds { Holds self.old.board done }
-        ensures step { Goes self.old.board (Step.abandon done.worker done.job.happening) self.new.board }
-        ensures published { CountsPassed self.new.board self.new.published }
+        ensures holds { Holds self.old.board.shown done }
+        ensures step { Goes self.old.board.shown (Step.abandon done.worker done.job.happening) self.new.board.shown }
+        ensures views { IsAsLate self.old.board self.new.board }
+        ensures published { CountsPassed self.new.board.shown self.new.published }
     {
-        self.board.law_count();
         self.board.law_stays();
         self.board.abandon_done(done);
         self.publisher.publish(self.board.passed_count());
@@ -184,44 +190,49 @@ impl<J: Naming, P: Progress> Held<J, P> {
 
     /// How many epochs have passed.
     pub fn passed_count(&self) -> u64
-        ensures { CountsPassed self.now.board result }
+        ensures { CountsPassed self.now.board.shown result }
     {
         self.board.passed_count()
     }
 
-    /// Whether a claim of the worker would hand out an event.
-    pub fn can_claim(&self, worker: u32) -> bool
-        ensures { MatchBool result (HasChoice self.now.board worker) (HasNoChoice self.now.board worker) }
+    /// Whether a claim of the worker would hand out an event. All that waits for the worker is applied first.
+    pub fn can_claim(&mut self, worker: u32) -> bool
+        ensures choice { MatchBool result (HasChoice self.old.board.shown worker) (HasNoChoice self.old.board.shown worker) }
+        ensures shown { self.new.board.shown ≡ self.old.board.shown }
+        ensures applies { Applies worker self.old.board self.new.board }
+        ensures published { self.new.published ≡ self.old.published }
     {
+        self.board.catch_up(worker);
         self.board.can_claim(worker)
     }
 
     /// Whether an event was given up.
     pub fn is_stopped(&self) -> bool
-        ensures { result ≡ self.now.board.stopped }
+        ensures { result ≡ self.now.board.shown.stopped }
     {
         self.board.is_stopped()
     }
 
     /// Whether nothing is left to do.
     pub fn is_drained(&self) -> bool
-        ensures { MatchBool result (IsDrained self.now.board) (IsDrained self.now.board → ⊥) }
+        ensures { MatchBool result (IsDrained self.now.board.shown) (IsDrained self.now.board.shown → ⊥) }
     {
         self.board.is_drained()
     }
 
     /// The number of workers: 1 to 64.
     pub fn workers(&self) -> u32
-        ensures { result ≡ length self.now.board.sides }
+        ensures { result ≡ length self.now.board.shown.sides }
     {
         self.board.workers()
     }
 
-    /// As the board's: what it shows of an epoch.
+    /// As the board's: what it shows of an epoch. The first worker's view is up to date, so what has passed is seen so.
     pub fn look(&self, alloc: Global, epoch: u32) -> Result<Look, NoMemory>
         ensures look { IfOk result (λ l. IsLookAt self.now.board epoch l) }
+        ensures prompt { IsUpToDate self.now.board 0 }
         ensures graph { IfOk result (λ l. l.graph ≡ J.graph) }
-        ensures passed { IfOk result (λ l. (n : ℕ) → CountsPassed self.now.board n → epoch < n → ShowsPassed l) }
+        ensures passed { IfOk result (λ l. (n : ℕ) → CountsPassed self.now.board.shown n → epoch < n → ShowsPassed l) }
     {
         self.board.law_count();
         let look = self.board.look(alloc, epoch)?;
@@ -229,9 +240,10 @@ impl<J: Naming, P: Progress> Held<J, P> {
     }
 
     /// The board, which nobody shares any more.
-    pub fn into_board(self) -> Board<P>
+    pub fn into_board(self) -> Board<V>
         ensures board { result ≡ self.board }
-        ensures graph { result.graph ≡ J.graph }
+        ensures graph { result.shown.graph ≡ J.graph }
+        ensures prompt { IsUpToDate result 0 }
     {
         let Held {
             board,
@@ -240,4 +252,15 @@ impl<J: Naming, P: Progress> Held<J, P> {
         } = self;
         board
     }
+}
+
+/// Applies all that waits for worker 0, and publishes how many epochs have passed.
+fn publish<V: Views>(board: &mut Board<V>, publisher: &mut Publisher)
+    ensures shown { board.new.shown ≡ board.old.shown }
+    ensures applies { Applies 0 board.old board.new }
+    ensures table { publisher.new.table ≡ publisher.old.table }
+    ensures publishes { Publishes publisher.old.number board.new publisher.new.number }
+{
+    board.catch_up(0);
+    publisher.publish(board.passed_count());
 }

@@ -23,9 +23,9 @@
 //!
 //! The contract for the layers above:
 //!
-//! - `Held` is what lies under the lock. Each of its calls is the board's, with the board's contract, and then what has passed is
-//!   published. So whoever takes the lock finds a board that keeps the main promise, and the mark at the number of epochs that have
-//!   passed, neither more nor less.
+//! - `Held` is what lies under the lock. Each of its calls is the board's, with the board's contract. Then whoever holds the lock applies
+//!   all that waits for worker 0, and publishes what has passed. So whoever takes the lock finds a board that keeps the main promise, and
+//!   the mark at the number of epochs that have passed, neither more nor less, however late the other workers' views are.
 //! - A `Look` and a `Report` keep the promise by their types. Whether a report is drained is answered exactly.
 //! - An event goes back to the engine that handed it out, and to no other: that is a condition of the calls, of which `work` is proved
 //!   (`Naming`).

@@ -12,33 +12,36 @@ use crate::held::Naming;
 use crate::mark::{Mark, Seat};
 use board::Board;
 use lowering::Graph;
-use progress::Progress;
 use rows::Batch;
 use std::marker::Model;
+use views::Views;
 
 /// What a finished engine shows: its board, on which nobody works any more.
 #[derive(Drop)]
-pub struct Report<P: Progress> {
-    board: Board<P>,
+pub struct Report<V: Views> {
+    board: Board<V>,
 }
 
-impl<P: Progress> Model for Report<P> {
+impl<V: Views> Model for Report<V> {
     ghost use Rattle.std.specs.Coded.{codes};
     ghost use Rattle.vertices.specs.contracts.shard.Shard as shard_row;
     ghost use Rattle.std.specs.contracts.alloc.Global as heap;
     ghost use Rattle.std.specs.contracts.impls.GlobalAllocator.TheImpl as allocates;
     ghost use Rattle.expr_tree.specs.contracts.scalar.Scalar as scalar;
     ghost use Rattle.expr_tree.specs.contracts.condition.Cond as condition;
+    ghost use Rattle.board.specs.Lateness.{IsUpToDate};
     ghost use Rattle.board.specs.Shown.{Shown};
 
     ghost Value = { Shown };
 
     ghost coded = { Prim.hlevel (codes, shard_row.the_row.coded, (scalar.the_row heap.the_row allocates.ghosts).coded, (condition.the_row heap.the_row allocates.ghosts).coded) };
 
-    ghost view = { λ r. r.board };
+    ghost view = { λ r. r.board.shown };
+
+    ghost invariant = { λ r. IsUpToDate r.board 0 };
 }
 
-impl<P: Progress> Report<P> {
+impl<V: Views> Report<V> {
     /// Whether every input is closed, nothing waits, and no event is held or given up.
     pub fn drained(&self) -> bool
         ensures { MatchBool result (IsDrained self.now) (IsDrained self.now → ⊥) }
@@ -113,11 +116,11 @@ impl<P: Progress> Report<P> {
 
 /// The end of a run, once no thread shares the engine any more. None only where the mark says that more epochs have passed than have
 /// here, as that of another engine may.
-pub fn finish<J: Naming, P: Progress>(
-    engine: Engine<J, P>,
+pub fn finish<J: Naming, V: Views>(
+    engine: Engine<J, V>,
     mark: &Mark,
     seats: Vec<Seat>,
-) -> Option<Report<P>>
+) -> Option<Report<V>>
     requires { All (λ s. s.table ≡ mark.now) seats.items }
     ensures graph { IfSome result (λ r. r.graph ≡ J.graph) }
     ensures seats { IfSome result (λ r. (n : ℕ) → CountsPassed r n → All (λ s. s.number ≤ n) seats.items) }

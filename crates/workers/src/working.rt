@@ -7,9 +7,9 @@ use crate::gate::Gate;
 use crate::held::Naming;
 use board::Claimed;
 use events::Work;
-use progress::Progress;
 use std::alloc::Global;
 use std::sync::Wait;
+use views::Views;
 
 /// Why a worker has stopped working.
 #[derive(Clone, Copy, Debug, PartialEq, Eq)]
@@ -24,10 +24,10 @@ pub enum Ended {
 
 /// Claims, computes by the gate and commits, until nothing is left to do or the board is stopped, and sleeps while there is nothing that
 /// the worker could do. An event for which memory is wanting is given up. Its promise holds if it ends.
-pub fn work<J: Naming, P: Progress, R: Wait, G: Gate>(
+pub fn work<J: Naming, V: Views, R: Wait, G: Gate>(
     rt: &R,
     alloc: Global,
-    engine: &Engine<J, P>,
+    engine: &Engine<J, V>,
     worker: u32,
     gate: &G,
 ) -> Ended {
@@ -42,10 +42,10 @@ pub fn work<J: Naming, P: Progress, R: Wait, G: Gate>(
 }
 
 /// As `work`, but it never sleeps: None where there is nothing that the worker could do now. `turn` counts its events on.
-pub fn work_along<J: Naming, P: Progress, R: Wait, G: Gate>(
+pub fn work_along<J: Naming, V: Views, R: Wait, G: Gate>(
     rt: &R,
     alloc: Global,
-    engine: &Engine<J, P>,
+    engine: &Engine<J, V>,
     worker: u32,
     gate: &G,
     turn: &mut u64,
@@ -55,10 +55,10 @@ pub fn work_along<J: Naming, P: Progress, R: Wait, G: Gate>(
 }
 
 /// Computes and commits what was claimed, and goes on with what comes with each commit. None where there is nothing to do now.
-fn go_on<J: Naming, P: Progress, R: Wait, G: Gate>(
+fn go_on<J: Naming, V: Views, R: Wait, G: Gate>(
     rt: &R,
     alloc: Global,
-    engine: &Engine<J, P>,
+    engine: &Engine<J, V>,
     worker: u32,
     gate: &G,
     turn: &mut u64,
@@ -83,10 +83,10 @@ fn go_on<J: Naming, P: Progress, R: Wait, G: Gate>(
 }
 
 /// Computes an event and commits it, and has what the worker claims then.
-fn turn_over<J: Naming, P: Progress, R: Wait, G: Gate>(
+fn turn_over<J: Naming, V: Views, R: Wait, G: Gate>(
     rt: &R,
     alloc: Global,
-    engine: &Engine<J, P>,
+    engine: &Engine<J, V>,
     worker: u32,
     gate: &G,
     turn: u64,

@@ -3,24 +3,37 @@
 ghost use Rattle.std.specs.Prelude.{◌≡◌, ◌<◌, ◌≤◌, length};
 
 use board::Board;
-use lowering::lower;
+use lowering::{Graph, lower};
 use parser::parse;
 use progress::LocationTracker;
 use rows::{Batch, Rows};
 use std::alloc::Global;
 use std::sync::Arc;
 use typing::check;
+use views::{Direct, LocalViews, Views};
 use workers::Report;
 
+/// The graph that copies its input to its output.
+fn copying_graph(alloc: Global) -> Option<Arc<Graph, Global>> {
+    let program = parse(alloc, b"input a/1; output a;").ok()?;
+    let typed = check(alloc, program).ok()?;
+    Arc::new(alloc, lower(alloc, &typed).ok()?).ok()
+}
+
 /// A board that copies its input to its output.
-pub fn copying(alloc: Global, workers: u32) -> Option<Board<LocationTracker>>
+pub fn copying(alloc: Global, workers: u32) -> Option<Board<Direct<LocationTracker>>>
     requires some { 0 < workers }
     requires few { workers ≤ 64 }
 {
-    let program = parse(alloc, b"input a/1; output a;").ok()?;
-    let typed = check(alloc, program).ok()?;
-    let graph = Arc::new(alloc, lower(alloc, &typed).ok()?).ok()?;
-    Board::new(alloc, graph, workers).ok()
+    Board::new(alloc, copying_graph(alloc)?, workers).ok()
+}
+
+/// The same board with a view for each worker.
+pub fn copying_with_local_views(alloc: Global, workers: u32) -> Option<Board<LocalViews>>
+    requires some { 0 < workers }
+    requires few { workers ≤ 64 }
+{
+    Board::with_local_views(alloc, copying_graph(alloc)?, workers).ok()
 }
 
 /// A batch of one record of one field.
@@ -44,7 +57,7 @@ pub fn count_of(batches: &[Batch], field: i64) -> u64 {
 }
 
 /// What was emitted at the first output for an epoch; nothing where there is no output.
-pub fn emitted(report: &Report<LocationTracker>, epoch: u32) -> &[Batch] {
+pub fn emitted<V: Views>(report: &Report<V>, epoch: u32) -> &[Batch] {
     if report.output_count() == 0 {
         return &[];
     }

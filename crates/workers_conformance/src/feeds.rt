@@ -5,12 +5,12 @@ ghost use Rattle.board.specs.Shown.{tables};
 
 use crate::boards::{batch_of, copying};
 use board::{Board, StepRefusal};
-use progress::LocationTracker;
 use rows::{Batch, Rows};
 use std::alloc::Global;
 use std::marker::Brand;
 use std::sync::Wait;
 use std::test::Fail;
+use views::Views;
 use workers::{Engine, Mark, Naming, Publisher};
 
 /// A batch of one record of two fields.
@@ -21,17 +21,17 @@ fn wide(alloc: Global) -> Option<Batch> {
 }
 
 /// The answers to a feed, to one after a seal, to one of another arity, to one of no input, and to the same once the input is closed.
-fn answers<J: Naming, R: Wait>(
+fn answers<J: Naming, V: Views, R: Wait>(
     rt: &R,
     alloc: Global,
-    board: Board<LocationTracker>,
+    board: Board<V>,
     publisher: Publisher,
 ) -> Option<[Result<(), StepRefusal>; 6]>
-    requires names { tables board ≡ J.names }
-    requires graph { board.graph ≡ J.graph }
+    requires names { tables board.shown ≡ J.names }
+    requires graph { board.shown.graph ≡ J.graph }
     requires fresh { publisher.number ≡ 0 }
 {
-    let engine = Engine::<J, LocationTracker>::new(alloc, board, publisher).ok()?;
+    let engine = Engine::<J, V>::new(alloc, board, publisher).ok()?;
     let fed = engine.feed(rt, alloc, 0, batch_of(alloc, 7)?);
     engine.seal(rt, 0).ok()?;
     let later = engine.feed(rt, alloc, 0, batch_of(alloc, 8)?);
@@ -43,15 +43,15 @@ fn answers<J: Naming, R: Wait>(
     Some([fed, later, other, unknown, closed, wide_and_closed])
 }
 
-fn answers_of<R: Wait>(
+fn answers_of<V: Views, R: Wait>(
     rt: &R,
     alloc: Global,
-    board: Board<LocationTracker>,
+    board: Board<V>,
     publisher: Publisher,
 ) -> Option<[Result<(), StepRefusal>; 6]>
     requires { publisher.number ≡ 0 }
 {
-    answers::<Brand, R>(rt, alloc, board, publisher)
+    answers::<Brand, V, R>(rt, alloc, board, publisher)
 }
 
 #[test]

@@ -3,13 +3,13 @@
 ghost use Rattle.std.specs.Prelude.{◌≡◌, All};
 ghost use Rattle.board.specs.Shown.{tables};
 
-use crate::boards::{batch_of, copying, count_of};
+use crate::boards::{batch_of, copying, copying_with_local_views, count_of};
 use board::Board;
-use progress::LocationTracker;
 use std::alloc::Global;
 use std::marker::Brand;
 use std::sync::Wait;
 use std::test::Fail;
+use views::Views;
 use workers::{Engine, Mark, Naming, NoGate, Publisher, Seat, finish, work};
 
 /// What an observer saw of epoch 0, once before the work and once after it.
@@ -23,10 +23,10 @@ struct Seen {
 }
 
 /// What is seen of epoch 0.
-fn look_of<J: Naming, R: Wait>(
+fn look_of<J: Naming, V: Views, R: Wait>(
     rt: &R,
     alloc: Global,
-    engine: &Engine<J, LocationTracker>,
+    engine: &Engine<J, V>,
     mark: &Mark,
     seat: &mut Seat,
 ) -> Option<(u64, u64, bool)>
@@ -42,21 +42,21 @@ fn look_of<J: Naming, R: Wait>(
 }
 
 /// 7 is fed, the input is sealed twice and closed, and a worker works it off.
-fn one_record<J: Naming, R: Wait>(
+fn one_record<J: Naming, V: Views, R: Wait>(
     rt: &R,
     alloc: Global,
-    board: Board<LocationTracker>,
+    board: Board<V>,
     publisher: Publisher,
     mark: &Mark,
     seat: Seat,
 ) -> Option<Seen>
-    requires names { tables board ≡ J.names }
-    requires graph { board.graph ≡ J.graph }
+    requires names { tables board.shown ≡ J.names }
+    requires graph { board.shown.graph ≡ J.graph }
     requires fresh { publisher.number ≡ 0 }
     requires seat { seat.table ≡ mark.now }
 {
     let mut seat = seat;
-    let engine = Engine::<J, LocationTracker>::new(alloc, board, publisher).ok()?;
+    let engine = Engine::<J, V>::new(alloc, board, publisher).ok()?;
     engine.feed(rt, alloc, 0, batch_of(alloc, 7)?).ok()?;
     engine.seal(rt, 0).ok()?;
     engine.seal(rt, 0).ok()?;
@@ -72,10 +72,10 @@ fn one_record<J: Naming, R: Wait>(
     })
 }
 
-fn one_record_of<R: Wait>(
+fn one_record_of<V: Views, R: Wait>(
     rt: &R,
     alloc: Global,
-    board: Board<LocationTracker>,
+    board: Board<V>,
     publisher: Publisher,
     mark: &Mark,
     seat: Seat,
@@ -83,7 +83,16 @@ fn one_record_of<R: Wait>(
     requires fresh { publisher.number ≡ 0 }
     requires seat { seat.table ≡ mark.now }
 {
-    one_record::<Brand, R>(rt, alloc, board, publisher, mark, seat)
+    one_record::<Brand, V, R>(rt, alloc, board, publisher, mark, seat)
+}
+
+/// 7 was fed before the work, and emitted by it. Two epochs have passed.
+fn fed_and_emitted() -> Seen {
+    Seen {
+        before: (1, 0, false),
+        after: (1, 1, true),
+        mark: 2,
+    }
 }
 
 #[test]
@@ -93,42 +102,46 @@ fn looks_before_and_after(rt: HostRuntime) -> Result<(), Fail> {
     let (mark, publisher, mut seats) = Mark::new(alloc, 1)?;
     let seat = seats.pop().ok_or("no seat")?;
     let seen = one_record_of(&rt, alloc, board, publisher, &mark, seat).ok_or("not seen")?;
-    assert_eq!(rt;
-        seen,
-        Seen {
-            before: (1, 0, false),
-            after: (1, 1, true),
-            mark: 2
-        }
-    );
+    assert_eq!(rt; seen, fed_and_emitted());
+    Ok(())
+}
+
+#[test]
+fn looks_with_local_views(rt: HostRuntime) -> Result<(), Fail> {
+    let alloc = rt.alloc();
+    let board = copying_with_local_views(alloc, 1).ok_or("no board")?;
+    let (mark, publisher, mut seats) = Mark::new(alloc, 1)?;
+    let seat = seats.pop().ok_or("no seat")?;
+    let seen = one_record_of(&rt, alloc, board, publisher, &mark, seat).ok_or("not seen")?;
+    assert_eq!(rt; seen, fed_and_emitted());
     Ok(())
 }
 
 /// The input is sealed twice, and nobody works.
-fn sealed_twice<J: Naming, R: Wait>(
+fn sealed_twice<J: Naming, V: Views, R: Wait>(
     rt: &R,
     alloc: Global,
-    board: Board<LocationTracker>,
+    board: Board<V>,
     publisher: Publisher,
 ) -> Option<()>
-    requires names { tables board ≡ J.names }
-    requires graph { board.graph ≡ J.graph }
+    requires names { tables board.shown ≡ J.names }
+    requires graph { board.shown.graph ≡ J.graph }
     requires fresh { publisher.number ≡ 0 }
 {
-    let engine = Engine::<J, LocationTracker>::new(alloc, board, publisher).ok()?;
+    let engine = Engine::<J, V>::new(alloc, board, publisher).ok()?;
     engine.seal(rt, 0).ok()?;
     engine.seal(rt, 0).ok()
 }
 
-fn sealed_twice_of<R: Wait>(
+fn sealed_twice_of<V: Views, R: Wait>(
     rt: &R,
     alloc: Global,
-    board: Board<LocationTracker>,
+    board: Board<V>,
     publisher: Publisher,
 ) -> Option<()>
     requires { publisher.number ≡ 0 }
 {
-    sealed_twice::<Brand, R>(rt, alloc, board, publisher)
+    sealed_twice::<Brand, V, R>(rt, alloc, board, publisher)
 }
 
 #[test]
@@ -142,27 +155,39 @@ fn passes_without_workers(rt: HostRuntime) -> Result<(), Fail> {
     Ok(())
 }
 
+// What waits for the first worker is applied by whoever seals.
+#[test]
+fn passes_with_local_views(rt: HostRuntime) -> Result<(), Fail> {
+    let alloc = rt.alloc();
+    let board = copying_with_local_views(alloc, 2).ok_or("no board")?;
+    let (mark, publisher, mut seats) = Mark::new(alloc, 1)?;
+    let mut seat = seats.pop().ok_or("no seat")?;
+    sealed_twice_of(&rt, alloc, board, publisher).ok_or("not sealed")?;
+    assert_eq!(rt; mark.observe(&mut seat), 2);
+    Ok(())
+}
+
 /// An engine on which nothing was done, ended beside a mark.
-fn ends_beside<J: Naming>(
+fn ends_beside<J: Naming, V: Views>(
     alloc: Global,
-    board: Board<LocationTracker>,
+    board: Board<V>,
     publisher: Publisher,
     mark: &Mark,
     seats: Vec<Seat>,
 ) -> Option<u64>
-    requires names { tables board ≡ J.names }
-    requires graph { board.graph ≡ J.graph }
+    requires names { tables board.shown ≡ J.names }
+    requires graph { board.shown.graph ≡ J.graph }
     requires fresh { publisher.number ≡ 0 }
     requires seats { All (λ s. s.table ≡ mark.now) seats.items }
 {
-    let engine = Engine::<J, LocationTracker>::new(alloc, board, publisher).ok()?;
+    let engine = Engine::<J, V>::new(alloc, board, publisher).ok()?;
     let report = finish(engine, mark, seats)?;
     Some(report.passed())
 }
 
-fn ends_beside_of(
+fn ends_beside_of<V: Views>(
     alloc: Global,
-    board: Board<LocationTracker>,
+    board: Board<V>,
     publisher: Publisher,
     mark: &Mark,
     seats: Vec<Seat>,
@@ -170,7 +195,7 @@ fn ends_beside_of(
     requires fresh { publisher.number ≡ 0 }
     requires seats { All (λ s. s.table ≡ mark.now) seats.items }
 {
-    ends_beside::<Brand>(alloc, board, publisher, mark, seats)
+    ends_beside::<Brand, V>(alloc, board, publisher, mark, seats)
 }
 
 // The mark of another engine, which is ahead.

@@ -3,16 +3,16 @@
 ghost use Rattle.std.specs.Prelude.{◌≡◌, All};
 ghost use Rattle.board.specs.Shown.{tables};
 
-use crate::boards::{batch_of, copying, count_of, emitted};
+use crate::boards::{batch_of, copying, copying_with_local_views, count_of, emitted};
 use crate::flags::Meeting;
 use board::Board;
-use progress::LocationTracker;
 use std::alloc::Global;
 use std::marker::Brand;
 use std::sync::Wait;
 use std::test::Fail;
 use std::thread;
 use std::thread::Threads;
+use views::Views;
 use workers::{Ended, Engine, Feed, Gate, Mark, Naming, NoGate, finish, work};
 
 /// What a run by two workers and two feeders came to.
@@ -26,17 +26,17 @@ struct Outcome {
 }
 
 /// Two workers are at work while two threads feed 0 to 99 and 100 to 199.
-fn two_by_two<J: Naming + Send + Sync, G: Gate + Sync, R: Threads + Wait + Sync>(
+fn two_by_two<J: Naming + Send + Sync, V: Views + Send, G: Gate + Sync, R: Threads + Wait + Sync>(
     rt: &R,
     alloc: Global,
-    board: Board<LocationTracker>,
+    board: Board<V>,
     gate: &G,
 ) -> Option<Outcome>
-    requires names { tables board ≡ J.names }
-    requires graph { board.graph ≡ J.graph }
+    requires names { tables board.shown ≡ J.names }
+    requires graph { board.shown.graph ≡ J.graph }
 {
     let (mark, publisher, _seats) = Mark::new(alloc, 0).ok()?;
-    let shared = Engine::<J, LocationTracker>::new(alloc, board, publisher).ok()?;
+    let shared = Engine::<J, V>::new(alloc, board, publisher).ok()?;
     let engine = &shared;
     let (ended, ()) = thread::join(
         rt,
@@ -59,10 +59,10 @@ fn two_by_two<J: Naming + Send + Sync, G: Gate + Sync, R: Threads + Wait + Sync>
 }
 
 /// Both workers, a thread for each.
-fn work_both<J: Naming + Send + Sync, G: Gate + Sync, R: Threads + Wait + Sync>(
+fn work_both<J: Naming + Send + Sync, V: Views + Send, G: Gate + Sync, R: Threads + Wait + Sync>(
     rt: &R,
     alloc: Global,
-    engine: &Engine<J, LocationTracker>,
+    engine: &Engine<J, V>,
     gate: &G,
 ) -> [Ended; 2] {
     let (one, other) = thread::join(
@@ -74,10 +74,10 @@ fn work_both<J: Naming + Send + Sync, G: Gate + Sync, R: Threads + Wait + Sync>(
 }
 
 /// Two threads feed, and then the input is sealed and closed.
-fn feed_both<J: Naming + Send + Sync, R: Threads + Wait + Sync>(
+fn feed_both<J: Naming + Send + Sync, V: Views + Send, R: Threads + Wait + Sync>(
     rt: &R,
     alloc: Global,
-    engine: &Engine<J, LocationTracker>,
+    engine: &Engine<J, V>,
 ) {
     let ((), ()) = thread::join(
         rt,
@@ -89,10 +89,10 @@ fn feed_both<J: Naming + Send + Sync, R: Threads + Wait + Sync>(
 }
 
 /// Feeds these numbers, each in a batch of its own.
-fn feed_range<J: Naming, R: Wait>(
+fn feed_range<J: Naming, V: Views, R: Wait>(
     rt: &R,
     alloc: Global,
-    engine: &Engine<J, LocationTracker>,
+    engine: &Engine<J, V>,
     from: i64,
     to: i64,
 ) {
@@ -104,10 +104,10 @@ fn feed_range<J: Naming, R: Wait>(
 }
 
 /// The same in one call.
-fn feed_at_once<J: Naming, R: Wait>(
+fn feed_at_once<J: Naming, V: Views, R: Wait>(
     rt: &R,
     alloc: Global,
-    engine: &Engine<J, LocationTracker>,
+    engine: &Engine<J, V>,
     from: i64,
     to: i64,
 ) {
@@ -120,13 +120,23 @@ fn feed_at_once<J: Naming, R: Wait>(
     let _done = engine.feed_all(rt, alloc, feeds);
 }
 
-fn run_two<G: Gate + Sync, R: Threads + Wait + Sync>(
+fn run_two<V: Views + Send, G: Gate + Sync, R: Threads + Wait + Sync>(
     rt: &R,
     alloc: Global,
-    board: Board<LocationTracker>,
+    board: Board<V>,
     gate: &G,
 ) -> Option<Outcome> {
-    two_by_two::<Brand, G, R>(rt, alloc, board, gate)
+    two_by_two::<Brand, V, G, R>(rt, alloc, board, gate)
+}
+
+/// Both workers have worked everything off, and each number was emitted once.
+fn all_once() -> Outcome {
+    Outcome {
+        ended: [Ended::Drained, Ended::Drained],
+        drained: true,
+        passed: 1,
+        once: 200,
+    }
 }
 
 #[test]
@@ -134,15 +144,16 @@ fn two_feeders(rt: HostRuntime) -> Result<(), Fail> {
     let alloc = rt.alloc();
     let board = copying(alloc, 2).ok_or("no board")?;
     let outcome = run_two(&rt, alloc, board, &NoGate).ok_or("no report")?;
-    assert_eq!(rt;
-        outcome,
-        Outcome {
-            ended: [Ended::Drained, Ended::Drained],
-            drained: true,
-            passed: 1,
-            once: 200
-        }
-    );
+    assert_eq!(rt; outcome, all_once());
+    Ok(())
+}
+
+#[test]
+fn two_feeders_with_local_views(rt: HostRuntime) -> Result<(), Fail> {
+    let alloc = rt.alloc();
+    let board = copying_with_local_views(alloc, 2).ok_or("no board")?;
+    let outcome = run_two(&rt, alloc, board, &NoGate).ok_or("no report")?;
+    assert_eq!(rt; outcome, all_once());
     Ok(())
 }
 

@@ -1,11 +1,17 @@
 use Rattle.machine.specs.Step.{Step}
-use Rattle.workers.proofs.Publishing.{after_result}
+use Rattle.workers.proofs.Publishing.{after_publishing, after_refusal}
 use Rattle.workers.proofs.held.Held.close.Goals as goal
 
 pub invariant_of-self : goal.invariant_of-self
-invariant_of-self g c =
-    after_result g.J.Naming.names g.J.Naming.graph c.self.inside.board c.self.inside.publisher.number c.self.invariant c.law_count.ensures.one c.law_stays.ensures.count c.close-result.new.self c.close-result.ensures.tables c.passed_count.result c.passed_count.ensures c.close-result.result (Step.close c.args.input) c.publish.new.self.number c.close-result.ensures.step c.close-result.ensures.refused c.publish.ensures.number
+invariant_of-self g c = after_refusal g.J.Naming.names g.J.Naming.graph c.self.inside.board c.self.inside.publisher.number c.self.invariant c.close.new.self c.in_err-close.ensures.refused
+
+pub returns-in_err-close-clause-published : goal.returns-in_err-close-clause-published
+returns-in_err-close-clause-published g c = (after_refusal g.J.Naming.names g.J.Naming.graph c.self.inside.board c.self.inside.publisher.number c.self.invariant c.close.new.self c.in_err-close.ensures.refused).published
+
+pub invariant_of-self-2 : goal.invariant_of-self-2
+invariant_of-self-2 g c =
+    after_publishing g.J.Naming.names g.J.Naming.graph c.self.inside.board c.self.inside.publisher.number c.self.invariant c.publish.new.board c.publish.new.publisher.number c.law_stays.ensures.count (Step.close c.args.input) c.close.new.self c.in_ok-close.ensures.step c.close.ensures.tables c.publish.ensures.shown c.publish.ensures.publishes
 
 pub returns-clause-published : goal.returns-clause-published
 returns-clause-published g c =
-    (after_result g.J.Naming.names g.J.Naming.graph c.self.inside.board c.self.inside.publisher.number c.self.invariant c.law_count.ensures.one c.law_stays.ensures.count c.close-result.new.self c.close-result.ensures.tables c.passed_count.result c.passed_count.ensures c.close-result.result (Step.close c.args.input) c.publish.new.self.number c.close-result.ensures.step c.close-result.ensures.refused c.publish.ensures.number).published
+    (after_publishing g.J.Naming.names g.J.Naming.graph c.self.inside.board c.self.inside.publisher.number c.self.invariant c.publish.new.board c.publish.new.publisher.number c.law_stays.ensures.count (Step.close c.args.input) c.close.new.self c.in_ok-close.ensures.step c.close.ensures.tables c.publish.ensures.shown c.publish.ensures.publishes).published

@@ -1,4 +1,4 @@
-use Rattle.std.proofs.Common.{◌≡◌, ◌<◌, ℕ, length, subst, arith}
+use Rattle.std.proofs.Common.{◌<◌, ℕ, subst, arith}
 use Rattle.board.specs.Looks.{ShowsPassed}
 use Rattle.board.specs.Promises.{CountsPassed, IsOutputPlace}
 use Rattle.workers.specs.Held.{HeldShown}
@@ -6,8 +6,8 @@ use Rattle.workers.proofs.held.Held.look.Goals as goal
 
 pub returns-clause-passed : goal.returns-clause-passed
 returns-clause-passed g c =
-    let P : HeldShown → Type 0 = λ h. (n : ℕ) → CountsPassed h.board n → c.args.epoch < n → ShowsPassed c.in_ok-look.look in
+    let P : HeldShown → Type 0 = λ h. (n : ℕ) → CountsPassed h.board.shown n → c.args.epoch < n → ShowsPassed c.in_ok-look.look in
     let shows = c.in_ok-look.ensures.outputs in
     subst P c.self.view_is (λ n counts lt k there.
-    let place : IsOutputPlace c.self.inside.board k = (let many = shows.places in omega (arith, there, many)) in
-    (shows.each k place).passed.1 (c.law_count.ensures.below n counts c.args.epoch lt k place))
+    let place : IsOutputPlace c.self.inside.board.shown k = (let many = shows.places in omega (arith, there, many)) in
+    (shows.each k place).seen c.self.invariant.prompt (c.law_count.ensures.below n counts c.args.epoch lt k place))

@@ -1,9 +1,10 @@
-use Rattle.std.proofs.Common.{◌≡◌, ℕ, subst, arith}
-use Rattle.board.specs.Promises.{CountsPassed}
+use Rattle.std.proofs.Common.{ap, ◌∙◌}
+use Rattle.board.specs.Shown.{Shown, tables}
+use Rattle.workers.proofs.Publishing.{after_opening}
 use Rattle.workers.proofs.held.Held.new.Goals as goal
 
 pub invariant_of-result : goal.invariant_of-result
 invariant_of-result g c =
-    let same : c.passed_count.result ≡ c.publish.new.self.number = omega (arith, c.publish.ensures.number, c.requires.fresh) in
-    let P : ℕ → Type 0 = λ n. CountsPassed c.args.board n in
-    record { named = c.requires.names; graph = c.requires.graph; published = subst P same c.passed_count.ensures }
+    let named = ap tables c.publish.ensures.shown ∙ c.requires.names in
+    let runs = ap (λ (s : Shown). s.graph) c.publish.ensures.shown ∙ c.requires.graph in
+    after_opening g.J.Naming.names g.J.Naming.graph c.args.publisher.number c.publish.new.board c.publish.new.publisher.number named runs c.requires.fresh c.publish.ensures.publishes

@@ -1,4 +1,4 @@
-use Rattle.std.proofs.Common.{ℕ, subst}
+use Rattle.std.proofs.Common.{subst}
 use Rattle.semantics.specs.Query.{Program}
 use Rattle.board.specs.Promises.{KeepsPromise, RunsProgram}
 use Rattle.board.specs.Shown.{Shown}
