@@ -6,8 +6,8 @@ ghost use Rattle.std.specs.List.{find};
 /// What a refusal means. Texts are UTF-8; a sentence of `text` is a line.
 #[derive(Clone, Copy, Debug, PartialEq, Eq)]
 pub struct Explanation {
-    /// The number by which it is told: 1 to 23 of queries, 31 to 38 of a schedule's steps, 41 to 47 of the lines of inputs, of which 43,
-    /// 44 and 46 are told of a schedule's lines too.
+    /// The number by which it is told: 1 to 23 of queries, 31 to 38 and 40 of a schedule's steps, 41 to 47 of the lines of inputs, of
+    /// which 43, 44 and 46 are told of a schedule's lines too.
     pub code: u8,
     /// What is wrong, in a phrase.
     pub summary: &'static str,
@@ -15,15 +15,15 @@ pub struct Explanation {
     pub place: &'static str,
     /// What it means and what helps, in one to three lines.
     pub text: &'static str,
-    /// A query that is refused so by `check`; under `input a/2; output a;`, for 31 to 38 a schedule with one such step on one worker, and
-    /// for 41 to 47 an input text. Empty where none is short.
+    /// A query that is refused so by `check`; under `input a/2; output a;`, for 31 to 38 a schedule with one such step on one worker, for
+    /// 40 the same with `--views`, and for 41 to 47 an input text. Empty where none is short.
     pub wrong: &'static str,
     /// The same, mended: it is taken. Empty where `wrong` is.
     pub right: &'static str,
 }
 
 /// The numbers that refusals have, in words.
-pub const NUMBERS: &str = "1 to 6, 11 to 21, 23, 31 to 38 and 41 to 47";
+pub const NUMBERS: &str = "1 to 6, 11 to 21, 23, 31 to 38 and 40 to 47";
 
 /// The refusals of a query, each code once, in ascending order.
 pub static OF_QUERIES: [Explanation; 18] = [
@@ -174,7 +174,7 @@ pub static OF_QUERIES: [Explanation; 18] = [
 ];
 
 /// The refusals of a schedule's steps, each code once, in ascending order.
-pub static OF_STEPS: [Explanation; 8] = [
+pub static OF_STEPS: [Explanation; 9] = [
     Explanation {
         code: 31,
         summary: "a step on an input that is closed",
@@ -203,7 +203,7 @@ pub static OF_STEPS: [Explanation; 8] = [
         code: 34,
         summary: "a choice that the worker doesn't have, or no such worker",
         place: "",
-        text: "A worker's choices are counted from 0: its messages in the order in which they came, and then its notifications that may be delivered now.\nWorkers are counted from 0 too, and there is one unless `--workers` says otherwise.",
+        text: "A worker's choices are counted from 0: its messages in the order in which they came, and then its notifications that may be delivered now; with `--views`, as the worker sees it.\nWorkers are counted from 0 too, and there is one unless `--workers` says otherwise.",
         wrong: "d 0 0\n",
         right: "f a 1 2\nd 0 0\n",
     },
@@ -239,6 +239,14 @@ pub static OF_STEPS: [Explanation; 8] = [
         wrong: "",
         right: "",
     },
+    Explanation {
+        code: 40,
+        summary: "no changes of that sender wait for that worker, or one of them isn't there",
+        place: "",
+        text: "With `--views` a worker sees the changes that others post only once it has applied them: `v W S` lets worker W apply the next batch of sender S.\nThe senders are the workers and, by the number of workers, whoever feeds, seals and closes.",
+        wrong: "f a 1 2\nv 0 0\n",
+        right: "f a 1 2\nv 0 1\n",
+    },
 ];
 
 /// The refusals of lines, each code once, in ascending order.
@@ -271,7 +279,7 @@ pub static OF_LINES: [Explanation; 7] = [
         code: 44,
         summary: "a bad number",
         place: "",
-        text: "A field is a whole number in its plain spelling: `0`, or an optional `-` and digits that don't begin with 0.\nThe least is -9223372036854775808, the greatest 9223372036854775807.\nThe workers, choices and epochs of a schedule are such numbers without a sign, from 0 to 4294967295.",
+        text: "A field is a whole number in its plain spelling: `0`, or an optional `-` and digits that don't begin with 0.\nThe least is -9223372036854775808, the greatest 9223372036854775807.\nThe workers, choices, epochs and senders of a schedule are such numbers without a sign, from 0 to 4294967295.",
         wrong: "epoch\na 01 2\n",
         right: "epoch\na 1 2\n",
     },
@@ -287,7 +295,7 @@ pub static OF_LINES: [Explanation; 7] = [
         code: 46,
         summary: "a malformed line: an empty line, two spaces together, a space at an end, or a first word that is no name; a schedule's line that is no step",
         place: "",
-        text: "A line of an input is `epoch`, or an input's name and then each field after one space.\nA line of a schedule is `f INPUT FIELD ..`, `s INPUT`, `x INPUT`, `t WORKER CHOICE`, `c WORKER`, `d WORKER CHOICE` or `p EPOCH`.\nThere are no empty lines, no spaces more than these, no tabs and no carriage returns.",
+        text: "A line of an input is `epoch`, or an input's name and then each field after one space.\nA line of a schedule is `f INPUT FIELD ..`, `s INPUT`, `x INPUT`, `t WORKER CHOICE`, `c WORKER`, `d WORKER CHOICE`, `p EPOCH` or, with `--views`, `v WORKER SENDER`.\nThere are no empty lines, no spaces more than these, no tabs and no carriage returns.",
         wrong: "epoch\na 1  2\n",
         right: "epoch\na 1 2\n",
     },

@@ -6,9 +6,11 @@ use Rattle.std.specs.List.{AllByRecursion}
 use Rattle.collector.specs.Lines.{IsWord}
 use Rattle.schedule.specs.declared.verb.Verb.{Verb}
 use Rattle.schedule.specs.declared.verb.Verb.TheVariants as verb
+use Rattle.schedule.specs.declared.verb.ViewKind.{ViewKind}
+use Rattle.schedule.specs.declared.verb.ViewKind.TheVariants.{Shared, Local}
 
 -- a record comes to an input; an input's open epoch ends; nothing more comes to it; a worker takes one of its choices, commits what
--- it holds, or does both; what was emitted for an epoch is asked for
+-- it holds, or does both; what was emitted for an epoch is asked for; a worker applies the next batch of changes that a sender posted
 pub data Command : Type 0 where
   feed : (input : List ℕ) → (fields : List ℤ) → Command
   seal : (input : List ℕ) → Command
@@ -17,6 +19,7 @@ pub data Command : Type 0 where
   commit : (worker : ℕ) → Command
   deliver : (worker choice : ℕ) → Command
   print : (epoch : ℕ) → Command
+  apply : (worker sender : ℕ) → Command
 
 -- the letter that a verb is told by
 abbrev pub letter : Verb → ℕ
@@ -27,6 +30,19 @@ letter verb.Take = 116
 letter verb.Commit = 99
 letter verb.Deliver = 100
 letter verb.Print = 112
+letter verb.Apply = 118
+
+-- the verbs that a schedule may have: that of views only where each worker has a view of its own
+abbrev pub IsKnown : ViewKind → Verb → Type 0
+IsKnown Local v = Unit {0}
+IsKnown Shared verb.Feed = Unit {0}
+IsKnown Shared verb.Seal = Unit {0}
+IsKnown Shared verb.Close = Unit {0}
+IsKnown Shared verb.Take = Unit {0}
+IsKnown Shared verb.Commit = Unit {0}
+IsKnown Shared verb.Deliver = Unit {0}
+IsKnown Shared verb.Print = Unit {0}
+IsKnown Shared verb.Apply = ⊥
 
 abbrev pub verb_of : Command → Verb
 verb_of (Command.feed input fields) = verb.Feed
@@ -36,6 +52,7 @@ verb_of (Command.take worker choice) = verb.Take
 verb_of (Command.commit worker) = verb.Commit
 verb_of (Command.deliver worker choice) = verb.Deliver
 verb_of (Command.print epoch) = verb.Print
+verb_of (Command.apply worker sender) = verb.Apply
 
 -- the words behind the verb's letter; each number has one spelling
 abbrev pub arguments : Command → List (List ℕ)
@@ -46,6 +63,7 @@ arguments (Command.take worker choice) = decimal worker ∷ decimal choice ∷ [
 arguments (Command.commit worker) = decimal worker ∷ []
 arguments (Command.deliver worker choice) = decimal worker ∷ decimal choice ∷ []
 arguments (Command.print epoch) = decimal epoch ∷ []
+arguments (Command.apply worker sender) = decimal worker ∷ decimal sender ∷ []
 
 -- inputs are spelled like names or keywords; fields have 64 bits with a sign, other numbers 32 bits
 abbrev pub IsProper : Command → Type 0
@@ -56,3 +74,4 @@ IsProper (Command.take worker choice) = (worker < 2 ^ 32) × (choice < 2 ^ 32)
 IsProper (Command.commit worker) = worker < 2 ^ 32
 IsProper (Command.deliver worker choice) = (worker < 2 ^ 32) × (choice < 2 ^ 32)
 IsProper (Command.print epoch) = epoch < 2 ^ 32
+IsProper (Command.apply worker sender) = (worker < 2 ^ 32) × (sender < 2 ^ 32)

@@ -5,6 +5,7 @@ use Rattle.collector.specs.Lines.{IsWord}
 use Rattle.schedule.specs.Commands.{Command, IsProper, arguments, verb_of}
 use Rattle.schedule.specs.ScheduleText.{Says, IsFault, IsFormed, HasBadNumber, AreFilled, AreCounts}
 use Rattle.schedule.specs.declared.verb.Verb.{Verb}
+use Rattle.schedule.specs.declared.verb.ViewKind.{ViewKind}
 use Rattle.schedule.specs.declared.line.Line.{Line}
 use Rattle.schedule.specs.declared.line.Line.TheVariants as line
 use Rattle.schedule.specs.declared.line.LineError.{LineError}
@@ -21,6 +22,7 @@ command_of (line.Take worker choice) = Command.take worker choice
 command_of (line.Commit worker) = Command.commit worker
 command_of (line.Deliver worker choice) = Command.deliver worker choice
 command_of (line.Print epoch) = Command.print epoch
+command_of (line.Apply worker sender) = Command.apply worker sender
 
 -- the one name that the words are, or none
 abbrev pub NameEnds : List (List ℕ) → Option (Bor (List ℕ)) → Type 0
@@ -47,7 +49,7 @@ ArgumentsEnd v words (Err (error.Fault Malformed)) = IsFormed v words → ⊥
 ArgumentsEnd v words (Err (error.Fault BadNumber)) = IsFormed v words × HasBadNumber v words
 
 -- what the line says, or its fault
-abbrev pub LineEnds : List ℕ → Result Line LineError → Type 0
-LineEnds text (Ok said) = Says text (command_of said)
-LineEnds text (Err error.NoMemory) = Unit {0}
-LineEnds text (Err (error.Fault fault)) = IsFault text fault
+abbrev pub LineEnds : ViewKind → List ℕ → Result Line LineError → Type 0
+LineEnds kind text (Ok said) = Says kind text (command_of said)
+LineEnds kind text (Err error.NoMemory) = Unit {0}
+LineEnds kind text (Err (error.Fault fault)) = IsFault kind text fault

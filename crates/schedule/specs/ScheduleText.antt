@@ -3,21 +3,23 @@ use Rattle.std.specs.Prelude.{◌≡◌, ◌<◌, ◌+◌, ◌^◌, ◌⊎◌, �
 use Rattle.std.specs.List.{AllByRecursion}
 use Rattle.collector.specs.Pieces.{split_on}
 use Rattle.collector.specs.Lines.{AreNumbers, IsFilled, IsWord}
-use Rattle.schedule.specs.Commands.{Command, IsProper, arguments, letter, verb_of}
+use Rattle.schedule.specs.Commands.{Command, IsKnown, IsProper, arguments, letter, verb_of}
 use Rattle.schedule.specs.declared.verb.Verb.{Verb}
 use Rattle.schedule.specs.declared.verb.Verb.TheVariants as verb
+use Rattle.schedule.specs.declared.verb.ViewKind.{ViewKind}
 use Rattle.schedule.specs.declared.refusal.Fault.{Fault}
 use Rattle.schedule.specs.declared.refusal.Fault.TheVariants.{Malformed, BadNumber}
 use Rattle.schedule.specs.declared.refusal.ScheduleRefusal.{ScheduleRefusal}
 use Rattle.schedule.specs.declared.refusal.ScheduleRefusal.TheVariants.{At, NoMemory}
 
--- the line's words, between single spaces, are a verb's letter and these
-abbrev pub HasWords : List ℕ → Verb → List (List ℕ) → Type 0
-HasWords line verb words = split_on 32 line ≡ (letter verb ∷ []) ∷ words
+-- the line's words, between single spaces, are the letter of a verb that the schedule may have, and these
+pub record HasWords (kind : ViewKind) (line : List ℕ) (verb : Verb) (words : List (List ℕ)) : Type 0 where
+  pub known : IsKnown kind verb
+  pub split : split_on 32 line ≡ (letter verb ∷ []) ∷ words
 
 -- the line is the command's one spelling
-pub record Says (line : List ℕ) (command : Command) : Type 0 where
-  pub words : HasWords line (verb_of command) (arguments command)
+pub record Says (kind : ViewKind) (line : List ℕ) (command : Command) : Type 0 where
+  pub words : HasWords kind line (verb_of command) (arguments command)
   pub proper : IsProper command
 
 -- ---- faults
@@ -41,6 +43,7 @@ IsFormed verb.Take words = AreFilled 2 words
 IsFormed verb.Commit words = AreFilled 1 words
 IsFormed verb.Deliver words = AreFilled 2 words
 IsFormed verb.Print words = AreFilled 1 words
+IsFormed verb.Apply words = AreFilled 2 words
 
 -- the words are these numbers of 32 bits, each in its one spelling
 abbrev pub AreCounts : List (List ℕ) → List ℕ → Type 0
@@ -63,11 +66,12 @@ HasBadNumber verb.Take words = (ns : List ℕ) → AreCounts words ns → ⊥
 HasBadNumber verb.Commit words = (ns : List ℕ) → AreCounts words ns → ⊥
 HasBadNumber verb.Deliver words = (ns : List ℕ) → AreCounts words ns → ⊥
 HasBadNumber verb.Print words = (ns : List ℕ) → AreCounts words ns → ⊥
+HasBadNumber verb.Apply words = (ns : List ℕ) → AreCounts words ns → ⊥
 
 -- The fault of a line, the first in this order: it has no verb's form; a number of it is none.
-abbrev pub IsFault : List ℕ → Fault → Type 0
-IsFault line Malformed = (v : Verb) (words : List (List ℕ)) → HasWords line v words → IsFormed v words → ⊥
-IsFault line BadNumber = (v : Verb) × (words : List (List ℕ)) × HasWords line v words × IsFormed v words × HasBadNumber v words
+abbrev pub IsFault : ViewKind → List ℕ → Fault → Type 0
+IsFault kind line Malformed = (v : Verb) (words : List (List ℕ)) → HasWords kind line v words → IsFormed v words → ⊥
+IsFault kind line BadNumber = (v : Verb) × (words : List (List ℕ)) × HasWords kind line v words × IsFormed v words × HasBadNumber v words
 
 -- the number by which a fault is told
 abbrev pub code_of : Fault → ℕ
@@ -77,21 +81,21 @@ code_of Malformed = 46
 -- ---- the text
 
 -- the lines say these commands, one each
-abbrev pub SayAll : List (List ℕ) → List Command → Type 0
-SayAll [] [] = Unit {0}
-SayAll [] (command ∷ commands) = ⊥
-SayAll (line ∷ lines) [] = ⊥
-SayAll (line ∷ lines) (command ∷ commands) = Says line command × SayAll lines commands
+abbrev pub SayAll : ViewKind → List (List ℕ) → List Command → Type 0
+SayAll kind [] [] = Unit {0}
+SayAll kind [] (command ∷ commands) = ⊥
+SayAll kind (line ∷ lines) [] = ⊥
+SayAll kind (line ∷ lines) (command ∷ commands) = Says kind line command × SayAll kind lines commands
 
 -- the text is these commands, each on a line that a line feed ends
-pub record IsScheduleText (text : List ℕ) (commands : List Command) : Type 0 where
+pub record IsScheduleText (kind : ViewKind) (text : List ℕ) (commands : List Command) : Type 0 where
   pub lines : List (List ℕ)
   pub parts : split_on 10 text ≡ lines ++ [] ∷ []
-  pub said : SayAll lines commands
+  pub said : SayAll kind lines commands
 
 -- A refusal names the first faulty line, counted from 1: the lines before it say commands, and it is the last one and has no line
 -- feed, or has a fault.
-abbrev pub IsRefused : List ℕ → ScheduleRefusal → Type 0
-IsRefused text NoMemory = Unit {0}
-IsRefused text (At code number) = (before : List (List ℕ)) × (commands : List Command) × SayAll before commands × (number ≡ length before + 1) × (line : List ℕ) × (rest : List (List ℕ)) × (split_on 10 text ≡ before ++ line ∷ rest)
-    × (((code ≡ 43) × (0 < length line) × (rest ≡ [])) ⊎ ((fault : Fault) × (code ≡ code_of fault) × (0 < length rest) × IsFault line fault))
+abbrev pub IsRefused : ViewKind → List ℕ → ScheduleRefusal → Type 0
+IsRefused kind text NoMemory = Unit {0}
+IsRefused kind text (At code number) = (before : List (List ℕ)) × (commands : List Command) × SayAll kind before commands × (number ≡ length before + 1) × (line : List ℕ) × (rest : List (List ℕ)) × (split_on 10 text ≡ before ++ line ∷ rest)
+    × (((code ≡ 43) × (0 < length line) × (rest ≡ [])) ⊎ ((fault : Fault) × (code ≡ code_of fault) × (0 < length rest) × IsFault kind line fault))

@@ -5,7 +5,7 @@ ghost use Rattle.schedule.specs.Said.{ArgumentsEnd, LineEnds};
 
 use crate::arguments::{one_count, one_name, read_feed, two_counts};
 use crate::refusal::Fault;
-use crate::verb::{Verb, verb_of};
+use crate::verb::{Verb, ViewKind, verb_of};
 use collector::first_word;
 use std::alloc::Global;
 
@@ -26,6 +26,8 @@ pub enum Line<'a> {
     Deliver { worker: u32, choice: u32 },
     /// Tells whether the epoch has passed, and what was emitted for it so far.
     Print { epoch: u32 },
+    /// The worker applies the next batch of changes that the sender posted. Only where workers have views of their own.
+    Apply { worker: u32, sender: u32 },
 }
 
 /// Why a line says nothing.
@@ -65,15 +67,19 @@ fn arguments_say(alloc: Global, verb: Verb, rest: Option<&[u8]>) -> Result<Line<
             Ok(epoch) => Ok(Line::Print { epoch }),
             Err(fault) => Err(LineError::Fault(fault)),
         },
+        Verb::Apply => match two_counts(rest) {
+            Ok((worker, sender)) => Ok(Line::Apply { worker, sender }),
+            Err(fault) => Err(LineError::Fault(fault)),
+        },
     }
 }
 
 /// What a line says.
-pub fn read_line(alloc: Global, text: &[u8]) -> Result<Line<'_>, LineError>
-    ensures { LineEnds text.now result }
+pub fn read_line(alloc: Global, kind: ViewKind, text: &[u8]) -> Result<Line<'_>, LineError>
+    ensures { LineEnds kind text.now result }
 {
     let (first, rest) = first_word(text);
-    match verb_of(first) {
+    match verb_of(kind, first) {
         None => Err(LineError::Fault(Fault::Malformed)),
         Some(verb) => arguments_say(alloc, verb, rest),
     }

@@ -6,18 +6,24 @@ ghost use Rattle.schedule.specs.ScheduleText.{IsRefused, IsScheduleText};
 
 use crate::line::{Line, LineError, read_line};
 use crate::refusal::ScheduleRefusal;
+use crate::verb::ViewKind;
 use collector::{around, find};
 use std::alloc::Global;
 
 /// The code of a last line that no line feed ends.
 const NO_LINE_FEED: u8 = 43;
 
-/// Reads a whole schedule, in the time of its length. The lines borrow their names from the text.
+/// Reads a whole schedule, in the time of its length. The lines borrow their names from the text. By the kind of the workers' views it
+/// may have lines that apply changes, or none.
 ///
 /// After a refusal nothing is kept; it names the first faulty line.
-pub fn read_schedule(alloc: Global, text: &[u8]) -> Result<Vec<Line<'_>>, ScheduleRefusal>
-    ensures read { IfOk result (λ lines. IsScheduleText text.now (map command_of lines.items)) }
-    ensures refused { IfErr result (IsRefused text.now) }
+pub fn read_schedule(
+    alloc: Global,
+    kind: ViewKind,
+    text: &[u8],
+) -> Result<Vec<Line<'_>>, ScheduleRefusal>
+    ensures read { IfOk result (λ lines. IsScheduleText kind text.now (map command_of lines.items)) }
+    ensures refused { IfErr result (IsRefused kind text.now) }
 {
     let mut lines = Vec::new(alloc);
     let mut rest = text;
@@ -25,7 +31,7 @@ pub fn read_schedule(alloc: Global, text: &[u8]) -> Result<Vec<Line<'_>>, Schedu
     while let Some(end) = find(rest, b'\n') {
         let (line, after) = around(rest, end);
         number += 1;
-        match read_line(alloc, line) {
+        match read_line(alloc, kind, line) {
             Ok(said) => lines.push(said)?,
             Err(LineError::NoMemory) => return Err(ScheduleRefusal::NoMemory),
             Err(LineError::Fault(fault)) => {

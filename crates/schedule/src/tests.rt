@@ -2,8 +2,8 @@ use super::*;
 use std::alloc::Global;
 
 /// What a text is read as, told in short.
-fn refusal(text: &str, alloc: Global) -> Option<ScheduleRefusal> {
-    match read_schedule(alloc, text.as_bytes()) {
+fn refusal(kind: ViewKind, text: &str, alloc: Global) -> Option<ScheduleRefusal> {
+    match read_schedule(alloc, kind, text.as_bytes()) {
         Ok(_) => None,
         Err(refusal) => Some(refusal),
     }
@@ -11,12 +11,12 @@ fn refusal(text: &str, alloc: Global) -> Option<ScheduleRefusal> {
 
 #[test]
 fn each_line(rt: HostRuntime) {
-    let text = "f a 1 -2\nf input\ns a\nx a\nt 0 4294967295\nc 7\nd 63 0\np 0\n";
-    let Ok(lines) = read_schedule(rt.alloc(), text.as_bytes()) else {
+    let text = "f a 1 -2\nf input\ns a\nx a\nt 0 4294967295\nc 7\nd 63 0\np 0\nv 1 2\n";
+    let Ok(lines) = read_schedule(rt.alloc(), ViewKind::Local, text.as_bytes()) else {
         assert!(rt; false, "refused");
         return;
     };
-    assert_eq!(rt; lines.len(), 8);
+    assert_eq!(rt; lines.len(), 9);
     assert!(rt; matches!(&lines[0], Line::Feed { .. }));
     assert!(rt;
         matches!(
@@ -38,6 +38,15 @@ fn each_line(rt: HostRuntime) {
         )
     );
     assert!(rt; matches!(&lines[7], Line::Print { epoch: 0 }));
+    assert!(rt;
+        matches!(
+            &lines[8],
+            Line::Apply {
+                worker: 1,
+                sender: 2
+            }
+        )
+    );
 }
 
 #[test]
@@ -69,6 +78,46 @@ fn faults(rt: HostRuntime) {
         ("p 0\r\n", Some(ScheduleRefusal::At { code: 44, line: 1 })),
     ];
     for (text, want) in rows {
-        assert_eq!(rt; refusal(text, rt.alloc()), want, "{text}");
+        assert_eq!(rt; refusal(ViewKind::Shared, text, rt.alloc()), want, "{text}");
+    }
+}
+
+#[test]
+fn view_lines(rt: HostRuntime) {
+    let rows: [(ViewKind, &str, Option<ScheduleRefusal>); 7] = [
+        (ViewKind::Local, "v 0 4294967295\n", None),
+        (
+            ViewKind::Shared,
+            "p 0\nv 0 1\n",
+            Some(ScheduleRefusal::At { code: 46, line: 2 }),
+        ),
+        (
+            ViewKind::Shared,
+            "v 00 x\n",
+            Some(ScheduleRefusal::At { code: 46, line: 1 }),
+        ),
+        (
+            ViewKind::Local,
+            "v 0\n",
+            Some(ScheduleRefusal::At { code: 46, line: 1 }),
+        ),
+        (
+            ViewKind::Local,
+            "v 00 1 2\n",
+            Some(ScheduleRefusal::At { code: 46, line: 1 }),
+        ),
+        (
+            ViewKind::Local,
+            "v 0 4294967296\n",
+            Some(ScheduleRefusal::At { code: 44, line: 1 }),
+        ),
+        (
+            ViewKind::Local,
+            "v 01 0\n",
+            Some(ScheduleRefusal::At { code: 44, line: 1 }),
+        ),
+    ];
+    for (kind, text, want) in rows {
+        assert_eq!(rt; refusal(kind, text, rt.alloc()), want, "{text}");
     }
 }
