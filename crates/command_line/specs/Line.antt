@@ -56,10 +56,11 @@ follow_app =
     with_rule (with_rule (with_rule (with_rule (new_app (codes "follow")) (option_rule (codes "workers"))) (flag_rule (codes "explain"))) (word_rule (codes "QUERY")))
     (word_rule (codes "INPUT"))
 
--- `replay QUERY SCHEDULE`, with or without `--workers N` and `--explain`
+-- `replay QUERY SCHEDULE`, with or without `--workers N`, `--views` and `--explain`
 abbrev pub replay_app : App
 replay_app =
-    with_rule (with_rule (with_rule (with_rule (new_app (codes "replay")) (option_rule (codes "workers"))) (flag_rule (codes "explain"))) (word_rule (codes "QUERY")))
+    with_rule
+    (with_rule (with_rule (with_rule (with_rule (new_app (codes "replay")) (option_rule (codes "workers"))) (flag_rule (codes "views"))) (flag_rule (codes "explain"))) (word_rule (codes "QUERY")))
     (word_rule (codes "SCHEDULE"))
 
 -- `explain CODE`
@@ -112,9 +113,9 @@ HoldsAt name rows (Graph query form heap explain) =
     (name ≡ codes "graph") × (first_of (codes "QUERY") rows ≡ Some query.now) × IsFlag (codes "dot") rows (is_dot form) × IsAskedHeap (first_of (codes "heap") rows) heap
     × IsFlag (codes "explain") rows explain
 HoldsAt name rows (Format query explain) = (name ≡ codes "format") × (first_of (codes "QUERY") rows ≡ Some query.now) × IsFlag (codes "explain") rows explain
-HoldsAt name rows (Replay query schedule workers explain) =
+HoldsAt name rows (Replay query schedule workers views explain) =
     (name ≡ codes "replay") × (first_of (codes "QUERY") rows ≡ Some query.now) × (first_of (codes "SCHEDULE") rows ≡ Some schedule.now) × AreAskedFor (first_of (codes "workers") rows) workers.count
-    × IsFlag (codes "explain") rows explain
+    × IsFlag (codes "views") rows views × IsFlag (codes "explain") rows explain
 HoldsAt name rows (Explain code) = (name ≡ codes "explain") × (first_of (codes "CODE") rows ≡ Some code.now)
 
 abbrev pub HoldsOf : Option (Text × List Row) → Options → Type 0

@@ -167,6 +167,11 @@ fn replay_command<'a>(alloc: Global) -> Result<Command<'a>, AllocError>
         "Do a schedule's steps one by one, and write the answers so far that it asks for",
     )
     .arg(workers_arg(alloc))?
+    .arg(flag_arg(
+        alloc,
+        "views",
+        "Give each worker a view of its own, which lines `v WORKER SENDER` bring up to date",
+    ))?
     .arg(explain_arg(alloc))?
     .arg(word_arg(alloc, "QUERY"))?
     .arg(word_arg(alloc, "SCHEDULE"))
@@ -325,11 +330,13 @@ fn replay_options<'a>(found: &ArgMatches<'a>, workers: Workers) -> Option<Option
 {
     let query = text_of(found, "QUERY")?;
     let schedule = text_of(found, "SCHEDULE")?;
+    let views = flag_of(found, "views");
     let explain = flag_of(found, "explain");
     Some(Options::Replay {
         query,
         schedule,
         workers,
+        views,
         explain,
     })
 }

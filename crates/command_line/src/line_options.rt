@@ -43,11 +43,13 @@ pub enum Options<'a> {
         query: &'a str,
         explain: bool,
     },
-    /// `loom replay QUERY SCHEDULE`, on one worker or `--workers N`, and a fault explained with `--explain`
+    /// `loom replay QUERY SCHEDULE`, on one worker or `--workers N`; with `--views` each has a view of its own; and a fault explained with
+    /// `--explain`
     Replay {
         query: &'a str,
         schedule: &'a str,
         workers: Workers,
+        views: bool,
         explain: bool,
     },
     /// `loom explain CODE`: the word that should be a refusal's number
