@@ -1,7 +1,7 @@
 //! The examples of the table of refusals, and what is told of faults that no short text brings.
 
 use collector::Watched;
-use console::{Fault, Texts, Watcher, Workers, check_query, replay_schedule, run};
+use console::{Fault, Texts, ViewKind, Watcher, Workers, check_query, replay_schedule, run};
 use diagnostics::{explain_fault, explained};
 use refusals::{Explanation, OF_LINES, OF_QUERIES, OF_STEPS, explanation_of};
 use std::sync::Wait;
@@ -50,7 +50,7 @@ fn ran(rt: &HostRuntime, threads: &(impl Threads + Wait + Sync), query: &str, in
 }
 
 /// What a schedule's lines print on one worker, or its fault's line.
-fn replayed(rt: &HostRuntime, schedule: &str) -> Result<String, Fail> {
+fn replayed(rt: &HostRuntime, kind: ViewKind, schedule: &str) -> Result<String, Fail> {
     let mut query = Watched::new(QUERY.as_bytes());
     let mut schedule = Watched::new(schedule.as_bytes());
     let mut texts = Texts::new(rt.alloc());
@@ -58,6 +58,7 @@ fn replayed(rt: &HostRuntime, schedule: &str) -> Result<String, Fail> {
     let done = replay_schedule(
         rt.alloc(),
         Workers::one(),
+        kind,
         &mut query,
         &mut schedule,
         &mut texts,
@@ -80,7 +81,12 @@ fn example_code(
     match code {
         0..=30 => Ok(checked(rt, example)),
         31..=40 => {
-            let printed = replayed(rt, example)?;
+            let kind = if code == 40 {
+                ViewKind::Local
+            } else {
+                ViewKind::Shared
+            };
+            let printed = replayed(rt, kind, example)?;
             match printed.as_str().strip_prefix("refused ") {
                 None if printed.is_empty() => Ok(0),
                 None => Ok(255),
@@ -119,7 +125,7 @@ fn holds(
 #[test]
 fn examples_of_the_table(rt: HostRuntime) -> Result<(), Fail> {
     for code in 0..=255 {
-        let is_told = matches!(code, 1..=6 | 11..=21 | 23 | 31..=38 | 41..=47);
+        let is_told = matches!(code, 1..=6 | 11..=21 | 23 | 31..=38 | 40..=47);
         assert_eq!(rt; explanation_of(code).is_some(), is_told);
     }
     assert!(rt; explained("").is_none());

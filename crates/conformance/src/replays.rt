@@ -1,13 +1,18 @@
 //! Schedules, done over a query.
 
 use collector::Watched;
-use console::{Fault, Texts, Workers, replay_schedule};
+use console::{Fault, Texts, ViewKind, Workers, replay_schedule};
 use std::test::Fail;
 
 const QUERY: &str = "input a/1; output a;";
 
-/// What is printed of a schedule on so many workers.
-fn printed(rt: &HostRuntime, workers: &str, schedule: &str) -> Result<String, Fail> {
+/// What is printed of a schedule on so many workers with views of that kind.
+fn printed_by(
+    rt: &HostRuntime,
+    kind: ViewKind,
+    workers: &str,
+    schedule: &str,
+) -> Result<String, Fail> {
     let workers = Workers::of_word(workers).unwrap_or(Workers::one());
     let mut query = Watched::new(QUERY.as_bytes());
     let mut schedule = Watched::new(schedule.as_bytes());
@@ -16,6 +21,7 @@ fn printed(rt: &HostRuntime, workers: &str, schedule: &str) -> Result<String, Fa
     let done = replay_schedule(
         rt.alloc(),
         workers,
+        kind,
         &mut query,
         &mut schedule,
         &mut texts,
@@ -26,6 +32,19 @@ fn printed(rt: &HostRuntime, workers: &str, schedule: &str) -> Result<String, Fa
         fault.write_line("q", "s", &mut text)?;
     }
     Ok(String::from_utf8(text)?)
+}
+
+/// What is printed of a schedule on so many workers who share one view.
+fn printed(rt: &HostRuntime, workers: &str, schedule: &str) -> Result<String, Fail> {
+    printed_by(rt, ViewKind::Shared, workers, schedule)
+}
+
+#[test]
+fn views_of_their_own(rt: HostRuntime) -> Result<(), Fail> {
+    let schedule = "f a 2\ns a\nd 1 0\nv 0 1\np 0\nv 0 2\np 0\nv 0 2\np 0\nv 0 2\n";
+    let text = "epoch 0 open\n2\nepoch 0 open\n2\nepoch 0 passed\n2\nrefused 40\n";
+    assert_eq!(rt; printed_by(&rt, ViewKind::Local, "2", schedule)?.as_str(), text);
+    Ok(())
 }
 
 #[test]

@@ -1,5 +1,5 @@
 -- What a command line comes to: what is written of it to standard output, and its status.
-use Rattle.std.specs.Prelude.{◌≡◌, ◌⊎◌, ℕ, List, take, decimal, Option, Some, None, Result, Ok, Err, IfSome, option_map}
+use Rattle.std.specs.Prelude.{◌≡◌, ◌⊎◌, ℕ, Bool, true, false, List, take, decimal, Option, Some, None, Result, Ok, Err, IfSome, option_map}
 use Rattle.clap.specs.Words.{Text}
 use Rattle.refusals.specs.declared.table.Explanation.{Explanation}
 use Rattle.command_line.specs.Counts.{count_of}
@@ -19,6 +19,8 @@ use Rattle.console.specs.Heeded.{Heeds}
 use Rattle.console.specs.InputChecks.{CheckInputEnds}
 use Rattle.console.specs.Replayed.{ReplayEnds}
 use Rattle.console.specs.Runs.{Ends}
+use Rattle.schedule.specs.declared.verb.ViewKind.{ViewKind}
+use Rattle.schedule.specs.declared.verb.ViewKind.TheVariants.{Shared, Local}
 
 -- the bytes of the text of each name, where they are known
 abbrev pub Known : Type 0
@@ -43,10 +45,15 @@ FormatsOn texts query old new result = IfSome (texts query) (λ q. FormatEnds (t
 abbrev pub GraphsOn : Known → GraphForm → (query : List ℕ) → Option (List ℕ) → Option (List ℕ) → Result (Unit {0}) Fault → Type 0
 GraphsOn texts form query old new result = IfSome (texts query) (λ q. GraphEnds form (take 1048577 q) old new result)
 
-abbrev pub ReplaysOn : Known → Workers → (query schedule : List ℕ) → Option (List ℕ) → Option (List ℕ) → Result (Unit {0}) Fault → Type 0
-ReplaysOn texts workers query schedule old new result =
+-- the workers have views of their own where that is asked for
+abbrev pub kind_asked : (views : Bool) → ViewKind
+kind_asked true = Local
+kind_asked false = Shared
+
+abbrev pub ReplaysOn : Known → Workers → ViewKind → (query schedule : List ℕ) → Option (List ℕ) → Option (List ℕ) → Result (Unit {0}) Fault → Type 0
+ReplaysOn texts workers kind query schedule old new result =
     IfSome (texts query)
-    (λ q. Heeds (take 1048577 q) old new result × IfSome (texts schedule) (λ s. ReplayEnds (take 1048577 q) (count_of workers) s old new result))
+    (λ q. Heeds (take 1048577 q) old new result × IfSome (texts schedule) (λ s. ReplayEnds (take 1048577 q) (count_of workers) kind s old new result))
 
 -- what a refusal's number means is written
 abbrev pub Explains : (code : List ℕ) → Option (List ℕ) → Option (List ℕ) → Result (Unit {0}) Fault → Type 0
@@ -59,7 +66,7 @@ EndsOn texts (Follow query input workers explain) old new result = FollowsOn tex
 EndsOn texts (Check query input heap explain) old new result = ChecksOn texts query.now (option_map (λ s. s.now) input) old new result
 EndsOn texts (Graph query form heap explain) old new result = GraphsOn texts form query.now old new result
 EndsOn texts (Format query explain) old new result = FormatsOn texts query.now old new result
-EndsOn texts (Replay query schedule workers explain) old new result = ReplaysOn texts workers query.now schedule.now old new result
+EndsOn texts (Replay query schedule workers views explain) old new result = ReplaysOn texts workers (kind_asked views) query.now schedule.now old new result
 EndsOn texts (Explain code) old new result = Explains code.now old new result
 
 -- 0 of a command that is done, and else its fault's

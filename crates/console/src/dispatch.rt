@@ -3,7 +3,7 @@
 ghost use Rattle.std.specs.Prelude.{◌≡◌, map, option_map};
 ghost use Rattle.collector.specs.Watching.{inner_of};
 ghost use Rattle.command_line.specs.Faults.{line_status_of};
-ghost use Rattle.console.specs.Commands.{Answers, ChecksOn, FollowsOn, FormatsOn, GraphsOn, Obeys, ReplaysOn, RunsOn, status_after};
+ghost use Rattle.console.specs.Commands.{Answers, ChecksOn, FollowsOn, FormatsOn, GraphsOn, Obeys, ReplaysOn, RunsOn, kind_asked, status_after};
 
 use crate::checking::check_query;
 use crate::following::follow_query;
@@ -20,6 +20,7 @@ use diagnostics::{Fault, Texts, explain_fault, explained, write_explanation};
 use execution::Watcher;
 use linked_list_allocator::LocalHeap;
 use refusals::NUMBERS;
+use schedule::ViewKind;
 use std::alloc::{Allocator, Global};
 use std::io::Write;
 use std::sync::Wait;
@@ -163,21 +164,29 @@ fn format_named<'a, S: Sources<'a>, W: Write>(
     format_query(alloc, &arena, &mut query, texts, out)
 }
 
+/// The kind of the workers' views.
+fn view_kind(views: bool) -> ViewKind
+    ensures { result ≡ kind_asked views }
+{
+    if views { ViewKind::Local } else { ViewKind::Shared }
+}
+
 /// Does a schedule's steps over a query.
 fn replay_named<'a, S: Sources<'a>, W: Write>(
     alloc: Global,
     sources: &S,
     workers: Workers,
+    kind: ViewKind,
     query: &'a str,
     schedule: &'a str,
     texts: &mut Texts,
     out: &mut Watched<W>,
 ) -> Result<(), Fault>
-    ensures { ReplaysOn (S.content sources.now) workers query.now schedule.now (W.contents (inner_of out.old)) (W.contents (inner_of out.new)) result }
+    ensures { ReplaysOn (S.content sources.now) workers kind query.now schedule.now (W.contents (inner_of out.old)) (W.contents (inner_of out.new)) result }
 {
     let mut query = Watched::new(sources.open(query));
     let mut schedule = Watched::new(sources.open(schedule));
-    replay_schedule(alloc, workers, &mut query, &mut schedule, texts, out)
+    replay_schedule(alloc, workers, kind, &mut query, &mut schedule, texts, out)
 }
 
 /// The names of a command's texts, and whether a fault is to be explained. A name is empty where the command has no such text.
@@ -294,8 +303,12 @@ fn obey<'a, R: Threads + Wait + Sync, S: Sources<'a>, W: Write, E: Write, O: Wri
             query,
             schedule,
             workers,
+            views,
             ..
-        } => replay_named(alloc, sources, workers, query, schedule, &mut texts, out),
+        } => {
+            let kind = view_kind(views);
+            replay_named(alloc, sources, workers, kind, query, schedule, &mut texts, out)
+        }
         Options::Explain { code } => match explained(code) {
             Some(row) => write_explanation(alloc, row, out),
             None => return tell_numbers(code, err),

@@ -46,4 +46,5 @@ pub use input_check::check_input;
 pub use laws::{law_followed, law_one_answer, law_one_graph};
 pub use replaying::replay_schedule;
 pub use running::run;
+pub use schedule::ViewKind;
 pub use sources::Sources;

@@ -14,6 +14,7 @@ use collector::{Watched, put};
 use command_line::Workers;
 use diagnostics::{Fault, Texts};
 use replay::replay_text;
+use schedule::ViewKind;
 use std::alloc::Global;
 use std::io::{Read, Write};
 
@@ -21,17 +22,18 @@ use std::io::{Read, Write};
 fn replayed(
     alloc: Global,
     workers: Workers,
+    kind: ViewKind,
     query: &[u8],
     schedule: &[u8],
 ) -> Result<Vec<u8>, Fault>
-    ensures text { IfOk result (λ t. IsReplay query.now (count_of workers) schedule.now t.items) }
-    ensures fault { IfErr result (IsReplayFault query.now schedule.now) }
+    ensures text { IfOk result (λ t. IsReplay query.now (count_of workers) kind schedule.now t.items) }
+    ensures fault { IfErr result (IsReplayFault query.now kind schedule.now) }
 {
     let graph = match graph_of_text(alloc, query) {
         Ok(graph) => graph,
         Err(fault) => return Err(fault),
     };
-    match replay_text(alloc, graph, workers.count(), schedule) {
+    match replay_text(alloc, graph, workers.count(), kind, schedule) {
         Ok(text) => Ok(text),
         Err(refusal) => Err(schedule_fault(refusal)),
     }
@@ -41,15 +43,16 @@ fn replayed(
 fn write_replayed<W: Write>(
     alloc: Global,
     workers: Workers,
+    kind: ViewKind,
     query: &[u8],
     schedule: &[u8],
     writer: &mut Watched<W>,
 ) -> Result<(), Fault>
-    ensures ends { ReplayEnds query.now (count_of workers) schedule.now (W.contents (inner_of writer.old)) (W.contents (inner_of writer.new)) result }
+    ensures ends { ReplayEnds query.now (count_of workers) kind schedule.now (W.contents (inner_of writer.old)) (W.contents (inner_of writer.new)) result }
     ensures writer { IsErrOf result fault.Write → has_failed writer.new ≡ true }
     ensures read { IfErr result IsAfterReading }
 {
-    let text = match replayed(alloc, workers, query, schedule) {
+    let text = match replayed(alloc, workers, kind, query, schedule) {
         Ok(text) => text,
         Err(fault) => return Err(fault),
     };
@@ -59,7 +62,8 @@ fn write_replayed<W: Write>(
     }
 }
 
-/// Reads a query and a schedule, does the schedule's lines on that many workers over the query's graph, and writes what they print.
+/// Reads a query and a schedule, does the schedule's lines on that many workers over the query's graph, and writes what they print. The
+/// workers share one view or have views of their own.
 ///
 /// It is written only once all of it is made. Faults are reported in this order: the query can't be read, the schedule can't be read, the
 /// query is refused, the schedule is refused, the writer failed. Lack of memory may come at any point. The texts that were read are left
@@ -68,12 +72,13 @@ fn write_replayed<W: Write>(
 pub fn replay_schedule<Q: Read, S: Read, W: Write>(
     alloc: Global,
     workers: Workers,
+    kind: ViewKind,
     query: &mut Watched<Q>,
     schedule: &mut Watched<S>,
     texts: &mut Texts,
     writer: &mut Watched<W>,
 ) -> Result<(), Fault>
-    ensures ends { IfSome (Q.remaining (inner_of query.old)) (λ q. IfSome (S.remaining (inner_of schedule.old)) (λ s. ReplayEnds (take 1048577 q) (count_of workers) s (W.contents (inner_of writer.old)) (W.contents (inner_of writer.new)) result)) }
+    ensures ends { IfSome (Q.remaining (inner_of query.old)) (λ q. IfSome (S.remaining (inner_of schedule.old)) (λ s. ReplayEnds (take 1048577 q) (count_of workers) kind s (W.contents (inner_of writer.old)) (W.contents (inner_of writer.new)) result)) }
     ensures heeds { IfSome (Q.remaining (inner_of query.old)) (λ q. Heeds (take 1048577 q) (W.contents (inner_of writer.old)) (W.contents (inner_of writer.new)) result) }
     ensures query { IsErrOf result fault.ReadQuery → has_failed query.new ≡ true }
     ensures schedule { IsErrOf result fault.ReadInput → has_failed schedule.new ≡ true }
@@ -89,5 +94,5 @@ pub fn replay_schedule<Q: Read, S: Read, W: Write>(
         Ok(text) => texts.input = text,
         Err(fault) => return Err(fault),
     }
-    write_replayed(alloc, workers, &texts.query, &texts.input, writer)
+    write_replayed(alloc, workers, kind, &texts.query, &texts.input, writer)
 }

@@ -1,6 +1,6 @@
 -- What is in hand, after each step.
-use Rattle.std.proofs.Common.{◌≡◌, ◌≢◌, ◌<◌, ◌∙◌, ◌++◌, ◌∷◌, [], arith, replicate, ℕ, List, length, Option, Some, None, true, false, cond, refl, sym, ap, subst, inl, inr, Bool}
-use Rattle.std.specs.Prelude.{slice_get, ◌==◌}
+use Rattle.std.proofs.Common.{◌≡◌, ◌≢◌, ◌<◌, ◌∙◌, ◌++◌, ◌∷◌, [], arith, replicate, ℕ, List, length, Option, Some, None, false, cond, refl, sym, ap, inl, inr}
+use Rattle.std.specs.Prelude.{slice_get}
 use Rattle.std.proofs.lemmas.Bool.{cases_lt}
 use Rattle.std.proofs.lemmas.Bool.Decides.{eqb_tells}
 use Rattle.std.proofs.lemmas.List.{get_or_append_left, get_or-replicate, get_or_past, length-replicate}
@@ -71,7 +71,7 @@ hold_through w v n k hand h before after others = hold_same w v n hand same h
       | inr other ↦ others j other.1
     ]
 
-put_other : {X : Type 0} (f : ℕ → X) (k : ℕ) (x : X) (j : ℕ) → j ≢ k → put f k x j ≡ f j
+pub put_other : {X : Type 0} (f : ℕ → X) (k : ℕ) (x : X) (j : ℕ) → j ≢ k → put f k x j ≡ f j
 put_other f k x j other = elim (eqb_tells j k) [
   | inl same ↦ absurd (other same.1)
   | inr no_way ↦ ap (λ b. cond b x (f j)) no_way.0

@@ -1,9 +1,8 @@
 -- Inputs by name, and the refusals of calls on them.
-use Rattle.std.proofs.Common.{◌≡◌, ◌<◌, ◌≤◌, ◌∙◌, eq-eqb, ℕ, ℤ, List, [], ◌∷◌, length, Option, Some, None, true, false, Bool, cond, refl, sym, ap, subst, arith, inl, inr, ◌⊎◌}
-use Rattle.std.specs.Prelude.{slice_get, nat_lt, ◌==◌, Result, Ok, Err}
-use Rattle.std.proofs.lemmas.Bool.Decides.{nat_tests, eqb_tells}
+use Rattle.std.proofs.Common.{◌≡◌, ◌<◌, ◌≤◌, ◌∙◌, eq-eqb, ℕ, ℤ, List, [], ◌∷◌, length, Option, Some, None, true, false, Bool, cond, refl, sym, ap, subst, arith, inl, inr}
+use Rattle.std.specs.Prelude.{slice_get, nat_lt, ◌==◌, Ok, Err}
+use Rattle.std.proofs.lemmas.Bool.Decides.{nat_tests}
 use Rattle.std.proofs.lemmas.Option.{slice_get_within}
-use Rattle.record_core.specs.Records.{IsRecord}
 use Rattle.semantics.specs.Multiset.{Record}
 use Rattle.semantics.specs.Query.{Input}
 use Rattle.rows.specs.FlatRows.{arity_of}
@@ -22,11 +21,14 @@ use Rattle.board.specs.declared.refusal.StepRefusal.TheVariants as step
 use Rattle.collector.specs.Lines.{IsInput, IsAbsent, MakeRecord}
 use Rattle.schedule.specs.Commands.{Command}
 use Rattle.replay.specs.Hands.{HoldsAll}
-use Rattle.replay.specs.Replays.{Does, RefusesFeed, RefusesInput, RefusesSeal, refusal_line}
-use Rattle.replay.specs.Steps.{Answers, AreInputsOf, IsNumbered, Leads, Stays, refusal_of, setting_of}
+use Rattle.board.specs.Lateness.{BoardShown, Posts, PostsSome}
+use Rattle.replay.specs.Replays.{Does, RefusesFeed, RefusesInput, RefusesSeal, after_posting, refusal_line}
+use Rattle.replay.specs.Steps.{Answers, AreInputsOf, IsNumbered, Leads, ShowsState, ShowsWaits, Stays, refusal_of, setting_of}
+use Rattle.replay.specs.Waits.{State, Waits, kind_of, posted}
 use Rattle.replay.specs.declared.refusal.Refusal.{Refusal}
 use Rattle.replay.specs.declared.refusal.Refusal.TheVariants as refusal
 use Rattle.replay.proofs.Holding.{hold_same}
+use Rattle.replay.proofs.Waiting.{feed_posts, shows_posted}
 
 abbrev Hand : Type 0
 Hand = List (Option Pass)
@@ -34,17 +36,18 @@ Hand = List (Option Pass)
 pub stays_same : (s t : Shown) → t ≡ s → Stays s t
 stays_same s t e = record { graph = ap (λ (x : Shown). x.graph) e; workers = ap (λ (x : Shown). length x.sides) e; tables = ap tables e }
 
--- a refused line leaves the world as it was
-pub refused_leads : (s t : Shown) (hand : Hand) (command : Command) (text : List ℕ) → t ≡ s → ((w : World) → Shows s w → HoldsAll w (length s.sides) hand → Does (setting_of s) w command w text) → Leads s t hand hand command text
-refused_leads s t hand command text e does = record {
-  stays = stays_same s t e;
-  led = λ w shows holds. record { after = w; shows = subst (λ (x : Shown). Shows x w) (sym e) shows; hand_after = holds; does = does w shows holds };
+-- a refused line leaves the state as it was
+pub refused_leads : (late : Bool) (b c : BoardShown) (hand : Hand) (command : Command) (text : List ℕ) → c ≡ b → ((x : State) → ShowsState b x → HoldsAll x.world (length b.shown.sides) hand → Does (setting_of late b.shown) x command x text)
+    → Leads late b c hand hand command text
+refused_leads late b c hand command text e does = record {
+  stays = stays_same b.shown c.shown (ap (λ (x : BoardShown). x.shown) e);
+  led = λ x shows holds. record { after = x; shows = subst (λ (y : BoardShown). ShowsState y x) (sym e) shows; hand_after = holds; does = does x shows holds };
 }
 
-pub refused_answers : (s t : Shown) (hand : Hand) (command : Command) (e : Refusal) → t ≡ s → ((code : ℕ) → e ≡ refusal.Step code → (w : World) → Shows s w → HoldsAll w (length s.sides) hand → Does (setting_of s) w command w (refusal_line code))
-    → Answers s t hand hand command {T = Unit {0}} (Err e)
-refused_answers s t hand command (refusal.Step code) same does = refused_leads s t hand command (refusal_line code) same (does code refl)
-refused_answers s t hand command refusal.NoMemory same does = stays_same s t same
+pub refused_answers : (late : Bool) (b c : BoardShown) (hand : Hand) (command : Command) (e : Refusal) → c ≡ b
+    → ((code : ℕ) → e ≡ refusal.Step code → (x : State) → ShowsState b x → HoldsAll x.world (length b.shown.sides) hand → Does (setting_of late b.shown) x command x (refusal_line code)) → Answers late b c hand hand command {T = Unit {0}} (Err e)
+refused_answers late b c hand command (refusal.Step code) same does = refused_leads late b c hand command (refusal_line code) same (does code refl)
+refused_answers late b c hand command refusal.NoMemory same does = stays_same b.shown c.shown (ap (λ (x : BoardShown). x.shown) same)
 
 -- the board has the graph's inputs, and not many
 pub record HasInputs (s : Shown) : Type 0 where
@@ -57,31 +60,31 @@ input_count_is s inputs are e = record { all = omega (arith, are.count, ap lengt
 -- ---- which input, and why not
 
 -- what is answered where a call on this input is refused
-why : (s : Shown) (name : List ℕ) (i arity : ℕ) → HasInputs s → IsNumbered (shown_inputs s.graph) name (i, arity) → (r : StepRefusal) (code : ℕ) → refusal_of r ≡ refusal.Step code → (w : World) → Shows s w
+why : (late : Bool) (s : Shown) (name : List ℕ) (i arity : ℕ) → HasInputs s → IsNumbered (shown_inputs s.graph) name (i, arity) → (r : StepRefusal) (code : ℕ) → refusal_of r ≡ refusal.Step code → (w : World) → Shows s w
     → (b c d : Bool) → s.stopped ≡ b → nat_lt i (length s.inputs) ≡ c → (input_at s i).closed ≡ d
-    → first (cond b (Some step.Stopped) None) (first (cond c None (Some step.UnknownInput)) (cond d (Some step.InputClosed) None)) ≡ Some r → RefusesInput (setting_of s) w name code
-why s name i arity size numbered r code told w shows true c d stopped there closed e =
+    → first (cond b (Some step.Stopped) None) (first (cond c None (Some step.UnknownInput)) (cond d (Some step.InputClosed) None)) ≡ Some r → RefusesInput (setting_of late s) w name code
+why late s name i arity size numbered r code told w shows true c d stopped there closed e =
     let code_is : 37 ≡ code = (let f : Some step.Stopped ≡ Some r = e in let g : refusal.Step 37 ≡ refusal.Step code = ap refusal_of (let h : step.Stopped ≡ r = cc in h) ∙ told in cc) in
-    subst (RefusesInput (setting_of s) w name) code_is (RefusesInput.is_stopped (shows.stopped ∙ stopped))
-why s name i arity size numbered r code told w shows false false d stopped there closed e =
+    subst (RefusesInput (setting_of late s) w name) code_is (RefusesInput.is_stopped (shows.stopped ∙ stopped))
+why late s name i arity size numbered r code told w shows false false d stopped there closed e =
     let code_is : 32 ≡ code = (let f : Some step.UnknownInput ≡ Some r = e in let g : refusal.Step 32 ≡ refusal.Step code = ap refusal_of (let h : step.UnknownInput ≡ r = cc in h) ∙ told in cc) in
-    subst (RefusesInput (setting_of s) w name) code_is (RefusesInput.is_unknown (shows.stopped ∙ stopped) (absent numbered))
+    subst (RefusesInput (setting_of late s) w name) code_is (RefusesInput.is_unknown (shows.stopped ∙ stopped) (absent numbered))
   where
     absent : IsNumbered (shown_inputs s.graph) name (i, arity) → IsAbsent (shown_inputs s.graph) name
     absent (inl is) = let within : i < length (shown_inputs s.graph) = slice_get_within (shown_inputs s.graph) i _ is.there in let less : i < length s.inputs = omega (arith, within, size.all) in absurd (grind (arith, nat_tests))
     absent (inr none) = none.0
-why s name i arity size numbered r code told w shows false true true stopped there closed e =
+why late s name i arity size numbered r code told w shows false true true stopped there closed e =
     let code_is : 31 ≡ code = (let f : Some step.InputClosed ≡ Some r = e in let g : refusal.Step 31 ≡ refusal.Step code = ap refusal_of (let h : step.InputClosed ≡ r = cc in h) ∙ told in cc) in
-    subst (RefusesInput (setting_of s) w name) code_is (refuses numbered)
+    subst (RefusesInput (setting_of late s) w name) code_is (refuses numbered)
   where
-    refuses : IsNumbered (shown_inputs s.graph) name (i, arity) → RefusesInput (setting_of s) w name 31
+    refuses : IsNumbered (shown_inputs s.graph) name (i, arity) → RefusesInput (setting_of late s) w name 31
     refuses (inl is) = RefusesInput.is_closed i arity (shows.stopped ∙ stopped) is (shows.closed i ∙ closed)
     refuses (inr none) = let at : i ≡ 4294967295 = none.1 in let few : length s.inputs ≤ 4096 = size.few in absurd (grind (arith, nat_tests))
-why s name i arity size numbered r code told w shows false true false stopped there closed e = absurd (let f : None ≡ Some r = e in cc)
+why late s name i arity size numbered r code told w shows false true false stopped there closed e = absurd (let f : None ≡ Some r = e in cc)
 
-pub refused_input : (s : Shown) (name : List ℕ) (i arity : ℕ) → HasInputs s → IsNumbered (shown_inputs s.graph) name (i, arity) → (r : StepRefusal) → input_refusal s i ≡ Some r → (code : ℕ) → refusal_of r ≡ refusal.Step code
-    → (w : World) → Shows s w → RefusesInput (setting_of s) w name code
-refused_input s name i arity size numbered r e code told w shows = why s name i arity size numbered r code told w shows s.stopped (nat_lt i (length s.inputs)) (input_at s i).closed refl refl refl e
+pub refused_input : (late : Bool) (s : Shown) (name : List ℕ) (i arity : ℕ) → HasInputs s → IsNumbered (shown_inputs s.graph) name (i, arity) → (r : StepRefusal) → input_refusal s i ≡ Some r → (code : ℕ) → refusal_of r ≡ refusal.Step code
+    → (w : World) → Shows s w → RefusesInput (setting_of late s) w name code
+refused_input late s name i arity size numbered r e code told w shows = why late s name i arity size numbered r code told w shows s.stopped (nat_lt i (length s.inputs)) (input_at s i).closed refl refl refl e
 
 -- where no call on it is refused it is an open input of an engine that runs
 pub record IsOpen (s : Shown) (name : List ℕ) (i arity : ℕ) : Type 0 where
@@ -106,48 +109,61 @@ open_input s name i arity size numbered e = why_not s name i arity size numbered
 
 -- ---- a step on an input
 
-pub step_leads : (s t : Shown) (hand : Hand) (command : Command) (taken : Step) → Goes s taken t → tables t ≡ tables s → ((w : World) (k : ℕ) → (after_step (net s) w taken).held k ≡ w.held k)
-    → ((w : World) → Shows s w → Allowed (net s) w taken → Does (setting_of s) w command (after_step (net s) w taken) []) → Leads s t hand hand command []
-step_leads s t hand command taken goes same held does = record {
+pub step_leads : (late : Bool) (b c : BoardShown) (hand : Hand) (command : Command) (taken : Step) → Goes b.shown taken c.shown → tables c.shown ≡ tables b.shown → ((w : World) (k : ℕ) → (after_step (net b.shown) w taken).held k ≡ w.held k)
+    → ((x : State) → ShowsState b x → Allowed (net b.shown) x.world taken → Shows c.shown (after_step (net b.shown) x.world taken)
+    → (waits : Waits) × ShowsWaits c waits × Does (setting_of late b.shown) x command (record { world = after_step (net b.shown) x.world taken; waits = waits }) []) → Leads late b c hand hand command []
+step_leads late b c hand command taken goes same held does = record {
   stays = record { graph = goes.graph; workers = goes.workers; tables = same };
-  led = λ w shows holds. record {
-    after = after_step (net s) w taken;
-    shows = (goes.step w shows).1;
-    hand_after = hold_same w (after_step (net s) w taken) (length s.sides) hand (held w) holds;
-    does = does w shows (goes.step w shows).0;
-  };
+  led = λ x shows holds.
+      let stepped = goes.step x.world shows.world in
+      let done = does x shows stepped.0 stepped.1 in
+      record {
+        after = record { world = after_step (net b.shown) x.world taken; waits = done.0 };
+        shows = record { world = stepped.1; waits = done.1 };
+        hand_after = hold_same x.world (after_step (net b.shown) x.world taken) (length b.shown.sides) hand (held x.world) holds;
+        does = done.2;
+      };
 }
 
+-- a step by which the feeder posts a batch
+pub posting_leads : (late : Bool) (b c : BoardShown) (hand : Hand) (command : Command) (taken : Step) → Goes b.shown taken c.shown → tables c.shown ≡ tables b.shown → ((w : World) (k : ℕ) → (after_step (net b.shown) w taken).held k ≡ w.held k)
+    → Posts late (length b.shown.sides) b c → ((x : State) → Allowed (net b.shown) x.world taken → Does (setting_of late b.shown) x command (after_posting (setting_of late b.shown) x taken (length b.shown.sides)) []) → Leads late b c hand hand command []
+posting_leads late b c hand command taken goes same held posts does =
+    step_leads late b c hand command taken goes same held (λ x shows allowed after. (posted (kind_of late) (length b.shown.sides) x.waits, shows_posted late (length b.shown.sides) b c x.waits goes.workers shows.waits posts, does x allowed))
+
 -- a feed that is done
-pub fed_leads : (s t : Shown) (hand : Hand) (name : List ℕ) (fields : List ℤ) (i arity : ℕ) → IsOpen s name i arity → MakeRecord arity fields → Goes s (Step.feed i (fields ∷ [])) t → tables t ≡ tables s → Leads s t hand hand (Command.feed name fields) []
-fed_leads s t hand name fields i arity is fits goes same =
-    step_leads s t hand (Command.feed name fields) (Step.feed i (fields ∷ [])) goes same (λ w k. refl)
-    (λ w shows allowed. Does.does_feed name fields i (subst (IsInput (shown_inputs s.graph) name i) (sym fits.0) is.is) fits.1 allowed)
+pub fed_leads : (late : Bool) (b c : BoardShown) (hand : Hand) (name : List ℕ) (fields : List ℤ) (i arity : ℕ) → IsOpen b.shown name i arity → MakeRecord arity fields → Goes b.shown (Step.feed i (fields ∷ [])) c.shown → tables c.shown ≡ tables b.shown
+    → PostsSome late (length b.shown.sides) b c → Leads late b c hand hand (Command.feed name fields) []
+fed_leads late b c hand name fields i arity is fits goes same posts =
+    step_leads late b c hand (Command.feed name fields) (Step.feed i (fields ∷ [])) goes same (λ w k. refl)
+    (λ x shows allowed after.
+    let fed = feed_posts late b c x (after_step (net b.shown) x.world (Step.feed i (fields ∷ []))) goes.workers shows after posts in
+    (fed.0, fed.1, Does.does_feed name fields i fed.0 (subst (IsInput (shown_inputs b.shown.graph) name i) (sym fits.0) is.is) fits.1 allowed fed.2))
 
 -- fields that make no record of an input that is open
-pub unfit_leads : (s t : Shown) (hand : Hand) (name : List ℕ) (fields : List ℤ) (i arity : ℕ) → IsOpen s name i arity → (MakeRecord arity fields → ⊥) → t ≡ s → Leads s t hand hand (Command.feed name fields) (refusal_line 33)
-unfit_leads s t hand name fields i arity is none same =
-    refused_leads s t hand (Command.feed name fields) (refusal_line 33) same
-    (λ w shows holds. Does.feed_refused name fields 33 (RefusesFeed.misfit i arity (shows.stopped ∙ is.runs) is.is (shows.closed i ∙ is.still_open) none))
+pub unfit_leads : (late : Bool) (b c : BoardShown) (hand : Hand) (name : List ℕ) (fields : List ℤ) (i arity : ℕ) → IsOpen b.shown name i arity → (MakeRecord arity fields → ⊥) → c ≡ b → Leads late b c hand hand (Command.feed name fields) (refusal_line 33)
+unfit_leads late b c hand name fields i arity is none same =
+    refused_leads late b c hand (Command.feed name fields) (refusal_line 33) same
+    (λ x shows holds. Does.feed_refused name fields 33 (RefusesFeed.misfit i arity (shows.world.stopped ∙ is.runs) is.is (shows.world.closed i ∙ is.still_open) none))
 
 -- ---- a seal
 
 -- what a seal's refusals say, where none of the input's apply
-at_last_epoch : (s : Shown) (name : List ℕ) (i arity : ℕ) → IsOpen s name i arity → (r : StepRefusal) (code : ℕ) → refusal_of r ≡ refusal.Step code → (w : World) → Shows s w → (b : Bool) → ((input_at s i).open_epoch == 4294967295) ≡ b
-    → AnswersOr {T = Unit {0}} (cond b (Some step.LastEpoch) None) (Err r) → RefusesSeal (setting_of s) w name code
-at_last_epoch s name i arity is r code told w shows true at e =
+at_last_epoch : (late : Bool) (s : Shown) (name : List ℕ) (i arity : ℕ) → IsOpen s name i arity → (r : StepRefusal) (code : ℕ) → refusal_of r ≡ refusal.Step code → (w : World) → Shows s w → (b : Bool) → ((input_at s i).open_epoch == 4294967295) ≡ b
+    → AnswersOr {T = Unit {0}} (cond b (Some step.LastEpoch) None) (Err r) → RefusesSeal (setting_of late s) w name code
+at_last_epoch late s name i arity is r code told w shows true at e =
     let code_is : 38 ≡ code = (let g : refusal.Step 38 ≡ refusal.Step code = ap refusal_of (sym e) ∙ told in cc) in
     let full : (input_at s i).open_epoch ≡ 4294967295 = grind (arith, nat_tests) in
-    subst (RefusesSeal (setting_of s) w name) code_is (RefusesSeal.last_epoch i arity (shows.stopped ∙ is.runs) is.is (shows.closed i ∙ is.still_open) (shows.open_epoch i ∙ full))
-at_last_epoch s name i arity is r code told w shows false at e = absurd (let g : refusal.NoMemory ≡ refusal.Step code = ap refusal_of (sym e) ∙ told in cc)
+    subst (RefusesSeal (setting_of late s) w name) code_is (RefusesSeal.last_epoch i arity (shows.stopped ∙ is.runs) is.is (shows.closed i ∙ is.still_open) (shows.open_epoch i ∙ full))
+at_last_epoch late s name i arity is r code told w shows false at e = absurd (let g : refusal.NoMemory ≡ refusal.Step code = ap refusal_of (sym e) ∙ told in cc)
 
-pub refused_seal : (s : Shown) (name : List ℕ) (i arity : ℕ) → HasInputs s → IsNumbered (shown_inputs s.graph) name (i, arity) → (r : StepRefusal) → AnswersOr {T = Unit {0}} (seal_refusal s i) (Err r)
-    → (code : ℕ) → refusal_of r ≡ refusal.Step code → (w : World) → Shows s w → RefusesSeal (setting_of s) w name code
-refused_seal s name i arity size numbered r e code told w shows = by_input (input_refusal s i) refl e
+pub refused_seal : (late : Bool) (s : Shown) (name : List ℕ) (i arity : ℕ) → HasInputs s → IsNumbered (shown_inputs s.graph) name (i, arity) → (r : StepRefusal) → AnswersOr {T = Unit {0}} (seal_refusal s i) (Err r)
+    → (code : ℕ) → refusal_of r ≡ refusal.Step code → (w : World) → Shows s w → RefusesSeal (setting_of late s) w name code
+refused_seal late s name i arity size numbered r e code told w shows = by_input (input_refusal s i) refl e
   where
-    by_input : (o : Option StepRefusal) → input_refusal s i ≡ o → AnswersOr {T = Unit {0}} (first o (cond ((input_at s i).open_epoch == 4294967295) (Some step.LastEpoch) None)) (Err r) → RefusesSeal (setting_of s) w name code
-    by_input (Some q) at e = RefusesSeal.seal_input code (refused_input s name i arity size numbered r (at ∙ ap Some (sym e)) code told w shows)
-    by_input None at e = at_last_epoch s name i arity (open_input s name i arity size numbered at) r code told w shows ((input_at s i).open_epoch == 4294967295) refl e
+    by_input : (o : Option StepRefusal) → input_refusal s i ≡ o → AnswersOr {T = Unit {0}} (first o (cond ((input_at s i).open_epoch == 4294967295) (Some step.LastEpoch) None)) (Err r) → RefusesSeal (setting_of late s) w name code
+    by_input (Some q) at e = RefusesSeal.seal_input code (refused_input late s name i arity size numbered r (at ∙ ap Some (sym e)) code told w shows)
+    by_input None at e = at_last_epoch late s name i arity (open_input s name i arity size numbered at) r code told w shows ((input_at s i).open_epoch == 4294967295) refl e
 
 -- a call that was taken was refused by nothing
 pub taken_first : (o p : Option StepRefusal) → AnswersOr {T = Unit {0}} (first o p) (Ok tt) → o ≡ None

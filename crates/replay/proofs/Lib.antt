@@ -1,4 +1,5 @@
 pub mod Holding
+pub mod Waiting
 pub mod Inputs
 pub mod Passing
 pub mod Places

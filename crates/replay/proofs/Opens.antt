@@ -1,28 +1,22 @@
 -- On a board that has just been opened.
-use Rattle.std.proofs.Common.{◌≡◌, ◌∙◌, ℕ, List, length, refl, ap, subst}
-use Rattle.lowering.specs.Shown.{GraphValue, shown_graph, shown_inputs, shown_names}
-use Rattle.machine.specs.World.{World, opening}
+use Rattle.std.proofs.Common.{◌≡◌, ◌∙◌, ℕ, Bool, List, length, ap, subst}
+use Rattle.lowering.specs.Shown.{GraphValue}
 use Rattle.board.specs.Shown.{Shown}
-use Rattle.board.specs.Showing.{Shows}
 use Rattle.board.specs.Promises.{IsOpening}
 use Rattle.schedule.specs.Commands.{Command}
 use Rattle.schedule.specs.ScheduleText.{IsScheduleText}
-use Rattle.replay.specs.Hands.{HoldsNone}
 use Rattle.replay.specs.Replays.{Replays, Setting}
-use Rattle.replay.specs.Steps.{AnswersText, setting_of}
+use Rattle.replay.specs.Steps.{AnswersText, setting_of, setting_on}
+use Rattle.replay.specs.Waits.{State, at_first, kind_of}
 
-set : (s : Shown) (g : GraphValue) (n : ℕ) → s.graph ≡ g → length s.sides ≡ n → setting_of s ≡ record { graph = shown_graph g; workers = n; inputs = shown_inputs g; outputs = shown_names g }
-set s g n same count =
-    ap (λ x. record { graph = shown_graph x; workers = length s.sides; inputs = shown_inputs x; outputs = shown_names x }) same
-    ∙ ap (λ (k : ℕ). record { graph = shown_graph g; workers = k; inputs = shown_inputs g; outputs = shown_names g }) count
+set : (late : Bool) (s : Shown) (g : GraphValue) (n : ℕ) → s.graph ≡ g → length s.sides ≡ n → setting_of late s ≡ setting_on (kind_of late) g n
+set late s g n same count = ap (λ x. setting_on (kind_of late) x (length s.sides)) same ∙ ap (λ (k : ℕ). setting_on (kind_of late) g k) count
 
-pub opened_replays : (g h : GraphValue) (workers : ℕ) (s : Shown) (text answer : List ℕ) (commands : List Command) → IsOpening h workers s → h ≡ g → IsScheduleText text commands → Shows s opening
-    → ((w : World) → Shows s w → HoldsNone w (length s.sides) → (v : World) × Replays (setting_of s) w commands v answer) → AnswersText g workers text answer
-opened_replays g h workers s text answer commands o same read shows replays =
-    let done = replays opening shows (λ k lt. refl) in
-    record {
-      commands = commands;
-      read = read;
-      last = done.0;
-      replays = subst (λ (x : Setting). Replays x opening commands done.0 answer) (set s g workers (o.graph ∙ same) o.workers) done.1;
-    }
+pub opened_replays : (late : Bool) (g h : GraphValue) (workers : ℕ) (s : Shown) (text answer : List ℕ) (commands : List Command) → IsOpening h workers s → h ≡ g → IsScheduleText (kind_of late) text commands
+    → (last : State) × Replays (setting_of late s) at_first commands last answer → AnswersText (kind_of late) g workers text answer
+opened_replays late g h workers s text answer commands o same read replays = record {
+  commands = commands;
+  read = read;
+  last = replays.0;
+  replays = subst (λ (x : Setting). Replays x at_first commands replays.0 answer) (set late s g workers (o.graph ∙ same) o.workers) replays.1;
+}

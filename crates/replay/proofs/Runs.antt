@@ -1,57 +1,53 @@
 -- Lines done one after another.
-use Rattle.std.proofs.Common.{◌≡◌, ◌<◌, ◌+◌, ◌∙◌, ℕ, List, [], ◌∷◌, ◌++◌, length, Option, map, refl, sym, ap, subst, append_assoc}
+use Rattle.std.proofs.Common.{◌≡◌, ◌∙◌, ℕ, List, [], ◌∷◌, ◌++◌, length, Option, Bool, refl, sym, ap, subst}
 use Rattle.std.specs.Prelude.{Result, Ok, Err}
-use Rattle.lowering.specs.Shown.{shown_graph, shown_inputs, shown_names}
-use Rattle.machine.specs.World.{World}
 use Rattle.events.specs.Jobs.{Pass}
 use Rattle.board.specs.Shown.{Shown}
-use Rattle.board.specs.Showing.{Shows}
+use Rattle.board.specs.Lateness.{BoardShown}
 use Rattle.schedule.specs.Commands.{Command}
 use Rattle.replay.specs.Hands.{HoldsAll, IsHand}
 use Rattle.replay.specs.Replays.{Does, Replays, Setting, Tells}
 use Rattle.replay.specs.declared.refusal.Refusal.{Refusal}
 use Rattle.replay.specs.declared.refusal.Refusal.TheVariants as refusal
 use Rattle.replay.proofs.Holding.{hand_stays}
-use Rattle.replay.specs.Steps.{Answers, Led, Leads, Stays, setting_of}
+use Rattle.replay.specs.Steps.{Answers, Led, Leads, ShowsState, Stays, setting_of, setting_on}
+use Rattle.replay.specs.Waits.{State, kind_of}
 
-pub setting_same : (s t : Shown) → Stays s t → setting_of t ≡ setting_of s
-setting_same s t h =
-    let g = h.graph in
-    let n = h.workers in
-    ap (λ x. record { graph = shown_graph x; workers = length t.sides; inputs = shown_inputs x; outputs = shown_names x }) g
-    ∙ ap (λ (k : ℕ). record { graph = shown_graph s.graph; workers = k; inputs = shown_inputs s.graph; outputs = shown_names s.graph }) n
+pub setting_same : (late : Bool) (s t : Shown) → Stays s t → setting_of late t ≡ setting_of late s
+setting_same late s t h =
+    ap (λ x. setting_on (kind_of late) x (length t.sides)) h.graph ∙ ap (λ (k : ℕ). setting_on (kind_of late) s.graph k) h.workers
 
--- from whatever world the board showed at first, the lines lead to one that it shows now
-pub record Replayed (s t : Shown) (old new : List (Option Pass)) (commands : List Command) (text : List ℕ) : Type 0 where
-  pub stays : Stays s t
-  pub led : (w : World) → Shows s w → HoldsAll w (length s.sides) old → (v : World) × Shows t v × HoldsAll v (length s.sides) new × Replays (setting_of s) w commands v text
+-- from whatever state the board showed at first, the lines lead to one that it shows now
+pub record Replayed (late : Bool) (b c : BoardShown) (old new : List (Option Pass)) (commands : List Command) (text : List ℕ) : Type 0 where
+  pub stays : Stays b.shown c.shown
+  pub led : (x : State) → ShowsState b x → HoldsAll x.world (length b.shown.sides) old → (y : State) × ShowsState c y × HoldsAll y.world (length b.shown.sides) new × Replays (setting_of late b.shown) x commands y text
 
-pub none_replayed : (s : Shown) (hand : List (Option Pass)) → Replayed s s hand hand [] []
-none_replayed s hand = record {
+pub none_replayed : (late : Bool) (b : BoardShown) (hand : List (Option Pass)) → Replayed late b b hand hand [] []
+none_replayed late b hand = record {
   stays = record { graph = refl; workers = refl; tables = refl };
-  led = λ w shows holds. (w, shows, holds, Replays.replays_nothing);
+  led = λ x shows holds. (x, shows, holds, Replays.replays_nothing);
 }
 
-pub more_replayed : (s t u : Shown) (old hand new : List (Option Pass)) (commands : List Command) (command : Command) (before text : List ℕ) → Replayed s t old hand commands before → Leads t u hand new command text
-    → Replayed s u old new (commands ++ command ∷ []) (before ++ text)
-more_replayed s t u old hand new commands command before text r more = record {
+pub more_replayed : (late : Bool) (b c d : BoardShown) (old hand new : List (Option Pass)) (commands : List Command) (command : Command) (before text : List ℕ) → Replayed late b c old hand commands before → Leads late c d hand new command text
+    → Replayed late b d old new (commands ++ command ∷ []) (before ++ text)
+more_replayed late b c d old hand new commands command before text r more = record {
   stays = record { graph = more.stays.graph ∙ r.stays.graph; workers = more.stays.workers ∙ r.stays.workers; tables = more.stays.tables ∙ r.stays.tables };
-  led = λ w shows holds.
-      let so_far = r.led w shows holds in
-      let led : Led t u new command text so_far.0 = more.led so_far.0 so_far.1 (subst (λ (n : ℕ). HoldsAll so_far.0 n hand) (sym r.stays.workers) so_far.2) in
-      let does : Does (setting_of s) so_far.0 command led.after text = subst (λ (x : Setting). Does x so_far.0 command led.after text) (setting_same s t r.stays) led.does in
-      (led.after, led.shows, subst (λ (n : ℕ). HoldsAll led.after n new) r.stays.workers led.hand_after, Replays.replays_more commands command so_far.0 led.after before text so_far.3 does);
+  led = λ x shows holds.
+      let so_far = r.led x shows holds in
+      let led : Led late c d new command text so_far.0 = more.led so_far.0 so_far.1 (subst (λ (n : ℕ). HoldsAll so_far.0.world n hand) (sym r.stays.workers) so_far.2) in
+      let does : Does (setting_of late b.shown) so_far.0 command led.after text = subst (λ (s : Setting). Does s so_far.0 command led.after text) (setting_same late b.shown c.shown r.stays) led.does in
+      (led.after, led.shows, subst (λ (n : ℕ). HoldsAll led.after.world n new) r.stays.workers led.hand_after, Replays.replays_more commands command so_far.0 led.after before text so_far.3 does);
 }
 
 -- a question changes nothing
-pub told_leads : (s : Shown) (hand : List (Option Pass)) (epoch : ℕ) (text : List ℕ) → ((w : World) → Shows s w → Tells (setting_of s) w epoch text) → Leads s s hand hand (Command.print epoch) text
-told_leads s hand epoch text tells = record {
+pub told_leads : (late : Bool) (b : BoardShown) (hand : List (Option Pass)) (epoch : ℕ) (text : List ℕ) → ((x : State) → ShowsState b x → Tells (setting_of late b.shown) x epoch text) → Leads late b b hand hand (Command.print epoch) text
+told_leads late b hand epoch text tells = record {
   stays = record { graph = refl; workers = refl; tables = refl };
-  led = λ w shows holds. record { after = w; shows = shows; hand_after = holds; does = Does.does_print epoch text (tells w shows) };
+  led = λ x shows holds. record { after = x; shows = shows; hand_after = holds; does = Does.does_print epoch text (tells x shows) };
 }
 
 -- whatever a call of no worker answers, what is in hand is the board's still
-pub answered_hand : (s t : Shown) (hand : List (Option Pass)) (command : Command) (r : Result (Unit {0}) Refusal) → IsHand s hand → Answers s t hand hand command r → IsHand t hand
-answered_hand s t hand command (Ok u) h a = hand_stays s t hand h a.stays
-answered_hand s t hand command (Err (refusal.Step code)) h a = hand_stays s t hand h a.stays
-answered_hand s t hand command (Err refusal.NoMemory) h a = hand_stays s t hand h a
+pub answered_hand : (late : Bool) (b c : BoardShown) (hand : List (Option Pass)) (command : Command) (r : Result (Unit {0}) Refusal) → IsHand b.shown hand → Answers late b c hand hand command r → IsHand c.shown hand
+answered_hand late b c hand command (Ok u) h a = hand_stays b.shown c.shown hand h a.stays
+answered_hand late b c hand command (Err (refusal.Step code)) h a = hand_stays b.shown c.shown hand h a.stays
+answered_hand late b c hand command (Err refusal.NoMemory) h a = hand_stays b.shown c.shown hand h a

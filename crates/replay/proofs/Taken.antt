@@ -1,34 +1,35 @@
 -- Events taken, ended, and refused.
-use Rattle.std.proofs.Common.{◌≡◌, ◌≢◌, ◌<◌, ◌≤◌, ◌∙◌, ℕ, List, [], length, Option, Some, None, true, false, refl, sym, ap, subst, arith, inl, inr}
-use Rattle.std.specs.Prelude.{Result, Ok, Err, OnOk, IfErr, slice_get, slice_set}
+use Rattle.std.proofs.Common.{◌≡◌, ◌≢◌, ◌<◌, ◌≤◌, ◌∙◌, ℕ, suc, List, [], length, Option, Some, None, Bool, false, refl, sym, ap, subst, arith, inl, inr}
+use Rattle.std.specs.Prelude.{Result, Ok, Err, OnOk, IfErr, slice_set}
 use Rattle.std.proofs.lemmas.List.{get_or-set_same, get_or-set_other, get_or_past, length-set, set-get_or}
 use Rattle.std.proofs.lemmas.List.{length-map}
 use Rattle.std.proofs.lemmas.Option.{slice_get_within}
 use Rattle.std.proofs.lemmas.Bool.Decides.{eqb_tells}
-use Rattle.semantics.specs.Multiset.{Record}
 use Rattle.lowering.specs.Shown.{shown_graph}
 use Rattle.machine.specs.Network.{Network}
-use Rattle.machine.specs.World.{World, Event, Held}
+use Rattle.machine.specs.World.{World, Held}
 use Rattle.machine.specs.Step.{Step, Allowed, after_step}
-use Rattle.machine.specs.Choices.{Chooses, IsClaimBy}
+use Rattle.machine.specs.Choices.{IsClaimBy}
 use Rattle.machine.specs.Engine.{network}
 use Rattle.events.specs.Jobs.{Pass}
 use Rattle.board.specs.Shown.{Shown, Side, net, side_at, held_of, tables}
 use Rattle.board.specs.Showing.{Shows}
-use Rattle.board.specs.Kept.{Goes}
+use Rattle.board.specs.Lateness.{BoardShown, IsUpToDate, Posts, waits_for}
 use Rattle.board.specs.Commits.{IsOf}
-use Rattle.board.specs.Answers.{Hands, Holds}
+use Rattle.board.specs.Answers.{Hands}
 use Rattle.board.specs.Picks.{IsChoice, RefusesPick as Refuses}
 use Rattle.board.specs.declared.refusal.StepRefusal.{StepRefusal}
 use Rattle.board.specs.declared.refusal.StepRefusal.TheVariants as step
 use Rattle.schedule.specs.Commands.{Command}
 use Rattle.replay.specs.Hands.{HoldsAll, IsHand, in_hand}
-use Rattle.replay.specs.Replays.{Does, HasNothingHeld, RefusesPick, Takes, net_of, refusal_line}
-use Rattle.replay.specs.Steps.{Answers, Ends, Led, Leads, Stays, refusal_of, setting_of}
+use Rattle.replay.specs.Replays.{Does, RefusesPick, Takes, refusal_line}
+use Rattle.replay.specs.Steps.{Answers, Ends, Led, Leads, ShowsState, Stays, refusal_of, setting_of}
+use Rattle.replay.specs.Waits.{State, kind_of, posted, waiting_now}
 use Rattle.replay.specs.declared.refusal.Refusal.{Refusal}
 use Rattle.replay.specs.declared.refusal.Refusal.TheVariants as refusal
-use Rattle.replay.proofs.Holding.{hand_stays, hold_same, hold_taken, hold_ended, hold_through, put_here, claim_others, commit_others}
-use Rattle.replay.proofs.Inputs.{refused_leads}
+use Rattle.replay.proofs.Holding.{hand_stays, hold_taken, hold_ended, hold_through, put_here, claim_others, commit_others}
+use Rattle.replay.proofs.Inputs.{refused_leads, stays_same}
+use Rattle.replay.proofs.Waiting.{IsWithin, KnowsWaits, shows_applied, shows_posted, shows_same, there_if_some, up_to_date}
 use Rattle.replay.proofs.Places.{home_of_nothing, held_out}
 
 -- a worker that claims holds nothing
@@ -41,16 +42,6 @@ claim_free g w k (Step.claim_request k' at n) by allowed = (subst (λ (j : ℕ).
 claim_free g w k (Step.commit k' event out) by allowed = absurd by
 claim_free g w k (Step.abandon k' event) by allowed = absurd by
 
--- a choice is a claim
-choice_claims : (g : Network) (w : World) (k n : ℕ) (taken : Step) → Chooses g w k n taken → IsClaimBy k taken
-choice_claims g w k n (Step.feed i records) chosen = chosen
-choice_claims g w k n (Step.seal i) chosen = chosen
-choice_claims g w k n (Step.close i) chosen = chosen
-choice_claims g w k n (Step.claim_message k' at m) chosen = chosen.0
-choice_claims g w k n (Step.claim_request k' at r) chosen = chosen.0
-choice_claims g w k n (Step.commit k' event out) chosen = chosen
-choice_claims g w k n (Step.abandon k' event) chosen = chosen
-
 -- where its worker holds nothing, its place in hand is empty
 nothing_in_hand : (w : World) (n k : ℕ) (hand : List (Option Pass)) → HoldsAll w n hand → k < n → w.held k ≡ Held.nothing → in_hand hand k ≡ None
 nothing_in_hand w n k hand h lt free = none (in_hand hand k) refl
@@ -59,91 +50,107 @@ nothing_in_hand w n k hand h lt free = none (in_hand hand k) refl
     none None e = e
     none (Some p) e = absurd (let f : Held.nothing ≡ Held.holding false p.job.happening = sym free ∙ h.held k p lt e in cc)
 
+-- what is picked is taken in whatever state the board shows
+picks : (late : Bool) (b : BoardShown) (t : Shown) (x : State) (k n : ℕ) (p : Pass) (hands : Hands b.shown k t p) → KnowsWaits late b → (IsUpToDate b k → IsChoice b.shown k n hands.taken) → ShowsState b x → Takes (setting_of late b.shown) x k n hands.taken
+picks late b t x k n p hands knows choice shows = record {
+  claims = hands.by;
+  chosen = λ sees. choice (up_to_date late b x k knows shows sees) x.world shows.world;
+  allowed = (hands.goes.step x.world shows.world).0;
+}
+
 -- an event was taken, and is in hand
-pub taken_leads : (s t u : Shown) (hand new : List (Option Pass)) (k n : ℕ) (p : Pass) (hands : Hands s k t p) → IsChoice s k n hands.taken → length hand ≡ length s.sides → (in_hand hand k ≡ None → u ≡ t) → Stays s u → new ≡ slice_set hand k (Some p)
-    → Leads s u hand new (Command.take k n) []
-taken_leads s t u hand new k n p hands choice places same stays is = record { stays = stays; led = led }
+pub taken_leads : (late : Bool) (b c d : BoardShown) (hand new : List (Option Pass)) (k n : ℕ) (p : Pass) (hands : Hands b.shown k c.shown p) → KnowsWaits late b → (IsUpToDate b k → IsChoice b.shown k n hands.taken) → c.waits ≡ b.waits → length hand ≡ length b.shown.sides → (in_hand hand k ≡ None → d ≡ c)
+    → Stays b.shown d.shown → new ≡ slice_set hand k (Some p) → Leads late b d hand new (Command.take k n) []
+taken_leads late b c d hand new k n p hands knows choice waits places same stays is = record { stays = stays; led = led }
   where
-    led : (w : World) → Shows s w → HoldsAll w (length s.sides) hand → Led s u new (Command.take k n) [] w
-    led w shows holds =
-        let goes = hands.goes.step w shows in
-        let free = claim_free (net s) w k hands.taken hands.by goes.0 in
-        let v = after_step (net s) w hands.taken in
-        let within : k < length t.sides = subst (λ (m : ℕ). k < m) (sym hands.goes.workers) free.0 in
-        let place : v.held k ≡ Held.holding false p.job.happening = goes.1.held k within ∙ held_out t k p hands.worker hands.holds in
+    led : (x : State) → ShowsState b x → HoldsAll x.world (length b.shown.sides) hand → Led late b d new (Command.take k n) [] x
+    led x shows holds =
+        let goes = hands.goes.step x.world shows.world in
+        let free = claim_free (net b.shown) x.world k hands.taken hands.by goes.0 in
+        let v = after_step (net b.shown) x.world hands.taken in
+        let within : k < length c.shown.sides = subst (λ (m : ℕ). k < m) (sym hands.goes.workers) free.0 in
+        let place : v.held k ≡ Held.holding false p.job.happening = goes.1.held k within ∙ held_out c.shown k p hands.worker hands.holds in
         let room : k < length hand = subst (λ (m : ℕ). k < m) (sym places) free.0 in
         let here : in_hand new k ≡ Some p = ap (λ (xs : List (Option Pass)). in_hand xs k) is ∙ get_or-set_same hand k (Some p) None room in
-        let empty = nothing_in_hand w (length s.sides) k hand holds free.0 free.1 in
+        let empty = nothing_in_hand x.world (length b.shown.sides) k hand holds free.0 free.1 in
+        let after : State = record { world = v; waits = x.waits } in
+        let at_c : ShowsState c after = record { world = goes.1; waits = shows_same b c x.waits hands.goes.workers waits shows.waits } in
         record {
-          after = v;
-          shows = subst (λ (x : Shown). Shows x v) (sym (same empty)) goes.1;
-          hand_after = hold_taken w v (length s.sides) k hand new p holds place (claim_others (net s) w k hands.taken hands.by) here (λ j other. ap (λ (xs : List (Option Pass)). in_hand xs j) is ∙ get_or-set_other hand k j (Some p) None other);
-          does = Does.does_take k n hands.taken (record { chosen = choice w shows; allowed = goes.0 });
+          after = after;
+          shows = subst (λ (y : BoardShown). ShowsState y after) (sym (same empty)) at_c;
+          hand_after = hold_taken x.world v (length b.shown.sides) k hand new p holds place (claim_others (net b.shown) x.world k hands.taken hands.by) here
+              (λ j other. ap (λ (xs : List (Option Pass)). in_hand xs j) is ∙ get_or-set_other hand k j (Some p) None other);
+          does = Does.does_take k n hands.taken (picks late b c.shown x k n p hands knows choice shows);
         }
 
 -- an event in hand was ended
-pub ended_leads : (s t : Shown) (hand new : List (Option Pass)) (k : ℕ) (p : Pass) → in_hand hand k ≡ Some p → p.worker ≡ k → k < length hand → Ends s p t → new ≡ slice_set hand k None → Leads s t hand new (Command.commit k) []
-ended_leads s t hand new k p at own room ends is = record { stays = ends.stays; led = led }
+pub ended_leads : (late : Bool) (b c : BoardShown) (hand new : List (Option Pass)) (k : ℕ) (p : Pass) → in_hand hand k ≡ Some p → p.worker ≡ k → k < length hand → Ends late b p c → new ≡ slice_set hand k None → Leads late b c hand new (Command.commit k) []
+ended_leads late b c hand new k p at own room ends is = record { stays = ends.stays; led = led }
   where
-    led : (w : World) → Shows s w → HoldsAll w (length s.sides) hand → Led s t new (Command.commit k) [] w
-    led w shows holds =
+    led : (x : State) → ShowsState b x → HoldsAll x.world (length b.shown.sides) hand → Led late b c new (Command.commit k) [] x
+    led x shows holds =
         let taken : Step = Step.commit p.worker p.job.happening ends.out in
-        let goes = ends.goes.step w shows in
-        let v = after_step (net s) w (Step.commit k p.job.happening ends.out) in
+        let goes = ends.goes.step x.world shows.world in
+        let v = after_step (net b.shown) x.world (Step.commit k p.job.happening ends.out) in
         let step_is : taken ≡ Step.commit k p.job.happening ends.out = ap (λ (j : ℕ). Step.commit j p.job.happening ends.out) own in
         let here : in_hand new k ≡ None = ap (λ (xs : List (Option Pass)). in_hand xs k) is ∙ get_or-set_same hand k None None room in
+        let posts : Posts late k b c = subst (λ (j : ℕ). Posts late j b c) own ends.posts in
         record {
-          after = v;
-          shows = subst (λ (x : Step). Shows t (after_step (net s) w x)) step_is goes.1;
-          hand_after = hold_ended w v (length s.sides) k hand new holds (put_here w.held k Held.nothing) (commit_others w k) here (λ j other. ap (λ (xs : List (Option Pass)). in_hand xs j) is ∙ get_or-set_other hand k j None None other);
-          does = Does.does_commit k p.job.happening ends.out (subst (λ (x : Step). Allowed (net s) w x) step_is goes.0);
+          after = record { world = v; waits = posted (kind_of late) k x.waits };
+          shows = record { world = subst (λ (y : Step). Shows c.shown (after_step (net b.shown) x.world y)) step_is goes.1; waits = shows_posted late k b c x.waits ends.goes.workers shows.waits posts };
+          hand_after = hold_ended x.world v (length b.shown.sides) k hand new holds (put_here x.world.held k Held.nothing) (commit_others x.world k) here
+              (λ j other. ap (λ (xs : List (Option Pass)). in_hand xs j) is ∙ get_or-set_other hand k j None None other);
+          does = Does.does_commit k p.job.happening ends.out (subst (λ (y : Step). Allowed (net b.shown) x.world y) step_is goes.0);
         }
 
 -- nothing is in hand
-pub nothing_held : (s t : Shown) (hand : List (Option Pass)) (k : ℕ) → t ≡ s → in_hand hand k ≡ None → Leads s t hand hand (Command.commit k) (refusal_line 36)
-nothing_held s t hand k same none = refused_leads s t hand (Command.commit k) (refusal_line 36) same (λ w shows holds. Does.commit_refused k (λ event lt held. let p = holds.there k event lt held in let e : None ≡ Some p.0 = sym none ∙ p.1 in absurd cc))
+pub nothing_held : (late : Bool) (b c : BoardShown) (hand : List (Option Pass)) (k : ℕ) → c ≡ b → in_hand hand k ≡ None → Leads late b c hand hand (Command.commit k) (refusal_line 36)
+nothing_held late b c hand k same none = refused_leads late b c hand (Command.commit k) (refusal_line 36) same (λ x shows holds. Does.commit_refused k (λ event lt held. let p = holds.there k event lt held in let e : None ≡ Some p.0 = sym none ∙ p.1 in absurd cc))
 
 net_same : (s t : Shown) → t.graph ≡ s.graph → length t.sides ≡ length s.sides → net t ≡ net s
 net_same s t g n = ap (λ x. network (shown_graph x) (length t.sides)) g ∙ ap (λ (k : ℕ). network (shown_graph s.graph) k) n
 
 -- an event was taken and ended
-pub delivered_leads : (s t u : Shown) (hand : List (Option Pass)) (k n : ℕ) (p : Pass) (hands : Hands s k t p) → IsChoice s k n hands.taken → Ends t p u → Stays s u → Leads s u hand hand (Command.deliver k n) []
-delivered_leads s t u hand k n p hands choice ends stays = record { stays = stays; led = led }
+pub delivered_leads : (late : Bool) (b c d : BoardShown) (hand : List (Option Pass)) (k n : ℕ) (p : Pass) (hands : Hands b.shown k c.shown p) → KnowsWaits late b → (IsUpToDate b k → IsChoice b.shown k n hands.taken) → c.waits ≡ b.waits → Ends late c p d → Stays b.shown d.shown
+    → Leads late b d hand hand (Command.deliver k n) []
+delivered_leads late b c d hand k n p hands knows choice waits ends stays = record { stays = stays; led = led }
   where
-    led : (w : World) → Shows s w → HoldsAll w (length s.sides) hand → Led s u hand (Command.deliver k n) [] w
-    led w shows holds =
-        let goes = hands.goes.step w shows in
-        let free = claim_free (net s) w k hands.taken hands.by goes.0 in
-        let v = after_step (net s) w hands.taken in
+    led : (x : State) → ShowsState b x → HoldsAll x.world (length b.shown.sides) hand → Led late b d hand (Command.deliver k n) [] x
+    led x shows holds =
+        let goes = hands.goes.step x.world shows.world in
+        let free = claim_free (net b.shown) x.world k hands.taken hands.by goes.0 in
+        let v = after_step (net b.shown) x.world hands.taken in
         let step_is : Step.commit p.worker p.job.happening ends.out ≡ Step.commit k p.job.happening ends.out = ap (λ (j : ℕ). Step.commit j p.job.happening ends.out) hands.worker in
-        let same = net_same s t hands.goes.graph hands.goes.workers in
-        let at_t = ends.goes.step v goes.1 in
-        let allowed : Allowed (net s) v (Step.commit k p.job.happening ends.out) = subst (λ (x : Step). Allowed (net s) v x) step_is (subst (λ (g : Network). Allowed g v (Step.commit p.worker p.job.happening ends.out)) same at_t.0) in
-        let x = after_step (net s) v (Step.commit k p.job.happening ends.out) in
-        let shown : Shows u x = subst (λ (y : Step). Shows u (after_step (net s) v y)) step_is (subst (λ (g : Network). Shows u (after_step g v (Step.commit p.worker p.job.happening ends.out))) same at_t.1) in
-        let others : (j : ℕ) → j ≢ k → x.held j ≡ w.held j = λ j other. commit_others v k j other ∙ claim_others (net s) w k hands.taken hands.by j other in
+        let same = net_same b.shown c.shown hands.goes.graph hands.goes.workers in
+        let at_c = ends.goes.step v goes.1 in
+        let allowed : Allowed (net b.shown) v (Step.commit k p.job.happening ends.out) = subst (λ (y : Step). Allowed (net b.shown) v y) step_is (subst (λ (g : Network). Allowed g v (Step.commit p.worker p.job.happening ends.out)) same at_c.0) in
+        let u = after_step (net b.shown) v (Step.commit k p.job.happening ends.out) in
+        let shown : Shows d.shown u = subst (λ (y : Step). Shows d.shown (after_step (net b.shown) v y)) step_is (subst (λ (g : Network). Shows d.shown (after_step g v (Step.commit p.worker p.job.happening ends.out))) same at_c.1) in
+        let others : (j : ℕ) → j ≢ k → u.held j ≡ x.world.held j = λ j other. commit_others v k j other ∙ claim_others (net b.shown) x.world k hands.taken hands.by j other in
+        let posts : Posts late k c d = subst (λ (j : ℕ). Posts late j c d) hands.worker ends.posts in
         record {
-          after = x;
-          shows = shown;
-          hand_after = hold_through w x (length s.sides) k hand holds free.1 (put_here v.held k Held.nothing) others;
-          does = Does.does_deliver k n hands.taken p.job.happening ends.out (record { chosen = choice w shows; allowed = goes.0 }) allowed;
+          after = record { world = u; waits = posted (kind_of late) k x.waits };
+          shows = record { world = shown; waits = shows_posted late k c d x.waits ends.goes.workers (shows_same b c x.waits hands.goes.workers waits shows.waits) posts };
+          hand_after = hold_through x.world u (length b.shown.sides) k hand holds free.1 (put_here v.held k Held.nothing) others;
+          does = Does.does_deliver k n hands.taken p.job.happening ends.out (picks late b c.shown x k n p hands knows choice shows) allowed;
         }
 
 -- what a refused pick is told by
-pub refused_pick : (s : Shown) (k n : ℕ) (e : StepRefusal) → Refuses s k n e → (code : ℕ) → refusal_of e ≡ refusal.Step code → (w : World) → Shows s w → RefusesPick (setting_of s) w k n code
-refused_pick s k n step.Stopped h code told w shows = subst (RefusesPick (setting_of s) w k n) (let f : refusal.Step 37 ≡ refusal.Step code = told in let e : 37 ≡ code = cc in e) (RefusesPick.pick_stopped (shows.stopped ∙ h))
-refused_pick s k n step.HoldsEvent h code told w shows =
-    subst (RefusesPick (setting_of s) w k n) (let f : refusal.Step 35 ≡ refusal.Step code = told in let e : 35 ≡ code = cc in e)
-    (RefusesPick.holds_event (shows.stopped ∙ h.0) h.1 (λ free. h.2 (home_of_nothing (side_at s k).place (sym (shows.held k h.1) ∙ free))))
-refused_pick s k n step.NoSuchEvent h code told w shows =
-    subst (RefusesPick (setting_of s) w k n) (let f : refusal.Step 34 ≡ refusal.Step code = told in let e : 34 ≡ code = cc in e)
-    (RefusesPick.no_choice (shows.stopped ∙ h.0) (λ lt. shows.held k lt ∙ ap held_of (h.1 lt).0)
-    (λ taken takes. (h.1 (claim_free (net s) w k taken (choice_claims (net s) w k n taken takes.chosen) takes.allowed).0).1 w taken shows takes.chosen))
-refused_pick s k n step.UnknownInput h code told w shows = absurd h
-refused_pick s k n step.InputClosed h code told w shows = absurd h
-refused_pick s k n step.WrongFieldCount h code told w shows = absurd h
-refused_pick s k n step.LastEpoch h code told w shows = absurd h
-refused_pick s k n step.NoMemory h code told w shows = absurd h
+pub refused_pick : (late : Bool) (b : BoardShown) (k n : ℕ) (e : StepRefusal) → KnowsWaits late b → Refuses (IsUpToDate b k) b.shown k n e → (code : ℕ) → refusal_of e ≡ refusal.Step code → (x : State) → ShowsState b x → RefusesPick (setting_of late b.shown) x k n code
+refused_pick late b k n step.Stopped knows h code told x shows =
+    subst (RefusesPick (setting_of late b.shown) x k n) (let f : refusal.Step 37 ≡ refusal.Step code = told in let e : 37 ≡ code = cc in e) (RefusesPick.pick_stopped (shows.world.stopped ∙ h))
+refused_pick late b k n step.HoldsEvent knows h code told x shows =
+    subst (RefusesPick (setting_of late b.shown) x k n) (let f : refusal.Step 35 ≡ refusal.Step code = told in let e : 35 ≡ code = cc in e)
+    (RefusesPick.holds_event (shows.world.stopped ∙ h.0) h.1 (λ free. h.2 (home_of_nothing (side_at b.shown k).place (sym (shows.world.held k h.1) ∙ free))))
+refused_pick late b k n step.NoSuchEvent knows h code told x shows =
+    subst (RefusesPick (setting_of late b.shown) x k n) (let f : refusal.Step 34 ≡ refusal.Step code = told in let e : 34 ≡ code = cc in e)
+    (RefusesPick.no_choice (shows.world.stopped ∙ h.0) (λ lt. shows.world.held k lt ∙ ap held_of (h.1 lt).0)
+    (λ sees taken takes. (h.1 (claim_free (net b.shown) x.world k taken takes.claims takes.allowed).0).1 (up_to_date late b x k knows shows sees) x.world taken shows.world (takes.chosen sees)))
+refused_pick late b k n step.UnknownInput knows h code told x shows = absurd h
+refused_pick late b k n step.InputClosed knows h code told x shows = absurd h
+refused_pick late b k n step.WrongFieldCount knows h code told x shows = absurd h
+refused_pick late b k n step.LastEpoch knows h code told x shows = absurd h
+refused_pick late b k n step.NoMemory knows h code told x shows = absurd h
 
 -- ---- what stays
 
@@ -185,12 +192,33 @@ pub still_empty : (hand : List (Option Pass)) (k : ℕ) → in_hand hand k ≡ N
 still_empty hand k e = ap (λ x. slice_set hand k x) (sym e) ∙ set-get_or hand k None
 
 -- an event ends, or memory is wanted
-pub end_answers : (s t : Shown) (old new : List (Option Pass)) (command : Command) (r : Result (Unit {0}) Refusal) (p : Pass) (b : Shown) → OnOk r (Ends b p t) → IfErr r (λ e. e ≡ refusal.NoMemory) → Stays s t → (Ends b p t → Leads s t old new command []) → Answers s t old new command r
-end_answers s t old new command (Ok u) p b ends memory stays leads = leads ends
-end_answers s t old new command (Err e) p b ends memory stays leads = subst (λ (x : Refusal). Answers s t old new command {T = Unit {0}} (Err x)) (sym memory) stays
+pub end_answers : (late : Bool) (b c : BoardShown) (old new : List (Option Pass)) (command : Command) (r : Result (Unit {0}) Refusal) (p : Pass) (a : BoardShown) → OnOk r (Ends late a p c) → IfErr r (λ e. e ≡ refusal.NoMemory) → Stays b.shown c.shown → (Ends late a p c → Leads late b c old new command [])
+    → Answers late b c old new command r
+end_answers late b c old new command (Ok u) p a ends memory stays leads = leads ends
+end_answers late b c old new command (Err e) p a ends memory stays leads = subst (λ (x : Refusal). Answers late b c old new command {T = Unit {0}} (Err x)) (sym memory) stays
 
 -- a worker that picked has a place in hand
 pub picked_room : (s t : Shown) (hand : List (Option Pass)) (k : ℕ) (p : Pass) → Hands s k t p → IsHand s hand → k < length hand
 picked_room s t hand k p hands h =
     let within : k < length (tables t) = subst (λ (j : ℕ). j < length (tables t)) hands.worker (slice_get_within (tables t) p.worker p.table hands.own) in
     omega (arith, length-map t.sides (λ (x : Side). x.table), hands.goes.workers, h.places)
+
+-- a batch was applied
+pub applied_leads : (late : Bool) (b c : BoardShown) (hand : List (Option Pass)) (k j : ℕ) → IsWithin b → c.shown ≡ b.shown → waits_for b k j ≡ suc (waits_for c k j) → ((w s : ℕ) → (w ≡ k → s ≡ j → ⊥) → waits_for c w s ≡ waits_for b w s)
+    → Leads late b c hand hand (Command.apply k j) []
+applied_leads late b c hand k j knows same one others = record {
+  stays = stays_same b.shown c.shown same;
+  led = λ x shows holds.
+      let there = there_if_some b k j (waits_for c k j) knows one in
+      let after : State = record { world = x.world; waits = waiting_now x.waits k j (waits_for c k j) } in
+      record {
+        after = after;
+        shows = record { world = subst (λ (s : Shown). Shows s x.world) (sym same) shows.world; waits = shows_applied b c x.waits k j same shows.waits others };
+        hand_after = holds;
+        does = Does.does_apply k j (waits_for c k j) there.0 there.1 (sym (shows.waits k j there.0 there.1) ∙ one);
+      };
+}
+
+-- no batch waits
+pub unapplied_leads : (late : Bool) (b c : BoardShown) (hand : List (Option Pass)) (k j : ℕ) → waits_for b k j ≡ 0 → c ≡ b → Leads late b c hand hand (Command.apply k j) (refusal_line 40)
+unapplied_leads late b c hand k j none same = refused_leads late b c hand (Command.apply k j) (refusal_line 40) same (λ x shows holds. Does.apply_refused k j (λ there within. sym (shows.waits k j there within) ∙ none))

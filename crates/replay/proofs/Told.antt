@@ -1,6 +1,6 @@
 -- What a question tells.
 use Rattle.std.proofs.Common.{◌≡◌, ◌<◌, ◌≤◌, ◌+◌, ◌∙◌, ℕ, List, [], ◌∷◌, ◌++◌, length, map, take, get_or, Bool, true, false, refl, sym, ap, subst, append_assoc, arith}
-use Rattle.std.specs.Prelude.{IsTrue, ◌↔◌, slice_index_or}
+use Rattle.std.specs.Prelude.{IsTrue, slice_index_or}
 use Rattle.std.specs.List.{flat_map}
 use Rattle.std.proofs.lemmas.List.{append-nil, get_or-map, length-map, length-take, take_all, take_more}
 use Rattle.semantics.specs.Multiset.{Record, IsPartOf, ◌≈◌}
@@ -15,99 +15,108 @@ use Rattle.machine.specs.World.{World}
 use Rattle.machine.specs.Headline.{meant}
 use Rattle.board.specs.Shown.{Shown, joined as joined_batches, emitted_by}
 use Rattle.board.specs.Showing.{Shows}
+use Rattle.board.specs.Lateness.{BoardShown, IsUpToDate}
 use Rattle.board.specs.Promises as promises
 use Rattle.board.specs.Promises.{HasPassed, Headline, IsOutputPlace, RunsProgram, emitted_at, meant_of}
 use Rattle.collector.specs.Piles.{joined}
 use Rattle.collector.specs.OutputText.{AppendsSorted, IsInOrder, is_plain, record_line}
 use Rattle.replay.specs.Replays.{HasWord, Setting, heading, IsGraphOf, KeepsPromise, Tells, TellsFrom, TellsOutput, answer_of, label_of}
-use Rattle.replay.specs.Steps.{setting_of, word_of}
+use Rattle.replay.specs.Steps.{ShowsState, setting_of, word_of}
+use Rattle.replay.specs.Waits.{State}
 use Rattle.replay.proofs.Passing.{passed_same}
+use Rattle.replay.proofs.Waiting.{KnowsWaits, up_to_date}
 
 pub joined_same : (batches : List (List Record)) → joined batches ≡ joined_batches batches
 joined_same [] = refl
 joined_same (b ∷ bs) = ap (λ (xs : List Record). b ++ xs) (joined_same bs)
 
-at_output : (s : Shown) (w : World) (k epoch : ℕ) → Shows s w → answer_of (setting_of s) w k epoch ≡ emitted_at s k epoch
-at_output s w k epoch shows = shows.emitted (output_number (shown_graph s.graph) k) epoch
+at_output : (late : Bool) (s : Shown) (w : World) (k epoch : ℕ) → Shows s w → answer_of (setting_of late s) w k epoch ≡ emitted_at s k epoch
+at_output late s w k epoch shows = shows.emitted (output_number (shown_graph s.graph) k) epoch
 
 meant_same : (s : Shown) (w : World) (k epoch : ℕ) (p : Program) → Shows s w → meant_of p s k epoch ≡ meant p w k epoch
 meant_same s w k epoch p shows = λ j. program_meaning p k (λ i. (sym (shows.fed i epoch)) j)
 
-promise_kept : (s : Shown) (w : World) (k epoch : ℕ) (p : Program) → Shows s w → Headline p s k epoch → KeepsPromise (setting_of s) w k epoch p
-promise_kept s w k epoch p shows headline = record {
-  part = subst (λ xs. IsPartOf xs (meant p w k epoch)) (sym (at_output s w k epoch shows)) (subst (λ ys. IsPartOf (emitted_at s k epoch) ys) (meant_same s w k epoch p shows) headline.part);
-  whole = λ passed. subst (λ xs. xs ≈ meant p w k epoch) (sym (at_output s w k epoch shows)) (subst (λ ys. emitted_at s k epoch ≈ ys) (meant_same s w k epoch p shows) (headline.whole (λ v sv. passed_same s w v (output_number (shown_graph s.graph) k) epoch shows sv passed)));
+promise_kept : (late : Bool) (s : Shown) (w : World) (k epoch : ℕ) (p : Program) → Shows s w → Headline p s k epoch → KeepsPromise (setting_of late s) w k epoch p
+promise_kept late s w k epoch p shows headline = record {
+  part = subst (λ xs. IsPartOf xs (meant p w k epoch)) (sym (at_output late s w k epoch shows)) (subst (λ ys. IsPartOf (emitted_at s k epoch) ys) (meant_same s w k epoch p shows) headline.part);
+  whole = λ passed. subst (λ xs. xs ≈ meant p w k epoch) (sym (at_output late s w k epoch shows)) (subst (λ ys. emitted_at s k epoch ≈ ys) (meant_same s w k epoch p shows) (headline.whole (λ v sv. passed_same s w v (output_number (shown_graph s.graph) k) epoch shows sv passed)));
 }
 
+-- what worker 0 sees as passed has passed, and all that has passed if it sees all that was posted
+pub record IsSeenRight (b : BoardShown) (k epoch : ℕ) (seen : Bool) : Type 0 where
+  pub passed : IsTrue seen → HasPassed b.shown k epoch
+  pub all : IsUpToDate b 0 → HasPassed b.shown k epoch → IsTrue seen
+
 -- the word that was told
-word_told : (s : Shown) (w : World) (k epoch : ℕ) (b : Bool) → Shows s w → IsTrue b ↔ HasPassed s k epoch → HasWord (setting_of s) w k epoch (word_of b)
-word_told s w k epoch true shows is = HasWord.has_passed (is.0 refl w shows)
-word_told s w k epoch false shows is = HasWord.is_open (λ passed. let t : false ≡ true = is.1 (λ v sv. passed_same s w v (output_number (shown_graph s.graph) k) epoch shows sv passed) in absurd cc)
+word_told : (late : Bool) (b : BoardShown) (x : State) (k epoch : ℕ) (seen : Bool) → KnowsWaits late b → ShowsState b x → IsSeenRight b k epoch seen → HasWord (setting_of late b.shown) x k epoch (word_of seen)
+word_told late b x k epoch true knows shows right = HasWord.has_passed (right.passed refl x.world shows.world)
+word_told late b x k epoch false knows shows right =
+    HasWord.is_open (λ sees passed. let t : false ≡ true = right.all (up_to_date late b x 0 knows shows sees) (λ v sv. passed_same b.shown x.world v (output_number (shown_graph b.shown.graph) k) epoch shows.world sv passed) in absurd cc)
 
 -- an output of the board is one of each program that it runs
-place_in : (s : Shown) (k : ℕ) (p : Program) → IsOutputPlace s k → IsGraphOf (setting_of s) p → k < length p.outputs
-place_in s k p there is = let n = lowered_outputs p in let m = ap (λ g. length (output_numbers g)) is.graph in omega (arith, there, n, m)
+place_in : (late : Bool) (s : Shown) (k : ℕ) (p : Program) → IsOutputPlace s k → IsGraphOf (setting_of late s) p → k < length p.outputs
+place_in late s k p there is = let n = lowered_outputs p in let m = ap (λ g. length (output_numbers g)) is.graph in omega (arith, there, n, m)
 
-pub told : (s : Shown) (k epoch : ℕ) (b : Bool) (label text : List ℕ) (rows : List Record) → IsOutputPlace s k → IsTrue b ↔ HasPassed s k epoch → ((p : Program) → RunsProgram p s → promises.KeepsPromise p s) → IsInOrder (emitted_at s k epoch) rows
-    → text ≡ heading epoch label (word_of b) ++ flat_map record_line rows → (w : World) → Shows s w → TellsOutput (setting_of s) w epoch k label text
-told s k epoch b label text rows there is headline ordered lines w shows = record {
-  word = word_of b;
-  says = word_told s w k epoch b shows is;
+pub told : (late : Bool) (b : BoardShown) (k epoch : ℕ) (seen : Bool) (label text : List ℕ) (rows : List Record) → IsOutputPlace b.shown k → KnowsWaits late b → IsSeenRight b k epoch seen → ((p : Program) → RunsProgram p b.shown → promises.KeepsPromise p b.shown)
+    → IsInOrder (emitted_at b.shown k epoch) rows → text ≡ heading epoch label (word_of seen) ++ flat_map record_line rows → (x : State) → ShowsState b x → TellsOutput (setting_of late b.shown) x epoch k label text
+told late b k epoch seen label text rows there knows right headline ordered lines x shows = record {
+  word = word_of seen;
+  says = word_told late b x k epoch seen knows shows right;
   rows = rows;
-  ordered = subst (λ xs. IsInOrder xs rows) (sym (at_output s w k epoch shows)) ordered;
+  ordered = subst (λ xs. IsInOrder xs rows) (sym (at_output late b.shown x.world k epoch shows.world)) ordered;
   lines = lines;
-  promise = λ p graph_of. promise_kept s w k epoch p shows (headline p (record { arities = graph_of.arities; typed = graph_of.typed; graph = graph_of.graph }) k epoch (place_in s k p there graph_of));
+  promise = λ p graph_of. promise_kept late b.shown x.world k epoch p shows.world (headline p (record { arities = graph_of.arities; typed = graph_of.typed; graph = graph_of.graph }) k epoch (place_in late b.shown k p there graph_of));
 }
 
 -- the heading, and the records in order
-pub told_text : (s : Shown) (k epoch : ℕ) (b : Bool) (label out after new : List ℕ) (batches : List (List Record)) → IsOutputPlace s k → IsTrue b ↔ HasPassed s k epoch → ((p : Program) → RunsProgram p s → promises.KeepsPromise p s)
-    → after ≡ out ++ heading epoch label (word_of b) → batches ≡ slice_index_or (emitted_by s.emitted (output_number (shown_graph s.graph) k)) epoch []
-    → AppendsSorted after new (joined batches) → (text : List ℕ) × (new ≡ out ++ text) × ((w : World) → Shows s w → TellsOutput (setting_of s) w epoch k label text)
-told_text s k epoch b label out after new batches there is headline e all sorted = (
-  heading epoch label (word_of b) ++ flat_map record_line sorted.rows,
-  sorted.appended ∙ ap (λ (xs : List ℕ). xs ++ flat_map record_line sorted.rows) e ∙ append_assoc out (heading epoch label (word_of b)) (flat_map record_line sorted.rows),
-  told s k epoch b label (heading epoch label (word_of b) ++ flat_map record_line sorted.rows) sorted.rows there is headline (subst (λ xs. IsInOrder xs sorted.rows) (joined_same batches ∙ ap joined_batches all) sorted.ordered) refl,
+pub told_text : (late : Bool) (b : BoardShown) (k epoch : ℕ) (seen : Bool) (label out after new : List ℕ) (batches : List (List Record)) → IsOutputPlace b.shown k → KnowsWaits late b → IsSeenRight b k epoch seen
+    → ((p : Program) → RunsProgram p b.shown → promises.KeepsPromise p b.shown) → after ≡ out ++ heading epoch label (word_of seen) → batches ≡ slice_index_or (emitted_by b.shown.emitted (output_number (shown_graph b.shown.graph) k)) epoch []
+    → AppendsSorted after new (joined batches) → (text : List ℕ) × (new ≡ out ++ text) × ((x : State) → ShowsState b x → TellsOutput (setting_of late b.shown) x epoch k label text)
+told_text late b k epoch seen label out after new batches there knows right headline e all sorted = (
+  heading epoch label (word_of seen) ++ flat_map record_line sorted.rows,
+  sorted.appended ∙ ap (λ (xs : List ℕ). xs ++ flat_map record_line sorted.rows) e ∙ append_assoc out (heading epoch label (word_of seen)) (flat_map record_line sorted.rows),
+  told late b k epoch seen label (heading epoch label (word_of seen) ++ flat_map record_line sorted.rows) sorted.rows there knows right headline (subst (λ xs. IsInOrder xs sorted.rows) (joined_same batches ∙ ap joined_batches all) sorted.ordered) refl,
 )
 
 -- the texts of the outputs before a place
-abbrev pub ToldSoFar : (s : Shown) (names : List Name) (place epoch : ℕ) (start new : List ℕ) → Type 0
-ToldSoFar s names place epoch start new = (text : List ℕ) × (new ≡ start ++ text) × ((w : World) → Shows s w → TellsFrom (setting_of s) w epoch (take place names) 0 text)
+abbrev pub ToldSoFar : (late : Bool) (b : BoardShown) (names : List Name) (place epoch : ℕ) (start new : List ℕ) → Type 0
+ToldSoFar late b names place epoch start new = (text : List ℕ) × (new ≡ start ++ text) × ((x : State) → ShowsState b x → TellsFrom (setting_of late b.shown) x epoch (take place names) 0 text)
 
 -- one more output
-tells_more : (s : Setting) (w : World) (epoch : ℕ) (names : List Name) (k : ℕ) (name : Name) (text more : List ℕ) → TellsFrom s w epoch names k text → TellsOutput s w epoch (k + length names) (label_of (is_plain s.outputs) name) more → TellsFrom s w epoch (names ++ name ∷ []) k (text ++ more)
-tells_more s w epoch [] k name text more p q =
+tells_more : (s : Setting) (x : State) (epoch : ℕ) (names : List Name) (k : ℕ) (name : Name) (text more : List ℕ) → TellsFrom s x epoch names k text → TellsOutput s x epoch (k + length names) (label_of (is_plain s.outputs) name) more → TellsFrom s x epoch (names ++ name ∷ []) k (text ++ more)
+tells_more s x epoch [] k name text more p q =
     let at : k + 0 ≡ k = omega arith in
-    (more, [], subst (λ (n : ℕ). TellsOutput s w epoch n (label_of (is_plain s.outputs) name) more) at q, refl, rw p (sym (append-nil more)))
-tells_more s w epoch (first ∷ names) k name text more p q =
+    (more, [], subst (λ (n : ℕ). TellsOutput s x epoch n (label_of (is_plain s.outputs) name) more) at q, refl, rw p (sym (append-nil more)))
+tells_more s x epoch (first ∷ names) k name text more p q =
     let at : k + length (first ∷ names) ≡ k + 1 + length names = omega arith in
-    let rest = tells_more s w epoch names (k + 1) name p.1 more p.3 (subst (λ (n : ℕ). TellsOutput s w epoch n (label_of (is_plain s.outputs) name) more) at q) in
+    let rest = tells_more s x epoch names (k + 1) name p.1 more p.3 (subst (λ (n : ℕ). TellsOutput s x epoch n (label_of (is_plain s.outputs) name) more) at q) in
     (p.0, p.1 ++ more, p.2, rest, ap (λ (t : List ℕ). t ++ more) p.4 ∙ append_assoc p.0 p.1 more)
 
-pub told_more : (s : Shown) (names : List Name) (place epoch : ℕ) (name : Name) (start so_far new : List ℕ) → names ≡ shown_names s.graph → place < length names → name ≡ get_or names place name → ToldSoFar s names place epoch start so_far
-    → (text : List ℕ) × (new ≡ so_far ++ text) × ((w : World) → Shows s w → TellsOutput (setting_of s) w epoch place (label_of (is_plain names) name) text) → ToldSoFar s names (place + 1) epoch start new
-told_more s names place epoch name start so_far new all lt is p q = (
+pub told_more : (late : Bool) (b : BoardShown) (names : List Name) (place epoch : ℕ) (name : Name) (start so_far new : List ℕ) → names ≡ shown_names b.shown.graph → place < length names → name ≡ get_or names place name → ToldSoFar late b names place epoch start so_far
+    → (text : List ℕ) × (new ≡ so_far ++ text) × ((x : State) → ShowsState b x → TellsOutput (setting_of late b.shown) x epoch place (label_of (is_plain names) name) text) → ToldSoFar late b names (place + 1) epoch start new
+told_more late b names place epoch name start so_far new all lt is p q = (
   p.0 ++ q.0,
   q.1 ∙ ap (λ (t : List ℕ). t ++ q.0) p.1 ∙ append_assoc start p.0 q.0,
-  λ w shows.
+  λ x shows.
       let size : place ≡ 0 + length (take place names) = omega (arith, length-take place names) in
-      let one = subst (λ (ns : List Name). TellsOutput (setting_of s) w epoch place (label_of (is_plain ns) name) q.0) all (q.2 w shows) in
-      let both = tells_more (setting_of s) w epoch (take place names) 0 name p.0 q.0 (p.2 w shows) (subst (λ (n : ℕ). TellsOutput (setting_of s) w epoch n (label_of (is_plain (shown_names s.graph)) name) q.0) size one) in
-      subst (λ (ns : List Name). TellsFrom (setting_of s) w epoch ns 0 (p.0 ++ q.0)) (sym (take_more names place name lt ∙ ap (λ n. take place names ++ n ∷ []) (sym is))) both,
+      let one = subst (λ (ns : List Name). TellsOutput (setting_of late b.shown) x epoch place (label_of (is_plain ns) name) q.0) all (q.2 x shows) in
+      let both = tells_more (setting_of late b.shown) x epoch (take place names) 0 name p.0 q.0 (p.2 x shows) (subst (λ (n : ℕ). TellsOutput (setting_of late b.shown) x epoch n (label_of (is_plain (shown_names b.shown.graph)) name) q.0) size one) in
+      subst (λ (ns : List Name). TellsFrom (setting_of late b.shown) x epoch ns 0 (p.0 ++ q.0)) (sym (take_more names place name lt ∙ ap (λ n. take place names ++ n ∷ []) (sym is))) both,
 )
 
 -- one more output of a graph
-pub output_more : (s : Shown) (outputs : List GraphOutput) (place epoch : ℕ) (x : GraphOutput) (plain : Bool) (start so_far new : List ℕ) → map name_of_output outputs ≡ shown_names s.graph → place < length outputs → x ≡ get_or outputs place x → plain ≡ is_plain (map name_of_output outputs)
-    → ToldSoFar s (shown_names s.graph) place epoch start so_far → (text : List ℕ) × (new ≡ so_far ++ text) × ((w : World) → Shows s w → TellsOutput (setting_of s) w epoch place (label_of plain (name_of_output x)) text)
-    → ToldSoFar s (shown_names s.graph) (place + 1) epoch start new
-output_more s outputs place epoch x plain start so_far new same lt is at p q =
-    let there : place < length (shown_names s.graph) = (let n = length-map outputs name_of_output in let m = ap length same in omega (arith, lt, n, m)) in
-    let name : name_of_output x ≡ get_or (shown_names s.graph) place (name_of_output x) =
-    ap name_of_output is ∙ sym (get_or-map name_of_output outputs place x (name_of_output x) lt) ∙ ap (λ ns. get_or ns place (name_of_output x)) same in
-    let label : plain ≡ is_plain (shown_names s.graph) = at ∙ ap is_plain same in
-    told_more s (shown_names s.graph) place epoch (name_of_output x) start so_far new refl there name p
-    (q.0, q.1, λ w shows. subst (λ (b : Bool). TellsOutput (setting_of s) w epoch place (label_of b (name_of_output x)) q.0) label (q.2 w shows))
+pub output_more : (late : Bool) (b : BoardShown) (outputs : List GraphOutput) (place epoch : ℕ) (o : GraphOutput) (plain : Bool) (start so_far new : List ℕ) → map name_of_output outputs ≡ shown_names b.shown.graph → place < length outputs → o ≡ get_or outputs place o → plain ≡ is_plain (map name_of_output outputs)
+    → ToldSoFar late b (shown_names b.shown.graph) place epoch start so_far → (text : List ℕ) × (new ≡ so_far ++ text) × ((x : State) → ShowsState b x → TellsOutput (setting_of late b.shown) x epoch place (label_of plain (name_of_output o)) text)
+    → ToldSoFar late b (shown_names b.shown.graph) (place + 1) epoch start new
+output_more late b outputs place epoch o plain start so_far new same lt is at p q =
+    let there : place < length (shown_names b.shown.graph) = (let n = length-map outputs name_of_output in let m = ap length same in omega (arith, lt, n, m)) in
+    let name : name_of_output o ≡ get_or (shown_names b.shown.graph) place (name_of_output o) =
+    ap name_of_output is ∙ sym (get_or-map name_of_output outputs place o (name_of_output o) lt) ∙ ap (λ ns. get_or ns place (name_of_output o)) same in
+    let label : plain ≡ is_plain (shown_names b.shown.graph) = at ∙ ap is_plain same in
+    told_more late b (shown_names b.shown.graph) place epoch (name_of_output o) start so_far new refl there name p
+    (q.0, q.1, λ x shows. subst (λ (is : Bool). TellsOutput (setting_of late b.shown) x epoch place (label_of is (name_of_output o)) q.0) label (q.2 x shows))
 
 -- all outputs
-pub all_told : (s : Shown) (place epoch : ℕ) (start new : List ℕ) → length (shown_names s.graph) ≤ place → ToldSoFar s (shown_names s.graph) place epoch start new → (text : List ℕ) × (new ≡ start ++ text) × ((w : World) → Shows s w → Tells (setting_of s) w epoch text)
-all_told s place epoch start new end p =
-    (p.0, p.1, λ w shows. subst (λ ns. TellsFrom (setting_of s) w epoch ns 0 p.0) (take_all place (shown_names s.graph) end) (p.2 w shows))
+pub all_told : (late : Bool) (b : BoardShown) (place epoch : ℕ) (start new : List ℕ) → length (shown_names b.shown.graph) ≤ place → ToldSoFar late b (shown_names b.shown.graph) place epoch start new → (text : List ℕ) × (new ≡ start ++ text) × ((x : State) → ShowsState b x → Tells (setting_of late b.shown) x epoch text)
+all_told late b place epoch start new end p =
+    (p.0, p.1, λ x shows. subst (λ ns. TellsFrom (setting_of late b.shown) x epoch ns 0 p.0) (take_all place (shown_names b.shown.graph) end) (p.2 x shows))

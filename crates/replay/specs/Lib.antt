@@ -1,3 +1,4 @@
 pub mod Replays
+pub mod Waits
 pub mod Hands
 pub mod Steps

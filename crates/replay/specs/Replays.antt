@@ -1,5 +1,5 @@
--- What a schedule does to the engine's world, line by line, and what it prints.
-use Rattle.std.specs.Prelude.{◌≡◌, ◌<◌, ◌⊎◌, ℕ, ◌+◌, ℤ, Bool, true, false, List, [], ◌∷◌, ◌++◌, length, codes, decimal}
+-- What a schedule does to the engine's world and to the workers' views, line by line, and what it prints.
+use Rattle.std.specs.Prelude.{◌≡◌, ◌<◌, ◌≤◌, ◌⊎◌, ℕ, suc, ◌+◌, ℤ, Bool, true, false, List, [], ◌∷◌, ◌++◌, length, codes, decimal}
 use Rattle.std.specs.List.{flat_map}
 use Rattle.record_core.specs.Records.{IsRecord}
 use Rattle.semantics.specs.Multiset.{Record, IsPartOf, ◌≈◌}
@@ -10,18 +10,21 @@ use Rattle.semantics.specs.Lower.{lowered}
 use Rattle.machine.specs.Network.{Network}
 use Rattle.machine.specs.World.{World, Event, Held}
 use Rattle.machine.specs.Step.{Step, Allowed, after_step}
-use Rattle.machine.specs.Choices.{Chooses}
+use Rattle.machine.specs.Choices.{Chooses, IsClaimBy}
 use Rattle.machine.specs.Frontier.{Passed}
 use Rattle.machine.specs.Engine.{network}
 use Rattle.machine.specs.Headline.{meant}
 use Rattle.collector.specs.Lines.{IsInput, IsAbsent, MakeRecord}
 use Rattle.collector.specs.OutputText.{IsInOrder, is_plain, record_line}
 use Rattle.schedule.specs.Commands.{Command}
+use Rattle.schedule.specs.declared.verb.ViewKind.{ViewKind}
+use Rattle.replay.specs.Waits.{SeesAll, State, Waits, posted, waiting_now}
 
--- what a schedule runs on: a graph on so many workers, and the graph's inputs and the names of its outputs, in order
+-- what a schedule runs on: a graph on so many workers with views of that kind, and the graph's inputs and the names of its outputs, in order
 pub record Setting : Type 0 where
   pub graph : Graph
   pub workers : ℕ
+  pub views : ViewKind
   pub inputs : List Input
   pub outputs : List Name
 
@@ -52,16 +55,22 @@ pub data RefusesSeal (s : Setting) (w : World) (name : List ℕ) : (code : ℕ) 
   seal_input : (code : ℕ) → RefusesInput s w name code → RefusesSeal s w name code
   last_epoch : (i arity : ℕ) → w.stopped ≡ false → IsInput s.inputs name i arity → w.closed i ≡ false → w.open_epoch i ≡ 4294967295 → RefusesSeal s w name 38
 
--- the worker takes its choice of that number
-pub record Takes (g : Network) (w : World) (worker choice : ℕ) (taken : Step) : Type 0 where
-  pub chosen : Chooses g w worker choice taken
-  pub allowed : Allowed g w taken
+-- the worker sees all that was posted
+abbrev pub SeesAllOf : Setting → State → (worker : ℕ) → Type 0
+SeesAllOf s x worker = SeesAll s.views s.workers x.waits worker
 
--- of a pick: the engine is stopped; the worker holds an event; it isn't there, or has no such choice
-pub data RefusesPick (s : Setting) (w : World) (worker choice : ℕ) : (code : ℕ) → Type 0 where
-  pick_stopped : w.stopped ≡ true → RefusesPick s w worker choice 37
-  holds_event : w.stopped ≡ false → worker < s.workers → (w.held worker ≡ Held.nothing → ⊥) → RefusesPick s w worker choice 35
-  no_choice : w.stopped ≡ false → (worker < s.workers → w.held worker ≡ Held.nothing) → ((taken : Step) → Takes (net_of s) w worker choice taken → ⊥) → RefusesPick s w worker choice 34
+-- the worker takes an event that it may take: its choice of that number, if it sees all that was posted
+pub record Takes (s : Setting) (x : State) (worker choice : ℕ) (taken : Step) : Type 0 where
+  pub claims : IsClaimBy worker taken
+  pub chosen : SeesAllOf s x worker → Chooses (net_of s) x.world worker choice taken
+  pub allowed : Allowed (net_of s) x.world taken
+
+-- Of a pick: the engine is stopped; the worker holds an event; it isn't there, or has no such choice. A worker that doesn't see all that
+-- was posted may see fewer choices than it has.
+pub data RefusesPick (s : Setting) (x : State) (worker choice : ℕ) : (code : ℕ) → Type 0 where
+  pick_stopped : x.world.stopped ≡ true → RefusesPick s x worker choice 37
+  holds_event : x.world.stopped ≡ false → worker < s.workers → (x.world.held worker ≡ Held.nothing → ⊥) → RefusesPick s x worker choice 35
+  no_choice : x.world.stopped ≡ false → (worker < s.workers → x.world.held worker ≡ Held.nothing) → (SeesAllOf s x worker → (taken : Step) → Takes s x worker choice taken → ⊥) → RefusesPick s x worker choice 34
 
 -- the worker isn't there, or holds no event, or one that was given up
 abbrev pub HasNothingHeld : Setting → World → (worker : ℕ) → Type 0
@@ -72,10 +81,10 @@ HasNothingHeld s w worker = (event : Event) → worker < s.workers → w.held wo
 abbrev pub refusal_line : ℕ → List ℕ
 refusal_line code = codes "refused " ++ decimal code ++ 10 ∷ []
 
--- whether an epoch has passed at an output, with the word for it
-pub data HasWord (s : Setting) (w : World) (output epoch : ℕ) : (word : List ℕ) → Type 0 where
-  has_passed : Passed (net_of s) w (output_number s.graph output) epoch → HasWord s w output epoch (codes " passed")
-  is_open : (Passed (net_of s) w (output_number s.graph output) epoch → ⊥) → HasWord s w output epoch (codes " open")
+-- Whether an epoch has passed at an output, with the word for it. It is open too where it has passed and worker 0 doesn't see so yet.
+pub data HasWord (s : Setting) (x : State) (output epoch : ℕ) : (word : List ℕ) → Type 0 where
+  has_passed : Passed (net_of s) x.world (output_number s.graph output) epoch → HasWord s x output epoch (codes " passed")
+  is_open : (SeesAllOf s x 0 → Passed (net_of s) x.world (output_number s.graph output) epoch → ⊥) → HasWord s x output epoch (codes " open")
 
 -- the line of an epoch, a label and a word
 abbrev pub heading : ℕ → (label word : List ℕ) → List ℕ
@@ -97,44 +106,68 @@ pub record KeepsPromise (s : Setting) (w : World) (output epoch : ℕ) (p : Prog
   pub whole : Passed (net_of s) w (output_number s.graph output) epoch → answer_of s w output epoch ≈ meant p w output epoch
 
 -- a line that says whether the epoch has passed at an output, and the answer there so far, each record on a line, in order
-pub record TellsOutput (s : Setting) (w : World) (epoch output : ℕ) (label text : List ℕ) : Type 0 where
+pub record TellsOutput (s : Setting) (x : State) (epoch output : ℕ) (label text : List ℕ) : Type 0 where
   pub word : List ℕ
-  pub says : HasWord s w output epoch word
+  pub says : HasWord s x output epoch word
   pub rows : List Record
-  pub ordered : IsInOrder (answer_of s w output epoch) rows
+  pub ordered : IsInOrder (answer_of s x.world output epoch) rows
   pub lines : text ≡ heading epoch label word ++ flat_map record_line rows
-  pub promise : (p : Program) → IsGraphOf s p → KeepsPromise s w output epoch p
+  pub promise : (p : Program) → IsGraphOf s p → KeepsPromise s x.world output epoch p
 
 -- the same of each output of these names, from a place on
-abbrev pub TellsFrom : Setting → World → (epoch : ℕ) → (names : List Name) → (output : ℕ) → (text : List ℕ) → Type 0
-TellsFrom s w epoch [] output text = text ≡ []
-TellsFrom s w epoch (name ∷ names) output text =
-    (first rest : List ℕ) × TellsOutput s w epoch output (label_of (is_plain s.outputs) name) first × TellsFrom s w epoch names (output + 1) rest × (text ≡ first ++ rest)
+abbrev pub TellsFrom : Setting → State → (epoch : ℕ) → (names : List Name) → (output : ℕ) → (text : List ℕ) → Type 0
+TellsFrom s x epoch [] output text = text ≡ []
+TellsFrom s x epoch (name ∷ names) output text =
+    (first rest : List ℕ) × TellsOutput s x epoch output (label_of (is_plain s.outputs) name) first × TellsFrom s x epoch names (output + 1) rest × (text ≡ first ++ rest)
 
 -- of all outputs
-abbrev pub Tells : Setting → World → (epoch : ℕ) → (text : List ℕ) → Type 0
-Tells s w epoch text = TellsFrom s w epoch s.outputs 0 text
+abbrev pub Tells : Setting → State → (epoch : ℕ) → (text : List ℕ) → Type 0
+Tells s x epoch text = TellsFrom s x epoch s.outputs 0 text
 
 -- ---- what a line does
 
--- In the world w the command prints this text, and leaves this world: that after the engine's step which it names, or w itself.
-pub data Does (s : Setting) (w : World) : Command → World → (text : List ℕ) → Type 0 where
-  does_feed : (name : List ℕ) (fields : List ℤ) (i : ℕ) → IsInput s.inputs name i (length fields) → IsRecord fields → Allowed (net_of s) w (Step.feed i (fields ∷ [])) → Does s w (Command.feed name fields) (after_step (net_of s) w (Step.feed i (fields ∷ []))) []
-  feed_refused : (name : List ℕ) (fields : List ℤ) (code : ℕ) → RefusesFeed s w name fields code → Does s w (Command.feed name fields) w (refusal_line code)
-  does_seal : (name : List ℕ) (i arity : ℕ) → IsInput s.inputs name i arity → Allowed (net_of s) w (Step.seal i) → Does s w (Command.seal name) (after_step (net_of s) w (Step.seal i)) []
-  seal_refused : (name : List ℕ) (code : ℕ) → RefusesSeal s w name code → Does s w (Command.seal name) w (refusal_line code)
-  does_close : (name : List ℕ) (i arity : ℕ) → IsInput s.inputs name i arity → Allowed (net_of s) w (Step.close i) → Does s w (Command.close name) (after_step (net_of s) w (Step.close i)) []
-  close_refused : (name : List ℕ) (code : ℕ) → RefusesInput s w name code → Does s w (Command.close name) w (refusal_line code)
-  does_take : (worker choice : ℕ) (taken : Step) → Takes (net_of s) w worker choice taken → Does s w (Command.take worker choice) (after_step (net_of s) w taken) []
-  take_refused : (worker choice code : ℕ) → RefusesPick s w worker choice code → Does s w (Command.take worker choice) w (refusal_line code)
-  does_commit : (worker : ℕ) (event : Event) (out : ℕ → List Record) → Allowed (net_of s) w (Step.commit worker event out) → Does s w (Command.commit worker) (after_step (net_of s) w (Step.commit worker event out)) []
-  commit_refused : (worker : ℕ) → HasNothingHeld s w worker → Does s w (Command.commit worker) w (refusal_line 36)
-  does_deliver : (worker choice : ℕ) (taken : Step) (event : Event) (out : ℕ → List Record) → Takes (net_of s) w worker choice taken → Allowed (net_of s) (after_step (net_of s) w taken) (Step.commit worker event out)
-      → Does s w (Command.deliver worker choice) (after_step (net_of s) (after_step (net_of s) w taken) (Step.commit worker event out)) []
-  deliver_refused : (worker choice code : ℕ) → RefusesPick s w worker choice code → Does s w (Command.deliver worker choice) w (refusal_line code)
-  does_print : (epoch : ℕ) (text : List ℕ) → Tells s w epoch text → Does s w (Command.print epoch) w text
+-- no message came to a worker between these worlds
+abbrev pub NothingCame : Setting → (before after : World) → Type 0
+NothingCame s before after = (worker : ℕ) → worker < s.workers → after.mail worker ≡ before.mail worker
 
--- the commands lead from the world w, one after another, and print this text
-pub data Replays (s : Setting) (w : World) : List Command → World → (text : List ℕ) → Type 0 where
-  replays_nothing : Replays s w [] w []
-  replays_more : (commands : List Command) (command : Command) (v u : World) (before text : List ℕ) → Replays s w commands v before → Does s v command u text → Replays s w (commands ++ command ∷ []) u (before ++ text)
+-- A feed posts a batch, as the sender by the number of workers. It may post none where none of its records comes to a worker.
+abbrev pub FeedPosts : Setting → (before after : State) → Type 0
+FeedPosts s before after = (after.waits ≡ posted s.views s.workers before.waits) ⊎ ((after.waits ≡ before.waits) × NothingCame s before.world after.world)
+
+-- the state after a step by which a sender posts a batch
+abbrev pub after_posting : Setting → State → Step → (by : ℕ) → State
+after_posting s x taken by = record { world = after_step (net_of s) x.world taken; waits = posted s.views by x.waits }
+
+-- the state after a step that posts nothing
+abbrev pub after_taking : Setting → State → Step → State
+after_taking s x taken = record { world = after_step (net_of s) x.world taken; waits = x.waits }
+
+-- Nothing of the sender waits for the worker, or one of them isn't there.
+abbrev pub HasNothingWaiting : Setting → State → (worker sender : ℕ) → Type 0
+HasNothingWaiting s x worker sender = worker < s.workers → sender ≤ s.workers → x.waits worker sender ≡ 0
+
+-- From the state x the command prints this text, and leaves this state: that after the engine's step which it names, or x itself; or one
+-- batch fewer waits.
+pub data Does (s : Setting) (x : State) : Command → State → (text : List ℕ) → Type 0 where
+  does_feed : (name : List ℕ) (fields : List ℤ) (i : ℕ) (waits : Waits) → IsInput s.inputs name i (length fields) → IsRecord fields → Allowed (net_of s) x.world (Step.feed i (fields ∷ []))
+      → FeedPosts s x (record { world = after_step (net_of s) x.world (Step.feed i (fields ∷ [])); waits = waits }) → Does s x (Command.feed name fields) (record { world = after_step (net_of s) x.world (Step.feed i (fields ∷ [])); waits = waits }) []
+  feed_refused : (name : List ℕ) (fields : List ℤ) (code : ℕ) → RefusesFeed s x.world name fields code → Does s x (Command.feed name fields) x (refusal_line code)
+  does_seal : (name : List ℕ) (i arity : ℕ) → IsInput s.inputs name i arity → Allowed (net_of s) x.world (Step.seal i) → Does s x (Command.seal name) (after_posting s x (Step.seal i) s.workers) []
+  seal_refused : (name : List ℕ) (code : ℕ) → RefusesSeal s x.world name code → Does s x (Command.seal name) x (refusal_line code)
+  does_close : (name : List ℕ) (i arity : ℕ) → IsInput s.inputs name i arity → Allowed (net_of s) x.world (Step.close i) → Does s x (Command.close name) (after_posting s x (Step.close i) s.workers) []
+  close_refused : (name : List ℕ) (code : ℕ) → RefusesInput s x.world name code → Does s x (Command.close name) x (refusal_line code)
+  does_take : (worker choice : ℕ) (taken : Step) → Takes s x worker choice taken → Does s x (Command.take worker choice) (after_taking s x taken) []
+  take_refused : (worker choice code : ℕ) → RefusesPick s x worker choice code → Does s x (Command.take worker choice) x (refusal_line code)
+  does_commit : (worker : ℕ) (event : Event) (out : ℕ → List Record) → Allowed (net_of s) x.world (Step.commit worker event out) → Does s x (Command.commit worker) (after_posting s x (Step.commit worker event out) worker) []
+  commit_refused : (worker : ℕ) → HasNothingHeld s x.world worker → Does s x (Command.commit worker) x (refusal_line 36)
+  does_deliver : (worker choice : ℕ) (taken : Step) (event : Event) (out : ℕ → List Record) → Takes s x worker choice taken → Allowed (net_of s) (after_step (net_of s) x.world taken) (Step.commit worker event out)
+      → Does s x (Command.deliver worker choice) (after_posting s (after_taking s x taken) (Step.commit worker event out) worker) []
+  deliver_refused : (worker choice code : ℕ) → RefusesPick s x worker choice code → Does s x (Command.deliver worker choice) x (refusal_line code)
+  does_print : (epoch : ℕ) (text : List ℕ) → Tells s x epoch text → Does s x (Command.print epoch) x text
+  does_apply : (worker sender rest : ℕ) → worker < s.workers → sender ≤ s.workers → x.waits worker sender ≡ suc rest → Does s x (Command.apply worker sender) (record { world = x.world; waits = waiting_now x.waits worker sender rest }) []
+  apply_refused : (worker sender : ℕ) → HasNothingWaiting s x worker sender → Does s x (Command.apply worker sender) x (refusal_line 40)
+
+-- the commands lead from the state x, one after another, and print this text
+pub data Replays (s : Setting) (x : State) : List Command → State → (text : List ℕ) → Type 0 where
+  replays_nothing : Replays s x [] x []
+  replays_more : (commands : List Command) (command : Command) (y z : State) (before text : List ℕ) → Replays s x commands y before → Does s y command z text → Replays s x (commands ++ command ∷ []) z (before ++ text)

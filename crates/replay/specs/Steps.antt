@@ -5,9 +5,9 @@ use Rattle.semantics.specs.Query.{Input}
 use Rattle.semantics.specs.Graph.{input_count}
 use Rattle.lowering.specs.Shown.{GraphValue, shown_graph, shown_inputs, shown_names, shown_arities}
 use Rattle.machine.specs.Step.{Step}
-use Rattle.machine.specs.World.{World, opening}
 use Rattle.events.specs.Jobs.{Pass}
 use Rattle.board.specs.Shown.{Shown, tables}
+use Rattle.board.specs.Lateness.{BoardShown, Posts, waits_for}
 use Rattle.board.specs.Showing.{Shows}
 use Rattle.board.specs.Kept.{Goes}
 use Rattle.board.specs.Answers.{Holds}
@@ -16,7 +16,9 @@ use Rattle.board.specs.declared.refusal.StepRefusal.{StepRefusal}
 use Rattle.collector.specs.Lines.{IsAbsent, IsInput}
 use Rattle.schedule.specs.Commands.{Command}
 use Rattle.schedule.specs.ScheduleText.{IsScheduleText}
+use Rattle.schedule.specs.declared.verb.ViewKind.{ViewKind}
 use Rattle.replay.specs.Replays.{Setting, Does, Replays, refusal_line}
+use Rattle.replay.specs.Waits.{State, Waits, at_first, kind_of}
 use Rattle.replay.specs.Hands.{HoldsAll}
 use Rattle.replay.specs.declared.refusal.Refusal.{Refusal}
 use Rattle.replay.specs.declared.refusal.Refusal.TheVariants as refusal
@@ -35,9 +37,22 @@ told_by None = refusal.NoMemory
 abbrev pub refusal_of : StepRefusal → Refusal
 refusal_of r = told_by (refusal_code r)
 
--- where the board's schedule runs
-abbrev pub setting_of : Shown → Setting
-setting_of s = record { graph = shown_graph s.graph; workers = length s.sides; inputs = shown_inputs s.graph; outputs = shown_names s.graph }
+-- where a graph's schedule runs
+abbrev pub setting_on : ViewKind → GraphValue → (workers : ℕ) → Setting
+setting_on kind g n = record { graph = shown_graph g; workers = n; views = kind; inputs = shown_inputs g; outputs = shown_names g }
+
+-- where the schedule of a board runs whose views may be late or not
+abbrev pub setting_of : (late : Bool) → Shown → Setting
+setting_of late s = setting_on (kind_of late) s.graph (length s.sides)
+
+-- this waits on the board, for each worker of each sender
+abbrev pub ShowsWaits : BoardShown → Waits → Type 0
+ShowsWaits b waits = (worker sender : ℕ) → worker < length b.shown.sides → sender ≤ length b.shown.sides → waits_for b worker sender ≡ waits worker sender
+
+-- the board shows the state's world, and what waits in it
+pub record ShowsState (b : BoardShown) (x : State) : Type 0 where
+  pub world : Shows b.shown x.world
+  pub waits : ShowsWaits b x.waits
 
 -- the inputs are the graph's, with the arities of its vertices
 pub record AreInputsOf (g : GraphValue) (inputs : List Input) : Type 0 where
@@ -56,23 +71,23 @@ pub record Stays (s t : Shown) : Type 0 where
   pub workers : length t.sides ≡ length s.sides
   pub tables : tables t ≡ tables s
 
--- from the world w the command leads to a world that the board shows then, with just what its workers hold in hand
-pub record Led (s t : Shown) (hand : List (Option Pass)) (command : Command) (text : List ℕ) (w : World) : Type 0 where
-  pub after : World
-  pub shows : Shows t after
-  pub hand_after : HoldsAll after (length s.sides) hand
-  pub does : Does (setting_of s) w command after text
+-- from the state x the command leads to a state that the board shows then, with just what its workers hold in hand
+pub record Led (late : Bool) (b c : BoardShown) (hand : List (Option Pass)) (command : Command) (text : List ℕ) (x : State) : Type 0 where
+  pub after : State
+  pub shows : ShowsState c after
+  pub hand_after : HoldsAll after.world (length b.shown.sides) hand
+  pub does : Does (setting_of late b.shown) x command after text
 
--- the same from whatever world the board showed
-pub record Leads (s t : Shown) (old new : List (Option Pass)) (command : Command) (text : List ℕ) : Type 0 where
-  pub stays : Stays s t
-  pub led : (w : World) → Shows s w → HoldsAll w (length s.sides) old → Led s t new command text w
+-- the same from whatever state the board showed
+pub record Leads (late : Bool) (b c : BoardShown) (old new : List (Option Pass)) (command : Command) (text : List ℕ) : Type 0 where
+  pub stays : Stays b.shown c.shown
+  pub led : (x : State) → ShowsState b x → HoldsAll x.world (length b.shown.sides) old → Led late b c new command text x
 
 -- the command is done, or refused with its line
-abbrev pub Answers : Shown → Shown → (old new : List (Option Pass)) → Command → {T : Type 0} → Result T Refusal → Type 0
-Answers s t old new command (Ok _) = Leads s t old new command []
-Answers s t old new command (Err (refusal.Step code)) = Leads s t old new command (refusal_line code)
-Answers s t old new command (Err refusal.NoMemory) = Stays s t
+abbrev pub Answers : (late : Bool) → BoardShown → BoardShown → (old new : List (Option Pass)) → Command → {T : Type 0} → Result T Refusal → Type 0
+Answers late b c old new command (Ok _) = Leads late b c old new command []
+Answers late b c old new command (Err (refusal.Step code)) = Leads late b c old new command (refusal_line code)
+Answers late b c old new command (Err refusal.NoMemory) = Stays b.shown c.shown
 
 -- the command is no question
 abbrev pub IsStep : Command → Type 0
@@ -83,17 +98,19 @@ IsStep (Command.take worker choice) = Unit {0}
 IsStep (Command.commit worker) = Unit {0}
 IsStep (Command.deliver worker choice) = Unit {0}
 IsStep (Command.print epoch) = ⊥
+IsStep (Command.apply worker sender) = Unit {0}
 
--- the event was out on the board, and a commit ended it
-pub record Ends (s : Shown) (p : Pass) (t : Shown) : Type 0 where
-  pub holds : Holds s p
+-- the event was out on the board, and a commit ended it, and posted its changes
+pub record Ends (late : Bool) (b : BoardShown) (p : Pass) (c : BoardShown) : Type 0 where
+  pub holds : Holds b.shown p
   pub out : ℕ → List Record
-  pub goes : Goes s (Step.commit p.worker p.job.happening out) t
-  pub stays : Stays s t
+  pub goes : Goes b.shown (Step.commit p.worker p.job.happening out) c.shown
+  pub posts : Posts late p.worker b c
+  pub stays : Stays b.shown c.shown
 
--- the text is a schedule, and from the engine's opening world its commands print this answer
-pub record AnswersText (g : GraphValue) (workers : ℕ) (text answer : List ℕ) : Type 0 where
+-- the text is a schedule for views of that kind, and from the engine's opening world, where nothing waits, its commands print this answer
+pub record AnswersText (kind : ViewKind) (g : GraphValue) (workers : ℕ) (text answer : List ℕ) : Type 0 where
   pub commands : List Command
-  pub read : IsScheduleText text commands
-  pub last : World
-  pub replays : Replays (record { graph = shown_graph g; workers = workers; inputs = shown_inputs g; outputs = shown_names g }) opening commands last answer
+  pub read : IsScheduleText kind text commands
+  pub last : State
+  pub replays : Replays (setting_on kind g workers) at_first commands last answer

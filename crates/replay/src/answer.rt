@@ -1,21 +1,20 @@
 //! What is printed.
 
 ghost use Rattle.std.specs.Prelude.{◌≡◌, ◌++◌, ℕ, List, OnOk, decimal, map};
-ghost use Rattle.machine.specs.World.{World};
-ghost use Rattle.board.specs.Showing.{Shows};
 ghost use Rattle.board.specs.Promises.{IsOutputPlace};
 ghost use Rattle.lowering.specs.Views.{name_of_output};
 ghost use Rattle.collector.specs.OutputText.{is_plain};
 ghost use Rattle.replay.specs.Replays.{Tells, TellsOutput, heading, label_of, refusal_line};
-ghost use Rattle.replay.specs.Steps.{setting_of, word_of};
+ghost use Rattle.replay.specs.Steps.{ShowsState, setting_of, word_of};
+ghost use Rattle.replay.specs.Waits.{State};
 
 use board::Board;
 use collector::push_sorted;
 use itoa::Buffer;
 use lowering::GraphOutput;
-use progress::Progress;
 use record_core::Name;
 use std::alloc::{AllocError, Global};
+use views::Views;
 
 fn push_text(out: &mut Vec<u8>, text: &[u8]) -> Result<(), AllocError>
     ensures { OnOk result (out.new.items ≡ out.old.items ++ text.now) }
@@ -77,33 +76,35 @@ fn are_plain(outputs: &[GraphOutput]) -> bool
     }
 }
 
-/// Appends whether the epoch has passed at an output, and what was emitted there for it so far.
-fn push_output<P: Progress>(
+/// Appends whether the epoch has passed at an output, as worker 0 sees it, and what was emitted there for it so far.
+fn push_output<V: Views>(
     alloc: Global,
-    board: &Board<P>,
+    board: &Board<V>,
     epoch: u32,
     output: u32,
     plain: bool,
     name: &Name,
     out: &mut Vec<u8>,
 ) -> Result<(), AllocError>
-    requires { IsOutputPlace board.now output }
-    ensures { OnOk result ((text : List ℕ) × (out.new.items ≡ out.old.items ++ text) × ((w : World) → Shows board.now w → TellsOutput (setting_of board.now) w epoch output (label_of plain name.now) text)) }
+    requires { IsOutputPlace board.now.shown output }
+    ensures { OnOk result ((text : List ℕ) × (out.new.items ≡ out.old.items ++ text) × ((x : State) → ShowsState board.now x → TellsOutput (setting_of V.late board.now.shown) x epoch output (label_of plain name.now) text)) }
 {
     board.law_headline();
+    board.law_prompt();
+    board.law_waits();
     push_heading(out, epoch as u64, plain, name, board.passed(output, epoch))?;
     push_sorted(alloc, out, board.emitted(output, epoch))?;
     Ok(())
 }
 
-/// Appends, of each output, whether the epoch has passed there, and what was emitted for it so far.
-pub fn push_answer<P: Progress>(
+/// Appends, of each output, whether the epoch has passed there, as worker 0 sees it, and what was emitted for it so far.
+pub fn push_answer<V: Views>(
     alloc: Global,
-    board: &Board<P>,
+    board: &Board<V>,
     epoch: u32,
     out: &mut Vec<u8>,
 ) -> Result<(), AllocError>
-    ensures { OnOk result ((text : List ℕ) × (out.new.items ≡ out.old.items ++ text) × ((w : World) → Shows board.now w → Tells (setting_of board.now) w epoch text)) }
+    ensures { OnOk result ((text : List ℕ) × (out.new.items ≡ out.old.items ++ text) × ((x : State) → ShowsState board.now x → Tells (setting_of V.late board.now.shown) x epoch text)) }
 {
     let outputs = board.graph().outputs();
     let plain = are_plain(outputs);

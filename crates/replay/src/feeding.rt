@@ -10,10 +10,10 @@ ghost use Rattle.replay.specs.Steps.{Answers, AreInputsOf, IsNumbered};
 use crate::refusal::{Refusal, refused};
 use board::{Board, StepRefusal};
 use collector::{Declared, find_input};
-use progress::Progress;
 use record_core::Record;
 use rows::Batch;
 use std::alloc::{AllocError, Global};
+use views::Views;
 
 /// The number of an input and its arity; a name that no input has gets the greatest number.
 fn numbered(inputs: &[Declared<'_>], name: &[u8]) -> (u32, u64)
@@ -49,15 +49,15 @@ fn record_of(fields: &[i64], arity: u64) -> Option<Record>
 }
 
 /// Feeds a record to the input of that name, at its open epoch.
-pub fn feed<P: Progress>(
+pub fn feed<V: Views>(
     alloc: Global,
-    board: &mut Board<P>,
+    board: &mut Board<V>,
     inputs: &[Declared<'_>],
     name: &[u8],
     fields: &[i64],
 ) -> Result<(), Refusal>
-    requires inputs { AreInputsOf board.old.graph (map plain inputs.now) }
-    ensures { (hand : List (Option Pass)) → Answers board.old board.new hand hand (Command.feed name.now fields.now) result }
+    requires inputs { AreInputsOf board.old.shown.graph (map plain inputs.now) }
+    ensures { (hand : List (Option Pass)) → Answers V.late board.old board.new hand hand (Command.feed name.now fields.now) result }
 {
     let (input, arity) = numbered(inputs, name);
     board.law_inputs();
@@ -77,13 +77,13 @@ pub fn feed<P: Progress>(
 }
 
 /// Ends the open epoch of the input of that name.
-pub fn seal<P: Progress>(
-    board: &mut Board<P>,
+pub fn seal<V: Views>(
+    board: &mut Board<V>,
     inputs: &[Declared<'_>],
     name: &[u8],
 ) -> Result<(), Refusal>
-    requires inputs { AreInputsOf board.old.graph (map plain inputs.now) }
-    ensures { (hand : List (Option Pass)) → Answers board.old board.new hand hand (Command.seal name.now) result }
+    requires inputs { AreInputsOf board.old.shown.graph (map plain inputs.now) }
+    ensures { (hand : List (Option Pass)) → Answers V.late board.old board.new hand hand (Command.seal name.now) result }
 {
     let (input, _) = numbered(inputs, name);
     board.law_inputs();
@@ -94,13 +94,13 @@ pub fn seal<P: Progress>(
 }
 
 /// Closes the input of that name.
-pub fn close<P: Progress>(
-    board: &mut Board<P>,
+pub fn close<V: Views>(
+    board: &mut Board<V>,
     inputs: &[Declared<'_>],
     name: &[u8],
 ) -> Result<(), Refusal>
-    requires inputs { AreInputsOf board.old.graph (map plain inputs.now) }
-    ensures { (hand : List (Option Pass)) → Answers board.old board.new hand hand (Command.close name.now) result }
+    requires inputs { AreInputsOf board.old.shown.graph (map plain inputs.now) }
+    ensures { (hand : List (Option Pass)) → Answers V.late board.old board.new hand hand (Command.close name.now) result }
 {
     let (input, _) = numbered(inputs, name);
     board.law_inputs();

@@ -7,8 +7,8 @@ ghost use Rattle.replay.specs.Hands.{in_hand};
 
 use board::Board;
 use events::Done;
-use progress::Progress;
 use std::alloc::{AllocError, Global};
+use views::Views;
 
 /// Nothing in hand, for so many workers.
 pub fn empty_hand(alloc: Global, workers: u32) -> Result<Vec<Option<Done>>, AllocError>
@@ -23,8 +23,8 @@ pub fn empty_hand(alloc: Global, workers: u32) -> Result<Vec<Option<Done>>, Allo
 }
 
 /// Gives up all that is in hand.
-pub fn give_up<P: Progress>(board: &mut Board<P>, hand: Vec<Option<Done>>)
-    requires { (k : ℕ) (p : Pass) → in_hand hand.items k ≡ Some p → IsOf board.old p }
+pub fn give_up<V: Views>(board: &mut Board<V>, hand: Vec<Option<Done>>)
+    requires { (k : ℕ) (p : Pass) → in_hand hand.items k ≡ Some p → IsOf board.old.shown p }
 {
     let mut rest = hand;
     while !rest.is_empty() {

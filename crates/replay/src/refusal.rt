@@ -17,6 +17,9 @@ pub enum Refusal {
 /// A worker that isn't there, or holds no event that it could commit.
 pub const NOTHING_HELD: u8 = 36;
 
+/// Nothing waits of that sender for that worker, or one of them isn't there.
+pub const NOTHING_WAITS: u8 = 40;
+
 /// How a refusal of the board is told.
 pub fn refused(refusal: StepRefusal) -> Refusal
     ensures { result ≡ refusal_of refusal }

@@ -2,38 +2,37 @@
 
 ghost use Rattle.std.specs.Prelude.{◌≡◌, ◌++◌, ℕ, List, map, length, IfOk, OnOk};
 ghost use Rattle.collector.specs.Said.{plain};
-ghost use Rattle.machine.specs.World.{World};
-ghost use Rattle.board.specs.Showing.{Shows};
 ghost use Rattle.schedule.specs.Said.{command_of};
 ghost use Rattle.replay.specs.Hands.{HoldsAll, HoldsNone, IsHand};
 ghost use Rattle.replay.specs.Replays.{Replays};
-ghost use Rattle.replay.specs.Steps.{Answers, AreInputsOf, IsStep, Leads, setting_of};
+ghost use Rattle.replay.specs.Steps.{Answers, AreInputsOf, IsStep, Leads, ShowsState, setting_of};
+ghost use Rattle.replay.specs.Waits.{State};
 
 use crate::answer::{push_answer, push_refusal};
 use crate::feeding::{close, feed, seal};
 use crate::hand::{empty_hand, give_up};
 use crate::refusal::Refusal;
-use crate::working::{commit, deliver, take};
+use crate::working::{apply, commit, deliver, take};
 use board::Board;
 use collector::Declared;
 use events::Done;
-use progress::Progress;
 use schedule::Line;
 use std::alloc::{AllocError, Global};
+use views::Views;
 
 /// Does what a line other than a question tells.
-fn step<P: Progress>(
+fn step<V: Views>(
     alloc: Global,
-    board: &mut Board<P>,
+    board: &mut Board<V>,
     hand: &mut [Option<Done>],
     inputs: &[Declared<'_>],
     line: &Line<'_>,
 ) -> Result<(), Refusal>
-    requires inputs { AreInputsOf board.old.graph (map plain inputs.now) }
-    requires hand { IsHand board.old hand.old }
+    requires inputs { AreInputsOf board.old.shown.graph (map plain inputs.now) }
+    requires hand { IsHand board.old.shown hand.old }
     requires step { IsStep (command_of line.now) }
-    ensures hand { IsHand board.new hand.new }
-    ensures answers { Answers board.old board.new hand.old hand.new (command_of line.now) result }
+    ensures hand { IsHand board.new.shown hand.new }
+    ensures answers { Answers V.late board.old board.new hand.old hand.new (command_of line.now) result }
 {
     match line {
         Line::Feed { input, fields } => feed(alloc, board, inputs, input, fields.as_slice()),
@@ -43,23 +42,24 @@ fn step<P: Progress>(
         Line::Commit { worker } => commit(board, hand, *worker),
         Line::Deliver { worker, choice } => deliver(alloc, board, *worker, *choice),
         Line::Print { .. } => Ok(()),
+        Line::Apply { worker, sender } => apply(board, *worker, *sender),
     }
 }
 
 /// Does what a line tells, and appends what it prints.
-fn replay_line<P: Progress>(
+fn replay_line<V: Views>(
     alloc: Global,
-    board: &mut Board<P>,
+    board: &mut Board<V>,
     hand: &mut [Option<Done>],
     inputs: &[Declared<'_>],
     line: &Line<'_>,
     out: &mut Vec<u8>,
 ) -> Result<(), AllocError>
-    requires inputs { AreInputsOf board.old.graph (map plain inputs.now) }
-    requires hand { IsHand board.old hand.old }
-    ensures hand { IsHand board.new hand.new }
-    ensures graph { board.new.graph ≡ board.old.graph }
-    ensures line { OnOk result ((text : List ℕ) × (out.new.items ≡ out.old.items ++ text) × Leads board.old board.new hand.old hand.new (command_of line.now) text) }
+    requires inputs { AreInputsOf board.old.shown.graph (map plain inputs.now) }
+    requires hand { IsHand board.old.shown hand.old }
+    ensures hand { IsHand board.new.shown hand.new }
+    ensures graph { board.new.shown.graph ≡ board.old.shown.graph }
+    ensures line { OnOk result ((text : List ℕ) × (out.new.items ≡ out.old.items ++ text) × Leads V.late board.old board.new hand.old hand.new (command_of line.now) text) }
 {
     if let Line::Print { epoch } = line {
         push_answer(alloc, board, *epoch, out)?;
@@ -73,17 +73,17 @@ fn replay_line<P: Progress>(
 }
 
 /// Does what the lines tell, one after another; the text of what they print.
-fn replay_lines<P: Progress>(
+fn replay_lines<V: Views>(
     alloc: Global,
-    board: &mut Board<P>,
+    board: &mut Board<V>,
     hand: &mut [Option<Done>],
     inputs: &[Declared<'_>],
     lines: &[Line<'_>],
 ) -> Result<Vec<u8>, AllocError>
-    requires inputs { AreInputsOf board.old.graph (map plain inputs.now) }
-    requires hand { IsHand board.old hand.old }
-    ensures hand { IsHand board.new hand.new }
-    ensures replays { IfOk result (λ text. (w : World) → Shows board.old w → HoldsAll w (length board.old.sides) hand.old → (v : World) × Replays (setting_of board.old) w (map command_of lines.now) v text.items) }
+    requires inputs { AreInputsOf board.old.shown.graph (map plain inputs.now) }
+    requires hand { IsHand board.old.shown hand.old }
+    ensures hand { IsHand board.new.shown hand.new }
+    ensures replays { IfOk result (λ text. (x : State) → ShowsState board.old x → HoldsAll x.world (length board.old.shown.sides) hand.old → (y : State) × Replays (setting_of V.late board.old.shown) x (map command_of lines.now) y text.items) }
 {
     let mut out = Vec::new(alloc);
     for line in lines {
@@ -97,14 +97,14 @@ fn replay_lines<P: Progress>(
 ///
 /// The answer is the text of what the lines print. A step that the board refuses prints its number and changes nothing, and the
 /// schedule goes on. Want of memory ends it.
-pub fn replay<P: Progress>(
+pub fn replay<V: Views>(
     alloc: Global,
-    board: Board<P>,
+    board: Board<V>,
     inputs: &[Declared<'_>],
     lines: &[Line<'_>],
 ) -> Result<Vec<u8>, AllocError>
-    requires inputs { AreInputsOf board.graph (map plain inputs.now) }
-    ensures { IfOk result (λ text. (w : World) → Shows board w → HoldsNone w (length board.sides) → (v : World) × Replays (setting_of board) w (map command_of lines.now) v text.items) }
+    requires inputs { AreInputsOf board.shown.graph (map plain inputs.now) }
+    ensures { IfOk result (λ text. (x : State) → ShowsState board x → HoldsNone x.world (length board.shown.sides) → (y : State) × Replays (setting_of V.late board.shown) x (map command_of lines.now) y text.items) }
 {
     let mut board = board;
     let mut hand = empty_hand(alloc, board.workers())?;

@@ -4,17 +4,25 @@ ghost use Rattle.std.specs.Prelude.{◌≡◌, ◌<◌, ◌≤◌, map, IfOk, If
 ghost use Rattle.lowering.specs.Shown.{shown_inputs};
 ghost use Rattle.lowering.specs.Views.{input_of};
 ghost use Rattle.collector.specs.Said.{plain};
+ghost use Rattle.machine.specs.World.{opening};
+ghost use Rattle.board.specs.Showing.{Shows};
+ghost use Rattle.board.specs.Lateness.{AreUpToDate};
+ghost use Rattle.schedule.specs.Said.{command_of};
 ghost use Rattle.schedule.specs.ScheduleText.{IsRefused};
-ghost use Rattle.replay.specs.Steps.{AnswersText, AreInputsOf};
+ghost use Rattle.schedule.specs.declared.refusal.ScheduleRefusal.TheVariants.{NoMemory};
+ghost use Rattle.replay.specs.Replays.{Replays};
+ghost use Rattle.replay.specs.Steps.{AnswersText, AreInputsOf, setting_of};
+ghost use Rattle.replay.specs.Waits.{State, at_first};
 
 use crate::replaying::replay;
 use board::Board;
 use collector::Declared;
 use lowering::{DeclaredInput, Graph};
 use progress::LocationTracker;
-use schedule::{ScheduleRefusal, read_schedule};
+use schedule::{Line, ScheduleRefusal, ViewKind, read_schedule};
 use std::alloc::{AllocError, Global};
 use std::sync::Arc;
+use views::{Direct, LocalViews, Views};
 
 /// The graph's inputs are its own, with the arities of its vertices. Nothing is done.
 pub fn law_graph_inputs(graph: &Graph)
@@ -39,20 +47,40 @@ fn declared<'a>(alloc: Global, inputs: &'a [DeclaredInput]) -> Result<Vec<Declar
     Ok(declared)
 }
 
-/// Does a schedule on a new board that runs the graph on 1 to 64 workers; the text of what it prints. The schedule is read whole
-/// first. It is refused by its first faulty line, and then nothing is done.
+/// Does the lines on a new board.
+fn replay_new<V: Views>(
+    alloc: Global,
+    board: Board<V>,
+    inputs: &[Declared<'_>],
+    lines: &[Line<'_>],
+) -> Result<Vec<u8>, ScheduleRefusal>
+    requires inputs { AreInputsOf board.shown.graph (map plain inputs.now) }
+    requires shows { Shows board.shown opening }
+    requires prompt { AreUpToDate board }
+    ensures answers { IfOk result (λ answer. (last : State) × Replays (setting_of V.late board.shown) at_first (map command_of lines.now) last answer.items) }
+    ensures refused { IfErr result (λ e. e ≡ NoMemory) }
+{
+    match replay(alloc, board, inputs, lines) {
+        Ok(answer) => Ok(answer),
+        Err(_) => Err(ScheduleRefusal::NoMemory),
+    }
+}
+
+/// Does a schedule on a new board that runs the graph on 1 to 64 workers, who share one view or have views of their own; the text of what
+/// it prints. The schedule is read whole first. It is refused by its first faulty line, and then nothing is done.
 pub fn replay_text(
     alloc: Global,
     graph: Graph,
     workers: u32,
+    kind: ViewKind,
     text: &[u8],
 ) -> Result<Vec<u8>, ScheduleRefusal>
     requires some { 0 < workers }
     requires few { workers ≤ 64 }
-    ensures answers { IfOk result (λ answer. AnswersText graph workers text.now answer.items) }
-    ensures refused { IfErr result (IsRefused text.now) }
+    ensures answers { IfOk result (λ answer. AnswersText kind graph workers text.now answer.items) }
+    ensures refused { IfErr result (IsRefused kind text.now) }
 {
-    let lines = match read_schedule(alloc, text) {
+    let lines = match read_schedule(alloc, kind, text) {
         Ok(lines) => lines,
         Err(refusal) => return Err(refusal),
     };
@@ -60,11 +88,14 @@ pub fn replay_text(
     law_graph_inputs(&graph);
     let shared = Arc::try_clone(&graph)?;
     let inputs = declared(alloc, graph.inputs())?;
-    let Ok(board) = Board::<LocationTracker>::new(alloc, shared, workers) else {
-        return Err(ScheduleRefusal::NoMemory);
-    };
-    match replay(alloc, board, inputs.as_slice(), lines.as_slice()) {
-        Ok(answer) => Ok(answer),
-        Err(_) => Err(ScheduleRefusal::NoMemory),
+    match kind {
+        ViewKind::Shared => match Board::<Direct<LocationTracker>>::new(alloc, shared, workers) {
+            Ok(board) => replay_new(alloc, board, inputs.as_slice(), lines.as_slice()),
+            Err(_) => Err(ScheduleRefusal::NoMemory),
+        },
+        ViewKind::Local => match Board::<LocalViews>::with_local_views(alloc, shared, workers) {
+            Ok(board) => replay_new(alloc, board, inputs.as_slice(), lines.as_slice()),
+            Err(_) => Err(ScheduleRefusal::NoMemory),
+        },
     }
 }

@@ -8,18 +8,18 @@ ghost use Rattle.replay.specs.Hands.{IsHand, in_hand};
 ghost use Rattle.replay.specs.Steps.{Answers, Ends, Stays};
 ghost use Rattle.replay.specs.declared.refusal.Refusal.TheVariants as refusal;
 
-use crate::refusal::{NOTHING_HELD, Refusal, refused};
+use crate::refusal::{NOTHING_HELD, NOTHING_WAITS, Refusal, refused};
 use board::{Board, CommitRefusal};
 use events::{Done, Work};
-use progress::Progress;
 use std::alloc::Global;
+use views::Views;
 
 /// Computes an event that was taken; without memory it is given up, and the board stopped.
-fn computed<P: Progress>(alloc: Global, board: &mut Board<P>, work: Work) -> Result<Done, Refusal>
-    requires own { IsOf board.old work.0 }
+fn computed<V: Views>(alloc: Global, board: &mut Board<V>, work: Work) -> Result<Done, Refusal>
+    requires own { IsOf board.old.shown work.0 }
     ensures done { IfOk result (λ d. d ≡ work.0) }
     ensures kept { OnOk result (board.new ≡ board.old) }
-    ensures stays { Stays board.old board.new }
+    ensures stays { Stays board.old.shown board.new.shown }
     ensures memory { IfErr result (λ e. e ≡ refusal.NoMemory) }
 {
     match work.compute(alloc) {
@@ -32,10 +32,10 @@ fn computed<P: Progress>(alloc: Global, board: &mut Board<P>, work: Work) -> Res
 }
 
 /// Ends an event that was computed; without memory it is given up, and the board stopped.
-fn ended<P: Progress>(board: &mut Board<P>, done: Done) -> Result<(), Refusal>
-    requires own { IsOf board.old done }
-    ensures ends { OnOk result (Ends board.old done board.new) }
-    ensures stays { Stays board.old board.new }
+fn ended<V: Views>(board: &mut Board<V>, done: Done) -> Result<(), Refusal>
+    requires own { IsOf board.old.shown done }
+    ensures ends { OnOk result (Ends V.late board.old done board.new) }
+    ensures stays { Stays board.old.shown board.new.shown }
     ensures memory { IfErr result (λ e. e ≡ refusal.NoMemory) }
 {
     match board.commit(done) {
@@ -48,12 +48,12 @@ fn ended<P: Progress>(board: &mut Board<P>, done: Done) -> Result<(), Refusal>
 }
 
 /// Puts an event into its worker's empty place in hand.
-fn keep<P: Progress>(board: &mut Board<P>, hand: &mut [Option<Done>], worker: u32, done: Done)
+fn keep<V: Views>(board: &mut Board<V>, hand: &mut [Option<Done>], worker: u32, done: Done)
     requires place { worker < length hand.old }
-    requires own { (p : Pass) → in_hand hand.old worker ≡ Some p → IsOf board.old p }
+    requires own { (p : Pass) → in_hand hand.old worker ≡ Some p → IsOf board.old.shown p }
     ensures hand { hand.new ≡ slice_set hand.old worker (Some done) }
     ensures kept { in_hand hand.old worker ≡ None → board.new ≡ board.old }
-    ensures stays { Stays board.old board.new }
+    ensures stays { Stays board.old.shown board.new.shown }
 {
     match hand[worker as usize].replace(done) {
         None => {}
@@ -62,17 +62,19 @@ fn keep<P: Progress>(board: &mut Board<P>, hand: &mut [Option<Done>], worker: u3
 }
 
 /// The worker takes its choice of that number, computes it, and has it in hand.
-pub fn take<P: Progress>(
+pub fn take<V: Views>(
     alloc: Global,
-    board: &mut Board<P>,
+    board: &mut Board<V>,
     hand: &mut [Option<Done>],
     worker: u32,
     choice: u32,
 ) -> Result<(), Refusal>
-    requires hand { IsHand board.old hand.old }
-    ensures hand { IsHand board.new hand.new }
-    ensures answers { Answers board.old board.new hand.old hand.new (Command.take worker choice) result }
+    requires hand { IsHand board.old.shown hand.old }
+    ensures hand { IsHand board.new.shown hand.new }
+    ensures answers { Answers V.late board.old board.new hand.old hand.new (Command.take worker choice) result }
 {
+    board.law_prompt();
+    board.law_waits();
     let work = match board.pick(worker, choice as u64) {
         Ok(work) => work,
         Err(refusal) => return Err(refused(refusal)),
@@ -86,14 +88,14 @@ pub fn take<P: Progress>(
 }
 
 /// Ends what the worker has in hand.
-pub fn commit<P: Progress>(
-    board: &mut Board<P>,
+pub fn commit<V: Views>(
+    board: &mut Board<V>,
     hand: &mut [Option<Done>],
     worker: u32,
 ) -> Result<(), Refusal>
-    requires hand { IsHand board.old hand.old }
-    ensures hand { IsHand board.new hand.new }
-    ensures answers { Answers board.old board.new hand.old hand.new (Command.commit worker) result }
+    requires hand { IsHand board.old.shown hand.old }
+    ensures hand { IsHand board.new.shown hand.new }
+    ensures answers { Answers V.late board.old board.new hand.old hand.new (Command.commit worker) result }
 {
     let place = worker as usize;
     if place >= hand.len() {
@@ -106,14 +108,16 @@ pub fn commit<P: Progress>(
 }
 
 /// The worker takes its choice of that number, computes it, and commits it.
-pub fn deliver<P: Progress>(
+pub fn deliver<V: Views>(
     alloc: Global,
-    board: &mut Board<P>,
+    board: &mut Board<V>,
     worker: u32,
     choice: u32,
 ) -> Result<(), Refusal>
-    ensures { (hand : List (Option Pass)) → IsHand board.old hand → Answers board.old board.new hand hand (Command.deliver worker choice) result }
+    ensures { (hand : List (Option Pass)) → IsHand board.old.shown hand → Answers V.late board.old board.new hand hand (Command.deliver worker choice) result }
 {
+    board.law_prompt();
+    board.law_waits();
     let work = match board.pick(worker, choice as u64) {
         Ok(work) => work,
         Err(refusal) => return Err(refused(refusal)),
@@ -123,4 +127,18 @@ pub fn deliver<P: Progress>(
         Err(refusal) => return Err(refusal),
     };
     ended(board, done)
+}
+
+/// The worker applies the next batch of changes that the sender posted.
+pub fn apply<V: Views>(board: &mut Board<V>, worker: u32, sender: u32) -> Result<(), Refusal>
+    ensures { (hand : List (Option Pass)) → Answers V.late board.old board.new hand hand (Command.apply worker sender) result }
+{
+    board.law_waits();
+    if board.apply(worker, sender) {
+        Ok(())
+    } else {
+        Err(Refusal::Step {
+            code: NOTHING_WAITS,
+        })
+    }
 }

@@ -3,4 +3,4 @@ use Rattle.replay.proofs.Told.{ToldSoFar}
 use Rattle.replay.proofs.answer.push_answer.Given as goal
 
 abbrev pub invariant-loop-output : goal.invariant-loop-output
-invariant-loop-output g l = ToldSoFar l.board (shown_names l.board.graph) l.output l.epoch l.initial.out.items l.out.items
+invariant-loop-output g l = ToldSoFar g.V.Views.late l.board (shown_names l.board.shown.graph) l.output l.epoch l.initial.out.items l.out.items

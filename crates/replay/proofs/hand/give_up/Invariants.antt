@@ -5,7 +5,7 @@ use Rattle.replay.specs.Hands.{in_hand}
 use Rattle.replay.proofs.hand.give_up.Given as goal
 
 abbrev pub invariant-loop-rest : goal.invariant-loop-rest
-invariant-loop-rest g l = (k : ℕ) (p : Pass) → in_hand l.rest.items k ≡ Some p → IsOf l.board p
+invariant-loop-rest g l = (k : ℕ) (p : Pass) → in_hand l.rest.items k ≡ Some p → IsOf l.board.shown p
 
 abbrev pub decreases-loop-rest : goal.decreases-loop-rest
 decreases-loop-rest g l = length l.rest.items

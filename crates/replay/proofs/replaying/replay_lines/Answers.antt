@@ -1,4 +1,4 @@
-use Rattle.std.proofs.Common.{◌≡◌, ◌∙◌, ◌++◌, ◌∷◌, [], ◌+◌, get_or, List, ℕ, take, map, sym, ap, subst, refl}
+use Rattle.std.proofs.Common.{◌≡◌, ◌∙◌, ◌++◌, ◌∷◌, [], ◌+◌, get_or, List, ℕ, take, map, sym, ap, subst}
 use Rattle.std.proofs.lemmas.List.{take_more, map_push}
 use Rattle.schedule.specs.Commands.{Command}
 use Rattle.schedule.specs.Said.{command_of}
@@ -11,7 +11,7 @@ pub loop-line-init : goal.loop-line-init
 loop-line-init g c = record {
   inputs = c.requires.inputs;
   hand = c.requires.hand;
-  so_far = subst (λ (xs : List ℕ). Replayed c.args.board.now c.args.board.now c.args.hand.now c.args.hand.now [] xs) (sym c.new-out.ensures.items) (none_replayed c.args.board.now c.args.hand.now);
+  so_far = subst (λ (xs : List ℕ). Replayed g.V.Views.late c.args.board.now c.args.board.now c.args.hand.now c.args.hand.now [] xs) (sym c.new-out.ensures.items) (none_replayed g.V.Views.late c.args.board.now c.args.hand.now);
 }
 
 pub loop-line-preserved : goal.loop-line-preserved
@@ -24,7 +24,7 @@ loop-line-preserved g c =
     record {
       inputs = subst (λ x. AreInputsOf x (map plain c.args.inputs.now)) (sym c.in_ok-replay_line.ensures.graph) c.loop-line.invariant.inputs;
       hand = c.in_ok-replay_line.ensures.hand;
-      so_far = subst (λ (xs : List ℕ). Replayed c.args.board.now c.replay_line.new.board c.args.hand.now c.replay_line.new.hand (map command_of (take (i + 1) lines)) xs) (sym done.1)
-          (subst (λ (cs : List Command). Replayed c.args.board.now c.replay_line.new.board c.args.hand.now c.replay_line.new.hand cs (c.loop-line.out.items ++ done.0)) (sym all)
-          (more_replayed c.args.board.now c.loop-line.board c.replay_line.new.board c.args.hand.now c.loop-line.hand c.replay_line.new.hand (map command_of (take i lines)) (command_of d) c.loop-line.out.items done.0 c.loop-line.invariant.so_far done.2));
+      so_far = subst (λ (xs : List ℕ). Replayed g.V.Views.late c.args.board.now c.replay_line.new.board c.args.hand.now c.replay_line.new.hand (map command_of (take (i + 1) lines)) xs) (sym done.1)
+          (subst (λ (cs : List Command). Replayed g.V.Views.late c.args.board.now c.replay_line.new.board c.args.hand.now c.replay_line.new.hand cs (c.loop-line.out.items ++ done.0)) (sym all)
+          (more_replayed g.V.Views.late c.args.board.now c.loop-line.board c.replay_line.new.board c.args.hand.now c.loop-line.hand c.replay_line.new.hand (map command_of (take i lines)) (command_of d) c.loop-line.out.items done.0 c.loop-line.invariant.so_far done.2));
     }

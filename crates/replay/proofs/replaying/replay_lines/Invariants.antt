@@ -1,5 +1,4 @@
-use Rattle.std.proofs.Common.{length, map, take}
-use Rattle.board.specs.Shown.{Shown}
+use Rattle.std.proofs.Common.{map, take}
 use Rattle.collector.specs.Said.{plain}
 use Rattle.schedule.specs.Said.{command_of}
 use Rattle.replay.specs.Hands.{IsHand}
@@ -9,7 +8,7 @@ use Rattle.replay.proofs.replaying.replay_lines.Given as goal
 
 abbrev pub invariant-loop-line : goal.invariant-loop-line
 invariant-loop-line g l = record {
-  inputs : AreInputsOf l.board.graph (map plain l.inputs);
-  hand : IsHand l.board l.hand;
-  so_far : Replayed l.fn.board l.board l.fn.hand l.hand (map command_of (take l.line-index l.lines)) l.out.items;
+  inputs : AreInputsOf l.board.shown.graph (map plain l.inputs);
+  hand : IsHand l.board.shown l.hand;
+  so_far : Replayed g.V.Views.late l.fn.board l.board l.fn.hand l.hand (map command_of (take l.line-index l.lines)) l.out.items;
 }

@@ -1,28 +1,31 @@
-use Rattle.std.proofs.Common.{◌≡◌, ◌∙◌, ℕ, refl, subst, sym, ap}
+use Rattle.std.proofs.Common.{◌∙◌, subst, sym}
 use Rattle.events.specs.Jobs.{Pass}
-use Rattle.board.specs.Shown.{Shown}
+use Rattle.board.specs.Lateness.{BoardShown}
 use Rattle.schedule.specs.Commands.{Command}
 use Rattle.replay.specs.Replays.{Does}
 use Rattle.replay.specs.Steps.{Ends}
 use Rattle.replay.proofs.Inputs.{refused_answers}
+use Rattle.replay.proofs.Waiting.{board_same}
 use Rattle.replay.proofs.Taken.{delivered_leads, end_answers, picked_stays, refused_pick, stays_on}
 use Rattle.replay.proofs.working.deliver.Goals as goal
 
 pub returns-in-Err : goal.returns-in-Err
 returns-in-Err g c = λ hand h.
-    refused_answers c.args.board.now c.pick.new.self hand (Command.deliver c.args.worker c.args.choice) c.refused.result c.in-Err.ensures.picks.1
-    (λ code told w shows holds. Does.deliver_refused c.args.worker c.args.choice code (refused_pick c.args.board.now c.args.worker c.args.choice c.in-Err.refusal c.in-Err.ensures.picks.0 code (sym c.refused.ensures ∙ told) w shows))
+    let b = c.args.board.now in
+    refused_answers g.V.Views.late b c.pick.new.self hand (Command.deliver c.args.worker c.args.choice) c.refused.result (board_same b c.pick.new.self c.in-Err.ensures.picks.1 c.in-Err.ensures.views.waits c.in-Err.ensures.views.passed)
+    (λ code told x shows holds. Does.deliver_refused c.args.worker c.args.choice code (refused_pick g.V.Views.late b c.args.worker c.args.choice c.in-Err.refusal (record { prompt = c.law_prompt.ensures; within = c.law_waits.ensures }) c.in-Err.ensures.picks.0 code (sym c.refused.ensures ∙ told) x shows))
 
 pub returns : goal.returns
 returns g c = λ hand h.
-    let s = c.args.board.now in
+    let late = g.V.Views.late in
+    let b = c.args.board.now in
     let t = c.pick.new.self in
     let u = c.ended.new.board in
     let p = c.in-Ok.work.0 in
     let hands = c.in-Ok.ensures.picks.0 in
-    let picked = picked_stays s t c.args.worker p hands c.in-Ok.ensures.tables in
-    let stays = stays_on s t u picked (stays_on t c.computed.new.board u c.computed.ensures.stays c.ended.ensures.stays) in
-    end_answers s u hand hand (Command.deliver c.args.worker c.args.choice) c.ended.result c.in-Ok-computed.done c.computed.new.board c.ended.ensures.ends c.ended.ensures.memory stays
+    let picked = picked_stays b.shown t.shown c.args.worker p hands c.in-Ok.ensures.tables in
+    let stays = stays_on b.shown t.shown u.shown picked (stays_on t.shown c.computed.new.board.shown u.shown c.computed.ensures.stays c.ended.ensures.stays) in
+    end_answers late b u hand hand (Command.deliver c.args.worker c.args.choice) c.ended.result c.in-Ok-computed.done c.computed.new.board c.ended.ensures.ends c.ended.ensures.memory stays
     (λ ends.
-    let at_t : Ends t p u = subst (λ (x : Pass). Ends t x u) c.in-Ok-computed.ensures.done (subst (λ (x : Shown). Ends x c.in-Ok-computed.done u) c.in-Ok-computed.ensures.kept ends) in
-    delivered_leads s t u hand c.args.worker c.args.choice p hands c.in-Ok.ensures.picks.1 at_t stays)
+    let at_t : Ends late t p u = subst (λ (x : Pass). Ends late t x u) c.in-Ok-computed.ensures.done (subst (λ (x : BoardShown). Ends late x c.in-Ok-computed.done u) c.in-Ok-computed.ensures.kept ends) in
+    delivered_leads late b t u hand c.args.worker c.args.choice p hands (record { prompt = c.law_prompt.ensures; within = c.law_waits.ensures }) c.in-Ok.ensures.picks.1 c.in-Ok.ensures.views.waits at_t stays)

@@ -1,34 +1,36 @@
-use Rattle.std.proofs.Common.{◌≡◌, ◌∙◌, ◌<◌, ℕ, List, Option, Some, None, length, refl, subst, sym, ap}
+use Rattle.std.proofs.Common.{◌∙◌, Some, sym, ap}
 use Rattle.std.specs.Prelude.{slice_get, slice_set}
 use Rattle.events.specs.Jobs.{Pass}
 use Rattle.board.specs.Commits.{IsOf}
 use Rattle.schedule.specs.Commands.{Command}
 use Rattle.replay.specs.Replays.{Does}
-use Rattle.replay.specs.Steps.{Stays}
 use Rattle.replay.proofs.Holding.{hand_stays}
 use Rattle.replay.proofs.Inputs.{refused_answers}
+use Rattle.replay.proofs.Waiting.{board_same}
 use Rattle.replay.proofs.Taken.{kept_hand, picked_room, picked_stays, refused_pick, stays_on, taken_leads}
 use Rattle.replay.proofs.working.take.Goals as goal
 
 pub returns-in-Err-clause-answers : goal.returns-in-Err-clause-answers
 returns-in-Err-clause-answers g c =
-    refused_answers c.args.board.now c.pick.new.self c.args.hand.now (Command.take c.args.worker c.args.choice) c.refused.result c.in-Err.ensures.picks.1
-    (λ code told w shows holds. Does.take_refused c.args.worker c.args.choice code (refused_pick c.args.board.now c.args.worker c.args.choice c.in-Err.refusal c.in-Err.ensures.picks.0 code (sym c.refused.ensures ∙ told) w shows))
+    let b = c.args.board.now in
+    refused_answers g.V.Views.late b c.pick.new.self c.args.hand.now (Command.take c.args.worker c.args.choice) c.refused.result (board_same b c.pick.new.self c.in-Err.ensures.picks.1 c.in-Err.ensures.views.waits c.in-Err.ensures.views.passed)
+    (λ code told x shows holds. Does.take_refused c.args.worker c.args.choice code (refused_pick g.V.Views.late b c.args.worker c.args.choice c.in-Err.refusal (record { prompt = c.law_prompt.ensures; within = c.law_waits.ensures }) c.in-Err.ensures.picks.0 code (sym c.refused.ensures ∙ told) x shows))
 
 pub returns-in-Err-computed-clause-hand : goal.returns-in-Err-computed-clause-hand
 returns-in-Err-computed-clause-hand g c =
-    let stays = stays_on c.args.board.now c.pick.new.self c.computed.new.board (picked_stays c.args.board.now c.pick.new.self c.args.worker c.in-Ok.work.0 c.in-Ok.ensures.picks.0 c.in-Ok.ensures.tables) c.computed.ensures.stays in
-    hand_stays c.args.board.now c.computed.new.board c.args.hand.now c.requires.hand stays
+    let b = c.args.board.now.shown in
+    let stays = stays_on b c.pick.new.self.shown c.computed.new.board.shown (picked_stays b c.pick.new.self.shown c.args.worker c.in-Ok.work.0 c.in-Ok.ensures.picks.0 c.in-Ok.ensures.tables) c.computed.ensures.stays in
+    hand_stays b c.computed.new.board.shown c.args.hand.now c.requires.hand stays
 
 pub returns-clause-hand : goal.returns-clause-hand
 returns-clause-hand g c =
-    let s = c.args.board.now in
-    let t = c.pick.new.self in
-    let u = c.keep.new.board in
+    let s = c.args.board.now.shown in
+    let t = c.pick.new.self.shown in
+    let u = c.keep.new.board.shown in
     let p = c.in-Ok.work.0 in
     let hands = c.in-Ok.ensures.picks.0 in
     let picked = picked_stays s t c.args.worker p hands c.in-Ok.ensures.tables in
-    let later = stays_on t c.computed.new.board u c.computed.ensures.stays c.keep.ensures.stays in
+    let later = stays_on t c.computed.new.board.shown u c.computed.ensures.stays c.keep.ensures.stays in
     let stays = stays_on s t u picked later in
     let is = c.keep.ensures.hand ∙ ap (λ (x : Pass). slice_set c.args.hand.now c.args.worker (Some x)) c.in-Ok-computed.ensures.done in
     let of : IsOf u p = ap (λ ts. slice_get ts p.worker) later.tables ∙ hands.own in
@@ -36,12 +38,13 @@ returns-clause-hand g c =
 
 pub returns-clause-answers : goal.returns-clause-answers
 returns-clause-answers g c =
-    let s = c.args.board.now in
+    let b = c.args.board.now in
     let t = c.pick.new.self in
     let u = c.keep.new.board in
     let p = c.in-Ok.work.0 in
     let hands = c.in-Ok.ensures.picks.0 in
-    let picked = picked_stays s t c.args.worker p hands c.in-Ok.ensures.tables in
-    let later = stays_on t c.computed.new.board u c.computed.ensures.stays c.keep.ensures.stays in
+    let picked = picked_stays b.shown t.shown c.args.worker p hands c.in-Ok.ensures.tables in
+    let later = stays_on t.shown c.computed.new.board.shown u.shown c.computed.ensures.stays c.keep.ensures.stays in
     let is = c.keep.ensures.hand ∙ ap (λ (x : Pass). slice_set c.args.hand.now c.args.worker (Some x)) c.in-Ok-computed.ensures.done in
-    taken_leads s t u c.args.hand.now c.keep.new.hand c.args.worker c.args.choice p hands c.in-Ok.ensures.picks.1 c.requires.hand.places (λ e. c.keep.ensures.kept e ∙ c.in-Ok-computed.ensures.kept) (stays_on s t u picked later) is
+    taken_leads g.V.Views.late b t u c.args.hand.now c.keep.new.hand c.args.worker c.args.choice p hands (record { prompt = c.law_prompt.ensures; within = c.law_waits.ensures }) c.in-Ok.ensures.picks.1 c.in-Ok.ensures.views.waits c.requires.hand.places
+    (λ e. c.keep.ensures.kept e ∙ c.in-Ok-computed.ensures.kept) (stays_on b.shown t.shown u.shown picked later) is
