@@ -5,6 +5,7 @@ ghost use Rattle.board.specs.Promises.{IsDrained};
 ghost use Rattle.board.specs.Shown.{tables};
 ghost use Rattle.execution.specs.Fed.{IsWorkedOff};
 
+use crate::making::{RunViews, new_board};
 use crate::readings::is_fed;
 use crate::task::Task;
 use crate::threads::{work_off, work_off_watched};
@@ -13,7 +14,6 @@ use crate::watching::Watcher;
 use board::Board;
 use collector::Epochs;
 use lowering::Graph;
-use progress::LocationTracker;
 use std::alloc::Global;
 use std::io::Write;
 use std::marker::Brand;
@@ -25,22 +25,22 @@ use workers::{Engine, Gate, Mark, Naming, Publisher, Report, Seat, finish};
 fn drive<J: Naming + Send + Sync, R: Threads + Wait + Sync, G: Gate + Sync, W: Write + Send>(
     rt: &R,
     alloc: Global,
-    board: Board<LocationTracker>,
+    board: Board<RunViews>,
     publisher: Publisher,
     mark: &Mark,
     seat: Seat,
     task: Task<'_>,
     gate: &G,
     watcher: &mut Option<Watcher<W>>,
-) -> Result<Report<LocationTracker>, Unfinished>
-    requires names { tables board ≡ J.names }
-    requires graph { board.graph ≡ J.graph }
+) -> Result<Report<RunViews>, Unfinished>
+    requires names { tables board.shown ≡ J.names }
+    requires graph { board.shown.graph ≡ J.graph }
     requires fresh { publisher.number ≡ 0 }
     requires seat { seat.table ≡ mark.now }
     ensures graph { IfOk result (λ r. r.graph ≡ J.graph) }
     ensures drained { IfOk result IsDrained }
 {
-    let engine = Engine::<J, LocationTracker>::new(alloc, board, publisher)?;
+    let engine = Engine::<J, RunViews>::new(alloc, board, publisher)?;
     let done = match watcher {
         None => work_off(rt, alloc, &engine, task, gate),
         Some(watcher) => work_off_watched(rt, alloc, &engine, task, gate, mark, seat, watcher),
@@ -62,12 +62,12 @@ fn drive<J: Naming + Send + Sync, R: Threads + Wait + Sync, G: Gate + Sync, W: W
 fn driven<R: Threads + Wait + Sync, G: Gate + Sync, W: Write + Send>(
     rt: &R,
     alloc: Global,
-    board: Board<LocationTracker>,
+    board: Board<RunViews>,
     task: Task<'_>,
     gate: &G,
     watcher: &mut Option<Watcher<W>>,
-) -> Result<Report<LocationTracker>, Unfinished>
-    ensures graph { IfOk result (λ r. r.graph ≡ board.graph) }
+) -> Result<Report<RunViews>, Unfinished>
+    ensures graph { IfOk result (λ r. r.graph ≡ board.shown.graph) }
     ensures drained { IfOk result IsDrained }
 {
     let (mark, publisher, mut seats) = Mark::new(alloc, 1)?;
@@ -92,7 +92,7 @@ pub fn execute<R: Threads + Wait + Sync, G: Gate + Sync, W: Write + Send>(
     epochs: &Epochs,
     gate: &G,
     watcher: &mut Option<Watcher<W>>,
-) -> Result<Report<LocationTracker>, Unfinished>
+) -> Result<Report<RunViews>, Unfinished>
     requires some { 0 < workers }
     requires few { workers ≤ 64 }
     ensures { IfOk result (λ r. IsWorkedOff graph.value r epochs.now) }
@@ -100,7 +100,7 @@ pub fn execute<R: Threads + Wait + Sync, G: Gate + Sync, W: Write + Send>(
     let Ok(inputs) = u32::try_from(graph.inputs().len()) else {
         return Err(Unfinished::Incomplete);
     };
-    let board = Board::<LocationTracker>::new(alloc, graph, workers)?;
+    let board = new_board(alloc, graph, workers)?;
     let task = Task {
         epochs,
         inputs,

@@ -1,8 +1,8 @@
 //! Feeding an engine epoch by epoch.
 
+use crate::making::RunViews;
 use crate::task::{AHEAD, Task};
 use crate::unfinished::Unfinished;
-use progress::LocationTracker;
 use rows::Batch;
 use std::alloc::Global;
 use std::mem::replace;
@@ -58,7 +58,7 @@ impl Portion {
 fn feed_portion<J: Naming, R: Wait>(
     rt: &R,
     alloc: Global,
-    engine: &Engine<J, LocationTracker>,
+    engine: &Engine<J, RunViews>,
     portion: &mut Portion,
 ) -> Result<(), Unfinished> {
     portion.records = 0;
@@ -71,7 +71,7 @@ fn feed_portion<J: Naming, R: Wait>(
 fn feed_batches<J: Naming, R: Wait>(
     rt: &R,
     alloc: Global,
-    engine: &Engine<J, LocationTracker>,
+    engine: &Engine<J, RunViews>,
     portion: &mut Portion,
     input: u32,
     batches: &[Batch],
@@ -89,7 +89,7 @@ fn feed_batches<J: Naming, R: Wait>(
 fn feed_epoch<J: Naming, R: Wait>(
     rt: &R,
     alloc: Global,
-    engine: &Engine<J, LocationTracker>,
+    engine: &Engine<J, RunViews>,
     task: Task<'_>,
     portion: &mut Portion,
     epoch: u32,
@@ -112,7 +112,7 @@ fn feed_epoch<J: Naming, R: Wait>(
 fn work_now<J: Naming, R: Wait, G: Gate>(
     rt: &R,
     alloc: Global,
-    engine: &Engine<J, LocationTracker>,
+    engine: &Engine<J, RunViews>,
     gate: &G,
 ) -> Result<(), Unfinished> {
     match work_along(rt, alloc, engine, 0, gate, &mut 0) {
@@ -127,7 +127,7 @@ fn work_now<J: Naming, R: Wait, G: Gate>(
 pub fn feed_epochs<J: Naming, R: Wait, G: Gate>(
     rt: &R,
     alloc: Global,
-    engine: &Engine<J, LocationTracker>,
+    engine: &Engine<J, RunViews>,
     task: Task<'_>,
     gate: &G,
 ) -> Result<(), Unfinished> {
@@ -147,7 +147,7 @@ pub fn feed_epochs<J: Naming, R: Wait, G: Gate>(
 }
 
 /// Closes every input. On a stopped board none can be closed, nor needs to be.
-pub fn close_inputs<J: Naming, R: Wait>(rt: &R, engine: &Engine<J, LocationTracker>, inputs: u32) {
+pub fn close_inputs<J: Naming, R: Wait>(rt: &R, engine: &Engine<J, RunViews>, inputs: u32) {
     for input in 0..inputs {
         let _ = engine.close(rt, input);
     }

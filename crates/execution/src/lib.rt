@@ -3,7 +3,7 @@
 //! With one worker the caller's thread feeds and works in turn, and no thread is started. With more, each worker has a thread of its
 //! own, the caller's thread feeds, and it sleeps while it is 256 epochs ahead of what has passed. Small epochs are fed many at once. Each
 //! event is computed by the caller's gate. Whoever wants to see how far the run is gives a watcher: one thread more tells it how many
-//! epochs have passed.
+//! epochs have passed. What the workers go by is decided in one place (`making`); the answer is the same whatever it is.
 //!
 //! | Call | What it does | Fails |
 //! |---|---|---|
@@ -17,6 +17,7 @@
 
 mod executing;
 mod feeding;
+mod making;
 mod outputs;
 mod readings;
 mod task;
@@ -25,6 +26,7 @@ mod unfinished;
 mod watching;
 
 pub use executing::execute;
+pub use making::RunViews;
 pub use outputs::emitted;
 pub use unfinished::Unfinished;
 pub use watching::{Telling, Watcher};

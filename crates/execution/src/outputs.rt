@@ -7,14 +7,14 @@ ghost use Rattle.collector.specs.Emitted.{names_of, records_of};
 ghost use Rattle.collector.specs.Piles.{joined};
 ghost use Rattle.execution.specs.Fed.{EmittedBelow, HasEpochs};
 
+use crate::making::RunViews;
 use collector::OutputEpochs;
-use progress::LocationTracker;
 use rows::Batch;
 use std::alloc::{AllocError, Global};
 use workers::Report;
 
 /// What was emitted at an output for an epoch.
-fn emitted_for<'a>(report: &'a Report<LocationTracker>, output: u32, epoch: u32) -> &'a [Batch]
+fn emitted_for<'a>(report: &'a Report<RunViews>, output: u32, epoch: u32) -> &'a [Batch]
     requires { IsOutputPlace report.now output }
     ensures { joined result.now ≡ emitted_at report.entry.now output epoch }
 {
@@ -24,7 +24,7 @@ fn emitted_for<'a>(report: &'a Report<LocationTracker>, output: u32, epoch: u32)
 /// What was emitted at an output, for each epoch of so many.
 fn emitted_at_output<'a>(
     alloc: Global,
-    report: &'a Report<LocationTracker>,
+    report: &'a Report<RunViews>,
     output: u32,
     count: u32,
 ) -> Result<Vec<&'a [Batch]>, AllocError>
@@ -41,7 +41,7 @@ fn emitted_at_output<'a>(
 /// What was emitted at each output, by its name, for each epoch of so many.
 pub fn emitted<'a>(
     alloc: Global,
-    report: &'a Report<LocationTracker>,
+    report: &'a Report<RunViews>,
     count: u32,
 ) -> Result<Vec<OutputEpochs<'a>>, AllocError>
     ensures names { IfOk result (λ v. names_of v.items ≡ shown_names report.entry.now.graph) }

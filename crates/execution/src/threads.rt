@@ -3,10 +3,10 @@
 ghost use Rattle.std.specs.Prelude.{◌≡◌};
 
 use crate::feeding::{close_inputs, feed_epochs};
+use crate::making::RunViews;
 use crate::task::Task;
 use crate::unfinished::Unfinished;
 use crate::watching::{Watcher, watch};
-use progress::LocationTracker;
 use std::alloc::Global;
 use std::io::Write;
 use std::sync::Wait;
@@ -18,7 +18,7 @@ fn start_workers<'s, E, J: Naming + Send + Sync, R: Threads + Wait + Sync, G: Ga
     threads: &'s Scope<'s, E>,
     rt: &'s R,
     alloc: Global,
-    engine: &'s Engine<J, LocationTracker>,
+    engine: &'s Engine<J, RunViews>,
     task: Task<'_>,
     gate: &'s G,
 ) -> Result<(), Unfinished> {
@@ -39,7 +39,7 @@ fn feed_beside<'s, E, J: Naming + Send + Sync, R: Threads + Wait + Sync, G: Gate
     threads: &'s Scope<'s, E>,
     rt: &'s R,
     alloc: Global,
-    engine: &'s Engine<J, LocationTracker>,
+    engine: &'s Engine<J, RunViews>,
     task: Task<'_>,
     gate: &'s G,
 ) -> Result<(), Unfinished> {
@@ -58,7 +58,7 @@ fn feed_beside<'s, E, J: Naming + Send + Sync, R: Threads + Wait + Sync, G: Gate
 pub fn work_off<J: Naming + Send + Sync, R: Threads + Wait + Sync, G: Gate + Sync>(
     rt: &R,
     alloc: Global,
-    engine: &Engine<J, LocationTracker>,
+    engine: &Engine<J, RunViews>,
     task: Task<'_>,
     gate: &G,
 ) -> Result<(), Unfinished> {
@@ -76,7 +76,7 @@ pub fn work_off_watched<
 >(
     rt: &R,
     alloc: Global,
-    engine: &Engine<J, LocationTracker>,
+    engine: &Engine<J, RunViews>,
     task: Task<'_>,
     gate: &G,
     mark: &Mark,

@@ -2,8 +2,8 @@
 
 ghost use Rattle.std.specs.Prelude.{◌≡◌};
 
+use crate::making::RunViews;
 use arrayvec::ArrayVec;
-use progress::LocationTracker;
 use std::io;
 use std::io::Write;
 use std::sync::Wait;
@@ -53,7 +53,7 @@ impl<W: Write> Watcher<W> {
 /// has failed.
 pub fn watch<J: Naming, R: Wait, W: Write>(
     rt: &R,
-    engine: &Engine<J, LocationTracker>,
+    engine: &Engine<J, RunViews>,
     mark: &Mark,
     mut seat: Seat,
     watcher: &mut Watcher<W>,

@@ -9,22 +9,22 @@ use crate::intake::{Intake, feed_portion};
 use crate::telling::{Telling, tell};
 use crate::working::close_inputs;
 use board::Board;
-use progress::Progress;
 use std::alloc::Global;
 use std::thread::Threads;
+use views::Views;
 
 /// Feeds all that waits and works it off; the text of what is to be told then. An epoch has `records` of the lines taken since the last time.
-pub fn answer_open<P: Progress, R: Threads + Sync>(
+pub fn answer_open<V: Views, R: Threads + Sync>(
     rt: &R,
     alloc: Global,
     crew: Crew,
     records: u64,
-    board: &mut Board<P>,
+    board: &mut Board<V>,
     base: u32,
     intake: &mut Intake,
     telling: &mut Telling,
 ) -> Result<Vec<u8>, Halt>
-    ensures { IfOk result (λ out. Goes base board.old board.new intake.old intake.new telling.old telling.new out.items) }
+    ensures { IfOk result (λ out. Goes base board.old.shown board.new.shown intake.old intake.new telling.old telling.new out.items) }
 {
     feed_portion(alloc, board, intake)?;
     work_off(rt, alloc, crew, records, board)?;
@@ -35,16 +35,16 @@ pub fn answer_open<P: Progress, R: Threads + Sync>(
 }
 
 /// The same at the end of the input: every input is closed.
-pub fn answer_last<P: Progress, R: Threads + Sync>(
+pub fn answer_last<V: Views, R: Threads + Sync>(
     rt: &R,
     alloc: Global,
     crew: Crew,
-    board: &mut Board<P>,
+    board: &mut Board<V>,
     base: u32,
     intake: &mut Intake,
     telling: &mut Telling,
 ) -> Result<Vec<u8>, Halt>
-    ensures { IfOk result (λ out. Ends base board.old board.new intake.old telling.old telling.new out.items) }
+    ensures { IfOk result (λ out. Ends base board.old.shown board.new.shown intake.old telling.old telling.new out.items) }
 {
     feed_portion(alloc, board, intake)?;
     close_inputs(board, intake.portion.len())?;

@@ -11,9 +11,9 @@ use crate::ending::Halt;
 use crate::slot::Slot;
 use board::{Board, Claimed, CommitRefusal};
 use events::{Done, Work};
-use progress::Progress;
 use std::alloc::{AllocFailed, Global};
 use std::thread::{Threads, for_each_mut};
+use views::Views;
 
 /// An event of so many records is worth a thread.
 pub const HEAVY: u64 = 1024;
@@ -77,10 +77,10 @@ fn weighed(done: Done) -> (u64, Done)
 }
 
 /// Ends an event that was computed: how many records its largest message has.
-fn end<P: Progress>(board: &mut Board<P>, done: Done) -> Result<u64, Halt>
-    requires own { IsOf board.old done }
-    ensures tables { tables board.new ≡ tables board.old }
-    ensures works { OnOk result (IsLive board.old → Works board.old board.new) }
+fn end<V: Views>(board: &mut Board<V>, done: Done) -> Result<u64, Halt>
+    requires own { IsOf board.old.shown done }
+    ensures tables { tables board.new.shown ≡ tables board.old.shown }
+    ensures works { OnOk result (IsLive board.old.shown → Works board.old.shown board.new.shown) }
 {
     let (records, done) = weighed(done);
     match board.commit(done) {
@@ -93,10 +93,10 @@ fn end<P: Progress>(board: &mut Board<P>, done: Done) -> Result<u64, Halt>
 }
 
 /// Computes an event, and ends it: how many records its largest message has.
-fn process<P: Progress>(alloc: Global, board: &mut Board<P>, work: Work) -> Result<u64, Halt>
-    requires own { IsOf board.old work.0 }
-    ensures tables { tables board.new ≡ tables board.old }
-    ensures works { OnOk result (IsLive board.old → Works board.old board.new) }
+fn process<V: Views>(alloc: Global, board: &mut Board<V>, work: Work) -> Result<u64, Halt>
+    requires own { IsOf board.old.shown work.0 }
+    ensures tables { tables board.new.shown ≡ tables board.old.shown }
+    ensures works { OnOk result (IsLive board.old.shown → Works board.old.shown board.new.shown) }
 {
     match work.compute(alloc) {
         Ok(done) => end(board, done),
@@ -108,10 +108,10 @@ fn process<P: Progress>(alloc: Global, board: &mut Board<P>, work: Work) -> Resu
 }
 
 /// Ends an event where it was computed, and else gives it up.
-fn settle<P: Progress>(board: &mut Board<P>, slot: Slot) -> Result<u64, Halt>
-    requires own { IsSlotOf (tables board.old) slot }
-    ensures tables { tables board.new ≡ tables board.old }
-    ensures works { OnOk result (IsLive board.old → Works board.old board.new) }
+fn settle<V: Views>(board: &mut Board<V>, slot: Slot) -> Result<u64, Halt>
+    requires own { IsSlotOf (tables board.old.shown) slot }
+    ensures tables { tables board.new.shown ≡ tables board.old.shown }
+    ensures works { OnOk result (IsLive board.old.shown → Works board.old.shown board.new.shown) }
 {
     let Slot { held, done } = slot;
     let ended = match done {
@@ -128,10 +128,10 @@ fn settle<P: Progress>(board: &mut Board<P>, slot: Slot) -> Result<u64, Halt>
 }
 
 /// Claims an event of a worker, where it has one.
-fn claim<P: Progress>(board: &mut Board<P>, worker: u32) -> Result<Option<Work>, Halt>
-    ensures tables { tables board.new ≡ tables board.old }
-    ensures own { IfOk result (λ o. IfSome o (λ w. IsOf board.old w.0)) }
-    ensures works { OnOk result (IsLive board.old → Works board.old board.new) }
+fn claim<V: Views>(board: &mut Board<V>, worker: u32) -> Result<Option<Work>, Halt>
+    ensures tables { tables board.new.shown ≡ tables board.old.shown }
+    ensures own { IfOk result (λ o. IfSome o (λ w. IsOf board.old.shown w.0)) }
+    ensures works { OnOk result (IsLive board.old.shown → Works board.old.shown board.new.shown) }
 {
     match board.claim(worker) {
         Claimed::Work(work) => Ok(Some(work)),
@@ -142,11 +142,11 @@ fn claim<P: Progress>(board: &mut Board<P>, worker: u32) -> Result<Option<Work>,
 }
 
 /// Adds an event to those that are to be computed; where there is no memory for that, it is given up.
-fn keep<P: Progress>(board: &mut Board<P>, slots: &mut Vec<Slot>, work: Work) -> Result<(), Halt>
-    requires event { IsOf board.old work.0 }
-    requires own { All (IsSlotOf (tables board.old)) slots.old.items }
-    ensures tables { tables board.new ≡ tables board.old }
-    ensures own { All (IsSlotOf (tables board.old)) slots.new.items }
+fn keep<V: Views>(board: &mut Board<V>, slots: &mut Vec<Slot>, work: Work) -> Result<(), Halt>
+    requires event { IsOf board.old.shown work.0 }
+    requires own { All (IsSlotOf (tables board.old.shown)) slots.old.items }
+    ensures tables { tables board.new.shown ≡ tables board.old.shown }
+    ensures own { All (IsSlotOf (tables board.old.shown)) slots.new.items }
     ensures board { OnOk result (board.new ≡ board.old) }
 {
     match slots.push(Slot::new(work)) {
@@ -159,15 +159,11 @@ fn keep<P: Progress>(board: &mut Board<P>, slots: &mut Vec<Slot>, work: Work) ->
 }
 
 /// Claims an event of each worker that has one.
-fn claim_each<P: Progress>(
-    board: &mut Board<P>,
-    crew: Crew,
-    slots: &mut Vec<Slot>,
-) -> Result<(), Halt>
-    requires own { All (IsSlotOf (tables board.old)) slots.old.items }
-    ensures tables { tables board.new ≡ tables board.old }
-    ensures own { All (IsSlotOf (tables board.old)) slots.new.items }
-    ensures works { OnOk result (IsLive board.old → Works board.old board.new) }
+fn claim_each<V: Views>(board: &mut Board<V>, crew: Crew, slots: &mut Vec<Slot>) -> Result<(), Halt>
+    requires own { All (IsSlotOf (tables board.old.shown)) slots.old.items }
+    ensures tables { tables board.new.shown ≡ tables board.old.shown }
+    ensures own { All (IsSlotOf (tables board.old.shown)) slots.new.items }
+    ensures works { OnOk result (IsLive board.old.shown → Works board.old.shown board.new.shown) }
 {
     for worker in 0..crew.count() {
         if let Some(work) = claim(board, worker)? {
@@ -199,10 +195,10 @@ fn joined(pace: Result<Pace, Halt>, sent: Result<u64, Halt>) -> Result<Pace, Hal
 }
 
 /// Ends all that were computed.
-fn settle_each<P: Progress>(board: &mut Board<P>, mut slots: Vec<Slot>) -> Result<Pace, Halt>
-    requires own { All (IsSlotOf (tables board.old)) slots.items }
-    ensures tables { tables board.new ≡ tables board.old }
-    ensures works { OnOk result (IsLive board.old → Works board.old board.new) }
+fn settle_each<V: Views>(board: &mut Board<V>, mut slots: Vec<Slot>) -> Result<Pace, Halt>
+    requires own { All (IsSlotOf (tables board.old.shown)) slots.items }
+    ensures tables { tables board.new.shown ≡ tables board.old.shown }
+    ensures works { OnOk result (IsLive board.old.shown → Works board.old.shown board.new.shown) }
 {
     let mut pace = Ok(Pace::Idle);
     while let Some(slot) = slots.pop() {
@@ -213,13 +209,13 @@ fn settle_each<P: Progress>(board: &mut Board<P>, mut slots: Vec<Slot>) -> Resul
 }
 
 /// Claims an event of each worker that has one, computes them side by side, and ends them.
-fn work_beside<P: Progress, R: Threads + Sync>(
+fn work_beside<V: Views, R: Threads + Sync>(
     rt: &R,
     alloc: Global,
     crew: Crew,
-    board: &mut Board<P>,
+    board: &mut Board<V>,
 ) -> Result<Pace, Halt>
-    ensures { OnOk result (IsLive board.old → Works board.old board.new) }
+    ensures { OnOk result (IsLive board.old.shown → Works board.old.shown board.new.shown) }
 {
     let mut slots = Vec::with_capacity(alloc, crew.count() as usize)?;
     let claimed = claim_each(board, crew, &mut slots);
@@ -230,8 +226,8 @@ fn work_beside<P: Progress, R: Threads + Sync>(
 }
 
 /// Claims, computes and ends an event of each worker that has one, one after another.
-fn work_in_turn<P: Progress>(alloc: Global, crew: Crew, board: &mut Board<P>) -> Result<Pace, Halt>
-    ensures { OnOk result (IsLive board.old → Works board.old board.new) }
+fn work_in_turn<V: Views>(alloc: Global, crew: Crew, board: &mut Board<V>) -> Result<Pace, Halt>
+    ensures { OnOk result (IsLive board.old.shown → Works board.old.shown board.new.shown) }
 {
     let mut pace = Pace::Idle;
     for worker in 0..crew.count() {
@@ -243,14 +239,14 @@ fn work_in_turn<P: Progress>(alloc: Global, crew: Crew, board: &mut Board<P>) ->
 }
 
 /// Works on one event of each worker that has one: side by side where events may have so many records.
-fn work_once<P: Progress, R: Threads + Sync>(
+fn work_once<V: Views, R: Threads + Sync>(
     rt: &R,
     alloc: Global,
     crew: Crew,
     records: u64,
-    board: &mut Board<P>,
+    board: &mut Board<V>,
 ) -> Result<Pace, Halt>
-    ensures { OnOk result (IsLive board.old → Works board.old board.new) }
+    ensures { OnOk result (IsLive board.old.shown → Works board.old.shown board.new.shown) }
 {
     if records >= HEAVY && crew.count() > 1 {
         return work_beside(rt, alloc, crew, board);
@@ -260,14 +256,14 @@ fn work_once<P: Progress, R: Threads + Sync>(
 
 /// Works until there is nothing to do now. Messages of so many records are on their way at first. A notification may come some turns after
 /// the messages that it is about, so what was sent counts for less turn by turn.
-pub fn work_off<P: Progress, R: Threads + Sync>(
+pub fn work_off<V: Views, R: Threads + Sync>(
     rt: &R,
     alloc: Global,
     crew: Crew,
     records: u64,
-    board: &mut Board<P>,
+    board: &mut Board<V>,
 ) -> Result<(), Halt>
-    ensures { OnOk result (IsLive board.old → Works board.old board.new) }
+    ensures { OnOk result (IsLive board.old.shown → Works board.old.shown board.new.shown) }
 {
     let mut records = records;
     for _turn in 0..u64::MAX {

@@ -21,12 +21,13 @@ use crate::taken::Taken;
 use board::Board;
 use collector::{Declared, Watched, find, put};
 use lowering::{DeclaredInput, Graph};
-use progress::{LocationTracker, Progress};
+use progress::LocationTracker;
 use std::alloc::Global;
 use std::io::{Read, Write};
 use std::mem::replace;
 use std::sync::Arc;
 use std::thread::Threads;
+use views::{Direct, Views};
 
 /// The number of a last line that no line feed ends.
 const NO_LINE_FEED: u8 = 43;
@@ -42,16 +43,16 @@ fn faulty(intake: &Intake, code: u8) -> Ending
 }
 
 /// Takes the lines that are there; what stands after them stays.
-fn take_text<P: Progress>(
+fn take_text<V: Views>(
     alloc: Global,
-    board: &mut Board<P>,
+    board: &mut Board<V>,
     inputs: &[Declared<'_>],
     base: u32,
     until: u64,
     intake: &mut Intake,
     pending: &mut Vec<u8>,
 ) -> Result<Taken, Halt>
-    ensures { IfOk result (λ taken. TakesLines base board.old board.new intake.old intake.new (map plain inputs.now) pending.old.items pending.new.items taken) }
+    ensures { IfOk result (λ taken. TakesLines base board.old.shown board.new.shown intake.old intake.new (map plain inputs.now) pending.old.items pending.new.items taken) }
 {
     let text = replace(pending, Vec::new(alloc));
     match take_lines(alloc, board, inputs, base, until, intake, text.as_slice()) {
@@ -71,16 +72,16 @@ fn lines_of_epoch(intake: &Intake, begun: u32, line: u64) -> u64 {
 }
 
 /// Takes the lines that are pending, up to an epoch that is to get a new board, and writes what can be told then.
-fn follow_lines<P: Progress, R: Threads + Sync, W: Write>(
+fn follow_lines<V: Views, R: Threads + Sync, W: Write>(
     rt: &R,
     alloc: Global,
     crew: Crew,
     inputs: &[Declared<'_>],
-    board: &mut Board<P>,
+    board: &mut Board<V>,
     position: &mut Position,
     writer: &mut Watched<W>,
 ) -> Result<Taken, Ending>
-    ensures follows { FollowsLines (map plain inputs.now) board.old board.new position.old position.new (W.contents (inner_of writer.old)) (W.contents (inner_of writer.new)) result }
+    ensures follows { FollowsLines (map plain inputs.now) board.old.shown board.new.shown position.old position.new (W.contents (inner_of writer.old)) (W.contents (inner_of writer.new)) result }
     ensures writer { IsErrOf result ending.Write → has_failed writer.new ≡ true }
     ensures reader { IsErrOf result ending.Read → ⊥ }
 {
@@ -125,12 +126,12 @@ fn follow_piece<R: Threads + Sync, W: Write>(
     crew: Crew,
     graph: &Arc<Graph, Global>,
     inputs: &[Declared<'_>],
-    board: &mut Board<LocationTracker>,
+    board: &mut Board<Direct<LocationTracker>>,
     position: &mut Position,
     piece: &[u8],
     writer: &mut Watched<W>,
 ) -> Result<(), Ending>
-    ensures follows { FollowsPiece graph.now.value (map plain inputs.now) board.old board.new position.old position.new piece.now (W.contents (inner_of writer.old)) (W.contents (inner_of writer.new)) result }
+    ensures follows { FollowsPiece graph.now.value (map plain inputs.now) board.old.shown board.new.shown position.old position.new piece.now (W.contents (inner_of writer.old)) (W.contents (inner_of writer.new)) result }
     ensures writer { IsErrOf result ending.Write → has_failed writer.new ≡ true }
     ensures reader { IsErrOf result ending.Read → ⊥ }
 {
@@ -155,15 +156,15 @@ fn follow_piece<R: Threads + Sync, W: Write>(
 }
 
 /// Ends following where the reader has no more bytes.
-fn follow_end<P: Progress, R: Threads + Sync, W: Write>(
+fn follow_end<V: Views, R: Threads + Sync, W: Write>(
     rt: &R,
     alloc: Global,
     crew: Crew,
-    board: &mut Board<P>,
+    board: &mut Board<V>,
     position: &mut Position,
     writer: &mut Watched<W>,
 ) -> Result<(), Ending>
-    ensures follows { FollowsEnd board.old position.old (W.contents (inner_of writer.old)) (W.contents (inner_of writer.new)) result }
+    ensures follows { FollowsEnd board.old.shown position.old (W.contents (inner_of writer.old)) (W.contents (inner_of writer.new)) result }
     ensures writer { IsErrOf result ending.Write → has_failed writer.new ≡ true }
     ensures reader { IsErrOf result ending.Read → ⊥ }
 {
@@ -196,12 +197,12 @@ fn follow_pieces<T: Threads + Sync, R: Read, W: Write>(
     crew: Crew,
     graph: &Arc<Graph, Global>,
     inputs: &[Declared<'_>],
-    board: &mut Board<LocationTracker>,
+    board: &mut Board<Direct<LocationTracker>>,
     position: &mut Position,
     reader: &mut Watched<R>,
     writer: &mut Watched<W>,
 ) -> Result<(), Ending>
-    ensures follows { FollowsAll graph.now.value (map plain inputs.now) board.old position.old (R.remaining (inner_of reader.old)) (R.remaining (inner_of reader.new)) (W.contents (inner_of writer.old)) (W.contents (inner_of writer.new)) result }
+    ensures follows { FollowsAll graph.now.value (map plain inputs.now) board.old.shown position.old (R.remaining (inner_of reader.old)) (R.remaining (inner_of reader.new)) (W.contents (inner_of writer.old)) (W.contents (inner_of writer.new)) result }
     ensures reader { IsErrOf result ending.Read → has_failed reader.new ≡ true }
     ensures writer { IsErrOf result ending.Write → has_failed writer.new ≡ true }
 {
@@ -250,10 +251,10 @@ fn opened(
     alloc: Global,
     crew: Crew,
     graph: Graph,
-) -> Result<(Arc<Graph, Global>, Board<LocationTracker>), Halt>
+) -> Result<(Arc<Graph, Global>, Board<Direct<LocationTracker>>), Halt>
     ensures same { IfOk result (λ p. p.0.value ≡ graph) }
-    ensures opening { IfOk result (λ p. IsOpening graph crew.count p.1) }
-    ensures shows { IfOk result (λ p. Shows p.1 opening) }
+    ensures opening { IfOk result (λ p. IsOpening graph crew.count p.1.shown) }
+    ensures shows { IfOk result (λ p. Shows p.1.shown opening) }
 {
     let graph = Arc::new(alloc, graph)?;
     let board = new_board(alloc, &graph, crew)?;
@@ -266,13 +267,13 @@ fn follow_graph<T: Threads + Sync, R: Read, W: Write>(
     alloc: Global,
     crew: Crew,
     graph: &Arc<Graph, Global>,
-    board: &mut Board<LocationTracker>,
+    board: &mut Board<Direct<LocationTracker>>,
     reader: &mut Watched<R>,
     rest: &mut Vec<u8>,
     writer: &mut Watched<W>,
 ) -> Result<Result<(), Ending>, Halt>
-    requires opening { IsOpening graph.now.value crew.count board.old }
-    requires shows { Shows board.old opening }
+    requires opening { IsOpening graph.now.value crew.count board.old.shown }
+    requires shows { Shows board.old.shown opening }
     ensures follows { IfOk result (λ r. FollowsInput graph.now.value (R.remaining (inner_of reader.old)) (R.remaining (inner_of reader.new)) (W.contents (inner_of writer.old)) (W.contents (inner_of writer.new)) r) }
     ensures reader { IfOk result (λ r. IsErrOf r ending.Read → has_failed reader.new ≡ true) }
     ensures writer { IfOk result (λ r. IsErrOf r ending.Write → has_failed writer.new ≡ true) }

@@ -10,11 +10,11 @@ use crate::taken::Taken;
 use crate::working::{feed, seal_inputs};
 use board::Board;
 use collector::{Declared, Line, Stop, next_line};
-use progress::Progress;
 use record_core::MAX_FIELDS;
 use rows::{Batch, Rows};
 use std::alloc::Global;
 use std::mem::replace;
+use views::Views;
 
 /// How many epochs of the board have begun, how many lines were taken, and of each input the records of the last epoch that wait to be fed.
 #[derive(Drop)]
@@ -87,14 +87,14 @@ fn take_rows(alloc: Global, intake: &mut Intake, input: usize) -> Rows
 }
 
 /// Feeds what waits of an input.
-fn feed_rows<P: Progress>(
+fn feed_rows<V: Views>(
     alloc: Global,
-    board: &mut Board<P>,
+    board: &mut Board<V>,
     intake: &mut Intake,
     input: usize,
 ) -> Result<(), Halt>
     requires { input < length intake.old.portion.items }
-    ensures { OnOk result (Sent board.old board.new intake.old intake.new input) }
+    ensures { OnOk result (Sent board.old.shown board.new.shown intake.old intake.new input) }
 {
     let rows = take_rows(alloc, intake, input);
     let Ok(number) = u32::try_from(input) else {
@@ -110,12 +110,12 @@ fn feed_rows<P: Progress>(
 }
 
 /// Feeds all that waits.
-pub fn feed_portion<P: Progress>(
+pub fn feed_portion<V: Views>(
     alloc: Global,
-    board: &mut Board<P>,
+    board: &mut Board<V>,
     intake: &mut Intake,
 ) -> Result<(), Halt>
-    ensures { OnOk result (SentAll board.old board.new intake.old intake.new) }
+    ensures { OnOk result (SentAll board.old.shown board.new.shown intake.old intake.new) }
 {
     for input in 0..intake.portion.len() {
         feed_rows(alloc, board, intake, input)?;
@@ -124,8 +124,8 @@ pub fn feed_portion<P: Progress>(
 }
 
 /// The next epoch begins: what waits is fed, and the epoch before it is sealed at each input.
-fn begin<P: Progress>(alloc: Global, board: &mut Board<P>, intake: &mut Intake) -> Result<(), Halt>
-    ensures { OnOk result (Moves board.old board.new intake.old intake.new Item.epoch) }
+fn begin<V: Views>(alloc: Global, board: &mut Board<V>, intake: &mut Intake) -> Result<(), Halt>
+    ensures { OnOk result (Moves board.old.shown board.new.shown intake.old intake.new Item.epoch) }
 {
     feed_portion(alloc, board, intake)?;
     if intake.begun == 0 {
@@ -141,14 +141,14 @@ fn begin<P: Progress>(alloc: Global, board: &mut Board<P>, intake: &mut Intake) 
 }
 
 /// Takes what a line says; the fields of a record stand in the buffer.
-fn take_item<P: Progress>(
+fn take_item<V: Views>(
     alloc: Global,
-    board: &mut Board<P>,
+    board: &mut Board<V>,
     intake: &mut Intake,
     said: Line,
     fields: &[i64],
 ) -> Result<(), Halt>
-    ensures { OnOk result (Moves board.old board.new intake.old intake.new (item_of said fields.now)) }
+    ensures { OnOk result (Moves board.old.shown board.new.shown intake.old intake.new (item_of said fields.now)) }
 {
     match said {
         Line::Epoch => begin(alloc, board, intake),
@@ -168,16 +168,16 @@ fn begins_epoch(said: Line) -> bool
 
 /// Takes the lines of a text, one after another, up to one that begins an epoch, from line `until` on: what stands after them, and why no more
 /// were taken. The board's epochs begin at the epoch `base`.
-pub fn take_lines<'a, P: Progress>(
+pub fn take_lines<'a, V: Views>(
     alloc: Global,
-    board: &mut Board<P>,
+    board: &mut Board<V>,
     inputs: &[Declared<'_>],
     base: u32,
     until: u64,
     intake: &mut Intake,
     text: &'a [u8],
 ) -> Result<(&'a [u8], Taken), Halt>
-    ensures { IfOk result (λ r. TakesLines base board.old board.new intake.old intake.new (map plain inputs.now) text.entry.now r.0.now r.1) }
+    ensures { IfOk result (λ r. TakesLines base board.old.shown board.new.shown intake.old intake.new (map plain inputs.now) text.entry.now r.0.now r.1) }
 {
     let mut fields = Vec::new(alloc);
     let mut rest = text;

@@ -14,21 +14,22 @@ use lowering::Graph;
 use progress::LocationTracker;
 use std::alloc::Global;
 use std::sync::Arc;
+use views::Direct;
 
 /// The number of lines that a board takes; the epoch that is open then it takes whole.
 pub const LINES: u64 = 16_384;
 
-/// A new board over the graph.
+/// A new board over the graph, whose workers all see one tracker, so that none is late.
 pub fn new_board(
     alloc: Global,
     graph: &Arc<Graph, Global>,
     crew: Crew,
-) -> Result<Board<LocationTracker>, Halt>
-    ensures opening { IfOk result (λ b. IsOpening graph.now.value crew.count b) }
-    ensures shows { IfOk result (λ b. Shows b opening) }
+) -> Result<Board<Direct<LocationTracker>>, Halt>
+    ensures opening { IfOk result (λ b. IsOpening graph.now.value crew.count b.shown) }
+    ensures shows { IfOk result (λ b. Shows b.shown opening) }
 {
     let shared = Arc::try_clone(graph)?;
-    let board = Board::<LocationTracker>::new(alloc, shared, crew.count())?;
+    let board = Board::<Direct<LocationTracker>>::new(alloc, shared, crew.count())?;
     Ok(board)
 }
 
@@ -37,10 +38,10 @@ pub fn renew(
     alloc: Global,
     graph: &Arc<Graph, Global>,
     crew: Crew,
-    board: &mut Board<LocationTracker>,
+    board: &mut Board<Direct<LocationTracker>>,
     position: &mut Position,
 ) -> Result<(), Halt>
-    ensures { OnOk result (Renews graph.now.value board.old board.new position.old position.new) }
+    ensures { OnOk result (Renews graph.now.value board.old.shown board.new.shown position.old position.new) }
 {
     position.until = position.intake.line.saturating_add(LINES);
     let Some(last) = position.intake.begun.checked_sub(1) else {

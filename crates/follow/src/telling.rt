@@ -13,9 +13,9 @@ use crate::ending::Halt;
 use crate::texts::push_complete;
 use board::Board;
 use lowering::GraphOutput;
-use progress::Progress;
 use record_core::Name;
 use std::alloc::Global;
+use views::Views;
 
 /// How many epochs of the board are complete, and of each output, how many batches were told of the first one that isn't.
 #[derive(Drop)]
@@ -74,8 +74,8 @@ fn are_plain(outputs: &[GraphOutput]) -> bool
 }
 
 /// Whether an epoch has passed at every output.
-fn has_passed<P: Progress>(board: &Board<P>, epoch: u32) -> bool
-    ensures { IsTrue result → (k : ℕ) → IsOutputPlace board.now k → HasPassed board.now k epoch }
+fn has_passed<V: Views>(board: &Board<V>, epoch: u32) -> bool
+    ensures { IsTrue result → (k : ℕ) → IsOutputPlace board.now.shown k → HasPassed board.now.shown k epoch }
 {
     for output in 0..board.output_count() {
         if !board.passed(output, epoch) {
@@ -86,8 +86,8 @@ fn has_passed<P: Progress>(board: &Board<P>, epoch: u32) -> bool
 }
 
 /// Appends the lines of the batches that were emitted at an output for an epoch, after the first so many; how many there are.
-fn push_output<P: Progress>(
-    board: &Board<P>,
+fn push_output<V: Views>(
+    board: &Board<V>,
     base: u32,
     done: u32,
     output: u32,
@@ -96,8 +96,8 @@ fn push_output<P: Progress>(
     told: usize,
     out: &mut Vec<u8>,
 ) -> Result<usize, Halt>
-    requires { IsOutputPlace board.now output }
-    ensures { IfOk result (λ n. TellsHere (batches_of board.now output done) (label_of plain name.now) (base + done) told out.old.items out.new.items n) }
+    requires { IsOutputPlace board.now.shown output }
+    ensures { IfOk result (λ n. TellsHere (batches_of board.now.shown output done) (label_of plain name.now) (base + done) told out.old.items out.new.items n) }
 {
     let Some(epoch) = base.checked_add(done) else {
         return Err(Halt::Incomplete);
@@ -111,8 +111,8 @@ fn push_output<P: Progress>(
 }
 
 /// Appends the lines of what was emitted at an output for the first epoch that isn't complete and wasn't told.
-fn tell_output<P: Progress>(
-    board: &Board<P>,
+fn tell_output<V: Views>(
+    board: &Board<V>,
     base: u32,
     telling: &mut Telling,
     output: u32,
@@ -120,8 +120,8 @@ fn tell_output<P: Progress>(
     name: &Name,
     out: &mut Vec<u8>,
 ) -> Result<(), Halt>
-    requires { IsOutputPlace board.now output }
-    ensures { OnOk result (TellsOne board.now base telling.old telling.new output (label_of plain name.now) out.old.items out.new.items) }
+    requires { IsOutputPlace board.now.shown output }
+    ensures { OnOk result (TellsOne board.now.shown base telling.old telling.new output (label_of plain name.now) out.old.items out.new.items) }
 {
     let place = output as usize;
     if place >= telling.told.len() {
@@ -138,13 +138,13 @@ fn tell_output<P: Progress>(
 }
 
 /// Appends the lines of what was emitted at each output for the first epoch that isn't complete and wasn't told.
-fn tell_open<P: Progress>(
-    board: &Board<P>,
+fn tell_open<V: Views>(
+    board: &Board<V>,
     base: u32,
     telling: &mut Telling,
     out: &mut Vec<u8>,
 ) -> Result<(), Halt>
-    ensures { OnOk result (TellsOpen board.now base telling.old telling.new out.old.items out.new.items) }
+    ensures { OnOk result (TellsOpen board.now.shown base telling.old telling.new out.old.items out.new.items) }
 {
     let outputs = board.graph().outputs();
     let plain = are_plain(outputs);
@@ -168,15 +168,15 @@ fn push_done(out: &mut Vec<u8>, base: u32, done: u32) -> Result<(), Halt>
 
 /// Appends what is to be told: the board's epochs in order, each up to the first that isn't complete. Those below `sealed` are complete once
 /// they have passed. The board's epochs begin at the epoch `base`.
-pub fn tell<P: Progress>(
-    board: &Board<P>,
+pub fn tell<V: Views>(
+    board: &Board<V>,
     base: u32,
     telling: &mut Telling,
     begun: u32,
     sealed: u32,
     out: &mut Vec<u8>,
 ) -> Result<(), Halt>
-    ensures { OnOk result (Tells board.now base telling.old telling.new begun sealed out.old.items out.new.items) }
+    ensures { OnOk result (Tells board.now.shown base telling.old telling.new begun sealed out.old.items out.new.items) }
 {
     board.law_headline();
     for epoch in telling.done..begun {

@@ -6,26 +6,26 @@ ghost use Rattle.follow.specs.Steps.{SealsOne};
 
 use crate::ending::Halt;
 use board::Board;
-use progress::Progress;
 use rows::Batch;
 use std::alloc::Global;
+use views::Views;
 
 /// Feeds a batch to an input.
-pub fn feed<P: Progress>(
+pub fn feed<V: Views>(
     alloc: Global,
-    board: &mut Board<P>,
+    board: &mut Board<V>,
     input: u32,
     batch: Batch,
 ) -> Result<(), Halt>
-    ensures { OnOk result (IsLive board.old → Feeds board.old board.new input batch) }
+    ensures { OnOk result (IsLive board.old.shown → Feeds board.old.shown board.new.shown input batch) }
 {
     board.feed(alloc, input, batch)?;
     Ok(())
 }
 
 /// Seals an input.
-fn seal<P: Progress>(board: &mut Board<P>, input: usize) -> Result<(), Halt>
-    ensures { OnOk result (IsLive board.old → SealsOne board.old board.new input) }
+fn seal<V: Views>(board: &mut Board<V>, input: usize) -> Result<(), Halt>
+    ensures { OnOk result (IsLive board.old.shown → SealsOne board.old.shown board.new.shown input) }
 {
     let Ok(number) = u32::try_from(input) else {
         return Err(Halt::Incomplete);
@@ -35,8 +35,8 @@ fn seal<P: Progress>(board: &mut Board<P>, input: usize) -> Result<(), Halt>
 }
 
 /// Closes an input.
-fn close<P: Progress>(board: &mut Board<P>, input: usize) -> Result<(), Halt>
-    ensures { OnOk result (IsLive board.old → Works board.old board.new) }
+fn close<V: Views>(board: &mut Board<V>, input: usize) -> Result<(), Halt>
+    ensures { OnOk result (IsLive board.old.shown → Works board.old.shown board.new.shown) }
 {
     let Ok(number) = u32::try_from(input) else {
         return Err(Halt::Incomplete);
@@ -46,8 +46,8 @@ fn close<P: Progress>(board: &mut Board<P>, input: usize) -> Result<(), Halt>
 }
 
 /// Seals the first inputs, so many.
-pub fn seal_inputs<P: Progress>(board: &mut Board<P>, inputs: usize) -> Result<(), Halt>
-    ensures { OnOk result (IsLive board.old → Seals board.old board.new inputs) }
+pub fn seal_inputs<V: Views>(board: &mut Board<V>, inputs: usize) -> Result<(), Halt>
+    ensures { OnOk result (IsLive board.old.shown → Seals board.old.shown board.new.shown inputs) }
 {
     for input in 0..inputs {
         seal(board, input)?;
@@ -56,8 +56,8 @@ pub fn seal_inputs<P: Progress>(board: &mut Board<P>, inputs: usize) -> Result<(
 }
 
 /// Closes the first inputs, so many.
-pub fn close_inputs<P: Progress>(board: &mut Board<P>, inputs: usize) -> Result<(), Halt>
-    ensures { OnOk result (IsLive board.old → Works board.old board.new) }
+pub fn close_inputs<V: Views>(board: &mut Board<V>, inputs: usize) -> Result<(), Halt>
+    ensures { OnOk result (IsLive board.old.shown → Works board.old.shown board.new.shown) }
 {
     for input in 0..inputs {
         close(board, input)?;

@@ -5,4 +5,4 @@ use Rattle.follow.specs.Slots.{IsSlotOf}
 use Rattle.follow.proofs.crew.claim_each.Given as goal
 
 abbrev pub invariant-loop-worker : goal.invariant-loop-worker
-invariant-loop-worker g l = (tables l.board ≡ tables l.fn.board) × All (IsSlotOf (tables l.fn.board)) l.slots.items × (IsLive l.fn.board → Works l.fn.board l.board)
+invariant-loop-worker g l = (tables l.board.shown ≡ tables l.fn.board.shown) × All (IsSlotOf (tables l.fn.board.shown)) l.slots.items × (IsLive l.fn.board.shown → Works l.fn.board.shown l.board.shown)

@@ -7,14 +7,14 @@ use Rattle.follow.proofs.Moved.{works_not, works_on}
 use Rattle.follow.proofs.crew.settle_each.Goals as goal
 
 pub loop-slot-init : goal.loop-slot-init
-loop-slot-init g c = (refl, c.requires.own, λ live. works_not c.args.board.now live)
+loop-slot-init g c = (refl, c.requires.own, λ live. works_not c.args.board.now.shown live)
 
 pub loop-slot-preserved : goal.loop-slot-preserved
 loop-slot-preserved g c =
     let before = c.loop-slot.invariant in
-    let own : All (IsSlotOf (tables c.args.board.now)) c.loop-slot.slots.items = before.1 in
-    let same : tables c.settle.new.board ≡ tables c.args.board.now = c.settle.ensures.tables ∙ before.0 in (
+    let own : All (IsSlotOf (tables c.args.board.now.shown)) c.loop-slot.slots.items = before.1 in
+    let same : tables c.settle.new.board.shown ≡ tables c.args.board.now.shown = c.settle.ensures.tables ∙ before.0 in (
       same,
-      All-front (IsSlotOf (tables c.args.board.now)) c.pop.new.self.items (option_to_list c.pop.result) (subst (All (IsSlotOf (tables c.args.board.now))) c.pop.ensures.items own),
-      on_both c.loop-slot.pace c.settle.result c.joined-pace.result c.joined-pace.ensures (λ first second live. let b = first live in works_on c.args.board.now c.loop-slot.board c.settle.new.board b (second b.grows.live)) before.2 c.settle.ensures.works,
+      All-front (IsSlotOf (tables c.args.board.now.shown)) c.pop.new.self.items (option_to_list c.pop.result) (subst (All (IsSlotOf (tables c.args.board.now.shown))) c.pop.ensures.items own),
+      on_both c.loop-slot.pace c.settle.result c.joined-pace.result c.joined-pace.ensures (λ first second live. let b = first live in works_on c.args.board.now.shown c.loop-slot.board.shown c.settle.new.board.shown b (second b.grows.live)) before.2 c.settle.ensures.works,
     )

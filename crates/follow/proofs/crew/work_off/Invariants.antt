@@ -2,4 +2,4 @@ use Rattle.follow.specs.Scenes.{IsLive, Works}
 use Rattle.follow.proofs.crew.work_off.Given as goal
 
 abbrev pub invariant-loop-turn : goal.invariant-loop-turn
-invariant-loop-turn g l = IsLive l.fn.board → Works l.fn.board l.board
+invariant-loop-turn g l = IsLive l.fn.board.shown → Works l.fn.board.shown l.board.shown

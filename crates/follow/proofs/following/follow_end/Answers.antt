@@ -13,13 +13,13 @@ returns-then-not-is_empty-clause-follows g c = λ g' bytes left start end st.
     let p = c.args.position.now in
     let size : p.pending.len ≡ length p.pending.items = omega (arith, p.pending.ok.0) in
     let now = g.W.Write.contents (inner_of c.args.writer.now) in
-    unended_last g' c.args.board.now p.base p.intake p.telling bytes p.pending.items left start now c.faulty.result st.stood st.unended end (filled_rest p.pending.items c.is_empty.result (c.is_empty.ensures ∙ ap (λ (n : ℕ). n == 0) size) c.if-not-is_empty.true) c.faulty.ensures
+    unended_last g' c.args.board.now.shown p.base p.intake p.telling bytes p.pending.items left start now c.faulty.result st.stood st.unended end (filled_rest p.pending.items c.is_empty.result (c.is_empty.ensures ∙ ap (λ (n : ℕ). n == 0) size) c.if-not-is_empty.true) c.faulty.ensures
 
 pub returns-in-Err-clause-follows : goal.returns-in-Err-clause-follows
 returns-in-Err-clause-follows g c = λ g' bytes left start end st.
     let p = c.args.position.now in
     let now = g.W.Write.contents (inner_of c.args.writer.now) in
-    subst (λ e. Follows g' bytes left start now (Err e)) (sym c.ending.ensures) (halted g' c.args.board.now p.base p.intake p.telling bytes p.pending.items left start now c.in-Err.halt st.stood)
+    subst (λ e. Follows g' bytes left start now (Err e)) (sym c.ending.ensures) (halted g' c.args.board.now.shown p.base p.intake p.telling bytes p.pending.items left start now c.in-Err.halt st.stood)
 
 pub returns-in-Ok-put-clause-follows : goal.returns-in-Ok-put-clause-follows
 returns-in-Ok-put-clause-follows g c = λ g' bytes left start end st.
@@ -28,7 +28,7 @@ returns-in-Ok-put-clause-follows g c = λ g' bytes left start end st.
     let now = g.W.Write.contents (inner_of c.args.writer.now) in
     let new = g.W.Write.contents (inner_of c.put.new.writer) in
     let written : Appends now new c.in-Ok.out.items = subst (λ (xs : List ℕ). Appends now new xs) c.as_slice.ensures.value c.in-Ok-put.ensures.ok in
-    all_told g' c.args.board.now c.answer_last.new.board p.base p.intake p.telling c.answer_last.new.telling bytes p.pending.items c.in-Ok.out.items left start now new st.stood st.unended c.in-Ok.ensures end
+    all_told g' c.args.board.now.shown c.answer_last.new.board.shown p.base p.intake p.telling c.answer_last.new.telling bytes p.pending.items c.in-Ok.out.items left start now new st.stood st.unended c.in-Ok.ensures end
     (empty_rest p.pending.items c.is_empty.result (c.is_empty.ensures ∙ ap (λ (n : ℕ). n == 0) size) c.if-not-is_empty.false) written
 
 pub returns-clause-follows : goal.returns-clause-follows
@@ -37,4 +37,4 @@ returns-clause-follows g c = λ g' bytes left start end st.
     let now = g.W.Write.contents (inner_of c.args.writer.now) in
     let new = g.W.Write.contents (inner_of c.put.new.writer) in
     let written : AppendsFront now new c.in-Ok.out.items = subst (λ (xs : List ℕ). AppendsFront now new xs) c.as_slice.ensures.value c.in-Err-put.ensures.err in
-    last_unwritten g' c.args.board.now c.answer_last.new.board p.base p.intake p.telling c.answer_last.new.telling bytes p.pending.items c.in-Ok.out.items left start now new st.stood st.unended c.in-Ok.ensures end written
+    last_unwritten g' c.args.board.now.shown c.answer_last.new.board.shown p.base p.intake p.telling c.answer_last.new.telling bytes p.pending.items c.in-Ok.out.items left start now new st.stood st.unended c.in-Ok.ensures end written

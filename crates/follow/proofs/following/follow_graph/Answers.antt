@@ -14,9 +14,9 @@ returns-clause-follows g c =
     let first = c.in_ok-position.ensures in
     let start = g.W.Write.contents (inner_of c.args.writer.now) in
     let inputs : map plain c.as_slice-listed.result.now ≡ shown_inputs graph = ap (map plain) c.as_slice-listed.ensures.value ∙ c.in_ok-inputs.ensures ∙ c.inputs.ensures ∙ ap shown_inputs c.deref.ensures in
-    let at_first = opened graph c.args.board.now p.base p.intake p.telling start c.requires.opening.graph c.requires.shows first.base first.new first.fresh in
-    let stands : Stands graph c.args.board.now p [] start start = record {
-      stood = subst (λ (xs : List ℕ). IsWritten graph c.args.board.now p.base p.intake p.telling [] xs start start) (sym first.none) at_first;
+    let at_first = opened graph c.args.board.now.shown p.base p.intake p.telling start c.requires.opening.graph c.requires.shows first.base first.new first.fresh in
+    let stands : Stands graph c.args.board.now.shown p [] start start = record {
+      stood = subst (λ (xs : List ℕ). IsWritten graph c.args.board.now.shown p.base p.intake p.telling [] xs start start) (sym first.none) at_first;
       unended = subst (λ (xs : List ℕ). split_on 10 xs ≡ xs ∷ []) (sym first.none) refl;
     } in
     c.follow_pieces-ended.ensures.follows inputs stands

@@ -3,7 +3,7 @@ use Rattle.follow.proofs.Fed.{all_sent, more_sent, none_sent}
 use Rattle.follow.proofs.intake.feed_portion.Goals as goal
 
 pub loop-input-init : goal.loop-input-init
-loop-input-init g c = record { end_is = search rules; sent = none_sent c.args.board.now c.args.intake.now }
+loop-input-init g c = record { end_is = search rules; sent = none_sent c.args.board.now.shown c.args.intake.now }
 
 pub feed_rows-requires : goal.feed_rows-requires
 feed_rows-requires g c = omega (arith, c.loop-input-test.true, c.loop-input.invariant.end_is, c.loop-input.invariant.sent.holds.inputs)
@@ -11,8 +11,8 @@ feed_rows-requires g c = omega (arith, c.loop-input-test.true, c.loop-input.inva
 pub loop-input-preserved : goal.loop-input-preserved
 loop-input-preserved g c = record {
   end_is = c.loop-input.invariant.end_is;
-  sent = more_sent c.args.board.now c.loop-input.board c.feed_rows.new.board c.args.intake.now c.loop-input.intake c.feed_rows.new.intake c.loop-input.input c.loop-input.invariant.sent c.in_ok-feed_rows.ensures;
+  sent = more_sent c.args.board.now.shown c.loop-input.board.shown c.feed_rows.new.board.shown c.args.intake.now c.loop-input.intake c.feed_rows.new.intake c.loop-input.input c.loop-input.invariant.sent c.in_ok-feed_rows.ensures;
 }
 
 pub returns : goal.returns
-returns g c = all_sent c.args.board.now c.loop-input.board c.args.intake.now c.loop-input.intake c.loop-input.input c.loop-input.invariant.sent (omega (arith, c.loop-input-test.false, c.loop-input.invariant.end_is))
+returns g c = all_sent c.args.board.now.shown c.loop-input.board.shown c.args.intake.now c.loop-input.intake c.loop-input.input c.loop-input.invariant.sent (omega (arith, c.loop-input-test.false, c.loop-input.invariant.end_is))

@@ -10,5 +10,5 @@ returns-in-Ok-feed g c =
     let rows = c.take_rows-rows.result.rows in
     let same : c.in-Some.batch ≡ rows = subst (λ o. MatchOption o (rows ≡ []) (λ b. b ≡ rows)) c.in-Some.is c.in_ok-from_rows.ensures in
     let emptied : Empties c.args.intake.now c.take_rows-rows.new.intake c.args.input c.in-Some.batch = subst (Empties c.args.intake.now c.take_rows-rows.new.intake c.args.input) (sym same) c.take_rows-rows.ensures in
-    sent_one c.args.board.now c.feed.new.board c.args.intake.now c.take_rows-rows.new.intake c.args.input c.in-Some.batch emptied c.requires
-    (λ live. subst (λ n. Feeds c.args.board.now c.feed.new.board n c.in-Some.batch) c.in-Ok.ensures.1 (c.in-Ok-feed.ensures live))
+    sent_one c.args.board.now.shown c.feed.new.board.shown c.args.intake.now c.take_rows-rows.new.intake c.args.input c.in-Some.batch emptied c.requires
+    (λ live. subst (λ n. Feeds c.args.board.now.shown c.feed.new.board.shown n c.in-Some.batch) c.in-Ok.ensures.1 (c.in-Ok-feed.ensures live))

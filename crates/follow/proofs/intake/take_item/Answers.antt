@@ -8,4 +8,4 @@ use Rattle.follow.proofs.intake.take_item.Goals as goal
 pub returns-in-Row : goal.returns-in-Row
 returns-in-Row g c =
     let is = ap (λ l. item_of l c.args.fields.now) c.in-Row.is in
-    on_ok c.gather.result (λ gathers. subst (Moves c.args.board.now c.args.board.now c.args.intake.now c.gather.new.self) (sym is) (gathers_moves c.args.board.now c.args.intake.now c.gather.new.self c.in-Row.input c.args.fields.now gathers)) c.gather.ensures
+    on_ok c.gather.result (λ gathers. subst (Moves c.args.board.now.shown c.args.board.now.shown c.args.intake.now c.gather.new.self) (sym is) (gathers_moves c.args.board.now.shown c.args.intake.now c.gather.new.self c.in-Row.input c.args.fields.now gathers)) c.gather.ensures

@@ -6,6 +6,6 @@ use Rattle.follow.proofs.telling.has_passed.Given as goal
 
 abbrev pub invariant-loop-output : goal.invariant-loop-output
 invariant-loop-output g l = record {
-  end_is : l.output-end ≡ length (output_numbers (shown_graph l.board.graph));
-  passed : (k : ℕ) → k < l.output → HasPassed l.board k l.epoch;
+  end_is : l.output-end ≡ length (output_numbers (shown_graph l.board.shown.graph));
+  passed : (k : ℕ) → k < l.output → HasPassed l.board.shown k l.epoch;
 }

@@ -5,17 +5,17 @@ use Rattle.follow.proofs.Told.{nothing_till, told_all, told_complete, told_open}
 use Rattle.follow.proofs.telling.tell.Goals as goal
 
 pub loop-epoch-init : goal.loop-epoch-init
-loop-epoch-init g c = record { done = refl; till = λ items entries text fed order can. nothing_till c.args.board.now c.args.base c.args.telling.now items c.args.begun c.args.sealed entries text c.args.out.now.items can }
+loop-epoch-init g c = record { done = refl; till = λ items entries text fed order can. nothing_till c.args.board.now.shown c.args.base c.args.telling.now items c.args.begun c.args.sealed entries text c.args.out.now.items can }
 
 pub returns-then-epoch-sealed : goal.returns-then-epoch-sealed
 returns-then-epoch-sealed g c = λ items entries text fed order can.
     let lt : c.loop-epoch.telling.done < c.args.begun = omega (arith, c.loop-epoch.invariant.done, c.loop-epoch-test.true) in
-    told_open c.args.board.now c.args.base c.loop-epoch.telling c.tell_open.new.telling items c.args.begun c.args.sealed text c.args.out.now.items c.loop-epoch.out.items c.tell_open.new.out.items (c.loop-epoch.invariant.till items entries text fed order can) c.in_ok-tell_open.ensures fed c.law_headline.ensures lt
+    told_open c.args.board.now.shown c.args.base c.loop-epoch.telling c.tell_open.new.telling items c.args.begun c.args.sealed text c.args.out.now.items c.loop-epoch.out.items c.tell_open.new.out.items (c.loop-epoch.invariant.till items entries text fed order can) c.in_ok-tell_open.ensures fed c.law_headline.ensures lt
 
 pub returns-then-not-has_passed : goal.returns-then-not-has_passed
 returns-then-not-has_passed g c = λ items entries text fed order can.
     let lt : c.loop-epoch.telling.done < c.args.begun = omega (arith, c.loop-epoch.invariant.done, c.loop-epoch-test.true) in
-    told_open c.args.board.now c.args.base c.loop-epoch.telling c.tell_open.new.telling items c.args.begun c.args.sealed text c.args.out.now.items c.loop-epoch.out.items c.tell_open.new.out.items (c.loop-epoch.invariant.till items entries text fed order can) c.in_ok-tell_open.ensures fed c.law_headline.ensures lt
+    told_open c.args.board.now.shown c.args.base c.loop-epoch.telling c.tell_open.new.telling items c.args.begun c.args.sealed text c.args.out.now.items c.loop-epoch.out.items c.tell_open.new.out.items (c.loop-epoch.invariant.till items entries text fed order can) c.in_ok-tell_open.ensures fed c.law_headline.ensures lt
 
 pub loop-epoch-preserved : goal.loop-epoch-preserved
 loop-epoch-preserved g c =
@@ -25,14 +25,14 @@ loop-epoch-preserved g c =
     let nexts = c.in_ok-complete.ensures in
     let line : c.push_done.new.out.items ≡ c.tell_open.new.out.items ++ complete_line (c.args.base + t.done) = c.in_ok-push_done.ensures ∙ ap (λ (n : ℕ). c.tell_open.new.out.items ++ complete_line (c.args.base + n)) (sym done) in
     let lt : t.done < c.args.sealed = omega (arith, done, c.if-epoch-sealed.false) in
-    let passed : (k : ℕ) → IsOutputPlace c.args.board.now k → HasPassed c.args.board.now k t.done = λ k place. subst (λ (e : ℕ). HasPassed c.args.board.now k e) (sym done) (c.has_passed.ensures c.if-not-has_passed.false k place) in
+    let passed : (k : ℕ) → IsOutputPlace c.args.board.now.shown k → HasPassed c.args.board.now.shown k t.done = λ k place. subst (λ (e : ℕ). HasPassed c.args.board.now.shown k e) (sym done) (c.has_passed.ensures c.if-not-has_passed.false k place) in
     record {
       done = omega (arith, nexts.done, opened.2.done, done);
       till = λ items entries text fed order can.
-          told_complete c.args.board.now c.args.base t c.tell_open.new.telling c.complete.new.self items c.args.begun c.args.sealed text c.args.out.now.items c.loop-epoch.out.items c.tell_open.new.out.items c.push_done.new.out.items (c.loop-epoch.invariant.till items entries text fed order can) opened fed c.law_headline.ensures
+          told_complete c.args.board.now.shown c.args.base t c.tell_open.new.telling c.complete.new.self items c.args.begun c.args.sealed text c.args.out.now.items c.loop-epoch.out.items c.tell_open.new.out.items c.push_done.new.out.items (c.loop-epoch.invariant.till items entries text fed order can) opened fed c.law_headline.ensures
           passed lt line nexts;
     }
 
 pub returns : goal.returns
 returns g c = λ items entries text fed order can.
-    told_all c.args.board.now c.args.base c.loop-epoch.telling items c.args.begun c.args.sealed text c.args.out.now.items c.loop-epoch.out.items (c.loop-epoch.invariant.till items entries text fed order can) (omega (arith, c.loop-epoch.invariant.done, c.loop-epoch-test.false)) order
+    told_all c.args.board.now.shown c.args.base c.loop-epoch.telling items c.args.begun c.args.sealed text c.args.out.now.items c.loop-epoch.out.items (c.loop-epoch.invariant.till items entries text fed order can) (omega (arith, c.loop-epoch.invariant.done, c.loop-epoch-test.false)) order

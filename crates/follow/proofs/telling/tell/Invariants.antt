@@ -9,5 +9,5 @@ use Rattle.follow.proofs.telling.tell.Given as goal
 abbrev pub invariant-loop-epoch : goal.invariant-loop-epoch
 invariant-loop-epoch g l = record {
   done : l.telling.done ≡ l.epoch;
-  till : (items : List Item) (entries : List Entry) (text : List ℕ) → IsAllFed l.board l.base items → l.sealed ≤ l.begun → CanTell l.board l.base l.fn.telling items l.begun l.sealed entries text → ToldTill l.board l.base l.telling items l.begun l.sealed text l.fn.out.items l.out.items;
+  till : (items : List Item) (entries : List Entry) (text : List ℕ) → IsAllFed l.board.shown l.base items → l.sealed ≤ l.begun → CanTell l.board.shown l.base l.fn.telling items l.begun l.sealed entries text → ToldTill l.board.shown l.base l.telling items l.begun l.sealed text l.fn.out.items l.out.items;
 }

@@ -11,7 +11,7 @@ use Rattle.follow.proofs.Told.{more_outputs, told_none}
 use Rattle.follow.proofs.telling.tell_open.Goals as goal
 
 pub loop-output-init : goal.loop-output-init
-loop-output-init g c = record { end_is = c.output_count-output-end.ensures; tells = record { done = refl; more = λ records entries text h. told_none c.args.board.now c.args.base c.args.telling.now records entries text c.args.out.now.items h } }
+loop-output-init g c = record { end_is = c.output_count-output-end.ensures; tells = record { done = refl; more = λ records entries text h. told_none c.args.board.now.shown c.args.base c.args.telling.now records entries text c.args.out.now.items h } }
 
 pub bounds-outputs-output : goal.bounds-outputs-output
 bounds-outputs-output g c =
@@ -30,16 +30,16 @@ loop-output-preserved g c =
     let graph = ap (λ (x : GraphValue). length (output_numbers (shown_graph x))) c.graph.ensures in
     let names = c.outputs-outputs.ensures.names ∙ ap shown_names c.graph.ensures in
     let within : c.loop-output.output < length c.outputs-outputs.result.now = omega (arith, same, numbers, graph, c.loop-output.invariant.end_is, c.loop-output-test.true) in
-    let there : c.loop-output.output < length (shown_names c.args.board.now.graph) = omega (arith, within, length-map c.outputs-outputs.result.now name_of_output, ap length names) in
-    let label = label_at c.args.board.now.graph c.outputs-outputs.result.now c.loop-output.output c.index-outputs-output.result c.are_plain-plain.result names within c.index-outputs-output.is c.are_plain-plain.ensures in
-    let T : GraphOutput → Type 0 = λ x. TellsOne c.args.board.now c.args.base c.loop-output.telling c.tell_output.new.telling c.loop-output.output (label_of c.are_plain-plain.result (name_of_output x)) c.loop-output.out.items c.tell_output.new.out.items in
+    let there : c.loop-output.output < length (shown_names c.args.board.now.shown.graph) = omega (arith, within, length-map c.outputs-outputs.result.now name_of_output, ap length names) in
+    let label = label_at c.args.board.now.shown.graph c.outputs-outputs.result.now c.loop-output.output c.index-outputs-output.result c.are_plain-plain.result names within c.index-outputs-output.is c.are_plain-plain.ensures in
+    let T : GraphOutput → Type 0 = λ x. TellsOne c.args.board.now.shown c.args.base c.loop-output.telling c.tell_output.new.telling c.loop-output.output (label_of c.are_plain-plain.result (name_of_output x)) c.loop-output.out.items c.tell_output.new.out.items in
     let one : T c.index-outputs-output.result = subst T (sym c.index-outputs-output.is) c.in_ok-tell_output.ensures in
     let before = c.loop-output.invariant.tells in
     record {
       end_is = c.loop-output.invariant.end_is;
       tells = record {
         done = one.done ∙ before.done;
-        more = more_outputs c.args.board.now c.args.base c.args.telling.now c.loop-output.telling c.tell_output.new.telling c.loop-output.output (label_of c.are_plain-plain.result (name_of_output c.index-outputs-output.result)) c.args.out.now.items c.loop-output.out.items c.tell_output.new.out.items before.done before.more one there label;
+        more = more_outputs c.args.board.now.shown c.args.base c.args.telling.now c.loop-output.telling c.tell_output.new.telling c.loop-output.output (label_of c.are_plain-plain.result (name_of_output c.index-outputs-output.result)) c.args.out.now.items c.loop-output.out.items c.tell_output.new.out.items before.done before.more one there label;
       };
     }
 

@@ -6,6 +6,6 @@ use Rattle.follow.proofs.telling.tell_open.Given as goal
 
 abbrev pub invariant-loop-output : goal.invariant-loop-output
 invariant-loop-output g l = record {
-  end_is : l.output-end ≡ length (output_numbers (shown_graph l.board.graph));
-  tells : TellsTo l.board l.base l.output l.fn.telling l.telling l.fn.out.items l.out.items;
+  end_is : l.output-end ≡ length (output_numbers (shown_graph l.board.shown.graph));
+  tells : TellsTo l.board.shown l.base l.output l.fn.telling l.telling l.fn.out.items l.out.items;
 }

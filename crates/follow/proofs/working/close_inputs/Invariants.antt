@@ -2,4 +2,4 @@ use Rattle.follow.specs.Scenes.{IsLive, Works}
 use Rattle.follow.proofs.working.close_inputs.Given as goal
 
 abbrev pub invariant-loop-input : goal.invariant-loop-input
-invariant-loop-input g l = IsLive l.fn.board → Works l.fn.board l.board
+invariant-loop-input g l = IsLive l.fn.board.shown → Works l.fn.board.shown l.board.shown
