@@ -170,7 +170,7 @@ fn replay_command<'a>(alloc: Global) -> Result<Command<'a>, AllocError>
     .arg(flag_arg(
         alloc,
         "views",
-        "Give each worker a view of its own, which lines `v WORKER SENDER` bring up to date",
+        "Give each worker a view of its own; lines `v W S` bring it up to date",
     ))?
     .arg(explain_arg(alloc))?
     .arg(word_arg(alloc, "QUERY"))?
