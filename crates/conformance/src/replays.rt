@@ -43,7 +43,10 @@ fn printed(rt: &HostRuntime, workers: &str, schedule: &str) -> Result<String, Fa
 fn views_of_their_own(rt: HostRuntime) -> Result<(), Fail> {
     let schedule = "f a 2\ns a\nd 1 0\nv 0 1\np 0\nv 0 2\np 0\nv 0 2\np 0\nv 0 2\n";
     let text = "epoch 0 open\n2\nepoch 0 open\n2\nepoch 0 passed\n2\nrefused 40\n";
-    assert_eq!(rt; printed_by(&rt, ViewKind::Local, "2", schedule)?.as_str(), text);
+    assert_eq!(rt;
+        printed_by(&rt, ViewKind::Local, "2", schedule)?.as_str(),
+        text
+    );
     Ok(())
 }
 

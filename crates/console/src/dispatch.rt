@@ -168,7 +168,11 @@ fn format_named<'a, S: Sources<'a>, W: Write>(
 fn view_kind(views: bool) -> ViewKind
     ensures { result ≡ kind_asked views }
 {
-    if views { ViewKind::Local } else { ViewKind::Shared }
+    if views {
+        ViewKind::Local
+    } else {
+        ViewKind::Shared
+    }
 }
 
 /// Does a schedule's steps over a query.
@@ -307,7 +311,9 @@ fn obey<'a, R: Threads + Wait + Sync, S: Sources<'a>, W: Write, E: Write, O: Wri
             ..
         } => {
             let kind = view_kind(views);
-            replay_named(alloc, sources, workers, kind, query, schedule, &mut texts, out)
+            replay_named(
+                alloc, sources, workers, kind, query, schedule, &mut texts, out,
+            )
         }
         Options::Explain { code } => match explained(code) {
             Some(row) => write_explanation(alloc, row, out),

@@ -13,9 +13,8 @@ use crate::fault::run_fault;
 use collector::{Epochs, OutFault, Watched, write_epochs};
 use command_line::Workers;
 use diagnostics::Fault;
-use execution::{Watcher, emitted, execute};
+use execution::{RunViews, Watcher, emitted, execute};
 use lowering::Graph;
-use progress::LocationTracker;
 use statistics::Tally;
 use std::alloc::Global;
 use std::io::Write;
@@ -26,7 +25,7 @@ use workers::{Gate, NoGate, Report};
 /// Writes what a run that is worked off has emitted.
 fn write_emitted<W: Write>(
     alloc: Global,
-    report: &Report<LocationTracker>,
+    report: &Report<RunViews>,
     epochs: &Epochs,
     writer: &mut Watched<W>,
 ) -> Result<(), Fault>
