@@ -12,6 +12,7 @@ use rows::{Batch, Rows};
 use std::alloc::Global;
 use std::sync::Arc;
 use typing::check;
+use views::Direct;
 
 /// A chain of a select and a where.
 pub const CHAIN: &str = "input a/2; output where(select(a; #0 + #1, #0 * 3 - #1); #0 < 1000);";
@@ -26,7 +27,7 @@ pub const LOOP: &str =
 /// The most records of a batch.
 const BATCH: u64 = 16_384;
 
-fn board_of(alloc: Global, text: &str, workers: u32) -> Option<Board<LocationTracker>>
+fn board_of(alloc: Global, text: &str, workers: u32) -> Option<Board<Direct<LocationTracker>>>
     requires some { 0 < workers }
     requires few { workers ≤ 64 }
 {
@@ -57,8 +58,8 @@ fn batch(alloc: Global, from: u64, to: u64, keys: u64) -> Option<Batch>
 }
 
 /// Computes an event and commits it; without memory it is given up.
-fn finish(alloc: Global, board: &mut Board<LocationTracker>, work: Work) -> Option<()>
-    requires { IsOf board.old work.0 }
+fn finish(alloc: Global, board: &mut Board<Direct<LocationTracker>>, work: Work) -> Option<()>
+    requires { IsOf board.old.shown work.0 }
 {
     match work.compute(alloc) {
         Ok(done) => match board.commit(done) {
@@ -76,7 +77,11 @@ fn finish(alloc: Global, board: &mut Board<LocationTracker>, work: Work) -> Opti
 }
 
 /// Lets the workers take turns until none has anything to do. How many events that were; nothing without memory.
-fn work_off(alloc: Global, board: &mut Board<LocationTracker>, workers: u32) -> Option<u64> {
+fn work_off(
+    alloc: Global,
+    board: &mut Board<Direct<LocationTracker>>,
+    workers: u32,
+) -> Option<u64> {
     let mut events = 0u64;
     for _round in 0..u64::MAX {
         let before = events;

@@ -7,11 +7,12 @@ use board::{Board, Claimed, CommitRefusal};
 use events::Work;
 use lowering::{Graph, lower};
 use parser::parse;
-use progress::{LocationTracker, Progress};
+use progress::LocationTracker;
 use rows::{Batch, Rows};
 use std::alloc::{AllocError, Global};
 use std::sync::Arc;
 use typing::check;
+use views::{Direct, LocalViews, Views};
 
 /// The graph of a query.
 pub fn graph_of(alloc: Global, text: &str) -> Option<Arc<Graph, Global>> {
@@ -20,12 +21,20 @@ pub fn graph_of(alloc: Global, text: &str) -> Option<Arc<Graph, Global>> {
     Arc::new(alloc, lower(alloc, &typed).ok()?).ok()
 }
 
-/// A board over the graph of a query.
-pub fn board_of(alloc: Global, text: &str, workers: u32) -> Option<Board<LocationTracker>>
+/// A board over the graph of a query, whose workers all see one tracker.
+pub fn board_of(alloc: Global, text: &str, workers: u32) -> Option<Board<Direct<LocationTracker>>>
     requires some { 0 < workers }
     requires few { workers ≤ 64 }
 {
     Board::new(alloc, graph_of(alloc, text)?, workers).ok()
+}
+
+/// The same with a view for each worker, which may be late.
+pub fn late_board_of(alloc: Global, text: &str, workers: u32) -> Option<Board<LocalViews>>
+    requires some { 0 < workers }
+    requires few { workers ≤ 64 }
+{
+    Board::with_local_views(alloc, graph_of(alloc, text)?, workers).ok()
 }
 
 /// A batch of one record.
@@ -50,8 +59,8 @@ pub enum Turn {
 }
 
 /// Computes an event and commits it; without memory it is given up.
-pub fn commit(alloc: Global, board: &mut Board<LocationTracker>, work: Work) -> Turn
-    requires { IsOf board.old work.0 }
+pub fn commit<V: Views>(alloc: Global, board: &mut Board<V>, work: Work) -> Turn
+    requires { IsOf board.old.shown work.0 }
 {
     match work.compute(alloc) {
         Ok(done) => match board.commit(done) {
@@ -69,7 +78,7 @@ pub fn commit(alloc: Global, board: &mut Board<LocationTracker>, work: Work) -> 
 }
 
 /// Claims, computes and commits once.
-pub fn take_turn(alloc: Global, board: &mut Board<LocationTracker>, worker: u32) -> Turn {
+pub fn take_turn<V: Views>(alloc: Global, board: &mut Board<V>, worker: u32) -> Turn {
     match board.claim(worker) {
         Claimed::Stopped => Turn::Stopped,
         Claimed::Busy => Turn::Busy,
@@ -80,8 +89,8 @@ pub fn take_turn(alloc: Global, board: &mut Board<LocationTracker>, worker: u32)
 }
 
 /// An event that the first worker claims, where it has one.
-pub fn claimed(board: &mut Board<LocationTracker>) -> Option<Work>
-    ensures { IfSome result (λ work. IsOf board.new work.0) }
+pub fn claimed<V: Views>(board: &mut Board<V>) -> Option<Work>
+    ensures { IfSome result (λ work. IsOf board.new.shown work.0) }
 {
     match board.claim(0) {
         Claimed::Work(work) => Some(work),
@@ -89,8 +98,18 @@ pub fn claimed(board: &mut Board<LocationTracker>) -> Option<Work>
     }
 }
 
+/// The first choice of the first worker, where it has one.
+pub fn picked<V: Views>(board: &mut Board<V>) -> Option<Work>
+    ensures { IfSome result (λ work. IsOf board.new.shown work.0) }
+{
+    match board.pick(0, 0) {
+        Ok(work) => Some(work),
+        Err(_) => None,
+    }
+}
+
 /// What was emitted at an output for an epoch; nothing where there is no such output.
-pub fn emitted_at<P: Progress>(board: &Board<P>, output: u32, epoch: u32) -> &[Batch] {
+pub fn emitted_at<V: Views>(board: &Board<V>, output: u32, epoch: u32) -> &[Batch] {
     if output < board.output_count() {
         board.emitted(output, epoch)
     } else {
@@ -99,7 +118,7 @@ pub fn emitted_at<P: Progress>(board: &Board<P>, output: u32, epoch: u32) -> &[B
 }
 
 /// Whether an epoch has passed at an output; no where there is no such output.
-pub fn passed_at<P: Progress>(board: &Board<P>, output: u32, epoch: u32) -> bool {
+pub fn passed_at<V: Views>(board: &Board<V>, output: u32, epoch: u32) -> bool {
     output < board.output_count() && board.passed(output, epoch)
 }
 

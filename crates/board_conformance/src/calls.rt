@@ -1,12 +1,13 @@
 //! Each call once on its happy path, and each refusal in its order.
 
 use crate::boards::{
-    Turn, batch_of, board_of, claimed, commit, emitted_at, fields_of, passed_at, take_turn,
+    Turn, batch_of, board_of, claimed, commit, emitted_at, fields_of, late_board_of, passed_at,
+    picked, take_turn,
 };
 use board::{Board, Look, StepRefusal};
-use progress::LocationTracker;
 use std::alloc::Global;
 use std::test::Fail;
+use views::Views;
 
 const COPY: &str = "input a/1; output a;";
 
@@ -80,10 +81,32 @@ fn stops(rt: HostRuntime) -> Result<(), Fail> {
     Ok(())
 }
 
+// The only worker has seen the record and the close. Its event is given up, so it stays active in each view, and nothing that the worker
+// posted waits: the epoch never passes.
+#[test]
+fn stops_where_views_are_late(rt: HostRuntime) -> Result<(), Fail> {
+    let alloc = rt.alloc();
+    let mut board = late_board_of(alloc, COUNTS, 1).ok_or("no board")?;
+    let batch = batch_of(alloc, &[5]).ok_or("no batch")?;
+    let more = batch_of(alloc, &[5]).ok_or("no batch")?;
+    assert_eq!(rt; board.feed(alloc, 0, batch), Ok(()));
+    assert_eq!(rt; board.close(0), Ok(()));
+    assert!(rt; board.apply(0, 1));
+    assert!(rt; board.apply(0, 1));
+    let work = picked(&mut board).ok_or("no event")?;
+    board.abandon(work);
+    assert_eq!(rt; board.feed(alloc, 0, more), Err(StepRefusal::Stopped));
+    assert_eq!(rt; board.seal(0), Err(StepRefusal::Stopped));
+    assert_eq!(rt; board.close(0), Err(StepRefusal::Stopped));
+    assert!(rt; !board.apply(0, 0));
+    assert!(rt; !passed_at(&board, 0, 0));
+    Ok(())
+}
+
 /// Commits the worker's event of that number.
-fn commit_picked(
+fn commit_picked<V: Views>(
     alloc: Global,
-    board: &mut Board<LocationTracker>,
+    board: &mut Board<V>,
     worker: u32,
     choice: u64,
 ) -> Result<Turn, StepRefusal> {
@@ -115,9 +138,9 @@ fn picks(rt: HostRuntime) -> Result<(), Fail> {
 }
 
 /// Whether an output shows these fields for epoch 0, and whether it shows the epoch as passed.
-fn shows_at(
+fn shows_at<V: Views>(
     alloc: Global,
-    board: &Board<LocationTracker>,
+    board: &Board<V>,
     output: u32,
     emitted: &[i64],
     passed: bool,
@@ -190,7 +213,7 @@ fn is_shown(alloc: Global, look: &Look, emitted: &[i64], passed: bool) -> bool {
 }
 
 /// Whether a look at 5, counted by two workers, shows the same before and after the board goes on.
-fn is_kept(alloc: Global, board: &mut Board<LocationTracker>) -> bool {
+fn is_kept<V: Views>(alloc: Global, board: &mut Board<V>) -> bool {
     let Ok(before) = board.look(alloc, 0) else {
         return false;
     };

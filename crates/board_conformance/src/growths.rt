@@ -4,6 +4,7 @@ ghost use Rattle.std.specs.Prelude.{◌≡◌, IfOk, IfSome};
 ghost use Rattle.lowering.specs.Shown.{shown_graph};
 ghost use Rattle.semantics.specs.Could.{Pointstamp as Active};
 ghost use Rattle.progress.specs.Content.{times_at};
+ghost use Rattle.views.specs.Opening.{active_at_first};
 ghost use Rattle.board.specs.Commits.{IsOf};
 
 use crate::boards::{batch_of, board_of, emitted_at, fields_of, graph_of, passed_at};
@@ -16,6 +17,7 @@ use progress::{LocationTracker, Progress};
 use std::alloc::{AllocError, Global};
 use std::sync::Arc;
 use std::test::Fail;
+use views::{Direct, Views};
 
 const COUNTS: &str = "input a/1; output group(select(a; #0 * 2); #0; count);";
 
@@ -65,14 +67,24 @@ impl Progress for Refusing {
     }
 }
 
-/// A tracker of a graph, in which nothing is active.
-fn tracker_of(alloc: Global, graph: &Arc<Graph, Global>) -> Result<LocationTracker, NoMemory>
-    ensures graph { IfOk result (λ t. t.graph ≡ graph.now.value) }
-    ensures none { IfOk result (λ t. (q : Active) → times_at t.edges t.vertices q ≡ 0) }
+/// Views by two workers of a graph, which see one tracker that refuses a growth after so many.
+fn views_after(
+    alloc: Global,
+    graph: &Arc<Graph, Global>,
+    granted: u32,
+) -> Result<Direct<Refusing>, NoMemory>
+    ensures graph { IfOk result (λ d. shown_graph d.tracker.tracker.graph ≡ shown_graph graph.now.value) }
+    ensures workers { IfOk result (λ d. d.workers ≡ 2) }
+    ensures first { IfOk result (λ d. (q : Active) → times_at d.tracker.tracker.edges d.tracker.tracker.vertices q ≡ active_at_first (shown_graph graph.now.value) q) }
 {
     let paths = Arc::new(alloc, Paths::of(alloc, graph)?)?;
-    let tracker = LocationTracker::new(alloc, paths)?;
-    Ok(tracker)
+    let tracker = LocationTracker::new(alloc, Arc::try_clone(&paths)?)?;
+    let refusing = Refusing {
+        tracker,
+        granted,
+        has_refused: false,
+    };
+    Direct::new(alloc, &paths, 2, refusing)
 }
 
 /// A board of two workers whose tracker refuses a growth after so many; nothing where the opening is refused.
@@ -80,18 +92,13 @@ pub fn board_after(
     alloc: Global,
     graph: Arc<Graph, Global>,
     granted: u32,
-) -> Option<Board<Refusing>>
-    ensures { IfSome result (λ b. b.graph ≡ graph.value) }
+) -> Option<Board<Direct<Refusing>>>
+    ensures { IfSome result (λ b. b.shown.graph ≡ graph.value) }
 {
-    let Ok(tracker) = tracker_of(alloc, &graph) else {
+    let Ok(views) = views_after(alloc, &graph, granted) else {
         return None;
     };
-    let refusing = Refusing {
-        tracker,
-        granted,
-        has_refused: false,
-    };
-    Board::with_tracker(alloc, graph, 2, refusing).ok()
+    Board::with_views(alloc, graph, 2, views).ok()
 }
 
 /// Why a schedule ended early.
@@ -104,7 +111,7 @@ enum Fault {
 }
 
 /// How many records the board has emitted for an epoch.
-fn emitted_count<P: Progress>(board: &Board<P>, epoch: u32) -> usize {
+fn emitted_count<V: Views>(board: &Board<V>, epoch: u32) -> usize {
     let mut count = 0usize;
     for batch in emitted_at(board, 0, epoch) {
         count = count.saturating_add(batch.len());
@@ -113,7 +120,7 @@ fn emitted_count<P: Progress>(board: &Board<P>, epoch: u32) -> usize {
 }
 
 /// Records at the output of two epochs, the number of passed epochs, and whether each of two workers holds an event.
-fn shown<P: Progress>(board: &Board<P>) -> (usize, usize, u64, bool, bool) {
+fn shown<V: Views>(board: &Board<V>) -> (usize, usize, u64, bool, bool) {
     (
         emitted_count(board, 0),
         emitted_count(board, 1),
@@ -124,8 +131,8 @@ fn shown<P: Progress>(board: &Board<P>) -> (usize, usize, u64, bool, bool) {
 }
 
 /// Commits an event once more after a refusal; without memory it is given up.
-fn commit_again<P: Progress>(board: &mut Board<P>, done: Done) -> bool
-    requires { IsOf board.old done }
+fn commit_again<V: Views>(board: &mut Board<V>, done: Done) -> bool
+    requires { IsOf board.old.shown done }
 {
     match board.commit(done) {
         Ok(()) => true,
@@ -137,8 +144,8 @@ fn commit_again<P: Progress>(board: &mut Board<P>, done: Done) -> bool
 }
 
 /// Commits an event, if need be twice. How often that was refused.
-fn commit_twice<P: Progress>(board: &mut Board<P>, done: Done) -> Result<u32, Fault>
-    requires { IsOf board.old done }
+fn commit_twice<V: Views>(board: &mut Board<V>, done: Done) -> Result<u32, Fault>
+    requires { IsOf board.old.shown done }
 {
     let before = shown(board);
     match board.commit(done) {
@@ -155,8 +162,8 @@ fn commit_twice<P: Progress>(board: &mut Board<P>, done: Done) -> Result<u32, Fa
 }
 
 /// Computes an event and commits it, if need be twice. How often that was refused.
-fn finish<P: Progress>(alloc: Global, board: &mut Board<P>, work: Work) -> Result<u32, Fault>
-    requires { IsOf board.old work.0 }
+fn finish<V: Views>(alloc: Global, board: &mut Board<V>, work: Work) -> Result<u32, Fault>
+    requires { IsOf board.old.shown work.0 }
 {
     match work.compute(alloc) {
         Ok(done) => commit_twice(board, done),
@@ -168,9 +175,9 @@ fn finish<P: Progress>(alloc: Global, board: &mut Board<P>, work: Work) -> Resul
 }
 
 /// Feeds a record, or seals the input where there is none.
-fn offer<P: Progress>(
+fn offer<V: Views>(
     alloc: Global,
-    board: &mut Board<P>,
+    board: &mut Board<V>,
     field: Option<i64>,
 ) -> Result<(), StepRefusal> {
     match field {
@@ -183,9 +190,9 @@ fn offer<P: Progress>(
 }
 
 /// Does so, if need be twice. How often that was refused.
-fn offer_twice<P: Progress>(
+fn offer_twice<V: Views>(
     alloc: Global,
-    board: &mut Board<P>,
+    board: &mut Board<V>,
     field: Option<i64>,
 ) -> Result<u32, Fault> {
     let before = shown(board);
@@ -199,7 +206,7 @@ fn offer_twice<P: Progress>(
 }
 
 /// Feeds two epochs and lets two workers take turns until the board is drained. How many calls were refused.
-fn refused<P: Progress>(alloc: Global, board: &mut Board<P>) -> Result<u32, Fault> {
+fn refused<V: Views>(alloc: Global, board: &mut Board<V>) -> Result<u32, Fault> {
     let mut refused = 0u32;
     for field in [Some(1), Some(1), Some(2), None, Some(2), None] {
         refused = refused.saturating_add(offer_twice(alloc, board, field)?);
@@ -221,7 +228,7 @@ fn refused<P: Progress>(alloc: Global, board: &mut Board<P>) -> Result<u32, Faul
 }
 
 /// Whether the board emitted what `COUNTS` means on what `refused` feeds.
-fn is_answered<P: Progress>(alloc: Global, board: &Board<P>) -> Result<bool, AllocError> {
+fn is_answered<V: Views>(alloc: Global, board: &Board<V>) -> Result<bool, AllocError> {
     let first = fields_of(alloc, emitted_at(board, 0, 0))?;
     let second = fields_of(alloc, emitted_at(board, 0, 1))?;
     Ok(
@@ -240,15 +247,18 @@ fn refused_after(alloc: Global, granted: u32) -> Option<u32> {
     }
 }
 
-// Each feed, seal and commit reserves once, and there are four feeds, two seals and twelve commits at least.
+// The opening reserves twice, and each feed, seal and commit once: there are four feeds, two seals and twelve commits at least.
 #[test]
 fn refused_by_the_tracker(rt: HostRuntime) -> Result<(), Fail> {
     let graph = graph_of(rt.alloc(), COUNTS).ok_or("no graph")?;
-    assert!(rt; board_after(rt.alloc(), graph, 0).is_none());
-    for granted in 1..100u32 {
+    for granted in 0..2u32 {
+        let shared = Arc::try_clone(&graph)?;
+        assert!(rt; board_after(rt.alloc(), shared, granted).is_none());
+    }
+    for granted in 2..100u32 {
         match refused_after(rt.alloc(), granted) {
             Some(0) => {
-                assert!(rt; granted > 18);
+                assert!(rt; granted > 19);
                 return Ok(());
             }
             count => assert_eq!(rt; count, Some(1)),

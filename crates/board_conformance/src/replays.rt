@@ -9,7 +9,7 @@ use crate::growths::board_after;
 use collector::Declared;
 use lowering::DeclaredInput;
 use replay::{law_graph_inputs, replay};
-use schedule::read_schedule;
+use schedule::{ViewKind, read_schedule};
 use std::alloc::Global;
 use std::sync::Arc;
 use std::test::Fail;
@@ -39,7 +39,7 @@ fn only_declared<'a>(inputs: &'a [DeclaredInput]) -> Option<Declared<'a>>
 
 /// What the schedule prints where the tracker refuses a growth after so many; nothing where the opening or the replay is refused.
 fn printed_after(alloc: Global, granted: u32) -> Option<Vec<u8>> {
-    let lines = read_schedule(alloc, SCHEDULE.as_bytes()).ok()?;
+    let lines = read_schedule(alloc, ViewKind::Shared, SCHEDULE.as_bytes()).ok()?;
     let graph = graph_of(alloc, COUNTED)?;
     law_graph_inputs(&graph);
     let shared = Arc::try_clone(&graph).ok()?;
@@ -48,13 +48,13 @@ fn printed_after(alloc: Global, granted: u32) -> Option<Vec<u8>> {
     replay(alloc, board, inputs.as_slice(), lines.as_slice()).ok()
 }
 
-// The opening reserves once, and so does each feed, seal and commit: there are two feeds, a seal and six commits.
+// The opening reserves twice, and each feed, seal and commit once: there are two feeds, a seal and six commits.
 #[test]
 fn replays_refused_by_the_tracker(rt: HostRuntime) -> Result<(), Fail> {
-    for granted in 0..10u32 {
+    for granted in 0..11u32 {
         assert!(rt; printed_after(rt.alloc(), granted).is_none());
     }
-    let printed = printed_after(rt.alloc(), 10).ok_or("refused once more")?;
+    let printed = printed_after(rt.alloc(), 11).ok_or("refused once more")?;
     assert_eq!(rt; printed.as_slice(), PRINTED.as_bytes());
     Ok(())
 }

@@ -1,14 +1,14 @@
-//! Schedules at random over a loop with a join, on two workers: after each call both halves of the promise are compared with a plain
-//! evaluator.
+//! Schedules at random over a loop with a join, on two workers, who see one tracker or have a view each: after each call both halves of the
+//! promise are compared with a plain evaluator.
 
 ghost use Rattle.std.specs.Prelude.{◌<◌};
 
-use crate::boards::{Turn, batch_of, board_of, emitted_at, passed_at, take_turn};
+use crate::boards::{Turn, batch_of, board_of, emitted_at, late_board_of, passed_at, take_turn};
 use crate::reach::{is_part, pairs_of, within_three};
 use board::Board;
-use progress::LocationTracker;
 use std::alloc::{AllocError, Global};
 use std::test::Fail;
+use views::Views;
 
 const REACH: &str =
     "input e/2; output iterate(2; x = e; distinct(concat(x, select(join(x, e; #1 = #0); #0, #3))));";
@@ -35,32 +35,62 @@ impl Dice {
     }
 }
 
-/// Whether the records emitted for each epoch are part of what the query means on those fed for it, and all of them where it has passed.
-fn keeps_its_promise(alloc: Global, board: &Board<LocationTracker>) -> Result<bool, AllocError> {
+/// Whether the records emitted for an epoch are part of what the query means on those fed for it, and whether they are all of them.
+fn compared<V: Views>(
+    alloc: Global,
+    board: &Board<V>,
+    epoch: u32,
+) -> Result<(bool, bool), AllocError> {
+    let emitted = pairs_of(alloc, emitted_at(board, 0, epoch))?;
+    let fed = pairs_of(alloc, board.fed(0, epoch))?;
+    let meant = within_three(alloc, &fed)?;
+    Ok((is_part(&emitted, &meant), emitted == meant))
+}
+
+/// Whether the records emitted for each epoch are part of what the query means, and all of them where it is seen as passed.
+fn keeps_its_promise<V: Views>(alloc: Global, board: &Board<V>) -> Result<bool, AllocError> {
     for epoch in 0..EPOCHS {
-        let emitted = pairs_of(alloc, emitted_at(board, 0, epoch))?;
-        let fed = pairs_of(alloc, board.fed(0, epoch))?;
-        let meant = within_three(alloc, &fed)?;
-        if !is_part(&emitted, &meant) || passed_at(board, 0, epoch) && emitted != meant {
+        let (is_part, is_whole) = compared(alloc, board, epoch)?;
+        if !is_part || passed_at(board, 0, epoch) && !is_whole {
             return Ok(false);
         }
     }
     Ok(true)
 }
 
-/// Feeds an edge of five nodes, seals, or lets a worker take a turn.
-fn step(alloc: Global, board: &mut Board<LocationTracker>, dice: &mut Dice) -> bool {
-    match dice.below(8) {
-        0 => {
-            let from = i64::from(dice.below(5));
-            let to = i64::from(dice.below(5));
-            match batch_of(alloc, &[from, to]) {
-                Some(batch) => board.feed(alloc, 0, batch).is_ok(),
-                None => false,
-            }
+/// Whether each epoch is seen as passed, and the records emitted for it are all that the query means.
+fn is_answered<V: Views>(alloc: Global, board: &Board<V>) -> Result<bool, AllocError> {
+    for epoch in 0..EPOCHS {
+        let (_, is_whole) = compared(alloc, board, epoch)?;
+        if !passed_at(board, 0, epoch) || !is_whole {
+            return Ok(false);
         }
+    }
+    Ok(true)
+}
+
+/// Feeds an edge of five nodes.
+fn feed<V: Views>(alloc: Global, board: &mut Board<V>, dice: &mut Dice) -> bool {
+    let from = i64::from(dice.below(5));
+    let to = i64::from(dice.below(5));
+    match batch_of(alloc, &[from, to]) {
+        Some(batch) => board.feed(alloc, 0, batch).is_ok(),
+        None => false,
+    }
+}
+
+/// Feeds an edge, seals, applies a batch of changes that waits for a worker, if there is one, or lets a worker take a turn.
+fn step<V: Views>(alloc: Global, board: &mut Board<V>, dice: &mut Dice) -> bool {
+    match dice.below(10) {
+        0 => feed(alloc, board, dice),
         1 if board.passed_count().saturating_add(1) < u64::from(EPOCHS) && dice.below(4) == 0 =>
             board.seal(0).is_ok(),
+        2 | 3 => {
+            let worker = dice.below(2);
+            let sender = dice.below(3);
+            let _applied = board.apply(worker, sender);
+            true
+        }
         _ => {
             let worker = dice.below(2);
             matches!(
@@ -71,40 +101,53 @@ fn step(alloc: Global, board: &mut Board<LocationTracker>, dice: &mut Dice) -> b
     }
 }
 
-/// Whether the promise holds after each of so many steps, and all is emitted in the end.
-fn runs(alloc: Global, seed: u64, steps: u32) -> Result<bool, AllocError> {
-    let Some(mut board) = board_of(alloc, REACH, 2) else {
-        return Ok(false);
-    };
+/// Lets two workers take turns until the board is drained.
+fn is_worked_off<V: Views>(alloc: Global, board: &mut Board<V>) -> bool {
+    for turn in 0..10_000u32 {
+        match take_turn(alloc, board, turn % 2) {
+            Turn::Drained => return true,
+            Turn::Committed | Turn::Idle => {}
+            Turn::Stopped | Turn::Busy | Turn::NoMemory => return false,
+        }
+    }
+    false
+}
+
+/// Whether the promise holds after each of so many steps, and in the end the first worker sees that all is emitted.
+fn runs<V: Views>(
+    alloc: Global,
+    board: &mut Board<V>,
+    seed: u64,
+    steps: u32,
+) -> Result<bool, AllocError> {
     let mut dice = Dice { state: seed };
     for _step in 0..steps {
-        if !step(alloc, &mut board, &mut dice) || !keeps_its_promise(alloc, &board)? {
+        if !step(alloc, board, &mut dice) || !keeps_its_promise(alloc, board)? {
             return Ok(false);
         }
     }
-    if board.close(0).is_err() {
+    if board.close(0).is_err() || !is_worked_off(alloc, board) {
         return Ok(false);
     }
-    for turn in 0..10_000u32 {
-        match take_turn(alloc, &mut board, turn % 2) {
-            Turn::Drained => return Ok(
-                passed_at(&board, 0, 0) && keeps_its_promise(alloc, &board)?,
-            ),
-            Turn::Committed | Turn::Idle => {}
-            Turn::Stopped | Turn::Busy | Turn::NoMemory => return Ok(false),
-        }
-    }
-    Ok(false)
+    board.catch_up(0);
+    is_answered(alloc, board)
 }
 
 #[test]
 fn schedules_at_random(rt: HostRuntime) -> Result<(), Fail> {
     for seed in 0..40u64 {
-        let kept = match runs(rt.alloc(), seed, 150) {
-            Ok(kept) => kept,
-            Err(_) => return Err(Fail::from("no memory")),
-        };
-        assert!(rt; kept);
+        let mut board = board_of(rt.alloc(), REACH, 2).ok_or("no board")?;
+        assert!(rt; runs(rt.alloc(), &mut board, seed, 150)?);
+    }
+    Ok(())
+}
+
+// A batch of changes is applied at random, or with all others at a claim that finds nothing.
+#[test]
+fn schedules_with_late_views(rt: HostRuntime) -> Result<(), Fail> {
+    for seed in 0..40u64 {
+        let mut board = late_board_of(rt.alloc(), REACH, 2).ok_or("no board")?;
+        assert!(rt; runs(rt.alloc(), &mut board, seed, 150)?);
     }
     Ok(())
 }

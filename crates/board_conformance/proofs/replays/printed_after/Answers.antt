@@ -6,7 +6,7 @@ use Rattle.board_conformance.proofs.replays.printed_after.Goals as goal
 
 pub replay-requires : goal.replay-requires
 replay-requires c =
-    let same : c.in_ok-board.board.graph ≡ c.in_ok-graph.graph.value = search rules in
+    let same : c.in_ok-board.board.shown.graph ≡ c.in_ok-graph.graph.value = search rules in
     let inputs : map plain c.as_slice.result.now ≡ shown_inputs c.in_ok-graph.graph.value = search rules in
     let own : AreInputsOf c.in_ok-graph.graph.value (shown_inputs c.in_ok-graph.graph.value) = search rules in
     record { inputs = subst (λ g. AreInputsOf g (map plain c.as_slice.result.now)) (sym same) (subst (λ is. AreInputsOf c.in_ok-graph.graph.value is) (sym inputs) own) }
