@@ -5,14 +5,13 @@ ghost use Rattle.board.specs.Commits.{IsOf};
 
 use board::{Board, Claimed, CommitRefusal};
 use events::Work;
-use lowering::lower;
+use lowering::{Graph, lower};
 use parser::parse;
-use progress::LocationTracker;
 use rows::{Batch, Rows};
 use std::alloc::Global;
 use std::sync::Arc;
 use typing::check;
-use views::Direct;
+use views::Views;
 
 /// A chain of a select and a where.
 pub const CHAIN: &str = "input a/2; output where(select(a; #0 + #1, #0 * 3 - #1); #0 < 1000);";
@@ -27,14 +26,21 @@ pub const LOOP: &str =
 /// The most records of a batch.
 const BATCH: u64 = 16_384;
 
-fn board_of(alloc: Global, text: &str, workers: u32) -> Option<Board<Direct<LocationTracker>>>
-    requires some { 0 < workers }
-    requires few { workers ≤ 64 }
-{
+/// What a board is fed, and by how many workers it is worked off.
+#[derive(Clone, Copy)]
+pub struct Feed {
+    pub workers: u32,
+    pub epochs: u32,
+    /// The records of each input at an epoch.
+    pub records: u64,
+    /// Whether each worker has a view of progress of its own.
+    pub views: bool,
+}
+
+fn graph_of(alloc: Global, text: &str) -> Option<Arc<Graph, Global>> {
     let program = parse(alloc, text.as_bytes()).ok()?;
     let typed = check(alloc, program).ok()?;
-    let graph = Arc::new(alloc, lower(alloc, &typed).ok()?).ok()?;
-    Board::new(alloc, graph, workers).ok()
+    Arc::new(alloc, lower(alloc, &typed).ok()?).ok()
 }
 
 /// The k-th number of a sequence without pattern.
@@ -58,7 +64,7 @@ fn batch(alloc: Global, from: u64, to: u64, keys: u64) -> Option<Batch>
 }
 
 /// Computes an event and commits it; without memory it is given up.
-fn finish(alloc: Global, board: &mut Board<Direct<LocationTracker>>, work: Work) -> Option<()>
+fn finish<V: Views>(alloc: Global, board: &mut Board<V>, work: Work) -> Option<()>
     requires { IsOf board.old.shown work.0 }
 {
     match work.compute(alloc) {
@@ -77,11 +83,7 @@ fn finish(alloc: Global, board: &mut Board<Direct<LocationTracker>>, work: Work)
 }
 
 /// Lets the workers take turns until none has anything to do. How many events that were; nothing without memory.
-fn work_off(
-    alloc: Global,
-    board: &mut Board<Direct<LocationTracker>>,
-    workers: u32,
-) -> Option<u64> {
+fn work_off<V: Views>(alloc: Global, board: &mut Board<V>, workers: u32) -> Option<u64> {
     let mut events = 0u64;
     for _round in 0..u64::MAX {
         let before = events;
@@ -103,20 +105,16 @@ fn work_off(
 
 /// Feeds so many records an epoch to each input, each epoch worked off before the next. How many events that were; nothing without
 /// memory.
-pub fn run(alloc: Global, text: &str, workers: u32, epochs: u32, records: u64) -> Option<u64>
-    requires some { 0 < workers }
-    requires few { workers ≤ 64 }
-{
-    let mut board = board_of(alloc, text, workers)?;
+fn run_on<V: Views>(alloc: Global, mut board: Board<V>, feed: Feed) -> Option<u64> {
     let inputs = u32::try_from(board.graph().inputs().len()).ok()?;
-    let keys = (records / 2).max(1);
+    let keys = (feed.records / 2).max(1);
     let mut events = 0u64;
-    for epoch in 0..epochs {
+    for epoch in 0..feed.epochs {
         for input in 0..inputs {
-            let begin = u64::from(epoch).wrapping_mul(records);
-            for piece in 0..records.div_ceil(BATCH) {
+            let begin = u64::from(epoch).wrapping_mul(feed.records);
+            for piece in 0..feed.records.div_ceil(BATCH) {
                 let from = piece.saturating_mul(BATCH);
-                let to = from.saturating_add(BATCH).min(records);
+                let to = from.saturating_add(BATCH).min(feed.records);
                 let batch = batch(
                     alloc,
                     begin.wrapping_add(from),
@@ -127,10 +125,26 @@ pub fn run(alloc: Global, text: &str, workers: u32, epochs: u32, records: u64) -
             }
             board.seal(input).ok()?;
         }
-        events = events.saturating_add(work_off(alloc, &mut board, workers)?);
+        events = events.saturating_add(work_off(alloc, &mut board, feed.workers)?);
     }
-    if board.passed_count() < u64::from(epochs) {
+    board.catch_up(0);
+    if board.passed_count() < u64::from(feed.epochs) {
         return None;
     }
     Some(events)
+}
+
+/// Feeds a new board of the query, and lets its workers take turns. How many events that were; nothing without memory.
+pub fn run(alloc: Global, text: &str, feed: Feed) -> Option<u64>
+    requires some { 0 < feed.workers }
+    requires few { feed.workers ≤ 64 }
+{
+    let graph = graph_of(alloc, text)?;
+    if feed.views {
+        let board = Board::with_local_views(alloc, graph, feed.workers).ok()?;
+        run_on(alloc, board, feed)
+    } else {
+        let board = Board::new(alloc, graph, feed.workers).ok()?;
+        run_on(alloc, board, feed)
+    }
 }

@@ -11,8 +11,8 @@
 //! in the frontier, and removes the oldest; it prints how many answers were yes. `scan` is the same by the tracker that asks each.
 //!
 //! The board, without texts: `board-chain WORKERS EPOCHS RECORDS` feeds so many records an epoch to a select and a where, and lets the
-//! workers take turns in one thread; `board-join` and `board-loop` are the same of a join and of a loop of 4 turns. Each prints how many
-//! events there were.
+//! workers take turns in one thread; `board-join` and `board-loop` are the same of a join and of a loop of 4 turns. Where the word `views`
+//! follows, each worker has a view of progress of its own. Each prints how many events there were.
 //!
 //! Without arguments it does each but `query` and `board-loop`, small.
 #![tactic(auto)]
@@ -23,6 +23,7 @@ mod engine;
 mod shards;
 mod tables;
 
+use engine::Feed;
 use shards::{batches, distinct, group, join};
 use std::{env, fs, io};
 use tables::{chain, slide_located, slide_plain, table, wide};
@@ -49,15 +50,29 @@ fn number(words: &[String], place: usize) -> u32
     number.min(10_000_000)
 }
 
-/// Runs a board, with workers, epochs and records by the words.
+/// Runs a board, with workers, epochs, records and kind of views by the words.
 fn show_board(rt: &HostRuntime, name: &str, query: &str, words: &[String]) -> io::Result<()> {
-    let workers = number(words, 2).clamp(1, 64);
-    let records = u64::from(number(words, 4));
-    show(
-        rt,
-        name,
-        engine::run(rt.alloc(), query, workers, number(words, 3), records),
-    )
+    let feed = Feed {
+        workers: number(words, 2).clamp(1, 64),
+        epochs: number(words, 3),
+        records: u64::from(number(words, 4)),
+        views: words.get(5).map_or("", |word| word.as_str()) == "views",
+    };
+    show(rt, name, engine::run(rt.alloc(), query, feed))
+}
+
+/// A board of so many workers with views of their own, fed 100 records in each of 10 epochs.
+fn small(workers: u32) -> Feed
+    requires some { 0 < workers }
+    requires few { workers ≤ 64 }
+    ensures { result.workers ≡ workers }
+{
+    Feed {
+        workers,
+        epochs: 10,
+        records: 100,
+        views: workers > 1,
+    }
 }
 
 fn main(rt: HostRuntime) -> io::Result<()> {
@@ -94,12 +109,12 @@ fn main(rt: HostRuntime) -> io::Result<()> {
             show(
                 &rt,
                 "board-chain",
-                engine::run(alloc, engine::CHAIN, 4, 10, 100),
+                engine::run(alloc, engine::CHAIN, small(4)),
             )?;
             show(
                 &rt,
                 "board-join",
-                engine::run(alloc, engine::JOIN, 1, 10, 100),
+                engine::run(alloc, engine::JOIN, small(1)),
             )
         }
     }

@@ -3,10 +3,14 @@ use Rattle.std.specs.Prelude.{◌≡◌, ◌<◌, ℕ, List, length, Option, Res
 use Rattle.std.specs.Io.KnownBytes.{Appends}
 use Rattle.semantics.specs.Multiset.{Record, ◌≈◌}
 use Rattle.semantics.specs.Query.{Program}
+use Rattle.lowering.specs.Shown.{GraphValue, shown_graph, shown_inputs, shown_names}
 use Rattle.console.specs.Queries.{output_names}
 use Rattle.semantics.specs.Meaning.{program_meaning}
+use Rattle.collector.specs.declared.epochs.Epochs.{Epochs}
+use Rattle.collector.specs.Held.{epoch_count, records_at}
 use Rattle.collector.specs.OutputText.{IsTextFrom}
 use Rattle.collector.specs.Written.{AppendsFront}
+use Rattle.console.specs.Compiled.{IsCompiled}
 use Rattle.diagnostics.specs.declared.fault.Fault.{Fault}
 use Rattle.diagnostics.specs.declared.fault.Fault.TheVariants.{Query, TooManyVertices, Input, Schedule, NoMemory, NoWorker, Incomplete, ReadQuery, ReadInput, Write}
 
@@ -29,3 +33,8 @@ Responds p count records old new (Err NoWorker) = new ≡ old
 Responds p count records old new (Err Incomplete) = new ≡ old
 Responds p count records old new (Err ReadQuery) = ⊥
 Responds p count records old new (Err ReadInput) = ⊥
+
+-- that answer, on the epochs, of whatever query text the graph was compiled from
+abbrev pub RespondsBy : GraphValue → Epochs → Option (List ℕ) → Option (List ℕ) → Result (Unit {0}) Fault → Type 0
+RespondsBy graph epochs old new result = (query : List ℕ) (c : IsCompiled query (shown_graph graph) (shown_inputs graph) (shown_names graph))
+    → Responds c.program (epoch_count epochs) (records_at epochs) old new result

@@ -1,36 +1,35 @@
 //! What a graph makes of epochs, computed and written.
 
-ghost use Rattle.std.specs.Prelude.{◌≡◌, ◌<◌, ◌≤◌, ℕ, List, true, IsErrOf};
-ghost use Rattle.lowering.specs.Shown.{shown_graph, shown_inputs, shown_names};
-ghost use Rattle.collector.specs.Held.{epoch_count, records_at};
+ghost use Rattle.std.specs.Prelude.{◌≡◌, ◌<◌, ◌≤◌, true, IsErrOf};
 ghost use Rattle.collector.specs.Watching.{has_failed, inner_of};
-ghost use Rattle.console.specs.Answers.{Responds};
-ghost use Rattle.console.specs.Compiled.{IsCompiled};
+ghost use Rattle.console.specs.Answers.{RespondsBy};
 ghost use Rattle.execution.specs.Fed.{IsWorkedOff};
 ghost use Rattle.diagnostics.specs.declared.fault.Fault.TheVariants as fault;
 
 use crate::fault::run_fault;
+use board::Board;
 use collector::{Epochs, OutFault, Watched, write_epochs};
 use command_line::Workers;
 use diagnostics::Fault;
-use execution::{RunViews, Watcher, emitted, execute};
+use execution::{Watcher, emitted, execute};
 use lowering::Graph;
 use statistics::Tally;
 use std::alloc::Global;
 use std::io::Write;
 use std::sync::{Arc, Wait};
 use std::thread::Threads;
+use views::Views;
 use workers::{Gate, NoGate, Report};
 
 /// Writes what a run that is worked off has emitted.
-fn write_emitted<W: Write>(
+fn write_emitted<V: Views, W: Write>(
     alloc: Global,
-    report: &Report<RunViews>,
+    report: &Report<V>,
     epochs: &Epochs,
     writer: &mut Watched<W>,
 ) -> Result<(), Fault>
     requires { IsWorkedOff report.now.graph report.now epochs.now }
-    ensures text { (query : List ℕ) (c : IsCompiled query (shown_graph report.now.graph) (shown_inputs report.now.graph) (shown_names report.now.graph)) → Responds c.program (epoch_count epochs.now) (records_at epochs.now) (W.contents (inner_of writer.old)) (W.contents (inner_of writer.new)) result }
+    ensures text { RespondsBy report.now.graph epochs.now (W.contents (inner_of writer.old)) (W.contents (inner_of writer.new)) result }
     ensures failed { IsErrOf result fault.Write → has_failed writer.new ≡ true }
 {
     report.law_headline();
@@ -46,7 +45,27 @@ fn write_emitted<W: Write>(
     }
 }
 
-/// Has the workers work the epochs off over the graph, each event computed by the gate, and writes what was emitted.
+/// Works the epochs off on a new board, each event computed by the gate, and writes what was emitted.
+fn respond_on<V: Views + Send, R: Threads + Wait + Sync, G: Gate + Sync, W: Write, O: Write + Send>(
+    rt: &R,
+    alloc: Global,
+    board: Board<V>,
+    epochs: &Epochs,
+    gate: &G,
+    writer: &mut Watched<W>,
+    watcher: &mut Option<Watcher<O>>,
+) -> Result<(), Fault>
+    ensures text { RespondsBy board.shown.graph epochs.now (W.contents (inner_of writer.old)) (W.contents (inner_of writer.new)) result }
+    ensures failed { IsErrOf result fault.Write → has_failed writer.new ≡ true }
+{
+    match execute(rt, alloc, board, epochs, gate, watcher) {
+        Ok(report) => write_emitted(alloc, &report, epochs, writer),
+        Err(unfinished) => Err(run_fault(unfinished)),
+    }
+}
+
+/// The same for so many workers over the graph. A single worker sees at once what is active. Several go by views of their own, which
+/// may be late.
 fn respond_by<R: Threads + Wait + Sync, G: Gate + Sync, W: Write, O: Write + Send>(
     rt: &R,
     alloc: Global,
@@ -57,12 +76,19 @@ fn respond_by<R: Threads + Wait + Sync, G: Gate + Sync, W: Write, O: Write + Sen
     writer: &mut Watched<W>,
     watcher: &mut Option<Watcher<O>>,
 ) -> Result<(), Fault>
-    ensures text { (query : List ℕ) (c : IsCompiled query (shown_graph graph.value) (shown_inputs graph.value) (shown_names graph.value)) → Responds c.program (epoch_count epochs.now) (records_at epochs.now) (W.contents (inner_of writer.old)) (W.contents (inner_of writer.new)) result }
+    ensures text { RespondsBy graph.value epochs.now (W.contents (inner_of writer.old)) (W.contents (inner_of writer.new)) result }
     ensures failed { IsErrOf result fault.Write → has_failed writer.new ≡ true }
 {
-    match execute(rt, alloc, graph, workers.count(), epochs, gate, watcher) {
-        Ok(report) => write_emitted(alloc, &report, epochs, writer),
-        Err(unfinished) => Err(run_fault(unfinished)),
+    if workers.count() == 1 {
+        match Board::new(alloc, graph, 1) {
+            Ok(board) => respond_on(rt, alloc, board, epochs, gate, writer, watcher),
+            Err(_) => Err(Fault::NoMemory),
+        }
+    } else {
+        match Board::with_local_views(alloc, graph, workers.count()) {
+            Ok(board) => respond_on(rt, alloc, board, epochs, gate, writer, watcher),
+            Err(_) => Err(Fault::NoMemory),
+        }
     }
 }
 
@@ -77,7 +103,7 @@ fn respond_counted<R: Threads + Wait + Sync, W: Write, O: Write + Send, E: Write
     watcher: &mut Option<Watcher<O>>,
     err: &mut E,
 ) -> Result<(), Fault>
-    ensures text { (query : List ℕ) (c : IsCompiled query (shown_graph graph.value) (shown_inputs graph.value) (shown_names graph.value)) → Responds c.program (epoch_count epochs.now) (records_at epochs.now) (W.contents (inner_of writer.old)) (W.contents (inner_of writer.new)) result }
+    ensures text { RespondsBy graph.value epochs.now (W.contents (inner_of writer.old)) (W.contents (inner_of writer.new)) result }
     ensures failed { IsErrOf result fault.Write → has_failed writer.new ≡ true }
 {
     let tally = match Tally::of(alloc, &graph, workers.count(), epochs) {
@@ -104,7 +130,7 @@ pub fn respond<R: Threads + Wait + Sync, W: Write, O: Write + Send, E: Write>(
     watcher: &mut Option<Watcher<O>>,
     err: &mut E,
 ) -> Result<(), Fault>
-    ensures text { (query : List ℕ) (c : IsCompiled query (shown_graph graph) (shown_inputs graph) (shown_names graph)) → Responds c.program (epoch_count epochs.now) (records_at epochs.now) (W.contents (inner_of writer.old)) (W.contents (inner_of writer.new)) result }
+    ensures text { RespondsBy graph epochs.now (W.contents (inner_of writer.old)) (W.contents (inner_of writer.new)) result }
     ensures failed { IsErrOf result fault.Write → has_failed writer.new ≡ true }
 {
     let Ok(graph) = Arc::new(alloc, graph) else {

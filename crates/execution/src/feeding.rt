@@ -1,12 +1,12 @@
 //! Feeding an engine epoch by epoch.
 
-use crate::making::RunViews;
 use crate::task::{AHEAD, Task};
 use crate::unfinished::Unfinished;
 use rows::Batch;
 use std::alloc::Global;
 use std::mem::replace;
 use std::sync::Wait;
+use views::Views;
 use workers::{Ended, Engine, Feed, Gate, Naming, work_along};
 
 /// The most epochs that are fed while the lock is held once.
@@ -55,10 +55,10 @@ impl Portion {
 }
 
 /// Feeds what is gathered.
-fn feed_portion<J: Naming, R: Wait>(
+fn feed_portion<J: Naming, V: Views, R: Wait>(
     rt: &R,
     alloc: Global,
-    engine: &Engine<J, RunViews>,
+    engine: &Engine<J, V>,
     portion: &mut Portion,
 ) -> Result<(), Unfinished> {
     portion.records = 0;
@@ -68,10 +68,10 @@ fn feed_portion<J: Naming, R: Wait>(
 }
 
 /// Gathers the batches of one input's epoch, and feeds them where they are many.
-fn feed_batches<J: Naming, R: Wait>(
+fn feed_batches<J: Naming, V: Views, R: Wait>(
     rt: &R,
     alloc: Global,
-    engine: &Engine<J, RunViews>,
+    engine: &Engine<J, V>,
     portion: &mut Portion,
     input: u32,
     batches: &[Batch],
@@ -86,10 +86,10 @@ fn feed_batches<J: Naming, R: Wait>(
 }
 
 /// Gathers one epoch of every input, and its end.
-fn feed_epoch<J: Naming, R: Wait>(
+fn feed_epoch<J: Naming, V: Views, R: Wait>(
     rt: &R,
     alloc: Global,
-    engine: &Engine<J, RunViews>,
+    engine: &Engine<J, V>,
     task: Task<'_>,
     portion: &mut Portion,
     epoch: u32,
@@ -109,10 +109,10 @@ fn feed_epoch<J: Naming, R: Wait>(
 }
 
 /// Works in this thread until there is nothing to do now.
-fn work_now<J: Naming, R: Wait, G: Gate>(
+fn work_now<J: Naming, V: Views, R: Wait, G: Gate>(
     rt: &R,
     alloc: Global,
-    engine: &Engine<J, RunViews>,
+    engine: &Engine<J, V>,
     gate: &G,
 ) -> Result<(), Unfinished> {
     match work_along(rt, alloc, engine, 0, gate, &mut 0) {
@@ -124,10 +124,10 @@ fn work_now<J: Naming, R: Wait, G: Gate>(
 
 /// Feeds and seals epoch by epoch, many small ones at once, and never more of them ahead of what has passed than `AHEAD`: a thread that
 /// is alone works between, another one sleeps until half of them are gone.
-pub fn feed_epochs<J: Naming, R: Wait, G: Gate>(
+pub fn feed_epochs<J: Naming, V: Views, R: Wait, G: Gate>(
     rt: &R,
     alloc: Global,
-    engine: &Engine<J, RunViews>,
+    engine: &Engine<J, V>,
     task: Task<'_>,
     gate: &G,
 ) -> Result<(), Unfinished> {
@@ -147,7 +147,7 @@ pub fn feed_epochs<J: Naming, R: Wait, G: Gate>(
 }
 
 /// Closes every input. On a stopped board none can be closed, nor needs to be.
-pub fn close_inputs<J: Naming, R: Wait>(rt: &R, engine: &Engine<J, RunViews>, inputs: u32) {
+pub fn close_inputs<J: Naming, V: Views, R: Wait>(rt: &R, engine: &Engine<J, V>, inputs: u32) {
     for input in 0..inputs {
         let _ = engine.close(rt, input);
     }

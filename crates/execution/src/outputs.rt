@@ -7,14 +7,14 @@ ghost use Rattle.collector.specs.Emitted.{names_of, records_of};
 ghost use Rattle.collector.specs.Piles.{joined};
 ghost use Rattle.execution.specs.Fed.{EmittedBelow, HasEpochs};
 
-use crate::making::RunViews;
 use collector::OutputEpochs;
 use rows::Batch;
 use std::alloc::{AllocError, Global};
+use views::Views;
 use workers::Report;
 
 /// What was emitted at an output for an epoch.
-fn emitted_for<'a>(report: &'a Report<RunViews>, output: u32, epoch: u32) -> &'a [Batch]
+fn emitted_for<'a, V: Views>(report: &'a Report<V>, output: u32, epoch: u32) -> &'a [Batch]
     requires { IsOutputPlace report.now output }
     ensures { joined result.now ≡ emitted_at report.entry.now output epoch }
 {
@@ -22,9 +22,9 @@ fn emitted_for<'a>(report: &'a Report<RunViews>, output: u32, epoch: u32) -> &'a
 }
 
 /// What was emitted at an output, for each epoch of so many.
-fn emitted_at_output<'a>(
+fn emitted_at_output<'a, V: Views>(
     alloc: Global,
-    report: &'a Report<RunViews>,
+    report: &'a Report<V>,
     output: u32,
     count: u32,
 ) -> Result<Vec<&'a [Batch]>, AllocError>
@@ -39,9 +39,9 @@ fn emitted_at_output<'a>(
 }
 
 /// What was emitted at each output, by its name, for each epoch of so many.
-pub fn emitted<'a>(
+pub fn emitted<'a, V: Views>(
     alloc: Global,
-    report: &'a Report<RunViews>,
+    report: &'a Report<V>,
     count: u32,
 ) -> Result<Vec<OutputEpochs<'a>>, AllocError>
     ensures names { IfOk result (λ v. names_of v.items ≡ shown_names report.entry.now.graph) }

@@ -4,19 +4,19 @@ ghost use Rattle.std.specs.Prelude.{◌≡◌, ◌<◌, ℕ, IsTrue};
 ghost use Rattle.collector.specs.Held.{records_at};
 ghost use Rattle.execution.specs.Fed.{HoldsFed, fed_at};
 
-use crate::making::RunViews;
 use collector::{Epochs, same_batches};
+use views::Views;
 use workers::Report;
 
 /// Whether an input was fed, at an epoch, just what was read.
-fn is_same(report: &Report<RunViews>, input: u32, epochs: &Epochs, epoch: u32) -> bool
+fn is_same<V: Views>(report: &Report<V>, input: u32, epochs: &Epochs, epoch: u32) -> bool
     ensures { IsTrue result → fed_at report.now input epoch ≡ records_at epochs.now epoch input }
 {
     same_batches(report.fed(input, epoch), epochs.batches(epoch, input))
 }
 
 /// Whether all inputs were fed, at an epoch, just what was read.
-fn is_fed_at(report: &Report<RunViews>, inputs: u32, epochs: &Epochs, epoch: u32) -> bool
+fn is_fed_at<V: Views>(report: &Report<V>, inputs: u32, epochs: &Epochs, epoch: u32) -> bool
     ensures { IsTrue result → (i : ℕ) → i < inputs → fed_at report.now i epoch ≡ records_at epochs.now epoch i }
 {
     for input in 0..inputs {
@@ -28,7 +28,7 @@ fn is_fed_at(report: &Report<RunViews>, inputs: u32, epochs: &Epochs, epoch: u32
 }
 
 /// Whether all inputs were fed just what was read.
-pub fn is_fed(report: &Report<RunViews>, inputs: u32, epochs: &Epochs, count: u32) -> bool
+pub fn is_fed<V: Views>(report: &Report<V>, inputs: u32, epochs: &Epochs, count: u32) -> bool
     ensures { IsTrue result → HoldsFed report.now inputs epochs.now count }
 {
     for epoch in 0..count {

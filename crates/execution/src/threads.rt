@@ -3,7 +3,6 @@
 ghost use Rattle.std.specs.Prelude.{◌≡◌};
 
 use crate::feeding::{close_inputs, feed_epochs};
-use crate::making::RunViews;
 use crate::task::Task;
 use crate::unfinished::Unfinished;
 use crate::watching::{Watcher, watch};
@@ -11,14 +10,22 @@ use std::alloc::Global;
 use std::io::Write;
 use std::sync::Wait;
 use std::thread::{Scope, Threads, join, scope, scope_env};
+use views::Views;
 use workers::{Engine, Gate, Mark, Naming, Seat, work};
 
 /// Starts a thread for each worker, where there are several.
-fn start_workers<'s, E, J: Naming + Send + Sync, R: Threads + Wait + Sync, G: Gate + Sync>(
+fn start_workers<
+    's,
+    E,
+    J: Naming + Send + Sync,
+    V: Views + Send,
+    R: Threads + Wait + Sync,
+    G: Gate + Sync,
+>(
     threads: &'s Scope<'s, E>,
     rt: &'s R,
     alloc: Global,
-    engine: &'s Engine<J, RunViews>,
+    engine: &'s Engine<J, V>,
     task: Task<'_>,
     gate: &'s G,
 ) -> Result<(), Unfinished> {
@@ -35,11 +42,18 @@ fn start_workers<'s, E, J: Naming + Send + Sync, R: Threads + Wait + Sync, G: Ga
 }
 
 /// Starts the workers, and feeds. However that goes, all inputs are closed at the end, so that the workers end too.
-fn feed_beside<'s, E, J: Naming + Send + Sync, R: Threads + Wait + Sync, G: Gate + Sync>(
+fn feed_beside<
+    's,
+    E,
+    J: Naming + Send + Sync,
+    V: Views + Send,
+    R: Threads + Wait + Sync,
+    G: Gate + Sync,
+>(
     threads: &'s Scope<'s, E>,
     rt: &'s R,
     alloc: Global,
-    engine: &'s Engine<J, RunViews>,
+    engine: &'s Engine<J, V>,
     task: Task<'_>,
     gate: &'s G,
 ) -> Result<(), Unfinished> {
@@ -55,10 +69,10 @@ fn feed_beside<'s, E, J: Naming + Send + Sync, R: Threads + Wait + Sync, G: Gate
 }
 
 /// Feeds the engine and works it off, and returns once all threads have ended.
-pub fn work_off<J: Naming + Send + Sync, R: Threads + Wait + Sync, G: Gate + Sync>(
+pub fn work_off<J: Naming + Send + Sync, V: Views + Send, R: Threads + Wait + Sync, G: Gate + Sync>(
     rt: &R,
     alloc: Global,
-    engine: &Engine<J, RunViews>,
+    engine: &Engine<J, V>,
     task: Task<'_>,
     gate: &G,
 ) -> Result<(), Unfinished> {
@@ -70,13 +84,14 @@ pub fn work_off<J: Naming + Send + Sync, R: Threads + Wait + Sync, G: Gate + Syn
 /// As `work_off`, while one more thread watches. Where it can't be started, this one watches at the end.
 pub fn work_off_watched<
     J: Naming + Send + Sync,
+    V: Views + Send,
     R: Threads + Wait + Sync,
     G: Gate + Sync,
     W: Write + Send,
 >(
     rt: &R,
     alloc: Global,
-    engine: &Engine<J, RunViews>,
+    engine: &Engine<J, V>,
     task: Task<'_>,
     gate: &G,
     mark: &Mark,

@@ -2,11 +2,11 @@
 
 ghost use Rattle.std.specs.Prelude.{◌≡◌};
 
-use crate::making::RunViews;
 use arrayvec::ArrayVec;
 use std::io;
 use std::io::Write;
 use std::sync::Wait;
+use views::Views;
 use workers::{Engine, Mark, Naming, Seat};
 
 /// How a watcher is told how many epochs have passed.
@@ -51,9 +51,9 @@ impl<W: Write> Watcher<W> {
 
 /// Tells the watcher whenever more epochs have passed than were told, and sleeps in between. It ends when no more can pass, or the writer
 /// has failed.
-pub fn watch<J: Naming, R: Wait, W: Write>(
+pub fn watch<J: Naming, V: Views, R: Wait, W: Write>(
     rt: &R,
-    engine: &Engine<J, RunViews>,
+    engine: &Engine<J, V>,
     mark: &Mark,
     mut seat: Seat,
     watcher: &mut Watcher<W>,
