@@ -1,7 +1,6 @@
 pub mod Answering
 pub mod RunEnds
 pub mod DeclaredInputs
-pub mod SameGraph
 pub mod InputLines
 pub mod QueryFaults
 pub mod CheckedInputs
