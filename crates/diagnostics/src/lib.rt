@@ -7,17 +7,22 @@
 //! table of refusals, and the collector's writer.
 #![tactic(auto)]
 
+mod bracket;
 mod display;
 mod excerpt;
+mod expected;
 mod explain;
 mod explanation;
 mod fault;
 mod hint;
 mod input_fault;
+mod input_hint;
+mod names;
 mod query_fault;
 mod schedule_fault;
 mod texts;
 
+pub use display::{Plain, Word};
 pub use explain::explain_fault;
 pub use explanation::{explained, write_explanation};
 pub use fault::Fault;
