@@ -371,13 +371,11 @@ fn refusal_text(alloc: Global, fault: &LineFault) -> io::Result<Vec<u8>> {
 fn refuse_words<E: Write>(alloc: Global, fault: &LineFault, err: &mut E) -> u8
     ensures { result ≡ line_status_of fault.now }
 {
-    match refusal_text(alloc, fault) {
-        Ok(text) => {
-            let _ = err.write_all(text.as_slice());
-            fault.status()
-        }
-        Err(_) => refuse(fault, err),
-    }
+    let Ok(text) = refusal_text(alloc, fault) else {
+        return refuse(fault, err);
+    };
+    let _ = err.write_all(text.as_slice());
+    fault.status()
 }
 
 /// Answers a command line, whose first word is the program's own: does what it asks for over the texts that it names, and tells a fault.

@@ -15,9 +15,11 @@ fn of_byte(before: &[u8], byte: u8, behind: &[u8]) -> Option<&'static str> {
         (b'\'' | b'"', _) => Some("there are no strings; give each text a number"),
         (b'.', _) => Some("a column is written by its number, as #0, and numbers are whole"),
         (b'$', _) => Some("a column is written by its number, as #0"),
-        (b'&', _) => Some("it is written and"),
-        (b'|', _) => Some("it is written or"),
+        (b'&', _) => Some("use `and`"),
+        (b'|', _) => Some("use `or`"),
         (b'%', _) => Some("there is no division"),
+        (b'^', _) => Some("a power is a product, as in #0 * #0"),
+        (b'_', _) => Some("a number has only digits, and a name begins with a letter"),
         (b'~', _) => Some("unequal is written !="),
         (b':', _) => Some("a let is written let b = a;"),
         (b'{' | b'}', _) => Some("brackets are ( ) and [ ]"),
@@ -98,13 +100,11 @@ fn of_call(before: &[u8], word: &[u8]) -> Option<&'static str> {
     match (last_word(before), word) {
         (b"sum" | b"min" | b"max", b"(") => Some("a column without brackets follows, as in sum #1"),
         (b"count", b"(") => Some("count stands alone"),
-        (b"minus" | b"difference", b"(") => Some("it is written except(a, b)"),
-        (b"union", b"(") => Some(
-            "it is written concat(a, b), and distinct(concat(a, b)) without repeats",
-        ),
-        (b"filter", b"(") => Some("it is written where(a; #0 > 1)"),
-        (b"map" | b"project", b"(") => Some("it is written select(a; #0)"),
-        (b"unique", b"(") => Some("it is written distinct(a)"),
+        (b"minus" | b"difference", b"(") => Some("use except(a, b)"),
+        (b"union", b"(") => Some("use concat(a, b), or distinct(concat(a, b)) without repeats"),
+        (b"filter", b"(") => Some("use where(a; #0 > 1)"),
+        (b"map" | b"project", b"(") => Some("use select(a; #0)"),
+        (b"unique", b"(") => Some("use distinct(a)"),
         _ => None,
     }
 }
@@ -112,15 +112,15 @@ fn of_call(before: &[u8], word: &[u8]) -> Option<&'static str> {
 /// How the form with that name is written.
 fn shape_of(form: &[u8]) -> Option<&'static str> {
     match form {
-        b"select" => Some("it is written select(a; #0)"),
-        b"where" => Some("it is written where(a; #0 > 1)"),
-        b"concat" => Some("it is written concat(a, b)"),
-        b"except" => Some("it is written except(a, b)"),
-        b"intersect" => Some("it is written intersect(a, b)"),
-        b"join" => Some("it is written join(a, b; #0 = #0)"),
-        b"group" => Some("it is written group(a; #0; count)"),
-        b"distinct" => Some("it is written distinct(a)"),
-        b"iterate" => Some("it is written iterate(3; x = a; distinct(x))"),
+        b"select" => Some("the form is select(a; #0)"),
+        b"where" => Some("the form is where(a; #0 > 1)"),
+        b"concat" => Some("the form is concat(a, b)"),
+        b"except" => Some("the form is except(a, b)"),
+        b"intersect" => Some("the form is intersect(a, b)"),
+        b"join" => Some("the form is join(a, b; #0 = #0)"),
+        b"group" => Some("the form is group(a; #0; count)"),
+        b"distinct" => Some("the form is distinct(a)"),
+        b"iterate" => Some("the form is iterate(3; x = a; distinct(x))"),
         _ => None,
     }
 }
@@ -164,8 +164,21 @@ fn of_condition(before: &[u8], bracket: OpenBracket<'_>, word: &[u8]) -> Option<
     }
 }
 
-/// The hint for a word in a round bracket, by whose bracket it is and how many of its parts came before.
-fn in_bracket(before: &[u8], word: &[u8]) -> Option<&'static str> {
+/// Whether a text could end in a whole part of a form.
+fn is_part(before: &[u8]) -> bool {
+    !wants_operand(before) && !matches!(last_word(before), b"sum" | b"min" | b"max")
+}
+
+/// The hint for a name where a number or a column must stand, by what comes after it.
+fn of_name(behind: &[u8]) -> &'static str {
+    match behind.trim_ascii_start() {
+        [b'(', ..] => "there are no functions; numbers are computed by +, - and *",
+        _ => "a column is written by its number, as #0",
+    }
+}
+
+/// The hint for a word in a round bracket, by whose bracket it is, how many of its parts came before, and what comes after it.
+fn in_bracket(before: &[u8], word: &[u8], behind: &[u8]) -> Option<&'static str> {
     let bracket = open_bracket(before)?;
     match (bracket.name, bracket.semicolons, word) {
         (_, _, b"and" | b"or" | b"not" | b"[") => of_condition(before, bracket, word),
@@ -175,14 +188,14 @@ fn in_bracket(before: &[u8], word: &[u8]) -> Option<&'static str> {
             "the aggregates are count, sum, min and max",
         ),
         (_, _, b"true" | b"false") => Some("a condition is a comparison, as in #0 > 1"),
-        _ if wants_operand(before) && has_operands(bracket) && is_name(word) => Some(
-            "a column is written by its number, as #0",
-        ),
+        _ if wants_operand(before) && has_operands(bracket) && is_name(word) => {
+            Some(of_name(behind))
+        }
         (b"group", 1, b"count" | b"sum" | b"min" | b"max") => shape_of(bracket.name),
         (_, _, b"count" | b"sum" | b"min" | b"max") => Some(
             "an aggregate stands in a group; its value is a column",
         ),
-        (name, _, b"," | b";" | b")") if !wants_operand(before) => shape_of(name),
+        (name, _, b"," | b";" | b")") if is_part(before) => shape_of(name),
         _ => None,
     }
 }
@@ -212,7 +225,7 @@ pub fn hint(text: &[u8], code: u8, span: Span) -> Option<&'static str> {
         (4, _) => of_sign(before, word, behind)
             .or(of_item(before, word))
             .or(of_call(before, word))
-            .or(in_bracket(before, word)),
+            .or(in_bracket(before, word, behind)),
         _ => None,
     }
 }

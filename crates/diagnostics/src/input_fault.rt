@@ -139,7 +139,10 @@ pub fn write_input_fault<W: Write>(
     let name = Word(first);
     match (code, first) {
         (41 | 42, b"epoch") => writeln!(writer, "an `epoch` line is that word alone"),
-        (41 | 42, b"input") => writeln!(writer, "this looks like a query; the query comes first, then the input"),
+        (41 | 42, b"input") => writeln!(
+            writer,
+            "this looks like a query; the query comes first, then the input"
+        ),
         (41, _) => writeln!(writer, "no `epoch` line comes before this record of {name}"),
         (42, _) => write_unknown(alloc, query, first, writer),
         (44, _) => write_bad_number(line, writer),

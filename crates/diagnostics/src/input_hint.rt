@@ -61,6 +61,9 @@ pub fn of_field(word: &[u8], line: &[u8]) -> Option<&'static str> {
         _ if matches!(digits, [b'0'..=b'9' | b'.', ..]) && digits.contains(&b'.') => Some(
             "numbers are whole; write 12.50 as 1250 cents",
         ),
+        _ if matches!(digits, [b'0'..=b'9', ..]) => Some(
+            "a number has only digits, after a - or none",
+        ),
         _ if is_header(line) => Some("if this is a header line, leave it out"),
         _ => Some("fields are whole numbers; give each string a number"),
     }
