@@ -13,20 +13,33 @@ use clap::error::ErrorKind;
 use clap::{Arg, ArgAction, ArgMatches, Command, Error};
 use std::alloc::{AllocError, Global};
 
-/// A word that has to be given.
-fn word_arg<'a>(alloc: Global, id: &'a str) -> Arg<'a>
+/// What the help says of the word `QUERY`.
+const QUERY: &str = "The file with the query; - is standard input";
+
+/// What the help says of the word `INPUT`.
+const INPUT: &str = "The file with the input; - is standard input";
+
+/// What the help says of the word `SCHEDULE`.
+const SCHEDULE: &str = "The file with the schedule; - is standard input";
+
+/// The last line of the help.
+const STATUSES: &str =
+    "Exit status: 0 done, 2 command line, 3 query, 4 input or schedule, 5 memory or threads, 6 file";
+
+/// A word that has to be given, with its line of help.
+fn word_arg<'a>(alloc: Global, id: &'a str, about: &'a str) -> Arg<'a>
     ensures rule { rule_of result ≡ word_rule id.entry.now }
     ensures local { result.global ≡ false }
 {
-    Arg::new(alloc, id).required(true)
+    Arg::new(alloc, id).required(true).help(about)
 }
 
-/// A word that may be given.
-fn optional_arg<'a>(alloc: Global, id: &'a str) -> Arg<'a>
+/// A word that may be given, with its line of help.
+fn optional_arg<'a>(alloc: Global, id: &'a str, about: &'a str) -> Arg<'a>
     ensures rule { rule_of result ≡ optional_rule id.entry.now }
     ensures local { result.global ≡ false }
 {
-    Arg::new(alloc, id)
+    Arg::new(alloc, id).help(about)
 }
 
 /// A flag: `--` and its name.
@@ -71,7 +84,7 @@ fn heap_arg<'a>(alloc: Global) -> Arg<'a>
     Arg::new(alloc, "heap")
         .long("heap")
         .value_name("BYTES")
-        .help("Keep the query's tree in a heap of so many bytes, 64 to 16777216")
+        .help("Keep the query's tree in a heap of BYTES bytes, 64 to 16777216")
 }
 
 /// A command of that name, with its line of help.
@@ -93,8 +106,8 @@ fn check_command<'a>(alloc: Global) -> Result<Command<'a>, AllocError>
     )
     .arg(heap_arg(alloc))?
     .arg(explain_arg(alloc))?
-    .arg(word_arg(alloc, "QUERY"))?
-    .arg(optional_arg(alloc, "INPUT"))
+    .arg(word_arg(alloc, "QUERY", QUERY))?
+    .arg(optional_arg(alloc, "INPUT", "The file with an input to check too"))
 }
 
 fn graph_command<'a>(alloc: Global) -> Result<Command<'a>, AllocError>
@@ -109,7 +122,7 @@ fn graph_command<'a>(alloc: Global) -> Result<Command<'a>, AllocError>
     .arg(flag_arg(alloc, "dot", "Write the graph for Graphviz to draw"))?
     .arg(heap_arg(alloc))?
     .arg(explain_arg(alloc))?
-    .arg(word_arg(alloc, "QUERY"))
+    .arg(word_arg(alloc, "QUERY", QUERY))
 }
 
 fn format_command<'a>(alloc: Global) -> Result<Command<'a>, AllocError>
@@ -118,7 +131,7 @@ fn format_command<'a>(alloc: Global) -> Result<Command<'a>, AllocError>
 {
     named(alloc, "format", "Write a query in its canonical form")
         .arg(explain_arg(alloc))?
-        .arg(word_arg(alloc, "QUERY"))
+        .arg(word_arg(alloc, "QUERY", QUERY))
 }
 
 fn run_command<'a>(alloc: Global) -> Result<Command<'a>, AllocError>
@@ -138,8 +151,8 @@ fn run_command<'a>(alloc: Global) -> Result<Command<'a>, AllocError>
             "Tell on standard error, after the run, what each vertex did",
         ))?
         .arg(explain_arg(alloc))?
-        .arg(word_arg(alloc, "QUERY"))?
-        .arg(word_arg(alloc, "INPUT"))
+        .arg(word_arg(alloc, "QUERY", QUERY))?
+        .arg(word_arg(alloc, "INPUT", INPUT))
 }
 
 fn follow_command<'a>(alloc: Global) -> Result<Command<'a>, AllocError>
@@ -153,8 +166,8 @@ fn follow_command<'a>(alloc: Global) -> Result<Command<'a>, AllocError>
     )
     .arg(workers_arg(alloc))?
     .arg(explain_arg(alloc))?
-    .arg(word_arg(alloc, "QUERY"))?
-    .arg(word_arg(alloc, "INPUT"))
+    .arg(word_arg(alloc, "QUERY", QUERY))?
+    .arg(word_arg(alloc, "INPUT", INPUT))
 }
 
 fn replay_command<'a>(alloc: Global) -> Result<Command<'a>, AllocError>
@@ -173,8 +186,8 @@ fn replay_command<'a>(alloc: Global) -> Result<Command<'a>, AllocError>
         "Give each worker a view of its own; lines `v W S` bring it up to date",
     ))?
     .arg(explain_arg(alloc))?
-    .arg(word_arg(alloc, "QUERY"))?
-    .arg(word_arg(alloc, "SCHEDULE"))
+    .arg(word_arg(alloc, "QUERY", QUERY))?
+    .arg(word_arg(alloc, "SCHEDULE", SCHEDULE))
 }
 
 fn explain_command<'a>(alloc: Global) -> Result<Command<'a>, AllocError>
@@ -186,13 +199,20 @@ fn explain_command<'a>(alloc: Global) -> Result<Command<'a>, AllocError>
         "explain",
         "Tell what a refusal's number means, with examples",
     )
-    .arg(word_arg(alloc, "CODE"))
+    .arg(word_arg(alloc, "CODE", "The number of a refusal, as 13"))
+}
+
+/// The program's own command, with the last line of its help.
+fn program<'a>(alloc: Global) -> Command<'a>
+    ensures app { app_of result ≡ new_app (codes "loom") }
+{
+    Command::new(alloc, "loom").after_help(STATUSES)
 }
 
 fn line_command<'a>(alloc: Global) -> Result<Command<'a>, AllocError>
     ensures { IfOk result (λ c. app_of c ≡ line_app) }
 {
-    Command::new(alloc, "loom")
+    program(alloc)
         .subcommand_required(true)
         .subcommand(run_command(alloc)?)?
         .subcommand(follow_command(alloc)?)?

@@ -76,7 +76,7 @@ fn too_large_to_run(rt: HostRuntime) -> Result<(), Fail> {
     Ok(())
 }
 
-/// A text that is too long, of which the end is shown.
+/// A text that is too long, of which no part is shown.
 #[test]
 fn a_long_text_explained(rt: HostRuntime) -> Result<(), Fail> {
     let mut query = Vec::new(rt.alloc());
@@ -89,16 +89,6 @@ fn a_long_text_explained(rt: HostRuntime) -> Result<(), Fail> {
     assert!(rt; matches!(fault, Fault::Query { code: 6, .. }));
     let mut said = Vec::new(rt.alloc());
     explain_fault(rt.alloc(), &fault, &texts, &mut said)?;
-    let mut wanted = String::new(rt.alloc());
-    wanted.push_str("  1 | ..")?;
-    for _byte in 0..200 {
-        wanted.push_str(";")?;
-    }
-    wanted.push_str("\n    | ")?;
-    for _byte in 0..201 {
-        wanted.push_str(" ")?;
-    }
-    wanted.push_str("^\na text over 1,048,576 bytes\n")?;
-    assert_eq!(rt; said.as_slice(), wanted.as_bytes());
+    assert_eq!(rt; said.as_slice(), b"a text over 1,048,576 bytes\n".as_slice());
     Ok(())
 }

@@ -16,12 +16,13 @@ use crate::sources::Sources;
 use bumpalo::Bump;
 use collector::Watched;
 use command_line::{GraphForm, HeapSize, LineFault, Options, Workers, options};
-use diagnostics::{Fault, Texts, explain_fault, explained, write_explanation};
+use diagnostics::{Fault, Plain, Texts, Word, explain_fault, explained, write_explanation};
 use execution::Watcher;
 use linked_list_allocator::LocalHeap;
 use refusals::NUMBERS;
 use schedule::ViewKind;
 use std::alloc::{Allocator, Global};
+use std::io;
 use std::io::Write;
 use std::sync::Wait;
 use std::thread::Threads;
@@ -227,8 +228,27 @@ fn texts_of<'a>(asked: &Options<'a>) -> (&'a str, &'a str, bool) {
     }
 }
 
-/// Tells how a command has ended: a fault's line, and what is wrong at its place where that is asked for. Gives the status, which says it
-/// also where the writer of errors fails, here and below.
+/// Writes a fault's line, and what is wrong at its place where that is asked for: by one write, so that lines of several programs don't
+/// mix. Where no memory is left for the text, the line goes out in parts.
+fn write_fault<E: Write>(
+    alloc: Global,
+    asked: &Options,
+    fault: &Fault,
+    texts: &Texts,
+    err: &mut E,
+) -> io::Result<()> {
+    let (query, input, explain) = texts_of(asked);
+    let mut text = Vec::new(alloc);
+    if fault.write_line(query, input, &mut text).is_err() {
+        return fault.write_line(query, input, err);
+    }
+    if explain {
+        let _ = explain_fault(alloc, fault, texts, &mut text);
+    }
+    err.write_all(text.as_slice())
+}
+
+/// Tells how a command has ended. Gives the status, which says it also where the writer of errors fails, here and below.
 fn tell<E: Write>(
     alloc: Global,
     asked: &Options,
@@ -241,11 +261,7 @@ fn tell<E: Write>(
     match done {
         Ok(()) => 0,
         Err(fault) => {
-            let (query, input, explain) = texts_of(asked);
-            let _ = fault.write_line(query, input, err);
-            if explain {
-                let _ = explain_fault(alloc, fault, texts, err);
-            }
+            let _ = write_fault(alloc, asked, fault, texts, err);
             fault.status()
         }
     }
@@ -255,6 +271,7 @@ fn tell<E: Write>(
 fn tell_numbers<E: Write>(code: &str, err: &mut E) -> u8
     ensures { result ≡ 2 }
 {
+    let code = Word(code.as_bytes());
     let _ = writeln!(err, "no refusal has the number {code}: they are {NUMBERS}");
     2
 }
@@ -334,6 +351,33 @@ pub fn refuse<E: Write>(fault: &LineFault, err: &mut E) -> u8
     fault.status()
 }
 
+/// What is told of words that are refused, with escapes for what in them might disturb a terminal.
+fn refusal_text(alloc: Global, fault: &LineFault) -> io::Result<Vec<u8>> {
+    let told = format!(in alloc; "{fault}")?;
+    let mut text = Vec::new(alloc);
+    if let LineFault::Line(_) = fault {
+        for line in told.lines() {
+            let line = Plain(line);
+            writeln!(text, "{line}")?;
+        }
+    } else {
+        let line = Plain(told.as_str());
+        writeln!(text, "{line}")?;
+    }
+    Ok(text)
+}
+
+/// Tells why words are refused, by one write, and gives the status.
+fn refuse_words<E: Write>(alloc: Global, fault: &LineFault, err: &mut E) -> u8
+    ensures { result ≡ line_status_of fault.now }
+{
+    let Ok(text) = refusal_text(alloc, fault) else {
+        return refuse(fault, err);
+    };
+    let _ = err.write_all(text.as_slice());
+    fault.status()
+}
+
 /// Answers a command line, whose first word is the program's own: does what it asks for over the texts that it names, and tells a fault.
 /// Gives the status. What `--watch` tells goes to the watcher, which is let go where a run isn't to be watched.
 #[tactic(auto, using(crate::proofs::Commanding::obeyed, crate::proofs::Commanding::refused))]
@@ -357,6 +401,6 @@ pub fn answer<
 {
     match options(alloc, words) {
         Ok(asked) => obey(rt, alloc, sources, asked, out, err, watcher),
-        Err(fault) => refuse(&fault, err),
+        Err(fault) => refuse_words(alloc, &fault, err),
     }
 }

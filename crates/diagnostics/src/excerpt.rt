@@ -2,7 +2,7 @@
 
 ghost use Rattle.std.specs.Prelude.{◌<◌, ◌≤◌, length, IfSome};
 
-use crate::display::Shown;
+use crate::display::{Escaped, Shown};
 use record_core::Span;
 use std::io;
 use std::io::Write;
@@ -157,12 +157,16 @@ pub fn write_marked<W: Write>(text: &[u8], span: Span, writer: &mut W) -> io::Re
     write_carets(&line, span.end.saturating_sub(span.start) as usize, writer)
 }
 
-/// Writes a line of a text with its number.
+/// Writes a line of an input or a schedule with its number, of a long one the beginning.
 pub fn write_numbered<W: Write>(bytes: &[u8], number: u64, writer: &mut W) -> io::Result<()> {
-    let line = Line {
-        number,
-        bytes,
-        place: 0,
-    };
-    write_line(&line, writer)
+    match bytes.get(..WIDTH) {
+        Some(front) if WIDTH < bytes.len() => {
+            let front = Escaped(front);
+            writeln!(writer, "{number:>3} | {front}..")
+        }
+        _ => {
+            let whole = Escaped(bytes);
+            writeln!(writer, "{number:>3} | {whole}")
+        }
+    }
 }

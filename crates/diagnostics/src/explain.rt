@@ -12,7 +12,8 @@ use std::io;
 use std::io::Write;
 
 /// Writes what follows a fault's line: of a query the line with carets under the place, of an input or a schedule the faulty line, and
-/// then a sentence with the names and the numbers. Nothing for a fault of memory, threads or files.
+/// then a sentence with the names and the numbers. A text that is too long (6) has no place that helps; a fault of memory, threads or
+/// files has nothing to show.
 pub fn explain_fault<W: Write>(
     alloc: Global,
     fault: &Fault,
@@ -20,6 +21,7 @@ pub fn explain_fault<W: Write>(
     writer: &mut W,
 ) -> io::Result<()> {
     match fault {
+        Fault::Query { code: 6, .. } => write_summary(6, writer),
         Fault::Query { code, start, end } => {
             let span = Span {
                 start: *start,

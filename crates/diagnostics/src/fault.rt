@@ -3,6 +3,7 @@
 ghost use Rattle.std.specs.Prelude.{◌≡◌};
 ghost use Rattle.diagnostics.specs.Faults.{status_of};
 
+use crate::display::Plain;
 use std::io;
 use std::io::Write;
 use thiserror::Error;
@@ -55,8 +56,14 @@ impl Fault {
     /// schedule's.
     pub fn write_line<W: Write>(&self, query: &str, input: &str, writer: &mut W) -> io::Result<()> {
         match self {
-            Fault::ReadQuery => writeln!(writer, "cannot read {query}"),
-            Fault::ReadInput => writeln!(writer, "cannot read {input}"),
+            Fault::ReadQuery => {
+                let path = Plain(query);
+                writeln!(writer, "cannot read {path}")
+            }
+            Fault::ReadInput => {
+                let path = Plain(input);
+                writeln!(writer, "cannot read {path}")
+            }
             _ => writeln!(writer, "{self}"),
         }
     }

@@ -1,102 +1,128 @@
 //! Hints for words that look like the syntax of another language.
 
+use crate::bracket::{
+    OpenBracket, form_bracket, is_form, last_open, last_word, open_bracket, split_word,
+};
 use record_core::{Keyword, Span};
 
-/// The round bracket that is open at the end of a beginning of a query, if one is.
-#[derive(Clone, Copy)]
-struct OpenBracket<'a> {
-    /// What stands before it.
-    before: &'a [u8],
-    /// How many `;` have come since, inside no other bracket.
-    semicolons: usize,
-}
-
-/// The last round bracket that isn't closed.
-fn open_bracket(text: &[u8]) -> Option<OpenBracket<'_>> {
-    let mut closed: usize = 0;
-    let mut semicolons: usize = 0;
-    for (at, byte) in text.iter().enumerate().rev() {
-        match *byte {
-            b')' => closed = closed.saturating_add(1),
-            b'(' if closed == 0 => {
-                let before = text.get(..at).unwrap_or(&[]);
-                return Some(OpenBracket {
-                    before: before.trim_ascii_end(),
-                    semicolons,
-                });
-            }
-            b'(' => closed -= 1,
-            b';' if closed == 0 => semicolons = semicolons.saturating_add(1),
-            _ => {}
-        }
-    }
-    None
-}
-
-/// The hint for a byte that begins no word.
-fn of_byte(byte: u8) -> Option<&'static str> {
-    match byte {
-        b'A'..=b'Z' => Some("names and the words of the language are in lower case"),
-        b'\'' | b'"' => Some("fields are numbers, and there are no texts"),
-        b'.' => Some("a column is written by its number, as #0, and numbers are whole"),
-        b'&' => Some("it is written and"),
-        b'|' => Some("it is written or"),
+/// The hint for a byte that begins no word, by what is before and after it.
+fn of_byte(before: &[u8], byte: u8, behind: &[u8]) -> Option<&'static str> {
+    match (byte, behind) {
+        (b'A'..=b'Z', _) if before.is_empty() => Some(
+            "a query begins with its inputs, in lower case, as input a/1;",
+        ),
+        (b'A'..=b'Z', _) => Some("names and keywords are in lower case"),
+        (b'\'' | b'"', _) => Some("there are no strings; give each text a number"),
+        (b'.', _) => Some("a column is written by its number, as #0, and numbers are whole"),
+        (b'$', _) => Some("a column is written by its number, as #0"),
+        (b'&', _) => Some("use `and`"),
+        (b'|', _) => Some("use `or`"),
+        (b'%', _) => Some("there is no division"),
+        (b'^', _) => Some("a power is a product, as in #0 * #0"),
+        (b'_', _) => Some("a number has only digits, and a name begins with a letter"),
+        (b'~', _) => Some("unequal is written !="),
+        (b':', _) => Some("a let is written let b = a;"),
+        (b'{' | b'}', _) => Some("brackets are ( ) and [ ]"),
+        (0xef, [0xbb, 0xbf, ..]) if before.is_empty() => Some(
+            "the text begins with a byte order mark; remove it",
+        ),
+        (0x80..=0xff, _) => Some("a query is ASCII text"),
         _ => None,
     }
 }
 
-/// Whether a text ends in the name of a form whose parts stand in round brackets.
-fn is_form(before: &[u8]) -> bool {
-    let forms: [&[u8]; 9] = [
-        b"select",
-        b"where",
-        b"concat",
-        b"join",
-        b"group",
-        b"distinct",
-        b"except",
-        b"intersect",
-        b"iterate",
-    ];
-    forms.iter().any(|form| before.ends_with(form))
-}
-
-/// Whether a text ends in the name of a form with one relation, and columns or a condition behind it.
-fn has_own_columns(before: &[u8]) -> bool {
-    before.ends_with(b"select") || before.ends_with(b"where") || before.ends_with(b"group")
-}
-
-/// Whether a text ends in the name of an aggregate of a column.
-fn is_aggregate(before: &[u8]) -> bool {
-    before.ends_with(b"sum") || before.ends_with(b"min") || before.ends_with(b"max")
-}
-
-/// The hint for a word that can't stand there, by what is before and after it.
-fn of_word(before: &[u8], word: &[u8], behind: &[u8]) -> Option<&'static str> {
-    match (before, word, behind) {
-        ([.., b'='], b"=", _) => Some("equality is one ="),
-        ([.., b'<'], b">", _) => Some("unequal is written !="),
-        (_, b"-", [b'-', ..]) | (_, b"/", [b'/' | b'*', ..]) | ([.., b'/'], b"/", _) => {
-            Some("there are no comments")
-        }
-        (_, b"(", _) if is_aggregate(before) => Some(
-            "a column without brackets follows, as in sum #1",
-        ),
-        (_, b"(", _) if before.ends_with(b"count") => Some("count stands alone"),
-        (_, b"(", _) if before.ends_with(b"minus") => Some("it is written except(a, b)"),
-        (_, b"(", _) if before.ends_with(b"union") => Some(
-            "it is written concat(a, b), and distinct(concat(a, b)) without repeats",
-        ),
-        ([.., last], b"input" | b"let" | b"output", _) if *last != b';' => Some(
-            "a ; ends what stands before it",
-        ),
-        _ => in_bracket(before, word),
+/// The hint for a `#` behind which no number stands.
+pub fn of_hash(before: &[u8]) -> &'static str {
+    match before.trim_ascii_end() {
+        [] => "there are no comments",
+        [.., b';'] if last_open(before).is_none() => "there are no comments",
+        _ => "expected a number right after it",
     }
 }
 
 /// Whether a word could be the name of a relation.
 fn is_name(word: &[u8]) -> bool {
     matches!(word, [b'a'..=b'z', ..]) && Keyword::of(word).is_none()
+}
+
+/// Whether a word is a comparison.
+fn is_comparison(word: &[u8]) -> bool {
+    matches!(word, b"=" | b"!=" | b"<" | b"<=" | b">" | b">=")
+}
+
+/// The hint for a sign that can't stand there, by what is before and after it.
+fn of_sign(before: &[u8], word: &[u8], behind: &[u8]) -> Option<&'static str> {
+    let is_open = last_open(before).is_some();
+    match (before, word, behind) {
+        ([.., b'='], b"=", _) => Some("equality is written ="),
+        ([.., b'='], b"<", _) => Some("at most is written <="),
+        ([.., b'='], b">", _) => Some("at least is written >="),
+        ([.., b'<'], b">", _) => Some("unequal is written !="),
+        ([.., b'-'], b"-", _) if is_open => Some("a second - needs brackets, as in -(-5)"),
+        (_, b"/", [b'/' | b'*', ..]) if is_open => Some(
+            "there is no division, and there are no comments",
+        ),
+        (_, b"/", _) if is_open => Some("there is no division"),
+        (_, b"-", [b'-', ..]) | (_, b"/", [b'/' | b'*', ..]) | ([.., b'/'], b"/", _) => {
+            Some("there are no comments")
+        }
+        (_, b")", _) if last_open(before) == Some(b'[') => Some("a [ is still open"),
+        (_, b"]", _) if last_open(before) == Some(b'(') => Some("a ( is still open"),
+        _ => None,
+    }
+}
+
+/// The hint for a word that can't stand there, by the words before it.
+fn of_item(before: &[u8], word: &[u8]) -> Option<&'static str> {
+    let (front, last) = split_word(before);
+    match (before, last, word) {
+        ([], _, b"epoch") => Some("this looks like an input; the query comes first"),
+        ([], _, _) => Some("a query begins with its inputs, as input a/1;"),
+        (_, b"input" | b"let", _) if Keyword::of(word).is_some() => Some(
+            "a keyword can't be a name",
+        ),
+        (_, _, b"-") if last_word(front) == b"input".as_slice() => Some(
+            "a name has lower-case letters, digits and _, as my_sale",
+        ),
+        _ if last_word(front) == b"input".as_slice() => Some(
+            "the number of fields follows the name, as in input a/2;",
+        ),
+        ([.., b';'], _, b"input") => Some("inputs come before lets and outputs"),
+        ([.., b';'], _, b"let") => Some("lets come before outputs"),
+        (_, _, b"input" | b"let" | b"output") => Some("a ; is missing before it"),
+        (_, b"not", _) => Some("not is followed by a condition in [ ], as in not [#0 = 1]"),
+        _ => None,
+    }
+}
+
+/// The hint for a bracket behind a word that has none.
+fn of_call(before: &[u8], word: &[u8]) -> Option<&'static str> {
+    match (last_word(before), word) {
+        (b"sum" | b"min" | b"max", b"(") => Some("a column without brackets follows, as in sum #1"),
+        (b"count", b"(") => Some("count stands alone"),
+        (b"minus" | b"difference", b"(") => Some("use except(a, b)"),
+        (b"union", b"(") => Some("use concat(a, b), or distinct(concat(a, b)) without repeats"),
+        (b"filter", b"(") => Some("use where(a; #0 > 1)"),
+        (b"map" | b"project", b"(") => Some("use select(a; #0)"),
+        (b"unique", b"(") => Some("use distinct(a)"),
+        _ => None,
+    }
+}
+
+/// How the form with that name is written.
+fn shape_of(form: &[u8]) -> Option<&'static str> {
+    match form {
+        b"select" => Some("the form is select(a; #0)"),
+        b"where" => Some("the form is where(a; #0 > 1)"),
+        b"concat" => Some("the form is concat(a, b)"),
+        b"except" => Some("the form is except(a, b)"),
+        b"intersect" => Some("the form is intersect(a, b)"),
+        b"join" => Some("the form is join(a, b; #0 = #0)"),
+        b"group" => Some("the form is group(a; #0; count)"),
+        b"distinct" => Some("the form is distinct(a)"),
+        b"iterate" => Some("the form is iterate(3; x = a; distinct(x))"),
+        _ => None,
+    }
 }
 
 /// Whether a text ends in a mark after which a column can come.
@@ -111,45 +137,78 @@ fn wants_operand(before: &[u8]) -> bool {
 }
 
 /// Whether columns come after so many `;` in a bracket: that of a form, or one round numbers.
-fn has_operands(form: &[u8], semicolons: usize) -> bool {
-    if semicolons == 0 {
-        !is_form(form)
-    } else {
-        has_own_columns(form) || form.ends_with(b"join")
+fn has_operands(bracket: OpenBracket<'_>) -> bool {
+    match bracket.name {
+        b"select" | b"where" | b"group" | b"join" => bracket.semicolons > 0,
+        name => bracket.semicolons == 0 && !is_form(name),
     }
 }
 
-/// The hint for a word in a round bracket, by whose bracket it is and how many of its parts came before.
-fn in_bracket(before: &[u8], word: &[u8]) -> Option<&'static str> {
-    let bracket = open_bracket(before)?;
-    let form = bracket.before;
-    match word {
-        b"=" | b"!=" | b"<" | b"<=" | b">" | b">=" | b"and" | b"or" | b"not" if !is_form(form) => {
-            Some("round brackets hold numbers, and conditions stand in [ ]")
-        }
-        b"," if has_own_columns(form) && bracket.semicolons == 0 => Some("a ; ends the relation"),
-        b";" if form.ends_with(b"group") && bracket.semicolons == 1 => Some(
-            "a group has a key or more",
+/// The hint for a part of a condition where none can stand, by the form round it.
+fn of_condition(before: &[u8], bracket: OpenBracket<'_>, word: &[u8]) -> Option<&'static str> {
+    let form = form_bracket(before)?;
+    match form.name {
+        b"select" if form.semicolons > 0 => Some(
+            "a select computes numbers, and conditions stand in a where",
         ),
-        _ if form.ends_with(b"group") && bracket.semicolons > 1 && is_name(word) => {
-            Some("the aggregates are count, sum, min and max")
+        b"where" if !is_form(bracket.name) => Some(
+            "round brackets hold numbers, and conditions stand in [ ]",
+        ),
+        b"where" if word == b"[".as_slice() || before.ends_with(b"]") => Some(
+            "[ ] holds a condition, and ( ) groups numbers",
+        ),
+        b"where" if is_comparison(word) && form.semicolons > 0 => Some(
+            "two comparisons are joined by and, as in 1 < #0 and #0 < 5",
+        ),
+        _ => None,
+    }
+}
+
+/// Whether a text could end in a whole part of a form.
+fn is_part(before: &[u8]) -> bool {
+    !wants_operand(before) && !matches!(last_word(before), b"sum" | b"min" | b"max")
+}
+
+/// The hint for a name where a number or a column must stand, by what comes after it.
+fn of_name(behind: &[u8]) -> &'static str {
+    match behind.trim_ascii_start() {
+        [b'(', ..] => "there are no functions; numbers are computed by +, - and *",
+        _ => "a column is written by its number, as #0",
+    }
+}
+
+/// The hint for a word in a round bracket, by whose bracket it is, how many of its parts came before, and what comes after it.
+fn in_bracket(before: &[u8], word: &[u8], behind: &[u8]) -> Option<&'static str> {
+    let bracket = open_bracket(before)?;
+    match (bracket.name, bracket.semicolons, word) {
+        (_, _, b"and" | b"or" | b"not" | b"[") => of_condition(before, bracket, word),
+        _ if is_comparison(word) => of_condition(before, bracket, word),
+        (b"group", 1, b";") if before.ends_with(b";") => Some("a group has a key or more"),
+        (b"group", count, _) if count > 1 && is_name(word) => Some(
+            "the aggregates are count, sum, min and max",
+        ),
+        (_, _, b"true" | b"false") => Some("a condition is a comparison, as in #0 > 1"),
+        _ if wants_operand(before) && has_operands(bracket) && is_name(word) => {
+            Some(of_name(behind))
         }
-        _ if wants_operand(before) && has_operands(form, bracket.semicolons) && is_name(word) => {
-            Some("a column is written by its number, as #0")
-        }
+        (b"group", 1, b"count" | b"sum" | b"min" | b"max") => shape_of(bracket.name),
+        (_, _, b"count" | b"sum" | b"min" | b"max") => Some(
+            "an aggregate stands in a group; its value is a column",
+        ),
+        (name, _, b"," | b";" | b")") if is_part(before) => shape_of(name),
         _ => None,
     }
 }
 
 /// The hint for a text that ends too early.
 fn of_end(text: &[u8]) -> Option<&'static str> {
-    if open_bracket(text).is_some() {
-        return Some("a ( is still open");
-    }
-    match text {
-        [.., b';'] => Some("an output is missing"),
-        [] => Some("it begins with its inputs, as input a/1;"),
-        _ => Some("a ; is missing"),
+    match (last_open(text), text) {
+        (Some(b'['), _) => Some("a [ is still open"),
+        (Some(_), _) => Some("a ( is still open"),
+        (None, [.., b';']) => Some("an output is missing"),
+        (None, []) => Some("a query begins with its inputs, as input a/1;"),
+        (None, [.., b')']) => Some("a ; is missing"),
+        _ => None,
     }
 }
 
@@ -157,13 +216,16 @@ fn of_end(text: &[u8]) -> Option<&'static str> {
 /// no word, and 4, for a word that can't stand there, or for the end of the text.
 pub fn hint(text: &[u8], code: u8, span: Span) -> Option<&'static str> {
     let (start, end) = (span.start as usize, span.end as usize);
-    let before = text.get(..start)?;
+    let before = text.get(..start)?.trim_ascii_end();
     let word = text.get(start..end)?;
     let behind = text.get(end..)?;
     match (code, word) {
-        (1, [byte]) => of_byte(*byte),
-        (4, []) => of_end(before.trim_ascii_end()),
-        (4, _) => of_word(before.trim_ascii_end(), word, behind),
+        (1, [byte]) => of_byte(before, *byte, behind),
+        (4, []) => of_end(before),
+        (4, _) => of_sign(before, word, behind)
+            .or(of_item(before, word))
+            .or(of_call(before, word))
+            .or(in_bracket(before, word, behind)),
         _ => None,
     }
 }

@@ -1,6 +1,7 @@
 //! What is wrong with a line of an input, with the names and the numbers involved.
 
-use crate::display::{Fields, Word};
+use crate::display::{Fields, Meant, Word, separator};
+use crate::input_hint::{of_field, of_first};
 use crate::query_fault::write_summary;
 use bumpalo::Bump;
 use decimal::signed_number;
@@ -51,8 +52,9 @@ fn write_malformed<W: Write>(line: &[u8], writer: &mut W) -> io::Result<()> {
             writeln!(writer, "two spaces stand together")
         }
         _ => {
+            let meant = Meant(of_first(first));
             let first = Word(first);
-            writeln!(writer, "{first} is no name")
+            writeln!(writer, "{first} is not a valid name{meant}")
         }
     }
 }
@@ -78,6 +80,53 @@ fn write_fields<W: Write>(
     }
 }
 
+/// Writes a name in a list, after what separates it.
+fn write_part<W: Write>(sign: &str, name: &[u8], writer: &mut W) -> io::Result<()> {
+    let name = Word(name);
+    write!(writer, "{sign}{name}")
+}
+
+/// Writes the names of a query's inputs.
+fn write_inputs<W: Write>(alloc: Global, query: &[u8], writer: &mut W) -> io::Result<()> {
+    let arena = Bump::new(alloc);
+    match parse(&arena, query) {
+        Ok(program) => {
+            let count = program.inputs.len();
+            for (index, input) in program.inputs.iter().enumerate() {
+                let sign = if index == 0 {
+                    ": the query has "
+                } else {
+                    separator(index, count, " and ")
+                };
+                write_part(sign, input.name.bytes(), writer)?;
+            }
+            Ok(())
+        }
+        Err(_) => Ok(()),
+    }
+}
+
+/// Writes that no input has that name, and which names there are.
+fn write_unknown<W: Write>(
+    alloc: Global,
+    query: &[u8],
+    name: &[u8],
+    writer: &mut W,
+) -> io::Result<()> {
+    let shown = Word(name);
+    write!(writer, "no input is called {shown}")?;
+    write_inputs(alloc, query, writer)?;
+    writeln!(writer)
+}
+
+/// Writes what is wrong with a field that is no number.
+fn write_bad_number<W: Write>(line: &[u8], writer: &mut W) -> io::Result<()> {
+    let bad = first_bad(line).unwrap_or(line);
+    let meant = Meant(of_field(bad, line));
+    let bad = Word(bad);
+    writeln!(writer, "{bad} is not a valid number{meant}")
+}
+
 /// Writes what is wrong with a line of an input text, in one line: where no more is known, what the table says of the code.
 pub fn write_input_fault<W: Write>(
     alloc: Global,
@@ -88,15 +137,17 @@ pub fn write_input_fault<W: Write>(
 ) -> io::Result<()> {
     let (first, _) = words(line);
     let name = Word(first);
-    match code {
-        41 => writeln!(writer, "no line epoch stands before this record of {name}"),
-        42 => writeln!(writer, "no input is called {name}"),
-        44 => {
-            let bad = Word(first_bad(line).unwrap_or(line));
-            writeln!(writer, "{bad} is no number")
-        }
-        45 => write_fields(alloc, query, line, writer),
-        46 => write_malformed(line, writer),
+    match (code, first) {
+        (41 | 42, b"epoch") => writeln!(writer, "an `epoch` line is that word alone"),
+        (41 | 42, b"input") => writeln!(
+            writer,
+            "this looks like a query; the query comes first, then the input"
+        ),
+        (41, _) => writeln!(writer, "no `epoch` line comes before this record of {name}"),
+        (42, _) => write_unknown(alloc, query, first, writer),
+        (44, _) => write_bad_number(line, writer),
+        (45, _) => write_fields(alloc, query, line, writer),
+        (46, _) => write_malformed(line, writer),
         _ => write_summary(code, writer),
     }
 }

@@ -4,20 +4,26 @@
 //! says what is wrong there with the names and the numbers involved; `explained` finds the table's row of a number, and
 //! `write_explanation` writes it. The contract for the layer above: a fault's status, and that the text of a row is written whole, or a
 //! beginning of it where the writer failed, or nothing. This crate uses the parser and typing, which read a query's text once more, the
-//! table of refusals, and the collector's writer.
+//! parser also to try which words can stand at a place; the table of refusals, and the collector's writer. `Plain` and `Word` show what
+//! stands on a command line with escapes for what might disturb a terminal.
 #![tactic(auto)]
 
+mod bracket;
 mod display;
 mod excerpt;
+mod expected;
 mod explain;
 mod explanation;
 mod fault;
 mod hint;
 mod input_fault;
+mod input_hint;
+mod names;
 mod query_fault;
 mod schedule_fault;
 mod texts;
 
+pub use display::{Plain, Word};
 pub use explain::explain_fault;
 pub use explanation::{explained, write_explanation};
 pub use fault::Fault;

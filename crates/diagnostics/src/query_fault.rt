@@ -1,7 +1,9 @@
 //! What is wrong with a query, with the names and the numbers involved.
 
 use crate::display::{Columns, Fields, Meant, Word};
-use crate::hint::hint;
+use crate::expected::write_expected;
+use crate::hint::{hint, of_hash};
+use crate::names::{called, write_no_form, write_unknown};
 use bumpalo::Bump;
 use parser::parse;
 use record_core::Span;
@@ -38,46 +40,118 @@ pub fn write_summary<W: Write>(code: u8, writer: &mut W) -> io::Result<()> {
     }
 }
 
-/// Writes what is wrong with a text that is no program: codes 1 to 6.
-fn write_reading<W: Write>(text: &[u8], code: u8, span: Span, writer: &mut W) -> io::Result<()> {
+/// What stands before a place, without the spaces there.
+fn before(text: &[u8], span: Span) -> &[u8] {
+    text.get(..span.start as usize)
+        .unwrap_or(&[])
+        .trim_ascii_end()
+}
+
+/// Writes what is wrong with a byte that begins no word.
+fn write_byte<W: Write>(text: &[u8], span: Span, writer: &mut W) -> io::Result<()> {
+    let meant = Meant(hint(text, 1, span));
+    match covered(text, span) {
+        [b'#'] => {
+            let hint = of_hash(before(text, span));
+            writeln!(writer, "unexpected `#`: {hint}")
+        }
+        [b'!'] => writeln!(
+            writer,
+            "unexpected `!`: unequal is written !=, and not [ ] negates a condition"
+        ),
+        [byte] if !matches!(*byte, b' '..=b'~') => {
+            let byte = *byte;
+            writeln!(writer, "unexpected byte 0x{byte:02x}{meant}")
+        }
+        word => {
+            let shown = Word(word);
+            writeln!(writer, "unexpected character `{shown}`{meant}")
+        }
+    }
+}
+
+/// Writes what is wrong with a number.
+fn write_number<W: Write>(text: &[u8], span: Span, writer: &mut W) -> io::Result<()> {
     let word = covered(text, span);
-    let meant = Meant(hint(text, code, span));
+    let shown = Word(word);
+    match word {
+        [b'0', ..] | [b'#', b'0', ..] => writeln!(writer, "{shown}: a number doesn't begin with 0"),
+        b"9223372036854775808" if before(text, span).ends_with(b"-") => writeln!(
+            writer,
+            "{shown}: a number is at most 9223372036854775807; the least is written -9223372036854775807 - 1"
+        ),
+        _ => writeln!(writer, "{shown}: a number is at most 9223372036854775807"),
+    }
+}
+
+/// Writes that a word can't stand at its place, or that the text ends too early, and what is meant or what could stand there.
+fn write_unexpected<W: Write>(
+    alloc: Global,
+    text: &[u8],
+    span: Span,
+    writer: &mut W,
+) -> io::Result<()> {
+    let word = covered(text, span);
+    let shown = Word(word);
+    match word {
+        [] => write!(writer, "the text ends too early")?,
+        _ => write!(writer, "unexpected `{shown}`")?,
+    }
+    let before = before(text, span);
+    match (hint(text, 4, span), word, called(before)) {
+        (Some(hint), _, _) => writeln!(writer, ": {hint}"),
+        (None, b"(", Some(name)) => {
+            write!(writer, ": ")?;
+            write_no_form(name, writer)
+        }
+        _ => {
+            write_expected(alloc, before, writer)?;
+            writeln!(writer)
+        }
+    }
+}
+
+/// Writes what is wrong with a text that is no program: codes 1 to 6.
+fn write_reading<W: Write>(
+    alloc: Global,
+    text: &[u8],
+    code: u8,
+    span: Span,
+    writer: &mut W,
+) -> io::Result<()> {
+    let word = covered(text, span);
     let length = word.len();
     let shown = Word(word);
-    match (code, word) {
-        (1, [b'#']) => writeln!(writer, "no number stands right after this #"),
-        (1, [b'!']) => writeln!(writer, "no = stands right after this !"),
-        (1, [byte]) if !matches!(*byte, b' '..=b'~') => {
-            let byte = *byte;
-            writeln!(writer, "the byte 0x{byte:02x} begins no word")
-        }
-        (1, _) => writeln!(writer, "{shown} begins no word{meant}"),
-        (2, [b'0', ..] | [b'#', b'0', ..]) => writeln!(
+    match code {
+        1 => write_byte(text, span, writer),
+        2 => write_number(text, span, writer),
+        3 => writeln!(writer, "the name has {length} bytes: a name has at most 32"),
+        4 => write_unexpected(alloc, text, span, writer),
+        5 => writeln!(
             writer,
-            "{shown}: a number doesn't begin with 0"
+            "`{shown}` is more than 64 deep: each operator, `and` or `or` of a row counts, so put parts of a long row in brackets"
         ),
-        (2, _) => writeln!(writer, "{shown}: a number is at most 9223372036854775807"),
-        (3, _) => writeln!(writer, "the name has {length} bytes: a name has at most 32"),
-        (4, []) => writeln!(
-            writer,
-            "the text ends here, and the query is not at its end{meant}"
-        ),
-        (4, _) => writeln!(writer, "{shown} can't stand here{meant}"),
-        (5, _) => writeln!(writer, "{shown} is more than 64 deep"),
         _ => write_summary(code, writer),
     }
 }
 
 /// Writes what is wrong with a program that isn't well typed, where no number of fields is involved.
-fn write_naming<W: Write>(code: u8, word: &[u8], writer: &mut W) -> io::Result<()> {
+fn write_naming<W: Write>(
+    alloc: Global,
+    text: &[u8],
+    code: u8,
+    span: Span,
+    writer: &mut W,
+) -> io::Result<()> {
+    let word = covered(text, span);
     let shown = Word(word);
     match code {
-        11 => writeln!(writer, "no relation is called {shown} here"),
+        11 => write_unknown(alloc, text, word, span, writer),
         12 => writeln!(writer, "the name {shown} is taken already"),
         17 => writeln!(writer, "{shown} turns: a loop takes at most 65535"),
         18 => writeln!(
             writer,
-            "this loop stands in the bodies of 16 others: at most 15 are allowed"
+            "this loop is nested in 16 others: at most 15 are allowed"
         ),
         19 => writeln!(writer, "{shown} is the 17th input: a query has at most 16"),
         20 if word == b"output".as_slice() => writeln!(
@@ -136,11 +210,11 @@ pub fn write_query_fault<W: Write>(
 ) -> io::Result<()> {
     let word = covered(text, span);
     match code {
-        1..=6 => write_reading(text, code, span, writer),
+        1..=6 => write_reading(alloc, text, code, span, writer),
         13..=16 => match arities(alloc, text, code, span) {
             Some(arities) => write_arities(code, word, arities, writer),
             None => write_summary(code, writer),
         },
-        _ => write_naming(code, word, writer),
+        _ => write_naming(alloc, text, code, span, writer),
     }
 }

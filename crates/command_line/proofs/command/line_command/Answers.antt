@@ -12,7 +12,7 @@ top_of a = a.top
 
 pub returns : goal.returns
 returns c =
-    let top = ap app_of_fields c.subcommand_required.ensures ∙ ap requiring c.new.ensures.app in
+    let top = ap app_of_fields c.subcommand_required.ensures ∙ ap requiring c.program.ensures.app in
     let one = c.in_ok-subcommand.ensures.shape c.in_ok-run_command.ensures.local ∙ ap₂ with_subcommand top (ap top_of c.in_ok-run_command.ensures.app) in
     let two = c.in_ok-subcommand-2.ensures.shape c.in_ok-follow_command.ensures.local ∙ ap₂ with_subcommand one (ap top_of c.in_ok-follow_command.ensures.app) in
     let three = c.in_ok-subcommand-3.ensures.shape c.in_ok-check_command.ensures.local ∙ ap₂ with_subcommand two (ap top_of c.in_ok-check_command.ensures.app) in

@@ -1,0 +1,206 @@
+//! What can stand at a place of a query: each kind of word is tried there.
+
+use crate::display::separator;
+use bumpalo::Bump;
+use parser::parse;
+use record_core::Refusal;
+use std::alloc::{AllocError, Global};
+use std::io::Write;
+use std::{fmt, io};
+
+/// The longest text behind which words are tried, as each trial reads it once more.
+const LENGTH: usize = 65536;
+
+/// A word of each kind.
+const WORDS: [&str; 38] = [
+    "a",
+    "1",
+    "#0",
+    "/",
+    ";",
+    ",",
+    "(",
+    ")",
+    "[",
+    "]",
+    "=",
+    "!=",
+    "<",
+    "<=",
+    ">",
+    ">=",
+    "+",
+    "-",
+    "*",
+    "input",
+    "let",
+    "output",
+    "select",
+    "where",
+    "concat",
+    "except",
+    "intersect",
+    "join",
+    "group",
+    "distinct",
+    "iterate",
+    "count",
+    "sum",
+    "min",
+    "max",
+    "and",
+    "or",
+    "not",
+];
+
+/// Words that have a name together, where all of them can stand.
+struct Kind {
+    words: &'static [&'static str],
+    name: &'static str,
+}
+
+/// The kinds, each before those that are a part of it.
+static KINDS: [Kind; 6] = [
+    Kind {
+        words: &[
+            "a",
+            "select",
+            "where",
+            "concat",
+            "except",
+            "intersect",
+            "join",
+            "group",
+            "distinct",
+            "iterate",
+        ],
+        name: "a relation",
+    },
+    Kind {
+        words: &["1", "#0", "(", "-", "not", "["],
+        name: "a condition",
+    },
+    Kind {
+        words: &["1", "#0", "(", "-"],
+        name: "a number or a column",
+    },
+    Kind {
+        words: &["count", "sum", "min", "max"],
+        name: "an aggregate",
+    },
+    Kind {
+        words: &["+", "-", "*"],
+        name: "an operator",
+    },
+    Kind {
+        words: &["=", "!=", "<", "<=", ">", ">="],
+        name: "a comparison",
+    },
+];
+
+/// What can stand at a place.
+#[derive(Clone, Copy)]
+enum Expected {
+    /// A kind of words, by its name.
+    Kind(&'static str),
+    Word(&'static str),
+}
+
+impl fmt::Display for Expected {
+    fn fmt<W: fmt::Write>(&self, f: &mut fmt::Formatter<W>) -> fmt::Result {
+        match *self {
+            Expected::Kind(name) => write!(f, "{name}"),
+            Expected::Word(word) => write!(f, "`{word}`"),
+        }
+    }
+}
+
+/// Whether a beginning of a query can be followed by a word: whether no text that goes on so is refused for the order of words there.
+fn follows(alloc: Global, before: &[u8], word: &str) -> Result<bool, AllocError> {
+    let mut text = before.to_vec(alloc)?;
+    text.push(b' ')?;
+    text.extend_from_slice(word.as_bytes())?;
+    let arena = Bump::new(alloc);
+    match parse(&arena, text.as_slice()) {
+        Ok(_) => Ok(true),
+        Err(Refusal::NoMemory) => Err(AllocError),
+        Err(Refusal::At { code, span }) => {
+            Ok(code != 4 || span.start as usize != before.len().saturating_add(1))
+        }
+    }
+}
+
+/// Whether a text is a query.
+fn is_query(alloc: Global, text: &[u8]) -> bool {
+    let arena = Bump::new(alloc);
+    parse(&arena, text).is_ok()
+}
+
+/// The words without some of them.
+fn without(
+    alloc: Global,
+    words: &[&'static str],
+    some: &[&'static str],
+) -> Result<Vec<&'static str>, AllocError> {
+    let mut left = Vec::new(alloc);
+    for word in words {
+        if !some.contains(word) {
+            left.push(*word)?;
+        }
+    }
+    Ok(left)
+}
+
+/// What a word is that can stand alone.
+fn alone(word: &'static str) -> Expected {
+    match word.as_bytes() {
+        b"a" => Expected::Kind("a name"),
+        b"1" => Expected::Kind("a number"),
+        b"#0" => Expected::Kind("a column"),
+        _ => Expected::Word(word),
+    }
+}
+
+/// What can stand behind a beginning of a query.
+fn possible(alloc: Global, before: &[u8]) -> Result<Vec<Expected>, AllocError> {
+    let mut words = Vec::new(alloc);
+    for word in WORDS {
+        if follows(alloc, before, word)? {
+            words.push(word)?;
+        }
+    }
+    let mut found = Vec::new(alloc);
+    for kind in &KINDS {
+        if kind.words.iter().all(|word| words.contains(word)) {
+            found.push(Expected::Kind(kind.name))?;
+            words = without(alloc, words.as_slice(), kind.words)?;
+        }
+    }
+    for word in words.iter() {
+        found.push(alone(word))?;
+    }
+    if is_query(alloc, before) {
+        found.push(Expected::Kind("the end of the query"))?;
+    }
+    Ok(found)
+}
+
+/// Writes what can stand behind a beginning of a query, as `, expected x, y or z`. Nothing where that is too long, or no memory is left.
+pub fn write_expected<W: Write>(alloc: Global, before: &[u8], writer: &mut W) -> io::Result<()> {
+    if before.len() > LENGTH {
+        return Ok(());
+    }
+    let Ok(found) = possible(alloc, before) else {
+        return Ok(());
+    };
+    let count = found.len();
+    for (index, part) in found.iter().enumerate() {
+        let sign = if index == 0 {
+            ", expected "
+        } else {
+            separator(index, count, " or ")
+        };
+        write!(writer, "{sign}{part}")?;
+    }
+    Ok(())
+}

@@ -1,0 +1,70 @@
+//! Hints for words of an input text that look like another format.
+
+/// The line ends in two bytes.
+const CARRIAGE_RETURN: &str = "the line ends in CR LF; remove the CR, as by tr -d '\\r'";
+
+/// The hint for a word in which a sign stands between fields in place of a space.
+fn of_separator(word: &[u8]) -> Option<&'static str> {
+    if word.contains(&b'\t') {
+        Some("fields are separated by one space, not by a tab")
+    } else if word.iter().any(|byte| matches!(*byte, b',' | b';' | b'|')) {
+        Some("fields are separated by one space alone")
+    } else {
+        None
+    }
+}
+
+/// The hint for a line's first word, if it is no name.
+pub fn of_first(word: &[u8]) -> Option<&'static str> {
+    match (word, of_separator(word)) {
+        ([0xef, 0xbb, 0xbf, ..], _) => Some("the text begins with a byte order mark; remove it"),
+        ([.., b'\r'], _) => Some(CARRIAGE_RETURN),
+        ([b'#', ..] | [b'-', b'-', ..] | [b'/', b'/' | b'*', ..], _) => {
+            Some("there are no comments")
+        }
+        (_, Some(hint)) => Some(hint),
+        ([b'0'..=b'9' | b'-' | b'+', ..], _) => Some("a record begins with the name of its input"),
+        _ if word.len() > 32 => Some("a name has at most 32 bytes"),
+        _ => Some("a name has lower-case letters, digits and _"),
+    }
+}
+
+/// The hint for digits, with a sign or none, if they are no number.
+fn of_digits(word: &[u8]) -> &'static str {
+    match word {
+        [b'+', ..] => "a number has no +",
+        [b'-', b'0'] => "zero is written 0",
+        [b'-', b'0', ..] | [b'0', ..] => "a number doesn't begin with 0",
+        _ => "a number lies between -9223372036854775808 and 9223372036854775807",
+    }
+}
+
+/// Whether each word of a line after the first begins with a letter or a quote, as in a header line.
+fn is_header(line: &[u8]) -> bool {
+    line.split(|byte| *byte == b' ').skip(1).all(
+        |word| matches!(word, [b'a'..=b'z' | b'A'..=b'Z' | b'"', ..]),
+    )
+}
+
+/// The hint for a field of a line, if it is no number.
+pub fn of_field(word: &[u8], line: &[u8]) -> Option<&'static str> {
+    let digits = match word {
+        [b'-' | b'+', rest @ ..] => rest,
+        _ => word,
+    };
+    let is_plain = !digits.is_empty() && digits.iter().all(|byte| byte.is_ascii_digit());
+    match (word, of_separator(word)) {
+        ([.., b'\r'], _) => Some(CARRIAGE_RETURN),
+        (_, Some(hint)) => Some(hint),
+        ([b'#', ..], _) => Some("there are no comments"),
+        _ if is_plain => Some(of_digits(word)),
+        _ if matches!(digits, [b'0'..=b'9' | b'.', ..]) && digits.contains(&b'.') => Some(
+            "numbers are whole; write 12.50 as 1250 cents",
+        ),
+        _ if matches!(digits, [b'0'..=b'9', ..]) => Some(
+            "a number has only digits, after a - or none",
+        ),
+        _ if is_header(line) => Some("if this is a header line, leave it out"),
+        _ => Some("fields are whole numbers; give each string a number"),
+    }
+}

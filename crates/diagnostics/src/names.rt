@@ -1,0 +1,116 @@
+//! Names that a reader of a query may have meant.
+
+use crate::bracket::{FORMS, split_word};
+use crate::display::Word;
+use bumpalo::Bump;
+use parser::parse;
+use record_core::{Keyword, Span};
+use std::alloc::Global;
+use std::io;
+use std::io::Write;
+
+/// Whether two names differ in no more than two bytes side by side, and share two others at their ends.
+fn is_like(left: &[u8], right: &[u8]) -> bool {
+    let front = left
+        .iter()
+        .zip(right.iter())
+        .take_while(|pair| pair.0 == pair.1)
+        .count();
+    let left = left.get(front..).unwrap_or(&[]);
+    let right = right.get(front..).unwrap_or(&[]);
+    let back = left
+        .iter()
+        .rev()
+        .zip(right.iter().rev())
+        .take_while(|pair| pair.0 == pair.1)
+        .count();
+    let longer = left.len().max(right.len());
+    longer.saturating_sub(back) <= 2 && front.saturating_add(back) >= 2
+}
+
+/// Writes that a name is meant by a word, if it is a similar one before the word's place, or the same one behind it. Tells whether it is.
+fn write_meant<W: Write>(
+    name: &[u8],
+    place: Span,
+    word: &[u8],
+    span: Span,
+    writer: &mut W,
+) -> io::Result<bool> {
+    if place.start > span.start && name == word {
+        write!(writer, ": it is named further down")?;
+        return Ok(true);
+    }
+    let is_meant = place.start < span.start && is_like(name, word);
+    if is_meant {
+        let name = Word(name);
+        write!(writer, "; did you mean {name}?")?;
+    }
+    Ok(is_meant)
+}
+
+/// Writes which name of a query is meant by a word that names no relation at its place, if one is.
+fn write_similar<W: Write>(
+    alloc: Global,
+    text: &[u8],
+    word: &[u8],
+    span: Span,
+    writer: &mut W,
+) -> io::Result<()> {
+    let arena = Bump::new(alloc);
+    match parse(&arena, text) {
+        Ok(program) => {
+            for input in program.inputs.iter() {
+                if write_meant(input.name.bytes(), input.name_span, word, span, writer)? {
+                    return Ok(());
+                }
+            }
+            for item in program.lets.iter() {
+                if write_meant(item.name.bytes(), item.name_span, word, span, writer)? {
+                    return Ok(());
+                }
+            }
+            Ok(())
+        }
+        Err(_) => Ok(()),
+    }
+}
+
+/// Writes that no relation has that name, and which one is meant.
+pub fn write_unknown<W: Write>(
+    alloc: Global,
+    text: &[u8],
+    word: &[u8],
+    span: Span,
+    writer: &mut W,
+) -> io::Result<()> {
+    let shown = Word(word);
+    write!(writer, "no relation is called {shown} here")?;
+    write_similar(alloc, text, word, span, writer)?;
+    writeln!(writer)
+}
+
+/// The word that stands before a bracket as the name of a form, though it is none.
+pub fn called(before: &[u8]) -> Option<&[u8]> {
+    let (front, word) = split_word(before);
+    let (_, first) = split_word(front);
+    let is_declared = matches!(first, b"input" | b"let");
+    match word {
+        [b'a'..=b'z', ..] if Keyword::of(word).is_none() && !is_declared => Some(word),
+        _ => None,
+    }
+}
+
+/// Writes that a word names no form, and which form is meant.
+pub fn write_no_form<W: Write>(word: &[u8], writer: &mut W) -> io::Result<()> {
+    let shown = Word(word);
+    match FORMS.iter().find(|form| is_like(form, word)) {
+        Some(form) => {
+            let form = Word(form);
+            writeln!(writer, "{shown} is not a form; did you mean {form}?")
+        }
+        None => writeln!(
+            writer,
+            "{shown} is not a form; the forms are select, where, concat, except, intersect, join, group, distinct and iterate"
+        ),
+    }
+}
