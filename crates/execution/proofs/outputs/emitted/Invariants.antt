@@ -2,4 +2,4 @@ use Rattle.execution.proofs.EmittedOutputs.{AreBelow}
 use Rattle.execution.proofs.outputs.emitted.Given as goal
 
 abbrev pub invariant-loop-output : goal.invariant-loop-output
-invariant-loop-output l = AreBelow l.report l.count l.outputs l.output l.emitted.items
+invariant-loop-output g l = AreBelow l.report l.count l.outputs l.output l.emitted.items
