@@ -64,8 +64,7 @@ fn respond_on<V: Views + Send, R: Threads + Wait + Sync, G: Gate + Sync, W: Writ
     }
 }
 
-/// The same for so many workers over the graph. A single worker sees at once what is active. Several go by views of their own, which
-/// may be late.
+/// The same for so many workers over the graph, who all see at once what is active.
 fn respond_by<R: Threads + Wait + Sync, G: Gate + Sync, W: Write, O: Write + Send>(
     rt: &R,
     alloc: Global,
@@ -79,16 +78,9 @@ fn respond_by<R: Threads + Wait + Sync, G: Gate + Sync, W: Write, O: Write + Sen
     ensures text { RespondsBy graph.value epochs.now (W.contents (inner_of writer.old)) (W.contents (inner_of writer.new)) result }
     ensures failed { IsErrOf result fault.Write → has_failed writer.new ≡ true }
 {
-    if workers.count() == 1 {
-        match Board::new(alloc, graph, 1) {
-            Ok(board) => respond_on(rt, alloc, board, epochs, gate, writer, watcher),
-            Err(_) => Err(Fault::NoMemory),
-        }
-    } else {
-        match Board::with_local_views(alloc, graph, workers.count()) {
-            Ok(board) => respond_on(rt, alloc, board, epochs, gate, writer, watcher),
-            Err(_) => Err(Fault::NoMemory),
-        }
+    match Board::new(alloc, graph, workers.count()) {
+        Ok(board) => respond_on(rt, alloc, board, epochs, gate, writer, watcher),
+        Err(_) => Err(Fault::NoMemory),
     }
 }
 

@@ -1,0 +1,10 @@
+use Rattle.std.proofs.Common.{subst}
+use Rattle.lowering.specs.Shown.{GraphValue}
+use Rattle.collector.specs.Watching.{inner_of}
+use Rattle.console.specs.Answers.{RespondsBy}
+use Rattle.console.proofs.respond.respond_by.Goals as goal
+
+pub returns-in-Ok-clause-text : goal.returns-in-Ok-clause-text
+returns-in-Ok-clause-text g c =
+    subst (λ (graph : GraphValue). RespondsBy graph c.args.epochs.now (g.W.Write.contents (inner_of c.args.writer.now)) (g.W.Write.contents (inner_of c.respond_on.new.writer)) c.respond_on.result)
+    c.in-Ok.ensures.opening.graph c.respond_on.ensures.text
