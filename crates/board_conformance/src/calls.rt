@@ -138,7 +138,7 @@ fn picks(rt: HostRuntime) -> Result<(), Fail> {
 }
 
 /// Whether an output shows these fields for epoch 0, and whether it shows the epoch as passed.
-fn shows_at<V: Views>(
+pub fn shows_at<V: Views>(
     alloc: Global,
     board: &Board<V>,
     output: u32,

@@ -7,7 +7,11 @@ ghost use Rattle.progress.specs.Content.{times_at};
 ghost use Rattle.views.specs.Opening.{active_at_first};
 ghost use Rattle.board.specs.Commits.{IsOf};
 
-use crate::boards::{batch_of, board_of, emitted_at, fields_of, graph_of, passed_at};
+use crate::boards::{
+    batch_of, board_of, emitted_at, fields_of, graph_of, late_board_of, passed_at,
+};
+use crate::calls::shows_at;
+use crate::scarce::late_board_after;
 use board::{Board, Claimed, CommitRefusal, StepRefusal};
 use events::{Done, Work};
 use expr_tree::NoMemory;
@@ -20,6 +24,8 @@ use std::test::Fail;
 use views::{Direct, Views};
 
 const COUNTS: &str = "input a/1; output group(select(a; #0 * 2); #0; count);";
+
+const KEYS: &str = "input a/1; output group(a; #0; count);";
 
 /// A tracker that refuses one of its growths.
 #[derive(Drop)]
@@ -238,13 +244,30 @@ fn is_answered<V: Views>(alloc: Global, board: &Board<V>) -> Result<bool, AllocE
     )
 }
 
-/// How many calls were refused where the tracker refuses its growth after so many, if the answer is whole.
-fn refused_after(alloc: Global, granted: u32) -> Option<u32> {
-    let mut board = board_after(alloc, graph_of(alloc, COUNTS)?, granted)?;
-    match (refused(alloc, &mut board), is_answered(alloc, &board)) {
-        (Ok(count), Ok(true)) => Some(count),
+/// How many calls were refused on a new board, if the answer is whole.
+fn refused_on<V: Views>(alloc: Global, mut board: Board<V>) -> Option<u32> {
+    let count = refused(alloc, &mut board).ok()?;
+    board.catch_up(0);
+    match is_answered(alloc, &board) {
+        Ok(true) => Some(count),
         _ => None,
     }
+}
+
+/// How many calls were refused where the tracker refuses its growth after so many, if the answer is whole.
+fn refused_after(alloc: Global, granted: u32) -> Option<u32> {
+    refused_on(
+        alloc,
+        board_after(alloc, graph_of(alloc, COUNTS)?, granted)?,
+    )
+}
+
+/// The same where each worker has a view, which refuses its growth.
+fn refused_late_after(alloc: Global, granted: u32) -> Option<u32> {
+    refused_on(
+        alloc,
+        late_board_after(alloc, graph_of(alloc, COUNTS)?, 2, granted)?,
+    )
 }
 
 // The opening reserves twice, and each feed, seal and commit once: there are four feeds, two seals and twelve commits at least.
@@ -267,8 +290,102 @@ fn refused_by_the_tracker(rt: HostRuntime) -> Result<(), Fail> {
     Err(Fail::from("always refused"))
 }
 
-// To be run with each allocation refused in turn: whichever that is, the answer is whole, or an event was given up, and then its epoch
-// never passes.
+// Here the opening reserves once.
+#[test]
+fn refused_by_late_views(rt: HostRuntime) -> Result<(), Fail> {
+    let graph = graph_of(rt.alloc(), COUNTS).ok_or("no graph")?;
+    assert!(rt; late_board_after(rt.alloc(), graph, 2, 0).is_none());
+    for granted in 1..100u32 {
+        match refused_late_after(rt.alloc(), granted) {
+            Some(0) => {
+                assert!(rt; granted > 18);
+                return Ok(());
+            }
+            count => assert_eq!(rt; count, Some(1)),
+        }
+    }
+    Err(Fail::from("always refused"))
+}
+
+/// Does a worker's first choice, which must be there or not. How often a call was refused.
+fn finish_picked<V: Views>(
+    alloc: Global,
+    board: &mut Board<V>,
+    worker: u32,
+    is_there: bool,
+) -> Result<u32, Fault> {
+    match board.pick(worker, 0) {
+        Ok(work) => {
+            let refused = finish(alloc, board, work)?;
+            if is_there {
+                Ok(refused)
+            } else {
+                Err(Fault::Spoiled)
+            }
+        }
+        Err(StepRefusal::NoSuchEvent) if !is_there => Ok(0),
+        Err(_) => Err(Fault::Spoiled),
+    }
+}
+
+/// Two workers count a key each. Worker 0 isn't notified while a record is on its way to worker 1, whose group is the same vertex.
+fn counted<V: Views>(alloc: Global, board: &mut Board<V>) -> Result<u32, Fault> {
+    let mut refused = 0u32;
+    for field in [Some(1), Some(2), None] {
+        refused = refused.saturating_add(offer_twice(alloc, board, field)?);
+    }
+    for (worker, is_there, emitted, passed) in [
+        (0, true, [].as_slice(), false),
+        (0, false, &[], false),
+        (1, true, &[], false),
+        (0, true, &[], false),
+        (1, true, &[], false),
+        (0, true, &[1, 1], false),
+        (1, true, &[1, 1, 2, 1], true),
+    ] {
+        refused = refused.saturating_add(finish_picked(alloc, board, worker, is_there)?);
+        if !shows_at(alloc, board, 0, emitted, passed) {
+            return Err(Fault::Spoiled);
+        }
+    }
+    Ok(refused)
+}
+
+/// How many calls were refused where the tracker refuses its growth after so many, if each showed what it should.
+fn counted_after(alloc: Global, granted: u32) -> Option<u32> {
+    let mut board = board_after(alloc, graph_of(alloc, KEYS)?, granted)?;
+    counted(alloc, &mut board).ok()
+}
+
+// After the opening's two there are two feeds, a seal and six commits.
+#[test]
+fn counts_refused_by_the_tracker(rt: HostRuntime) {
+    for granted in 2..11u32 {
+        assert_eq!(rt; counted_after(rt.alloc(), granted), Some(1));
+    }
+    assert_eq!(rt; counted_after(rt.alloc(), 11), Some(0));
+}
+
+/// Whether the answer is whole, or an event was given up: then the board is stopped, and the event's epoch never passes.
+fn is_whole_or_stopped<V: Views>(alloc: Global, board: &mut Board<V>) -> Result<bool, AllocError> {
+    match refused(alloc, board) {
+        Ok(count) => {
+            board.catch_up(0);
+            let is_whole = match is_answered(alloc, board) {
+                Ok(is_whole) => is_whole,
+                Err(_) => is_answered(alloc, board)?,
+            };
+            Ok(is_whole && count <= 1)
+        }
+        Err(Fault::GivenUp) => {
+            board.catch_up(0);
+            Ok(board.is_stopped() && !passed_at(board, 0, 1))
+        }
+        Err(Fault::Spoiled) => Ok(false),
+    }
+}
+
+// To be run with each allocation refused in turn, as the next one.
 #[test]
 fn refused_by_the_heap(rt: HostRuntime) -> Result<(), Fail> {
     let alloc = rt.alloc();
@@ -277,15 +394,18 @@ fn refused_by_the_heap(rt: HostRuntime) -> Result<(), Fail> {
         Some(board) => board,
         None => board_of(alloc, COUNTS, 2).ok_or("no board")?,
     };
-    match refused(alloc, &mut board) {
-        Ok(count) => {
-            assert!(rt; count <= 1);
-            assert!(rt; is_answered(alloc, &board).or_else(|_| is_answered(alloc, &board))?);
-        }
-        Err(fault) => {
-            assert_eq!(rt; fault, Fault::GivenUp);
-            assert!(rt; !passed_at(&board, 0, 1));
-        }
-    }
+    assert!(rt; is_whole_or_stopped(alloc, &mut board)?);
+    Ok(())
+}
+
+#[test]
+fn refused_by_the_heap_where_views_are_late(rt: HostRuntime) -> Result<(), Fail> {
+    let alloc = rt.alloc();
+    let first = late_board_of(alloc, COUNTS, 2);
+    let mut board = match first {
+        Some(board) => board,
+        None => late_board_of(alloc, COUNTS, 2).ok_or("no board")?,
+    };
+    assert!(rt; is_whole_or_stopped(alloc, &mut board)?);
     Ok(())
 }

@@ -14,4 +14,8 @@ mod reach;
 #[cfg(test)]
 mod replays;
 #[cfg(test)]
+mod scarce;
+#[cfg(test)]
 mod schedules;
+#[cfg(test)]
+mod twins;

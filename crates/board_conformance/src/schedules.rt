@@ -10,20 +10,24 @@ use std::alloc::{AllocError, Global};
 use std::test::Fail;
 use views::Views;
 
-const REACH: &str =
+pub const REACH: &str =
     "input e/2; output iterate(2; x = e; distinct(concat(x, select(join(x, e; #1 = #0); #0, #3))));";
 
-const EPOCHS: u32 = 3;
+pub const EPOCHS: u32 = 3;
 
 /// Numbers without pattern.
 #[derive(Drop)]
-struct Dice {
+pub struct Dice {
     state: u64,
 }
 
 impl Dice {
+    pub fn of(seed: u64) -> Dice {
+        Dice { state: seed }
+    }
+
     /// A number below this one, which isn't 0.
-    fn below(&mut self, bound: u32) -> u32
+    pub fn below(&mut self, bound: u32) -> u32
         requires { 0 < bound }
         ensures { result < bound }
     {
@@ -120,7 +124,7 @@ fn runs<V: Views>(
     seed: u64,
     steps: u32,
 ) -> Result<bool, AllocError> {
-    let mut dice = Dice { state: seed };
+    let mut dice = Dice::of(seed);
     for _step in 0..steps {
         if !step(alloc, board, &mut dice) || !keeps_its_promise(alloc, board)? {
             return Ok(false);
