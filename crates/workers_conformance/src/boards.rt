@@ -14,7 +14,7 @@ use views::{Direct, LocalViews, Views};
 use workers::Report;
 
 /// The graph that copies its input to its output.
-fn copying_graph(alloc: Global) -> Option<Arc<Graph, Global>> {
+pub fn copying_graph(alloc: Global) -> Option<Arc<Graph, Global>> {
     let program = parse(alloc, b"input a/1; output a;").ok()?;
     let typed = check(alloc, program).ok()?;
     Arc::new(alloc, lower(alloc, &typed).ok()?).ok()

@@ -1,8 +1,10 @@
-//! Many workers: what a call does behind the lock, and that two workers compute at once.
+//! Many workers: what a call does behind the lock, that two workers compute at once, and that all end where memory is wanting.
 #![tactic(auto)]
 
 #[cfg(test)]
 mod boards;
+#[cfg(test)]
+mod epochs;
 #[cfg(test)]
 mod feeds;
 #[cfg(test)]
@@ -10,4 +12,8 @@ mod flags;
 #[cfg(test)]
 mod looks;
 #[cfg(test)]
+mod refusals;
+#[cfg(test)]
 mod runs;
+#[cfg(test)]
+mod scarce;

@@ -59,12 +59,12 @@ fn two_by_two<J: Naming + Send + Sync, V: Views + Send, G: Gate + Sync, R: Threa
 }
 
 /// Both workers, a thread for each.
-fn work_both<J: Naming + Send + Sync, V: Views + Send, G: Gate + Sync, R: Threads + Wait + Sync>(
-    rt: &R,
-    alloc: Global,
-    engine: &Engine<J, V>,
-    gate: &G,
-) -> [Ended; 2] {
+pub fn work_both<
+    J: Naming + Send + Sync,
+    V: Views + Send,
+    G: Gate + Sync,
+    R: Threads + Wait + Sync,
+>(rt: &R, alloc: Global, engine: &Engine<J, V>, gate: &G) -> [Ended; 2] {
     let (one, other) = thread::join(
         rt,
         move || work(rt, alloc, engine, 0, gate),
