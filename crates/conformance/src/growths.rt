@@ -11,6 +11,9 @@ use std::test::Fail;
 const LOOP: &str =
     "input e/2; output iterate(3; x = e; distinct(concat(x, select(join(x, e; #1 = #0); #0, #3))));";
 
+const LOOP_GRAPH: &str =
+    "0 input 0 <-\n1 ingress 0 <- 0.0\n2 concat 1 <- 1.0 12.0\n3 gate(3) 1 <- 2.0\n4 ingress 0 <- 0.0\n5 concat 1 <- 4.0 7.0\n6 hold(3) 1 <- 5.0\n7 feedback 1 <- 6.1\n8 join 1 <- 3.0 6.0\n9 select 1 <- 8.0\n10 concat 1 <- 3.0 9.0\n11 distinct 1 <- 10.0\n12 feedback 1 <- 11.0\n13 egress 1 <- 3.1\n14 output 0 <- 13.0\n";
+
 /// Each form of relation, scalar and condition.
 const FORMS: &str =
     "input a/2; input b/1; let s = select(where(a; #0 < 5 and not [#1 = -2]); #0, #1 * 2 + 1); output iterate(2; x = s; distinct(concat(x, group(join(x, b; #1 = #0); #0; sum #1))));";
@@ -68,41 +71,87 @@ fn checked_in_heaps(rt: HostRuntime) -> Result<(), Fail> {
     Ok(())
 }
 
+/// What came of compiling a query, where memory was refused or not.
+#[derive(Clone, Copy, Debug, PartialEq, Eq)]
+struct Compiled {
+    was_refused: bool,
+    was_answered: bool,
+    was_wrong: bool,
+}
+
+impl Compiled {
+    fn never() -> Compiled {
+        Compiled {
+            was_refused: false,
+            was_answered: false,
+            was_wrong: false,
+        }
+    }
+
+    /// Notes a graph's text, which is empty where memory was refused.
+    fn note(&mut self, text: &str, graph: &str) {
+        if text.is_empty() {
+            self.was_refused = true;
+        } else if text == graph {
+            self.was_answered = true;
+        } else {
+            self.was_wrong = true;
+        }
+    }
+}
+
+/// Some were refused, and all others right.
+fn refused_or_right() -> Compiled {
+    Compiled {
+        was_refused: true,
+        was_answered: true,
+        was_wrong: false,
+    }
+}
+
 #[test]
 fn compiled_in_heaps(rt: HostRuntime) -> Result<(), Fail> {
-    assert_eq!(rt; graph_in(&rt, rt.alloc(), FORMS)?.as_str(), FORMS_GRAPH);
-    let mut was_refused = false;
-    let mut was_answered = false;
-    for step in 1..=256 {
-        let heap = LocalHeap::new(rt.alloc(), 64 * step)?;
-        let text = graph_in(&rt, &heap, FORMS)?;
-        if text.is_empty() {
-            was_refused = true;
-        } else {
-            assert_eq!(rt; text.as_str(), FORMS_GRAPH);
-            was_answered = true;
+    for (query, graph) in [(LOOP, LOOP_GRAPH), (FORMS, FORMS_GRAPH)] {
+        assert_eq!(rt; graph_in(&rt, rt.alloc(), query)?.as_str(), graph);
+        let mut compiled = Compiled::never();
+        for step in 1..=256 {
+            let heap = LocalHeap::new(rt.alloc(), 64 * step)?;
+            let text = graph_in(&rt, &heap, query)?;
+            compiled.note(&text, graph);
+            assert_eq!(rt; heap.used(), 0);
         }
-        assert_eq!(rt; heap.used(), 0);
+        assert_eq!(rt; compiled, refused_or_right());
     }
-    assert!(rt; was_refused && was_answered);
     Ok(())
 }
 
 #[test]
 fn compiled_in_arenas(rt: HostRuntime) -> Result<(), Fail> {
-    let mut was_refused = false;
-    let mut was_answered = false;
-    for step in 1..=256 {
-        let heap = LocalHeap::new(rt.alloc(), 128 * step)?;
-        let arena = Bump::new(&heap);
-        let text = graph_in(&rt, &arena, FORMS)?;
-        if text.is_empty() {
-            was_refused = true;
-        } else {
-            assert_eq!(rt; text.as_str(), FORMS_GRAPH);
-            was_answered = true;
+    for (query, graph) in [(LOOP, LOOP_GRAPH), (FORMS, FORMS_GRAPH)] {
+        let mut compiled = Compiled::never();
+        for step in 1..=256 {
+            let heap = LocalHeap::new(rt.alloc(), 128 * step)?;
+            let arena = Bump::new(&heap);
+            let text = graph_in(&rt, &arena, query)?;
+            compiled.note(&text, graph);
         }
+        assert_eq!(rt; compiled, refused_or_right());
     }
-    assert!(rt; was_refused && was_answered);
+    Ok(())
+}
+
+// The same arena, once it is reset, takes the whole query if it may grow.
+#[test]
+fn compiled_again_in_an_arena(rt: HostRuntime) -> Result<(), Fail> {
+    let mut compiled = Compiled::never();
+    for step in 1..=64 {
+        let mut arena = Bump::new(rt.alloc());
+        arena.set_allocation_limit(Some(512 * step));
+        compiled.note(&graph_in(&rt, &arena, LOOP)?, LOOP_GRAPH);
+        assert!(rt; arena.reset().is_ok());
+        arena.set_allocation_limit(None);
+        assert_eq!(rt; graph_in(&rt, &arena, LOOP)?.as_str(), LOOP_GRAPH);
+    }
+    assert_eq!(rt; compiled, refused_or_right());
     Ok(())
 }

@@ -13,9 +13,12 @@ use typing::check;
 use views::{Direct, LocalViews, Views};
 use workers::Report;
 
-/// The graph that copies its input to its output.
-pub fn copying_graph(alloc: Global) -> Option<Arc<Graph, Global>> {
-    let program = parse(alloc, b"input a/1; output a;").ok()?;
+/// Copies its input to its output.
+pub const COPY: &str = "input a/1; output a;";
+
+/// The graph of a query.
+pub fn graph_of(alloc: Global, text: &str) -> Option<Arc<Graph, Global>> {
+    let program = parse(alloc, text.as_bytes()).ok()?;
     let typed = check(alloc, program).ok()?;
     Arc::new(alloc, lower(alloc, &typed).ok()?).ok()
 }
@@ -25,7 +28,7 @@ pub fn copying(alloc: Global, workers: u32) -> Option<Board<Direct<LocationTrack
     requires some { 0 < workers }
     requires few { workers ≤ 64 }
 {
-    Board::new(alloc, copying_graph(alloc)?, workers).ok()
+    Board::new(alloc, graph_of(alloc, COPY)?, workers).ok()
 }
 
 /// The same board with a view for each worker.
@@ -33,7 +36,7 @@ pub fn copying_with_local_views(alloc: Global, workers: u32) -> Option<Board<Loc
     requires some { 0 < workers }
     requires few { workers ≤ 64 }
 {
-    Board::with_local_views(alloc, copying_graph(alloc)?, workers).ok()
+    Board::with_local_views(alloc, graph_of(alloc, COPY)?, workers).ok()
 }
 
 /// A batch of one record of one field.

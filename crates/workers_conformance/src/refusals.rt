@@ -3,9 +3,7 @@
 ghost use Rattle.std.specs.Prelude.{◌≡◌};
 ghost use Rattle.board.specs.Shown.{tables};
 
-use crate::boards::{
-    batch_of, copying, copying_graph, copying_with_local_views, count_of, emitted,
-};
+use crate::boards::{COPY, batch_of, count_of, emitted, graph_of};
 use crate::runs::work_both;
 use crate::scarce::{board_after, late_board_after};
 use board::Board;
@@ -19,6 +17,9 @@ use workers::{Ended, Engine, Mark, Naming, NoGate, finish};
 
 /// So many records are fed, each in a batch of its own.
 const FED: i64 = 20;
+
+/// Drops repeats, of which there are none, and takes memory for each event.
+const DISTINCT: &str = "input a/1; output distinct(a);";
 
 /// So often the views grow before the first commit: at the opening, at each feed and at the seal.
 const GRANTED: u32 = 22;
@@ -105,7 +106,7 @@ fn worked_off() -> Outcome {
 #[test]
 fn stops_all_workers(rt: HostRuntime) -> Result<(), Fail> {
     let alloc = rt.alloc();
-    let graph = copying_graph(alloc).ok_or("no graph")?;
+    let graph = graph_of(alloc, COPY).ok_or("no graph")?;
     let board = board_after(alloc, graph, GRANTED).ok_or("no board")?;
     let outcome = run_epoch(&rt, alloc, board).ok_or("no report")?;
     assert_eq!(rt; outcome, given_up());
@@ -115,7 +116,7 @@ fn stops_all_workers(rt: HostRuntime) -> Result<(), Fail> {
 #[test]
 fn stops_all_workers_with_local_views(rt: HostRuntime) -> Result<(), Fail> {
     let alloc = rt.alloc();
-    let graph = copying_graph(alloc).ok_or("no graph")?;
+    let graph = graph_of(alloc, COPY).ok_or("no graph")?;
     let board = late_board_after(alloc, graph, GRANTED).ok_or("no board")?;
     let outcome = run_epoch(&rt, alloc, board).ok_or("no report")?;
     assert_eq!(rt; outcome, given_up());
@@ -123,12 +124,12 @@ fn stops_all_workers_with_local_views(rt: HostRuntime) -> Result<(), Fail> {
 }
 
 fn new_run<R: Threads + Wait + Sync>(rt: &R, alloc: Global) -> Option<Outcome> {
-    let board = copying(alloc, 2)?;
+    let board = Board::new(alloc, graph_of(alloc, DISTINCT)?, 2).ok()?;
     run_epoch(rt, alloc, board)
 }
 
 fn new_run_with_local_views<R: Threads + Wait + Sync>(rt: &R, alloc: Global) -> Option<Outcome> {
-    let board = copying_with_local_views(alloc, 2)?;
+    let board = Board::with_local_views(alloc, graph_of(alloc, DISTINCT)?, 2).ok()?;
     run_epoch(rt, alloc, board)
 }
 
