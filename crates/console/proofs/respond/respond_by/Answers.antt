@@ -1,8 +1,14 @@
+use denote.Param.Send.{sendable}
 use Rattle.std.proofs.Common.{subst}
+use Rattle.std.proofs.Crossing.{crosses}
 use Rattle.lowering.specs.Shown.{GraphValue}
 use Rattle.collector.specs.Watching.{inner_of}
+use Rattle.workers.proofs.Crossing.{direct_send}
 use Rattle.console.specs.Answers.{RespondsBy}
 use Rattle.console.proofs.respond.respond_by.Goals as goal
+
+pub respond_on-requires-send-V : goal.respond_on-requires-send-V
+respond_on-requires-send-V g c κs = search (sendable, crosses, direct_send) depth 20
 
 pub returns-in-Ok-clause-text : goal.returns-in-Ok-clause-text
 returns-in-Ok-clause-text g c =
