@@ -206,7 +206,7 @@ fn follow_pieces<T: Threads + Sync, R: Read, W: Write>(
     ensures reader { IsErrOf result ending.Read → has_failed reader.new ≡ true }
     ensures writer { IsErrOf result ending.Write → has_failed writer.new ≡ true }
 {
-    let mut piece = [0; 65_536];
+    let mut piece = [0; 16_384];
     for _turn in 0..u64::MAX {
         let Ok(count) = reader.pull(&mut piece) else {
             return Err(Ending::Read);
