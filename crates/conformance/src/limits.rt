@@ -89,6 +89,9 @@ fn a_long_text_explained(rt: HostRuntime) -> Result<(), Fail> {
     assert!(rt; matches!(fault, Fault::Query { code: 6, .. }));
     let mut said = Vec::new(rt.alloc());
     explain_fault(rt.alloc(), &fault, &texts, &mut said)?;
-    assert_eq!(rt; said.as_slice(), b"a text over 1,048,576 bytes\n".as_slice());
+    assert_eq!(rt;
+        said.as_slice(),
+        b"a text over 1,048,576 bytes\n".as_slice()
+    );
     Ok(())
 }
