@@ -1,7 +1,7 @@
 //! Shards fed with batches of 1,024 records of two fields, at one time.
 
 ghost use Rattle.std.specs.Prelude.{◌≡◌, ◌<◌, ◌≤◌, ℕ, IfOk, IfSome, OnOk};
-ghost use Rattle.lowering.specs.Views.{kind_of};
+ghost use Rattle.graph.specs.Views.{kind_of};
 ghost use Rattle.rows.specs.FlatRows.{arity_of};
 ghost use Rattle.semantics.specs.Kinds.{Role, in_ports, role};
 ghost use Rattle.semantics.specs.PortArity.{PortsFit};
@@ -10,8 +10,8 @@ ghost use Rattle.vertices.specs.AtWork.{IsAtWork};
 ghost use Rattle.vertices.specs.Shards.{by_port, shard_kind};
 
 use expr_tree::{Agg, Column, Pair};
+use graph::{Kind, Sources, Vertex};
 use loop_context::Time;
-use lowering::{Kind, Sources, Vertex};
 use record_core::Span;
 use rows::{Batch, Rows};
 use std::alloc::Global;

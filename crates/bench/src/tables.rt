@@ -6,8 +6,9 @@ ghost use Rattle.semantics.specs.Time.{at_epoch};
 ghost use Rattle.bench.specs.Open.{AreOpen, epoch_at};
 
 use expr_tree::NoMemory;
+use graph::{Location, VertexId};
 use loop_context::Time;
-use lowering::{Location, VertexId, lower};
+use lowering::lower;
 use parser::parse;
 use path_summary::{Paths, Pointstamp};
 use progress::{LocationTracker, PlainTracker, Progress};

@@ -4,7 +4,7 @@ use Rattle.atomic_table.specs.Seated.{TableId}
 use Rattle.semantics.specs.Multiset.{Record}
 use Rattle.semantics.specs.Graph.{Graph}
 use Rattle.semantics.specs.Could.{Pointstamp}
-use Rattle.lowering.specs.Shown.{shown_graph}
+use Rattle.graph.specs.Shown.{shown_graph}
 use Rattle.machine.specs.Step.{Step}
 use Rattle.events.specs.Jobs.{Pass}
 use Rattle.events.specs.declared.letter.Letter.{Letter}

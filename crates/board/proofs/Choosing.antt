@@ -26,6 +26,7 @@ may_of s w k (Step.claim_request i at r) ok by = subst (MayClaim (net s) w) by o
 may_of s w k (Step.feed i records) ok by = absurd by
 may_of s w k (Step.seal i) ok by = absurd by
 may_of s w k (Step.close i) ok by = absurd by
+may_of s w k (Step.merge i at m n) ok by = absurd by
 may_of s w k (Step.commit i event out) ok by = absurd by
 may_of s w k (Step.abandon i event) ok by = absurd by
 

@@ -1,6 +1,6 @@
 -- Claims.
 use Rattle.std.proofs.Common.{◌≡◌, ◌<◌, ℕ, false, List, length, refl, sym, ap, ◌∙◌, arith, slice_get, slice_set, slice_index_or, remove, Some, None, length-set}
-use Rattle.lowering.specs.Shown.{shown_graph}
+use Rattle.graph.specs.Shown.{shown_graph}
 use Rattle.machine.specs.World.{World, Message, Request, Event, Held}
 use Rattle.machine.specs.Active.{request_pointstamp}
 use Rattle.machine.specs.Frontier.{NoOtherBefore}

@@ -7,7 +7,7 @@ use Rattle.semantics.specs.Kinds.{Kind, Role, role}
 use Rattle.semantics.specs.Graph.{Graph, vertex, target}
 use Rattle.semantics.specs.Could.{Pointstamp}
 use Rattle.semantics.specs.Dataflow.{IsDataflow}
-use Rattle.lowering.specs.Shown.{shown_graph}
+use Rattle.graph.specs.Shown.{shown_graph}
 use Rattle.machine.specs.World.{Message, Request, Event}
 use Rattle.machine.specs.Active.{one_if_same, message_pointstamp, request_pointstamp, event_pointstamp}
 use Rattle.machine.specs.Changes.{parcel_count}

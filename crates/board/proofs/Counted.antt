@@ -7,7 +7,7 @@ use Rattle.semantics.specs.PortArity.{HaveFields}
 use Rattle.machine.specs.Step.{Step}
 use Rattle.tokens.specs.declared.rule.Place.TheVariants.{Home, Out}
 use Rattle.events.specs.Jobs.{Job, Pass}
-use Rattle.board.specs.Claims.{HandsMessage, HandsRequest}
+use Rattle.board.specs.Claims.{HandsMessage, HandsRequest, MergesMail}
 use Rattle.board.specs.Commits.{Feeds, IsOf, Settles}
 use Rattle.board.specs.Deliverable.{IsDeliverable}
 use Rattle.board.specs.Fitting.{arity_in}
@@ -22,6 +22,7 @@ use Rattle.board.proofs.Ended.{close_goes, seal_goes}
 use Rattle.board.proofs.Feeding.{feeds_goes}
 use Rattle.board.proofs.GivenOut.{hands_message, hands_message_kept, hands_request, hands_request_kept}
 use Rattle.board.proofs.GivenUp.{abandon_goes, abandon_kept}
+use Rattle.board.proofs.Merged.{merge_goes}
 
 open_rises : (xs : List InputShown) (i : ℕ) (x : InputShown) → (slice_index_or xs i no_input).open_epoch ≤ x.open_epoch → (j : ℕ) → (slice_index_or xs j no_input).open_epoch ≤ (slice_index_or (slice_set xs i x) j no_input).open_epoch
 open_rises [] i x e j = omega arith
@@ -130,6 +131,11 @@ module _ (graph : Graph) (viewers : ℕ) (content : Pointstamp → ℕ) (waiting
   sealed_passed i takes e =
       let P : Shown → Type 0 = λ z. HavePassed z passed in
       subst P (sym e) (have_passed graph content s keeps.kept (Step.seal i) (after_seal s i) (seal_goes graph content s keeps.kept i takes) (λ j. open_rises s.inputs i _ (omega arith) j) passed keeps.passed_are)
+
+  pub merged_passed : (k : ℕ) (there : k < length s.sides) (free : (side_at s k).place ≡ Home) (runs : s.stopped ≡ false) (at : ℕ) (place : Pointstamp) → MergesMail s t k at place → HavePassed t passed
+  merged_passed k there free runs at place h =
+      have_passed graph content s keeps.kept (Step.merge k at h.merges.alike.first h.merges.alike.second) t (merge_goes s k there free runs t at place h)
+      (λ j. let e = ap (λ (z : Shown). (input_at z j).open_epoch) h.state in omega (arith, e)) passed keeps.passed_are
 
   pub closed_passed : (i : ℕ) (takes : (s.stopped ≡ false) × (i < length s.inputs) × ((input_at s i).closed ≡ false)) → t ≡ after_close s i → HavePassed t passed
   closed_passed i takes e =

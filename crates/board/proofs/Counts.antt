@@ -5,7 +5,7 @@ use Rattle.semantics.specs.Could.{Pointstamp, CouldResultIn, NoneOf, at_vertex}
 use Rattle.semantics.specs.Dataflow.{IsDataflow}
 use Rattle.semantics.specs.Kinds.{Role, role}
 use Rattle.semantics.specs.Time.{at_epoch}
-use Rattle.lowering.specs.Shown.{GraphValue, shown_graph}
+use Rattle.graph.specs.Shown.{GraphValue, shown_graph}
 use Rattle.machine.specs.World.{World}
 use Rattle.machine.specs.Active.{IsActive}
 use Rattle.machine.specs.Engine.{network}

@@ -6,7 +6,7 @@ use Rattle.semantics.specs.Graph.{Graph, vertex, input_count}
 use Rattle.semantics.specs.Could.{Pointstamp, Location, IsTimeAt, at_vertex}
 use Rattle.semantics.specs.Time.{at_epoch}
 use Rattle.semantics.specs.Kinds.{Kind, Role, role, is_input}
-use Rattle.lowering.specs.Shown.{shown_graph}
+use Rattle.graph.specs.Shown.{shown_graph}
 use Rattle.machine.specs.Active.{one_if_same, IsActive}
 use Rattle.machine.specs.Step.{Step}
 use Rattle.machine.proofs.Engine.{network_is}

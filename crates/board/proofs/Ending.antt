@@ -5,8 +5,8 @@ use Rattle.semantics.specs.Multiset.{total}
 use Rattle.semantics.specs.Graph.{Graph}
 use Rattle.semantics.specs.Could.{Pointstamp, Location, IsTimeAt}
 use Rattle.semantics.specs.Time.{Time}
-use Rattle.lowering.specs.Locations.{IsIn}
-use Rattle.lowering.specs.Shown.{shown_graph}
+use Rattle.graph.specs.Locations.{IsIn}
+use Rattle.graph.specs.Shown.{shown_graph}
 use Rattle.machine.specs.World.{Event}
 use Rattle.machine.specs.Active.{one_if_same, request_pointstamp, event_pointstamp}
 use Rattle.machine.specs.Processing.{event_time}

@@ -3,7 +3,7 @@ use Rattle.std.proofs.Common.{◌≡◌, ◌<◌, ℕ, zero, suc, Bool, true, fa
 use Rattle.atomic_table.specs.Seated.{TableId}
 use Rattle.semantics.specs.Graph.{Graph}
 use Rattle.semantics.specs.Could.{Pointstamp, Location, IsTimeAt}
-use Rattle.lowering.specs.Shown.{shown_graph}
+use Rattle.graph.specs.Shown.{shown_graph}
 use Rattle.machine.specs.World.{World, Request, Event, Held}
 use Rattle.machine.specs.Active.{event_pointstamp, IsActive}
 use Rattle.machine.specs.InTransit.{IsGoodEvent}

@@ -6,7 +6,7 @@ use Rattle.semantics.specs.Graph.{Graph}
 use Rattle.semantics.specs.Could.{Pointstamp}
 use Rattle.semantics.specs.Time.{at_epoch}
 use Rattle.semantics.specs.PortArity.{HaveFields}
-use Rattle.lowering.specs.Shown.{shown_graph}
+use Rattle.graph.specs.Shown.{shown_graph}
 use Rattle.machine.specs.World.{World}
 use Rattle.machine.specs.Sending.{parcels}
 use Rattle.machine.specs.Active.{one_if_same, message_pointstamp}

@@ -11,7 +11,7 @@ use Rattle.semantics.specs.Time.{IsAtMost}
 use Rattle.board.specs.Deliverable.{IsBlocked, IsDeliverable, StandsBefore}
 use Rattle.board.proofs.Places.{get_index}
 
-below_next : (n m : ℕ) → n < m + 1 → (n < m) ⊎ (n ≡ m)
+pub below_next : (n m : ℕ) → n < m + 1 → (n < m) ⊎ (n ≡ m)
 below_next n m l = go (eqb_tells n m)
   where
     go : ((n == m) ≡ true) × (n ≡ m) ⊎ ((n == m) ≡ false) × (n ≢ m) → (n < m) ⊎ (n ≡ m)

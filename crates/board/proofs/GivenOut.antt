@@ -3,7 +3,7 @@ use Rattle.std.proofs.Common.{◌≡◌, ◌<◌, ℕ, zero, suc, false, List, [
 use Rattle.atomic_table.specs.Seated.{TableId}
 use Rattle.semantics.specs.Graph.{Graph, target}
 use Rattle.semantics.specs.Could.{Pointstamp, CouldResultIn, NoOtherOf}
-use Rattle.lowering.specs.Shown.{shown_graph}
+use Rattle.graph.specs.Shown.{shown_graph}
 use Rattle.machine.specs.World.{Message, Request}
 use Rattle.machine.specs.Active.{request_pointstamp}
 use Rattle.machine.specs.Step.{Step}
@@ -189,5 +189,6 @@ module _ (graph : Graph) (content : Pointstamp → ℕ) (s : Shown) (kept : IsKe
   no_choice empty blocked w (Step.feed i records) shows ok by = by
   no_choice empty blocked w (Step.seal i) shows ok by = by
   no_choice empty blocked w (Step.close i) shows ok by = by
+  no_choice empty blocked w (Step.merge i at m n) shows ok by = by
   no_choice empty blocked w (Step.commit i event out) shows ok by = by
   no_choice empty blocked w (Step.abandon i event) shows ok by = by

@@ -2,7 +2,7 @@
 use Rattle.std.proofs.Common.{◌≡◌, ◌<◌, ℕ, true, length, refl, ap, ◌∙◌, subst, arith, slice_set, slice_index_or, Option, Some, None, length-set}
 use Rattle.semantics.specs.Graph.{Graph}
 use Rattle.semantics.specs.Could.{Pointstamp}
-use Rattle.lowering.specs.Shown.{shown_graph}
+use Rattle.graph.specs.Shown.{shown_graph}
 use Rattle.machine.specs.World.{World, Held}
 use Rattle.machine.specs.Step.{Step, after_step}
 use Rattle.vertices.specs.declared.shard.Shard.{Shard}

@@ -4,7 +4,7 @@ use Rattle.board.specs.Desks.{Desk, sides_of}
 use Rattle.board.specs.Fresh.{HasFreshSides, HasShards, IsFreshSide, IsFreshSlot}
 use Rattle.board.specs.Shown.{Side, no_side}
 use Rattle.events.specs.Wired.{Wired}
-use Rattle.lowering.specs.Shown.{GraphValue}
+use Rattle.graph.specs.Shown.{GraphValue}
 use Rattle.vertices.specs.declared.shard.Shard.{Shard}
 
 -- where nothing is, there is what stands beyond the last

@@ -1,6 +1,6 @@
 -- From what the code of a claim has at hand to what it promises.
 use Rattle.std.proofs.Common.{◌≡◌, ◌<◌, ℕ, zero, suc, List, [], ◌∷◌, length, refl, sym, ap, ◌∙◌, subst, arith, slice_get, slice_set, slice_index_or, remove, Some, None}
-use Rattle.lowering.specs.Shown.{shown_graph}
+use Rattle.graph.specs.Shown.{shown_graph}
 use Rattle.machine.specs.World.{Message, Request, Event}
 use Rattle.events.specs.Jobs.{Job, Pass}
 use Rattle.board.specs.Desks.{Desk, sides_of}

@@ -6,7 +6,7 @@ use Rattle.semantics.specs.Multiset.{total}
 use Rattle.machine.specs.Views.{Changes}
 use Rattle.machine.specs.Active.{sum_below}
 use Rattle.machine.proofs.Counting.{below_same}
-use Rattle.views.specs.Waiting.{IsApplied, Waiting, after_post, all_waiting, batch}
+use Rattle.views.specs.Waiting.{IsApplied, IsSeenBy, Waiting, after_post, all_waiting, batch}
 use Rattle.board.specs.Lateness.{BoardShown, IsUpToDate, Posts, all_waits, counts_of, first_of, one_more, waits_for}
 use Rattle.board.specs.Shown.{Shown}
 
@@ -192,3 +192,25 @@ applied_some worker sender old new (IsApplied.took b e) none = nothing (sym e �
   where
     nothing : b ∷ new worker sender ≡ [] → ⊥
     nothing x = cc
+
+-- what waits nowhere still doesn't after a batch was applied or none
+pub none_still : (worker sender : ℕ) (old new : Waiting) (b : Bool) → IsApplied worker sender old new b → ((w k : ℕ) → (w ≡ worker → k ≡ sender → ⊥) → new w k ≡ old w k) → (w k : ℕ) → old w k ≡ [] → new w k ≡ []
+none_still worker sender old new b is others w k none = go (eqb_tells w worker) (eqb_tells k sender)
+  where
+    here : (b : Bool) → IsApplied worker sender old new b → old worker sender ≡ [] → new worker sender ≡ []
+    here true took e = absurd (applied_some worker sender old new took e)
+    here false (IsApplied.none e f) g = f
+
+    go : ((w == worker) ≡ true) × (w ≡ worker) ⊎ ((w == worker) ≡ false) × (w ≢ worker) → ((k == sender) ≡ true) × (k ≡ sender) ⊎ ((k == sender) ≡ false) × (k ≢ sender) → new w k ≡ []
+    go (inl (t, a)) (inl (u, c)) = (λ i. new (a i) (c i)) ∙ here b is ((λ i. old (sym a i) (sym c i)) ∙ none)
+    go (inl (t, a)) (inr (u, c)) = others w k (λ x y. c y) ∙ none
+    go (inr (t, a)) r = others w k (λ x y. a x) ∙ none
+
+-- a worker for whom the same waits sees no more than before
+pub sees_same : (content content' : Pointstamp → ℕ) (old new : Waiting) (n w : ℕ) → ((q : Pointstamp) → content' q ≡ content q) → ((k : ℕ) → new w k ≡ old w k) → (q : Pointstamp) → IsSeenBy content' new n w q → IsSeenBy content old n w q
+sees_same content content' old new n w c same q seen =
+    let row : new w ≡ old w = λ i k. same k i in
+    let A : (ℕ → List Changes) → Type 0 = λ r. sum_below (suc n) (λ s. total (λ b. b.adds q) (r s)) < content q + sum_below (suc n) (λ s. total (λ b. b.removes q) (r s)) in
+    let e = c q in
+    let now : A (new w) = omega (arith, seen, e) in
+    subst A row now

@@ -2,6 +2,7 @@ pub mod Places
 pub mod Mails
 pub mod Deliveries
 pub mod Rooms
+pub mod Merged
 pub mod Noted
 pub mod Emitting
 pub mod Outputs
@@ -18,6 +19,7 @@ pub mod Boards
 pub mod Ready
 pub mod Handing
 pub mod Worlds
+pub mod Together
 pub mod GivenOut
 pub mod Frontiers
 pub mod Ended

@@ -5,7 +5,7 @@ use Rattle.semantics.specs.Could.{IsTimeAt, Location, Pointstamp, at_vertex}
 use Rattle.semantics.specs.Time.{at_epoch}
 use Rattle.semantics.specs.Dataflow.{IsDataflow}
 use Rattle.semantics.specs.PortArity.{IsTyped}
-use Rattle.lowering.specs.Shown.{GraphValue, shown_graph}
+use Rattle.graph.specs.Shown.{GraphValue, shown_graph}
 use Rattle.machine.specs.Active.{one_if_same, sum_below}
 use Rattle.machine.specs.World.{opening}
 use Rattle.machine.proofs.Engine.{network_is}

@@ -5,7 +5,7 @@ use Rattle.semantics.specs.Could.{Pointstamp, at_vertex}
 use Rattle.semantics.specs.Time.{at_epoch}
 use Rattle.semantics.specs.Dataflow.{IsDataflow}
 use Rattle.semantics.specs.PortArity.{IsTyped}
-use Rattle.lowering.specs.Shown.{shown_graph}
+use Rattle.graph.specs.Shown.{shown_graph}
 use Rattle.machine.specs.World.{opening}
 use Rattle.machine.specs.Active.{sum_below, one_if_same, worker_count}
 use Rattle.machine.proofs.Counting.{below_zero}

@@ -6,7 +6,7 @@ use Rattle.semantics.specs.Could.{Pointstamp, CouldResultIn, IsTimeAt, Location,
 use Rattle.semantics.specs.Kinds.{Role, role}
 use Rattle.semantics.proofs.OutputNumbers.{output_is_there}
 use Rattle.semantics.specs.Time.{at_epoch}
-use Rattle.lowering.specs.Shown.{shown_graph}
+use Rattle.graph.specs.Shown.{shown_graph}
 use Rattle.machine.specs.World.{World}
 use Rattle.machine.specs.Frontier.{PassedBelow, SealedTo, Passed}
 use Rattle.machine.proofs.PassedOutputs.{passed_below}

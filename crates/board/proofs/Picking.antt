@@ -69,5 +69,6 @@ module _ (graph : Graph) (content : Pointstamp → ℕ) (s : Shown) (kept : IsKe
   lacks n i e none w (Step.feed j records) is c = c
   lacks n i e none w (Step.seal j) is c = c
   lacks n i e none w (Step.close j) is c = c
+  lacks n i e none w (Step.merge j at m m') is c = c
   lacks n i e none w (Step.commit j event out) is c = c
   lacks n i e none w (Step.abandon j event) is c = c

@@ -5,9 +5,9 @@ use Rattle.semantics.specs.Graph.{Graph, input_count}
 use Rattle.semantics.specs.Could.{CouldResultIn, Pointstamp, at_vertex}
 use Rattle.semantics.specs.Time.{at_epoch}
 use Rattle.semantics.specs.PortArity.{HaveFields}
-use Rattle.lowering.specs.Shown.{shown_graph}
+use Rattle.graph.specs.Shown.{shown_graph}
 use Rattle.machine.specs.World.{World}
-use Rattle.machine.specs.Active.{active_count, event_pointstamp, one_if_same, request_pointstamp}
+use Rattle.machine.specs.Active.{active_count, one_if_same, request_pointstamp}
 use Rattle.machine.proofs.Active.{one_tells}
 use Rattle.machine.specs.Changes.{step_adds, step_removes, step_sender}
 use Rattle.machine.specs.Engine.{network}
@@ -15,12 +15,12 @@ use Rattle.machine.specs.Headline.{IsRunOn}
 use Rattle.machine.specs.Posting.{MayPost}
 use Rattle.machine.specs.Step.{Allowed, Step}
 use Rattle.progress.specs.Content.{times_in}
+use Rattle.tokens.specs.declared.rule.Place.TheVariants.{Home}
 use Rattle.views.specs.Waiting.{Waiting, after_post, batch}
 use Rattle.events.specs.declared.letter.Letter.{Letter}
-use Rattle.events.specs.Happenings.{requests_of}
 use Rattle.events.specs.Jobs.{Pass}
+use Rattle.board.specs.Claims.{MergesMail}
 use Rattle.board.specs.Commits.{Feeds, FeedsBy, IsOf, Settles, SettlesBy}
-use Rattle.board.specs.Desks.{letters_count}
 use Rattle.board.specs.Fitting.{arity_in}
 use Rattle.board.specs.Kept.{IsKept}
 use Rattle.board.specs.Lateness.{PostsSome}
@@ -32,6 +32,7 @@ use Rattle.board.proofs.Ended.{active_input, close_goes, close_kept, seal_goes, 
 use Rattle.board.proofs.Facts.{run_on}
 use Rattle.board.proofs.Feeding as feeding
 use Rattle.board.proofs.Lateness.{board_of, counts_alike, posted_some, posts}
+use Rattle.board.proofs.Merged as merging
 
 -- the changes of an allowed step may be posted
 abbrev pub MayLaw : Type 0
@@ -89,6 +90,12 @@ module _ (law : MayLaw) (graph graph' : Graph) (viewers : ℕ) (before middle : 
       where
         sums : (a l n l' n' : ℕ) → a ≡ l + n → l ≡ l' → n ≡ n' → a ≡ l' + n'
         sums a l n l' n' x y z = omega (arith, x, y, z)
+
+  module _ (k : ℕ) (there : k < length s.sides) (free : (side_at s k).place ≡ Home) (runs : s.stopped ≡ false) (t : Shown) (at : ℕ) (place : Pointstamp) (h : MergesMail s t k at place) where
+    pub may_merge : MayPost (CouldResultIn graph') (input_count graph') viewers middle (batch k [] (place ∷ []))
+    may_merge =
+        may_post (Step.merge k at h.merges.alike.first h.merges.alike.second) (merging.may_merge s k there free runs t at place h kept.world kept.shows) k refl [] (place ∷ [])
+        (λ q. omega arith) (λ q. no_more _ _ (ap (one_if_same q) h.merges.place_is))
 
 -- what a feed leaves active
 pub feeds_from : (before middle after : Pointstamp → ℕ) (s t : Shown) (added : List Pointstamp) (i : ℕ) (records : List Record) → ((q : Pointstamp) → middle q ≡ before q)
@@ -174,3 +181,12 @@ close_posted graph graph' before after s kept i takes same ends e counts =
   where
     order : (a r b r' : ℕ) → a + (r + 0) ≡ b + 0 → r ≡ r' → b ≡ r' + a
     order a r b r' x y = omega (arith, x, y)
+
+-- what a merge leaves active
+pub merge_posted : (graph graph' : Graph) (before middle after : Pointstamp → ℕ) (s : Shown) (kept : IsKept graph before s) (k : ℕ) (there : k < length s.sides) (free : (side_at s k).place ≡ Home) (runs : s.stopped ≡ false)
+    (t : Shown) (at : ℕ) (place : Pointstamp) → MergesMail s t k at place → graph' ≡ graph → ((q : Pointstamp) → middle q ≡ before q) → ((q : Pointstamp) → after q + times_in (place ∷ []) q ≡ middle q + times_in [] q) → IsKept graph' after t
+merge_posted graph graph' before middle after s kept k there free runs t at place h same contents counts =
+    merging.merge_kept s k there free runs t at place h graph before kept graph' after same (λ q. order _ _ _ _ (counts q) (contents q))
+  where
+    order : (a r m b : ℕ) → a + (r + 0) ≡ m + 0 → m ≡ b → a + r ≡ b
+    order a r m b x y = omega (arith, x, y)

@@ -5,7 +5,7 @@ use Rattle.semantics.specs.Query.{Program}
 use Rattle.semantics.specs.Meaning.{program_meaning}
 use Rattle.semantics.specs.Graph.{Graph, output_number}
 use Rattle.semantics.specs.Could.{Pointstamp}
-use Rattle.lowering.specs.Shown.{shown_graph}
+use Rattle.graph.specs.Shown.{shown_graph}
 use Rattle.machine.specs.World.{World, opening}
 use Rattle.machine.specs.Frontier.{Passed}
 use Rattle.machine.specs.Engine.{engine, network}

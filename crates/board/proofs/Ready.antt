@@ -7,7 +7,7 @@ use Rattle.semantics.specs.PortArity.{HaveFields}
 use Rattle.semantics.proofs.MultisetSums.{count_here}
 use Rattle.semantics.proofs.EdgeNumbers.{entered}
 use Rattle.rows.specs.FlatRows.{arity_of}
-use Rattle.lowering.specs.Shown.{shown_graph}
+use Rattle.graph.specs.Shown.{shown_graph}
 use Rattle.machine.specs.World.{Message, Request, Event}
 use Rattle.machine.specs.InTransit.{IsGoodMessage, IsGoodRequest}
 use Rattle.machine.proofs.InTransit as transit

@@ -4,7 +4,7 @@ use Rattle.semantics.specs.Multiset.{total}
 use Rattle.semantics.specs.Graph.{Graph, input_count}
 use Rattle.semantics.specs.Could.{Pointstamp, CouldResultIn, NoOtherOf, NoneOf, at_vertex}
 use Rattle.semantics.specs.Time.{at_epoch}
-use Rattle.lowering.specs.Shown.{shown_graph}
+use Rattle.graph.specs.Shown.{shown_graph}
 use Rattle.machine.specs.World.{World}
 use Rattle.machine.specs.Active.{IsActive, active_count, open_input_count, worker_count, held_count, one_if_same, message_pointstamp, request_pointstamp}
 use Rattle.machine.specs.Frontier.{NoOtherBefore, NoneBefore}

@@ -1,5 +1,5 @@
 -- What the calls of a board answer.
-use Rattle.std.specs.Prelude.{◌≡◌, ◌<◌, ℕ, ◌==◌, nat_lt, cond, true, false, length, List, Option, Some, None, Result, Ok, Err}
+use Rattle.std.specs.Prelude.{◌≡◌, ◌<◌, ℕ, ◌==◌, nat_lt, cond, true, false, length, List, [], ◌∷◌, Option, Some, None, Result, Ok, Err}
 use Rattle.semantics.specs.Multiset.{Record}
 use Rattle.machine.specs.Step.{Step}
 use Rattle.tokens.specs.declared.rule.Place.TheVariants.{Out}
@@ -8,7 +8,7 @@ use Rattle.board.specs.Shown.{Shown, side_at, input_at}
 use Rattle.board.specs.Kept.{Goes}
 use Rattle.board.specs.Promises.{IsDrained}
 use Rattle.machine.specs.Choices.{IsClaimBy}
-use Rattle.machine.specs.World.{World}
+use Rattle.machine.specs.World.{Message, World}
 use Rattle.machine.specs.Step.{Allowed}
 use Rattle.board.specs.Shown.{net}
 use Rattle.board.specs.Showing.{Shows}
@@ -48,6 +48,10 @@ pub record Hands (s : Shown) (k : ℕ) (t : Shown) (p : Pass) : Type 0 where
   pub worker : p.worker ≡ k
   pub holds : Holds t p
   pub own : IsOf t p
+
+-- a message of this worker is one with its first message, by a step
+abbrev pub Merges : Shown → (worker at : ℕ) → Shown → Type 0
+Merges s k at t = (first : Message) × (second : Message) × Goes s (Step.merge k at first second) t
 
 -- the answers, in the order in which they are tried
 abbrev pub Claims : Shown → Shown → ℕ → Claimed → Type 0
@@ -100,3 +104,12 @@ AnswersOnly None (Err e) = ⊥
 -- of a feed: then, records of another arity
 abbrev pub feed_refusal : Shown → ℕ → List Record → Option StepRefusal
 feed_refusal s i batch = first (input_refusal s i) (cond (arity_of batch == arity_in s.graph i) None (Some refusal.WrongFieldCount))
+
+-- messages of this worker become one with its first message, at these places one after another; the last place comes first
+abbrev pub MergesAll : (worker : ℕ) → (places : List ℕ) → Shown → Shown → Type 0
+MergesAll k [] s t = t ≡ s
+MergesAll k (at ∷ places) s t = (u : Shown) × MergesAll k places s u × Merges u k at t
+
+-- the same at some places, or none
+abbrev pub Gathers : Shown → (worker : ℕ) → Shown → Type 0
+Gathers s k t = (places : List ℕ) × MergesAll k places s t

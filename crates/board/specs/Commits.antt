@@ -3,7 +3,7 @@ use Rattle.std.specs.Prelude.{◌≡◌, ◌+◌, ℕ, List, length, Some, slice
 use Rattle.semantics.specs.Multiset.{Record, total}
 use Rattle.progress.specs.Content.{times_in}
 use Rattle.semantics.specs.Time.{at_epoch}
-use Rattle.lowering.specs.Shown.{shown_graph}
+use Rattle.graph.specs.Shown.{shown_graph}
 use Rattle.machine.specs.Engine.{network}
 use Rattle.events.specs.Letters.{AreParcels}
 use Rattle.events.specs.declared.letter.Letter.{Letter}

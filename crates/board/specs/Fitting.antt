@@ -1,7 +1,7 @@
 -- Shards and what was fed fit the graph.
 use Rattle.std.specs.Prelude.{◌≡◌, ◌<◌, ℕ, length, slice_index_or}
 use Rattle.semantics.specs.Graph.{vertex, source}
-use Rattle.lowering.specs.Shown.{GraphValue, shown_graph}
+use Rattle.graph.specs.Shown.{GraphValue, shown_graph}
 use Rattle.vertices.specs.Shards.{TakesArity, shard_kind}
 use Rattle.vertices.specs.declared.shard.Shard.{Shard}
 

@@ -1,7 +1,7 @@
 -- What a new board is made of.
 use Rattle.std.specs.Prelude.{◌≡◌, [], ℕ, ◌<◌, false, List, length, Option, None, slice_index_or}
 use Rattle.semantics.specs.Graph.{input_count}
-use Rattle.lowering.specs.Shown.{GraphValue, shown_graph}
+use Rattle.graph.specs.Shown.{GraphValue, shown_graph}
 use Rattle.vertices.specs.Shards.{Shows}
 use Rattle.vertices.specs.declared.shard.Shard.{Shard}
 use Rattle.events.specs.Stations.{IsShardAt, arity_in}

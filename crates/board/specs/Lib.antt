@@ -1,6 +1,7 @@
 pub mod Shown
 pub mod Showing
 pub mod Steps
+pub mod Merging
 pub mod Desks
 pub mod Promises
 pub mod Seals

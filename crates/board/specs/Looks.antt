@@ -6,7 +6,7 @@ use Rattle.semantics.specs.Meaning.{program_meaning}
 use Rattle.semantics.specs.Typing.{WellTyped}
 use Rattle.semantics.specs.Graph.{output_number, output_numbers}
 use Rattle.semantics.specs.Lower.{lowered}
-use Rattle.lowering.specs.Shown.{GraphValue, shown_graph}
+use Rattle.graph.specs.Shown.{GraphValue, shown_graph}
 use Rattle.board.specs.Lateness.{BoardShown, IsUpToDate}
 use Rattle.board.specs.Shown.{emitted_by, input_at, joined}
 use Rattle.board.specs.Promises.{HasPassed, IsOutputPlace}

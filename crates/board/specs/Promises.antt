@@ -6,7 +6,7 @@ use Rattle.semantics.specs.Meaning.{program_meaning}
 use Rattle.semantics.specs.Typing.{WellTyped}
 use Rattle.semantics.specs.Graph.{output_number, output_numbers, input_count}
 use Rattle.semantics.specs.Lower.{lowered}
-use Rattle.lowering.specs.Shown.{GraphValue, shown_graph}
+use Rattle.graph.specs.Shown.{GraphValue, shown_graph}
 use Rattle.machine.specs.World.{World}
 use Rattle.machine.specs.Frontier.{IsPassedCount, Passed}
 use Rattle.board.specs.Shown.{Shown, net, no_input, emitted_by, input_at, side_at, records_at}

@@ -3,7 +3,7 @@ use Rattle.std.specs.Prelude.{◌≡◌, ◌⊎◌, ◌<◌, ◌≤◌, ℕ, len
 use Rattle.semantics.specs.Could.{CouldResultIn, IsTimeAt, Location, NoneOf, Pointstamp, at_vertex}
 use Rattle.semantics.specs.Graph.{Graph, output_number}
 use Rattle.semantics.specs.Time.{at_epoch}
-use Rattle.lowering.specs.Shown.{shown_graph}
+use Rattle.graph.specs.Shown.{shown_graph}
 use Rattle.machine.specs.World.{World}
 use Rattle.machine.specs.Frontier.{PassedBelow, SealedTo}
 use Rattle.board.specs.Shown.{Shown, input_at, net}

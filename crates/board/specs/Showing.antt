@@ -1,6 +1,6 @@
 -- The world that a board shows.
 use Rattle.std.specs.Prelude.{◌≡◌, ◌≢◌, ◌<◌, ℕ, length, Option, Some, None, slice_index_or}
-use Rattle.lowering.specs.Shown.{shown_graph}
+use Rattle.graph.specs.Shown.{shown_graph}
 use Rattle.machine.specs.World.{World}
 use Rattle.vertices.specs.Shards as shards
 use Rattle.vertices.specs.declared.shard.Shard.{Shard}

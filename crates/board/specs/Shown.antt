@@ -4,7 +4,7 @@ use Rattle.atomic_table.specs.Seated.{TableId}
 use Rattle.semantics.specs.Multiset.{Record}
 use Rattle.semantics.specs.Graph.{Graph, target}
 use Rattle.semantics.specs.Could.{Location}
-use Rattle.lowering.specs.Shown.{GraphValue, shown_graph}
+use Rattle.graph.specs.Shown.{GraphValue, shown_graph}
 use Rattle.machine.specs.Network.{Network}
 use Rattle.machine.specs.Engine.{network}
 use Rattle.machine.specs.World.{Message, Request, Event, Held}

@@ -5,7 +5,7 @@ use Rattle.machine.specs.World.{Message, Request}
 use Rattle.machine.specs.Processing.{event_time}
 use Rattle.vertices.specs.declared.shard.Shard.{Shard}
 use Rattle.tokens.specs.declared.rule.Place.TheVariants.{Home, Out, Lost}
-use Rattle.lowering.specs.Shown.{shown_graph}
+use Rattle.graph.specs.Shown.{shown_graph}
 use Rattle.events.specs.Jobs.{Job}
 use Rattle.events.specs.Happenings.{requests_of}
 use Rattle.events.specs.declared.letter.Letter.{Letter}

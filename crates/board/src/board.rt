@@ -1,7 +1,7 @@
 //! The board: the core state of a run.
 
 ghost use Rattle.std.specs.Prelude.{◌≡◌, ◌⊎◌, ◌-◌, ◌^◌, ◌<◌, ◌≤◌, ℕ, [], length, min, slice_index_or, false, IfOk, IfSome, IfNone, IsTrue, MatchBool, OnOk, OnErr};
-ghost use Rattle.lowering.specs.Shown.{shown_graph};
+ghost use Rattle.graph.specs.Shown.{shown_graph};
 ghost use Rattle.semantics.specs.Could.{Pointstamp as Active, at_vertex};
 ghost use Rattle.views.specs.Opening.{active_at_first};
 ghost use Rattle.semantics.specs.Graph.{input_count, output_number, output_numbers};
@@ -9,8 +9,9 @@ ghost use Rattle.semantics.specs.Query.{Program};
 ghost use Rattle.semantics.specs.Time.{at_epoch};
 ghost use Rattle.machine.specs.Step.{Step};
 ghost use Rattle.machine.specs.World.{opening};
-ghost use Rattle.board.specs.Answers.{AnswersOnly, AnswersOr, Claims, Commits, Hands, HasChoice, HasNoChoice, Holds, IfNothing, feed_refusal, input_refusal, seal_refusal};
+ghost use Rattle.board.specs.Answers.{AnswersOnly, AnswersOr, Claims, Commits, Hands, HasChoice, HasNoChoice, Holds, IfNothing, Merges, feed_refusal, input_refusal, seal_refusal};
 ghost use Rattle.board.specs.Kept.{Goes};
+ghost use Rattle.board.specs.Merging.{AreAlike};
 ghost use Rattle.board.specs.Commits.{IsOf};
 ghost use Rattle.tokens.specs.declared.rule.Place.TheVariants.{Home};
 ghost use Rattle.board.specs.Desks.{is_out};
@@ -21,18 +22,19 @@ ghost use Rattle.board.specs.Promises.{CountsPassed, HasPassed, IsDrained, IsOpe
 ghost use Rattle.board.specs.Showing.{Shows};
 ghost use Rattle.board.specs.Shown.{Shown, emitted_by, input_at, side_at, tables};
 
+use crate::applying::apply_there;
 use crate::choices::kth_deliverable;
 use crate::frontier::{first_deliverable, first_seen};
 use crate::lag::Lag;
 use crate::look::{Look, OutputLook};
-use crate::passed::{output_place, passed_now};
+use crate::passed::{is_past, passed_now};
 use crate::posting::{post, post_noted};
 use crate::refusal::StepRefusal;
 use crate::state::State;
 use events::{CutBatch, Done, Wiring, Work};
 use expr_tree::NoMemory;
+use graph::{Graph, Location, VertexId};
 use loop_context::Time;
-use lowering::{Graph, Location, VertexId};
 use path_summary::{Paths, Pointstamp};
 use progress::LocationTracker;
 use rows::Batch;
@@ -284,7 +286,42 @@ impl<V: Views> Board<V> {
         Ok(())
     }
 
-    /// Hands out an event to the worker, wherever it has one. Where the worker sees none, or much waits for it, all that waits for it is
+    /// Puts the records of a message of a free worker behind those of its first message, if both are on one edge at one time; `place` is its
+    /// place behind the first. False if they aren't, if there is no such message or worker, if the board is stopped, or for want of memory.
+    pub fn merge(&mut self, worker: u32, place: usize) -> bool
+        ensures merges { IsTrue result → Merges self.old.shown worker place self.new.shown }
+        ensures refused { result ≡ false → self.new ≡ self.old }
+        ensures tables { tables self.new.shown ≡ tables self.old.shown }
+        ensures posts { IsTrue result → Posts V.late worker self.old self.new }
+        ensures passed { self.old.passed ≤ self.new.passed }
+    {
+        if self.state.is_stopped() {
+            return false;
+        }
+        let number = worker as usize;
+        if !self.state.has_worker(number) {
+            return false;
+        }
+        if !self.state.is_free(number) {
+            return false;
+        }
+        let closing = self.state.graph().input_count() as u32;
+        if self.views.reserve(closing + 1).is_err() {
+            return false;
+        }
+        match self.state.merge(number, place) {
+            Some(ends) => {
+                law_of_step();
+                post(&mut self.views, worker, &[], &[ends]);
+                self.lag.post();
+                self.passed = passed_now(&self.views, &self.state, self.passed);
+                true
+            }
+            None => false,
+        }
+    }
+
+    /// Hands out an event to the worker, wherever it has one. Where no message is there, or much waits for it, all that waits for it is
     /// applied first. No memory is taken.
     pub fn claim(&mut self, worker: u32) -> Claimed
         ensures claims { Claims self.old.shown self.new.shown worker result }
@@ -300,15 +337,15 @@ impl<V: Views> Board<V> {
             return Claimed::Busy;
         }
         self.refresh(worker);
-        if let Some(work) = self.claim_seen(worker) {
+        if let Some(work) = self.claim_mail(worker) {
             return Claimed::Work(work);
         }
         self.catch_up(worker);
         self.claim_rest(worker)
     }
 
-    /// Hands out the first event that a free worker sees.
-    fn claim_seen(&mut self, worker: u32) -> Option<Work>
+    /// Hands out the first message of a free worker.
+    fn claim_mail(&mut self, worker: u32) -> Option<Work>
         requires there { worker < length self.old.shown.sides }
         requires free { (side_at self.old.shown worker).place ≡ Home }
         requires runs { self.old.shown.stopped ≡ false }
@@ -321,10 +358,7 @@ impl<V: Views> Board<V> {
         if self.state.mail_count(number) > 0 {
             return Some(self.state.claim_message(number, 0));
         }
-        match first_seen(&self.views, worker, self.state.requests(number)) {
-            Some(place) => Some(self.state.claim_request(number, place)),
-            None => None,
-        }
+        None
     }
 
     /// Hands out the first notification that may be delivered to a free worker for whom no message is there and nothing waits.
@@ -351,7 +385,7 @@ impl<V: Views> Board<V> {
         }
     }
 
-    /// Applies all that waits for the worker to its view. Where the worker isn't there, nothing is done. No memory is taken.
+    /// Applies all that waits for the worker to its view. Where nothing waits, or the worker isn't there, nothing is done. No memory is taken.
     pub fn catch_up(&mut self, worker: u32)
         ensures shown { self.new.shown ≡ self.old.shown }
         ensures applies { Applies worker self.old self.new }
@@ -359,6 +393,9 @@ impl<V: Views> Board<V> {
     {
         let workers = self.state.worker_count();
         if worker >= workers {
+            return;
+        }
+        if !self.views.waits(worker) {
             return;
         }
         catch_up(&mut self.views, worker, workers);
@@ -396,6 +433,28 @@ impl<V: Views> Board<V> {
         }
         self.passed = passed_now(&self.views, &self.state, self.passed);
         true
+    }
+
+    /// Applies as `apply` does, and tells whether an epoch had passed at an output before, and whether it has since, by the output's place:
+    /// what `passed` called passed, it still does.
+    pub fn apply_and_ask(
+        &mut self,
+        worker: u32,
+        sender: u32,
+        output: u32,
+        epoch: u32,
+    ) -> (bool, bool)
+        requires { IsOutputPlace self.old.shown output }
+        ensures shown { self.new.shown ≡ self.old.shown }
+        ensures stays { IsTrue result.0 → IsTrue result.1 }
+        ensures passed { IsTrue result.1 → HasPassed self.new.shown output epoch }
+        ensures count { self.old.passed ≤ self.new.passed }
+    {
+        let had = is_past(&self.views, &self.state, output, epoch);
+        let workers = self.state.worker_count();
+        apply_there(&mut self.views, workers, worker, sender);
+        self.passed = passed_now(&self.views, &self.state, self.passed);
+        (had, is_past(&self.views, &self.state, output, epoch))
     }
 
     /// Hands out the worker's choice of that number: its messages in order of arrival come first, then those of its requests that may
@@ -439,6 +498,19 @@ impl<V: Views> Board<V> {
         Ok(wiring)
     }
 
+    /// The first of the places behind the worker's first message, from this one on and among the first few, whose message is like the first:
+    /// on its edge at its time, and as small. None where there is no such worker.
+    pub fn next_alike(&self, worker: u32, from: usize) -> Option<usize>
+        ensures found { IfSome result (λ at. (from ≤ at) × AreAlike (side_at self.now.shown worker).mail at) }
+        ensures none { IfNone result ((at : ℕ) → from ≤ at → at < 16 → AreAlike (side_at self.now.shown worker).mail at → ⊥) }
+    {
+        let number = worker as usize;
+        if !self.state.has_worker(number) {
+            return None;
+        }
+        self.state.next_alike(number, from)
+    }
+
     /// Whether the worker sees an event for it. What it doesn't see may be there if something waits for it.
     pub fn can_claim(&self, worker: u32) -> bool
         ensures some { IsTrue result → HasChoice self.now.shown worker }
@@ -472,8 +544,7 @@ impl<V: Views> Board<V> {
         ensures seen { IsUpToDate self.now 0 → HasPassed self.now.shown output epoch → IsTrue result }
     {
         law_of_waiting();
-        let vertex = self.state.output(output as usize);
-        self.views.none_before(0, &output_place(vertex, epoch))
+        is_past(&self.views, &self.state, output, epoch)
     }
 
     /// How many epochs have passed at every output as the first worker saw it when it last looked, from epoch 0 on: at most as many as the most

@@ -12,7 +12,7 @@ ghost use Rattle.board.specs.Steps.{delivered, settled, with_mail};
 
 use crate::worker::Worker;
 use events::{Event, Letter, Output, Request};
-use lowering::Location;
+use graph::Location;
 use path_summary::Pointstamp;
 use rows::RowsError;
 use std::alloc::AllocError;
@@ -65,7 +65,10 @@ pub fn note_letters(added: &mut Vec<Pointstamp>, letters: &[Letter])
 {
     for letter in letters {
         let message = &letter.message;
-        added.push_reserved(Pointstamp::new(message.time.copied(), Location::Edge(message.edge)));
+        added.push_reserved(Pointstamp::new(
+            message.time().copied(),
+            Location::Edge(message.edge()),
+        ));
     }
 }
 

@@ -10,7 +10,7 @@ ghost use Rattle.board.specs.Deliverable.{IsDeliverable, StandsBefore};
 use arrayvec::ArrayVec;
 use events::Request;
 use exchange::Mailbox;
-use lowering::Location;
+use graph::Location;
 use path_summary::Pointstamp;
 use views::{Views, law_of_waiting};
 

@@ -47,16 +47,19 @@
 //! Below stand `events` and `views`. A board has no lock of its own: one caller at a time.
 #![tactic(auto)]
 
+mod applying;
 mod board;
 mod choices;
 mod delivery;
 mod emitted;
 mod epochs;
 mod frontier;
+mod gathering;
 mod inputs;
 mod lag;
 mod look;
 mod making;
+mod merging;
 mod passed;
 mod posting;
 mod refusal;
@@ -65,5 +68,6 @@ mod state;
 mod worker;
 
 pub use board::{Board, Claimed, CommitRefusal};
+pub use gathering::gather;
 pub use look::{Look, OutputLook};
 pub use refusal::StepRefusal;

@@ -1,7 +1,7 @@
 //! What a new board is made of.
 
 ghost use Rattle.std.specs.Prelude.{◌≡◌, ◌<◌, ◌≤◌, [], ℕ, length, slice_index_or, IfOk, None};
-ghost use Rattle.lowering.specs.Shown.{shown_graph};
+ghost use Rattle.graph.specs.Shown.{shown_graph};
 ghost use Rattle.board.specs.Desks.{sides_of};
 ghost use Rattle.board.specs.Fresh.{HasFreshSides, HasShards, IsFreshSide, IsFreshSlot};
 ghost use Rattle.board.specs.Shown.{no_input};
@@ -11,7 +11,7 @@ use crate::slot::Slot;
 use crate::worker::Worker;
 use events::{Wiring, shard_at};
 use expr_tree::NoMemory;
-use lowering::{Graph, VertexId};
+use graph::{Graph, VertexId};
 use std::alloc::Global;
 use std::sync::Arc;
 

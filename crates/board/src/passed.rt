@@ -1,18 +1,18 @@
 //! How many epochs have passed.
 
-ghost use Rattle.std.specs.Prelude.{◌≡◌, ◌<◌, ◌≤◌, ℕ, IsTrue, length};
+ghost use Rattle.std.specs.Prelude.{◌≡◌, ◌<◌, ◌≤◌, ◌↔◌, ℕ, IsTrue, length};
 ghost use Rattle.semantics.specs.Could.{IsTimeAt, Location as Where, at_vertex};
 ghost use Rattle.semantics.specs.Graph.{output_number};
 ghost use Rattle.semantics.specs.Time.{at_epoch};
-ghost use Rattle.lowering.specs.Shown.{shown_graph};
+ghost use Rattle.graph.specs.Shown.{shown_graph};
 ghost use Rattle.views.specs.Waiting.{IsSeenBy};
 ghost use Rattle.board.specs.Kept.{IsKept};
 ghost use Rattle.board.specs.Promises.{IsOutputPlace};
-ghost use Rattle.board.specs.Seals.{AreOutputsIn, HavePassed, IsMostSeen, NoneLeftAtAll};
+ghost use Rattle.board.specs.Seals.{AreOutputsIn, HavePassed, IsMostSeen, NoneLeft, NoneLeftAtAll};
 
 use crate::state::State;
+use graph::{Location, VertexId};
 use loop_context::Time;
-use lowering::{Location, VertexId};
 use path_summary::Pointstamp;
 use views::Views;
 
@@ -61,6 +61,18 @@ pub fn is_over<V: Views>(views: &V, state: &State, epoch: u32) -> bool
         }
     }
     true
+}
+
+/// Whether nothing could come to an output for an epoch as the first worker sees it, by the output's place.
+pub fn is_past<V: Views>(views: &V, state: &State, output: u32, epoch: u32) -> bool
+    requires some { 0 < V.workers views.now }
+    requires outputs { AreOutputsIn (V.graph views.now) state.now }
+    requires place { IsOutputPlace state.now output }
+    ensures there { IsTrue result → NoneLeft (V.graph views.now) (λ q. 0 < V.content views.now q) state.now output epoch }
+    ensures seen { IsTrue result ↔ NoneLeft (V.graph views.now) (IsSeenBy (V.content views.now) (V.waiting views.now) (V.workers views.now) 0) state.now output epoch }
+{
+    let vertex = state.output(output as usize);
+    views.none_before(0, &output_place(vertex, epoch))
 }
 
 /// Where the records of an epoch come to an output.

@@ -1,17 +1,18 @@
 //! What a board holds besides its views. Each method is exact; where it is refused, all shows as before.
 
-ghost use Rattle.std.specs.Prelude.{◌≡◌, ◌≢◌, ◌+◌, ◌<◌, ◌≤◌, ℕ, [], length, map, slice_index_or, false, MatchBool, OnOk, OnErr, IfOk, IfErr};
+ghost use Rattle.std.specs.Prelude.{◌≡◌, ◌≢◌, ◌+◌, ◌<◌, ◌≤◌, ℕ, [], length, map, slice_index_or, false, MatchBool, OnOk, OnErr, IfOk, IfErr, IfSome, IfNone};
 ghost use Rattle.semantics.specs.Could.{Location as Where, Pointstamp as Active};
 ghost use Rattle.semantics.specs.Graph.{edge_count, input_count, output_number, output_numbers, target, Graph as Definition};
 ghost use Rattle.tokens.specs.declared.rule.Place.TheVariants.{Home, Out};
-ghost use Rattle.board.specs.Claims.{HandsMessage, HandsRequest};
-ghost use Rattle.lowering.specs.Locations.{IsIn, location_of};
-ghost use Rattle.lowering.specs.Shown.{shown_graph};
+ghost use Rattle.board.specs.Claims.{HandsMessage, HandsRequest, MergesMail};
+ghost use Rattle.graph.specs.Locations.{IsIn, location_of};
+ghost use Rattle.graph.specs.Shown.{shown_graph};
 ghost use Rattle.board.specs.Answers.{input_refusal};
 ghost use Rattle.board.specs.Commits.{FeedsBy, IsOf, SettlesBy};
 ghost use Rattle.board.specs.Desks.{is_out};
 ghost use Rattle.board.specs.Fresh.{IsNew};
 ghost use Rattle.board.specs.Kept.{IsKept};
+ghost use Rattle.board.specs.Merging.{AreAlike};
 ghost use Rattle.board.specs.Desks.{AreClosed, AreIdle};
 ghost use Rattle.board.specs.Promises.{IsDrained, IsOutputPlace};
 ghost use Rattle.board.specs.Seals.{IsMostSeals};
@@ -29,7 +30,7 @@ use crate::worker::Worker;
 use events::{CutBatch, Done, Event, Output, Request, Wiring, Work};
 use exchange::Mailbox;
 use expr_tree::NoMemory;
-use lowering::{Graph, Location, VertexId};
+use graph::{Graph, Location, VertexId};
 use path_summary::Pointstamp;
 use rows::Batch;
 use std::alloc::{AllocError, Global};
@@ -295,6 +296,15 @@ impl State {
         self.workers[worker].mailbox().len()
     }
 
+    /// The first of the places behind the worker's first message, from this one on and among the first few, whose message is like the first.
+    pub fn next_alike(&self, worker: usize, from: usize) -> Option<usize>
+        requires { worker < length self.now.sides }
+        ensures found { IfSome result (λ at. (from ≤ at) × AreAlike (side_at self.now worker).mail at) }
+        ensures none { IfNone result ((at : ℕ) → from ≤ at → at < 16 → AreAlike (side_at self.now worker).mail at → ⊥) }
+    {
+        self.workers[worker].next_alike(from)
+    }
+
     /// The worker's requests.
     pub fn requests(&self, worker: usize) -> &Mailbox<Request>
         requires { worker < length self.now.sides }
@@ -345,6 +355,16 @@ impl State {
         Ok(())
     }
 
+    /// Makes one of the worker's first message and the one at that place behind it, if both are on one edge at one time and there is memory, and
+    /// gives the pointstamp of the second; else all is as before.
+    pub fn merge(&mut self, worker: usize, place: usize) -> Option<Pointstamp>
+        requires { worker < length self.old.sides }
+        ensures merges { IfSome result (λ ends. MergesMail self.old self.new worker place ends) }
+        ensures same { IfNone result (self.new ≡ self.old) }
+    {
+        self.workers[worker].merge(place)
+    }
+
     /// Hands out a message. No memory is taken.
     pub fn claim_message(&mut self, worker: usize, place: usize) -> Work
         requires there { worker < length self.old.sides }
@@ -355,7 +375,7 @@ impl State {
         ensures hands { HandsMessage self.old self.new worker place result.0 }
         ensures whole { result.1 ≡ false }
     {
-        let edge = self.workers[worker].mailbox().get(place).edge;
+        let edge = self.workers[worker].mailbox().get(place).edge();
         let vertex = self.wiring.graph().edge(edge).target;
         let (event, stub) = self.workers[worker].send_message(place, vertex.0 as usize);
         Work::new(worker as u32, event, stub)

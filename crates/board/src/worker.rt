@@ -1,15 +1,18 @@
 //! What a worker has.
 
-ghost use Rattle.std.specs.Prelude.{◌≡◌, ◌≢◌, ◌<◌, ◌≤◌, ◌+◌, ◌++◌, ◌∷◌, ◌↔◌, ℕ, [], length, remove, slice_get, slice_index_or, Some, None, IsTrue, IfOk, OnOk, OnErr, MatchBool};
+ghost use Rattle.std.specs.Prelude.{◌≡◌, ◌≢◌, ◌<◌, ◌≤◌, ◌+◌, ◌++◌, ◌∷◌, ◌↔◌, ℕ, [], length, remove, slice_get, slice_index_or, Some, None, IsTrue, IfNone, IfOk, IfSome, OnOk, OnErr, MatchBool};
 ghost use Rattle.machine.specs.World.{Event as Happens, Message as Mail, Request as Wish};
 ghost use Rattle.tokens.specs.declared.rule.Place.TheVariants.{Home, Out, Lost};
 ghost use Rattle.vertices.specs.declared.shard.Shard as shard;
 ghost use Rattle.board.specs.Desks.{IsIdle, is_out};
+ghost use Rattle.board.specs.Merging.{AreAlike, AreMerged};
 ghost use Rattle.board.specs.Steps.{out_with, settled, with_mail};
 
+use crate::merging::{merge, next_alike};
 use crate::slot::Slot;
 use events::{Event, Happening, Message, Request, Wiring};
 use exchange::Mailbox;
+use path_summary::Pointstamp;
 use rows::RowsError;
 use std::alloc::{AllocError, Global};
 use std::marker::Model;
@@ -106,6 +109,14 @@ impl Worker {
         &self.requests
     }
 
+    /// The first of the places behind the first message, from this one on and among the first few, whose message is like the first.
+    pub fn next_alike(&self, from: usize) -> Option<usize>
+        ensures found { IfSome result (λ at. (from ≤ at) × AreAlike self.now.side.mail at) }
+        ensures none { IfNone result ((at : ℕ) → from ≤ at → at < 16 → AreAlike self.now.side.mail at → ⊥) }
+    {
+        next_alike(&self.mailbox, from)
+    }
+
     /// Takes room for that many messages more.
     pub fn reserve_mail(&mut self, more: usize) -> Result<(), RowsError>
         ensures side { self.new.side ≡ self.old.side }
@@ -133,6 +144,16 @@ impl Worker {
         ensures requests { self.new.request_room ≡ self.old.request_room }
     {
         self.mailbox.put_reserved(message);
+    }
+
+    /// Makes one of the first message and the one at that place behind it, if they are alike and there is memory, and gives the pointstamp of the
+    /// second; else all is as before.
+    pub fn merge(&mut self, place: usize) -> Option<Pointstamp>
+        ensures merged { IfSome result (λ ends. AreMerged self.old.side.mail self.new.side.mail place ends) }
+        ensures same { IfNone result (self.new.side.mail ≡ self.old.side.mail) }
+        ensures rest { self.new.side ≡ record self.old.side { mail = self.new.side.mail } }
+    {
+        merge(&mut self.mailbox, place)
     }
 
     /// Hands out a message, with the shard of its vertex. No memory is taken.

@@ -5,7 +5,8 @@ ghost use Rattle.board.specs.Commits.{IsOf};
 
 use board::{Board, Claimed, CommitRefusal};
 use events::Work;
-use lowering::{Graph, lower};
+use graph::Graph;
+use lowering::lower;
 use parser::parse;
 use progress::LocationTracker;
 use rows::{Batch, Rows};

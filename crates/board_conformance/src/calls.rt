@@ -177,6 +177,59 @@ fn passes_at_each_output(rt: HostRuntime) -> Result<(), Fail> {
     Ok(())
 }
 
+/// Feeds one record, which is taken.
+fn is_fed<V: Views>(alloc: Global, board: &mut Board<V>, field: i64) -> bool {
+    match batch_of(alloc, &[field]) {
+        Some(batch) => board.feed(alloc, 0, batch).is_ok(),
+        None => false,
+    }
+}
+
+#[test]
+fn merges_messages_of_one_epoch(rt: HostRuntime) -> Result<(), Fail> {
+    let alloc = rt.alloc();
+    let mut board = board_of(alloc, COPY, 1).ok_or("no board")?;
+    assert!(rt; is_fed(alloc, &mut board, 5));
+    assert!(rt; is_fed(alloc, &mut board, 6));
+    assert_eq!(rt; board.seal(0), Ok(()));
+    assert!(rt; is_fed(alloc, &mut board, 7));
+    assert!(rt; !board.merge(0, 1));
+    assert!(rt; !board.merge(0, 2));
+    assert!(rt; !board.merge(1, 0));
+    assert!(rt; board.merge(0, 0));
+    assert!(rt; !board.merge(0, 0));
+    assert_eq!(rt; take_turn(alloc, &mut board, 0), Turn::Committed);
+    assert_eq!(rt;
+        fields_of(alloc, emitted_at(&board, 0, 0))?.as_slice(),
+        [5, 6].as_slice()
+    );
+    assert!(rt; passed_at(&board, 0, 0));
+    assert_eq!(rt; take_turn(alloc, &mut board, 0), Turn::Committed);
+    assert_eq!(rt; take_turn(alloc, &mut board, 0), Turn::Idle);
+    assert_eq!(rt;
+        fields_of(alloc, emitted_at(&board, 0, 1))?.as_slice(),
+        [7].as_slice()
+    );
+    Ok(())
+}
+
+#[test]
+fn merges_only_for_a_free_worker(rt: HostRuntime) -> Result<(), Fail> {
+    let alloc = rt.alloc();
+    let mut board = late_board_of(alloc, COPY, 1).ok_or("no board")?;
+    for field in 5..8 {
+        assert!(rt; is_fed(alloc, &mut board, field));
+    }
+    let work = claimed(&mut board).ok_or("no event")?;
+    assert!(rt; !board.merge(0, 0));
+    assert_eq!(rt; commit(alloc, &mut board, work), Turn::Committed);
+    assert!(rt; board.merge(0, 0));
+    let work = claimed(&mut board).ok_or("no event")?;
+    board.abandon(work);
+    assert!(rt; !board.merge(0, 0));
+    Ok(())
+}
+
 #[test]
 fn holds_one_event_a_worker(rt: HostRuntime) -> Result<(), Fail> {
     let alloc = rt.alloc();

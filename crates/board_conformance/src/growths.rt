@@ -1,7 +1,7 @@
 //! Calls that are refused for want of memory: the board is as before, and takes the same once more.
 
 ghost use Rattle.std.specs.Prelude.{◌≡◌, IfOk, IfSome};
-ghost use Rattle.lowering.specs.Shown.{shown_graph};
+ghost use Rattle.graph.specs.Shown.{shown_graph};
 ghost use Rattle.semantics.specs.Could.{Pointstamp as Active};
 ghost use Rattle.progress.specs.Content.{times_at};
 ghost use Rattle.views.specs.Opening.{active_at_first};
@@ -15,7 +15,7 @@ use crate::scarce::late_board_after;
 use board::{Board, Claimed, CommitRefusal, StepRefusal};
 use events::{Done, Work};
 use expr_tree::NoMemory;
-use lowering::Graph;
+use graph::Graph;
 use path_summary::{Paths, Pointstamp};
 use progress::{LocationTracker, Progress};
 use std::alloc::{AllocError, Global};

@@ -1,7 +1,7 @@
 //! Schedules that are replayed while each growth of the board's tracker or views is refused in turn: the whole text is printed, or nothing.
 
 ghost use Rattle.std.specs.Prelude.{◌≡◌, ◌∷◌, [], map, IfSome};
-ghost use Rattle.lowering.specs.Views.{input_of};
+ghost use Rattle.graph.specs.Views.{input_of};
 ghost use Rattle.collector.specs.Said.{plain};
 
 use crate::boards::graph_of;
@@ -9,7 +9,7 @@ use crate::growths::board_after;
 use crate::scarce::late_board_after;
 use board::Board;
 use collector::Declared;
-use lowering::{DeclaredInput, Graph};
+use graph::{DeclaredInput, Graph};
 use replay::{law_graph_inputs, replay};
 use schedule::{Line, ViewKind, read_schedule};
 use std::alloc::Global;

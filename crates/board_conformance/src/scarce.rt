@@ -4,7 +4,7 @@ ghost use Rattle.std.specs.Prelude.{◌≡◌, ◌<◌, ◌≤◌, IfSome};
 
 use board::Board;
 use expr_tree::NoMemory;
-use lowering::Graph;
+use graph::Graph;
 use path_summary::{Paths, Pointstamp};
 use std::alloc::Global;
 use std::sync::Arc;
@@ -51,6 +51,10 @@ impl<V: Views> Views for Refusing<V> {
 
     fn apply(&mut self, worker: u32, sender: u32) -> bool {
         self.views.apply(worker, sender)
+    }
+
+    fn waits(&self, worker: u32) -> bool {
+        self.views.waits(worker)
     }
 
     fn in_frontier(&self, worker: u32, p: &Pointstamp) -> bool {

@@ -83,9 +83,10 @@ fn feed<V: Views>(alloc: Global, board: &mut Board<V>, dice: &mut Dice) -> bool 
     }
 }
 
-/// Feeds an edge, seals, applies a batch of changes that waits for a worker, if there is one, or lets a worker take a turn.
+/// Feeds an edge, seals, applies a batch of changes that waits for a worker, if there is one, merges two messages, if they may be, or lets a
+/// worker take a turn.
 fn step<V: Views>(alloc: Global, board: &mut Board<V>, dice: &mut Dice) -> bool {
-    match dice.below(10) {
+    match dice.below(12) {
         0 => feed(alloc, board, dice),
         1 if board.passed_count().saturating_add(1) < u64::from(EPOCHS) && dice.below(4) == 0 =>
             board.seal(0).is_ok(),
@@ -93,6 +94,12 @@ fn step<V: Views>(alloc: Global, board: &mut Board<V>, dice: &mut Dice) -> bool 
             let worker = dice.below(2);
             let sender = dice.below(3);
             let _applied = board.apply(worker, sender);
+            true
+        }
+        4 => {
+            let worker = dice.below(2);
+            let place = dice.below(3);
+            let _merged = board.merge(worker, place as usize);
             true
         }
         _ => {

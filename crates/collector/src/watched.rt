@@ -9,13 +9,14 @@ ghost use Rattle.std.specs.Io.KnownBytes.{Appends, Keeps, ReadConsumes};
 ghost use Rattle.collector.specs.Watching.{has_failed, inner_of};
 
 use std::io;
-use std::io::{Read, Write};
+use std::io::{ErrorKind, Read, Write};
 
 /// A reader or a writer, and whether a call on it failed.
 #[derive(Drop)]
 pub struct Watched<T> {
     inner: T,
     failed: bool,
+    reason: Option<ErrorKind>,
 }
 
 impl<T> Watched<T> {
@@ -27,7 +28,13 @@ impl<T> Watched<T> {
         Watched {
             inner,
             failed: false,
+            reason: None,
         }
+    }
+
+    /// What the system said of the last read that failed.
+    pub fn reason(&self) -> Option<ErrorKind> {
+        self.reason
     }
 
     /// The reader or the writer itself.
@@ -51,6 +58,7 @@ impl<R: Read> Watched<R> {
             Ok(count) => Ok(count),
             Err(error) => {
                 self.failed = true;
+                self.reason = Some(error.kind());
                 Err(error)
             }
         }

@@ -3,8 +3,8 @@
 use bumpalo::Bump;
 use collector::Watched;
 use console::{CompileFault, Texts, check_query, compile};
+use graph::graph_text;
 use linked_list_allocator::LocalHeap;
-use lowering::graph_text;
 use std::alloc::Allocator;
 use std::test::Fail;
 

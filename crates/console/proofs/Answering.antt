@@ -7,7 +7,7 @@ use Rattle.semantics.specs.Graph.{output_numbers}
 use Rattle.semantics.proofs.LoweredDataflow.{lowered_outputs}
 use Rattle.semantics.specs.Meaning.{meaning, program_meaning, input_names, let_names, same_name}
 use Rattle.semantics.proofs.StepsKeep.{rewrites_inputs, rewrites_meaning, rewrites_names, rewrites_typed}
-use Rattle.lowering.specs.Shown.{shown_graph, shown_inputs, shown_names}
+use Rattle.graph.specs.Shown.{shown_graph, shown_inputs, shown_names}
 use Rattle.board.specs.Shown.{Shown}
 use Rattle.board.specs.Promises.{HasPassed, IsDrained, KeepsPromise, RunsProgram, emitted_at}
 use Rattle.collector.specs.OutputText.{IsTextFrom}

@@ -3,7 +3,7 @@ use Rattle.std.proofs.Common.{◌≡◌, ◌<◌, inl, inr, ℕ, List, Option, R
 use Rattle.semantics.specs.Multiset.{Record, IsPartOf, ◌≈◌}
 use Rattle.semantics.specs.Meaning.{program_meaning}
 use Rattle.semantics.proofs.StepsKeep.{rewrites_meaning, rewrites_names, rewrites_typed}
-use Rattle.lowering.specs.Shown.{GraphValue, shown_graph, shown_inputs, shown_names}
+use Rattle.graph.specs.Shown.{GraphValue, shown_graph, shown_inputs, shown_names}
 use Rattle.follow.specs.Entries.{Entry, records_of}
 use Rattle.follow.specs.Follows.{FollowsInput, IsGraphOf, IsPart, IsWhole}
 use Rattle.follow.specs.declared.ending.Ending.{Ending}

@@ -13,7 +13,7 @@ use Rattle.semantics.specs.Time.{at_epoch}
 use Rattle.semantics.specs.Typing.{WellTyped}
 use Rattle.semantics.specs.Graph.{Graph, output_number}
 use Rattle.semantics.specs.Lower.{lowered}
-use Rattle.lowering.specs.GraphLaws.{Computes}
+use Rattle.lowering.specs.Computing.{Computes}
 use Rattle.console.specs.Compiled.{IsCompiled, IsTooLarge}
 
 -- as many outputs as names

@@ -5,7 +5,7 @@ use Rattle.semantics.specs.Query.{Input, Name, Program}
 use Rattle.semantics.specs.Rewriting.{IsNormalForm}
 use Rattle.semantics.specs.Graph.{Graph}
 use Rattle.semantics.specs.Lower.{lowered}
-use Rattle.lowering.specs.GraphLaws.{Computes}
+use Rattle.lowering.specs.Computing.{Computes}
 use Rattle.console.specs.Queries.{IsQuery, IsRefusal, output_names}
 use Rattle.console.specs.declared.fault.CompileFault.{CompileFault}
 use Rattle.console.specs.declared.fault.CompileFault.TheVariants as compile

@@ -3,7 +3,7 @@ use Rattle.std.specs.Prelude.{◌≡◌, ◌<◌, ◌⊎◌, ℕ, List, length, 
 use Rattle.semantics.specs.Multiset.{Record, IsPartOf, ◌≈◌}
 use Rattle.semantics.specs.Query.{Program}
 use Rattle.semantics.specs.Meaning.{program_meaning}
-use Rattle.lowering.specs.Shown.{GraphValue, shown_graph, shown_inputs, shown_names}
+use Rattle.graph.specs.Shown.{GraphValue, shown_graph, shown_inputs, shown_names}
 use Rattle.follow.specs.Entries.{Entry, records_of}
 use Rattle.follow.specs.Follows.{FollowsInput}
 use Rattle.follow.specs.declared.ending.Ending.{Ending}

@@ -3,7 +3,7 @@ use Rattle.std.specs.Prelude.{◌≡◌, ℕ, List, Option, Result, Ok, Err}
 use Rattle.std.specs.Io.KnownBytes.{Appends}
 use Rattle.semantics.specs.Query.{Input as Declared, Name}
 use Rattle.semantics.specs.Graph.{Graph}
-use Rattle.lowering.specs.Text.{graph_text}
+use Rattle.graph.specs.Text.{graph_text}
 use Rattle.collector.specs.Written.{AppendsFront}
 use Rattle.console.specs.Compiled.{IsCompiled, IsQueryFault}
 use Rattle.command_line.specs.declared.line_options.GraphForm.{GraphForm}

@@ -5,13 +5,14 @@ ghost use Rattle.expr_tree.specs.Plain.{plain_program};
 ghost use Rattle.semantics.specs.Rewriting.{IsNormalForm};
 ghost use Rattle.semantics.specs.Typing.{WellTyped};
 ghost use Rattle.typing.specs.Shown.{typed_program as shown_program, output_arities};
-ghost use Rattle.lowering.specs.Shown.{shown_graph, shown_inputs, shown_names};
+ghost use Rattle.graph.specs.Shown.{shown_graph, shown_inputs, shown_names};
 ghost use Rattle.console.specs.Compiled.{IsCompiled, IsUncompiled};
 ghost use Rattle.console.specs.Queries.{IsRefusal, IsTypedQuery};
 
 use crate::fault::{CompileFault, refused};
 use expr_tree::NoMemory;
-use lowering::{Graph, LowerFault, lower};
+use graph::Graph;
+use lowering::{LowerFault, lower};
 use normalise::normalise;
 use parser::parse;
 use record_core::Refusal;

@@ -27,6 +27,13 @@ use std::io::Write;
 use std::sync::Wait;
 use std::thread::Threads;
 
+/// Keeps what the system said of a text that couldn't be read.
+fn keep_reason<T>(texts: &mut Texts, text: &Watched<T>) {
+    if let Some(reason) = text.reason() {
+        texts.reason = Some(reason);
+    }
+}
+
 /// Runs a query over an input. The watcher is let go where it isn't asked for.
 fn run_named<
     'a,
@@ -56,9 +63,12 @@ fn run_named<
     if !watch {
         *watcher = None;
     }
-    run(
+    let done = run(
         rt, alloc, workers, stats, &mut query, &mut input, texts, out, watcher, err,
-    )
+    );
+    keep_reason(texts, &query);
+    keep_reason(texts, &input);
+    done
 }
 
 /// Follows an input with so many workers.
@@ -76,7 +86,10 @@ fn follow_named<'a, R: Threads + Sync, S: Sources<'a>, W: Write>(
 {
     let mut query = Watched::new(sources.open(query));
     let mut records = Watched::new(sources.open(input));
-    follow_query(rt, alloc, workers, &mut query, &mut records, texts, out)
+    let done = follow_query(rt, alloc, workers, &mut query, &mut records, texts, out);
+    keep_reason(texts, &query);
+    keep_reason(texts, &records);
+    done
 }
 
 /// Checks a query, and an input where one is named, with the query's tree in the arena.
@@ -92,13 +105,17 @@ fn check_in<'a, A: Allocator + Copy, S: Sources<'a>, W: Write>(
     ensures { ChecksOn (S.content sources.now) query.now (option_map (λ s. s.now) input.entry) (W.contents (inner_of out.old)) (W.contents (inner_of out.new)) result }
 {
     let mut query = Watched::new(sources.open(query));
-    match input {
+    let done = match input {
         None => check_query(alloc, arena, &mut query, texts, out),
         Some(input) => {
             let mut records = Watched::new(sources.open(input));
-            check_input(alloc, arena, &mut query, &mut records, texts, out)
+            let done = check_input(alloc, arena, &mut query, &mut records, texts, out);
+            keep_reason(texts, &records);
+            done
         }
-    }
+    };
+    keep_reason(texts, &query);
+    done
 }
 
 /// Checks a query, and an input where one is named, in a heap of the size that is asked for.
@@ -138,7 +155,7 @@ fn graph_named<'a, S: Sources<'a>, W: Write>(
     ensures { GraphsOn (S.content sources.now) form query.now (W.contents (inner_of out.old)) (W.contents (inner_of out.new)) result }
 {
     let mut query = Watched::new(sources.open(query));
-    match heap {
+    let done = match heap {
         None => {
             let arena = Bump::new(alloc);
             graph_query(alloc, &arena, form, &mut query, texts, out)
@@ -147,7 +164,9 @@ fn graph_named<'a, S: Sources<'a>, W: Write>(
             Ok(heap) => graph_query(alloc, &heap, form, &mut query, texts, out),
             Err(_) => Err(Fault::NoMemory),
         },
-    }
+    };
+    keep_reason(texts, &query);
+    done
 }
 
 /// Writes a query in its canonical form.
@@ -162,7 +181,9 @@ fn format_named<'a, S: Sources<'a>, W: Write>(
 {
     let mut query = Watched::new(sources.open(query));
     let arena = Bump::new(alloc);
-    format_query(alloc, &arena, &mut query, texts, out)
+    let done = format_query(alloc, &arena, &mut query, texts, out);
+    keep_reason(texts, &query);
+    done
 }
 
 /// The kind of the workers' views.
@@ -191,7 +212,10 @@ fn replay_named<'a, S: Sources<'a>, W: Write>(
 {
     let mut query = Watched::new(sources.open(query));
     let mut schedule = Watched::new(sources.open(schedule));
-    replay_schedule(alloc, workers, kind, &mut query, &mut schedule, texts, out)
+    let done = replay_schedule(alloc, workers, kind, &mut query, &mut schedule, texts, out);
+    keep_reason(texts, &query);
+    keep_reason(texts, &schedule);
+    done
 }
 
 /// The names of a command's texts, and whether a fault is to be explained. A name is empty where the command has no such text.

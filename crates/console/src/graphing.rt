@@ -13,7 +13,7 @@ use crate::running::read_query;
 use collector::{Watched, put};
 use command_line::GraphForm;
 use diagnostics::{Fault, Texts};
-use lowering::{graph_dot, graph_text};
+use graph::{graph_dot, graph_text};
 use std::alloc::{Allocator, Global};
 use std::io::{Read, Write};
 

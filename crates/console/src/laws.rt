@@ -5,7 +5,7 @@ ghost use Rattle.std.specs.Prelude.{◌≡◌, ◌<◌, ℕ, List, length};
 ghost use Rattle.semantics.specs.Graph as graph;
 ghost use Rattle.semantics.specs.Multiset.{Record};
 ghost use Rattle.semantics.specs.Query.{Input, Name};
-ghost use Rattle.lowering.specs.Shown.{GraphValue};
+ghost use Rattle.graph.specs.Shown.{GraphValue};
 ghost use Rattle.follow.specs.Entries.{Entry};
 ghost use Rattle.follow.specs.Follows.{IsPart, IsWhole};
 ghost use Rattle.console.specs.Compiled.{IsCompiled, IsTooLarge};

@@ -12,7 +12,7 @@ use collector::{Epochs, OutFault, Watched, write_epochs};
 use command_line::Workers;
 use diagnostics::Fault;
 use execution::{Watcher, emitted, execute};
-use lowering::Graph;
+use graph::Graph;
 use statistics::Tally;
 use std::alloc::Global;
 use std::io::Write;
@@ -64,7 +64,46 @@ fn respond_on<V: Views + Send, R: Threads + Wait + Sync, G: Gate + Sync, W: Writ
     }
 }
 
-/// The same for so many workers over the graph, who all see at once what is active.
+/// The same for a single worker, who sees at once what is active.
+fn respond_alone<R: Threads + Wait + Sync, G: Gate + Sync, W: Write, O: Write + Send>(
+    rt: &R,
+    alloc: Global,
+    graph: Arc<Graph, Global>,
+    epochs: &Epochs,
+    gate: &G,
+    writer: &mut Watched<W>,
+    watcher: &mut Option<Watcher<O>>,
+) -> Result<(), Fault>
+    ensures text { RespondsBy graph.value epochs.now (W.contents (inner_of writer.old)) (W.contents (inner_of writer.new)) result }
+    ensures failed { IsErrOf result fault.Write → has_failed writer.new ≡ true }
+{
+    match Board::new(alloc, graph, 1) {
+        Ok(board) => respond_on(rt, alloc, board, epochs, gate, writer, watcher),
+        Err(_) => Err(Fault::NoMemory),
+    }
+}
+
+/// The same for several workers, each with a view of its own.
+fn respond_together<R: Threads + Wait + Sync, G: Gate + Sync, W: Write, O: Write + Send>(
+    rt: &R,
+    alloc: Global,
+    workers: Workers,
+    graph: Arc<Graph, Global>,
+    epochs: &Epochs,
+    gate: &G,
+    writer: &mut Watched<W>,
+    watcher: &mut Option<Watcher<O>>,
+) -> Result<(), Fault>
+    ensures text { RespondsBy graph.value epochs.now (W.contents (inner_of writer.old)) (W.contents (inner_of writer.new)) result }
+    ensures failed { IsErrOf result fault.Write → has_failed writer.new ≡ true }
+{
+    match Board::with_local_views(alloc, graph, workers.count()) {
+        Ok(board) => respond_on(rt, alloc, board, epochs, gate, writer, watcher),
+        Err(_) => Err(Fault::NoMemory),
+    }
+}
+
+/// The same for so many workers.
 fn respond_by<R: Threads + Wait + Sync, G: Gate + Sync, W: Write, O: Write + Send>(
     rt: &R,
     alloc: Global,
@@ -78,9 +117,10 @@ fn respond_by<R: Threads + Wait + Sync, G: Gate + Sync, W: Write, O: Write + Sen
     ensures text { RespondsBy graph.value epochs.now (W.contents (inner_of writer.old)) (W.contents (inner_of writer.new)) result }
     ensures failed { IsErrOf result fault.Write → has_failed writer.new ≡ true }
 {
-    match Board::new(alloc, graph, workers.count()) {
-        Ok(board) => respond_on(rt, alloc, board, epochs, gate, writer, watcher),
-        Err(_) => Err(Fault::NoMemory),
+    if workers.count() == 1 {
+        respond_alone(rt, alloc, graph, epochs, gate, writer, watcher)
+    } else {
+        respond_together(rt, alloc, workers, graph, epochs, gate, writer, watcher)
     }
 }
 

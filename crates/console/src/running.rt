@@ -1,8 +1,8 @@
 //! A run, from bytes to bytes.
 
 ghost use Rattle.std.specs.Prelude.{◌≡◌, ◌≤◌, ◌⊎◌, length, take, true, map, IfOk, IfErr, IfSome, IsErrOf};
-ghost use Rattle.lowering.specs.Shown.{shown_graph, shown_inputs, shown_names};
-ghost use Rattle.lowering.specs.Views.{input_of};
+ghost use Rattle.graph.specs.Shown.{shown_graph, shown_inputs, shown_names};
+ghost use Rattle.graph.specs.Views.{input_of};
 ghost use Rattle.collector.specs.Held.{epoch_count, records_at};
 ghost use Rattle.collector.specs.InputText.{IsInputText, IsRefused};
 ghost use Rattle.collector.specs.Said.{plain};
@@ -22,7 +22,7 @@ use collector::{
 use command_line::Workers;
 use diagnostics::{Fault, Texts};
 use execution::Watcher;
-use lowering::{DeclaredInput, Graph};
+use graph::{DeclaredInput, Graph};
 use std::alloc::{AllocError, Global};
 use std::io::{Read, Write};
 use std::sync::Wait;

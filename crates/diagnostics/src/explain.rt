@@ -4,6 +4,7 @@ use crate::excerpt::{numbered_line, write_marked, write_numbered};
 use crate::fault::Fault;
 use crate::input_fault::write_input_fault;
 use crate::query_fault::{write_query_fault, write_summary};
+use crate::reason::write_reason;
 use crate::schedule_fault::write_schedule_fault;
 use crate::texts::Texts;
 use record_core::Span;
@@ -12,8 +13,8 @@ use std::io;
 use std::io::Write;
 
 /// Writes what follows a fault's line: of a query the line with carets under the place, of an input or a schedule the faulty line, and
-/// then a sentence with the names and the numbers. A text that is too long (6) has no place that helps; a fault of memory, threads or
-/// files has nothing to show.
+/// then a sentence with the names and the numbers. A text that is too long (6) has no place that helps. Of a text that couldn't be read
+/// it says what the system said; other faults of memory, threads or files have nothing to show.
 pub fn explain_fault<W: Write>(
     alloc: Global,
     fault: &Fault,
@@ -40,11 +41,7 @@ pub fn explain_fault<W: Write>(
             write_numbered(numbered_line(&texts.input, 1, *line), *line, writer)?;
             write_schedule_fault(*code, writer)
         }
-        Fault::NoMemory
-        | Fault::NoWorker
-        | Fault::Incomplete
-        | Fault::ReadQuery
-        | Fault::ReadInput
-        | Fault::Write => Ok(()),
+        Fault::ReadQuery | Fault::ReadInput => write_reason(texts.reason, writer),
+        Fault::NoMemory | Fault::NoWorker | Fault::Incomplete | Fault::Write => Ok(()),
     }
 }

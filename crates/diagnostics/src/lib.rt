@@ -20,6 +20,7 @@ mod input_fault;
 mod input_hint;
 mod names;
 mod query_fault;
+mod reason;
 mod schedule_fault;
 mod texts;
 

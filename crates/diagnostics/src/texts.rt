@@ -3,6 +3,7 @@
 ghost use Rattle.std.specs.Prelude.{◌≡◌, []};
 
 use std::alloc::Global;
+use std::io::ErrorKind;
 
 /// The query text, and the input text or the schedule, each empty until it is read. A text that couldn't be read to its end is not kept.
 /// Of an input that is followed, what stands from its faulty line on is kept.
@@ -13,6 +14,8 @@ pub struct Texts {
     pub input: Vec<u8>,
     /// The number of the first line of `input`, counted from 1.
     pub input_from: u64,
+    /// What the system said where one of them couldn't be read.
+    pub reason: Option<ErrorKind>,
 }
 
 impl Texts {
@@ -25,6 +28,7 @@ impl Texts {
             query: Vec::new(alloc),
             input: Vec::new(alloc),
             input_from: 1,
+            reason: None,
         }
     }
 }

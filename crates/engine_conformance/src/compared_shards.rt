@@ -5,8 +5,8 @@ ghost use Rattle.semantics.specs.Kinds.{Role};
 ghost use Rattle.vertices.specs.AtWork.{IsAtWork};
 
 use crate::shards::{sent, shard_of, singles};
+use graph::Kind;
 use loop_context::Time;
-use lowering::Kind;
 use std::alloc::Global;
 use std::process::Abort;
 use std::test::Fail;

@@ -1,7 +1,7 @@
 //! The tracker with counts, asked as the other two are.
 
 ghost use Rattle.std.specs.Prelude.{◌≡◌};
-ghost use Rattle.lowering.specs.Shown.{shown_graph};
+ghost use Rattle.graph.specs.Shown.{shown_graph};
 
 use crate::path_summaries::SIMPLE;
 use crate::trackers::{asked, stamp};

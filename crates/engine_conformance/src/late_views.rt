@@ -1,15 +1,15 @@
 //! Two workers, of which one applies the seal of the input's first epoch before the other.
 
 ghost use Rattle.std.specs.Prelude.{◌≡◌, ◌<◌, ℕ};
-ghost use Rattle.lowering.specs.Shown.{shown_graph};
+ghost use Rattle.graph.specs.Shown.{shown_graph};
 ghost use Rattle.semantics.specs.Could.{IsTimeAt, Location as Place, Pointstamp as Active, at_vertex};
 ghost use Rattle.semantics.specs.Time.{at_epoch};
 ghost use Rattle.views.specs.Opening.{active_at_first};
 
 use crate::count_tracker::simple_paths;
 use expr_tree::NoMemory;
+use graph::{Location, VertexId};
 use loop_context::Time;
-use lowering::{Location, VertexId};
 use path_summary::{Paths, Pointstamp};
 use progress::CountTracker;
 use std::alloc::Global;

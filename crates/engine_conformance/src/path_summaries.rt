@@ -1,7 +1,8 @@
 //! Pointstamps of small queries' graphs, as the definition relates them.
 
+use graph::{EdgeId, Location, VertexId};
 use loop_context::Time;
-use lowering::{EdgeId, Location, VertexId, lower};
+use lowering::lower;
 use parser::parse;
 use path_summary::{Paths, Pointstamp};
 use std::alloc::Global;

@@ -1,7 +1,7 @@
 //! Shards to be tried, the batches that come to them, and what they send.
 
 ghost use Rattle.std.specs.Prelude.{◌≡◌, ◌<◌, ℕ, IfOk};
-ghost use Rattle.lowering.specs.Views.{kind_of};
+ghost use Rattle.graph.specs.Views.{kind_of};
 ghost use Rattle.rows.specs.FlatRows.{arity_of};
 ghost use Rattle.semantics.specs.Kinds.{in_ports, role};
 ghost use Rattle.semantics.specs.PortArity.{PortsFit};
@@ -10,7 +10,7 @@ ghost use Rattle.vertices.specs.AtWork.{IsAtWork};
 ghost use Rattle.vertices.specs.Shards.{by_port};
 
 use expr_tree::Column;
-use lowering::{Kind, Sources, Vertex};
+use graph::{Kind, Sources, Vertex};
 use record_core::Span;
 use rows::{Batch, Rows};
 use std::alloc::Global;

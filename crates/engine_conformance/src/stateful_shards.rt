@@ -6,8 +6,8 @@ ghost use Rattle.vertices.specs.AtWork.{IsAtWork};
 
 use crate::shards::{FIRST, NOWHERE, SECOND, pairs, sent, shard_of, singles};
 use expr_tree::{Agg, Pair};
+use graph::Kind;
 use loop_context::Time;
-use lowering::Kind;
 use std::alloc::Global;
 use std::process::Abort;
 use std::test::Fail;

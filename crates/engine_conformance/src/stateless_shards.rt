@@ -1,7 +1,7 @@
 //! Shards without a state at work: what each kind sends for one batch, by which port.
 
 ghost use Rattle.std.specs.Prelude.{◌≡◌, ◌<◌, ℕ};
-ghost use Rattle.lowering.specs.Views.{kind_of};
+ghost use Rattle.graph.specs.Views.{kind_of};
 ghost use Rattle.rows.specs.FlatRows.{arity_of};
 ghost use Rattle.semantics.specs.Kinds.{in_ports};
 ghost use Rattle.semantics.specs.PortArity.{PortsFit};
@@ -11,8 +11,8 @@ ghost use Rattle.vertices.specs.Shards.{Shows, TakesArity, by_port, shard_kind};
 
 use crate::shards::{NOWHERE, pairs, sent, shard_of, singles};
 use expr_tree::{Comparison, Cond, Scalar};
+use graph::Kind;
 use loop_context::Time;
-use lowering::Kind;
 use rows::Batch;
 use std::alloc::Global;
 use std::process::Abort;

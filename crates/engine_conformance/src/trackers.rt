@@ -1,14 +1,14 @@
 //! Both trackers over the same calls.
 
 ghost use Rattle.std.specs.Prelude.{◌≡◌, ◌<◌, ◌↔◌, ℕ, IsTrue, OnOk, OnSome};
-ghost use Rattle.lowering.specs.Shown.{shown_graph};
+ghost use Rattle.graph.specs.Shown.{shown_graph};
 ghost use Rattle.semantics.specs.Could.{IsTimeAt, Pointstamp as Active};
 ghost use Rattle.progress.specs.Content.{times_at, times_in};
 
 use crate::path_summaries::{SIMPLE, paths_of};
 use expr_tree::NoMemory;
+use graph::{Location, VertexId};
 use loop_context::Time;
-use lowering::{Location, VertexId};
 use path_summary::{Paths, Pointstamp};
 use progress::{Change, LocationTracker, PlainTracker, Progress, changes};
 use std::alloc::Global;

@@ -136,5 +136,5 @@ fn set_times(letters: &mut [Letter], epoch: u32)
 fn set_time(letter: &mut Letter, epoch: u32)
     ensures { letter.new ≡ at_time (at_epoch epoch) letter.old }
 {
-    letter.message.time = Time::at_epoch(epoch);
+    letter.message.set_time(Time::at_epoch(epoch));
 }

@@ -1,6 +1,7 @@
 //! Messages that wait.
 
 ghost use Rattle.std.specs.Prelude.{◌≡◌, ◌<◌, ◌≤◌, ◌+◌, ℕ, [], ◌++◌, ◌∷◌, IsTrue, ◌↔◌, OnOk, OnErr, IfErr, length, remove, slice_index_or, if◌then◌else◌, is_ok};
+ghost use Rattle.std.specs.List.{insert};
 ghost use Rattle.exchange.specs.Mail.{Mail};
 
 use rows::RowsError;
@@ -80,6 +81,28 @@ impl<T> Mailbox<T> {
         ensures room { self.new.room + 1 ≡ self.old.room }
     {
         self.messages.push_back_reserved(message);
+    }
+
+    /// Puts a message before the others, where there is room. No memory is taken.
+    pub fn put_first(&mut self, message: T)
+        requires { 0 < self.old.room }
+        ensures messages { self.new.messages ≡ message ∷ self.old.messages }
+        ensures room { self.new.room + 1 ≡ self.old.room }
+    {
+        self.messages.push_front_reserved(message);
+    }
+
+    /// Puts a message at a place from 0, where there is room; those from there on move back. No memory is taken.
+    pub fn put_at(&mut self, place: usize, message: T)
+        requires place { place ≤ length self.old.messages }
+        requires room { 0 < self.old.room }
+        ensures messages { self.new.messages ≡ insert self.old.messages place message }
+        ensures kept { self.old.room ≤ self.new.room + 1 }
+    {
+        match self.messages.insert(place, message) {
+            Ok(()) => {}
+            Err(_) => unreachable!(),
+        }
     }
 
     /// Takes a message out, by its place from 0; those behind it move up. No memory is taken.

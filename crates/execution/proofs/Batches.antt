@@ -2,7 +2,7 @@
 use Rattle.std.proofs.Common.{◌≡◌, ℕ, List, [], ◌∷◌, ◌++◌, slice_index_or, refl, sym, ap, ◌∙◌}
 use Rattle.semantics.specs.Multiset.{Record}
 use Rattle.semantics.specs.Graph.{output_number}
-use Rattle.lowering.specs.Shown.{shown_graph}
+use Rattle.graph.specs.Shown.{shown_graph}
 use Rattle.board.specs.Shown as board
 use Rattle.collector.specs.Held.{records_at}
 use Rattle.collector.specs.Piles.{joined}

@@ -5,8 +5,8 @@ use Rattle.std.proofs.lemmas.List.{length-map, map-append, map_more}
 use Rattle.semantics.specs.Multiset.{Record}
 use Rattle.board.specs.Shown.{Shown}
 use Rattle.board.specs.Promises.{emitted_at}
-use Rattle.lowering.specs.Views.{name_of_output}
-use Rattle.lowering.specs.declared.outputs.GraphOutput.{GraphOutput}
+use Rattle.graph.specs.Views.{name_of_output}
+use Rattle.graph.specs.declared.graph.GraphOutput.{GraphOutput}
 use Rattle.collector.specs.Emitted.{epochs_of, names_of, records_of}
 use Rattle.collector.specs.declared.output.OutputEpochs.{OutputEpochs}
 use Rattle.execution.specs.Fed.{HasEpochs}

@@ -1,6 +1,6 @@
 -- A report that was fed what was read, of as many epochs and inputs as there are.
 use Rattle.std.proofs.Common.{◌≡◌, ℕ, length, arith}
-use Rattle.lowering.specs.Shown.{GraphValue, shown_inputs}
+use Rattle.graph.specs.Shown.{GraphValue, shown_inputs}
 use Rattle.board.specs.Shown.{Shown}
 use Rattle.board.specs.Promises.{IsDrained}
 use Rattle.collector.specs.Held.{epoch_count}

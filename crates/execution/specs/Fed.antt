@@ -1,7 +1,7 @@
 -- What a board was fed and what it emitted, against the epochs that were read.
 use Rattle.std.specs.Prelude.{◌≡◌, ◌<◌, ℕ, List, [], length, slice_index_or}
 use Rattle.semantics.specs.Multiset.{Record}
-use Rattle.lowering.specs.Shown.{GraphValue, shown_inputs}
+use Rattle.graph.specs.Shown.{GraphValue, shown_inputs}
 use Rattle.board.specs.Shown as board
 use Rattle.board.specs.Promises.{IsDrained, IsOutputPlace, emitted_at}
 use Rattle.collector.specs.Held.{epoch_count, records_at}

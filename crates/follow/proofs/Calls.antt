@@ -3,9 +3,9 @@ use Rattle.std.proofs.Common.{◌≡◌, ◌<◌, ◌⊎◌, ◌-◌, ◌∙◌,
 use Rattle.std.specs.Prelude.{Bool, true, false, Option, Some, None, Result, Ok, Err, OnOk, IfOk, IfNone, if◌then◌else◌, is_err, is_ok, is_some, not, slice_index_or}
 use Rattle.std.proofs.Math.ListN.{get_or-append}
 use Rattle.std.proofs.lemmas.List.{get_or-map, length-append}
-use Rattle.lowering.specs.Shown.{GraphValue, shown_names}
-use Rattle.lowering.specs.Views.{name_of_output}
-use Rattle.lowering.specs.declared.outputs.GraphOutput.{GraphOutput}
+use Rattle.graph.specs.Shown.{GraphValue, shown_names}
+use Rattle.graph.specs.Views.{name_of_output}
+use Rattle.graph.specs.declared.graph.GraphOutput.{GraphOutput}
 use Rattle.board.specs.Shown.{Shown}
 use Rattle.board.specs.Answers.{Claims}
 use Rattle.board.specs.declared.board.Claimed.{Claimed}

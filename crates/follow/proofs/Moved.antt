@@ -53,6 +53,7 @@ claim_works s t k (Step.seal i) by goes live = absurd by
 claim_works s t k (Step.close i) by goes live = absurd by
 claim_works s t k (Step.claim_message k' at m) by goes live = works_by s t (Step.claim_message k' at m) live goes (λ i e. refl) (λ i. refl)
 claim_works s t k (Step.claim_request k' at n) by goes live = works_by s t (Step.claim_request k' at n) live goes (λ i e. refl) (λ i. refl)
+claim_works s t k (Step.merge k' at m n) by goes live = absurd by
 claim_works s t k (Step.commit k' event out) by goes live = absurd by
 claim_works s t k (Step.abandon k' event) by goes live = absurd by
 

@@ -4,7 +4,7 @@ use Rattle.std.specs.Prelude.{◌==◌, ◌&&◌, if◌then◌else◌, Option}
 use Rattle.std.proofs.lemmas.Bool.Decides.{eqb_tells}
 use Rattle.std.proofs.lemmas.List.{length-append, nil_from_length}
 use Rattle.semantics.specs.Multiset.{Record}
-use Rattle.lowering.specs.Shown.{GraphValue}
+use Rattle.graph.specs.Shown.{GraphValue}
 use Rattle.machine.specs.World.{opening}
 use Rattle.board.specs.Shown.{Shown, joined}
 use Rattle.board.specs.Showing.{Shows}

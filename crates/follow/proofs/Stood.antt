@@ -4,7 +4,7 @@ use Rattle.std.specs.Prelude.{Result, Ok, Err}
 use Rattle.std.specs.Io.KnownBytes.{Appends, Consumes, IsAtEnd, Keeps}
 use Rattle.std.proofs.lemmas.Bool.Decides.{eqb_tells}
 use Rattle.std.proofs.lemmas.List.{append-nil, length-append}
-use Rattle.lowering.specs.Shown.{GraphValue, shown_inputs}
+use Rattle.graph.specs.Shown.{GraphValue, shown_inputs}
 use Rattle.machine.specs.World.{opening}
 use Rattle.board.specs.Shown.{Shown, joined}
 use Rattle.board.specs.Showing.{Shows}

@@ -8,7 +8,7 @@ use Rattle.semantics.specs.Query.{Program}
 use Rattle.semantics.specs.Meaning.{program_meaning}
 use Rattle.semantics.specs.Graph.{output_number, output_numbers}
 use Rattle.semantics.proofs.LoweredDataflow.{lowered_outputs}
-use Rattle.lowering.specs.Shown.{GraphValue, shown_graph, shown_names}
+use Rattle.graph.specs.Shown.{GraphValue, shown_graph, shown_names}
 use Rattle.board.specs.Shown.{Shown, batches_at, joined}
 use Rattle.board.specs.Promises.{HasPassed, IsOutputPlace, KeepsPromise, RunsProgram, emitted_at, meant_of}
 use Rattle.collector.specs.OutputText.{is_plain}

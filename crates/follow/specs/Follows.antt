@@ -7,7 +7,7 @@ use Rattle.semantics.specs.Query.{Input, Program}
 use Rattle.semantics.specs.Meaning.{program_meaning}
 use Rattle.semantics.specs.Typing.{WellTyped}
 use Rattle.semantics.specs.Lower.{lowered}
-use Rattle.lowering.specs.Shown.{GraphValue, shown_graph, shown_inputs, shown_names}
+use Rattle.graph.specs.Shown.{GraphValue, shown_graph, shown_inputs, shown_names}
 use Rattle.collector.specs.Pieces.{split_on}
 use Rattle.collector.specs.Lines.{Item}
 use Rattle.collector.specs.InputText.{IsInputText, IsRefused, LinesSay, epochs_after, records_in}

@@ -3,7 +3,7 @@ use Rattle.std.specs.Prelude.{◌≡◌, ◌<◌, ◌≤◌, ℕ, ◌+◌, ◌-�
 use Rattle.std.specs.Io.KnownBytes.{Appends}
 use Rattle.semantics.specs.Multiset.{Record}
 use Rattle.semantics.specs.Query.{Input}
-use Rattle.lowering.specs.Shown.{GraphValue, shown_graph, shown_inputs}
+use Rattle.graph.specs.Shown.{GraphValue, shown_graph, shown_inputs}
 use Rattle.machine.specs.World.{World}
 use Rattle.machine.specs.Step.{put}
 use Rattle.rows.specs.FlatRows.{RowList}

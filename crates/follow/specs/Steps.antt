@@ -3,7 +3,7 @@ use Rattle.std.specs.Prelude.{◌≡◌, ◌≢◌, ◌<◌, ◌≤◌, ℕ, ◌
 use Rattle.std.specs.List.{flat_map}
 use Rattle.semantics.specs.Multiset.{Record}
 use Rattle.semantics.specs.Query.{Input}
-use Rattle.lowering.specs.Shown.{GraphValue, shown_inputs}
+use Rattle.graph.specs.Shown.{GraphValue, shown_inputs}
 use Rattle.board.specs.Shown.{Shown, joined}
 use Rattle.board.specs.Promises.{IsOutputPlace, emitted_at}
 use Rattle.collector.specs.Pieces.{split_on}

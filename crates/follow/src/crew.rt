@@ -71,7 +71,7 @@ fn weighed(done: Done) -> (u64, Done)
     let (stub, output) = done.into_parts();
     let mut records = 0u64;
     for letter in &output.sent {
-        records = records.max(letter.message.batch.len() as u64);
+        records = records.max(letter.message.len() as u64);
     }
     (records, Done::from_parts(worker, stub, output))
 }

@@ -1,7 +1,7 @@
 //! An input, followed from its first byte to its end.
 
 ghost use Rattle.std.specs.Prelude.{◌≡◌, ◌⊎◌, ◌+◌, map, true, IfOk, IsErrOf, OnErr};
-ghost use Rattle.lowering.specs.Views.{input_of};
+ghost use Rattle.graph.specs.Views.{input_of};
 ghost use Rattle.machine.specs.World.{opening};
 ghost use Rattle.board.specs.Promises.{IsOpening};
 ghost use Rattle.board.specs.Showing.{Shows};
@@ -20,7 +20,7 @@ use crate::renewing::{LINES, new_board, renew};
 use crate::taken::Taken;
 use board::Board;
 use collector::{Declared, Watched, find, put};
-use lowering::{DeclaredInput, Graph};
+use graph::{DeclaredInput, Graph};
 use progress::LocationTracker;
 use std::alloc::Global;
 use std::io::{Read, Write};

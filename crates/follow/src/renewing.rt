@@ -10,7 +10,7 @@ use crate::crew::Crew;
 use crate::ending::Halt;
 use crate::position::Position;
 use board::Board;
-use lowering::Graph;
+use graph::Graph;
 use progress::LocationTracker;
 use std::alloc::Global;
 use std::sync::Arc;

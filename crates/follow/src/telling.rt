@@ -3,7 +3,7 @@
 ghost use Rattle.std.specs.Prelude.{◌≡◌, ◌<◌, ℕ, ◌+◌, ◌++◌, IfOk, IsTrue, OnOk, map};
 ghost use Rattle.board.specs.Promises.{HasPassed, IsOutputPlace};
 ghost use Rattle.collector.specs.OutputText.{is_plain};
-ghost use Rattle.lowering.specs.Views.{name_of_output};
+ghost use Rattle.graph.specs.Views.{name_of_output};
 ghost use Rattle.follow.specs.Entries.{complete_line, label_of};
 ghost use Rattle.follow.specs.Scenes.{batches_of, told_count};
 ghost use Rattle.follow.specs.Steps.{IsFresh, Nexts, Tells, TellsHere, TellsOne, TellsOpen};
@@ -12,7 +12,7 @@ use crate::batches::push_batches;
 use crate::ending::Halt;
 use crate::texts::push_complete;
 use board::Board;
-use lowering::GraphOutput;
+use graph::GraphOutput;
 use record_core::Name;
 use std::alloc::Global;
 use views::Views;

@@ -4,7 +4,8 @@ ghost use Rattle.std.specs.Prelude.{◌<◌, ◌≤◌};
 
 use collector::Watched;
 use follow::{Crew, Ending, follow};
-use lowering::{Graph, lower};
+use graph::Graph;
+use lowering::lower;
 use parser::parse;
 use std::alloc::{AllocError, Global};
 use std::io;

@@ -6,8 +6,10 @@
 //! Below stands `semantics`. Path summaries, trackers, shards and the board speak of times.
 #![tactic(auto)]
 
+mod action;
 mod time;
 
+pub use action::Action;
 pub use time::{MAX_LOOPS, Time};
 
 #[cfg(test)]

@@ -6,11 +6,11 @@ use Rattle.semantics.specs.FreeNames.{carried}
 use Rattle.semantics.specs.Kinds as semantics
 use Rattle.semantics.specs.Graph as graph
 use Rattle.semantics.specs.Lower.{lower, Lowered, Ports, carry, new_vertex, port, then_one, then_two}
-use Rattle.lowering.specs.Views.{graph_of, port_of}
+use Rattle.graph.specs.Views.{graph_of, port_of}
 use Rattle.lowering.specs.Faults.{IsTooMany, IsOver}
 use Rattle.lowering.specs.Steps.{IsLowered}
-use Rattle.lowering.specs.declared.vertex.Port.{Port}
-use Rattle.lowering.specs.declared.vertex.Vertex.{Vertex}
+use Rattle.graph.specs.declared.vertex.Port.{Port}
+use Rattle.graph.specs.declared.vertex.Vertex.{Vertex}
 use Rattle.lowering.specs.declared.fault.LowerFault.{LowerFault}
 use Rattle.lowering.proofs.Forms.{full_one, full_two, inside_of, loop_lowered, one_made, over_close, two_made}
 

@@ -5,12 +5,13 @@ use Rattle.semantics.specs.Kinds as semantics
 use Rattle.semantics.specs.Graph as graph
 use Rattle.semantics.specs.Lower.{lower, Lowered, Ports, new_vertex, port, stands_for, carried_ports, carry, looped, after_start, then_one, then_two}
 use Rattle.semantics.specs.FreeNames.{carried}
-use Rattle.lowering.specs.Views.{graph_of}
+use Rattle.graph.specs.Views.{graph_of}
 use Rattle.lowering.specs.Faults.{IsTooMany, IsOver}
 use Rattle.lowering.specs.Steps.{IsLowered}
-use Rattle.lowering.specs.declared.vertex.Vertex.{Vertex}
+use Rattle.graph.specs.declared.vertex.Vertex.{Vertex}
 use Rattle.lowering.specs.declared.fault.LowerFault.{LowerFault}
-use Rattle.lowering.proofs.Numbers.{number_of, length_graph_of}
+use Rattle.lowering.proofs.MoreVertices.{number_of}
+use Rattle.graph.proofs.Numbers.{length_graph_of}
 
 -- no vertex
 pub nothing_made : (g : graph.Graph) (p : graph.Port) (l : Lowered) → l.made ≡ [] → p ≡ l.gives → IsLowered g g p l

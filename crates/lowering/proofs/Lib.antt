@@ -1,7 +1,7 @@
 pub mod Scopes
 pub mod Tables
 pub mod Gathers
-pub mod Numbers
+pub mod MoreVertices
 pub mod Forms
 pub mod Answered
 pub mod SetOperations
@@ -10,9 +10,5 @@ pub mod NamedOutputs
 pub mod OutputPlaces
 pub mod WholePrograms
 pub mod Nesting
-pub mod Lines
-pub mod EdgeTables
 pub mod Leads
 pub mod VertexArities
-pub mod FittingPorts
-pub mod Inputs

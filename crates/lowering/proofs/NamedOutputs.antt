@@ -7,12 +7,12 @@ use Rattle.semantics.specs.Graph as graph
 use Rattle.semantics.specs.Kinds as semantics
 use Rattle.semantics.specs.Lower.{lower, lower_outputs, new_vertex, Ports}
 use Rattle.semantics.specs.Query.{Output}
-use Rattle.lowering.specs.Views.{graph_of}
+use Rattle.graph.specs.Views.{graph_of}
 use Rattle.lowering.specs.Faults.{IsOver, IsTooMany}
 use Rattle.lowering.specs.Steps.{IsLowered}
-use Rattle.lowering.specs.declared.vertex.Vertex.{Vertex}
+use Rattle.graph.specs.declared.vertex.Vertex.{Vertex}
 use Rattle.lowering.specs.declared.fault.LowerFault.{LowerFault}
-use Rattle.lowering.proofs.Numbers.{number_of}
+use Rattle.lowering.proofs.MoreVertices.{number_of}
 use Rattle.lowering.proofs.Forms.{full_over, is_over}
 use Rattle.lowering.proofs.Scopes.{split_first}
 

@@ -9,12 +9,12 @@ use Rattle.semantics.specs.Query.{Let}
 use Rattle.semantics.specs.Lower.{lower, lower_lets, LoweredLets, Ports, stands_for}
 use Rattle.semantics.proofs.FittingPrograms.{Nested}
 use Rattle.semantics.specs.Graph as graph
-use Rattle.lowering.specs.Views.{graph_of}
+use Rattle.graph.specs.Views.{graph_of}
 use Rattle.lowering.specs.Faults.{IsOver}
 use Rattle.lowering.specs.Steps.{IsLowered, AreLowered, AreNested}
-use Rattle.lowering.specs.declared.vertex.Vertex.{Vertex}
+use Rattle.graph.specs.declared.vertex.Vertex.{Vertex}
 use Rattle.lowering.specs.declared.fault.LowerFault.{LowerFault}
-use Rattle.lowering.proofs.Numbers.{number_of}
+use Rattle.lowering.proofs.MoreVertices.{number_of}
 use Rattle.lowering.proofs.Forms.{is_over}
 
 -- one of them

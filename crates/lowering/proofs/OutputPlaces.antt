@@ -2,8 +2,8 @@
 use Rattle.std.proofs.Common.{◌≡◌, ℕ, zero, suc, ◌+◌, ◌<◌, Bool, true, false, cond, List, [], ◌∷◌, ◌++◌, length, get_or, take, refl, sym, ap, ◌∙◌, arith}
 use Rattle.semantics.specs.Graph.{output_numbers, outputs_from}
 use Rattle.semantics.specs.Kinds.{is_output}
-use Rattle.lowering.specs.Views.{graph_of, kind_of}
-use Rattle.lowering.specs.declared.vertex.Vertex.{Vertex}
+use Rattle.graph.specs.Views.{graph_of, kind_of}
+use Rattle.graph.specs.declared.vertex.Vertex.{Vertex}
 
 cond_append : (b : Bool) (x : ℕ) (ys zs : List ℕ) → cond b (x ∷ (ys ++ zs)) (ys ++ zs) ≡ cond b (x ∷ ys) ys ++ zs
 cond_append true x ys zs = refl

@@ -4,10 +4,10 @@ use Rattle.std.proofs.Math.Seq.{take-length}
 use Rattle.semantics.specs.Query.{Name}
 use Rattle.semantics.specs.Graph.{no_port}
 use Rattle.semantics.specs.Lower.{Ports, stands_for, carried_ports, port}
-use Rattle.lowering.specs.Views.{port_of}
+use Rattle.graph.specs.Views.{port_of}
 use Rattle.lowering.specs.Scopes.{ports_from, ports_of}
 use Rattle.lowering.specs.declared.scope.Entry.{Entry}
-use Rattle.lowering.specs.declared.vertex.Port.{Port}
+use Rattle.graph.specs.declared.vertex.Port.{Port}
 
 pub ports_from_append : (ports : Ports) (es fs : List Entry) → ports_from ports (es ++ fs) ≡ ports_from (ports_from ports es) fs
 ports_from_append ports [] fs = refl

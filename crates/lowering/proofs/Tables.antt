@@ -10,10 +10,10 @@ use Rattle.semantics.specs.Graph.{no_port}
 use Rattle.semantics.specs.Lower.{stands_for}
 use Rattle.semantics.specs.Meaning.{same_name}
 use Rattle.semantics.proofs.NamesAmong.{Decides-same_name}
-use Rattle.lowering.specs.Views.{port_of}
+use Rattle.graph.specs.Views.{port_of}
 use Rattle.lowering.specs.Scopes.{IsTable, entries_of, found_port, ports_of}
 use Rattle.lowering.specs.declared.scope.Bound.{Bound}
-use Rattle.lowering.specs.declared.vertex.Port.{Port}
+use Rattle.graph.specs.declared.vertex.Port.{Port}
 use Rattle.lowering.proofs.Scopes.{ports_from_append}
 
 -- ---- lists with one element more

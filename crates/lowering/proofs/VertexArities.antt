@@ -9,7 +9,7 @@ use Rattle.semantics.specs.Graph.{Graph, Port, Vertex, no_port, no_vertex, sourc
 use Rattle.semantics.specs.Lower.{input_vertices, lowered, new_vertex}
 use Rattle.semantics.specs.PortArity.{IsTyped, PortsFit, program_arities}
 use Rattle.semantics.specs.Typing.{WellTyped}
-use Rattle.lowering.specs.Arities.{arity_in, sent}
+use Rattle.lowering.specs.Sent.{arity_in, sent}
 use Rattle.lowering.proofs.Leads.{AllBelow, FirstBelow, Leads, behind_inputs, leads_at, length_inputs, program_leads, some_input}
 
 fits_sent : (kind : Kind) (n : ℕ) (ins : ℕ → ℕ) (out : ℕ) → is_input kind ≡ false → PortsFit kind ins out → out ≡ sent kind n (ins 0) (ins 1)

@@ -7,15 +7,16 @@ use Rattle.semantics.specs.Query.{Name, Program}
 use Rattle.semantics.specs.Kinds as semantics
 use Rattle.semantics.specs.Graph as graph
 use Rattle.semantics.specs.Lower.{lower_lets, lower_outputs, Ports, new_vertex, port, stands_for, input_vertices, input_ports, lets_of, outputs_of, lowered}
-use Rattle.lowering.specs.Views.{graph_of, port_of}
+use Rattle.graph.specs.Views.{graph_of, port_of}
 use Rattle.lowering.specs.Faults.{IsTooMany, IsOver}
 use Rattle.lowering.specs.Steps.{AreLowered}
 use Rattle.lowering.specs.Scopes.{ports_of}
 use Rattle.lowering.specs.declared.scope.Entry.{Entry}
-use Rattle.lowering.specs.declared.vertex.Port.{Port}
-use Rattle.lowering.specs.declared.vertex.Vertex.{Vertex}
+use Rattle.graph.specs.declared.vertex.Port.{Port}
+use Rattle.graph.specs.declared.vertex.Vertex.{Vertex}
 use Rattle.lowering.specs.declared.fault.LowerFault.{LowerFault}
-use Rattle.lowering.proofs.Numbers.{number_of, length_graph_of}
+use Rattle.lowering.proofs.MoreVertices.{number_of}
+use Rattle.graph.proofs.Numbers.{length_graph_of}
 use Rattle.lowering.proofs.Scopes.{ports_from_append}
 
 pub bound_last : (x : Name) (p : Port) (old new : List Entry) → new ≡ old ++ (record { name = x; port = p } ∷ []) → ports_of new ≡ stands_for x (port_of p) (ports_of old)

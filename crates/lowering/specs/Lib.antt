@@ -1,13 +1,7 @@
-pub mod Views
 pub mod Faults
 pub mod Scopes
 pub mod Gathering
 pub mod Steps
-pub mod GraphLaws
-pub mod Shown
-pub mod Text
-pub mod Edges
-pub mod Locations
-pub mod Arities
-pub mod Equality
-pub mod EqualityLaws
+pub mod Computing
+pub mod Sent
+pub mod SetOperators

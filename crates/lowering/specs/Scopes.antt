@@ -6,10 +6,10 @@ use Rattle.semantics.specs.Graph.{no_port}
 use Rattle.semantics.specs.Graph as graph
 use Rattle.semantics.specs.Lower.{Ports, stands_for}
 use Rattle.semantics.specs.Meaning.{same_name}
-use Rattle.lowering.specs.Views.{port_of}
+use Rattle.graph.specs.Views.{port_of}
 use Rattle.lowering.specs.declared.scope.Bound.{Bound}
 use Rattle.lowering.specs.declared.scope.Entry.{Entry}
-use Rattle.lowering.specs.declared.vertex.Port.{Port}
+use Rattle.graph.specs.declared.vertex.Port.{Port}
 
 -- after these entries; a later one hides an earlier one
 abbrev pub ports_from : Ports → List Entry → Ports

@@ -3,14 +3,14 @@
 ghost use Rattle.std.specs.Prelude.{◌≡◌, ◌≤◌, ◌<◌, ℕ, List, length, map, slice_index_or, IfOk};
 ghost use Rattle.expr_tree.specs.Plain.{plain_program};
 ghost use Rattle.expr_tree.specs.Views.{program_tree};
-ghost use Rattle.semantics.specs.Graph.{no_port};
 ghost use Rattle.semantics.specs.Lower.{lowered};
 ghost use Rattle.semantics.specs.Typing.{WellTyped};
-ghost use Rattle.lowering.specs.Arities.{AreArities, arity_in, sent};
-ghost use Rattle.lowering.specs.Views.{graph_of, kind_of, port_of, sources_of};
+ghost use Rattle.graph.specs.Arities.{AreArities};
+ghost use Rattle.lowering.specs.Sent.{arity_in, sent};
+ghost use Rattle.graph.specs.Views.{graph_of, kind_of, sources_of};
 
-use crate::vertex::{Kind, Port, Sources, Vertex, VertexId};
 use expr_tree::{Input, NoMemory, Program};
+use graph::{Kind, Vertex, arity_at, two_sources};
 use std::alloc::{Allocator, Global};
 
 /// For each vertex of a program's graph the number of fields of the records that it sends, or for the output of those that come to it.
@@ -66,31 +66,5 @@ fn sent_arity(vertex: &Vertex, declared: u64, arities: &[u64]) -> u64
         Kind::Feedback => first,
         Kind::Gate(_) => first,
         Kind::Hold(_) => first,
-    }
-}
-
-/// The first and the second source; that of no vertex's number where there is none.
-pub fn two_sources(ins: Sources) -> (Port, Port)
-    ensures first { port_of result.0 ≡ slice_index_or (sources_of ins) 0 no_port }
-    ensures second { port_of result.1 ≡ slice_index_or (sources_of ins) 1 no_port }
-{
-    let nowhere = Port {
-        vertex: VertexId(0),
-        out: 0,
-    };
-    match ins {
-        Sources::Nothing => (nowhere, nowhere),
-        Sources::One(first) => (first, nowhere),
-        Sources::Two(first, second) => (first, second),
-    }
-}
-
-/// The arity of the vertex that a port belongs to; 0 where it isn't there.
-pub fn arity_at(arities: &[u64], port: Port) -> u64
-    ensures { result ≡ slice_index_or arities.now (port_of port).vertex 0 }
-{
-    match arities.get(port.vertex.0 as usize) {
-        Some(arity) => *arity,
-        None => 0,
     }
 }

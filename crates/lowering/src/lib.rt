@@ -7,32 +7,25 @@
 //! inputs it has exactly one flow, and what comes to each output is what the query means there. A graph owns what it needs; the
 //! tree may go.
 //!
-//! Below stand `expr_tree`, `typing` and `semantics`. Path summaries, trackers, shards and the board stand on graphs.
+//! Below stand `expr_tree`, `typing`, `semantics` and `graph`, whose names this crate gives on. Who takes a graph as it is needs `graph` alone.
 #![tactic(auto)]
 
 mod arities;
 mod copies;
-mod dot;
-mod edges;
-mod equality;
 mod fault;
 mod form_vertices;
-mod graph;
-mod location;
 mod loops;
+mod lowered;
 mod names;
 mod outputs;
 mod program;
 mod relation;
 mod scope;
-mod text;
 mod vertex;
 
-pub use dot::graph_dot;
-pub use edges::{Edge, EdgeId};
 pub use fault::LowerFault;
-pub use graph::{DeclaredInput, Graph, lower};
-pub use location::Location;
-pub use outputs::GraphOutput;
-pub use text::graph_text;
-pub use vertex::{Kind, MAX_VERTICES, Port, Sources, Vertex, VertexId};
+pub use graph::{
+    DeclaredInput, Edge, EdgeId, Graph, GraphOutput, Kind, Location, MAX_VERTICES, Port, Sources,
+    Vertex, VertexId, graph_dot, graph_text,
+};
+pub use lowered::lower;

@@ -9,13 +9,14 @@ ghost use Rattle.semantics.specs.Limits.{max_loops};
 ghost use Rattle.semantics.specs.Lower.{carried_ports, carry, new_vertex, port, stands_for};
 ghost use Rattle.lowering.specs.Faults.{IsOver};
 ghost use Rattle.lowering.specs.Scopes.{Extends, ports_of};
-ghost use Rattle.lowering.specs.Views.{graph_of, port_of};
+ghost use Rattle.graph.specs.Views.{graph_of, port_of};
 
 use crate::fault::LowerFault;
 use crate::names::carried_names;
 use crate::scope::Scope;
-use crate::vertex::{Kind, Port, Sources, Vertex, VertexId, add_vertex};
+use crate::vertex::add_vertex;
 use expr_tree::Rel;
+use graph::{Kind, Port, Sources, Vertex, VertexId};
 use record_core::Name;
 use std::alloc::{Allocator, Global};
 
@@ -133,7 +134,7 @@ fn carry_one(turns: u64, from: Port, depth: u32, made: &mut Vec<Vertex>) -> Resu
 }
 
 /// The vertex of that number is the concat of these.
-#[tactic(auto, using(crate::proofs::Numbers::graph_of_set))]
+#[tactic(auto, using(crate::proofs::MoreVertices::graph_of_set))]
 fn set_concat(made: &mut Vec<Vertex>, number: usize, depth: u32, first: Port, second: Port)
     requires { number < length made.old.items }
     ensures { graph_of made.new.items ≡ slice_set (graph_of made.old.items) number (new_vertex semantics.Kind.concat depth (port_of first ∷ port_of second ∷ [])) }

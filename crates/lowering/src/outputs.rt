@@ -5,19 +5,11 @@ ghost use Rattle.expr_tree.specs.Plain.{plain_output};
 ghost use Rattle.expr_tree.specs.Views.{output_tree};
 ghost use Rattle.semantics.specs.Graph.{output_numbers};
 ghost use Rattle.semantics.specs.Kinds.{is_output};
-ghost use Rattle.lowering.specs.Views.{graph_of, kind_of, number_of_output, name_of_output, vertex_number};
+ghost use Rattle.graph.specs.Views.{graph_of, kind_of, number_of_output, name_of_output, vertex_number};
 
-use crate::vertex::{Kind, Vertex, VertexId};
 use expr_tree::{NoMemory, Output};
-use record_core::Name;
+use graph::{GraphOutput, Kind, Vertex, VertexId};
 use std::alloc::{Allocator, Global};
-
-/// An output of a query: its name, and the vertex where its records come out.
-#[derive(Drop)]
-pub struct GraphOutput {
-    pub name: Name,
-    pub vertex: VertexId,
-}
 
 /// The outputs of a graph, in order, by the names of the program's.
 pub fn outputs_of<A: Allocator>(
@@ -51,7 +43,7 @@ fn output_vertices(alloc: Global, vertices: &[Vertex]) -> Result<Vec<VertexId>, 
 fn put_output(numbers: &mut Vec<VertexId>, vertex: VertexId, kind: &Kind) -> Result<(), NoMemory>
     ensures { OnOk result (map vertex_number numbers.new.items ≡ map vertex_number numbers.old.items ++ cond (is_output (kind_of kind.now)) (vertex.0 ∷ []) []) }
 {
-    if is_output_kind(kind) {
+    if kind.is_output() {
         numbers.push(vertex)?;
     }
     Ok(())
@@ -75,11 +67,4 @@ fn named<A: Allocator>(
         })?;
     }
     Ok(found)
-}
-
-/// Whether a kind is an output's.
-pub fn is_output_kind(kind: &Kind) -> bool
-    ensures { result ≡ is_output (kind_of kind.now) }
-{
-    matches!(kind, Kind::Output)
 }

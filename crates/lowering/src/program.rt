@@ -7,13 +7,14 @@ ghost use Rattle.semantics.specs.Lower.{input_ports, input_vertices, lower_lets,
 ghost use Rattle.lowering.specs.Faults.{IsOver, IsTooMany};
 ghost use Rattle.lowering.specs.Scopes.{ports_of};
 ghost use Rattle.lowering.specs.Steps.{AreLowered, AreNested, IsNested, OutputsNested};
-ghost use Rattle.lowering.specs.Views.{graph_of};
+ghost use Rattle.graph.specs.Views.{graph_of};
 
 use crate::fault::LowerFault;
 use crate::relation::lower_rel;
 use crate::scope::Scope;
-use crate::vertex::{Kind, MAX_VERTICES, Sources, Vertex, add_vertex};
+use crate::vertex::add_vertex;
 use expr_tree::{Input, Let, Output, Program};
+use graph::{Kind, MAX_VERTICES, Sources, Vertex};
 use std::alloc::{Allocator, Global};
 
 /// The vertices of a program: its inputs, its named relations in order, then each output's relation and the output.

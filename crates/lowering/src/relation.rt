@@ -8,14 +8,15 @@ ghost use Rattle.semantics.proofs.FittingPrograms.{Nested};
 ghost use Rattle.lowering.specs.Faults.{IsOver};
 ghost use Rattle.lowering.specs.Scopes.{ports_of};
 ghost use Rattle.lowering.specs.Steps.{IsLowered};
-ghost use Rattle.lowering.specs.Views.{graph_of, port_of};
+ghost use Rattle.graph.specs.Views.{graph_of, port_of};
 
 use crate::fault::LowerFault;
 use crate::form_vertices::{add_group, add_join, add_select, add_set_operation, add_where};
 use crate::loops::{close_loop, open_loop};
 use crate::scope::Scope;
-use crate::vertex::{Kind, Port, Sources, Vertex, add_vertex};
+use crate::vertex::add_vertex;
 use expr_tree::Rel;
+use graph::{Kind, Port, Sources, Vertex};
 use std::alloc::{Allocator, Global};
 
 /// Makes the vertices of a relation after those that are there, and gives the port that the relation gives.

@@ -2,10 +2,10 @@
 
 ghost use Rattle.std.specs.Prelude.{◌≡◌, ◌-◌, ◌++◌, ◌∷◌, [], length, take, OnOk, OnErr};
 ghost use Rattle.lowering.specs.Scopes.{ports_of};
-ghost use Rattle.lowering.specs.Views.{port_of};
+ghost use Rattle.graph.specs.Views.{port_of};
 
-use crate::vertex::{Port, VertexId};
 use expr_tree::NoMemory;
+use graph::{Port, VertexId};
 use indexmap::IndexMap;
 use record_core::Name;
 use std::alloc::Global;

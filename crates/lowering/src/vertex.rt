@@ -1,63 +1,12 @@
-//! Vertices, by number in the order in which they are made.
+//! One vertex more, numbered as it is made.
 
 ghost use Rattle.std.specs.Prelude.{◌≡◌, ◌≤◌, ◌++◌, ◌∷◌, [], length, IfOk, IfErr, OnOk};
 ghost use Rattle.semantics.specs.Lower.{new_vertex, port};
+ghost use Rattle.graph.specs.Views.{graph_of, kind_of, port_of, sources_of};
 ghost use Rattle.lowering.specs.Faults.{IsTooMany};
-ghost use Rattle.lowering.specs.Views.{graph_of, kind_of, port_of, sources_of};
 
 use crate::fault::LowerFault;
-use expr_tree::{Agg, Column, Cond, Pair, Scalar};
-use std::alloc::Global;
-
-/// The greatest number of vertices of a graph.
-pub const MAX_VERTICES: usize = 4096;
-
-/// A vertex by its number, from 0.
-#[derive(Clone, Copy, Debug, PartialEq, Eq)]
-pub struct VertexId(pub u32);
-
-/// What a vertex does with the records that come to it. `Gate` and `Hold` have the number of turns of their loop.
-#[derive(Drop)]
-pub enum Kind {
-    Input,
-    Output,
-    Select(Vec<Scalar<Global>>),
-    Where(Box<Cond<Global>>),
-    Concat,
-    Join(Vec<Pair>),
-    Group(Vec<Column>, Vec<Agg>),
-    Distinct,
-    Except,
-    Intersect,
-    Ingress,
-    Egress,
-    Feedback,
-    Gate(u64),
-    Hold(u64),
-}
-
-/// An out port of a vertex.
-#[derive(Clone, Copy, Debug, PartialEq, Eq)]
-pub struct Port {
-    pub vertex: VertexId,
-    pub out: u32,
-}
-
-/// The ports that feed a vertex's in ports, in order.
-#[derive(Clone, Copy, Debug, PartialEq, Eq)]
-pub enum Sources {
-    Nothing,
-    One(Port),
-    Two(Port, Port),
-}
-
-/// A vertex. Its depth is the number of loops in whose bodies what comes to it stands.
-#[derive(Drop)]
-pub struct Vertex {
-    pub kind: Kind,
-    pub depth: u32,
-    pub ins: Sources,
-}
+use graph::{Kind, MAX_VERTICES, Port, Sources, Vertex, VertexId};
 
 /// Makes one vertex more, and gives its out port 0.
 pub fn add_vertex(

@@ -14,6 +14,7 @@ use Rattle.machine.specs.Changes.{step_adds, step_removes}
 use Rattle.semantics.proofs.MultisetSums.{total-append}
 use Rattle.machine.proofs.Counting.{below_same, below_add, below_one, below_changed, total-remove, total_one}
 use Rattle.machine.proofs.Laws.{IsNetwork}
+use Rattle.machine.proofs.Merges.{mail_merged, total_merged}
 use Rattle.machine.proofs.Places.{same_time_tells}
 use Rattle.machine.proofs.Progress.{put_tells, put_here}
 
@@ -183,6 +184,22 @@ module _ (g : Network) (law : IsNetwork g) (w : World) where
       way k (inr (x, y)) (inl (x', y')) = absurd (x x')
       way k (inr (x, y)) (inr (x', y')) = ap₂ (λ ms z. total (λ m. one_if_same p (message_pointstamp m)) (w.mail k) + total (λ n. one_if_same p (request_pointstamp n)) ms + held_count p z) y y'
 
+  -- two messages of one pointstamp become one
+  count_merge : (k0 at : ℕ) (m n : Message) → Allowed g w (Step.merge k0 at m n) → (p : Pointstamp) → active_count g (after_step g w (Step.merge k0 at m n)) p + step_removes g w (Step.merge k0 at m n) p ≡ active_count g w p + 0
+  count_merge k0 at m n ok p =
+      let a : sum_below g.workers (worker_count (after_step g w (Step.merge k0 at m n)) p) + worker_count w p k0 ≡ sum_below g.workers (worker_count w p) + worker_count (after_step g w (Step.merge k0 at m n)) p k0 =
+      below_changed g.workers k0 (worker_count w p) (worker_count (after_step g w (Step.merge k0 at m n)) p) ok.0.0 (λ j lj ne. other j ne (put_tells w.mail k0 (mail_merged (w.mail k0) at m n) j)) in
+      let b : total (λ m. one_if_same p (message_pointstamp m)) (put w.mail k0 (mail_merged (w.mail k0) at m n) k0) ≡ total (λ m. one_if_same p (message_pointstamp m)) (mail_merged (w.mail k0) at m n) =
+      ap (total (λ m. one_if_same p (message_pointstamp m))) (put_here w.mail k0 (mail_merged (w.mail k0) at m n)) in
+      let c : total (λ m. one_if_same p (message_pointstamp m)) (mail_merged (w.mail k0) at m n) + one_if_same p (message_pointstamp m) + one_if_same p (message_pointstamp n) ≡ total (λ m. one_if_same p (message_pointstamp m)) (w.mail k0) + one_if_same p (message_pointstamp m) =
+      total_merged (λ m. one_if_same p (message_pointstamp m)) (w.mail k0) at m n ok.1 ok.2 in
+      omega arith
+    where
+      other : (j : ℕ) → j ≢ k0 → ((j ≡ k0) × (put w.mail k0 (mail_merged (w.mail k0) at m n) j ≡ mail_merged (w.mail k0) at m n)) ⊎ ((j ≢ k0) × (put w.mail k0 (mail_merged (w.mail k0) at m n) j ≡ w.mail j))
+          → worker_count (after_step g w (Step.merge k0 at m n)) p j ≡ worker_count w p j
+      other j ne (inl (x, y)) = absurd (ne x)
+      other j ne (inr (x, y)) = ap (λ ms. total (λ m. one_if_same p (message_pointstamp m)) ms + total (λ n. one_if_same p (request_pointstamp n)) (w.requests j) + held_count p (w.held j)) y
+
   count_abandon : (k0 : ℕ) (event : Event) → Allowed g w (Step.abandon k0 event) → (p : Pointstamp) → active_count g (after_step g w (Step.abandon k0 event)) p + 0 ≡ active_count g w p + 0
   count_abandon k0 event ok p =
       let a : sum_below g.workers (worker_count (after_step g w (Step.abandon k0 event)) p) ≡ sum_below g.workers (worker_count w p) =
@@ -220,5 +237,6 @@ module _ (g : Network) (law : IsNetwork g) (w : World) where
   count_step (Step.close i) ok p = count_close i (law.role_is_input i ok.0) ok.1 p
   count_step (Step.claim_message k at m) ok p = count_claim_message k at m ok p
   count_step (Step.claim_request k at n) ok p = count_claim_request k at n ok p
+  count_step (Step.merge k at m n) ok p = count_merge k at m n ok p
   count_step (Step.commit k event out) ok p = count_commit k event out ok p
   count_step (Step.abandon k event) ok p = count_abandon k event ok p

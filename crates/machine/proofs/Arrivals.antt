@@ -16,7 +16,7 @@ use Rattle.machine.proofs.NetFlow.{ins}
 use Rattle.machine.proofs.Kept.{done_at, each}
 use Rattle.semantics.specs.Shard.{only_at}
 use Rattle.machine.proofs.Commits.{once, way_after, vertex_after}
-use Rattle.machine.proofs.Counting.{eqb_self, below_one, below_changed, count-append}
+use Rattle.machine.proofs.Counting.{eqb_self, below_one, below_changed, count-append, count_either}
 use Rattle.machine.proofs.Kept.{done_at, History, carried, held_records, under_way, wished, held_wish, wishes, some, bit, made, Due, Kept, GoodMessage, GoodRequest, GoodHeld}
 use Rattle.machine.proofs.Ports.{end_same, some_append, some_of_port}
 use Rattle.machine.proofs.Laws.{IsNetwork, IsOutput, AtHome, times_in}
@@ -411,13 +411,9 @@ module _ (g : Network) (law : IsNetwork g) (w : World) (h : History) (keeps : Ke
       was_due k v t (inr wish) (inl (x, y)) = absurd (let a : held_wish v t (put w.held k0 Held.nothing k) ≡ 0 = ap (held_wish v t) y in omega arith)
       was_due k v t (inr wish) (inr (x, y)) = let a : held_wish v t (put w.held k0 Held.nothing k) ≡ held_wish v t (w.held k) = ap (held_wish v t) y in inr (omega arith)
 
-      some_of : (r : Record) (xs ys : List Record) → 0 < count r (xs ++ ys) → (n : ℕ) → count r ys ≡ n → (0 < count r xs) ⊎ (0 < count r ys)
-      some_of r xs ys l zero e = inl (let a = count-append r xs ys in omega arith)
-      some_of r xs ys l (suc n) e = inr (omega arith)
-
       home : (k e : ℕ) (t : Time) → k < g.workers → e < g.edges → (g.role (g.target e) ≡ Role.stateful) ⊎ (g.role (g.target e) ≡ Role.notified) → DoneHere h k0 m k e t ⊎ DoneElsewhere h k0 m k e t → AtHome g k e (done_after h k0 m k e t)
       home k e t lk le s (inr x) = subst (AtHome g k e) (sym x.is) (keeps.at_home k e t lk le s)
-      home k e t lk le s (inl x) = subst (AtHome g k e) (sym x.is) (λ r l. either r (some_of r (h.done k e t) m.records l (count r m.records) refl))
+      home k e t lk le s (inl x) = subst (AtHome g k e) (sym x.is) (λ r l. either r (count_either r (h.done k e t) m.records l))
         where
           at_k0 : AtHome g k0 m.edge m.records
           at_k0 = good_message.2 (subst (λ (z : ℕ). (g.role (g.target z) ≡ Role.stateful) ⊎ (g.role (g.target z) ≡ Role.notified)) (sym x.edge) s)

@@ -37,6 +37,14 @@ pub count-append : (r : Record) (xs ys : List Record) → count r (xs ++ ys) ≡
 count-append r [] ys = omega arith
 count-append r (x ∷ xs) ys = omega (arith, count-append r xs ys)
 
+-- a record of two lists end to end is in one of them
+pub count_either : (r : Record) (xs ys : List Record) → 0 < count r (xs ++ ys) → (0 < count r xs) ⊎ (0 < count r ys)
+count_either r xs ys l = go (count r ys) refl
+  where
+    go : (n : ℕ) → count r ys ≡ n → (0 < count r xs) ⊎ (0 < count r ys)
+    go zero e = inl (let a = count-append r xs ys in omega arith)
+    go (suc n) e = inr (omega arith)
+
 pub below_same : (n : ℕ) (f f' : ℕ → ℕ) → ((k : ℕ) → k < n → f k ≡ f' k) → sum_below n f ≡ sum_below n f'
 below_same zero f f' h = refl
 below_same (suc n) f f' h = omega (arith, below_same n f f' (λ k l. h k (omega arith)), h n (omega arith))

@@ -104,6 +104,7 @@ module _ (g : Network) (law : IsNetwork g) (w : World) (good : Good g w) where
   from_step (Step.close i) ok q l = absurd (omega arith)
   from_step (Step.claim_message k at m) ok q l = absurd (omega arith)
   from_step (Step.claim_request k at n) ok q l = absurd (omega arith)
+  from_step (Step.merge k at m n) ok q l = absurd (omega arith)
   from_step (Step.commit k event out) ok q l = from_commit k event out ok q l
   from_step (Step.abandon k event) ok q l = absurd (omega arith)
 
@@ -124,6 +125,7 @@ module _ (g : Network) (law : IsNetwork g) (w : World) (good : Good g w) where
       there (Step.close i) ok p = one p (at_vertex i (at_epoch (w.open_epoch i))) (IsActive.of_input i ok.0 ok.1) (one_tells p (at_vertex i (at_epoch (w.open_epoch i))))
       there (Step.claim_message k at m) ok p = omega arith
       there (Step.claim_request k at n) ok p = omega arith
+      there (Step.merge k at m n) ok p = one p (message_pointstamp n) (IsActive.of_mail k (suc at) n ok.0.0 ok.2) (one_tells p (message_pointstamp n))
       there (Step.commit k event out) ok p = one p (event_pointstamp event) (IsActive.of_held k false event ok.0 ok.1) (one_tells p (event_pointstamp event))
       there (Step.abandon k event) ok p = omega arith
 
@@ -163,6 +165,7 @@ module _ (g : Network) (law : IsNetwork g) (w : World) (good : Good g w) where
       feeder (Step.close i) ok p at l = refl
       feeder (Step.claim_message k place m) ok p at l = absurd (omega arith)
       feeder (Step.claim_request k place n) ok p at l = absurd (omega arith)
+      feeder (Step.merge k place m n) ok p at l = absurd (elsewhere p n.edge n.time at (one_is p (message_pointstamp n) (omega arith)))
       feeder (Step.commit k event out) ok p at l = absurd (by_commit k event out ok p at _ _ refl refl l)
       feeder (Step.abandon k event) ok p at l = absurd (omega arith)
 

@@ -27,6 +27,7 @@ epoch_grows g w (Step.feed j rs) i = omega arith
 epoch_grows g w (Step.close j) i = omega arith
 epoch_grows g w (Step.claim_message k at m) i = omega arith
 epoch_grows g w (Step.claim_request k at n) i = omega arith
+epoch_grows g w (Step.merge k at m n) i = omega arith
 epoch_grows g w (Step.commit k event out) i = omega arith
 epoch_grows g w (Step.abandon k event) i = omega arith
 epoch_grows g w (Step.seal j) i = go (put_tells w.open_epoch j (w.open_epoch j + 1) i)

@@ -12,11 +12,12 @@ use Rattle.machine.specs.Active.{IsActive, message_pointstamp, request_pointstam
 use Rattle.machine.specs.Frontier.{NoneBefore, NoOtherBefore}
 use Rattle.machine.specs.Sending.{parcels}
 use Rattle.machine.specs.Processing.{event_vertex, event_time, asked}
-use Rattle.machine.specs.Step.{Step, InputOpen, Allowed, after_step, put}
+use Rattle.machine.specs.Step.{Step, InputOpen, Allowed, after_step, merged, put}
 use Rattle.machine.proofs.Kept.{each}
 use Rattle.machine.proofs.Counting.{eqb_self}
 use Rattle.machine.proofs.Kept.{GoodMessage, GoodRequest, GoodEvent, GoodHeld}
 use Rattle.machine.proofs.Laws.{IsNetwork}
+use Rattle.machine.proofs.Merges.{mail_merged, merged_from}
 use Rattle.machine.proofs.Rank.{could_back}
 use Rattle.machine.proofs.Sending.{Parcel, parcels_good, fits_sent, fits_fed, each_at, slice_get-append, slice_get-remove}
 
@@ -164,6 +165,21 @@ module _ (g : Network) (law : IsNetwork g) (w : World) (good : Good g w) where
           stays_as (request_pointstamp n0) (event_pointstamp event) (IsActive.of_request k0 at0 n0 ok.0.0 ok.1) (ap event_pointstamp y)
       go (inr (e, f)) = stays (event_pointstamp event) (IsActive.of_held k up event lk (sym f ∙ s))
 
+  -- both messages have one pointstamp
+  under_merge : (k0 at0 : ℕ) (m0 n0 : Message) → Allowed g w (Step.merge k0 at0 m0 n0) → Under g w (after_step g w (Step.merge k0 at0 m0 n0))
+  under_merge k0 at0 m0 n0 ok q (IsActive.of_input j a b) = stays _ (IsActive.of_input j a b)
+  under_merge k0 at0 m0 n0 ok q (IsActive.of_request k at n lk s) = stays _ (IsActive.of_request k at n lk s)
+  under_merge k0 at0 m0 n0 ok q (IsActive.of_held k up event lk s) = stays _ (IsActive.of_held k up event lk s)
+  under_merge k0 at0 m0 n0 ok q (IsActive.of_mail k at m lk s) = go (put_tells w.mail k0 (mail_merged (w.mail k0) at0 m0 n0) k)
+    where
+      here : (merged m0 n0 ≡ m) ⊎ ((to : ℕ) × (slice_get (w.mail k0) to ≡ Some m)) → (p : Pointstamp) × IsActive g w p × g.Could p (message_pointstamp m)
+      here (inl x) = stays_as (message_pointstamp m0) (message_pointstamp m) (IsActive.of_mail k0 0 m0 ok.0.0 ok.1) (ap message_pointstamp x)
+      here (inr x) = stays (message_pointstamp m) (IsActive.of_mail k0 x.0 m ok.0.0 x.1)
+
+      go : ((k ≡ k0) × (put w.mail k0 (mail_merged (w.mail k0) at0 m0 n0) k ≡ mail_merged (w.mail k0) at0 m0 n0)) ⊎ ((k ≢ k0) × (put w.mail k0 (mail_merged (w.mail k0) at0 m0 n0) k ≡ w.mail k)) → (p : Pointstamp) × IsActive g w p × g.Could p (message_pointstamp m)
+      go (inl (e, f)) = here (merged_from (w.mail k0) at0 m0 n0 at m (ap (λ ms. slice_get ms at) (sym f) ∙ s))
+      go (inr (e, f)) = stays (message_pointstamp m) (IsActive.of_mail k at m lk (ap (λ ms. slice_get ms at) (sym f) ∙ s))
+
   under_abandon : (k0 : ℕ) (event0 : Event) → Allowed g w (Step.abandon k0 event0) → Under g w (after_step g w (Step.abandon k0 event0))
   under_abandon k0 event0 ok q (IsActive.of_input j a b) = stays _ (IsActive.of_input j a b)
   under_abandon k0 event0 ok q (IsActive.of_mail k at m lk s) = stays _ (IsActive.of_mail k at m lk s)
@@ -242,5 +258,6 @@ module _ (g : Network) (law : IsNetwork g) (w : World) (good : Good g w) where
   under_step (Step.close i) ok = under_close i ok
   under_step (Step.claim_message k at m) ok = under_claim_message k at m ok
   under_step (Step.claim_request k at n) ok = under_claim_request k at n ok
+  under_step (Step.merge k at m n) ok = under_merge k at m n ok
   under_step (Step.commit k event out) ok = under_commit k event out ok
   under_step (Step.abandon k event) ok = under_abandon k event ok

@@ -16,7 +16,7 @@ use Rattle.machine.proofs.Ports.{end_empty}
 use Rattle.machine.proofs.Laws.{IsNetwork}
 use Rattle.machine.proofs.NetFlow.{HasFlows}
 use Rattle.machine.proofs.Notifications.{history_told, keep_notification}
-use Rattle.machine.proofs.Steps.{keep_feed, keep_seal, keep_close, keep_claim_message, keep_claim_request, keep_abandon}
+use Rattle.machine.proofs.Steps.{keep_feed, keep_seal, keep_close, keep_claim_message, keep_claim_request, keep_merge, keep_abandon}
 use Rattle.machine.proofs.RunTheorems.{EveryRunKeeps}
 
 pub not_notified_role : Role → Bool
@@ -86,6 +86,7 @@ keep_step g law flows w h keeps (Step.seal i) ok = (h, keep_seal g law w h keeps
 keep_step g law flows w h keeps (Step.close i) ok = (h, keep_close g law w h keeps i ok)
 keep_step g law flows w h keeps (Step.claim_message k at m) ok = (h, keep_claim_message g law w h keeps k at m ok)
 keep_step g law flows w h keeps (Step.claim_request k at n) ok = (h, keep_claim_request g law w h keeps k at n ok)
+keep_step g law flows w h keeps (Step.merge k at m n) ok = (h, keep_merge g law w h keeps k at m n ok)
 keep_step g law flows w h keeps (Step.commit k (Event.arrival m) out) ok = (history_done h k m, keep_arrival g law w h keeps flows k m out ok)
 keep_step g law flows w h keeps (Step.commit k (Event.notification n) out) ok = (history_told h k n, keep_notification g law w h keeps flows k n out ok)
 keep_step g law flows w h keeps (Step.abandon k event) ok = (h, keep_abandon g law w h keeps k event ok)

@@ -1,5 +1,5 @@
 -- Each step but a commit keeps what every reached world keeps.
-use Rattle.std.proofs.Common.{◌≡◌, ◌≢◌, ◌<◌, ℕ, ◌+◌, Bool, true, false, cond, ◌&&◌, eqb, List, [], ◌∷◌, ◌++◌, ◌⊎◌, inl, inr, sym, ap, ◌∙◌, subst, ap₂, arith, slice_get, remove}
+use Rattle.std.proofs.Common.{◌≡◌, ◌≢◌, ◌<◌, ℕ, suc, ◌+◌, Bool, true, false, cond, ◌&&◌, eqb, List, [], ◌∷◌, ◌++◌, ◌⊎◌, inl, inr, sym, ap, ◌∙◌, subst, ap₂, arith, slice_get, remove}
 use Rattle.std.proofs.lemmas.Bool.Decides.{eqb_tells}
 use Rattle.semantics.specs.Multiset.{total, Record, count}
 use Rattle.semantics.specs.Could.{Pointstamp, at_vertex}
@@ -10,13 +10,14 @@ use Rattle.machine.specs.World.{Message, Request, Event, Held, World}
 use Rattle.machine.specs.Active.{sum_below, request_pointstamp}
 use Rattle.machine.specs.Frontier.{NoOtherBefore}
 use Rattle.machine.specs.Sending.{parcels, sent_after}
-use Rattle.machine.specs.Step.{Step, Allowed, after_step, put}
+use Rattle.machine.specs.Step.{Step, Allowed, after_step, merged, put}
 use Rattle.machine.proofs.Kept.{each}
 use Rattle.semantics.proofs.MultisetSums.{total-append}
 use Rattle.machine.proofs.Counting.{below_same, below_add, total-remove, count-append}
 use Rattle.machine.proofs.Derived.{wished_place}
 use Rattle.machine.proofs.Kept.{History, carried, held_records, under_way, wished, held_wish, wishes, some, bit, Due, Kept, GoodMessage, GoodRequest, GoodEvent, GoodHeld}
 use Rattle.machine.proofs.Laws.{IsNetwork}
+use Rattle.machine.proofs.Merges.{mail_merged, total_merged, each_merged, carried_merged, good_merged}
 use Rattle.machine.proofs.NetFlow.{fed_at}
 use Rattle.machine.proofs.Progress.{Good, under_step, no_other_under, put_tells}
 use Rattle.machine.proofs.Sending.{Parcel, parcels_good, fits_fed, each_at, each-append, each_more, each-remove, sends_all}
@@ -169,6 +170,42 @@ module _ (g : Network) (law : IsNetwork g) (w : World) (h : History) (keeps : Ke
           let z : GoodMessage g k m = each_at (GoodMessage g k) (w.mail k) at m (keeps.good_mail k lk) (ap (λ j. slice_get (w.mail j) at) x ∙ ok.1) in
           subst (GoodHeld g k) (sym y) z
       good k lk (inr (x, y)) = subst (GoodHeld g k) (sym y) (keeps.good_held k lk)
+
+  -- the records of both messages are under way in one
+  pub keep_merge : (k at : ℕ) (m n : Message) → Allowed g w (Step.merge k at m n) → Kept g (after_step g w (Step.merge k at m n)) h
+  keep_merge k0 at m n ok =
+      record {
+        balance = λ e t r le. keeps.balance e t r le ∙ ap (λ n. sum_below g.workers (λ k. count r (h.done k e t)) + n) (below_same g.workers _ _ (λ k lk. sym (way e t r k (put_tells w.mail k0 (mail_merged (w.mail k0) at m n) k))));
+        from_input = keeps.from_input;
+        from_vertex = keeps.from_vertex;
+        notifications = keeps.notifications;
+        always_told = keeps.always_told;
+        settled = settled_after (Step.merge k0 at m n) ok;
+        at_home = keeps.at_home;
+        good_mail = λ k lk. mails k lk (put_tells w.mail k0 (mail_merged (w.mail k0) at m n) k);
+        good_requests = keeps.good_requests;
+        good_held = keeps.good_held;
+        shards = keeps.shards;
+        output = keeps.output;
+      }
+    where
+      way : (e : ℕ) (t : Time) (r : Record) (k : ℕ) → ((k ≡ k0) × (put w.mail k0 (mail_merged (w.mail k0) at m n) k ≡ mail_merged (w.mail k0) at m n)) ⊎ ((k ≢ k0) × (put w.mail k0 (mail_merged (w.mail k0) at m n) k ≡ w.mail k)) → under_way (after_step g w (Step.merge k0 at m n)) e t r k ≡ under_way w e t r k
+      way e t r k (inl (x, y)) =
+          let a : total (carried e t r) (put w.mail k0 (mail_merged (w.mail k0) at m n) k) ≡ total (carried e t r) (mail_merged (w.mail k0) at m n) = ap (λ ms. total (carried e t r) ms) y in
+          let b : total (carried e t r) (mail_merged (w.mail k0) at m n) + carried e t r m + carried e t r n ≡ total (carried e t r) (w.mail k0) + carried e t r (merged m n) = total_merged (carried e t r) (w.mail k0) at m n ok.1 ok.2 in
+          let c : carried e t r (merged m n) ≡ carried e t r m + carried e t r n = carried_merged e t r m n ok.3 ok.4 in
+          let d : total (carried e t r) (w.mail k) ≡ total (carried e t r) (w.mail k0) = ap (λ j. total (carried e t r) (w.mail j)) x in
+          omega arith
+      way e t r k (inr (x, y)) = ap (λ ms. total (carried e t r) ms + held_records e t r (w.held k)) y
+
+      mails : (k : ℕ) → k < g.workers → ((k ≡ k0) × (put w.mail k0 (mail_merged (w.mail k0) at m n) k ≡ mail_merged (w.mail k0) at m n)) ⊎ ((k ≢ k0) × (put w.mail k0 (mail_merged (w.mail k0) at m n) k ≡ w.mail k)) → each (GoodMessage g k) (put w.mail k0 (mail_merged (w.mail k0) at m n) k)
+      mails k lk (inl (x, y)) =
+          let all : each (GoodMessage g k0) (w.mail k0) = keeps.good_mail k0 ok.0.0 in
+          let first : GoodMessage g k0 m = each_at (GoodMessage g k0) (w.mail k0) 0 m all ok.1 in
+          let second : GoodMessage g k0 n = each_at (GoodMessage g k0) (w.mail k0) (suc at) n all ok.2 in
+          let z : each (GoodMessage g k0) (mail_merged (w.mail k0) at m n) = each_merged (GoodMessage g k0) (w.mail k0) at m n all (good_merged g k0 m n ok.3 first second) in
+          subst (λ (j : ℕ). each (GoodMessage g j) (put w.mail k0 (mail_merged (w.mail k0) at m n) k)) (sym x) (subst (each (GoodMessage g k0)) (sym y) z)
+      mails k lk (inr (x, y)) = subst (each (GoodMessage g k)) (sym y) (keeps.good_mail k lk)
 
   pub keep_claim_request : (k at : ℕ) (n : Request) → Allowed g w (Step.claim_request k at n) → Kept g (after_step g w (Step.claim_request k at n)) h
   keep_claim_request k0 at n ok =

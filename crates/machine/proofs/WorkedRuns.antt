@@ -13,12 +13,12 @@ use Rattle.semantics.specs.Route.{route}
 use Rattle.semantics.specs.Examples.{one_field, two_fields}
 use Rattle.semantics.proofs.CouldRises.{at_most_refl}
 use Rattle.semantics.proofs.MultisetSums.{≈-refl}
-use Rattle.machine.specs.World.{Event, Held, opening}
+use Rattle.machine.specs.World.{Message, Event, Held, opening}
 use Rattle.machine.specs.Active.{IsActive}
 use Rattle.machine.specs.Frontier.{NoOtherBefore, Passed}
 use Rattle.machine.specs.Step.{Step, Allowed}
 use Rattle.machine.specs.Headline.{IsRunOf, meant, output_of}
-use Rattle.machine.specs.WorkedRuns.{after_steps, message_on, copying, copier, the_five, one_fed, one_record, one_record_sealed, given_up, counting, counter, three_fed, to_worker_0, to_worker_1, both_absorbed, the_request, absorbed_and_sealed, first_notified, first_committed}
+use Rattle.machine.specs.WorkedRuns.{after_steps, message_on, copying, copier, the_five, one_fed, one_record, one_record_sealed, given_up, counting, counter, three_fed, two_fed, two_merged, fed_in_two_epochs, to_worker_0, to_worker_1, both_absorbed, the_request, absorbed_and_sealed, first_notified, first_committed}
 
 -- ---- paths keep the epoch
 
@@ -119,6 +119,45 @@ batch_to_0 = refl
 pub batch_to_1 : (after_steps counter opening three_fed).mail 1 ≡ to_worker_1 ∷ []
 unfolding lowered lower lower_lets lower_outputs vertex source route
 batch_to_1 = refl
+
+-- ---- two messages that are merged
+
+pub two_mail : (after_steps counter opening two_fed).mail 0 ≡ message_on 0 (one_field (pos 1) ∷ []) ∷ message_on 0 (one_field (pos 3) ∷ []) ∷ []
+unfolding lowered lower lower_lets lower_outputs vertex source route
+two_mail = refl
+
+pub two_merged_run : IsRunOf counting 2 two_merged (after_steps counter opening two_merged)
+unfolding lowered lower lower_lets lower_outputs vertex source route
+two_merged_run =
+    record {
+      arities = 2 ∷ [];
+      typed = counting_typed;
+      some = omega arith;
+      run = (((refl, refl, refl), omega arith), (((refl, refl, refl), omega arith), (((omega arith, refl, refl), refl, refl, refl, refl), (((omega arith, refl, refl), refl), ((omega arith, refl, λ q. refl), refl)))));
+    }
+
+pub two_absorbed : (after_steps counter opening two_merged).absorbed 0 1 0 (at_epoch 0) ≡ one_field (pos 1) ∷ one_field (pos 3) ∷ []
+unfolding lowered lower lower_lets lower_outputs vertex source route
+two_absorbed = refl
+
+pub none_left : (after_steps counter opening two_merged).mail 0 ≡ []
+unfolding lowered lower lower_lets lower_outputs vertex source route
+none_left = refl
+
+-- the message of epoch 1
+later : Message
+later = record { edge = 0; time = at_epoch 1; records = one_field (pos 3) ∷ [] }
+
+two_epochs : (second : Message) → Some later ≡ Some second → second.time ≡ at_epoch 0 → ⊥
+unfolding later
+two_epochs second e t =
+    let z : later ≡ second = cc in
+    let n : later.time.epoch ≡ (at_epoch 0).epoch = ap (λ (x : Time). x.epoch) (ap (λ (x : Message). x.time) z ∙ t) in
+    omega arith
+
+pub other_epoch : (second : Message) → Allowed counter (after_steps counter opening fed_in_two_epochs) (Step.merge 0 0 (message_on 0 (one_field (pos 1) ∷ [])) second) → ⊥
+unfolding later lowered lower lower_lets lower_outputs vertex source route
+other_epoch second ok = two_epochs second ok.2 ok.4
 
 pub both_ask_0 : (after_steps counter opening both_absorbed).requests 0 ≡ the_request ∷ []
 unfolding lowered lower lower_lets lower_outputs vertex source route

@@ -21,6 +21,7 @@ step_adds g w (Step.seal i) p = one_if_same p (at_vertex i (at_epoch (w.open_epo
 step_adds g w (Step.close i) p = 0
 step_adds g w (Step.claim_message k at m) p = 0
 step_adds g w (Step.claim_request k at n) p = 0
+step_adds g w (Step.merge k at m n) p = 0
 step_adds g w (Step.commit k event out) p =
     parcel_count g k (event_vertex g event) (g.act (event_vertex g event) (event_time event)) out p
     + total (λ n. one_if_same p (request_pointstamp n)) (asked g w k event)
@@ -33,6 +34,7 @@ step_removes g w (Step.seal i) p = one_if_same p (at_vertex i (at_epoch (w.open_
 step_removes g w (Step.close i) p = one_if_same p (at_vertex i (at_epoch (w.open_epoch i)))
 step_removes g w (Step.claim_message k at m) p = 0
 step_removes g w (Step.claim_request k at n) p = 0
+step_removes g w (Step.merge k at m n) p = one_if_same p (message_pointstamp n)
 step_removes g w (Step.commit k event out) p = one_if_same p (event_pointstamp event)
 step_removes g w (Step.abandon k event) p = 0
 
@@ -43,5 +45,6 @@ step_sender g (Step.seal i) = g.workers
 step_sender g (Step.close i) = g.workers
 step_sender g (Step.claim_message k at m) = k
 step_sender g (Step.claim_request k at n) = k
+step_sender g (Step.merge k at m n) = k
 step_sender g (Step.commit k event out) = k
 step_sender g (Step.abandon k event) = k

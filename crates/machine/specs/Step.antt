@@ -1,6 +1,6 @@
 -- The steps that the engine may take: when each is allowed, and what it leaves. A step names all that was chosen, the event and
 -- the records sent too, so that what it leaves is a function of it. What isn't named stays.
-use Rattle.std.specs.Prelude.{◌≡◌, ℕ, ◌+◌, ◌<◌, true, false, cond, ◌==◌, List, ◌++◌, length, slice_get, remove, Some}
+use Rattle.std.specs.Prelude.{◌≡◌, ℕ, suc, ◌+◌, ◌<◌, true, false, cond, ◌==◌, List, ◌∷◌, ◌++◌, drop, length, slice_get, remove, Some}
 use Rattle.semantics.specs.Multiset.{Record}
 use Rattle.semantics.specs.Time.{at_epoch}
 use Rattle.semantics.specs.Kinds.{Role}
@@ -21,6 +21,9 @@ pub data Step : Type 0 where
   -- a worker takes a message out of its mailbox, or a request that may be delivered; `at` is its place there
   claim_message : (worker at : ℕ) → Message → Step
   claim_request : (worker at : ℕ) → Request → Step
+  -- a worker puts the records of a message in its mailbox behind those of the first one, which is on the same edge at the same time;
+  -- `at` is its place behind the first
+  merge : (worker at : ℕ) (first second : Message) → Step
   -- the held event ends, its vertex sends `out`, by out port
   commit : (worker : ℕ) → Event → (out : ℕ → List Record) → Step
   -- the held event is given up, and the engine stops
@@ -44,6 +47,8 @@ Allowed g w (Step.seal i) = InputOpen g w i
 Allowed g w (Step.close i) = InputOpen g w i
 Allowed g w (Step.claim_message k at m) = MayClaim g w k × (slice_get (w.mail k) at ≡ Some m)
 Allowed g w (Step.claim_request k at n) = MayClaim g w k × (slice_get (w.requests k) at ≡ Some n) × NoOtherBefore g w (request_pointstamp n)
+Allowed g w (Step.merge k at m n) =
+    MayClaim g w k × (slice_get (w.mail k) 0 ≡ Some m) × (slice_get (w.mail k) (suc at) ≡ Some n) × (n.edge ≡ m.edge) × (n.time ≡ m.time)
 Allowed g w (Step.commit k event out) = (k < g.workers) × (w.held k ≡ Held.holding false event) × Makes g w k event out
 Allowed g w (Step.abandon k event) = (k < g.workers) × (w.held k ≡ Held.holding false event)
 
@@ -56,6 +61,10 @@ put f k x j = cond (j == k) x (f j)
 -- what was fed, with more records at the input's open epoch
 abbrev pub fed_after : World → (input : ℕ) → List Record → (input epoch : ℕ) → List Record
 fed_after w i records = put w.fed i (put (w.fed i) (w.open_epoch i) (w.fed i (w.open_epoch i) ++ records))
+
+-- both messages as one
+abbrev pub merged : (first second : Message) → Message
+merged m n = record m { records = m.records ++ n.records }
 
 -- The world after a step. What is fed has no worker of its own: it goes by key or by the whole record, so that the sender 0 below
 -- is as good as any.
@@ -72,6 +81,7 @@ after_step g w (Step.claim_message k at m) =
     record w { mail = put w.mail k (remove (w.mail k) at); held = put w.held k (Held.holding false (Event.arrival m)) }
 after_step g w (Step.claim_request k at n) =
     record w { requests = put w.requests k (remove (w.requests k) at); held = put w.held k (Held.holding false (Event.notification n)) }
+after_step g w (Step.merge k at m n) = record w { mail = put w.mail k (merged m n ∷ remove (drop 1 (w.mail k)) at) }
 after_step g w (Step.commit k event out) =
     record w {
       held = put w.held k Held.nothing;

@@ -97,6 +97,21 @@ counts_of_0 q = two_fields 1 1 ∷ two_fields 3 1 ∷ []
 abbrev pub first_committed : List Step
 first_committed = first_notified ++ Step.commit 0 (Event.notification the_request) counts_of_0 ∷ []
 
+-- the records 1 and 3 are fed one after the other, and worker 0 has a message of each
+abbrev pub two_fed : List Step
+two_fed = Step.feed 0 (one_field (pos 1) ∷ []) ∷ Step.feed 0 (one_field (pos 3) ∷ []) ∷ []
+
+-- it merges the two, takes the one and commits it
+abbrev pub two_merged : List Step
+two_merged =
+    two_fed
+    ++ Step.merge 0 0 (message_on 0 (one_field (pos 1) ∷ [])) (message_on 0 (one_field (pos 3) ∷ []))
+    ∷ Step.claim_message 0 0 to_worker_0 ∷ Step.commit 0 (Event.arrival to_worker_0) nothing_sent ∷ []
+
+-- the record 1 is fed in epoch 0, and the record 3 in epoch 1
+abbrev pub fed_in_two_epochs : List Step
+fed_in_two_epochs = Step.feed 0 (one_field (pos 1) ∷ []) ∷ Step.seal 0 ∷ Step.feed 0 (one_field (pos 3) ∷ []) ∷ []
+
 -- ---- input a/1; input b/1; output except(a, b);
 
 -- its engine on one worker

@@ -1,12 +1,13 @@
 ghost use Rattle.std.specs.Prelude.{◌≡◌, [], ◌∷◌, pos};
 ghost use Rattle.semantics.specs.Multiset.{◌≈◌};
 ghost use Rattle.semantics.specs.Examples.{one_field, two_fields, in_a_alone, in_a_and_b, small_and_all};
-ghost use Rattle.machine.specs.World.{opening};
+ghost use Rattle.semantics.specs.Time.{at_epoch};
+ghost use Rattle.machine.specs.World.{Message, opening};
 ghost use Rattle.machine.specs.Frontier.{Passed};
 ghost use Rattle.machine.specs.Step.{Step, Allowed};
 ghost use Rattle.machine.specs.Headline.{IsRunOf, meant, output_of};
 ghost use Rattle.machine.specs.WorkedRuns.{after_steps, message_on, copying, copier, one_fed, one_record, one_record_sealed, given_up};
-ghost use Rattle.machine.specs.WorkedRuns.{counting, counter, three_fed, to_worker_0, to_worker_1, both_absorbed, the_request, absorbed_and_sealed, first_notified, first_committed};
+ghost use Rattle.machine.specs.WorkedRuns.{counting, counter, three_fed, two_fed, two_merged, fed_in_two_epochs, to_worker_0, to_worker_1, both_absorbed, the_request, absorbed_and_sealed, first_notified, first_committed};
 ghost use Rattle.machine.specs.WorkedRuns.{differ, a_sealed, except_request, a_and_b_sealed, one_on, difference_committed, meeter, one_in_a, one_in_both, splitter, second_first};
 
 /// Of `input a/1; output a;` on one worker: the record 5 is fed, and nothing emitted yet, so that what was emitted is not all that
@@ -33,6 +34,18 @@ pub fn law_given_up()
 pub fn law_batch()
     ensures to_0 { (after_steps counter opening three_fed).mail 0 ≡ to_worker_0 ∷ [] }
     ensures to_1 { (after_steps counter opening three_fed).mail 1 ≡ to_worker_1 ∷ [] }
+{}
+
+/// Two records of keys of worker 0 that are fed to the group in one epoch, one after the other, make two messages. Merged, claimed and
+/// committed, they are absorbed as one list. Messages of two epochs aren't merged.
+pub fn law_merge()
+    ensures two { (after_steps counter opening two_fed).mail 0
+        ≡ message_on 0 (one_field (pos 1) ∷ []) ∷ message_on 0 (one_field (pos 3) ∷ []) ∷ [] }
+    ensures run { IsRunOf counting 2 two_merged (after_steps counter opening two_merged) }
+    ensures absorbed { (after_steps counter opening two_merged).absorbed 0 1 0 (at_epoch 0) ≡ one_field (pos 1) ∷ one_field (pos 3) ∷ [] }
+    ensures none_left { (after_steps counter opening two_merged).mail 0 ≡ [] }
+    ensures other_epoch { (second : Message) → Allowed counter (after_steps counter opening fed_in_two_epochs)
+        (Step.merge 0 0 (message_on 0 (one_field (pos 1) ∷ [])) second) → ⊥ }
 {}
 
 /// Of `input a/1; output group(a; #0; count);` on two workers: each worker asks once for a notification, which is held back while

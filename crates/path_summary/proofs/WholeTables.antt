@@ -9,7 +9,7 @@ use Rattle.semantics.specs.Query.{Input, Program}
 use Rattle.semantics.specs.Typing.{WellTyped}
 use Rattle.semantics.specs.Lower.{lowered}
 use Rattle.semantics.proofs.EdgeNumbers.{entered}
-use Rattle.lowering.specs.GraphLaws.{IsProgramGraph}
+use Rattle.graph.specs.GraphLaws.{IsProgramGraph}
 use Rattle.semantics.specs.Time.{Time, Action}
 use Rattle.semantics.specs.Graph.{Graph, edge_count, edge_source, in_port, target}
 use Rattle.semantics.specs.Could.{Location, Pointstamp, IsTimeAt, CouldResultIn}

@@ -7,5 +7,4 @@ pub mod Walks
 pub mod Codes
 pub mod Noted
 pub mod Made
-pub mod Views
 pub mod KeptCodes

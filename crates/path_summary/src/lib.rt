@@ -4,10 +4,9 @@
 //! and takes no memory. It reads a table of one path summary for each two vertices between which there is a path, made once for
 //! each graph.
 //!
-//! Below stand `semantics`, `loop_context` and `lowering`. Trackers of progress stand on this.
+//! Below stand `semantics`, `loop_context` and `graph`. Trackers of progress stand on this.
 #![tactic(auto)]
 
-mod action;
 mod kept;
 mod links;
 mod paths;
@@ -16,6 +15,6 @@ mod row;
 mod summaries;
 mod summary;
 
-pub use lowering::{EdgeId, Graph, Location, VertexId};
+pub use graph::{EdgeId, Graph, Location, VertexId};
 pub use paths::Paths;
 pub use pointstamp::{Pointstamp, same_location};

@@ -1,16 +1,16 @@
 //! The edges of a graph as a table's making reads them: from vertex to vertex, with the action of the first.
 
 ghost use Rattle.std.specs.Prelude.{◌≡◌, ◌<◌, ◌≤◌, ◌∷◌, ◌++◌, [], ℕ, length, IfOk, slice_get, slice_index_or};
-ghost use Rattle.lowering.specs.Shown.{shown_graph};
-ghost use Rattle.lowering.specs.Locations.{location_of};
+ghost use Rattle.graph.specs.Shown.{shown_graph};
+ghost use Rattle.graph.specs.Locations.{location_of};
 ghost use Rattle.semantics.specs.Graph.{edge_count, edge_source, vertex};
 ghost use Rattle.path_summary.specs.Linking as plain;
 ghost use Rattle.path_summary.specs.Walks.{HaveLoops};
-ghost use Rattle.path_summary.specs.Views.{action_of};
+ghost use Rattle.loop_context.specs.Actions.{action_of};
 
-use crate::action::{Action, action_at};
 use expr_tree::NoMemory;
-use lowering::{EdgeId, Graph, Location, VertexId};
+use graph::{EdgeId, Graph, Location, VertexId};
+use loop_context::Action;
 use std::alloc::Global;
 use std::marker::Model;
 
@@ -24,7 +24,7 @@ pub struct Link {
 
 impl Model for Link {
     ghost use Rattle.path_summary.specs.Linking as plain;
-    ghost use Rattle.path_summary.specs.Views.{action_of};
+    ghost use Rattle.loop_context.specs.Actions.{action_of};
 
     ghost Value = { plain.Link };
 
@@ -153,7 +153,7 @@ fn link_at(graph: &Graph, edge: EdgeId) -> Link
     ensures { result ≡ plain.link_in (shown_graph graph.now) edge.0 }
 {
     let ends = graph.edge(edge);
-    let action = action_at(&graph.vertex(ends.source.vertex).kind);
+    let action = graph.vertex(ends.source.vertex).kind.action();
     Link {
         source: ends.source.vertex.0,
         target: ends.target.0,

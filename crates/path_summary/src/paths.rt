@@ -2,17 +2,16 @@
 
 ghost use Rattle.std.specs.Prelude.{◌≡◌, ◌≤◌, ◌<◌, ◌++◌, ◌∷◌, [], ◌↔◌, List, ℕ, Option, Some, None, IsTrue, IfOk, IfSome, IfNone, false, length, slice_index_or};
 ghost use Rattle.std.specs.Bool.{Decides};
-ghost use Rattle.lowering.specs.Locations.{location_of};
-ghost use Rattle.lowering.specs.Shown.{shown_graph};
+ghost use Rattle.graph.specs.Locations.{location_of};
+ghost use Rattle.graph.specs.Shown.{shown_graph};
 ghost use Rattle.semantics.specs.Could.{CouldResultIn, IsTimeAt, Location as Place};
 ghost use Rattle.semantics.specs.Dataflow.{IsDataflow};
 ghost use Rattle.path_summary.specs.Linking.{Draws, IsKnown};
 ghost use Rattle.path_summary.specs.Made.{ArePacked, DecidedIn, IsPacked, code_at, entry_at};
 ghost use Rattle.path_summary.specs.Tables.{Covers, Stays};
-ghost use Rattle.path_summary.specs.Views.{action_of};
+ghost use Rattle.loop_context.specs.Actions.{action_of};
 ghost use Rattle.path_summary.specs.Walks.{HaveLoops};
 
-use crate::action::Action;
 use crate::kept::Kept;
 use crate::links::Links;
 use crate::pointstamp::{Pointstamp, same_location};
@@ -20,8 +19,8 @@ use crate::row::Row;
 use crate::summaries::Summaries;
 use crate::summary::Summary;
 use expr_tree::NoMemory;
-use loop_context::Time;
-use lowering::{Graph, Location};
+use graph::{Graph, Location};
+use loop_context::{Action, Time};
 use std::alloc::Global;
 use std::marker::Model;
 use std::sync::Arc;
@@ -38,7 +37,7 @@ pub struct Paths {
 impl Model for Paths {
     ghost use Rattle.expr_tree.specs.contracts.scalar.Scalar as scalar;
     ghost use Rattle.expr_tree.specs.contracts.condition.Cond as condition;
-    ghost use Rattle.lowering.specs.Shown.{GraphValue, shown_graph};
+    ghost use Rattle.graph.specs.Shown.{GraphValue, shown_graph};
     ghost use Rattle.path_summary.specs.Made.{IsMade};
     ghost use Rattle.std.specs.Coded.{codes};
     ghost use Rattle.std.specs.contracts.alloc.Global as heap;

@@ -1,10 +1,10 @@
 //! Pointstamps.
 
 ghost use Rattle.std.specs.Prelude.{◌≡◌, ◌↔◌, IsTrue};
-ghost use Rattle.lowering.specs.Locations.{location_of};
+ghost use Rattle.graph.specs.Locations.{location_of};
 
+use graph::Location;
 use loop_context::Time;
-use lowering::Location;
 use std::marker::Model;
 
 /// A time with a location.
@@ -16,7 +16,7 @@ pub struct Pointstamp {
 
 impl Model for Pointstamp {
     ghost use Rattle.semantics.specs.Could as semantics;
-    ghost use Rattle.lowering.specs.Locations.{location_of};
+    ghost use Rattle.graph.specs.Locations.{location_of};
 
     ghost Value = { semantics.Pointstamp };
 

@@ -8,11 +8,11 @@ ghost use Rattle.path_summary.specs.Made.{IsPacked};
 ghost use Rattle.path_summary.specs.Rows.{HasRoom, IsClosed, Stepped, entry};
 ghost use Rattle.path_summary.specs.Walks.{HasGot, HaveLoops, IsGoodRow, IsOpened, IsUnderWay};
 
-use crate::action::Action;
 use crate::links::{Link, Links};
 use crate::summaries::Summaries;
 use crate::summary::Summary;
 use expr_tree::NoMemory;
+use loop_context::Action;
 use std::alloc::Global;
 use std::marker::Model;
 

@@ -5,11 +5,11 @@ ghost use Rattle.semantics.specs.Summary.{Summary as Definition};
 ghost use Rattle.path_summary.specs.Codes.{Grows, decoded};
 ghost use Rattle.path_summary.specs.Noted.{IsCodeBelow, LeadsTo};
 ghost use Rattle.path_summary.specs.Rows.{HasRoom, is_below};
-ghost use Rattle.path_summary.specs.Views.{action_of};
+ghost use Rattle.loop_context.specs.Actions.{action_of};
 
-use crate::action::Action;
 use crate::summary::Summary;
 use expr_tree::NoMemory;
+use loop_context::Action;
 use std::alloc::Global;
 use std::marker::Model;
 

@@ -8,11 +8,10 @@ ghost use Rattle.semantics.specs.Time.{last};
 ghost use Rattle.path_summary.specs.Carried.{carried, counters_after, identity, kept, raised_at};
 ghost use Rattle.path_summary.specs.Order.{in_order};
 ghost use Rattle.path_summary.specs.Rows.{Follows, HasRoom, is_below};
-ghost use Rattle.path_summary.specs.Views.{action_of};
+ghost use Rattle.loop_context.specs.Actions.{action_of};
 
-use crate::action::Action;
 use arrayvec::ArrayVec;
-use loop_context::MAX_LOOPS;
+use loop_context::{Action, MAX_LOOPS};
 use std::marker::Model;
 
 /// The most counters that a summary carries others to: those that it keeps, those that it appends, and one that an action may add.

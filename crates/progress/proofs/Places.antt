@@ -6,8 +6,8 @@ use Rattle.semantics.specs.Graph.{Graph, edge_count}
 use Rattle.semantics.specs.Time.{Time, same_time}
 use Rattle.semantics.specs.Could.{Location, Pointstamp, IsTimeAt}
 use Rattle.machine.specs.Active.{one_if_same, same_location}
-use Rattle.lowering.specs.Locations.{location_of}
-use Rattle.lowering.specs.declared.location.Location.{Location as Declared}
+use Rattle.graph.specs.Locations.{location_of}
+use Rattle.graph.specs.declared.location.Location.{Location as Declared}
 use Rattle.progress.specs.Bag.{Bag, count, Adds, IsNone}
 use Rattle.progress.specs.Content.{IsClear, bag_at, times_at}
 use Rattle.machine.proofs.Active.{one_is}

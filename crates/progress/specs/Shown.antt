@@ -1,7 +1,7 @@
 -- What trackers show.
 use Rattle.std.specs.Prelude.{ℕ, List}
 use Rattle.semantics.specs.Could.{Pointstamp}
-use Rattle.lowering.specs.Shown.{GraphValue}
+use Rattle.graph.specs.Shown.{GraphValue}
 use Rattle.progress.specs.Bag.{Bag}
 
 -- of a list of active pointstamps

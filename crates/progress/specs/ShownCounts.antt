@@ -1,6 +1,6 @@
 -- What a tracker with counts shows.
 use Rattle.std.specs.Prelude.{ℕ, List}
-use Rattle.lowering.specs.Shown.{GraphValue}
+use Rattle.graph.specs.Shown.{GraphValue}
 use Rattle.progress.specs.declared.counted.Counted.{Counted}
 
 -- the active pointstamps with their counts

@@ -1,7 +1,7 @@
 //! Pointstamps with their occurrence and precursor counts, and how the counts follow what comes and goes.
 
 ghost use Rattle.std.specs.Prelude.{◌≡◌, ◌<◌, ◌↔◌, ◌^◌, ◌-◌, ℕ, IsTrue, IfSome, IfNone, Some, true, false, length, slice_get, vec_capacity, vec_len};
-ghost use Rattle.lowering.specs.Shown.{shown_graph};
+ghost use Rattle.graph.specs.Shown.{shown_graph};
 ghost use Rattle.semantics.specs.Graph.{Graph as Definition};
 ghost use Rattle.semantics.specs.Could.{IsTimeAt, Pointstamp as Active};
 ghost use Rattle.progress.specs.Content.{IsBlocked, IsClear};

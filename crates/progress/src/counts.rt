@@ -1,7 +1,7 @@
 //! A tracker that keeps how many active pointstamps come before each.
 
 ghost use Rattle.std.specs.Prelude.{◌≡◌, ◌+◌, ◌<◌, ◌≤◌, ◌↔◌, ℕ, [], IsTrue, OnOk, vec_capacity, vec_len};
-ghost use Rattle.lowering.specs.Shown.{shown_graph};
+ghost use Rattle.graph.specs.Shown.{shown_graph};
 ghost use Rattle.semantics.specs.Could.{CouldResultIn, IsTimeAt};
 ghost use Rattle.progress.specs.Counts.{AreExact, all_occurrences, occurrences_in};
 
@@ -31,7 +31,7 @@ impl Model for CountTracker {
     ghost use Rattle.std.specs.Prelude.{◌+◌, ◌≤◌, ◌≡◌, vec_capacity};
     ghost use Rattle.std.specs.contracts.alloc.Global as heap;
     ghost use Rattle.std.specs.contracts.impls.GlobalAllocator.TheImpl as allocates;
-    ghost use Rattle.lowering.specs.Shown.{shown_graph};
+    ghost use Rattle.graph.specs.Shown.{shown_graph};
     ghost use Rattle.progress.specs.Counts.{AreExact, all_occurrences};
     ghost use Rattle.progress.specs.ShownCounts.{ShownCounts};
 

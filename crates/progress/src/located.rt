@@ -1,8 +1,8 @@
 //! A tracker by location, which asks one time of each.
 
 ghost use Rattle.std.specs.Prelude.{◌≡◌, ◌+◌, ◌<◌, ◌≤◌, ◌↔◌, ◌∷◌, ◌++◌, ℕ, List, [], IsTrue, IfOk, IfSome, IfNone, OnOk, Some, None, true, false, length, map, slice_get, slice_index_or, slice_set, vec_capacity, vec_len};
-ghost use Rattle.lowering.specs.Locations.{location_of};
-ghost use Rattle.lowering.specs.Shown.{shown_graph};
+ghost use Rattle.graph.specs.Locations.{location_of};
+ghost use Rattle.graph.specs.Shown.{shown_graph};
 ghost use Rattle.semantics.specs.Time.{Time as Instant};
 ghost use Rattle.semantics.specs.Graph.{edge_count};
 ghost use Rattle.semantics.specs.Could.{CouldResultIn, IsTimeAt, Location as Place, Pointstamp as Active};
@@ -42,8 +42,8 @@ impl Model for LocationTracker {
     ghost use Rattle.std.specs.Prelude.{◌+◌, ◌≤◌, length, map, vec_capacity, vec_len};
     ghost use Rattle.std.specs.contracts.alloc.Global as heap;
     ghost use Rattle.std.specs.contracts.impls.GlobalAllocator.TheImpl as allocates;
-    ghost use Rattle.lowering.specs.Locations.{location_of};
-    ghost use Rattle.lowering.specs.Shown.{shown_graph};
+    ghost use Rattle.graph.specs.Locations.{location_of};
+    ghost use Rattle.graph.specs.Shown.{shown_graph};
     ghost use Rattle.progress.specs.Kept.{IsKept};
     ghost use Rattle.progress.specs.Shown.{Located};
 

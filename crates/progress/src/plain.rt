@@ -1,7 +1,7 @@
 //! A tracker that asks each active pointstamp.
 
 ghost use Rattle.std.specs.Prelude.{◌≡◌, ◌+◌, ◌<◌, ◌≤◌, ◌↔◌, ◌∷◌, ◌++◌, ℕ, List, [], IsTrue, IfSome, IfNone, Some, true, false, length, remove, slice_get, vec_capacity, vec_len};
-ghost use Rattle.lowering.specs.Shown.{shown_graph};
+ghost use Rattle.graph.specs.Shown.{shown_graph};
 ghost use Rattle.semantics.specs.Could.{CouldResultIn, IsTimeAt};
 ghost use Rattle.progress.specs.Content.{AllAt, IsBlocked, IsClear, times_in};
 
@@ -27,7 +27,7 @@ impl Model for PlainTracker {
     ghost use Rattle.std.specs.Prelude.{◌+◌, ◌≤◌, vec_capacity, vec_len};
     ghost use Rattle.std.specs.contracts.alloc.Global as heap;
     ghost use Rattle.std.specs.contracts.impls.GlobalAllocator.TheImpl as allocates;
-    ghost use Rattle.lowering.specs.Shown.{shown_graph};
+    ghost use Rattle.graph.specs.Shown.{shown_graph};
     ghost use Rattle.progress.specs.Content.{AllAt, times_in};
     ghost use Rattle.progress.specs.Shown.{Listed};
 

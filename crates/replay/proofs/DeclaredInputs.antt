@@ -1,8 +1,8 @@
 -- One declared input more.
 use Rattle.std.proofs.Common.{◌≡◌, ◌<◌, ◌+◌, ℕ, List, [], ◌∷◌, ◌++◌, get_or, length, map, take, sym, ap, ap₂, ◌∙◌}
 use Rattle.std.proofs.lemmas.List.{map_more, map-append}
-use Rattle.lowering.specs.Views.{input_of}
-use Rattle.lowering.specs.declared.graph.DeclaredInput.{DeclaredInput}
+use Rattle.graph.specs.Views.{input_of}
+use Rattle.graph.specs.declared.graph.DeclaredInput.{DeclaredInput}
 use Rattle.collector.specs.Said.{plain}
 use Rattle.collector.specs.declared.line.Declared.{Declared}
 

@@ -10,8 +10,8 @@ use Rattle.semantics.specs.Query.{Input, Program}
 use Rattle.semantics.specs.Graph.{Graph, Vertex, input_count}
 use Rattle.semantics.specs.Lower.{lowered, input_vertices, lets_of, outputs_of}
 use Rattle.semantics.specs.PortArity.{program_arities}
-use Rattle.lowering.specs.Shown.{GraphValue, shown_graph, shown_inputs, shown_arities}
-use Rattle.lowering.specs.GraphLaws.{HasProgramArities}
+use Rattle.graph.specs.Shown.{GraphValue, shown_graph, shown_inputs, shown_arities}
+use Rattle.graph.specs.GraphLaws.{HasProgramArities}
 use Rattle.replay.specs.Steps.{AreInputsOf}
 
 abbrev rest_of : Program → List Vertex

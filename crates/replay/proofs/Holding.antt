@@ -90,6 +90,7 @@ claim_others g w k (Step.seal i) by j other = absurd by
 claim_others g w k (Step.close i) by j other = absurd by
 claim_others g w k (Step.claim_message k' at m) by j other = put_other w.held k' (Held.holding false (Event.arrival m)) j (λ e. other (e ∙ by))
 claim_others g w k (Step.claim_request k' at n) by j other = put_other w.held k' (Held.holding false (Event.notification n)) j (λ e. other (e ∙ by))
+claim_others g w k (Step.merge k' at m n) by j other = absurd by
 claim_others g w k (Step.commit k' event out) by j other = absurd by
 claim_others g w k (Step.abandon k' event) by j other = absurd by
 

@@ -7,7 +7,7 @@ use Rattle.semantics.specs.Multiset.{Record}
 use Rattle.semantics.specs.Query.{Input}
 use Rattle.rows.specs.FlatRows.{arity_of}
 use Rattle.semantics.specs.Graph.{input_count}
-use Rattle.lowering.specs.Shown.{shown_graph, shown_inputs}
+use Rattle.graph.specs.Shown.{shown_graph, shown_inputs}
 use Rattle.machine.specs.World.{World}
 use Rattle.machine.specs.Step.{Step, Allowed, after_step}
 use Rattle.events.specs.Jobs.{Pass}

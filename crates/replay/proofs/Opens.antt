@@ -1,6 +1,6 @@
 -- On a board that has just been opened.
 use Rattle.std.proofs.Common.{◌≡◌, ◌∙◌, ℕ, Bool, List, length, ap, subst}
-use Rattle.lowering.specs.Shown.{GraphValue}
+use Rattle.graph.specs.Shown.{GraphValue}
 use Rattle.board.specs.Shown.{Shown}
 use Rattle.board.specs.Promises.{IsOpening}
 use Rattle.schedule.specs.Commands.{Command}

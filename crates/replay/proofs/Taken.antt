@@ -5,7 +5,7 @@ use Rattle.std.proofs.lemmas.List.{get_or-set_same, get_or-set_other, get_or_pas
 use Rattle.std.proofs.lemmas.List.{length-map}
 use Rattle.std.proofs.lemmas.Option.{slice_get_within}
 use Rattle.std.proofs.lemmas.Bool.Decides.{eqb_tells}
-use Rattle.lowering.specs.Shown.{shown_graph}
+use Rattle.graph.specs.Shown.{shown_graph}
 use Rattle.machine.specs.Network.{Network}
 use Rattle.machine.specs.World.{World, Held}
 use Rattle.machine.specs.Step.{Step, Allowed, after_step}
@@ -39,6 +39,7 @@ claim_free g w k (Step.seal i) by allowed = absurd by
 claim_free g w k (Step.close i) by allowed = absurd by
 claim_free g w k (Step.claim_message k' at m) by allowed = (subst (λ (j : ℕ). j < g.workers) by allowed.0.0, ap w.held (sym by) ∙ allowed.0.1)
 claim_free g w k (Step.claim_request k' at n) by allowed = (subst (λ (j : ℕ). j < g.workers) by allowed.0.0, ap w.held (sym by) ∙ allowed.0.1)
+claim_free g w k (Step.merge k' at m n) by allowed = absurd by
 claim_free g w k (Step.commit k' event out) by allowed = absurd by
 claim_free g w k (Step.abandon k' event) by allowed = absurd by
 

@@ -8,9 +8,9 @@ use Rattle.semantics.specs.Query.{Name, Program}
 use Rattle.semantics.specs.Meaning.{program_meaning}
 use Rattle.semantics.specs.Graph.{output_number, output_numbers}
 use Rattle.semantics.proofs.LoweredDataflow.{lowered_outputs}
-use Rattle.lowering.specs.Shown.{shown_graph, shown_names}
-use Rattle.lowering.specs.Views.{name_of_output}
-use Rattle.lowering.specs.declared.outputs.GraphOutput.{GraphOutput}
+use Rattle.graph.specs.Shown.{shown_graph, shown_names}
+use Rattle.graph.specs.Views.{name_of_output}
+use Rattle.graph.specs.declared.graph.GraphOutput.{GraphOutput}
 use Rattle.machine.specs.World.{World}
 use Rattle.machine.specs.Headline.{meant}
 use Rattle.board.specs.Shown.{Shown, joined as joined_batches, emitted_by}

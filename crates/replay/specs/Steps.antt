@@ -3,7 +3,7 @@ use Rattle.std.specs.Prelude.{Bool, true, false, codes, ◌≡◌, ◌<◌, ◌�
 use Rattle.semantics.specs.Multiset.{Record}
 use Rattle.semantics.specs.Query.{Input}
 use Rattle.semantics.specs.Graph.{input_count}
-use Rattle.lowering.specs.Shown.{GraphValue, shown_graph, shown_inputs, shown_names, shown_arities}
+use Rattle.graph.specs.Shown.{GraphValue, shown_graph, shown_inputs, shown_names, shown_arities}
 use Rattle.machine.specs.Step.{Step}
 use Rattle.events.specs.Jobs.{Pass}
 use Rattle.board.specs.Shown.{Shown, tables}

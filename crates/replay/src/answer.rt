@@ -2,7 +2,7 @@
 
 ghost use Rattle.std.specs.Prelude.{◌≡◌, ◌++◌, ℕ, List, OnOk, decimal, map};
 ghost use Rattle.board.specs.Promises.{IsOutputPlace};
-ghost use Rattle.lowering.specs.Views.{name_of_output};
+ghost use Rattle.graph.specs.Views.{name_of_output};
 ghost use Rattle.collector.specs.OutputText.{is_plain};
 ghost use Rattle.replay.specs.Replays.{Tells, TellsOutput, heading, label_of, refusal_line};
 ghost use Rattle.replay.specs.Steps.{ShowsState, setting_of, word_of};
@@ -10,8 +10,8 @@ ghost use Rattle.replay.specs.Waits.{State};
 
 use board::Board;
 use collector::push_sorted;
+use graph::GraphOutput;
 use itoa::Buffer;
-use lowering::GraphOutput;
 use record_core::Name;
 use std::alloc::{AllocError, Global};
 use views::Views;

@@ -1,8 +1,8 @@
 //! From a schedule's text to the answer's.
 
 ghost use Rattle.std.specs.Prelude.{◌≡◌, ◌<◌, ◌≤◌, map, IfOk, IfErr};
-ghost use Rattle.lowering.specs.Shown.{shown_inputs};
-ghost use Rattle.lowering.specs.Views.{input_of};
+ghost use Rattle.graph.specs.Shown.{shown_inputs};
+ghost use Rattle.graph.specs.Views.{input_of};
 ghost use Rattle.collector.specs.Said.{plain};
 ghost use Rattle.machine.specs.World.{opening};
 ghost use Rattle.board.specs.Showing.{Shows};
@@ -17,7 +17,7 @@ ghost use Rattle.replay.specs.Waits.{State, at_first};
 use crate::replaying::replay;
 use board::Board;
 use collector::Declared;
-use lowering::{DeclaredInput, Graph};
+use graph::{DeclaredInput, Graph};
 use progress::LocationTracker;
 use schedule::{Line, ScheduleRefusal, ViewKind, read_schedule};
 use std::alloc::{AllocError, Global};

@@ -1,3 +1,4 @@
 pub mod Cuts
+pub mod Joined
 pub mod Walks
 pub mod Agreement

@@ -1,5 +1,5 @@
 -- Rows of numbers, and how they lie one after another.
-use Rattle.std.specs.Prelude.{◌≡◌, ℕ, zero, suc, ℤ, List, [], ◌∷◌, length, take, drop}
+use Rattle.std.specs.Prelude.{◌≡◌, ℕ, zero, suc, ℤ, List, [], ◌∷◌, ◌++◌, length, take, drop}
 use Rattle.std.specs.List.{All}
 use Rattle.semantics.specs.Multiset.{Record}
 
@@ -21,3 +21,8 @@ AllHave n rows = All (λ r. length r ≡ n) rows
 abbrev pub arity_of : List Record → ℕ
 arity_of [] = 0
 arity_of (r ∷ rows) = length r
+
+-- the rows of lists of rows, end to end
+abbrev pub joined : List (List Record) → List Record
+joined [] = []
+joined (rows ∷ more) = rows ++ joined more

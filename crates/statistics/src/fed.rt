@@ -1,13 +1,13 @@
 //! The records that will be fed, counted before the run.
 
 ghost use Rattle.std.specs.Prelude.{◌≡◌, ◌<◌, ◌≤◌};
-ghost use Rattle.lowering.specs.Views.{vertex_of};
+ghost use Rattle.graph.specs.Views.{vertex_of};
 ghost use Rattle.semantics.specs.Kinds.{is_input as is_input_kind};
 
 use crate::tally::Tally;
 use collector::Epochs;
 use events::{CutBatch, EventFault, Wiring};
-use lowering::{Graph, Kind, Vertex, VertexId};
+use graph::{Graph, Kind, Vertex, VertexId};
 use rows::Batch;
 use std::alloc::Global;
 use std::sync::Arc;

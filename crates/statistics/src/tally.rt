@@ -5,7 +5,7 @@ ghost use Rattle.std.specs.Prelude.{◌<◌, ◌≤◌};
 use crate::counter::Counter;
 use collector::Epochs;
 use events::{EventFault, Letter, Output};
-use lowering::{EdgeId, Graph, Kind, Location, VertexId, graph_text};
+use graph::{EdgeId, Graph, Kind, Location, VertexId, graph_text};
 use std::alloc::{AllocError, Global};
 use std::sync::Arc;
 use std::sync::atomic::{AtomicU64, Ordering};
@@ -70,7 +70,7 @@ impl Tally {
     pub(crate) fn count_letters(&self, letters: &[Letter]) -> u64 {
         let mut records = 0u64;
         for letter in letters {
-            let more = letter.message.batch.len() as u64;
+            let more = letter.message.len() as u64;
             self.count_letter(letter, more);
             records = records.saturating_add(more);
         }
@@ -81,7 +81,7 @@ impl Tally {
 
     /// Counts the records of a message for the vertex and the worker that it goes to.
     fn count_letter(&self, letter: &Letter, records: u64) {
-        if let Some(vertex) = self.target(letter.message.edge) {
+        if let Some(vertex) = self.target(letter.message.edge()) {
             if let Some(counter) = self.counter(vertex, letter.to) {
                 counter.add_received(records);
             }

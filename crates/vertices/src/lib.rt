@@ -10,7 +10,7 @@
 //! costs what comes in and what goes out, never what was absorbed; only an except's notification looks, once, at each record that came to
 //! port 0 at its time. After a refusal the shard is spoiled, and fit only to be given up.
 //!
-//! Below stand `operators`, `rows`, `loop_context` and `lowering`; the board hands shards out with their events.
+//! Below stand `operators`, `rows`, `loop_context` and `graph`; the board hands shards out with their events.
 #![tactic(auto)]
 
 mod distinct;

@@ -4,7 +4,7 @@ ghost use Rattle.std.specs.Prelude.{◌≡◌, ◌≤◌, ◌<◌, ◌+◌, ℕ,
 ghost use Rattle.std.specs.List.{AllByRecursion};
 ghost use Rattle.expr_tree.specs.Plain.{plain_agg, plain_cond, plain_pair, plain_scalar};
 ghost use Rattle.expr_tree.specs.Views.{cond_tree, scalar_tree};
-ghost use Rattle.lowering.specs.Views.{kind_of};
+ghost use Rattle.graph.specs.Views.{kind_of};
 ghost use Rattle.semantics.specs.Kinds.{Kind as Equation, in_ports};
 ghost use Rattle.semantics.specs.PortArity.{PortsFit};
 ghost use Rattle.semantics.specs.Typing.{CondFits, IsArity, ScalarFits};
@@ -19,7 +19,7 @@ use crate::join::JoinShard;
 use crate::join_plan::JoinPlan;
 use crate::shard::Shard;
 use expr_tree::{Agg, Column, Cond, NoMemory, Pair, Scalar, copy_cond, copy_scalar};
-use lowering::{Kind, Vertex};
+use graph::{Kind, Vertex};
 use operators::{
     Concat, Egress, Feedback, Gate, Group, Hold, Ingress, Input, Join, Output, Select, Where,
 };

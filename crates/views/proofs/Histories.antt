@@ -11,9 +11,10 @@ use Rattle.machine.proofs.Active.{one_tells}
 use Rattle.machine.proofs.LocalViews.{none as seen_none, no_other as seen_no_other, applied as seen_stays}
 use Rattle.std.proofs.Math.Logic.{∥∥₁_elim}
 use Rattle.semantics.proofs.MultisetSums.{total-append}
-use Rattle.machine.specs.Views.{Changes, when, all_removes, InOrder, NoneApplied, AppliesMore, IsSeen, IsThere}
+use Rattle.machine.specs.Views.{Changes, when, all_removes, seen_adds, seen_removes, InOrder, NoneApplied, AppliesMore, IsSeen, IsThere}
 use Rattle.machine.specs.Posting.{MayPost, ArePosted, IsView, content_after}
-use Rattle.views.specs.Waiting.{pending, IsHistory}
+use Rattle.views.specs.Waiting.{Waiting, waiting_adds, waiting_removes, IsSeenBy, pending, IsHistory}
+use Rattle.views.proofs.SenderSums.{sum_posted, sum_applied}
 
 -- ---- posting
 
@@ -58,13 +59,13 @@ pending_next s (c ∷ log) b e = go c.applied (s == c.sender) (s == b.sender) (p
     go false true false ih = ap (λ (l : List Changes). c ∷ l) ih
     go false false y ih = ih
 
-pub history_posted : (g : Graph) (workers : ℕ) (content content' above below : Pointstamp → ℕ) (waits waits' : ℕ → List Changes) (b : Changes)
-    → IsHistory g workers content above below waits → b.applied ≡ false
+pub history_posted : (g : Graph) (workers worker : ℕ) (content content' : Pointstamp → ℕ) (waiting waiting' : Waiting) (b : Changes)
+    → IsHistory g workers content waiting worker → b.applied ≡ false → b.sender < suc workers
     → MayPost (CouldResultIn g) (input_count g) workers content b
     → ((q : Pointstamp) → content' q + b.removes q ≡ content q + b.adds q)
-    → ((s : ℕ) → s < suc workers → waits' s ≡ cond (s == b.sender) (waits s ++ (b ∷ [])) (waits s))
-    → IsHistory g workers content' above below waits'
-history_posted g workers content content' above below waits waits' b h e may c w =
+    → ((s : ℕ) → waiting' worker s ≡ cond (s == b.sender) (waiting worker s ++ (b ∷ [])) (waiting worker s))
+    → IsHistory g workers content' waiting' worker
+history_posted g workers worker content content' waiting waiting' b h e l may c w =
     let same : (q : Pointstamp) → content q ≡ after_all h.first h.log q =
     λ q. let a = after_sum (CouldResultIn g) (input_count g) workers h.first h.log h.posted q in let t = h.there q in omega arith in
     record {
@@ -77,12 +78,15 @@ history_posted g workers content content' above below waits waits' b h e may c w
           let r = total-append (λ (x : Changes). when x.applied (x.removes q)) h.log (b ∷ []) in
           let a0 : when b.applied (b.adds q) ≡ 0 = ap (λ x. when x (b.adds q)) e in
           let r0 : when b.applied (b.removes q) ≡ 0 = ap (λ x. when x (b.removes q)) e in
+          let wa = sum_posted (λ x. x.adds q) (suc workers) (waiting worker) (waiting' worker) b l w in
+          let wr = sum_posted (λ x. x.removes q) (suc workers) (waiting worker) (waiting' worker) b l w in
+          let m = c q in
           let k = h.seen q in omega arith;
       there = λ q.
           let a = total-append (λ (x : Changes). x.adds q) h.log (b ∷ []) in
           let r = total-append (λ (x : Changes). x.removes q) h.log (b ∷ []) in
           let k = h.there q in let m = c q in omega arith;
-      waits_for = λ s l. pending_next s h.log b e ∙ ap (λ (p : List Changes). cond (s == b.sender) (p ++ (b ∷ [])) p) (h.waits_for s l) ∙ sym (w s l);
+      waits_for = λ s k. pending_next s h.log b e ∙ ap (λ (p : List Changes). cond (s == b.sender) (p ++ (b ∷ [])) p) (h.waits_for s k) ∙ sym (w s);
     }
 
 -- ---- applying
@@ -196,30 +200,6 @@ took s (c ∷ log) b rest e = go c.applied (s == c.sender) refl refl (took s log
           all_removed = λ q. refl;
         }
 
-pub history_applied : (g : Graph) (workers s : ℕ) (content above below above' below' : Pointstamp → ℕ) (waits waits' : ℕ → List Changes) (b : Changes)
-    → IsHistory g workers content above below waits → s < suc workers
-    → waits s ≡ b ∷ waits' s
-    → ((t : ℕ) → (t ≡ s → ⊥) → waits' t ≡ waits t)
-    → ((q : Pointstamp) → above' q + (below q + b.removes q) ≡ above q + (below' q + b.adds q))
-    → IsHistory g workers content above' below' waits'
-history_applied g workers s content above below above' below' waits waits' b h l e others net =
-    let k = took s h.log b (waits' s) (h.waits_for s l ∙ e) in
-    record {
-      first = h.first;
-      log = apply_next s h.log;
-      posted = posted_applied (CouldResultIn g) (input_count g) workers s h.first h.log h.posted;
-      order = in_order_applied s h.log h.order;
-      seen = λ q. let a = k.adds q in let r = k.removes q in let i = h.seen q in let n = net q in omega arith;
-      there = λ q. let a = k.all_added q in let r = k.all_removed q in let i = h.there q in omega arith;
-      waits_for = λ t m. go t m (eqb_tells t s);
-    }
-  where
-    go : (t : ℕ) → t < suc workers → ((eqb t s ≡ true) × (t ≡ s)) ⊎ ((eqb t s ≡ false) × (t ≢ s)) → pending t (apply_next s h.log) ≡ waits' t
-    go t m (inl x) = subst (λ (i : ℕ). pending i (apply_next s h.log) ≡ waits' i) (sym x.1) (took s h.log b (waits' s) (h.waits_for s l ∙ e)).left
-    go t m (inr x) = pending_others s t h.log x.1 ∙ h.waits_for t m ∙ sym (others t x.1)
-
--- ---- what a worker sees
-
 applies_more : (s : ℕ) (log : List Changes) → AppliesMore log (apply_next s log)
 applies_more s [] = tt
 applies_more s (b ∷ log) = go b.applied (s == b.sender) (applies_more s log)
@@ -233,37 +213,65 @@ applies_more s (b ∷ log) = go b.applied (s == b.sender) (applies_more s log)
     go false true ih = (refl, refl, refl, λ e. refl, same log)
     go false false ih = (refl, refl, refl, λ e. e, ih)
 
-view_of : (g : Graph) (workers : ℕ) (content above below : Pointstamp → ℕ) (waits : ℕ → List Changes) → (h : IsHistory g workers content above below waits) → 0 < workers → IsDataflow g → IsView g workers h.first h.log
-view_of g workers content above below waits h some flow = record { flows = flow; some = some; posted = h.posted; order = h.order }
+view_of : (g : Graph) (workers : ℕ) (content : Pointstamp → ℕ) (waiting : Waiting) (worker : ℕ) → (h : IsHistory g workers content waiting worker) → 0 < workers → IsDataflow g → IsView g workers h.first h.log
+view_of g workers content waiting worker h some flow = record { flows = flow; some = some; posted = h.posted; order = h.order }
 
-module _ (g : Graph) (workers : ℕ) (some : 0 < workers) (flow : ∥ IsDataflow g ∥₁) (content above below : Pointstamp → ℕ) (waits : ℕ → List Changes) (h : IsHistory g workers content above below waits) (p : Pointstamp) where
-  is_above : (q : Pointstamp) → IsSeen h.first h.log q → 0 < above q
-  is_above q s = let e = h.seen q in omega arith
+is_seen : (g : Graph) (workers : ℕ) (content : Pointstamp → ℕ) (waiting : Waiting) (worker : ℕ) → (h : IsHistory g workers content waiting worker) → (q : Pointstamp) → IsSeen h.first h.log q → IsSeenBy content waiting workers worker q
+is_seen g workers content waiting worker h q s =
+    let e = h.seen q in let x : waiting_adds waiting workers worker q < content q + waiting_removes waiting workers worker q = omega arith in x
 
+module _ (g : Graph) (workers : ℕ) (some : 0 < workers) (flow : ∥ IsDataflow g ∥₁) (content : Pointstamp → ℕ) (waiting : Waiting) (worker : ℕ) (h : IsHistory g workers content waiting worker) (p : Pointstamp) where
   is_there : (q : Pointstamp) → 0 < content q → IsThere h.first h.log q
   is_there q s = let e = h.there q in omega arith
 
-  pub none_there : NoneOf (CouldResultIn g) (λ q. 0 < above q) p → NoneOf (CouldResultIn g) (λ q. 0 < content q) p
+  pub none_there : NoneOf (CouldResultIn g) (IsSeenBy content waiting workers worker) p → NoneOf (CouldResultIn g) (λ q. 0 < content q) p
   none_there none q there could =
-      ∥∥₁_elim flow (λ a b. absurd a) (λ f. seen_none g workers h.first h.log (view_of g workers content above below waits h some f) p (λ o s c. none o (is_above o s) c) q (is_there q there) could)
+      ∥∥₁_elim flow (λ a b. absurd a) (λ f. seen_none g workers h.first h.log (view_of g workers content waiting worker h some f) p (λ o s c. none o (is_seen g workers content waiting worker h o s) c) q (is_there q there) could)
 
-  pub no_other_there : NoOtherOf (CouldResultIn g) (λ q. 0 < above q) p → NoOtherOf (CouldResultIn g) (λ q. 0 < content q) p
+  pub no_other_there : NoOtherOf (CouldResultIn g) (IsSeenBy content waiting workers worker) p → NoOtherOf (CouldResultIn g) (λ q. 0 < content q) p
   no_other_there none q there could = go (one_tells q p)
     where
       go : ((one_if_same q p ≡ 1) × (q ≡ p)) ⊎ ((one_if_same q p ≡ 0) × (q ≢ p)) → q ≡ p
       go (inl x) = x.1
       go (inr x) =
-          absurd (∥∥₁_elim flow (λ a b. absurd a) (λ f. x.1 (seen_no_other g workers h.first h.log (view_of g workers content above below waits h some f) p (λ o s c. none o (is_above o s) c) q (is_there q there) could)))
+          absurd (∥∥₁_elim flow (λ a b. absurd a) (λ f. x.1 (seen_no_other g workers h.first h.log (view_of g workers content waiting worker h some f) p (λ o s c. none o (is_seen g workers content waiting worker h o s) c) q (is_there q there) could)))
 
-  -- what is clear stays clear as the worker applies the next batch of a sender
-  pub none_stays : (above' below' : Pointstamp → ℕ) (waits' : ℕ → List Changes) (s : ℕ) (b : Changes) → s < suc workers → waits s ≡ b ∷ waits' s
-      → ((q : Pointstamp) → above' q + (below q + b.removes q) ≡ above q + (below' q + b.adds q)) → ((q : Pointstamp) → 0 < above' q → below' q ≡ 0)
-      → NoneOf (CouldResultIn g) (λ q. 0 < above q) p → NoneOf (CouldResultIn g) (λ q. 0 < above' q) p
-  none_stays above' below' waits' s b l e net sided none q there could =
+module _ (g : Graph) (workers worker s : ℕ) (content : Pointstamp → ℕ) (waiting waiting' : Waiting) (b : Changes)
+    (h : IsHistory g workers content waiting worker) (l : s < suc workers)
+    (e : waiting worker s ≡ b ∷ waiting' worker s)
+    (others : (t : ℕ) → (t ≡ s → ⊥) → waiting' worker t ≡ waiting worker t) where
+  took_next : Took s h.log (apply_next s h.log) b (waiting' worker s)
+  took_next = took s h.log b (waiting' worker s) (h.waits_for s l ∙ e)
+
+  seen_next : (q : Pointstamp) → seen_removes (apply_next s h.log) q + (content q + waiting_removes waiting' workers worker q) ≡ seen_adds h.first (apply_next s h.log) q + waiting_adds waiting' workers worker q
+  seen_next q =
+      let k = took_next in
+      let a = k.adds q in let r = k.removes q in let i = h.seen q in
+      let wa = sum_applied (λ x. x.adds q) (suc workers) s (waiting worker) (waiting' worker) b l e others in
+      let wr = sum_applied (λ x. x.removes q) (suc workers) s (waiting worker) (waiting' worker) b l e others in
+      omega arith
+
+  pub history_applied : IsHistory g workers content waiting' worker
+  history_applied =
+      record {
+        first = h.first;
+        log = apply_next s h.log;
+        posted = posted_applied (CouldResultIn g) (input_count g) workers s h.first h.log h.posted;
+        order = in_order_applied s h.log h.order;
+        seen = seen_next;
+        there = λ q. let k = took_next in let a = k.all_added q in let r = k.all_removed q in let i = h.there q in omega arith;
+        waits_for = λ t m. go t m (eqb_tells t s);
+      }
+    where
+      go : (t : ℕ) → t < suc workers → ((eqb t s ≡ true) × (t ≡ s)) ⊎ ((eqb t s ≡ false) × (t ≢ s)) → pending t (apply_next s h.log) ≡ waiting' worker t
+      go t m (inl x) = subst (λ (i : ℕ). pending i (apply_next s h.log) ≡ waiting' worker i) (sym x.1) (took s h.log b (waiting' worker s) (h.waits_for s l ∙ e)).left
+      go t m (inr x) = pending_others s t h.log x.1 ∙ h.waits_for t m ∙ sym (others t x.1)
+
+  -- what is clear stays clear
+  pub none_stays : 0 < workers → ∥ IsDataflow g ∥₁ → (p : Pointstamp) → NoneOf (CouldResultIn g) (IsSeenBy content waiting workers worker) p → NoneOf (CouldResultIn g) (IsSeenBy content waiting' workers worker) p
+  none_stays some flow p none q there could =
       ∥∥₁_elim flow (λ a b. absurd a)
-      (λ f. seen_stays g workers h.first h.log (view_of g workers content above below waits h some f) p (apply_next s h.log) (applies_more s h.log) (λ o x c. none o (is_above o x) c) q still could)
+      (λ f. seen_stays g workers h.first h.log (view_of g workers content waiting worker h some f) p (apply_next s h.log) (applies_more s h.log) (λ o x c. none o (is_seen g workers content waiting worker h o x) c) q still could)
     where
       still : IsSeen h.first (apply_next s h.log) q
-      still =
-          let k = took s h.log b (waits' s) (h.waits_for s l ∙ e) in
-          let a = k.adds q in let r = k.removes q in let i = h.seen q in let n = net q in let z = sided q there in omega arith
+      still = let k = seen_next q in let x : waiting_adds waiting' workers worker q < content q + waiting_removes waiting' workers worker q = there in omega arith

@@ -1,11 +1,11 @@
 pub mod FirstChanges
-pub mod NothingWaits
+pub mod SenderSums
 pub mod Histories
-pub mod OneSided
 pub mod TakenBatches
-pub mod QueuesAndViews
+pub mod PostedBatches
 pub mod AppliedBatches
 pub mod ReservedRoom
 pub mod FirstViews
+pub mod StaleCounts
 pub mod WaitingCounts
 pub mod OpenInputs

@@ -1,15 +1,13 @@
 -- Room is made, and what waits and is seen stays.
-use Rattle.std.proofs.Common.{◌≡◌, ◌≢◌, ◌⊎◌, inl, inr, ℕ, zero, suc, ◌+◌, ◌*◌, ◌≤◌, ◌<◌, true, false, eqb, List, [], ◌∷◌, length, drop, Some, slice_get, slice_set, slice_index_or, refl, sym, ap, subst, ◌∙◌, arith, add-one, length-drop}
+use Rattle.std.proofs.Common.{◌≡◌, ◌≢◌, ◌⊎◌, inl, inr, ℕ, zero, suc, ◌+◌, ◌*◌, ◌≤◌, ◌<◌, true, false, eqb, List, [], ◌∷◌, length, drop, Some, slice_get, slice_set, slice_index_or, refl, sym, ap, subst, ◌∙◌, arith, length-drop}
 use Rattle.std.proofs.lemmas.Bool.Decides.{eqb_tells}
 use Rattle.semantics.specs.Graph.{Graph}
 use Rattle.semantics.specs.Could.{Pointstamp}
-use Rattle.machine.specs.Active.{sum_below}
-use Rattle.views.specs.Waiting.{Waiting, waiting_adds, waiting_removes}
-use Rattle.views.specs.Viewed.{Viewed, above, below}
+use Rattle.views.specs.Waiting.{Waiting, IsHistory}
 use Rattle.views.specs.Queued.{Queued, batches_of, AllKnown, IsSameQueue, IsQueue, IsOneOf, EndsFrom}
-use Rattle.views.specs.WorkerViews.{untaken_at, waiting_of, items_waiting, of_first, content_of, IsWorker, IsSender, AreViews, AreSameQueues, IsSameView, AreSameViews}
+use Rattle.views.specs.WorkerViews.{untaken_at, waiting_of, IsSender, AreViews, AreSameQueues}
 use Rattle.views.specs.declared.queue.Change.{Change}
-use Rattle.views.proofs.QueuesAndViews.{get_below, set_long, get_set_here, get_set_else, left_got}
+use Rattle.views.proofs.PostedBatches.{get_below, set_long, get_set_here, get_set_else, left_got}
 
 same_some : {X : Type 0} (x y : X) → Some x ≡ Some y → x ≡ y
 same_some x y e = cc
@@ -42,35 +40,6 @@ queues_set old qs s q q' h got same =
         subst (IsSameQueue p) e (queue_on p q q' (h.each t p q a (ap (slice_get qs) x.1 ∙ got)) same)
     go t p r a b (inr x) = h.each t p r a (sym (get_set_else qs s t q' x.1) ∙ b)
 
-same_view : (v : Viewed) → IsSameView v v
-same_view v = record { graph = refl; above_same = λ q. refl; below_same = λ q. refl; active = omega arith; owed = omega arith }
-
-view_on : (u v x : Viewed) → IsSameView u v → IsSameView v x → IsSameView u x
-view_on u v x a b =
-    record {
-      graph = b.graph ∙ a.graph;
-      above_same = λ q. b.above_same q ∙ a.above_same q;
-      below_same = λ q. b.below_same q ∙ a.below_same q;
-      active = let y = a.active in let z = b.active in omega arith;
-      owed = let y = a.owed in let z = b.owed in omega arith;
-    }
-
-pub views_same : (vs : List Viewed) → AreSameViews vs vs
-views_same vs = record { long = refl; each = λ s q q' a b. subst (IsSameView q) (same_some q q' (sym a ∙ b)) (same_view q) }
-
-pub views_set : (old vs : List Viewed) (s : ℕ) (q q' : Viewed) → AreSameViews old vs → slice_get vs s ≡ Some q → IsSameView q q' → AreSameViews old (slice_set vs s q')
-views_set old vs s q q' h got same =
-    record {
-      long = set_long vs s q' ∙ h.long;
-      each = λ t p r a b. go t p r a b (eqb_tells t s);
-    }
-  where
-    go : (t : ℕ) (p r : Viewed) → slice_get old t ≡ Some p → slice_get (slice_set vs s q') t ≡ Some r → ((eqb t s ≡ true) × (t ≡ s)) ⊎ ((eqb t s ≡ false) × (t ≢ s)) → IsSameView p r
-    go t p r a b (inl x) =
-        let e : q' ≡ r = same_some q' r (sym (get_set_here vs s q' (get_below vs s q got)) ∙ ap (slice_get (slice_set vs s q')) (sym x.1) ∙ b) in
-        subst (IsSameView p) e (view_on p q q' (h.each t p q a (ap (slice_get vs) x.1 ∙ got)) same)
-    go t p r a b (inr x) = h.each t p r a (sym (get_set_else vs s t q' x.1) ∙ b)
-
 -- what was there at a place, where there is something now
 pub there_too : {X : Type 0} (old new : List X) (i : ℕ) (y : X) → length new ≡ length old → slice_get new i ≡ Some y → (x : X) × (slice_get old i ≡ Some x)
 there_too old [] zero y e h = absurd (let k = h in cc)
@@ -102,76 +71,26 @@ left_same old new h s w = go (below_or_not s (length new))
         left_got new s w n.0 n.1 ∙ (h.each s o.0 n.0 o.1 n.1).left_same w ∙ sym (left_got old s w o.0 o.1)
     go (inr l) = left_beyond new s w l ∙ sym (left_beyond old s w (let e = h.long in omega arith))
 
-waiting_same : (old new : List Queued) → AreSameQueues old new → waiting_of new ≡ waiting_of old
+pub waiting_same : (old new : List Queued) → AreSameQueues old new → waiting_of new ≡ waiting_of old
 waiting_same old new h = λ i w s. batches_of s (left_same old new h s w i)
 
-first_same : (f : Viewed → ℕ) (old new : List Viewed) → length new ≡ length old → ((v v' : Viewed) → slice_get old 0 ≡ Some v → slice_get new 0 ≡ Some v' → f v' ≡ f v) → of_first f new ≡ of_first f old
-first_same f [] [] e h = refl
-first_same f [] (x ∷ new) e h = absurd (omega arith)
-first_same f (x ∷ old) [] e h = absurd (omega arith)
-first_same f (x ∷ old) (y ∷ new) e h = h x y refl refl
-
-module _ (g : Graph) (vs vs' : List Viewed) (qs qs' : List Queued) (spare spare' : ℕ) (h : AreViews g (content_of vs qs) vs qs spare) (sv : AreSameViews vs vs') (sq : AreSameQueues qs qs') where
-  pub content_kept : (p : Pointstamp) → content_of vs' qs' p ≡ content_of vs qs p
-  content_kept p =
-      let a = first_same (λ v. above v p) vs vs' sv.long (λ v v' x y. (sv.each 0 v v' x y).above_same p) in
-      let b = first_same (λ v. below v p) vs vs' sv.long (λ v v' x y. (sv.each 0 v v' x y).below_same p) in
-      let la : waiting_adds (waiting_of qs') (length vs') 0 p ≡ waiting_adds (waiting_of qs) (length vs) 0 p = ap (λ (w : Waiting). waiting_adds w (length vs') 0 p) (waiting_same qs qs' sq) ∙ ap (λ n. waiting_adds (waiting_of qs) n 0 p) sv.long in
-      let lr : waiting_removes (waiting_of qs') (length vs') 0 p ≡ waiting_removes (waiting_of qs) (length vs) 0 p = ap (λ (w : Waiting). waiting_removes w (length vs') 0 p) (waiting_same qs qs' sq) ∙ ap (λ n. waiting_removes (waiting_of qs) n 0 p) sv.long in
-      omega arith
-
-  pub waiting_kept : (w s : ℕ) → waiting_of qs' w s ≡ waiting_of qs w s
-  waiting_kept w s = ap (batches_of s) (left_same qs qs' sq s w)
-
-  items_kept : (w : ℕ) → items_waiting qs' (length vs) w ≡ items_waiting qs (length vs) w
-  items_kept w = λ i. sum_below (suc (length vs)) (λ s. length (left_same qs qs' sq s w i))
-
-  pub late_kept : ((s : ℕ) (q : Queued) → slice_get qs' s ≡ Some q → 2 * spare' ≤ q.free)
-      → ((w : ℕ) (v : Viewed) → slice_get vs' w ≡ Some v → (2 * spare' + items_waiting qs (length vs) w ≤ v.active.spare) × (2 * spare' + items_waiting qs (length vs) w ≤ v.owed.spare))
-      → AreViews g (content_of vs' qs') vs' qs' spare'
-  late_kept free room =
-      subst (λ (c : Pointstamp → ℕ). AreViews g c vs' qs' spare') (λ i p. sym (content_kept p) i)
-      (record {
-        some = let a = sv.long in let b = h.some in omega arith;
-        few = let a = sv.long in let b = h.few in omega arith;
-        senders = sq.long ∙ h.senders ∙ ap suc (sym sv.long);
-        known = h.known;
-        worker = λ w v' gv. subst (λ n. IsWorker g n (content_of vs qs) qs' spare' w v') (sym sv.long) (one w v' gv (there_too vs vs' w v' sv.long gv));
-        sender = λ s q' gq. subst (λ n. IsSender g n spare' q') (sym sv.long) (queue s q' gq (there_too qs qs' s q' sq.long gq));
-      })
-    where
-      one : (w : ℕ) (v' : Viewed) → slice_get vs' w ≡ Some v' → (x : Viewed) × (slice_get vs w ≡ Some x) → IsWorker g (length vs) (content_of vs qs) qs' spare' w v'
-      one w v' gv (v, gv0) =
-          let k = h.worker w v gv0 in
-          let s = sv.each w v v' gv0 gv in
-          let r = room w v' gv in
-          let i = items_kept w in
-          record {
-            graph = s.graph ∙ k.graph;
-            sided = λ q l. let a = s.above_same q in let b = s.below_same q in let z = k.sided q (omega arith) in omega arith;
-            counts = λ p.
-                let a = s.above_same p in let b = s.below_same p in let c = k.counts p in
-                let la : waiting_adds (waiting_of qs') (length vs) w p ≡ waiting_adds (waiting_of qs) (length vs) w p = ap (λ (y : Waiting). waiting_adds y (length vs) w p) (waiting_same qs qs' sq) in
-                let lr : waiting_removes (waiting_of qs') (length vs) w p ≡ waiting_removes (waiting_of qs) (length vs) w p = ap (λ (y : Waiting). waiting_removes y (length vs) w p) (waiting_same qs qs' sq) in
-                omega arith;
-            history = record {
-              first = k.history.first;
-              log = k.history.log;
-              posted = k.history.posted;
-              order = k.history.order;
-              seen = λ q. let a = s.above_same q in let b = s.below_same q in let c = k.history.seen q in omega arith;
-              there = k.history.there;
-              waits_for = λ t l. k.history.waits_for t l ∙ sym (waiting_kept w t);
-            };
-            active = let x = r.0 in omega arith;
-            owed = let x = r.1 in omega arith;
-          }
-
-      queue : (s : ℕ) (q' : Queued) → slice_get qs' s ≡ Some q' → (x : Queued) × (slice_get qs s ≡ Some x) → IsSender g (length vs) spare' q'
-      queue s q' gq (q, gq0) =
-          let k = h.sender s q gq0 in
-          let a = sq.each s q q' gq0 gq in
-          record { taken = a.taken_long ∙ k.taken; known = a.still_known g k.known; free = free s q' gq }
+pub views_kept : (g : Graph) (content : Pointstamp → ℕ) (workers : ℕ) (qs qs' : List Queued) (spare spare' : ℕ) → AreViews g content workers qs spare → AreSameQueues qs qs'
+    → ((s : ℕ) (q : Queued) → slice_get qs' s ≡ Some q → 2 * spare' ≤ q.free) → AreViews g content workers qs' spare'
+views_kept g content workers qs qs' spare spare' h sq free =
+    record {
+      some = h.some;
+      few = h.few;
+      senders = sq.long ∙ h.senders;
+      known = h.known;
+      history = λ w l. subst (λ (x : Waiting). IsHistory g workers content x w) (sym (waiting_same qs qs' sq)) (h.history w l);
+      sender = λ s q' gq. queue s q' gq (there_too qs qs' s q' sq.long gq);
+    }
+  where
+    queue : (s : ℕ) (q' : Queued) → slice_get qs' s ≡ Some q' → (x : Queued) × (slice_get qs s ≡ Some x) → IsSender g workers spare' q'
+    queue s q' gq (q, gq0) =
+        let k = h.sender s q gq0 in
+        let a = sq.each s q q' gq0 gq in
+        record { taken = a.taken_long ∙ k.taken; known = a.still_known g k.known; free = free s q' gq }
 
 -- ---- a queue forgets what all have taken
 
@@ -238,10 +157,6 @@ module _ (xs : List Change) (ts ts' : List ℕ) (m : ℕ) (q : IsQueue xs ts) (l
       → IsSameQueue (record { changes = xs; taken = ts; free = free }) (record { changes = drop m xs; taken = ts'; free = free' })
   same_lowered free free' f k = record { left_same = left_lowered; taken_long = long; still_known = k; free_kept = f }
 
--- the least is where some worker is, or the end
-pub sum_next : (n : ℕ) (f : ℕ → ℕ) → sum_below (n + 1) f ≡ sum_below n f + f n
-sum_next n f = rw (add-one n) refl
-
 pub last_or : (a i : ℕ) → a < i + 1 → (a < i) ⊎ (a ≡ i)
 last_or a i l = grind arith
 
@@ -254,16 +169,7 @@ free_set qs s n q' l h f t q m got = go (last_or t s m)
         let e : q' ≡ q = same_some q' q (sym (get_set_here qs s q' l) ∙ ap (slice_get (slice_set qs s q')) (sym x) ∙ got) in
         subst (λ (r : Queued). n ≤ r.free) e f
 
-pub room_set : (vs : List Viewed) (s : ℕ) (n : ℕ → ℕ) (v' : Viewed) → s < length vs → ((t : ℕ) (v : Viewed) → t < s → slice_get vs t ≡ Some v → (n t ≤ v.active.spare) × (n t ≤ v.owed.spare)) → n s ≤ v'.active.spare → n s ≤ v'.owed.spare
-    → (t : ℕ) (v : Viewed) → t < s + 1 → slice_get (slice_set vs s v') t ≡ Some v → (n t ≤ v.active.spare) × (n t ≤ v.owed.spare)
-room_set vs s n v' l h f o t v m got = go (last_or t s m)
-  where
-    go : (t < s) ⊎ (t ≡ s) → (n t ≤ v.active.spare) × (n t ≤ v.owed.spare)
-    go (inl x) = h t v x (sym (get_set_else vs s t v' (λ e. omega arith)) ∙ got)
-    go (inr x) =
-        let e : v' ≡ v = same_some v' v (sym (get_set_here vs s v' l) ∙ ap (slice_get (slice_set vs s v')) (sym x) ∙ got) in
-        subst (λ i. (n i ≤ v.active.spare) × (n i ≤ v.owed.spare)) (sym x) (subst (λ (r : Viewed). (n s ≤ r.active.spare) × (n s ≤ r.owed.spare)) e (f, o))
-
+-- the least is where some worker is, or the end
 pub ends_at : (xs : List Change) (ts : List ℕ) (m n : ℕ) → IsQueue xs ts → n ≡ length xs → IsOneOf ts n m → EndsFrom false (drop m xs)
 ends_at xs ts m n q e (IsOneOf.end f) = subst (EndsFrom false) (sym (ap (λ k. drop k xs) (f ∙ e) ∙ drop_whole xs)) tt
 ends_at xs ts m n q e (IsOneOf.place w l f) = subst (λ k. EndsFrom false (drop k xs)) (sym (f ∙ nth_same ts w n (length xs) l)) (q.between w l)
@@ -271,27 +177,6 @@ ends_at xs ts m n q e (IsOneOf.place w l f) = subst (λ k. EndsFrom false (drop 
 pub more_free : (q : Queued) (xs : List Change) (ts : List ℕ) (free free' : ℕ) → IsSameQueue q (record { changes = xs; taken = ts; free = free }) → q.free ≤ free' → IsSameQueue q (record { changes = xs; taken = ts; free = free' })
 more_free q xs ts free free' s f = record { left_same = s.left_same; taken_long = s.taken_long; still_known = s.still_known; free_kept = f }
 
-pub kept_free : (g : Graph) (vs : List Viewed) (qs qs' : List Queued) (spare : ℕ) → AreViews g (content_of vs qs) vs qs spare → AreSameQueues qs qs' → (s : ℕ) (q : Queued) → slice_get qs' s ≡ Some q → 2 * spare ≤ q.free
-kept_free g vs qs qs' spare h sq s q' got =
+pub kept_free : (g : Graph) (content : Pointstamp → ℕ) (workers : ℕ) (qs qs' : List Queued) (spare : ℕ) → AreViews g content workers qs spare → AreSameQueues qs qs' → (s : ℕ) (q : Queued) → slice_get qs' s ≡ Some q → 2 * spare ≤ q.free
+kept_free g content workers qs qs' spare h sq s q' got =
     let o = there_too qs qs' s q' sq.long got in let a = (h.sender s o.0 o.1).free in let b = (sq.each s o.0 q' o.1 got).free_kept in omega arith
-
-pub taken_kept : (g : Graph) (vs : List Viewed) (qs qs' : List Queued) (spare : ℕ) → AreViews g (content_of vs qs) vs qs spare → AreSameQueues qs qs' → (s : ℕ) (q : Queued) → slice_get qs' s ≡ Some q → length q.taken ≡ length vs
-taken_kept g vs qs qs' spare h sq s q' got =
-    let o = there_too qs qs' s q' sq.long got in (sq.each s o.0 q' o.1 got).taken_long ∙ (h.sender s o.0 o.1).taken
-
-pub kept_room : (g : Graph) (vs vs' : List Viewed) (qs : List Queued) (spare : ℕ) → AreViews g (content_of vs qs) vs qs spare → AreSameViews vs vs'
-    → (w : ℕ) (v : Viewed) → slice_get vs' w ≡ Some v → (2 * spare + items_waiting qs (length vs) w ≤ v.active.spare) × (2 * spare + items_waiting qs (length vs) w ≤ v.owed.spare)
-kept_room g vs vs' qs spare h sv w v' got =
-    let o = there_too vs vs' w v' sv.long got in
-    let k = h.worker w o.0 o.1 in
-    let s = sv.each w o.0 v' o.1 got in
-    let a = k.active in let b = s.active in let d = k.owed in let e = s.owed in (omega arith, omega arith)
-
-pub new_room : (g : Graph) (vs vs' : List Viewed) (qs qs' : List Queued) (spare n : ℕ) → AreViews g (content_of vs qs) vs qs spare → AreSameViews vs vs' → AreSameQueues qs qs'
-    → ((w : ℕ) (v : Viewed) → slice_get vs' w ≡ Some v → (2 * n + sum_below (length qs') (λ s. length (untaken_at qs' s w)) ≤ v.active.spare) × (2 * n + sum_below (length qs') (λ s. length (untaken_at qs' s w)) ≤ v.owed.spare))
-    → (w : ℕ) (v : Viewed) → slice_get vs' w ≡ Some v → (2 * n + items_waiting qs (length vs) w ≤ v.active.spare) × (2 * n + items_waiting qs (length vs) w ≤ v.owed.spare)
-new_room g vs vs' qs qs' spare n h sv sq room w v got =
-    let r = room w v got in
-    let e : sum_below (length qs') (λ s. length (untaken_at qs' s w)) ≡ items_waiting qs (length vs) w =
-    ap (λ k. sum_below k (λ s. length (untaken_at qs' s w))) (sq.long ∙ h.senders) ∙ (λ i. sum_below (suc (length vs)) (λ s. length (left_same qs qs' sq s w i))) in
-    let a = r.0 in let b = r.1 in (omega arith, omega arith)

@@ -1,6 +1,7 @@
--- A view takes in a batch, change by change.
-use Rattle.std.proofs.Common.{◌≡◌, ◌≢◌, ◌⊎◌, inl, inr, ℕ, zero, suc, ◌+◌, ◌≤◌, ◌<◌, Bool, true, false, List, [], ◌∷◌, ◌++◌, length, drop, Some, slice_get, slice_set, slice_index_or, eqb, refl, sym, ap, subst, ◌∙◌, arith, add-one, length-append}
-use Rattle.std.specs.Prelude.{map}
+-- A worker takes a batch, change by change.
+use Rattle.std.proofs.Common.{◌≡◌, ◌≢◌, ◌⊎◌, inl, inr, ℕ, zero, suc, ◌+◌, ◌≤◌, ◌<◌, Bool, true, false, List, [], ◌∷◌, ◌++◌, length, drop, Some, slice_get, slice_set, slice_index_or, eqb, refl, sym, ap, subst, ◌∙◌, arith, add-one, length-append, length-drop}
+use Rattle.std.specs.Prelude.{MatchBool, ltb, map}
+use Rattle.std.proofs.lemmas.Bool.Decides.{nat_tests}
 use Rattle.semantics.specs.Graph.{Graph}
 use Rattle.semantics.specs.Could.{Pointstamp, IsTimeAt}
 use Rattle.machine.specs.Active.{one_if_same}
@@ -9,22 +10,16 @@ use Rattle.machine.proofs.Active.{one_self}
 use Rattle.std.proofs.lemmas.Bool.Decides.{eqb_tells}
 use Rattle.progress.specs.Content.{times_in}
 use Rattle.views.specs.Waiting.{batch}
-use Rattle.views.specs.Viewed.{Viewed, above, below, view_graph, CountsOneMore}
 use Rattle.views.specs.Queued.{onto_first, batches_of, EndsFrom, AllKnown, as_changes, IsTaken, IsQueue}
 use Rattle.views.specs.declared.queue.Change.{Change}
 use Rattle.views.specs.declared.queue.Change.TheVariants.{Add, Remove, End}
 
--- the view took in the changes up to here
-pub record IsTaking (old new : List Change) (v w : Viewed) : Type 0 where
+-- changes of the first batch were passed, up to here
+pub record IsTaking (old new : List Change) : Type 0 where
   pub adds : Pointstamp → ℕ
   pub removes : Pointstamp → ℕ
   pub first : (s : ℕ) → batches_of s old ≡ onto_first adds removes (batches_of s new)
-  pub net : (q : Pointstamp) → above w q + (below v q + removes q) ≡ above v q + (below w q + adds q)
-  pub graph : view_graph w ≡ view_graph v
-  pub active : v.active.spare + length new ≤ w.active.spare + length old
-  pub owed : v.owed.spare + length new ≤ w.owed.spare + length old
   pub ends : EndsFrom true new
-  pub known : AllKnown (view_graph v) new
 
 none_more : (n : ℕ) → 0 + n ≡ n
 none_more n = omega arith
@@ -54,59 +49,29 @@ known_drop g (End ∷ xs) (suc n) k = known_drop g xs n k
 known_drop g (Add p ∷ xs) (suc n) k = known_drop g xs n k.1
 known_drop g (Remove p ∷ xs) (suc n) k = known_drop g xs n k.1
 
-pub begins : (xs : List Change) (v : Viewed) → 0 < length xs → EndsFrom false xs → AllKnown (view_graph v) xs → IsTaking xs xs v v
-begins xs v h e k =
-    record {
-      adds = λ q. 0;
-      removes = λ q. 0;
-      first = λ s. sym (onto_none (batches_of s xs));
-      net = λ q. omega arith;
-      graph = refl;
-      active = omega arith;
-      owed = omega arith;
-      ends = ends_begun xs h e;
-      known = k;
-    }
+pub begins : (xs : List Change) → 0 < length xs → EndsFrom false xs → IsTaking xs xs
+begins xs h e = record { adds = λ q. 0; removes = λ q. 0; first = λ s. sym (onto_none (batches_of s xs)); ends = ends_begun xs h e }
 
-pub one_added : (old new : List Change) (v w w' : Viewed) (p : Pointstamp) → IsTaking old (Add p ∷ new) v w → CountsOneMore w w' p → view_graph w' ≡ view_graph w → w.active.spare ≤ w'.active.spare + 1 → w.owed.spare ≤ w'.owed.spare → IsTaking old new v w'
-one_added old new v w w' p t c g a o =
+pub one_added : (old new : List Change) (p : Pointstamp) → IsTaking old (Add p ∷ new) → IsTaking old new
+one_added old new p t =
     record {
       adds = λ q. t.adds q + one_if_same q p;
       removes = λ q. t.removes q + 0;
       first = λ s. t.first s ∙ onto_onto t.adds t.removes (λ q. one_if_same q p) (λ q. 0) (batches_of s new);
-      net = λ q. let n = t.net q in let k = c q in omega arith;
-      graph = g ∙ t.graph;
-      active = let k = t.active in omega arith;
-      owed = let k = t.owed in omega arith;
       ends = t.ends;
-      known = t.known.1;
     }
 
-pub one_removed : (old new : List Change) (v w w' : Viewed) (p : Pointstamp) → IsTaking old (Remove p ∷ new) v w → CountsOneMore w' w p → view_graph w' ≡ view_graph w → w.active.spare ≤ w'.active.spare → w.owed.spare ≤ w'.owed.spare + 1 → IsTaking old new v w'
-one_removed old new v w w' p t c g a o =
+pub one_removed : (old new : List Change) (p : Pointstamp) → IsTaking old (Remove p ∷ new) → IsTaking old new
+one_removed old new p t =
     record {
       adds = λ q. t.adds q + 0;
       removes = λ q. t.removes q + one_if_same q p;
       first = λ s. t.first s ∙ onto_onto t.adds t.removes (λ q. 0) (λ q. one_if_same q p) (batches_of s new);
-      net = λ q. let n = t.net q in let k = c q in omega arith;
-      graph = g ∙ t.graph;
-      active = let k = t.active in omega arith;
-      owed = let k = t.owed in omega arith;
       ends = t.ends;
-      known = t.known.1;
     }
 
-pub ended : (old new : List Change) (v w : Viewed) → IsTaking old (End ∷ new) v w → IsTaken old new v w
-ended old new v w t =
-    record {
-      adds = λ q. t.adds q + 0;
-      removes = λ q. t.removes q + 0;
-      first = t.first;
-      net = λ q. let n = t.net q in omega arith;
-      graph = t.graph;
-      active = let k = t.active in omega arith;
-      owed = let k = t.owed in omega arith;
-    }
+pub ended : (old new : List Change) → IsTaking old (End ∷ new) → IsTaken old new
+ended old new t = record { adds = λ q. t.adds q + 0; removes = λ q. t.removes q + 0; first = t.first }
 
 pub never_ends : (xs : List Change) (n : ℕ) → length xs ≤ n → EndsFrom true (drop n xs) → ⊥
 never_ends [] zero l e = e
@@ -127,6 +92,10 @@ here_drop xs n x h = rw (add-one n) (go xs n h)
     go (y ∷ xs) zero h = ap (λ (z : Change). z ∷ xs) (same_some y x h)
     go (y ∷ xs) (suc n) h = go xs n h
 
+-- what is removed at a place is known
+pub removed_at : (g : Graph) (xs : List Change) (n : ℕ) (p : Pointstamp) → AllKnown g xs → slice_get xs n ≡ Some (Remove p) → IsTimeAt g p.location p.time
+removed_at g xs n p k h = (subst (AllKnown g) (here_drop xs n (Remove p) h) (known_drop g xs n k)).0
+
 -- ---- what was posted
 
 parts_removes : (s : ℕ) (removed : List Pointstamp) → batches_of s (map Remove removed ++ (End ∷ [])) ≡ batch s [] removed ∷ []
@@ -143,7 +112,7 @@ onto_more : (a r : Pointstamp → ℕ) (bs cs : List Changes) → 0 < length bs 
 onto_more a r [] cs h = absurd (omega arith)
 onto_more a r (b ∷ bs) cs h = refl
 
-some_parts : (s : ℕ) (xs : List Change) → EndsFrom true xs → 0 < length (batches_of s xs)
+pub some_parts : (s : ℕ) (xs : List Change) → EndsFrom true xs → 0 < length (batches_of s xs)
 some_parts s [] e = absurd e
 some_parts s (End ∷ xs) e = omega arith
 some_parts s (Add p ∷ xs) e = onto_some (λ q. one_if_same q p) (λ q. 0) (batches_of s xs) (some_parts s xs e)
@@ -156,6 +125,18 @@ some_parts s (Remove p ∷ xs) e = onto_some (λ q. 0) (λ q. one_if_same q p) (
     onto_some : (a r : Pointstamp → ℕ) (bs : List Changes) → 0 < length bs → 0 < length (onto_first a r bs)
     onto_some a r [] h = h
     onto_some a r (b ∷ bs) h = omega arith
+
+-- where something is untaken, a batch waits
+pub waiting_some : (s n : ℕ) (xs : List Change) → n < length xs → EndsFrom false (drop n xs) → batches_of s (drop n xs) ≡ [] → ⊥
+waiting_some s n xs l e none =
+    let d = length-drop n xs in
+    let a = some_parts s (drop n xs) (ends_begun (drop n xs) (omega arith) e) in let b = ap length none in omega arith
+
+pub waiting_none : (s n : ℕ) (xs : List Change) → length xs ≤ n → batches_of s (drop n xs) ≡ []
+waiting_none s zero [] l = refl
+waiting_none s (suc n) [] l = refl
+waiting_none s zero (x ∷ xs) l = absurd (omega arith)
+waiting_none s (suc n) (x ∷ xs) l = waiting_none s n xs (omega arith)
 
 parts_more : (s : ℕ) (b : Bool) (xs ys : List Change) → EndsFrom b xs → batches_of s (xs ++ ys) ≡ batches_of s xs ++ batches_of s ys
 parts_more s b [] ys e = refl
@@ -293,3 +274,15 @@ queue_taken xs taken w n q l m e =
     go_between : (v : ℕ) → ((eqb v w ≡ true) × (v ≡ w)) ⊎ ((eqb v w ≡ false) × (v ≢ w)) → v < length taken → EndsFrom false (drop (slice_index_or (slice_set taken w n) v (length xs)) xs)
     go_between v (inl x) h = subst (λ k. EndsFrom false (drop (slice_index_or (slice_set taken w n) k (length xs)) xs)) (sym x.1) (subst (EndsFrom false) (sym (left_here xs taken w n l)) e)
     go_between v (inr x) h = subst (EndsFrom false) (sym (left_else xs taken w v n x.1)) (q.between v h)
+
+-- whether something is untaken, by a test of the worker's place
+pub waits_tested : (xs : List Change) (taken : List ℕ) (w s place n : ℕ) → IsQueue xs taken → w < length taken → place ≡ slice_index_or taken w place → n ≡ length xs
+    → MatchBool (ltb place n) (batches_of s (drop (slice_index_or taken w (length xs)) xs) ≡ [] → ⊥) (batches_of s (drop (slice_index_or taken w (length xs)) xs) ≡ [])
+waits_tested xs taken w s place n q l is e = go (ltb place n) refl
+  where
+    at : slice_index_or taken w (length xs) ≡ place
+    at = nth_same taken w (length xs) place l ∙ sym is
+
+    go : (b : Bool) → ltb place n ≡ b → MatchBool b (batches_of s (drop (slice_index_or taken w (length xs)) xs) ≡ [] → ⊥) (batches_of s (drop (slice_index_or taken w (length xs)) xs) ≡ [])
+    go true t = waiting_some s (slice_index_or taken w (length xs)) xs (let a = at in grind (arith, nat_tests)) (q.between w l)
+    go false t = waiting_none s (slice_index_or taken w (length xs)) xs (let a = at in grind (arith, nat_tests))

@@ -1,13 +1,12 @@
 -- What callers make of a view's answers.
-use Rattle.std.proofs.Common.{◌≡◌, ◌≢◌, ◌⊎◌, inl, inr, ℕ, zero, suc, ◌+◌, ◌<◌, ◌==◌, Bool, true, false, cond, eqb, List, [], ◌∷◌, ◌++◌, length, refl, ap, ◌∙◌, arith}
+use Rattle.std.proofs.Common.{◌≡◌, ◌≢◌, ◌⊎◌, inl, inr, ℕ, zero, suc, ◌+◌, ◌<◌, Bool, true, false, eqb, List, [], ◌∷◌, length, refl, ap, ◌∙◌, arith}
 use Rattle.std.proofs.lemmas.Bool.Decides.{eqb_tells}
 use Rattle.semantics.specs.Multiset.{total}
 use Rattle.semantics.specs.Could.{Pointstamp, NoneOf}
-use Rattle.semantics.proofs.MultisetSums.{total-append}
 use Rattle.machine.specs.Active.{sum_below}
 use Rattle.machine.specs.Views.{Changes}
 use Rattle.views.specs.Waiting.{Waiting, waiting_adds, waiting_removes, IsSeenBy, after_post, all_waiting}
-use Rattle.views.proofs.QueuesAndViews.{sum_moved, sum_same}
+use Rattle.views.proofs.SenderSums.{sum_posted, sum_same}
 
 sum_zero : (n : ℕ) → sum_below n (λ s. 0) ≡ 0
 sum_zero zero = refl
@@ -50,18 +49,7 @@ module _ (could : Pointstamp → Pointstamp → Type 0) (old new : Pointstamp �
   waits_of late = (s : ℕ) → waiting' worker s ≡ after_post late waiting b worker s
 
   moved : (f : Changes → ℕ) → ((s : ℕ) → waiting' worker s ≡ after_post true waiting b worker s) → sum_below (suc workers) (λ s. total f (waiting' worker s)) ≡ sum_below (suc workers) (λ s. total f (waiting worker s)) + f b
-  moved f is =
-      let here : total f (waiting' worker b.sender) ≡ total f (waiting worker b.sender) + f b = ap (total f) (is b.sender) ∙ one (eqb_tells b.sender b.sender) in
-      let a = sum_moved (suc workers) b.sender (λ s. total f (waiting worker s)) (λ s. total f (waiting' worker s)) 0 (f b) sends (λ s d. ap (total f) (is s) ∙ other s d (eqb_tells s b.sender)) (omega arith) in
-      omega arith
-    where
-      one : ((eqb b.sender b.sender ≡ true) × (b.sender ≡ b.sender)) ⊎ ((eqb b.sender b.sender ≡ false) × (b.sender ≢ b.sender)) → total f (cond (b.sender == b.sender) (waiting worker b.sender ++ (b ∷ [])) (waiting worker b.sender)) ≡ total f (waiting worker b.sender) + f b
-      one (inl x) = ap (λ y. total f (cond y (waiting worker b.sender ++ (b ∷ [])) (waiting worker b.sender))) x.0 ∙ (let a = total-append f (waiting worker b.sender) (b ∷ []) in omega arith)
-      one (inr x) = absurd (x.1 refl)
-
-      other : (s : ℕ) → (s ≡ b.sender → ⊥) → ((eqb s b.sender ≡ true) × (s ≡ b.sender)) ⊎ ((eqb s b.sender ≡ false) × (s ≢ b.sender)) → total f (cond (s == b.sender) (waiting worker s ++ (b ∷ [])) (waiting worker s)) ≡ total f (waiting worker s)
-      other s d (inl x) = absurd (d x.1)
-      other s d (inr x) = ap (λ y. total f (cond y (waiting worker s ++ (b ∷ [])) (waiting worker s))) x.0
+  moved f is = sum_posted f (suc workers) (waiting worker) (waiting' worker) b sends is
 
   pub stays_posted : (late : Bool) → ((s : ℕ) → waiting' worker s ≡ after_post late waiting b worker s) → NoneOf could (IsSeenBy old waiting workers worker) p → NoneOf could (IsSeenBy new waiting' workers worker) p
   stays_posted true is none q seen c =

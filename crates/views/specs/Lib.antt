@@ -1,5 +1,5 @@
 pub mod Waiting
-pub mod Viewed
 pub mod Queued
 pub mod WorkerViews
+pub mod Stale
 pub mod Opening

@@ -4,7 +4,6 @@ use Rattle.semantics.specs.Graph.{Graph}
 use Rattle.semantics.specs.Could.{Pointstamp, IsTimeAt}
 use Rattle.machine.specs.Active.{one_if_same}
 use Rattle.machine.specs.Views.{Changes}
-use Rattle.views.specs.Viewed.{Viewed, above, below, view_graph}
 use Rattle.views.specs.declared.queue.Change.{Change}
 use Rattle.views.specs.declared.queue.Change.TheVariants.{Add, Remove, End}
 
@@ -19,6 +18,20 @@ batches_of s [] = []
 batches_of s (End ∷ changes) = record { sender = s; adds = λ q. 0; removes = λ q. 0; applied = false } ∷ batches_of s changes
 batches_of s (Add p ∷ changes) = onto_first (λ q. one_if_same q p) (λ q. 0) (batches_of s changes)
 batches_of s (Remove p ∷ changes) = onto_first (λ q. 0) (λ q. one_if_same q p) (batches_of s changes)
+
+-- how often changes add it
+abbrev pub adds_in : List Change → Pointstamp → ℕ
+adds_in [] q = 0
+adds_in (End ∷ changes) q = adds_in changes q
+adds_in (Add p ∷ changes) q = one_if_same q p + adds_in changes q
+adds_in (Remove p ∷ changes) q = adds_in changes q
+
+-- how often changes remove it
+abbrev pub removes_in : List Change → Pointstamp → ℕ
+removes_in [] q = 0
+removes_in (End ∷ changes) q = removes_in changes q
+removes_in (Add p ∷ changes) q = removes_in changes q
+removes_in (Remove p ∷ changes) q = one_if_same q p + removes_in changes q
 
 -- the last batch has its end; where one has begun, there is an end
 abbrev pub EndsFrom : (begun : Bool) → List Change → Type 0
@@ -55,15 +68,11 @@ pub record IsQueue (changes : List Change) (taken : List ℕ) : Type 0 where
   pub within : (w : ℕ) → w < length taken → slice_index_or taken w (length changes) ≤ length changes
   pub between : (w : ℕ) → w < length taken → EndsFrom false (drop (slice_index_or taken w (length changes)) changes)
 
--- the view took in the first batch of the changes
-pub record IsTaken (old new : List Change) (v w : Viewed) : Type 0 where
+-- the first batch of the changes is taken
+pub record IsTaken (old new : List Change) : Type 0 where
   pub adds : Pointstamp → ℕ
   pub removes : Pointstamp → ℕ
   pub first : (s : ℕ) → batches_of s old ≡ record { sender = s; adds = adds; removes = removes; applied = false } ∷ batches_of s new
-  pub net : (q : Pointstamp) → above w q + (below v q + removes q) ≡ above v q + (below w q + adds q)
-  pub graph : view_graph w ≡ view_graph v
-  pub active : v.active.spare + length new ≤ w.active.spare + length old
-  pub owed : v.owed.spare + length new ≤ w.owed.spare + length old
 
 -- for each worker the same is untaken, and there is no less room
 pub record IsSameQueue (q q' : Queued) : Type 0 where

@@ -33,6 +33,14 @@ abbrev pub after_post : (late : Bool) → Waiting → Changes → Waiting
 after_post false waiting b worker sender = waiting worker sender
 after_post true waiting b worker sender = cond (sender == b.sender) (waiting worker sender ++ (b ∷ [])) (waiting worker sender)
 
+-- nothing waits for the worker
+abbrev pub NoneWaits : Waiting → (workers worker : ℕ) → Type 0
+NoneWaits waiting workers worker = (s : ℕ) → s < suc workers → waiting worker s ≡ []
+
+-- a batch of some sender waits for the worker
+abbrev pub SomeWait : Waiting → (workers worker : ℕ) → Type 0
+SomeWait waiting workers worker = (s : ℕ) × (s < suc workers) × (waiting worker s ≡ [] → ⊥)
+
 -- how many batches wait, over all workers and senders
 abbrev pub all_waiting : Waiting → (workers : ℕ) → ℕ
 all_waiting waiting workers = sum_below workers (λ w. sum_below (suc workers) (λ s. length (waiting w s)))
@@ -49,12 +57,13 @@ abbrev pub pending : (sender : ℕ) → List Changes → List Changes
 pending s [] = []
 pending s (b ∷ log) = cond b.applied (pending s log) (cond (s == b.sender) (b ∷ pending s log) (pending s log))
 
--- a worker's view by its history: it counts a pointstamp `above` times, less `below` times
-pub record IsHistory (g : Graph) (workers : ℕ) (content above below : Pointstamp → ℕ) (waits : ℕ → List Changes) : Type 0 where
+-- some history leads to what is there and to what waits for the worker
+pub record IsHistory (g : Graph) (workers : ℕ) (content : Pointstamp → ℕ) (waiting : Waiting) (worker : ℕ) : Type 0 where
   pub first : Pointstamp → ℕ
   pub log : List Changes
   pub posted : ArePosted (CouldResultIn g) (input_count g) workers first log
   pub order : InOrder log
-  pub seen : (q : Pointstamp) → seen_removes log q + above q ≡ seen_adds first log q + below q
+  pub seen : (q : Pointstamp) → seen_removes log q + (content q + waiting_removes waiting workers worker q)
+      ≡ seen_adds first log q + waiting_adds waiting workers worker q
   pub there : (q : Pointstamp) → all_removes log q + content q ≡ all_adds first log q
-  pub waits_for : (s : ℕ) → s < suc workers → pending s log ≡ waits s
+  pub waits_for : (s : ℕ) → s < suc workers → pending s log ≡ waiting worker s

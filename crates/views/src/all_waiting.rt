@@ -6,7 +6,7 @@ ghost use Rattle.views.specs.Waiting.{IsSeenBy};
 
 use crate::views::Views;
 
-/// Applies all that waits for the worker, sender by sender.
+/// Applies all that waits for the worker, sender by sender. Where nothing waits, no sender is asked.
 pub fn catch_up<V: Views>(views: &mut V, worker: u32, workers: u32)
     requires worker { worker < workers }
     requires workers { workers ≡ V.workers views.old }
@@ -21,6 +21,9 @@ pub fn catch_up<V: Views>(views: &mut V, worker: u32, workers: u32)
         NoneOf (CouldResultIn (V.graph views.old)) (IsSeenBy (V.content views.new) (V.waiting views.new) workers worker) p }
     ensures room { V.room views.old ≤ V.room views.new }
 {
+    if !views.waits(worker) {
+        return;
+    }
     for sender in 0..workers + 1 {
         take_all(views, worker, sender);
     }

@@ -1,12 +1,11 @@
 //! Batches in a list of changes, each with its end.
 
 ghost use Rattle.std.specs.Prelude.{◌≡◌, ◌+◌, ◌<◌, ◌≤◌, ◌∷◌, ◌++◌, ℕ, List, [], false, drop, length, map, slice_index_or, take, vec_capacity, vec_len};
-ghost use Rattle.views.specs.Viewed.{view_graph};
-ghost use Rattle.views.specs.Queued.{AllKnown, EndsFrom, IsOneOf, IsTaken, as_changes, batches_of};
+ghost use Rattle.machine.specs.Active.{one_if_same};
+ghost use Rattle.views.specs.Queued.{EndsFrom, IsOneOf, IsTaken, adds_in, as_changes, batches_of, removes_in};
 ghost use Rattle.views.specs.declared.queue.Change.TheVariants.{Add, Remove};
 
 use crate::queue::Change;
-use crate::view::View;
 use path_summary::Pointstamp;
 
 /// Appends a batch.
@@ -45,21 +44,18 @@ fn push_removed(changes: &mut Vec<Change>, removed: &[Pointstamp])
     }
 }
 
-/// Applies the batch that begins at `from` to the view, and returns where the next one begins.
-pub fn take_in(view: &mut View, changes: &[Change], from: usize) -> usize
+/// Where the batch that begins at `from` ends: there the next one begins.
+pub fn end_of_batch(changes: &[Change], from: usize) -> usize
     requires some { from < length changes.now }
     requires ends { EndsFrom false (drop from changes.now) }
-    requires known { AllKnown (view_graph view.old) changes.now }
-    requires active { length (drop from changes.now) ≤ view.old.active.spare }
-    requires owed { length (drop from changes.now) ≤ view.old.owed.spare }
-    ensures taken { IsTaken (drop from changes.now) (drop result changes.now) view.old view.new }
+    ensures taken { IsTaken (drop from changes.now) (drop result changes.now) }
     ensures within { result ≤ length changes.now }
     ensures ends { EndsFrom false (drop result changes.now) }
 {
     for i in from..changes.len() {
         match &changes[i] {
-            Change::Add(p) => view.add(p),
-            Change::Remove(p) => view.remove(p),
+            Change::Add(_) => {}
+            Change::Remove(_) => {}
             Change::End => return i + 1,
         }
     }
@@ -102,13 +98,12 @@ pub fn lower(taken: &mut Vec<usize>, by: usize)
     }
 }
 
-/// The number of batches that end at `from` or later.
-pub fn ends(changes: &[Change], from: usize) -> usize
-    requires { from ≤ length changes.now }
-    ensures { (s : ℕ) → result ≡ length (batches_of s (drop from changes.now)) }
+/// The number of batches that end among these changes.
+pub fn ends(changes: &[Change]) -> usize
+    ensures { (s : ℕ) → result ≡ length (batches_of s changes.now) }
 {
     let mut count = 0;
-    for i in from..changes.len() {
+    for i in 0..changes.len() {
         match &changes[i] {
             Change::Add(_) => {}
             Change::Remove(_) => {}
@@ -116,4 +111,28 @@ pub fn ends(changes: &[Change], from: usize) -> usize
         }
     }
     count
+}
+
+/// How often changes add a pointstamp, and how often they remove it.
+pub fn times(changes: &[Change], p: &Pointstamp) -> (usize, usize)
+    ensures adds { result.0 ≡ adds_in changes.now p.now }
+    ensures removes { result.1 ≡ removes_in changes.now p.now }
+{
+    let mut adds = 0;
+    let mut removes = 0;
+    for i in 0..changes.len() {
+        match &changes[i] {
+            Change::Add(q) => adds += one_if_same(p, q),
+            Change::Remove(q) => removes += one_if_same(p, q),
+            Change::End => {}
+        }
+    }
+    (adds, removes)
+}
+
+/// One where the two are one.
+fn one_if_same(p: &Pointstamp, q: &Pointstamp) -> usize
+    ensures { result ≡ one_if_same p.now q.now }
+{
+    if p.same(q) { 1 } else { 0 }
 }

@@ -1,13 +1,14 @@
 //! Views that are never late.
 
-ghost use Rattle.std.specs.Prelude.{◌≡◌, ◌+◌, ◌<◌, ◌≤◌, ◌↔◌, ℕ, List, [], IfOk, IsTrue, OnOk, false, length};
-ghost use Rattle.lowering.specs.Shown.{shown_graph};
+ghost use Rattle.std.specs.Prelude.{◌≡◌, ◌+◌, ◌<◌, ◌≤◌, ◌↔◌, ℕ, List, [], IfOk, IsTrue, MatchBool, OnOk, false, length};
+ghost use Rattle.graph.specs.Shown.{shown_graph};
 ghost use Rattle.semantics.specs.Could.{CouldResultIn, IsTimeAt, NoOtherOf, NoneOf, Pointstamp as Active};
 ghost use Rattle.progress.specs.Content.{times_in};
 ghost use Rattle.views.specs.Opening.{active_at_first};
-ghost use Rattle.views.specs.Waiting.{IsApplied, IsSeenBy, Waiting, after_post, batch};
+ghost use Rattle.views.specs.Waiting.{IsApplied, IsSeenBy, NoneWaits, SomeWait, Waiting, after_post, batch};
 
 use crate::opening::open_inputs;
+use crate::tracked::{add_all, remove_all};
 use crate::views::Views;
 use expr_tree::NoMemory;
 use path_summary::{Paths, Pointstamp};
@@ -74,6 +75,10 @@ impl<P: Progress> Views for Direct<P> {
         false
     }
 
+    fn waits(&self, _worker: u32) -> bool {
+        false
+    }
+
     fn in_frontier(&self, _worker: u32, p: &Pointstamp) -> bool {
         self.tracker.in_frontier(p)
     }
@@ -84,30 +89,5 @@ impl<P: Progress> Views for Direct<P> {
 
     fn waiting(&self) -> u64 {
         0
-    }
-}
-
-/// Adds each of these once.
-fn add_all<P: Progress>(tracker: &mut P, added: &[Pointstamp])
-    requires room { length added.now ≤ P.room tracker.old }
-    requires known { (q : Active) → 0 < times_in added.now q → IsTimeAt (P.graph tracker.old) q.location q.time }
-    ensures graph { P.graph tracker.new ≡ P.graph tracker.old }
-    ensures content { (q : Active) → P.content tracker.new q ≡ times_in added.now q + P.content tracker.old q }
-    ensures room { P.room tracker.old ≤ P.room tracker.new + length added.now }
-{
-    for i in 0..added.len() {
-        tracker.add(&added[i]);
-    }
-}
-
-/// Removes each of these once.
-fn remove_all<P: Progress>(tracker: &mut P, removed: &[Pointstamp])
-    requires there { (q : Active) → times_in removed.now q ≤ P.content tracker.old q }
-    ensures graph { P.graph tracker.new ≡ P.graph tracker.old }
-    ensures content { (q : Active) → P.content tracker.old q ≡ times_in removed.now q + P.content tracker.new q }
-    ensures room { P.room tracker.old ≤ P.room tracker.new }
-{
-    for i in 0..removed.len() {
-        tracker.remove(&removed[i]);
     }
 }

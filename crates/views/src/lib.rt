@@ -6,7 +6,7 @@
 //! | Type | A batch of changes is seen | Cost of a batch |
 //! |---|---|---|
 //! | `Direct` | at once, by all workers | one update of one tracker for each change |
-//! | `LocalViews` | by each worker once it applies it; each sender's in their order | one update for each change and worker |
+//! | `LocalViews` | by each worker once it applies it; each sender's in their order | the same, and one step of each worker along its sender's queue |
 //!
 //! Below are the trackers of crate `progress`.
 #![tactic(auto)]
@@ -18,7 +18,8 @@ mod laws;
 mod local_views;
 mod opening;
 mod queue;
-mod view;
+mod stale;
+mod tracked;
 mod views;
 
 pub use all_waiting::catch_up;

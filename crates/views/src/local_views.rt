@@ -1,22 +1,23 @@
-//! A view for each worker, which applies batches when the worker asks for it.
+//! Views that are late: what waits for a worker is left out of what is active.
 
-ghost use Rattle.std.specs.Prelude.{◌≡◌, ◌+◌, ◌<◌, ◌≤◌, ◌↔◌, ℕ, List, [], ◌^◌, IfOk, IfSome, IsTrue, OnOk, Some, length, min, slice_get, true, ◌-◌};
-ghost use Rattle.lowering.specs.Shown.{shown_graph};
+ghost use Rattle.std.specs.Prelude.{◌≡◌, ◌+◌, ◌-◌, ◌^◌, ◌<◌, ◌≤◌, ◌↔◌, ℕ, List, [], IfOk, IsTrue, MatchBool, OnOk, Some, length, min, slice_get, true};
+ghost use Rattle.graph.specs.Shown.{shown_graph};
 ghost use Rattle.semantics.specs.Could.{CouldResultIn, IsTimeAt, NoOtherOf, NoneOf, Pointstamp as Active};
 ghost use Rattle.machine.specs.Active.{sum_below};
 ghost use Rattle.progress.specs.Content.{times_in};
 ghost use Rattle.views.specs.Opening.{active_at_first};
 ghost use Rattle.views.specs.Queued.{Queued, batches_of};
-ghost use Rattle.views.specs.Viewed.{Viewed, above, below, view_graph};
-ghost use Rattle.views.specs.Waiting.{IsApplied, IsSeenBy, Waiting, after_post, batch};
-ghost use Rattle.views.specs.WorkerViews.{AllFree, AllRoom, AllTaken, AreSameQueues, AreSameViews, IsViewOf, WorkerViews, content_of, untaken_at, waiting_of};
+ghost use Rattle.views.specs.Waiting.{IsApplied, IsSeenBy, NoneWaits, SomeWait, Waiting, after_post, batch};
+ghost use Rattle.views.specs.WorkerViews.{AllFree, AllTaken, AreSameQueues, HasPlaces, WorkerViews, content_of, untaken_at, waiting_of};
 
 use crate::opening::open_inputs;
 use crate::queue::Queue;
-use crate::view::View;
+use crate::stale::is_blocked;
+use crate::tracked::{add_all, remove_all};
 use crate::views::Views;
 use expr_tree::NoMemory;
 use path_summary::{Paths, Pointstamp};
+use progress::{LocationTracker, Progress};
 use std::alloc::Global;
 use std::marker::Model;
 use std::sync::Arc;
@@ -24,11 +25,13 @@ use std::sync::Arc;
 /// The least number of changes that room is made for, so that most steps find some.
 const BLOCK: u32 = 64;
 
-/// A view for each worker. A batch is kept until every worker has applied it.
+/// One tracker of what is active, and a queue of each sender's batches, in which each worker has a place. A batch is kept until every
+/// worker has applied it.
 #[derive(Drop)]
 pub struct LocalViews {
     paths: Arc<Paths, Global>,
-    views: Vec<View>,
+    tracker: LocationTracker,
+    workers: u32,
     queues: Vec<Queue>,
     spare: u32,
 }
@@ -37,18 +40,20 @@ impl Model for LocalViews {
     ghost use Rattle.expr_tree.specs.contracts.scalar.Scalar as scalar;
     ghost use Rattle.expr_tree.specs.contracts.condition.Cond as condition;
     ghost use Rattle.std.specs.Coded.{codes};
+    ghost use Rattle.std.specs.Prelude.{◌≡◌, ◌≤◌};
     ghost use Rattle.std.specs.contracts.alloc.Global as heap;
     ghost use Rattle.std.specs.contracts.impls.GlobalAllocator.TheImpl as allocates;
-    ghost use Rattle.lowering.specs.Shown.{shown_graph};
+    ghost use Rattle.graph.specs.Shown.{shown_graph};
     ghost use Rattle.views.specs.WorkerViews.{AreViews, WorkerViews, content_of};
 
     ghost Value = { WorkerViews };
 
     ghost coded = { Prim.hlevel (codes, (scalar.the_row heap.the_row allocates.ghosts).coded, (condition.the_row heap.the_row allocates.ghosts).coded) };
 
-    ghost view = { λ t. record { graph = t.paths.value; views = t.views.items; queues = t.queues.items; spare = t.spare } };
+    ghost view = { λ t. record { tracker = t.tracker; workers = t.workers; queues = t.queues.items; spare = t.spare } };
 
-    ghost invariant = { λ t. AreViews (shown_graph t.paths.value) (content_of t.views.items t.queues.items) t.views.items t.queues.items t.spare };
+    ghost invariant = { λ t. (shown_graph t.tracker.graph ≡ shown_graph t.paths.value) × (t.spare ≤ t.tracker.spare)
+        × AreViews (shown_graph t.paths.value) (content_of t.tracker) t.workers t.queues.items t.spare };
 }
 
 impl LocalViews {
@@ -60,9 +65,9 @@ impl LocalViews {
     ) -> Result<LocalViews, NoMemory>
         requires some { 0 < workers }
         requires few { workers ≤ 64 }
-        ensures graph { IfOk result (λ t. t.graph ≡ paths.value) }
-        ensures workers { IfOk result (λ t. length t.views ≡ workers) }
-        ensures content { IfOk result (λ t. (q : Active) → content_of t.views t.queues q ≡ active_at_first (shown_graph paths.value) q) }
+        ensures graph { IfOk result (λ t. shown_graph t.tracker.graph ≡ shown_graph paths.value) }
+        ensures workers { IfOk result (λ t. t.workers ≡ workers) }
+        ensures content { IfOk result (λ t. (q : Active) → content_of t.tracker q ≡ active_at_first (shown_graph paths.value) q) }
         ensures waiting { IfOk result (λ t. (worker s : ℕ) → waiting_of t.queues worker s ≡ []) }
     {
         let first = open_inputs(alloc, &paths)?;
@@ -80,16 +85,19 @@ impl LocalViews {
         requires few { workers ≤ 64 }
         requires fit { length first.now < 2 ^ 32 }
         requires known { (q : Active) → 0 < times_in first.now q → IsTimeAt (shown_graph paths.value) q.location q.time }
-        ensures graph { IfOk result (λ t. t.graph ≡ paths.value) }
-        ensures workers { IfOk result (λ t. length t.views ≡ workers) }
-        ensures content { IfOk result (λ t. (q : Active) → content_of t.views t.queues q ≡ times_in first.now q) }
+        ensures graph { IfOk result (λ t. shown_graph t.tracker.graph ≡ shown_graph paths.value) }
+        ensures workers { IfOk result (λ t. t.workers ≡ workers) }
+        ensures content { IfOk result (λ t. (q : Active) → content_of t.tracker q ≡ times_in first.now q) }
         ensures waiting { IfOk result (λ t. (worker s : ℕ) → waiting_of t.queues worker s ≡ []) }
     {
-        let views = first_views(alloc, &paths, workers, first)?;
+        let mut tracker = LocationTracker::new(alloc, Arc::try_clone(&paths)?)?;
+        tracker.reserve(first.len() as u32)?;
+        add_all(&mut tracker, first);
         let queues = first_queues(alloc, workers)?;
         Ok(LocalViews {
             paths,
-            views,
+            tracker,
+            workers,
             queues,
             spare: 0,
         })
@@ -97,11 +105,11 @@ impl LocalViews {
 }
 
 impl Views for LocalViews {
-    ghost graph = { λ t. shown_graph t.graph };
+    ghost graph = { λ t. shown_graph t.tracker.graph };
 
-    ghost workers = { λ t. length t.views };
+    ghost workers = { λ t. t.workers };
 
-    ghost content = { λ t. content_of t.views t.queues };
+    ghost content = { λ t. content_of t.tracker };
 
     ghost waiting = { λ t. waiting_of t.queues };
 
@@ -112,9 +120,8 @@ impl Views for LocalViews {
     fn reserve(&mut self, count: u32) -> Result<(), NoMemory> {
         if count > self.spare {
             let count = count.max(BLOCK);
-            let room = count as usize * 2;
-            reserve_queues(&mut self.queues, room)?;
-            reserve_views(&mut self.views, &self.queues, room)?;
+            reserve_queues(&mut self.queues, count as usize * 2)?;
+            self.tracker.reserve(count)?;
             self.spare = count;
         }
         Ok(())
@@ -127,32 +134,39 @@ impl Views for LocalViews {
     fn post(&mut self, sender: u32, added: &[Pointstamp], removed: &[Pointstamp]) {
         let queue = &mut self.queues[sender as usize];
         queue.post(added, removed);
+        add_all(&mut self.tracker, added);
+        remove_all(&mut self.tracker, removed);
         self.spare -= (added.len() + removed.len()) as u32;
     }
 
     fn apply(&mut self, worker: u32, sender: u32) -> bool {
         self.paths.law_of_dataflow();
         let queue = &mut self.queues[sender as usize];
-        let view = &mut self.views[worker as usize];
-        let took = queue.take(worker, view);
-        view.law_one_sided();
-        took
+        queue.take(worker)
+    }
+
+    fn waits(&self, worker: u32) -> bool {
+        some_wait(&self.queues, worker)
     }
 
     fn in_frontier(&self, worker: u32, p: &Pointstamp) -> bool {
         self.paths.law_of_dataflow();
-        let view = &self.views[worker as usize];
-        view.in_frontier(p)
+        if !self.tracker.in_frontier(p) {
+            return false;
+        }
+        !is_blocked(&self.paths, &self.queues, worker, p, true)
     }
 
     fn none_before(&self, worker: u32, p: &Pointstamp) -> bool {
         self.paths.law_of_dataflow();
-        let view = &self.views[worker as usize];
-        view.none_before(p)
+        if !self.tracker.none_before(p) {
+            return false;
+        }
+        !is_blocked(&self.paths, &self.queues, worker, p, false)
     }
 
     fn waiting(&self) -> u64 {
-        all_wait(&self.queues, self.views.len())
+        all_wait(&self.queues, self.workers)
     }
 }
 
@@ -168,96 +182,6 @@ fn reserve_queues(queues: &mut Vec<Queue>, count: usize) -> Result<(), NoMemory>
     Ok(())
 }
 
-/// Makes room in each view for what waits and `count` changes more.
-fn reserve_views(views: &mut Vec<View>, queues: &[Queue], count: usize) -> Result<(), NoMemory>
-    requires few { length views.old.items < 2 ^ 32 }
-    requires taken { AllTaken queues.now (length views.old.items) }
-    ensures same { AreSameViews views.old.items views.new.items }
-    ensures room { OnOk result (AllRoom views.new.items queues.now (length queues.now) count) }
-{
-    for w in 0..views.len() {
-        let room = room_for(queues, w as u32, count)?;
-        let view = &mut views[w];
-        view.reserve(room)?;
-    }
-    Ok(())
-}
-
-/// The room that a worker's view needs for what waits and `count` more, or want of memory where it is over 32 bits.
-fn room_for(queues: &[Queue], worker: u32, count: usize) -> Result<u32, NoMemory>
-    requires { (s : ℕ) (q : Queued) → slice_get queues.now s ≡ Some q → worker < length q.taken }
-    ensures { IfOk result (λ n. n ≡ count + sum_below (length queues.now) (λ s. length (untaken_at queues.now s worker))) }
-{
-    match late(queues, worker, count) {
-        Some(room) => Ok(room),
-        None => Err(NoMemory),
-    }
-}
-
-/// The number of changes and ends that wait for a worker, and `count` more.
-fn late(queues: &[Queue], worker: u32, count: usize) -> Option<u32>
-    requires { (s : ℕ) (q : Queued) → slice_get queues.now s ≡ Some q → worker < length q.taken }
-    ensures { IfSome result (λ n. n ≡ count + sum_below (length queues.now) (λ s. length (untaken_at queues.now s worker))) }
-{
-    let mut sum = count;
-    for s in 0..queues.len() {
-        let queue = &queues[s];
-        sum = sum.checked_add(queue.late(worker))?;
-    }
-    u32::try_from(sum).ok()
-}
-
-/// Makes each worker's first view.
-fn first_views(
-    alloc: Global,
-    paths: &Arc<Paths, Global>,
-    workers: u32,
-    first: &[Pointstamp],
-) -> Result<Vec<View>, NoMemory>
-    requires fit { length first.now < 2 ^ 32 }
-    requires known { (q : Active) → 0 < times_in first.now q → IsTimeAt (shown_graph paths.now.value) q.location q.time }
-    ensures long { IfOk result (λ vs. length vs.items ≡ workers) }
-    ensures each { IfOk result (λ vs. (w : ℕ) (v : Viewed) → slice_get vs.items w ≡ Some v → IsViewOf (shown_graph paths.now.value) first.now v) }
-{
-    let mut views = Vec::with_capacity(alloc, workers as usize)?;
-    for _ in 0..workers {
-        views.push(first_view(alloc, paths, first)?)?;
-    }
-    Ok(views)
-}
-
-/// Makes a view of the first pointstamps.
-fn first_view(
-    alloc: Global,
-    paths: &Arc<Paths, Global>,
-    first: &[Pointstamp],
-) -> Result<View, NoMemory>
-    requires fit { length first.now < 2 ^ 32 }
-    requires known { (q : Active) → 0 < times_in first.now q → IsTimeAt (shown_graph paths.now.value) q.location q.time }
-    ensures { IfOk result (λ v. IsViewOf (shown_graph paths.now.value) first.now v) }
-{
-    let mut view = View::new(alloc, paths)?;
-    view.reserve(first.len() as u32)?;
-    add_first(&mut view, first);
-    view.law_one_sided();
-    Ok(view)
-}
-
-/// Counts each of these once more.
-fn add_first(view: &mut View, first: &[Pointstamp])
-    requires room { length first.now ≤ view.old.active.spare }
-    requires known { (q : Active) → 0 < times_in first.now q → IsTimeAt (view_graph view.old) q.location q.time }
-    requires none { (q : Active) → below view.old q ≡ 0 }
-    ensures graph { view_graph view.new ≡ view_graph view.old }
-    ensures counts { (q : Active) → above view.new q ≡ times_in first.now q + above view.old q }
-    ensures none { (q : Active) → below view.new q ≡ 0 }
-{
-    for i in 0..first.len() {
-        view.add(&first[i]);
-        view.law_one_sided();
-    }
-}
-
 /// Makes a queue for each worker and for the feeder.
 fn first_queues(alloc: Global, workers: u32) -> Result<Vec<Queue>, NoMemory>
     requires { workers ≤ 64 }
@@ -271,28 +195,43 @@ fn first_queues(alloc: Global, workers: u32) -> Result<Vec<Queue>, NoMemory>
     Ok(queues)
 }
 
+/// Whether something waits for a worker.
+fn some_wait(queues: &[Queue], worker: u32) -> bool
+    requires { HasPlaces queues.now worker }
+    ensures { MatchBool result ((s : ℕ) × (s < length queues.now) × (waiting_of queues.now worker s ≡ [] → ⊥))
+        ((s : ℕ) → s < length queues.now → waiting_of queues.now worker s ≡ []) }
+{
+    for s in 0..queues.len() {
+        let queue = &queues[s];
+        if queue.has_waiting(worker) {
+            return true;
+        }
+    }
+    false
+}
+
 /// The number of batches that wait, over so many workers.
-fn all_wait(queues: &[Queue], workers: usize) -> u64
+fn all_wait(queues: &[Queue], workers: u32) -> u64
     requires few { workers ≤ 64 }
     requires taken { AllTaken queues.now workers }
     ensures { result ≡ min (2 ^ 64 - 1) (sum_below workers (λ w. sum_below (length queues.now) (λ s. length (batches_of s (untaken_at queues.now s w))))) }
 {
     let mut sum: u64 = 0;
     for w in 0..workers {
-        sum = sum.saturating_add(wait_for(queues, w as u32));
+        sum = sum.saturating_add(wait_for(queues, w));
     }
     sum
 }
 
 /// The number of batches that wait for a worker.
 fn wait_for(queues: &[Queue], worker: u32) -> u64
-    requires { (s : ℕ) (q : Queued) → slice_get queues.now s ≡ Some q → worker < length q.taken }
+    requires { HasPlaces queues.now worker }
     ensures { result ≡ min (2 ^ 64 - 1) (sum_below (length queues.now) (λ s. length (batches_of s (untaken_at queues.now s worker)))) }
 {
     let mut sum: u64 = 0;
     for s in 0..queues.len() {
         let queue = &queues[s];
-        sum = sum.saturating_add(queue.waits(worker) as u64);
+        sum = sum.saturating_add(queue.count_waiting(worker) as u64);
     }
     sum
 }

@@ -1,15 +1,15 @@
 //! The pointstamps that are active before the first step.
 
 ghost use Rattle.std.specs.Prelude.{◌≡◌, ◌<◌, ◌≤◌, IfOk, length};
-ghost use Rattle.lowering.specs.Shown.{shown_graph};
+ghost use Rattle.graph.specs.Shown.{shown_graph};
 ghost use Rattle.semantics.specs.Could.{IsTimeAt, Pointstamp as Active};
 ghost use Rattle.semantics.specs.Graph.{input_count};
 ghost use Rattle.progress.specs.Content.{times_in};
 ghost use Rattle.views.specs.Opening.{active_at_first};
 
 use expr_tree::NoMemory;
+use graph::{Location, VertexId};
 use loop_context::Time;
-use lowering::{Location, VertexId};
 use path_summary::{Paths, Pointstamp};
 use std::alloc::Global;
 

@@ -1,12 +1,11 @@
 //! The changes of one sender, and how far each worker has applied them.
 
-ghost use Rattle.std.specs.Prelude.{◌≡◌, ◌+◌, ◌<◌, ◌≤◌, ◌∷◌, ◌++◌, ℕ, List, [], IsTrue, IfOk, OnOk, true, false, drop, length, map, take, vec_capacity, vec_len};
+ghost use Rattle.std.specs.Prelude.{◌≡◌, ◌+◌, ◌<◌, ◌≤◌, ◌∷◌, ◌++◌, ℕ, List, [], IsTrue, IfOk, MatchBool, OnOk, true, false, drop, length, map, take, vec_capacity, vec_len};
 ghost use Rattle.semantics.specs.Graph.{Graph as Definition};
 ghost use Rattle.semantics.specs.Could.{IsTimeAt, Pointstamp as Active};
 ghost use Rattle.progress.specs.Content.{times_in};
 
-use crate::batches::{ends, forget, least, lower, push_batch, take_in};
-use crate::view::View;
+use crate::batches::{end_of_batch, ends, forget, least, lower, push_batch};
 use expr_tree::NoMemory;
 use path_summary::Pointstamp;
 use std::alloc::Global;
@@ -40,9 +39,8 @@ impl Model for Queue {
 }
 
 impl Queue {
-    ghost use Rattle.views.specs.Queued.{AllKnown, IsSameQueue, IsTaken, untaken, batches_of};
+    ghost use Rattle.views.specs.Queued.{AllKnown, EndsFrom, IsSameQueue, IsTaken, untaken, batches_of};
     ghost use Rattle.views.specs.Waiting.{batch};
-    ghost use Rattle.views.specs.Viewed.{view_graph};
 
     /// Creates an empty queue.
     pub fn new(alloc: Global, workers: u32) -> Result<Queue, NoMemory>
@@ -102,30 +100,36 @@ impl Queue {
         self.free -= added.len() + removed.len() + 1;
     }
 
-    /// The number of changes and ends that the worker hasn't applied.
-    pub fn late(&self, worker: u32) -> usize
+    /// What the worker hasn't applied.
+    pub fn waiting(&self, worker: u32) -> &[Change]
         requires { worker < length self.now.taken }
-        ensures { result ≡ length (untaken self.now worker) }
+        ensures waiting { result.now ≡ untaken self.now worker }
+        ensures ends { EndsFrom false result.now }
     {
-        self.changes.len() - self.taken[worker as usize]
+        &self.changes[self.taken[worker as usize]..]
+    }
+
+    /// Whether there is a batch that the worker hasn't applied.
+    pub fn has_waiting(&self, worker: u32) -> bool
+        requires { worker < length self.now.taken }
+        ensures { (s : ℕ) → MatchBool result (batches_of s (untaken self.now worker) ≡ [] → ⊥) (batches_of s (untaken self.now worker) ≡ []) }
+    {
+        self.taken[worker as usize] < self.changes.len()
     }
 
     /// The number of batches that the worker hasn't applied.
-    pub fn waits(&self, worker: u32) -> usize
+    pub fn count_waiting(&self, worker: u32) -> usize
         requires { worker < length self.now.taken }
         ensures { (s : ℕ) → result ≡ length (batches_of s (untaken self.now worker)) }
     {
-        ends(&self.changes, self.taken[worker as usize])
+        ends(self.waiting(worker))
     }
 
-    /// Applies the next batch to the worker's view. False if there is none.
-    pub fn take(&mut self, worker: u32, view: &mut View) -> bool
-        requires worker { worker < length self.old.taken }
-        requires known { AllKnown (view_graph view.old) self.old.changes }
-        requires active { length (untaken self.old worker) ≤ view.old.active.spare }
-        requires owed { length (untaken self.old worker) ≤ view.old.owed.spare }
-        ensures took { result ≡ true → IsTaken (untaken self.old worker) (untaken self.new worker) view.old view.new }
-        ensures none { result ≡ false → (untaken self.old worker ≡ []) × (self.new ≡ self.old) × (view.new ≡ view.old) }
+    /// The worker applies the next batch. False if there is none.
+    pub fn take(&mut self, worker: u32) -> bool
+        requires { worker < length self.old.taken }
+        ensures took { result ≡ true → IsTaken (untaken self.old worker) (untaken self.new worker) }
+        ensures none { result ≡ false → (untaken self.old worker ≡ []) × (self.new ≡ self.old) }
         ensures others { (w : ℕ) → (w ≡ worker → ⊥) → untaken self.new w ≡ untaken self.old w }
         ensures changes { self.new.changes ≡ self.old.changes }
         ensures taken { length self.new.taken ≡ length self.old.taken }
@@ -135,8 +139,7 @@ impl Queue {
         if from >= self.changes.len() {
             return false;
         }
-        let end = take_in(view, &self.changes, from);
-        self.taken[worker as usize] = end;
+        self.taken[worker as usize] = end_of_batch(&self.changes, from);
         true
     }
 }

@@ -1,11 +1,11 @@
 //! What the views of all workers promise.
 
-ghost use Rattle.std.specs.Prelude.{◌≡◌, ◌⊎◌, ◌+◌, ◌-◌, ◌^◌, ◌<◌, ◌≤◌, ◌↔◌, ℕ, Bool, IsTrue, OnOk, length, min};
+ghost use Rattle.std.specs.Prelude.{◌≡◌, ◌⊎◌, ◌+◌, ◌-◌, ◌^◌, ◌<◌, ◌≤◌, ◌↔◌, ℕ, Bool, IsTrue, MatchBool, OnOk, length, min};
 ghost use Rattle.semantics.specs.Graph.{Graph as Definition, input_count};
 ghost use Rattle.semantics.specs.Could.{CouldResultIn, IsTimeAt, NoOtherOf, NoneOf, Pointstamp as Active};
 ghost use Rattle.machine.specs.Posting.{MayPost};
 ghost use Rattle.progress.specs.Content.{times_in};
-ghost use Rattle.views.specs.Waiting.{IsApplied, IsSeenBy, Waiting, after_post, all_waiting, batch};
+ghost use Rattle.views.specs.Waiting.{IsApplied, IsSeenBy, NoneWaits, SomeWait, Waiting, after_post, all_waiting, batch};
 
 use expr_tree::NoMemory;
 use path_summary::Pointstamp;
@@ -66,6 +66,11 @@ pub trait Views: Drop {
             NoneOf (CouldResultIn (graph self.old)) (IsSeenBy (content self.old) (waiting self.old) (workers self.old) worker) p →
             NoneOf (CouldResultIn (graph self.old)) (IsSeenBy (content self.new) (waiting self.new) (workers self.old) worker) p }
         ensures room { room self.old ≤ room self.new };
+
+    /// Whether something waits for the worker.
+    fn waits(&self, worker: u32) -> bool
+        requires worker { worker < workers self.now }
+        ensures { MatchBool result (SomeWait (waiting self.now) (workers self.now) worker) (NoneWaits (waiting self.now) (workers self.now) worker) };
 
     /// Whether the worker sees no active pointstamp other than `p` that could result in `p`. If it sees none, there is none.
     fn in_frontier(&self, worker: u32, p: &Pointstamp) -> bool

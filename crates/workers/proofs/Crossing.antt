@@ -6,9 +6,9 @@ use Rattle.std.specs.contracts.alloc.Global as heap
 use Rattle.std.specs.contracts.impls.GlobalAllocator.TheImpl as allocates
 use Rattle.expr_tree.specs.contracts.scalar.Scalar as scalar
 use Rattle.expr_tree.specs.contracts.condition.Cond as condition
-use Rattle.lowering.specs.contracts.graph.Graph as graph
-use Rattle.lowering.specs.contracts.vertex.Kind as kind
-use Rattle.lowering.specs.contracts.vertex.Vertex as vertex
+use Rattle.graph.specs.contracts.graph.Graph as graph
+use Rattle.graph.specs.contracts.vertex.Kind as kind
+use Rattle.graph.specs.contracts.vertex.Vertex as vertex
 use Rattle.events.specs.contracts.wiring.Wiring as wiring
 use Rattle.path_summary.specs.contracts.paths.Paths as paths
 use Rattle.operators.specs.contracts.filter.Where as filter
@@ -22,7 +22,6 @@ use Rattle.workers.specs.declared.held.Naming as naming
 use Rattle.views.specs.declared.views.Views as viewing
 use Rattle.views.specs.contracts.direct.Direct as direct
 use Rattle.views.specs.contracts.local_views.LocalViews as local_views
-use Rattle.views.specs.contracts.view.View as view
 use Rattle.views.proofs.queue.Queue.TheSendSync as queues
 use Rattle.workers.proofs.mark.Publisher.TheSendSync as publishers
 use Rattle.board.specs.contracts.slot.Slot as slot
@@ -35,15 +34,15 @@ use Rattle.progress.proofs.tree.Tree.TheLaws.TheKnot as trees
 use Rattle.expr_tree.proofs.relation.Pair.TheSendSync as pairs
 use Rattle.expr_tree.proofs.relation.Column.TheSendSync as columns
 use Rattle.expr_tree.proofs.relation.Agg.TheSendSync as aggregates
-use Rattle.lowering.proofs.vertex.Sources.TheSendSync as sources
-use Rattle.lowering.proofs.graph.DeclaredInput.TheSendSync as declared
-use Rattle.lowering.proofs.outputs.GraphOutput.TheSendSync as graph_outputs
-use Rattle.lowering.proofs.edges.Edge.TheSendSync as edges
-use Rattle.lowering.proofs.edges.Outs.TheSendSync as outs
-use Rattle.lowering.proofs.location.Location.TheSendSync as locations
+use Rattle.graph.proofs.vertex.Sources.TheSendSync as sources
+use Rattle.graph.proofs.graph.DeclaredInput.TheSendSync as declared
+use Rattle.graph.proofs.graph.GraphOutput.TheSendSync as graph_outputs
+use Rattle.graph.proofs.edges.Edge.TheSendSync as edges
+use Rattle.graph.proofs.edges.Outs.TheSendSync as outs
+use Rattle.graph.proofs.location.Location.TheSendSync as locations
 use Rattle.events.proofs.wiring.Fanout.TheSendSync as fanouts
 use Rattle.events.proofs.happening.Happening.TheSendSync as happenings
-use Rattle.events.proofs.happening.Message.TheSendSync as messages
+use Rattle.events.proofs.message.Message.TheSendSync as messages
 use Rattle.events.proofs.happening.Request.TheSendSync as requests
 use Rattle.exchange.proofs.mailbox.Mailbox.TheSendSync as mailboxes
 use Rattle.tokens.proofs.tie.Tie.TheSendSync as ties
@@ -123,11 +122,8 @@ tracker_send = search (sendable, crosses, paths_sync, paths_send, tree_send, roo
 pub direct_send : IsSend (direct.the_row tracker.the_row)
 direct_send = search (sendable, crosses, tracker_send) depth 20
 
-view_send : IsSend view.the_row
-view_send = search (sendable, crosses, tracker_send) depth 20
-
 pub local_views_send : IsSend local_views.the_row
-local_views_send = search (sendable, crosses, paths_sync, paths_send, view_send, queues.the_send) depth 20
+local_views_send = search (sendable, crosses, paths_sync, paths_send, tracker_send, queues.the_send) depth 20
 
 filter_send : IsSend filter.the_field.row
 filter_send = search (sendable, crosses, condition_field_send) depth 20

@@ -1,7 +1,7 @@
 -- After each call of the board, what is published is the number of passed epochs, and nothing waits for the first worker.
 use Rattle.std.proofs.Common.{◌≡◌, ◌≤◌, ℕ, zero, suc, List, [], max, Bool, true, false, MatchBool, slice_index_or, refl, sym, ap, subst, ◌∙◌, arith}
 use Rattle.atomic_table.specs.Seated.{TableId}
-use Rattle.lowering.specs.Shown.{GraphValue}
+use Rattle.graph.specs.Shown.{GraphValue}
 use Rattle.machine.specs.Step.{Step}
 use Rattle.board.specs.Answers.{Claims, HasChoice, HasNoChoice}
 use Rattle.board.specs.Kept.{Goes}
@@ -81,6 +81,21 @@ module _ (names : List TableId) (graph : GraphValue) (b : BoardShown) (old : ℕ
   after_claim one stays worker (Work x) h same p = after_step stays h.0.taken h.0.goes same p
   after_claim one stays worker Drained h same p = after_nothing one h.3 p
   after_claim one stays worker Idle h same p = after_nothing one h.5 p
+
+-- messages became one, and then the board was caught up with; what was published is what the board knew before
+pub after_gathering : (names : List TableId) (graph : GraphValue) (b : BoardShown) (old : ℕ) → IsHeld names graph (record { board = b; published = old })
+    → (one : (m n : ℕ) → CountsPassed b.shown m → CountsPassed b.shown n → m ≡ n) (known : ℕ) → known ≡ b.passed → (IsUpToDate b 0 → CountsPassed b.shown known)
+    → (u t : BoardShown) (new : ℕ) → tables u.shown ≡ tables b.shown → u.shown.graph ≡ b.shown.graph → b.passed ≤ u.passed → t.shown ≡ u.shown → u.passed ≤ t.passed
+    → Publishes old t new → IsHeld names graph (record { board = t; published = new })
+after_gathering names graph b old held one known value seen u t new same is_graph rises is more p =
+    let there : old ≡ known = one old known held.published (seen held.prompt) in
+    let number : t.passed ≡ new = (let n = p.number in omega (arith, n, there, value, rises, more)) in
+    record {
+      named = ap tables is ∙ same ∙ held.named;
+      graph = ap (λ (z : Shown). z.graph) is ∙ is_graph ∙ held.graph;
+      published = subst (CountsPassed t.shown) number p.counts;
+      prompt = p.prompt;
+    }
 
 -- what waits for a worker was applied
 pub after_catching_up : (names : List TableId) (graph : GraphValue) (b : BoardShown) (n : ℕ) → IsHeld names graph (record { board = b; published = n })

@@ -1,7 +1,7 @@
 -- What lies under the lock.
 use Rattle.std.specs.Prelude.{◌≡◌, ℕ, List, max}
 use Rattle.atomic_table.specs.Seated.{TableId}
-use Rattle.lowering.specs.Shown.{GraphValue}
+use Rattle.graph.specs.Shown.{GraphValue}
 use Rattle.board.specs.Lateness.{BoardShown, IsUpToDate}
 use Rattle.board.specs.Promises.{CountsPassed}
 use Rattle.board.specs.Shown.{tables}

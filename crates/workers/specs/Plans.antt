@@ -3,7 +3,7 @@ use Rattle.std.specs.Prelude.{◌≡◌, ◌≢◌, ◌<◌, ℕ, List, length}
 use Rattle.semantics.specs.Graph.{vertex}
 use Rattle.semantics.specs.Kinds.{Kind}
 use Rattle.semantics.specs.Multiset.{Record}
-use Rattle.lowering.specs.Shown.{GraphValue, shown_graph}
+use Rattle.graph.specs.Shown.{GraphValue, shown_graph}
 use Rattle.rows.specs.FlatRows.{arity_of}
 use Rattle.board.specs.Fitting.{arity_in}
 use Rattle.board.specs.declared.refusal.StepRefusal.{StepRefusal}

@@ -28,7 +28,7 @@ impl Brought {
             records: 0,
         };
         for letter in letters {
-            brought.add(letter.to, letter.message.batch.len() as u64);
+            brought.add(letter.to, letter.message.len() as u64);
         }
         brought
     }

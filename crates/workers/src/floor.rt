@@ -237,10 +237,11 @@ impl<J: Naming, V: Views> Floor<J, V> {
         self.claim_of(thread)
     }
 
-    /// As the board's call, and it is noted where there is nothing to do.
+    /// As the board's call, once alike messages of the worker are one; and it is noted where there is nothing to do.
     fn claim_of(&mut self, worker: u32) -> Claimed
         ensures { GivesNamed J.names result }
     {
+        self.held.gather(worker);
         let claimed = self.held.claim(worker);
         if matches!(&claimed, Claimed::Idle) {
             self.burdens.lighten(worker);

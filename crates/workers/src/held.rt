@@ -2,7 +2,7 @@
 
 ghost use Rattle.std.specs.Prelude.{◌≡◌, ◌<◌, ℕ, true, IfOk, MatchBool, OnErr, OnOk, length, max};
 ghost use Rattle.machine.specs.Step.{Step};
-ghost use Rattle.board.specs.Answers.{AnswersOnly, AnswersOr, Claims, Commits, HasChoice, HasNoChoice, Holds, IfNothing, feed_refusal, input_refusal, seal_refusal};
+ghost use Rattle.board.specs.Answers.{AnswersOnly, AnswersOr, Claims, Commits, Gathers, HasChoice, HasNoChoice, Holds, IfNothing, feed_refusal, input_refusal, seal_refusal};
 ghost use Rattle.board.specs.Kept.{Goes};
 ghost use Rattle.board.specs.Lateness.{Applies, IsAsLate, IsUpToDate};
 ghost use Rattle.board.specs.Looks.{IsLookAt, ShowsPassed};
@@ -12,7 +12,7 @@ ghost use Rattle.workers.specs.Held.{Publishes};
 ghost use Rattle.workers.specs.Names.{GivesNamed, IsNamed};
 
 use crate::mark::Publisher;
-use board::{Board, Claimed, CommitRefusal, Look, StepRefusal};
+use board::{Board, Claimed, CommitRefusal, Look, StepRefusal, gather};
 use events::{CutBatch, Done, Work};
 use expr_tree::NoMemory;
 use std::alloc::Global;
@@ -24,7 +24,7 @@ use views::Views;
 pub trait Naming {
     ghost use Rattle.std.specs.Prelude.{List};
     ghost use Rattle.atomic_table.specs.Seated.{TableId};
-    ghost use Rattle.lowering.specs.Shown.{GraphValue};
+    ghost use Rattle.graph.specs.Shown.{GraphValue};
 
     ghost names: { List TableId };
 
@@ -132,6 +132,23 @@ impl<J: Naming, V: Views> Held<J, V> {
         self.board.close(input)?;
         publish(&mut self.board, &mut self.publisher);
         Ok(())
+    }
+
+    /// Makes alike messages of a free worker one before it claims, where there are several workers: an exchange cuts what one worker sends into as
+    /// many messages, and each would be an event of its own. With one worker there is nothing to put together again.
+    pub fn gather(&mut self, worker: u32)
+        ensures gathers { Gathers self.old.board.shown worker self.new.board.shown }
+        ensures published { CountsPassed self.new.board.shown self.new.published }
+    {
+        if self.board.workers() == 1 {
+            return;
+        }
+        self.board.law_count();
+        let _known = self.board.passed_count();
+        if !gather(&mut self.board, worker) {
+            return;
+        }
+        publish(&mut self.board, &mut self.publisher);
     }
 
     /// As the board's. No memory is taken.

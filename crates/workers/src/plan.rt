@@ -1,7 +1,7 @@
 //! What is fed is cut by it while another thread may have the lock.
 
 ghost use Rattle.std.specs.Prelude.{◌≡◌, length, IfErr, IfOk};
-ghost use Rattle.lowering.specs.Views.{vertex_of};
+ghost use Rattle.graph.specs.Views.{vertex_of};
 ghost use Rattle.semantics.specs.Kinds.{is_input as is_input_kind};
 ghost use Rattle.workers.specs.Plans.{RefusesBatch};
 
@@ -9,7 +9,7 @@ use crate::burden::Brought;
 use crate::held::Naming;
 use board::StepRefusal;
 use events::{CutBatch, Wiring};
-use lowering::{Kind, Vertex, VertexId};
+use graph::{Kind, Vertex, VertexId};
 use rows::Batch;
 use std::alloc::Global;
 use std::collections::VecDeque;

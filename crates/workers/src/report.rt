@@ -1,7 +1,7 @@
 //! What a run has come to.
 
 ghost use Rattle.std.specs.Prelude.{◌≡◌, ◌≤◌, ◌<◌, ℕ, [], All, IfSome, IsTrue, MatchBool, length, slice_index_or};
-ghost use Rattle.lowering.specs.Shown.{shown_graph};
+ghost use Rattle.graph.specs.Shown.{shown_graph};
 ghost use Rattle.semantics.specs.Graph.{input_count, output_number, output_numbers};
 ghost use Rattle.semantics.specs.Query.{Program};
 ghost use Rattle.board.specs.Promises.{CountsPassed, HasPassed, IsDrained, IsOutputPlace, KeepsPromise, RunsProgram};
@@ -11,7 +11,7 @@ use crate::engine::Engine;
 use crate::held::Naming;
 use crate::mark::{Mark, Seat};
 use board::Board;
-use lowering::Graph;
+use graph::Graph;
 use rows::Batch;
 use std::marker::Model;
 use views::Views;

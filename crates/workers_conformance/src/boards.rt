@@ -3,7 +3,8 @@
 ghost use Rattle.std.specs.Prelude.{◌≡◌, ◌<◌, ◌≤◌, length};
 
 use board::Board;
-use lowering::{Graph, lower};
+use graph::Graph;
+use lowering::lower;
 use parser::parse;
 use progress::LocationTracker;
 use rows::{Batch, Rows};

@@ -1,14 +1,14 @@
 //! Views without memory.
 
 ghost use Rattle.std.specs.Prelude.{◌≡◌, IfOk};
-ghost use Rattle.lowering.specs.Shown.{shown_graph};
+ghost use Rattle.graph.specs.Shown.{shown_graph};
 ghost use Rattle.semantics.specs.Could.{Pointstamp as Active};
 ghost use Rattle.progress.specs.Content.{times_at};
 ghost use Rattle.views.specs.Opening.{active_at_first};
 
 use board::Board;
 use expr_tree::NoMemory;
-use lowering::Graph;
+use graph::Graph;
 use path_summary::{Paths, Pointstamp};
 use progress::LocationTracker;
 use std::alloc::Global;
@@ -56,6 +56,10 @@ impl<V: Views> Views for Refusing<V> {
 
     fn apply(&mut self, worker: u32, sender: u32) -> bool {
         self.views.apply(worker, sender)
+    }
+
+    fn waits(&self, worker: u32) -> bool {
+        self.views.waits(worker)
     }
 
     fn in_frontier(&self, worker: u32, p: &Pointstamp) -> bool {

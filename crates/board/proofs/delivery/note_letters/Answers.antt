@@ -10,7 +10,7 @@ pub loop-letter-preserved : goal.loop-letter-preserved
 loop-letter-preserved c =
     let ps : List Pointstamp = c.loop-letter.added.items in
     let o : Letter = c.letter-item.result in
-    let is : c.new.result ≡ message_pointstamp o.message = c.new.ensures ∙ ap (λ (t : Time). on_edge c.message.inside.edge.0 t) c.copied.ensures ∙ ap message_pointstamp c.message.view_is in
+    let is : c.new.result ≡ message_pointstamp o.message = c.new.ensures ∙ ap (λ (t : Time). on_edge c.edge.result.0 t) (c.copied.ensures ∙ c.time.ensures) ∙ ap (λ e. on_edge e o.message.time) c.edge.ensures in
     let items : c.push_reserved.new.self.items ≡ ps ++ (message_pointstamp o.message ∷ []) = c.push_reserved.ensures.items ∙ ap (λ (p : Pointstamp). ps ++ (p ∷ [])) is in
     let there : c.loop-letter.letter-index < length c.args.letters.now = c.loop-letter-test.true in
     record {

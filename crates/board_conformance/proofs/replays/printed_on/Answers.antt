@@ -1,5 +1,5 @@
 use Rattle.std.proofs.Common.{◌≡◌, map, rules, subst, sym}
-use Rattle.lowering.specs.Shown.{shown_inputs}
+use Rattle.graph.specs.Shown.{shown_inputs}
 use Rattle.collector.specs.Said.{plain}
 use Rattle.replay.specs.Steps.{AreInputsOf}
 use Rattle.board_conformance.proofs.replays.printed_on.Goals as goal

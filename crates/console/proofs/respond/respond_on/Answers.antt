@@ -1,5 +1,5 @@
 use Rattle.std.proofs.Common.{subst}
-use Rattle.lowering.specs.Shown.{GraphValue}
+use Rattle.graph.specs.Shown.{GraphValue}
 use Rattle.collector.specs.Watching.{inner_of}
 use Rattle.console.specs.Answers.{RespondsBy}
 use Rattle.console.proofs.respond.respond_on.Goals as goal

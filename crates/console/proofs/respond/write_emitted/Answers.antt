@@ -1,5 +1,5 @@
 use Rattle.std.proofs.Common.{◌≡◌, subst}
-use Rattle.lowering.specs.Shown.{shown_names}
+use Rattle.graph.specs.Shown.{shown_names}
 use Rattle.collector.specs.Emitted.{names_of, records_of}
 use Rattle.collector.specs.OutputText.{IsTextFrom}
 use Rattle.collector.specs.Held.{epoch_count}

@@ -1,4 +1,4 @@
-use Rattle.lowering.specs.Shown.{shown_graph, shown_inputs, shown_names}
+use Rattle.graph.specs.Shown.{shown_graph, shown_inputs, shown_names}
 use Rattle.collector.specs.Held.{epoch_count, records_at}
 use Rattle.console.proofs.RunEnds.{after_reading, run_ends}
 use Rattle.console.proofs.Heeding.{responds_heeds}

@@ -1,5 +1,5 @@
 use Rattle.std.proofs.Common.{refl, arith}
-use Rattle.lowering.specs.Views.{input_of}
+use Rattle.graph.specs.Views.{input_of}
 use Rattle.console.proofs.DeclaredInputs.{one_declared_more}
 use Rattle.console.proofs.running.declared.Goals as goal
 

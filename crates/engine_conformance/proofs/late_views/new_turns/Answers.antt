@@ -1,7 +1,7 @@
 use Rattle.std.proofs.Common.{◌≡◌, ◌<◌, ℕ, sym, subst, arith}
 use Rattle.semantics.specs.Could.{at_vertex}
 use Rattle.semantics.specs.Time.{at_epoch}
-use Rattle.lowering.specs.Shown.{shown_graph}
+use Rattle.graph.specs.Shown.{shown_graph}
 use Rattle.engine_conformance.proofs.FirstEpochs.{first_active}
 use Rattle.engine_conformance.proofs.late_views.new_turns.Goals as goal
 

@@ -1,5 +1,5 @@
 use Rattle.std.proofs.lemmas.Result.{IfOk-weaker}
-use Rattle.lowering.specs.Views.{kind_of}
+use Rattle.graph.specs.Views.{kind_of}
 use Rattle.vertices.proofs.AtWork.{fresh_at_work}
 use Rattle.engine_conformance.proofs.shards.shard_of.Goals as goal
 

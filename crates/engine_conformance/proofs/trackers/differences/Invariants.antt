@@ -1,6 +1,6 @@
 use Rattle.std.proofs.Common.{◌≡◌, ◌≤◌, ℕ}
 use Rattle.semantics.specs.Could.{Pointstamp}
-use Rattle.lowering.specs.Shown.{shown_graph}
+use Rattle.graph.specs.Shown.{shown_graph}
 use Rattle.progress.specs.Content.{times_at, times_in}
 use Rattle.engine_conformance.proofs.trackers.differences.Given as goal
 

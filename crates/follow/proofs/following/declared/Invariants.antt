@@ -1,5 +1,5 @@
 use Rattle.std.proofs.Common.{◌≡◌, map, take}
-use Rattle.lowering.specs.Views.{input_of}
+use Rattle.graph.specs.Views.{input_of}
 use Rattle.collector.specs.Said.{plain}
 use Rattle.follow.proofs.following.declared.Given as goal
 

@@ -1,5 +1,5 @@
 use Rattle.std.proofs.Common.{◌≡◌, ◌∷◌, ◌∙◌, [], ap, map, refl, subst, sym, List, ℕ}
-use Rattle.lowering.specs.Shown.{shown_inputs}
+use Rattle.graph.specs.Shown.{shown_inputs}
 use Rattle.collector.specs.Pieces.{split_on}
 use Rattle.collector.specs.Said.{plain}
 use Rattle.collector.specs.Watching.{inner_of}

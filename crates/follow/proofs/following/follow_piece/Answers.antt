@@ -1,6 +1,6 @@
 use Rattle.std.proofs.Common.{◌≡◌, ◌∷◌, ◌++◌, [], List, ℕ, length, subst, sym}
 use Rattle.std.specs.Prelude.{Err, None}
-use Rattle.lowering.specs.Shown.{shown_inputs}
+use Rattle.graph.specs.Shown.{shown_inputs}
 use Rattle.collector.specs.Pieces.{split_on}
 use Rattle.collector.specs.Watching.{inner_of}
 use Rattle.collector.proofs.Splits.{split_none}

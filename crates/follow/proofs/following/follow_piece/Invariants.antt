@@ -1,6 +1,6 @@
 use Rattle.std.proofs.Common.{◌≡◌, ◌++◌, ℕ, List, map}
 use Rattle.std.specs.Prelude.{Option}
-use Rattle.lowering.specs.Shown.{shown_inputs}
+use Rattle.graph.specs.Shown.{shown_inputs}
 use Rattle.collector.specs.Said.{plain}
 use Rattle.collector.specs.Watching.{inner_of}
 use Rattle.follow.specs.Scenes.{IsWritten, Stands}

@@ -1,6 +1,6 @@
 use Rattle.std.proofs.Common.{◌<◌, ◌≡◌, ℕ, length}
 use Rattle.semantics.specs.Graph.{output_numbers}
-use Rattle.lowering.specs.Shown.{shown_graph}
+use Rattle.graph.specs.Shown.{shown_graph}
 use Rattle.board.specs.Promises.{HasPassed}
 use Rattle.follow.proofs.telling.has_passed.Given as goal
 

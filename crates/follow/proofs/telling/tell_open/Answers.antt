@@ -1,9 +1,9 @@
 use Rattle.std.proofs.Common.{◌∙◌, ◌<◌, arith, refl, length, ap, subst, sym}
 use Rattle.std.proofs.lemmas.List.{length-map}
 use Rattle.semantics.specs.Graph.{output_numbers}
-use Rattle.lowering.specs.Shown.{GraphValue, shown_graph, shown_names}
-use Rattle.lowering.specs.Views.{name_of_output, number_of_output}
-use Rattle.lowering.specs.declared.outputs.GraphOutput.{GraphOutput}
+use Rattle.graph.specs.Shown.{GraphValue, shown_graph, shown_names}
+use Rattle.graph.specs.Views.{name_of_output, number_of_output}
+use Rattle.graph.specs.declared.graph.GraphOutput.{GraphOutput}
 use Rattle.follow.specs.Entries.{label_of}
 use Rattle.follow.specs.Steps.{TellsOne}
 use Rattle.follow.proofs.Calls.{label_at}

@@ -1,6 +1,6 @@
 use Rattle.std.proofs.Common.{◌≡◌, length}
 use Rattle.semantics.specs.Graph.{output_numbers}
-use Rattle.lowering.specs.Shown.{shown_graph}
+use Rattle.graph.specs.Shown.{shown_graph}
 use Rattle.follow.specs.Steps.{TellsTo}
 use Rattle.follow.proofs.telling.tell_open.Given as goal
 

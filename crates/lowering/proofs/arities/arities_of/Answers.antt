@@ -3,9 +3,9 @@ use Rattle.expr_tree.specs.Plain.{plain_program}
 use Rattle.expr_tree.specs.Views.{program_tree}
 use Rattle.semantics.specs.Graph.{Graph, vertex}
 use Rattle.semantics.specs.Lower.{lowered}
-use Rattle.lowering.specs.Arities.{arity_in, sent}
-use Rattle.lowering.specs.Views.{kind_of, sources_of, vertex_of}
-use Rattle.lowering.proofs.Numbers.{length_graph_of, vertex_at}
+use Rattle.lowering.specs.Sent.{arity_in, sent}
+use Rattle.graph.specs.Views.{kind_of, sources_of, vertex_of}
+use Rattle.graph.proofs.Numbers.{length_graph_of, vertex_at}
 use Rattle.lowering.proofs.VertexArities.{one_arity, one_counted, same_arities}
 use Rattle.lowering.proofs.arities.arities_of.Goals as goal
 

@@ -1,6 +1,6 @@
 use Rattle.std.proofs.Common.{arith}
 use Rattle.lowering.proofs.Scopes.{split_first, held_one}
-use Rattle.lowering.proofs.Numbers.{number_of}
+use Rattle.lowering.proofs.MoreVertices.{number_of}
 use Rattle.lowering.proofs.loops.+carry_names.Goals as goal
 
 pub returns-in_ok-bind-in-len1-up-clause-inside : goal.returns-in_ok-bind-in-len1-up-clause-inside

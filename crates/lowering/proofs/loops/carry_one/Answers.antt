@@ -2,8 +2,8 @@ use Rattle.std.proofs.Common.{◌≡◌, ◌+◌, [], ◌∷◌, suc, length, ap
 use Rattle.semantics.specs.Graph as graph
 use Rattle.semantics.specs.Kinds as semantics
 use Rattle.semantics.specs.Lower.{new_vertex, port}
-use Rattle.lowering.specs.Views.{graph_of}
-use Rattle.lowering.proofs.Numbers.{number_of, four_more}
+use Rattle.graph.specs.Views.{graph_of}
+use Rattle.lowering.proofs.MoreVertices.{number_of, four_more}
 use Rattle.lowering.proofs.loops.carry_one.Goals as goal
 
 pub returns-clause-made : goal.returns-clause-made

@@ -1,7 +1,7 @@
 use Rattle.std.proofs.Common.{◌≡◌, ◌-◌, ◌+◌, [], ◌∷◌, suc, arith, ap}
 use Rattle.semantics.specs.Kinds as semantics
 use Rattle.semantics.specs.Lower.{new_vertex, port}
-use Rattle.lowering.proofs.Numbers.{closed_made}
+use Rattle.lowering.proofs.MoreVertices.{closed_made}
 use Rattle.lowering.proofs.loops.close_loop.Goals as goal
 
 pub returns-clause-made : goal.returns-clause-made

@@ -2,9 +2,9 @@ use Rattle.std.proofs.Common.{◌≡◌, ◌+◌, [], ◌∷◌, suc, length, ap
 use Rattle.semantics.specs.Kinds as semantics
 use Rattle.semantics.specs.Lower.{carry, new_vertex, port}
 use Rattle.lowering.specs.Scopes.{ports_of}
-use Rattle.lowering.specs.Views.{graph_of}
+use Rattle.graph.specs.Views.{graph_of}
 use Rattle.lowering.proofs.Scopes.{gate_bound}
-use Rattle.lowering.proofs.Numbers.{number_of, four_more}
+use Rattle.lowering.proofs.MoreVertices.{number_of, four_more}
 use Rattle.lowering.proofs.loops.open_loop.Goals as goal
 
 pub returns-clause-inside : goal.returns-clause-inside

@@ -1,4 +1,4 @@
-use Rattle.lowering.proofs.Numbers.{graph_of_set}
+use Rattle.lowering.proofs.MoreVertices.{graph_of_set}
 use Rattle.lowering.proofs.loops.set_concat.Goals as goal
 
 pub returns : goal.returns

@@ -1,7 +1,7 @@
 use Rattle.std.proofs.Common.{◌≡◌, map, take}
 use Rattle.expr_tree.specs.Plain.{plain_output}
 use Rattle.expr_tree.specs.Views.{output_tree}
-use Rattle.lowering.specs.Views.{number_of_output, name_of_output, vertex_number}
+use Rattle.graph.specs.Views.{number_of_output, name_of_output, vertex_number}
 use Rattle.lowering.proofs.outputs.named.Given as goal
 
 abbrev pub invariant-loop-i : goal.invariant-loop-i

@@ -1,6 +1,6 @@
 use Rattle.std.proofs.Common.{◌≡◌, map, take}
 use Rattle.semantics.specs.Graph.{output_numbers}
-use Rattle.lowering.specs.Views.{graph_of, vertex_number}
+use Rattle.graph.specs.Views.{graph_of, vertex_number}
 use Rattle.lowering.proofs.outputs.output_vertices.Given as goal
 
 abbrev pub invariant-loop-i : goal.invariant-loop-i

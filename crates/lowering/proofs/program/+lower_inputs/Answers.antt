@@ -1,7 +1,7 @@
 use Rattle.std.proofs.Common.{arith}
 use Rattle.lowering.proofs.Scopes.{split_first}
 use Rattle.lowering.proofs.WholePrograms.{input_bound}
-use Rattle.lowering.proofs.Numbers.{number_of}
+use Rattle.lowering.proofs.MoreVertices.{number_of}
 use Rattle.lowering.proofs.program.+lower_inputs.Goals as goal
 
 pub returns-in_ok-bind-in-len1-up-clause-names : goal.returns-in_ok-bind-in-len1-up-clause-names

@@ -4,7 +4,7 @@ use Rattle.expr_tree.specs.Views.{output_tree}
 use Rattle.semantics.specs.Lower.{lower_outputs}
 use Rattle.lowering.specs.Faults.{IsOver}
 use Rattle.lowering.specs.Scopes.{ports_of}
-use Rattle.lowering.specs.Views.{graph_of}
+use Rattle.graph.specs.Views.{graph_of}
 use Rattle.lowering.proofs.NamedOutputs.{first_output, no_output, output_over, outputs_made, relation_over, rest_over}
 use Rattle.lowering.proofs.program.+lower_outputs.Goals as goal
 

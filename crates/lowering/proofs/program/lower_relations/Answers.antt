@@ -4,7 +4,7 @@ use Rattle.expr_tree.specs.Views.{let_tree}
 use Rattle.semantics.specs.Lower.{lower_lets}
 use Rattle.lowering.specs.Faults.{IsOver}
 use Rattle.lowering.specs.Scopes.{ports_of}
-use Rattle.lowering.specs.Views.{graph_of}
+use Rattle.graph.specs.Views.{graph_of}
 use Rattle.lowering.proofs.NamedRelations.{passed_on, nested_at, one_more, one_over}
 use Rattle.lowering.proofs.program.lower_relations.Goals as goal
 

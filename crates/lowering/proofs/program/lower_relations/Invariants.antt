@@ -2,7 +2,7 @@ use Rattle.std.proofs.Common.{length, take}
 use Rattle.semantics.specs.Lower.{lower_lets}
 use Rattle.lowering.specs.Scopes.{ports_of}
 use Rattle.lowering.specs.Steps.{AreLowered}
-use Rattle.lowering.specs.Views.{graph_of}
+use Rattle.graph.specs.Views.{graph_of}
 use Rattle.lowering.proofs.NamedRelations.{plain_lets}
 use Rattle.lowering.proofs.program.lower_relations.Given as goal
 

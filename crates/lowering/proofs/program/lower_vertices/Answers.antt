@@ -3,7 +3,7 @@ use Rattle.expr_tree.specs.Plain.{plain_program}
 use Rattle.expr_tree.specs.Views.{program_tree}
 use Rattle.semantics.specs.Lower.{lowered}
 use Rattle.lowering.specs.Faults.{IsTooMany}
-use Rattle.lowering.proofs.Numbers.{length_graph_of}
+use Rattle.graph.proofs.Numbers.{length_graph_of}
 use Rattle.lowering.proofs.WholePrograms.{program_made, over_inputs, over_lets, over_outputs}
 use Rattle.lowering.proofs.program.lower_vertices.Goals as goal
 

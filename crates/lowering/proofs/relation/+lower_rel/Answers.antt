@@ -5,11 +5,12 @@ use Rattle.expr_tree.specs.Views.{cond_tree, rel_tree, scalar_tree}
 use Rattle.semantics.specs.Kinds as semantics
 use Rattle.semantics.specs.Lower.{lower}
 use Rattle.lowering.specs.Scopes.{ports_of}
-use Rattle.lowering.specs.Views.{graph_of, operator_kind}
+use Rattle.graph.specs.Views.{graph_of}
+use Rattle.lowering.specs.SetOperators.{operator_kind}
 use Rattle.lowering.proofs.Answered.{loop_many, loop_ok, one_many, one_ok, two_many, two_ok}
 use Rattle.lowering.proofs.Forms.{nothing_made, over_body, over_left, over_one, over_open, over_right, over_start}
 use Rattle.lowering.proofs.NamedRelations.{passed_on}
-use Rattle.lowering.proofs.Numbers.{number_of}
+use Rattle.lowering.proofs.MoreVertices.{number_of}
 use Rattle.lowering.proofs.SetOperations.{set_lowered}
 use Rattle.lowering.proofs.relation.+lower_rel.Goals as goal
 

@@ -1,6 +1,6 @@
 use Rattle.std.proofs.Common.{◌≡◌, ◌<◌, ℕ, length, slice_index_or}
 use Rattle.semantics.specs.Graph.{vertex}
-use Rattle.lowering.specs.Shown.{shown_graph}
+use Rattle.graph.specs.Shown.{shown_graph}
 use Rattle.path_summary.proofs.links.depths_of.Given as goal
 
 abbrev pub invariant-loop-number : goal.invariant-loop-number

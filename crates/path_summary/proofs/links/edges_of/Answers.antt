@@ -1,5 +1,5 @@
 use Rattle.std.proofs.Common.{◌∷◌, [], arith, length-append}
-use Rattle.lowering.specs.Shown.{shown_graph}
+use Rattle.graph.specs.Shown.{shown_graph}
 use Rattle.path_summary.proofs.RowsMade.{links_more, no_links}
 use Rattle.path_summary.proofs.links.edges_of.Goals as goal
 

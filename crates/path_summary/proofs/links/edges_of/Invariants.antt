@@ -1,5 +1,5 @@
 use Rattle.std.proofs.Common.{◌≡◌, ℕ, Some, length, slice_get}
-use Rattle.lowering.specs.Shown.{shown_graph}
+use Rattle.graph.specs.Shown.{shown_graph}
 use Rattle.path_summary.specs.Linking as plain
 use Rattle.path_summary.proofs.links.edges_of.Given as goal
 

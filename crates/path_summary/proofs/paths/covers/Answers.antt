@@ -1,7 +1,7 @@
 use Rattle.std.proofs.Common.{◌∙◌, ◌≤◌, ap₂, arith, List, ℕ}
 use Rattle.path_summary.specs.Order.{in_order}
 use Rattle.path_summary.specs.Carried.{carried, counters_after}
-use Rattle.path_summary.specs.Views.{action_of}
+use Rattle.loop_context.specs.Actions.{action_of}
 use Rattle.path_summary.proofs.InOrder.{covers_in}
 use Rattle.path_summary.proofs.paths.covers.Goals as goal
 

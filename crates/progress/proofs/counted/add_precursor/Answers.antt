@@ -1,5 +1,5 @@
 use Rattle.std.proofs.Common.{arith}
-use Rattle.lowering.specs.Shown.{shown_graph}
+use Rattle.graph.specs.Shown.{shown_graph}
 use Rattle.progress.specs.Counts.{CountsPrecursor}
 use Rattle.progress.proofs.Contents.{got_at}
 use Rattle.progress.proofs.CountsKept.{none_done, long_done, done_more, all_added}

@@ -1,4 +1,4 @@
-use Rattle.lowering.specs.Shown.{shown_graph}
+use Rattle.graph.specs.Shown.{shown_graph}
 use Rattle.progress.specs.Counts.{CountsPrecursor}
 use Rattle.progress.proofs.CountsKept.{IsDoneTo}
 use Rattle.progress.proofs.counted.add_precursor.Given as goal

@@ -1,5 +1,5 @@
 use Rattle.std.proofs.Common.{refl, arith}
-use Rattle.lowering.specs.Shown.{shown_graph}
+use Rattle.graph.specs.Shown.{shown_graph}
 use Rattle.progress.specs.Counts.{pointstamps}
 use Rattle.progress.proofs.CountsKept.{count_few, stamps_long, exact_enters, occurs_enters}
 use Rattle.progress.proofs.counted.enter.Goals as goal

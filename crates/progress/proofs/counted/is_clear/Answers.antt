@@ -1,6 +1,6 @@
 use Rattle.std.proofs.Common.{sym, arith, false}
 use Rattle.std.proofs.lemmas.Bool.{false≢true}
-use Rattle.lowering.specs.Shown.{shown_graph}
+use Rattle.graph.specs.Shown.{shown_graph}
 use Rattle.progress.specs.Counts.{pointstamps}
 use Rattle.progress.proofs.Contents.{got_at, clear_more, all_clear}
 use Rattle.progress.proofs.Options.{is_true, not_true}

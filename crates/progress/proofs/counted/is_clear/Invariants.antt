@@ -1,5 +1,5 @@
 use Rattle.std.proofs.Common.{false}
-use Rattle.lowering.specs.Shown.{shown_graph}
+use Rattle.graph.specs.Shown.{shown_graph}
 use Rattle.progress.specs.Counts.{pointstamps}
 use Rattle.progress.proofs.Contents.{ClearTo}
 use Rattle.progress.proofs.counted.is_clear.Given as goal

@@ -1,4 +1,4 @@
-use Rattle.lowering.specs.Shown.{shown_graph}
+use Rattle.graph.specs.Shown.{shown_graph}
 use Rattle.progress.proofs.CountsKept.{got_stamp, removed_some, exact_leaves, occurs_leaves}
 use Rattle.progress.proofs.counted.leave.Goals as goal
 

@@ -1,6 +1,6 @@
 use Rattle.std.proofs.Common.{List, take, sym, subst, arith, add-one, refl}
 use Rattle.semantics.specs.Could.{Pointstamp}
-use Rattle.lowering.specs.Shown.{shown_graph}
+use Rattle.graph.specs.Shown.{shown_graph}
 use Rattle.progress.specs.Counts.{IsPrecursorCount, pointstamps}
 use Rattle.progress.proofs.Contents.{got_at}
 use Rattle.progress.proofs.Options.{is_true, not_true}

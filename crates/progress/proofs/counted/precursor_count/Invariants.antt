@@ -1,5 +1,5 @@
 use Rattle.std.proofs.Common.{◌≤◌, take}
-use Rattle.lowering.specs.Shown.{shown_graph}
+use Rattle.graph.specs.Shown.{shown_graph}
 use Rattle.progress.specs.Counts.{IsPrecursorCount, pointstamps}
 use Rattle.progress.proofs.counted.precursor_count.Given as goal
 

@@ -1,5 +1,5 @@
 use Rattle.std.proofs.Common.{arith}
-use Rattle.lowering.specs.Shown.{shown_graph}
+use Rattle.graph.specs.Shown.{shown_graph}
 use Rattle.progress.proofs.CountsKept.{all_many}
 use Rattle.progress.proofs.counted.put.Goals as goal
 

@@ -1,4 +1,4 @@
-use Rattle.lowering.specs.Shown.{shown_graph}
+use Rattle.graph.specs.Shown.{shown_graph}
 use Rattle.progress.proofs.counted.take.Goals as goal
 
 pub returns-then-index-gt1-clause-exact : goal.returns-then-index-gt1-clause-exact

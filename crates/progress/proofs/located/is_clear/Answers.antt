@@ -1,6 +1,6 @@
 use Rattle.std.proofs.Common.{arith}
-use Rattle.lowering.specs.Locations.{location_of}
-use Rattle.lowering.specs.Shown.{shown_graph}
+use Rattle.graph.specs.Locations.{location_of}
+use Rattle.graph.specs.Shown.{shown_graph}
 use Rattle.progress.proofs.Places.{clear_more_at, all_clear_at}
 use Rattle.progress.proofs.located.is_clear.Goals as goal
 

@@ -1,6 +1,6 @@
 use Rattle.std.specs.Prelude.{map}
-use Rattle.lowering.specs.Locations.{location_of}
-use Rattle.lowering.specs.Shown.{shown_graph}
+use Rattle.graph.specs.Locations.{location_of}
+use Rattle.graph.specs.Shown.{shown_graph}
 use Rattle.progress.proofs.Places.{ClearAmong}
 use Rattle.progress.proofs.located.is_clear.Given as goal
 

@@ -1,5 +1,5 @@
 use Rattle.std.proofs.Common.{◌<◌, subst}
-use Rattle.lowering.specs.Locations.{location_of}
+use Rattle.graph.specs.Locations.{location_of}
 use Rattle.progress.specs.Bag.{Bag, count}
 use Rattle.progress.specs.Kept.{stamp}
 use Rattle.progress.proofs.located.is_clear_at.Goals as goal

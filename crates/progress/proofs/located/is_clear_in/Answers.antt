@@ -1,7 +1,7 @@
 use Rattle.std.proofs.Common.{◌≡◌, ◌∙◌, sym, subst, arith, ap}
 use Rattle.semantics.specs.Could.{Pointstamp, CouldResultIn}
-use Rattle.lowering.specs.Locations.{location_of}
-use Rattle.lowering.specs.Shown.{shown_graph}
+use Rattle.graph.specs.Locations.{location_of}
+use Rattle.graph.specs.Shown.{shown_graph}
 use Rattle.progress.specs.Kept.{stamp}
 use Rattle.progress.proofs.Options.{is_true, true_is}
 use Rattle.progress.proofs.Earlier.{clear_none, clear_least}

@@ -1,5 +1,5 @@
 use Rattle.progress.proofs.Places.{among_removed}
-use Rattle.lowering.specs.Locations.{location_of}
+use Rattle.graph.specs.Locations.{location_of}
 use Rattle.progress.proofs.located.unlist.Goals as goal
 
 pub returns-in-Some-clause-still : goal.returns-in-Some-clause-still

@@ -1,4 +1,4 @@
-use Rattle.lowering.specs.Shown.{shown_graph}
+use Rattle.graph.specs.Shown.{shown_graph}
 use Rattle.progress.proofs.Contents.{ClearTo}
 use Rattle.progress.proofs.plain.is_clear.Given as goal
 

@@ -1,9 +1,9 @@
 use Rattle.std.proofs.Common.{◌≡◌, ◌∙◌, ◌++◌, ℕ, List, ap, sym, subst, length, map, arith}
 use Rattle.std.proofs.lemmas.List.{length-map}
 use Rattle.semantics.specs.Graph.{output_numbers}
-use Rattle.lowering.specs.Shown.{GraphValue, shown_graph, shown_names}
-use Rattle.lowering.specs.Views.{name_of_output, number_of_output}
-use Rattle.lowering.specs.declared.outputs.GraphOutput.{GraphOutput}
+use Rattle.graph.specs.Shown.{GraphValue, shown_graph, shown_names}
+use Rattle.graph.specs.Views.{name_of_output, number_of_output}
+use Rattle.graph.specs.declared.graph.GraphOutput.{GraphOutput}
 use Rattle.replay.specs.Replays.{TellsOutput, label_of}
 use Rattle.replay.specs.Steps.{ShowsState, setting_of}
 use Rattle.replay.specs.Waits.{State}

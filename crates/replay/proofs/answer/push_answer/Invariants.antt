@@ -1,4 +1,4 @@
-use Rattle.lowering.specs.Shown.{shown_names}
+use Rattle.graph.specs.Shown.{shown_names}
 use Rattle.replay.proofs.Told.{ToldSoFar}
 use Rattle.replay.proofs.answer.push_answer.Given as goal
 

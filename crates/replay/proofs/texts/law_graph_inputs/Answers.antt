@@ -1,6 +1,6 @@
 use Rattle.replay.proofs.GraphInputs.{are_inputs}
 use Rattle.std.proofs.Common.{◌≤◌, arith, length}
-use Rattle.lowering.specs.Shown.{shown_graph}
+use Rattle.graph.specs.Shown.{shown_graph}
 use Rattle.replay.proofs.texts.law_graph_inputs.Goals as goal
 
 pub returns : goal.returns

@@ -1,7 +1,7 @@
 use Rattle.std.proofs.Common.{map, subst, sym, ap, ◌∙◌}
 use Rattle.expr_tree.specs.Plain.{plain_scalar, plain_cond, plain_agg}
 use Rattle.expr_tree.specs.Views.{scalar_tree, cond_tree}
-use Rattle.lowering.specs.Views.{kind_of}
+use Rattle.graph.specs.Views.{kind_of}
 use Rattle.semantics.specs.Kinds as semantics
 use Rattle.vertices.specs.Shards.{IsFreshShard}
 use Rattle.vertices.proofs.making.new_shard.Goals as goal

@@ -2,7 +2,7 @@ use Rattle.std.proofs.Common.{length, arith}
 use Rattle.machine.specs.Active.{sum_below}
 use Rattle.views.specs.Queued.{batches_of}
 use Rattle.views.specs.WorkerViews.{untaken_at}
-use Rattle.views.proofs.ReservedRoom.{sum_next}
+use Rattle.views.proofs.SenderSums.{sum_next}
 use Rattle.views.proofs.local_views.all_wait.Goals as goal
 
 pub loop-w-preserved : goal.loop-w-preserved

@@ -1,6 +1,6 @@
 use Rattle.std.proofs.Common.{arith}
 use Rattle.progress.proofs.Contents.{got_at}
-use Rattle.views.proofs.QueuesAndViews.{get_below}
+use Rattle.views.proofs.PostedBatches.{get_below}
 use Rattle.views.proofs.ReservedRoom.{queues_same, queues_set, free_set}
 use Rattle.views.proofs.local_views.reserve_queues.Goals as goal
 

@@ -2,7 +2,7 @@ use Rattle.std.proofs.Common.{◌≡◌, ◌∙◌, ◌+◌, ◌++◌, ◌∷◌
 use Rattle.semantics.specs.Dataflow.{IsDataflow}
 use Rattle.semantics.specs.Could.{Pointstamp, at_vertex}
 use Rattle.semantics.specs.Time.{Time, at_epoch}
-use Rattle.lowering.specs.Shown.{GraphValue, shown_graph}
+use Rattle.graph.specs.Shown.{GraphValue, shown_graph}
 use Rattle.views.proofs.OpenInputs.{AreOpened, opened_more, opened_known}
 use Rattle.views.proofs.opening.open_inputs.Goals as goal
 

@@ -66,3 +66,15 @@ returns-then-worker-workers-clause-prompt g c =
     let s : Shown = c.self.inside.state in
     let past : (g.V.Views.workers c.self.inside.views) ≤ c.args.worker = (let l = c.if-worker-workers.true in let e = c.worker_count-workers.ensures in let v = c.self.invariant.viewers_are in omega (arith, l, e, v)) in
     subst (λ (b : BoardShown). IsUpToDate b c.args.worker) c.self.view_is (λ k. no_worker s (g.V.Views.workers c.self.inside.views) (g.V.Views.waiting c.self.inside.views) c.self.inside.passed c.args.worker k past)
+
+pub waits-requires : goal.waits-requires
+waits-requires g c = let l = c.if-worker-workers.false in let e = c.worker_count-workers.ensures in let v = c.self.invariant.viewers_are in omega (arith, l, e, v)
+
+pub returns-then-not-waits-clause-applies : goal.returns-then-not-waits-clause-applies
+returns-then-not-waits-clause-applies g c = record { others = λ w k ne. refl; fewer = λ k. omega arith; passed = omega arith }
+
+pub returns-then-not-waits-clause-prompt : goal.returns-then-not-waits-clause-prompt
+returns-then-not-waits-clause-prompt g c =
+    let s : Shown = c.self.inside.state in
+    let none : (k : ℕ) → k < suc (g.V.Views.workers c.self.inside.views) → g.V.Views.waiting c.self.inside.views c.args.worker k ≡ [] = c.if-not-waits.ensures in
+    subst (λ (b : BoardShown). IsUpToDate b c.args.worker) c.self.view_is (up_to_date s (g.V.Views.workers c.self.inside.views) (g.V.Views.waiting c.self.inside.views) c.self.inside.passed c.args.worker (λ k lw lk. none k lk))

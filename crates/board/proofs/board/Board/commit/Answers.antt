@@ -4,7 +4,7 @@ use Rattle.semantics.specs.Multiset.{Record}
 use Rattle.semantics.specs.Could.{CouldResultIn, Pointstamp, at_vertex}
 use Rattle.semantics.specs.Graph.{Graph, input_count}
 use Rattle.semantics.specs.Time.{at_epoch}
-use Rattle.lowering.specs.Shown.{GraphValue, shown_graph}
+use Rattle.graph.specs.Shown.{GraphValue, shown_graph}
 use Rattle.machine.specs.Active.{one_if_same}
 use Rattle.machine.specs.Posting.{MayPost}
 use Rattle.machine.specs.Step.{Step}

@@ -1,7 +1,7 @@
 use Rattle.std.proofs.Common.{ap, ◌≡◌, ◌<◌, ℕ, None, length, sym, ◌∙◌, subst}
 use Rattle.semantics.specs.Graph.{vertex}
 use Rattle.semantics.specs.Kinds.{Kind}
-use Rattle.lowering.specs.Shown.{shown_graph}
+use Rattle.graph.specs.Shown.{shown_graph}
 use Rattle.events.specs.Wired.{Wired, graph_in}
 use Rattle.board.specs.Answers.{feed_refusal}
 use Rattle.board.specs.Shown.{Shown}

@@ -1,5 +1,5 @@
 use Rattle.std.proofs.Common.{◌<◌, length, sym, ◌∙◌, subst}
-use Rattle.lowering.specs.Shown.{GraphValue, shown_graph}
+use Rattle.graph.specs.Shown.{GraphValue, shown_graph}
 use Rattle.board.specs.Shown.{Shown}
 use Rattle.board.proofs.Ended.{open_tells, input_located}
 use Rattle.board.proofs.board.Board.feed_refusal.Goals as goal

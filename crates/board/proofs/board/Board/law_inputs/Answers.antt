@@ -1,6 +1,6 @@
 use Rattle.std.proofs.Common.{ap, ◌≡◌, length, subst}
 use Rattle.semantics.specs.Graph.{input_count}
-use Rattle.lowering.specs.Shown.{shown_graph}
+use Rattle.graph.specs.Shown.{shown_graph}
 use Rattle.board.specs.Shown.{Shown}
 use Rattle.board.specs.Lateness.{BoardShown}
 use Rattle.board.proofs.board.Board.law_inputs.Goals as goal

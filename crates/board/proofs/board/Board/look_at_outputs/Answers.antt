@@ -1,6 +1,6 @@
 use Rattle.std.proofs.Common.{ap, ◌≡◌, [], subst, slice_index_or}
 use Rattle.semantics.specs.Graph.{output_number}
-use Rattle.lowering.specs.Shown.{shown_graph}
+use Rattle.graph.specs.Shown.{shown_graph}
 use Rattle.board.specs.Shown.{Shown, emitted_by}
 use Rattle.board.proofs.Looked.{looks_more}
 use Rattle.board.specs.Lateness.{BoardShown}

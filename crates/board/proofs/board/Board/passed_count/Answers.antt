@@ -2,7 +2,7 @@ use Rattle.std.proofs.Common.{◌≡◌, ◌↔◌, ◌<◌, ◌≤◌, ◌∙�
 use Rattle.semantics.specs.Could.{CouldResultIn, IsTimeAt, NoneOf, Pointstamp, at_vertex}
 use Rattle.semantics.specs.Graph.{output_number}
 use Rattle.semantics.specs.Time.{at_epoch}
-use Rattle.lowering.specs.Shown.{shown_graph}
+use Rattle.graph.specs.Shown.{shown_graph}
 use Rattle.views.specs.Waiting.{IsSeenBy}
 use Rattle.board.specs.Lateness.{BoardShown, IsUpToDate}
 use Rattle.board.specs.Promises.{CountsPassed, HasPassed, IsOutputPlace}

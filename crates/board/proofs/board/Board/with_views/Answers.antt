@@ -3,7 +3,7 @@ use Rattle.semantics.specs.Could.{IsTimeAt, Location, at_vertex}
 use Rattle.semantics.specs.Dataflow.{IsDataflow}
 use Rattle.semantics.specs.Graph.{Graph, input_count}
 use Rattle.semantics.specs.PortArity.{IsTyped}
-use Rattle.lowering.specs.Shown.{GraphValue, shown_graph}
+use Rattle.graph.specs.Shown.{GraphValue, shown_graph}
 use Rattle.views.specs.Opening.{active_at_first}
 use Rattle.views.specs.Waiting.{IsSeenBy}
 use Rattle.board.specs.Fitting.{arity_in}

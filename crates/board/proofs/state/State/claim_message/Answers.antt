@@ -1,6 +1,6 @@
 use Rattle.std.proofs.Common.{◌≡◌, ◌<◌, ℕ, List, length, refl, sym, ap, ◌∙◌, subst, arith, slice_get, slice_index_or, Some, None}
 use Rattle.semantics.specs.Graph.{target, edge_count}
-use Rattle.lowering.specs.Shown.{GraphValue, shown_graph}
+use Rattle.graph.specs.Shown.{GraphValue, shown_graph}
 use Rattle.machine.specs.World.{Message}
 use Rattle.tokens.specs.Tokens.{Ticket}
 use Rattle.events.specs.Jobs.{Job}
@@ -22,7 +22,7 @@ edge-requires c =
     let box : c.mailbox.result.now.messages ≡ (side_at s k).mail = c.mailbox.ensures ∙ ap (λ (z : Side). z.mail) x in
     let got : slice_get (side_at s k).mail c.args.place ≡ Some m =
     sym (ap (λ (ms : List Message). slice_get ms c.args.place) box) ∙ get_read c.mailbox.result.now.messages c.args.place m (omega (arith, c.requires.some, ap length box)) c.get.ensures in
-    let edge : c.behind-mailbox.inside.edge.0 ≡ m.edge = ap (λ (z : Message). z.edge) c.behind-mailbox.view_is in
+    let edge : c.edge-edge.result.0 ≡ m.edge = c.edge-edge.ensures in
     let graph : c.graph.result.now ≡ s.graph = c.graph.ensures ∙ ap (λ (z : Wired). z.graph) c.deref.ensures ∙ ap (λ (z : Shown). z.graph) c.self.view_is in
     let good = ready.good_message c.requires.kept.0 c.requires.kept.1 s c.requires.kept.2 k c.requires.there c.requires.free c.args.place m got in
     let P : GraphValue → Type 0 = λ z. m.edge < edge_count (shown_graph z) in
@@ -40,7 +40,7 @@ send_message-event-requires-clause-vertex c =
     let box : c.mailbox.result.now.messages ≡ (side_at s k).mail = c.mailbox.ensures ∙ ap (λ (z : Side). z.mail) x in
     let got : slice_get (side_at s k).mail c.args.place ≡ Some m =
     sym (ap (λ (ms : List Message). slice_get ms c.args.place) box) ∙ get_read c.mailbox.result.now.messages c.args.place m (omega (arith, c.requires.some, ap length box)) c.get.ensures in
-    let edge : c.behind-mailbox.inside.edge.0 ≡ m.edge = ap (λ (z : Message). z.edge) c.behind-mailbox.view_is in
+    let edge : c.edge-edge.result.0 ≡ m.edge = c.edge-edge.ensures in
     let graph : c.graph.result.now ≡ s.graph = c.graph.ensures ∙ ap (λ (z : Wired). z.graph) c.deref.ensures ∙ ap (λ (z : Shown). z.graph) c.self.view_is in
     let v : c.edge.result.target.0 ≡ target (shown_graph s.graph) m.edge = c.edge.ensures.target ∙ (λ i. target (shown_graph (graph i)) (edge i)) in
     let y : c.index_mut.result.now.side ≡ side_at s k = read_at s ds same k c.requires.there c.index_mut.result.now c.index_mut.ensures.value in
@@ -59,7 +59,7 @@ send_message-event-requires-clause-shard c =
     let box : c.mailbox.result.now.messages ≡ (side_at s k).mail = c.mailbox.ensures ∙ ap (λ (z : Side). z.mail) x in
     let got : slice_get (side_at s k).mail c.args.place ≡ Some m =
     sym (ap (λ (ms : List Message). slice_get ms c.args.place) box) ∙ get_read c.mailbox.result.now.messages c.args.place m (omega (arith, c.requires.some, ap length box)) c.get.ensures in
-    let edge : c.behind-mailbox.inside.edge.0 ≡ m.edge = ap (λ (z : Message). z.edge) c.behind-mailbox.view_is in
+    let edge : c.edge-edge.result.0 ≡ m.edge = c.edge-edge.ensures in
     let graph : c.graph.result.now ≡ s.graph = c.graph.ensures ∙ ap (λ (z : Wired). z.graph) c.deref.ensures ∙ ap (λ (z : Shown). z.graph) c.self.view_is in
     let v : c.edge.result.target.0 ≡ target (shown_graph s.graph) m.edge = c.edge.ensures.target ∙ (λ i. target (shown_graph (graph i)) (edge i)) in
     let y : c.index_mut.result.now.side ≡ side_at s k = read_at s ds same k c.requires.there c.index_mut.result.now c.index_mut.ensures.value in
@@ -79,7 +79,7 @@ new-requires-clause-ready c =
     let box : c.mailbox.result.now.messages ≡ (side_at s k).mail = c.mailbox.ensures ∙ ap (λ (z : Side). z.mail) x in
     let got : slice_get (side_at s k).mail c.args.place ≡ Some m =
     sym (ap (λ (ms : List Message). slice_get ms c.args.place) box) ∙ get_read c.mailbox.result.now.messages c.args.place m (omega (arith, c.requires.some, ap length box)) c.get.ensures in
-    let edge : c.behind-mailbox.inside.edge.0 ≡ m.edge = ap (λ (z : Message). z.edge) c.behind-mailbox.view_is in
+    let edge : c.edge-edge.result.0 ≡ m.edge = c.edge-edge.ensures in
     let graph : c.graph.result.now ≡ s.graph = c.graph.ensures ∙ ap (λ (z : Wired). z.graph) c.deref.ensures ∙ ap (λ (z : Shown). z.graph) c.self.view_is in
     let v : c.edge.result.target.0 ≡ target (shown_graph s.graph) m.edge = c.edge.ensures.target ∙ (λ i. target (shown_graph (graph i)) (edge i)) in
     let y : c.index_mut.result.now.side ≡ side_at s k = read_at s ds same k c.requires.there c.index_mut.result.now c.index_mut.ensures.value in
@@ -104,7 +104,7 @@ returns-clause-hands c =
     let box : c.mailbox.result.now.messages ≡ (side_at s k).mail = c.mailbox.ensures ∙ ap (λ (z : Side). z.mail) x in
     let got : slice_get (side_at s k).mail c.args.place ≡ Some m =
     sym (ap (λ (ms : List Message). slice_get ms c.args.place) box) ∙ get_read c.mailbox.result.now.messages c.args.place m (omega (arith, c.requires.some, ap length box)) c.get.ensures in
-    let edge : c.behind-mailbox.inside.edge.0 ≡ m.edge = ap (λ (z : Message). z.edge) c.behind-mailbox.view_is in
+    let edge : c.edge-edge.result.0 ≡ m.edge = c.edge-edge.ensures in
     let graph : c.graph.result.now ≡ s.graph = c.graph.ensures ∙ ap (λ (z : Wired). z.graph) c.deref.ensures ∙ ap (λ (z : Shown). z.graph) c.self.view_is in
     let v : c.edge.result.target.0 ≡ target (shown_graph s.graph) m.edge = c.edge.ensures.target ∙ (λ i. target (shown_graph (graph i)) (edge i)) in
     let y : c.index_mut.result.now.side ≡ side_at s k = read_at s ds same k c.requires.there c.index_mut.result.now c.index_mut.ensures.value in

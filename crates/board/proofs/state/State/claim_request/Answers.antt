@@ -1,5 +1,5 @@
 use Rattle.std.proofs.Common.{◌≡◌, ◌<◌, ℕ, List, length, refl, sym, ap, ◌∙◌, arith, slice_get, slice_index_or, Some, None}
-use Rattle.lowering.specs.Shown.{shown_graph}
+use Rattle.graph.specs.Shown.{shown_graph}
 use Rattle.machine.specs.World.{Request}
 use Rattle.tokens.specs.Tokens.{Ticket}
 use Rattle.events.specs.Jobs.{Job}

@@ -1,8 +1,8 @@
 use Rattle.std.proofs.Common.{◌≡◌, ◌<◌, ℕ, List, length, sym, ap, ◌∙◌, subst, arith, slice_set, length-set}
 use Rattle.semantics.specs.Time.{Time}
 use Rattle.semantics.specs.Could.{Pointstamp, Location}
-use Rattle.lowering.specs.Locations.{IsIn, location_of}
-use Rattle.lowering.specs.Shown.{GraphValue, shown_graph}
+use Rattle.graph.specs.Locations.{IsIn, location_of}
+use Rattle.graph.specs.Shown.{GraphValue, shown_graph}
 use Rattle.machine.specs.Active.{event_pointstamp}
 use Rattle.machine.specs.Processing.{event_time}
 use Rattle.tokens.specs.declared.rule.Place.TheVariants.{Out}

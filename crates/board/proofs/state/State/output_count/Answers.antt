@@ -1,7 +1,7 @@
 use Rattle.std.proofs.Common.{ap, length, arith}
 use Rattle.std.proofs.lemmas.List.{length-map}
-use Rattle.lowering.specs.Shown.{shown_graph}
-use Rattle.lowering.specs.Views.{number_of_output}
+use Rattle.graph.specs.Shown.{shown_graph}
+use Rattle.graph.specs.Views.{number_of_output}
 use Rattle.board.proofs.Outputs.{few_outputs}
 use Rattle.board.proofs.state.State.output_count.Goals as goal
 

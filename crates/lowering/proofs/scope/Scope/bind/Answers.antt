@@ -1,6 +1,6 @@
 use Rattle.std.proofs.Common.{◌≡◌, ◌++◌, ◌∷◌, []}
 use Rattle.lowering.specs.Scopes.{entries_of, ports_of}
-use Rattle.lowering.specs.Views.{port_of}
+use Rattle.graph.specs.Views.{port_of}
 use Rattle.lowering.proofs.Tables.{Changed, one_bound}
 use Rattle.lowering.proofs.scope.Scope.bind.Goals as goal
 

@@ -1,9 +1,9 @@
 use Rattle.std.proofs.Common.{arith}
 use Rattle.std.proofs.Math.Logic.{∥∥₁_map}
 use Rattle.path_summary.specs.Linking.{Draws}
-use Rattle.lowering.specs.Shown.{shown_graph, shown_inputs}
-use Rattle.lowering.proofs.EdgeTables.{few_edges}
-use Rattle.lowering.proofs.Numbers.{length_graph_of}
+use Rattle.graph.specs.Shown.{shown_graph, shown_inputs}
+use Rattle.graph.proofs.EdgeTables.{few_edges}
+use Rattle.graph.proofs.Numbers.{length_graph_of}
 use Rattle.path_summary.proofs.WholeTables.{source_known, dataflow_known, links_nested}
 use Rattle.path_summary.proofs.links.Links.of.Goals as goal
 

@@ -1,7 +1,7 @@
 use Rattle.std.proofs.Common.{subst}
 use Rattle.std.specs.Prelude.{IsTrue, ◌↔◌}
 use Rattle.semantics.specs.Could.{CouldResultIn, IsTimeAt}
-use Rattle.lowering.specs.Shown.{shown_graph}
+use Rattle.graph.specs.Shown.{shown_graph}
 use Rattle.path_summary.proofs.WholeTables.{decides_could}
 use Rattle.path_summary.proofs.paths.Paths.could.Goals as goal
 

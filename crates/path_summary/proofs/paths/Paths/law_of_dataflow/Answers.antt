@@ -1,6 +1,6 @@
 use Rattle.std.proofs.Common.{subst}
 use Rattle.semantics.specs.Dataflow.{IsDataflow}
-use Rattle.lowering.specs.Shown.{shown_graph}
+use Rattle.graph.specs.Shown.{shown_graph}
 use Rattle.path_summary.proofs.paths.Paths.law_of_dataflow.Goals as goal
 
 pub returns : goal.returns

@@ -1,4 +1,4 @@
-use Rattle.lowering.specs.Shown.{shown_graph, shown_inputs}
+use Rattle.graph.specs.Shown.{shown_graph, shown_inputs}
 use Rattle.path_summary.proofs.WholeTables.{dataflow_known}
 use Rattle.path_summary.proofs.paths.Paths.of.Goals as goal
 

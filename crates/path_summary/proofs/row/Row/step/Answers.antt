@@ -1,13 +1,13 @@
 use Rattle.std.proofs.Common.{rules, ◌≡◌, ◌∙◌, ◌<◌, ◌≤◌, ℕ, Some, List, length, subst, sym, ap, arith, slice_index_or}
 use denote.Enum.Bare.{same_true}
 use Rattle.semantics.specs.Summary.{Summary}
-use Rattle.path_summary.specs.contracts.action.Action.{the_type}
-use Rattle.path_summary.specs.declared.action.Action.{Action as Declared}
-use Rattle.path_summary.specs.declared.action.Action.TheVariants.{Stay}
+use Rattle.loop_context.specs.contracts.action.Action.{the_type}
+use Rattle.loop_context.specs.declared.action.Action.{Action as Declared}
+use Rattle.loop_context.specs.declared.action.Action.TheVariants.{Stay}
 use Rattle.path_summary.specs.Codes.{decoded, row_of}
 use Rattle.path_summary.specs.Noted.{IsCodeBelow, LeadsTo}
 use Rattle.path_summary.specs.Rows.{Stepped}
-use Rattle.path_summary.specs.Views.{action_of}
+use Rattle.loop_context.specs.Actions.{action_of}
 use Rattle.path_summary.proofs.Carrying.{below_self}
 use Rattle.path_summary.proofs.CodesGrow.{grows_none}
 use Rattle.path_summary.proofs.Notes.{leads_stay, stepped_not, stepped_to}

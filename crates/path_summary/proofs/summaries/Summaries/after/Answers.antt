@@ -1,7 +1,7 @@
 use Rattle.std.proofs.Common.{sym, subst, List}
 use Rattle.semantics.specs.Summary.{Summary}
 use Rattle.path_summary.specs.Noted.{LeadsTo}
-use Rattle.path_summary.specs.Views.{action_of}
+use Rattle.loop_context.specs.Actions.{action_of}
 use Rattle.path_summary.proofs.Notes.{leads_from}
 use Rattle.path_summary.proofs.summaries.Summaries.after.Goals as goal
 

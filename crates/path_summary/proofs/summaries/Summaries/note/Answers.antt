@@ -2,7 +2,7 @@ use Rattle.std.proofs.Common.{List, subst, sym, ap}
 use Rattle.semantics.specs.Time.{Action}
 use Rattle.semantics.specs.Summary.{Summary}
 use Rattle.path_summary.specs.Noted.{LeadsTo}
-use Rattle.path_summary.specs.Views.{action_of}
+use Rattle.loop_context.specs.Actions.{action_of}
 use Rattle.path_summary.proofs.Notes.{noted_enter, noted_leave, noted_next}
 use Rattle.path_summary.proofs.summaries.Summaries.note.Goals as goal
 

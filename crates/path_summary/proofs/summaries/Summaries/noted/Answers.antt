@@ -1,7 +1,7 @@
 use Rattle.std.proofs.Common.{subst, sym, ap}
 use Rattle.semantics.specs.Time.{Action}
 use Rattle.path_summary.specs.Noted.{LeadsTo}
-use Rattle.path_summary.specs.Views.{action_of}
+use Rattle.loop_context.specs.Actions.{action_of}
 use Rattle.path_summary.proofs.Notes.{leads_stay}
 use Rattle.path_summary.proofs.summaries.Summaries.noted.Goals as goal
 

@@ -1,7 +1,7 @@
 use Rattle.std.proofs.Common.{◌<◌, eqb, subst, arith}
 use Rattle.std.specs.Prelude.{IsTrue, ◌↔◌}
 use Rattle.semantics.specs.Could.{CouldResultIn, NoOtherOf}
-use Rattle.lowering.specs.Shown.{shown_graph}
+use Rattle.graph.specs.Shown.{shown_graph}
 use Rattle.progress.specs.Counts.{occurrences_in, pointstamps}
 use Rattle.progress.specs.ShownCounts.{ShownCounts}
 use Rattle.progress.proofs.Contents.{frontier_by, got_at, got_below}

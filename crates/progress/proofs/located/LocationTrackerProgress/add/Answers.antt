@@ -1,8 +1,8 @@
 use Rattle.std.proofs.Common.{arith, ap, subst, sym}
 use Rattle.std.specs.Prelude.{map}
 use Rattle.semantics.specs.Could.{IsTimeAt}
-use Rattle.lowering.specs.Locations.{location_of}
-use Rattle.lowering.specs.Shown.{shown_graph}
+use Rattle.graph.specs.Locations.{location_of}
+use Rattle.graph.specs.Shown.{shown_graph}
 use Rattle.progress.specs.Shown.{Located}
 use Rattle.progress.proofs.Places.{kept_added}
 use Rattle.progress.proofs.located.LocationTrackerProgress.add.Goals as goal

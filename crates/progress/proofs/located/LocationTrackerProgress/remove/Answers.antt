@@ -1,7 +1,7 @@
 use Rattle.std.proofs.Common.{arith}
 use Rattle.std.specs.Prelude.{map}
-use Rattle.lowering.specs.Locations.{location_of}
-use Rattle.lowering.specs.Shown.{shown_graph}
+use Rattle.graph.specs.Locations.{location_of}
+use Rattle.graph.specs.Shown.{shown_graph}
 use Rattle.progress.proofs.Places.{kept_taken}
 use Rattle.progress.proofs.located.LocationTrackerProgress.remove.Goals as goal
 

@@ -1,7 +1,7 @@
 use Rattle.std.proofs.Common.{◌∙◌, ◌+◌, ◌++◌, arith, ap, subst, sym, [], ◌∷◌}
 use Rattle.semantics.specs.Could.{IsTimeAt}
 use Rattle.machine.specs.Active.{one_if_same}
-use Rattle.lowering.specs.Shown.{shown_graph}
+use Rattle.graph.specs.Shown.{shown_graph}
 use Rattle.progress.specs.Content.{times_in}
 use Rattle.progress.specs.Shown.{Listed}
 use Rattle.progress.proofs.Contents.{times-push, all_more}

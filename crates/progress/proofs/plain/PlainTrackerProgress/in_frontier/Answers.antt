@@ -1,7 +1,7 @@
 use Rattle.std.proofs.Common.{◌<◌, subst}
 use Rattle.std.specs.Prelude.{IsTrue, ◌↔◌}
 use Rattle.semantics.specs.Could.{CouldResultIn, NoOtherOf}
-use Rattle.lowering.specs.Shown.{shown_graph}
+use Rattle.graph.specs.Shown.{shown_graph}
 use Rattle.progress.specs.Content.{times_in}
 use Rattle.progress.specs.Shown.{Listed}
 use Rattle.progress.proofs.Contents.{frontier_by}

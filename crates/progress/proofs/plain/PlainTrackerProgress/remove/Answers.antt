@@ -1,7 +1,7 @@
 use Rattle.std.proofs.Common.{◌≡◌, ◌∙◌, arith, ap, subst, sym, List, slice_get, Some}
 use Rattle.std.specs.Prelude.{remove}
 use Rattle.semantics.specs.Could.{Pointstamp}
-use Rattle.lowering.specs.Shown.{shown_graph}
+use Rattle.graph.specs.Shown.{shown_graph}
 use Rattle.progress.specs.Content.{times_in}
 use Rattle.progress.specs.Shown.{Listed}
 use Rattle.progress.proofs.Contents.{times-removed, all_less}

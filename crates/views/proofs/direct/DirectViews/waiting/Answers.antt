@@ -1,7 +1,7 @@
 use Rattle.std.proofs.Common.{suc, [], length, refl, arith}
 use Rattle.machine.specs.Active.{sum_below}
 use Rattle.machine.specs.Views.{Changes}
-use Rattle.views.proofs.NothingWaits.{sum_none}
+use Rattle.views.proofs.SenderSums.{sum_none}
 use Rattle.views.proofs.direct.DirectViews.waiting.Goals as goal
 
 pub returns : goal.returns

@@ -1,56 +1,72 @@
-use Rattle.std.proofs.Common.{◌≡◌, ◌<◌, length, subst, sym, Some, slice_get}
-use Rattle.std.specs.Prelude.{IsTrue, ◌↔◌}
+use Rattle.std.proofs.Common.{◌<◌, ◌≤◌, Bool, true, false, length, subst, sym, arith}
+use Rattle.std.specs.Prelude.{IsTrue, MatchBool, not, ◌↔◌}
 use Rattle.semantics.specs.Graph.{Graph}
 use Rattle.semantics.specs.Could.{CouldResultIn, IsTimeAt, NoOtherOf}
 use Rattle.semantics.specs.Dataflow.{IsDataflow}
-use Rattle.lowering.specs.Shown.{shown_graph}
-use Rattle.progress.proofs.Contents.{got_at}
+use Rattle.graph.specs.Shown.{shown_graph}
+use Rattle.progress.specs.Content.{IsBlocked, IsClear}
 use Rattle.views.specs.Waiting.{IsSeenBy}
-use Rattle.views.specs.Viewed.{above}
-use Rattle.views.specs.WorkerViews.{WorkerViews, AreViews, content_of, waiting_of}
-use Rattle.views.proofs.AppliedBatches.{no_other_seen, no_other_active}
+use Rattle.views.specs.WorkerViews.{HasPlaces, WorkerViews, AreViews, content_of, waiting_of}
+use Rattle.views.specs.Stale.{AreKnown, stale_count}
+use Rattle.progress.proofs.Options.{is_true}
+use Rattle.views.proofs.StaleCounts.{seen_frontier, frontier_refused}
 use Rattle.views.proofs.local_views.LocalViewsViews.in_frontier.Goals as goal
 
-pub in_frontier-requires : goal.in_frontier-requires
-in_frontier-requires c =
+pub is_blocked-requires : goal.is_blocked-requires
+is_blocked-requires c =
     let i = c.self.inside in
     let g = shown_graph i.paths.value in
+    let n = i.workers in
+    let qs = i.queues.items in
     let w = c.args.worker in
-    let v = c.index-view.result.now in
     let p = c.args.p.now in
-    let h : AreViews g (content_of i.views.items i.queues.items) i.views.items i.queues.items i.spare = c.self.invariant in
-    let l : w < length i.views.items = subst (λ (t : WorkerViews). w < length t.views) (sym c.self.view_is) c.requires.worker in
-    let got : slice_get i.views.items w ≡ Some v = got_at i.views.items w v l c.index-view.ensures in
-    let known : IsTimeAt g p.location p.time = subst (λ (t : WorkerViews). IsTimeAt (shown_graph t.graph) p.location p.time) (sym c.self.view_is) c.requires.known in
-    subst (λ (x : Graph). IsTimeAt x p.location p.time) (sym (h.worker w v got).graph) known
+    let h : AreViews g (content_of i.tracker) n qs i.spare = c.self.invariant.2 in
+    let l : w < n = subst (λ (t : WorkerViews). w < t.workers) (sym c.self.view_is) c.requires.worker in
+    let known : IsTimeAt g p.location p.time = subst (λ (x : Graph). IsTimeAt x p.location p.time) c.self.invariant.0 (subst (λ (t : WorkerViews). IsTimeAt (shown_graph t.tracker.graph) p.location p.time) (sym c.self.view_is) c.requires.known) in
+    let few : length qs ≤ 65 = (let a = h.senders in let b = h.few in omega arith) in
+    let placed : HasPlaces qs w = λ s q got. (let k = (h.sender s q got).taken in omega arith) in
+    let are_known : AreKnown g qs = λ s q got. (h.sender s q got).known in
+    rw (c.deref-2.ensures, c.deref-3.ensures.value) (record { few = few; placed = placed; known = are_known; to = known })
+
+pub returns-then-not-in_frontier-clause-seen : goal.returns-then-not-in_frontier-clause-seen
+returns-then-not-in_frontier-clause-seen c =
+    let i = c.self.inside in
+    let g = shown_graph i.paths.value in
+    let n = i.workers in
+    let qs = i.queues.items in
+    let w = c.args.worker in
+    let p = c.args.p.now in
+    let h : AreViews g (content_of i.tracker) n qs i.spare = c.self.invariant.2 in
+    let l : w < n = subst (λ (t : WorkerViews). w < t.workers) (sym c.self.view_is) c.requires.worker in
+    let flow : ∥ IsDataflow g ∥₁ = rw c.deref.ensures at c.law_of_dataflow.ensures in
+    let b = c.in_frontier.result in
+    let exact : IsTrue b ↔ NoOtherOf (CouldResultIn g) (λ q. 0 < content_of i.tracker q) p = subst (λ (x : Graph). IsTrue b ↔ NoOtherOf (CouldResultIn x) (λ q. 0 < content_of i.tracker q) p) c.self.invariant.0 c.in_frontier.ensures in
+    let r : Bool = false in
+    let G : Graph → Type 0 = λ x. IsTrue r ↔ NoOtherOf (CouldResultIn x) (IsSeenBy (content_of i.tracker) (waiting_of qs) n w) p in
+    subst (λ (t : WorkerViews). IsTrue r ↔ NoOtherOf (CouldResultIn (shown_graph t.tracker.graph)) (IsSeenBy (content_of t.tracker) (waiting_of t.queues) t.workers w) p) c.self.view_is
+    (subst G (sym c.self.invariant.0) (frontier_refused g n (content_of i.tracker) qs w h.senders h.some flow (h.history w l) p b c.if-not-in_frontier.true exact))
 
 pub returns-clause-seen : goal.returns-clause-seen
 returns-clause-seen c =
     let i = c.self.inside in
     let g = shown_graph i.paths.value in
+    let n = i.workers in
+    let qs = i.queues.items in
     let w = c.args.worker in
-    let v = c.index-view.result.now in
     let p = c.args.p.now in
+    let h : AreViews g (content_of i.tracker) n qs i.spare = c.self.invariant.2 in
+    let l : w < n = subst (λ (t : WorkerViews). w < t.workers) (sym c.self.view_is) c.requires.worker in
+    let flow : ∥ IsDataflow g ∥₁ = rw c.deref.ensures at c.law_of_dataflow.ensures in
     let b = c.in_frontier.result in
-    let h : AreViews g (content_of i.views.items i.queues.items) i.views.items i.queues.items i.spare = c.self.invariant in
-    let l : w < length i.views.items = subst (λ (t : WorkerViews). w < length t.views) (sym c.self.view_is) c.requires.worker in
-    let got : slice_get i.views.items w ≡ Some v = got_at i.views.items w v l c.index-view.ensures in
-    let is : IsTrue b ↔ NoOtherOf (CouldResultIn g) (λ q. 0 < above v q) p = subst (λ (x : Graph). IsTrue b ↔ NoOtherOf (CouldResultIn x) (λ q. 0 < above v q) p) (h.worker w v got).graph c.in_frontier.ensures in
-    subst (λ (t : WorkerViews). IsTrue b ↔ NoOtherOf (CouldResultIn (shown_graph t.graph)) (IsSeenBy (content_of t.views t.queues) (waiting_of t.queues) (length t.views) w) p) c.self.view_is
-    (no_other_seen g i.views.items i.queues.items i.spare w v h got b p is)
+    let exact : IsTrue b ↔ NoOtherOf (CouldResultIn g) (λ q. 0 < content_of i.tracker q) p = subst (λ (x : Graph). IsTrue b ↔ NoOtherOf (CouldResultIn x) (λ q. 0 < content_of i.tracker q) p) c.self.invariant.0 c.in_frontier.ensures in
+    let k = c.is_blocked.result in
+    let blocked : MatchBool k (IsBlocked g (stale_count qs w) p true) (IsClear g (stale_count qs w) p true) = rw (c.deref-2.ensures, c.deref-3.ensures.value) at c.is_blocked.ensures in
+    let r : Bool = not k in
+    let G : Graph → Type 0 = λ x. IsTrue r ↔ NoOtherOf (CouldResultIn x) (IsSeenBy (content_of i.tracker) (waiting_of qs) n w) p in
+    subst (λ (t : WorkerViews). IsTrue r ↔ NoOtherOf (CouldResultIn (shown_graph t.tracker.graph)) (IsSeenBy (content_of t.tracker) (waiting_of t.queues) t.workers w) p) c.self.view_is
+    (subst G (sym c.self.invariant.0) (seen_frontier g n (content_of i.tracker) qs w h.senders h.some flow (h.history w l) p b k c.if-not-in_frontier.false exact blocked))
 
 pub returns-clause-there : goal.returns-clause-there
-returns-clause-there c = λ true_.
-    let i = c.self.inside in
-    let g = shown_graph i.paths.value in
-    let w = c.args.worker in
-    let v = c.index-view.result.now in
-    let p = c.args.p.now in
-    let b = c.in_frontier.result in
-    let h : AreViews g (content_of i.views.items i.queues.items) i.views.items i.queues.items i.spare = c.self.invariant in
-    let l : w < length i.views.items = subst (λ (t : WorkerViews). w < length t.views) (sym c.self.view_is) c.requires.worker in
-    let got : slice_get i.views.items w ≡ Some v = got_at i.views.items w v l c.index-view.ensures in
-    let is : IsTrue b ↔ NoOtherOf (CouldResultIn g) (λ q. 0 < above v q) p = subst (λ (x : Graph). IsTrue b ↔ NoOtherOf (CouldResultIn x) (λ q. 0 < above v q) p) (h.worker w v got).graph c.in_frontier.ensures in
-    let flow : ∥ IsDataflow g ∥₁ = rw c.deref.ensures at c.law_of_dataflow.ensures in
-    subst (λ (t : WorkerViews). NoOtherOf (CouldResultIn (shown_graph t.graph)) (λ q. 0 < content_of t.views t.queues q) p) c.self.view_is
-    (no_other_active g i.views.items i.queues.items i.spare w v h got flow p (is.0 true_))
+returns-clause-there c = λ _.
+    subst (λ (t : WorkerViews). NoOtherOf (CouldResultIn (shown_graph t.tracker.graph)) (λ q. 0 < content_of t.tracker q) c.args.p.now) c.self.view_is
+    (c.in_frontier.ensures.0 (is_true c.in_frontier.result c.if-not-in_frontier.false))

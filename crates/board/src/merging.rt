@@ -1,0 +1,60 @@
+//! Messages of a mailbox that are put together.
+
+ghost use Rattle.std.specs.Prelude.{◌≡◌, ◌≤◌, ◌<◌, ℕ, IfNone, IfSome, MatchBool};
+ghost use Rattle.std.specs.Bool.{OnTrue};
+ghost use Rattle.board.specs.Merging.{AreAlike, AreMerged};
+
+use events::Message;
+use exchange::Mailbox;
+use graph::Location;
+use path_summary::Pointstamp;
+
+/// How many places behind the first message are looked at, so that a claim's time is bounded.
+const WINDOW: usize = 16;
+
+/// Makes one of the first message and the one at that place behind it, if they are alike and there is memory, and gives the pointstamp of the
+/// second; else all is as before. No record is copied.
+pub fn merge(mailbox: &mut Mailbox<Message>, place: usize) -> Option<Pointstamp>
+    ensures merged { IfSome result (λ ends. AreMerged mailbox.old.messages mailbox.new.messages place ends) }
+    ensures same { IfNone result (mailbox.new.messages ≡ mailbox.old.messages) }
+{
+    if !are_alike(mailbox, place) {
+        return None;
+    }
+    let second = mailbox.take(place + 1);
+    let mut first = mailbox.take(0);
+    let ends = Pointstamp::new(second.time().copied(), Location::Edge(second.edge()));
+    let merged = first.merge(second);
+    mailbox.put_first(first);
+    match merged {
+        Ok(()) => Some(ends),
+        Err(second) => {
+            mailbox.put_at(place + 1, second);
+            None
+        }
+    }
+}
+
+/// Whether the first message and the one at that place behind it may be put together.
+fn are_alike(mailbox: &Mailbox<Message>, place: usize) -> bool
+    ensures alike { MatchBool result (AreAlike mailbox.now.messages place) (AreAlike mailbox.now.messages place → ⊥) }
+    ensures fits { OnTrue result (place < 18446744073709551615) }
+{
+    if mailbox.len().saturating_sub(1) <= place {
+        return false;
+    }
+    mailbox.get(0).may_merge(mailbox.get(place + 1))
+}
+
+/// The first of the places behind the first message, from this one on and among the first few, whose message is like the first.
+pub fn next_alike(mailbox: &Mailbox<Message>, from: usize) -> Option<usize>
+    ensures found { IfSome result (λ at. (from ≤ at) × AreAlike mailbox.now.messages at) }
+    ensures none { IfNone result ((at : ℕ) → from ≤ at → at < 16 → AreAlike mailbox.now.messages at → ⊥) }
+{
+    for place in from..WINDOW {
+        if are_alike(mailbox, place) {
+            return Some(place);
+        }
+    }
+    None
+}

@@ -1,0 +1,26 @@
+//! Why a text can't be read.
+
+use std::io;
+use std::io::{ErrorKind, Write};
+
+/// Writes what the system said, if it said something.
+pub fn write_reason<W: Write>(reason: Option<ErrorKind>, writer: &mut W) -> io::Result<()> {
+    match reason {
+        Some(kind) => writeln!(writer, "{}", sentence(kind)),
+        None => Ok(()),
+    }
+}
+
+/// The same in a few words.
+fn sentence(kind: ErrorKind) -> &'static str {
+    match kind {
+        ErrorKind::NotFound => "there is no such file",
+        ErrorKind::NotADirectory => "a part of the path is no directory",
+        ErrorKind::IsADirectory => "it is a directory",
+        ErrorKind::PermissionDenied => "you may not read it",
+        ErrorKind::InvalidFilename => "the name is too long",
+        ErrorKind::FilesystemLoop => "its symbolic links lead round in a circle",
+        ErrorKind::WouldBlock => "there is nothing to read yet, and this stream doesn't wait",
+        _ => "the system can't read it",
+    }
+}

@@ -1,0 +1,42 @@
+-- Two messages put together.
+use Rattle.std.proofs.Common.{◌≡◌, ℕ, zero, suc, ◌+◌, ◌<◌, List, [], ◌∷◌, ◌++◌, length, refl, sym, ap, ◌∙◌, subst, arith, append_assoc, length-append}
+use Rattle.std.specs.List.{AllByRecursion}
+use Rattle.semantics.specs.Multiset.{Record}
+use Rattle.semantics.specs.Time.{Time}
+use Rattle.machine.specs.World.{Message}
+use Rattle.rows.specs.FlatRows.{arity_of, joined}
+use Rattle.rows.proofs.Joined.{joined_append}
+use Rattle.events.specs.Merging.{AreOneMessage}
+
+-- the arity of records is that of the first of them
+arity_first : (first : List Record) (rest : List Record) → 0 < length first → arity_of (first ++ rest) ≡ arity_of first
+arity_first [] rest h = absurd (omega (arith, h))
+arity_first (r ∷ first) rest h = refl
+
+all_with : (n m : ℕ) (xs ys : List (List Record)) → m ≡ n → AllByRecursion (λ b. arity_of b ≡ n) xs → AllByRecursion (λ b. arity_of b ≡ m) ys → AllByRecursion (λ b. arity_of b ≡ n) (xs ++ ys)
+all_with n m [] [] e a b = tt
+all_with n m [] (y ∷ ys) e a b = (b.0 ∙ e, all_with n m [] ys e a b.1)
+all_with n m (x ∷ xs) ys e a b = (a.0, all_with n m xs ys e a.1 b)
+
+-- the records of both
+pub both_records : (first : List Record) (more : List (List Record)) (second : List Record) (others all : List (List Record)) → all ≡ more ++ second ∷ others
+    → first ++ joined all ≡ (first ++ joined more) ++ (second ++ joined others)
+both_records first more second others all e = ap (λ bs. first ++ joined bs) e ∙ ap (λ r. first ++ r) (joined_append more (second ∷ others)) ∙ sym (append_assoc first (joined more) (second ++ joined others))
+
+pub one_message : (first : List Record) (more : List (List Record)) (l a : ℕ) → AreOneMessage first more l a → (second : List Record) (others : List (List Record)) (m b : ℕ) → AreOneMessage second others m b
+    → arity_of (second ++ joined others) ≡ arity_of (first ++ joined more) → (all : List (List Record)) → all ≡ more ++ second ∷ others → AreOneMessage first all (l + m) a
+one_message first more l a one second others m b other same all e =
+    let alike : arity_of second ≡ arity_of first = sym (arity_first second (joined others) other.some) ∙ same ∙ arity_first first (joined more) one.some in
+    record {
+      some = one.some;
+      counted =
+          let n = ap (λ r. length r) (both_records first more second others all e) in
+          let k = length-append (first ++ joined more) (second ++ joined others) in
+          omega (arith, n, k, one.counted, other.counted);
+      arity = one.arity;
+      each = subst (AllByRecursion (λ b. arity_of b ≡ arity_of first)) (sym e) (all_with (arity_of first) (arity_of second) more (second ∷ others) alike one.each (refl, other.each));
+    }
+
+-- a message that was taken apart
+pub message_is : (m : Message) (edge : ℕ) (time : Time) (records : List Record) → edge ≡ m.edge → time ≡ m.time → records ≡ m.records → record { edge = edge; time = time; records = records } ≡ m
+message_is m edge time records e t r = λ i. record { edge = e i; time = t i; records = r i }

@@ -1,0 +1,25 @@
+-- Messages that are put together, and the batches in which the records of a message lie.
+use Rattle.std.specs.Prelude.{◌≡◌, ℕ, ◌<◌, List, ◌++◌, length}
+use Rattle.std.specs.List.{AllByRecursion}
+use Rattle.semantics.specs.Multiset.{Record}
+use Rattle.machine.specs.World.{Message}
+use Rattle.rows.specs.FlatRows.{arity_of, joined}
+
+-- messages with fewer records than this may be put together
+abbrev pub most_merged : ℕ
+most_merged = 1024
+
+-- both are on one edge at one time, with one arity, and neither is large
+pub record MayMerge (first second : Message) : Type 0 where
+  pub edge : second.edge ≡ first.edge
+  pub time : second.time ≡ first.time
+  pub arity : arity_of second.records ≡ arity_of first.records
+  pub first_small : length first.records < most_merged
+  pub second_small : length second.records < most_merged
+
+-- the first batch isn't empty, all have one arity, and so many records are in them
+pub record AreOneMessage (first : List Record) (more : List (List Record)) (len fields : ℕ) : Type 0 where
+  pub some : 0 < length first
+  pub counted : len ≡ length (first ++ joined more)
+  pub arity : fields ≡ arity_of first
+  pub each : AllByRecursion (λ b. arity_of b ≡ arity_of first) more

@@ -1,0 +1,152 @@
+//! Records on their way to a worker, in one batch or several.
+
+ghost use Rattle.std.specs.Prelude.{◌≡◌, ◌≤◌, ◌+◌, ◌∷◌, ◌++◌, ◌↔◌, IfErr, IfOk, IsTrue, OnErr, OnOk, length, vec_capacity, vec_len};
+ghost use Rattle.events.specs.Merging.{MayMerge};
+
+use crate::fault::EventFault;
+use graph::EdgeId;
+use loop_context::Time;
+use rows::Batch;
+use std::alloc::Global;
+use std::marker::Model;
+
+/// Messages with fewer records than this may be put together; a larger one is worth an event of its own.
+const MOST_MERGED: usize = 1024;
+
+/// Records on their way to a worker. Where messages were put together their batches lie one after another, and are joined when the
+/// event is computed.
+#[derive(Drop)]
+pub struct Message {
+    edge: EdgeId,
+    time: Time,
+    len: usize,
+    arity: usize,
+    batch: Batch,
+    more: Vec<Batch>,
+}
+
+impl Model for Message {
+    ghost use Rattle.std.specs.Prelude.{◌++◌};
+    ghost use Rattle.machine.specs.World as machine;
+    ghost use Rattle.rows.specs.FlatRows.{joined};
+    ghost use Rattle.events.specs.Merging.{AreOneMessage};
+
+    ghost Value = { machine.Message };
+
+    ghost view = { λ m. record { edge = m.edge.0; time = m.time; records = m.batch ++ joined m.more.items } };
+
+    ghost invariant = { λ m. AreOneMessage m.batch m.more.items m.len m.arity };
+}
+
+impl Message {
+    /// Of one batch. No memory is taken.
+    pub fn new(alloc: Global, edge: EdgeId, time: Time, batch: Batch) -> Message
+        ensures { result ≡ record { edge = edge.0; time = time; records = batch } }
+    {
+        Message {
+            edge,
+            time,
+            len: batch.len(),
+            arity: batch.arity(),
+            batch,
+            more: Vec::new(alloc),
+        }
+    }
+
+    pub fn edge(&self) -> EdgeId
+        ensures { result.0 ≡ self.now.edge }
+    {
+        self.edge
+    }
+
+    pub fn time(&self) -> &Time
+        ensures { result.now ≡ self.now.time }
+    {
+        &self.time
+    }
+
+    /// It is to come at that time.
+    pub fn set_time(&mut self, time: Time)
+        ensures { self.new ≡ record self.old { time = time } }
+    {
+        self.time = time;
+    }
+
+    /// How many records there are.
+    pub fn len(&self) -> usize
+        ensures { result ≡ length self.now.records }
+    {
+        self.len
+    }
+
+    /// Whether the other's records may be put behind these. No record is looked at.
+    pub fn may_merge(&self, other: &Message) -> bool
+        ensures { IsTrue result ↔ MayMerge self.now other.now }
+    {
+        self.edge.0 == other.edge.0
+            && self.time == other.time
+            && self.arity == other.arity
+            && self.len < MOST_MERGED
+            && other.len < MOST_MERGED
+    }
+
+    /// Puts the other's records behind these, without copying one. For want of memory it comes back, and nothing has changed.
+    pub fn merge(&mut self, other: Message) -> Result<(), Message>
+        requires { MayMerge self.old other }
+        ensures merged { OnOk result (self.new ≡ record self.old { records = self.old.records ++ other.records }) }
+        ensures back { IfErr result (λ m. m ≡ other) }
+        ensures same { OnErr result (self.new ≡ self.old) }
+    {
+        let Some(count) = other.more.len().checked_add(1) else {
+            return Err(other);
+        };
+        if self.more.reserve(count).is_err() {
+            return Err(other);
+        }
+        let Message {
+            edge: _,
+            time: _,
+            len,
+            arity: _,
+            batch,
+            more,
+        } = other;
+        self.len += len;
+        put_reserved(&mut self.more, batch, more);
+        Ok(())
+    }
+
+    /// The edge, the time, and the records as one batch; they are copied only where there are several.
+    pub fn into_parts(self, alloc: Global) -> Result<(EdgeId, Time, Batch), EventFault>
+        ensures edge { IfOk result (λ p. p.0.0 ≡ self.edge) }
+        ensures time { IfOk result (λ p. p.1 ≡ self.time) }
+        ensures records { IfOk result (λ p. p.2 ≡ self.records) }
+    {
+        let Message {
+            edge,
+            time,
+            len: _,
+            arity: _,
+            batch,
+            more,
+        } = self;
+        if more.is_empty() {
+            return Ok((edge, time, batch));
+        }
+        let joined = Batch::concat(alloc, &batch, &more)?;
+        Ok((edge, time, joined))
+    }
+}
+
+/// Puts a batch behind others, and more behind it, where there is room.
+fn put_reserved(batches: &mut Vec<Batch>, batch: Batch, more: Vec<Batch>)
+    requires { vec_len batches.old + length more.items + 1 ≤ vec_capacity batches.old }
+    ensures { batches.new.items ≡ batches.old.items ++ batch ∷ more.items }
+{
+    let mut more = more;
+    batches.push_reserved(batch);
+    match batches.append(&mut more) {
+        Ok(()) => {}
+        Err(_) => unreachable!(),
+    }
+}

@@ -1,0 +1,9 @@
+pub mod Views
+pub mod Shown
+pub mod Edges
+pub mod Locations
+pub mod Arities
+pub mod GraphLaws
+pub mod Text
+pub mod Equality
+pub mod EqualityLaws

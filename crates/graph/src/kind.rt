@@ -1,0 +1,121 @@
+//! What each kind is to the graph: a method for each column of the definition's table.
+
+ghost use Rattle.std.specs.Prelude.{◌≡◌};
+ghost use Rattle.loop_context.specs.Actions.{action_of};
+ghost use Rattle.semantics.specs.Kinds.{action, in_ports, is_input, is_output, out_ports, role};
+ghost use Rattle.graph.specs.Views.{kind_of, role_of};
+
+use crate::vertex::Kind;
+use loop_context::Action;
+
+/// How a vertex answers what comes in: a stateless one at once, from the message alone; a stateful one at once, from all that it has
+/// absorbed; a notified one when no more can come at that time.
+#[derive(Clone, Copy, Debug, PartialEq, Eq)]
+pub enum Role {
+    Input,
+    Stateless,
+    Stateful,
+    Notified,
+    Output,
+}
+
+impl Kind {
+    /// The number of in ports.
+    pub fn in_ports(&self) -> u32
+        ensures { result ≡ in_ports (kind_of self.now) }
+    {
+        match self {
+            Kind::Input => 0,
+            Kind::Concat | Kind::Join(_) | Kind::Except | Kind::Intersect => 2,
+            Kind::Output
+            | Kind::Select(_)
+            | Kind::Where(_)
+            | Kind::Group(_, _)
+            | Kind::Distinct
+            | Kind::Ingress
+            | Kind::Egress
+            | Kind::Feedback
+            | Kind::Gate(_)
+            | Kind::Hold(_) => 1,
+        }
+    }
+
+    /// The number of out ports.
+    pub fn out_ports(&self) -> u32
+        ensures { result ≡ out_ports (kind_of self.now) }
+    {
+        match self {
+            Kind::Output => 0,
+            Kind::Gate(_) | Kind::Hold(_) => 2,
+            Kind::Input
+            | Kind::Select(_)
+            | Kind::Where(_)
+            | Kind::Concat
+            | Kind::Join(_)
+            | Kind::Group(_, _)
+            | Kind::Distinct
+            | Kind::Except
+            | Kind::Intersect
+            | Kind::Ingress
+            | Kind::Egress
+            | Kind::Feedback => 1,
+        }
+    }
+
+    /// What it does to the time of what passes it.
+    pub fn action(&self) -> Action
+        ensures { action_of result ≡ action (kind_of self.now) }
+    {
+        match self {
+            Kind::Ingress => Action::Enter,
+            Kind::Egress => Action::Leave,
+            Kind::Feedback => Action::Next,
+            Kind::Input
+            | Kind::Output
+            | Kind::Select(_)
+            | Kind::Where(_)
+            | Kind::Concat
+            | Kind::Join(_)
+            | Kind::Group(_, _)
+            | Kind::Distinct
+            | Kind::Except
+            | Kind::Intersect
+            | Kind::Gate(_)
+            | Kind::Hold(_) => Action::Stay,
+        }
+    }
+
+    /// How it answers what comes in.
+    pub fn role(&self) -> Role
+        ensures { role_of result ≡ role (kind_of self.now) }
+    {
+        match self {
+            Kind::Input => Role::Input,
+            Kind::Output => Role::Output,
+            Kind::Join(_) | Kind::Distinct | Kind::Intersect => Role::Stateful,
+            Kind::Group(_, _) | Kind::Except => Role::Notified,
+            Kind::Select(_)
+            | Kind::Where(_)
+            | Kind::Concat
+            | Kind::Ingress
+            | Kind::Egress
+            | Kind::Feedback
+            | Kind::Gate(_)
+            | Kind::Hold(_) => Role::Stateless,
+        }
+    }
+
+    /// Whether it is an input.
+    pub fn is_input(&self) -> bool
+        ensures { result ≡ is_input (kind_of self.now) }
+    {
+        matches!(self, Kind::Input)
+    }
+
+    /// Whether it is an output.
+    pub fn is_output(&self) -> bool
+        ensures { result ≡ is_output (kind_of self.now) }
+    {
+        matches!(self, Kind::Output)
+    }
+}

@@ -1,5 +1,0 @@
-use Rattle.std.proofs.Common.{length}
-use Rattle.lowering.proofs.equality.+same_outputs.Given as goal
-
-abbrev pub decreases-same_outputs : goal.decreases-same_outputs
-decreases-same_outputs l = length l.left.now

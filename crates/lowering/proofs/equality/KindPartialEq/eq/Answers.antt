@@ -1,5 +1,0 @@
-use Rattle.std.proofs.Common.{rules}
-use Rattle.lowering.proofs.equality.KindPartialEq.eq.Goals as goal
-
-pub returns-in-Gate-Gate : goal.returns-in-Gate-Gate
-returns-in-Gate-Gate c = search rules

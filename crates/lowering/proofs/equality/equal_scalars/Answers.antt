@@ -1,5 +1,0 @@
-use Rattle.lowering.specs.EqualityLaws.{scalar_tested}
-use Rattle.lowering.proofs.equality.equal_scalars.Goals as goal
-
-pub returns : goal.returns
-returns c = scalar_tested c.same_scalar.result _ _ c.same_scalar.ensures

@@ -1,7 +1,0 @@
-use Rattle.std.proofs.Common.{length, ap, sym, ◌∙◌}
-use Rattle.lowering.proofs.Numbers.{length_graph_of}
-use Rattle.lowering.proofs.graph.Graph.vertex_count.Goals as goal
-
-pub returns-clause-value : goal.returns-clause-value
-returns-clause-value c =
-    sym (length_graph_of c.vertices.result.now) ∙ ap length c.vertices.ensures.value

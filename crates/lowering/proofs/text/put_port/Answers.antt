@@ -1,5 +1,0 @@
-use Rattle.lowering.proofs.Lines.{four_texts}
-use Rattle.lowering.proofs.text.put_port.Goals as goal
-
-pub returns : goal.returns
-returns c = four_texts c.args.text.now.items _ _ _ _ _ _ _ _ c.in_ok-extend_from_slice.ensures.items c.in_ok-put_number.ensures c.in_ok-extend_from_slice-2.ensures.items c.in_ok-put_number-2.ensures

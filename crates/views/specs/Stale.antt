@@ -1,0 +1,28 @@
+-- Pointstamps that a worker still sees since their removals wait for it.
+use Rattle.std.specs.Prelude.{◌≡◌, ℕ, ◌-◌, ◌<◌, Bool, true, List, length, Some, slice_get}
+use Rattle.semantics.specs.Multiset.{total}
+use Rattle.semantics.specs.Graph.{Graph}
+use Rattle.semantics.specs.Could.{Pointstamp, CouldResultIn}
+use Rattle.machine.specs.Active.{sum_below}
+use Rattle.views.specs.Queued.{Queued, AllKnown}
+use Rattle.views.specs.WorkerViews.{waiting_of}
+
+-- how often what waits for a worker adds it, over all senders
+abbrev pub adds_for : List Queued → (worker : ℕ) → Pointstamp → ℕ
+adds_for queues w q = sum_below (length queues) (λ s. total (λ b. b.adds q) (waiting_of queues w s))
+
+-- how often it removes it
+abbrev pub removes_for : List Queued → (worker : ℕ) → Pointstamp → ℕ
+removes_for queues w q = sum_below (length queues) (λ s. total (λ b. b.removes q) (waiting_of queues w s))
+
+-- by how much the removals outnumber the additions
+abbrev pub stale_count : List Queued → (worker : ℕ) → Pointstamp → ℕ
+stale_count queues w q = removes_for queues w q - adds_for queues w q
+
+-- q isn't among these, or could not result in p, or, where others are asked for, is p
+abbrev pub LetsThrough : Graph → (content : Pointstamp → ℕ) → (p : Pointstamp) → (other : Bool) → (q : Pointstamp) → Type 0
+LetsThrough g content p other q = 0 < content q → (other ≡ true → q ≡ p → ⊥) → CouldResultIn g q p → ⊥
+
+-- each queue's pointstamps are of the graph
+abbrev pub AreKnown : Graph → List Queued → Type 0
+AreKnown g queues = (s : ℕ) (q : Queued) → slice_get queues s ≡ Some q → AllKnown g q.changes

@@ -1,0 +1,39 @@
+use Rattle.std.proofs.Common.{◌≡◌, ap, subst, refl, sym, ◌∙◌, []}
+use Rattle.board.specs.Answers.{Gathers}
+use Rattle.board.specs.Promises.{CountsPassed}
+use Rattle.board.specs.Shown.{Shown}
+use Rattle.workers.specs.Held.{HeldShown, IsHeld}
+use Rattle.workers.proofs.Publishing.{after_gathering, after_refusal}
+use Rattle.workers.proofs.held.Held.gather.Goals as goal
+
+pub returns-then-workers-eq1-clause-published : goal.returns-then-workers-eq1-clause-published
+returns-then-workers-eq1-clause-published g c =
+    let P : HeldShown → Type 0 = λ h. CountsPassed h.board.shown h.published in
+    subst P c.self.view_is c.self.invariant.published
+
+pub invariant_of-self : goal.invariant_of-self
+invariant_of-self g c = after_refusal g.J.Naming.names g.J.Naming.graph c.self.inside.board c.self.inside.publisher.number c.self.invariant c.gather.new.board (c.gather.ensures.nothing c.if-not-gather.true)
+
+pub returns-then-not-gather-clause-published : goal.returns-then-not-gather-clause-published
+returns-then-not-gather-clause-published g c = (after_refusal g.J.Naming.names g.J.Naming.graph c.self.inside.board c.self.inside.publisher.number c.self.invariant c.gather.new.board (c.gather.ensures.nothing c.if-not-gather.true)).published
+
+pub returns-then-not-gather-clause-gathers : goal.returns-then-not-gather-clause-gathers
+returns-then-not-gather-clause-gathers g c =
+    let P : HeldShown → Type 0 = λ h. Gathers h.board.shown c.args.worker c.gather.new.board.shown in
+    subst P c.self.view_is c.gather.ensures.gathers
+
+pub invariant_of-self-2 : goal.invariant_of-self-2
+invariant_of-self-2 g c =
+    after_gathering g.J.Naming.names g.J.Naming.graph c.self.inside.board c.self.inside.publisher.number c.self.invariant c.law_count.ensures.one c.passed_count-known.result c.passed_count-known.ensures.value c.passed_count-known.ensures.seen c.gather.new.board c.publish.new.board
+    c.publish.new.publisher.number c.gather.ensures.tables c.gather.ensures.graph c.gather.ensures.passed c.publish.ensures.shown c.publish.ensures.applies.passed c.publish.ensures.publishes
+
+pub returns-clause-published : goal.returns-clause-published
+returns-clause-published g c =
+    (after_gathering g.J.Naming.names g.J.Naming.graph c.self.inside.board c.self.inside.publisher.number c.self.invariant c.law_count.ensures.one c.passed_count-known.result c.passed_count-known.ensures.value c.passed_count-known.ensures.seen c.gather.new.board c.publish.new.board
+    c.publish.new.publisher.number c.gather.ensures.tables c.gather.ensures.graph c.gather.ensures.passed c.publish.ensures.shown c.publish.ensures.applies.passed c.publish.ensures.publishes).published
+
+pub returns-clause-gathers : goal.returns-clause-gathers
+returns-clause-gathers g c =
+    let P : HeldShown → Type 0 = λ h. Gathers h.board.shown c.args.worker c.publish.new.board.shown in
+    let Q : Shown → Type 0 = λ s. Gathers c.self.inside.board.shown c.args.worker s in
+    subst P c.self.view_is (subst Q (sym c.publish.ensures.shown) c.gather.ensures.gathers)
