@@ -21,8 +21,11 @@ const FED: i64 = 20;
 /// Drops repeats, of which there are none, and takes memory for each event.
 const DISTINCT: &str = "input a/1; output distinct(a);";
 
-/// So often the views grow before the first commit: at the opening, at each feed and at the seal.
-const GRANTED: u32 = 22;
+/// So many go to a worker each, so that nothing is put together.
+const APART: i64 = 2;
+
+/// So often the views then grow before the first commit: at the opening, at each feed and at the seal.
+const GRANTED: u32 = 4;
 
 /// What a run came to.
 #[derive(Clone, Copy, Debug, PartialEq, Eq)]
@@ -41,13 +44,14 @@ fn one_epoch<J: Naming + Send + Sync, V: Views + Send, R: Threads + Wait + Sync>
     rt: &R,
     alloc: Global,
     board: Board<V>,
+    fed: i64,
 ) -> Option<Outcome>
     requires names { tables board.shown ≡ J.names }
     requires graph { board.shown.graph ≡ J.graph }
 {
     let (mark, publisher, _seats) = Mark::new(alloc, 0).ok()?;
     let shared = Engine::<J, V>::new(alloc, board, publisher).ok()?;
-    for field in 0..FED {
+    for field in 0..fed {
         shared.feed(rt, alloc, 0, batch_of(alloc, field)?).ok()?;
     }
     shared.seal(rt, 0).ok()?;
@@ -56,7 +60,7 @@ fn one_epoch<J: Naming + Send + Sync, V: Views + Send, R: Threads + Wait + Sync>
     let report = finish(shared, &mark, Vec::new(alloc))?;
     let mut is_part = true;
     let mut is_whole = true;
-    for field in 0..FED {
+    for field in 0..fed {
         let count = count_of(emitted(&report, 0), field);
         is_part = is_part && count <= 1;
         is_whole = is_whole && count >= 1;
@@ -75,8 +79,9 @@ fn run_epoch<V: Views + Send, R: Threads + Wait + Sync>(
     rt: &R,
     alloc: Global,
     board: Board<V>,
+    fed: i64,
 ) -> Option<Outcome> {
-    one_epoch::<Brand, V, R>(rt, alloc, board)
+    one_epoch::<Brand, V, R>(rt, alloc, board, fed)
 }
 
 /// An event was given up: both workers have stopped, its record is missing, and its epoch hasn't passed.
@@ -108,7 +113,7 @@ fn stops_all_workers(rt: HostRuntime) -> Result<(), Fail> {
     let alloc = rt.alloc();
     let graph = graph_of(alloc, COPY).ok_or("no graph")?;
     let board = board_after(alloc, graph, GRANTED).ok_or("no board")?;
-    let outcome = run_epoch(&rt, alloc, board).ok_or("no report")?;
+    let outcome = run_epoch(&rt, alloc, board, APART).ok_or("no report")?;
     assert_eq!(rt; outcome, given_up());
     Ok(())
 }
@@ -118,19 +123,19 @@ fn stops_all_workers_with_local_views(rt: HostRuntime) -> Result<(), Fail> {
     let alloc = rt.alloc();
     let graph = graph_of(alloc, COPY).ok_or("no graph")?;
     let board = late_board_after(alloc, graph, GRANTED).ok_or("no board")?;
-    let outcome = run_epoch(&rt, alloc, board).ok_or("no report")?;
+    let outcome = run_epoch(&rt, alloc, board, APART).ok_or("no report")?;
     assert_eq!(rt; outcome, given_up());
     Ok(())
 }
 
 fn new_run<R: Threads + Wait + Sync>(rt: &R, alloc: Global) -> Option<Outcome> {
     let board = Board::new(alloc, graph_of(alloc, DISTINCT)?, 2).ok()?;
-    run_epoch(rt, alloc, board)
+    run_epoch(rt, alloc, board, FED)
 }
 
 fn new_run_with_local_views<R: Threads + Wait + Sync>(rt: &R, alloc: Global) -> Option<Outcome> {
     let board = Board::with_local_views(alloc, graph_of(alloc, DISTINCT)?, 2).ok()?;
-    run_epoch(rt, alloc, board)
+    run_epoch(rt, alloc, board, FED)
 }
 
 // To be run with each allocation refused in turn: what is refused before the work can be done again, and an event whose computation or
