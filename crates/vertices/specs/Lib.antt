@@ -1,6 +1,7 @@
 pub mod Absorbed
 pub mod ByTime
 pub mod States
+pub mod OneSide
 pub mod Joins
 pub mod Groups
 pub mod Outs
