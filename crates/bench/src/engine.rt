@@ -64,7 +64,7 @@ fn batch(alloc: Global, from: u64, to: u64, keys: u64) -> Option<Batch>
     Batch::from_rows(alloc, rows).ok()?
 }
 
-/// Computes an event and commits it; without memory it is given up.
+/// Computes an event and commits it; where that is refused it is given up.
 fn finish<V: Views>(alloc: Global, board: &mut Board<V>, work: Work) -> Option<()>
     requires { IsOf board.old.shown work.0 }
 {
@@ -76,7 +76,7 @@ fn finish<V: Views>(alloc: Global, board: &mut Board<V>, work: Work) -> Option<(
                 None
             }
         },
-        Err(work) => {
+        Err((work, _fault)) => {
             board.abandon(work);
             None
         }

@@ -78,7 +78,7 @@ fn shard_of(alloc: Global, kind: Kind) -> Result<Shard, ShardFault>
 /// How many records are sent by port 0.
 fn sent(out: &mut Out) -> usize {
     match out.take(0) {
-        Some(batch) => batch.len(),
+        Some(batch) => batch.weight(),
         None => 0,
     }
 }
@@ -182,7 +182,7 @@ pub fn batches(alloc: Global, records: u64) -> Result<usize, ShardFault> {
     let mut made = 0usize;
     for number in 0..records.div_ceil(BATCH) {
         if let Some(batch) = batch(alloc, number, records, 4000, 4000)? {
-            made = made.saturating_add(batch.len());
+            made = made.saturating_add(batch.weight());
         }
     }
     Ok(made)

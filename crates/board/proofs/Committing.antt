@@ -1,7 +1,8 @@
 -- Commits.
 use Rattle.std.proofs.Common.{◌≡◌, ◌≢◌, ◌⊎◌, inl, inr, ◌<◌, ℕ, ◌==◌, Bool, true, false, cond, List, [], ◌++◌, length, refl, sym, ap, ◌∙◌, subst, arith, slice_set, slice_index_or, Option, None, length-set, append-nil}
 use Rattle.std.proofs.lemmas.Bool.Decides.{eqb_tells}
-use Rattle.semantics.specs.Multiset.{Record}
+use Rattle.semantics.specs.Multiset.{Record, ◌≈◌}
+use Rattle.semantics.proofs.MultisetSums.{append_same, ≈-from, ≈-refl, ≈-trans}
 use Rattle.semantics.specs.Time.{Time, same_time, at_epoch}
 use Rattle.semantics.specs.Kinds.{Role}
 use Rattle.graph.specs.Shown.{shown_graph}
@@ -171,9 +172,8 @@ module _ (g : Network) (s : Shown) (of : IsNetOf g s) (w : World) (is : Shows s 
         emitted = λ u e.
             let t = event_time j.happening in
             let before : List Record = records_at (emitted_by s.emitted u) e in
-            done.emits w u e
-            ∙ ap (λ l. l ++ cond (event_vertex g j.happening == u) (cond (same_time t (at_epoch e)) (records_of emitted) []) []) (is.emitted u e)
-            ∙ ap (λ x. before ++ cond (event_vertex g j.happening == u) x []) (for_epoch t.epoch t (records_of emitted) ends.at e)
+            ≈-trans (done.emits w u e) (≈-trans (append_same _ _ _ _ (is.emitted u e) (≈-refl _)) (≈-from (
+            ap (λ x. before ++ cond (event_vertex g j.happening == u) x []) (for_epoch t.epoch t (records_of emitted) ends.at e)
             ∙ ap (λ n. before ++ cond (n == u) (cond (t.epoch == e) (records_of emitted) []) []) (of.at j.happening)
-            ∙ sym (records_with (event_at (shown_graph s.graph) j.happening) t.epoch emitted s.emitted (omega (arith, own.vertex, room)) u e);
+            ∙ sym (records_with (event_at (shown_graph s.graph) j.happening) t.epoch emitted s.emitted (omega (arith, own.vertex, room)) u e))));
       }

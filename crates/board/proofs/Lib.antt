@@ -38,3 +38,4 @@ pub mod Opened
 pub mod Growing
 pub mod Looked
 pub mod Choosing
+pub mod FedBatches

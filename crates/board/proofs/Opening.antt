@@ -11,6 +11,7 @@ use Rattle.machine.specs.Active.{sum_below, one_if_same, worker_count}
 use Rattle.machine.proofs.Counting.{below_zero}
 use Rattle.vertices.specs.Shards.{Shows as ShowsShard}
 use Rattle.tokens.specs.declared.rule.Place.TheVariants.{Home}
+use Rattle.semantics.proofs.MultisetSums.{≈-from}
 use Rattle.board.specs.Shown.{Shown, InputShown, emitted_by, no_input, side_at, input_at, held_of, records_at}
 use Rattle.board.specs.Showing.{Shows, IsSideOf, EachShard}
 use Rattle.board.specs.Fitting.{FitsPlace, arity_in}
@@ -40,7 +41,7 @@ shows_opening s is = record {
   requests = λ k l. sym (is.requests k l);
   held = λ k l. ap held_of (sym (is.place k l));
   absorbed = is.shards;
-  emitted = λ v e. sym (ap (λ es. records_at es e) (is.emitted v) ∙ nothing_at e);
+  emitted = λ v e. ≈-from (sym (ap (λ es. records_at es e) (is.emitted v) ∙ nothing_at e));
 }
 
 -- a tracker with each input at epoch 0, and nothing else

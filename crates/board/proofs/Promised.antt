@@ -1,6 +1,7 @@
 -- What a board promises, from the run that it keeps.
-use Rattle.std.proofs.Common.{◌≡◌, ◌<◌, ℕ, List, length, sym, ap, ◌∙◌, subst, arith}
+use Rattle.std.proofs.Common.{◌≡◌, ◌≤◌, ◌<◌, ℕ, List, length, sym, ap, ◌∙◌, subst, arith}
 use Rattle.semantics.specs.Multiset.{Record, IsPartOf, ◌≈◌}
+use Rattle.semantics.proofs.MultisetSums.{≈-from, ≈-sym, ≈-trans}
 use Rattle.semantics.specs.Query.{Program}
 use Rattle.semantics.specs.Meaning.{program_meaning}
 use Rattle.semantics.specs.Graph.{Graph, output_number}
@@ -18,6 +19,9 @@ use Rattle.board.specs.Showing.{Shows}
 use Rattle.board.specs.Kept.{IsKept}
 use Rattle.board.specs.Promises.{RunsProgram, HasPassed, IsDrained, KeepsPromise, emitted_at, meant_of}
 
+part_alike : {xs ys zs : List Record} → xs ≈ ys → IsPartOf xs zs → IsPartOf ys zs
+part_alike e h = record { within = λ r. let n = e.counts r in let m = h.within r in omega (arith, n, m) }
+
 module _ (graph : Graph) (content : Pointstamp → ℕ) (s : Shown) (kept : IsKept graph content s) where
   module _ (p : Program) (runs : RunsProgram p s) where
     is_run : IsRunOf p (length s.sides) kept.steps kept.world
@@ -28,8 +32,8 @@ module _ (graph : Graph) (content : Pointstamp → ℕ) (s : Shown) (kept : IsKe
       run = let R : Graph → Type 0 = λ g. Run (network g (length s.sides)) opening kept.steps kept.world in subst R runs.graph kept.run;
     }
 
-    shown_emitted : (k e : ℕ) → kept.world.emitted (output_of p k) e ≡ emitted_at s k e
-    shown_emitted k e = ap (λ g. kept.world.emitted (output_number g k) e) (sym runs.graph) ∙ kept.shows.emitted (output_number (shown_graph s.graph) k) e
+    shown_emitted : (k e : ℕ) → kept.world.emitted (output_of p k) e ≈ emitted_at s k e
+    shown_emitted k e = ≈-trans (≈-from (ap (λ g. kept.world.emitted (output_number g k) e) (sym runs.graph))) (kept.shows.emitted (output_number (shown_graph s.graph) k) e)
 
     shown_meaning : (k e : ℕ) → meant p kept.world k e ≡ meant_of p s k e
     shown_meaning k e = λ j. program_meaning p k (λ i. kept.shows.fed i e j)
@@ -42,13 +46,11 @@ module _ (graph : Graph) (content : Pointstamp → ℕ) (s : Shown) (kept : IsKe
     pub headline : KeepsPromise p s
     headline k e there = record {
       part =
-          let A : List Record → Type 0 = λ xs. IsPartOf xs (meant p kept.world k e) in
           let B : List Record → Type 0 = λ ys. IsPartOf (emitted_at s k e) ys in
-          subst B (shown_meaning k e) (subst A (shown_emitted k e) (emitted_part p (length s.sides) kept.steps kept.world is_run k e there));
+          subst B (shown_meaning k e) (part_alike (shown_emitted k e) (emitted_part p (length s.sides) kept.steps kept.world is_run k e there));
       whole = λ passed.
-          let A : List Record → Type 0 = λ xs. xs ≈ meant p kept.world k e in
           let B : List Record → Type 0 = λ ys. emitted_at s k e ≈ ys in
-          subst B (shown_meaning k e) (subst A (shown_emitted k e) (emitted_whole p (length s.sides) kept.steps kept.world is_run k e there (passed_there k e passed)));
+          subst B (shown_meaning k e) (≈-trans (≈-sym (shown_emitted k e)) (emitted_whole p (length s.sides) kept.steps kept.world is_run k e there (passed_there k e passed)));
     }
 
   pub drained : IsDrained s → (k e : ℕ) → HasPassed s k e

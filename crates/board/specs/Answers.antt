@@ -57,7 +57,7 @@ Merges s k at t = (first : Message) × (second : Message) × Goes s (Step.merge 
 abbrev pub Claims : Shown → Shown → ℕ → Claimed → Type 0
 Claims s t k Stopped = (s.stopped ≡ true) × (t ≡ s)
 Claims s t k Busy = (s.stopped ≡ false) × (k < length s.sides → (side_at s k).place ≡ Home → ⊥) × (t ≡ s)
-Claims s t k (Work x) = Hands s k t x.0 × (x.1 ≡ false)
+Claims s t k (Work x) = Hands s k t x.0 × (x.1 ≡ None)
 Claims s t k Drained = (s.stopped ≡ false) × (k < length s.sides) × IsDrained s × (t ≡ s)
 Claims s t k Idle = (s.stopped ≡ false) × (k < length s.sides) × ((side_at s k).place ≡ Home) × HasNoChoice s k × (IsDrained s → ⊥) × (t ≡ s)
 

@@ -1,10 +1,11 @@
 -- What a pick answers.
-use Rattle.std.specs.Prelude.{◌≡◌, ◌≢◌, ◌<◌, ℕ, true, false, Bool, length, Result, Ok, Err}
+use Rattle.std.specs.Prelude.{◌≡◌, ◌≢◌, ◌<◌, ℕ, true, false, length, None, Option, Result, Ok, Err}
 use Rattle.machine.specs.Choices.{Chooses}
 use Rattle.machine.specs.Step.{Step}
 use Rattle.machine.specs.World.{World}
 use Rattle.tokens.specs.declared.rule.Place.TheVariants.{Home}
 use Rattle.events.specs.Jobs.{Pass}
+use Rattle.events.specs.declared.fault.ComputeFault.{ComputeFault}
 use Rattle.board.specs.Answers.{Hands}
 use Rattle.board.specs.Shown.{Shown, net, side_at}
 use Rattle.board.specs.Showing.{Shows}
@@ -32,6 +33,6 @@ RefusesPick prompt s k n NoMemory = ⊥
 
 -- An event that isn't spoiled, handed out by a step, which is that of the choice if the worker's view is up to date; or a refusal, which
 -- changes nothing.
-abbrev pub Picks : (prompt : Type 0) → Shown → Shown → (worker choice : ℕ) → Result (Pass × Bool) StepRefusal → Type 0
-Picks prompt s t k n (Ok x) = (hands : Hands s k t x.0) × (prompt → IsChoice s k n hands.taken) × (x.1 ≡ false)
+abbrev pub Picks : (prompt : Type 0) → Shown → Shown → (worker choice : ℕ) → Result (Pass × Option ComputeFault) StepRefusal → Type 0
+Picks prompt s t k n (Ok x) = (hands : Hands s k t x.0) × (prompt → IsChoice s k n hands.taken) × (x.1 ≡ None)
 Picks prompt s t k n (Err e) = RefusesPick prompt s k n e × (t ≡ s)

@@ -1,6 +1,7 @@
 -- The world that a board shows.
 use Rattle.std.specs.Prelude.{◌≡◌, ◌≢◌, ◌<◌, ℕ, length, Option, Some, None, slice_index_or}
 use Rattle.graph.specs.Shown.{shown_graph}
+use Rattle.semantics.specs.Multiset.{◌≈◌}
 use Rattle.machine.specs.World.{World}
 use Rattle.vertices.specs.Shards as shards
 use Rattle.vertices.specs.declared.shard.Shard.{Shard}
@@ -32,7 +33,7 @@ EachShard s P = (k v : ℕ) → k < length s.sides → v < length (shown_graph s
 abbrev pub ShowsIn : World → (worker vertex : ℕ) → Shard → Type 0
 ShowsIn w k v x = shards.Shows x (λ p t. w.absorbed k v p t)
 
--- The board shows this world. `sent` is the world's alone.
+-- The board shows this world. `sent` is the world's alone, and what was emitted is a multiset.
 pub record Shows (s : Shown) (w : World) : Type 0 where
   pub stopped : w.stopped ≡ s.stopped
   pub open_epoch : (i : ℕ) → w.open_epoch i ≡ (input_at s i).open_epoch
@@ -42,7 +43,7 @@ pub record Shows (s : Shown) (w : World) : Type 0 where
   pub requests : (k : ℕ) → k < length s.sides → w.requests k ≡ (side_at s k).requests
   pub held : (k : ℕ) → k < length s.sides → w.held k ≡ held_of (side_at s k).place
   pub absorbed : EachShard s (ShowsIn w)
-  pub emitted : (v e : ℕ) → w.emitted v e ≡ records_at (emitted_by s.emitted v) e
+  pub emitted : (v e : ℕ) → w.emitted v e ≈ records_at (emitted_by s.emitted v) e
 
 -- An event that is out is of this board; its shard alone isn't at home.
 pub record IsOwn (s : Shown) (x : Side) (j : Job) : Type 0 where

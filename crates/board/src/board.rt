@@ -1,6 +1,6 @@
 //! The board: the core state of a run.
 
-ghost use Rattle.std.specs.Prelude.{◌≡◌, ◌⊎◌, ◌-◌, ◌^◌, ◌<◌, ◌≤◌, ℕ, [], length, min, slice_index_or, false, IfOk, IfSome, IfNone, IsTrue, MatchBool, OnOk, OnErr};
+ghost use Rattle.std.specs.Prelude.{◌≡◌, ◌⊎◌, ◌-◌, ◌^◌, ◌<◌, ◌≤◌, ℕ, [], length, min, slice_index_or, false, None, IfOk, IfSome, IfNone, IsTrue, MatchBool, OnOk, OnErr};
 ghost use Rattle.graph.specs.Shown.{shown_graph};
 ghost use Rattle.semantics.specs.Could.{Pointstamp as Active, at_vertex};
 ghost use Rattle.views.specs.Opening.{active_at_first};
@@ -349,7 +349,7 @@ impl<V: Views> Board<V> {
         requires there { worker < length self.old.shown.sides }
         requires free { (side_at self.old.shown worker).place ≡ Home }
         requires runs { self.old.shown.stopped ≡ false }
-        ensures hands { IfSome result (λ x. Hands self.old.shown worker self.new.shown x.0 × (x.1 ≡ false)) }
+        ensures hands { IfSome result (λ x. Hands self.old.shown worker self.new.shown x.0 × (x.1 ≡ None)) }
         ensures none { IfNone result ((self.new.shown ≡ self.old.shown) × (length (side_at self.old.shown worker).mail ≡ 0)) }
         ensures tables { tables self.new.shown ≡ tables self.old.shown }
         ensures views { IsAsLate self.old self.new }

@@ -1,6 +1,6 @@
 //! What a board holds besides its views. Each method is exact; where it is refused, all shows as before.
 
-ghost use Rattle.std.specs.Prelude.{◌≡◌, ◌≢◌, ◌+◌, ◌<◌, ◌≤◌, ℕ, [], length, map, slice_index_or, false, MatchBool, OnOk, OnErr, IfOk, IfErr, IfSome, IfNone};
+ghost use Rattle.std.specs.Prelude.{◌≡◌, ◌≢◌, ◌+◌, ◌<◌, ◌≤◌, ℕ, [], length, map, slice_index_or, None, MatchBool, OnOk, OnErr, IfOk, IfErr, IfSome, IfNone};
 ghost use Rattle.semantics.specs.Could.{Location as Where, Pointstamp as Active};
 ghost use Rattle.semantics.specs.Graph.{edge_count, input_count, output_number, output_numbers, target, Graph as Definition};
 ghost use Rattle.tokens.specs.declared.rule.Place.TheVariants.{Home, Out};
@@ -373,7 +373,7 @@ impl State {
         requires few { worker < 64 }
         requires kept { (graph : Definition) × (content : Active → ℕ) × IsKept graph content self.old }
         ensures hands { HandsMessage self.old self.new worker place result.0 }
-        ensures whole { result.1 ≡ false }
+        ensures whole { result.1 ≡ None }
     {
         let edge = self.workers[worker].mailbox().get(place).edge();
         let vertex = self.wiring.graph().edge(edge).target;
@@ -389,7 +389,7 @@ impl State {
         requires few { worker < 64 }
         requires kept { (graph : Definition) × (content : Active → ℕ) × IsKept graph content self.old }
         ensures hands { HandsRequest self.old self.new worker place result.0 }
-        ensures whole { result.1 ≡ false }
+        ensures whole { result.1 ≡ None }
     {
         let vertex = self.workers[worker].requests().get(place).vertex;
         let (event, stub) = self.workers[worker].send_request(place, vertex.0 as usize);

@@ -4,7 +4,7 @@ ghost use Rattle.std.specs.Prelude.{◌≡◌, ◌<◌, ◌≤◌, length, IfSom
 ghost use Rattle.board.specs.Commits.{IsOf};
 
 use board::{Board, Claimed, CommitRefusal};
-use events::Work;
+use events::{ComputeFault, Work};
 use graph::Graph;
 use lowering::lower;
 use parser::parse;
@@ -57,9 +57,10 @@ pub enum Turn {
     Idle,
     Committed,
     NoMemory,
+    Count,
 }
 
-/// Computes an event and commits it; without memory it is given up.
+/// Computes an event and commits it; where that is refused it is given up.
 pub fn commit<V: Views>(alloc: Global, board: &mut Board<V>, work: Work) -> Turn
     requires { IsOf board.old.shown work.0 }
 {
@@ -71,9 +72,12 @@ pub fn commit<V: Views>(alloc: Global, board: &mut Board<V>, work: Work) -> Turn
                 Turn::NoMemory
             }
         },
-        Err(work) => {
+        Err((work, fault)) => {
             board.abandon(work);
-            Turn::NoMemory
+            match fault {
+                ComputeFault::NoMemory => Turn::NoMemory,
+                ComputeFault::Count => Turn::Count,
+            }
         }
     }
 }
@@ -123,12 +127,14 @@ pub fn passed_at<V: Views>(board: &Board<V>, output: u32, epoch: u32) -> bool {
     output < board.output_count() && board.passed(output, epoch)
 }
 
-/// The fields of all records, in order.
+/// The fields of all records, in order, equal ones of a batch with their repeats one after the other.
 pub fn fields_of(alloc: Global, batches: &[Batch]) -> Result<Vec<i64>, AllocError> {
     let mut fields = Vec::new(alloc);
     for batch in batches {
         for place in 0..batch.len() {
-            fields.extend_from_slice(batch.row(place))?;
+            for _ in 0..batch.count(place) {
+                fields.extend_from_slice(batch.row(place))?;
+            }
         }
     }
     Ok(fields)

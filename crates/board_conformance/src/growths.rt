@@ -116,11 +116,11 @@ enum Fault {
     GivenUp,
 }
 
-/// How many records the board has emitted for an epoch.
+/// How many records the board has emitted for an epoch, with their repeats.
 fn emitted_count<V: Views>(board: &Board<V>, epoch: u32) -> usize {
     let mut count = 0usize;
     for batch in emitted_at(board, 0, epoch) {
-        count = count.saturating_add(batch.len());
+        count = count.saturating_add(batch.weight());
     }
     count
 }
@@ -173,7 +173,7 @@ fn finish<V: Views>(alloc: Global, board: &mut Board<V>, work: Work) -> Result<u
 {
     match work.compute(alloc) {
         Ok(done) => commit_twice(board, done),
-        Err(work) => {
+        Err((work, _fault)) => {
             board.abandon(work);
             Err(Fault::GivenUp)
         }

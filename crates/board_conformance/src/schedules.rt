@@ -118,7 +118,7 @@ fn is_worked_off<V: Views>(alloc: Global, board: &mut Board<V>) -> bool {
         match take_turn(alloc, board, turn % 2) {
             Turn::Drained => return true,
             Turn::Committed | Turn::Idle => {}
-            Turn::Stopped | Turn::Busy | Turn::NoMemory => return false,
+            Turn::Stopped | Turn::Busy | Turn::NoMemory | Turn::Count => return false,
         }
     }
     false

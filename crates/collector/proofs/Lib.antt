@@ -14,3 +14,5 @@ pub mod QuickLines
 pub mod Piles
 pub mod OneReading
 pub mod OneOrder
+pub mod Repeats
+pub mod Batched

@@ -7,7 +7,7 @@ use Rattle.std.proofs.lemmas.List.Splits.{length-slice_split}
 use Rattle.semantics.specs.Query.{Input}
 use Rattle.collector.specs.Pieces.{split_on}
 use Rattle.collector.specs.Lines.{Item, Says, IsFault, code_of}
-use Rattle.collector.specs.InputText.{begun_after, epochs_after, records_in, LinesSay, IsInputText, IsRefused}
+use Rattle.collector.specs.InputText.{begun_after, epochs_after, records_in, LinesSay, IsInputText, IsReadFrom, IsRefused}
 use Rattle.collector.specs.Held.{epoch_count, records_at}
 use Rattle.collector.specs.Drafts.{draft_count, draft_records, IsKept}
 use Rattle.collector.specs.Growth.{IsEven, HasNone, Takes, CanTake}
@@ -136,12 +136,16 @@ unended inputs text rest n e code number r cut some is at =
     (r.lines, r.items, r.said, at ∙ ap (λ k. k + 1) r.counted, rest, [], r.parts ∙ ap (λ (ls : List (List ℕ)). r.lines ++ ls) cut, inl (is, some, refl))
 
 -- no line is left
-pub all_read : (inputs : List Input) (text rest : List ℕ) (n : ℕ) (d : Draft) (e : Epochs) → ReadSoFar inputs text rest n d → rest ≡ [] → IsKept d e → IsInputText inputs text (epoch_count e) (records_at e)
-all_read inputs text rest n d e r none kept = record {
-  lines = r.lines;
-  items = r.items;
-  parts = r.parts ∙ ap (λ (bs : List ℕ). r.lines ++ split_on 10 bs) none;
-  said = r.said;
-  epochs = kept.count ∙ r.epochs;
-  holds = λ epoch input. ap (λ (ts : List (List Records)). get_or (get_or ts input []) epoch []) kept.tracks ∙ r.records epoch input;
-}
+pub all_read : (inputs : List Input) (text rest : List ℕ) (n : ℕ) (d : Draft) (e : Epochs) → ReadSoFar inputs text rest n d → rest ≡ [] → IsKept d e → IsReadFrom inputs text e
+all_read inputs text rest n d e r none kept = (
+  draft_records d,
+  record {
+    lines = r.lines;
+    items = r.items;
+    parts = r.parts ∙ ap (λ (bs : List ℕ). r.lines ++ split_on 10 bs) none;
+    said = r.said;
+    epochs = kept.count ∙ r.epochs;
+    holds = r.records;
+  },
+  kept.records,
+)

@@ -3,7 +3,8 @@ use Rattle.std.proofs.Common.{◌≡◌, ◌≢◌, ◌<◌, ◌+◌, ◌∙◌,
 use Rattle.std.specs.Prelude.{◌==◌, if◌then◌else◌}
 use Rattle.std.proofs.lemmas.Bool.Decides.{eqb_tells}
 use Rattle.std.proofs.lemmas.List.{append-nil, map_push, take_more}
-use Rattle.collector.specs.Piles.{joined, with_open}
+use Rattle.rows.specs.FlatRows.{RowList}
+use Rattle.collector.specs.Piles.{joined, piled, with_open}
 
 abbrev pub Records : Type 0
 Records = List (List ℤ)
@@ -11,6 +12,9 @@ Records = List (List ℤ)
 pub joined_push : (bs : List Records) (b : Records) → joined (bs ++ b ∷ []) ≡ joined bs ++ b
 joined_push [] b = append-nil b
 joined_push (x ∷ bs) b = ap (λ (r : Records). x ++ r) (joined_push bs b) ∙ sym (append_assoc x (joined bs) b)
+
+pub piled_push : (lists : List RowList) (rows : RowList) → piled (lists ++ rows ∷ []) ≡ piled lists ++ rows.rows
+piled_push lists rows = ap joined (map_push (λ (r : RowList). r.rows) lists rows) ∙ joined_push (map (λ (r : RowList). r.rows) lists) rows.rows
 
 pub with_none : (xs : List Records) → with_open xs [] ≡ xs
 with_none [] = refl

@@ -1,5 +1,7 @@
 -- What epochs hold while they are read.
 use Rattle.std.specs.Prelude.{◌≡◌, ℕ, ℤ, List, [], slice_index_or}
+use Rattle.semantics.specs.Multiset.{◌≈◌}
+use Rattle.collector.specs.Held.{records_at}
 use Rattle.collector.specs.declared.draft.Draft.{Draft}
 use Rattle.collector.specs.declared.epochs.Epochs.{Epochs}
 
@@ -11,7 +13,7 @@ draft_count e = e.count
 abbrev pub draft_records : Draft → ℕ → ℕ → List (List ℤ)
 draft_records e epoch input = slice_index_or (slice_index_or e.tracks.items input []) epoch []
 
--- nothing is lost or gained
+-- nothing is lost or gained; the records of an epoch may stand in another order
 pub record IsKept (d : Draft) (e : Epochs) : Type 0 where
   pub count : e.count ≡ d.count
-  pub tracks : e.tracks.items ≡ d.tracks.items
+  pub records : (epoch input : ℕ) → records_at e epoch input ≈ draft_records d epoch input

@@ -1,8 +1,11 @@
 -- The input text: which epochs it tells, and its first faulty line.
 use Rattle.std.specs.Prelude.{◌≡◌, ◌<◌, ◌+◌, ℕ, ℤ, List, [], ◌∷◌, ◌++◌, length, ◌==◌, ◌&&◌, if◌then◌else◌, ◌⊎◌}
 use Rattle.semantics.specs.Query.{Input}
+use Rattle.semantics.specs.Multiset.{◌≈◌}
+use Rattle.collector.specs.Held.{epoch_count, records_at}
 use Rattle.collector.specs.Pieces.{split_on}
 use Rattle.collector.specs.Lines.{Item, Says, IsFault, code_of}
+use Rattle.collector.specs.declared.epochs.Epochs.{Epochs}
 use Rattle.collector.specs.declared.refusal.Fault.{Fault}
 use Rattle.collector.specs.declared.refusal.InputRefusal.{InputRefusal}
 use Rattle.collector.specs.declared.refusal.InputRefusal.TheVariants.{At, NoMemory}
@@ -38,6 +41,10 @@ pub record IsInputText (inputs : List Input) (text : List ℕ) (count : ℕ) (re
   pub said : LinesSay inputs 0 lines items
   pub epochs : count ≡ epochs_after 0 items
   pub holds : (epoch input : ℕ) → records epoch input ≡ records_in epoch input 0 items
+
+-- the text is these epochs: each has for each input the text's records, in some order
+abbrev pub IsReadFrom : List Input → (text : List ℕ) → Epochs → Type 0
+IsReadFrom inputs text e = (records : ℕ → ℕ → List (List ℤ)) × IsInputText inputs text (epoch_count e) records × ((epoch input : ℕ) → records_at e epoch input ≈ records epoch input)
 
 -- A refusal names the first faulty line, counted from 1: the lines before it say items, and it is the last one and has no line
 -- feed, or has a fault.

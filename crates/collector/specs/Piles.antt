@@ -1,5 +1,7 @@
 -- Records in batches.
-use Rattle.std.specs.Prelude.{ℤ, List, [], ◌∷◌, ◌++◌}
+use Rattle.std.specs.Prelude.{◌≡◌, ℕ, ℤ, List, [], ◌∷◌, ◌++◌, length, map, slice_index_or}
+use Rattle.semantics.specs.Multiset.{◌≈◌}
+use Rattle.rows.specs.FlatRows.{RowList}
 
 -- the records of batches, one batch after another
 abbrev pub joined : List (List (List ℤ)) → List (List ℤ)
@@ -11,3 +13,12 @@ abbrev pub with_open : List (List (List ℤ)) → List (List ℤ) → List (List
 with_open [] rows = []
 with_open (records ∷ []) rows = (records ++ rows) ∷ []
 with_open (records ∷ next ∷ epochs) rows = records ∷ with_open (next ∷ epochs) rows
+
+-- the rows of lists of rows, one list after another
+abbrev pub piled : List RowList → List (List ℤ)
+piled lists = joined (map (λ (r : RowList). r.rows) lists)
+
+-- as many lists, and at each place the same records in some order
+pub record AreAlike (xs ys : List (List (List ℤ))) : Type 0 where
+  pub size : length xs ≡ length ys
+  pub each : (k : ℕ) → slice_index_or xs k [] ≈ slice_index_or ys k []

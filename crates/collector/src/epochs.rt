@@ -7,7 +7,7 @@ ghost use Rattle.collector.specs.Piles.{joined};
 use crate::track::Kept;
 use rows::Batch;
 
-/// The epochs that a text tells: in each, for each input, a list of records in batches.
+/// The epochs that a text tells: in each, for each input, its records in batches.
 #[derive(Drop)]
 pub struct Epochs {
     pub(crate) count: u32,
@@ -22,8 +22,8 @@ impl Epochs {
         self.count
     }
 
-    /// The records of an input in an epoch, in the order of their lines, in batches of at most 16,384; none where there is no
-    /// such input or epoch.
+    /// The records of an input in an epoch, in batches of at most 16,384, each with how often it stands in its batch; none where
+    /// there is no such input or epoch.
     pub fn batches(&self, epoch: u32, input: u32) -> &[Batch]
         ensures { joined result.now ≡ records_at self.now epoch input }
     {

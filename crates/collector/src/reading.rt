@@ -2,8 +2,7 @@
 
 ghost use Rattle.std.specs.Prelude.{map, IfOk, IfErr, OnOk};
 ghost use Rattle.collector.specs.Growth.{CanTake, IsEven, Takes};
-ghost use Rattle.collector.specs.Held.{epoch_count, records_at};
-ghost use Rattle.collector.specs.InputText.{IsInputText, IsRefused};
+ghost use Rattle.collector.specs.InputText.{IsReadFrom, IsRefused};
 ghost use Rattle.collector.specs.Said.{item_of, plain};
 
 use crate::draft::Draft;
@@ -38,7 +37,7 @@ pub fn read_input(
     text: &[u8],
     inputs: &[Declared<'_>],
 ) -> Result<Epochs, InputRefusal>
-    ensures read { IfOk result (λ e. IsInputText (map plain inputs.now) text.now (epoch_count e) (records_at e)) }
+    ensures read { IfOk result (λ e. IsReadFrom (map plain inputs.now) text.now e) }
     ensures refused { IfErr result (IsRefused (map plain inputs.now) text.now) }
 {
     let mut draft = Draft::new(alloc, inputs.len())?;

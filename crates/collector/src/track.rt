@@ -2,30 +2,31 @@
 
 ghost use Rattle.std.specs.Prelude.{◌≡◌, ◌<◌, ◌≤◌, ◌+◌, ℕ, ℤ, List, ◌++◌, ◌∷◌, [], OnOk, IfOk, map, length, slice_index_or, ◌==◌, if◌then◌else◌};
 ghost use Rattle.record_core.specs.Records.{IsRecord};
-ghost use Rattle.collector.specs.Piles.{joined, with_open};
+ghost use Rattle.semantics.specs.Multiset.{◌≈◌};
+ghost use Rattle.collector.specs.Piles.{AreAlike, joined, piled, with_open};
 
 use rows::{Batch, Rows, RowsError};
 use std::alloc::{AllocError, Global};
 use std::marker::Model;
 use std::mem;
 
-/// The most records of a batch.
+/// The most records of a list of rows.
 const BATCH: usize = 16_384;
 
-/// The records of one input while a text is read, in batches for each epoch; the last ones of the last epoch stand in `last`.
+/// The records of one input while a text is read, in lists of rows for each epoch; the last ones of the last epoch stand in `last`.
 #[derive(Drop)]
 pub struct Track {
-    epochs: Vec<Vec<Batch>>,
+    epochs: Vec<Vec<Rows>>,
     last: Rows,
 }
 
 impl Model for Track {
     ghost use Rattle.std.specs.Prelude.{List, ℤ, map};
-    ghost use Rattle.collector.specs.Piles.{joined, with_open};
+    ghost use Rattle.collector.specs.Piles.{piled, with_open};
 
     ghost Value = { List (List (List ℤ)) };
 
-    ghost view = { λ t. with_open (map (λ v. joined v.items) t.epochs.items) t.last.rows };
+    ghost view = { λ t. with_open (map (λ v. piled v.items) t.epochs.items) t.last.rows };
 }
 
 impl Track {
@@ -44,7 +45,7 @@ impl Track {
         ensures { OnOk result (self.new ≡ self.old ++ [] ∷ []) }
     {
         let rows = mem::replace(&mut self.last, Rows::new(alloc, 1));
-        seal(alloc, &mut self.epochs, rows)?;
+        seal(&mut self.epochs, rows)?;
         self.epochs.push(Vec::new(alloc))?;
         Ok(())
     }
@@ -61,55 +62,70 @@ impl Track {
         Ok(())
     }
 
-    /// What was read.
+    /// What was read, in batches: equal records of a list of rows are taken together.
     pub fn finish(self, alloc: Global) -> Result<Kept, RowsError>
-        ensures { IfOk result (λ k. k ≡ self) }
+        ensures { IfOk result (λ k. AreAlike k self) }
     {
         let Track { mut epochs, last } = self;
-        seal(alloc, &mut epochs, last)?;
-        Ok(Kept { epochs })
+        seal(&mut epochs, last)?;
+        let mut kept = Vec::with_capacity(alloc, epochs.len())?;
+        for lists in epochs {
+            kept.push(batches_of(alloc, lists)?)?;
+        }
+        Ok(Kept { epochs: kept })
     }
 }
 
+/// The rows of lists in batches, one for each list that has some.
+fn batches_of(alloc: Global, lists: Vec<Rows>) -> Result<Vec<Batch>, RowsError>
+    ensures { IfOk result (λ batches. joined batches.items ≈ piled lists.items) }
+{
+    let mut batches = Vec::with_capacity(alloc, lists.len())?;
+    for rows in lists {
+        if let Some(batch) = Batch::from_rows(alloc, rows)? {
+            batches.push(batch)?;
+        }
+    }
+    Ok(batches)
+}
+
 /// Puts rows at the end of the last epoch.
-fn seal(alloc: Global, epochs: &mut Vec<Vec<Batch>>, rows: Rows) -> Result<(), RowsError>
-    ensures { OnOk result (map (λ v. joined v.items) epochs.new.items ≡ with_open (map (λ v. joined v.items) epochs.old.items) rows.rows) }
+fn seal(epochs: &mut Vec<Vec<Rows>>, rows: Rows) -> Result<(), RowsError>
+    ensures { OnOk result (map (λ v. piled v.items) epochs.new.items ≡ with_open (map (λ v. piled v.items) epochs.old.items) rows.rows) }
 {
     let len = epochs.len();
     if len == 0 {
         return Ok(());
     }
-    match Batch::from_rows(alloc, rows)? {
-        None => Ok(()),
-        Some(batch) => {
-            epochs[len - 1].push(batch)?;
-            Ok(())
-        }
+    if rows.is_empty() {
+        return Ok(());
     }
+    epochs[len - 1].push(rows)?;
+    Ok(())
 }
 
 /// The last rows have room for a row of that many numbers.
 fn make_room(
     alloc: Global,
-    epochs: &mut Vec<Vec<Batch>>,
+    epochs: &mut Vec<Vec<Rows>>,
     last: &mut Rows,
     arity: usize,
 ) -> Result<(), RowsError>
     requires some { 1 ≤ arity }
     requires fits { arity ≤ 16 }
     ensures arity { OnOk result (last.new.arity ≡ arity) }
-    ensures same { OnOk result (with_open (map (λ v. joined v.items) epochs.new.items) last.new.rows ≡ with_open (map (λ v. joined v.items) epochs.old.items) last.old.rows) }
+    ensures same { OnOk result (with_open (map (λ v. piled v.items) epochs.new.items) last.new.rows ≡ with_open (map (λ v. piled v.items) epochs.old.items) last.old.rows) }
 {
     let full = last.len() >= BATCH;
     if !full && last.arity() == arity {
         return Ok(());
     }
     let rows = mem::replace(last, fresh(alloc, arity, full)?);
-    seal(alloc, epochs, rows)?;
+    seal(epochs, rows)?;
     Ok(())
 }
 
-/// No rows, with room for a batch where more than one is wanted.
+/// No rows, with room for a whole list where more than one is wanted.
 fn fresh(alloc: Global, arity: usize, many: bool) -> Result<Rows, RowsError>
     requires some { 1 ≤ arity }
     requires fits { arity ≤ 16 }

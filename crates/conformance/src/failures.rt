@@ -40,6 +40,7 @@ fn lines(rt: HostRuntime) -> Result<(), Fail> {
             "schedule refused 46 at line 1\n",
         ),
         (Fault::NoMemory, 5, "out of memory\n"),
+        (Fault::Count, 5, "count too large\n"),
         (Fault::NoWorker, 5, "cannot start a worker\n"),
         (Fault::Incomplete, 5, "the run is incomplete\n"),
         (Fault::ReadQuery, 6, "cannot read q\n"),

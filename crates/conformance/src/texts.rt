@@ -137,10 +137,9 @@ fn reads(rt: HostRuntime) -> Result<(), Fail> {
     let all = epochs.batches(1, 0);
     assert_eq!(rt; all.len(), 1);
     let all = &all[0];
-    assert_eq!(rt; all.len(), 3);
-    assert_eq!(rt; all.row(0), [-3].as_slice());
-    assert_eq!(rt; all.row(1), [0].as_slice());
-    assert_eq!(rt; all.row(2), [-3].as_slice());
+    assert_eq!(rt; (all.len(), all.weight()), (2, 3));
+    assert_eq!(rt; (all.row(0), all.count(0)), ([-3].as_slice(), 2));
+    assert_eq!(rt; (all.row(1), all.count(1)), ([0].as_slice(), 1));
     let pairs = epochs.batches(1, 1);
     assert_eq!(rt; pairs.len(), 1);
     let pairs = &pairs[0];

@@ -13,7 +13,7 @@ use Rattle.console.specs.Faults.{follow_fault_of}
 use Rattle.console.specs.Followed.{FollowEnds, IsFollowed}
 use Rattle.console.proofs.Rewritten.{same_many}
 use Rattle.diagnostics.specs.declared.fault.Fault.{Fault}
-use Rattle.diagnostics.specs.declared.fault.Fault.TheVariants.{Query, TooManyVertices, Input as InputFault, Schedule, NoMemory, NoWorker, Incomplete, ReadQuery, ReadInput, Write}
+use Rattle.diagnostics.specs.declared.fault.Fault.TheVariants.{Query, TooManyVertices, Input as InputFault, Schedule, NoMemory, Count, NoWorker, Incomplete, ReadQuery, ReadInput, Write}
 
 module _ (query : List ℕ) (g : GraphValue) (before left old new : Option (List ℕ)) (c : IsCompiled query (shown_graph g) (shown_inputs g) (shown_names g)) where
   followed : (result : Result (Unit {0}) Ending) → FollowsInput g before left old new result → IsFollowed query before old new result
@@ -27,6 +27,7 @@ module _ (query : List ℕ) (g : GraphValue) (before left old new : Option (List
   ends_ill ending.Read f = followed (Err ending.Read) f
   ends_ill ending.Write f = followed (Err ending.Write) f
   ends_ill ending.NoMemory f = inr (followed (Err ending.NoMemory) f)
+  ends_ill ending.Count f = followed (Err ending.Count) f
   ends_ill ending.Incomplete f = followed (Err ending.Incomplete) f
 
 -- a refused query: nothing is written
@@ -36,6 +37,7 @@ refused_ends query before old new TooManyVertices same h = (same, h)
 refused_ends query before old new NoMemory same h = inl same
 refused_ends query before old new (InputFault code line) same h = absurd h
 refused_ends query before old new (Schedule code line) same h = absurd h
+refused_ends query before old new Count same h = absurd h
 refused_ends query before old new NoWorker same h = absurd h
 refused_ends query before old new Incomplete same h = absurd h
 refused_ends query before old new ReadQuery same h = absurd h
@@ -58,6 +60,7 @@ read_of (ending.Input code line) h = absurd cc
 read_of ending.Read h = refl
 read_of ending.Write h = absurd cc
 read_of ending.NoMemory h = absurd cc
+read_of ending.Count h = absurd cc
 read_of ending.Incomplete h = absurd cc
 
 pub query_of : (e : Ending) → follow_fault_of e ≡ ReadQuery → ⊥
@@ -65,6 +68,7 @@ query_of (ending.Input code line) h = absurd cc
 query_of ending.Read h = absurd cc
 query_of ending.Write h = absurd cc
 query_of ending.NoMemory h = absurd cc
+query_of ending.Count h = absurd cc
 query_of ending.Incomplete h = absurd cc
 
 pub written_of : (e : Ending) → follow_fault_of e ≡ Write → e ≡ ending.Write
@@ -72,6 +76,7 @@ written_of (ending.Input code line) h = absurd cc
 written_of ending.Read h = absurd cc
 written_of ending.Write h = refl
 written_of ending.NoMemory h = absurd cc
+written_of ending.Count h = absurd cc
 written_of ending.Incomplete h = absurd cc
 
 -- the program that the graph was made of is the normal form of the text's

@@ -8,7 +8,7 @@ use Rattle.console.specs.Heeded.{Heeds}
 use Rattle.console.specs.Replayed.{ReplayEnds}
 use Rattle.schedule.specs.declared.verb.ViewKind.{ViewKind}
 use Rattle.diagnostics.specs.declared.fault.Fault.{Fault}
-use Rattle.diagnostics.specs.declared.fault.Fault.TheVariants.{Query, TooManyVertices, Input as InputFault, Schedule, NoMemory, NoWorker, Incomplete, ReadQuery, ReadInput, Write}
+use Rattle.diagnostics.specs.declared.fault.Fault.TheVariants.{Query, TooManyVertices, Input as InputFault, Schedule, NoMemory, Count, NoWorker, Incomplete, ReadQuery, ReadInput, Write}
 
 pub responds_heeds : (query : List ℕ) (p : Program) (count : ℕ) (records : ℕ → ℕ → List Record) (old new : Option (List ℕ)) (result : Result (Unit {0}) Fault) → IsTaken query → Responds p count records old new result → Heeds query old new result
 responds_heeds query p count records old new (Ok u) t r = t
@@ -18,6 +18,7 @@ responds_heeds query p count records old new (Err (Query code start end)) t r = 
 responds_heeds query p count records old new (Err TooManyVertices) t r = absurd r
 responds_heeds query p count records old new (Err (InputFault code line)) t r = absurd r
 responds_heeds query p count records old new (Err (Schedule code line)) t r = absurd r
+responds_heeds query p count records old new (Err Count) t r = (r, t)
 responds_heeds query p count records old new (Err NoWorker) t r = (r, t)
 responds_heeds query p count records old new (Err Incomplete) t r = (r, t)
 responds_heeds query p count records old new (Err ReadQuery) t r = absurd r
@@ -33,5 +34,6 @@ replay_heeds query workers kind schedule old new (Err NoMemory) e = e
 replay_heeds query workers kind schedule old new (Err ReadQuery) e = e
 replay_heeds query workers kind schedule old new (Err ReadInput) e = e
 replay_heeds query workers kind schedule old new (Err (InputFault code line)) e = absurd e
+replay_heeds query workers kind schedule old new (Err Count) e = absurd e
 replay_heeds query workers kind schedule old new (Err NoWorker) e = absurd e
 replay_heeds query workers kind schedule old new (Err Incomplete) e = absurd e

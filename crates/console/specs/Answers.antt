@@ -12,7 +12,7 @@ use Rattle.collector.specs.OutputText.{IsTextFrom}
 use Rattle.collector.specs.Written.{AppendsFront}
 use Rattle.console.specs.Compiled.{IsCompiled}
 use Rattle.diagnostics.specs.declared.fault.Fault.{Fault}
-use Rattle.diagnostics.specs.declared.fault.Fault.TheVariants.{Query, TooManyVertices, Input, Schedule, NoMemory, NoWorker, Incomplete, ReadQuery, ReadInput, Write}
+use Rattle.diagnostics.specs.declared.fault.Fault.TheVariants.{Query, TooManyVertices, Input, Schedule, NoMemory, Count, NoWorker, Incomplete, ReadQuery, ReadInput, Write}
 
 -- the text has, for each epoch of so many and each output, the multiset that the program means there on the records of its inputs
 pub record IsAnswer (p : Program) (count : ℕ) (records : ℕ → ℕ → List Record) (text : List ℕ) : Type 0 where
@@ -29,6 +29,7 @@ Responds p count records old new (Err (Query code start end)) = ⊥
 Responds p count records old new (Err TooManyVertices) = ⊥
 Responds p count records old new (Err (Input code line)) = ⊥
 Responds p count records old new (Err (Schedule code line)) = ⊥
+Responds p count records old new (Err Count) = new ≡ old
 Responds p count records old new (Err NoWorker) = new ≡ old
 Responds p count records old new (Err Incomplete) = new ≡ old
 Responds p count records old new (Err ReadQuery) = ⊥

@@ -12,7 +12,7 @@ use Rattle.collector.specs.Written.{AppendsFront}
 use Rattle.record_core.specs.declared.span.Refusal.TheVariants.{At}
 use Rattle.console.specs.Queries.{IsRefusal}
 use Rattle.diagnostics.specs.declared.fault.Fault.{Fault}
-use Rattle.diagnostics.specs.declared.fault.Fault.TheVariants.{Query, TooManyVertices, Input as InputFault, Schedule, NoMemory, NoWorker, Incomplete, ReadQuery, ReadInput, Write}
+use Rattle.diagnostics.specs.declared.fault.Fault.TheVariants.{Query, TooManyVertices, Input as InputFault, Schedule, NoMemory, Count, NoWorker, Incomplete, ReadQuery, ReadInput, Write}
 
 -- `input NAME/ARITY`
 abbrev pub input_line : Input → List ℕ
@@ -51,6 +51,7 @@ IsCheckFault query NoMemory = Unit {0}
 IsCheckFault query TooManyVertices = ⊥
 IsCheckFault query (InputFault code line) = ⊥
 IsCheckFault query (Schedule code line) = ⊥
+IsCheckFault query Count = ⊥
 IsCheckFault query NoWorker = ⊥
 IsCheckFault query Incomplete = ⊥
 IsCheckFault query ReadQuery = ⊥
@@ -69,5 +70,6 @@ CheckEnds query old new (Err ReadInput) = ⊥
 CheckEnds query old new (Err TooManyVertices) = ⊥
 CheckEnds query old new (Err (InputFault code line)) = ⊥
 CheckEnds query old new (Err (Schedule code line)) = ⊥
+CheckEnds query old new (Err Count) = ⊥
 CheckEnds query old new (Err NoWorker) = ⊥
 CheckEnds query old new (Err Incomplete) = ⊥

@@ -10,7 +10,7 @@ use Rattle.console.specs.Queries.{IsQuery, IsRefusal, output_names}
 use Rattle.console.specs.declared.fault.CompileFault.{CompileFault}
 use Rattle.console.specs.declared.fault.CompileFault.TheVariants as compile
 use Rattle.diagnostics.specs.declared.fault.Fault.{Fault}
-use Rattle.diagnostics.specs.declared.fault.Fault.TheVariants.{Query, TooManyVertices, Input as InputFault, Schedule, NoMemory, NoWorker, Incomplete, ReadQuery, ReadInput, Write}
+use Rattle.diagnostics.specs.declared.fault.Fault.TheVariants.{Query, TooManyVertices, Input as InputFault, Schedule, NoMemory, Count, NoWorker, Incomplete, ReadQuery, ReadInput, Write}
 
 -- The text is a well-typed program with these inputs and outputs of these names. The graph is the one that the definition makes of the
 -- normal form that the program rewrites to.
@@ -50,6 +50,7 @@ IsQueryFault text TooManyVertices = IsTooLarge text
 IsQueryFault text NoMemory = Unit {0}
 IsQueryFault text (InputFault code line) = ⊥
 IsQueryFault text (Schedule code line) = ⊥
+IsQueryFault text Count = ⊥
 IsQueryFault text NoWorker = ⊥
 IsQueryFault text Incomplete = ⊥
 IsQueryFault text ReadQuery = ⊥

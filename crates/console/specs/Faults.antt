@@ -12,7 +12,7 @@ use Rattle.follow.specs.declared.ending.Ending.TheVariants as ending
 use Rattle.console.specs.declared.fault.CompileFault.{CompileFault}
 use Rattle.console.specs.declared.fault.CompileFault.TheVariants as compile
 use Rattle.diagnostics.specs.declared.fault.Fault.{Fault}
-use Rattle.diagnostics.specs.declared.fault.Fault.TheVariants.{Query, TooManyVertices, Input, Schedule, NoMemory, NoWorker, Incomplete, ReadInput, Write}
+use Rattle.diagnostics.specs.declared.fault.Fault.TheVariants.{Query, TooManyVertices, Input, Schedule, NoMemory, Count, NoWorker, Incomplete, ReadInput, Write}
 
 -- of a refused query
 abbrev pub fault_of : query_refusal.Refusal → Fault
@@ -42,6 +42,7 @@ schedule_fault_of schedule.NoMemory = NoMemory
 -- of a run that came to no end
 abbrev pub run_fault_of : Unfinished → Fault
 run_fault_of run.NoMemory = NoMemory
+run_fault_of run.Count = Count
 run_fault_of run.NoWorker = NoWorker
 run_fault_of run.Incomplete = Incomplete
 
@@ -51,4 +52,5 @@ follow_fault_of (ending.Input code line) = Input code line
 follow_fault_of ending.Read = ReadInput
 follow_fault_of ending.Write = Write
 follow_fault_of ending.NoMemory = NoMemory
+follow_fault_of ending.Count = Count
 follow_fault_of ending.Incomplete = Incomplete

@@ -10,7 +10,7 @@ use Rattle.follow.specs.declared.ending.Ending.{Ending}
 use Rattle.follow.specs.declared.ending.Ending.TheVariants as ending
 use Rattle.console.specs.Compiled.{IsCompiled, IsQueryFault}
 use Rattle.diagnostics.specs.declared.fault.Fault.{Fault}
-use Rattle.diagnostics.specs.declared.fault.Fault.TheVariants.{Query, TooManyVertices, Input, Schedule, NoMemory, NoWorker, Incomplete, ReadQuery, ReadInput, Write}
+use Rattle.diagnostics.specs.declared.fault.Fault.TheVariants.{Query, TooManyVertices, Input, Schedule, NoMemory, Count, NoWorker, Incomplete, ReadQuery, ReadInput, Write}
 
 -- the graph is that of the query's text
 abbrev pub IsGraphOfText : List ℕ → GraphValue → Type 0
@@ -33,13 +33,14 @@ pub record IsFollowed (query : List ℕ) (before old new : Option (List ℕ)) (r
   pub follows : FollowsInput graph before left old new result
 
 -- The input is answered to its end at Ok. At a faulty line, or where the reader or the writer failed, what was written is an answer to
--- what was read before. Nothing is written where the query can't be read or is refused. Want of memory may come at any place.
+-- what was read before; so it is where a count is too large. Nothing is written where the query can't be read or is refused. Want of memory may come at any place.
 abbrev pub FollowEnds : List ℕ → (before : Option (List ℕ)) → Option (List ℕ) → Option (List ℕ) → Result (Unit {0}) Fault → Type 0
 FollowEnds query before old new (Ok u) = IsFollowed query before old new (Ok u)
 FollowEnds query before old new (Err (Input code line)) = IsFollowed query before old new (Err (ending.Input code line))
 FollowEnds query before old new (Err ReadInput) = IsFollowed query before old new (Err ending.Read)
 FollowEnds query before old new (Err Write) = IsFollowed query before old new (Err ending.Write)
 FollowEnds query before old new (Err NoMemory) = (new ≡ old) ⊎ IsFollowed query before old new (Err ending.NoMemory)
+FollowEnds query before old new (Err Count) = IsFollowed query before old new (Err ending.Count)
 FollowEnds query before old new (Err Incomplete) = IsFollowed query before old new (Err ending.Incomplete)
 FollowEnds query before old new (Err (Query code start end)) = (new ≡ old) × IsQueryFault query (Query code start end)
 FollowEnds query before old new (Err TooManyVertices) = (new ≡ old) × IsQueryFault query TooManyVertices

@@ -9,7 +9,7 @@ use Rattle.writer.specs.Programs.{program_text}
 use Rattle.writer.specs.Sources.{ReadsAs}
 use Rattle.collector.specs.Written.{AppendsFront}
 use Rattle.diagnostics.specs.declared.fault.Fault.{Fault}
-use Rattle.diagnostics.specs.declared.fault.Fault.TheVariants.{Query, TooManyVertices, Input, Schedule, NoMemory, NoWorker, Incomplete, ReadQuery, ReadInput, Write}
+use Rattle.diagnostics.specs.declared.fault.Fault.TheVariants.{Query, TooManyVertices, Input, Schedule, NoMemory, Count, NoWorker, Incomplete, ReadQuery, ReadInput, Write}
 
 -- The query text reads as a program, and the text is its canonical text. Where that is no longer than a query may be, it reads as the
 -- same program, spans aside.
@@ -26,6 +26,7 @@ IsFormatFault query NoMemory = Unit {0}
 IsFormatFault query TooManyVertices = ⊥
 IsFormatFault query (Input code line) = ⊥
 IsFormatFault query (Schedule code line) = ⊥
+IsFormatFault query Count = ⊥
 IsFormatFault query NoWorker = ⊥
 IsFormatFault query Incomplete = ⊥
 IsFormatFault query ReadQuery = ⊥
@@ -44,5 +45,6 @@ FormatEnds query old new (Err ReadInput) = ⊥
 FormatEnds query old new (Err TooManyVertices) = ⊥
 FormatEnds query old new (Err (Input code line)) = ⊥
 FormatEnds query old new (Err (Schedule code line)) = ⊥
+FormatEnds query old new (Err Count) = ⊥
 FormatEnds query old new (Err NoWorker) = ⊥
 FormatEnds query old new (Err Incomplete) = ⊥

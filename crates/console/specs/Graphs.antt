@@ -9,7 +9,7 @@ use Rattle.console.specs.Compiled.{IsCompiled, IsQueryFault}
 use Rattle.command_line.specs.declared.line_options.GraphForm.{GraphForm}
 use Rattle.command_line.specs.declared.line_options.GraphForm.TheVariants.{Lines, Dot}
 use Rattle.diagnostics.specs.declared.fault.Fault.{Fault}
-use Rattle.diagnostics.specs.declared.fault.Fault.TheVariants.{Query, TooManyVertices, Input, Schedule, NoMemory, NoWorker, Incomplete, ReadQuery, ReadInput, Write}
+use Rattle.diagnostics.specs.declared.fault.Fault.TheVariants.{Query, TooManyVertices, Input, Schedule, NoMemory, Count, NoWorker, Incomplete, ReadQuery, ReadInput, Write}
 
 -- the text is that of a graph in this form; what Graphviz draws is left open
 abbrev pub IsTextIn : GraphForm → (outputs : List Name) → Graph → List ℕ → Type 0
@@ -36,5 +36,6 @@ GraphEnds form query old new (Err ReadQuery) = new ≡ old
 GraphEnds form query old new (Err ReadInput) = ⊥
 GraphEnds form query old new (Err (Input code line)) = ⊥
 GraphEnds form query old new (Err (Schedule code line)) = ⊥
+GraphEnds form query old new (Err Count) = ⊥
 GraphEnds form query old new (Err NoWorker) = ⊥
 GraphEnds form query old new (Err Incomplete) = ⊥

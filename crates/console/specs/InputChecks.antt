@@ -10,7 +10,7 @@ use Rattle.console.specs.Checks.{IsChecked}
 use Rattle.console.specs.Queries.{IsRefusal}
 use Rattle.console.specs.Runs.{IsInputFault}
 use Rattle.diagnostics.specs.declared.fault.Fault.{Fault}
-use Rattle.diagnostics.specs.declared.fault.Fault.TheVariants.{Query, TooManyVertices, Input, Schedule, NoMemory, NoWorker, Incomplete, ReadQuery, ReadInput, Write}
+use Rattle.diagnostics.specs.declared.fault.Fault.TheVariants.{Query, TooManyVertices, Input, Schedule, NoMemory, Count, NoWorker, Incomplete, ReadQuery, ReadInput, Write}
 
 -- the text tells the inputs and the arities of the query, and the input text is one of some epochs for those inputs
 pub record IsCheckedInput (query input text : List ℕ) : Type 0 where
@@ -26,6 +26,7 @@ IsInputCheckFault query input (Input code line) = IsInputFault query input code 
 IsInputCheckFault query input NoMemory = Unit {0}
 IsInputCheckFault query input TooManyVertices = ⊥
 IsInputCheckFault query input (Schedule code line) = ⊥
+IsInputCheckFault query input Count = ⊥
 IsInputCheckFault query input NoWorker = ⊥
 IsInputCheckFault query input Incomplete = ⊥
 IsInputCheckFault query input ReadQuery = ⊥
@@ -44,5 +45,6 @@ CheckInputEnds query input old new (Err ReadQuery) = new ≡ old
 CheckInputEnds query input old new (Err ReadInput) = new ≡ old
 CheckInputEnds query input old new (Err TooManyVertices) = ⊥
 CheckInputEnds query input old new (Err (Schedule code line)) = ⊥
+CheckInputEnds query input old new (Err Count) = ⊥
 CheckInputEnds query input old new (Err NoWorker) = ⊥
 CheckInputEnds query input old new (Err Incomplete) = ⊥

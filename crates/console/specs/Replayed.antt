@@ -12,7 +12,7 @@ use Rattle.replay.specs.Replays.{Replays}
 use Rattle.replay.specs.Waits.{State, at_first}
 use Rattle.console.specs.Compiled.{IsCompiled, IsQueryFault, IsTaken}
 use Rattle.diagnostics.specs.declared.fault.Fault.{Fault}
-use Rattle.diagnostics.specs.declared.fault.Fault.TheVariants.{Query, TooManyVertices, Input, Schedule, NoMemory, NoWorker, Incomplete, ReadQuery, ReadInput, Write}
+use Rattle.diagnostics.specs.declared.fault.Fault.TheVariants.{Query, TooManyVertices, Input, Schedule, NoMemory, Count, NoWorker, Incomplete, ReadQuery, ReadInput, Write}
 
 -- over the graph of the query, so many workers with views of that kind lead the schedule's commands from the opening world on, and the text
 -- is what they print
@@ -34,6 +34,7 @@ IsReplayFault query kind schedule TooManyVertices = IsQueryFault query TooManyVe
 IsReplayFault query kind schedule (Schedule code line) = IsTaken query × IsRefused kind schedule (At code line)
 IsReplayFault query kind schedule NoMemory = Unit {0}
 IsReplayFault query kind schedule (Input code line) = ⊥
+IsReplayFault query kind schedule Count = ⊥
 IsReplayFault query kind schedule NoWorker = ⊥
 IsReplayFault query kind schedule Incomplete = ⊥
 IsReplayFault query kind schedule ReadQuery = ⊥
@@ -52,5 +53,6 @@ ReplayEnds query workers kind schedule old new (Err NoMemory) = new ≡ old
 ReplayEnds query workers kind schedule old new (Err ReadQuery) = new ≡ old
 ReplayEnds query workers kind schedule old new (Err ReadInput) = new ≡ old
 ReplayEnds query workers kind schedule old new (Err (Input code line)) = ⊥
+ReplayEnds query workers kind schedule old new (Err Count) = ⊥
 ReplayEnds query workers kind schedule old new (Err NoWorker) = ⊥
 ReplayEnds query workers kind schedule old new (Err Incomplete) = ⊥

@@ -10,7 +10,7 @@ use Rattle.console.specs.Answers.{IsAnswer}
 use Rattle.console.specs.Compiled.{IsQueryFault}
 use Rattle.console.specs.Queries.{IsQuery}
 use Rattle.diagnostics.specs.declared.fault.Fault.{Fault}
-use Rattle.diagnostics.specs.declared.fault.Fault.TheVariants.{Query, TooManyVertices, Input, Schedule, NoMemory, NoWorker, Incomplete, ReadQuery, ReadInput, Write}
+use Rattle.diagnostics.specs.declared.fault.Fault.TheVariants.{Query, TooManyVertices, Input, Schedule, NoMemory, Count, NoWorker, Incomplete, ReadQuery, ReadInput, Write}
 
 -- the text is the answer of the query to the input
 pub record IsRun (query input text : List ℕ) : Type 0 where
@@ -25,8 +25,16 @@ pub record IsRun (query input text : List ℕ) : Type 0 where
 abbrev pub IsInputFault : List ℕ → List ℕ → ℕ → ℕ → Type 0
 IsInputFault query input code line = (p : Program) × IsQuery query p × IsRefused p.inputs input (At code line)
 
+-- the query is taken, and the input for its inputs
+pub record AreTaken (query input : List ℕ) : Type 0 where
+  pub program : Program
+  pub count : ℕ
+  pub records : ℕ → ℕ → List Record
+  pub reads : IsQuery query program
+  pub epochs : IsInputText program.inputs input count records
+
 -- The answer is written whole at Ok, and a beginning of it where the writer failed. Else nothing is written: the query is refused,
--- or the input, or a reader failed, or there was no memory.
+-- or the input, or both are taken and a count was too large, or a reader failed, or there was no memory.
 abbrev pub Ends : List ℕ → List ℕ → Option (List ℕ) → Option (List ℕ) → Result (Unit {0}) Fault → Type 0
 Ends query input old new (Ok u) = (text : List ℕ) × IsRun query input text × Appends old new text
 Ends query input old new (Err Write) = (text : List ℕ) × IsRun query input text × AppendsFront old new text
@@ -37,6 +45,7 @@ Ends query input old new (Err NoMemory) = new ≡ old
 Ends query input old new (Err ReadQuery) = new ≡ old
 Ends query input old new (Err ReadInput) = new ≡ old
 Ends query input old new (Err (Schedule code line)) = ⊥
+Ends query input old new (Err Count) = (new ≡ old) × AreTaken query input
 Ends query input old new (Err NoWorker) = new ≡ old
 Ends query input old new (Err Incomplete) = new ≡ old
 
@@ -49,6 +58,7 @@ IsUnreadQuery (Query code start end) = ⊥
 IsUnreadQuery TooManyVertices = ⊥
 IsUnreadQuery (Input code line) = ⊥
 IsUnreadQuery (Schedule code line) = ⊥
+IsUnreadQuery Count = ⊥
 IsUnreadQuery NoWorker = ⊥
 IsUnreadQuery Incomplete = ⊥
 IsUnreadQuery Write = ⊥
@@ -62,6 +72,7 @@ IsUnreadInput (Query code start end) = ⊥
 IsUnreadInput TooManyVertices = ⊥
 IsUnreadInput (Input code line) = ⊥
 IsUnreadInput (Schedule code line) = ⊥
+IsUnreadInput Count = ⊥
 IsUnreadInput NoWorker = ⊥
 IsUnreadInput Incomplete = ⊥
 IsUnreadInput Write = ⊥
@@ -75,6 +86,7 @@ IsAfterReading (Query code start end) = Unit {0}
 IsAfterReading TooManyVertices = Unit {0}
 IsAfterReading (Input code line) = Unit {0}
 IsAfterReading (Schedule code line) = Unit {0}
+IsAfterReading Count = Unit {0}
 IsAfterReading NoWorker = Unit {0}
 IsAfterReading Incomplete = Unit {0}
 IsAfterReading Write = Unit {0}

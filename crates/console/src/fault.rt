@@ -27,6 +27,7 @@ pub fn run_fault(unfinished: Unfinished) -> Fault
 {
     match unfinished {
         Unfinished::NoMemory => Fault::NoMemory,
+        Unfinished::Count => Fault::Count,
         Unfinished::NoWorker => Fault::NoWorker,
         Unfinished::Incomplete => Fault::Incomplete,
     }
@@ -41,6 +42,7 @@ pub fn follow_fault(ending: Ending) -> Fault
         Ending::Read => Fault::ReadInput,
         Ending::Write => Fault::Write,
         Ending::NoMemory => Fault::NoMemory,
+        Ending::Count => Fault::Count,
         Ending::Incomplete => Fault::Incomplete,
     }
 }

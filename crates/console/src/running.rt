@@ -3,8 +3,7 @@
 ghost use Rattle.std.specs.Prelude.{◌≡◌, ◌≤◌, ◌⊎◌, length, take, true, map, IfOk, IfErr, IfSome, IsErrOf};
 ghost use Rattle.graph.specs.Shown.{shown_graph, shown_inputs, shown_names};
 ghost use Rattle.graph.specs.Views.{input_of};
-ghost use Rattle.collector.specs.Held.{epoch_count, records_at};
-ghost use Rattle.collector.specs.InputText.{IsInputText, IsRefused};
+ghost use Rattle.collector.specs.InputText.{IsReadFrom, IsRefused};
 ghost use Rattle.collector.specs.Said.{plain};
 ghost use Rattle.collector.specs.Watching.{has_failed, inner_of};
 ghost use Rattle.console.specs.Compiled.{IsCompiled, IsQueryFault};
@@ -86,7 +85,7 @@ pub fn graph_of_text(alloc: Global, query: &[u8]) -> Result<Graph, Fault>
 
 /// The epochs that an input text tells, for the inputs of a graph.
 fn epochs_of_text(alloc: Global, graph: &Graph, input: &[u8]) -> Result<Epochs, InputRefusal>
-    ensures read { IfOk result (λ e. IsInputText (shown_inputs graph.now) input.now (epoch_count e) (records_at e)) }
+    ensures read { IfOk result (λ e. IsReadFrom (shown_inputs graph.now) input.now e) }
     ensures refused { IfErr result (IsRefused (shown_inputs graph.now) input.now) }
 {
     let inputs = declared(alloc, graph.inputs())?;
@@ -126,8 +125,8 @@ fn answer<R: Threads + Wait + Sync, W: Write, O: Write + Send, E: Write>(
 /// Reads a query and its input, and writes the answer, which so many workers compute. Its promise holds if it ends.
 ///
 /// The faults in the order in which they are told: the query can't be read, the input can't be read, the query is refused, the
-/// input is refused, the writer failed. Want of memory may come at any place, and a worker that can't be started before anything is
-/// written. The texts that were read are left in `texts`. A watcher that is given is told how many epochs have passed, as
+/// input is refused, a count is too large, the writer failed. Want of memory may come at any place, but a count that was too large at any
+/// worker is told before it, and a worker that can't be started before anything is written. The texts that were read are left in `texts`. A watcher that is given is told how many epochs have passed, as
 /// `passed M` with rising numbers, the last one once all workers have ended; where its writer fails, nothing else changes. With `stats`
 /// lines on `err` say, once the answer is written, what each vertex of the graph computed, took in and sent; where that writer fails,
 /// nothing else changes.

@@ -4,7 +4,7 @@ use Rattle.std.specs.Io.KnownBytes.{Appends}
 use Rattle.collector.specs.Written.{AppendsFront}
 use Rattle.refusals.specs.declared.table.Explanation.{Explanation}
 use Rattle.diagnostics.specs.declared.fault.Fault.{Fault}
-use Rattle.diagnostics.specs.declared.fault.Fault.TheVariants.{Query, TooManyVertices, Input, Schedule, NoMemory, NoWorker, Incomplete, ReadQuery, ReadInput, Write}
+use Rattle.diagnostics.specs.declared.fault.Fault.TheVariants.{Query, TooManyVertices, Input, Schedule, NoMemory, Count, NoWorker, Incomplete, ReadQuery, ReadInput, Write}
 
 -- what the place covers, where one is told
 abbrev pub place_text : List ℕ → List ℕ
@@ -43,6 +43,7 @@ ExplanationEnds row old new (Err (Query code start end)) = ⊥
 ExplanationEnds row old new (Err TooManyVertices) = ⊥
 ExplanationEnds row old new (Err (Input code line)) = ⊥
 ExplanationEnds row old new (Err (Schedule code line)) = ⊥
+ExplanationEnds row old new (Err Count) = ⊥
 ExplanationEnds row old new (Err NoWorker) = ⊥
 ExplanationEnds row old new (Err Incomplete) = ⊥
 ExplanationEnds row old new (Err ReadQuery) = ⊥

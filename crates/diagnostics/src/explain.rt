@@ -13,8 +13,9 @@ use std::io;
 use std::io::Write;
 
 /// Writes what follows a fault's line: of a query the line with carets under the place, of an input or a schedule the faulty line, and
-/// then a sentence with the names and the numbers. A text that is too long (6) has no place that helps. Of a text that couldn't be read
-/// it says what the system said; other faults of memory, threads or files have nothing to show.
+/// then a sentence with the names and the numbers. A text that is too long (6) has no place that helps. Of a count that is too large it
+/// says what that is, and of a text that couldn't be read what the system said; other faults of memory, threads or files have nothing to
+/// show.
 pub fn explain_fault<W: Write>(
     alloc: Global,
     fault: &Fault,
@@ -32,6 +33,7 @@ pub fn explain_fault<W: Write>(
             write_query_fault(alloc, &texts.query, *code, span, writer)
         }
         Fault::TooManyVertices => write_summary(21, writer),
+        Fault::Count => write_summary(39, writer),
         Fault::Input { code, line } => {
             let faulty = numbered_line(&texts.input, texts.input_from, *line);
             write_numbered(faulty, *line, writer)?;

@@ -25,6 +25,9 @@ pub enum Fault {
     Schedule { code: u8, line: u64 },
     #[error("out of memory")]
     NoMemory,
+    /// A count would have been above 9223372036854775807.
+    #[error("count too large")]
+    Count,
     #[error("cannot start a worker")]
     NoWorker,
     /// The engine has not done all that was read. No run is known that ends so.
@@ -47,7 +50,7 @@ impl Fault {
         match self {
             Fault::Query { .. } | Fault::TooManyVertices => 3,
             Fault::Input { .. } | Fault::Schedule { .. } => 4,
-            Fault::NoMemory | Fault::NoWorker | Fault::Incomplete => 5,
+            Fault::NoMemory | Fault::Count | Fault::NoWorker | Fault::Incomplete => 5,
             Fault::ReadQuery | Fault::ReadInput | Fault::Write => 6,
         }
     }

@@ -1,9 +1,13 @@
 //! Each call once on its happy path, and growths that no machine has memory for.
 
-ghost use Rattle.std.specs.Prelude.{◌≡◌};
+ghost use Rattle.std.specs.Prelude.{◌≡◌, ◌≤◌, length, OnOk};
+ghost use Rattle.rows.specs.Counts.{most, rows_of};
 
 use record_core::Record;
-use rows::{Batch, Lists, RowIndex, RowSet, Rows, RowsError, field, project_into};
+use rows::{
+    Batch, CountedRows, Lists, RowIndex, RowSet, Rows, RowsError, Tally, TallyError, field,
+    project_into,
+};
 use std::alloc::Global;
 use std::process::Abort;
 use std::test::Fail;
@@ -13,6 +17,16 @@ fn fields(alloc: Global, rows: &Rows) -> Result<Vec<i64>, RowsError> {
     let mut fields = Vec::new(alloc);
     for place in 0..rows.len() {
         fields.extend_from_slice(rows.row(place))?;
+    }
+    Ok(fields)
+}
+
+/// The fields of the rows, row by row, each row followed by its count.
+fn counted_fields(alloc: Global, rows: &CountedRows) -> Result<Vec<i64>, TallyError> {
+    let mut fields = Vec::new(alloc);
+    for place in 0..rows.len() {
+        fields.extend_from_slice(rows.row(place))?;
+        fields.push(rows.count(place) as i64)?;
     }
     Ok(fields)
 }
@@ -101,6 +115,9 @@ fn batch_of_two(
     let batch = Batch::from_records(alloc, &records)?;
     let again = batch.share()?;
     let same = batch.record(0) == records[0] && batch.same(&again);
+    if batch.len() < 2 {
+        return Err(RowsError::NoMemory);
+    }
     let row = batch.row(1);
     Ok((batch.len(), batch.arity(), row[0], row[1], same))
 }
@@ -195,25 +212,52 @@ fn a_set_of_many_rows_keeps_each_once(rt: HostRuntime) {
     assert_eq!(rt; forty_twice(rt.alloc()), Ok(([40, 0], [40, 0, 2])));
 }
 
-/// The rows of 7 among 41, of which the last was added behind the others' chains.
-fn sevens(alloc: Global) -> Result<Vec<i64>, RowsError> {
+/// Counts a row in, and puts it in the index where it is new: both keep the same rows in the same order.
+fn count_in(
+    index: &mut RowIndex,
+    tally: &mut Tally,
+    row: &[i64],
+    count: u64,
+) -> Result<(), TallyError>
+    requires index { length row.now ≡ index.old.arity }
+    requires tally { length row.now ≡ tally.old.arity }
+    requires some { 1 ≤ count }
+    requires fits { count ≤ most }
+    requires rows { rows_of tally.old.runs ≡ index.old.rows }
+    ensures index { index.new.arity ≡ index.old.arity }
+    ensures tally { tally.new.arity ≡ tally.old.arity }
+    ensures rows { OnOk result (rows_of tally.new.runs ≡ index.new.rows) }
+{
+    match tally.add(row, count) {
+        Ok(true) => {}
+        Ok(false) => return Ok(()),
+        Err(error) => return Err(error),
+    }
+    index.add(row)?;
+    Ok(())
+}
+
+/// The rows of 7 among 41, each with its count: 40 rows, of which two begin with each number below 20, and a further row, three
+/// times, that was added behind the others' chains.
+fn sevens(alloc: Global) -> Result<Vec<i64>, TallyError> {
     let columns = Vec::from_array(alloc, [0])?;
     let mut index = RowIndex::new(alloc, columns, 2)?.fresh()?;
+    let mut tally = Tally::new(alloc, 2)?;
     for row in 0..40 {
-        index.add(&[row % 20, row])?;
+        count_in(&mut index, &mut tally, &[row % 20, row], 1)?;
     }
     index.settle()?;
-    index.add(&[7, 40])?;
-    let mut found = Rows::new(alloc, 2);
-    index.matches(&[0], &[7], &mut found)?;
-    fields(alloc, &found)
+    count_in(&mut index, &mut tally, &[7, 40], 3)?;
+    let mut found = CountedRows::new(alloc, 3);
+    index.join_counted(&[0], &[7], 2, &tally, &mut found)?;
+    counted_fields(alloc, &found)
 }
 
 #[test]
 fn an_index_of_many_rows_finds_them_newest_first(rt: HostRuntime) -> Result<(), Fail> {
     assert_eq!(rt;
         sevens(rt.alloc())?.as_slice(),
-        [7, 40, 7, 27, 7, 7].as_slice()
+        [7, 7, 40, 6, 7, 7, 27, 2, 7, 7, 7, 2].as_slice()
     );
     Ok(())
 }
@@ -232,70 +276,63 @@ fn lists_are_replaced_in_place(rt: HostRuntime) {
     assert_eq!(rt; replaced(rt.alloc()), Ok((2, [6, 3])));
 }
 
-/// The rows whose second field is 7.
-fn found(alloc: Global) -> Result<Vec<i64>, RowsError> {
+/// What a record is joined to whose first field is the second of two of three rows.
+fn found(alloc: Global) -> Result<Vec<i64>, TallyError> {
     let columns = Vec::from_array(alloc, [1])?;
     let mut index = RowIndex::new(alloc, columns, 2)?;
-    index.add(&[10, 7])?;
-    index.add(&[20, 8])?;
-    index.add(&[30, 7])?;
-    let mut found = Rows::new(alloc, 2);
-    index.matches(&[0], &[7, 9, 9], &mut found)?;
-    fields(alloc, &found)
+    let mut tally = Tally::new(alloc, 2)?;
+    count_in(&mut index, &mut tally, &[10, 7], 1)?;
+    count_in(&mut index, &mut tally, &[20, 8], 1)?;
+    count_in(&mut index, &mut tally, &[30, 7], 1)?;
+    let mut found = CountedRows::new(alloc, 5);
+    index.join_counted(&[0], &[7, 9, 9], 1, &tally, &mut found)?;
+    counted_fields(alloc, &found)
 }
 
 #[test]
 fn an_index_finds_by_other_columns(rt: HostRuntime) -> Result<(), Fail> {
-    assert_eq!(rt; found(rt.alloc())?.as_slice(), [30, 7, 10, 7].as_slice());
+    let all = [7, 9, 9, 30, 7, 1, 7, 9, 9, 10, 7, 1];
+    assert_eq!(rt; found(rt.alloc())?.as_slice(), all.as_slice());
     Ok(())
 }
 
-/// A record joined on the left, one on the right, and one that nothing agrees with.
-fn joined(alloc: Global, index: &RowIndex) -> Result<Vec<i64>, RowsError>
-    requires { index.now.arity ≡ 2 }
-{
-    let mut joined = Rows::new(alloc, 3);
-    index.join_after(&[0], &[1], &mut joined)?;
-    index.join_before(&[0], &[2], &mut joined)?;
-    index.join_before(&[0], &[3], &mut joined)?;
-    fields(alloc, &joined)
-}
-
-fn joined_to_two(alloc: Global) -> Result<Vec<i64>, RowsError> {
+/// Two records joined on the left and on the right of the rows `1 5`, once there, and `2 6`, four times, and one that nothing agrees with.
+fn joined_to_two(alloc: Global) -> Result<Vec<i64>, TallyError> {
     let columns = Vec::from_array(alloc, [0])?;
     let mut index = RowIndex::new(alloc, columns, 2)?;
-    index.add(&[1, 5])?;
-    index.add(&[2, 6])?;
-    joined(alloc, &index)
+    let mut tally = Tally::new(alloc, 2)?;
+    count_in(&mut index, &mut tally, &[1, 5], 1)?;
+    count_in(&mut index, &mut tally, &[2, 6], 4)?;
+    let mut joined = CountedRows::new(alloc, 3);
+    index.join_counted(&[0], &[1], 1, &tally, &mut joined)?;
+    index.join_counted_before(&[0], &[2], 3, &tally, &mut joined)?;
+    index.join_counted_before(&[0], &[3], 1, &tally, &mut joined)?;
+    counted_fields(alloc, &joined)
 }
 
 #[test]
 fn rows_are_joined_on_either_side(rt: HostRuntime) -> Result<(), Fail> {
     let fields = joined_to_two(rt.alloc())?;
-    assert_eq!(rt; fields.as_slice(), [1, 1, 5, 2, 6, 2].as_slice());
+    assert_eq!(rt; fields.as_slice(), [1, 1, 5, 1, 2, 6, 2, 12].as_slice());
     Ok(())
 }
 
-/// An index by no columns: its sizes, the field of its second row, and what a record is joined to.
-fn without_columns(alloc: Global) -> Result<(usize, usize, i64, Vec<i64>), RowsError> {
+/// An index by no columns: its sizes, and what a record is joined to.
+fn without_columns(alloc: Global) -> Result<(usize, usize, Vec<i64>), TallyError> {
     let mut index = RowIndex::new(alloc, Vec::new(alloc), 1)?;
-    index.add(&[4])?;
-    index.add(&[5])?;
-    let mut joined = Rows::new(alloc, 2);
-    index.join_after(&[], &[3], &mut joined)?;
-    Ok((
-        index.len(),
-        index.arity(),
-        index.row(1)[0],
-        fields(alloc, &joined)?,
-    ))
+    let mut tally = Tally::new(alloc, 1)?;
+    count_in(&mut index, &mut tally, &[4], 1)?;
+    count_in(&mut index, &mut tally, &[5], 1)?;
+    let mut joined = CountedRows::new(alloc, 2);
+    index.join_counted(&[], &[3], 1, &tally, &mut joined)?;
+    Ok((index.len(), index.arity(), counted_fields(alloc, &joined)?))
 }
 
 #[test]
 fn without_columns_all_rows_agree(rt: HostRuntime) -> Result<(), Fail> {
-    let (len, arity, second, joined) = without_columns(rt.alloc())?;
-    assert_eq!(rt; (len, arity, second), (2, 1, 5));
-    assert_eq!(rt; joined.as_slice(), [3, 5, 3, 4].as_slice());
+    let (len, arity, joined) = without_columns(rt.alloc())?;
+    assert_eq!(rt; (len, arity), (2, 1));
+    assert_eq!(rt; joined.as_slice(), [3, 5, 1, 3, 4, 1].as_slice());
     Ok(())
 }
 

@@ -6,6 +6,8 @@ mod compared_shards;
 #[cfg(test)]
 mod count_tracker;
 #[cfg(test)]
+mod counts;
+#[cfg(test)]
 mod flat_rows;
 #[cfg(test)]
 mod kinds;

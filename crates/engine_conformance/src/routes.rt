@@ -82,7 +82,7 @@ fn records_without_a_route_stay_with_the_sender(rt: HostRuntime) -> Result<(), F
     let parcels = split(rt.alloc(), batch, &Routing::Stay, 64, 63)?;
     assert_eq!(rt; parcels.len(), 1);
     for parcel in &parcels {
-        assert_eq!(rt; (parcel.worker, parcel.batch.len()), (63, 3));
+        assert_eq!(rt; (parcel.worker, parcel.batch.weight()), (63, 3));
     }
     Ok(())
 }

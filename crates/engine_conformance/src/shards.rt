@@ -55,14 +55,16 @@ pub fn pairs(rt: &impl Abort, alloc: Global, values: &[(i64, i64)]) -> Result<Ba
     Ok(batch)
 }
 
-/// The fields of the records that are sent by a port, record by record.
+/// The fields of the records that are sent by a port, record by record, equal ones with their repeats one after the other.
 pub fn sent(alloc: Global, out: &mut Out, port: u32) -> Result<Vec<i64>, ShardFault>
     requires { port < 2 }
 {
     let mut fields = Vec::new(alloc);
     if let Some(batch) = out.take(port) {
         for place in 0..batch.len() {
-            fields.extend_from_slice(batch.row(place))?;
+            for _ in 0..batch.count(place) {
+                fields.extend_from_slice(batch.row(place))?;
+            }
         }
     }
     Ok(fields)

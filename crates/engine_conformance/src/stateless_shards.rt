@@ -96,7 +96,7 @@ fn forwards(
     requires port { port < in_ports (kind_of kind) }
 {
     let sent = sends(alloc, kind, 1, port, time, singles(rt, alloc, &[7, 4, 7])?)?;
-    Ok(sent.first.as_slice() == [7, 4, 7].as_slice() && sent.second.is_empty() && !sent.asked)
+    Ok(sent.first.as_slice() == [7, 7, 4].as_slice() && sent.second.is_empty() && !sent.asked)
 }
 
 #[test]
@@ -150,7 +150,7 @@ fn select_of_columns_and_a_number(rt: HostRuntime) -> Result<(), Fail> {
         &Time::at_epoch(0),
         batch,
     )?;
-    let all = [2, 1, -5, 4, 3, -5, 2, 1, -5];
+    let all = [2, 1, -5, 2, 1, -5, 4, 3, -5];
     assert_eq!(rt; sent.first.as_slice(), all.as_slice());
     assert!(rt; sent.second.is_empty() && !sent.asked);
     Ok(())

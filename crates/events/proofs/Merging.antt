@@ -1,10 +1,9 @@
 -- Two messages put together.
-use Rattle.std.proofs.Common.{◌≡◌, ℕ, zero, suc, ◌+◌, ◌<◌, List, [], ◌∷◌, ◌++◌, length, refl, sym, ap, ◌∙◌, subst, arith, append_assoc, length-append}
+use Rattle.std.proofs.Common.{◌≡◌, Bool, true, false, ◌≤◌, ℕ, zero, suc, ◌+◌, ◌<◌, List, [], ◌∷◌, ◌++◌, ◌⊎◌, inl, inr, length, min, refl, sym, ap, ◌∙◌, subst, arith, append-nil, append_assoc, length-append}
 use Rattle.std.specs.List.{AllByRecursion}
-use Rattle.semantics.specs.Multiset.{Record}
-use Rattle.semantics.specs.Time.{Time}
-use Rattle.machine.specs.World.{Message}
+use Rattle.semantics.specs.Multiset.{Record, count, one_if, same}
 use Rattle.rows.specs.FlatRows.{arity_of, joined}
+use Rattle.rows.specs.Counts.{IsOver}
 use Rattle.rows.proofs.Joined.{joined_append}
 use Rattle.events.specs.Merging.{AreOneMessage}
 
@@ -24,19 +23,32 @@ pub both_records : (first : List Record) (more : List (List Record)) (second : L
 both_records first more second others all e = ap (λ bs. first ++ joined bs) e ∙ ap (λ r. first ++ r) (joined_append more (second ∷ others)) ∙ sym (append_assoc first (joined more) (second ++ joined others))
 
 pub one_message : (first : List Record) (more : List (List Record)) (l a : ℕ) → AreOneMessage first more l a → (second : List Record) (others : List (List Record)) (m b : ℕ) → AreOneMessage second others m b
+    → length (first ++ joined more) < 1024 → length (second ++ joined others) < 1024
     → arity_of (second ++ joined others) ≡ arity_of (first ++ joined more) → (all : List (List Record)) → all ≡ more ++ second ∷ others → AreOneMessage first all (l + m) a
-one_message first more l a one second others m b other same all e =
+one_message first more l a one second others m b other few fewer same all e =
     let alike : arity_of second ≡ arity_of first = sym (arity_first second (joined others) other.some) ∙ same ∙ arity_first first (joined more) one.some in
+    let n = ap (λ r. length r) (both_records first more second others all e) in
+    let k = length-append (first ++ joined more) (second ++ joined others) in
     record {
       some = one.some;
-      counted =
-          let n = ap (λ r. length r) (both_records first more second others all e) in
-          let k = length-append (first ++ joined more) (second ++ joined others) in
-          omega (arith, n, k, one.counted, other.counted);
+      counted = omega (arith, n, k, one.counted, other.counted, few, fewer);
       arity = one.arity;
       each = subst (AllByRecursion (λ b. arity_of b ≡ arity_of first)) (sym e) (all_with (arity_of first) (arity_of second) more (second ∷ others) alike one.each (refl, other.each));
+      few = inr (omega (arith, n, k, few, fewer));
     }
 
--- a message that was taken apart
-pub message_is : (m : Message) (edge : ℕ) (time : Time) (records : List Record) → edge ≡ m.edge → time ≡ m.time → records ≡ m.records → record { edge = edge; time = time; records = records } ≡ m
-message_is m edge time records e t r = λ i. record { edge = e i; time = t i; records = r i }
+-- a message of one batch
+pub one_batch : (first : List Record) (more : List (List Record)) → more ≡ [] → first ++ joined more ≡ first
+one_batch first more e = ap (λ bs. first ++ joined bs) e ∙ append-nil first
+
+count_le : (r : Record) (xs : List Record) → count r xs ≤ length xs
+count_le r [] = omega arith
+count_le r (x ∷ xs) = go (same x r) (count_le r xs)
+  where
+    go : (b : Bool) → count r xs ≤ length xs → one_if b + count r xs ≤ suc (length xs)
+    go true h = omega (arith, h)
+    go false h = omega (arith, h)
+
+-- few records stand nowhere too often
+pub not_over : (xs : List Record) → length xs < 2048 → IsOver xs → ⊥
+not_over xs few (r, over) = let le = count_le r xs in omega (arith, few, over, le)

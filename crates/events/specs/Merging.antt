@@ -1,5 +1,5 @@
 -- Messages that are put together, and the batches in which the records of a message lie.
-use Rattle.std.specs.Prelude.{◌≡◌, ℕ, ◌<◌, List, ◌++◌, length}
+use Rattle.std.specs.Prelude.{◌≡◌, ℕ, ◌<◌, ◌⊎◌, List, [], ◌++◌, length, min}
 use Rattle.std.specs.List.{AllByRecursion}
 use Rattle.semantics.specs.Multiset.{Record}
 use Rattle.machine.specs.World.{Message}
@@ -17,9 +17,11 @@ pub record MayMerge (first second : Message) : Type 0 where
   pub first_small : length first.records < most_merged
   pub second_small : length second.records < most_merged
 
--- the first batch isn't empty, all have one arity, and so many records are in them
+-- The first batch isn't empty, all have one arity, and so many records are in them, where a number of 64 bits can tell. Several are
+-- together only where they are few.
 pub record AreOneMessage (first : List Record) (more : List (List Record)) (len fields : ℕ) : Type 0 where
   pub some : 0 < length first
-  pub counted : len ≡ length (first ++ joined more)
+  pub counted : len ≡ min (length (first ++ joined more)) 18446744073709551615
   pub arity : fields ≡ arity_of first
   pub each : AllByRecursion (λ b. arity_of b ≡ arity_of first) more
+  pub few : (more ≡ []) ⊎ (length (first ++ joined more) < 2048)

@@ -1,12 +1,14 @@
 //! Records on their way to a worker, in one batch or several.
 
-ghost use Rattle.std.specs.Prelude.{◌≡◌, ◌≤◌, ◌+◌, ◌∷◌, ◌++◌, ◌↔◌, IfErr, IfOk, IsTrue, OnErr, OnOk, length, vec_capacity, vec_len};
+ghost use Rattle.std.specs.Prelude.{◌≡◌, ◌≤◌, ◌+◌, ◌∷◌, ◌++◌, ◌↔◌, IfErr, IfOk, IsTrue, OnErr, OnOk, length, min, vec_capacity, vec_len};
+ghost use Rattle.semantics.specs.Multiset.{◌≈◌};
+ghost use Rattle.rows.specs.FlatRows.{arity_of};
 ghost use Rattle.events.specs.Merging.{MayMerge};
 
 use crate::fault::EventFault;
 use graph::EdgeId;
 use loop_context::Time;
-use rows::Batch;
+use rows::{Batch, TallyError};
 use std::alloc::Global;
 use std::marker::Model;
 
@@ -46,7 +48,7 @@ impl Message {
         Message {
             edge,
             time,
-            len: batch.len(),
+            len: batch.weight(),
             arity: batch.arity(),
             batch,
             more: Vec::new(alloc),
@@ -72,11 +74,20 @@ impl Message {
         self.time = time;
     }
 
-    /// How many records there are.
+    /// How many records there are, with their repeats: it stays at 18446744073709551615.
     pub fn len(&self) -> usize
-        ensures { result ≡ length self.now.records }
+        ensures { result ≡ min (length self.now.records) 18446744073709551615 }
     {
         self.len
+    }
+
+    /// In how many rows the records lie, which is what they cost to compute. No clause speaks of it.
+    pub fn rows(&self) -> usize {
+        let mut rows = self.batch.len();
+        for batch in &self.more {
+            rows = rows.saturating_add(batch.len());
+        }
+        rows
     }
 
     /// Whether the other's records may be put behind these. No record is looked at.
@@ -116,11 +127,12 @@ impl Message {
         Ok(())
     }
 
-    /// The edge, the time, and the records as one batch; they are copied only where there are several.
+    /// The edge, the time, and the records as one batch, in some order; they are copied only where they lie in several.
     pub fn into_parts(self, alloc: Global) -> Result<(EdgeId, Time, Batch), EventFault>
         ensures edge { IfOk result (λ p. p.0.0 ≡ self.edge) }
         ensures time { IfOk result (λ p. p.1 ≡ self.time) }
-        ensures records { IfOk result (λ p. p.2 ≡ self.records) }
+        ensures records { IfOk result (λ p. p.2 ≈ self.records) }
+        ensures arity { IfOk result (λ p. arity_of p.2 ≡ arity_of self.records) }
     {
         let Message {
             edge,
@@ -133,8 +145,11 @@ impl Message {
         if more.is_empty() {
             return Ok((edge, time, batch));
         }
-        let joined = Batch::concat(alloc, &batch, &more)?;
-        Ok((edge, time, joined))
+        match Batch::concat(alloc, &batch, &more) {
+            Ok(joined) => Ok((edge, time, joined)),
+            Err(TallyError::NoMemory) => Err(EventFault::NoMemory),
+            Err(TallyError::Count) => unreachable!(),
+        }
     }
 }
 

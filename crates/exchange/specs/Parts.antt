@@ -1,6 +1,7 @@
 -- A batch taken apart by workers.
 use Rattle.std.specs.Prelude.{◌≡◌, ◌<◌, ℕ, zero, suc, ◌==◌, List, [], ◌∷◌, ◌++◌, filter, length, slice_index_or, flat_map}
-use Rattle.rows.specs.FlatRows.{RowList}
+use Rattle.rows.specs.Counts.{Run, RunList, expanded, rows_of}
+use Rattle.rows.specs.Indexes.{AreDifferent}
 use Rattle.semantics.specs.Multiset.{Record}
 use Rattle.exchange.specs.declared.splitting.Parcel.{Parcel}
 
@@ -19,15 +20,19 @@ abbrev pub from_all : List Parcel → List Record
 from_all ps = flat_map (λ p. p.batch) ps
 
 -- no rows of that arity
-abbrev pub no_rows : ℕ → RowList
-no_rows a = record { arity = a; rows = [] }
+abbrev pub no_rows : ℕ → RunList
+no_rows a = record { arity = a; runs = [] }
 
--- for each worker below n a list of the rows that go there, in their order
-pub record IsSpread (home : Record → ℕ) (a : ℕ) (records : List Record) (n : ℕ) (parts : List RowList) : Type 0 where
+-- for each worker below n a list of the runs whose rows go there, in their order
+pub record IsSpread (home : Record → ℕ) (a : ℕ) (all : List Run) (n : ℕ) (parts : List RunList) : Type 0 where
   pub each : length parts ≡ n
-  pub at : (k : ℕ) → k < n → slice_index_or parts k (no_rows a) ≡ record { arity = a; rows = filter (λ r. home r == k) records }
+  pub at : (k : ℕ) → k < n → slice_index_or parts k (no_rows a) ≡ record { arity = a; runs = filter (λ c. home c.row == k) all }
+
+-- the rows of each part are different
+abbrev pub AreAllDifferent : List RunList → Type 0
+AreAllDifferent parts = (k : ℕ) (d : RunList) → k < length parts → AreDifferent (rows_of (slice_index_or parts k d).runs)
 
 -- the parcels of lists for the workers from w on
-abbrev pub gathered : ℕ → List RowList → List Parcel
+abbrev pub gathered : ℕ → List RunList → List Parcel
 gathered w [] = []
-gathered w (part ∷ parts) = parcel w part.rows ++ gathered (suc w) parts
+gathered w (part ∷ parts) = parcel w (expanded part.runs) ++ gathered (suc w) parts

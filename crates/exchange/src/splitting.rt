@@ -3,11 +3,13 @@
 ghost use Rattle.std.specs.Prelude.{◌≡◌, ◌<◌, ◌≤◌, ◌==◌, ℕ, [], ◌∷◌, ◌++◌, List, IfOk, IfSome, OnOk, length, filter, slice_index_or, flat_map};
 ghost use Rattle.semantics.specs.Multiset.{◌≈◌};
 ghost use Rattle.rows.specs.FlatRows.{arity_of};
+ghost use Rattle.rows.specs.Indexes.{AreDifferent};
+ghost use Rattle.rows.specs.Counts.{AreRuns, expanded, no_run, rows_of, runs};
 ghost use Rattle.exchange.specs.Homes.{home_of};
-ghost use Rattle.exchange.specs.Parts.{parcel, parcels, no_rows, IsSpread, gathered, from_all};
+ghost use Rattle.exchange.specs.Parts.{AreAllDifferent, parcel, parcels, no_rows, IsSpread, gathered, from_all};
 
 use crate::routing::Routing;
-use rows::{Batch, Rows, RowsError};
+use rows::{Batch, CountedRows, RowsError};
 use std::alloc::Global;
 
 /// The records of a batch that go to one worker, in their order: one or more.
@@ -50,8 +52,10 @@ fn common_home(batch: &Batch, routing: &Routing, workers: u32, sender: u32) -> O
     requires fits { workers ≤ 64 }
     requires sender { sender < workers }
     ensures there { IfSome result (λ w. w < workers) }
-    ensures some { 0 < length batch.now }
-    ensures each { IfSome result (λ w. (k : ℕ) → k < length batch.now → home_of routing.now workers sender (slice_index_or batch.now k []) ≡ w) }
+    ensures runs { AreRuns (runs batch.now) }
+    ensures all { expanded (runs batch.now) ≡ batch.now }
+    ensures some { 0 < length (runs batch.now) }
+    ensures each { IfSome result (λ w. (k : ℕ) → k < length (runs batch.now) → home_of routing.now workers sender (slice_index_or (runs batch.now) k no_run).row ≡ w) }
 {
     let count = batch.len();
     if workers == 1 {
@@ -73,21 +77,21 @@ fn spread(
     routing: &Routing,
     workers: u32,
     sender: u32,
-) -> Result<Vec<Rows>, RowsError>
+) -> Result<Vec<CountedRows>, RowsError>
     requires fits { workers ≤ 64 }
     requires sender { sender < workers }
-    ensures { IfOk result (λ parts. IsSpread (home_of routing.now workers sender) (arity_of batch.now) batch.now workers parts.items) }
+    ensures { IfOk result (λ parts. IsSpread (home_of routing.now workers sender) (arity_of batch.now) (runs batch.now) workers parts.items) }
 {
     let mut parts = empty_parts(alloc, batch.arity(), workers)?;
     for k in 0..batch.len() {
         let row = batch.row(k);
         let worker = routing.home(workers, sender, row);
-        parts[worker as usize].push(row)?;
+        parts[worker as usize].push(row, batch.count(k))?;
     }
     Ok(parts)
 }
 
-fn empty_parts(alloc: Global, arity: usize, workers: u32) -> Result<Vec<Rows>, RowsError>
+fn empty_parts(alloc: Global, arity: usize, workers: u32) -> Result<Vec<CountedRows>, RowsError>
     requires some { 1 ≤ arity }
     requires fits { arity ≤ 16 }
     ensures len { IfOk result (λ parts. length parts.items ≡ workers) }
@@ -95,15 +99,16 @@ fn empty_parts(alloc: Global, arity: usize, workers: u32) -> Result<Vec<Rows>, R
 {
     let mut parts = Vec::with_capacity(alloc, workers as usize)?;
     for _worker in 0..workers {
-        parts.push(Rows::new(alloc, arity))?;
+        parts.push(CountedRows::new(alloc, arity))?;
     }
     Ok(parts)
 }
 
 /// The lists that have rows, as parcels for the workers from 0 on.
 #[tactic(auto, using(crate::proofs::Gathering::gathered_next))]
-fn gather(alloc: Global, parts: Vec<Rows>) -> Result<Parcels, RowsError>
-    requires { length parts.items ≤ 64 }
+fn gather(alloc: Global, parts: Vec<CountedRows>) -> Result<Parcels, RowsError>
+    requires few { length parts.items ≤ 64 }
+    requires different { AreAllDifferent parts.items }
     ensures { IfOk result (λ ps. ps.items ≡ gathered 0 parts.items) }
 {
     let mut parcels = Vec::with_capacity(alloc, parts.len())?;
@@ -119,16 +124,16 @@ fn gather(alloc: Global, parts: Vec<Rows>) -> Result<Parcels, RowsError>
 fn put_parcel(
     alloc: Global,
     worker: u32,
-    part: Rows,
+    part: CountedRows,
     parcels: &mut Parcels,
 ) -> Result<(), RowsError>
-    ensures { OnOk result (parcels.new.items ≡ parcels.old.items ++ parcel worker part.rows) }
+    requires { AreDifferent (rows_of part.runs) }
+    ensures { OnOk result (parcels.new.items ≡ parcels.old.items ++ parcel worker (expanded part.runs)) }
 {
-    match Batch::from_rows(alloc, part)? {
-        Some(batch) => {
-            parcels.push(Parcel { worker, batch })?;
-            Ok(())
-        }
-        None => Ok(()),
+    if let Some(batch) = Batch::from_counted(alloc, part)? {
+        let _count = batch.len();
+        parcels.push(Parcel { worker, batch })?;
+        return Ok(());
     }
+    Ok(())
 }

@@ -5,6 +5,7 @@ ghost use Rattle.board.specs.Promises.{IsDrained};
 ghost use Rattle.board.specs.Shown.{tables};
 ghost use Rattle.execution.specs.Fed.{IsWorkedOff};
 
+use crate::notice::Notice;
 use crate::readings::is_fed;
 use crate::task::Task;
 use crate::threads::{work_off, work_off_watched};
@@ -53,6 +54,9 @@ fn drive<
     let Some(report) = finish(engine, mark, Vec::new(alloc)) else {
         return Err(Unfinished::Incomplete);
     };
+    if task.notice.is_over() {
+        return Err(Unfinished::Count);
+    }
     done?;
     if report.drained() {
         Ok(report)
@@ -101,10 +105,12 @@ pub fn execute<V: Views + Send, R: Threads + Wait + Sync, G: Gate + Sync, W: Wri
     let Ok(inputs) = u32::try_from(board.graph().inputs().len()) else {
         return Err(Unfinished::Incomplete);
     };
+    let notice = Notice::new();
     let task = Task {
         epochs,
         inputs,
         workers: board.workers(),
+        notice: &notice,
     };
     let report = driven(rt, alloc, board, task, gate, watcher)?;
     if is_fed(&report, inputs, epochs, epochs.count()) {

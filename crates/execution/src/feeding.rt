@@ -118,6 +118,7 @@ fn work_now<J: Naming, V: Views, R: Wait, G: Gate>(
     match work_along(rt, alloc, engine, 0, gate, &mut 0) {
         None | Some(Ended::Drained) => Ok(()),
         Some(Ended::Stopped) => Err(Unfinished::NoMemory),
+        Some(Ended::Count) => Err(Unfinished::Count),
         Some(Ended::Busy) => Err(Unfinished::Incomplete),
     }
 }

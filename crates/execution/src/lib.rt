@@ -8,7 +8,7 @@
 //!
 //! | Call | What it does | Fails |
 //! |---|---|---|
-//! | `execute` | feeds the epochs to an engine over a new board, and works it off | `Unfinished`: no report |
+//! | `execute` | feeds the epochs to an engine over a new board, and works it off | `Unfinished`: no report; a count that is too large at any worker is told before want of memory |
 //! | `emitted` | what a report has emitted, by output and epoch | memory |
 //!
 //! The contract for `console` above: the report that `execute` gives is of the board's graph, it is drained, and what its inputs were fed is
@@ -18,6 +18,7 @@
 
 mod executing;
 mod feeding;
+mod notice;
 mod outputs;
 mod readings;
 mod task;

@@ -1,16 +1,18 @@
 //! What a run has to do.
 
+use crate::notice::Notice;
 use collector::Epochs;
 
 /// The most epochs that are fed ahead of what has passed, so that only their messages wait, and not those of the whole input.
 pub const AHEAD: u32 = 256;
 
-/// The epochs to be fed to so many inputs, and how many workers there are.
+/// The epochs to be fed to so many inputs, how many workers there are, and where they tell why they end.
 #[derive(Clone, Copy)]
 pub struct Task<'a> {
     pub epochs: &'a Epochs,
     pub inputs: u32,
     pub workers: u32,
+    pub notice: &'a Notice,
 }
 
 impl Task<'_> {

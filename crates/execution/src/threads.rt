@@ -26,14 +26,17 @@ fn start_workers<
     rt: &'s R,
     alloc: Global,
     engine: &'s Engine<J, V>,
-    task: Task<'_>,
+    task: Task<'s>,
     gate: &'s G,
 ) -> Result<(), Unfinished> {
     if task.is_alone() {
         return Ok(());
     }
+    let notice = task.notice;
     for worker in 0..task.workers {
-        let started = threads.spawn(move || work(rt, alloc, engine, worker, gate));
+        let started = threads.spawn(move || {
+            notice.note(work(rt, alloc, engine, worker, gate));
+        });
         if started.is_err() {
             return Err(Unfinished::NoWorker);
         }
@@ -54,7 +57,7 @@ fn feed_beside<
     rt: &'s R,
     alloc: Global,
     engine: &'s Engine<J, V>,
-    task: Task<'_>,
+    task: Task<'s>,
     gate: &'s G,
 ) -> Result<(), Unfinished> {
     let mut done = start_workers(threads, rt, alloc, engine, task, gate);
@@ -63,7 +66,7 @@ fn feed_beside<
     }
     close_inputs(rt, engine, task.inputs);
     if task.is_alone() {
-        let _ended = work(rt, alloc, engine, 0, gate);
+        task.notice.note(work(rt, alloc, engine, 0, gate));
     }
     done
 }

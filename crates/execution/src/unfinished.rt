@@ -10,6 +10,8 @@ use std::alloc::AllocError;
 pub enum Unfinished {
     /// The feeder or a worker had no memory.
     NoMemory,
+    /// A count would have been above 9223372036854775807 in a worker.
+    Count,
     /// A worker's thread could not be started.
     NoWorker,
     /// The engine refused a call for another reason than memory, or it isn't drained, or it was fed something else than was read. No run
@@ -20,7 +22,7 @@ pub enum Unfinished {
 impl From<StepRefusal> for Unfinished {
     fn from(refusal: StepRefusal) -> Unfinished {
         match refusal {
-            // A board is stopped by an event that was given up for want of memory.
+            // Where an event was given up for a count that is too large, its worker says so.
             StepRefusal::NoMemory | StepRefusal::Stopped => Unfinished::NoMemory,
             StepRefusal::UnknownInput
             | StepRefusal::InputClosed

@@ -26,6 +26,11 @@ pub on_ok : {T E A B : Type 0} (r : Result T E) → (A → B) → OnOk r A → O
 on_ok (Ok t) f h = f h
 on_ok (Err e) f h = tt
 
+-- what the Ok of a call says, where it was Ok
+pub ok_of : {T E A : Type 0} (r : Result T E) (t : T) → r ≡ Ok t → OnOk r A → A
+ok_of (Ok u) t is h = h
+ok_of (Err e) t is h = absurd cc
+
 -- what holds of all elements holds of the first ones
 pub All-front : {X : Type 0} (P : X → Type 0) (xs ys : List X) → All P (xs ++ ys) → All P xs
 All-front P xs ys all = λ k d lt. subst P (get_or-append xs ys d k lt) (all k d (omega (arith, lt, length-append xs ys)))

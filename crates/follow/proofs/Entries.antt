@@ -1,9 +1,11 @@
 -- Entries and their lines.
-use Rattle.std.proofs.Common.{◌≡◌, ◌≢◌, ◌<◌, ◌≤◌, ◌+◌, ◌∙◌, ℕ, Bool, true, false, List, [], ◌∷◌, ◌++◌, length, map, take, drop, cond, refl, sym, ap, append_assoc, inl, inr, slice_index_or}
+use Rattle.std.proofs.Common.{◌≡◌, ◌≢◌, ◌<◌, ◌≤◌, ◌+◌, ◌∙◌, ℕ, zero, suc, Bool, true, false, List, [], ◌∷◌, ◌++◌, length, map, take, drop, cond, refl, sym, ap, append_assoc, arith, inl, inr, slice_index_or}
 use Rattle.std.specs.Prelude.{◌==◌}
 use Rattle.std.specs.List.{flat_map}
 use Rattle.std.proofs.lemmas.Bool.Decides.{eqb_tells}
-use Rattle.std.proofs.lemmas.List.{append-nil, drop_all, drop_more, take-append-drop, take_more}
+use Rattle.std.proofs.lemmas.List.{append-nil, take-append-drop, take_all, take_more}
+use Rattle.rows.specs.Counts.{Run, expanded, no_run, repeated}
+use Rattle.rows.proofs.Merging.{firsts_more}
 use Rattle.board.specs.Shown.{joined}
 use Rattle.semantics.specs.Multiset.{Record}
 use Rattle.semantics.specs.Query.{Name}
@@ -56,15 +58,28 @@ pub rows_append : (f : Record → List ℕ) (xs ys : List Record) → flat_map f
 rows_append f [] ys = refl
 rows_append f (x ∷ xs) ys = ap (λ (zs : List ℕ). f x ++ zs) (rows_append f xs ys) ∙ sym (append_assoc (f x) (flat_map f xs) (flat_map f ys))
 
--- one row more, of those that are left
-pub rows_more : (f : Record → List ℕ) (rows : List Record) (place skip : ℕ) (row : Record) (start out new : List ℕ) → place < length rows → row ≡ slice_index_or rows place [] → new ≡ out ++ f row → out ++ flat_map f (drop place rows) ≡ start ++ flat_map f (drop skip rows)
-    → new ++ flat_map f (drop (place + 1) rows) ≡ start ++ flat_map f (drop skip rows)
-rows_more f rows place skip row start out new lt is e h =
-    let left : flat_map f (drop place rows) ≡ f row ++ flat_map f (drop (place + 1) rows) = ap (flat_map f) (drop_more rows place [] lt) ∙ ap (λ (r : Record). f r ++ flat_map f (drop (place + 1) rows)) (sym is) in
-    ap (λ (xs : List ℕ). xs ++ flat_map f (drop (place + 1) rows)) e ∙ append_assoc out (f row) (flat_map f (drop (place + 1) rows)) ∙ ap (λ (xs : List ℕ). out ++ xs) (sym left) ∙ h
+-- a row once more
+pub times_more : (f : Record → List ℕ) (row : Record) (n : ℕ) (start out new : List ℕ) → out ≡ start ++ flat_map f (repeated n row) → new ≡ out ++ f row → new ≡ start ++ flat_map f (repeated (n + 1) row)
+times_more f row n start out new h e =
+    e ∙ ap (λ (xs : List ℕ). xs ++ f row) h ∙ append_assoc start (flat_map f (repeated n row)) (f row) ∙ ap (λ (xs : List ℕ). start ++ xs) (again n ∙ ap (λ (m : ℕ). flat_map f (repeated m row)) (let e : suc n ≡ n + 1 = omega arith in e))
+  where
+    again : (n : ℕ) → flat_map f (repeated n row) ++ f row ≡ flat_map f (repeated (suc n) row)
+    again zero = sym (append-nil (f row))
+    again (suc n) = append_assoc (f row) (flat_map f (repeated n row)) (f row) ∙ ap (λ (xs : List ℕ). f row ++ xs) (again n)
 
-pub rows_done : (f : Record → List ℕ) (rows : List Record) (place skip : ℕ) (start out : List ℕ) → length rows ≤ place → out ++ flat_map f (drop place rows) ≡ start ++ flat_map f (drop skip rows) → out ≡ start ++ flat_map f (drop skip rows)
-rows_done f rows place skip start out le h = sym (append-nil out) ∙ ap (λ (xs : List Record). out ++ flat_map f xs) (sym (drop_all place rows le)) ∙ h
+-- one more of the different records of a batch
+pub runs_more : (f : Record → List ℕ) (cs : List Run) (k : ℕ) (row : Record) (n : ℕ) (start out new : List ℕ) → k < length cs → row ≡ (slice_index_or cs k no_run).row → n ≡ (slice_index_or cs k no_run).count → out ≡ start ++ flat_map f (expanded (take k cs))
+    → new ≡ out ++ flat_map f (repeated n row) → new ≡ start ++ flat_map f (expanded (take (k + 1) cs))
+runs_more f cs k row n start out new lt r c h e =
+    let x : Run = slice_index_or cs k no_run in
+    let same : repeated n row ≡ repeated x.count x.row = λ i. repeated (c i) (r i) in
+    let all : flat_map f (expanded (take (k + 1) cs)) ≡ flat_map f (expanded (take k cs)) ++ flat_map f (repeated n row) =
+    ap (flat_map f) (firsts_more cs k lt) ∙ rows_append f (expanded (take k cs)) (repeated x.count x.row) ∙ ap (λ (rows : List Record). flat_map f (expanded (take k cs)) ++ flat_map f rows) (sym same) in
+    e ∙ ap (λ (xs : List ℕ). xs ++ flat_map f (repeated n row)) h ∙ append_assoc start (flat_map f (expanded (take k cs))) (flat_map f (repeated n row)) ∙ ap (λ (xs : List ℕ). start ++ xs) (sym all)
+
+-- all of them
+pub runs_done : (f : Record → List ℕ) (cs : List Run) (k : ℕ) (all : List Record) (start out : List ℕ) → length cs ≤ k → expanded cs ≡ all → out ≡ start ++ flat_map f (expanded (take k cs)) → out ≡ start ++ flat_map f all
+runs_done f cs k all start out le is h = h ∙ ap (λ (ds : List Run). start ++ flat_map f (expanded ds)) (take_all k cs le) ∙ ap (λ (rows : List Record). start ++ flat_map f rows) is
 
 joined_push : (batches : List (List Record)) (batch : List Record) → joined (batches ++ batch ∷ []) ≡ joined batches ++ batch
 joined_push [] batch = append-nil batch

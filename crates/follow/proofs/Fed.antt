@@ -5,7 +5,8 @@ use Rattle.std.proofs.lemmas.Bool.Decides.{eqb_tells}
 use Rattle.std.proofs.lemmas.Bool.{cases_lt}
 use Rattle.std.proofs.lemmas.List.{append-nil, get_or_past}
 use Rattle.rows.specs.FlatRows.{RowList}
-use Rattle.semantics.specs.Multiset.{Record}
+use Rattle.semantics.specs.Multiset.{Record, ◌≈◌}
+use Rattle.semantics.proofs.MultisetSums.{append_same, ≈-from, ≈-trans}
 use Rattle.machine.specs.Step.{put}
 use Rattle.board.specs.Shown.{Shown}
 use Rattle.collector.specs.Lines.{Item}
@@ -43,10 +44,12 @@ same_test base e begun epochs is = elim (eqb_tells (e + 1) begun) [
 pub gathered : (s : Shown) (x y : Intake) (base : ℕ) (items : List Item) (i : ℕ) (z : Record) → IsFed s base x items → Gathers x y i z → IsFed s base y (items ++ Item.row i z ∷ [])
 gathered s x y base items i z f g = record {
   live = f.live;
+  order = f.order;
+  alike = f.alike;
   begun = ap (λ (n : ℕ). base + n) g.holds.begun ∙ f.begun ∙ sym (epochs_push 0 items (Item.row i z));
   fed = λ j e.
       let said = records_in (base + e) j 0 items in
-      ap (λ (n : ℕ). fed_at s j e ++ cond (e + 1 == n) (waiting y j) []) g.holds.begun ∙ one_waits (j == i) (e + 1 == x.begun) (fed_at s j e) (waiting x j) (waiting y j) said z (g.waits j) (f.fed j e)
+      ap (λ (n : ℕ). f.order j e ++ cond (e + 1 == n) (waiting y j) []) g.holds.begun ∙ one_waits (j == i) (e + 1 == x.begun) (f.order j e) (waiting x j) (waiting y j) said z (g.waits j) (f.fed j e)
       ∙ ap (λ (b : Bool). cond ((j == i) && b) (said ++ z ∷ []) said) (same_test base e x.begun (epochs_after 0 items) f.begun) ∙ sym (row_push (base + e) j 0 items i z);
   opened = λ j lt. f.opened j (omega (arith, lt, g.holds.inputs)) ∙ ap (λ (n : ℕ). n - 1) (sym g.holds.begun);
   none = λ zero. absurd (omega (arith, zero, g.some, g.holds.begun));
@@ -76,14 +79,27 @@ fed_there : (a b : Bool) (here fed missed : ℕ → List Record) (e : ℕ) (r wa
 fed_there true b here fed missed e r waits after is h g = ap (λ (xs : List Record). here e ++ xs) (nothing_either b after is) ∙ append-nil (here e) ∙ h refl
 fed_there false b here fed missed e r waits after is h g = ap (λ (xs : List Record). fed e ++ cond b xs []) is ∙ g refl
 
-pub fed_one : (s t : Shown) (x y : Intake) (base : ℕ) (items : List Item) (i : ℕ) (batch : List Record) → IsFed s base x items → Empties x y i batch → i < length x.portion.items → Feeds s t i batch → IsFed t base y items
-fed_one s t x y base items i batch f g lt feeds = record {
+put_alike : (f g : ℕ → ℕ → List Record) (i o : ℕ) (batch rows : List Record) → ((j e : ℕ) → f j e ≈ g j e) → batch ≈ rows → (j e : ℕ) → put f i (put (f i) o (f i o ++ batch)) j e ≈ put g i (put (g i) o (g i o ++ rows)) j e
+put_alike f g i o batch rows h same j e = go (j == i)
+  where
+    here : (b : Bool) → cond {A = List Record} b (f i o ++ batch) (f i e) ≈ cond b (g i o ++ rows) (g i e)
+    here true = append_same (f i o) (g i o) batch rows (h i o) same
+    here false = h i e
+
+    go : (a : Bool) → cond {A = ℕ → List Record} a (put (f i) o (f i o ++ batch)) (f j) e ≈ cond {A = ℕ → List Record} a (put (g i) o (g i o ++ rows)) (g j) e
+    go true = here (e == o)
+    go false = h j e
+
+pub fed_one : (s t : Shown) (x y : Intake) (base : ℕ) (items : List Item) (i : ℕ) (batch rows : List Record) → batch ≈ rows → IsFed s base x items → Empties x y i rows → i < length x.portion.items → Feeds s t i batch → IsFed t base y items
+fed_one s t x y base items i batch rows same f g lt feeds = record {
   live = feeds.grows.live;
   begun = ap (λ (n : ℕ). base + n) g.holds.begun ∙ f.begun;
+  order = put f.order i (put (f.order i) (open_at s i) (f.order i (open_at s i) ++ rows));
+  alike = λ j e. ≈-trans (≈-from (feeds.fed j e)) (put_alike (fed_at s) f.order i (open_at s i) batch rows f.alike same j e);
   fed = λ j e.
-      let here : ℕ → List Record = put (fed_at s i) (open_at s i) (fed_at s i (open_at s i) ++ batch) in
-      ap (λ (xs : List Record). xs ++ missing y j e) (feeds.fed j e) ∙ ap (λ (n : ℕ). cond (j == i) here (fed_at s j) e ++ cond (e + 1 == n) (waiting y j) []) g.holds.begun
-      ∙ fed_there (j == i) (e + 1 == x.begun) here (fed_at s j) here e (said_records items (base + e) j) (waiting x j) (waiting y j) (g.waits j) (at_input j e) (λ other. f.fed j e);
+      let here : ℕ → List Record = put (f.order i) (open_at s i) (f.order i (open_at s i) ++ rows) in
+      ap (λ (n : ℕ). cond (j == i) here (f.order j) e ++ cond (e + 1 == n) (waiting y j) []) g.holds.begun
+      ∙ fed_there (j == i) (e + 1 == x.begun) here (f.order j) here e (said_records items (base + e) j) (waiting x j) (waiting y j) (g.waits j) (at_input j e) (λ other. f.fed j e);
   opened = λ j less. feeds.opened j ∙ f.opened j (omega (arith, less, g.holds.inputs)) ∙ ap (λ (n : ℕ). n - 1) (sym g.holds.begun);
   none = λ zero j. g.waits j ∙ nothing_here (j == i) (waiting x j) (f.none (sym g.holds.begun ∙ zero) j);
 }
@@ -92,11 +108,11 @@ fed_one s t x y base items i batch f g lt feeds = record {
     nothing_here true xs e = refl
     nothing_here false xs e = e
 
-    at_input : (j e : ℕ) → (j == i) ≡ true → put (fed_at s i) (open_at s i) (fed_at s i (open_at s i) ++ batch) e ≡ said_records items (base + e) j
+    at_input : (j e : ℕ) → (j == i) ≡ true → put (f.order i) (open_at s i) (f.order i (open_at s i) ++ rows) e ≡ said_records items (base + e) j
     at_input j e yes_way = elim (eqb_tells j i) [
-      | inl same ↦
-          let waited : fed_at s i e ++ cond (e + 1 == x.begun) batch [] ≡ said_records items (base + e) i = ap (λ (xs : List Record). fed_at s i e ++ cond (e + 1 == x.begun) xs []) g.taken ∙ f.fed i e in
-          fed_here (fed_at s i) batch x.begun (open_at s i) e (said_records items (base + e) i) (f.opened i lt) (λ zero. g.taken ∙ f.none zero i) waited ∙ ap (λ (k : ℕ). said_records items (base + e) k) (sym same.1)
+      | inl place ↦
+          let waited : f.order i e ++ cond (e + 1 == x.begun) rows [] ≡ said_records items (base + e) i = ap (λ (xs : List Record). f.order i e ++ cond (e + 1 == x.begun) xs []) g.taken ∙ f.fed i e in
+          fed_here (f.order i) rows x.begun (open_at s i) e (said_records items (base + e) i) (f.opened i lt) (λ zero. g.taken ∙ f.none zero i) waited ∙ ap (λ (k : ℕ). said_records items (base + e) k) (sym place.1)
       | inr other ↦ absurd (let p : true ≡ false = sym yes_way ∙ other.0 in cc)
     ]
 
@@ -104,8 +120,10 @@ fed_one s t x y base items i batch f g lt feeds = record {
 pub fed_none : (s : Shown) (x y : Intake) (base : ℕ) (items : List Item) (i : ℕ) → IsFed s base x items → Empties x y i [] → IsFed s base y items
 fed_none s x y base items i f g = record {
   live = f.live;
+  order = f.order;
+  alike = f.alike;
   begun = ap (λ (n : ℕ). base + n) g.holds.begun ∙ f.begun;
-  fed = λ j e. ap (λ (n : ℕ). fed_at s j e ++ cond (e + 1 == n) (waiting y j) []) g.holds.begun ∙ ap (λ (xs : List Record). fed_at s j e ++ cond (e + 1 == x.begun) xs []) (same j) ∙ f.fed j e;
+  fed = λ j e. ap (λ (n : ℕ). f.order j e ++ cond (e + 1 == n) (waiting y j) []) g.holds.begun ∙ ap (λ (xs : List Record). f.order j e ++ cond (e + 1 == x.begun) xs []) (same j) ∙ f.fed j e;
   opened = λ j less. f.opened j (omega (arith, less, g.holds.inputs)) ∙ ap (λ (n : ℕ). n - 1) (sym g.holds.begun);
   none = λ zero j. same j ∙ f.none (sym g.holds.begun ∙ zero) j;
 }
@@ -118,11 +136,11 @@ fed_none s x y base items i f g = record {
 
 -- ---- an epoch begins
 
-all_there : (s : Shown) (x : Intake) (base : ℕ) (items : List Item) → IsFed s base x items → ((i : ℕ) → waiting x i ≡ []) → (i e : ℕ) → fed_at s i e ≡ said_records items (base + e) i
-all_there s x base items f none i e = sym (append-nil (fed_at s i e)) ∙ ap (λ (xs : List Record). fed_at s i e ++ xs) (sym (nothing_either (e + 1 == x.begun) (waiting x i) (none i))) ∙ f.fed i e
+in_order : (s : Shown) (x : Intake) (base : ℕ) (items : List Item) (f : IsFed s base x items) → ((i : ℕ) → waiting x i ≡ []) → (i e : ℕ) → f.order i e ≡ said_records items (base + e) i
+in_order s x base items f none i e = sym (append-nil (f.order i e)) ∙ ap (λ (xs : List Record). f.order i e ++ xs) (sym (nothing_either (e + 1 == x.begun) (waiting x i) (none i))) ∙ f.fed i e
 
 pub all_fed : (s : Shown) (x : Intake) (base : ℕ) (items : List Item) → IsFed s base x items → ((i : ℕ) → waiting x i ≡ []) → IsAllFed s base items
-all_fed s x base items f none = record { live = f.live; fed = all_there s x base items f none }
+all_fed s x base items f none = record { live = f.live; fed = λ i e. ≈-trans (f.alike i e) (≈-from (in_order s x base items f none i e)) }
 
 -- what another step of the board leaves, where the open epochs are known
 begun_at : (s t : Shown) (x y : Intake) (base : ℕ) (items : List Item) → IsFed s base x items → ((i : ℕ) → waiting x i ≡ []) → Grows s t → ((i e : ℕ) → fed_at t i e ≡ fed_at s i e) → y.begun ≡ x.begun + 1 → y.portion.items ≡ x.portion.items
@@ -130,7 +148,9 @@ begun_at : (s t : Shown) (x y : Intake) (base : ℕ) (items : List Item) → IsF
 begun_at s t x y base items f none grows fed begun same opened = record {
   live = grows.live;
   begun = omega (arith, begun, f.begun, epochs_push 0 items Item.epoch);
-  fed = λ i e. ap (λ (xs : List Record). fed_at t i e ++ xs) (nothing_either (e + 1 == y.begun) (waiting y i) (empty i)) ∙ append-nil (fed_at t i e) ∙ fed i e ∙ all_there s x base items f none i e ∙ sym (epoch_push (base + e) i 0 items);
+  order = f.order;
+  alike = λ i e. ≈-trans (≈-from (fed i e)) (f.alike i e);
+  fed = λ i e. ap (λ (xs : List Record). f.order i e ++ xs) (nothing_either (e + 1 == y.begun) (waiting y i) (empty i)) ∙ append-nil (f.order i e) ∙ in_order s x base items f none i e ∙ sym (epoch_push (base + e) i 0 items);
   opened = λ i lt. opened i (omega (arith, lt, ap length same)) ∙ (let e : x.begun ≡ y.begun - 1 = omega (arith, begun) in e);
   none = λ zero. absurd (omega (arith, zero, begun));
 }
@@ -145,13 +165,15 @@ pub worked : (s t : Shown) (x : Intake) (base : ℕ) (items : List Item) → IsF
 worked s t x base items f w = record {
   live = w.grows.live;
   begun = f.begun;
-  fed = λ i e. ap (λ (xs : List Record). xs ++ missing x i e) (w.fed i e) ∙ f.fed i e;
+  order = f.order;
+  alike = λ i e. ≈-trans (≈-from (w.fed i e)) (f.alike i e);
+  fed = f.fed;
   opened = λ i lt. w.opened i ∙ f.opened i lt;
   none = f.none;
 }
 
 pub all_worked : (s t : Shown) (base : ℕ) (items : List Item) → IsAllFed s base items → Works s t → IsAllFed t base items
-all_worked s t base items f w = record { live = w.grows.live; fed = λ i e. w.fed i e ∙ f.fed i e }
+all_worked s t base items f w = record { live = w.grows.live; fed = λ i e. ≈-trans (≈-from (w.fed i e)) (f.fed i e) }
 
 -- an item of the next epoch, with or without a seal of the one before
 pub begun_sealed : (s t u : Shown) (x y z : Intake) (n : ℕ) → SentAll s t x y → (IsLive t → Seals t u n) → n ≡ length y.portion.items → (y.begun ≡ 0 → ⊥) → z.begun ≡ y.begun + 1 → z.line ≡ y.line → z.portion.items ≡ y.portion.items → Moves s u x z Item.epoch
@@ -179,11 +201,11 @@ gathers_moves s x y i z g = record { line = g.holds.line; fed = λ base items f.
 pub holds_on : (x y z : Intake) → Holds x y → Holds y z → Holds x z
 holds_on x y z p q = record { begun = q.begun ∙ p.begun; line = q.line ∙ p.line; inputs = q.inputs ∙ p.inputs }
 
-pub sent_one : (s t : Shown) (x y : Intake) (i : ℕ) (batch : List Record) → Empties x y i batch → i < length x.portion.items → (IsLive s → Feeds s t i batch) → Sent s t x y i
-sent_one s t x y i batch g lt feeds = record {
+pub sent_one : (s t : Shown) (x y : Intake) (i : ℕ) (batch rows : List Record) → batch ≈ rows → Empties x y i rows → i < length x.portion.items → (IsLive s → Feeds s t i batch) → Sent s t x y i
+sent_one s t x y i batch rows same g lt feeds = record {
   holds = g.holds;
   waits = g.waits;
-  fed = λ base items f. let d = feeds f.live in (fed_one s t x y base items i batch f g lt d, d.grows);
+  fed = λ base items f. let d = feeds f.live in (fed_one s t x y base items i batch rows same f g lt d, d.grows);
 }
 
 pub sent_none : (s : Shown) (x y : Intake) (i : ℕ) (rows : List Record) → Empties x y i rows → rows ≡ [] → Sent s s x y i
@@ -234,8 +256,10 @@ nothing_waits x i e none f = ap (λ (xs : List Record). xs ++ missing x i e) f �
 pub counted_fed : (s : Shown) (x y : Intake) (base : ℕ) (items : List Item) → Counts x y → IsFed s base x items → IsFed s base y items
 counted_fed s x y base items c f = record {
   live = f.live;
+  order = f.order;
+  alike = f.alike;
   begun = ap (λ (n : ℕ). base + n) c.begun ∙ f.begun;
-  fed = λ i e. ap (λ (n : ℕ). fed_at s i e ++ cond (e + 1 == n) (waiting y i) []) c.begun ∙ ap (λ (xs : List Record). fed_at s i e ++ cond (e + 1 == x.begun) xs []) (same i) ∙ f.fed i e;
+  fed = λ i e. ap (λ (n : ℕ). f.order i e ++ cond (e + 1 == n) (waiting y i) []) c.begun ∙ ap (λ (xs : List Record). f.order i e ++ cond (e + 1 == x.begun) xs []) (same i) ∙ f.fed i e;
   opened = λ i lt. f.opened i (omega (arith, lt, ap length c.portion)) ∙ ap (λ (n : ℕ). n - 1) (sym c.begun);
   none = λ zero i. same i ∙ f.none (sym c.begun ∙ zero) i;
 }

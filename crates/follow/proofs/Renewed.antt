@@ -4,6 +4,7 @@ use Rattle.std.specs.Prelude.{◌==◌, ◌&&◌, if◌then◌else◌, Option}
 use Rattle.std.proofs.lemmas.Bool.Decides.{eqb_tells}
 use Rattle.std.proofs.lemmas.List.{length-append, nil_from_length}
 use Rattle.semantics.specs.Multiset.{Record}
+use Rattle.semantics.proofs.MultisetSums.{≈-from}
 use Rattle.graph.specs.Shown.{GraphValue}
 use Rattle.machine.specs.World.{opening}
 use Rattle.board.specs.Shown.{Shown, joined}
@@ -14,7 +15,7 @@ use Rattle.collector.specs.InputText.{epochs_after, records_in}
 use Rattle.collector.proofs.LinesRead.{epoch_push, epochs_push}
 use Rattle.follow.specs.Entries.{Entry, records_of}
 use Rattle.follow.specs.Follows.{IsTold, said_records}
-use Rattle.follow.specs.Scenes.{IsWritten, batches_of, fed_at, missing, no_rows, told_count, waiting}
+use Rattle.follow.specs.Scenes.{IsWritten, batches_of, missing, no_rows, told_count, waiting}
 use Rattle.follow.specs.Steps.{EndsInEpoch}
 use Rattle.follow.specs.declared.intake.Intake.{Intake}
 use Rattle.follow.specs.declared.telling.Telling.{Telling}
@@ -74,7 +75,9 @@ renewed g workers s t base last base2 x y u v bytes pending start now opens show
           fed = record {
             live = (opening, shows);
             begun = omega (arith, one, begun, moved, k.taken.fed.begun);
-            fed = λ i e. nothing_waits y i e (empty i) (sym (shows.fed i e)) ∙ sym (unsaid_last k.items (base2 + e) i ends (omega (arith, begun, moved, k.taken.fed.begun)));
+            order = λ i e. [];
+            alike = λ i e. ≈-from (sym (shows.fed i e));
+            fed = λ i e. nothing_waits y i e (empty i) refl ∙ sym (unsaid_last k.items (base2 + e) i ends (omega (arith, begun, moved, k.taken.fed.begun)));
             opened = λ i lt. sym (shows.open_epoch i) ∙ (let z : 0 ≡ y.begun - 1 = omega (arith, one) in z);
             none = λ none. absurd (omega (arith, none, one));
           };
@@ -108,6 +111,6 @@ renewed g workers s t base last base2 x y u v bytes pending start now opens show
     empty : (i : ℕ) → waiting y i ≡ []
     empty i =
         let none = unsaid_last w.known.items (base + last) i ends (omega (arith, begun, w.known.taken.fed.begun)) in
-        let missed : missing x i last ≡ [] = second_nothing (fed_at s i last) (missing x i last) (w.known.taken.fed.fed i last ∙ none) in
+        let missed : missing x i last ≡ [] = second_nothing (w.known.taken.fed.order i last) (missing x i last) (w.known.taken.fed.fed i last ∙ none) in
         let here = eq-eqb (last + 1) x.begun (sym begun) in
         waits_same i ∙ ap (λ t. cond t (waiting x i) []) (sym here) ∙ missed

@@ -4,6 +4,7 @@ use Rattle.std.specs.Prelude.{Result, Ok, Err}
 use Rattle.std.specs.Io.KnownBytes.{Appends, Consumes, IsAtEnd, Keeps}
 use Rattle.std.proofs.lemmas.Bool.Decides.{eqb_tells}
 use Rattle.std.proofs.lemmas.List.{append-nil, length-append}
+use Rattle.semantics.proofs.MultisetSums.{≈-from}
 use Rattle.graph.specs.Shown.{GraphValue, shown_inputs}
 use Rattle.machine.specs.World.{opening}
 use Rattle.board.specs.Shown.{Shown, joined}
@@ -56,7 +57,9 @@ opened g s base x t start same shows zero new fresh = record {
       fed = record {
         live = (opening, shows);
         begun = omega (arith, zero, new.begun);
-        fed = λ i e. nothing_waits x i e (new.none i) (sym (shows.fed i e));
+        order = λ i e. [];
+        alike = λ i e. ≈-from (sym (shows.fed i e));
+        fed = λ i e. nothing_waits x i e (new.none i) refl;
         opened = λ i lt. sym (shows.open_epoch i) ∙ (let z : 0 ≡ x.begun - 1 = omega (arith, new.begun) in z);
         none = λ zero. new.none;
       };
@@ -107,6 +110,7 @@ known_follows g s base x t bytes pending all left start now result rest k parts 
 -- the work stopped: nothing more was written
 pub halted : (g : GraphValue) (s : Shown) (base : ℕ) (x : Intake) (t : Telling) (bytes pending : List ℕ) (left start now : Option (List ℕ)) (h : Halt) → IsWritten g s base x t bytes pending start now → Follows g bytes left start now (Err (ending_of h))
 halted g s base x t bytes pending left start now halt.NoMemory w = known_follows g s base x t bytes pending bytes left start now (Err ending.NoMemory) (split_on 10 pending) w.known w.known.taken.parts tt w.written
+halted g s base x t bytes pending left start now halt.Count w = known_follows g s base x t bytes pending bytes left start now (Err ending.Count) (split_on 10 pending) w.known w.known.taken.parts tt w.written
 halted g s base x t bytes pending left start now halt.Incomplete w = known_follows g s base x t bytes pending bytes left start now (Err ending.Incomplete) (split_on 10 pending) w.known w.known.taken.parts tt w.written
 
 -- the reader failed
@@ -316,6 +320,7 @@ nothing_by g left start result reaches writes = record {
 
 pub nothing_follows : (g : GraphValue) (left start : Option (List ℕ)) (h : Halt) → Follows g [] left start start (Err (ending_of h))
 nothing_follows g left start halt.NoMemory = nothing_by g left start (Err ending.NoMemory) tt (appends_none start)
+nothing_follows g left start halt.Count = nothing_by g left start (Err ending.Count) tt (appends_none start)
 nothing_follows g left start halt.Incomplete = nothing_by g left start (Err ending.Incomplete) tt (appends_none start)
 
 pub consumes_end : (a b c : Option (List ℕ)) (xs : List ℕ) → Consumes a b xs → Consumes b c [] → Consumes a c xs

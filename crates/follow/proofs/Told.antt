@@ -8,6 +8,8 @@ use Rattle.semantics.specs.Query.{Program}
 use Rattle.semantics.specs.Meaning.{program_meaning}
 use Rattle.semantics.specs.Graph.{output_number, output_numbers}
 use Rattle.semantics.proofs.LoweredDataflow.{lowered_outputs}
+use Rattle.semantics.proofs.MeaningOfMultisets.{program_same}
+use Rattle.semantics.proofs.MultisetSums.{≈-trans}
 use Rattle.graph.specs.Shown.{GraphValue, shown_graph, shown_names}
 use Rattle.board.specs.Shown.{Shown, batches_at, joined}
 use Rattle.board.specs.Promises.{HasPassed, IsOutputPlace, KeepsPromise, RunsProgram, emitted_at, meant_of}
@@ -15,7 +17,7 @@ use Rattle.collector.specs.OutputText.{is_plain}
 use Rattle.collector.specs.Lines.{Item}
 use Rattle.follow.specs.Entries.{Entry, complete_line, entry_line, label_of, records_of, row_line}
 use Rattle.follow.specs.Follows.{IsGraphOf, IsPart, IsTold, IsWhole, said_records}
-use Rattle.follow.specs.Scenes.{Grows, HasTold, IsAllFed, batches_of, told_count}
+use Rattle.follow.specs.Scenes.{Grows, HasTold, IsAllFed, batches_of, fed_at, told_count}
 use Rattle.follow.specs.Steps.{CanTell, Nexts, TellsOne, TellsOpen, ToldMore, ToldSo}
 use Rattle.follow.specs.declared.telling.Telling.{Telling}
 use Rattle.follow.proofs.Entries.{at_place, entries_at, joined_parts, lines_at, of_append, of_other, of_same}
@@ -129,19 +131,22 @@ place_of s k p is lt = let n = lowered_outputs p in let m = ap (λ g. length (ou
 runs_of : (s : Shown) (p : Program) → IsGraphOf s.graph p → RunsProgram p s
 runs_of s p is = record { arities = is.arities; typed = is.typed; graph = is.graph }
 
-meant_said : (s : Shown) (base : ℕ) (items : List Item) (p : Program) (k e : ℕ) → IsAllFed s base items → meant_of p s k e ≡ program_meaning p k (said_records items (base + e))
-meant_said s base items p k e fed = λ j. program_meaning p k (λ i. (fed.fed i e) j)
+part_of_alike : {xs ys zs : List Record} → ys ≈ zs → IsPartOf xs ys → IsPartOf xs zs
+part_of_alike e h = record { within = λ r. let n = e.counts r in let m = h.within r in omega (arith, n, m) }
+
+meant_said : (s : Shown) (base : ℕ) (items : List Item) (p : Program) (k e : ℕ) → IsAllFed s base items → meant_of p s k e ≈ program_meaning p k (said_records items (base + e))
+meant_said s base items p k e fed = program_same p k (λ i. fed_at s i e) (said_records items (base + e)) (λ i. fed.fed i e)
 
 pub whole_here : (s : Shown) (base : ℕ) (items : List Item) (done : ℕ) (entries : List Entry) → IsAllFed s base items → ((p : Program) → RunsProgram p s → KeepsPromise p s) → ((k : ℕ) → IsOutputPlace s k → records_of k entries ≡ emitted_at s k done)
     → ((k : ℕ) → IsOutputPlace s k → HasPassed s k done) → IsWhole s.graph (said_records items (base + done)) entries
 whole_here s base items done entries fed promise all passed = λ p k is lt.
     let there = place_of s k p is lt in
-    subst (λ (xs : List Record). xs ≈ program_meaning p k (said_records items (base + done))) (sym (all k there)) (subst (λ (ys : List Record). emitted_at s k done ≈ ys) (meant_said s base items p k done fed) ((promise p (runs_of s p is) k done lt).whole (passed k there)))
+    subst (λ (xs : List Record). xs ≈ program_meaning p k (said_records items (base + done))) (sym (all k there)) (≈-trans ((promise p (runs_of s p is) k done lt).whole (passed k there)) (meant_said s base items p k done fed))
 
 pub part_here : (s : Shown) (base : ℕ) (items : List Item) (done : ℕ) (entries : List Entry) → IsAllFed s base items → ((p : Program) → RunsProgram p s → KeepsPromise p s) → ((k : ℕ) → IsOutputPlace s k → records_of k entries ≡ emitted_at s k done) → IsPart s.graph (said_records items (base + done)) entries
 part_here s base items done entries fed promise all = λ p k is lt.
     let there = place_of s k p is lt in
-    subst (λ (xs : List Record). IsPartOf xs (program_meaning p k (said_records items (base + done)))) (sym (all k there)) (subst (λ (ys : List Record). IsPartOf (emitted_at s k done) ys) (meant_said s base items p k done fed) (promise p (runs_of s p is) k done lt).part)
+    subst (λ (xs : List Record). IsPartOf xs (program_meaning p k (said_records items (base + done)))) (sym (all k there)) (part_of_alike (meant_said s base items p k done fed) (promise p (runs_of s p is) k done lt).part)
 
 pub part_nothing : (g : GraphValue) (records : ℕ → List Record) → IsPart g records []
 part_nothing g records = λ p k is lt. record { within = λ r. omega arith }

@@ -77,6 +77,7 @@ Reaches inputs bytes left lines items rest done entries (Err (ending.Input code 
 Reaches inputs bytes left lines items rest done entries (Err ending.Read) = (piece : List ℕ) × (rest ≡ piece ∷ [])
 Reaches inputs bytes left lines items rest done entries (Err ending.Write) = Unit {0}
 Reaches inputs bytes left lines items rest done entries (Err ending.NoMemory) = Unit {0}
+Reaches inputs bytes left lines items rest done entries (Err ending.Count) = Unit {0}
 Reaches inputs bytes left lines items rest done entries (Err ending.Incomplete) = Unit {0}
 
 -- the text was written; where the writer failed, a beginning of it
@@ -86,6 +87,7 @@ Writes old new text (Err (ending.Input code line)) = Appends old new text
 Writes old new text (Err ending.Read) = Appends old new text
 Writes old new text (Err ending.Write) = AppendsFront old new text
 Writes old new text (Err ending.NoMemory) = Appends old new text
+Writes old new text (Err ending.Count) = Appends old new text
 Writes old new text (Err ending.Incomplete) = Appends old new text
 
 -- These bytes were read, and this is left; what was written is an answer to the lines that were read.

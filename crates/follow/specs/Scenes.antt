@@ -1,7 +1,7 @@
 -- Where following stands: the board, what was taken of the input, and what was told.
 use Rattle.std.specs.Prelude.{◌≡◌, ◌<◌, ◌≤◌, ℕ, ◌+◌, ◌-◌, ◌==◌, cond, List, [], ◌∷◌, ◌++◌, length, take, Option, slice_index_or}
 use Rattle.std.specs.Io.KnownBytes.{Appends}
-use Rattle.semantics.specs.Multiset.{Record}
+use Rattle.semantics.specs.Multiset.{Record, ◌≈◌}
 use Rattle.semantics.specs.Query.{Input}
 use Rattle.graph.specs.Shown.{GraphValue, shown_graph, shown_inputs}
 use Rattle.machine.specs.World.{World}
@@ -80,14 +80,17 @@ missing x i e = cond (e + 1 == x.begun) (waiting x i) []
 pub record IsFed (s : Shown) (base : ℕ) (x : Intake) (items : List Item) : Type 0 where
   pub live : IsLive s
   pub begun : base + x.begun ≡ epochs_after 0 items
-  pub fed : (i e : ℕ) → fed_at s i e ++ missing x i e ≡ said_records items (base + e) i
+  -- what was fed, in the order of the lines
+  pub order : (i e : ℕ) → List Record
+  pub alike : (i e : ℕ) → fed_at s i e ≈ order i e
+  pub fed : (i e : ℕ) → order i e ++ missing x i e ≡ said_records items (base + e) i
   pub opened : (i : ℕ) → i < length x.portion.items → open_at s i ≡ x.begun - 1
   pub none : x.begun ≡ 0 → (i : ℕ) → waiting x i ≡ []
 
 -- all that the items say of the epochs from the base on was fed
 pub record IsAllFed (s : Shown) (base : ℕ) (items : List Item) : Type 0 where
   pub live : IsLive s
-  pub fed : (i e : ℕ) → fed_at s i e ≡ said_records items (base + e) i
+  pub fed : (i e : ℕ) → fed_at s i e ≈ said_records items (base + e) i
 
 -- these lines of the bytes were taken, and the rest wasn't
 pub record HasTaken (s : Shown) (base : ℕ) (x : Intake) (inputs : List Input) (bytes rest : List ℕ) (lines : List (List ℕ)) (items : List Item) : Type 0 where

@@ -27,6 +27,7 @@ use Rattle.follow.specs.declared.telling.Telling.{Telling}
 -- how following ends where the work stops
 abbrev pub ending_of : Halt → Ending
 ending_of halt.NoMemory = ending.NoMemory
+ending_of halt.Count = ending.Count
 ending_of halt.Incomplete = ending.Incomplete
 
 -- an input was sealed

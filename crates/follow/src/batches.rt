@@ -2,6 +2,7 @@
 
 ghost use Rattle.std.specs.Prelude.{◌≡◌, ◌++◌, OnOk};
 ghost use Rattle.std.specs.List.{flat_map};
+ghost use Rattle.rows.specs.Counts.{repeated};
 ghost use Rattle.board.specs.Shown.{joined};
 ghost use Rattle.follow.specs.Entries.{label_of, row_line};
 
@@ -10,7 +11,24 @@ use record_core::Name;
 use rows::Batch;
 use std::alloc::AllocError;
 
-/// Appends the lines of a batch's records.
+/// Appends the line of a record, so many times.
+fn push_times(
+    out: &mut Vec<u8>,
+    epoch: u32,
+    plain: bool,
+    name: &Name,
+    row: &[i64],
+    count: u64,
+) -> Result<(), AllocError>
+    ensures { OnOk result (out.new.items ≡ out.old.items ++ flat_map (row_line epoch (label_of plain name.now)) (repeated count row.now)) }
+{
+    for _time in 0..count {
+        push_row(out, epoch, plain, name, row)?;
+    }
+    Ok(())
+}
+
+/// Appends the lines of a batch's records, each as often as it stands there.
 fn push_batch(
     out: &mut Vec<u8>,
     epoch: u32,
@@ -21,7 +39,14 @@ fn push_batch(
     ensures { OnOk result (out.new.items ≡ out.old.items ++ flat_map (row_line epoch (label_of plain name.now)) batch.now) }
 {
     for place in 0..batch.len() {
-        push_row(out, epoch, plain, name, batch.row(place))?;
+        push_times(
+            out,
+            epoch,
+            plain,
+            name,
+            batch.row(place),
+            batch.count(place),
+        )?;
     }
     Ok(())
 }

@@ -1,16 +1,17 @@
 //! The workers of a board, whose events one thread claims and ends, and several compute.
 
-ghost use Rattle.std.specs.Prelude.{◌≡◌, ◌<◌, ◌≤◌, All, IfOk, IfSome, List, OnOk, is_ok, true};
+ghost use Rattle.std.specs.Prelude.{◌≡◌, ◌<◌, ◌≤◌, All, IfOk, IfSome, List, Ok, Err, OnOk, is_ok, true};
 ghost use Rattle.atomic_table.specs.Seated.{TableId};
 ghost use Rattle.board.specs.Commits.{IsOf};
 ghost use Rattle.board.specs.Shown.{tables};
 ghost use Rattle.follow.specs.Scenes.{IsLive, Works};
 ghost use Rattle.follow.specs.Slots.{IsSlotOf};
+ghost use Rattle.follow.specs.declared.ending.Halt.TheVariants as halt;
 
 use crate::ending::Halt;
 use crate::slot::Slot;
 use board::{Board, Claimed, CommitRefusal};
-use events::{Done, Work};
+use events::{ComputeFault, Done, Work};
 use std::alloc::{AllocFailed, Global};
 use std::thread::{Threads, for_each_mut};
 use views::Views;
@@ -100,10 +101,18 @@ fn process<V: Views>(alloc: Global, board: &mut Board<V>, work: Work) -> Result<
 {
     match work.compute(alloc) {
         Ok(done) => end(board, done),
-        Err(work) => {
+        Err((work, fault)) => {
             board.abandon(work);
-            Err(Halt::NoMemory)
+            Err(Halt::from(fault))
         }
+    }
+}
+
+/// Why an event ends the work that was not computed.
+fn halted(fault: Option<ComputeFault>) -> Halt {
+    match fault {
+        Some(fault) => Halt::from(fault),
+        None => Halt::NoMemory,
     }
 }
 
@@ -113,7 +122,7 @@ fn settle<V: Views>(board: &mut Board<V>, slot: Slot) -> Result<u64, Halt>
     ensures tables { tables board.new.shown ≡ tables board.old.shown }
     ensures works { OnOk result (IsLive board.old.shown → Works board.old.shown board.new.shown) }
 {
-    let Slot { held, done } = slot;
+    let Slot { held, done, fault } = slot;
     let ended = match done {
         Some(done) => end(board, done),
         None => Ok(0),
@@ -121,7 +130,7 @@ fn settle<V: Views>(board: &mut Board<V>, slot: Slot) -> Result<u64, Halt>
     match held {
         Some(work) => {
             board.abandon(work);
-            Err(Halt::NoMemory)
+            Err(halted(fault))
         }
         None => ended,
     }
@@ -186,12 +195,25 @@ fn compute_each<R: Threads + Sync>(rt: &R, alloc: Global, slots: &mut Vec<Slot>)
     );
 }
 
+/// What two calls made, where both came to an end. A count that is too large is told before other faults.
+fn both<A: Copy, B: Copy>(first: Result<A, Halt>, second: Result<B, Halt>) -> Result<(A, B), Halt>
+    ensures made { IfOk result (λ p. (first ≡ Ok p.0) × (second ≡ Ok p.1)) }
+    ensures first { first ≡ Err halt.Count → result ≡ Err halt.Count }
+    ensures second { second ≡ Err halt.Count → result ≡ Err halt.Count }
+{
+    match (first, second) {
+        (Ok(first), Ok(second)) => Ok((first, second)),
+        (Err(first), Err(second)) => Err(first.or(second)),
+        (Err(halt), Ok(_)) | (Ok(_), Err(halt)) => Err(halt),
+    }
+}
+
 /// What comes of one event more; the fault where either has one.
 fn joined(pace: Result<Pace, Halt>, sent: Result<u64, Halt>) -> Result<Pace, Halt>
     ensures { IfOk result (λ p. (is_ok pace ≡ true) × (is_ok sent ≡ true)) }
 {
-    let records = sent?;
-    Ok(pace?.with(records))
+    let (pace, records) = both(pace, sent)?;
+    Ok(pace.with(records))
 }
 
 /// Ends all that were computed.
@@ -221,8 +243,8 @@ fn work_beside<V: Views, R: Threads + Sync>(
     let claimed = claim_each(board, crew, &mut slots);
     compute_each(rt, alloc, &mut slots);
     let pace = settle_each(board, slots);
-    claimed?;
-    pace
+    let ((), pace) = both(claimed, pace)?;
+    Ok(pace)
 }
 
 /// Claims, computes and ends an event of each worker that has one, one after another.

@@ -2,8 +2,10 @@
 
 ghost use Rattle.std.specs.Prelude.{◌≡◌};
 ghost use Rattle.follow.specs.Steps.{ending_of};
+ghost use Rattle.follow.specs.declared.ending.Halt.TheVariants as halt;
 
 use board::StepRefusal;
+use events::ComputeFault;
 use expr_tree::NoMemory;
 use rows::RowsError;
 use std::alloc::{AllocError, AllocFailed};
@@ -19,6 +21,8 @@ pub enum Ending {
     Write,
     /// An allocator refused a growth.
     NoMemory,
+    /// A count would have been above 9223372036854775807.
+    Count,
     /// The board refused a call for another reason than memory, or an epoch isn't complete at the end. It isn't known to come.
     Incomplete,
 }
@@ -28,6 +32,8 @@ pub enum Ending {
 pub enum Halt {
     /// An allocator refused a growth.
     NoMemory,
+    /// A count would have been above 9223372036854775807.
+    Count,
     /// A case that isn't known to come.
     Incomplete,
 }
@@ -56,10 +62,19 @@ impl From<NoMemory> for Halt {
     }
 }
 
+impl From<ComputeFault> for Halt {
+    fn from(fault: ComputeFault) -> Halt {
+        match fault {
+            ComputeFault::NoMemory => Halt::NoMemory,
+            ComputeFault::Count => Halt::Count,
+        }
+    }
+}
+
 impl From<StepRefusal> for Halt {
     fn from(refusal: StepRefusal) -> Halt {
         match refusal {
-            // A board is stopped by an event that was given up for want of memory.
+            // Where an event was given up following has ended, so that no call finds a stopped board.
             StepRefusal::NoMemory | StepRefusal::Stopped => Halt::NoMemory,
             StepRefusal::UnknownInput
             | StepRefusal::InputClosed
@@ -78,7 +93,19 @@ impl Halt {
     {
         match self {
             Halt::NoMemory => Ending::NoMemory,
+            Halt::Count => Ending::Count,
             Halt::Incomplete => Ending::Incomplete,
+        }
+    }
+
+    /// Which of two is told: a count that is too large before all others, and else the first.
+    pub fn or(self, other: Halt) -> Halt
+        ensures first { self ≡ halt.Count → result ≡ halt.Count }
+        ensures second { other ≡ halt.Count → result ≡ halt.Count }
+    {
+        match other {
+            Halt::Count => Halt::Count,
+            Halt::NoMemory | Halt::Incomplete => self,
         }
     }
 }

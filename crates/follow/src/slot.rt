@@ -5,13 +5,14 @@ ghost use Rattle.atomic_table.specs.Seated.{TableId};
 ghost use Rattle.events.specs.Jobs.{Pass};
 ghost use Rattle.follow.specs.Slots.{IsNamed, IsSlotOf};
 
-use events::{Done, Work};
+use events::{ComputeFault, Done, Work};
 use std::alloc::Global;
 
-/// An event that was claimed, and then what was computed of it.
+/// An event that was claimed, and then what was computed of it, or why that was refused.
 pub struct Slot {
     pub held: Option<Work>,
     pub done: Option<Done>,
+    pub fault: Option<ComputeFault>,
 }
 
 impl Slot {
@@ -22,10 +23,11 @@ impl Slot {
         Slot {
             held: Some(work),
             done: None,
+            fault: None,
         }
     }
 
-    /// Computes it. Where there is no memory for it, it stays claimed.
+    /// Computes it. Where that is refused it stays claimed.
     pub fn compute(&mut self, alloc: Global)
         ensures { (tables : List TableId) → IsSlotOf tables self.old → IsSlotOf tables self.new }
     {
@@ -40,10 +42,13 @@ impl Slot {
                 None => {}
                 Some(_done) => unreachable!(),
             },
-            Err(work) => match self.held.replace(work) {
-                None => {}
-                Some(_work) => unreachable!(),
-            },
+            Err((work, fault)) => {
+                self.fault = Some(fault);
+                match self.held.replace(work) {
+                    None => {}
+                    Some(_work) => unreachable!(),
+                }
+            }
         }
     }
 }

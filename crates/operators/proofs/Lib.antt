@@ -1,2 +1,2 @@
 pub mod Steps
-pub mod OneRecordMore
+pub mod Weights

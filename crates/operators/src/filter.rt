@@ -4,6 +4,8 @@ ghost use Rattle.std.specs.Prelude.{◌≡◌, ◌<◌, ◌++◌, ◌∷◌, [],
 ghost use Rattle.expr_tree.specs.Plain.{plain_cond};
 ghost use Rattle.expr_tree.specs.Views.{cond_tree};
 ghost use Rattle.rows.specs.FlatRows.{arity_of};
+ghost use Rattle.rows.specs.Indexes.{AreDifferent};
+ghost use Rattle.rows.specs.Counts.{expanded, no_run, rows_of, runs};
 ghost use Rattle.semantics.specs.Kinds.{Kind};
 ghost use Rattle.semantics.specs.Meaning.{kept, holds as true_of};
 ghost use Rattle.semantics.specs.Typing.{CondFits};
@@ -12,7 +14,7 @@ ghost use Rattle.operators.specs.Fits.{CondFits-prop};
 
 use crate::operator::Operator;
 use expr_tree::{Cond, holds};
-use rows::{Batch, Rows, RowsError};
+use rows::{Batch, CountedRows, RowsError};
 use std::alloc::Global;
 
 /// The records at which the condition holds. Each column of it is below `arity`.
@@ -42,11 +44,12 @@ impl Operator for Where {
 impl Where {
     /// The records of the batch at which the condition holds, in order.
     #[tactic(auto, using(crate::proofs::Steps::kept_more))]
-    pub fn apply(&self, alloc: Global, batch: &Batch) -> Result<Rows, RowsError>
+    pub fn apply(&self, alloc: Global, batch: &Batch) -> Result<CountedRows, RowsError>
         requires { arity_of batch.now ≡ self.now.arity }
-        ensures { IfOk result (λ rows. rows.rows ≡ kept (plain_cond (cond_tree self.now.condition)) batch.now) }
+        ensures records { IfOk result (λ rows. expanded rows.runs ≡ kept (plain_cond (cond_tree self.now.condition)) batch.now) }
+        ensures different { IfOk result (λ rows. AreDifferent (rows_of rows.runs)) }
     {
-        let mut rows = Rows::new(alloc, batch.arity());
+        let mut rows = CountedRows::new(alloc, batch.arity());
         for place in 0..batch.len() {
             self.offer(batch, place, &mut rows)?;
         }
@@ -54,16 +57,16 @@ impl Where {
     }
 
     /// One record, if the condition holds.
-    fn offer(&self, batch: &Batch, place: usize, rows: &mut Rows) -> Result<(), RowsError>
+    fn offer(&self, batch: &Batch, place: usize, rows: &mut CountedRows) -> Result<(), RowsError>
         requires columns { arity_of batch.now ≡ self.now.arity }
-        requires place { place < length batch.now }
+        requires place { place < length (runs batch.now) }
         requires arity { rows.old.arity ≡ arity_of batch.now }
-        ensures rows { OnOk result (rows.new.rows ≡ rows.old.rows ++ (if true_of (plain_cond (cond_tree self.now.condition)) (slice_index_or batch.now place []) then slice_index_or batch.now place [] ∷ [] else [])) }
+        ensures rows { OnOk result (rows.new.runs ≡ rows.old.runs ++ (if true_of (plain_cond (cond_tree self.now.condition)) (slice_index_or (runs batch.now) place no_run).row then slice_index_or (runs batch.now) place no_run ∷ [] else [])) }
         ensures arity { rows.new.arity ≡ rows.old.arity }
     {
         let row = batch.row(place);
         if holds(&self.condition, row) {
-            rows.push(row)?;
+            rows.push(row, batch.count(place))?;
         }
         Ok(())
     }

@@ -1,9 +1,9 @@
 //! Records grouped by key.
 
-ghost use Rattle.std.specs.Prelude.{◌≡◌, ◌≤◌, ◌+◌, ◌++◌, ◌+ℤ◌, ◌∷◌, [], length, map};
+ghost use Rattle.std.specs.Prelude.{◌≡◌, ◌≤◌, ◌+◌, ◌++◌, ◌+ℤ◌, ◌*ℤ◌, ◌∷◌, [], length, map};
 ghost use Rattle.std.specs.Int.{int_wrap, w64};
 ghost use Rattle.expr_tree.specs.Plain.{plain_agg};
-ghost use Rattle.operators.specs.Aggregates.{begun, stepped, stepped_all, stored_key};
+ghost use Rattle.operators.specs.Aggregates.{begun, stored_key, weighed, weighed_all};
 ghost use Rattle.semantics.specs.Meaning.{project};
 ghost use Rattle.semantics.specs.Kinds.{Kind};
 ghost use Rattle.semantics.proofs.VertexLaws.{op_nothing, op_parts};
@@ -95,20 +95,22 @@ impl Group {
         put_key(key, &self.columns, row);
     }
 
-    /// Makes `values` the aggregates of one record alone.
-    pub fn begin(&self, row: &[i64], values: &mut Numbers)
-        ensures { values.new ≡ map (λ a. begun a row.now) (map plain_agg self.now.aggregates.items) }
+    /// Makes `values` the aggregates of a record alone that stands so many times.
+    pub fn begin(&self, row: &[i64], count: u64, values: &mut Numbers)
+        requires { count ≤ 9223372036854775807 }
+        ensures { values.new ≡ map (λ a. begun a row.now count) (map plain_agg self.now.aggregates.items) }
     {
         values.clear();
-        push_begun(values, &self.aggregates, row);
+        push_begun(values, &self.aggregates, row, count);
     }
 
-    /// Makes `stepped` the aggregates with one record more.
-    pub fn step(&self, values: &[i64], row: &[i64], stepped: &mut Numbers)
-        ensures { stepped.new ≡ stepped_all (map plain_agg self.now.aggregates.items) values.now row.now }
+    /// Makes `weighed` the aggregates with a record that stands so many times more: one step, however often it stands there.
+    pub fn weigh(&self, values: &[i64], row: &[i64], count: u64, weighed: &mut Numbers)
+        requires { count ≤ 9223372036854775807 }
+        ensures { weighed.new ≡ weighed_all (map plain_agg self.now.aggregates.items) values.now row.now count }
     {
-        stepped.clear();
-        push_stepped(stepped, &self.aggregates, values, row);
+        weighed.clear();
+        push_weighed(weighed, &self.aggregates, values, row, count);
     }
 }
 
@@ -136,26 +138,28 @@ fn push_columns(key: &mut Numbers, columns: &[Column], row: &[i64])
     }
 }
 
-/// The aggregates of one record alone, after what is there.
-fn push_begun(values: &mut Numbers, aggregates: &[Agg], row: &[i64])
-    requires { length values.old + length aggregates.now ≤ 16 }
-    ensures { values.new ≡ values.old ++ map (λ a. begun a row.now) (map plain_agg aggregates.now) }
+/// The aggregates of a record alone that stands so many times, after what is there.
+fn push_begun(values: &mut Numbers, aggregates: &[Agg], row: &[i64], count: u64)
+    requires room { length values.old + length aggregates.now ≤ 16 }
+    requires count { count ≤ 9223372036854775807 }
+    ensures { values.new ≡ values.old ++ map (λ a. begun a row.now count) (map plain_agg aggregates.now) }
 {
     if let [first, rest @ ..] = aggregates {
-        values.push(begin(first, row));
-        push_begun(values, rest, row);
+        values.push(begin(first, row, count));
+        push_begun(values, rest, row, count);
     }
 }
 
-/// The aggregates with one record more, after what is there.
-fn push_stepped(made: &mut Numbers, aggregates: &[Agg], values: &[i64], row: &[i64])
-    requires { length made.old + length aggregates.now ≤ 16 }
-    ensures { made.new ≡ made.old ++ stepped_all (map plain_agg aggregates.now) values.now row.now }
+/// The aggregates with a record that stands so many times more, after what is there.
+fn push_weighed(made: &mut Numbers, aggregates: &[Agg], values: &[i64], row: &[i64], count: u64)
+    requires room { length made.old + length aggregates.now ≤ 16 }
+    requires count { count ≤ 9223372036854775807 }
+    ensures { made.new ≡ made.old ++ weighed_all (map plain_agg aggregates.now) values.now row.now count }
 {
     if let [first, rest @ ..] = aggregates {
         if let [value, others @ ..] = values {
-            made.push(step(first, *value, row));
-            push_stepped(made, rest, others, row);
+            made.push(weigh(first, *value, row, count));
+            push_weighed(made, rest, others, row, count);
         }
     }
 }
@@ -167,26 +171,36 @@ fn plus(left: i64, right: i64) -> i64
     left.wrapping_add(right)
 }
 
-/// An aggregate of one record alone.
-fn begin(aggregate: &Agg, row: &[i64]) -> i64
-    ensures { result ≡ begun (plain_agg aggregate.now) row.now }
+/// An aggregate of a record alone that stands so many times.
+fn begin(aggregate: &Agg, row: &[i64], count: u64) -> i64
+    requires { count ≤ 9223372036854775807 }
+    ensures { result ≡ begun (plain_agg aggregate.now) row.now count }
 {
     match aggregate {
-        Agg::Count(_) => plus(1, 0),
-        Agg::Sum(_, column) => plus(field(row, column.index), 0),
+        Agg::Count(_) => plus(count as i64, 0),
+        Agg::Sum(_, column) => times(count as i64, field(row, column.index)),
         Agg::Min(_, column) => field(row, column.index),
         Agg::Max(_, column) => field(row, column.index),
     }
 }
 
-/// An aggregate with one record more.
-fn step(aggregate: &Agg, value: i64, row: &[i64]) -> i64
-    ensures { result ≡ stepped (plain_agg aggregate.now) value row.now }
+/// An aggregate with a record that stands so many times more.
+fn weigh(aggregate: &Agg, value: i64, row: &[i64], count: u64) -> i64
+    requires { count ≤ 9223372036854775807 }
+    ensures { result ≡ weighed (plain_agg aggregate.now) value row.now count }
 {
+    let count = count as i64;
     match aggregate {
-        Agg::Count(_) => plus(value, 1),
-        Agg::Sum(_, column) => plus(value, field(row, column.index)),
+        Agg::Count(_) => plus(value, count),
+        Agg::Sum(_, column) => plus(value, times(count, field(row, column.index))),
         Agg::Min(_, column) => field(row, column.index).min(value),
         Agg::Max(_, column) => field(row, column.index).max(value),
     }
+}
+
+/// The product, wrapped at 64 bits.
+fn times(left: i64, right: i64) -> i64
+    ensures { result ≡ int_wrap w64 (left *ℤ right) }
+{
+    left.wrapping_mul(right)
 }

@@ -1,11 +1,14 @@
 //! Computed records.
 
-ghost use Rattle.std.specs.Prelude.{◌≡◌, ◌≤◌, ◌<◌, ◌+◌, ◌++◌, ◌∷◌, [], length, map, slice_index_or, IfOk, OnOk};
+ghost use Rattle.std.specs.Prelude.{◌≡◌, ◌≤◌, ◌<◌, ◌+◌, ◌++◌, ◌∷◌, [], length, map, slice_index_or, IfOk, IfErr, OnOk};
 ghost use Rattle.arrayvec.specs.ArrayVec.{array_vec_len};
 ghost use Rattle.std.specs.List.{AllByRecursion, AllByRecursion-prop};
 ghost use Rattle.expr_tree.specs.Plain.{plain_scalar};
 ghost use Rattle.expr_tree.specs.Views.{scalar_tree};
 ghost use Rattle.rows.specs.FlatRows.{arity_of};
+ghost use Rattle.rows.specs.Counts.{AllFit, IsOver, expanded, no_run, records_in, runs};
+ghost use Rattle.rows.specs.declared.error.TallyError.TheVariants.{Count};
+ghost use Rattle.semantics.specs.Multiset.{◌≈◌};
 ghost use Rattle.semantics.specs.Kinds.{Kind};
 ghost use Rattle.semantics.specs.Meaning.{selected, value};
 ghost use Rattle.semantics.specs.Typing.{ScalarFits};
@@ -15,7 +18,7 @@ ghost use Rattle.operators.specs.Fits.{ScalarFits-prop};
 use crate::operator::Operator;
 use arrayvec::ArrayVec;
 use expr_tree::{Scalar, eval_scalar};
-use rows::{Batch, Rows, RowsError};
+use rows::{Batch, CountedRows, RowsError, TallyError};
 use std::alloc::Global;
 
 /// For each record the record of the scalars' values, 1 to 16. Each column of theirs is below `arity`.
@@ -45,24 +48,32 @@ impl Operator for Select {
 }
 
 impl Select {
-    /// For each record of the batch the record of the scalars' values, in order.
-    pub fn apply(&self, alloc: Global, batch: &Batch) -> Result<Rows, RowsError>
+    /// For each record of the batch the record of the scalars' values; `None` never, since a batch has some. `Count` exactly where
+    /// one of them stands there too often.
+    pub fn apply(&self, alloc: Global, batch: &Batch) -> Result<Option<Batch>, TallyError>
         requires { arity_of batch.now ≡ self.now.arity }
-        ensures { IfOk result (λ made. made.rows ≡ selected (map plain_scalar (map scalar_tree self.now.scalars.items)) batch.now) }
+        ensures records { IfOk result (λ made. records_in made ≈ selected (map plain_scalar (map scalar_tree self.now.scalars.items)) batch.now) }
+        ensures fits { IfOk result (λ made. AllFit (selected (map plain_scalar (map scalar_tree self.now.scalars.items)) batch.now)) }
+        ensures over { IfErr result (λ e. e ≡ Count → IsOver (selected (map plain_scalar (map scalar_tree self.now.scalars.items)) batch.now)) }
     {
-        select_all(alloc, &self.scalars, batch)
+        let made = select_all(alloc, &self.scalars, batch)?;
+        Batch::merged(alloc, made)
     }
 }
 
 /// For each record the record of the scalars' values, in order.
-#[tactic(auto, using(crate::proofs::Steps::selected_more))]
-fn select_all(alloc: Global, scalars: &[Scalar<Global>], batch: &Batch) -> Result<Rows, RowsError>
+#[tactic(auto, using(crate::proofs::Steps::values_more))]
+fn select_all(
+    alloc: Global,
+    scalars: &[Scalar<Global>],
+    batch: &Batch,
+) -> Result<CountedRows, RowsError>
     requires columns { AllByRecursion (ScalarFits (arity_of batch.now)) (map plain_scalar (map scalar_tree scalars.now)) }
     requires some { 1 ≤ length scalars.now }
     requires few { length scalars.now ≤ 16 }
-    ensures { IfOk result (λ made. made.rows ≡ selected (map plain_scalar (map scalar_tree scalars.now)) batch.now) }
+    ensures { IfOk result (λ made. expanded made.runs ≡ selected (map plain_scalar (map scalar_tree scalars.now)) batch.now) }
 {
-    let mut made = Rows::with_capacity(alloc, scalars.len(), batch.len())?;
+    let mut made = CountedRows::new(alloc, scalars.len());
     for place in 0..batch.len() {
         push_selected(scalars, batch, place, &mut made)?;
     }
@@ -75,19 +86,19 @@ fn push_selected(
     scalars: &[Scalar<Global>],
     batch: &Batch,
     place: usize,
-    made: &mut Rows,
+    made: &mut CountedRows,
 ) -> Result<(), RowsError>
     requires columns { AllByRecursion (ScalarFits (arity_of batch.now)) (map plain_scalar (map scalar_tree scalars.now)) }
     requires few { length scalars.now ≤ 16 }
-    requires place { place < length batch.now }
+    requires place { place < length (runs batch.now) }
     requires arity { made.old.arity ≡ length scalars.now }
-    ensures rows { OnOk result (made.new.rows ≡ made.old.rows ++ map (λ s. value s (slice_index_or batch.now place [])) (map plain_scalar (map scalar_tree scalars.now)) ∷ []) }
+    ensures rows { OnOk result (made.new.runs ≡ made.old.runs ++ record { row = map (λ s. value s (slice_index_or (runs batch.now) place no_run).row) (map plain_scalar (map scalar_tree scalars.now)); count = (slice_index_or (runs batch.now) place no_run).count } ∷ []) }
     ensures arity { made.new.arity ≡ made.old.arity }
 {
     let row = batch.row(place);
     let mut fields: ArrayVec<i64, 16> = ArrayVec::new();
     push_values(&mut fields, scalars, row);
-    made.push(fields.as_slice())
+    made.push(fields.as_slice(), batch.count(place))
 }
 
 /// The scalars' values on a record, after those that are there.

@@ -6,8 +6,8 @@ ghost use Rattle.std.specs.List.{find};
 /// What a refusal means. Texts are UTF-8; a sentence of `text` is a line.
 #[derive(Clone, Copy, Debug, PartialEq, Eq)]
 pub struct Explanation {
-    /// The number by which it is told: 1 to 23 of queries, 31 to 38 and 40 of a schedule's steps, 41 to 47 of the lines of inputs, of
-    /// which 43, 44 and 46 are told of a schedule's lines too.
+    /// The number by which it is told: 1 to 23 of queries, 31 to 40 of a schedule's steps, 41 to 47 of the lines of inputs, of which 43, 44
+    /// and 46 are told of a schedule's lines too.
     pub code: u8,
     /// What is wrong, in a phrase.
     pub summary: &'static str,
@@ -15,7 +15,7 @@ pub struct Explanation {
     pub place: &'static str,
     /// What it means and what helps, in one to three lines.
     pub text: &'static str,
-    /// A query that is refused so by `check`; under `input a/2; output a;`, for 31 to 38 a schedule with one such step on one worker, for
+    /// A query that is refused so by `check`; under `input a/2; output a;`, for 31 to 39 a schedule with one such step on one worker, for
     /// 40 the same with `--views`, and for 41 to 47 an input text. Empty where none is short.
     pub wrong: &'static str,
     /// The same, mended: it is taken. Empty where `wrong` is.
@@ -23,7 +23,7 @@ pub struct Explanation {
 }
 
 /// The numbers that refusals have, in words.
-pub const NUMBERS: &str = "1 to 6, 11 to 21, 23, 31 to 38 and 40 to 47";
+pub const NUMBERS: &str = "1 to 6, 11 to 21, 23 and 31 to 47";
 
 /// The refusals of a query, each code once, in ascending order.
 pub static OF_QUERIES: [Explanation; 18] = [
@@ -174,7 +174,7 @@ pub static OF_QUERIES: [Explanation; 18] = [
 ];
 
 /// The refusals of a schedule's steps, each code once, in ascending order.
-pub static OF_STEPS: [Explanation; 9] = [
+pub static OF_STEPS: [Explanation; 10] = [
     Explanation {
         code: 31,
         summary: "a step on an input that is closed",
@@ -225,9 +225,9 @@ pub static OF_STEPS: [Explanation; 9] = [
     },
     Explanation {
         code: 37,
-        summary: "a step after the engine has stopped for lack of memory",
+        summary: "a step after the engine has stopped",
         place: "",
-        text: "A stopped engine takes no records, and hands no event out; what is held may still be given back.\nA replay ends then with `out of memory`, so that no schedule prints this number.",
+        text: "A stopped engine takes no records, and hands no event out; what is held may still be given back.\nIn a schedule it stops where an event is given up for a count that is too large (39).",
         wrong: "",
         right: "",
     },
@@ -236,6 +236,14 @@ pub static OF_STEPS: [Explanation; 9] = [
         summary: "a seal of the epoch 4294967295, the last one",
         place: "",
         text: "A seal opens the next epoch, and epochs are numbered from 0 to 4294967295.",
+        wrong: "",
+        right: "",
+    },
+    Explanation {
+        code: 39,
+        summary: "a count that is too large: there would be over 9223372036854775807 equal records",
+        place: "",
+        text: "Equal records are kept as one with a count, from 1 to 9223372036854775807: no more of them can be in what a vertex has taken in, or sends at once.\nThe event is given up, and the engine stops: a schedule goes on, while `run` and `follow` end with `count too large`.\nOften a `distinct` before a join, or in a loop's body, keeps the counts small.",
         wrong: "",
         right: "",
     },

@@ -1,5 +1,5 @@
 -- What is in hand, after each step.
-use Rattle.std.proofs.Common.{◌≡◌, ◌≢◌, ◌<◌, ◌∙◌, ◌++◌, ◌∷◌, [], arith, replicate, ℕ, List, length, Option, Some, None, false, cond, refl, sym, ap, inl, inr}
+use Rattle.std.proofs.Common.{◌≡◌, ◌≢◌, ◌<◌, ◌∙◌, ◌++◌, ◌∷◌, [], arith, replicate, ℕ, List, length, Option, Some, None, true, false, cond, refl, sym, ap, inl, inr}
 use Rattle.std.specs.Prelude.{slice_get}
 use Rattle.std.proofs.lemmas.Bool.{cases_lt}
 use Rattle.std.proofs.lemmas.Bool.Decides.{eqb_tells}
@@ -69,6 +69,22 @@ hold_through w v n k hand h before after others = hold_same w v n hand same h
     same j = elim (eqb_tells j k) [
       | inl here ↦ ap v.held here.1 ∙ after ∙ sym (ap w.held here.1 ∙ before)
       | inr other ↦ others j other.1
+    ]
+
+-- one worker takes an event and gives it up, past its hand
+pub hold_lost : (w v : World) (n k : ℕ) (hand : List (Option Pass)) (lost : Event) → HoldsAll w n hand → w.held k ≡ Held.nothing → v.held k ≡ Held.holding true lost → ((j : ℕ) → j ≢ k → v.held j ≡ w.held j) → HoldsAll v n hand
+hold_lost w v n k hand lost h before after others = record { there = there; held = back }
+  where
+    there : (j : ℕ) (event : Event) → j < n → v.held j ≡ Held.holding false event → (q : Pass) × (in_hand hand j ≡ Some q)
+    there j event lt e = elim (eqb_tells j k) [
+      | inl same ↦ absurd (let f : Held.holding true lost ≡ Held.holding false event = sym (ap v.held same.1 ∙ after) ∙ e in cc)
+      | inr other ↦ h.there j event lt (sym (others j other.1) ∙ e)
+    ]
+
+    back : (j : ℕ) (q : Pass) → j < n → in_hand hand j ≡ Some q → v.held j ≡ Held.holding false q.job.happening
+    back j q lt e = elim (eqb_tells j k) [
+      | inl same ↦ absurd (let f : Held.nothing ≡ Held.holding false q.job.happening = sym (ap w.held same.1 ∙ before) ∙ h.held j q lt e in cc)
+      | inr other ↦ others j other.1 ∙ h.held j q lt e
     ]
 
 pub put_other : {X : Type 0} (f : ℕ → X) (k : ℕ) (x : X) (j : ℕ) → j ≢ k → put f k x j ≡ f j

@@ -9,3 +9,4 @@ pub mod Told
 pub mod Opens
 pub mod GraphInputs
 pub mod DeclaredInputs
+pub mod OneRecord

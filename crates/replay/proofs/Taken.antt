@@ -1,5 +1,5 @@
 -- Events taken, ended, and refused.
-use Rattle.std.proofs.Common.{◌≡◌, ◌≢◌, ◌<◌, ◌≤◌, ◌∙◌, ℕ, suc, List, [], length, Option, Some, None, Bool, false, refl, sym, ap, subst, arith, inl, inr}
+use Rattle.std.proofs.Common.{◌≡◌, ◌≢◌, ◌<◌, ◌≤◌, ◌⊎◌, ◌∙◌, ℕ, suc, List, [], length, Option, Some, None, Bool, true, false, refl, sym, ap, subst, arith, inl, inr}
 use Rattle.std.specs.Prelude.{Result, Ok, Err, OnOk, IfErr, slice_set}
 use Rattle.std.proofs.lemmas.List.{get_or-set_same, get_or-set_other, get_or_past, length-set, set-get_or}
 use Rattle.std.proofs.lemmas.List.{length-map}
@@ -22,12 +22,12 @@ use Rattle.board.specs.declared.refusal.StepRefusal.{StepRefusal}
 use Rattle.board.specs.declared.refusal.StepRefusal.TheVariants as step
 use Rattle.schedule.specs.Commands.{Command}
 use Rattle.replay.specs.Hands.{HoldsAll, IsHand, in_hand}
-use Rattle.replay.specs.Replays.{Does, RefusesPick, Takes, refusal_line}
-use Rattle.replay.specs.Steps.{Answers, Ends, Led, Leads, ShowsState, Stays, refusal_of, setting_of}
+use Rattle.replay.specs.Replays.{Does, GivesUp, RefusesPick, Takes, after_giving_up, refusal_line}
+use Rattle.replay.specs.Steps.{Answers, Ends, IsGivenUp, Led, Leads, ShowsState, Stays, refusal_of, setting_of}
 use Rattle.replay.specs.Waits.{State, kind_of, posted, waiting_now}
 use Rattle.replay.specs.declared.refusal.Refusal.{Refusal}
 use Rattle.replay.specs.declared.refusal.Refusal.TheVariants as refusal
-use Rattle.replay.proofs.Holding.{hand_stays, hold_taken, hold_ended, hold_through, put_here, claim_others, commit_others}
+use Rattle.replay.proofs.Holding.{hand_stays, hold_taken, hold_ended, hold_lost, hold_through, put_here, put_other, claim_others, commit_others}
 use Rattle.replay.proofs.Inputs.{refused_leads, stays_same}
 use Rattle.replay.proofs.Waiting.{IsWithin, KnowsWaits, shows_applied, shows_posted, shows_same, there_if_some, up_to_date}
 use Rattle.replay.proofs.Places.{home_of_nothing, held_out}
@@ -135,6 +135,39 @@ delivered_leads late b c d hand k n p hands knows choice waits ends stays = reco
           hand_after = hold_through x.world u (length b.shown.sides) k hand holds free.1 (put_here v.held k Held.nothing) others;
           does = Does.does_deliver k n hands.taken p.job.happening ends.out (picks late b c.shown x k n p hands knows choice shows) allowed;
         }
+
+-- an event was taken and given up
+pub lost_leads : (late : Bool) (b c d : BoardShown) (hand : List (Option Pass)) (k n : ℕ) (p : Pass) (hands : Hands b.shown k c.shown p) → KnowsWaits late b → (IsUpToDate b k → IsChoice b.shown k n hands.taken) → c.waits ≡ b.waits → IsGivenUp c p d → Stays b.shown d.shown
+    → (command : Command) → ((x : State) → GivesUp (setting_of late b.shown) x k n hands.taken p.job.happening → Does (setting_of late b.shown) x command (after_giving_up (setting_of late b.shown) x hands.taken k p.job.happening) (refusal_line 39))
+    → Leads late b d hand hand command (refusal_line 39)
+lost_leads late b c d hand k n p hands knows choice waits lost stays command does = record { stays = stays; led = led }
+  where
+    led : (x : State) → ShowsState b x → HoldsAll x.world (length b.shown.sides) hand → Led late b d hand command (refusal_line 39) x
+    led x shows holds =
+        let goes = hands.goes.step x.world shows.world in
+        let free = claim_free (net b.shown) x.world k hands.taken hands.by goes.0 in
+        let v = after_step (net b.shown) x.world hands.taken in
+        let step_is : Step.abandon p.worker p.job.happening ≡ Step.abandon k p.job.happening = ap (λ (j : ℕ). Step.abandon j p.job.happening) hands.worker in
+        let same = net_same b.shown c.shown hands.goes.graph hands.goes.workers in
+        let at_c = lost.goes.step v goes.1 in
+        let allowed : Allowed (net b.shown) v (Step.abandon k p.job.happening) = subst (λ (y : Step). Allowed (net b.shown) v y) step_is (subst (λ (g : Network). Allowed g v (Step.abandon p.worker p.job.happening)) same at_c.0) in
+        let u = after_step (net b.shown) v (Step.abandon k p.job.happening) in
+        let shown : Shows d.shown u = subst (λ (y : Step). Shows d.shown (after_step (net b.shown) v y)) step_is (subst (λ (g : Network). Shows d.shown (after_step g v (Step.abandon p.worker p.job.happening))) same at_c.1) in
+        let others : (j : ℕ) → j ≢ k → u.held j ≡ x.world.held j = λ j other. put_other v.held k (Held.holding true p.job.happening) j other ∙ claim_others (net b.shown) x.world k hands.taken hands.by j other in
+        record {
+          after = record { world = u; waits = x.waits };
+          shows = record { world = shown; waits = shows_same c d x.waits lost.goes.workers lost.waits (shows_same b c x.waits hands.goes.workers waits shows.waits) };
+          hand_after = hold_lost x.world u (length b.shown.sides) k hand p.job.happening holds free.1 (put_here v.held k (Held.holding true p.job.happening)) others;
+          does = does x (record { takes = picks late b c.shown x k n p hands knows choice shows; allowed = allowed });
+        }
+
+-- computing an event that was taken is refused: memory is wanted, or a count would be too large
+pub lost_answers : (late : Bool) (b c d : BoardShown) (hand : List (Option Pass)) (k n : ℕ) (p : Pass) (e : Refusal) (hands : Hands b.shown k c.shown p) → KnowsWaits late b → (IsUpToDate b k → IsChoice b.shown k n hands.taken) → c.waits ≡ b.waits → IsGivenUp c p d → Stays b.shown d.shown
+    → (command : Command) → ((x : State) → GivesUp (setting_of late b.shown) x k n hands.taken p.job.happening → Does (setting_of late b.shown) x command (after_giving_up (setting_of late b.shown) x hands.taken k p.job.happening) (refusal_line 39))
+    → (e ≡ refusal.NoMemory) ⊎ (e ≡ refusal.Step 39) → Answers late b d hand hand command {T = Unit {0}} (Err e)
+lost_answers late b c d hand k n p e hands knows choice waits lost stays command does (inl memory) = subst (λ (x : Refusal). Answers late b d hand hand command {T = Unit {0}} (Err x)) (sym memory) stays
+lost_answers late b c d hand k n p e hands knows choice waits lost stays command does (inr count) =
+    subst (λ (x : Refusal). Answers late b d hand hand command {T = Unit {0}} (Err x)) (sym count) (lost_leads late b c d hand k n p hands knows choice waits lost stays command does)
 
 -- what a refused pick is told by
 pub refused_pick : (late : Bool) (b : BoardShown) (k n : ℕ) (e : StepRefusal) → KnowsWaits late b → Refuses (IsUpToDate b k) b.shown k n e → (code : ℕ) → refusal_of e ≡ refusal.Step code → (x : State) → ShowsState b x → RefusesPick (setting_of late b.shown) x k n code

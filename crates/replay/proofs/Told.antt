@@ -2,8 +2,11 @@
 use Rattle.std.proofs.Common.{◌≡◌, ◌<◌, ◌≤◌, ◌+◌, ◌∙◌, ℕ, List, [], ◌∷◌, ◌++◌, length, map, take, get_or, Bool, true, false, refl, sym, ap, subst, append_assoc, arith}
 use Rattle.std.specs.Prelude.{IsTrue, slice_index_or}
 use Rattle.std.specs.List.{flat_map}
+use Rattle.std.proofs.lemmas.List.Sorted.{IsPermutation-trans}
 use Rattle.std.proofs.lemmas.List.{append-nil, get_or-map, length-map, length-take, take_all, take_more}
 use Rattle.semantics.specs.Multiset.{Record, IsPartOf, ◌≈◌}
+use Rattle.semantics.proofs.MultisetSums.{≈-sym, ≈-trans}
+use Rattle.semantics.proofs.Permutations.{permutation_from_same}
 use Rattle.semantics.specs.Query.{Name, Program}
 use Rattle.semantics.specs.Meaning.{program_meaning}
 use Rattle.semantics.specs.Graph.{output_number, output_numbers}
@@ -30,17 +33,24 @@ pub joined_same : (batches : List (List Record)) → joined batches ≡ joined_b
 joined_same [] = refl
 joined_same (b ∷ bs) = ap (λ (xs : List Record). b ++ xs) (joined_same bs)
 
-at_output : (late : Bool) (s : Shown) (w : World) (k epoch : ℕ) → Shows s w → answer_of (setting_of late s) w k epoch ≡ emitted_at s k epoch
+at_output : (late : Bool) (s : Shown) (w : World) (k epoch : ℕ) → Shows s w → answer_of (setting_of late s) w k epoch ≈ emitted_at s k epoch
 at_output late s w k epoch shows = shows.emitted (output_number (shown_graph s.graph) k) epoch
 
 meant_same : (s : Shown) (w : World) (k epoch : ℕ) (p : Program) → Shows s w → meant_of p s k epoch ≡ meant p w k epoch
 meant_same s w k epoch p shows = λ j. program_meaning p k (λ i. (sym (shows.fed i epoch)) j)
 
+part_alike : {xs ys zs : List Record} → xs ≈ ys → IsPartOf xs zs → IsPartOf ys zs
+part_alike e h = record { within = λ r. let n = e.counts r in let m = h.within r in omega (arith, n, m) }
+
 promise_kept : (late : Bool) (s : Shown) (w : World) (k epoch : ℕ) (p : Program) → Shows s w → Headline p s k epoch → KeepsPromise (setting_of late s) w k epoch p
 promise_kept late s w k epoch p shows headline = record {
-  part = subst (λ xs. IsPartOf xs (meant p w k epoch)) (sym (at_output late s w k epoch shows)) (subst (λ ys. IsPartOf (emitted_at s k epoch) ys) (meant_same s w k epoch p shows) headline.part);
-  whole = λ passed. subst (λ xs. xs ≈ meant p w k epoch) (sym (at_output late s w k epoch shows)) (subst (λ ys. emitted_at s k epoch ≈ ys) (meant_same s w k epoch p shows) (headline.whole (λ v sv. passed_same s w v (output_number (shown_graph s.graph) k) epoch shows sv passed)));
+  part = part_alike (≈-sym (at_output late s w k epoch shows)) (subst (λ ys. IsPartOf (emitted_at s k epoch) ys) (meant_same s w k epoch p shows) headline.part);
+  whole = λ passed. ≈-trans (at_output late s w k epoch shows) (subst (λ ys. emitted_at s k epoch ≈ ys) (meant_same s w k epoch p shows) (headline.whole (λ v sv. passed_same s w v (output_number (shown_graph s.graph) k) epoch shows sv passed)));
 }
+
+-- records in order are so for the same multiset
+in_order_alike : {xs ys : List Record} (rows : List Record) → xs ≈ ys → IsInOrder ys rows → IsInOrder xs rows
+in_order_alike {xs} {ys} rows e h = record { permutation = IsPermutation-trans xs ys rows (permutation_from_same xs ys e) h.permutation; ascending = h.ascending }
 
 -- what worker 0 sees as passed has passed, and all that has passed if it sees all that was posted
 pub record IsSeenRight (b : BoardShown) (k epoch : ℕ) (seen : Bool) : Type 0 where
@@ -63,7 +73,7 @@ told late b k epoch seen label text rows there knows right headline ordered line
   word = word_of seen;
   says = word_told late b x k epoch seen knows shows right;
   rows = rows;
-  ordered = subst (λ xs. IsInOrder xs rows) (sym (at_output late b.shown x.world k epoch shows.world)) ordered;
+  ordered = in_order_alike rows (at_output late b.shown x.world k epoch shows.world) ordered;
   lines = lines;
   promise = λ p graph_of. promise_kept late b.shown x.world k epoch p shows.world (headline p (record { arities = graph_of.arities; typed = graph_of.typed; graph = graph_of.graph }) k epoch (place_in late b.shown k p there graph_of));
 }

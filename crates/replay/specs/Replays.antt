@@ -76,6 +76,12 @@ pub data RefusesPick (s : Setting) (x : State) (worker choice : ℕ) : (code : �
 abbrev pub HasNothingHeld : Setting → World → (worker : ℕ) → Type 0
 HasNothingHeld s w worker = (event : Event) → worker < s.workers → w.held worker ≡ Held.holding false event → ⊥
 
+-- The worker takes an event that it may take, and gives it up, which stops the engine: computing it was refused, since a count of what its
+-- shard would then have absorbed, or of what it would send, would be above 9223372036854775807.
+pub record GivesUp (s : Setting) (x : State) (worker choice : ℕ) (taken : Step) (event : Event) : Type 0 where
+  pub takes : Takes s x worker choice taken
+  pub allowed : Allowed (net_of s) (after_step (net_of s) x.world taken) (Step.abandon worker event)
+
 -- ---- what is printed
 
 abbrev pub refusal_line : ℕ → List ℕ
@@ -142,12 +148,16 @@ after_posting s x taken by = record { world = after_step (net_of s) x.world take
 abbrev pub after_taking : Setting → State → Step → State
 after_taking s x taken = record { world = after_step (net_of s) x.world taken; waits = x.waits }
 
+-- the state after an event was taken and given up
+abbrev pub after_giving_up : Setting → State → (taken : Step) → (worker : ℕ) → Event → State
+after_giving_up s x taken worker event = after_taking s (after_taking s x taken) (Step.abandon worker event)
+
 -- Nothing of the sender waits for the worker, or one of them isn't there.
 abbrev pub HasNothingWaiting : Setting → State → (worker sender : ℕ) → Type 0
 HasNothingWaiting s x worker sender = worker < s.workers → sender ≤ s.workers → x.waits worker sender ≡ 0
 
--- From the state x the command prints this text, and leaves this state: that after the engine's step which it names, or x itself; or one
--- batch fewer waits.
+-- From the state x the command prints this text, and leaves this state: that after the engine's step which it names, or x itself; or the
+-- event that it took is given up, and the engine stopped; or one batch fewer waits.
 pub data Does (s : Setting) (x : State) : Command → State → (text : List ℕ) → Type 0 where
   does_feed : (name : List ℕ) (fields : List ℤ) (i : ℕ) (waits : Waits) → IsInput s.inputs name i (length fields) → IsRecord fields → Allowed (net_of s) x.world (Step.feed i (fields ∷ []))
       → FeedPosts s x (record { world = after_step (net_of s) x.world (Step.feed i (fields ∷ [])); waits = waits }) → Does s x (Command.feed name fields) (record { world = after_step (net_of s) x.world (Step.feed i (fields ∷ [])); waits = waits }) []
@@ -158,11 +168,13 @@ pub data Does (s : Setting) (x : State) : Command → State → (text : List ℕ
   close_refused : (name : List ℕ) (code : ℕ) → RefusesInput s x.world name code → Does s x (Command.close name) x (refusal_line code)
   does_take : (worker choice : ℕ) (taken : Step) → Takes s x worker choice taken → Does s x (Command.take worker choice) (after_taking s x taken) []
   take_refused : (worker choice code : ℕ) → RefusesPick s x worker choice code → Does s x (Command.take worker choice) x (refusal_line code)
+  take_over : (worker choice : ℕ) (taken : Step) (event : Event) → GivesUp s x worker choice taken event → Does s x (Command.take worker choice) (after_giving_up s x taken worker event) (refusal_line 39)
   does_commit : (worker : ℕ) (event : Event) (out : ℕ → List Record) → Allowed (net_of s) x.world (Step.commit worker event out) → Does s x (Command.commit worker) (after_posting s x (Step.commit worker event out) worker) []
   commit_refused : (worker : ℕ) → HasNothingHeld s x.world worker → Does s x (Command.commit worker) x (refusal_line 36)
   does_deliver : (worker choice : ℕ) (taken : Step) (event : Event) (out : ℕ → List Record) → Takes s x worker choice taken → Allowed (net_of s) (after_step (net_of s) x.world taken) (Step.commit worker event out)
       → Does s x (Command.deliver worker choice) (after_posting s (after_taking s x taken) (Step.commit worker event out) worker) []
   deliver_refused : (worker choice code : ℕ) → RefusesPick s x worker choice code → Does s x (Command.deliver worker choice) x (refusal_line code)
+  deliver_over : (worker choice : ℕ) (taken : Step) (event : Event) → GivesUp s x worker choice taken event → Does s x (Command.deliver worker choice) (after_giving_up s x taken worker event) (refusal_line 39)
   does_print : (epoch : ℕ) (text : List ℕ) → Tells s x epoch text → Does s x (Command.print epoch) x text
   does_apply : (worker sender rest : ℕ) → worker < s.workers → sender ≤ s.workers → x.waits worker sender ≡ suc rest → Does s x (Command.apply worker sender) (record { world = x.world; waits = waiting_now x.waits worker sender rest }) []
   apply_refused : (worker sender : ℕ) → HasNothingWaiting s x worker sender → Does s x (Command.apply worker sender) x (refusal_line 40)

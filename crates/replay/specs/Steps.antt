@@ -108,6 +108,13 @@ pub record Ends (late : Bool) (b : BoardShown) (p : Pass) (c : BoardShown) : Typ
   pub posts : Posts late p.worker b c
   pub stays : Stays b.shown c.shown
 
+-- the event was out on the board, and was given up, which stopped the board and posted nothing
+pub record IsGivenUp (b : BoardShown) (p : Pass) (c : BoardShown) : Type 0 where
+  pub holds : Holds b.shown p
+  pub goes : Goes b.shown (Step.abandon p.worker p.job.happening) c.shown
+  pub waits : c.waits ≡ b.waits
+  pub stays : Stays b.shown c.shown
+
 -- the text is a schedule for views of that kind, and from the engine's opening world, where nothing waits, its commands print this answer
 pub record AnswersText (kind : ViewKind) (g : GraphValue) (workers : ℕ) (text answer : List ℕ) : Type 0 where
   pub commands : List Command

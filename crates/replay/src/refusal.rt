@@ -8,7 +8,7 @@ use board::StepRefusal;
 /// Why a line does nothing.
 #[derive(Clone, Copy, Debug, PartialEq, Eq)]
 pub enum Refusal {
-    /// The board refuses the step, or there is no such input, by this number.
+    /// The board refuses the step, or there is no such input, or a count would be too large, by this number.
     Step { code: u8 },
     /// An allocator refused a growth: the replay ends.
     NoMemory,
@@ -16,6 +16,9 @@ pub enum Refusal {
 
 /// A worker that isn't there, or holds no event that it could commit.
 pub const NOTHING_HELD: u8 = 36;
+
+/// A count of what the event's shard would then have absorbed, or of what the event would send, would be above 9223372036854775807.
+pub const COUNT_TOO_LARGE: u8 = 39;
 
 /// Nothing waits of that sender for that worker, or one of them isn't there.
 pub const NOTHING_WAITS: u8 = 40;

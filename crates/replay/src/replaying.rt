@@ -96,7 +96,8 @@ fn replay_lines<V: Views>(
 /// hand at the end is given up.
 ///
 /// The answer is the text of what the lines print. A step that the board refuses prints its number and changes nothing, and the
-/// schedule goes on. Want of memory ends it.
+/// schedule goes on. Where a count would be too large, the event that was taken is given up, which stops the board, the line prints 39, and
+/// the schedule goes on too. Want of memory ends it.
 pub fn replay<V: Views>(
     alloc: Global,
     board: Board<V>,

@@ -1,32 +1,39 @@
 //! Lines that name a worker.
 
-ghost use Rattle.std.specs.Prelude.{◌≡◌, ◌<◌, List, Option, Some, None, length, slice_set, IfOk, IfErr, OnOk};
+ghost use Rattle.std.specs.Prelude.{◌≡◌, ◌<◌, ◌⊎◌, List, Option, Some, None, length, slice_set, IfOk, IfErr, OnErr, OnOk};
 ghost use Rattle.events.specs.Jobs.{Pass};
 ghost use Rattle.board.specs.Commits.{IsOf};
 ghost use Rattle.schedule.specs.Commands.{Command};
 ghost use Rattle.replay.specs.Hands.{IsHand, in_hand};
-ghost use Rattle.replay.specs.Steps.{Answers, Ends, Stays};
+ghost use Rattle.replay.specs.Steps.{Answers, Ends, IsGivenUp, Stays};
 ghost use Rattle.replay.specs.declared.refusal.Refusal.TheVariants as refusal;
 
-use crate::refusal::{NOTHING_HELD, NOTHING_WAITS, Refusal, refused};
+use crate::refusal::{COUNT_TOO_LARGE, NOTHING_HELD, NOTHING_WAITS, Refusal, refused};
 use board::{Board, CommitRefusal};
-use events::{Done, Work};
+use events::{ComputeFault, Done, Work};
 use std::alloc::Global;
 use views::Views;
 
-/// Computes an event that was taken; without memory it is given up, and the board stopped.
+/// Computes an event that was taken. Where that is refused, for want of memory or a count that is too large, it is given up, and the board
+/// stopped.
 fn computed<V: Views>(alloc: Global, board: &mut Board<V>, work: Work) -> Result<Done, Refusal>
     requires own { IsOf board.old.shown work.0 }
     ensures done { IfOk result (λ d. d ≡ work.0) }
     ensures kept { OnOk result (board.new ≡ board.old) }
     ensures stays { Stays board.old.shown board.new.shown }
-    ensures memory { IfErr result (λ e. e ≡ refusal.NoMemory) }
+    ensures given_up { OnErr result (IsGivenUp board.old work.0 board.new) }
+    ensures refused { IfErr result (λ e. (e ≡ refusal.NoMemory) ⊎ (e ≡ refusal.Step 39)) }
 {
     match work.compute(alloc) {
         Ok(done) => Ok(done),
-        Err(work) => {
+        Err((work, fault)) => {
             board.abandon(work);
-            Err(Refusal::NoMemory)
+            Err(match fault {
+                ComputeFault::NoMemory => Refusal::NoMemory,
+                ComputeFault::Count => Refusal::Step {
+                    code: COUNT_TOO_LARGE,
+                },
+            })
         }
     }
 }
@@ -61,7 +68,7 @@ fn keep<V: Views>(board: &mut Board<V>, hand: &mut [Option<Done>], worker: u32, 
     }
 }
 
-/// The worker takes its choice of that number, computes it, and has it in hand.
+/// The worker takes its choice of that number, computes it, and has it in hand. It is given up where a count would be too large.
 pub fn take<V: Views>(
     alloc: Global,
     board: &mut Board<V>,
@@ -107,7 +114,7 @@ pub fn commit<V: Views>(
     }
 }
 
-/// The worker takes its choice of that number, computes it, and commits it.
+/// The worker takes its choice of that number, computes it, and commits it. It is given up where a count would be too large.
 pub fn deliver<V: Views>(
     alloc: Global,
     board: &mut Board<V>,

@@ -2,3 +2,11 @@ pub mod Cuts
 pub mod Joined
 pub mod Walks
 pub mod Agreement
+pub mod Runs
+pub mod Rises
+pub mod Keeping
+pub mod Meeting
+pub mod Weighing
+pub mod Alike
+pub mod Merging
+pub mod Marking

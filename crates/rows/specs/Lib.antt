@@ -1,2 +1,4 @@
 pub mod FlatRows
 pub mod Indexes
+pub mod Counts
+pub mod Marks

@@ -68,7 +68,7 @@ impl Tally {
         let cut = CutBatch::of(alloc, wiring, input, batch.share()?)?;
         let records = self.count_letters(cut.letters());
         if let Some(counter) = self.counter(id, 0) {
-            counter.add_received(batch.len() as u64);
+            counter.add_received(batch.weight() as u64);
             counter.add_sent(records);
         }
         Ok(())

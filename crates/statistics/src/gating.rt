@@ -3,7 +3,7 @@
 ghost use Rattle.std.specs.Prelude.{◌≡◌};
 
 use crate::tally::Tally;
-use events::{Done, Work};
+use events::{ComputeFault, Done, Work};
 use std::alloc::Global;
 use workers::Gate;
 
@@ -20,10 +20,16 @@ impl Tally {
 }
 
 impl Gate for Tally {
-    fn compute(&self, alloc: Global, _worker: u32, _turn: u64, work: Work) -> Result<Done, Work> {
+    fn compute(
+        &self,
+        alloc: Global,
+        _worker: u32,
+        _turn: u64,
+        work: Work,
+    ) -> Result<Done, (Work, ComputeFault)> {
         match work.compute(alloc) {
             Ok(done) => Ok(self.counted(done)),
-            Err(work) => Err(work),
+            Err(refused) => Err(refused),
         }
     }
 

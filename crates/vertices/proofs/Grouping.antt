@@ -1,18 +1,20 @@
--- Records taken into groups, one at a time.
+-- Records taken into groups, one after the other, each as often as it stands there.
 use Rattle.std.proofs.Common.{◌≡◌, ℕ, zero, suc, ◌+◌, ◌<◌, ◌≤◌, nat_lt, nat_eq, ◌||◌, Bool, true, false, not, cond, List, [], ◌∷◌, ◌++◌, map, take, length, slice_index_or, slice_set, ℤ, pos, refl, sym, ap, subst, ◌∙◌, arith, append_assoc, append-nil, length-append, lt-ltb, ltb-true, ltb-false}
 use Rattle.std.proofs.lemmas.Bool.{true≢false}
 use Rattle.std.proofs.lemmas.Bool.Decides.{Decides-eqb}
 use Rattle.std.specs.List.{list_any}
 use Rattle.rows.specs.Indexes.{AreDifferent}
-use Rattle.semantics.specs.Kinds.{Role}
-use Rattle.semantics.specs.Meaning.{with_key, aggregate, grouped}
+use Rattle.semantics.specs.Meaning.{field, project, with_key, aggregate, grouped}
 use Rattle.semantics.specs.Multiset.{Record, same, one_if, count, ◌≈◌, each_once}
 use Rattle.semantics.specs.Query.{Agg}
-use Rattle.semantics.specs.Shard.{asks}
 use Rattle.semantics.proofs.DistinctAndGroups.{count-distinct}
-use Rattle.semantics.proofs.MultisetSums.{Decides-same, same-refl, count_here, linear_same, map_linear, ≈-trans, ≈-from}
-use Rattle.operators.specs.Aggregates.{begun, stepped_all, stored_key}
-use Rattle.operators.proofs.OneRecordMore.{begun_all, stepped_aggregates}
+use Rattle.semantics.proofs.MultisetSums.{Decides-same, same-refl, count_here, linear_same, map_linear, total-append, ≈-trans, ≈-from}
+use Rattle.operators.specs.Aggregates.{begun, stored_key, weighed_all}
+use Rattle.operators.proofs.Weights.{begun_all, weighed_aggregates}
+use Rattle.rows.specs.Counts.{Run, expanded, no_run, repeated}
+use Rattle.rows.proofs.Keeping.{different_where_once}
+use Rattle.rows.proofs.Merging.{firsts_more}
+use Rattle.rows.proofs.Runs.{count_repeated}
 use Rattle.vertices.specs.Groups.{AreGrouped, keyed, shown_key}
 use Rattle.vertices.proofs.Sets.{admitted, found_counts, take_one}
 
@@ -69,26 +71,53 @@ map_more : (f : Record → Record) (xs : List Record) (x : Record) → map f (xs
 map_more f [] x = refl
 map_more f (y ∷ xs) x = ap (λ l. f y ∷ l) (map_more f xs x)
 
+map_repeated : (f : Record → Record) (xs : List Record) (n : ℕ) (x : Record) → map f (xs ++ repeated n x) ≡ map f xs ++ repeated n (f x)
+map_repeated f [] zero x = refl
+map_repeated f [] (suc n) x = ap (λ l. f x ∷ l) (map_repeated f [] n x)
+map_repeated f (y ∷ xs) n x = ap (λ l. f y ∷ l) (map_repeated f xs n x)
+
+-- a record is present, however often it stands there
+many_present : (ys : List Record) (y : Record) (n : ℕ) → 1 ≤ n → each_once (ys ++ y ∷ []) ≈ each_once (ys ++ repeated n y)
+many_present ys y n h = record {
+  counts = λ r. count-distinct r (ys ++ y ∷ []) ∙ ap (λ m. one_if (nat_lt 0 m)) (total-append (λ z. one_if (same z r)) ys (y ∷ [])) ∙ go r (same y r)
+      ∙ ap (λ m. one_if (nat_lt 0 (count r ys + m))) (sym (count_repeated r n y)) ∙ ap (λ m. one_if (nat_lt 0 m)) (sym (total-append (λ z. one_if (same z r)) ys (repeated n y))) ∙ sym (count-distinct r (ys ++ repeated n y));
+}
+  where
+    go : (r : Record) (b : Bool) → one_if (nat_lt 0 (count r ys + (one_if b + 0))) ≡ one_if (nat_lt 0 (count r ys + cond b n 0))
+    go r true = ap one_if (lt-ltb 0 (count r ys + (1 + 0)) (omega arith) ∙ sym (lt-ltb 0 (count r ys + n) (omega (arith, h))))
+    go r false = refl
+
+-- the keys with that of a record that stands n times
+keys_more : (key : Record → Record) (keys more xs : List Record) (n : ℕ) (x : Record) (new : Bool) → 1 ≤ n → new ≡ not (list_any (λ r. same r (key x)) keys) → more ≡ cond new (keys ++ key x ∷ []) keys → keys ≈ each_once (map key xs) → more ≈ each_once (map key (xs ++ repeated n x))
+keys_more key keys more xs n x new m e f h =
+    ≈-trans (admitted (key x) keys more (map key xs) new e f h) (≈-trans (many_present (map key xs) (key x) n m) (≈-from (ap each_once (sym (map_repeated key xs n x)))))
+
 -- ---- the records of a key
 
-with_one_more : (key : Record → Record) (k : Record) (xs : List Record) (x : Record) → keyed key k (xs ++ x ∷ []) ≡ keyed key k xs ++ cond (same (key x) k) (x ∷ []) []
-with_one_more key k [] x = refl
-with_one_more key k (y ∷ xs) x = go (same (key y) k) (with_one_more key k xs x)
+keyed_repeated : (key : Record → Record) (k : Record) (n : ℕ) (x : Record) (b : Bool) → same (key x) k ≡ b → keyed key k (repeated n x) ≡ cond b (repeated n x) []
+keyed_repeated key k zero x true e = refl
+keyed_repeated key k zero x false e = refl
+keyed_repeated key k (suc n) x true e = ap (λ c. cond c (x ∷ keyed key k (repeated n x)) (keyed key k (repeated n x))) e ∙ ap (λ l. x ∷ l) (keyed_repeated key k n x true e)
+keyed_repeated key k (suc n) x false e = ap (λ c. cond c (x ∷ keyed key k (repeated n x)) (keyed key k (repeated n x))) e ∙ keyed_repeated key k n x false e
+
+with_more : (key : Record → Record) (k : Record) (xs : List Record) (n : ℕ) (x : Record) → keyed key k (xs ++ repeated n x) ≡ keyed key k xs ++ cond (same (key x) k) (repeated n x) []
+with_more key k [] n x = keyed_repeated key k n x (same (key x) k) refl
+with_more key k (y ∷ xs) n x = go (same (key y) k) (with_more key k xs n x)
   where
     last : List Record
-    last = cond (same (key x) k) (x ∷ []) []
+    last = cond (same (key x) k) (repeated n x) []
 
-    go : (b : Bool) → keyed key k (xs ++ x ∷ []) ≡ keyed key k xs ++ last → cond b (y ∷ keyed key k (xs ++ x ∷ [])) (keyed key k (xs ++ x ∷ [])) ≡ cond b (y ∷ keyed key k xs) (keyed key k xs) ++ last
+    go : (b : Bool) → keyed key k (xs ++ repeated n x) ≡ keyed key k xs ++ last → cond b (y ∷ keyed key k (xs ++ repeated n x)) (keyed key k (xs ++ repeated n x)) ≡ cond b (y ∷ keyed key k xs) (keyed key k xs) ++ last
     go true e = ap (λ l. y ∷ l) e
     go false e = e
 
-with_this : (key : Record → Record) (k : Record) (xs : List Record) (x : Record) → k ≡ key x → keyed key k (xs ++ x ∷ []) ≡ keyed key k xs ++ x ∷ []
-with_this key k xs x e = with_one_more key k xs x ∙ ap (λ b. keyed key k xs ++ cond b (x ∷ []) []) (ap (same (key x)) e ∙ same-refl (key x))
+with_this : (key : Record → Record) (k : Record) (xs : List Record) (n : ℕ) (x : Record) → k ≡ key x → keyed key k (xs ++ repeated n x) ≡ keyed key k xs ++ repeated n x
+with_this key k xs n x e = with_more key k xs n x ∙ ap (λ b. keyed key k xs ++ cond b (repeated n x) []) (ap (same (key x)) e ∙ same-refl (key x))
 
-with_other : (key : Record → Record) (k : Record) (xs : List Record) (x : Record) → (k ≡ key x → ⊥) → keyed key k (xs ++ x ∷ []) ≡ keyed key k xs
-with_other key k xs x h = with_one_more key k xs x ∙ go (same (key x) k) refl
+with_other : (key : Record → Record) (k : Record) (xs : List Record) (n : ℕ) (x : Record) → (k ≡ key x → ⊥) → keyed key k (xs ++ repeated n x) ≡ keyed key k xs
+with_other key k xs n x h = with_more key k xs n x ∙ go (same (key x) k) refl
   where
-    go : (b : Bool) → same (key x) k ≡ b → keyed key k xs ++ cond b (x ∷ []) [] ≡ keyed key k xs
+    go : (b : Bool) → same (key x) k ≡ b → keyed key k xs ++ cond b (repeated n x) [] ≡ keyed key k xs
     go true e = absurd (h (sym ((Decides-same (key x) k).0 e)))
     go false e = append-nil (keyed key k xs)
 
@@ -100,10 +129,10 @@ how_many key k (x ∷ xs) = go (same (key x) k) (how_many key k xs)
     go true e = omega (arith, e)
     go false e = omega (arith, e)
 
-length_stepped : (as' : List Agg) (vs x : Record) → length vs ≡ length as' → length (stepped_all as' vs x) ≡ length as'
-length_stepped [] vs x e = refl
-length_stepped (a ∷ as') [] x e = absurd (omega (arith, e))
-length_stepped (a ∷ as') (v ∷ vs) x e = ap suc (length_stepped as' vs x (omega (arith, e)))
+length_weighed : (as' : List Agg) (vs x : Record) (n : ℕ) → length vs ≡ length as' → length (weighed_all as' vs x n) ≡ length as'
+length_weighed [] vs x n e = refl
+length_weighed (a ∷ as') [] x n e = absurd (omega (arith, e))
+length_weighed (a ∷ as') (v ∷ vs) x n e = ap suc (length_weighed as' vs x n (omega (arith, e)))
 
 pub length_all : (f : Agg → ℤ) (as' : List Agg) → length (map f as') ≡ length as'
 length_all f [] = refl
@@ -111,10 +140,10 @@ length_all f (a ∷ as') = ap suc (length_all f as')
 
 module _ (key : Record → Record) (as' : List Agg) (keys values xs : List Record) (h : AreGrouped key as' keys values xs) where
   -- as many values as aggregates
-  pub as_wide : (p : ℕ) (x : Record) → p < length values → length (stepped_all as' (slice_index_or values p []) x) ≡ length as'
-  as_wide p x less =
+  pub as_wide : (p : ℕ) (x : Record) (n : ℕ) → p < length values → length (weighed_all as' (slice_index_or values p []) x n) ≡ length as'
+  as_wide p x n less =
       let k = slice_index_or keys p [] in
-      length_stepped as' (slice_index_or values p []) x (ap length (h.values_are p (omega (arith, less, h.as_many))) ∙ length_all (λ a. aggregate a (keyed key k xs)) as')
+      length_weighed as' (slice_index_or values p []) x n (ap length (h.values_are p (omega (arith, less, h.as_many))) ∙ length_all (λ a. aggregate a (keyed key k xs)) as')
 
   found_has : (k : Record) → list_any (λ r. same r k) keys ≡ true → 0 < length (keyed key k xs)
   found_has k e =
@@ -139,67 +168,67 @@ module _ (key : Record → Record) (as' : List Agg) (keys values xs : List Recor
       empty (y ∷ l) g = absurd (omega (arith, g))
 
   -- a record of a key that is there, at the place p
-  pub grouped_old : (x : Record) (p : ℕ) (more : List Record) → more ≡ cond (list_any (λ r. same r (key x)) keys) keys (keys ++ key x ∷ []) → AreDifferent more → slice_index_or more p [] ≡ key x → p < length values →
-      AreGrouped key as' more (slice_set values p (stepped_all as' (slice_index_or values p []) x)) (xs ++ x ∷ [])
-  grouped_old x p more e different here small =
+  pub grouped_old : (x : Record) (n : ℕ) → 1 ≤ n → (p : ℕ) (more : List Record) → more ≡ cond (list_any (λ r. same r (key x)) keys) keys (keys ++ key x ∷ []) → AreDifferent more → slice_index_or more p [] ≡ key x → p < length values →
+      AreGrouped key as' more (slice_set values p (weighed_all as' (slice_index_or values p []) x n)) (xs ++ repeated n x)
+  grouped_old x n m p more e different here small =
       let within : p < length keys = omega (arith, small, h.as_many) in
       go within (list_any (λ r. same r (key x)) keys) refl e
     where
-      go : p < length keys → (b : Bool) → list_any (λ r. same r (key x)) keys ≡ b → more ≡ cond b keys (keys ++ key x ∷ []) → AreGrouped key as' more (slice_set values p (stepped_all as' (slice_index_or values p []) x)) (xs ++ x ∷ [])
+      go : p < length keys → (b : Bool) → list_any (λ r. same r (key x)) keys ≡ b → more ≡ cond b keys (keys ++ key x ∷ []) → AreGrouped key as' more (slice_set values p (weighed_all as' (slice_index_or values p []) x n)) (xs ++ repeated n x)
       go within false f g = absurd (true≢false (sym (found_at (key x) keys p within (sym (at_left keys (key x ∷ []) p within) ∙ ap (λ l. slice_index_or l p []) (sym g) ∙ here)) ∙ f))
       go within true f g = record {
-        keys_are = ≈-trans (admitted (key x) keys more (map key xs) false (ap not (sym f)) g h.keys_are) (≈-from (ap each_once (sym (map_more key xs x))));
-        as_many = length_set values (stepped_all as' (slice_index_or values p []) x) p ∙ h.as_many ∙ ap length (sym g);
+        keys_are = keys_more key keys more xs n x false m (ap not (sym f)) g h.keys_are;
+        as_many = length_set values (weighed_all as' (slice_index_or values p []) x n) p ∙ h.as_many ∙ ap length (sym g);
         values_are = λ q less. at q (subst (λ l. q < length l) g less) (nat_eq q p) refl;
       }
         where
-          at : (q : ℕ) → q < length keys → (b : Bool) → nat_eq q p ≡ b → slice_index_or (slice_set values p (stepped_all as' (slice_index_or values p []) x)) q [] ≡ map (λ a. aggregate a (keyed key (slice_index_or more q []) (xs ++ x ∷ []))) as'
+          at : (q : ℕ) → q < length keys → (b : Bool) → nat_eq q p ≡ b → slice_index_or (slice_set values p (weighed_all as' (slice_index_or values p []) x n)) q [] ≡ map (λ a. aggregate a (keyed key (slice_index_or more q []) (xs ++ repeated n x))) as'
           at q less true s =
               let same_place : q ≡ p = (Decides-eqb q p).0 s in
-              ap (λ n. slice_index_or (slice_set values p (stepped_all as' (slice_index_or values p []) x)) n []) same_place
-              ∙ at_set values (stepped_all as' (slice_index_or values p []) x) p small
-              ∙ ap (λ vs. stepped_all as' vs x) (h.values_are p within ∙ ap (λ l. map (λ a. aggregate a (keyed key (slice_index_or l p []) xs)) as') (sym g) ∙ ap (λ k. map (λ a. aggregate a (keyed key k xs)) as') here)
-              ∙ stepped_aggregates as' (keyed key (key x) xs) x (found_has (key x) f)
-              ∙ ap (λ l. map (λ a. aggregate a l) as') (sym (with_this key (key x) xs x refl))
-              ∙ ap (λ k. map (λ a. aggregate a (keyed key k (xs ++ x ∷ []))) as') (sym here ∙ ap (λ n. slice_index_or more n []) (sym same_place))
+              ap (λ j. slice_index_or (slice_set values p (weighed_all as' (slice_index_or values p []) x n)) j []) same_place
+              ∙ at_set values (weighed_all as' (slice_index_or values p []) x n) p small
+              ∙ ap (λ vs. weighed_all as' vs x n) (h.values_are p within ∙ ap (λ l. map (λ a. aggregate a (keyed key (slice_index_or l p []) xs)) as') (sym g) ∙ ap (λ k. map (λ a. aggregate a (keyed key k xs)) as') here)
+              ∙ weighed_aggregates as' (keyed key (key x) xs) x n (found_has (key x) f) m
+              ∙ ap (λ l. map (λ a. aggregate a l) as') (sym (with_this key (key x) xs n x refl))
+              ∙ ap (λ k. map (λ a. aggregate a (keyed key k (xs ++ repeated n x))) as') (sym here ∙ ap (λ n. slice_index_or more n []) (sym same_place))
           at q less false s =
               let other : (q ≡ p → ⊥) = λ t. true≢false (sym ((Decides-eqb q p).1 t) ∙ s) in
               let not_this : (slice_index_or more q [] ≡ key x → ⊥) = λ t. other (different q p (subst (λ l. q < length l) (sym g) less) (subst (λ l. p < length l) (sym g) within) (t ∙ sym here)) in
-              beside_set values (stepped_all as' (slice_index_or values p []) x) p q other ∙ h.values_are q less
+              beside_set values (weighed_all as' (slice_index_or values p []) x n) p q other ∙ h.values_are q less
               ∙ ap (λ l. map (λ a. aggregate a (keyed key (slice_index_or l q []) xs)) as') (sym g)
-              ∙ ap (λ l. map (λ a. aggregate a l) as') (sym (with_other key (slice_index_or more q []) xs x not_this))
+              ∙ ap (λ l. map (λ a. aggregate a l) as') (sym (with_other key (slice_index_or more q []) xs n x not_this))
 
   -- a record of a new key
-  pub grouped_new : (x : Record) (p : ℕ) (more : List Record) → more ≡ cond (list_any (λ r. same r (key x)) keys) keys (keys ++ key x ∷ []) → AreDifferent more → p < length more → slice_index_or more p [] ≡ key x → length values ≤ p →
-      AreGrouped key as' more (values ++ map (λ a. begun a x) as' ∷ []) (xs ++ x ∷ [])
-  grouped_new x p more e different small here large = go (list_any (λ r. same r (key x)) keys) refl e
+  pub grouped_new : (x : Record) (n : ℕ) → 1 ≤ n → (p : ℕ) (more : List Record) → more ≡ cond (list_any (λ r. same r (key x)) keys) keys (keys ++ key x ∷ []) → AreDifferent more → p < length more → slice_index_or more p [] ≡ key x → length values ≤ p →
+      AreGrouped key as' more (values ++ map (λ a. begun a x n) as' ∷ []) (xs ++ repeated n x)
+  grouped_new x n m p more e different small here large = go (list_any (λ r. same r (key x)) keys) refl e
     where
-      go : (b : Bool) → list_any (λ r. same r (key x)) keys ≡ b → more ≡ cond b keys (keys ++ key x ∷ []) → AreGrouped key as' more (values ++ map (λ a. begun a x) as' ∷ []) (xs ++ x ∷ [])
+      go : (b : Bool) → list_any (λ r. same r (key x)) keys ≡ b → more ≡ cond b keys (keys ++ key x ∷ []) → AreGrouped key as' more (values ++ map (λ a. begun a x n) as' ∷ []) (xs ++ repeated n x)
       go true f g = absurd (omega (arith, small, ap length g, large, h.as_many))
       go false f g = record {
-        keys_are = ≈-trans (admitted (key x) keys more (map key xs) true (ap not (sym f)) g h.keys_are) (≈-from (ap each_once (sym (map_more key xs x))));
-        as_many = omega (arith, length-append values (map (λ a. begun a x) as' ∷ []), length-append keys (key x ∷ []), ap length g, h.as_many);
+        keys_are = keys_more key keys more xs n x true m (ap not (sym f)) g h.keys_are;
+        as_many = omega (arith, length-append values (map (λ a. begun a x n) as' ∷ []), length-append keys (key x ∷ []), ap length g, h.as_many);
         values_are = λ q less. at q less (nat_lt q (length keys)) refl;
       }
         where
           longer : length more ≡ length keys + 1
           longer = omega (arith, length-append keys (key x ∷ []), ap length g)
 
-          at : (q : ℕ) → q < length more → (b : Bool) → nat_lt q (length keys) ≡ b → slice_index_or (values ++ map (λ a. begun a x) as' ∷ []) q [] ≡ map (λ a. aggregate a (keyed key (slice_index_or more q []) (xs ++ x ∷ []))) as'
+          at : (q : ℕ) → q < length more → (b : Bool) → nat_lt q (length keys) ≡ b → slice_index_or (values ++ map (λ a. begun a x n) as' ∷ []) q [] ≡ map (λ a. aggregate a (keyed key (slice_index_or more q []) (xs ++ repeated n x))) as'
           at q less true s =
               let within : q < length keys = ltb-true q (length keys) s in
               let read : slice_index_or more q [] ≡ slice_index_or keys q [] = ap (λ l. slice_index_or l q []) g ∙ at_left keys (key x ∷ []) q within in
               let not_this : (slice_index_or more q [] ≡ key x → ⊥) = λ t. let e : q ≡ p = different q p less small (t ∙ sym here) in omega (arith, within, large, h.as_many, e) in
-              at_left values (map (λ a. begun a x) as' ∷ []) q (omega (arith, within, h.as_many)) ∙ h.values_are q within
+              at_left values (map (λ a. begun a x n) as' ∷ []) q (omega (arith, within, h.as_many)) ∙ h.values_are q within
               ∙ ap (λ k. map (λ a. aggregate a (keyed key k xs)) as') (sym read)
-              ∙ ap (λ l. map (λ a. aggregate a l) as') (sym (with_other key (slice_index_or more q []) xs x not_this))
+              ∙ ap (λ l. map (λ a. aggregate a l) as') (sym (with_other key (slice_index_or more q []) xs n x not_this))
           at q less false s =
               let last : q ≡ length keys = (let above : length keys ≤ q = ltb-false q (length keys) s in omega (arith, above, less, longer)) in
               let read : slice_index_or more q [] ≡ key x = ap (λ l. slice_index_or l q []) g ∙ at_end keys (key x) q last in
-              at_end values (map (λ a. begun a x) as') q (last ∙ sym h.as_many) ∙ begun_all as' x
-              ∙ ap (λ l. map (λ a. aggregate a (l ++ x ∷ [])) as') (sym (missing_has (key x) f))
-              ∙ ap (λ l. map (λ a. aggregate a l) as') (sym (with_this key (key x) xs x refl))
-              ∙ ap (λ k. map (λ a. aggregate a (keyed key k (xs ++ x ∷ []))) as') (sym read)
+              at_end values (map (λ a. begun a x n) as') q (last ∙ sym h.as_many) ∙ begun_all as' x n m
+              ∙ ap (λ l. map (λ a. aggregate a (l ++ repeated n x)) as') (sym (missing_has (key x) f))
+              ∙ ap (λ l. map (λ a. aggregate a l) as') (sym (with_this key (key x) xs n x refl))
+              ∙ ap (λ k. map (λ a. aggregate a (keyed key k (xs ++ repeated n x))) as') (sym read)
 
   -- the records of the groups, each of what is shown of its key
   pub all_shown : (show : Record → Record) (sent : List Record) → sent ≡ map (λ k. show k ++ map (λ a. aggregate a (keyed key k xs)) as') keys → sent ≈ map (λ k. show k ++ map (λ a. aggregate a (keyed key k xs)) as') (each_once (map key xs))
@@ -231,15 +260,67 @@ no_groups key as' keys values e f = record {
   values_are = λ p h. absurd (omega (arith, h, ap length e));
 }
 
--- the groups of one more of a batch
-pub batch_more : (P : List Record → Type 0) (xs batch : List Record) (x : Record) (k : ℕ) → k < length batch → x ≡ slice_index_or batch k [] → P ((xs ++ take k batch) ++ x ∷ []) → P (xs ++ take (k + 1) batch)
-batch_more P xs batch x k h e p = subst P (append_assoc xs (take k batch) (x ∷ []) ∙ ap (λ l. xs ++ l) (ap (λ y. take k batch ++ y ∷ []) e ∙ sym (take_one batch k h))) p
+-- the groups of one more of counted records
+pub runs_more : (P : List Record → Type 0) (xs : List Record) (cs : List Run) (k : ℕ) (row : Record) (n : ℕ) → k < length cs → row ≡ (slice_index_or cs k no_run).row → n ≡ (slice_index_or cs k no_run).count →
+    P ((xs ++ expanded (take k cs)) ++ repeated n row) → P (xs ++ expanded (take (k + 1) cs))
+runs_more P xs cs k row n h e f p =
+    subst P (append_assoc xs (expanded (take k cs)) (repeated n row) ∙ ap (λ l. xs ++ l) ((λ i. expanded (take k cs) ++ repeated (f i) (e i)) ∙ sym (firsts_more cs k h))) p
 
--- ---- requests
+-- ---- the records of groups are different
 
-pub asked_before : (xs : List Record) → 0 < length xs → false ≡ asks Role.notified xs
-asked_before [] h = absurd (omega (arith, h))
-asked_before (x ∷ xs) h = refl
+length_map : (f : ℕ → ℤ) (ks : List ℕ) → length (map f ks) ≡ length ks
+length_map f [] = refl
+length_map f (k ∷ ks) = ap suc (length_map f ks)
 
-pub asked_first : (xs : List Record) → xs ≡ [] → true ≡ asks Role.notified xs
-asked_first xs e = ap (asks Role.notified) (sym e)
+-- a row that begins with a key tells the key
+begins : (a d t : Record) → one_if (same (a ++ d) t) ≤ one_if (same a (take (length a) t))
+begins a d t = go (same (a ++ d) t) refl
+  where
+    first : (a d : Record) → take (length a) (a ++ d) ≡ a
+    first [] d = refl
+    first (x ∷ a) d = ap (λ l. x ∷ l) (first a d)
+
+    go : (b : Bool) → same (a ++ d) t ≡ b → one_if (same (a ++ d) t) ≤ one_if (same a (take (length a) t))
+    go false e = let z = ap one_if e in omega (arith, z)
+    go true e =
+        let is : a ++ d ≡ t = (Decides-same (a ++ d) t).0 e in
+        let z = ap one_if e in
+        let w = ap one_if (ap (same a) (ap (take (length a)) (sym is) ∙ first a d) ∙ same-refl a) in
+        omega (arith, z, w)
+
+rows_once : (n : ℕ) (f : Record → Record) (keys : List Record) (t : Record) → ((y : Record) → 0 < count y keys → length y ≡ n) → count t (map (λ k. k ++ f k) keys) ≤ count (take n t) keys
+rows_once n f [] t each = omega arith
+rows_once n f (k ∷ keys) t each =
+    let i = rows_once n f keys t (λ y l. each y (omega (arith, l))) in
+    let z = begins k (f k) t in
+    let w = ap (λ m. one_if (same k (take m t))) (each k (count_here k keys)) in
+    omega (arith, i, z, w)
+
+projected : (ks : List ℕ) (xs : List Record) (y : Record) → 0 < count y (map (project ks) xs) → length y ≡ length ks
+projected ks [] y h = absurd (omega (arith, h))
+projected ks (x ∷ xs) y h = go (same (project ks x) y) refl (projected ks xs y)
+  where
+    go : (b : Bool) → same (project ks x) y ≡ b → (0 < count y (map (project ks) xs) → length y ≡ length ks) → length y ≡ length ks
+    go true e i = ap length (sym ((Decides-same (project ks x) y).0 e)) ∙ length_map (λ c. field c x) ks
+    go false e i = i (let z = ap one_if e in omega (arith, h, z))
+
+present : (xs : List Record) (y : Record) → 0 < count y (each_once xs) → 0 < count y xs
+present xs y h = go (count y xs) (count-distinct y xs)
+  where
+    go : (n : ℕ) → count y (each_once xs) ≡ one_if (nat_lt 0 n) → 0 < n
+    go zero e = absurd (omega (arith, h, e))
+    go (suc n) e = omega arith
+
+once_there : (xs : List Record) (y : Record) → count y (each_once xs) ≤ 1
+once_there xs y = go (nat_lt 0 (count y xs)) (count-distinct y xs)
+  where
+    go : (b : Bool) → count y (each_once xs) ≡ one_if b → count y (each_once xs) ≤ 1
+    go true e = omega (arith, e)
+    go false e = omega (arith, e)
+
+pub groups_different : (ks : List ℕ) (as' : List Agg) (xs rows : List Record) → rows ≈ grouped ks as' xs → AreDifferent rows
+groups_different ks as' xs rows h = different_where_once rows (λ r.
+    let keys = each_once (map (project ks) xs) in
+    let a = rows_once (length ks) (λ k. map (λ a. aggregate a (with_key ks k xs)) as') keys r (λ y l. projected ks xs y (present (map (project ks) xs) y l)) in
+    let b = once_there (map (project ks) xs) (take (length ks) r) in
+    omega (arith, h.counts r, a, b))

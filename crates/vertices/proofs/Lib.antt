@@ -1,7 +1,14 @@
 pub mod Sets
+pub mod Counting
+pub mod Fitting
 pub mod PortSets
 pub mod Times
 pub mod Pairs
-pub mod Grouping
 pub mod Sending
 pub mod AtWork
+pub mod Meetings
+pub mod Grouping
+pub mod Piles
+pub mod Gains
+pub mod SameStates
+pub mod SameAbsorbed

@@ -1,18 +1,32 @@
 -- Records taken into the sets of two ports.
-use Rattle.std.proofs.Common.{◌≡◌, ℕ, zero, suc, ◌+◌, ◌<◌, ◌==◌, nat_lt, Bool, true, false, not, cond, ◌&&◌, List, [], ◌∷◌, ◌++◌, filter, take, length, slice_index_or, if◌then◌else◌, refl, sym, ap, subst, ◌∙◌, arith, length-append}
+use Rattle.std.proofs.Common.{◌≡◌, ℕ, zero, suc, ◌+◌, ◌≤◌, ◌<◌, ◌==◌, nat_lt, Bool, true, false, not, cond, ◌&&◌, List, [], ◌∷◌, ◌++◌, filter, take, length, slice_index_or, if◌then◌else◌, refl, sym, ap, subst, ◌∙◌, arith, length-append}
+use Rattle.std.proofs.lemmas.List.{take_all}
 use Rattle.std.proofs.lemmas.List.Elements.{filter_more}
 use Rattle.std.specs.List.{list_any}
+use Rattle.rows.specs.Counts.{AreRuns, Run, expanded, no_run, rows_of, runs}
+use Rattle.rows.specs.Indexes.{AreDifferent}
+use Rattle.rows.proofs.Keeping.{different_where_once}
+use Rattle.rows.proofs.Runs.{length_rows, row_at}
 use Rattle.semantics.specs.Meaning.{only_left, in_both}
 use Rattle.semantics.specs.Multiset.{Record, same, one_if, count, is_present, ◌≈◌, each_once}
 use Rattle.semantics.proofs.CountsOfForms.{count-filter}
-use Rattle.semantics.proofs.DistinctAndGroups.{count-distinct}
+use Rattle.semantics.proofs.DistinctAndGroups.{count-distinct, distinct_same}
 use Rattle.semantics.proofs.ExceptAndIntersect.{count-except, count-intersect, present_in_set}
-use Rattle.semantics.proofs.MultisetSums.{Decides-same, total-append, ≈-from}
+use Rattle.semantics.proofs.MultisetSums.{Decides-same, total-append, append_same, ≈-refl, ≈-trans, ≈-from}
+use Rattle.vertices.proofs.Counting.{rows_once}
 use Rattle.vertices.proofs.Sets.{found_counts}
 
 -- a set has what the list has
 as_present : (set xs : List Record) → set ≈ each_once xs → (r : Record) → is_present r set ≡ is_present r xs
 as_present set xs h r = ap (nat_lt 0) (h.counts r) ∙ present_in_set r xs
+
+-- the rows of records that are counted are the records, each once
+pub rows_once_of : (cs : List Run) (xs : List Record) → AreRuns cs → expanded cs ≈ xs → rows_of cs ≈ each_once xs
+rows_once_of cs xs h e = ≈-trans (rows_once cs h) (distinct_same (expanded cs) xs e)
+
+-- records counted in, by what was there
+pub counted_from : (old new xs b : List Record) → old ≈ xs → new ≈ (old ++ b) → new ≈ (xs ++ b)
+counted_from old new xs b e f = ≈-trans f (append_same old xs b b e (≈-refl b))
 
 -- ---- what both have
 
@@ -111,18 +125,38 @@ common_gained_right left right left' right' xs ys xs' ys' sent sends h k h' k' e
       omega (arith, turned.counts r, (common_turned xs ys).counts r, (common_turned xs' ys').counts r, total-append t sends (in_both ys xs), total-append t sends (in_both xs ys));
 }
 
+-- what is sent is different
+pub different_sends : (sends before xs ys : List Record) → (sends ++ before) ≈ in_both xs ys → AreDifferent sends
+different_sends sends before xs ys e = different_where_once sends (λ r.
+    let a = e.counts r in
+    let b = total-append (λ x. one_if (same x r)) sends before in
+    let c = count-intersect xs ys r in
+    let d = at_most_one (is_present r xs && is_present r ys) in
+    omega (arith, a, b, c, d))
+  where
+    at_most_one : (b : Bool) → one_if b ≤ 1
+    at_most_one true = omega arith
+    at_most_one false = omega arith
+
+pub none_different : (rows : List Record) → rows ≡ [] → AreDifferent rows
+none_different rows e i j l m f = absurd (omega (arith, l, ap length e))
+
 -- ---- what the left alone has
 
 -- with one record more
-pub alone_more : (right b old new : List Record) (k : ℕ) → k < length b → old ≡ filter (λ r. not (list_any (λ x. same x r) right)) (take k b) → new ≡ old ++ (if list_any (λ x. same x (slice_index_or b k [])) right then [] else slice_index_or b k [] ∷ []) → new ≡ filter (λ r. not (list_any (λ x. same x r) right)) (take (k + 1) b)
-alone_more right b old new k h e f =
+pub alone_more : (right : List Record) (cs : List Run) (old new : List Record) (k : ℕ) → k < length cs → old ≡ filter (λ r. not (list_any (λ x. same x r) right)) (take k (rows_of cs)) → new ≡ old ++ (if list_any (λ x. same x (slice_index_or cs k no_run).row) right then [] else (slice_index_or cs k no_run).row ∷ []) → new ≡ filter (λ r. not (list_any (λ x. same x r) right)) (take (k + 1) (rows_of cs))
+alone_more right cs old new k h e f =
     f
-    ∙ (λ j. e j ++ go (list_any (λ x. same x (slice_index_or b k [])) right) j)
-    ∙ sym (filter_more (λ r. not (list_any (λ x. same x r) right)) b k [] h)
+    ∙ (λ j. e j ++ cond (list_any (λ x. same x (sym (row_at cs k) j)) right) [] (sym (row_at cs k) j ∷ []))
+    ∙ ap (λ l. filter (λ r. not (list_any (λ x. same x r) right)) (take k (rows_of cs)) ++ l) (go (list_any (λ x. same x (slice_index_or (rows_of cs) k [])) right))
+    ∙ sym (filter_more (λ r. not (list_any (λ x. same x r) right)) (rows_of cs) k [] (omega (arith, h, length_rows cs)))
   where
-    go : (t : Bool) → cond t [] (slice_index_or b k [] ∷ []) ≡ cond (not t) (slice_index_or b k [] ∷ []) []
+    go : (t : Bool) → cond t [] (slice_index_or (rows_of cs) k [] ∷ []) ≡ cond (not t) (slice_index_or (rows_of cs) k [] ∷ []) []
     go true = refl
     go false = refl
+
+pub all_alone : (right : List Record) (cs : List Run) (rows : List Record) (k : ℕ) → length cs ≤ k → rows ≡ filter (λ r. not (list_any (λ x. same x r) right)) (take k (rows_of cs)) → rows ≡ filter (λ r. not (list_any (λ x. same x r) right)) (rows_of cs)
+all_alone right cs rows k h e = e ∙ ap (filter (λ r. not (list_any (λ x. same x r) right))) (take_all k (rows_of cs) (omega (arith, h, length_rows cs)))
 
 pub left_alone : (left right xs ys : List Record) → left ≈ each_once xs → right ≈ each_once ys → filter (λ r. not (list_any (λ x. same x r) right)) left ≈ only_left xs ys
 left_alone left right xs ys h k = record {
@@ -140,6 +174,11 @@ left_alone left right xs ys h k = record {
     go false false = refl
 
 -- ---- at the ports
+
+-- records have runs
+pub some_records : (batch : List Record) → 0 < length (runs batch) → 0 < length batch
+some_records [] h = absurd (omega (arith, h))
+some_records (r ∷ batch) h = omega arith
 
 -- by a batch there are some records at the two ports
 pub some_came : (port : ℕ) (xs ys batch : List Record) → port < 2 → 0 < length batch → 0 < length ((xs ++ cond (port == 0) batch []) ++ (ys ++ cond (port == 1) batch []))

@@ -25,8 +25,8 @@ at_either zero records h = append-nil records
 at_either (suc zero) records h = refl
 at_either (suc (suc p)) records h = absurd (omega (arith, h))
 
-pub select_sends : (ss : List Scalar) (t : Time) (a : Absorbed) (batch : List Record) (out : Out) → records_of out.first ≡ selected ss batch → SendsFor (Kind.select ss) t a 0 batch out
-select_sends ss t a batch out e q = ≈-from (e)
+pub select_sends : (ss : List Scalar) (t : Time) (a : Absorbed) (batch : List Record) (out : Out) → records_of out.first ≈ selected ss batch → SendsFor (Kind.select ss) t a 0 batch out
+select_sends ss t a batch out e q = e
 
 pub filter_sends : (c : Cond) (t : Time) (a : Absorbed) (batch : List Record) (out : Out) → records_of out.first ≡ kept c batch → SendsFor (Kind.filter c) t a 0 batch out
 filter_sends c t a batch out e q = ≈-from (e)

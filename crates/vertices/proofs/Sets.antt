@@ -1,8 +1,8 @@
 -- Records taken into a set.
-use Rattle.std.proofs.Common.{◌≡◌, ℕ, ◌+◌, ◌<◌, nat_lt, Bool, true, false, not, cond, ◌||◌, List, [], ◌∷◌, ◌++◌, take, length, slice_index_or, refl, sym, ap, subst, ◌∙◌, arith, append_assoc, if◌then◌else◌, lt-ltb}
+use Rattle.std.proofs.Common.{◌≡◌, ℕ, ◌+◌, ◌<◌, nat_lt, Bool, true, false, not, cond, ◌||◌, List, [], ◌∷◌, ◌++◌, take, length, slice_index_or, refl, sym, ap, subst, ◌∙◌, arith, if◌then◌else◌, lt-ltb}
 use Rattle.std.specs.List.{list_any}
 use Rattle.semantics.specs.Multiset.{Record, same, one_if, count, ◌≈◌, each_once}
-use Rattle.semantics.proofs.MultisetSums.{Decides-same, total-append, ≈-trans, ≈-from}
+use Rattle.semantics.proofs.MultisetSums.{Decides-same, total-append}
 use Rattle.semantics.proofs.DistinctAndGroups.{count-distinct}
 
 -- a record is found exactly where it stands
@@ -39,17 +39,6 @@ admitted x old new xs n e f h = record {
         ∙ absent (count r xs) (ap (nat_lt 0) (sym (before r)) ∙ subst (λ z. nat_lt 0 (count z old) ≡ false) ((Decides-same x r).0 k) s)
     go r false false s k = total-append (λ z. one_if (same z r)) old (x ∷ []) ∙ ap (λ b. count r old + (one_if b + 0)) k ∙ (let z : count r old + (0 + 0) ≡ count r old = omega arith in z) ∙ before r ∙ ap (λ z. one_if (nat_lt 0 z)) (omega arith)
 
--- what is sent is what the set gains
-pub sent_one : (x : Record) (old new sent sends : List Record) → new ≡ old ++ x ∷ [] → sends ≡ sent ++ x ∷ [] → (sends ++ old) ≈ (sent ++ new)
-sent_one x old new sent sends e f = record {
-  counts = λ r.
-      let g = λ (z : Record). one_if (same z r) in
-      omega (arith, total-append g sends old, total-append g sent new, ap (count r) e, ap (count r) f, total-append g old (x ∷ []), total-append g sent (x ∷ []));
-}
-
-pub sent_none : (old new sent : List Record) → new ≡ old → (sent ++ old) ≈ (sent ++ new)
-sent_none old new sent e = ≈-from (ap (λ l. sent ++ l) (sym e))
-
 -- one after the other
 pub sent_on : (old mid new sent sends more : List Record) → (sends ++ old) ≈ (sent ++ mid) → (more ++ mid) ≈ (sends ++ new) → (more ++ old) ≈ (sent ++ new)
 sent_on old mid new sent sends more e f = record {
@@ -61,27 +50,3 @@ sent_on old mid new sent sends more e f = record {
 -- the first k + 1 of a list
 pub take_one : (b : List Record) (k : ℕ) → k < length b → take (k + 1) b ≡ take k b ++ slice_index_or b k [] ∷ []
 take_one b k h = Rattle.std.proofs.lemmas.List.take_more b k [] h
-
--- the set of what was there before, and of the first k + 1 of a batch
-pub set_on : (mid new xs b : List Record) (x : Record) (k : ℕ) → k < length b → x ≡ slice_index_or b k [] → ((ys : List Record) → mid ≈ each_once ys → new ≈ each_once (ys ++ x ∷ [])) → mid ≈ each_once (xs ++ take k b) → new ≈ each_once (xs ++ take (k + 1) b)
-set_on mid new xs b x k h e f g = ≈-trans (f (xs ++ take k b) g) (≈-from (ap each_once (append_assoc xs (take k b) (x ∷ []) ∙ ap (λ l. xs ++ l) (ap (λ y. take k b ++ y ∷ []) e ∙ sym (take_one b k h)))))
-
--- what a set gains is what is gained by all that was absorbed
-pub gained : (sends old new xs ys : List Record) → (sends ++ old) ≈ new → old ≈ each_once xs → new ≈ each_once ys → (sends ++ each_once xs) ≈ each_once ys
-gained sends old new xs ys e f g = record {
-  counts = λ r.
-      let t = λ (z : Record). one_if (same z r) in
-      omega (arith, e.counts r, f.counts r, g.counts r, total-append t sends old, total-append t sends (each_once xs));
-}
-
--- the set of no record
-pub none_at_first : (set xs : List Record) → set ≡ [] → xs ≡ [] → set ≈ each_once xs
-none_at_first set xs e f = ≈-from (e ∙ ap each_once (sym f))
-
--- a set that is made for a batch
-pub first_set : (set new xs batch : List Record) → set ≡ [] → xs ≡ [] → ((ys : List Record) → set ≈ each_once ys → new ≈ each_once (ys ++ batch)) → new ≈ each_once (xs ++ batch)
-first_set set new xs batch e f g = g xs (none_at_first set xs e f)
-
--- what is sent where nothing was sent before
-pub first_gained : (sends old sent new : List Record) → sent ≡ [] → (sends ++ old) ≈ (sent ++ new) → (sends ++ old) ≈ new
-first_gained sends old sent new e h = ≈-trans h (≈-from (ap (λ l. l ++ new) e))

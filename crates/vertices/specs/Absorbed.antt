@@ -1,4 +1,4 @@
--- What a shard has absorbed. The shard keeps indexes alone: the records themselves are spoken of in contracts.
+-- What a shard has absorbed. The shard keeps the different records of a time, each with a count; contracts speak of the records with their repeats.
 use Rattle.std.specs.Prelude.{ℕ, cond, ◌==◌, List, [], ◌++◌}
 use Rattle.semantics.specs.Multiset.{Record}
 use Rattle.semantics.specs.Time.{Time, same_time}
@@ -19,3 +19,11 @@ absorbed_by Role.stateless a p t records = a
 absorbed_by Role.stateful a p t records = with_records a p t records
 absorbed_by Role.notified a p t records = with_records a p t records
 absorbed_by Role.output a p t records = a
+
+-- what a vertex of that role then keeps of a port at a time: what it had absorbed there, and the records; nothing where it absorbs nothing
+abbrev pub kept_by : Role → Absorbed → (port : ℕ) → Time → List Record → List Record
+kept_by Role.input a p t records = []
+kept_by Role.stateless a p t records = []
+kept_by Role.stateful a p t records = a p t ++ records
+kept_by Role.notified a p t records = a p t ++ records
+kept_by Role.output a p t records = []

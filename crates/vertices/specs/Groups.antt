@@ -1,4 +1,4 @@
--- What a group keeps at one time.
+-- The groups of records.
 use Rattle.std.specs.Prelude.{◌≡◌, ℕ, ◌<◌, List, [], ◌∷◌, map, filter, length, slice_index_or}
 use Rattle.expr_tree.specs.Plain.{plain_agg}
 use Rattle.operators.specs.declared.group.Group.{Group}
@@ -41,7 +41,3 @@ pub record AreGroupsOf (g : Group) (groups : Groups) (xs : List Record) : Type 0
   pub arity : groups.keys.arity ≡ key_arity (columns_of g)
   pub width : groups.values.arity ≡ length (aggregates_of g)
   pub grouped : AreGrouped (stored_key (columns_of g)) (aggregates_of g) groups.keys.rows groups.values.rows xs
-
--- the groups of the records that came to the port, of which there are some
-abbrev pub AreGroupsThen : Group → Groups → (ℕ → List Record) → Type 0
-AreGroupsThen g groups records = AreGroupsOf g groups (records 0) × (0 < length (records 0))

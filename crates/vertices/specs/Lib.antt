@@ -1,6 +1,8 @@
 pub mod Absorbed
 pub mod ByTime
 pub mod States
+pub mod Piles
+pub mod OneSide
 pub mod Joins
 pub mod Groups
 pub mod Outs

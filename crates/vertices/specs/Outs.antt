@@ -1,5 +1,6 @@
 -- What is sent for one event.
-use Rattle.std.specs.Prelude.{ℕ, zero, suc, List, [], Option, Some, None}
+use Rattle.std.specs.Prelude.{ℕ, zero, suc, List, Option}
+use Rattle.rows.specs.Counts.{IsOver, records_in}
 use Rattle.semantics.specs.Kinds.{Kind, role, out_ports}
 use Rattle.semantics.specs.Multiset.{Record}
 use Rattle.semantics.specs.Op.{op}
@@ -10,8 +11,7 @@ use Rattle.vertices.specs.declared.out.Out.{Out}
 
 -- the records of a batch, if there is one
 abbrev pub records_of : Option (List Record) → List Record
-records_of None = []
-records_of (Some batch) = batch
+records_of batch = records_in batch
 
 -- by two out ports
 abbrev pub two : Out → (port : ℕ) → List Record
@@ -24,8 +24,14 @@ sent zero out port = records_of out.first
 sent (suc zero) out port = records_of out.first
 sent (suc (suc ports)) out port = two out port
 
--- what a shard of that kind sends for records that come to a port at a time, where it had absorbed a
+-- what a shard of that kind would send, by out port, for records that come to a port at a time, where it had absorbed a
+abbrev pub Sends : Kind → Time → Absorbed → (port : ℕ) → List Record → (ℕ → List Record) → Type 0
+Sends kind t a port records would = SendsBy (role kind) (λ q ins. op kind t ins q) (λ p. a p t) (λ p. absorbed_by (role kind) a port t records p t) port records would
+
+-- what it sends
 abbrev pub SendsFor : Kind → Time → Absorbed → (port : ℕ) → List Record → Out → Type 0
-SendsFor kind t a port records out =
-    SendsBy (role kind) (λ q ins. op kind t ins q) (λ p. a p t) (λ p. absorbed_by (role kind) a port t records p t) port records
-    (sent (out_ports kind) out)
+SendsFor kind t a port records out = Sends kind t a port records (sent (out_ports kind) out)
+
+-- some out port would send a record too often
+abbrev pub WouldSendOver : Kind → Time → Absorbed → (port : ℕ) → List Record → Type 0
+WouldSendOver kind t a port records = (would : ℕ → List Record) × Sends kind t a port records would × (q : ℕ) × IsOver (would q)

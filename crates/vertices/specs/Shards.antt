@@ -5,8 +5,9 @@ use Rattle.expr_tree.specs.Views.{scalar_tree, cond_tree}
 use Rattle.semantics.specs.Kinds as semantics
 use Rattle.vertices.specs.Absorbed.{Absorbed}
 use Rattle.vertices.specs.ByTime.{AreStatesOf}
-use Rattle.vertices.specs.Groups.{AreGroupsThen, columns_of, aggregates_of}
+use Rattle.vertices.specs.Groups.{columns_of, aggregates_of}
 use Rattle.vertices.specs.Joins.{IsSidesOf}
+use Rattle.vertices.specs.Piles.{IsPileThen}
 use Rattle.vertices.specs.States.{IsSetOf, AreSetsOf, AreSetsThen}
 use Rattle.vertices.specs.declared.shard.Shard.{Shard}
 use Rattle.vertices.specs.declared.shard.Shard.TheVariants.{Input, Output, Select, Where, Concat, Join, Group, Distinct, Except, Intersect, Ingress, Egress, Feedback, Gate, Hold}
@@ -42,7 +43,7 @@ TakesArity (Select s) port n = n ≡ s.arity
 TakesArity (Where s) port n = n ≡ s.arity
 TakesArity (Concat s) port n = Unit {0}
 TakesArity (Join s) port n = n ≡ by_port s.plan.left_arity s.plan.right_arity port
-TakesArity (Group s) port n = Unit {0}
+TakesArity (Group s) port n = n ≡ s.arity
 TakesArity (Distinct s) port n = n ≡ s.arity
 TakesArity (Except s) port n = n ≡ s.arity
 TakesArity (Intersect s) port n = n ≡ s.arity
@@ -60,7 +61,7 @@ Shows (Select s) a = Unit {0}
 Shows (Where s) a = Unit {0}
 Shows (Concat s) a = Unit {0}
 Shows (Join s) a = AreStatesOf (IsSidesOf s.plan) s.times a
-Shows (Group s) a = AreStatesOf (AreGroupsThen s.operator) s.times a
+Shows (Group s) a = AreStatesOf (IsPileThen s.arity) s.times a
 Shows (Distinct s) a = AreStatesOf (IsSetOf s.arity) s.times a
 Shows (Except s) a = AreStatesOf (AreSetsThen s.arity) s.times a
 Shows (Intersect s) a = AreStatesOf (AreSetsOf s.arity) s.times a

@@ -1,10 +1,11 @@
 //! Why a shard refuses an event.
 
-ghost use Rattle.std.specs.Prelude.{◌≡◌};
-ghost use Rattle.vertices.specs.declared.fault.ShardFault.TheVariants.{NoMemory};
+ghost use Rattle.std.specs.Prelude.{◌≡◌, ◌↔◌};
+ghost use Rattle.rows.specs.declared.error.TallyError.TheVariants.{Count as CountOfTallies, NoMemory as NoMemoryOfTallies};
+ghost use Rattle.vertices.specs.declared.fault.ShardFault.TheVariants.{Count, NoMemory};
 
 use expr_tree::NoMemory as NoMemoryOfTrees;
-use rows::RowsError;
+use rows::{RowsError, TallyError};
 use std::alloc::{AllocError, AllocFailed};
 
 /// Why a shard could not take an event. The shard is then spoiled, and fit only to be given up.
@@ -12,6 +13,8 @@ use std::alloc::{AllocError, AllocFailed};
 pub enum ShardFault {
     /// An allocator refused a growth.
     NoMemory,
+    /// A count would be above 9223372036854775807.
+    Count,
 }
 
 impl From<AllocError> for ShardFault {
@@ -36,6 +39,17 @@ impl From<RowsError> for ShardFault {
     fn from(error: RowsError) -> ShardFault {
         match error {
             RowsError::NoMemory => ShardFault::NoMemory,
+        }
+    }
+}
+
+impl From<TallyError> for ShardFault {
+    ghost from_gives = { λ t e. ((e ≡ NoMemory) ↔ (t ≡ NoMemoryOfTallies)) × ((e ≡ Count) ↔ (t ≡ CountOfTallies)) };
+
+    fn from(error: TallyError) -> ShardFault {
+        match error {
+            TallyError::NoMemory => ShardFault::NoMemory,
+            TallyError::Count => ShardFault::Count,
         }
     }
 }

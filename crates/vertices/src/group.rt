@@ -1,76 +1,107 @@
 //! The shard of a group vertex.
 
-ghost use Rattle.std.specs.Prelude.{◌≡◌, [], IfOk, OnOk};
+ghost use Rattle.std.specs.Prelude.{◌≡◌, ◌≤◌, ◌<◌, ◌++◌, [], length, IfOk, IfErr, OnOk};
+ghost use Rattle.rows.specs.Counts.{AllFit, IsOver};
+ghost use Rattle.rows.specs.FlatRows.{arity_of};
+ghost use Rattle.rows.specs.Indexes.{AreDifferent};
+ghost use Rattle.rows.specs.declared.error.TallyError.TheVariants.{Count as TallyCount};
 ghost use Rattle.semantics.specs.Kinds.{Role};
 ghost use Rattle.semantics.specs.Meaning.{grouped};
 ghost use Rattle.semantics.specs.Multiset.{◌≈◌};
 ghost use Rattle.semantics.specs.Shard.{asks};
 ghost use Rattle.vertices.specs.Absorbed.{Absorbed, with_records};
 ghost use Rattle.vertices.specs.ByTime.{AreStatesOf};
-ghost use Rattle.vertices.specs.Groups.{AreGroupsThen, columns_of, aggregates_of, key_arity};
+ghost use Rattle.vertices.specs.Groups.{columns_of, aggregates_of, key_arity};
+ghost use Rattle.vertices.specs.Piles.{IsPileThen};
+ghost use Rattle.vertices.specs.declared.fault.ShardFault.TheVariants.{Count, NoMemory};
 
 use crate::fault::ShardFault;
 use crate::groups::{Groups, key_arity};
+use crate::pile::Pile;
 use loop_context::Time;
 use operators::Group;
-use rows::{Batch, RowSet, Rows};
+use rows::{Batch, RowSet, Rows, RowsError, TallyError};
 use std::alloc::Global;
 use std::collections::HashMap;
 
-/// For each time the groups of the records that came then.
+/// For each time the records that came then. The groups are made of them once, at the notification.
 #[derive(Drop)]
 pub struct GroupShard {
+    alloc: Global,
     pub(crate) operator: Group,
+    pub(crate) arity: usize,
     no_keys: RowSet,
-    pub(crate) times: HashMap<Time, Groups>,
-    ghost none: { no_keys ≡ record { arity = key_arity (columns_of operator); rows = [] } },
+    pub(crate) times: HashMap<Time, Pile>,
+    ghost no_key: { no_keys ≡ record { arity = key_arity (columns_of operator); rows = [] } },
+}
+
+/// Takes in the records of a batch.
+fn absorb(pile: &mut Pile, batch: &Batch) -> Result<(), TallyError>
+    requires { arity_of batch.now ≡ pile.old.arity }
+    ensures records { OnOk result (pile.new.records ≈ (pile.old.records ++ batch.now)) }
+    ensures some { 0 < length batch.now }
+    ensures fits { OnOk result (AllFit (pile.old.records ++ batch.now)) }
+    ensures over { IfErr result (λ e. e ≡ TallyCount → IsOver (pile.old.records ++ batch.now)) }
+    ensures arity { pile.new.arity ≡ pile.old.arity }
+{
+    let _count = batch.len();
+    pile.add(batch)
 }
 
 impl GroupShard {
-    /// A shard that has absorbed nothing.
-    pub fn new(alloc: Global, operator: Group) -> Result<GroupShard, ShardFault>
+    /// A shard that has absorbed nothing. The records that come to it have that arity.
+    pub fn new(alloc: Global, operator: Group, arity: usize) -> Result<GroupShard, ShardFault>
+        requires some { 1 ≤ arity }
+        requires fits { arity ≤ 16 }
         ensures operator { IfOk result (λ s. s.operator ≡ operator) }
-        ensures nothing { IfOk result (λ s. AreStatesOf (AreGroupsThen operator) s.times (λ p t. [])) }
+        ensures arity { IfOk result (λ s. s.arity ≡ arity) }
+        ensures nothing { IfOk result (λ s. AreStatesOf (IsPileThen arity) s.times (λ p t. [])) }
     {
         let no_keys = RowSet::new(alloc, key_arity(&operator.columns))?;
         Ok(GroupShard {
+            alloc,
             operator,
+            arity,
             no_keys,
             times: HashMap::new(alloc),
         })
     }
 
-    /// Takes in a batch of a time, and tells whether it is the first of that time, which asks for a notification.
-    pub fn on_records(
-        &mut self,
-        alloc: Global,
-        time: &Time,
-        batch: &Batch,
-    ) -> Result<bool, ShardFault>
-        requires { (a : Absorbed) × AreStatesOf (AreGroupsThen self.old.operator) self.old.times a }
+    /// Takes in a batch of a time, and tells whether it is the first of that time, which asks for a notification. `Count` exactly where
+    /// a record would then have come too often.
+    pub fn on_records(&mut self, time: &Time, batch: &Batch) -> Result<bool, ShardFault>
+        requires arity { arity_of batch.now ≡ self.old.arity }
+        requires whole { (a : Absorbed) × AreStatesOf (IsPileThen self.old.arity) self.old.times a }
         ensures operator { self.new.operator ≡ self.old.operator }
-        ensures absorbed { OnOk result ((a : Absorbed) → AreStatesOf (AreGroupsThen self.old.operator) self.old.times a → AreStatesOf (AreGroupsThen self.old.operator) self.new.times (with_records a 0 time.now batch.now)) }
-        ensures asked { IfOk result (λ asked. (a : Absorbed) → AreStatesOf (AreGroupsThen self.old.operator) self.old.times a → asked ≡ asks Role.notified (a 0 time.now)) }
+        ensures arity { self.new.arity ≡ self.old.arity }
+        ensures absorbed { OnOk result ((a : Absorbed) → AreStatesOf (IsPileThen self.old.arity) self.old.times a → AreStatesOf (IsPileThen self.old.arity) self.new.times (with_records a 0 time.now batch.now)) }
+        ensures asked { IfOk result (λ asked. (a : Absorbed) → AreStatesOf (IsPileThen self.old.arity) self.old.times a → asked ≡ asks Role.notified (a 0 time.now)) }
+        ensures fits { OnOk result ((a : Absorbed) → AreStatesOf (IsPileThen self.old.arity) self.old.times a → AllFit (a 0 time.now ++ batch.now)) }
+        ensures over { IfErr result (λ e. e ≡ Count → (a : Absorbed) → AreStatesOf (IsPileThen self.old.arity) self.old.times a → IsOver (a 0 time.now ++ batch.now)) }
     {
-        let _count = batch.len();
-        if let Some(groups) = self.times.get_mut(time) {
-            groups.absorb(&self.operator, batch)?;
+        if let Some(pile) = self.times.get_mut(time) {
+            if let Err(error) = absorb(pile, batch) {
+                return Err(ShardFault::from(error));
+            }
             return Ok(false);
         }
-        let mut groups = Groups::new(alloc, &self.operator, &self.no_keys)?;
-        groups.absorb(&self.operator, batch)?;
-        self.times.insert(time.copied(), groups)?;
+        let mut pile = Pile::new(self.alloc, self.arity);
+        if let Err(error) = absorb(&mut pile, batch) {
+            return Err(ShardFault::from(error));
+        }
+        self.times.insert(time.copied(), pile)?;
         Ok(true)
     }
 
     /// A record for each group of a time.
     pub fn on_notify(&self, alloc: Global, time: &Time) -> Result<Rows, ShardFault>
-        requires { (a : Absorbed) × AreStatesOf (AreGroupsThen self.now.operator) self.now.times a }
-        ensures { IfOk result (λ rows. (a : Absorbed) → AreStatesOf (AreGroupsThen self.now.operator) self.now.times a → rows.rows ≈ grouped (columns_of self.now.operator) (aggregates_of self.now.operator) (a 0 time.now)) }
+        ensures grouped { IfOk result (λ rows. (a : Absorbed) → AreStatesOf (IsPileThen self.now.arity) self.now.times a → rows.rows ≈ grouped (columns_of self.now.operator) (aggregates_of self.now.operator) (a 0 time.now)) }
+        ensures different { IfOk result (λ rows. AreDifferent rows.rows) }
+        ensures never { IfErr result (λ e. e ≡ NoMemory) }
     {
         match self.times.get(time) {
-            Some(groups) => {
-                let rows = groups.finished(alloc, &self.operator)?;
+            Some(pile) => {
+                let rows = self.grouped(alloc, pile)?;
                 Ok(rows)
             }
             None => {
@@ -78,5 +109,19 @@ impl GroupShard {
                 Ok(Rows::new(alloc, arity))
             }
         }
+    }
+
+    /// A record for each group of the records, each of which is looked at once.
+    fn grouped(&self, alloc: Global, pile: &Pile) -> Result<Rows, RowsError>
+        ensures grouped { IfOk result (λ rows. rows.rows ≈ grouped (columns_of self.now.operator) (aggregates_of self.now.operator) pile.now.records) }
+        ensures different { IfOk result (λ rows. AreDifferent rows.rows) }
+    {
+        let mut groups = Groups::new(alloc, &self.operator, &self.no_keys)?;
+        let batches = pile.batches();
+        for batch in batches {
+            groups.absorb(&self.operator, batch.counted())?;
+        }
+        let rows = groups.finished(alloc, &self.operator)?;
+        Ok(rows)
     }
 }

@@ -1,17 +1,18 @@
-//! What a group keeps at one time.
+//! The groups of counted records.
 
 ghost use Rattle.std.specs.Prelude.{◌≡◌, ◌+◌, ◌<◌, ◌++◌, ◌∷◌, List, [], length, map, IfOk, OnOk, ◌≤◌, slice_index_or};
+ghost use Rattle.rows.specs.Counts.{expanded, most, repeated};
+ghost use Rattle.rows.specs.Indexes.{AreDifferent};
 ghost use Rattle.semantics.specs.Meaning.{grouped};
 ghost use Rattle.semantics.specs.Multiset.{Record, ◌≈◌};
 ghost use Rattle.vertices.specs.Groups.{AreGroupsOf, aggregates_of, columns_of, key_arity, shown_key};
 
-use crate::fault::ShardFault;
 use expr_tree::Column;
 use operators::{Group, Numbers};
-use rows::{Batch, Lists, RowSet, Rows};
+use rows::{CountedRows, Lists, RowSet, Rows, RowsError};
 use std::alloc::Global;
 
-/// The keys that are present at one time, and for each, by its place, the aggregates of its records.
+/// The keys that are present, and for each, by its place, the aggregates of its records.
 #[derive(Drop)]
 pub struct Groups {
     pub(crate) keys: RowSet,
@@ -24,7 +25,7 @@ impl Groups {
         alloc: Global,
         operator: &Group,
         no_keys: &RowSet,
-    ) -> Result<Groups, ShardFault>
+    ) -> Result<Groups, RowsError>
         requires { no_keys.now.arity ≡ key_arity (columns_of operator.now) }
         ensures { IfOk result (λ g. AreGroupsOf operator.now g []) }
     {
@@ -34,47 +35,57 @@ impl Groups {
         })
     }
 
-    /// Takes a record into the group of its key. `key` and `values` are room to work in.
+    /// Takes a record that stands so many times into the group of its key. `key` and `values` are room to work in.
     fn count_in(
         &mut self,
         operator: &Group,
         row: &[i64],
+        count: u64,
         key: &mut Numbers,
         values: &mut Numbers,
-    ) -> Result<(), ShardFault>
-        requires { (xs : List Record) × AreGroupsOf operator.now self.old xs }
-        ensures { OnOk result ((xs : List Record) → AreGroupsOf operator.now self.old xs → AreGroupsOf operator.now self.new (xs ++ row.now ∷ [])) }
+    ) -> Result<(), RowsError>
+        requires whole { (xs : List Record) × AreGroupsOf operator.now self.old xs }
+        requires some { 1 ≤ count }
+        requires fits { count ≤ most }
+        ensures { OnOk result ((xs : List Record) → AreGroupsOf operator.now self.old xs → AreGroupsOf operator.now self.new (xs ++ repeated count row.now)) }
     {
         operator.key(row, key);
         let place = self.keys.place(key.as_slice())?;
         let _count = self.keys.len();
         if place < self.values.len() {
-            operator.step(self.values.list(place), row, values);
+            operator.weigh(self.values.list(place), row, count, values);
             self.values.set(place, values.as_slice());
         } else {
-            operator.begin(row, values);
+            operator.begin(row, count, values);
             self.values.push(values.as_slice())?;
         }
         Ok(())
     }
 
-    /// Takes the records of a batch into the groups of their keys.
-    pub(crate) fn absorb(&mut self, operator: &Group, batch: &Batch) -> Result<(), ShardFault>
+    /// Takes counted records into the groups of their keys.
+    pub(crate) fn absorb(&mut self, operator: &Group, rows: &CountedRows) -> Result<(), RowsError>
         requires { (xs : List Record) × AreGroupsOf operator.now self.old xs }
-        ensures { OnOk result ((xs : List Record) → AreGroupsOf operator.now self.old xs → AreGroupsOf operator.now self.new (xs ++ batch.now)) }
+        ensures { OnOk result ((xs : List Record) → AreGroupsOf operator.now self.old xs → AreGroupsOf operator.now self.new (xs ++ expanded rows.now.runs)) }
     {
         let mut key = Numbers::new();
         let mut values = Numbers::new();
-        for place in 0..batch.len() {
-            self.count_in(operator, batch.row(place), &mut key, &mut values)?;
+        for place in 0..rows.len() {
+            self.count_in(
+                operator,
+                rows.row(place),
+                rows.count(place),
+                &mut key,
+                &mut values,
+            )?;
         }
         Ok(())
     }
 
     /// A record for each group: its key, then its aggregates.
-    pub(crate) fn finished(&self, alloc: Global, operator: &Group) -> Result<Rows, ShardFault>
+    pub(crate) fn finished(&self, alloc: Global, operator: &Group) -> Result<Rows, RowsError>
         requires { (xs : List Record) × AreGroupsOf operator.now self.now xs }
-        ensures { IfOk result (λ rows. (xs : List Record) → AreGroupsOf operator.now self.now xs → rows.rows ≈ grouped (columns_of operator.now) (aggregates_of operator.now) xs) }
+        ensures grouped { IfOk result (λ rows. (xs : List Record) → AreGroupsOf operator.now self.now xs → rows.rows ≈ grouped (columns_of operator.now) (aggregates_of operator.now) xs) }
+        ensures different { IfOk result (λ rows. AreDifferent rows.rows) }
     {
         let arity = operator.columns.len() + operator.aggregates.len();
         let mut rows = Rows::with_capacity(alloc, arity, self.keys.len())?;
@@ -85,7 +96,7 @@ impl Groups {
     }
 
     /// The record of one group.
-    fn finish(&self, operator: &Group, place: usize, rows: &mut Rows) -> Result<(), ShardFault>
+    fn finish(&self, operator: &Group, place: usize, rows: &mut Rows) -> Result<(), RowsError>
         requires whole { (xs : List Record) × AreGroupsOf operator.now self.now xs }
         requires place { place < length self.now.keys.rows }
         requires arity { rows.old.arity ≡ length operator.now.columns.items + length operator.now.aggregates.items }

@@ -55,7 +55,7 @@ pub fn new_shard(
             Ok(shard)
         }
         Kind::Group(columns, aggregates) => {
-            let shard = new_group(alloc, columns, aggregates)?;
+            let shard = new_group(alloc, columns, aggregates, first)?;
             Ok(shard)
         }
         Kind::Distinct => {
@@ -119,10 +119,16 @@ fn new_join(alloc: Global, pairs: &[Pair], left: usize, right: usize) -> Result<
     Ok(Shard::Join(JoinShard::new(alloc, plan)))
 }
 
-fn new_group(alloc: Global, columns: &[Column], aggregates: &[Agg]) -> Result<Shard, ShardFault>
+fn new_group(
+    alloc: Global,
+    columns: &[Column],
+    aggregates: &[Agg],
+    arity: usize,
+) -> Result<Shard, ShardFault>
+    requires arity { IsArity arity }
     requires some { 1 ≤ length columns.now + length aggregates.now }
     requires few { length columns.now + length aggregates.now ≤ 16 }
-    ensures { (first second : ℕ) → IfOk result (λ s. IsFreshShard (Equation.group (map (λ k. k.index) columns.now) (map plain_agg aggregates.now)) first second s) }
+    ensures { (second : ℕ) → IfOk result (λ s. IsFreshShard (Equation.group (map (λ k. k.index) columns.now) (map plain_agg aggregates.now)) arity second s) }
 {
     let columns = columns.to_vec(alloc)?;
     let aggregates = aggregates.to_vec(alloc)?;
@@ -130,6 +136,6 @@ fn new_group(alloc: Global, columns: &[Column], aggregates: &[Agg]) -> Result<Sh
         columns,
         aggregates,
     };
-    let shard = GroupShard::new(alloc, operator)?;
+    let shard = GroupShard::new(alloc, operator, arity)?;
     Ok(Shard::Group(shard))
 }

@@ -1,10 +1,13 @@
 //! What a shard sends and asks for.
 
-ghost use Rattle.std.specs.Prelude.{◌≡◌, ◌<◌, ◌==◌, None, OnOk, false};
+ghost use Rattle.std.specs.Prelude.{◌≡◌, ◌<◌, ◌==◌, None, OnOk, IfErr, false};
+ghost use Rattle.rows.specs.Counts.{AllFit, expanded, rows_of};
+ghost use Rattle.rows.specs.Indexes.{AreDifferent};
+ghost use Rattle.vertices.specs.declared.fault.ShardFault.TheVariants.{NoMemory};
 ghost use Rattle.vertices.specs.Outs.{records_of, two};
 
 use crate::fault::ShardFault;
-use rows::{Batch, Rows};
+use rows::{Batch, CountedRows};
 use std::alloc::Global;
 
 /// What a shard sends for one event, by out port, and whether it asks to be notified once nothing more can come to it at the
@@ -56,12 +59,16 @@ impl Out {
         self.asked
     }
 
-    /// Sends rows by port 0, if there are some.
-    pub(crate) fn send(&mut self, alloc: Global, rows: Rows) -> Result<(), ShardFault>
-        ensures sent { OnOk result (records_of self.new.first ≡ rows.rows) }
+    /// Sends rows by port 0, if there are some. They are different.
+    pub(crate) fn send(&mut self, alloc: Global, rows: CountedRows) -> Result<(), ShardFault>
+        requires { AreDifferent (rows_of rows.runs) }
+        ensures sent { OnOk result (records_of self.new.first ≡ expanded rows.runs) }
+        ensures fits { OnOk result (AllFit (records_of self.new.first)) }
+        ensures never { IfErr result (λ e. e ≡ NoMemory) }
         ensures asked { self.new.asked ≡ self.old.asked }
     {
-        self.first = Batch::from_rows(alloc, rows)?;
+        let _empty = rows.is_empty();
+        self.first = Batch::from_counted(alloc, rows)?;
         Ok(())
     }
 }

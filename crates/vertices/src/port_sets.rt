@@ -1,74 +1,104 @@
 //! What an except or an intersect keeps at one time.
 
-ghost use Rattle.std.specs.Prelude.{◌≡◌, ◌<◌, ◌==◌, ℕ, List, cond, not, ◌++◌, ◌∷◌, [], if◌then◌else◌, filter, length, slice_index_or, IfOk, OnOk};
+ghost use Rattle.std.specs.Prelude.{◌≡◌, ◌≤◌, ◌<◌, ◌==◌, ℕ, List, cond, not, ◌++◌, ◌∷◌, ◌+◌, [], if◌then◌else◌, filter, length, slice_index_or, IfErr, IfOk, OnOk};
 ghost use Rattle.std.specs.List.{list_any};
+ghost use Rattle.rows.specs.Counts.{AllFit, AreRuns, IsOver, expanded, most, no_run, repeated, rows_of};
 ghost use Rattle.rows.specs.FlatRows.{arity_of};
+ghost use Rattle.rows.specs.Indexes.{AreDifferent};
+ghost use Rattle.rows.specs.declared.error.TallyError.TheVariants.{Count};
 ghost use Rattle.semantics.specs.Meaning.{in_both};
-ghost use Rattle.semantics.specs.Multiset.{Record, ◌≈◌, each_once, same};
+ghost use Rattle.semantics.specs.Multiset.{Record, ◌≈◌, count as count_of, same};
 ghost use Rattle.vertices.specs.States.{AreSetsOf};
 
-use rows::{Batch, RowSet, Rows, RowsError};
+use rows::{Batch, Rows, RowsError, Tally, TallyError};
 use std::alloc::Global;
 
-/// For each of two ports the set of the records that came there at one time.
+/// For each of two ports the records that came there at one time, counted.
 #[derive(Drop)]
 pub struct PortSets {
-    pub(crate) left: RowSet,
-    pub(crate) right: RowSet,
+    pub(crate) left: Tally,
+    pub(crate) right: Tally,
 }
 
-/// Takes the records of a batch into a set.
-fn absorb(set: &mut RowSet, batch: &Batch) -> Result<(), RowsError>
-    requires { arity_of batch.now ≡ set.old.arity }
-    ensures set { OnOk result ((xs : List Record) → set.old.rows ≈ each_once xs → set.new.rows ≈ each_once (xs ++ batch.now)) }
-    ensures arity { set.new.arity ≡ set.old.arity }
+/// Counts the records of a batch in. `Count` exactly where one of them would then have come too often.
+fn absorb(tally: &mut Tally, batch: &Batch) -> Result<(), TallyError>
+    requires { arity_of batch.now ≡ tally.old.arity }
+    ensures records { OnOk result ((xs : List Record) → expanded tally.old.runs ≈ xs → expanded tally.new.runs ≈ (xs ++ batch.now)) }
+    ensures fits { OnOk result ((xs : List Record) → expanded tally.old.runs ≈ xs → AllFit (xs ++ batch.now)) }
+    ensures over { IfErr result (λ e. e ≡ Count → (xs : List Record) → expanded tally.old.runs ≈ xs → IsOver (xs ++ batch.now)) }
+    ensures arity { tally.new.arity ≡ tally.old.arity }
 {
-    for place in 0..batch.len() {
-        set.insert_new(batch.row(place))?;
+    if let Err(error) = tally.merge(batch.counted()) {
+        return Err(error);
     }
+    let _count = tally.len();
     Ok(())
 }
 
-/// Takes a record into a set, and sends it if it is new there and stands in the other set.
-fn meet(set: &mut RowSet, other: &RowSet, row: &[i64], sends: &mut Rows) -> Result<(), RowsError>
-    requires row { length row.now ≡ set.old.arity }
-    requires sends { sends.old.arity ≡ set.old.arity }
-    ensures set { OnOk result ((xs : List Record) → set.old.rows ≈ each_once xs → set.new.rows ≈ each_once (xs ++ row.now ∷ [])) }
-    ensures sent { OnOk result ((sends.new.rows ++ in_both set.old.rows other.now.rows) ≈ (sends.old.rows ++ in_both set.new.rows other.now.rows)) }
-    ensures arity { set.new.arity ≡ set.old.arity }
+/// Counts a record in, and sends it if it is new there and stands at the other port.
+fn meet(
+    tally: &mut Tally,
+    other: &Tally,
+    row: &[i64],
+    count: u64,
+    sends: &mut Rows,
+) -> Result<(), TallyError>
+    requires row { length row.now ≡ tally.old.arity }
+    requires sends { sends.old.arity ≡ tally.old.arity }
+    requires some { 1 ≤ count }
+    requires fits { count ≤ most }
+    ensures records { OnOk result (expanded tally.new.runs ≈ (expanded tally.old.runs ++ repeated count row.now)) }
+    ensures sent { OnOk result ((sends.new.rows ++ in_both (rows_of tally.old.runs) (rows_of other.now.runs)) ≈ (sends.old.rows ++ in_both (rows_of tally.new.runs) (rows_of other.now.runs))) }
+    ensures over { IfErr result (λ e. e ≡ Count → most < count_of row.now (expanded tally.old.runs) + count) }
+    ensures arity { tally.new.arity ≡ tally.old.arity }
     ensures same { sends.new.arity ≡ sends.old.arity }
 {
-    if set.insert_new(row)? {
-        if other.contains(row) {
-            sends.push(row)?;
+    match tally.add(row, count) {
+        Err(error) => return Err(error),
+        Ok(new) => {
+            if new {
+                if other.contains(row) {
+                    sends.push(row)?;
+                }
+            }
         }
     }
     Ok(())
 }
 
-/// Takes the records of a batch into a set, and sends those that are new there and stand in the other set, each once.
+/// Counts the records of a batch in, and sends those that are new there and stand at the other port, each once. `Count` exactly where
+/// one of them would then have come too often.
 fn meet_all(
-    set: &mut RowSet,
-    other: &RowSet,
+    tally: &mut Tally,
+    other: &Tally,
     batch: &Batch,
     sends: &mut Rows,
-) -> Result<(), RowsError>
-    requires batch { arity_of batch.now ≡ set.old.arity }
-    requires sends { sends.old.arity ≡ set.old.arity }
-    ensures set { OnOk result ((xs : List Record) → set.old.rows ≈ each_once xs → set.new.rows ≈ each_once (xs ++ batch.now)) }
-    ensures sent { OnOk result ((sends.new.rows ++ in_both set.old.rows other.now.rows) ≈ (sends.old.rows ++ in_both set.new.rows other.now.rows)) }
-    ensures arity { set.new.arity ≡ set.old.arity }
+) -> Result<(), TallyError>
+    requires batch { arity_of batch.now ≡ tally.old.arity }
+    requires sends { sends.old.arity ≡ tally.old.arity }
+    ensures records { OnOk result ((xs : List Record) → expanded tally.old.runs ≈ xs → expanded tally.new.runs ≈ (xs ++ batch.now)) }
+    ensures sent { OnOk result ((sends.new.rows ++ in_both (rows_of tally.old.runs) (rows_of other.now.runs)) ≈ (sends.old.rows ++ in_both (rows_of tally.new.runs) (rows_of other.now.runs))) }
+    ensures before { AreRuns tally.old.runs }
+    ensures beside { AreRuns other.now.runs }
+    ensures runs { OnOk result (AreRuns tally.new.runs) }
+    ensures over { IfErr result (λ e. e ≡ Count → (xs : List Record) → expanded tally.old.runs ≈ xs → IsOver (xs ++ batch.now)) }
+    ensures arity { tally.new.arity ≡ tally.old.arity }
 {
+    let _before = tally.len();
+    let _beside = other.len();
     for place in 0..batch.len() {
-        meet(set, other, batch.row(place), sends)?;
+        if let Err(error) = meet(tally, other, batch.row(place), batch.count(place), sends) {
+            return Err(error);
+        }
     }
+    let _now = tally.len();
     Ok(())
 }
 
 impl PortSets {
-    /// No records. `empty` is a set without any.
-    pub(crate) fn new(empty: &RowSet) -> Result<PortSets, RowsError>
-        requires { empty.now.rows ≡ [] }
+    /// No records. `empty` has none.
+    pub(crate) fn new(empty: &Tally) -> Result<PortSets, RowsError>
+        requires { empty.now.runs ≡ [] }
         ensures { IfOk result (λ s. AreSetsOf empty.now.arity s (λ p. [])) }
     {
         Ok(PortSets {
@@ -77,11 +107,13 @@ impl PortSets {
         })
     }
 
-    /// Takes in a batch that comes to a port, 0 or 1.
-    pub(crate) fn absorb(&mut self, port: u32, batch: &Batch) -> Result<(), RowsError>
+    /// Takes in a batch that comes to a port, 0 or 1. `Count` exactly where a record would then have come there too often.
+    pub(crate) fn absorb(&mut self, port: u32, batch: &Batch) -> Result<(), TallyError>
         requires port { port < 2 }
         requires whole { (f : ℕ → List Record) × AreSetsOf (arity_of batch.now) self.old f }
-        ensures { OnOk result ((n : ℕ) (f : ℕ → List Record) → AreSetsOf n self.old f → AreSetsOf n self.new (λ p. f p ++ cond (port == p) batch.now [])) }
+        ensures absorbed { OnOk result ((n : ℕ) (f : ℕ → List Record) → AreSetsOf n self.old f → AreSetsOf n self.new (λ p. f p ++ cond (port == p) batch.now [])) }
+        ensures fits { OnOk result ((n : ℕ) (f : ℕ → List Record) → AreSetsOf n self.old f → AllFit (f port ++ batch.now)) }
+        ensures over { IfErr result (λ e. e ≡ Count → (n : ℕ) (f : ℕ → List Record) → AreSetsOf n self.old f → IsOver (f port ++ batch.now)) }
     {
         if port == 0 {
             absorb(&mut self.left, batch)?;
@@ -91,18 +123,21 @@ impl PortSets {
         Ok(())
     }
 
-    /// Takes in a batch that comes to a port, 0 or 1, and sends each record that is present at both ports by it alone.
+    /// Takes in a batch that comes to a port, 0 or 1, and sends each record that is present at both ports by it alone. `Count` exactly
+    /// where a record would then have come there too often.
     pub(crate) fn absorb_common(
         &mut self,
         port: u32,
         batch: &Batch,
         sends: &mut Rows,
-    ) -> Result<(), RowsError>
+    ) -> Result<(), TallyError>
         requires port { port < 2 }
         requires sends { sends.old ≡ record { arity = arity_of batch.now; rows = [] } }
         requires whole { (f : ℕ → List Record) × AreSetsOf (arity_of batch.now) self.old f }
         ensures absorbed { OnOk result ((n : ℕ) (f : ℕ → List Record) → AreSetsOf n self.old f → AreSetsOf n self.new (λ p. f p ++ cond (port == p) batch.now [])) }
         ensures gained { OnOk result ((n : ℕ) (f : ℕ → List Record) → AreSetsOf n self.old f → (sends.new.rows ++ in_both (f 0) (f 1)) ≈ in_both (f 0 ++ cond (port == 0) batch.now []) (f 1 ++ cond (port == 1) batch.now [])) }
+        ensures fits { OnOk result ((n : ℕ) (f : ℕ → List Record) → AreSetsOf n self.old f → AllFit (f port ++ batch.now)) }
+        ensures over { IfErr result (λ e. e ≡ Count → (n : ℕ) (f : ℕ → List Record) → AreSetsOf n self.old f → IsOver (f port ++ batch.now)) }
     {
         if port == 0 {
             meet_all(&mut self.left, &self.right, batch, sends)?;
@@ -113,10 +148,13 @@ impl PortSets {
     }
 
     /// The records of port 0 that aren't at port 1, each once.
-    #[tactic(auto, using(crate::proofs::PortSets::alone_more))]
+    #[tactic(auto, using(crate::proofs::PortSets::alone_more, crate::proofs::PortSets::all_alone))]
     pub(crate) fn only_left(&self, alloc: Global) -> Result<Rows, RowsError>
-        ensures { IfOk result (λ rows. rows.rows ≡ filter (λ r. not (list_any (λ x. same x r) self.now.right.rows)) self.now.left.rows) }
+        ensures rows { IfOk result (λ rows. rows.rows ≡ filter (λ r. not (list_any (λ x. same x r) (rows_of self.now.right.runs))) (rows_of self.now.left.runs)) }
+        ensures left { AreRuns self.now.left.runs }
+        ensures right { AreRuns self.now.right.runs }
     {
+        let _beside = self.right.len();
         let mut rows = Rows::new(alloc, self.left.arity());
         for place in 0..self.left.len() {
             self.offer(place, &mut rows)?;
@@ -126,9 +164,9 @@ impl PortSets {
 
     /// One record of port 0, if it isn't at port 1.
     fn offer(&self, place: usize, rows: &mut Rows) -> Result<(), RowsError>
-        requires place { place < length self.now.left.rows }
+        requires place { place < length self.now.left.runs }
         requires arity { rows.old.arity ≡ self.now.left.arity }
-        ensures rows { OnOk result (rows.new.rows ≡ rows.old.rows ++ (if list_any (λ x. same x (slice_index_or self.now.left.rows place [])) self.now.right.rows then [] else slice_index_or self.now.left.rows place [] ∷ [])) }
+        ensures rows { OnOk result (rows.new.rows ≡ rows.old.rows ++ (if list_any (λ x. same x (slice_index_or self.now.left.runs place no_run).row) (rows_of self.now.right.runs) then [] else (slice_index_or self.now.left.runs place no_run).row ∷ [])) }
         ensures arity { rows.new.arity ≡ rows.old.arity }
     {
         let row = self.left.row(place);

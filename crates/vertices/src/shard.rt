@@ -1,14 +1,16 @@
 //! The shard of a vertex of any kind.
 
-ghost use Rattle.std.specs.Prelude.{◌≡◌, ◌<◌, ℕ, None, false, OnOk};
+ghost use Rattle.std.specs.Prelude.{◌≡◌, ◌<◌, ◌⊎◌, ℕ, None, false, IfErr, OnOk};
+ghost use Rattle.rows.specs.Counts.{AllFit, IsOver};
 ghost use Rattle.rows.specs.FlatRows.{arity_of};
 ghost use Rattle.semantics.specs.Kinds.{Role, in_ports, out_ports, role};
 ghost use Rattle.semantics.specs.Multiset.{end_to_end};
 ghost use Rattle.semantics.specs.Op.{op};
 ghost use Rattle.semantics.specs.Shard.{SendsAtNotification, asks};
-ghost use Rattle.vertices.specs.Absorbed.{Absorbed, absorbed_by};
-ghost use Rattle.vertices.specs.Outs.{SendsFor, sent};
+ghost use Rattle.vertices.specs.Absorbed.{Absorbed, absorbed_by, kept_by};
+ghost use Rattle.vertices.specs.Outs.{SendsFor, WouldSendOver, sent};
 ghost use Rattle.vertices.specs.Shards.{Shows, TakesArity, shard_kind};
+ghost use Rattle.vertices.specs.declared.fault.ShardFault.TheVariants.{Count, NoMemory};
 
 use crate::distinct::DistinctShard;
 use crate::except::ExceptShard;
@@ -48,7 +50,8 @@ pub enum Shard {
 
 impl Shard {
     /// Takes in a batch that comes to an in port at a time; what the shard sends for it, and whether it asks to be notified, goes
-    /// into `out`, which is empty before. The records have the arity of the port. After a refusal the shard is spoiled.
+    /// into `out`, which is empty before. The records have the arity of the port. `Count` comes exactly where the shard would then keep,
+    /// or send, a record too often. After a refusal the shard is spoiled.
     pub fn on_records(
         &mut self,
         alloc: Global,
@@ -66,6 +69,9 @@ impl Shard {
         ensures absorbed { OnOk result ((a : Absorbed) → Shows self.old a → Shows self.new (absorbed_by (role (shard_kind self.old)) a port time.now batch)) }
         ensures sends { OnOk result ((a : Absorbed) → Shows self.old a → SendsFor (shard_kind self.old) time.now a port batch out.new) }
         ensures asked { OnOk result ((a : Absorbed) → Shows self.old a → out.new.asked ≡ asks (role (shard_kind self.old)) (end_to_end (λ p. a p time.now) (in_ports (shard_kind self.old)))) }
+        ensures fits { OnOk result ((a : Absorbed) → Shows self.old a → AllFit (kept_by (role (shard_kind self.old)) a port time.now batch)) }
+        ensures fits_sent { OnOk result ((q : ℕ) → AllFit (sent (out_ports (shard_kind self.old)) out.new q)) }
+        ensures over { IfErr result (λ e. e ≡ Count → (a : Absorbed) → Shows self.old a → IsOver (kept_by (role (shard_kind self.old)) a port time.now batch) ⊎ WouldSendOver (shard_kind self.old) time.now a port batch) }
     {
         if port == 0 {
             self.on_first(alloc, time, batch, out)?;
@@ -75,11 +81,13 @@ impl Shard {
         Ok(())
     }
 
-    /// Sends what is due at the notification that was asked for at a time: nothing more comes at that time.
+    /// Sends what is due at the notification that was asked for at a time: nothing more comes at that time. It is never too often.
     pub fn on_notify(&self, alloc: Global, time: &Time, out: &mut Out) -> Result<(), ShardFault>
         requires role { role (shard_kind self.now) ≡ Role.notified }
         requires whole { (a : Absorbed) × Shows self.now a }
         ensures sends { OnOk result ((a : Absorbed) → Shows self.now a → SendsAtNotification (λ q ins. op (shard_kind self.now) time.now ins q) (λ p. a p time.now) (sent (out_ports (shard_kind self.now)) out.new)) }
+        ensures fits_sent { OnOk result ((q : ℕ) → AllFit (sent (out_ports (shard_kind self.now)) out.new q)) }
+        ensures never { IfErr result (λ e. e ≡ NoMemory) }
         ensures asked { out.new.asked ≡ out.old.asked }
     {
         match self {
@@ -124,6 +132,9 @@ impl Shard {
         ensures absorbed { OnOk result ((a : Absorbed) → Shows self.old a → Shows self.new (absorbed_by (role (shard_kind self.old)) a 0 time.now batch)) }
         ensures sends { OnOk result ((a : Absorbed) → Shows self.old a → SendsFor (shard_kind self.old) time.now a 0 batch out.new) }
         ensures asked { OnOk result ((a : Absorbed) → Shows self.old a → out.new.asked ≡ asks (role (shard_kind self.old)) (end_to_end (λ p. a p time.now) (in_ports (shard_kind self.old)))) }
+        ensures fits { OnOk result ((a : Absorbed) → Shows self.old a → AllFit (kept_by (role (shard_kind self.old)) a 0 time.now batch)) }
+        ensures fits_sent { OnOk result ((q : ℕ) → AllFit (sent (out_ports (shard_kind self.old)) out.new q)) }
+        ensures over { IfErr result (λ e. e ≡ Count → (a : Absorbed) → Shows self.old a → IsOver (kept_by (role (shard_kind self.old)) a 0 time.now batch) ⊎ WouldSendOver (shard_kind self.old) time.now a 0 batch) }
     {
         match self {
             Shard::Input(_) => unreachable!(),
@@ -141,7 +152,7 @@ impl Shard {
                 Ok(())
             }
             Shard::Group(shard) => {
-                group(shard, alloc, time, &batch, out)?;
+                group(shard, time, &batch, out)?;
                 Ok(())
             }
             Shard::Distinct(shard) => {
@@ -200,6 +211,9 @@ impl Shard {
         ensures absorbed { OnOk result ((a : Absorbed) → Shows self.old a → Shows self.new (absorbed_by (role (shard_kind self.old)) a 1 time.now batch)) }
         ensures sends { OnOk result ((a : Absorbed) → Shows self.old a → SendsFor (shard_kind self.old) time.now a 1 batch out.new) }
         ensures asked { OnOk result ((a : Absorbed) → Shows self.old a → out.new.asked ≡ asks (role (shard_kind self.old)) (end_to_end (λ p. a p time.now) (in_ports (shard_kind self.old)))) }
+        ensures fits { OnOk result ((a : Absorbed) → Shows self.old a → AllFit (kept_by (role (shard_kind self.old)) a 1 time.now batch)) }
+        ensures fits_sent { OnOk result ((q : ℕ) → AllFit (sent (out_ports (shard_kind self.old)) out.new q)) }
+        ensures over { IfErr result (λ e. e ≡ Count → (a : Absorbed) → Shows self.old a → IsOver (kept_by (role (shard_kind self.old)) a 1 time.now batch) ⊎ WouldSendOver (shard_kind self.old) time.now a 1 batch) }
     {
         match self {
             Shard::Concat(_) => {

@@ -1,12 +1,14 @@
 //! What vertices without a state send.
 
-ghost use Rattle.std.specs.Prelude.{◌≡◌, ◌<◌, None, false, map, OnOk};
+ghost use Rattle.std.specs.Prelude.{◌≡◌, ◌<◌, ℕ, None, false, map, OnOk, IfErr};
 ghost use Rattle.expr_tree.specs.Plain.{plain_cond, plain_scalar};
 ghost use Rattle.expr_tree.specs.Views.{cond_tree, scalar_tree};
+ghost use Rattle.rows.specs.Counts.{AllFit};
 ghost use Rattle.rows.specs.FlatRows.{arity_of};
 ghost use Rattle.semantics.specs.Kinds.{Kind};
 ghost use Rattle.vertices.specs.Absorbed.{Absorbed};
-ghost use Rattle.vertices.specs.Outs.{SendsFor};
+ghost use Rattle.vertices.specs.Outs.{SendsFor, WouldSendOver, sent};
+ghost use Rattle.vertices.specs.declared.fault.ShardFault.TheVariants.{Count, NoMemory};
 
 use crate::fault::ShardFault;
 use crate::out::Out;
@@ -15,7 +17,7 @@ use operators::{Gate, Hold, Select, Where};
 use rows::Batch;
 use std::alloc::Global;
 
-/// Sends the records of the scalars' values.
+/// Sends the records of the scalars' values. `Count` exactly where one of them would be sent too often.
 #[tactic(auto, using(crate::proofs::Sending::select_sends))]
 pub fn select(
     operator: &Select,
@@ -26,10 +28,11 @@ pub fn select(
 ) -> Result<(), ShardFault>
     requires { arity_of batch.now ≡ operator.now.arity }
     ensures sends { OnOk result ((a : Absorbed) → SendsFor (Kind.select (map plain_scalar (map scalar_tree operator.now.scalars.items))) time.now a 0 batch.now out.new) }
+    ensures fits_sent { OnOk result ((q : ℕ) → AllFit (sent 1 out.new q)) }
+    ensures over { IfErr result (λ e. e ≡ Count → (a : Absorbed) → WouldSendOver (Kind.select (map plain_scalar (map scalar_tree operator.now.scalars.items))) time.now a 0 batch.now) }
     ensures asked { out.new.asked ≡ out.old.asked }
 {
-    let rows = operator.apply(alloc, batch)?;
-    out.send(alloc, rows)?;
+    out.first = operator.apply(alloc, batch)?;
     Ok(())
 }
 
@@ -44,6 +47,8 @@ pub fn filter(
 ) -> Result<(), ShardFault>
     requires { arity_of batch.now ≡ operator.now.arity }
     ensures sends { OnOk result ((a : Absorbed) → SendsFor (Kind.filter (plain_cond (cond_tree operator.now.condition))) time.now a 0 batch.now out.new) }
+    ensures fits_sent { OnOk result ((q : ℕ) → AllFit (sent 1 out.new q)) }
+    ensures never { IfErr result (λ e. e ≡ NoMemory) }
     ensures asked { out.new.asked ≡ out.old.asked }
 {
     let rows = operator.apply(alloc, batch)?;
@@ -55,12 +60,14 @@ pub fn filter(
 #[tactic(auto, using(crate::proofs::Sending::concat_sends, crate::proofs::Sending::ingress_sends, crate::proofs::Sending::egress_sends, crate::proofs::Sending::feedback_sends))]
 pub fn forward(time: &Time, port: u32, batch: Batch, out: &mut Out)
     requires { port < 2 }
+    ensures fits_sent { (q : ℕ) → AllFit (sent 1 out.new q) }
     ensures concat { (a : Absorbed) → SendsFor Kind.concat time.now a port batch out.new }
     ensures ingress { port < 1 → (a : Absorbed) → SendsFor Kind.ingress time.now a port batch out.new }
     ensures egress { port < 1 → (a : Absorbed) → SendsFor Kind.egress time.now a port batch out.new }
     ensures feedback { port < 1 → (a : Absorbed) → SendsFor Kind.feedback time.now a port batch out.new }
     ensures asked { out.new.asked ≡ out.old.asked }
 {
+    let _count = batch.len();
     out.first = Some(batch);
 }
 
@@ -69,8 +76,10 @@ pub fn forward(time: &Time, port: u32, batch: Batch, out: &mut Out)
 pub fn gate(operator: &Gate, time: &Time, batch: Batch, out: &mut Out)
     requires { out.old ≡ record { first = None; second = None; asked = false } }
     ensures sends { (a : Absorbed) → SendsFor (Kind.gate operator.now.turns) time.now a 0 batch out.new }
+    ensures fits_sent { (q : ℕ) → AllFit (sent 2 out.new q) }
     ensures asked { out.new.asked ≡ out.old.asked }
 {
+    let _count = batch.len();
     let turn = time.last_counter() as u64;
     if turn < operator.turns {
         out.first = Some(batch);
@@ -84,8 +93,11 @@ pub fn gate(operator: &Gate, time: &Time, batch: Batch, out: &mut Out)
 pub fn hold(operator: &Hold, time: &Time, batch: Batch, out: &mut Out) -> Result<(), ShardFault>
     requires { out.old ≡ record { first = None; second = None; asked = false } }
     ensures sends { OnOk result ((a : Absorbed) → SendsFor (Kind.hold operator.now.turns) time.now a 0 batch out.new) }
+    ensures fits_sent { OnOk result ((q : ℕ) → AllFit (sent 2 out.new q)) }
+    ensures never { IfErr result (λ e. e ≡ NoMemory) }
     ensures asked { out.new.asked ≡ out.old.asked }
 {
+    let _count = batch.len();
     let turn = time.last_counter() as u64;
     if turn < operator.turns {
         if turn + 1 < operator.turns {

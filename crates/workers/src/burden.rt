@@ -5,18 +5,18 @@ ghost use Rattle.std.specs.Prelude.{◌≡◌};
 use crate::crew::Crew;
 use events::{Done, Letter};
 
-/// A message of fewer records is computed sooner than another thread has it.
+/// A message of fewer rows is computed sooner than another thread has it.
 const LARGE: u64 = 32;
 
-/// So many records in large messages are worth waking a thread.
+/// So many rows in large messages are worth waking a thread.
 const HEAVY: u64 = 2048;
 
-/// What an event or a batch brings: who gets a message, who gets a large one, and how many records the largest has.
+/// What an event or a batch brings: who gets a message, who gets a large one, and how many rows the largest has.
 #[derive(Clone, Copy)]
 pub struct Brought {
     receivers: Crew,
     burdened: Crew,
-    records: u64,
+    rows: u64,
 }
 
 impl Brought {
@@ -25,10 +25,10 @@ impl Brought {
         let mut brought = Brought {
             receivers: Crew::nobody(),
             burdened: Crew::nobody(),
-            records: 0,
+            rows: 0,
         };
         for letter in letters {
-            brought.add(letter.to, letter.message.len() as u64);
+            brought.add(letter.to, letter.message.rows() as u64);
         }
         brought
     }
@@ -43,22 +43,22 @@ impl Brought {
         (brought, Done::from_parts(worker, stub, output))
     }
 
-    fn add(&mut self, to: u32, records: u64) {
+    fn add(&mut self, to: u32, rows: u64) {
         self.receivers = self.receivers.with(to);
-        if records >= LARGE {
+        if rows >= LARGE {
             self.burdened = self.burdened.with(to);
-            self.records = self.records.max(records);
+            self.rows = self.rows.max(rows);
         }
     }
 }
 
-/// Who got a message since he had nothing to do, and how many records have come to each in large messages, halved each time that he
-/// has nothing to do. So it tells also whose notifications are about many records.
+/// Who got a message since he had nothing to do, and how many rows have come to each in large messages, halved each time that he
+/// has nothing to do. So it tells also whose notifications are about many rows.
 #[derive(Drop)]
 pub struct Burdens {
     mailed: Crew,
     heavy: Crew,
-    records: [u64; 64],
+    rows: [u64; 64],
 }
 
 impl Burdens {
@@ -67,7 +67,7 @@ impl Burdens {
         Burdens {
             mailed: Crew::nobody(),
             heavy: Crew::nobody(),
-            records: [0; 64],
+            rows: [0; 64],
         }
     }
 
@@ -87,7 +87,7 @@ impl Burdens {
         if !brought.burdened.is_empty() {
             for worker in 0..64 {
                 if brought.burdened.has(worker) {
-                    self.set(worker, self.of(worker).saturating_add(brought.records));
+                    self.set(worker, self.of(worker).saturating_add(brought.rows));
                 }
             }
         }
@@ -96,24 +96,24 @@ impl Burdens {
     /// The worker has nothing to do.
     pub fn lighten(&mut self, worker: u32) {
         self.mailed = self.mailed.without(worker);
-        let records = self.of(worker);
-        if records != 0 {
-            self.set(worker, records / 2);
+        let rows = self.of(worker);
+        if rows != 0 {
+            self.set(worker, rows / 2);
         }
     }
 
     fn of(&self, worker: u32) -> u64 {
-        match self.records.get(worker as usize) {
-            Some(records) => *records,
+        match self.rows.get(worker as usize) {
+            Some(rows) => *rows,
             None => 0,
         }
     }
 
-    fn set(&mut self, worker: u32, records: u64) {
-        if let Some(place) = self.records.get_mut(worker as usize) {
-            *place = records;
+    fn set(&mut self, worker: u32, rows: u64) {
+        if let Some(place) = self.rows.get_mut(worker as usize) {
+            *place = rows;
         }
-        self.heavy = if records >= HEAVY {
+        self.heavy = if rows >= HEAVY {
             self.heavy.with(worker)
         } else {
             self.heavy.without(worker)

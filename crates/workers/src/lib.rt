@@ -13,13 +13,14 @@
 //! | `Engine::feed`, `seal`, `close` | who has the input | the board's call | as the board's; refused, all is as before |
 //! | `Engine::feed_all` | who has the input | feeds and seals in order, in one taking of the lock | as the first that is refused; those before it are done |
 //! | `Engine::wait_for` | who has the input, or observes | sleeps until so many epochs have passed, or no more will | nothing |
-//! | `work` | a worker's thread | works, also for workers who sleep, and sleeps while there is nothing that it could do | drained, stopped, busy |
+//! | `work` | a worker's thread | works, also for workers who sleep, and sleeps while there is nothing that it could do | drained, stopped, a count, busy |
 //! | `work_along` | the one thread of a run | works while there is something to do now | the same, or nothing |
 //! | `Mark::observe` | an observer | one load: no lock, no memory, no waiting | how many epochs have passed, never less than its seat has read |
 //! | `Engine::look` | an observer | one load by the seat, and what the board shows of an epoch | what is below the mark has passed; nothing, where the mark is another engine's and ahead |
 //! | `finish` | who has the engine alone | ends the run | its `Report`; nothing, where a seat has read more than has passed |
 //!
-//! Want of memory in a worker gives its event up. That stops the board, and all workers end.
+//! Want of memory in a worker, or a count that would be above 9223372036854775807, gives its event up. That stops the board, and all
+//! workers end.
 //!
 //! The contract for the layers above:
 //!

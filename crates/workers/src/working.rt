@@ -1,12 +1,13 @@
 //! What a worker's thread does.
 
+ghost use Rattle.std.specs.Prelude.{IfOk};
 ghost use Rattle.workers.specs.Names.{GivesNamed, IsNamed};
 
 use crate::engine::Engine;
 use crate::gate::Gate;
 use crate::held::Naming;
 use board::Claimed;
-use events::Work;
+use events::{ComputeFault, Work};
 use std::alloc::Global;
 use std::sync::Wait;
 use views::Views;
@@ -16,14 +17,17 @@ use views::Views;
 pub enum Ended {
     /// Nothing is left to do.
     Drained,
-    /// The board is stopped: an event was given up, for want of memory.
+    /// The board is stopped: an event was given up, for want of memory, or in another thread.
     Stopped,
+    /// A count would have been above 9223372036854775807, so the event was given up, and the board is stopped.
+    Count,
     /// There is no such worker, or another thread works under its number.
     Busy,
 }
 
 /// Claims, computes by the gate and commits, until nothing is left to do or the board is stopped, and sleeps while there is nothing that
-/// the worker could do. An event for which memory is wanting is given up. Its promise holds if it ends.
+/// the worker could do. An event for which memory is wanting, or of which a count would be too large, is given up. Its promise holds if it
+/// ends.
 pub fn work<J: Naming, V: Views, R: Wait, G: Gate>(
     rt: &R,
     alloc: Global,
@@ -69,9 +73,12 @@ fn go_on<J: Naming, V: Views, R: Wait, G: Gate>(
     let mut claimed = claimed;
     for _event in rt.forever() {
         match claimed {
-            Claimed::Work(work) => claimed = turn_over(
-                rt, alloc, engine, worker, gate, *turn, work,
-            ),
+            Claimed::Work(work) => {
+                match turn_over(rt, alloc, engine, worker, gate, *turn, work) {
+                    Ok(next) => claimed = next,
+                    Err(ended) => return Some(ended),
+                }
+            }
             Claimed::Idle => return None,
             Claimed::Drained => return Some(Ended::Drained),
             Claimed::Stopped => return Some(Ended::Stopped),
@@ -82,7 +89,7 @@ fn go_on<J: Naming, V: Views, R: Wait, G: Gate>(
     unreachable!()
 }
 
-/// Computes an event and commits it, and has what the worker claims then.
+/// Computes an event and commits it, and has what the worker claims then. An event that was given up ends the worker.
 fn turn_over<J: Naming, V: Views, R: Wait, G: Gate>(
     rt: &R,
     alloc: Global,
@@ -91,24 +98,27 @@ fn turn_over<J: Naming, V: Views, R: Wait, G: Gate>(
     gate: &G,
     turn: u64,
     work: Work,
-) -> Claimed
+) -> Result<Claimed, Ended>
     requires { IsNamed J.names work.0 }
-    ensures { GivesNamed J.names result }
+    ensures { IfOk result (λ claimed. GivesNamed J.names claimed) }
 {
     match gate.compute(alloc, worker, turn, work) {
         Ok(done) => match engine.commit(rt, worker, done) {
             Ok(claimed) => {
                 gate.after_commit(worker, turn);
-                claimed
+                Ok(claimed)
             }
             Err(done) => {
                 engine.abandon_done(rt, done);
-                Claimed::Stopped
+                Err(Ended::Stopped)
             }
         },
-        Err(work) => {
+        Err((work, fault)) => {
             engine.abandon(rt, work);
-            Claimed::Stopped
+            Err(match fault {
+                ComputeFault::NoMemory => Ended::Stopped,
+                ComputeFault::Count => Ended::Count,
+            })
         }
     }
 }

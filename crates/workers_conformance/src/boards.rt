@@ -53,7 +53,7 @@ pub fn count_of(batches: &[Batch], field: i64) -> u64 {
     for batch in batches {
         for place in 0..batch.len() {
             if batch.row(place) == [field].as_slice() {
-                count = count.saturating_add(1);
+                count = count.saturating_add(batch.count(place));
             }
         }
     }

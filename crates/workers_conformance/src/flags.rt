@@ -2,7 +2,7 @@
 
 ghost use Rattle.std.specs.Prelude.{◌≡◌};
 
-use events::{Done, Work};
+use events::{ComputeFault, Done, Work};
 use std::alloc::Global;
 use std::sync::atomic::{AtomicBool, Ordering};
 use std::thread::yield_now;
@@ -49,7 +49,13 @@ impl Meeting {
 }
 
 impl Gate for Meeting {
-    fn compute(&self, alloc: Global, worker: u32, turn: u64, work: Work) -> Result<Done, Work> {
+    fn compute(
+        &self,
+        alloc: Global,
+        worker: u32,
+        turn: u64,
+        work: Work,
+    ) -> Result<Done, (Work, ComputeFault)> {
         if turn == 0 {
             if worker == 0 {
                 self.meet(0, 1);

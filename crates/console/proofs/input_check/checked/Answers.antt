@@ -19,4 +19,4 @@ returns-in-Ok-arities_of-clause-text g c =
     let tree = program_tree c.program-program.result.now in
     let read : Reads c.args.query.now tree = subst (λ t. Reads c.args.query.now t) (sym c.program-program.ensures.value) c.in-Ok.ensures.typed in
     let same : map plain c.as_slice.result.now ≡ (plain_program tree).inputs = rw (c.as_slice.ensures.value, c.in-Ok-declared.ensures, c.deref.ensures.value) refl in
-    both_checked c.args.query.now c.args.input.now tree (output_arities c.in-Ok.typed) _ read c.program-program.ensures.typed same _ _ _ (rw (← c.output_arities.ensures) c.in-Ok-arities_of.ensures) c.in-Ok-read_input.ensures.read
+    both_checked c.args.query.now c.args.input.now tree (output_arities c.in-Ok.typed) _ read c.program-program.ensures.typed same _ _ _ (rw (← c.output_arities.ensures) c.in-Ok-arities_of.ensures) c.in-Ok-read_input.ensures.read.1

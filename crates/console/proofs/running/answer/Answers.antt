@@ -1,13 +1,17 @@
 use Rattle.graph.specs.Shown.{shown_graph, shown_inputs, shown_names}
 use Rattle.collector.specs.Held.{epoch_count, records_at}
-use Rattle.console.proofs.RunEnds.{after_reading, run_ends}
+use Rattle.collector.specs.InputText.{IsReadFrom}
+use Rattle.console.proofs.RunEnds.{after_reading, responds_alike, run_ends}
 use Rattle.console.proofs.Heeding.{responds_heeds}
 use Rattle.console.proofs.running.answer.Goals as goal
 
 pub returns-clause-ends : goal.returns-clause-ends
 returns-clause-ends g c =
-    run_ends c.args.query.now c.args.input.now (shown_graph c.in-Ok.graph) (shown_inputs c.in-Ok.graph) (shown_names c.in-Ok.graph) (epoch_count c.in-Ok-epochs_of_text.epochs) (records_at c.in-Ok-epochs_of_text.epochs) _ _ _ c.in-Ok.ensures.graph
-    c.in-Ok-epochs_of_text.ensures.read (c.respond.ensures.text c.args.query.now c.in-Ok.ensures.graph)
+    let graph = c.in-Ok.graph in
+    let epochs = c.in-Ok-epochs_of_text.epochs in
+    let read : IsReadFrom (shown_inputs graph) c.args.input.now epochs = c.in-Ok-epochs_of_text.ensures.read in
+    run_ends c.args.query.now c.args.input.now (shown_graph graph) (shown_inputs graph) (shown_names graph) (epoch_count epochs) read.0 _ _ _ c.in-Ok.ensures.graph read.1
+    (responds_alike _ (epoch_count epochs) (records_at epochs) read.0 _ _ _ read.2 (c.respond.ensures.text c.args.query.now c.in-Ok.ensures.graph))
 
 pub returns-clause-read : goal.returns-clause-read
 returns-clause-read g c = after_reading _ _ _ _ _ c.respond.result (c.respond.ensures.text c.args.query.now c.in-Ok.ensures.graph)

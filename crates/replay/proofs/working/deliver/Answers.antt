@@ -6,7 +6,7 @@ use Rattle.replay.specs.Replays.{Does}
 use Rattle.replay.specs.Steps.{Ends}
 use Rattle.replay.proofs.Inputs.{refused_answers}
 use Rattle.replay.proofs.Waiting.{board_same}
-use Rattle.replay.proofs.Taken.{delivered_leads, end_answers, picked_stays, refused_pick, stays_on}
+use Rattle.replay.proofs.Taken.{delivered_leads, end_answers, lost_answers, picked_stays, refused_pick, stays_on}
 use Rattle.replay.proofs.working.deliver.Goals as goal
 
 pub returns-in-Err : goal.returns-in-Err
@@ -14,6 +14,17 @@ returns-in-Err g c = λ hand h.
     let b = c.args.board.now in
     refused_answers g.V.Views.late b c.pick.new.self hand (Command.deliver c.args.worker c.args.choice) c.refused.result (board_same b c.pick.new.self c.in-Err.ensures.picks.1 c.in-Err.ensures.views.waits c.in-Err.ensures.views.passed)
     (λ code told x shows holds. Does.deliver_refused c.args.worker c.args.choice code (refused_pick g.V.Views.late b c.args.worker c.args.choice c.in-Err.refusal (record { prompt = c.law_prompt.ensures; within = c.law_waits.ensures }) c.in-Err.ensures.picks.0 code (sym c.refused.ensures ∙ told) x shows))
+
+pub returns-in-Err-computed : goal.returns-in-Err-computed
+returns-in-Err-computed g c = λ hand h.
+    let b = c.args.board.now in
+    let t = c.pick.new.self in
+    let u = c.computed.new.board in
+    let p = c.in-Ok.work.0 in
+    let hands = c.in-Ok.ensures.picks.0 in
+    let stays = stays_on b.shown t.shown u.shown (picked_stays b.shown t.shown c.args.worker p hands c.in-Ok.ensures.tables) c.computed.ensures.stays in
+    lost_answers g.V.Views.late b t u hand c.args.worker c.args.choice p c.in-Err-computed.refusal hands (record { prompt = c.law_prompt.ensures; within = c.law_waits.ensures }) c.in-Ok.ensures.picks.1 c.in-Ok.ensures.views.waits c.in-Err-computed.ensures.given_up stays
+    (Command.deliver c.args.worker c.args.choice) (λ x gives. Does.deliver_over c.args.worker c.args.choice hands.taken p.job.happening gives) c.in-Err-computed.ensures.refused
 
 pub returns : goal.returns
 returns g c = λ hand h.

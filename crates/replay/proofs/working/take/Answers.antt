@@ -7,7 +7,7 @@ use Rattle.replay.specs.Replays.{Does}
 use Rattle.replay.proofs.Holding.{hand_stays}
 use Rattle.replay.proofs.Inputs.{refused_answers}
 use Rattle.replay.proofs.Waiting.{board_same}
-use Rattle.replay.proofs.Taken.{kept_hand, picked_room, picked_stays, refused_pick, stays_on, taken_leads}
+use Rattle.replay.proofs.Taken.{kept_hand, lost_answers, picked_room, picked_stays, refused_pick, stays_on, taken_leads}
 use Rattle.replay.proofs.working.take.Goals as goal
 
 pub returns-in-Err-clause-answers : goal.returns-in-Err-clause-answers
@@ -21,6 +21,17 @@ returns-in-Err-computed-clause-hand g c =
     let b = c.args.board.now.shown in
     let stays = stays_on b c.pick.new.self.shown c.computed.new.board.shown (picked_stays b c.pick.new.self.shown c.args.worker c.in-Ok.work.0 c.in-Ok.ensures.picks.0 c.in-Ok.ensures.tables) c.computed.ensures.stays in
     hand_stays b c.computed.new.board.shown c.args.hand.now c.requires.hand stays
+
+pub returns-in-Err-computed-clause-answers : goal.returns-in-Err-computed-clause-answers
+returns-in-Err-computed-clause-answers g c =
+    let b = c.args.board.now in
+    let t = c.pick.new.self in
+    let u = c.computed.new.board in
+    let p = c.in-Ok.work.0 in
+    let hands = c.in-Ok.ensures.picks.0 in
+    let stays = stays_on b.shown t.shown u.shown (picked_stays b.shown t.shown c.args.worker p hands c.in-Ok.ensures.tables) c.computed.ensures.stays in
+    lost_answers g.V.Views.late b t u c.args.hand.now c.args.worker c.args.choice p c.in-Err-computed.refusal hands (record { prompt = c.law_prompt.ensures; within = c.law_waits.ensures }) c.in-Ok.ensures.picks.1 c.in-Ok.ensures.views.waits c.in-Err-computed.ensures.given_up stays
+    (Command.take c.args.worker c.args.choice) (λ x gives. Does.take_over c.args.worker c.args.choice hands.taken p.job.happening gives) c.in-Err-computed.ensures.refused
 
 pub returns-clause-hand : goal.returns-clause-hand
 returns-clause-hand g c =

@@ -20,4 +20,4 @@ pub returns-in_ok-shard-in-Group : goal.returns-in_ok-shard-in-Group
 returns-in_ok-shard-in-Group c =
     subst (λ k. IsFreshShard k c.args.first c.args.second c.in_ok-shard-in-Group.shard)
     ((λ j. semantics.Kind.group (map (λ k. k.index) (c.deref-in-Group.ensures.value j)) (map plain_agg (c.deref-in-Group-2.ensures.value j))) ∙ ap kind_of (sym c.in-Group.is))
-    (c.in_ok-shard-in-Group.ensures c.args.first c.args.second)
+    (c.in_ok-shard-in-Group.ensures c.args.second)

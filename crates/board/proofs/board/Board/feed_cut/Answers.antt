@@ -16,6 +16,7 @@ use Rattle.board.specs.Kept.{Goes, IsKept, open_count}
 use Rattle.board.specs.Lateness.{BoardShown, Posts, PostsSome}
 use Rattle.board.specs.Shown.{Shown, InputShown, input_at, tables}
 use Rattle.board.specs.Steps.{after_close, after_seal}
+use Rattle.board.proofs.FedBatches.{each_record, some_records}
 use Rattle.board.proofs.Boards.{commit_goes, commit_tables, feed_tables, kept_commit}
 use Rattle.board.proofs.Counted.{as_open, closed_passed, committed_passed, fed_passed, few_open, keeps_same, one_closed, sealed_passed}
 use Rattle.board.proofs.Ended.{close_goes, open_tells, seal_goes}
@@ -33,7 +34,7 @@ post_noted-requires-clause-sender g c =
     let here : feed_refusal c.args.self.now.shown i c.batch-batch.result.now ≡ None = subst (λ (n : ℕ). feed_refusal c.args.self.now.shown n c.batch-batch.result.now ≡ None) c.input.ensures asked in
     let these : feed_refusal c.args.self.now.shown i rs ≡ None = subst (λ (z : List Record). feed_refusal c.args.self.now.shown i z ≡ None) c.batch-batch.ensures here in
     let none : feed_refusal s i rs ≡ None = subst (λ (z : BoardShown). feed_refusal z.shown i rs ≡ None) (sym c.self.view_is) these in
-    let a = accepted s i rs none (subst (λ (z : List Record). 0 < length z) c.batch-batch.ensures c.len-some.ensures.some) (subst (λ (z : List Record). All (λ (r : Record). length r ≡ arity_of z) z) c.batch-batch.ensures c.arity-fields.ensures.each) in
+    let a = accepted s i rs none (subst (λ (z : List Record). 0 < length z) c.batch-batch.ensures (some_records c.batch-batch.result.now c.arity-fields.ensures.some)) (subst (λ (z : List Record). All (λ (r : Record). length r ≡ arity_of z) z) c.batch-batch.ensures (each_record (λ r. length r ≡ arity_of c.batch-batch.result.now) c.batch-batch.result.now c.len-some.ensures.all c.arity-fields.ensures.each)) in
     let f : FeedsBy s c.feed.new.self c.feed.new.added.items i rs = c.in-Ok.ensures.feeds in
     let n = c.self.invariant.viewers_are in
     let by : c.worker_count-feeder.result ≡ length s.sides = c.worker_count-feeder.ensures ∙ fed_workers s c.feed.new.self c.feed.new.added.items i rs f in
@@ -51,7 +52,7 @@ post_noted-requires-clause-may g c =
     let here : feed_refusal c.args.self.now.shown i c.batch-batch.result.now ≡ None = subst (λ (n : ℕ). feed_refusal c.args.self.now.shown n c.batch-batch.result.now ≡ None) c.input.ensures asked in
     let these : feed_refusal c.args.self.now.shown i rs ≡ None = subst (λ (z : List Record). feed_refusal c.args.self.now.shown i z ≡ None) c.batch-batch.ensures here in
     let none : feed_refusal s i rs ≡ None = subst (λ (z : BoardShown). feed_refusal z.shown i rs ≡ None) (sym c.self.view_is) these in
-    let a = accepted s i rs none (subst (λ (z : List Record). 0 < length z) c.batch-batch.ensures c.len-some.ensures.some) (subst (λ (z : List Record). All (λ (r : Record). length r ≡ arity_of z) z) c.batch-batch.ensures c.arity-fields.ensures.each) in
+    let a = accepted s i rs none (subst (λ (z : List Record). 0 < length z) c.batch-batch.ensures (some_records c.batch-batch.result.now c.arity-fields.ensures.some)) (subst (λ (z : List Record). All (λ (r : Record). length r ≡ arity_of z) z) c.batch-batch.ensures (each_record (λ r. length r ≡ arity_of c.batch-batch.result.now) c.batch-batch.result.now c.len-some.ensures.all c.arity-fields.ensures.each)) in
     let f : FeedsBy s c.feed.new.self c.feed.new.added.items i rs = c.in-Ok.ensures.feeds in
     let n = c.self.invariant.viewers_are in
     let by : c.worker_count-feeder.result ≡ length s.sides = c.worker_count-feeder.ensures ∙ fed_workers s c.feed.new.self c.feed.new.added.items i rs f in
@@ -66,7 +67,7 @@ passed_now-self-inside-requires-clause-kept g c =
     let here : feed_refusal c.args.self.now.shown i c.batch-batch.result.now ≡ None = subst (λ (n : ℕ). feed_refusal c.args.self.now.shown n c.batch-batch.result.now ≡ None) c.input.ensures asked in
     let these : feed_refusal c.args.self.now.shown i rs ≡ None = subst (λ (z : List Record). feed_refusal c.args.self.now.shown i z ≡ None) c.batch-batch.ensures here in
     let none : feed_refusal s i rs ≡ None = subst (λ (z : BoardShown). feed_refusal z.shown i rs ≡ None) (sym c.self.view_is) these in
-    let a = accepted s i rs none (subst (λ (z : List Record). 0 < length z) c.batch-batch.ensures c.len-some.ensures.some) (subst (λ (z : List Record). All (λ (r : Record). length r ≡ arity_of z) z) c.batch-batch.ensures c.arity-fields.ensures.each) in
+    let a = accepted s i rs none (subst (λ (z : List Record). 0 < length z) c.batch-batch.ensures (some_records c.batch-batch.result.now c.arity-fields.ensures.some)) (subst (λ (z : List Record). All (λ (r : Record). length r ≡ arity_of z) z) c.batch-batch.ensures (each_record (λ r. length r ≡ arity_of c.batch-batch.result.now) c.batch-batch.result.now c.len-some.ensures.all c.arity-fields.ensures.each)) in
     let f : FeedsBy s c.feed.new.self c.feed.new.added.items i rs = c.in-Ok.ensures.feeds in
     let n = c.self.invariant.viewers_are in
     let feeds : Feeds s c.feed.new.self (g.V.Views.content c.self.inside.views) (g.V.Views.content c.post_noted.new.views) i rs = feeds_from (g.V.Views.content c.self.inside.views) (g.V.Views.content c.feed.new.views) (g.V.Views.content c.post_noted.new.views) s c.feed.new.self c.feed.new.added.items i rs c.feed.ensures.content c.post_noted.ensures.content f in
@@ -82,7 +83,7 @@ passed_now-self-inside-requires-clause-viewers g c =
     let here : feed_refusal c.args.self.now.shown i c.batch-batch.result.now ≡ None = subst (λ (n : ℕ). feed_refusal c.args.self.now.shown n c.batch-batch.result.now ≡ None) c.input.ensures asked in
     let these : feed_refusal c.args.self.now.shown i rs ≡ None = subst (λ (z : List Record). feed_refusal c.args.self.now.shown i z ≡ None) c.batch-batch.ensures here in
     let none : feed_refusal s i rs ≡ None = subst (λ (z : BoardShown). feed_refusal z.shown i rs ≡ None) (sym c.self.view_is) these in
-    let a = accepted s i rs none (subst (λ (z : List Record). 0 < length z) c.batch-batch.ensures c.len-some.ensures.some) (subst (λ (z : List Record). All (λ (r : Record). length r ≡ arity_of z) z) c.batch-batch.ensures c.arity-fields.ensures.each) in
+    let a = accepted s i rs none (subst (λ (z : List Record). 0 < length z) c.batch-batch.ensures (some_records c.batch-batch.result.now c.arity-fields.ensures.some)) (subst (λ (z : List Record). All (λ (r : Record). length r ≡ arity_of z) z) c.batch-batch.ensures (each_record (λ r. length r ≡ arity_of c.batch-batch.result.now) c.batch-batch.result.now c.len-some.ensures.all c.arity-fields.ensures.each)) in
     let f : FeedsBy s c.feed.new.self c.feed.new.added.items i rs = c.in-Ok.ensures.feeds in
     let n = c.self.invariant.viewers_are in
     let feeds : Feeds s c.feed.new.self (g.V.Views.content c.self.inside.views) (g.V.Views.content c.post_noted.new.views) i rs = feeds_from (g.V.Views.content c.self.inside.views) (g.V.Views.content c.feed.new.views) (g.V.Views.content c.post_noted.new.views) s c.feed.new.self c.feed.new.added.items i rs c.feed.ensures.content c.post_noted.ensures.content f in
@@ -98,7 +99,7 @@ passed_now-self-inside-requires-clause-passed g c =
     let here : feed_refusal c.args.self.now.shown i c.batch-batch.result.now ≡ None = subst (λ (n : ℕ). feed_refusal c.args.self.now.shown n c.batch-batch.result.now ≡ None) c.input.ensures asked in
     let these : feed_refusal c.args.self.now.shown i rs ≡ None = subst (λ (z : List Record). feed_refusal c.args.self.now.shown i z ≡ None) c.batch-batch.ensures here in
     let none : feed_refusal s i rs ≡ None = subst (λ (z : BoardShown). feed_refusal z.shown i rs ≡ None) (sym c.self.view_is) these in
-    let a = accepted s i rs none (subst (λ (z : List Record). 0 < length z) c.batch-batch.ensures c.len-some.ensures.some) (subst (λ (z : List Record). All (λ (r : Record). length r ≡ arity_of z) z) c.batch-batch.ensures c.arity-fields.ensures.each) in
+    let a = accepted s i rs none (subst (λ (z : List Record). 0 < length z) c.batch-batch.ensures (some_records c.batch-batch.result.now c.arity-fields.ensures.some)) (subst (λ (z : List Record). All (λ (r : Record). length r ≡ arity_of z) z) c.batch-batch.ensures (each_record (λ r. length r ≡ arity_of c.batch-batch.result.now) c.batch-batch.result.now c.len-some.ensures.all c.arity-fields.ensures.each)) in
     let f : FeedsBy s c.feed.new.self c.feed.new.added.items i rs = c.in-Ok.ensures.feeds in
     let n = c.self.invariant.viewers_are in
     let feeds : Feeds s c.feed.new.self (g.V.Views.content c.self.inside.views) (g.V.Views.content c.post_noted.new.views) i rs = feeds_from (g.V.Views.content c.self.inside.views) (g.V.Views.content c.feed.new.views) (g.V.Views.content c.post_noted.new.views) s c.feed.new.self c.feed.new.added.items i rs c.feed.ensures.content c.post_noted.ensures.content f in
@@ -114,7 +115,7 @@ invariant_of-self g c =
     let here : feed_refusal c.args.self.now.shown i c.batch-batch.result.now ≡ None = subst (λ (n : ℕ). feed_refusal c.args.self.now.shown n c.batch-batch.result.now ≡ None) c.input.ensures asked in
     let these : feed_refusal c.args.self.now.shown i rs ≡ None = subst (λ (z : List Record). feed_refusal c.args.self.now.shown i z ≡ None) c.batch-batch.ensures here in
     let none : feed_refusal s i rs ≡ None = subst (λ (z : BoardShown). feed_refusal z.shown i rs ≡ None) (sym c.self.view_is) these in
-    let a = accepted s i rs none (subst (λ (z : List Record). 0 < length z) c.batch-batch.ensures c.len-some.ensures.some) (subst (λ (z : List Record). All (λ (r : Record). length r ≡ arity_of z) z) c.batch-batch.ensures c.arity-fields.ensures.each) in
+    let a = accepted s i rs none (subst (λ (z : List Record). 0 < length z) c.batch-batch.ensures (some_records c.batch-batch.result.now c.arity-fields.ensures.some)) (subst (λ (z : List Record). All (λ (r : Record). length r ≡ arity_of z) z) c.batch-batch.ensures (each_record (λ r. length r ≡ arity_of c.batch-batch.result.now) c.batch-batch.result.now c.len-some.ensures.all c.arity-fields.ensures.each)) in
     let f : FeedsBy s c.feed.new.self c.feed.new.added.items i rs = c.in-Ok.ensures.feeds in
     let n = c.self.invariant.viewers_are in
     let feeds : Feeds s c.feed.new.self (g.V.Views.content c.self.inside.views) (g.V.Views.content c.post_noted.new.views) i rs = feeds_from (g.V.Views.content c.self.inside.views) (g.V.Views.content c.feed.new.views) (g.V.Views.content c.post_noted.new.views) s c.feed.new.self c.feed.new.added.items i rs c.feed.ensures.content c.post_noted.ensures.content f in
@@ -149,7 +150,7 @@ returns-in-Ok-clause-step g c =
     let here : feed_refusal c.args.self.now.shown i c.batch-batch.result.now ≡ None = subst (λ (n : ℕ). feed_refusal c.args.self.now.shown n c.batch-batch.result.now ≡ None) c.input.ensures asked in
     let these : feed_refusal c.args.self.now.shown i rs ≡ None = subst (λ (z : List Record). feed_refusal c.args.self.now.shown i z ≡ None) c.batch-batch.ensures here in
     let none : feed_refusal s i rs ≡ None = subst (λ (z : BoardShown). feed_refusal z.shown i rs ≡ None) (sym c.self.view_is) these in
-    let a = accepted s i rs none (subst (λ (z : List Record). 0 < length z) c.batch-batch.ensures c.len-some.ensures.some) (subst (λ (z : List Record). All (λ (r : Record). length r ≡ arity_of z) z) c.batch-batch.ensures c.arity-fields.ensures.each) in
+    let a = accepted s i rs none (subst (λ (z : List Record). 0 < length z) c.batch-batch.ensures (some_records c.batch-batch.result.now c.arity-fields.ensures.some)) (subst (λ (z : List Record). All (λ (r : Record). length r ≡ arity_of z) z) c.batch-batch.ensures (each_record (λ r. length r ≡ arity_of c.batch-batch.result.now) c.batch-batch.result.now c.len-some.ensures.all c.arity-fields.ensures.each)) in
     let f : FeedsBy s c.feed.new.self c.feed.new.added.items i rs = c.in-Ok.ensures.feeds in
     let n = c.self.invariant.viewers_are in
     let feeds : Feeds s c.feed.new.self (g.V.Views.content c.self.inside.views) (g.V.Views.content c.post_noted.new.views) i rs = feeds_from (g.V.Views.content c.self.inside.views) (g.V.Views.content c.feed.new.views) (g.V.Views.content c.post_noted.new.views) s c.feed.new.self c.feed.new.added.items i rs c.feed.ensures.content c.post_noted.ensures.content f in
@@ -171,7 +172,7 @@ returns-in-Ok-clause-posts g c =
     let here : feed_refusal c.args.self.now.shown i c.batch-batch.result.now ≡ None = subst (λ (n : ℕ). feed_refusal c.args.self.now.shown n c.batch-batch.result.now ≡ None) c.input.ensures asked in
     let these : feed_refusal c.args.self.now.shown i rs ≡ None = subst (λ (z : List Record). feed_refusal c.args.self.now.shown i z ≡ None) c.batch-batch.ensures here in
     let none : feed_refusal s i rs ≡ None = subst (λ (z : BoardShown). feed_refusal z.shown i rs ≡ None) (sym c.self.view_is) these in
-    let a = accepted s i rs none (subst (λ (z : List Record). 0 < length z) c.batch-batch.ensures c.len-some.ensures.some) (subst (λ (z : List Record). All (λ (r : Record). length r ≡ arity_of z) z) c.batch-batch.ensures c.arity-fields.ensures.each) in
+    let a = accepted s i rs none (subst (λ (z : List Record). 0 < length z) c.batch-batch.ensures (some_records c.batch-batch.result.now c.arity-fields.ensures.some)) (subst (λ (z : List Record). All (λ (r : Record). length r ≡ arity_of z) z) c.batch-batch.ensures (each_record (λ r. length r ≡ arity_of c.batch-batch.result.now) c.batch-batch.result.now c.len-some.ensures.all c.arity-fields.ensures.each)) in
     let f : FeedsBy s c.feed.new.self c.feed.new.added.items i rs = c.in-Ok.ensures.feeds in
     let n = c.self.invariant.viewers_are in
     let by : c.worker_count-feeder.result ≡ length s.sides = c.worker_count-feeder.ensures ∙ fed_workers s c.feed.new.self c.feed.new.added.items i rs f in

@@ -1,4 +1,4 @@
-use Rattle.std.proofs.Common.{◌≡◌, ◌<◌, ◌+◌, ◌-◌, ℕ, suc, true, false, [], List, length, refl, sym, ap, ◌∙◌, subst, arith, slice_get, Some}
+use Rattle.std.proofs.Common.{◌≡◌, ◌<◌, ◌+◌, ◌-◌, ℕ, suc, true, false, [], List, length, refl, sym, ap, ◌∙◌, subst, arith, slice_get, None, Some}
 use Rattle.semantics.specs.Dataflow.{IsDataflow}
 use Rattle.semantics.specs.Graph.{Graph}
 use Rattle.semantics.specs.Could.{CouldResultIn, IsTimeAt, Location, NoOtherOf}
@@ -42,7 +42,7 @@ returns-then-choice-mail-clause-picks g c =
     let free : (side_at s k).place ≡ Home = c.if-not-is_free.ensures in
     let runs : s.stopped ≡ false = sym c.is_stopped.ensures ∙ c.if-is_stopped.false in
     let both = picks_message (g.V.Views.graph c.self.inside.views) (g.V.Views.content c.self.inside.views) s c.self.invariant.kept k there free runs c.claim_message.new.self c.args.choice c.claim_message.result.0 c.claim_message.ensures.hands in
-    let P : BoardShown → Type 0 = λ z. (hands : Hands z.shown k c.claim_message.new.self c.claim_message.result.0) × (IsUpToDate z k → IsChoice z.shown k c.args.choice hands.taken) × (c.claim_message.result.1 ≡ false) in
+    let P : BoardShown → Type 0 = λ z. (hands : Hands z.shown k c.claim_message.new.self c.claim_message.result.0) × (IsUpToDate z k → IsChoice z.shown k c.args.choice hands.taken) × (c.claim_message.result.1 ≡ None) in
     subst P c.self.view_is (both.0, (λ up. both.1), c.claim_message.ensures.whole)
 
 pub returns-then-choice-mail-clause-tables : goal.returns-then-choice-mail-clause-tables
@@ -128,7 +128,7 @@ returns-in-Some-clause-picks g c =
     let Q : Step → Type 0 = λ x. IsChoice s k c.args.choice x in
     subst Q (sym (request_taken (g.V.Views.graph c.self.inside.views) (g.V.Views.content c.self.inside.views) s c.self.invariant.kept k there free runs c.claim_request.new.self at c.claim_request.result.0 hands front))
     (chosen_request (g.V.Views.graph c.self.inside.views) (g.V.Views.content c.self.inside.views) s c.self.invariant.kept k there c.args.choice (c.args.choice - c.mail_count-mail.result) at hands.request number hands.got real) in
-    let R : BoardShown → Type 0 = λ z. (x : Hands z.shown k c.claim_request.new.self c.claim_request.result.0) × (IsUpToDate z k → IsChoice z.shown k c.args.choice x.taken) × (c.claim_request.result.1 ≡ false) in
+    let R : BoardShown → Type 0 = λ z. (x : Hands z.shown k c.claim_request.new.self c.claim_request.result.0) × (IsUpToDate z k → IsChoice z.shown k c.args.choice x.taken) × (c.claim_request.result.1 ≡ None) in
     subst R c.self.view_is (given, choice, c.claim_request.ensures.whole)
 
 pub returns-in-Some-clause-tables : goal.returns-in-Some-clause-tables

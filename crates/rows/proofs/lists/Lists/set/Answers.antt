@@ -1,4 +1,4 @@
-use Rattle.std.proofs.Common.{rules, arith, ap, ◌∙◌}
+use Rattle.std.proofs.Common.{rules, arith, ◌∙◌}
 use Rattle.rows.proofs.Cuts.{cut_set, length_cut, written_back}
 use Rattle.rows.proofs.lists.Lists.set.Goals as goal
 

@@ -1,0 +1,6 @@
+use Rattle.semantics.specs.Multiset.{◌≈◌}
+use Rattle.collector.specs.Piles.{joined, piled}
+use Rattle.collector.proofs.track.batches_of.Given as goal
+
+abbrev pub invariant-loop-rows : goal.invariant-loop-rows
+invariant-loop-rows l = joined l.batches.items ≈ piled l.yielded

@@ -1,0 +1,9 @@
+use Rattle.std.proofs.Common.{rules, ◌≡◌, [], false}
+use Rattle.std.specs.Prelude.{slice_index_or}
+use Rattle.rows.specs.Indexes.{any_below}
+use Rattle.semantics.specs.Multiset.{same}
+use Rattle.rows.proofs.Walks.{differ_more, differ_all}
+use Rattle.rows.proofs.different.few_are_different.Goals as goal
+
+pub loop-place-preserved : goal.loop-place-preserved
+loop-place-preserved c = (differ_more c.args.rows.now.rows c.loop-place.place c.loop-place.invariant.0 (search rules), search rules)

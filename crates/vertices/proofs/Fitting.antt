@@ -1,0 +1,104 @@
+-- What is kept and sent fits, or some of it is too often.
+use Rattle.std.proofs.Common.{◌≡◌, ℕ, zero, suc, ◌<◌, ◌≤◌, Bool, List, [], Some, None, subst, sym, arith, ◌∙◌, Result, ◌↔◌, ◌⊎◌}
+use Rattle.std.specs.Prelude.{Option, IfErr}
+use Rattle.std.proofs.lemmas.Result.{IfErr-weaker}
+use Rattle.rows.specs.Counts.{AllFit, AreRunCounts, AreRuns, IsOver, Run, expanded, rows_of, runs}
+use Rattle.rows.specs.Indexes.{AreDifferent}
+use Rattle.rows.specs.declared.error.TallyError.{TallyError}
+use Rattle.rows.specs.declared.error.TallyError.TheVariants as tally
+use Rattle.rows.proofs.Runs.{all_fit, are_runs}
+use Rattle.semantics.specs.Kinds.{Kind, in_ports, out_ports, role}
+use Rattle.semantics.specs.Meaning.{selected}
+use Rattle.semantics.specs.Multiset.{Record}
+use Rattle.semantics.specs.Query.{Scalar}
+use Rattle.semantics.specs.Time.{Time}
+use Rattle.semantics.proofs.MultisetSums.{≈-refl}
+use Rattle.vertices.specs.Absorbed.{Absorbed, kept_by}
+use Rattle.vertices.specs.Outs.{WouldSendOver, records_of, sent}
+use Rattle.vertices.specs.Shards.{shard_kind}
+use Rattle.vertices.specs.declared.fault.ShardFault.{ShardFault}
+use Rattle.vertices.specs.declared.fault.ShardFault.TheVariants.{Count, NoMemory}
+use Rattle.vertices.specs.declared.out.Out.{Out}
+use Rattle.vertices.specs.declared.shard.Shard.{Shard}
+
+-- ---- what fits
+
+pub nothing_fits : AllFit []
+nothing_fits r = omega arith
+
+pub batch_fits : (batch : List Record) → AreRuns (runs batch) → expanded (runs batch) ≡ batch → AllFit batch
+batch_fits batch h e = subst AllFit e (all_fit (runs batch) h)
+
+-- what is sent by a port
+pub none_sent : (o : Option (List Record)) → o ≡ None → AllFit (records_of o)
+none_sent o e = subst (λ p. AllFit (records_of p)) (sym e) nothing_fits
+
+pub batch_sent : (o : Option (List Record)) (batch : List Record) → AreRuns (runs batch) → expanded (runs batch) ≡ batch → o ≡ Some batch → AllFit (records_of o)
+batch_sent o batch h f e = subst (λ p. AllFit (records_of p)) (sym e) (batch_fits batch h f)
+
+pub counted_sent : (o : Option (List Record)) (cs : List Run) → AreDifferent (rows_of cs) → AreRunCounts cs → records_of o ≡ expanded cs → AllFit (records_of o)
+counted_sent o cs d h e = subst AllFit (sym e) (all_fit cs (are_runs cs d h))
+
+-- by two ports
+pub both_sent : (first second : Option (List Record)) (asked : Bool) → AllFit (records_of first) → AllFit (records_of second) → (q : ℕ) → AllFit (sent 2 (record { first = first; second = second; asked = asked }) q)
+both_sent first second asked h k zero = h
+both_sent first second asked h k (suc q) = k
+
+-- ---- what is too often
+
+pub select_over : (ss : List Scalar) (t : Time) (a : Absorbed) (batch : List Record) → IsOver (selected ss batch) → WouldSendOver (Kind.select ss) t a 0 batch
+select_over ss t a batch h = ((λ q. selected ss batch), (λ q. ≈-refl (selected ss batch)), 0, h)
+
+-- ---- faults that are passed on
+
+abbrev IsMemory : ShardFault → Type 0
+IsMemory NoMemory = Unit {0}
+IsMemory Count = ⊥
+
+-- want of memory says nothing of counts
+pub never_over : {T : Type 0} (r : Result T ShardFault) (Q : Type 0) → IfErr r (λ e. e ≡ NoMemory) → IfErr r (λ e. e ≡ Count → Q)
+never_over r Q h = IfErr-weaker r _ _ (λ e n c. absurd (subst IsMemory (sym n ∙ c) tt)) h
+
+pub passed_on : {T : Type 0} (r : Result T ShardFault) (f : ShardFault) (P : ShardFault → Type 0) → IfErr r (λ e. e ≡ f) → P f → IfErr r P
+passed_on r f P h p = IfErr-weaker r _ _ (λ e i. subst P (sym i) p) h
+
+pub passed_never : {T : Type 0} (r : Result T ShardFault) (f : ShardFault) (Q : Type 0) → IfErr r (λ e. e ≡ f) → f ≡ NoMemory → IfErr r (λ e. e ≡ Count → Q)
+passed_never r f Q h n = never_over r Q (IfErr-weaker r _ _ (λ e i. i ∙ n) h)
+
+-- a count of a tally
+pub tally_over : {T : Type 0} (r : Result T ShardFault) (t : TallyError) (Q : Type 0) → IfErr r (λ e. ((e ≡ NoMemory) ↔ (t ≡ tally.NoMemory)) × ((e ≡ Count) ↔ (t ≡ tally.Count))) → (t ≡ tally.Count → Q) → IfErr r (λ e. e ≡ Count → Q)
+tally_over r t Q h q = IfErr-weaker r _ _ (λ e b c. q (b.1.0 c)) h
+
+-- ---- by the shard's kind
+
+abbrev pub KeptFits : Shard → Absorbed → (port : ℕ) → Time → List Record → Type 0
+KeptFits s a p t batch = AllFit (kept_by (role (shard_kind s)) a p t batch)
+
+abbrev pub SentFits : Shard → Out → Type 0
+SentFits s out = (q : ℕ) → AllFit (sent (out_ports (shard_kind s)) out q)
+
+abbrev pub IsTooOften : Shard → Absorbed → (port : ℕ) → Time → List Record → Type 0
+IsTooOften s a p t batch = IsOver (kept_by (role (shard_kind s)) a p t batch) ⊎ WouldSendOver (shard_kind s) t a p batch
+
+-- ---- ports
+
+few_ports : (k : Kind) → in_ports k ≤ 2
+few_ports Kind.input = omega arith
+few_ports Kind.output = omega arith
+few_ports (Kind.select ss) = omega arith
+few_ports (Kind.filter c) = omega arith
+few_ports Kind.concat = omega arith
+few_ports (Kind.join ps) = omega arith
+few_ports (Kind.group ks as') = omega arith
+few_ports Kind.distinct = omega arith
+few_ports Kind.except = omega arith
+few_ports Kind.intersect = omega arith
+few_ports Kind.ingress = omega arith
+few_ports Kind.egress = omega arith
+few_ports Kind.feedback = omega arith
+few_ports (Kind.gate n) = omega arith
+few_ports (Kind.hold n) = omega arith
+
+-- a port that isn't the first is the second
+pub second_port : (s : Shard) (p : ℕ) → p < in_ports (shard_kind s) → 0 < p → 1 ≡ p
+second_port s p h k = let two = few_ports (shard_kind s) in omega (arith, two, h, k)

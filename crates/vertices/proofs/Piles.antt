@@ -1,0 +1,36 @@
+-- Batches one behind another.
+use Rattle.std.proofs.Common.{◌≡◌, ℕ, suc, ◌+◌, ◌<◌, ◌≤◌, List, [], ◌∷◌, ◌++◌, length, take, get_or, refl, sym, ap, ◌∙◌, subst, arith, append-nil, length-append}
+use Rattle.std.specs.Prelude.{min}
+use Rattle.std.specs.List.{AllByRecursion}
+use Rattle.rows.specs.Counts.{Run, expanded, most, runs}
+use Rattle.rows.specs.FlatRows.{arity_of, joined}
+use Rattle.rows.proofs.Joined.{joined_append, item_more}
+use Rattle.semantics.specs.Multiset.{Record}
+
+pub all_more : (P : List Record → Type 0) (bs : List (List Record)) (b : List Record) → AllByRecursion P bs → P b → AllByRecursion P (bs ++ b ∷ [])
+all_more P [] b h p = (p, tt)
+all_more P (x ∷ bs) b h p = (h.0, all_more P bs b h.1 p)
+
+pub joined_behind : (bs : List (List Record)) (b : List Record) → joined (bs ++ b ∷ []) ≡ joined bs ++ b
+joined_behind bs b = joined_append bs (b ∷ []) ∙ ap (λ l. joined bs ++ l) (append-nil b)
+
+pub same_arity : (n m : ℕ) (bs : List (List Record)) → n ≡ m → AllByRecursion (λ b. arity_of b ≡ n) bs → AllByRecursion (λ b. arity_of b ≡ m) bs
+same_arity n m bs e h = subst (λ k. AllByRecursion (λ b. arity_of b ≡ k) bs) e h
+
+-- the weight of one batch more, while few records are there
+pub few_more : (bs : List (List Record)) (b : List Record) (weight more sum : ℕ) → (weight ≤ most → length (joined bs) ≤ weight) → more ≡ min (length b) 18446744073709551615 → sum ≡ min (weight + more) 18446744073709551615 → sum ≤ most →
+    length (joined bs ++ b) ≤ sum
+few_more bs b weight more sum few m s l =
+    let whole : weight + more ≡ sum = omega (arith, s, l) in
+    let all : length b ≡ more = omega (arith, m, whole, l) in
+    let before : length (joined bs) ≤ weight = few (omega (arith, whole, l)) in
+    omega (arith, length-append (joined bs) b, whole, all, before)
+
+-- one batch more
+pub batch_more : (P : List Record → Type 0) (bs : List (List Record)) (k : ℕ) (b : List Record) (cs : List Run) → k < length bs → b ≡ get_or bs k b → cs ≡ runs b → expanded (runs b) ≡ b → P (joined (take k bs) ++ expanded cs) → P (joined (take (k + 1) bs))
+batch_more P bs k b cs h e c all p =
+    let next : joined (take (k + 1) bs) ≡ joined (take k bs) ++ b = ap (λ n. joined (take n bs)) (one k) ∙ item_more bs k b h e in
+    subst P (ap (λ l. joined (take k bs) ++ l) (ap expanded c ∙ all) ∙ sym next) p
+  where
+    one : (m : ℕ) → m + 1 ≡ suc m
+    one m = omega arith

@@ -1,0 +1,104 @@
+-- What a shard shows, sends and keeps is so of the same records in any other order.
+use Rattle.std.proofs.Common.{ℕ, ◌==◌, Bool, true, false, cond, ◌++◌, List, [], arith}
+use Rattle.rows.specs.Counts.{AllFit, IsOver}
+use Rattle.rows.proofs.Merging.{fit_alike}
+use Rattle.semantics.specs.Kinds.{Kind, Role, role}
+use Rattle.semantics.specs.Multiset.{Record, ◌≈◌}
+use Rattle.semantics.specs.Op.{op}
+use Rattle.semantics.specs.Shard.{SendsBy, only_at}
+use Rattle.semantics.specs.Time.{Time, same_time}
+use Rattle.semantics.proofs.MultisetSums.{append_same, ≈-refl, ≈-trans}
+use Rattle.semantics.proofs.OneFlow.{op_same}
+use Rattle.vertices.specs.Absorbed.{Absorbed, absorbed_by, kept_by, with_records}
+use Rattle.vertices.specs.Outs.{Sends, WouldSendOver}
+use Rattle.vertices.specs.Shards.{Shows}
+use Rattle.vertices.specs.States.{AreSetsOf, AreSetsThen}
+use Rattle.vertices.specs.declared.port_sets.PortSets.{PortSets}
+use Rattle.vertices.specs.declared.shard.Shard.{Shard}
+use Rattle.vertices.specs.declared.shard.Shard.TheVariants.{Input, Output, Select, Where, Concat, Join, Group, Distinct, Except, Intersect, Ingress, Egress, Feedback, Gate, Hold}
+use Rattle.vertices.proofs.SameStates.{distinct_same_states, group_same_states, join_same_states, some_same, states_same}
+
+-- ---- what is shown
+
+-- of an intersect
+sets_same : (n : ℕ) (sets : PortSets) (f g : ℕ → List Record) → ((p : ℕ) → f p ≈ g p) → AreSetsOf n sets f → AreSetsOf n sets g
+sets_same n sets f g e h = record {
+  left_arity = h.left_arity;
+  right_arity = h.right_arity;
+  lefts = ≈-trans h.lefts (e 0);
+  rights = ≈-trans h.rights (e 1);
+}
+
+-- of an except
+sets_then_same : (n : ℕ) (sets : PortSets) (f g : ℕ → List Record) → ((p : ℕ) → f p ≈ g p) → AreSetsThen n sets f → AreSetsThen n sets g
+sets_then_same n sets f g e h = (sets_same n sets f g e h.0, some_same (f 0 ++ f 1) (g 0 ++ g 1) (append_same (f 0) (g 0) (f 1) (g 1) (e 0) (e 1)) h.1)
+
+pub Shows_same : (s : Shard) (a b : Absorbed) → ((p : ℕ) (t : Time) → a p t ≈ b p t) → Shows s a → Shows s b
+Shows_same (Input s) a b e h = tt
+Shows_same (Output s) a b e h = tt
+Shows_same (Select s) a b e h = tt
+Shows_same (Where s) a b e h = tt
+Shows_same (Concat s) a b e h = tt
+Shows_same (Join s) a b e h = join_same_states s.plan s.times a b e h
+Shows_same (Group s) a b e h = group_same_states s.arity s.times a b e h
+Shows_same (Distinct s) a b e h = distinct_same_states s.arity s.times a b e h
+Shows_same (Except s) a b e h = states_same (AreSetsThen s.arity) (sets_then_same s.arity) s.times a b e h
+Shows_same (Intersect s) a b e h = states_same (AreSetsOf s.arity) (sets_same s.arity) s.times a b e h
+Shows_same (Ingress s) a b e h = tt
+Shows_same (Egress s) a b e h = tt
+Shows_same (Feedback s) a b e h = tt
+Shows_same (Gate s) a b e h = tt
+Shows_same (Hold s) a b e h = tt
+
+-- ---- what is absorbed
+
+cond_same : (b : Bool) (xs ys : List Record) → xs ≈ ys → cond b xs [] ≈ cond b ys []
+cond_same true xs ys e = e
+cond_same false xs ys e = ≈-refl []
+
+with_same : (a b : Absorbed) → ((p : ℕ) (t : Time) → a p t ≈ b p t) → (port : ℕ) (t : Time) (xs ys : List Record) → xs ≈ ys → (p : ℕ) (u : Time) → with_records a port t xs p u ≈ with_records b port t ys p u
+with_same a b alike port t xs ys e p u =
+    append_same (a p u) (b p u) (cond (port == p) (cond (same_time t u) xs []) []) (cond (port == p) (cond (same_time t u) ys []) []) (alike p u)
+    (cond_same (port == p) (cond (same_time t u) xs []) (cond (same_time t u) ys []) (cond_same (same_time t u) xs ys e))
+
+pub absorbed_same : (r : Role) (a b : Absorbed) → ((p : ℕ) (t : Time) → a p t ≈ b p t) → (port : ℕ) (t : Time) (xs ys : List Record) → xs ≈ ys → (p : ℕ) (u : Time) → absorbed_by r a port t xs p u ≈ absorbed_by r b port t ys p u
+absorbed_same Role.input a b alike port t xs ys e p u = alike p u
+absorbed_same Role.stateless a b alike port t xs ys e p u = alike p u
+absorbed_same Role.stateful a b alike port t xs ys e p u = with_same a b alike port t xs ys e p u
+absorbed_same Role.notified a b alike port t xs ys e p u = with_same a b alike port t xs ys e p u
+absorbed_same Role.output a b alike port t xs ys e p u = alike p u
+
+-- ---- what is kept
+
+pub kept_same : (r : Role) (a b : Absorbed) → ((p : ℕ) (t : Time) → a p t ≈ b p t) → (port : ℕ) (t : Time) (xs ys : List Record) → xs ≈ ys → kept_by r a port t xs ≈ kept_by r b port t ys
+kept_same Role.input a b alike port t xs ys e = ≈-refl []
+kept_same Role.stateless a b alike port t xs ys e = ≈-refl []
+kept_same Role.stateful a b alike port t xs ys e = append_same (a port t) (b port t) xs ys (alike port t) e
+kept_same Role.notified a b alike port t xs ys e = append_same (a port t) (b port t) xs ys (alike port t) e
+kept_same Role.output a b alike port t xs ys e = ≈-refl []
+
+pub kept_fits_same : (r : Role) (a : Absorbed) (port : ℕ) (t : Time) (xs ys : List Record) → xs ≈ ys → AllFit (kept_by r a port t xs) → AllFit (kept_by r a port t ys)
+kept_fits_same r a port t xs ys e h = fit_alike (kept_by r a port t xs) (kept_by r a port t ys) (kept_same r a a (λ p u. ≈-refl (a p u)) port t xs ys e) h
+
+pub over_same : (xs ys : List Record) → xs ≈ ys → IsOver xs → IsOver ys
+over_same xs ys e h = (h.0, let z = e.counts h.0 in omega (arith, z, h.1))
+
+pub kept_over_same : (r : Role) (a : Absorbed) (port : ℕ) (t : Time) (xs ys : List Record) → xs ≈ ys → IsOver (kept_by r a port t xs) → IsOver (kept_by r a port t ys)
+kept_over_same r a port t xs ys e h = over_same (kept_by r a port t xs) (kept_by r a port t ys) (kept_same r a a (λ p u. ≈-refl (a p u)) port t xs ys e) h
+
+-- ---- what is sent
+
+sends_by_same : (r : Role) (kind : Kind) (t : Time) (a : Absorbed) (port : ℕ) (xs ys : List Record) (would : ℕ → List Record) → xs ≈ ys →
+    SendsBy r (λ q ins. op kind t ins q) (λ p. a p t) (λ p. absorbed_by r a port t xs p t) port xs would → SendsBy r (λ q ins. op kind t ins q) (λ p. a p t) (λ p. absorbed_by r a port t ys p t) port ys would
+sends_by_same Role.input kind t a port xs ys would e h = h
+sends_by_same Role.stateless kind t a port xs ys would e h = λ q. ≈-trans (h q) (op_same kind t (only_at port xs) (only_at port ys) q (λ p l. cond_same (p == port) xs ys e))
+sends_by_same Role.stateful kind t a port xs ys would e h =
+    λ q. ≈-trans (h q) (op_same kind t (λ p. with_records a port t xs p t) (λ p. with_records a port t ys p t) q (λ p l. with_same a a (λ i u. ≈-refl (a i u)) port t xs ys e p t))
+sends_by_same Role.notified kind t a port xs ys would e h = h
+sends_by_same Role.output kind t a port xs ys would e h = h
+
+pub Sends_same : (kind : Kind) (t : Time) (a : Absorbed) (port : ℕ) (xs ys : List Record) (would : ℕ → List Record) → xs ≈ ys → Sends kind t a port xs would → Sends kind t a port ys would
+Sends_same kind t a port xs ys would e h = sends_by_same (role kind) kind t a port xs ys would e h
+
+pub would_send_over_same : (kind : Kind) (t : Time) (a : Absorbed) (port : ℕ) (xs ys : List Record) → xs ≈ ys → WouldSendOver kind t a port xs → WouldSendOver kind t a port ys
+would_send_over_same kind t a port xs ys e h = (h.0, Sends_same kind t a port xs ys h.0 e h.1, h.2, h.3)

@@ -1,0 +1,82 @@
+//! The records of one time, as they come.
+
+ghost use Rattle.std.specs.Prelude.{◌≡◌, ◌++◌, IfOk, IfErr, OnOk, [], length, ◌≤◌};
+ghost use Rattle.std.specs.List.{AllByRecursion};
+ghost use Rattle.rows.specs.Counts.{AllFit, IsOver};
+ghost use Rattle.rows.specs.FlatRows.{arity_of, joined};
+ghost use Rattle.semantics.specs.Multiset.{◌≈◌};
+ghost use Rattle.rows.specs.declared.error.TallyError.TheVariants.{Count};
+
+use rows::{Batch, MAX_COUNT, TallyError};
+use std::alloc::Global;
+use std::marker::Model;
+
+/// Batches of records of one arity, shared with whoever else has them. While all their records together are few enough to be counted,
+/// none of them can stand there too often. Beyond that they are taken together, batch by batch.
+#[derive(Drop)]
+pub struct Pile {
+    alloc: Global,
+    arity: usize,
+    batches: Vec<Batch>,
+    weight: u64,
+}
+
+impl Model for Pile {
+    ghost use Rattle.std.specs.Prelude.{◌≡◌, ◌≤◌, length};
+    ghost use Rattle.std.specs.List.{AllByRecursion};
+    ghost use Rattle.rows.specs.Counts.{most};
+    ghost use Rattle.rows.specs.FlatRows.{arity_of, joined};
+    ghost use Rattle.vertices.specs.Piles.{Piled};
+
+    ghost Value = { Piled };
+
+    ghost view = { λ p. record { arity = p.arity; records = joined p.batches.items } };
+
+    ghost invariant = { λ p. AllByRecursion (λ b. arity_of b ≡ p.arity) p.batches.items × (p.weight ≤ most → length (joined p.batches.items) ≤ p.weight) };
+}
+
+impl Pile {
+    /// No batches. No memory is taken.
+    pub(crate) fn new(alloc: Global, arity: usize) -> Pile
+        ensures { result ≡ record { arity = arity; records = [] } }
+    {
+        Pile {
+            alloc,
+            arity,
+            batches: Vec::new(alloc),
+            weight: 0,
+        }
+    }
+
+    /// Takes a batch in. `Count` exactly where a record would then stand there too often.
+    pub(crate) fn add(&mut self, batch: &Batch) -> Result<(), TallyError>
+        requires { arity_of batch.now ≡ self.old.arity }
+        ensures records { OnOk result (self.new.records ≈ (self.old.records ++ batch.now)) }
+        ensures fits { OnOk result (AllFit (self.old.records ++ batch.now)) }
+        ensures over { IfErr result (λ e. e ≡ Count → IsOver (self.old.records ++ batch.now)) }
+        ensures arity { self.new.arity ≡ self.old.arity }
+    {
+        let weight = self.weight.saturating_add(batch.weight() as u64);
+        if weight <= MAX_COUNT {
+            self.batches.push(batch.share()?)?;
+            self.weight = weight;
+            return Ok(());
+        }
+        match Batch::concat(self.alloc, batch, &self.batches) {
+            Ok(all) => {
+                self.batches.clear();
+                self.batches.push(all)?;
+                self.weight = u64::MAX;
+                Ok(())
+            }
+            Err(error) => Err(error),
+        }
+    }
+
+    /// The batches.
+    pub(crate) fn batches(&self) -> &[Batch]
+        ensures { joined result.now ≡ self.now.records }
+    {
+        &self.batches
+    }
+}
