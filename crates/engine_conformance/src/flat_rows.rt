@@ -317,6 +317,33 @@ fn rows_are_joined_on_either_side(rt: HostRuntime) -> Result<(), Fail> {
     Ok(())
 }
 
+/// Whether there was no row before two rows were taken at once, and what a record is joined to that agrees with the second.
+fn begun(alloc: Global) -> Result<Option<(bool, Vec<i64>)>, TallyError> {
+    let mut rows = CountedRows::new(alloc, 2);
+    rows.push(&[1, 5], 3)?;
+    rows.push(&[2, 6], 4)?;
+    let Some(batch) = Batch::merged(alloc, rows)? else {
+        return Ok(None);
+    };
+    let _records = batch.len();
+    let mut index = RowIndex::new(alloc, Vec::from_array(alloc, [0])?, 2)?;
+    let mut tally = Tally::new(alloc, 2)?;
+    let none = tally.is_empty();
+    tally.begin(batch.counted())?;
+    index.extend(batch.counted())?;
+    let mut joined = CountedRows::new(alloc, 3);
+    index.join_counted(&[0], &[2], 5, &tally, &mut joined)?;
+    Ok(Some((none, counted_fields(alloc, &joined)?)))
+}
+
+#[test]
+fn a_first_batch_is_taken_at_once(rt: HostRuntime) -> Result<(), Fail> {
+    let (none, joined) = begun(rt.alloc())?.expect(&rt, "two rows");
+    assert!(rt; none);
+    assert_eq!(rt; joined.as_slice(), [2, 2, 6, 20].as_slice());
+    Ok(())
+}
+
 /// An index by no columns: its sizes, and what a record is joined to.
 fn without_columns(alloc: Global) -> Result<(usize, usize, Vec<i64>), TallyError> {
     let mut index = RowIndex::new(alloc, Vec::new(alloc), 1)?;
