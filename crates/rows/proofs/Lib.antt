@@ -9,4 +9,4 @@ pub mod Meeting
 pub mod Weighing
 pub mod Alike
 pub mod Merging
-pub mod Marking
+pub mod Owners

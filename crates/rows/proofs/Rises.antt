@@ -7,7 +7,7 @@ use Rattle.semantics.specs.Multiset.{Record, same, one_if, count, ◌≈◌}
 use Rattle.semantics.proofs.MultisetSums.{total-append, ≈-from, ≈-trans}
 use Rattle.rows.specs.Indexes.{AreDifferent}
 use Rattle.rows.specs.Counts.{most, Run, repeated, expanded, rows_of, with_counts, AreCounts}
-use Rattle.rows.proofs.Runs.{count_expanded, count_repeated, count_at, expanded_more, more_once, more_often, length_runs, run_at, rows_are}
+use Rattle.rows.proofs.Runs.{count_expanded, count_repeated, count_at, expanded_more, more_once, more_often, more_runs, length_runs, run_at, rows_are}
 
 -- by each place the count there
 abbrev pub sum_at : Record → List Record → (ℕ → ℕ) → ℕ
@@ -128,6 +128,13 @@ pub pushed_often : (rs rows : List Record) (old full new : List ℕ) (r : Record
 pushed_often rs rows old full new r n e f short filled above same =
     let exact : length full ≡ length rs = (let z = above (length rs) (omega arith) short in omega (arith, z, filled)) in
     (λ i. with_counts (e i) (f i)) ∙ more_often rs full r n exact ∙ ap (λ cs. cs ++ record { row = r; count = n } ∷ []) (read_alike rs old full same)
+
+-- rows put at the end with their counts, behind counts that were filled up
+pub extended_often : (rs ss rows : List Record) (old full new more : List ℕ) → rows ≡ rs ++ ss → new ≡ full ++ more → length old ≤ length rs → length rs ≤ length full →
+    ((len : ℕ) → length rs ≤ len → length old ≤ len → length full ≤ len) → ((k : ℕ) → slice_index_or full k 1 ≡ slice_index_or old k 1) → with_counts rows new ≡ with_counts rs old ++ with_counts ss more
+extended_often rs ss rows old full new more e f short filled above same =
+    let exact : length full ≡ length rs = (let z = above (length rs) (omega arith) short in omega (arith, z, filled)) in
+    (λ i. with_counts (e i) (f i)) ∙ more_runs rs ss full more exact ∙ ap (λ cs. cs ++ with_counts ss more) (read_alike rs old full same)
 
 -- ---- a tally of one row more
 

@@ -93,6 +93,21 @@ more_often [] (m ∷ ns) r n h = absurd (omega (arith, h))
 more_often (x ∷ rs) [] r n h = absurd (omega (arith, h))
 more_often (x ∷ rs) (m ∷ ns) r n h = ap (λ l. record { row = x; count = m } ∷ l) (more_often rs ns r n (omega (arith, h)))
 
+-- rows more, that stand once each
+pub more_ones : (rs ss : List Record) (ns ms : List ℕ) → length ns ≤ length rs → length ms ≡ 0 → with_counts (rs ++ ss) ns ≡ with_counts rs ns ++ with_counts ss ms
+more_ones [] ss [] [] h e = refl
+more_ones [] ss (n ∷ ns) ms h e = absurd (omega (arith, h))
+more_ones rs ss ns (m ∷ ms) h e = absurd (omega (arith, e))
+more_ones (r ∷ rs) ss [] [] h e = ap (λ l. record { row = r; count = 1 } ∷ l) (more_ones rs ss [] [] (omega arith) refl)
+more_ones (r ∷ rs) ss (n ∷ ns) [] h e = ap (λ l. record { row = r; count = n } ∷ l) (more_ones rs ss ns [] (omega (arith, h)) refl)
+
+-- rows more, with their counts
+pub more_runs : (rs ss : List Record) (ns ms : List ℕ) → length ns ≡ length rs → with_counts (rs ++ ss) (ns ++ ms) ≡ with_counts rs ns ++ with_counts ss ms
+more_runs [] ss [] ms h = refl
+more_runs [] ss (n ∷ ns) ms h = absurd (omega (arith, h))
+more_runs (r ∷ rs) ss [] ms h = absurd (omega (arith, h))
+more_runs (r ∷ rs) ss (n ∷ ns) ms h = ap (λ l. record { row = r; count = n } ∷ l) (more_runs rs ss ns ms (omega (arith, h)))
+
 -- one of the counts that are left out
 pub fill_one : (rs : List Record) (ns : List ℕ) → length ns < length rs → with_counts rs (ns ++ 1 ∷ []) ≡ with_counts rs ns
 fill_one [] ns h = absurd (omega (arith, h))
@@ -114,6 +129,12 @@ beside_end (m ∷ ns) n (suc k) h old = beside_end ns n k h (λ j. old (suc j))
 -- one count more
 pub counts_more : (ns : List ℕ) (n : ℕ) → 1 ≤ n → n ≤ most → AreCounts ns → AreCounts (ns ++ n ∷ [])
 counts_more ns n l m old k = beside_end ns n k (l, m) old
+
+-- counts more
+pub counts_joined : (ns ms : List ℕ) → AreCounts ns → AreCounts ms → AreCounts (ns ++ ms)
+counts_joined [] ms g h k = h k
+counts_joined (n ∷ ns) ms g h zero = g 0
+counts_joined (n ∷ ns) ms g h (suc k) = counts_joined ns ms (λ j. g (suc j)) h k
 
 -- what is kept as counts is so of the runs
 pub fitting_runs : (rs : List Record) (ns : List ℕ) → AreCounts ns → (k : ℕ) → (1 ≤ (slice_index_or (with_counts rs ns) k no_run).count) × ((slice_index_or (with_counts rs ns) k no_run).count ≤ most)
@@ -141,6 +162,10 @@ count_expanded r c cs = total-append (λ x. one_if (same x r)) (repeated c.count
 pub expanded_more : (cs : List Run) (c : Run) → expanded (cs ++ c ∷ []) ≡ expanded cs ++ repeated c.count c.row
 expanded_more [] c = append-nil (repeated c.count c.row)
 expanded_more (d ∷ cs) c = ap (λ l. repeated d.count d.row ++ l) (expanded_more cs c) ∙ sym (append_assoc (repeated d.count d.row) (expanded cs) (repeated c.count c.row))
+
+pub expanded_append : (cs ds : List Run) → expanded (cs ++ ds) ≡ expanded cs ++ expanded ds
+expanded_append [] ds = refl
+expanded_append (c ∷ cs) ds = ap (λ l. repeated c.count c.row ++ l) (expanded_append cs ds) ∙ sym (append_assoc (repeated c.count c.row) (expanded cs) (expanded ds))
 
 -- a row that stands nowhere isn't counted
 none_there : (r : Record) (cs : List Run) → ((k : ℕ) → k < length cs → (slice_index_or cs k no_run).row ≡ r → ⊥) → count r (expanded cs) ≡ 0

@@ -1,4 +1,3 @@
 pub mod FlatRows
 pub mod Indexes
 pub mod Counts
-pub mod Marks

@@ -1,8 +1,7 @@
 //! Whether rows are different.
 
-ghost use Rattle.std.specs.Prelude.{◌≡◌, ◌≤◌, ◌<◌, [], length, slice_index_or, IfOk, IsTrue, IfSome, filter};
+ghost use Rattle.std.specs.Prelude.{◌≡◌, ◌≤◌, ◌<◌, [], length, slice_index_or, IfOk, IsTrue, IfSome};
 ghost use Rattle.rows.specs.Indexes.{AreDifferent, any_below};
-ghost use Rattle.rows.specs.Marks.{AreMarked, is_doubtful};
 ghost use Rattle.semantics.specs.Multiset.{same};
 
 use crate::builder::Rows;
@@ -14,70 +13,54 @@ use std::alloc::Global;
 /// So few rows are compared each with each, without a table.
 const FEW: usize = 8;
 
-/// For each row so many buckets, so that few rows have one that another row has.
-const BUCKETS: usize = 8;
+/// For each row so many buckets, so that most rows are the first of theirs.
+const BUCKETS: usize = 4;
 
-/// Whether the rows are different. A row whose bucket no other row has is unlike all others, and the rest are looked up. `false` may be
-/// told of different rows, too.
-#[tactic(auto, using(crate::proofs::Marking::sure_different))]
+/// At most so many rows have places that the table can hold.
+const MOST: usize = u32::MAX as usize;
+
+/// Whether the rows are different. The first row of a bucket is its owner; one that comes later is compared with it, and where it is
+/// another row it is in doubt. Those in doubt, which are few, are looked up. `false` may be told of different rows, too.
 pub(crate) fn are_different(alloc: Global, rows: &Rows) -> Result<bool, RowsError>
     ensures { IfOk result (λ d. IsTrue d → AreDifferent rows.now.rows) }
 {
     if rows.len() <= FEW {
         return Ok(few_are_different(rows));
     }
-    let Some(marks) = marked(alloc, rows)? else {
+    if rows.len() > MOST {
+        return Ok(false);
+    }
+    let Some(doubtful) = doubtful(alloc, rows)? else {
         return Ok(false);
     };
-    let doubtful = doubtful(alloc, rows, &marks)?;
     if doubtful.len() <= FEW {
         return Ok(few_are_different(&doubtful));
     }
     chained_are_different(alloc, doubtful)
 }
 
-/// The buckets of the rows, marked; nothing where so many seem to be there again that the rows are better looked up one by one.
-fn marked(alloc: Global, rows: &Rows) -> Result<Option<Vec<u8>>, RowsError>
-    ensures marked { IfOk result (λ marks. IfSome marks (λ m. AreMarked rows.now.rows m.items)) }
-    ensures buckets { IfOk result (λ marks. IfSome marks (λ m. length rows.now.rows ≤ length m.items)) }
+/// The rows that aren't the first of their bucket, and differ from it: where they are different, all rows are. Nothing where a row
+/// equals the first of its bucket.
+fn doubtful(alloc: Global, rows: &Rows) -> Result<Option<Rows>, RowsError>
+    requires { length rows.now.rows ≤ 4294967295 }
+    ensures { IfOk result (λ doubtful. IfSome doubtful (λ d. AreDifferent d.rows → AreDifferent rows.now.rows)) }
 {
-    let mut marks = vec![in alloc; 0u8; rows.len().saturating_mul(BUCKETS)]?;
-    let mut again = 0usize;
-    for place in 0..rows.len() {
-        let bucket = bucket_of(hash_row(rows.row(place)), marks.len());
-        let mark = marks[bucket];
-        marks[bucket] = marked_once_more(mark);
-        if mark != 0 {
-            again = again.saturating_add(4);
-            if again > place.saturating_add(256) {
-                return Ok(None);
-            }
-        }
-    }
-    Ok(Some(marks))
-}
-
-/// The mark of a bucket that one row more has.
-fn marked_once_more(mark: u8) -> u8
-    ensures some { 1 ≤ result }
-    ensures twice { 1 ≤ mark → 2 ≤ result }
-{
-    if mark == 0 { 1 } else { 2 }
-}
-
-/// The rows whose buckets other rows may have.
-fn doubtful(alloc: Global, rows: &Rows, marks: &[u8]) -> Result<Rows, RowsError>
-    requires { 0 < length rows.now.rows → 0 < length marks.now }
-    ensures rows { IfOk result (λ d. d.rows ≡ filter (is_doubtful marks.now) rows.now.rows) }
-{
+    let mut owners = vec![in alloc; 0u32; rows.len() * BUCKETS]?;
     let mut doubtful = Rows::new(alloc, rows.arity());
     for place in 0..rows.len() {
         let row = rows.row(place);
-        if marks[bucket_of(hash_row(row), marks.len())] > 1 {
-            doubtful.push(row)?;
+        let bucket = bucket_of(hash_row(row), owners.len());
+        let owner = owners[bucket] as usize;
+        if owner == 0 {
+            owners[bucket] = place as u32 + 1;
+            continue;
         }
+        if is_same(rows.row(owner - 1), row) {
+            return Ok(None);
+        }
+        doubtful.push(row)?;
     }
-    Ok(doubtful)
+    Ok(Some(doubtful))
 }
 
 /// Whether the rows are different, each looked up among those before it.

@@ -1,8 +1,7 @@
 use Rattle.std.proofs.Common.{◌≡◌, ◌++◌, take}
-use Rattle.semantics.specs.Multiset.{◌≈◌}
 use Rattle.rows.specs.FlatRows.{arity_of, joined}
 use Rattle.rows.specs.Counts.{expanded}
 use Rattle.rows.proofs.batch.Batch.concat.Given as goal
 
 abbrev pub invariant-loop-batch : goal.invariant-loop-batch
-invariant-loop-batch l = (expanded l.tally.runs ≈ (l.first ++ joined (take l.batch-index l.more))) × (l.tally.arity ≡ arity_of l.first)
+invariant-loop-batch l = (expanded l.rows.runs ≡ l.first ++ joined (take l.batch-index l.more)) × (l.rows.arity ≡ arity_of l.first)

@@ -4,7 +4,9 @@ use Rattle.rows.proofs.Runs.{batch_holds}
 use Rattle.rows.proofs.batch.Batch.from_counted.Goals as goal
 
 pub invariant_of-result : goal.invariant_of-result
-invariant_of-result c = batch_holds c.args.rows c.in_ok-rows.rows.value (search rules) (search rules) c.requires c.is_empty.ensures.counts c.arity.ensures.each
+invariant_of-result c =
+    let held = batch_holds c.args.rows c.in_ok-rows.rows.value (search rules) (search rules) c.requires c.is_empty.ensures.counts c.arity.ensures.each in
+    (held.0, held.1, held.2, search rules)
 
 pub returns-clause-arity : goal.returns-clause-arity
 returns-clause-arity c =
