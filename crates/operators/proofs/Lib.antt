@@ -1,2 +1,4 @@
+pub mod Columns
 pub mod Steps
+pub mod Undoing
 pub mod Weights

@@ -6,6 +6,7 @@
 #![tactic(auto)]
 
 mod concat;
+mod determined;
 mod distinct;
 mod egress;
 mod except;

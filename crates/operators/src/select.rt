@@ -1,20 +1,22 @@
 //! Computed records.
 
-ghost use Rattle.std.specs.Prelude.{◌≡◌, ◌≤◌, ◌<◌, ◌+◌, ◌++◌, ◌∷◌, [], length, map, slice_index_or, IfOk, IfErr, OnOk};
+ghost use Rattle.std.specs.Prelude.{◌≡◌, ℕ, ◌≤◌, ◌<◌, ◌+◌, ◌++◌, ◌∷◌, [], length, map, slice_index_or, IfOk, IfErr, OnOk};
 ghost use Rattle.arrayvec.specs.ArrayVec.{array_vec_len};
 ghost use Rattle.std.specs.List.{AllByRecursion, AllByRecursion-prop};
 ghost use Rattle.expr_tree.specs.Plain.{plain_scalar};
 ghost use Rattle.expr_tree.specs.Views.{scalar_tree};
 ghost use Rattle.rows.specs.FlatRows.{arity_of};
-ghost use Rattle.rows.specs.Counts.{AllFit, IsOver, expanded, no_run, records_in, runs};
+ghost use Rattle.rows.specs.Counts.{AllFit, AreRuns, IsOver, expanded, no_run, records_in, runs};
 ghost use Rattle.rows.specs.declared.error.TallyError.TheVariants.{Count};
 ghost use Rattle.semantics.specs.Multiset.{◌≈◌};
 ghost use Rattle.semantics.specs.Kinds.{Kind};
 ghost use Rattle.semantics.specs.Meaning.{selected, value};
 ghost use Rattle.semantics.specs.Typing.{ScalarFits};
 ghost use Rattle.semantics.proofs.VertexLaws.{op_nothing, op_parts};
+ghost use Rattle.operators.specs.Columns.{IsInRange, AllDetermined};
 ghost use Rattle.operators.specs.Fits.{ScalarFits-prop};
 
+use crate::determined::all_determined;
 use crate::operator::Operator;
 use arrayvec::ArrayVec;
 use expr_tree::{Scalar, eval_scalar};
@@ -49,7 +51,9 @@ impl Operator for Select {
 
 impl Select {
     /// For each record of the batch the record of the scalars' values; `None` never, since a batch has some. `Count` exactly where
-    /// one of them stands there too often.
+    /// one of them stands there too often. Equal ones are not looked for where each column is determined, since different records then
+    /// stay different.
+    #[tactic(auto, using(rows::proofs::Runs::all_fit))]
     pub fn apply(&self, alloc: Global, batch: &Batch) -> Result<Option<Batch>, TallyError>
         requires { arity_of batch.now ≡ self.now.arity }
         ensures records { IfOk result (λ made. records_in made ≈ selected (map plain_scalar (map scalar_tree self.now.scalars.items)) batch.now) }
@@ -57,12 +61,15 @@ impl Select {
         ensures over { IfErr result (λ e. e ≡ Count → IsOver (selected (map plain_scalar (map scalar_tree self.now.scalars.items)) batch.now)) }
     {
         let made = select_all(alloc, &self.scalars, batch)?;
+        if all_determined(&self.scalars, self.arity) {
+            let kept = Batch::from_counted(alloc, made)?;
+            return Ok(kept);
+        }
         Batch::merged(alloc, made)
     }
 }
 
 /// For each record the record of the scalars' values, in order.
-#[tactic(auto, using(crate::proofs::Steps::values_more))]
 fn select_all(
     alloc: Global,
     scalars: &[Scalar<Global>],
@@ -71,8 +78,10 @@ fn select_all(
     requires columns { AllByRecursion (ScalarFits (arity_of batch.now)) (map plain_scalar (map scalar_tree scalars.now)) }
     requires some { 1 ≤ length scalars.now }
     requires few { length scalars.now ≤ 16 }
-    ensures { IfOk result (λ made. expanded made.runs ≡ selected (map plain_scalar (map scalar_tree scalars.now)) batch.now) }
+    ensures records { IfOk result (λ made. expanded made.runs ≡ selected (map plain_scalar (map scalar_tree scalars.now)) batch.now) }
+    ensures runs { IfOk result (λ made. AllDetermined (arity_of batch.now) (map plain_scalar (map scalar_tree scalars.now)) → AreRuns made.runs) }
 {
+    let _ = batch.arity();
     let mut made = CountedRows::new(alloc, scalars.len());
     for place in 0..batch.len() {
         push_selected(scalars, batch, place, &mut made)?;
@@ -94,21 +103,43 @@ fn push_selected(
     requires arity { made.old.arity ≡ length scalars.now }
     ensures rows { OnOk result (made.new.runs ≡ made.old.runs ++ record { row = map (λ s. value s (slice_index_or (runs batch.now) place no_run).row) (map plain_scalar (map scalar_tree scalars.now)); count = (slice_index_or (runs batch.now) place no_run).count } ∷ []) }
     ensures arity { made.new.arity ≡ made.old.arity }
+    ensures range { OnOk result (IsInRange (slice_index_or (runs batch.now) place no_run).row) }
 {
     let row = batch.row(place);
+    read_fields(row);
     let mut fields: ArrayVec<i64, 16> = ArrayVec::new();
     push_values(&mut fields, scalars, row);
     made.push(fields.as_slice(), batch.count(place))
+}
+
+/// Reads each field: what is read is in the range of 64 bits.
+fn read_fields(item: &[i64])
+    ensures { IsInRange item.now }
+{
+    for column in 0..item.len() {
+        let _field = item[column];
+    }
 }
 
 /// The scalars' values on a record, after those that are there.
 fn push_values(fields: &mut ArrayVec<i64, 16>, scalars: &[Scalar<Global>], item: &[i64])
     requires columns { AllByRecursion (ScalarFits (length item.now)) (map plain_scalar (map scalar_tree scalars.now)) }
     requires room { array_vec_len fields.old + length scalars.now ≤ 16 }
-    ensures { fields.new.items ≡ fields.old.items ++ map (λ s. value s item.now) (map plain_scalar (map scalar_tree scalars.now)) }
+    ensures values { fields.new.items ≡ fields.old.items ++ map (λ s. value s item.now) (map plain_scalar (map scalar_tree scalars.now)) }
 {
     if let [scalar, rest @ ..] = scalars {
-        fields.push(eval_scalar(scalar, item));
+        fields.push(scalar_value(scalar, item));
         push_values(fields, rest, item);
+    }
+}
+
+/// The scalar's value on a record: of a column, the field.
+fn scalar_value(scalar: &Scalar<Global>, item: &[i64]) -> i64
+    requires { ScalarFits (length item.now) (plain_scalar (scalar_tree scalar.now)) }
+    ensures { result ≡ value (plain_scalar (scalar_tree scalar.now)) item.now }
+{
+    match scalar {
+        Scalar::Column(_, column) => item[*column as usize],
+        _ => eval_scalar(scalar, item),
     }
 }

@@ -1,4 +1,4 @@
-use Rattle.std.proofs.Common.{◌≡◌, ◌≤◌, ◌-◌, ℕ, List, [], ◌∷◌, ◌++◌, map, take, drop, length, get_or, ℤ, pos, refl, sym, ap, ◌∙◌, arith, append_assoc, rules}
+use Rattle.std.proofs.Common.{◌≡◌, ◌≤◌, ◌-◌, ℕ, List, [], ◌∷◌, ◌++◌, map, take, drop, length, get_or, pos, ap, ◌∙◌, arith, append_assoc, rules}
 use Rattle.std.proofs.lemmas.List.{take_all}
 use Rattle.expr_tree.specs.Plain.{plain_agg}
 use Rattle.expr_tree.specs.declared.relation.Agg.{Agg as Declared}
