@@ -9,6 +9,7 @@ pub mod AtWork
 pub mod Meetings
 pub mod Grouping
 pub mod Piles
+pub mod OneSide
 pub mod Gains
 pub mod SameStates
 pub mod SameAbsorbed

@@ -18,13 +18,12 @@ pub same_arity : (n m : ℕ) (bs : List (List Record)) → n ≡ m → AllByRecu
 same_arity n m bs e h = subst (λ k. AllByRecursion (λ b. arity_of b ≡ k) bs) e h
 
 -- the weight of one batch more, while few records are there
-pub few_more : (bs : List (List Record)) (b : List Record) (weight more sum : ℕ) → (weight ≤ most → length (joined bs) ≤ weight) → more ≡ min (length b) 18446744073709551615 → sum ≡ min (weight + more) 18446744073709551615 → sum ≤ most →
-    length (joined bs ++ b) ≤ sum
-few_more bs b weight more sum few m s l =
+pub few_more : (xs b : List Record) (weight more sum : ℕ) → (weight ≤ most → length xs ≤ weight) → more ≡ min (length b) 18446744073709551615 → sum ≡ min (weight + more) 18446744073709551615 → sum ≤ most → length (xs ++ b) ≤ sum
+few_more xs b weight more sum few m s l =
     let whole : weight + more ≡ sum = omega (arith, s, l) in
     let all : length b ≡ more = omega (arith, m, whole, l) in
-    let before : length (joined bs) ≤ weight = few (omega (arith, whole, l)) in
-    omega (arith, length-append (joined bs) b, whole, all, before)
+    let before : length xs ≤ weight = few (omega (arith, whole, l)) in
+    omega (arith, length-append xs b, whole, all, before)
 
 -- one batch more
 pub batch_more : (P : List Record → Type 0) (bs : List (List Record)) (k : ℕ) (b : List Record) (cs : List Run) → k < length bs → b ≡ get_or bs k b → cs ≡ runs b → expanded (runs b) ≡ b → P (joined (take k bs) ++ expanded cs) → P (joined (take (k + 1) bs))

@@ -13,7 +13,7 @@ pub invariant_of-self-then-weight-le-MAX_COUNT : goal.invariant_of-self-then-wei
 invariant_of-self-then-weight-le-MAX_COUNT c =
     let bs : List (List Record) = c.self.inside.batches.items in
     let new : c.push.new.self.items ≡ bs ++ c.args.batch.now ∷ [] = search rules in
-    let few = few_more bs c.args.batch.now c.self.inside.weight c.weight.result c.saturating_add-weight.result c.self.invariant.1 (search rules) (search rules) c.if-weight-le-MAX_COUNT.true in (
+    let few = few_more (joined bs) c.args.batch.now c.self.inside.weight c.weight.result c.saturating_add-weight.result c.self.invariant.1 (search rules) (search rules) c.if-weight-le-MAX_COUNT.true in (
       subst (AllByRecursion (λ b. arity_of b ≡ c.self.inside.arity)) (sym new) (all_more (λ b. arity_of b ≡ c.self.inside.arity) bs c.args.batch.now c.self.invariant.0 (search rules)),
       λ l. subst (λ (xs : List Record). length xs ≤ c.saturating_add-weight.result) (sym (ap joined new ∙ joined_behind bs c.args.batch.now)) few,
     )
@@ -27,7 +27,7 @@ returns-then-weight-le-MAX_COUNT-clause-records c =
 pub returns-then-weight-le-MAX_COUNT-clause-fits : goal.returns-then-weight-le-MAX_COUNT-clause-fits
 returns-then-weight-le-MAX_COUNT-clause-fits c =
     let old : joined c.self.inside.batches.items ≡ c.args.self.now.records = ap (λ (p : Piled). p.records) c.self.view_is in
-    let few = few_more c.self.inside.batches.items c.args.batch.now c.self.inside.weight c.weight.result c.saturating_add-weight.result c.self.invariant.1 (search rules) (search rules) c.if-weight-le-MAX_COUNT.true in
+    let few = few_more (joined c.self.inside.batches.items) c.args.batch.now c.self.inside.weight c.weight.result c.saturating_add-weight.result c.self.invariant.1 (search rules) (search rules) c.if-weight-le-MAX_COUNT.true in
     subst (λ (l : List Record). (r : Record) → count r (l ++ c.args.batch.now) ≤ most) old (few_fit (joined c.self.inside.batches.items ++ c.args.batch.now) (omega (arith, few, c.if-weight-le-MAX_COUNT.true)))
 
 pub concat-requires : goal.concat-requires
