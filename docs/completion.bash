@@ -5,13 +5,13 @@ _loom() {
     local word=${COMP_WORDS[COMP_CWORD]} before=${COMP_WORDS[COMP_CWORD - 1]} words=
     local commands="run follow replay check graph format explain help"
     if [ "$COMP_CWORD" -eq 1 ]; then
-        words="$commands --build --help"
+        words="$commands --build --version --help"
     elif [ "$before" = --workers ]; then
         words=$(seq 1 64)
     elif [ "$before" = --heap ]; then
         words="64 4096 65536 1048576 16777216"
     elif [ "${COMP_WORDS[1]}" = explain ]; then
-        words="$(seq 1 6) $(seq 11 21) 23 $(seq 31 38) $(seq 40 47) --help"
+        words="$(seq 1 6) $(seq 11 21) 23 $(seq 31 47) --help"
     elif [ "${COMP_WORDS[1]}" = help ]; then
         words=$commands
     elif [[ $word == -* ]]; then
