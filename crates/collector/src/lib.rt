@@ -1,8 +1,8 @@
 //! The texts at the edges: the input text read into epochs, the output text written.
 //!
-//! Below stand records and names alone. Above stands the console, which reads bytes, has the query run over the epochs of
-//! `read_input`, and has `write_epochs` put out what came of them. The contract for it: the epochs and the bytes are related by
-//! the text formats of `specs/`, and a refusal names the first faulty line.
+//! Below stand `record_core`, `semantics`, `decimal`, `rows` and `itoa`: nothing of graphs or of the engine. Above stands the console, which
+//! reads bytes, has the query run over the epochs of `read_input`, and has `write_epochs` put out what came of them. The contract for it:
+//! the epochs and the bytes are related by the text formats of `specs/`, and a refusal names the first faulty line.
 #![tactic(auto)]
 
 mod bytes;

@@ -13,7 +13,8 @@
 //!
 //! The contract: where `run` answers Ok, what was written is the output text of what the query means on the epochs of the input text. A
 //! graph that `compile` makes has exactly one flow on any inputs, which brings to each output what the query means there. This crate uses
-//! the command line and diagnostics, and the parser, typing, the normaliser, lowering, the board and the collector; only programs use it.
+//! every crate of Loom below the program, directly or through another: the command line, the compiler, the board with its views, the four
+//! that run it (`execution`, `statistics`, `replay`, `follow`), the texts, and diagnostics. Only programs use it.
 #![tactic(auto)]
 
 mod checking;

@@ -4,7 +4,7 @@
 //! its records go, and loses, doubles and reorders nothing; a `Mailbox` is a list in order of arrival, from which any place may
 //! be taken.
 //!
-//! Below stand `rows` and `semantics`. The board sends by it.
+//! Below stand `rows`, `record_core` and `semantics`. The board sends by it.
 #![tactic(auto)]
 
 mod mailbox;

@@ -5,7 +5,7 @@
 //! and which tokens are left. A text is the program that its tokens are.
 //!
 //! The contract for the layers above: no tokens are read in two ways, and no text is two programs. Below stand `lexer` with the
-//! tokens and `expr_tree` with the trees; the parser reads by these relations.
+//! tokens, `expr_tree` with the trees and `record_core`; the parser reads by these relations.
 #![tactic(auto)]
 
 mod laws;

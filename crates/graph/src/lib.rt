@@ -6,8 +6,8 @@
 //! The contract for the layers above: a graph is that of some well-typed program, as the definition (`semantics`) makes it, so all that
 //! is proved of such graphs holds of it. It is a value: two that show the same are equal, wherever their parts lie.
 //!
-//! Below stand `expr_tree`, for scalars and conditions, `loop_context` and `semantics`. The compiler (`lowering`) makes graphs; path summaries,
-//! trackers, shards and the board stand on them, and see nothing of queries.
+//! Below stand `expr_tree`, for scalars and conditions, `loop_context`, `record_core`, `semantics` and `itoa`. The compiler (`lowering`) makes
+//! graphs; path summaries, trackers, shards and the board stand on them, and see nothing of queries.
 #![tactic(auto)]
 
 mod dot;

@@ -7,7 +7,8 @@
 //! inputs it has exactly one flow, and what comes to each output is what the query means there. A graph owns what it needs; the
 //! tree may go.
 //!
-//! Below stand `expr_tree`, `typing`, `semantics` and `graph`, whose names this crate gives on. Who takes a graph as it is needs `graph` alone.
+//! Below stand `expr_tree`, `typing`, `semantics`, `record_core`, `indexmap` and `graph`, whose names this crate gives on. Who takes a graph as
+//! it is needs `graph` alone.
 #![tactic(auto)]
 
 mod arities;

@@ -6,8 +6,8 @@
 //! they use. Each rule looks at a node and what is right below it, and each use of a rule takes a node away; only scalars that come to stand
 //! where a column stood are looked at again, where the select that they make meets a further one.
 //!
-//! Below stand `typing`, whose typed queries are taken and given, `expr_tree`, and `semantics`, which says what the rules are. Lowering
-//! takes a `Typed`, normalised or not.
+//! Below stand `typing`, whose typed queries are taken and given, `expr_tree`, `record_core`, and `semantics`, which says what the rules
+//! are. Lowering takes a `Typed`, normalised or not.
 #![tactic(auto)]
 
 mod columns;

@@ -5,7 +5,7 @@
 //!
 //! The contract for the layers above: `parse` is `Ok` only with a program that the text is (`Reads` of crate `grammar`, where no
 //! text is two programs), and a numbered refusal comes only at a text that is none, with the code that tells why. Below stand
-//! `lexer`, `grammar` and `expr_tree`; typing checks what is read here.
+//! `lexer`, `grammar`, `expr_tree` and `record_core`; typing checks what is read here.
 #![tactic(auto)]
 
 mod condition;

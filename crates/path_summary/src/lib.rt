@@ -4,7 +4,7 @@
 //! and takes no memory. It reads a table of one path summary for each two vertices between which there is a path, made once for
 //! each graph.
 //!
-//! Below stand `semantics`, `loop_context` and `graph`. Trackers of progress stand on this.
+//! Below stand `semantics`, `loop_context`, `graph`, `expr_tree` and `arrayvec`. Trackers of progress stand on this.
 #![tactic(auto)]
 
 mod kept;

@@ -3,7 +3,8 @@
 //! The contract for the layers above: `Progress`, whose answers are exact by the multiset of active pointstamps. `PlainTracker` asks
 //! each of these; `LocationTracker` asks one time of each location; `CountTracker` keeps how many of the others come before each.
 //!
-//! `changes` runs a list of changes and questions over any of them. Below is `path_summary`; views and the board use trackers.
+//! `changes` runs a list of changes and questions over any of them. Below stand `machine` and
+//! `path_summary`, with what it stands on; views and the board use trackers.
 #![tactic(auto)]
 
 mod asking;

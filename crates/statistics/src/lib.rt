@@ -5,7 +5,7 @@
 //! vertex and the worker that it goes to. So once a run is drained, a vertex has taken in what is counted for it.
 //!
 //! The contract for the layers above is that of `workers::Gate`: the answer is the event's own. No clause says that the numbers are right;
-//! tests show them. This crate uses `workers`, `events` and `collector`; `console` writes what was counted.
+//! tests show them. Below stand `workers`, `events` and `collector`, with what these stand on; `console` writes what was counted.
 #![tactic(auto)]
 
 mod counter;

@@ -4,7 +4,8 @@
 //! inputs, the lets, the outputs, each relation from its parts to itself.
 //!
 //! The contract for the layers above: a `Typed` is well typed, with the arities that it shows. Below stand `expr_tree`, whose
-//! trees are checked, and `semantics`, which says what is well typed; the normaliser and lowering take a `Typed`.
+//! trees are checked, `semantics`, which says what is well typed, `record_core`, `arrayvec` and `indexmap`; the normaliser and
+//! lowering take a `Typed`.
 #![tactic(auto)]
 
 mod arities;

@@ -13,7 +13,8 @@
 //! time. Want of memory aside, a call is refused exactly where a count of what the shard would then have absorbed, or of what the call
 //! would send, is above 9223372036854775807. After a refusal the shard is spoiled, and fit only to be given up.
 //!
-//! Below stand `operators`, `rows`, `loop_context` and `graph`; the board hands shards out with their events.
+//! Below stand `operators`, `rows`, `loop_context`, `graph`, `expr_tree`, `record_core` and `semantics`; the board hands shards out with
+//! their events.
 #![tactic(auto)]
 
 mod counted_index;

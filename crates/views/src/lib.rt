@@ -8,7 +8,7 @@
 //! | `Direct` | at once, by all workers | one update of one tracker for each change |
 //! | `LocalViews` | by each worker once it applies it; each sender's in their order | the same, and one step of each worker along its sender's queue |
 //!
-//! Below are the trackers of crate `progress`.
+//! Below stand the trackers of crate `progress`, `machine`, and what these two stand on.
 #![tactic(auto)]
 
 mod all_waiting;

@@ -32,7 +32,7 @@
 //!   (`Naming`).
 //!
 //! What a call on an engine did behind the lock no clause can name, nor that a thread is woken, nor that two threads compute at once:
-//! tests show these (`workers_conformance`). Below stand `board` and `events`.
+//! tests show these (`workers_conformance`). Below stand `board` and `events`, with what these stand on.
 #![tactic(auto)]
 
 mod burden;

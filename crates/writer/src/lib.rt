@@ -5,7 +5,8 @@
 //!
 //! The contract for the layers above: the text written reads as the program, spans aside, where it is no longer than a query text
 //! may be, and so `parse` gives that program again under any allocator, or is refused for memory (`read_back`). What is read is
-//! a source. Below stand `expr_tree` with the trees, `lexer` and `grammar` with what a text is, and `parser`, which reads it.
+//! a source. Below stand `expr_tree` with the trees, `semantics`, `record_core`, `lexer` and `grammar` with what a text is,
+//! `parser`, which reads it, and `itoa`.
 #![tactic(auto)]
 
 mod condition;
