@@ -1,10 +1,10 @@
 -- The graphs of the example programs, vertex by vertex, by computation.
 use Rattle.std.proofs.Common.{◌≡◌, [], ◌∷◌, pos, refl}
-use Rattle.semantics.specs.Query.{Scalar, Comparison, Cond}
+use Rattle.semantics.specs.Query.{Scalar, Comparison, Cond, Agg}
 use Rattle.semantics.specs.Kinds.{Kind}
 use Rattle.semantics.specs.Graph.{output_numbers}
 use Rattle.semantics.specs.Lower.{lower, lower_lets, lower_outputs, lowered, port, new_vertex}
-use Rattle.semantics.specs.Examples.{first_plus_1, two_turns, outer_name, outer_name_in_loops, in_a_alone, small_and_all}
+use Rattle.semantics.specs.Examples.{first_plus_1, two_turns, outer_name, outer_name_in_loops, in_a_alone, small_and_all, least_of_let}
 
 pub graph_of_two_turns : lowered two_turns ≡
     new_vertex Kind.input 0 []
@@ -80,6 +80,16 @@ pub graph_of_small_and_all : lowered small_and_all ≡
     ∷ []
 unfolding lowered lower lower_lets lower_outputs
 graph_of_small_and_all = refl
+
+pub graph_of_least_of_let : lowered least_of_let ≡
+    new_vertex Kind.input 0 []
+    ∷ new_vertex (Kind.select first_plus_1) 0 (port 0 0 ∷ [])
+    ∷ new_vertex Kind.output 0 (port 0 0 ∷ [])
+    ∷ new_vertex (Kind.group (0 ∷ []) (Agg.min 0 ∷ [])) 0 (port 1 0 ∷ [])
+    ∷ new_vertex Kind.output 0 (port 3 0 ∷ [])
+    ∷ []
+unfolding lowered lower lower_lets lower_outputs
+graph_of_least_of_let = refl
 
 pub outputs_of_small_and_all : output_numbers (lowered small_and_all) ≡ 2 ∷ 3 ∷ []
 unfolding lowered lower lower_lets lower_outputs

@@ -4,7 +4,7 @@ use Rattle.std.specs.Int.{int_wrap}
 use Rattle.semantics.specs.Multiset.{Record, ◌≈◌}
 use Rattle.semantics.specs.Meaning.{meaning, let_names, program_meaning}
 use Rattle.semantics.specs.Typing.{Scope, entry, HasArity, OutputsFit, WellTyped}
-use Rattle.semantics.specs.Examples.{name_a, one_field, two_fields, three_fields, twice, sums_by_key, reachability, no_turns, outer_name, loop_in_loop, outer_name_in_loops, in_a_alone, in_a_and_b, except_in_loop, small_and_all, twice_out, a_and_b, one_and_two}
+use Rattle.semantics.specs.Examples.{name_a, one_field, two_fields, three_fields, twice, sums_by_key, reachability, no_turns, outer_name, loop_in_loop, outer_name_in_loops, in_a_alone, in_a_and_b, except_in_loop, small_and_all, least_of_let, twice_out, a_and_b, one_and_two}
 use Rattle.semantics.proofs.MultisetSums.{≈-trans, ≈-from}
 
 pub twice_means : (records : List Record) → program_meaning twice 0 (λ i. records) ≡ records ++ records
@@ -56,6 +56,10 @@ small_means = refl
 pub all_means : program_meaning small_and_all 1 (λ i. one_field (pos 3) ∷ one_field (pos 7) ∷ []) ≡ one_field (pos 3) ∷ one_field (pos 7) ∷ []
 unfolding program_meaning meaning let_names
 all_means = refl
+
+pub least_of_let_means : program_meaning least_of_let 1 (λ i. one_field (pos 5) ∷ []) ≡ two_fields 6 6 ∷ []
+unfolding program_meaning meaning let_names int_wrap
+least_of_let_means = refl
 
 pub no_more_means : program_meaning small_and_all 2 (λ i. one_field (pos 3) ∷ one_field (pos 7) ∷ []) ≡ []
 unfolding program_meaning meaning let_names

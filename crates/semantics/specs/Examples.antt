@@ -123,6 +123,15 @@ small_and_all =
           ∷ output_as name_y (Rel.named name_a) ∷ [];
     }
 
+-- input a/1; let x = select(a; #0 + 1); output y = a; output e = group(x; #0; min #0);
+abbrev pub least_of_let : Program
+least_of_let =
+    record {
+      inputs = input_of name_a 1 ∷ [];
+      lets = record { name = name_x; value = Rel.select (Rel.named name_a) first_plus_1 } ∷ [];
+      outputs = output_as name_y (Rel.named name_a) ∷ output_as name_e (Rel.group (Rel.named name_x) (0 ∷ []) (Agg.min 0 ∷ [])) ∷ [];
+    }
+
 -- input a/1; output a; output out = a;
 abbrev pub twice_out : Program
 twice_out =

@@ -1,6 +1,6 @@
 ghost use Rattle.std.specs.Prelude.{◌≡◌, ◌++◌, ℕ, List, [], ◌∷◌, pos, negsuc};
 ghost use Rattle.semantics.specs.Multiset.{Record, ◌≈◌};
-ghost use Rattle.semantics.specs.Query.{Program, Scalar, Comparison, Cond};
+ghost use Rattle.semantics.specs.Query.{Program, Scalar, Comparison, Cond, Agg};
 ghost use Rattle.semantics.specs.Meaning.{program_meaning};
 ghost use Rattle.semantics.specs.Typing.{WellTyped};
 ghost use Rattle.semantics.specs.Time.{at_epoch};
@@ -8,12 +8,13 @@ ghost use Rattle.semantics.specs.Could.{at_vertex, CouldResultIn};
 ghost use Rattle.semantics.specs.Kinds.{Kind};
 ghost use Rattle.semantics.specs.Graph.{output_numbers};
 ghost use Rattle.semantics.specs.Lower.{lowered, port, new_vertex};
-ghost use Rattle.semantics.specs.Examples.{one_field, two_fields, three_fields, first_plus_1, twice, sums_by_key, reachability, no_turns, outer_name, loop_in_loop, two_turns, outer_name_in_loops, in_a_alone, in_a_and_b, except_in_loop, small_and_all, twice_out, a_and_b, one_and_two, turn};
+ghost use Rattle.semantics.specs.Examples.{one_field, two_fields, three_fields, first_plus_1, twice, sums_by_key, reachability, no_turns, outer_name, loop_in_loop, two_turns, outer_name_in_loops, in_a_alone, in_a_and_b, except_in_loop, small_and_all, least_of_let, twice_out, a_and_b, one_and_two, turn};
 
 /// What small programs mean: `a` twice is each record twice; a sum wraps at 64 bits; the edges 1-2, 2-3 and 3-4 give all pairs
 /// that are connected by up to four of them; a loop of no turns gives its start; a loop whose body is a name from outside
 /// gives what that name means; and two turns of three turns of `#0 + 1` add 6. Of `a` and `b`, what is in `a` alone and what is in
-/// both is told once. Two outputs each mean their own relation, and beyond the last there is nothing.
+/// both is told once. Two outputs each mean their own relation, and beyond the last there is nothing. A relation that names a let means
+/// what the let's relation means.
 pub fn law_meanings()
     ensures twice { (records : List Record) → program_meaning twice 0 (λ i. records) ≡ records ++ records }
     ensures sum_wraps { program_meaning sums_by_key 0 (λ i. two_fields 1 9223372036854775807 ∷ two_fields 1 1 ∷ [])
@@ -29,6 +30,7 @@ pub fn law_meanings()
     ensures small { program_meaning small_and_all 0 (λ i. one_field (pos 3) ∷ one_field (pos 7) ∷ []) ≡ one_field (pos 3) ∷ [] }
     ensures all { program_meaning small_and_all 1 (λ i. one_field (pos 3) ∷ one_field (pos 7) ∷ [])
         ≡ one_field (pos 3) ∷ one_field (pos 7) ∷ [] }
+    ensures least_of_let { program_meaning least_of_let 1 (λ i. one_field (pos 5) ∷ []) ≡ two_fields 6 6 ∷ [] }
     ensures no_more { program_meaning small_and_all 2 (λ i. one_field (pos 3) ∷ one_field (pos 7) ∷ []) ≡ [] }
 {}
 
@@ -40,8 +42,8 @@ pub fn law_well_typed()
     ensures one_name { (ns : List ℕ) → WellTyped twice_out ns → ⊥ }
 {}
 
-/// The graphs of three programs with loops, of an except and of two outputs, vertex by vertex: a vertex is its kind, its depth and
-/// the ports that feed it. The outputs' vertices are 2 and 3.
+/// The graphs of three programs with loops, of an except, of two outputs, and of a let with two outputs, vertex by vertex: a vertex is
+/// its kind, its depth and the ports that feed it. The vertices of the two outputs of `small_and_all` are 2 and 3.
 pub fn law_graphs()
     ensures two_turns { lowered two_turns ≡
         new_vertex Kind.input 0 []
@@ -102,6 +104,13 @@ pub fn law_graphs()
         ∷ new_vertex (Kind.filter (Cond.compare Comparison.less (Scalar.column 0) (Scalar.literal (pos 5)))) 0 (port 0 0 ∷ [])
         ∷ new_vertex Kind.output 0 (port 1 0 ∷ [])
         ∷ new_vertex Kind.output 0 (port 0 0 ∷ [])
+        ∷ [] }
+    ensures least_of_let { lowered least_of_let ≡
+        new_vertex Kind.input 0 []
+        ∷ new_vertex (Kind.select first_plus_1) 0 (port 0 0 ∷ [])
+        ∷ new_vertex Kind.output 0 (port 0 0 ∷ [])
+        ∷ new_vertex (Kind.group (0 ∷ []) (Agg.min 0 ∷ [])) 0 (port 1 0 ∷ [])
+        ∷ new_vertex Kind.output 0 (port 3 0 ∷ [])
         ∷ [] }
     ensures outputs { output_numbers (lowered small_and_all) ≡ 2 ∷ 3 ∷ [] }
 {}

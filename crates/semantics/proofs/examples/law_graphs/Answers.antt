@@ -1,4 +1,4 @@
-use Rattle.semantics.proofs.ExampleGraphs.{graph_of_two_turns, graph_of_outer_name, graph_of_loops, graph_of_in_a_alone, graph_of_small_and_all, outputs_of_small_and_all}
+use Rattle.semantics.proofs.ExampleGraphs.{graph_of_two_turns, graph_of_outer_name, graph_of_loops, graph_of_in_a_alone, graph_of_small_and_all, graph_of_least_of_let, outputs_of_small_and_all}
 use Rattle.semantics.proofs.examples.law_graphs.Goals as goal
 
 pub returns-clause-two_turns : goal.returns-clause-two_turns
@@ -15,6 +15,9 @@ returns-clause-in_a_alone c = graph_of_in_a_alone
 
 pub returns-clause-small_and_all : goal.returns-clause-small_and_all
 returns-clause-small_and_all c = graph_of_small_and_all
+
+pub returns-clause-least_of_let : goal.returns-clause-least_of_let
+returns-clause-least_of_let c = graph_of_least_of_let
 
 pub returns-clause-outputs : goal.returns-clause-outputs
 returns-clause-outputs c = outputs_of_small_and_all

@@ -1,4 +1,4 @@
-use Rattle.semantics.proofs.ExampleMeanings.{twice_means, sum_wraps, reaches, no_turn_means, outer_name_means, loop_in_loop_means, in_a_alone_means, in_a_and_b_means, except_in_loop_means, small_means, all_means, no_more_means}
+use Rattle.semantics.proofs.ExampleMeanings.{twice_means, sum_wraps, reaches, no_turn_means, outer_name_means, loop_in_loop_means, in_a_alone_means, in_a_and_b_means, except_in_loop_means, small_means, all_means, least_of_let_means, no_more_means}
 use Rattle.semantics.proofs.examples.law_meanings.Goals as goal
 
 pub returns-clause-twice : goal.returns-clause-twice
@@ -33,6 +33,9 @@ returns-clause-small c = small_means
 
 pub returns-clause-all : goal.returns-clause-all
 returns-clause-all c = all_means
+
+pub returns-clause-least_of_let : goal.returns-clause-least_of_let
+returns-clause-least_of_let c = least_of_let_means
 
 pub returns-clause-no_more : goal.returns-clause-no_more
 returns-clause-no_more c = no_more_means
