@@ -145,8 +145,7 @@ fn claim<V: Views>(board: &mut Board<V>, worker: u32) -> Result<Option<Work>, Ha
     match board.claim(worker) {
         Claimed::Work(work) => Ok(Some(work)),
         Claimed::Idle | Claimed::Drained => Ok(None),
-        Claimed::Stopped => Err(Halt::NoMemory),
-        Claimed::Busy => Err(Halt::Incomplete),
+        Claimed::Stopped | Claimed::Busy => Err(Halt::Incomplete),
     }
 }
 

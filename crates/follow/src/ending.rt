@@ -74,9 +74,10 @@ impl From<ComputeFault> for Halt {
 impl From<StepRefusal> for Halt {
     fn from(refusal: StepRefusal) -> Halt {
         match refusal {
-            // Where an event was given up following has ended, so that no call finds a stopped board.
-            StepRefusal::NoMemory | StepRefusal::Stopped => Halt::NoMemory,
-            StepRefusal::UnknownInput
+            StepRefusal::NoMemory => Halt::NoMemory,
+            // Following ends where an event is given up, so no call should find a stopped board.
+            StepRefusal::Stopped
+            | StepRefusal::UnknownInput
             | StepRefusal::InputClosed
             | StepRefusal::WrongFieldCount
             | StepRefusal::LastEpoch

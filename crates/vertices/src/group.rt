@@ -56,6 +56,7 @@ impl GroupShard {
         ensures operator { IfOk result (λ s. s.operator ≡ operator) }
         ensures arity { IfOk result (λ s. s.arity ≡ arity) }
         ensures nothing { IfOk result (λ s. AreStatesOf (IsPileThen arity) s.times (λ p t. [])) }
+        ensures never { IfErr result (λ e. e ≡ NoMemory) }
     {
         let no_keys = RowSet::new(alloc, key_arity(&operator.columns))?;
         Ok(GroupShard {

@@ -1,6 +1,6 @@
 //! The shard of a vertex of a graph.
 
-ghost use Rattle.std.specs.Prelude.{◌≡◌, ◌≤◌, ◌<◌, ◌+◌, ℕ, length, map, IfOk};
+ghost use Rattle.std.specs.Prelude.{◌≡◌, ◌≤◌, ◌<◌, ◌+◌, ℕ, length, map, IfErr, IfOk};
 ghost use Rattle.std.specs.List.{AllByRecursion};
 ghost use Rattle.expr_tree.specs.Plain.{plain_agg, plain_cond, plain_pair, plain_scalar};
 ghost use Rattle.expr_tree.specs.Views.{cond_tree, scalar_tree};
@@ -9,6 +9,7 @@ ghost use Rattle.semantics.specs.Kinds.{Kind as Equation, in_ports};
 ghost use Rattle.semantics.specs.PortArity.{PortsFit};
 ghost use Rattle.semantics.specs.Typing.{CondFits, IsArity, ScalarFits};
 ghost use Rattle.vertices.specs.Shards.{IsFreshShard, by_port};
+ghost use Rattle.vertices.specs.declared.fault.ShardFault.TheVariants.{NoMemory};
 
 use crate::distinct::DistinctShard;
 use crate::except::ExceptShard;
@@ -26,7 +27,7 @@ use operators::{
 use std::alloc::Global;
 
 /// The shard of a vertex, which has absorbed nothing. It owns its scalars, conditions and columns. `first` and `second` are the
-/// numbers of fields of the records that come to the vertex's in ports; where it has no such port, the number doesn't count.
+/// numbers of fields of the records that come to the vertex's in ports; where it has no such port, the number doesn't count. A fault is want of memory.
 pub fn new_shard(
     alloc: Global,
     vertex: &Vertex,
@@ -36,7 +37,8 @@ pub fn new_shard(
     requires fits { (out : ℕ) × PortsFit (kind_of vertex.now.kind) (by_port first second) out × IsArity out }
     requires first { 0 < in_ports (kind_of vertex.now.kind) → IsArity first }
     requires second { 1 < in_ports (kind_of vertex.now.kind) → IsArity second }
-    ensures { IfOk result (λ s. IsFreshShard (kind_of vertex.now.kind) first second s) }
+    ensures fresh { IfOk result (λ s. IsFreshShard (kind_of vertex.now.kind) first second s) }
+    ensures never { IfErr result (λ e. e ≡ NoMemory) }
 {
     match &vertex.kind {
         Kind::Input => Ok(Shard::Input(Input)),
@@ -82,7 +84,8 @@ fn new_select(alloc: Global, scalars: &[Scalar<Global>], arity: usize) -> Result
     requires fits { AllByRecursion (ScalarFits arity) (map plain_scalar (map scalar_tree scalars.now)) }
     requires some { 1 ≤ length scalars.now }
     requires few { length scalars.now ≤ 16 }
-    ensures { (second : ℕ) → IfOk result (λ s. IsFreshShard (Equation.select (map plain_scalar (map scalar_tree scalars.now))) arity second s) }
+    ensures fresh { (second : ℕ) → IfOk result (λ s. IsFreshShard (Equation.select (map plain_scalar (map scalar_tree scalars.now))) arity second s) }
+    ensures never { IfErr result (λ e. e ≡ NoMemory) }
 {
     let scalars = copy_scalars(alloc, scalars)?;
     Ok(Shard::Select(Select { arity, scalars }))
@@ -102,7 +105,8 @@ fn copy_scalars(alloc: Global, scalars: &[Scalar<Global>]) -> Result<Vec<Scalar<
 
 fn new_where(alloc: Global, condition: &Cond<Global>, arity: usize) -> Result<Shard, ShardFault>
     requires { CondFits arity (plain_cond (cond_tree condition.now)) }
-    ensures { (second : ℕ) → IfOk result (λ s. IsFreshShard (Equation.filter (plain_cond (cond_tree condition.now))) arity second s) }
+    ensures fresh { (second : ℕ) → IfOk result (λ s. IsFreshShard (Equation.filter (plain_cond (cond_tree condition.now))) arity second s) }
+    ensures never { IfErr result (λ e. e ≡ NoMemory) }
 {
     let condition = copy_cond(alloc, condition)?;
     Ok(Shard::Where(Where { arity, condition }))
@@ -112,7 +116,8 @@ fn new_join(alloc: Global, pairs: &[Pair], left: usize, right: usize) -> Result<
     requires left { 1 ≤ left }
     requires right { 1 ≤ right }
     requires fits { left + right ≤ 16 }
-    ensures { IfOk result (λ s. IsFreshShard (Equation.join (map plain_pair pairs.now)) left right s) }
+    ensures fresh { IfOk result (λ s. IsFreshShard (Equation.join (map plain_pair pairs.now)) left right s) }
+    ensures never { IfErr result (λ e. e ≡ NoMemory) }
 {
     let pairs = pairs.to_vec(alloc)?;
     let plan = JoinPlan::new(alloc, Join { pairs }, left, right)?;
@@ -128,7 +133,8 @@ fn new_group(
     requires arity { IsArity arity }
     requires some { 1 ≤ length columns.now + length aggregates.now }
     requires few { length columns.now + length aggregates.now ≤ 16 }
-    ensures { (second : ℕ) → IfOk result (λ s. IsFreshShard (Equation.group (map (λ k. k.index) columns.now) (map plain_agg aggregates.now)) arity second s) }
+    ensures fresh { (second : ℕ) → IfOk result (λ s. IsFreshShard (Equation.group (map (λ k. k.index) columns.now) (map plain_agg aggregates.now)) arity second s) }
+    ensures never { IfErr result (λ e. e ≡ NoMemory) }
 {
     let columns = columns.to_vec(alloc)?;
     let aggregates = aggregates.to_vec(alloc)?;

@@ -8,8 +8,8 @@ use Rattle.vertices.specs.Shards.{by_port}
 use Rattle.vertices.specs.declared.join_plan.JoinPlan.{JoinPlan}
 use Rattle.vertices.proofs.making.new_join.Goals as goal
 
-pub returns : goal.returns
-returns c =
+pub returns-clause-fresh : goal.returns-clause-fresh
+returns-clause-fresh c =
     let is = c.new-2.ensures.plan in
     record {
       kind_is = ap (λ (p : JoinPlan). semantics.Kind.join (map plain_pair p.operator.pairs.items)) is

@@ -6,18 +6,18 @@ use Rattle.semantics.specs.Kinds as semantics
 use Rattle.vertices.specs.Shards.{IsFreshShard}
 use Rattle.vertices.proofs.making.new_shard.Goals as goal
 
-pub returns-in_ok-shard-in-Select : goal.returns-in_ok-shard-in-Select
-returns-in_ok-shard-in-Select c =
+pub returns-in_ok-shard-in-Select-clause-fresh : goal.returns-in_ok-shard-in-Select-clause-fresh
+returns-in_ok-shard-in-Select-clause-fresh c =
     subst (λ k. IsFreshShard k c.args.first c.args.second c.in_ok-shard-in-Select.shard) (ap (λ l. semantics.Kind.select (map plain_scalar (map scalar_tree l))) c.deref.ensures.value ∙ ap kind_of (sym c.in-Select.is))
-    (c.in_ok-shard-in-Select.ensures c.args.second)
+    (c.in_ok-shard-in-Select.ensures.fresh c.args.second)
 
-pub returns-in_ok-shard-in-Where : goal.returns-in_ok-shard-in-Where
-returns-in_ok-shard-in-Where c =
+pub returns-in_ok-shard-in-Where-clause-fresh : goal.returns-in_ok-shard-in-Where-clause-fresh
+returns-in_ok-shard-in-Where-clause-fresh c =
     subst (λ k. IsFreshShard k c.args.first c.args.second c.in_ok-shard-in-Where.shard) (ap (λ d. semantics.Kind.filter (plain_cond (cond_tree d))) c.deref-in-Where.ensures ∙ ap kind_of (sym c.in-Where.is))
-    (c.in_ok-shard-in-Where.ensures c.args.second)
+    (c.in_ok-shard-in-Where.ensures.fresh c.args.second)
 
-pub returns-in_ok-shard-in-Group : goal.returns-in_ok-shard-in-Group
-returns-in_ok-shard-in-Group c =
+pub returns-in_ok-shard-in-Group-clause-fresh : goal.returns-in_ok-shard-in-Group-clause-fresh
+returns-in_ok-shard-in-Group-clause-fresh c =
     subst (λ k. IsFreshShard k c.args.first c.args.second c.in_ok-shard-in-Group.shard)
     ((λ j. semantics.Kind.group (map (λ k. k.index) (c.deref-in-Group.ensures.value j)) (map plain_agg (c.deref-in-Group-2.ensures.value j))) ∙ ap kind_of (sym c.in-Group.is))
-    (c.in_ok-shard-in-Group.ensures c.args.second)
+    (c.in_ok-shard-in-Group.ensures.fresh c.args.second)
