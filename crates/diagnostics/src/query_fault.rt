@@ -11,7 +11,7 @@ use refusals::explanation_of;
 use std::alloc::Global;
 use std::io;
 use std::io::Write;
-use typing::{Arities, arities_at};
+use typing::{Arities, arities_at_fault};
 
 /// The bytes that a span covers, as far as the text goes.
 fn covered(text: &[u8], span: Span) -> &[u8] {
@@ -21,10 +21,10 @@ fn covered(text: &[u8], span: Span) -> &[u8] {
 }
 
 /// The numbers of fields that a refusal is about, where the text is read once more.
-fn arities(alloc: Global, text: &[u8], code: u8, span: Span) -> Option<Arities> {
+fn arities(alloc: Global, text: &[u8]) -> Option<Arities> {
     let arena = Bump::new(alloc);
     match parse(&arena, text) {
-        Ok(program) => arities_at(alloc, &program, code, span),
+        Ok(program) => arities_at_fault(alloc, &program),
         Err(_) => None,
     }
 }
@@ -211,7 +211,7 @@ pub fn write_query_fault<W: Write>(
     let word = covered(text, span);
     match code {
         1..=6 => write_reading(alloc, text, code, span, writer),
-        13..=16 => match arities(alloc, text, code, span) {
+        13..=16 => match arities(alloc, text) {
             Some(arities) => write_arities(code, word, arities, writer),
             None => write_summary(code, writer),
         },

@@ -18,7 +18,7 @@ mod refusals;
 mod relation;
 mod typed;
 
-pub use arities::{Arities, arities_at};
+pub use arities::{Arities, arities_at_fault};
 pub use limits::{MAX_INPUTS, MAX_LOOPS, MAX_OUTPUTS, MAX_TURNS};
 pub use program::check;
 pub use typed::{OutputArities, Typed};

@@ -1,18 +1,21 @@
-//! The names in scope.
+//! The names in scope, and what a fault is about.
 
 ghost use Rattle.std.specs.Prelude.{◌≡◌, ◌≤◌, ◌∷◌, [], None, drop, length, IfSome, OnOk, OnErr};
 ghost use Rattle.semantics.specs.Limits.{max_fields};
 ghost use Rattle.semantics.specs.Typing.{lookup, entry};
 
+use crate::arities::Arities;
 use indexmap::IndexMap;
 use record_core::Name;
 use std::alloc::{AllocError, Global};
 use std::marker::Model;
 
-/// The names in scope with their arities, each found in constant time. The name declared last is the first forgotten.
+/// The names in scope with their arities, each found in constant time. The name declared last is the first forgotten. The check also
+/// leaves here which numbers of fields its fault is about; no clause speaks of them.
 #[derive(Drop)]
 pub(crate) struct Names {
     table: IndexMap<Name, u64>,
+    about: Option<Arities>,
 }
 
 impl Model for Names {
@@ -40,6 +43,7 @@ impl Names {
     {
         Names {
             table: IndexMap::new(alloc),
+            about: None,
         }
     }
 
@@ -70,6 +74,18 @@ impl Names {
     {
         self.table.insert(name.copied(), arity)?;
         Ok(())
+    }
+
+    /// Keeps the numbers of fields that the fault is about.
+    pub(crate) fn note(&mut self, about: Arities)
+        ensures { self.new ≡ self.old }
+    {
+        self.about = Some(about);
+    }
+
+    /// The numbers of fields that the fault is about.
+    pub(crate) fn about(&self) -> Option<Arities> {
+        self.about
     }
 
     /// Forgets the name declared last.

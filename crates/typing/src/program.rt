@@ -6,6 +6,7 @@ ghost use Rattle.typing.specs.FirstFault.{Told};
 ghost use Rattle.typing.specs.Shown.{typed_program};
 ghost use Rattle.typing.specs.Verdict.{arities_of, input_verdict, let_verdict, output_verdict, outputs_verdict, each, program_verdict, Says, Tells};
 
+use crate::arities::Arities;
 use crate::limits::{MAX_INPUTS, MAX_OUTPUTS};
 use crate::names::Names;
 use crate::refusals::{BAD_ARITY, NAME_TAKEN, OUTPUT_TAKEN, TOO_MANY_INPUTS, TOO_MANY_OUTPUTS, at};
@@ -25,6 +26,7 @@ fn declare_input(names: &mut Names, input: &Input) -> Result<(), Refusal>
         return Err(at(NAME_TAKEN, input.name_span));
     }
     if input.arity == 0 || input.arity > MAX_FIELDS as u64 {
+        names.note(Arities::One(input.arity));
         return Err(at(BAD_ARITY, input.arity_span));
     }
     if names.len() >= MAX_INPUTS {
@@ -35,7 +37,7 @@ fn declare_input(names: &mut Names, input: &Input) -> Result<(), Refusal>
 }
 
 /// Declares inputs in order.
-pub(crate) fn declare_inputs(names: &mut Names, inputs: &[Input]) -> Result<(), Refusal>
+fn declare_inputs(names: &mut Names, inputs: &[Input]) -> Result<(), Refusal>
     ensures ok { OnOk result (each input_verdict inputs.now names.old ≡ Ok names.new) }
     ensures err { IfErr result (λ e. Says e (each input_verdict inputs.now names.old)) }
 {
@@ -46,7 +48,7 @@ pub(crate) fn declare_inputs(names: &mut Names, inputs: &[Input]) -> Result<(), 
 }
 
 /// Declares a let once its relation has an arity.
-pub(crate) fn declare_let<A: Allocator>(names: &mut Names, item: &Let<A>) -> Result<(), Refusal>
+fn declare_let<A: Allocator>(names: &mut Names, item: &Let<A>) -> Result<(), Refusal>
     ensures ok { OnOk result (let_verdict (let_tree item.now) names.old ≡ Ok names.new) }
     ensures err { IfErr result (λ e. Says e (let_verdict (let_tree item.now) names.old)) }
 {
@@ -111,18 +113,19 @@ fn output_arities<A: Allocator>(
     Ok(arities)
 }
 
-/// The arities of the outputs, or the first fault.
-fn checked_arities<A: Allocator>(
+/// The arities of the outputs, or the first fault; no name is in scope before.
+pub(crate) fn arities_in<A: Allocator>(
     alloc: Global,
+    names: &mut Names,
     program: &Program<A>,
 ) -> Result<OutputArities, Refusal>
+    requires { names.old ≡ [] }
     ensures ok { IfOk result (λ arities. program_verdict (program_tree program.now) ≡ Ok arities.items) }
     ensures err { IfErr result (λ e. Says e (program_verdict (program_tree program.now))) }
 {
-    let mut names = Names::new(alloc);
-    declare_inputs(&mut names, &program.inputs)?;
-    declare_lets(&mut names, &program.lets)?;
-    output_arities(&mut names, Names::new(alloc), &program.outputs)
+    declare_inputs(names, &program.inputs)?;
+    declare_lets(names, &program.lets)?;
+    output_arities(names, Names::new(alloc), &program.outputs)
 }
 
 /// The program typed, or back whole with its first fault.
@@ -136,7 +139,8 @@ pub fn check<A: Allocator>(
     ensures fault { IfErr result (λ e. Told (program_tree program) e.1) }
     ensures whole { IfErr result (λ e. e.0 ≡ program) }
 {
-    match checked_arities(alloc, &program) {
+    let mut names = Names::new(alloc);
+    match arities_in(alloc, &mut names, &program) {
         Ok(arities) => Ok(Typed::new(program, arities)),
         Err(refusal) => Err((program, refusal)),
     }

@@ -8,6 +8,7 @@ ghost use Rattle.typing.specs.Fault.{span_of};
 ghost use Rattle.typing.specs.declared.refusals.TheConstants.{NO_SUCH_COLUMN};
 ghost use Rattle.typing.specs.Verdict.{verdict, sized, Tells};
 
+use crate::arities::Arities;
 use crate::columns::{in_aggs, in_cond, in_keys, in_pairs, in_scalars};
 use crate::limits::{MAX_LOOPS, MAX_TURNS};
 use crate::names::Names;
@@ -15,28 +16,45 @@ use crate::refusals::{
     ARITIES_DIFFER, BAD_ARITY, BODY_DIFFERS, NAME_TAKEN, NO_SUCH_COLUMN, TOO_DEEP, TOO_MANY_TURNS,
     UNKNOWN_NAME, at,
 };
-use expr_tree::Rel;
+use expr_tree::{Pair, Rel};
 use record_core::{MAX_FIELDS, Refusal, Span};
 use std::alloc::Allocator;
 
-/// Refused where a column is beyond.
-fn within(beyond: Option<Span>) -> Result<(), Refusal>
-    ensures { MatchOption beyond (result ≡ Ok tt) (λ span. result ≡ Err (At NO_SUCH_COLUMN span)) }
+/// Refused where a column is beyond the fields of a relation, which has that many.
+fn within(names: &mut Names, beyond: Option<Span>, arity: u64) -> Result<(), Refusal>
+    ensures told { MatchOption beyond (result ≡ Ok tt) (λ span. result ≡ Err (At NO_SUCH_COLUMN span)) }
+    ensures names { names.new ≡ names.old }
 {
     match beyond {
         None => Ok(()),
-        Some(span) => Err(at(NO_SUCH_COLUMN, span)),
+        Some(span) => {
+            names.note(Arities::One(arity));
+            Err(at(NO_SUCH_COLUMN, span))
+        }
+    }
+}
+
+/// The number of fields of the relation of a pair that hasn't the column at that place.
+fn side_of(pairs: &[Pair], beyond: Option<Span>, left: u64, right: u64) -> u64 {
+    if pairs.iter().any(|pair| beyond == Some(pair.left.span)) {
+        left
+    } else {
+        right
     }
 }
 
 /// The arity of a form that has these two numbers of fields.
-fn form_arity(span: Span, fields: usize, more: usize) -> Result<u64, Refusal>
+fn form_arity(names: &mut Names, span: Span, fields: usize, more: usize) -> Result<u64, Refusal>
     ensures told { Tells result (sized span (fields + more)) }
     ensures small { IfOk result (λ n. n ≤ max_fields) }
+    ensures names { names.new ≡ names.old }
 {
     match fields.checked_add(more) {
         Some(arity) if 0 < arity && arity <= MAX_FIELDS => Ok(arity as u64),
-        _ => Err(at(BAD_ARITY, span)),
+        _ => {
+            names.note(Arities::One((fields as u64).saturating_add(more as u64)));
+            Err(at(BAD_ARITY, span))
+        }
     }
 }
 
@@ -48,7 +66,7 @@ fn may_turn(turns: u64) -> bool
 }
 
 /// The place of a relation.
-pub(crate) fn place<A: Allocator>(relation: &Rel<A>) -> Span
+fn place<A: Allocator>(relation: &Rel<A>) -> Span
     ensures { result ≡ span_of (rel_tree relation.now) }
 {
     match relation {
@@ -78,12 +96,12 @@ pub(crate) fn arity_of<A: Allocator>(
         Rel::Named(span, name) => names.arity(name).ok_or(at(UNKNOWN_NAME, *span)),
         Rel::Select(span, relation, scalars) => {
             let arity = arity_of(names, relation, depth)?;
-            within(in_scalars(scalars, arity))?;
-            form_arity(*span, scalars.len(), 0)
+            within(names, in_scalars(scalars, arity), arity)?;
+            form_arity(names, *span, scalars.len(), 0)
         }
         Rel::Where(_, relation, condition) => {
             let arity = arity_of(names, relation, depth)?;
-            within(in_cond(condition, arity))?;
+            within(names, in_cond(condition, arity), arity)?;
             Ok(arity)
         }
         Rel::SetOperation(span, _, left, right) => {
@@ -92,20 +110,22 @@ pub(crate) fn arity_of<A: Allocator>(
             if first == second {
                 Ok(first)
             } else {
+                names.note(Arities::Two(first, second));
                 Err(at(ARITIES_DIFFER, *span))
             }
         }
         Rel::Join(span, left, right, pairs) => {
             let first = arity_of(names, left, depth)?;
             let second = arity_of(names, right, depth)?;
-            within(in_pairs(pairs, first, second))?;
-            form_arity(*span, first as usize, second as usize)
+            let beyond = in_pairs(pairs, first, second);
+            within(names, beyond, side_of(pairs, beyond, first, second))?;
+            form_arity(names, *span, first as usize, second as usize)
         }
         Rel::Group(span, relation, keys, aggs) => {
             let arity = arity_of(names, relation, depth)?;
-            within(in_keys(keys, arity))?;
-            within(in_aggs(aggs, arity))?;
-            form_arity(*span, keys.len(), aggs.len())
+            within(names, in_keys(keys, arity), arity)?;
+            within(names, in_aggs(aggs, arity), arity)?;
+            form_arity(names, *span, keys.len(), aggs.len())
         }
         Rel::Distinct(_, relation) => arity_of(names, relation, depth),
         Rel::Iterate {
@@ -133,6 +153,7 @@ pub(crate) fn arity_of<A: Allocator>(
             if turned == arity {
                 Ok(arity)
             } else {
+                names.note(Arities::Two(arity, turned));
                 Err(at(BODY_DIFFERS, place(body)))
             }
         }
