@@ -128,6 +128,19 @@ pub(crate) fn arities_in<A: Allocator>(
     output_arities(names, Names::new(alloc), &program.outputs)
 }
 
+/// The arities of the outputs, or the first fault.
+fn checked_arities<A: Allocator>(
+    alloc: Global,
+    program: &Program<A>,
+) -> Result<OutputArities, Refusal>
+    ensures ok { IfOk result (λ arities. program_verdict (program_tree program.now) ≡ Ok arities.items) }
+    ensures err { IfErr result (λ e. Says e (program_verdict (program_tree program.now))) }
+{
+    let mut names = Names::new(alloc);
+    let arities = arities_in(alloc, &mut names, program)?;
+    Ok(arities)
+}
+
 /// The program typed, or back whole with its first fault.
 ///
 /// The table of the names in scope takes memory; without it the refusal is `NoMemory`.
@@ -139,8 +152,7 @@ pub fn check<A: Allocator>(
     ensures fault { IfErr result (λ e. Told (program_tree program) e.1) }
     ensures whole { IfErr result (λ e. e.0 ≡ program) }
 {
-    let mut names = Names::new(alloc);
-    match arities_in(alloc, &mut names, &program) {
+    match checked_arities(alloc, &program) {
         Ok(arities) => Ok(Typed::new(program, arities)),
         Err(refusal) => Err((program, refusal)),
     }
