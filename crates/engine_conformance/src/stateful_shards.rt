@@ -227,6 +227,33 @@ fn join_of_two_sides(rt: HostRuntime) -> Result<(), Fail> {
     Ok(())
 }
 
+/// What a join sends for a batch on the left, and then for a second one there and one on the right: a record is in both on the left.
+fn join_after_two(
+    rt: &impl Abort,
+    alloc: Global,
+    shard: &mut Shard,
+) -> Result<(Vec<i64>, Both), ShardFault>
+    requires { IsAtWork Role.stateful 2 2 shard.old }
+{
+    let first = join_sends(rt, alloc, shard, 0, &Time::at_epoch(0), &[(1, 5), (2, 6)])?;
+    let both = join_both(rt, alloc, shard, &[(1, 5), (3, 7)], &[(1, 9)])?;
+    Ok((first, both))
+}
+
+/// The same of a new join.
+fn new_join_after_two(rt: &impl Abort, alloc: Global) -> Result<(Vec<i64>, Both), ShardFault> {
+    let mut shard = join(alloc)?;
+    join_after_two(rt, alloc, &mut shard)
+}
+
+#[test]
+fn join_of_two_batches_that_wait(rt: HostRuntime) -> Result<(), Fail> {
+    let (first, (second, third)) = new_join_after_two(&rt, rt.alloc())?;
+    assert!(rt; first.is_empty() && second.is_empty());
+    assert_eq!(rt; third.as_slice(), [1, 5, 1, 9, 1, 5, 1, 9].as_slice());
+    Ok(())
+}
+
 #[test]
 fn join_of_records_with_themselves(rt: HostRuntime) -> Result<(), Fail> {
     let records = [(1, 2), (1, 3)];
