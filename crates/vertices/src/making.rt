@@ -9,7 +9,7 @@ ghost use Rattle.semantics.specs.Kinds.{Kind as Equation, in_ports};
 ghost use Rattle.semantics.specs.PortArity.{PortsFit};
 ghost use Rattle.semantics.specs.Typing.{CondFits, IsArity, ScalarFits};
 ghost use Rattle.vertices.specs.Shards.{IsFreshShard, by_port};
-ghost use Rattle.vertices.specs.declared.fault.ShardFault.TheVariants.{NoMemory};
+ghost use Rattle.vertices.specs.declared.fault.ShardFault.TheVariants as fault;
 
 use crate::distinct::DistinctShard;
 use crate::except::ExceptShard;
@@ -38,7 +38,7 @@ pub fn new_shard(
     requires first { 0 < in_ports (kind_of vertex.now.kind) → IsArity first }
     requires second { 1 < in_ports (kind_of vertex.now.kind) → IsArity second }
     ensures fresh { IfOk result (λ s. IsFreshShard (kind_of vertex.now.kind) first second s) }
-    ensures never { IfErr result (λ e. e ≡ NoMemory) }
+    ensures never { IfErr result (λ e. e ≡ fault.NoMemory) }
 {
     match &vertex.kind {
         Kind::Input => Ok(Shard::Input(Input)),
@@ -85,7 +85,7 @@ fn new_select(alloc: Global, scalars: &[Scalar<Global>], arity: usize) -> Result
     requires some { 1 ≤ length scalars.now }
     requires few { length scalars.now ≤ 16 }
     ensures fresh { (second : ℕ) → IfOk result (λ s. IsFreshShard (Equation.select (map plain_scalar (map scalar_tree scalars.now))) arity second s) }
-    ensures never { IfErr result (λ e. e ≡ NoMemory) }
+    ensures never { IfErr result (λ e. e ≡ fault.NoMemory) }
 {
     let scalars = copy_scalars(alloc, scalars)?;
     Ok(Shard::Select(Select { arity, scalars }))
@@ -106,7 +106,7 @@ fn copy_scalars(alloc: Global, scalars: &[Scalar<Global>]) -> Result<Vec<Scalar<
 fn new_where(alloc: Global, condition: &Cond<Global>, arity: usize) -> Result<Shard, ShardFault>
     requires { CondFits arity (plain_cond (cond_tree condition.now)) }
     ensures fresh { (second : ℕ) → IfOk result (λ s. IsFreshShard (Equation.filter (plain_cond (cond_tree condition.now))) arity second s) }
-    ensures never { IfErr result (λ e. e ≡ NoMemory) }
+    ensures never { IfErr result (λ e. e ≡ fault.NoMemory) }
 {
     let condition = copy_cond(alloc, condition)?;
     Ok(Shard::Where(Where { arity, condition }))
@@ -117,7 +117,7 @@ fn new_join(alloc: Global, pairs: &[Pair], left: usize, right: usize) -> Result<
     requires right { 1 ≤ right }
     requires fits { left + right ≤ 16 }
     ensures fresh { IfOk result (λ s. IsFreshShard (Equation.join (map plain_pair pairs.now)) left right s) }
-    ensures never { IfErr result (λ e. e ≡ NoMemory) }
+    ensures never { IfErr result (λ e. e ≡ fault.NoMemory) }
 {
     let pairs = pairs.to_vec(alloc)?;
     let plan = JoinPlan::new(alloc, Join { pairs }, left, right)?;
@@ -134,7 +134,7 @@ fn new_group(
     requires some { 1 ≤ length columns.now + length aggregates.now }
     requires few { length columns.now + length aggregates.now ≤ 16 }
     ensures fresh { (second : ℕ) → IfOk result (λ s. IsFreshShard (Equation.group (map (λ k. k.index) columns.now) (map plain_agg aggregates.now)) arity second s) }
-    ensures never { IfErr result (λ e. e ≡ NoMemory) }
+    ensures never { IfErr result (λ e. e ≡ fault.NoMemory) }
 {
     let columns = columns.to_vec(alloc)?;
     let aggregates = aggregates.to_vec(alloc)?;
