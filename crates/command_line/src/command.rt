@@ -22,9 +22,9 @@ const INPUT: &str = "The file with the input; - is standard input";
 /// What the help says of the word `SCHEDULE`.
 const SCHEDULE: &str = "The file with the schedule; - is standard input";
 
-/// The last line of the help.
-const STATUSES: &str =
-    "Exit status: 0 done, 2 command line, 3 query, 4 input or schedule, 5 memory or threads, 6 file";
+/// The last lines of the help: the statuses, and where the language is described.
+const LAST_LINES: &str =
+    "Exit status: 0 done, 2 command line, 3 query, 4 input or schedule, 5 memory, count or threads, 6 file\nThe language: LANGUAGE.md";
 
 /// A word that has to be given, with its line of help.
 fn word_arg<'a>(alloc: Global, id: &'a str, about: &'a str) -> Arg<'a>
@@ -61,7 +61,7 @@ fn explain_arg<'a>(alloc: Global) -> Arg<'a>
     flag_arg(
         alloc,
         "explain",
-        "Show the place of a fault, and what is wrong there",
+        "Show where an error is, and what is wrong there",
     )
 }
 
@@ -73,7 +73,7 @@ fn workers_arg<'a>(alloc: Global) -> Arg<'a>
     Arg::new(alloc, "workers")
         .long("workers")
         .value_name("N")
-        .help("How many workers, 1 to 64; one where it is not given")
+        .help("Number of workers, 1 to 64; default 1")
 }
 
 /// The option `--heap BYTES`.
@@ -102,12 +102,12 @@ fn check_command<'a>(alloc: Global) -> Result<Command<'a>, AllocError>
     named(
         alloc,
         "check",
-        "Check a query, and an input where one is given, and write the arities",
+        "Check a query, and an input if given; print the number of fields of each",
     )
     .arg(heap_arg(alloc))?
     .arg(explain_arg(alloc))?
     .arg(word_arg(alloc, "QUERY", QUERY))?
-    .arg(optional_arg(alloc, "INPUT", "The file with an input to check too"))
+    .arg(optional_arg(alloc, "INPUT", "An input to check too; - is standard input"))
 }
 
 fn graph_command<'a>(alloc: Global) -> Result<Command<'a>, AllocError>
@@ -143,12 +143,12 @@ fn run_command<'a>(alloc: Global) -> Result<Command<'a>, AllocError>
         .arg(flag_arg(
             alloc,
             "watch",
-            "Tell on standard error how many epochs have passed",
+            "Report on standard error how many epochs have passed",
         ))?
         .arg(flag_arg(
             alloc,
             "stats",
-            "Tell on standard error, after the run, what each vertex did",
+            "After the run, report on standard error what each vertex did",
         ))?
         .arg(explain_arg(alloc))?
         .arg(word_arg(alloc, "QUERY", QUERY))?
@@ -162,7 +162,7 @@ fn follow_command<'a>(alloc: Global) -> Result<Command<'a>, AllocError>
     named(
         alloc,
         "follow",
-        "Answer a query while its input comes, and tell which epochs are complete",
+        "Answer a query as its input arrives, and report each complete epoch",
     )
     .arg(workers_arg(alloc))?
     .arg(explain_arg(alloc))?
@@ -177,7 +177,7 @@ fn replay_command<'a>(alloc: Global) -> Result<Command<'a>, AllocError>
     named(
         alloc,
         "replay",
-        "Do a schedule's steps one by one, and write the answers so far that it asks for",
+        "Run a schedule step by step, and print what it asks for",
     )
     .arg(workers_arg(alloc))?
     .arg(flag_arg(
@@ -194,19 +194,18 @@ fn explain_command<'a>(alloc: Global) -> Result<Command<'a>, AllocError>
     ensures app { IfOk result (λ c. app_of c ≡ explain_app) }
     ensures local { IfOk result (λ c. (fields_of c).has_globals ≡ false) }
 {
-    named(
+    named(alloc, "explain", "Explain an error number, with examples").arg(word_arg(
         alloc,
-        "explain",
-        "Tell what a refusal's number means, with examples",
-    )
-    .arg(word_arg(alloc, "CODE", "The number of a refusal, as 13"))
+        "CODE",
+        "An error number, such as 13",
+    ))
 }
 
-/// The program's own command, with the last line of its help.
+/// The program's own command, with the last lines of its help.
 fn program<'a>(alloc: Global) -> Command<'a>
     ensures app { app_of result ≡ new_app (codes "loom") }
 {
-    Command::new(alloc, "loom").after_help(STATUSES)
+    Command::new(alloc, "loom").after_help(LAST_LINES)
 }
 
 fn line_command<'a>(alloc: Global) -> Result<Command<'a>, AllocError>
