@@ -11,8 +11,9 @@ use expr_tree::NoMemory;
 use std::alloc::Global;
 
 /// Puts the graph at the end, as a text that Graphviz draws: a node for each vertex, with its number, its kind with its parameters, and
-/// its depth; an edge for each edge, with its number, and its in port where the vertex that it enters has two; and each loop as a
-/// cluster, in the cluster of the loop around it. After a refusal the bytes are as before.
+/// in a loop its depth; an edge for each edge, with its number, its out port where the vertex that it leaves has two, and its in port
+/// where the vertex that it enters has two; and each loop as a cluster, in the cluster of the loop around it. After a refusal the bytes
+/// are as before.
 pub fn graph_dot(alloc: Global, graph: &Graph, text: &mut Vec<u8>) -> Result<(), NoMemory>
     ensures { OnErr result (text.new.items ≡ text.old.items) }
 {
@@ -68,8 +69,10 @@ fn put_node(
     put_number(text, number)?;
     text.extend_from_slice(b" ")?;
     put_label(text, &vertex.kind, name)?;
-    text.extend_from_slice(b" ")?;
-    put_number(text, vertex.depth as u64)?;
+    if vertex.depth > 0 {
+        text.extend_from_slice(b" depth ")?;
+        put_number(text, vertex.depth as u64)?;
+    }
     text.extend_from_slice(b"\"];")?;
     for _ in loops {
         text.extend_from_slice(b" }")?;
@@ -88,7 +91,7 @@ fn put_arrows(text: &mut Vec<u8>, graph: &Graph) -> Result<(), NoMemory> {
     Ok(())
 }
 
-/// An edge, with its in port where the vertex that it enters has two.
+/// An edge, with its out port where the vertex that it leaves has two, and its in port where the vertex that it enters has two.
 fn put_arrow(
     text: &mut Vec<u8>,
     number: u64,
@@ -100,6 +103,12 @@ fn put_arrow(
     put_number(text, edge.target.0 as u64)?;
     text.extend_from_slice(b" [label=\"")?;
     put_number(text, number)?;
+    if let Some(source) = vertices.get(edge.source.vertex.0 as usize) {
+        if source.kind.out_ports() == 2 {
+            text.extend_from_slice(b" out ")?;
+            put_number(text, edge.source.out as u64)?;
+        }
+    }
     if let Some(target) = vertices.get(edge.target.0 as usize) {
         if target.kind.in_ports() == 2 {
             text.extend_from_slice(b" in ")?;
