@@ -296,7 +296,7 @@ fn tell_numbers<E: Write>(code: &str, err: &mut E) -> u8
     ensures { result ≡ 2 }
 {
     let code = Word(code.as_bytes());
-    let _ = writeln!(err, "no refusal has the number {code}: they are {NUMBERS}");
+    let _ = writeln!(err, "{code} is no error number; these are {NUMBERS}");
     2
 }
 

@@ -101,7 +101,7 @@ fn of_call(before: &[u8], word: &[u8]) -> Option<&'static str> {
         (b"sum" | b"min" | b"max", b"(") => Some("a column without brackets follows, as in sum #1"),
         (b"count", b"(") => Some("count stands alone"),
         (b"minus" | b"difference", b"(") => Some("use except(a, b)"),
-        (b"union", b"(") => Some("use concat(a, b), or distinct(concat(a, b)) without repeats"),
+        (b"union", b"(") => Some("use concat(a, b), or distinct(concat(a, b)) to drop repeats"),
         (b"filter", b"(") => Some("use where(a; #0 > 1)"),
         (b"map" | b"project", b"(") => Some("use select(a; #0)"),
         (b"unique", b"(") => Some("use distinct(a)"),
@@ -183,7 +183,7 @@ fn in_bracket(before: &[u8], word: &[u8], behind: &[u8]) -> Option<&'static str>
     match (bracket.name, bracket.semicolons, word) {
         (_, _, b"and" | b"or" | b"not" | b"[") => of_condition(before, bracket, word),
         _ if is_comparison(word) => of_condition(before, bracket, word),
-        (b"group", 1, b";") if before.ends_with(b";") => Some("a group has a key or more"),
+        (b"group", 1, b";") if before.ends_with(b";") => Some("a group has at least one key"),
         (b"group", count, _) if count > 1 && is_name(word) => Some(
             "the aggregates are count, sum, min and max",
         ),

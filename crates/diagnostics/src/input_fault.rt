@@ -1,7 +1,7 @@
 //! What is wrong with a line of an input, with the names and the numbers involved.
 
 use crate::display::{Fields, Meant, Word, separator};
-use crate::input_hint::{of_field, of_first};
+use crate::input_hint::{of_field, of_first, of_gap};
 use crate::query_fault::write_summary;
 use bumpalo::Bump;
 use decimal::signed_number;
@@ -44,12 +44,13 @@ fn declared_fields(alloc: Global, query: &[u8], name: &[u8]) -> Option<u64> {
 /// Writes what is wrong with a malformed line.
 fn write_malformed<W: Write>(line: &[u8], writer: &mut W) -> io::Result<()> {
     let (first, _) = words(line);
+    let question = of_gap(first);
     match line {
         [] => writeln!(writer, "the line is empty"),
         [b' ', ..] => writeln!(writer, "the line begins with a space"),
-        [.., b' '] => writeln!(writer, "the line ends with a space"),
+        [.., b' '] => writeln!(writer, "the line ends with a space{question}"),
         _ if line.windows(2).any(|pair| pair == b"  ".as_slice()) => {
-            writeln!(writer, "two spaces stand together")
+            writeln!(writer, "two spaces stand together{question}")
         }
         _ => {
             let meant = Meant(of_first(first));

@@ -8,9 +8,17 @@ fn of_separator(word: &[u8]) -> Option<&'static str> {
     if word.contains(&b'\t') {
         Some("fields are separated by one space, not by a tab")
     } else if word.iter().any(|byte| matches!(*byte, b',' | b';' | b'|')) {
-        Some("fields are separated by one space alone")
+        Some("fields are separated by one space, not by , ; or |")
     } else {
         None
+    }
+}
+
+/// The question where a line has two spaces together or one at its end, by its first word. An `epoch` line has no fields.
+pub fn of_gap(first: &[u8]) -> &'static str {
+    match first {
+        b"epoch" => "",
+        _ => "; is a field empty?",
     }
 }
 
@@ -35,7 +43,7 @@ fn of_digits(word: &[u8]) -> &'static str {
         [b'+', ..] => "a number has no +",
         [b'-', b'0'] => "zero is written 0",
         [b'-', b'0', ..] | [b'0', ..] => "a number doesn't begin with 0",
-        _ => "a number lies between -9223372036854775808 and 9223372036854775807",
+        _ => "a number is at least -9223372036854775808 and at most 9223372036854775807",
     }
 }
 
@@ -62,7 +70,7 @@ pub fn of_field(word: &[u8], line: &[u8]) -> Option<&'static str> {
             "numbers are whole; write 12.50 as 1250 cents",
         ),
         _ if matches!(digits, [b'0'..=b'9', ..]) => Some(
-            "a number has only digits, after a - or none",
+            "a number is digits, with a - before them if negative",
         ),
         _ if is_header(line) => Some("if this is a header line, leave it out"),
         _ => Some("fields are whole numbers; give each string a number"),

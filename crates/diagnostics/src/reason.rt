@@ -15,11 +15,11 @@ pub fn write_reason<W: Write>(reason: Option<ErrorKind>, writer: &mut W) -> io::
 fn sentence(kind: ErrorKind) -> &'static str {
     match kind {
         ErrorKind::NotFound => "there is no such file",
-        ErrorKind::NotADirectory => "a part of the path is no directory",
+        ErrorKind::NotADirectory => "part of the path is not a directory",
         ErrorKind::IsADirectory => "it is a directory",
-        ErrorKind::PermissionDenied => "you may not read it",
+        ErrorKind::PermissionDenied => "permission denied",
         ErrorKind::InvalidFilename => "the name is too long",
-        ErrorKind::FilesystemLoop => "its symbolic links lead round in a circle",
+        ErrorKind::FilesystemLoop => "too many symbolic links",
         ErrorKind::WouldBlock => "there is nothing to read yet, and this stream doesn't wait",
         _ => "the system can't read it",
     }

@@ -9,7 +9,7 @@ pub fn write_schedule_fault<W: Write>(code: u8, writer: &mut W) -> io::Result<()
     match code {
         44 => writeln!(
             writer,
-            "a word that must be a number is none in its plain spelling, or is too large"
+            "expected a number without a sign or a leading zero, at most 4294967295; a field as in an input"
         ),
         46 => writeln!(
             writer,
