@@ -9,7 +9,7 @@ use record_core::{Keyword, Span};
 fn of_byte(before: &[u8], byte: u8, behind: &[u8]) -> Option<&'static str> {
     match (byte, behind) {
         (b'A'..=b'Z', _) if before.is_empty() => Some(
-            "a query begins with its inputs, in lower case, as input a/1;",
+            "a query begins with its inputs, in lower case, as in input a/1;",
         ),
         (b'A'..=b'Z', _) => Some("names and keywords are in lower case"),
         (b'\'' | b'"', _) => Some("there are no strings; give each text a number"),
@@ -77,7 +77,7 @@ fn of_item(before: &[u8], word: &[u8]) -> Option<&'static str> {
     let (front, last) = split_word(before);
     match (before, last, word) {
         ([], _, b"epoch") => Some("this looks like an input; the query comes first"),
-        ([], _, _) => Some("a query begins with its inputs, as input a/1;"),
+        ([], _, _) => Some("a query begins with its inputs, as in input a/1;"),
         (_, b"input" | b"let", _) if Keyword::of(word).is_some() => Some(
             "a keyword can't be a name",
         ),
@@ -206,7 +206,7 @@ fn of_end(text: &[u8]) -> Option<&'static str> {
         (Some(b'['), _) => Some("a [ is still open"),
         (Some(_), _) => Some("a ( is still open"),
         (None, [.., b';']) => Some("an output is missing"),
-        (None, []) => Some("a query begins with its inputs, as input a/1;"),
+        (None, []) => Some("a query begins with its inputs, as in input a/1;"),
         (None, [.., b')']) => Some("a ; is missing"),
         _ => None,
     }

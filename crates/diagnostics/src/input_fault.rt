@@ -139,7 +139,7 @@ pub fn write_input_fault<W: Write>(
     let (first, _) = words(line);
     let name = Word(first);
     match (code, first) {
-        (41 | 42, b"epoch") => writeln!(writer, "an `epoch` line is that word alone"),
+        (41 | 42, b"epoch") => writeln!(writer, "an `epoch` line has no other words"),
         (41 | 42, b"input") => writeln!(
             writer,
             "this looks like a query; the query comes first, then the input"
