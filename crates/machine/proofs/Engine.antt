@@ -1,6 +1,5 @@
 -- The network of a dataflow graph keeps the laws of networks, and has flows.
-use Rattle.std.proofs.Common.{◌≡◌, ◌≢◌, ◌≤◌, ◌<◌, ℕ, zero, suc, ◌+◌, ◌-◌, nat_lt, Bool, true, false, cond, List, [], ◌∷◌, ◌++◌, ◌⊎◌, inl, inr, refl, sym, ap, ◌∙◌, subst, arith, map, flat_map, length, slice_index_or, Option, Some, None, ltb-true, ltb-false}
-use Rattle.std.proofs.Math.Nat.{mod-lt}
+use Rattle.std.proofs.Common.{◌≡◌, ◌≢◌, ◌≤◌, ◌<◌, ℕ, zero, suc, ◌+◌, ◌-◌, nat_lt, Bool, true, false, cond, List, [], ◌∷◌, ◌++◌, ◌⊎◌, inl, inr, refl, sym, ap, ◌∙◌, subst, arith, map, flat_map, length, slice_index_or, Some, ltb-true, ltb-false}
 use Rattle.std.specs.List.{AllByRecursion}
 use Rattle.semantics.specs.Multiset.{Record, same, one_if, total, count, end_to_end, ◌≈◌, IsPartOf}
 use Rattle.semantics.specs.Could.{IsTimeAt, PathStep, Location}
@@ -18,6 +17,7 @@ use Rattle.semantics.proofs.CouldRises.{step_fits, at_most_refl, could_self, cou
 use Rattle.semantics.proofs.EdgeNumbers.{entered, into}
 use Rattle.semantics.proofs.OneFlow.{op_same, one_flow}
 use Rattle.semantics.proofs.VertexLaws.{op_nothing, op_cut}
+use Rattle.semantics.proofs.RoutedParts.{home_below}
 use Rattle.semantics.proofs.RankRises.{StepRises, step_rises, rises_from_nested}
 use Rattle.semantics.proofs.VertexFlows.{last-deeper}
 use Rattle.machine.specs.Network.{Network}
@@ -31,7 +31,7 @@ use Rattle.machine.proofs.Places.{same_time_tells, same_time_self}
 
 -- ---- roles
 
-role_input : (k : Kind) → role k ≡ Role.input → k ≡ Kind.input
+pub role_input : (k : Kind) → role k ≡ Role.input → k ≡ Kind.input
 role_input Kind.input e = refl
 role_input Kind.output e = absurd cc
 role_input Kind.concat e = absurd cc
@@ -178,6 +178,14 @@ input_kind (x ∷ g) i l = go (is_input x.kind) refl (λ j m. input_kind g j m) 
     go true e ih (suc i) l = ih i (omega arith)
     go false e ih i l = absurd (omega arith)
 
+pub few_inputs : (g : Graph) → input_count g ≤ length g
+few_inputs [] = omega arith
+few_inputs (x ∷ g) = go (is_input x.kind) (few_inputs g)
+  where
+    go : (b : Bool) → input_count g ≤ length g → cond b (suc (input_count g)) 0 ≤ suc (length g)
+    go true h = omega (arith, h)
+    go false h = omega arith
+
 goes_up : (loops : ℕ → List ℕ) (v w : ℕ) (a : Action) → Goes loops v w a → a ≡ Action.stay → v < w
 goes_up loops v w a (Goes.same_loop e h) s = h
 goes_up loops v w a (Goes.into_loop e q h) s = absurd cc
@@ -314,12 +322,6 @@ keyed_record f k (x ∷ xs) h = go (same (f x) k) refl (keyed_record f k xs)
         (s.0, omega arith, s.2)
 
 -- ---- the laws
-
-home_below : (key : Option (Record → Record)) (b : Bool) (workers sender : ℕ) (r : Record) → sender < workers → home_by key b workers sender r < workers
-unfolding route
-home_below (Some key) b workers sender r l = mod-lt _ (let z : 0 < workers = omega arith in z)
-home_below None true workers sender r l = mod-lt _ (let z : 0 < workers = omega arith in z)
-home_below None false workers sender r l = l
 
 module _ (g : Graph) (flows : IsDataflow g) (workers : ℕ) (some : 0 < workers) where
   abbrev net : Network

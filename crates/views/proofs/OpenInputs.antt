@@ -1,40 +1,15 @@
 -- Each input may be active at epoch 0.
-use Rattle.std.proofs.Common.{◌≡◌, inl, ◌<◌, ◌≤◌, ◌+◌, ℕ, zero, suc, Bool, true, false, cond, List, [], ◌∷◌, ◌++◌, length, refl, sym, subst, arith, add-one}
+use Rattle.std.proofs.Common.{◌≡◌, inl, ◌<◌, ◌≤◌, ◌+◌, ℕ, zero, suc, List, [], ◌∷◌, ◌++◌, length, refl, sym, subst, arith, add-one}
 use Rattle.semantics.specs.Graph.{Graph, vertex, input_count}
 use Rattle.semantics.specs.Could.{Location, Pointstamp, IsTimeAt, at_vertex}
 use Rattle.semantics.specs.Time.{at_epoch}
-use Rattle.semantics.specs.Kinds.{Kind, Role, role, is_input}
+use Rattle.semantics.specs.Kinds.{role}
 use Rattle.semantics.specs.Dataflow.{IsDataflow}
 use Rattle.machine.specs.Active.{one_if_same, sum_below}
 use Rattle.machine.proofs.Active.{one_is}
-use Rattle.machine.proofs.Engine.{network_is}
+use Rattle.machine.proofs.Engine.{few_inputs, network_is, role_input}
 use Rattle.progress.specs.Content.{times_in}
 use Rattle.progress.proofs.Contents.{times-push}
-
-role_input : (k : Kind) → role k ≡ Role.input → k ≡ Kind.input
-role_input Kind.input e = refl
-role_input Kind.output e = absurd cc
-role_input Kind.concat e = absurd cc
-role_input Kind.distinct e = absurd cc
-role_input Kind.except e = absurd cc
-role_input Kind.intersect e = absurd cc
-role_input Kind.ingress e = absurd cc
-role_input Kind.egress e = absurd cc
-role_input Kind.feedback e = absurd cc
-role_input (Kind.select ss) e = absurd cc
-role_input (Kind.filter c) e = absurd cc
-role_input (Kind.join ps) e = absurd cc
-role_input (Kind.group ks as') e = absurd cc
-role_input (Kind.gate n) e = absurd cc
-role_input (Kind.hold n) e = absurd cc
-
-few_inputs : (g : Graph) → input_count g ≤ length g
-few_inputs [] = omega arith
-few_inputs (x ∷ g) = go (is_input x.kind) (few_inputs g)
-  where
-    go : (b : Bool) → input_count g ≤ length g → cond b (suc (input_count g)) 0 ≤ suc (length g)
-    go true h = omega (arith, h)
-    go false h = omega arith
 
 pub input_opens : (g : Graph) → IsDataflow g → (i : ℕ) → i < input_count g → IsTimeAt g (Location.vertex i) (at_epoch 0)
 input_opens g flows i l =
