@@ -36,17 +36,17 @@ answered g old now all others given p b m is =
       answers = λ more a. subst (AreAnswers (CouldResultIn g) old all) (sym (append_assoc given (b ∷ []) more)) (m.answers (b ∷ more) (is, a));
     }
 
--- the change at a place, and those behind it
-pub here_drop : (xs : List Change) (n : ℕ) (x : Change) → slice_get xs n ≡ Some x → drop n xs ≡ x ∷ drop (n + 1) xs
-here_drop xs n x h = rw (add-one n) (go xs n h)
+-- the item at a place, and those behind it
+pub here_drop : {X : Type 0} (xs : List X) (n : ℕ) (x : X) → slice_get xs n ≡ Some x → drop n xs ≡ x ∷ drop (n + 1) xs
+here_drop {X} xs n x h = rw (add-one n) (go xs n h)
   where
-    same_some : (a b : Change) → Some a ≡ Some b → a ≡ b
+    same_some : (a b : X) → Some a ≡ Some b → a ≡ b
     same_some a b e = cc
 
-    go : (xs : List Change) (n : ℕ) → slice_get xs n ≡ Some x → drop n xs ≡ x ∷ drop (suc n) xs
+    go : (xs : List X) (n : ℕ) → slice_get xs n ≡ Some x → drop n xs ≡ x ∷ drop (suc n) xs
     go [] zero h = absurd (let e = h in cc)
     go [] (suc n) h = absurd (let e = h in cc)
-    go (y ∷ xs) zero h = ap (λ (z : Change). z ∷ xs) (same_some y x h)
+    go (y ∷ xs) zero h = ap (λ (z : X). z ∷ xs) (same_some y x h)
     go (y ∷ xs) (suc n) h = go xs n h
 
 drop_all : (xs : List Change) (n : ℕ) → length xs ≤ n → drop n xs ≡ []

@@ -11,7 +11,8 @@ use Rattle.views.specs.WorkerViews.{untaken_at, waiting_of, IsSender, AreViews}
 use Rattle.semantics.specs.Multiset.{total}
 use Rattle.views.proofs.SenderSums.{sum_same}
 use Rattle.views.proofs.Histories.{history_applied, none_stays}
-use Rattle.views.proofs.PostedBatches.{get_below, set_long, set_same, get_set_here, get_set_else, left_got, left_set_here, left_set_else}
+use Rattle.progress.proofs.Contents.{got_below}
+use Rattle.views.proofs.PostedBatches.{set_long, set_same, get_set_here, get_set_else, left_got, left_set_here, left_set_else}
 
 same_some : {X : Type 0} (x y : X) → Some x ≡ Some y → x ≡ y
 same_some x y e = cc
@@ -25,7 +26,7 @@ module _ (g : Graph) (content : Pointstamp → ℕ) (workers : ℕ) (queues : Li
   queues' = slice_set queues s q'
 
   within : s < length queues
-  within = get_below queues s q got
+  within = got_below queues s q got
 
   sends : s < suc workers
   sends = let a = within in let b = h.senders in omega arith

@@ -8,18 +8,13 @@ use Rattle.progress.specs.Content.{times_in}
 use Rattle.views.specs.Waiting.{batch}
 use Rattle.views.specs.Queued.{Queued, untaken, batches_of, AllKnown}
 use Rattle.views.specs.WorkerViews.{untaken_at, waiting_of, IsSender, AreViews}
+use Rattle.progress.proofs.Contents.{got_below}
 use Rattle.views.proofs.Histories.{history_posted}
 
 -- ---- lists
 
 same_some : {X : Type 0} (x y : X) → Some x ≡ Some y → x ≡ y
 same_some x y e = cc
-
-pub get_below : {X : Type 0} (xs : List X) (i : ℕ) (x : X) → slice_get xs i ≡ Some x → i < length xs
-get_below [] zero x h = absurd (let e = h in cc)
-get_below [] (suc i) x h = absurd (let e = h in cc)
-get_below (y ∷ xs) zero x h = omega arith
-get_below (y ∷ xs) (suc i) x h = let k = get_below xs i x h in omega arith
 
 pub set_long : {X : Type 0} (xs : List X) (i : ℕ) (x : X) → length (slice_set xs i x) ≡ length xs
 set_long [] i x = refl
@@ -76,7 +71,7 @@ module _ (g : Graph) (content content' : Pointstamp → ℕ) (workers : ℕ) (qu
   queues' = slice_set queues s q'
 
   within : s < length queues
-  within = get_below queues s q got
+  within = got_below queues s q got
 
   sends : s < suc workers
   sends = let a = within in let b = h.senders in omega arith

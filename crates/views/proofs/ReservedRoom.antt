@@ -7,7 +7,8 @@ use Rattle.views.specs.Waiting.{Waiting, IsHistory}
 use Rattle.views.specs.Queued.{Queued, batches_of, AllKnown, IsSameQueue, IsQueue, IsOneOf, EndsFrom}
 use Rattle.views.specs.WorkerViews.{untaken_at, waiting_of, IsSender, AreViews, AreSameQueues}
 use Rattle.views.specs.declared.queue.Change.{Change}
-use Rattle.views.proofs.PostedBatches.{get_below, set_long, get_set_here, get_set_else, left_got}
+use Rattle.progress.proofs.Contents.{got_below}
+use Rattle.views.proofs.PostedBatches.{set_long, get_set_here, get_set_else, left_got}
 
 same_some : {X : Type 0} (x y : X) → Some x ≡ Some y → x ≡ y
 same_some x y e = cc
@@ -36,7 +37,7 @@ queues_set old qs s q q' h got same =
   where
     go : (t : ℕ) (p r : Queued) → slice_get old t ≡ Some p → slice_get (slice_set qs s q') t ≡ Some r → ((eqb t s ≡ true) × (t ≡ s)) ⊎ ((eqb t s ≡ false) × (t ≢ s)) → IsSameQueue p r
     go t p r a b (inl x) =
-        let e : q' ≡ r = same_some q' r (sym (get_set_here qs s q' (get_below qs s q got)) ∙ ap (slice_get (slice_set qs s q')) (sym x.1) ∙ b) in
+        let e : q' ≡ r = same_some q' r (sym (get_set_here qs s q' (got_below qs s q got)) ∙ ap (slice_get (slice_set qs s q')) (sym x.1) ∙ b) in
         subst (IsSameQueue p) e (queue_on p q q' (h.each t p q a (ap (slice_get qs) x.1 ∙ got)) same)
     go t p r a b (inr x) = h.each t p r a (sym (get_set_else qs s t q' x.1) ∙ b)
 

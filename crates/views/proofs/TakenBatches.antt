@@ -1,5 +1,5 @@
 -- A worker takes a batch, change by change.
-use Rattle.std.proofs.Common.{◌≡◌, ◌≢◌, ◌⊎◌, inl, inr, ℕ, zero, suc, ◌+◌, ◌≤◌, ◌<◌, Bool, true, false, List, [], ◌∷◌, ◌++◌, length, drop, Some, slice_get, slice_set, slice_index_or, eqb, refl, sym, ap, subst, ◌∙◌, arith, add-one, length-append, length-drop}
+use Rattle.std.proofs.Common.{◌≡◌, ◌≢◌, ◌⊎◌, inl, inr, ℕ, zero, suc, ◌+◌, ◌≤◌, ◌<◌, Bool, true, false, List, [], ◌∷◌, ◌++◌, length, drop, Some, slice_get, slice_set, slice_index_or, eqb, refl, sym, ap, subst, ◌∙◌, arith, length-append, length-drop}
 use Rattle.std.specs.Prelude.{MatchBool, ltb, map}
 use Rattle.std.proofs.lemmas.Bool.Decides.{nat_tests}
 use Rattle.semantics.specs.Graph.{Graph}
@@ -9,6 +9,7 @@ use Rattle.machine.specs.Views.{Changes}
 use Rattle.machine.proofs.Active.{one_self}
 use Rattle.std.proofs.lemmas.Bool.Decides.{eqb_tells}
 use Rattle.progress.specs.Content.{times_in}
+use Rattle.progress.proofs.ChangesMade.{here_drop}
 use Rattle.views.specs.Waiting.{batch}
 use Rattle.views.specs.Queued.{onto_first, batches_of, EndsFrom, AllKnown, as_changes, IsTaken, IsQueue}
 use Rattle.views.specs.declared.queue.Change.{Change}
@@ -78,19 +79,6 @@ never_ends [] zero l e = e
 never_ends [] (suc n) l e = e
 never_ends (x ∷ xs) zero l e = absurd (omega arith)
 never_ends (x ∷ xs) (suc n) l e = never_ends xs n (omega arith) e
-
--- the change at a place, and those behind it
-pub here_drop : (xs : List Change) (n : ℕ) (x : Change) → slice_get xs n ≡ Some x → drop n xs ≡ x ∷ drop (n + 1) xs
-here_drop xs n x h = rw (add-one n) (go xs n h)
-  where
-    same_some : (a b : Change) → Some a ≡ Some b → a ≡ b
-    same_some a b e = cc
-
-    go : (xs : List Change) (n : ℕ) → slice_get xs n ≡ Some x → drop n xs ≡ x ∷ drop (suc n) xs
-    go [] zero h = absurd (let e = h in cc)
-    go [] (suc n) h = absurd (let e = h in cc)
-    go (y ∷ xs) zero h = ap (λ (z : Change). z ∷ xs) (same_some y x h)
-    go (y ∷ xs) (suc n) h = go xs n h
 
 -- what is removed at a place is known
 pub removed_at : (g : Graph) (xs : List Change) (n : ℕ) (p : Pointstamp) → AllKnown g xs → slice_get xs n ≡ Some (Remove p) → IsTimeAt g p.location p.time

@@ -4,7 +4,8 @@ use Rattle.progress.proofs.Contents.{got_at}
 use Rattle.views.specs.declared.queue.Change.{Change}
 use Rattle.views.specs.Queued.{removes_in}
 use Rattle.views.specs.Stale.{stale_count}
-use Rattle.views.proofs.TakenBatches.{here_drop, removed_at}
+use Rattle.progress.proofs.ChangesMade.{here_drop}
+use Rattle.views.proofs.TakenBatches.{removed_at}
 use Rattle.views.proofs.StaleCounts.{removal_passed}
 use Rattle.views.proofs.stale.is_blocked_by_one_of.Goals as goal
 use Rattle.views.proofs.stale.is_blocked_by_one_of.Goals.{in-Add, in-Remove+else-is_blocked_by, in-End}
