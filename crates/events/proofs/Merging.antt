@@ -1,10 +1,11 @@
 -- Two messages put together.
-use Rattle.std.proofs.Common.{◌≡◌, Bool, true, false, ◌≤◌, ℕ, zero, suc, ◌+◌, ◌<◌, List, [], ◌∷◌, ◌++◌, ◌⊎◌, inl, inr, length, min, refl, sym, ap, ◌∙◌, subst, arith, append-nil, append_assoc, length-append}
+use Rattle.std.proofs.Common.{◌≡◌, ℕ, ◌+◌, ◌<◌, List, [], ◌∷◌, ◌++◌, inr, length, refl, sym, ap, ◌∙◌, subst, arith, append-nil, append_assoc, length-append}
 use Rattle.std.specs.List.{AllByRecursion}
-use Rattle.semantics.specs.Multiset.{Record, count, one_if, same}
+use Rattle.semantics.specs.Multiset.{Record}
 use Rattle.rows.specs.FlatRows.{arity_of, joined}
 use Rattle.rows.specs.Counts.{IsOver}
 use Rattle.rows.proofs.Joined.{joined_append}
+use Rattle.rows.proofs.Merging.{count_le}
 use Rattle.events.specs.Merging.{AreOneMessage}
 
 -- the arity of records is that of the first of them
@@ -40,14 +41,6 @@ one_message first more l a one second others m b other few fewer same all e =
 -- a message of one batch
 pub one_batch : (first : List Record) (more : List (List Record)) → more ≡ [] → first ++ joined more ≡ first
 one_batch first more e = ap (λ bs. first ++ joined bs) e ∙ append-nil first
-
-count_le : (r : Record) (xs : List Record) → count r xs ≤ length xs
-count_le r [] = omega arith
-count_le r (x ∷ xs) = go (same x r) (count_le r xs)
-  where
-    go : (b : Bool) → count r xs ≤ length xs → one_if b + count r xs ≤ suc (length xs)
-    go true h = omega (arith, h)
-    go false h = omega (arith, h)
 
 -- few records stand nowhere too often
 pub not_over : (xs : List Record) → length xs < 2048 → IsOver xs → ⊥

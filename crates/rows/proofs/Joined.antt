@@ -9,6 +9,9 @@ pub joined_append : (a b : List (List Record)) → joined (a ++ b) ≡ joined a 
 joined_append [] b = refl
 joined_append (x ∷ a) b = ap (λ l. x ++ l) (joined_append a b) ∙ sym (append_assoc x (joined a) (joined b))
 
+pub joined_behind : (bs : List (List Record)) (b : List Record) → joined (bs ++ b ∷ []) ≡ joined bs ++ b
+joined_behind bs b = joined_append bs (b ∷ []) ∙ ap (λ l. joined bs ++ l) (append-nil b)
+
 pub item_more : (more : List (List Record)) (k : ℕ) (x : List Record) → k < length more → x ≡ get_or more k x → joined (take (suc k) more) ≡ joined (take k more) ++ x
 item_more [] k x h e = absurd (omega (arith, h))
 item_more (y ∷ more) zero x h e = append-nil y ∙ sym e

@@ -62,7 +62,7 @@ pub merged_some : (o : Option (List Record)) (cs ds : List Run) (a b : ℕ) → 
 merged_some None cs ds a b m e s h = no_run_left ds h (empty_from_same (expanded ds) (≈-trans (≈-sym s) (≈-from (ap expanded m))))
 merged_some (Some x) cs ds a b m e s h = m ∙ e
 
-count_le : (r : Record) (xs : List Record) → count r xs ≤ length xs
+pub count_le : (r : Record) (xs : List Record) → count r xs ≤ length xs
 count_le r [] = omega arith
 count_le r (x ∷ xs) = go (same x r) (count_le r xs)
   where

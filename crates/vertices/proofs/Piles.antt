@@ -1,18 +1,15 @@
 -- Batches one behind another.
-use Rattle.std.proofs.Common.{◌≡◌, ℕ, suc, ◌+◌, ◌<◌, ◌≤◌, List, [], ◌∷◌, ◌++◌, length, take, get_or, refl, sym, ap, ◌∙◌, subst, arith, append-nil, length-append}
+use Rattle.std.proofs.Common.{◌≡◌, ℕ, suc, ◌+◌, ◌<◌, ◌≤◌, List, [], ◌∷◌, ◌++◌, length, take, get_or, sym, ap, ◌∙◌, subst, arith, length-append}
 use Rattle.std.specs.Prelude.{min}
 use Rattle.std.specs.List.{AllByRecursion}
 use Rattle.rows.specs.Counts.{Run, expanded, most, runs}
 use Rattle.rows.specs.FlatRows.{arity_of, joined}
-use Rattle.rows.proofs.Joined.{joined_append, item_more}
+use Rattle.rows.proofs.Joined.{item_more}
 use Rattle.semantics.specs.Multiset.{Record}
 
 pub all_more : (P : List Record → Type 0) (bs : List (List Record)) (b : List Record) → AllByRecursion P bs → P b → AllByRecursion P (bs ++ b ∷ [])
 all_more P [] b h p = (p, tt)
 all_more P (x ∷ bs) b h p = (h.0, all_more P bs b h.1 p)
-
-pub joined_behind : (bs : List (List Record)) (b : List Record) → joined (bs ++ b ∷ []) ≡ joined bs ++ b
-joined_behind bs b = joined_append bs (b ∷ []) ∙ ap (λ l. joined bs ++ l) (append-nil b)
 
 pub same_arity : (n m : ℕ) (bs : List (List Record)) → n ≡ m → AllByRecursion (λ b. arity_of b ≡ n) bs → AllByRecursion (λ b. arity_of b ≡ m) bs
 same_arity n m bs e h = subst (λ k. AllByRecursion (λ b. arity_of b ≡ k) bs) e h

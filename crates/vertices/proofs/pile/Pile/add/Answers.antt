@@ -4,9 +4,10 @@ use Rattle.semantics.specs.Multiset.{Record, ◌≈◌, count}
 use Rattle.semantics.proofs.MultisetSums.{append_comm, ≈-from, ≈-trans}
 use Rattle.rows.specs.Counts.{IsOver, most}
 use Rattle.rows.specs.FlatRows.{arity_of, joined}
+use Rattle.rows.proofs.Joined.{joined_behind}
 use Rattle.rows.proofs.Merging.{few_fit, fit_alike}
 use Rattle.vertices.specs.Piles.{Piled}
-use Rattle.vertices.proofs.Piles.{all_more, joined_behind, same_arity, few_more}
+use Rattle.vertices.proofs.Piles.{all_more, same_arity, few_more}
 use Rattle.vertices.proofs.pile.Pile.add.Goals as goal
 
 pub invariant_of-self-then-weight-le-MAX_COUNT : goal.invariant_of-self-then-weight-le-MAX_COUNT
