@@ -113,6 +113,10 @@ next_read inputs text rest line after n e f item r cut less says takes =
       tracks = new.3 ∙ r.tracks;
     }
 
+-- a text has a line at least
+pub filled : (bs : List ℕ) → 0 < length (split_on 10 bs)
+filled bs = omega (arith, length-slice_split (λ b. b == 10) bs)
+
 -- a line that a line feed ends has a fault
 pub faulty : (inputs : List Input) (text rest line after : List ℕ) (n : ℕ) (e : Draft) (fault : Fault) (code number : ℕ) → ReadSoFar inputs text rest n e → split_on 10 rest ≡ line ∷ split_on 10 after
     → IsFault inputs (draft_count e) line fault → code ≡ code_of fault → number ≡ n + 1 → IsRefused inputs text (At code number)
@@ -126,9 +130,6 @@ faulty inputs text rest line after n e fault code number r cut bad is at = (
   r.parts ∙ ap (λ (ls : List (List ℕ)). r.lines ++ ls) cut,
   inr (fault, is, filled after, subst (λ (k : ℕ). IsFault inputs k line fault) r.epochs bad),
 )
-  where
-    filled : (bs : List ℕ) → 0 < length (split_on 10 bs)
-    filled bs = omega (arith, length-slice_split (λ b. b == 10) bs)
 
 -- the last line has no line feed
 pub unended : (inputs : List Input) (text rest : List ℕ) (n : ℕ) (e : Draft) (code number : ℕ) → ReadSoFar inputs text rest n e → split_on 10 rest ≡ rest ∷ [] → 0 < length rest → code ≡ 43 → number ≡ n + 1 → IsRefused inputs text (At code number)

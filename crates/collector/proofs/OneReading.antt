@@ -1,10 +1,7 @@
 -- A text is read in one way, or refused for one fault.
-use Rattle.std.proofs.Common.{◌≡◌, ◌<◌, ◌≤◌, ◌+◌, ◌^◌, ◌∙◌, ◌⊎◌, inl, inr, ℕ, suc, ℤ, pos, negsuc, List, [], ◌∷◌, ◌++◌, length, Option, Some, None, refl, sym, ap, subst, arith, slice_get}
-use Rattle.std.specs.Int.{w64}
-use Rattle.std.specs.Int.Signed.{mag}
-use Rattle.std.specs.Int.RustNames.{FitsSigned}
+use Rattle.std.proofs.Common.{◌≡◌, ◌<◌, ◌≤◌, ◌+◌, ◌∙◌, ◌⊎◌, inl, inr, ℕ, suc, ℤ, List, [], ◌∷◌, ◌++◌, length, Option, Some, None, refl, sym, ap, subst, arith, slice_get}
 use Rattle.std.proofs.lemmas.Fmt.{signed_decimal_injective}
-use Rattle.std.proofs.lemmas.Int.{ints}
+use Rattle.decimal.proofs.Numbers.{fits_mag}
 use Rattle.record_core.specs.Records.{IsRecord}
 use Rattle.semantics.specs.Query.{Input}
 use Rattle.collector.specs.InputText.{IsInputText, IsRefused, LinesSay, begun_after, epochs_after, records_in}
@@ -16,23 +13,19 @@ use Rattle.collector.specs.declared.refusal.InputRefusal.TheVariants.{At}
 below_or : (a b : ℕ) → (a < b) ⊎ (b ≤ a)
 below_or a b = grind arith
 
-head_same : {X : Type 0} (x y : X) (xs ys : List X) → x ∷ xs ≡ y ∷ ys → x ≡ y
+pub head_same : {X : Type 0} (x y : X) (xs ys : List X) → x ∷ xs ≡ y ∷ ys → x ≡ y
 head_same x y xs ys e = cc
 
-tail_same : {X : Type 0} (x y : X) (xs ys : List X) → x ∷ xs ≡ y ∷ ys → xs ≡ ys
+pub tail_same : {X : Type 0} (x y : X) (xs ys : List X) → x ∷ xs ≡ y ∷ ys → xs ≡ ys
 tail_same x y xs ys e = cc
 
-not_empty : {X : Type 0} (xs ys : List X) (x : X) → [] ≡ xs ++ x ∷ ys → ⊥
+pub not_empty : {X : Type 0} (xs ys : List X) (x : X) → [] ≡ xs ++ x ∷ ys → ⊥
 not_empty [] ys x e = cc
 not_empty (y ∷ xs) ys x e = cc
 
-some_append : {X : Type 0} (xs ys : List X) (x : X) → 0 < length (xs ++ x ∷ ys)
+pub some_append : {X : Type 0} (xs ys : List X) (x : X) → 0 < length (xs ++ x ∷ ys)
 some_append [] ys x = omega arith
 some_append (y ∷ xs) ys x = omega arith
-
-fits_mag : (z : ℤ) → FitsSigned w64 z → mag z < 2 ^ 63
-fits_mag (pos n) fits = omega (arith, ints)
-fits_mag (negsuc n) fits = omega (arith, ints)
 
 one_numbers : (words : List (List ℕ)) (ys zs : List ℤ) → AreNumbers words ys → AreNumbers words zs → ys ≡ zs
 one_numbers [] [] [] g h = refl
@@ -157,7 +150,7 @@ one_reading inputs e (l ∷ ls) (x ∷ xs) (y ∷ ys) g h =
     cc
 
 -- the lines but the last, which is empty
-front_same : (xs ys : List (List ℕ)) → xs ++ [] ∷ [] ≡ ys ++ [] ∷ [] → xs ≡ ys
+pub front_same : (xs ys : List (List ℕ)) → xs ++ [] ∷ [] ≡ ys ++ [] ∷ [] → xs ≡ ys
 front_same [] [] e = refl
 front_same [] (y ∷ ys) e = absurd (not_empty ys [] [] (tail_same [] y [] (ys ++ [] ∷ []) e))
 front_same (x ∷ xs) [] e = absurd (not_empty xs [] [] (sym (tail_same x [] (xs ++ [] ∷ []) [] e)))
@@ -170,8 +163,12 @@ front_same (x ∷ xs) (y ∷ ys) e =
 abbrev Faulty : List Input → ℕ → List ℕ → List (List ℕ) → ℕ → Type 0
 Faulty inputs e line rest code = ((code ≡ 43) × (0 < length line) × (rest ≡ [])) ⊎ ((fault : Fault) × (code ≡ code_of fault) × (0 < length rest) × IsFault inputs e line fault)
 
-none_after : (rest : List (List ℕ)) → rest ≡ [] → 0 < length rest → ⊥
+pub none_after : (rest : List (List ℕ)) → rest ≡ [] → 0 < length rest → ⊥
 none_after rest e l = let n : length rest ≡ 0 = ap length e in omega (arith, n, l)
+
+-- an only line that is empty has no bytes
+pub none_in : (line : List ℕ) (rest : List (List ℕ)) → [] ∷ [] ≡ line ∷ rest → 0 < length line → ⊥
+none_in line rest e l = let n : 0 ≡ length line = ap length (head_same [] line [] rest e) in omega (arith, n, l)
 
 one_code : (inputs : List Input) (e : ℕ) (line : List ℕ) (rest : List (List ℕ)) (c d : ℕ) → Faulty inputs e line rest c → Faulty inputs e line rest d → c ≡ d
 one_code inputs e line rest c d (inl g) (inl h) = g.0 ∙ sym h.0
@@ -212,11 +209,7 @@ one_stop inputs e bs xs k r c (b ∷ ds) [] l s d g h is f t = absurd h
 -- lines that say items, up to the empty one behind the last line feed, have no faulty one
 none_faulty : (inputs : List Input) (e : ℕ) (ls : List (List ℕ)) (xs : List Item) (bs : List (List ℕ)) (ys : List Item) (k : List ℕ) (r : List (List ℕ)) (c : ℕ)
     → LinesSay inputs e ls xs → LinesSay inputs e bs ys → ls ++ [] ∷ [] ≡ bs ++ k ∷ r → Faulty inputs (epochs_after e ys) k r c → ⊥
-none_faulty inputs e [] [] [] [] k r c g h is (inl f) =
-    let line : [] ≡ k = head_same [] k [] r is in
-    let none : 0 ≡ length k = ap length line in
-    let some = f.1 in
-    omega (arith, none, some)
+none_faulty inputs e [] [] [] [] k r c g h is (inl f) = none_in k r is f.1
 none_faulty inputs e [] [] [] [] k r c g h is (inr f) = none_after r (sym (tail_same [] k [] r is)) f.2
 none_faulty inputs e [] [] (b ∷ bs) (y ∷ ys) k r c g h is f = not_empty bs r k (tail_same [] b [] (bs ++ k ∷ r) is)
 none_faulty inputs e (l ∷ ls) (x ∷ xs) [] [] k r c g h is f =

@@ -2,13 +2,14 @@
 use Rattle.std.proofs.Common.{◌≡◌, ◌≢◌, ◌<◌, ◌∙◌, ℕ, suc, ℤ, pos, negsuc, List, [], ◌∷◌, ◌++◌, length, map, Bool, true, false, refl, sym, ap, arith, append_assoc, decimal}
 use Rattle.std.specs.Prelude.{FitsSigned, IsTrue, codes, ◌&&◌}
 use Rattle.std.specs.Int.{w64}
-use Rattle.std.specs.Str.Parse.{AllDigits, digits_value}
+use Rattle.std.specs.Str.Parse.{AllDigits}
 use Rattle.std.specs.Fmt.{signed_decimal}
 use Rattle.std.specs.List.{AllByRecursion, flat_map, list_all}
 use Rattle.std.proofs.lemmas.Int.{ints}
 use Rattle.std.proofs.lemmas.List.{append-nil, length-append, length-map}
 use Rattle.std.proofs.lemmas.Fmt.{digits_decimal, decimal_nonempty}
-use Rattle.std.proofs.lemmas.Str.Parse.{IsNumeralModel, numerals_by_value, tells_digits, digit_from_value}
+use Rattle.std.proofs.lemmas.Str.Parse.{digit_from_value}
+use Rattle.decimal.proofs.Numbers.{decimal_numerals}
 use Rattle.record_core.specs.Names.{is_name_byte}
 use Rattle.semantics.specs.Query.{Input}
 use Rattle.collector.specs.OutputText.{spaced}
@@ -16,9 +17,6 @@ use Rattle.collector.specs.Pieces.{split_on}
 use Rattle.collector.specs.Lines.{Item, Says, IsFilled, AreNumbers}
 use Rattle.collector.specs.Quick.{Fit, IsRowAt}
 use Rattle.collector.proofs.Splits.{step, stop}
-
-own : IsNumeralModel (AllDigits 10) (digits_value 10)
-own = numerals_by_value (AllDigits 10) tells_digits
 
 -- a byte stands nowhere
 abbrev Free : ℕ → List ℕ → Type 0
@@ -41,8 +39,8 @@ free_digits byte [] low h = tt
 free_digits byte (d ∷ ds) low h = let k = digit_from_value d h.0 in (λ e. absurd (omega (arith, e, k, low)), free_digits byte ds low h.1)
 
 free_signed : (byte : ℕ) (z : ℤ) → byte < 45 → FitsSigned w64 z → Free byte (signed_decimal z)
-free_signed byte (pos n) low fits = free_digits byte (decimal n) low (digits_decimal own n (omega (arith, ints)))
-free_signed byte (negsuc n) low fits = (λ e. absurd (omega (arith, e, low)), free_digits byte (decimal (suc n)) low (digits_decimal own (suc n) (omega (arith, ints))))
+free_signed byte (pos n) low fits = free_digits byte (decimal n) low (digits_decimal decimal_numerals n (omega (arith, ints)))
+free_signed byte (negsuc n) low fits = (λ e. absurd (omega (arith, e, low)), free_digits byte (decimal (suc n)) low (digits_decimal decimal_numerals (suc n) (omega (arith, ints))))
 
 free_fields : (zs : List ℤ) → Fit zs → Free 10 (flat_map spaced zs)
 free_fields [] fits = tt

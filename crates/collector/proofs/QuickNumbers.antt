@@ -5,12 +5,9 @@ use Rattle.std.specs.Str.Parse.{AllDigits, digits_value}
 use Rattle.std.specs.Char.{digit_value}
 use Rattle.std.proofs.lemmas.Int.Digits.{digits_value_more}
 use Rattle.std.proofs.lemmas.Fmt.{decimal-digits_value}
-use Rattle.std.proofs.lemmas.Str.Parse.{IsNumeralModel, numerals_by_value, tells_digits}
 use Rattle.std.proofs.lemmas.Str.{digit_value_digit}
 use Rattle.std.proofs.lemmas.List.{get_or-take, length-take-le}
-
-own : IsNumeralModel (AllDigits 10) (digits_value 10)
-own = numerals_by_value (AllDigits 10) tells_digits
+use Rattle.decimal.proofs.Numbers.{decimal_numerals}
 
 -- the first bytes of a text are digits, and this is their number
 pub record Digits (text : List ℕ) (at value : ℕ) : Type 0 where
@@ -42,4 +39,4 @@ one_more text at value b new h lt is digit few e =
 pub spelled : (text : List ℕ) (at value : ℕ) → Digits text at value → at ≢ 0 → (get_or text 0 0 ≡ 48 → at ≤ 1) → take at text ≡ decimal value
 spelled text at value h some lead =
     let size : length (take at text) ≡ at = length-take-le at text h.within in
-    sym (ap decimal h.value_is ∙ decimal-digits_value own (take at text) h.digits (omega (arith, size)) (λ e. let one = lead (sym (get_or-take at text 0 0 (omega arith)) ∙ e) in omega (arith, size)) (omega (arith, h.value_is, h.small)))
+    sym (ap decimal h.value_is ∙ decimal-digits_value decimal_numerals (take at text) h.digits (omega (arith, size)) (λ e. let one = lead (sym (get_or-take at text 0 0 (omega arith)) ∙ e) in omega (arith, size)) (omega (arith, h.value_is, h.small)))

@@ -1,9 +1,8 @@
 -- The lines of a schedule, read one after another.
 use Rattle.std.proofs.Common.{◌≡◌, ◌<◌, ◌≤◌, ◌+◌, ◌∙◌, ℕ, List, [], ◌∷◌, ◌++◌, length, refl, sym, ap, arith, append_assoc, inl, inr}
-use Rattle.std.specs.Prelude.{◌==◌}
 use Rattle.std.proofs.lemmas.List.{length-append}
-use Rattle.std.proofs.lemmas.List.Splits.{length-slice_split}
 use Rattle.collector.specs.Pieces.{split_on}
+use Rattle.collector.proofs.LinesRead.{filled}
 use Rattle.schedule.specs.Commands.{Command}
 use Rattle.schedule.specs.ScheduleText.{Says, IsFault, IsRefused, IsScheduleText, SayAll, code_of}
 use Rattle.schedule.specs.declared.refusal.Fault.{Fault}
@@ -50,9 +49,6 @@ faulty kind text rest line after n commands fault code number r cut bad is at = 
   r.parts ∙ ap (λ (ls : List (List ℕ)). r.lines ++ ls) cut,
   inr (fault, is, filled after, bad),
 )
-  where
-    filled : (bs : List ℕ) → 0 < length (split_on 10 bs)
-    filled bs = omega (arith, length-slice_split (λ b. b == 10) bs)
 
 -- the last line has no line feed
 pub unended : (kind : ViewKind) (text rest : List ℕ) (n : ℕ) (commands : List Command) (code number : ℕ) → ReadSoFar kind text rest n commands → split_on 10 rest ≡ rest ∷ [] → 0 < length rest → code ≡ 43 → number ≡ n + 1 → IsRefused kind text (At code number)

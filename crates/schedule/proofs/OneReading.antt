@@ -3,11 +3,12 @@ use Rattle.std.proofs.Common.{◌≡◌, ◌<◌, ◌+◌, ◌^◌, ◌∙◌, �
 use Rattle.std.specs.List.{AllByRecursion}
 use Rattle.std.specs.Fmt.{signed_decimal}
 use Rattle.std.specs.Int.{w64}
-use Rattle.std.specs.Int.Signed.{mag}
 use Rattle.std.specs.Int.RustNames.{FitsSigned}
 use Rattle.std.proofs.lemmas.Fmt.{decimal_injective, decimal_nonempty, signed_decimal_injective}
 use Rattle.std.proofs.lemmas.Int.{ints}
+use Rattle.decimal.proofs.Numbers.{fits_mag}
 use Rattle.collector.specs.Lines.{AreNumbers, IsFilled}
+use Rattle.collector.proofs.OneReading.{front_same, head_same, none_after, none_in, not_empty, some_append, tail_same}
 use Rattle.schedule.specs.Commands.{Command, IsProper, arguments, letter, verb_of}
 use Rattle.schedule.specs.ScheduleText.{HasBadNumber, HasWords, IsFault, IsFormed, IsRefused, IsScheduleText, SayAll, Says, code_of}
 use Rattle.schedule.specs.declared.verb.Verb.{Verb}
@@ -16,24 +17,6 @@ use Rattle.schedule.specs.declared.verb.ViewKind.{ViewKind}
 use Rattle.schedule.specs.declared.refusal.Fault.{Fault}
 use Rattle.schedule.specs.declared.refusal.Fault.TheVariants.{Malformed, BadNumber}
 use Rattle.schedule.specs.declared.refusal.ScheduleRefusal.TheVariants.{At}
-
-head_same : {X : Type 0} (x y : X) (xs ys : List X) → x ∷ xs ≡ y ∷ ys → x ≡ y
-head_same x y xs ys e = cc
-
-tail_same : {X : Type 0} (x y : X) (xs ys : List X) → x ∷ xs ≡ y ∷ ys → xs ≡ ys
-tail_same x y xs ys e = cc
-
-not_empty : {X : Type 0} (xs ys : List X) (x : X) → [] ≡ xs ++ x ∷ ys → ⊥
-not_empty [] ys x e = cc
-not_empty (y ∷ xs) ys x e = cc
-
-some_append : {X : Type 0} (xs ys : List X) (x : X) → 0 < length (xs ++ x ∷ ys)
-some_append [] ys x = omega arith
-some_append (y ∷ xs) ys x = omega arith
-
-fits_mag : (z : ℤ) → FitsSigned w64 z → mag z < 2 ^ 63
-fits_mag (pos n) fits = omega (arith, ints)
-fits_mag (negsuc n) fits = omega (arith, ints)
 
 -- ---- words
 
@@ -259,22 +242,9 @@ one_reading kind (l ∷ ls) (x ∷ xs) (y ∷ ys) g h =
     let rest : xs ≡ ys = one_reading kind ls xs ys g.1 h.1 in
     cc
 
--- the lines but the last, which is empty
-front_same : (xs ys : List (List ℕ)) → xs ++ [] ∷ [] ≡ ys ++ [] ∷ [] → xs ≡ ys
-front_same [] [] e = refl
-front_same [] (y ∷ ys) e = absurd (not_empty ys [] [] (tail_same [] y [] (ys ++ [] ∷ []) e))
-front_same (x ∷ xs) [] e = absurd (not_empty xs [] [] (sym (tail_same x [] (xs ++ [] ∷ []) [] e)))
-front_same (x ∷ xs) (y ∷ ys) e =
-    let first : x ≡ y = head_same x y (xs ++ [] ∷ []) (ys ++ [] ∷ []) e in
-    let rest : xs ≡ ys = front_same xs ys (tail_same x y (xs ++ [] ∷ []) (ys ++ [] ∷ []) e) in
-    cc
-
 -- what a refusal says of its line
 abbrev Faulty : ViewKind → List ℕ → List (List ℕ) → ℕ → Type 0
 Faulty kind line rest code = ((code ≡ 43) × (0 < length line) × (rest ≡ [])) ⊎ ((fault : Fault) × (code ≡ code_of fault) × (0 < length rest) × IsFault kind line fault)
-
-none_after : (rest : List (List ℕ)) → rest ≡ [] → 0 < length rest → ⊥
-none_after rest e l = let n : length rest ≡ 0 = ap length e in omega (arith, n, l)
 
 one_code : (kind : ViewKind) (line : List ℕ) (rest : List (List ℕ)) (c d : ℕ) → Faulty kind line rest c → Faulty kind line rest d → c ≡ d
 one_code kind line rest c d (inl g) (inl h) = g.0 ∙ sym h.0
@@ -312,11 +282,7 @@ one_stop kind bs xs k r c (b ∷ ds) [] l s d g h is f t = absurd h
 
 -- lines that say commands, up to the empty one behind the last line feed, have no faulty one
 none_faulty : (kind : ViewKind) (ls : List (List ℕ)) (xs : List Command) (bs : List (List ℕ)) (ys : List Command) (k : List ℕ) (r : List (List ℕ)) (c : ℕ) → SayAll kind ls xs → SayAll kind bs ys → ls ++ [] ∷ [] ≡ bs ++ k ∷ r → Faulty kind k r c → ⊥
-none_faulty kind [] [] [] [] k r c g h is (inl f) =
-    let line : [] ≡ k = head_same [] k [] r is in
-    let none : 0 ≡ length k = ap length line in
-    let some = f.1 in
-    omega (arith, none, some)
+none_faulty kind [] [] [] [] k r c g h is (inl f) = none_in k r is f.1
 none_faulty kind [] [] [] [] k r c g h is (inr f) = none_after r (sym (tail_same [] k [] r is)) f.2
 none_faulty kind [] [] (b ∷ bs) (y ∷ ys) k r c g h is f = not_empty bs r k (tail_same [] b [] (bs ++ k ∷ r) is)
 none_faulty kind (l ∷ ls) (x ∷ xs) [] [] k r c g h is f =
