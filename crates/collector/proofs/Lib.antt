@@ -1,6 +1,7 @@
 pub mod Splits
 pub mod LinesRead
 pub mod InputNames
+pub mod DeclaredInputs
 pub mod Filled
 pub mod NumberLists
 pub mod Tracks

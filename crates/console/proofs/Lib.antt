@@ -1,6 +1,5 @@
 pub mod Answering
 pub mod RunEnds
-pub mod DeclaredInputs
 pub mod InputLines
 pub mod QueryFaults
 pub mod CheckedInputs

@@ -1,7 +1,6 @@
 pub mod Calls
 pub mod Crossing
 pub mod Cuts
-pub mod DeclaredInputs
 pub mod Entries
 pub mod Fed
 pub mod Items

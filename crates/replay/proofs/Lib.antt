@@ -8,5 +8,4 @@ pub mod Taken
 pub mod Told
 pub mod Opens
 pub mod GraphInputs
-pub mod DeclaredInputs
 pub mod OneRecord
