@@ -11,8 +11,8 @@ use Rattle.board.specs.Answers.{Claims}
 use Rattle.board.specs.declared.board.Claimed.{Claimed}
 use Rattle.board.specs.declared.board.Claimed.TheVariants.{Drained, Idle}
 use Rattle.collector.specs.Lines.{Item}
-use Rattle.collector.specs.OutputText.{is_plain}
-use Rattle.follow.specs.Entries.{Entry, label_of}
+use Rattle.collector.specs.OutputText.{is_plain, label_of}
+use Rattle.follow.specs.Entries.{Entry}
 use Rattle.follow.specs.Follows.{said_records}
 use Rattle.follow.specs.Scenes.{Grows, IsLive, Works, told_count}
 use Rattle.follow.specs.Steps.{CanTell, Ends, Goes, SentAll, Tells, ToldSo}

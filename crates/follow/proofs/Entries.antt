@@ -9,8 +9,8 @@ use Rattle.rows.proofs.Merging.{firsts_more}
 use Rattle.board.specs.Shown.{joined}
 use Rattle.semantics.specs.Multiset.{Record}
 use Rattle.semantics.specs.Query.{Name}
-use Rattle.collector.specs.OutputText.{is_plain}
-use Rattle.follow.specs.Entries.{AreAt, Entry, entry_line, label_of, records_of, row_line}
+use Rattle.collector.specs.OutputText.{is_plain, label_of}
+use Rattle.follow.specs.Entries.{AreAt, Entry, entry_line, records_of, row_line}
 
 -- records of one output
 abbrev pub entries_at : (output : ℕ) → List Record → List Entry

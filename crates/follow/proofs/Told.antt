@@ -13,9 +13,9 @@ use Rattle.semantics.proofs.MultisetSums.{≈-trans}
 use Rattle.graph.specs.Shown.{GraphValue, shown_graph, shown_names}
 use Rattle.board.specs.Shown.{Shown, batches_at, joined}
 use Rattle.board.specs.Promises.{HasPassed, IsOutputPlace, KeepsPromise, RunsProgram, emitted_at, meant_of}
-use Rattle.collector.specs.OutputText.{is_plain}
+use Rattle.collector.specs.OutputText.{is_plain, label_of}
 use Rattle.collector.specs.Lines.{Item}
-use Rattle.follow.specs.Entries.{Entry, complete_line, entry_line, label_of, records_of, row_line}
+use Rattle.follow.specs.Entries.{Entry, complete_line, entry_line, records_of, row_line}
 use Rattle.follow.specs.Follows.{IsGraphOf, IsPart, IsTold, IsWhole, said_records}
 use Rattle.follow.specs.Scenes.{Grows, HasTold, IsAllFed, batches_of, fed_at, told_count}
 use Rattle.follow.specs.Steps.{CanTell, Nexts, TellsOne, TellsOpen, ToldMore, ToldSo}

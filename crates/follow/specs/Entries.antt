@@ -1,9 +1,9 @@
 -- Records as they are told, each with the place of its output.
-use Rattle.std.specs.Prelude.{◌<◌, ℕ, ◌==◌, Bool, true, false, cond, List, [], ◌∷◌, ◌++◌, codes, decimal, slice_index_or}
+use Rattle.std.specs.Prelude.{◌<◌, ℕ, ◌==◌, cond, List, [], ◌∷◌, ◌++◌, codes, decimal, slice_index_or}
 use Rattle.std.specs.List.{AllByRecursion, flat_map}
 use Rattle.semantics.specs.Multiset.{Record}
 use Rattle.semantics.specs.Query.{Name}
-use Rattle.collector.specs.OutputText.{is_plain, spaced}
+use Rattle.collector.specs.OutputText.{is_plain, label_of, spaced}
 
 -- the place of an output, and a record that was emitted there
 abbrev pub Entry : Type 0
@@ -13,11 +13,6 @@ Entry = ℕ × Record
 abbrev pub records_of : (output : ℕ) → List Entry → List Record
 records_of k [] = []
 records_of k (entry ∷ entries) = cond (entry.0 == k) (entry.1 ∷ records_of k entries) (records_of k entries)
-
--- what tells an output: nothing where the only one is named `out`, and else a space and its name
-abbrev pub label_of : (plain : Bool) → Name → List ℕ
-label_of true name = []
-label_of false name = 32 ∷ name
 
 -- the number of an epoch, a label, and the fields of a record, each after a space
 abbrev pub row_line : (epoch : ℕ) → (label : List ℕ) → Record → List ℕ

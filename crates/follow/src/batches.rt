@@ -4,7 +4,8 @@ ghost use Rattle.std.specs.Prelude.{◌≡◌, ◌++◌, OnOk};
 ghost use Rattle.std.specs.List.{flat_map};
 ghost use Rattle.rows.specs.Counts.{repeated};
 ghost use Rattle.board.specs.Shown.{joined};
-ghost use Rattle.follow.specs.Entries.{label_of, row_line};
+ghost use Rattle.collector.specs.OutputText.{label_of};
+ghost use Rattle.follow.specs.Entries.{row_line};
 
 use crate::texts::push_row;
 use record_core::Name;

@@ -2,9 +2,9 @@
 
 ghost use Rattle.std.specs.Prelude.{◌≡◌, ◌<◌, ℕ, ◌+◌, ◌++◌, IfOk, IsTrue, OnOk, map};
 ghost use Rattle.board.specs.Promises.{HasPassed, IsOutputPlace};
-ghost use Rattle.collector.specs.OutputText.{is_plain};
+ghost use Rattle.collector.specs.OutputText.{is_plain, label_of};
 ghost use Rattle.graph.specs.Views.{name_of_output};
-ghost use Rattle.follow.specs.Entries.{complete_line, label_of};
+ghost use Rattle.follow.specs.Entries.{complete_line};
 ghost use Rattle.follow.specs.Scenes.{batches_of, told_count};
 ghost use Rattle.follow.specs.Steps.{IsFresh, Nexts, Tells, TellsHere, TellsOne, TellsOpen};
 

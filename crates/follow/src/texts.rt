@@ -2,8 +2,8 @@
 
 ghost use Rattle.std.specs.Prelude.{◌≡◌, ◌++◌, decimal, OnOk};
 ghost use Rattle.std.specs.List.{flat_map};
-ghost use Rattle.collector.specs.OutputText.{spaced};
-ghost use Rattle.follow.specs.Entries.{complete_line, label_of, row_line};
+ghost use Rattle.collector.specs.OutputText.{label_of, spaced};
+ghost use Rattle.follow.specs.Entries.{complete_line, row_line};
 
 use itoa::Buffer;
 use record_core::Name;

@@ -22,8 +22,8 @@ use Rattle.board.specs.Lateness.{BoardShown, IsUpToDate}
 use Rattle.board.specs.Promises as promises
 use Rattle.board.specs.Promises.{HasPassed, Headline, IsOutputPlace, RunsProgram, emitted_at, meant_of}
 use Rattle.collector.specs.Piles.{joined}
-use Rattle.collector.specs.OutputText.{AppendsSorted, IsInOrder, is_plain, record_line}
-use Rattle.replay.specs.Replays.{HasWord, Setting, heading, IsGraphOf, KeepsPromise, Tells, TellsFrom, TellsOutput, answer_of, label_of}
+use Rattle.collector.specs.OutputText.{AppendsSorted, IsInOrder, is_plain, label_of, record_line}
+use Rattle.replay.specs.Replays.{HasWord, Setting, heading, IsGraphOf, KeepsPromise, Tells, TellsFrom, TellsOutput, answer_of}
 use Rattle.replay.specs.Steps.{ShowsState, setting_of, word_of}
 use Rattle.replay.specs.Waits.{State}
 use Rattle.replay.proofs.Passing.{passed_same}

@@ -1,5 +1,5 @@
 -- What a schedule does to the engine's world and to the workers' views, line by line, and what it prints.
-use Rattle.std.specs.Prelude.{◌≡◌, ◌<◌, ◌≤◌, ◌⊎◌, ℕ, suc, ◌+◌, ℤ, Bool, true, false, List, [], ◌∷◌, ◌++◌, length, codes, decimal}
+use Rattle.std.specs.Prelude.{◌≡◌, ◌<◌, ◌≤◌, ◌⊎◌, ℕ, suc, ◌+◌, ℤ, true, false, List, [], ◌∷◌, ◌++◌, length, codes, decimal}
 use Rattle.std.specs.List.{flat_map}
 use Rattle.record_core.specs.Records.{IsRecord}
 use Rattle.semantics.specs.Multiset.{Record, IsPartOf, ◌≈◌}
@@ -15,7 +15,7 @@ use Rattle.machine.specs.Frontier.{Passed}
 use Rattle.machine.specs.Engine.{network}
 use Rattle.machine.specs.Headline.{meant}
 use Rattle.collector.specs.Lines.{IsInput, IsAbsent, MakeRecord}
-use Rattle.collector.specs.OutputText.{IsInOrder, is_plain, record_line}
+use Rattle.collector.specs.OutputText.{IsInOrder, is_plain, label_of, record_line}
 use Rattle.schedule.specs.Commands.{Command}
 use Rattle.schedule.specs.declared.verb.ViewKind.{ViewKind}
 use Rattle.replay.specs.Waits.{SeesAll, State, Waits, posted, waiting_now}
@@ -95,11 +95,6 @@ pub data HasWord (s : Setting) (x : State) (output epoch : ℕ) : (word : List �
 -- the line of an epoch, a label and a word
 abbrev pub heading : ℕ → (label word : List ℕ) → List ℕ
 heading epoch label word = codes "epoch " ++ (decimal epoch ++ (label ++ (word ++ 10 ∷ [])))
-
--- what tells an output: nothing where the only one is named `out`, and else a space and its name
-abbrev pub label_of : (plain : Bool) → Name → List ℕ
-label_of true name = []
-label_of false name = 32 ∷ name
 
 -- the records that were emitted at an output for an epoch
 abbrev pub answer_of : Setting → World → (output epoch : ℕ) → List Record

@@ -3,8 +3,8 @@
 ghost use Rattle.std.specs.Prelude.{◌≡◌, ◌++◌, ℕ, List, OnOk, decimal, map};
 ghost use Rattle.board.specs.Promises.{IsOutputPlace};
 ghost use Rattle.graph.specs.Views.{name_of_output};
-ghost use Rattle.collector.specs.OutputText.{is_plain};
-ghost use Rattle.replay.specs.Replays.{Tells, TellsOutput, heading, label_of, refusal_line};
+ghost use Rattle.collector.specs.OutputText.{is_plain, label_of};
+ghost use Rattle.replay.specs.Replays.{Tells, TellsOutput, heading, refusal_line};
 ghost use Rattle.replay.specs.Steps.{ShowsState, setting_of, word_of};
 ghost use Rattle.replay.specs.Waits.{State};
 

@@ -1,6 +1,7 @@
 use Rattle.std.proofs.Common.{arith}
 use Rattle.rows.specs.Counts.{runs}
-use Rattle.follow.specs.Entries.{label_of, row_line}
+use Rattle.collector.specs.OutputText.{label_of}
+use Rattle.follow.specs.Entries.{row_line}
 use Rattle.follow.proofs.Entries.{runs_done, runs_more}
 use Rattle.follow.proofs.batches.push_batch.Goals as goal
 

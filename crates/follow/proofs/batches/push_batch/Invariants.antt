@@ -1,7 +1,8 @@
 use Rattle.std.proofs.Common.{◌≡◌, ◌++◌, length, take}
 use Rattle.std.specs.List.{flat_map}
 use Rattle.rows.specs.Counts.{expanded, runs}
-use Rattle.follow.specs.Entries.{label_of, row_line}
+use Rattle.collector.specs.OutputText.{label_of}
+use Rattle.follow.specs.Entries.{row_line}
 use Rattle.follow.proofs.batches.push_batch.Given as goal
 
 abbrev pub invariant-loop-place : goal.invariant-loop-place

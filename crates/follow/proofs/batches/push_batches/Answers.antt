@@ -1,4 +1,5 @@
-use Rattle.follow.specs.Entries.{label_of, row_line}
+use Rattle.collector.specs.OutputText.{label_of}
+use Rattle.follow.specs.Entries.{row_line}
 use Rattle.follow.proofs.Entries.{batches_more}
 use Rattle.follow.proofs.batches.push_batches.Goals as goal
 

@@ -1,7 +1,8 @@
 use Rattle.std.proofs.Common.{◌≡◌, ◌++◌}
 use Rattle.std.specs.List.{flat_map}
 use Rattle.rows.specs.Counts.{repeated}
-use Rattle.follow.specs.Entries.{label_of, row_line}
+use Rattle.collector.specs.OutputText.{label_of}
+use Rattle.follow.specs.Entries.{row_line}
 use Rattle.follow.proofs.batches.push_times.Given as goal
 
 abbrev pub invariant-loop-time : goal.invariant-loop-time

@@ -4,7 +4,7 @@ use Rattle.semantics.specs.Graph.{output_numbers}
 use Rattle.graph.specs.Shown.{GraphValue, shown_graph, shown_names}
 use Rattle.graph.specs.Views.{name_of_output, number_of_output}
 use Rattle.graph.specs.declared.graph.GraphOutput.{GraphOutput}
-use Rattle.follow.specs.Entries.{label_of}
+use Rattle.collector.specs.OutputText.{label_of}
 use Rattle.follow.specs.Steps.{TellsOne}
 use Rattle.follow.proofs.Calls.{label_at}
 use Rattle.follow.proofs.Told.{more_outputs, told_none}

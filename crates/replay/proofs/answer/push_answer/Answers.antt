@@ -4,7 +4,8 @@ use Rattle.semantics.specs.Graph.{output_numbers}
 use Rattle.graph.specs.Shown.{GraphValue, shown_graph, shown_names}
 use Rattle.graph.specs.Views.{name_of_output, number_of_output}
 use Rattle.graph.specs.declared.graph.GraphOutput.{GraphOutput}
-use Rattle.replay.specs.Replays.{TellsOutput, label_of}
+use Rattle.collector.specs.OutputText.{label_of}
+use Rattle.replay.specs.Replays.{TellsOutput}
 use Rattle.replay.specs.Steps.{ShowsState, setting_of}
 use Rattle.replay.specs.Waits.{State}
 use Rattle.replay.proofs.Told.{all_told, output_more}

@@ -1,4 +1,4 @@
-use Rattle.replay.specs.Replays.{label_of}
+use Rattle.collector.specs.OutputText.{label_of}
 use Rattle.replay.proofs.Told.{told_text}
 use Rattle.replay.proofs.answer.push_output.Goals as goal
 
