@@ -4,14 +4,15 @@ use Rattle.std.proofs.lemmas.List.{append-nil, length-append, map_push}
 use Rattle.semantics.specs.Multiset.{◌≈◌}
 use Rattle.semantics.proofs.MultisetSums.{append_same, ≈-from, ≈-refl, ≈-sym, ≈-trans}
 use Rattle.rows.specs.Counts.{records_in}
-use Rattle.rows.specs.FlatRows.{RowList}
-use Rattle.collector.specs.Piles.{AreAlike, joined, piled}
-use Rattle.collector.proofs.Piles.{Records, joined_push, piled_push}
+use Rattle.rows.specs.FlatRows.{RowList, joined}
+use Rattle.rows.proofs.Joined.{joined_behind}
+use Rattle.collector.specs.Piles.{AreAlike, piled}
+use Rattle.collector.proofs.Piles.{Records, piled_push}
 
 -- a batch of more rows is put behind the others
 pub batch_put : (bs bs' : List Records) (lists : List RowList) (rows : RowList) (batch : Records) → joined bs ≈ piled lists → bs' ≡ bs ++ batch ∷ [] → batch ≈ rows.rows → joined bs' ≈ piled (lists ++ rows ∷ [])
 batch_put bs bs' lists rows batch h e same =
-    ≈-trans (≈-from (ap joined e ∙ joined_push bs batch)) (≈-trans (append_same (joined bs) (piled lists) batch rows.rows h same) (≈-from (sym (piled_push lists rows))))
+    ≈-trans (≈-from (ap joined e ∙ joined_behind bs batch)) (≈-trans (append_same (joined bs) (piled lists) batch rows.rows h same) (≈-from (sym (piled_push lists rows))))
 
 -- rows of which there is none
 pub none_put : (bs : List Records) (lists : List RowList) (rows : RowList) → joined bs ≈ piled lists → [] ≈ rows.rows → joined bs ≈ piled (lists ++ rows ∷ [])

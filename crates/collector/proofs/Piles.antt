@@ -3,18 +3,15 @@ use Rattle.std.proofs.Common.{◌≡◌, ◌≢◌, ◌<◌, ◌+◌, ◌∙◌,
 use Rattle.std.specs.Prelude.{◌==◌, if◌then◌else◌}
 use Rattle.std.proofs.lemmas.Bool.Decides.{eqb_tells}
 use Rattle.std.proofs.lemmas.List.{append-nil, map_push, take_more}
-use Rattle.rows.specs.FlatRows.{RowList}
-use Rattle.collector.specs.Piles.{joined, piled, with_open}
+use Rattle.rows.specs.FlatRows.{RowList, joined}
+use Rattle.rows.proofs.Joined.{joined_behind}
+use Rattle.collector.specs.Piles.{piled, with_open}
 
 abbrev pub Records : Type 0
 Records = List (List ℤ)
 
-pub joined_push : (bs : List Records) (b : Records) → joined (bs ++ b ∷ []) ≡ joined bs ++ b
-joined_push [] b = append-nil b
-joined_push (x ∷ bs) b = ap (λ (r : Records). x ++ r) (joined_push bs b) ∙ sym (append_assoc x (joined bs) b)
-
 pub piled_push : (lists : List RowList) (rows : RowList) → piled (lists ++ rows ∷ []) ≡ piled lists ++ rows.rows
-piled_push lists rows = ap joined (map_push (λ (r : RowList). r.rows) lists rows) ∙ joined_push (map (λ (r : RowList). r.rows) lists) rows.rows
+piled_push lists rows = ap joined (map_push (λ (r : RowList). r.rows) lists rows) ∙ joined_behind (map (λ (r : RowList). r.rows) lists) rows.rows
 
 pub with_none : (xs : List Records) → with_open xs [] ≡ xs
 with_none [] = refl
@@ -70,7 +67,7 @@ begun f vs pushed v last now e none apart was =
 
 -- one batch more
 pub batch_more : (bs : List Records) (i : ℕ) (d : Records) → i < length bs → joined (take (i + 1) bs) ≡ joined (take i bs) ++ get_or bs i d
-batch_more bs i d lt = ap joined (take_more bs i d lt) ∙ joined_push (take i bs) (get_or bs i d)
+batch_more bs i d lt = ap joined (take_more bs i d lt) ∙ joined_behind (take i bs) (get_or bs i d)
 
 pub batch_taken : (bs : List Records) (i : ℕ) (item all new : Records) → i < length bs → item ≡ get_or bs i item → all ≡ joined (take i bs) → new ≡ all ++ item → new ≡ joined (take (i + 1) bs)
 batch_taken bs i item all new lt is so_far e = e ∙ ap (λ (rs : Records). rs ++ item) so_far ∙ ap (λ (b : Records). joined (take i bs) ++ b) is ∙ sym (batch_more bs i item lt)

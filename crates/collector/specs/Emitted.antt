@@ -1,6 +1,6 @@
 -- What outputs hold that are to be written.
 use Rattle.std.specs.Prelude.{ℕ, ℤ, List, [], map, slice_index_or}
-use Rattle.collector.specs.Piles.{joined}
+use Rattle.rows.specs.FlatRows.{joined}
 use Rattle.collector.specs.declared.output.OutputEpochs.{OutputEpochs}
 
 -- their names

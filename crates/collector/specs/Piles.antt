@@ -1,12 +1,7 @@
 -- Records in batches.
 use Rattle.std.specs.Prelude.{◌≡◌, ℕ, ℤ, List, [], ◌∷◌, ◌++◌, length, map, slice_index_or}
 use Rattle.semantics.specs.Multiset.{◌≈◌}
-use Rattle.rows.specs.FlatRows.{RowList}
-
--- the records of batches, one batch after another
-abbrev pub joined : List (List (List ℤ)) → List (List ℤ)
-joined [] = []
-joined (batch ∷ batches) = batch ++ joined batches
+use Rattle.rows.specs.FlatRows.{RowList, joined}
 
 -- the last epoch has these records too
 abbrev pub with_open : List (List (List ℤ)) → List (List ℤ) → List (List (List ℤ))

@@ -1,8 +1,8 @@
 //! The epochs of an input text.
 
 ghost use Rattle.std.specs.Prelude.{◌≡◌, IfOk, length};
+ghost use Rattle.rows.specs.FlatRows.{joined};
 ghost use Rattle.collector.specs.Held.{epoch_count, records_at};
-ghost use Rattle.collector.specs.Piles.{joined};
 
 use crate::track::Kept;
 use rows::Batch;

@@ -3,7 +3,8 @@
 ghost use Rattle.std.specs.Prelude.{◌≡◌, ◌<◌, ◌≤◌, ◌+◌, ℕ, ℤ, List, ◌++◌, ◌∷◌, [], OnOk, IfOk, map, length, slice_index_or, ◌==◌, if◌then◌else◌};
 ghost use Rattle.record_core.specs.Records.{IsRecord};
 ghost use Rattle.semantics.specs.Multiset.{◌≈◌};
-ghost use Rattle.collector.specs.Piles.{AreAlike, joined, piled, with_open};
+ghost use Rattle.rows.specs.FlatRows.{joined};
+ghost use Rattle.collector.specs.Piles.{AreAlike, piled, with_open};
 
 use rows::{Batch, Rows, RowsError};
 use std::alloc::{AllocError, Global};
@@ -146,7 +147,7 @@ pub struct Kept {
 
 impl Model for Kept {
     ghost use Rattle.std.specs.Prelude.{List, ℤ, map};
-    ghost use Rattle.collector.specs.Piles.{joined};
+    ghost use Rattle.rows.specs.FlatRows.{joined};
 
     ghost Value = { List (List (List ℤ)) };
 

@@ -4,7 +4,7 @@ ghost use Rattle.std.specs.Prelude.{◌≡◌, IfOk, map};
 ghost use Rattle.board.specs.Promises.{IsOutputPlace, emitted_at};
 ghost use Rattle.graph.specs.Shown.{shown_names};
 ghost use Rattle.collector.specs.Emitted.{names_of, records_of};
-ghost use Rattle.collector.specs.Piles.{joined};
+ghost use Rattle.rows.specs.FlatRows.{joined};
 ghost use Rattle.execution.specs.Fed.{EmittedBelow, HasEpochs};
 
 use collector::OutputEpochs;

@@ -16,22 +16,18 @@ use Rattle.graph.specs.Views.{name_of_output}
 use Rattle.graph.specs.declared.graph.GraphOutput.{GraphOutput}
 use Rattle.machine.specs.World.{World}
 use Rattle.machine.specs.Headline.{meant}
-use Rattle.board.specs.Shown.{Shown, joined as joined_batches, emitted_by}
+use Rattle.rows.specs.FlatRows.{joined}
+use Rattle.board.specs.Shown.{Shown, emitted_by}
 use Rattle.board.specs.Showing.{Shows}
 use Rattle.board.specs.Lateness.{BoardShown, IsUpToDate}
 use Rattle.board.specs.Promises as promises
 use Rattle.board.specs.Promises.{HasPassed, Headline, IsOutputPlace, RunsProgram, emitted_at, meant_of}
-use Rattle.collector.specs.Piles.{joined}
 use Rattle.collector.specs.OutputText.{AppendsSorted, IsInOrder, is_plain, label_of, record_line}
 use Rattle.replay.specs.Replays.{HasWord, Setting, heading, IsGraphOf, KeepsPromise, Tells, TellsFrom, TellsOutput, answer_of}
 use Rattle.replay.specs.Steps.{ShowsState, setting_of, word_of}
 use Rattle.replay.specs.Waits.{State}
 use Rattle.replay.proofs.Passing.{passed_same}
 use Rattle.replay.proofs.Waiting.{KnowsWaits, up_to_date}
-
-pub joined_same : (batches : List (List Record)) → joined batches ≡ joined_batches batches
-joined_same [] = refl
-joined_same (b ∷ bs) = ap (λ (xs : List Record). b ++ xs) (joined_same bs)
 
 at_output : (late : Bool) (s : Shown) (w : World) (k epoch : ℕ) → Shows s w → answer_of (setting_of late s) w k epoch ≈ emitted_at s k epoch
 at_output late s w k epoch shows = shows.emitted (output_number (shown_graph s.graph) k) epoch
@@ -85,7 +81,7 @@ pub told_text : (late : Bool) (b : BoardShown) (k epoch : ℕ) (seen : Bool) (la
 told_text late b k epoch seen label out after new batches there knows right headline e all sorted = (
   heading epoch label (word_of seen) ++ flat_map record_line sorted.rows,
   sorted.appended ∙ ap (λ (xs : List ℕ). xs ++ flat_map record_line sorted.rows) e ∙ append_assoc out (heading epoch label (word_of seen)) (flat_map record_line sorted.rows),
-  told late b k epoch seen label (heading epoch label (word_of seen) ++ flat_map record_line sorted.rows) sorted.rows there knows right headline (subst (λ xs. IsInOrder xs sorted.rows) (joined_same batches ∙ ap joined_batches all) sorted.ordered) refl,
+  told late b k epoch seen label (heading epoch label (word_of seen) ++ flat_map record_line sorted.rows) sorted.rows there knows right headline (subst (λ xs. IsInOrder xs sorted.rows) (ap joined all) sorted.ordered) refl,
 )
 
 -- the texts of the outputs before a place

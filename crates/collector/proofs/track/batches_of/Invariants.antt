@@ -1,5 +1,6 @@
 use Rattle.semantics.specs.Multiset.{◌≈◌}
-use Rattle.collector.specs.Piles.{joined, piled}
+use Rattle.rows.specs.FlatRows.{joined}
+use Rattle.collector.specs.Piles.{piled}
 use Rattle.collector.proofs.track.batches_of.Given as goal
 
 abbrev pub invariant-loop-rows : goal.invariant-loop-rows

@@ -1,5 +1,5 @@
 use Rattle.std.proofs.Common.{map}
-use Rattle.collector.specs.Piles.{joined}
+use Rattle.rows.specs.FlatRows.{joined}
 use Rattle.execution.specs.Fed.{HasEpochs}
 use Rattle.execution.proofs.outputs.emitted_at_output.Given as goal
 

@@ -1,4 +1,5 @@
-use Rattle.collector.specs.Piles.{joined, piled}
+use Rattle.rows.specs.FlatRows.{joined}
+use Rattle.collector.specs.Piles.{piled}
 use Rattle.collector.proofs.Batched.{epoch_put}
 use Rattle.collector.proofs.track.Track.finish.Goals as goal
 

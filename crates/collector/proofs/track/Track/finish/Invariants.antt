@@ -1,5 +1,6 @@
 use Rattle.std.proofs.Common.{map}
-use Rattle.collector.specs.Piles.{AreAlike, joined, piled}
+use Rattle.rows.specs.FlatRows.{joined}
+use Rattle.collector.specs.Piles.{AreAlike, piled}
 use Rattle.collector.proofs.track.Track.finish.Given as goal
 
 abbrev pub invariant-loop-lists : goal.invariant-loop-lists
