@@ -5,6 +5,7 @@ use Rattle.std.specs.List.{flat_map}
 use Rattle.std.proofs.lemmas.Bool.Decides.{eqb_tells}
 use Rattle.std.proofs.lemmas.List.{append-nil, take-append-drop, take_all, take_more}
 use Rattle.rows.specs.Counts.{Run, expanded, no_run, repeated}
+use Rattle.rows.proofs.Joined.{joined_append, joined_behind}
 use Rattle.rows.proofs.Merging.{firsts_more}
 use Rattle.board.specs.Shown.{joined}
 use Rattle.semantics.specs.Multiset.{Record}
@@ -81,12 +82,8 @@ runs_more f cs k row n start out new lt r c h e =
 pub runs_done : (f : Record → List ℕ) (cs : List Run) (k : ℕ) (all : List Record) (start out : List ℕ) → length cs ≤ k → expanded cs ≡ all → out ≡ start ++ flat_map f (expanded (take k cs)) → out ≡ start ++ flat_map f all
 runs_done f cs k all start out le is h = h ∙ ap (λ (ds : List Run). start ++ flat_map f (expanded ds)) (take_all k cs le) ∙ ap (λ (rows : List Record). start ++ flat_map f rows) is
 
-joined_push : (batches : List (List Record)) (batch : List Record) → joined (batches ++ batch ∷ []) ≡ joined batches ++ batch
-joined_push [] batch = append-nil batch
-joined_push (b ∷ bs) batch = ap (λ (xs : List Record). b ++ xs) (joined_push bs batch) ∙ sym (append_assoc b (joined bs) batch)
-
 pub joined_more : (batches : List (List Record)) (i : ℕ) (batch : List Record) → i < length batches → batch ≡ slice_index_or batches i batch → joined (take (i + 1) batches) ≡ joined (take i batches) ++ batch
-joined_more batches i batch lt is = ap joined (take_more batches i batch lt) ∙ joined_push (take i batches) (slice_index_or batches i batch) ∙ ap (λ (x : List Record). joined (take i batches) ++ x) (sym is)
+joined_more batches i batch lt is = ap joined (take_more batches i batch lt) ∙ joined_behind (take i batches) (slice_index_or batches i batch) ∙ ap (λ (x : List Record). joined (take i batches) ++ x) (sym is)
 
 -- one batch more
 pub batches_more : (f : Record → List ℕ) (batches : List (List Record)) (i : ℕ) (batch : List Record) (start out new : List ℕ) → i < length batches → batch ≡ slice_index_or batches i batch → out ≡ start ++ flat_map f (joined (take i batches)) → new ≡ out ++ flat_map f batch
@@ -95,10 +92,6 @@ batches_more f batches i batch start out new lt is e more =
     let before = joined (take i batches) in
     let both : flat_map f (joined (take (i + 1) batches)) ≡ flat_map f before ++ flat_map f batch = ap (flat_map f) (joined_more batches i batch lt is) ∙ rows_append f before batch in
     more ∙ ap (λ (xs : List ℕ). xs ++ flat_map f batch) e ∙ append_assoc start (flat_map f before) (flat_map f batch) ∙ ap (λ (xs : List ℕ). start ++ xs) (sym both)
-
-pub joined_append : (xs ys : List (List Record)) → joined (xs ++ ys) ≡ joined xs ++ joined ys
-joined_append [] ys = refl
-joined_append (x ∷ xs) ys = ap (λ (zs : List Record). x ++ zs) (joined_append xs ys) ∙ sym (append_assoc x (joined xs) (joined ys))
 
 -- the first batches and the rest
 pub joined_parts : (n : ℕ) (batches : List (List Record)) → joined (take n batches) ++ joined (drop n batches) ≡ joined batches
