@@ -30,7 +30,7 @@ may_of s w k (Step.merge i at m n) ok by = absurd by
 may_of s w k (Step.commit i event out) ok by = absurd by
 may_of s w k (Step.abandon i event) ok by = absurd by
 
-home_of : (p : Place Job) → held_of p ≡ Held.nothing → p ≡ Home
+pub home_of : (p : Place Job) → held_of p ≡ Held.nothing → p ≡ Home
 home_of Home e = refl
 home_of (Out j) e = absurd cc
 home_of (Lost j) e = absurd cc

@@ -19,7 +19,7 @@ use Rattle.board.specs.Showing.{Shows}
 use Rattle.board.specs.Kept.{IsKept}
 use Rattle.board.specs.Promises.{RunsProgram, HasPassed, IsDrained, KeepsPromise, emitted_at, meant_of}
 
-part_alike : {xs ys zs : List Record} → xs ≈ ys → IsPartOf xs zs → IsPartOf ys zs
+pub part_alike : {xs ys zs : List Record} → xs ≈ ys → IsPartOf xs zs → IsPartOf ys zs
 part_alike e h = record { within = λ r. let n = e.counts r in let m = h.within r in omega (arith, n, m) }
 
 module _ (graph : Graph) (content : Pointstamp → ℕ) (s : Shown) (kept : IsKept graph content s) where

@@ -1,5 +1,5 @@
 -- What is in hand, after each step.
-use Rattle.std.proofs.Common.{◌≡◌, ◌≢◌, ◌<◌, ◌∙◌, ◌++◌, ◌∷◌, [], arith, replicate, ℕ, List, length, Option, Some, None, true, false, cond, refl, sym, ap, inl, inr}
+use Rattle.std.proofs.Common.{◌≡◌, ◌≢◌, ◌<◌, ◌∙◌, ◌++◌, ◌∷◌, [], arith, replicate, ℕ, List, length, Option, Some, None, true, false, cond, sym, ap, inl, inr}
 use Rattle.std.specs.Prelude.{slice_get}
 use Rattle.std.proofs.lemmas.Bool.{cases_lt}
 use Rattle.std.proofs.lemmas.Bool.Decides.{eqb_tells}
@@ -91,12 +91,6 @@ pub put_other : {X : Type 0} (f : ℕ → X) (k : ℕ) (x : X) (j : ℕ) → j �
 put_other f k x j other = elim (eqb_tells j k) [
   | inl same ↦ absurd (other same.1)
   | inr no_way ↦ ap (λ b. cond b x (f j)) no_way.0
-]
-
-pub put_here : {X : Type 0} (f : ℕ → X) (k : ℕ) (x : X) → put f k x k ≡ x
-put_here f k x = elim (eqb_tells k k) [
-  | inl same ↦ ap (λ b. cond b x (f k)) same.0
-  | inr no_way ↦ absurd (no_way.1 refl)
 ]
 
 -- a claim changes what this worker holds, and nobody else's

@@ -11,6 +11,7 @@ use Rattle.machine.specs.World.{World, Held}
 use Rattle.machine.specs.Step.{Step, Allowed, after_step}
 use Rattle.machine.specs.Choices.{IsClaimBy}
 use Rattle.machine.specs.Engine.{network}
+use Rattle.machine.proofs.Progress.{put_here}
 use Rattle.events.specs.Jobs.{Pass}
 use Rattle.board.specs.Shown.{Shown, Side, net, side_at, held_of, tables}
 use Rattle.board.specs.Showing.{Shows}
@@ -20,6 +21,7 @@ use Rattle.board.specs.Answers.{Hands}
 use Rattle.board.specs.Picks.{IsChoice, RefusesPick as Refuses}
 use Rattle.board.specs.declared.refusal.StepRefusal.{StepRefusal}
 use Rattle.board.specs.declared.refusal.StepRefusal.TheVariants as step
+use Rattle.board.proofs.Choosing.{home_of}
 use Rattle.schedule.specs.Commands.{Command}
 use Rattle.replay.specs.Hands.{HoldsAll, IsHand, in_hand}
 use Rattle.replay.specs.Replays.{Does, GivesUp, RefusesPick, Takes, after_giving_up, refusal_line}
@@ -27,10 +29,10 @@ use Rattle.replay.specs.Steps.{Answers, Ends, IsGivenUp, Led, Leads, ShowsState,
 use Rattle.replay.specs.Waits.{State, kind_of, posted, waiting_now}
 use Rattle.replay.specs.declared.refusal.Refusal.{Refusal}
 use Rattle.replay.specs.declared.refusal.Refusal.TheVariants as refusal
-use Rattle.replay.proofs.Holding.{hand_stays, hold_taken, hold_ended, hold_lost, hold_through, put_here, put_other, claim_others, commit_others}
+use Rattle.replay.proofs.Holding.{hand_stays, hold_taken, hold_ended, hold_lost, hold_through, put_other, claim_others, commit_others}
 use Rattle.replay.proofs.Inputs.{refused_leads, stays_same}
 use Rattle.replay.proofs.Waiting.{IsWithin, KnowsWaits, shows_applied, shows_posted, shows_same, there_if_some, up_to_date}
-use Rattle.replay.proofs.Places.{home_of_nothing, held_out}
+use Rattle.replay.proofs.Places.{held_out}
 
 -- a worker that claims holds nothing
 claim_free : (g : Network) (w : World) (k : ℕ) (taken : Step) → IsClaimBy k taken → Allowed g w taken → (k < g.workers) × (w.held k ≡ Held.nothing)
@@ -175,7 +177,7 @@ refused_pick late b k n step.Stopped knows h code told x shows =
     subst (RefusesPick (setting_of late b.shown) x k n) (let f : refusal.Step 37 ≡ refusal.Step code = told in let e : 37 ≡ code = cc in e) (RefusesPick.pick_stopped (shows.world.stopped ∙ h))
 refused_pick late b k n step.HoldsEvent knows h code told x shows =
     subst (RefusesPick (setting_of late b.shown) x k n) (let f : refusal.Step 35 ≡ refusal.Step code = told in let e : 35 ≡ code = cc in e)
-    (RefusesPick.holds_event (shows.world.stopped ∙ h.0) h.1 (λ free. h.2 (home_of_nothing (side_at b.shown k).place (sym (shows.world.held k h.1) ∙ free))))
+    (RefusesPick.holds_event (shows.world.stopped ∙ h.0) h.1 (λ free. h.2 (home_of (side_at b.shown k).place (sym (shows.world.held k h.1) ∙ free))))
 refused_pick late b k n step.NoSuchEvent knows h code told x shows =
     subst (RefusesPick (setting_of late b.shown) x k n) (let f : refusal.Step 34 ≡ refusal.Step code = told in let e : 34 ≡ code = cc in e)
     (RefusesPick.no_choice (shows.world.stopped ∙ h.0) (λ lt. shows.world.held k lt ∙ ap held_of (h.1 lt).0)

@@ -22,6 +22,7 @@ use Rattle.board.specs.Showing.{Shows}
 use Rattle.board.specs.Lateness.{BoardShown, IsUpToDate}
 use Rattle.board.specs.Promises as promises
 use Rattle.board.specs.Promises.{HasPassed, Headline, IsOutputPlace, RunsProgram, emitted_at, meant_of}
+use Rattle.board.proofs.Promised.{part_alike}
 use Rattle.collector.specs.OutputText.{AppendsSorted, IsInOrder, is_plain, label_of, record_line}
 use Rattle.replay.specs.Replays.{HasWord, Setting, heading, IsGraphOf, KeepsPromise, Tells, TellsFrom, TellsOutput, answer_of}
 use Rattle.replay.specs.Steps.{ShowsState, setting_of, word_of}
@@ -34,9 +35,6 @@ at_output late s w k epoch shows = shows.emitted (output_number (shown_graph s.g
 
 meant_same : (s : Shown) (w : World) (k epoch : ℕ) (p : Program) → Shows s w → meant_of p s k epoch ≡ meant p w k epoch
 meant_same s w k epoch p shows = λ j. program_meaning p k (λ i. (sym (shows.fed i epoch)) j)
-
-part_alike : {xs ys zs : List Record} → xs ≈ ys → IsPartOf xs zs → IsPartOf ys zs
-part_alike e h = record { within = λ r. let n = e.counts r in let m = h.within r in omega (arith, n, m) }
 
 promise_kept : (late : Bool) (s : Shown) (w : World) (k epoch : ℕ) (p : Program) → Shows s w → Headline p s k epoch → KeepsPromise (setting_of late s) w k epoch p
 promise_kept late s w k epoch p shows headline = record {

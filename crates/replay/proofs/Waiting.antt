@@ -4,13 +4,14 @@ use Rattle.std.proofs.lemmas.Bool.{cases_lt}
 use Rattle.std.proofs.lemmas.Bool.Decides.{eqb_tells}
 use Rattle.machine.specs.World.{World, opening}
 use Rattle.machine.specs.Step.{put}
+use Rattle.machine.proofs.Progress.{put_here}
 use Rattle.board.specs.Shown.{Shown, Side, side_in}
 use Rattle.board.specs.Showing.{Shows}
 use Rattle.board.specs.Lateness.{AreUpToDate, BoardShown, IsUpToDate, Posts, PostsSome, one_more, waits_for}
 use Rattle.replay.specs.Replays.{FeedPosts}
 use Rattle.replay.specs.Steps.{ShowsState, ShowsWaits, setting_of}
 use Rattle.replay.specs.Waits.{SeesAll, State, Waits, added, kind_of, posted, waiting_now}
-use Rattle.replay.proofs.Holding.{put_here, put_other}
+use Rattle.replay.proofs.Holding.{put_other}
 
 -- nothing waits where there is no such worker or sender
 abbrev pub IsWithin : BoardShown → Type 0
