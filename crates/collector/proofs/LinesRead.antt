@@ -1,7 +1,8 @@
 -- The lines of an input text, read one after another.
 use Rattle.std.proofs.Common.{◌≡◌, ◌<◌, ◌≤◌, ◌+◌, ◌∙◌, ℕ, ℤ, List, [], ◌∷◌, ◌++◌, length, Bool, true, false, cond, refl, sym, ap, subst, arith, append_assoc, inl, inr, get_or}
 use Rattle.std.specs.Prelude.{◌==◌, ◌&&◌}
-use Rattle.std.proofs.lemmas.List.{length-append}
+use Rattle.std.proofs.lemmas.Bool.Decides.{eqb_tells}
+use Rattle.std.proofs.lemmas.List.{length-append, nil_from_length}
 use Rattle.std.proofs.lemmas.Option.{slice_get_within}
 use Rattle.std.proofs.lemmas.List.Splits.{length-slice_split}
 use Rattle.semantics.specs.Query.{Input}
@@ -135,6 +136,13 @@ faulty inputs text rest line after n e fault code number r cut bad is at = (
 pub unended : (inputs : List Input) (text rest : List ℕ) (n : ℕ) (e : Draft) (code number : ℕ) → ReadSoFar inputs text rest n e → split_on 10 rest ≡ rest ∷ [] → 0 < length rest → code ≡ 43 → number ≡ n + 1 → IsRefused inputs text (At code number)
 unended inputs text rest n e code number r cut some is at =
     (r.lines, r.items, r.said, at ∙ ap (λ k. k + 1) r.counted, rest, [], r.parts ∙ ap (λ (ls : List (List ℕ)). r.lines ++ ls) cut, inl (is, some, refl))
+
+-- a text of no bytes
+pub no_rest : (rest : List ℕ) (b : Bool) → b ≡ (length rest == 0) → b ≡ true → rest ≡ []
+no_rest rest b is yes_way = elim (eqb_tells (length rest) 0) [
+  | inl same ↦ nil_from_length rest same.1
+  | inr other ↦ absurd (let p : true ≡ false = sym yes_way ∙ is ∙ other.0 in cc)
+]
 
 -- no line is left
 pub all_read : (inputs : List Input) (text rest : List ℕ) (n : ℕ) (d : Draft) (e : Epochs) → ReadSoFar inputs text rest n d → rest ≡ [] → IsKept d e → IsReadFrom inputs text e

@@ -1,8 +1,7 @@
 -- Lines that are taken, one after another.
 use Rattle.std.proofs.Common.{◌≡◌, ◌<◌, ◌+◌, ◌∙◌, ℕ, List, [], ◌∷◌, ◌++◌, length, refl, sym, ap, subst, arith, append_assoc, inl, inr, Bool, true, false}
 use Rattle.std.proofs.lemmas.Bool.Decides.{eqb_tells}
-use Rattle.std.proofs.lemmas.List.{length-append, nil_from_length}
-use Rattle.std.proofs.lemmas.List.Splits.{length-slice_split}
+use Rattle.std.proofs.lemmas.List.{length-append}
 use Rattle.std.specs.Prelude.{◌==◌}
 use Rattle.semantics.specs.Query.{Input}
 use Rattle.board.specs.Shown.{Shown}
@@ -10,7 +9,7 @@ use Rattle.collector.specs.Pieces.{split_on}
 use Rattle.collector.specs.Lines.{IsFault, Item, Says, code_of}
 use Rattle.collector.specs.declared.refusal.Fault.{Fault}
 use Rattle.collector.specs.declared.refusal.Fault.TheVariants.{Malformed, TooManyEpochs, NoEpoch, Unknown, BadNumber, WrongFields}
-use Rattle.collector.proofs.LinesRead.{say_push}
+use Rattle.collector.proofs.LinesRead.{filled, say_push}
 use Rattle.follow.specs.Scenes.{Grows, HasTaken}
 use Rattle.follow.specs.Steps.{Continues, Counts, Moves, TakesLines}
 use Rattle.follow.specs.declared.intake.Intake.{Intake}
@@ -93,9 +92,6 @@ took_fault base s t x y inputs text rest line after fault code takes cut bad is 
         λ e. no_line_feed fault (sym is ∙ e),
       );
     }
-  where
-    filled : (bs : List ℕ) → 0 < length (split_on 10 bs)
-    filled bs = omega (arith, length-slice_split (λ b. b == 10) bs)
 
 pub took_all : (base : ℕ) (s t : Shown) (x y : Intake) (inputs : List Input) (text rest : List ℕ) → Takes base s t x y inputs text rest → split_on 10 rest ≡ rest ∷ []
     → TakesLines base s t x y inputs text rest taken.Whole
@@ -105,12 +101,6 @@ took_all base s t x y inputs text rest takes none = λ bytes lines items h.
 
 pub unended_nothing : (rest : List ℕ) → rest ≡ [] → split_on 10 rest ≡ rest ∷ []
 unended_nothing rest e = ap (split_on 10) e ∙ ap (λ (bs : List ℕ). bs ∷ []) (sym e)
-
-pub empty_rest : (rest : List ℕ) (b : Bool) → b ≡ (length rest == 0) → b ≡ true → rest ≡ []
-empty_rest rest b is yes_way = elim (eqb_tells (length rest) 0) [
-  | inl same ↦ nil_from_length rest same.1
-  | inr other ↦ absurd (let p : true ≡ false = sym yes_way ∙ is ∙ other.0 in cc)
-]
 
 pub filled_rest : (rest : List ℕ) (b : Bool) → b ≡ (length rest == 0) → b ≡ false → 0 < length rest
 filled_rest rest b is no_way = elim (eqb_tells (length rest) 0) [

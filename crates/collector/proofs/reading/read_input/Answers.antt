@@ -1,11 +1,9 @@
-use Rattle.std.proofs.Common.{◌≡◌, ◌∙◌, ℕ, Bool, true, false, List, [], sym, subst, refl, length, map, ◌∷◌, inl, inr}
-use Rattle.std.specs.Prelude.{◌==◌}
-use Rattle.std.proofs.lemmas.Bool.Decides.{eqb_tells}
-use Rattle.std.proofs.lemmas.List.{length-map, nil_from_length}
+use Rattle.std.proofs.Common.{◌≡◌, ◌∙◌, ℕ, List, [], sym, subst, refl, map, ◌∷◌}
+use Rattle.std.proofs.lemmas.List.{length-map}
 use Rattle.collector.specs.Pieces.{split_on}
 use Rattle.collector.specs.Said.{item_of, plain}
 use Rattle.collector.specs.Lines.{Says, IsFault}
-use Rattle.collector.proofs.LinesRead.{all_read, nothing_read, can_take, next_read, faulty}
+use Rattle.collector.proofs.LinesRead.{all_read, nothing_read, no_rest, can_take, next_read, faulty}
 use Rattle.collector.proofs.reading.read_input.Goals as goal
 
 pub loop-rest-init : goal.loop-rest-init
@@ -32,12 +30,6 @@ returns-in-Err-Fault-clause-refused c =
     let found : (line : List ℕ) × (after : List ℕ) × (split_on 10 c.loop-rest.rest.now ≡ line ∷ split_on 10 after) × IsFault inputs c.count.result line c.in-Err-Fault.fault = rw c.in-Err-Fault.field-0-is at c.in-Err-Fault.ensures in
     faulty inputs c.args.text.now c.loop-rest.rest.now found.0 found.1 c.loop-rest.number c.loop-rest.draft c.in-Err-Fault.fault c.code.result _ c.loop-rest.invariant found.2
     (subst (λ (k : ℕ). IsFault inputs k found.0 c.in-Err-Fault.fault) c.count.ensures found.3) (rw c.in-Err-Fault.field-0-is at c.code.ensures) refl
-
-no_rest : (rest : List ℕ) (b : Bool) → b ≡ (length rest == 0) → b ≡ true → rest ≡ []
-no_rest rest b is yes_way = elim (eqb_tells (length rest) 0) [
-  | inl same ↦ nil_from_length rest same.1
-  | inr other ↦ absurd (let p : true ≡ false = sym yes_way ∙ is ∙ other.0 in cc)
-]
 
 pub returns-clause-read : goal.returns-clause-read
 returns-clause-read c =

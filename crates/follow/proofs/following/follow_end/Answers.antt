@@ -4,7 +4,8 @@ use Rattle.std.specs.Io.KnownBytes.{Appends}
 use Rattle.collector.specs.Watching.{inner_of}
 use Rattle.collector.specs.Written.{AppendsFront}
 use Rattle.follow.specs.Follows.{Follows}
-use Rattle.follow.proofs.Lines.{empty_rest, filled_rest}
+use Rattle.collector.proofs.LinesRead.{no_rest}
+use Rattle.follow.proofs.Lines.{filled_rest}
 use Rattle.follow.proofs.Stood.{all_told, halted, last_unwritten, unended_last}
 use Rattle.follow.proofs.following.follow_end.Goals as goal
 
@@ -29,7 +30,7 @@ returns-in-Ok-put-clause-follows g c = λ g' bytes left start end st.
     let new = g.W.Write.contents (inner_of c.put.new.writer) in
     let written : Appends now new c.in-Ok.out.items = subst (λ (xs : List ℕ). Appends now new xs) c.as_slice.ensures.value c.in-Ok-put.ensures.ok in
     all_told g' c.args.board.now.shown c.answer_last.new.board.shown p.base p.intake p.telling c.answer_last.new.telling bytes p.pending.items c.in-Ok.out.items left start now new st.stood st.unended c.in-Ok.ensures end
-    (empty_rest p.pending.items c.is_empty.result (c.is_empty.ensures ∙ ap (λ (n : ℕ). n == 0) size) c.if-not-is_empty.false) written
+    (no_rest p.pending.items c.is_empty.result (c.is_empty.ensures ∙ ap (λ (n : ℕ). n == 0) size) c.if-not-is_empty.false) written
 
 pub returns-clause-follows : goal.returns-clause-follows
 returns-clause-follows g c = λ g' bytes left start end st.

@@ -2,7 +2,8 @@ use Rattle.std.proofs.Common.{◌≡◌, ◌∷◌, [], ℕ, List, map, subst}
 use Rattle.collector.specs.Pieces.{split_on}
 use Rattle.collector.specs.Said.{item_of, plain}
 use Rattle.collector.specs.Lines.{IsFault, Says, code_of}
-use Rattle.follow.proofs.Lines.{empty_rest, takes_more, takes_none, took_all, took_epoch, took_fault, unended_nothing}
+use Rattle.collector.proofs.LinesRead.{no_rest}
+use Rattle.follow.proofs.Lines.{takes_more, takes_none, took_all, took_epoch, took_fault, unended_nothing}
 use Rattle.follow.proofs.intake.take_lines.Goals as goal
 
 pub loop-alloc-init : goal.loop-alloc-init
@@ -37,4 +38,4 @@ returns-in-Err-NoLineFeed g c =
     took_all c.args.base c.args.board.now.shown c.loop-alloc.board.shown c.args.intake.now c.loop-alloc.intake (map plain c.args.inputs.now) c.args.text.now c.loop-alloc.rest.now c.loop-alloc.invariant none
 
 pub returns : goal.returns
-returns g c = took_all c.args.base c.args.board.now.shown c.loop-alloc.board.shown c.args.intake.now c.loop-alloc.intake (map plain c.args.inputs.now) c.args.text.now c.loop-alloc.rest.now c.loop-alloc.invariant (unended_nothing c.loop-alloc.rest.now (empty_rest c.loop-alloc.rest.now c.is_empty.result c.is_empty.ensures c.loop-alloc-test.false))
+returns g c = took_all c.args.base c.args.board.now.shown c.loop-alloc.board.shown c.args.intake.now c.loop-alloc.intake (map plain c.args.inputs.now) c.args.text.now c.loop-alloc.rest.now c.loop-alloc.invariant (unended_nothing c.loop-alloc.rest.now (no_rest c.loop-alloc.rest.now c.is_empty.result c.is_empty.ensures c.loop-alloc-test.false))
