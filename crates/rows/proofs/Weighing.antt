@@ -4,11 +4,16 @@ use Rattle.std.specs.List.{sum}
 use Rattle.std.proofs.lemmas.List.{take_all, take_more}
 use Rattle.std.proofs.lemmas.List.Sums.{sum_by-append}
 use Rattle.semantics.specs.Multiset.{Record}
-use Rattle.rows.specs.Counts.{repeated, expanded, with_counts}
+use Rattle.rows.specs.Counts.{repeated, expanded, runs, with_counts}
 
 pub length_repeated : (n : ℕ) (r : Record) → length (repeated n r) ≡ n
 length_repeated zero r = refl
 length_repeated (suc n) r = ap suc (length_repeated n r)
+
+-- records have runs
+pub some_records : (batch : List Record) → 0 < length (runs batch) → 0 < length batch
+some_records [] h = absurd (omega (arith, h))
+some_records (r ∷ batch) h = omega arith
 
 alone : (n : ℕ) → 0 + n ≡ n
 alone n = omega arith

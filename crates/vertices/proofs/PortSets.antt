@@ -3,7 +3,7 @@ use Rattle.std.proofs.Common.{◌≡◌, ℕ, zero, suc, ◌+◌, ◌≤◌, ◌
 use Rattle.std.proofs.lemmas.List.{take_all}
 use Rattle.std.proofs.lemmas.List.Elements.{filter_more}
 use Rattle.std.specs.List.{list_any}
-use Rattle.rows.specs.Counts.{AreRuns, Run, expanded, no_run, rows_of, runs}
+use Rattle.rows.specs.Counts.{AreRuns, Run, expanded, no_run, rows_of}
 use Rattle.rows.specs.Indexes.{AreDifferent}
 use Rattle.rows.proofs.Keeping.{different_where_once}
 use Rattle.rows.proofs.Runs.{length_rows, row_at}
@@ -174,11 +174,6 @@ left_alone left right xs ys h k = record {
     go false false = refl
 
 -- ---- at the ports
-
--- records have runs
-pub some_records : (batch : List Record) → 0 < length (runs batch) → 0 < length batch
-some_records [] h = absurd (omega (arith, h))
-some_records (r ∷ batch) h = omega arith
 
 -- by a batch there are some records at the two ports
 pub some_came : (port : ℕ) (xs ys batch : List Record) → port < 2 → 0 < length batch → 0 < length ((xs ++ cond (port == 0) batch []) ++ (ys ++ cond (port == 1) batch []))

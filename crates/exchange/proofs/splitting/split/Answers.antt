@@ -2,10 +2,11 @@ use Rattle.std.proofs.Common.{◌≡◌, [], ◌∷◌, sym, ap, subst, ◌∙�
 use Rattle.std.specs.Prelude.{slice_index_or}
 use Rattle.rows.specs.FlatRows.{arity_of}
 use Rattle.rows.specs.Counts.{runs}
+use Rattle.rows.proofs.Weighing.{some_records}
 use Rattle.semantics.specs.Multiset.{Record}
 use Rattle.exchange.specs.Homes.{home_of}
 use Rattle.exchange.specs.Parts.{parcels}
-use Rattle.exchange.proofs.Gathering.{all_to_one, all_expanded, some_records, all_gathered, parcels_sum, spread_different}
+use Rattle.exchange.proofs.Gathering.{all_to_one, all_expanded, all_gathered, parcels_sum, spread_different}
 use Rattle.exchange.proofs.splitting.split.Goals as goal
 
 pub returns-in-Some-clause-each : goal.returns-in-Some-clause-each
