@@ -72,7 +72,7 @@ length-woven [] cs p = omega arith
 length-woven (e ∷ es) [] p = omega arith
 length-woven (e ∷ es) (c ∷ cs) p = omega (arith, length-woven es cs p)
 
-cond_same : (b : Bool) (xs ys : List Record) → xs ≈ ys → cond b xs [] ≈ cond b ys []
+pub cond_same : (b : Bool) (xs ys : List Record) → xs ≈ ys → cond b xs [] ≈ cond b ys []
 cond_same true xs ys h = h
 cond_same false xs ys h = ≈-refl []
 

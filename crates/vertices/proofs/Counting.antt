@@ -72,10 +72,6 @@ too_often old xs b f over = (over.0, let z = (append_same old xs b b f (≈-refl
 pub some_behind : (xs b : List Record) → 0 < length b → 0 < length (xs ++ b)
 some_behind xs b h = omega (arith, h, length-append xs b)
 
-pub some_more : (xs b : List Record) → 0 < length (runs b) → 0 < length (xs ++ b)
-some_more xs [] h = absurd (omega (arith, h))
-some_more xs (r ∷ records) h = omega (arith, length-append xs (r ∷ records))
-
 pub asked_before : (xs : List Record) → 0 < length xs → false ≡ asks Role.notified xs
 asked_before [] h = absurd (omega (arith, h))
 asked_before (x ∷ xs) h = refl

@@ -1,5 +1,5 @@
 -- What a shard shows, sends and keeps is so of the same records in any other order.
-use Rattle.std.proofs.Common.{ℕ, ◌==◌, Bool, true, false, cond, ◌++◌, List, [], arith}
+use Rattle.std.proofs.Common.{ℕ, ◌==◌, cond, ◌++◌, List, [], arith}
 use Rattle.rows.specs.Counts.{AllFit, IsOver}
 use Rattle.rows.proofs.Merging.{fit_alike}
 use Rattle.semantics.specs.Kinds.{Kind, Role, role}
@@ -8,7 +8,7 @@ use Rattle.semantics.specs.Op.{op}
 use Rattle.semantics.specs.Shard.{SendsBy, only_at}
 use Rattle.semantics.specs.Time.{Time, same_time}
 use Rattle.semantics.proofs.MultisetSums.{append_same, ≈-refl, ≈-trans}
-use Rattle.semantics.proofs.OneFlow.{op_same}
+use Rattle.semantics.proofs.OneFlow.{cond_same, op_same}
 use Rattle.vertices.specs.Absorbed.{Absorbed, absorbed_by, kept_by, with_records}
 use Rattle.vertices.specs.Outs.{Sends, WouldSendOver}
 use Rattle.vertices.specs.Shards.{Shows}
@@ -51,10 +51,6 @@ Shows_same (Gate s) a b e h = tt
 Shows_same (Hold s) a b e h = tt
 
 -- ---- what is absorbed
-
-cond_same : (b : Bool) (xs ys : List Record) → xs ≈ ys → cond b xs [] ≈ cond b ys []
-cond_same true xs ys e = e
-cond_same false xs ys e = ≈-refl []
 
 with_same : (a b : Absorbed) → ((p : ℕ) (t : Time) → a p t ≈ b p t) → (port : ℕ) (t : Time) (xs ys : List Record) → xs ≈ ys → (p : ℕ) (u : Time) → with_records a port t xs p u ≈ with_records b port t ys p u
 with_same a b alike port t xs ys e p u =
