@@ -1,12 +1,13 @@
 -- Where the counts of an event are too large, and that the records of a message in another order count the same.
-use Rattle.std.proofs.Common.{◌≡◌, ◌≤◌, ◌<◌, ℕ, ◌+◌, List, [], ◌++◌, ◌⊎◌, inl, inr, refl, sym, ap, subst, arith}
+use Rattle.std.proofs.Common.{◌≡◌, ℕ, ◌+◌, List, [], ◌++◌, ◌⊎◌, inl, inr, refl, sym, ap, subst, arith}
 use Rattle.semantics.specs.Graph.{Graph, in_port}
 use Rattle.semantics.specs.Kinds.{Kind, Role, out_ports, role}
-use Rattle.semantics.specs.Multiset.{Record, ◌≈◌, count, one_if, same}
+use Rattle.semantics.specs.Multiset.{Record, ◌≈◌, count, same}
 use Rattle.semantics.specs.Shard.{SendsBy}
 use Rattle.semantics.specs.Time.{Time}
-use Rattle.semantics.proofs.MultisetSums.{total-append, ≈-from, ≈-refl, ≈-sym, ≈-trans}
+use Rattle.semantics.proofs.MultisetSums.{≈-from, ≈-sym, ≈-trans}
 use Rattle.machine.specs.World.{Event, Message}
+use Rattle.machine.proofs.Counting.{count-append}
 use Rattle.rows.specs.Counts.{AllFit, IsOver}
 use Rattle.vertices.specs.Absorbed.{Absorbed, kept_by}
 use Rattle.vertices.specs.Outs.{SendsFor, WouldSendOver, sent}
@@ -34,14 +35,11 @@ nothing_over xs e (r, over) = let n = ap (count r) e in omega (arith, n, over)
 
 -- ---- what is sent is one multiset
 
-count_append : (r : Record) (xs ys : List Record) → count r (xs ++ ys) ≡ count r xs + count r ys
-count_append r xs ys = total-append (λ x. one_if (same x r)) xs ys
-
 gained_once : (first second before now : List Record) → (first ++ before) ≈ now → (second ++ before) ≈ now → first ≈ second
 gained_once first second before now f s = record {
   counts = λ r.
-      let c = count_append r first before in
-      let d = count_append r second before in
+      let c = count-append r first before in
+      let d = count-append r second before in
       let x = f.counts r in
       let y = s.counts r in
       omega (arith, c, d, x, y);

@@ -137,7 +137,7 @@ same_pointstamp p q a b = λ i. record { time = a i; location = b i }
 
 -- ---- the graph of a program
 
-program_dataflow : (g : Graph) (is : List Input) → IsProgramGraph g is → ((p : Program) (ns : List ℕ) → WellTyped p ns → IsDataflow (lowered p)) → IsDataflow g
+pub program_dataflow : (g : Graph) (is : List Input) → IsProgramGraph g is → ((p : Program) (ns : List ℕ) → WellTyped p ns → IsDataflow (lowered p)) → IsDataflow g
 program_dataflow g is h law = subst IsDataflow (sym h.3) (law h.0 h.1 h.2)
 
 pub dataflow_known : (g : Graph) (is : List Input) → ∥ IsProgramGraph g is ∥₁ → ((p : Program) (ns : List ℕ) → WellTyped p ns → IsDataflow (lowered p)) → ∥ IsDataflow g ∥₁

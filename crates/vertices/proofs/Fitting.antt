@@ -82,7 +82,7 @@ IsTooOften s a p t batch = IsOver (kept_by (role (shard_kind s)) a p t batch) �
 
 -- ---- ports
 
-few_ports : (k : Kind) → in_ports k ≤ 2
+pub few_ports : (k : Kind) → in_ports k ≤ 2
 few_ports Kind.input = omega arith
 few_ports Kind.output = omega arith
 few_ports (Kind.select ss) = omega arith
