@@ -1,9 +1,11 @@
 -- What is emitted, by epoch.
-use Rattle.std.proofs.Common.{◌≡◌, ◌≢◌, ◌⊎◌, inl, inr, ◌<◌, ℕ, zero, suc, ◌==◌, Bool, true, false, cond, List, [], ◌∷◌, ◌++◌, length, refl, sym, ap, ◌∙◌, slice_index_or, slice_set, Option, Some, None, append_assoc, append-nil}
+use Rattle.std.proofs.Common.{◌≡◌, ◌≢◌, ◌⊎◌, inl, inr, ◌<◌, ℕ, zero, suc, ◌==◌, Bool, true, false, cond, List, [], ◌∷◌, ◌++◌, length, refl, sym, ap, ◌∙◌, slice_index_or, slice_set, Option, Some, None, append-nil}
 use Rattle.std.proofs.lemmas.Bool.Decides.{eqb_tells}
 use Rattle.semantics.specs.Multiset.{Record}
 use Rattle.vertices.specs.Outs.{records_of}
-use Rattle.board.specs.Shown.{EmitsBehind, Epochs, batches_at, emitted_by, joined, records_at}
+use Rattle.rows.specs.FlatRows.{joined}
+use Rattle.rows.proofs.Joined.{joined_append}
+use Rattle.board.specs.Shown.{EmitsBehind, Epochs, batches_at, emitted_by, records_at}
 use Rattle.board.specs.Steps.{more_at, with_emitted}
 use Rattle.board.proofs.Places.{index_set_here, index_set_other}
 
@@ -35,10 +37,6 @@ is_eqb m n = go (eqb_tells m n)
 pub cond_same : {X : Type 0} (b : Bool) (x : X) → cond b x x ≡ x
 cond_same true x = refl
 cond_same false x = refl
-
-joined_append : (xs ys : List (List Record)) → joined (xs ++ ys) ≡ joined xs ++ joined ys
-joined_append [] ys = refl
-joined_append (x ∷ xs) ys = ap (λ l. x ++ l) (joined_append xs ys) ∙ sym (append_assoc x (joined xs) (joined ys))
 
 index_nil : (e : ℕ) → slice_index_or {A = List (List Record)} [] e [] ≡ []
 index_nil zero = refl

@@ -1,15 +1,15 @@
 -- A seal and a close are one step each, and keep what a board keeps.
-use Rattle.std.proofs.Common.{◌≡◌, ◌<◌, ◌≤◌, ◌+◌, ℕ, suc, Bool, true, false, cond, nat_lt, List, [], ◌∷◌, length, refl, sym, ap, ◌∙◌, subst, arith, slice_set, Option, Some, None, length-set, inl}
+use Rattle.std.proofs.Common.{◌≡◌, ◌<◌, ◌+◌, ℕ, Bool, true, false, cond, nat_lt, List, length, refl, sym, ap, ◌∙◌, subst, arith, slice_set, Option, Some, None, length-set, inl}
 use Rattle.std.proofs.Common.{◌==◌}
 use Rattle.semantics.specs.Multiset.{Record}
-use Rattle.semantics.specs.Graph.{Graph, vertex, input_count}
+use Rattle.semantics.specs.Graph.{Graph, vertex}
 use Rattle.semantics.specs.Could.{Pointstamp, Location, IsTimeAt, at_vertex}
 use Rattle.semantics.specs.Time.{at_epoch}
-use Rattle.semantics.specs.Kinds.{Kind, Role, role, is_input}
+use Rattle.semantics.specs.Kinds.{Role, role}
 use Rattle.graph.specs.Shown.{shown_graph}
 use Rattle.machine.specs.Active.{one_if_same, IsActive}
 use Rattle.machine.specs.Step.{Step}
-use Rattle.machine.proofs.Engine.{network_is}
+use Rattle.machine.proofs.Engine.{few_inputs, network_is, role_input}
 use Rattle.machine.proofs.Tracking.{active_counts}
 use Rattle.rows.specs.FlatRows.{arity_of}
 use Rattle.board.specs.Answers.{first, feed_refusal, input_refusal}
@@ -54,31 +54,6 @@ feed_tells s i batch e =
   where
     same_number : (m n : ℕ) → (m == n) ≡ true → m ≡ n
     same_number m n e = grind arith
-
-pub role_input : (k : Kind) → role k ≡ Role.input → k ≡ Kind.input
-role_input Kind.input e = refl
-role_input Kind.output e = absurd cc
-role_input Kind.concat e = absurd cc
-role_input Kind.distinct e = absurd cc
-role_input Kind.except e = absurd cc
-role_input Kind.intersect e = absurd cc
-role_input Kind.ingress e = absurd cc
-role_input Kind.egress e = absurd cc
-role_input Kind.feedback e = absurd cc
-role_input (Kind.select ss) e = absurd cc
-role_input (Kind.filter c) e = absurd cc
-role_input (Kind.join ps) e = absurd cc
-role_input (Kind.group ks as') e = absurd cc
-role_input (Kind.gate n) e = absurd cc
-role_input (Kind.hold n) e = absurd cc
-
-pub few_inputs : (g : Graph) → input_count g ≤ length g
-few_inputs [] = omega arith
-few_inputs (x ∷ g) = go (is_input x.kind) (few_inputs g)
-  where
-    go : (b : Bool) → input_count g ≤ length g → cond b (suc (input_count g)) 0 ≤ suc (length g)
-    go true h = omega (arith, h)
-    go false h = omega arith
 
 module _ (graph : Graph) (content : Pointstamp → ℕ) (s : Shown) (kept : IsKept graph content s) (i : ℕ) (takes : (s.stopped ≡ false) × (i < length s.inputs) × ((input_at s i).closed ≡ false)) where
   pub role_is : (net s).role i ≡ Role.input

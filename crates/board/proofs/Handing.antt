@@ -1,5 +1,5 @@
 -- From what the code of a claim has at hand to what it promises.
-use Rattle.std.proofs.Common.{◌≡◌, ◌<◌, ℕ, zero, suc, List, [], ◌∷◌, length, refl, sym, ap, ◌∙◌, subst, arith, slice_get, slice_set, slice_index_or, remove, Some, None}
+use Rattle.std.proofs.Common.{◌≡◌, ◌<◌, ℕ, List, length, refl, sym, ap, ◌∙◌, subst, arith, slice_get, slice_set, slice_index_or, remove, Some, None}
 use Rattle.graph.specs.Shown.{shown_graph}
 use Rattle.machine.specs.World.{Message, Request, Event}
 use Rattle.events.specs.Jobs.{Job, Pass}
@@ -8,11 +8,6 @@ use Rattle.board.specs.Shown.{Shown, Side, side_at, side_in, event_at}
 use Rattle.board.specs.Steps.{out_with}
 use Rattle.board.specs.Claims.{IsTaken, HandsMessage, HandsRequest}
 use Rattle.board.proofs.Rooms.{sides_length, side_read, sides_change}
-
-pub get_read : {X : Type 0} (xs : List X) (i : ℕ) (x : X) → i < length xs → x ≡ slice_index_or xs i x → slice_get xs i ≡ Some x
-get_read [] i x l e = absurd (omega arith)
-get_read (y ∷ xs) zero x l e = ap Some (sym e)
-get_read (y ∷ xs) (suc i) x l e = get_read xs i x (omega arith) e
 
 module _ (s : Shown) (ds : List Desk) (same : sides_of ds ≡ s.sides) (k : ℕ) (there : k < length s.sides) where
   pub desk_there : k < length ds

@@ -6,7 +6,8 @@ use Rattle.semantics.specs.Meaning.{program_meaning}
 use Rattle.semantics.specs.Graph.{output_numbers}
 use Rattle.semantics.proofs.LoweredDataflow.{lowered_outputs}
 use Rattle.graph.specs.Shown.{shown_graph}
-use Rattle.board.specs.Shown.{Shown, InputShown, joined, no_input}
+use Rattle.rows.specs.FlatRows.{joined}
+use Rattle.board.specs.Shown.{Shown, InputShown, no_input}
 use Rattle.board.specs.Lateness.{BoardShown}
 use Rattle.board.specs.Looks.{IsLookAt, IsOutputLookAt, IsPromised, LookShown, meant_by, no_output, output_in}
 use Rattle.board.specs.declared.look.OutputLook.{OutputLook}

@@ -1,14 +1,13 @@
 -- A new board keeps what a board keeps, and is as a new board is.
-use Rattle.std.proofs.Common.{◌≡◌, ◌<◌, ◌≤◌, ℕ, [], length, sym, ◌∙◌, subst, arith, inl, Option, Some, None, slice_index_or}
+use Rattle.std.proofs.Common.{◌≡◌, ◌<◌, ◌≤◌, ℕ, [], length, sym, ◌∙◌, subst, arith, Option, Some, None, slice_index_or}
 use Rattle.semantics.specs.Graph.{Graph, input_count, vertex}
-use Rattle.semantics.specs.Could.{IsTimeAt, Location, Pointstamp, at_vertex}
+use Rattle.semantics.specs.Could.{Pointstamp, at_vertex}
 use Rattle.semantics.specs.Time.{at_epoch}
 use Rattle.semantics.specs.Dataflow.{IsDataflow}
 use Rattle.semantics.specs.PortArity.{IsTyped}
 use Rattle.graph.specs.Shown.{GraphValue, shown_graph}
 use Rattle.machine.specs.Active.{one_if_same, sum_below}
 use Rattle.machine.specs.World.{opening}
-use Rattle.machine.proofs.Engine.{network_is}
 use Rattle.vertices.specs.Shards.{Shows as ShowsShard}
 use Rattle.vertices.specs.declared.shard.Shard.{Shard}
 use Rattle.tokens.specs.declared.rule.Place.{Place}
@@ -21,15 +20,7 @@ use Rattle.board.specs.Kept.{IsKept}
 use Rattle.board.specs.Promises.{IsOpening}
 use Rattle.board.specs.Shown.{Shown, side_at}
 use Rattle.board.specs.Showing.{EachShard, IsSideOf, OnShard, Shows, known}
-use Rattle.board.proofs.Ended.{few_inputs, role_input}
 use Rattle.board.proofs.Opening.{IsFresh, kept_opening, shows_opening}
-
--- each input may be active at epoch 0
-pub input_opens : (g : Graph) → IsDataflow g → (i : ℕ) → i < input_count g → IsTimeAt g (Location.vertex i) (at_epoch 0)
-input_opens g flows i l =
-    let role = (network_is g flows 1 (omega arith)).input_has_role i l in
-    let there : i < length g = omega (arith, l, few_inputs g) in
-    (there, sym (flows.shaped.flat i there (inl (role_input (vertex g i).kind role))))
 
 -- a shard at home is known
 at_place : (P Q : Shard → Type 0) → ((x : Shard) → P x → Q x) → (o : Option Shard) (place : Place Job) → OnShard P o → OnShard Q (known o place)

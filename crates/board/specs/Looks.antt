@@ -8,7 +8,8 @@ use Rattle.semantics.specs.Graph.{output_number, output_numbers}
 use Rattle.semantics.specs.Lower.{lowered}
 use Rattle.graph.specs.Shown.{GraphValue, shown_graph}
 use Rattle.board.specs.Lateness.{BoardShown, IsUpToDate}
-use Rattle.board.specs.Shown.{emitted_by, input_at, joined}
+use Rattle.rows.specs.FlatRows.{joined}
+use Rattle.board.specs.Shown.{emitted_by, input_at}
 use Rattle.board.specs.Promises.{HasPassed, IsOutputPlace}
 use Rattle.board.specs.declared.look.OutputLook.{OutputLook}
 

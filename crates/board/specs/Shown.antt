@@ -1,5 +1,5 @@
 -- What a board shows.
-use Rattle.std.specs.Prelude.{◌≡◌, ℕ, Bool, true, false, List, [], ◌∷◌, ◌++◌, length, map, Option, slice_index_or}
+use Rattle.std.specs.Prelude.{◌≡◌, ℕ, Bool, true, false, List, [], ◌++◌, length, map, Option, slice_index_or}
 use Rattle.atomic_table.specs.Seated.{TableId}
 use Rattle.semantics.specs.Multiset.{Record}
 use Rattle.semantics.specs.Graph.{Graph, target}
@@ -8,6 +8,7 @@ use Rattle.graph.specs.Shown.{GraphValue, shown_graph}
 use Rattle.machine.specs.Network.{Network}
 use Rattle.machine.specs.Engine.{network}
 use Rattle.machine.specs.World.{Message, Request, Event, Held}
+use Rattle.rows.specs.FlatRows.{joined}
 use Rattle.vertices.specs.declared.shard.Shard.{Shard}
 use Rattle.tokens.specs.declared.rule.Place.{Place}
 use Rattle.tokens.specs.declared.rule.Place.TheVariants.{Home, Out, Lost}
@@ -17,11 +18,6 @@ use Rattle.events.specs.Wired.{Wired}
 -- batches by epoch, from epoch 0 on
 abbrev pub Epochs : Type 0
 Epochs = List (List (List Record))
-
--- batches, one behind the other
-abbrev pub joined : List (List Record) → List Record
-joined [] = []
-joined (b ∷ bs) = b ++ joined bs
 
 abbrev pub records_at : Epochs → ℕ → List Record
 records_at es e = joined (slice_index_or es e [])

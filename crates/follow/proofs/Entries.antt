@@ -7,7 +7,7 @@ use Rattle.std.proofs.lemmas.List.{append-nil, take-append-drop, take_all, take_
 use Rattle.rows.specs.Counts.{Run, expanded, no_run, repeated}
 use Rattle.rows.proofs.Joined.{joined_append, joined_behind}
 use Rattle.rows.proofs.Merging.{firsts_more}
-use Rattle.board.specs.Shown.{joined}
+use Rattle.rows.specs.FlatRows.{joined}
 use Rattle.semantics.specs.Multiset.{Record}
 use Rattle.semantics.specs.Query.{Name}
 use Rattle.collector.specs.OutputText.{is_plain, label_of}

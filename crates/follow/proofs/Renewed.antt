@@ -7,7 +7,8 @@ use Rattle.semantics.specs.Multiset.{Record}
 use Rattle.semantics.proofs.MultisetSums.{≈-from}
 use Rattle.graph.specs.Shown.{GraphValue}
 use Rattle.machine.specs.World.{opening}
-use Rattle.board.specs.Shown.{Shown, joined}
+use Rattle.rows.specs.FlatRows.{joined}
+use Rattle.board.specs.Shown.{Shown}
 use Rattle.board.specs.Showing.{Shows}
 use Rattle.board.specs.Promises.{IsOpening}
 use Rattle.collector.specs.Lines.{Item}

@@ -7,7 +7,8 @@ use Rattle.std.proofs.lemmas.List.{append-nil, length-append}
 use Rattle.semantics.proofs.MultisetSums.{≈-from}
 use Rattle.graph.specs.Shown.{GraphValue, shown_inputs}
 use Rattle.machine.specs.World.{opening}
-use Rattle.board.specs.Shown.{Shown, joined}
+use Rattle.rows.specs.FlatRows.{joined}
+use Rattle.board.specs.Shown.{Shown}
 use Rattle.board.specs.Showing.{Shows}
 use Rattle.collector.specs.Pieces.{split_on}
 use Rattle.collector.specs.Lines.{Item}

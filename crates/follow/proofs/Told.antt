@@ -11,7 +11,8 @@ use Rattle.semantics.proofs.LoweredDataflow.{lowered_outputs}
 use Rattle.semantics.proofs.MeaningOfMultisets.{program_same}
 use Rattle.semantics.proofs.MultisetSums.{≈-trans}
 use Rattle.graph.specs.Shown.{GraphValue, shown_graph, shown_names}
-use Rattle.board.specs.Shown.{Shown, batches_at, joined}
+use Rattle.rows.specs.FlatRows.{joined}
+use Rattle.board.specs.Shown.{Shown, batches_at}
 use Rattle.board.specs.Promises.{HasPassed, IsOutputPlace, KeepsPromise, RunsProgram, emitted_at, meant_of}
 use Rattle.collector.specs.OutputText.{is_plain, label_of}
 use Rattle.collector.specs.Lines.{Item}

@@ -6,9 +6,9 @@ use Rattle.semantics.specs.Query.{Input}
 use Rattle.graph.specs.Shown.{GraphValue, shown_graph, shown_inputs}
 use Rattle.machine.specs.World.{World}
 use Rattle.machine.specs.Step.{put}
-use Rattle.rows.specs.FlatRows.{RowList}
+use Rattle.rows.specs.FlatRows.{RowList, joined}
 use Rattle.semantics.specs.Graph.{output_number}
-use Rattle.board.specs.Shown.{EmitsBehind, Shown, batches_at, input_at, joined, records_at}
+use Rattle.board.specs.Shown.{EmitsBehind, Shown, batches_at, input_at, records_at}
 use Rattle.board.specs.Showing.{Shows}
 use Rattle.collector.specs.Pieces.{split_on}
 use Rattle.collector.specs.Lines.{Item}

@@ -4,7 +4,8 @@ use Rattle.std.specs.List.{flat_map}
 use Rattle.semantics.specs.Multiset.{Record}
 use Rattle.semantics.specs.Query.{Input}
 use Rattle.graph.specs.Shown.{GraphValue, shown_inputs}
-use Rattle.board.specs.Shown.{Shown, joined}
+use Rattle.rows.specs.FlatRows.{joined}
+use Rattle.board.specs.Shown.{Shown}
 use Rattle.board.specs.Promises.{IsOutputPlace, emitted_at}
 use Rattle.collector.specs.Pieces.{split_on}
 use Rattle.collector.specs.Lines.{Item}

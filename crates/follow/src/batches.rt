@@ -3,7 +3,7 @@
 ghost use Rattle.std.specs.Prelude.{◌≡◌, ◌++◌, OnOk};
 ghost use Rattle.std.specs.List.{flat_map};
 ghost use Rattle.rows.specs.Counts.{repeated};
-ghost use Rattle.board.specs.Shown.{joined};
+ghost use Rattle.rows.specs.FlatRows.{joined};
 ghost use Rattle.collector.specs.OutputText.{label_of};
 ghost use Rattle.follow.specs.Entries.{row_line};
 

@@ -4,7 +4,7 @@ use Rattle.std.specs.Prelude.{option_map, slice_get, slice_index_or}
 use Rattle.std.proofs.Math.Logic.{∥∥₁_elim}
 use Rattle.std.proofs.Math.Nat.{ℕ_set}
 use Rattle.std.proofs.Math.Bridge.{le_prop}
-use Rattle.board.proofs.Ended.{few_inputs}
+use Rattle.machine.proofs.Engine.{few_inputs}
 use Rattle.std.proofs.lemmas.Option.{slice_get_within, get_or_from_slice_get, slice_get-map}
 use Rattle.semantics.specs.Query.{Input, Program}
 use Rattle.semantics.specs.Graph.{Graph, Vertex, input_count}

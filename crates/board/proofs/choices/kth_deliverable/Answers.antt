@@ -2,7 +2,7 @@ use Rattle.std.proofs.Common.{◌≡◌, ◌+◌, ◌-◌, ℕ, suc, true, false
 use Rattle.machine.specs.World.{Request}
 use Rattle.views.specs.Waiting.{IsSeenBy}
 use Rattle.board.specs.Deliverable.{IsDeliverable}
-use Rattle.board.proofs.Handing.{get_read}
+use Rattle.progress.proofs.Contents.{got_at}
 use Rattle.board.proofs.Kths.{Remains, remain_first, remain_here, remain_none, remain_one}
 use Rattle.board.proofs.choices.kth_deliverable.Goals as goal
 use Rattle.board.proofs.choices.kth_deliverable.Goals.{then-may_deliver+else-left-eq0, else-may_deliver}
@@ -13,23 +13,23 @@ loop-place-init g c = remain_first (IsDeliverable (g.V.Views.graph c.args.views.
 pub may_deliver-requires-clause-known : goal.may_deliver-requires-clause-known
 may_deliver-requires-clause-known g c =
     let r : Request = c.get.result.now in
-    c.requires.known c.loop-place.place r (get_read c.args.requests.now.messages c.loop-place.place r (omega (arith, c.loop-place-test.true, c.len-place-end.ensures)) c.get.ensures)
+    c.requires.known c.loop-place.place r (got_at c.args.requests.now.messages c.loop-place.place r (omega (arith, c.loop-place-test.true, c.len-place-end.ensures)) c.get.ensures)
 
 pub returns-then-left-eq0-clause-some : goal.returns-then-left-eq0-clause-some
 returns-then-left-eq0-clause-some g c =
     let r : Request = c.get.result.now in
-    let got : slice_get c.args.requests.now.messages c.loop-place.place ≡ Some r = get_read c.args.requests.now.messages c.loop-place.place r (omega (arith, c.loop-place-test.true, c.len-place-end.ensures)) c.get.ensures in
+    let got : slice_get c.args.requests.now.messages c.loop-place.place ≡ Some r = got_at c.args.requests.now.messages c.loop-place.place r (omega (arith, c.loop-place-test.true, c.len-place-end.ensures)) c.get.ensures in
     remain_here (IsDeliverable (g.V.Views.graph c.args.views.now) (IsSeenBy (g.V.Views.content c.args.views.now) (g.V.Views.waiting c.args.views.now) (g.V.Views.workers c.args.views.now) c.args.worker)) c.args.requests.now.messages c.args.number c.loop-place.place c.loop-place.left c.loop-place.invariant r got (c.may_deliver.ensures.seen.0 c.if-may_deliver.true) c.if-left-eq0.true
 
 pub returns-then-left-eq0-clause-there : goal.returns-then-left-eq0-clause-there
 returns-then-left-eq0-clause-there g c =
     let r : Request = c.get.result.now in
-    (r, get_read c.args.requests.now.messages c.loop-place.place r (omega (arith, c.loop-place-test.true, c.len-place-end.ensures)) c.get.ensures, c.may_deliver.ensures.there c.if-may_deliver.true)
+    (r, got_at c.args.requests.now.messages c.loop-place.place r (omega (arith, c.loop-place-test.true, c.len-place-end.ensures)) c.get.ensures, c.may_deliver.ensures.there c.if-may_deliver.true)
 
 pub loop-place-preserved : goal.loop-place-preserved
 loop-place-preserved g c =
     let r : Request = c.get.result.now in
-    let got : slice_get c.args.requests.now.messages c.loop-place.place ≡ Some r = get_read c.args.requests.now.messages c.loop-place.place r (omega (arith, c.loop-place-test.true, c.len-place-end.ensures)) c.get.ensures in
+    let got : slice_get c.args.requests.now.messages c.loop-place.place ≡ Some r = got_at c.args.requests.now.messages c.loop-place.place r (omega (arith, c.loop-place-test.true, c.len-place-end.ensures)) c.get.ensures in
     let next : c.loop-place.place + 1 ≡ suc c.loop-place.place = omega arith in
     let P : ℕ → Type 0 = λ n. Remains (IsDeliverable (g.V.Views.graph c.args.views.now) (IsSeenBy (g.V.Views.content c.args.views.now) (g.V.Views.waiting c.args.views.now) (g.V.Views.workers c.args.views.now) c.args.worker)) c.args.requests.now.messages c.args.number (c.loop-place.place + 1) n in
     elim c.if-may_deliver.branch [

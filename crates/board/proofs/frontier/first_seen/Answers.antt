@@ -4,19 +4,19 @@ use Rattle.machine.specs.World.{Request}
 use Rattle.views.specs.Waiting.{IsSeenBy}
 use Rattle.board.specs.Deliverable.{IsBlocked, IsDeliverable, StandsBefore}
 use Rattle.board.proofs.Frontiers.{blocked_next, each_pushed, stands_blocked}
-use Rattle.board.proofs.Handing.{get_read}
+use Rattle.progress.proofs.Contents.{got_at}
 use Rattle.board.proofs.Places.{get_index}
 use Rattle.board.proofs.frontier.first_seen.Goals as goal
 
 pub may_deliver-requires-clause-known : goal.may_deliver-requires-clause-known
 may_deliver-requires-clause-known g c =
     let r : Request = c.get-request.result.now in
-    c.requires.known c.loop-place.place r (get_read c.args.requests.now.messages c.loop-place.place r (omega (arith, c.loop-place-test.true, c.len-place-end.ensures)) c.get-request.ensures)
+    c.requires.known c.loop-place.place r (got_at c.args.requests.now.messages c.loop-place.place r (omega (arith, c.loop-place-test.true, c.len-place-end.ensures)) c.get-request.ensures)
 
 pub returns-then-may_deliver-clause-some : goal.returns-then-may_deliver-clause-some
 returns-then-may_deliver-clause-some g c =
     let r : Request = c.get-request.result.now in
-    (r, get_read c.args.requests.now.messages c.loop-place.place r (omega (arith, c.loop-place-test.true, c.len-place-end.ensures)) c.get-request.ensures, c.may_deliver.ensures.there c.if-may_deliver.true)
+    (r, got_at c.args.requests.now.messages c.loop-place.place r (omega (arith, c.loop-place-test.true, c.len-place-end.ensures)) c.get-request.ensures, c.may_deliver.ensures.there c.if-may_deliver.true)
 
 pub returns-clause-none : goal.returns-clause-none
 returns-clause-none g c at r e h =
@@ -27,7 +27,7 @@ pub loop-place-preserved-then-is_behind : goal.loop-place-preserved-then-is_behi
 loop-place-preserved-then-is_behind g c =
     let rs : List Request = c.args.requests.now.messages in
     let r : Request = c.get-request.result.now in
-    let got : slice_get rs c.loop-place.place ≡ Some r = get_read rs c.loop-place.place r (omega (arith, c.loop-place-test.true, c.len-place-end.ensures)) c.get-request.ensures in
+    let got : slice_get rs c.loop-place.place ≡ Some r = got_at rs c.loop-place.place r (omega (arith, c.loop-place-test.true, c.len-place-end.ensures)) c.get-request.ensures in
     let B : List ℕ → Type 0 = λ places. (i : ℕ) × (i < length places) × StandsBefore rs r (slice_index places i) in
     let behind : B c.loop-place.fronts.items = subst B c.as_slice.ensures.value (c.is_behind.ensures c.if-is_behind.true) in (
       blocked_next (IsDeliverable (g.V.Views.graph c.args.views.now) (IsSeenBy (g.V.Views.content c.args.views.now) (g.V.Views.waiting c.args.views.now) (g.V.Views.workers c.args.views.now) c.args.worker)) rs c.loop-place.place r got
@@ -39,7 +39,7 @@ pub loop-place-preserved : goal.loop-place-preserved
 loop-place-preserved g c =
     let rs : List Request = c.args.requests.now.messages in
     let r : Request = c.get-request.result.now in
-    let got : slice_get rs c.loop-place.place ≡ Some r = get_read rs c.loop-place.place r (omega (arith, c.loop-place-test.true, c.len-place-end.ensures)) c.get-request.ensures in
+    let got : slice_get rs c.loop-place.place ≡ Some r = got_at rs c.loop-place.place r (omega (arith, c.loop-place-test.true, c.len-place-end.ensures)) c.get-request.ensures in
     let blocked : IsDeliverable (g.V.Views.graph c.args.views.now) (IsSeenBy (g.V.Views.content c.args.views.now) (g.V.Views.waiting c.args.views.now) (g.V.Views.workers c.args.views.now) c.args.worker) r → ⊥ = λ h. let t : true ≡ false = sym (c.may_deliver.ensures.seen.1 h) ∙ c.if-may_deliver.false in cc in (
       blocked_next (IsDeliverable (g.V.Views.graph c.args.views.now) (IsSeenBy (g.V.Views.content c.args.views.now) (g.V.Views.waiting c.args.views.now) (g.V.Views.workers c.args.views.now) c.args.worker)) rs c.loop-place.place r got blocked c.loop-place.invariant.0,
       each_pushed (IsBlocked (g.V.Views.graph c.args.views.now) (IsSeenBy (g.V.Views.content c.args.views.now) (g.V.Views.waiting c.args.views.now) (g.V.Views.workers c.args.views.now) c.args.worker) rs) c.loop-place.fronts.items c.try_push-remembered.new.self.items c.loop-place.place c.try_push-remembered.result c.try_push-remembered.ensures.ok

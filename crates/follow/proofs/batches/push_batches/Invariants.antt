@@ -1,6 +1,6 @@
 use Rattle.std.proofs.Common.{◌≡◌, ◌++◌, take}
 use Rattle.std.specs.List.{flat_map}
-use Rattle.board.specs.Shown.{joined}
+use Rattle.rows.specs.FlatRows.{joined}
 use Rattle.collector.specs.OutputText.{label_of}
 use Rattle.follow.specs.Entries.{row_line}
 use Rattle.follow.proofs.batches.push_batches.Given as goal

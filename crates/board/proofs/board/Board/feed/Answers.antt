@@ -5,7 +5,8 @@ use Rattle.graph.specs.Shown.{shown_graph}
 use Rattle.events.specs.Wired.{Wired, graph_in}
 use Rattle.board.specs.Answers.{feed_refusal}
 use Rattle.board.specs.Shown.{Shown}
-use Rattle.board.proofs.Ended.{feed_tells, open_tells, input_located, role_is, role_input}
+use Rattle.machine.proofs.Engine.{role_input}
+use Rattle.board.proofs.Ended.{feed_tells, open_tells, input_located, role_is}
 use Rattle.board.specs.Lateness.{BoardShown}
 use Rattle.board.proofs.board.Board.feed.Goals as goal
 

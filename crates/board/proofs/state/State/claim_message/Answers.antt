@@ -7,7 +7,8 @@ use Rattle.events.specs.Jobs.{Job}
 use Rattle.events.specs.Wired.{Wired}
 use Rattle.board.specs.Desks.{Desk, sides_of}
 use Rattle.board.specs.Shown.{Shown, Side, side_at, event_at}
-use Rattle.board.proofs.Handing.{read_at, get_read, hands_message}
+use Rattle.progress.proofs.Contents.{got_at}
+use Rattle.board.proofs.Handing.{read_at, hands_message}
 use Rattle.board.proofs.Ready as ready
 use Rattle.board.proofs.state.State.claim_message.Goals as goal
 
@@ -21,7 +22,7 @@ edge-requires c =
     let m : Message = c.get.result.now in
     let box : c.mailbox.result.now.messages ≡ (side_at s k).mail = c.mailbox.ensures ∙ ap (λ (z : Side). z.mail) x in
     let got : slice_get (side_at s k).mail c.args.place ≡ Some m =
-    sym (ap (λ (ms : List Message). slice_get ms c.args.place) box) ∙ get_read c.mailbox.result.now.messages c.args.place m (omega (arith, c.requires.some, ap length box)) c.get.ensures in
+    sym (ap (λ (ms : List Message). slice_get ms c.args.place) box) ∙ got_at c.mailbox.result.now.messages c.args.place m (omega (arith, c.requires.some, ap length box)) c.get.ensures in
     let edge : c.edge-edge.result.0 ≡ m.edge = c.edge-edge.ensures in
     let graph : c.graph.result.now ≡ s.graph = c.graph.ensures ∙ ap (λ (z : Wired). z.graph) c.deref.ensures ∙ ap (λ (z : Shown). z.graph) c.self.view_is in
     let good = ready.good_message c.requires.kept.0 c.requires.kept.1 s c.requires.kept.2 k c.requires.there c.requires.free c.args.place m got in
@@ -39,7 +40,7 @@ send_message-event-requires-clause-vertex c =
     let m : Message = c.get.result.now in
     let box : c.mailbox.result.now.messages ≡ (side_at s k).mail = c.mailbox.ensures ∙ ap (λ (z : Side). z.mail) x in
     let got : slice_get (side_at s k).mail c.args.place ≡ Some m =
-    sym (ap (λ (ms : List Message). slice_get ms c.args.place) box) ∙ get_read c.mailbox.result.now.messages c.args.place m (omega (arith, c.requires.some, ap length box)) c.get.ensures in
+    sym (ap (λ (ms : List Message). slice_get ms c.args.place) box) ∙ got_at c.mailbox.result.now.messages c.args.place m (omega (arith, c.requires.some, ap length box)) c.get.ensures in
     let edge : c.edge-edge.result.0 ≡ m.edge = c.edge-edge.ensures in
     let graph : c.graph.result.now ≡ s.graph = c.graph.ensures ∙ ap (λ (z : Wired). z.graph) c.deref.ensures ∙ ap (λ (z : Shown). z.graph) c.self.view_is in
     let v : c.edge.result.target.0 ≡ target (shown_graph s.graph) m.edge = c.edge.ensures.target ∙ (λ i. target (shown_graph (graph i)) (edge i)) in
@@ -58,7 +59,7 @@ send_message-event-requires-clause-shard c =
     let m : Message = c.get.result.now in
     let box : c.mailbox.result.now.messages ≡ (side_at s k).mail = c.mailbox.ensures ∙ ap (λ (z : Side). z.mail) x in
     let got : slice_get (side_at s k).mail c.args.place ≡ Some m =
-    sym (ap (λ (ms : List Message). slice_get ms c.args.place) box) ∙ get_read c.mailbox.result.now.messages c.args.place m (omega (arith, c.requires.some, ap length box)) c.get.ensures in
+    sym (ap (λ (ms : List Message). slice_get ms c.args.place) box) ∙ got_at c.mailbox.result.now.messages c.args.place m (omega (arith, c.requires.some, ap length box)) c.get.ensures in
     let edge : c.edge-edge.result.0 ≡ m.edge = c.edge-edge.ensures in
     let graph : c.graph.result.now ≡ s.graph = c.graph.ensures ∙ ap (λ (z : Wired). z.graph) c.deref.ensures ∙ ap (λ (z : Shown). z.graph) c.self.view_is in
     let v : c.edge.result.target.0 ≡ target (shown_graph s.graph) m.edge = c.edge.ensures.target ∙ (λ i. target (shown_graph (graph i)) (edge i)) in
@@ -78,7 +79,7 @@ new-requires-clause-ready c =
     let m : Message = c.get.result.now in
     let box : c.mailbox.result.now.messages ≡ (side_at s k).mail = c.mailbox.ensures ∙ ap (λ (z : Side). z.mail) x in
     let got : slice_get (side_at s k).mail c.args.place ≡ Some m =
-    sym (ap (λ (ms : List Message). slice_get ms c.args.place) box) ∙ get_read c.mailbox.result.now.messages c.args.place m (omega (arith, c.requires.some, ap length box)) c.get.ensures in
+    sym (ap (λ (ms : List Message). slice_get ms c.args.place) box) ∙ got_at c.mailbox.result.now.messages c.args.place m (omega (arith, c.requires.some, ap length box)) c.get.ensures in
     let edge : c.edge-edge.result.0 ≡ m.edge = c.edge-edge.ensures in
     let graph : c.graph.result.now ≡ s.graph = c.graph.ensures ∙ ap (λ (z : Wired). z.graph) c.deref.ensures ∙ ap (λ (z : Shown). z.graph) c.self.view_is in
     let v : c.edge.result.target.0 ≡ target (shown_graph s.graph) m.edge = c.edge.ensures.target ∙ (λ i. target (shown_graph (graph i)) (edge i)) in
@@ -103,7 +104,7 @@ returns-clause-hands c =
     let m : Message = c.get.result.now in
     let box : c.mailbox.result.now.messages ≡ (side_at s k).mail = c.mailbox.ensures ∙ ap (λ (z : Side). z.mail) x in
     let got : slice_get (side_at s k).mail c.args.place ≡ Some m =
-    sym (ap (λ (ms : List Message). slice_get ms c.args.place) box) ∙ get_read c.mailbox.result.now.messages c.args.place m (omega (arith, c.requires.some, ap length box)) c.get.ensures in
+    sym (ap (λ (ms : List Message). slice_get ms c.args.place) box) ∙ got_at c.mailbox.result.now.messages c.args.place m (omega (arith, c.requires.some, ap length box)) c.get.ensures in
     let edge : c.edge-edge.result.0 ≡ m.edge = c.edge-edge.ensures in
     let graph : c.graph.result.now ≡ s.graph = c.graph.ensures ∙ ap (λ (z : Wired). z.graph) c.deref.ensures ∙ ap (λ (z : Shown). z.graph) c.self.view_is in
     let v : c.edge.result.target.0 ≡ target (shown_graph s.graph) m.edge = c.edge.ensures.target ∙ (λ i. target (shown_graph (graph i)) (edge i)) in

@@ -5,7 +5,8 @@ use Rattle.tokens.specs.Tokens.{Ticket}
 use Rattle.events.specs.Jobs.{Job}
 use Rattle.board.specs.Desks.{Desk, sides_of}
 use Rattle.board.specs.Shown.{Shown, Side, side_at, event_at}
-use Rattle.board.proofs.Handing.{read_at, get_read, hands_request}
+use Rattle.progress.proofs.Contents.{got_at}
+use Rattle.board.proofs.Handing.{read_at, hands_request}
 use Rattle.board.proofs.Ready as ready
 use Rattle.board.proofs.state.State.claim_request.Goals as goal
 
@@ -19,7 +20,7 @@ send_request-event-requires-clause-vertex c =
     let r : Request = c.get.result.now in
     let box : c.requests.result.now.messages ≡ (side_at s k).requests = c.requests.ensures ∙ ap (λ (z : Side). z.requests) x in
     let got : slice_get (side_at s k).requests c.args.place ≡ Some r =
-    sym (ap (λ (ms : List Request). slice_get ms c.args.place) box) ∙ get_read c.requests.result.now.messages c.args.place r (omega (arith, c.requires.some, ap length box)) c.get.ensures in
+    sym (ap (λ (ms : List Request). slice_get ms c.args.place) box) ∙ got_at c.requests.result.now.messages c.args.place r (omega (arith, c.requires.some, ap length box)) c.get.ensures in
     let v : c.behind-requests.inside.vertex.0 ≡ r.vertex = ap (λ (z : Request). z.vertex) c.behind-requests.view_is in
     let y : c.index_mut.result.now.side ≡ side_at s k = read_at s ds same k c.requires.there c.index_mut.result.now c.index_mut.ensures.value in
     let lv : r.vertex < length (shown_graph s.graph) = (ready.good_request c.requires.kept.0 c.requires.kept.1 s c.requires.kept.2 k c.requires.there c.requires.free c.args.place r got).fits.0 in
@@ -36,7 +37,7 @@ send_request-event-requires-clause-shard c =
     let r : Request = c.get.result.now in
     let box : c.requests.result.now.messages ≡ (side_at s k).requests = c.requests.ensures ∙ ap (λ (z : Side). z.requests) x in
     let got : slice_get (side_at s k).requests c.args.place ≡ Some r =
-    sym (ap (λ (ms : List Request). slice_get ms c.args.place) box) ∙ get_read c.requests.result.now.messages c.args.place r (omega (arith, c.requires.some, ap length box)) c.get.ensures in
+    sym (ap (λ (ms : List Request). slice_get ms c.args.place) box) ∙ got_at c.requests.result.now.messages c.args.place r (omega (arith, c.requires.some, ap length box)) c.get.ensures in
     let v : c.behind-requests.inside.vertex.0 ≡ r.vertex = ap (λ (z : Request). z.vertex) c.behind-requests.view_is in
     let y : c.index_mut.result.now.side ≡ side_at s k = read_at s ds same k c.requires.there c.index_mut.result.now c.index_mut.ensures.value in
     let lv : r.vertex < length (shown_graph s.graph) = (ready.good_request c.requires.kept.0 c.requires.kept.1 s c.requires.kept.2 k c.requires.there c.requires.free c.args.place r got).fits.0 in
@@ -54,7 +55,7 @@ new-requires-clause-ready c =
     let r : Request = c.get.result.now in
     let box : c.requests.result.now.messages ≡ (side_at s k).requests = c.requests.ensures ∙ ap (λ (z : Side). z.requests) x in
     let got : slice_get (side_at s k).requests c.args.place ≡ Some r =
-    sym (ap (λ (ms : List Request). slice_get ms c.args.place) box) ∙ get_read c.requests.result.now.messages c.args.place r (omega (arith, c.requires.some, ap length box)) c.get.ensures in
+    sym (ap (λ (ms : List Request). slice_get ms c.args.place) box) ∙ got_at c.requests.result.now.messages c.args.place r (omega (arith, c.requires.some, ap length box)) c.get.ensures in
     let v : c.behind-requests.inside.vertex.0 ≡ r.vertex = ap (λ (z : Request). z.vertex) c.behind-requests.view_is in
     let y : c.index_mut.result.now.side ≡ side_at s k = read_at s ds same k c.requires.there c.index_mut.result.now c.index_mut.ensures.value in
     let lv : r.vertex < length (shown_graph s.graph) = (ready.good_request c.requires.kept.0 c.requires.kept.1 s c.requires.kept.2 k c.requires.there c.requires.free c.args.place r got).fits.0 in
@@ -77,7 +78,7 @@ returns-clause-hands c =
     let r : Request = c.get.result.now in
     let box : c.requests.result.now.messages ≡ (side_at s k).requests = c.requests.ensures ∙ ap (λ (z : Side). z.requests) x in
     let got : slice_get (side_at s k).requests c.args.place ≡ Some r =
-    sym (ap (λ (ms : List Request). slice_get ms c.args.place) box) ∙ get_read c.requests.result.now.messages c.args.place r (omega (arith, c.requires.some, ap length box)) c.get.ensures in
+    sym (ap (λ (ms : List Request). slice_get ms c.args.place) box) ∙ got_at c.requests.result.now.messages c.args.place r (omega (arith, c.requires.some, ap length box)) c.get.ensures in
     let v : c.behind-requests.inside.vertex.0 ≡ r.vertex = ap (λ (z : Request). z.vertex) c.behind-requests.view_is in
     let y : c.index_mut.result.now.side ≡ side_at s k = read_at s ds same k c.requires.there c.index_mut.result.now c.index_mut.ensures.value in
     let lv : r.vertex < length (shown_graph s.graph) = (ready.good_request c.requires.kept.0 c.requires.kept.1 s c.requires.kept.2 k c.requires.there c.requires.free c.args.place r got).fits.0 in
