@@ -105,6 +105,8 @@ fn of_call(before: &[u8], word: &[u8]) -> Option<&'static str> {
         (b"filter", b"(") => Some("use where(a; #0 > 1)"),
         (b"map" | b"project", b"(") => Some("use select(a; #0)"),
         (b"unique", b"(") => Some("use distinct(a)"),
+        (b"having", b"(") => Some("use where(group(a; #0; count); #1 > 1)"),
+        (b"order" | b"order_by" | b"sort", b"(") => Some("an answer comes in ascending order"),
         _ => None,
     }
 }
@@ -184,6 +186,9 @@ fn in_bracket(before: &[u8], word: &[u8], behind: &[u8]) -> Option<&'static str>
         (_, _, b"and" | b"or" | b"not" | b"[") => of_condition(before, bracket, word),
         _ if is_comparison(word) => of_condition(before, bracket, word),
         (b"group", 1, b";") if before.ends_with(b";") => Some("a group has at least one key"),
+        (b"group", count, b"+" | b"-" | b"*") if count > 0 => Some(
+            "a group takes columns: compute them first, as in group(select(a; #0, #1 * #2); #0; sum #1)",
+        ),
         (b"group", count, _) if count > 1 && is_name(word) => Some(
             "the aggregates are count, sum, min and max",
         ),
