@@ -126,6 +126,22 @@ fn no_epoch_passes(rt: HostRuntime) -> Result<(), Fail> {
     Ok(())
 }
 
+/// Of 256 epochs with two records each, one of the two workers computes all: each epoch is one message.
+#[test]
+fn many_small_epochs(rt: HostRuntime) -> Result<(), Fail> {
+    let mut input = String::new(rt.alloc());
+    for _ in 0..256 {
+        input.push_str("epoch\na 1\na 2\n")?;
+    }
+    let mut err = Vec::new(rt.alloc());
+    let mut watcher = keeping(&rt, Telling::Lines);
+    let text = copied(&rt, &rt, input.as_bytes(), &mut watcher, &mut err)?;
+    assert!(rt; text.ends_with(b"epoch 254\n1\n2\nepoch 255\n1\n2\n"));
+    let counted = b"0 input events 0 in 512 sent 512\n1 output events 256 in 512 sent 0\nmessages 256\nepochs 256\n";
+    assert_eq!(rt; err.as_slice(), counted.as_slice());
+    Ok(())
+}
+
 #[test]
 fn told_to_nobody(rt: HostRuntime) -> Result<(), Fail> {
     for telling in [Telling::Lines, Telling::InPlace] {

@@ -11,7 +11,7 @@ use board::Board;
 use collector::{Epochs, OutFault, Watched, write_epochs};
 use command_line::Workers;
 use diagnostics::Fault;
-use execution::{Watcher, emitted, execute};
+use execution::{Parallelism, Watcher, emitted, execute};
 use graph::Graph;
 use statistics::Tally;
 use std::alloc::Global;
@@ -50,6 +50,7 @@ fn respond_on<V: Views + Send, R: Threads + Wait + Sync, G: Gate + Sync, W: Writ
     rt: &R,
     alloc: Global,
     board: Board<V>,
+    threads: u32,
     epochs: &Epochs,
     gate: &G,
     writer: &mut Watched<W>,
@@ -58,16 +59,17 @@ fn respond_on<V: Views + Send, R: Threads + Wait + Sync, G: Gate + Sync, W: Writ
     ensures text { RespondsBy board.shown.graph epochs.now (W.contents (inner_of writer.old)) (W.contents (inner_of writer.new)) result }
     ensures failed { IsErrOf result fault.Write → has_failed writer.new ≡ true }
 {
-    match execute(rt, alloc, board, epochs, gate, watcher) {
+    match execute(rt, alloc, board, threads, epochs, gate, watcher) {
         Ok(report) => write_emitted(alloc, &report, epochs, writer),
         Err(unfinished) => Err(run_fault(unfinished)),
     }
 }
 
-/// The same for a single worker, who sees at once what is active.
+/// The same for a single worker, who sees at once what is active, whatever the number of threads.
 fn respond_alone<R: Threads + Wait + Sync, G: Gate + Sync, W: Write, O: Write + Send>(
     rt: &R,
     alloc: Global,
+    threads: u32,
     graph: Arc<Graph, Global>,
     epochs: &Epochs,
     gate: &G,
@@ -78,7 +80,7 @@ fn respond_alone<R: Threads + Wait + Sync, G: Gate + Sync, W: Write, O: Write + 
     ensures failed { IsErrOf result fault.Write → has_failed writer.new ≡ true }
 {
     match Board::new(alloc, graph, 1) {
-        Ok(board) => respond_on(rt, alloc, board, epochs, gate, writer, watcher),
+        Ok(board) => respond_on(rt, alloc, board, threads, epochs, gate, writer, watcher),
         Err(_) => Err(Fault::NoMemory),
     }
 }
@@ -87,7 +89,7 @@ fn respond_alone<R: Threads + Wait + Sync, G: Gate + Sync, W: Write, O: Write + 
 fn respond_together<R: Threads + Wait + Sync, G: Gate + Sync, W: Write, O: Write + Send>(
     rt: &R,
     alloc: Global,
-    workers: Workers,
+    parallelism: Parallelism,
     graph: Arc<Graph, Global>,
     epochs: &Epochs,
     gate: &G,
@@ -97,17 +99,19 @@ fn respond_together<R: Threads + Wait + Sync, G: Gate + Sync, W: Write, O: Write
     ensures text { RespondsBy graph.value epochs.now (W.contents (inner_of writer.old)) (W.contents (inner_of writer.new)) result }
     ensures failed { IsErrOf result fault.Write → has_failed writer.new ≡ true }
 {
-    match Board::with_local_views(alloc, graph, workers.count()) {
-        Ok(board) => respond_on(rt, alloc, board, epochs, gate, writer, watcher),
+    match Board::with_local_views(alloc, graph, parallelism.workers()) {
+        Ok(board) => {
+            respond_on(rt, alloc, board, parallelism.threads(), epochs, gate, writer, watcher)
+        }
         Err(_) => Err(Fault::NoMemory),
     }
 }
 
-/// The same for so many workers.
+/// The same, whatever the number of workers.
 fn respond_by<R: Threads + Wait + Sync, G: Gate + Sync, W: Write, O: Write + Send>(
     rt: &R,
     alloc: Global,
-    workers: Workers,
+    parallelism: Parallelism,
     graph: Arc<Graph, Global>,
     epochs: &Epochs,
     gate: &G,
@@ -117,10 +121,10 @@ fn respond_by<R: Threads + Wait + Sync, G: Gate + Sync, W: Write, O: Write + Sen
     ensures text { RespondsBy graph.value epochs.now (W.contents (inner_of writer.old)) (W.contents (inner_of writer.new)) result }
     ensures failed { IsErrOf result fault.Write → has_failed writer.new ≡ true }
 {
-    if workers.count() == 1 {
-        respond_alone(rt, alloc, graph, epochs, gate, writer, watcher)
+    if parallelism.workers() == 1 {
+        respond_alone(rt, alloc, parallelism.threads(), graph, epochs, gate, writer, watcher)
     } else {
-        respond_together(rt, alloc, workers, graph, epochs, gate, writer, watcher)
+        respond_together(rt, alloc, parallelism, graph, epochs, gate, writer, watcher)
     }
 }
 
@@ -128,7 +132,7 @@ fn respond_by<R: Threads + Wait + Sync, G: Gate + Sync, W: Write, O: Write + Sen
 fn respond_counted<R: Threads + Wait + Sync, W: Write, O: Write + Send, E: Write>(
     rt: &R,
     alloc: Global,
-    workers: Workers,
+    parallelism: Parallelism,
     graph: Arc<Graph, Global>,
     epochs: &Epochs,
     writer: &mut Watched<W>,
@@ -138,11 +142,11 @@ fn respond_counted<R: Threads + Wait + Sync, W: Write, O: Write + Send, E: Write
     ensures text { RespondsBy graph.value epochs.now (W.contents (inner_of writer.old)) (W.contents (inner_of writer.new)) result }
     ensures failed { IsErrOf result fault.Write → has_failed writer.new ≡ true }
 {
-    let tally = match Tally::of(alloc, &graph, workers.count(), epochs) {
+    let tally = match Tally::of(alloc, &graph, parallelism.workers(), epochs) {
         Ok(tally) => tally,
         Err(_) => return Err(Fault::NoMemory),
     };
-    let done = respond_by(rt, alloc, workers, graph, epochs, &tally, writer, watcher);
+    let done = respond_by(rt, alloc, parallelism, graph, epochs, &tally, writer, watcher);
     if done.is_ok() {
         let _ = tally.write(err);
     }
@@ -168,9 +172,10 @@ pub fn respond<R: Threads + Wait + Sync, W: Write, O: Write + Send, E: Write>(
     let Ok(graph) = Arc::new(alloc, graph) else {
         return Err(Fault::NoMemory);
     };
+    let parallelism = Parallelism::of(workers.count(), &graph, epochs);
     if stats {
-        respond_counted(rt, alloc, workers, graph, epochs, writer, watcher, err)
+        respond_counted(rt, alloc, parallelism, graph, epochs, writer, watcher, err)
     } else {
-        respond_by(rt, alloc, workers, graph, epochs, &NoGate, writer, watcher)
+        respond_by(rt, alloc, parallelism, graph, epochs, &NoGate, writer, watcher)
     }
 }

@@ -89,6 +89,7 @@ fn driven<V: Views + Send, R: Threads + Wait + Sync, G: Gate + Sync, W: Write + 
 }
 
 /// Feeds the epochs to an engine over a new board, and works it off: each event is computed by the gate. Its promise holds if it ends.
+/// Where several threads are asked for, that many are started, or as many as the board has workers, before the first feed.
 ///
 /// Ok only where nothing is left to do, and each input was fed, at each epoch, just what was read. A watcher that is given is told how
 /// many epochs have passed, as `passed M` with rising numbers; where its writer fails, nothing else changes.
@@ -96,6 +97,7 @@ pub fn execute<V: Views + Send, R: Threads + Wait + Sync, G: Gate + Sync, W: Wri
     rt: &R,
     alloc: Global,
     board: Board<V>,
+    threads: u32,
     epochs: &Epochs,
     gate: &G,
     watcher: &mut Option<Watcher<W>>,
@@ -109,6 +111,7 @@ pub fn execute<V: Views + Send, R: Threads + Wait + Sync, G: Gate + Sync, W: Wri
     let task = Task {
         epochs,
         inputs,
+        threads: threads.max(board.workers()),
         workers: board.workers(),
         notice: &notice,
     };

@@ -13,7 +13,8 @@ use std::thread::{Scope, Threads, join, scope, scope_env};
 use views::Views;
 use workers::{Engine, Gate, Mark, Naming, Seat, work};
 
-/// Starts a thread for each worker, where there are several.
+/// Starts the threads, where there are several, and has each worker's work. A thread without a worker ends at once: it is started all the
+/// same, so that whether the system grants the threads doesn't depend on the input.
 fn start_workers<
     's,
     E,
@@ -29,13 +30,16 @@ fn start_workers<
     task: Task<'s>,
     gate: &'s G,
 ) -> Result<(), Unfinished> {
-    if task.is_alone() {
+    if task.threads == 1 {
         return Ok(());
     }
     let notice = task.notice;
-    for worker in 0..task.workers {
+    let workers = if task.is_alone() { 0 } else { task.workers };
+    for worker in 0..task.threads {
         let started = threads.spawn(move || {
-            notice.note(work(rt, alloc, engine, worker, gate));
+            if worker < workers {
+                notice.note(work(rt, alloc, engine, worker, gate));
+            }
         });
         if started.is_err() {
             return Err(Unfinished::NoWorker);
