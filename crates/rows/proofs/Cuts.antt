@@ -1,6 +1,7 @@
 -- Numbers cut into rows.
 use Rattle.std.proofs.Common.{◌≡◌, ℕ, zero, suc, ◌+◌, ◌*◌, ◌-◌, ◌≤◌, ◌<◌, List, [], ◌∷◌, ◌++◌, length, take, drop, get_or, ℤ, refl, sym, ap, ap₂, ◌∙◌, arith, append_assoc, length-append}
 use Rattle.std.specs.Prelude.{slice_index_or, slice_set}
+use Rattle.std.proofs.Math.Numerals.{add-one}
 use Rattle.std.proofs.lemmas.List.{take-append-le, drop-append-le, length-drop, length-take-le, take-append-drop, map-append, take_more, take_all}
 use Rattle.rows.specs.FlatRows.{RowList, cut, AllHave, arity_of}
 use Rattle.semantics.specs.Meaning.{field, project}
@@ -85,9 +86,6 @@ concat_cut n zero [] e = refl
 concat_cut n zero (x ∷ xs) e = absurd (omega (arith, e))
 concat_cut n (suc k) xs e = ap (λ r. take n xs ++ r) (concat_cut n k (drop n xs) (rest n k xs e)) ∙ take-append-drop n xs
 
-pub same_cuts : (n k l : ℕ) (xs ys : List ℤ) → length xs ≡ k * n → length ys ≡ l * n → cut n k xs ≡ cut n l ys → xs ≡ ys
-same_cuts n k l xs ys e f h = sym (concat_cut n k xs e) ∙ ap concat h ∙ concat_cut n l ys f
-
 -- batches are the same where their parts are, and the other way round
 pub parts_same : (a b : RowList) (n m k l : ℕ) (xs ys : List ℤ) → length xs ≡ k * n → length ys ≡ l * m → record { arity = n; rows = cut n k xs } ≡ a → record { arity = m; rows = cut m l ys } ≡ b → a ≡ b → (n ≡ m) × (k ≡ l) × (xs ≡ ys)
 parts_same a b n m k l xs ys e f p q h =
@@ -115,11 +113,8 @@ pub cut_push_parts : (n k : ℕ) (xs a b c all : List ℤ) → all ≡ ((xs ++ a
     cut n (k + 1) all ≡ cut n k xs ++ ((a ++ b) ++ c) ∷ []
 cut_push_parts n k xs a b c all h e f =
     ap (cut n (k + 1)) (h ∙ ap (λ l. l ++ c) (append_assoc xs a b) ∙ append_assoc xs (a ++ b) c)
-    ∙ ap (λ m. cut n m (xs ++ ((a ++ b) ++ c))) (more k)
+    ∙ ap (λ m. cut n m (xs ++ ((a ++ b) ++ c))) (add-one k)
     ∙ cut_push n k xs ((a ++ b) ++ c) e (omega (arith, f, length-append (a ++ b) c, length-append a b))
-  where
-    more : (k : ℕ) → k + 1 ≡ suc k
-    more k = omega arith
 
 -- a piece in the middle
 cut_parts : (n i m : ℕ) (p q s : List ℤ) → length p ≡ i * n → length q ≡ n → cut n (i + (1 + m)) (p ++ (q ++ s)) ≡ cut n i p ++ q ∷ cut n m s

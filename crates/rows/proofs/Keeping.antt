@@ -6,6 +6,10 @@ use Rattle.semantics.proofs.MultisetSums.{Decides-same, same-refl, total-filter,
 use Rattle.rows.specs.Counts.{Run, repeated, expanded, rows_of}
 use Rattle.rows.specs.Indexes.{AreDifferent}
 
+pub one_le : (b : Bool) → one_if b ≤ 1
+one_le true = omega arith
+one_le false = omega arith
+
 filter_repeated : (p : Record → Bool) (n : ℕ) (r : Record) (xs : List Record) → filter p (repeated n r ++ xs) ≡ cond (p r) (repeated n r) [] ++ filter p xs
 filter_repeated p zero r xs = go (p r)
   where

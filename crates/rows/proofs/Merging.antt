@@ -1,9 +1,9 @@
 -- Runs counted in.
-use Rattle.std.proofs.Common.{◌≡◌, ℕ, zero, suc, ◌+◌, ◌≤◌, ◌<◌, Bool, true, false, cond, List, [], ◌∷◌, ◌++◌, length, take, length-append, refl, sym, ap, subst, ◌∙◌, arith, append_assoc}
+use Rattle.std.proofs.Common.{◌≡◌, ℕ, zero, suc, ◌+◌, ◌≤◌, ◌<◌, Bool, true, false, cond, List, [], ◌∷◌, ◌++◌, length, take, length-append, refl, sym, ap, ◌∙◌, arith, append_assoc}
 use Rattle.std.specs.Prelude.{slice_index_or, Option, Some, None, MatchOption}
 use Rattle.semantics.specs.Multiset.{Record, same, one_if, count, ◌≈◌}
 use Rattle.semantics.proofs.MultisetSums.{same-refl, total-append, ≈-from, ≈-trans, ≈-refl, append_same, empty_from_same, ≈-sym}
-use Rattle.rows.specs.Counts.{most, Run, repeated, expanded, no_run, AreRunCounts, AllFit, IsOver, records_in}
+use Rattle.rows.specs.Counts.{most, Run, repeated, expanded, no_run, AreRunCounts, AllFit, IsOver}
 use Rattle.rows.proofs.Runs.{count_expanded, expanded_more}
 use Rattle.rows.proofs.Weighing.{length_repeated}
 use Rattle.rows.specs.FlatRows.{arity_of}
@@ -45,13 +45,6 @@ over_in old now cs k row n h e f i over =
 
 pub fit_alike : (xs ys : List Record) → xs ≈ ys → AllFit xs → AllFit ys
 fit_alike xs ys e h r = let z = e.counts r in omega (arith, z, h r)
-
-pub over_alike : (xs ys : List Record) → xs ≡ ys → IsOver xs → IsOver ys
-over_alike xs ys e h = subst IsOver e h
-
-pub merged_value : (o : Option (List Record)) (cs ds : List Run) → MatchOption o (cs ≡ []) (λ b. b ≡ expanded cs) → expanded cs ≈ expanded ds → records_in o ≈ expanded ds
-merged_value None cs ds m e = ≈-trans (≈-from (ap expanded (sym m))) e
-merged_value (Some b) cs ds m e = ≈-trans (≈-from m) e
 
 no_run_left : (cs : List Run) → AreRunCounts cs → expanded cs ≡ [] → cs ≡ []
 no_run_left [] h e = refl

@@ -1,11 +1,12 @@
 -- The first row of each bucket, and the rows that differ from it.
 use Rattle.std.proofs.Common.{◌≡◌, ℕ, zero, suc, ◌+◌, ◌-◌, ◌<◌, ◌≤◌, ◌==◌, Bool, true, false, List, [], ◌∷◌, ◌++◌, take, length, refl, sym, ap, ◌∙◌, arith, true≢false}
 use Rattle.std.specs.Prelude.{slice_index_or, slice_set}
+use Rattle.std.proofs.Math.Numerals.{add-one}
 use Rattle.std.proofs.lemmas.List.{get_or-set_same, get_or-set_other, length-set, take_more, take_all}
 use Rattle.semantics.specs.Multiset.{Record, same, one_if, count}
 use Rattle.semantics.proofs.MultisetSums.{Decides-same, total-append}
 use Rattle.rows.specs.Indexes.{AreDifferent, bucket, mixed}
-use Rattle.rows.proofs.Keeping.{once_where_different, different_where_once}
+use Rattle.rows.proofs.Keeping.{one_le, once_where_different, different_where_once}
 use Rattle.rows.proofs.Walks.{eq_of, to_eq}
 
 -- one more than the place of the first row of a row's bucket, or 0
@@ -23,10 +24,6 @@ pub record AreOwned (rows : List Record) (n : ℕ) (owners : List ℕ) (doubtful
   pub once : (r : Record) → owns rows owners r ≡ true → count r (take n rows) ≤ 1
   pub others : (r : Record) → owns rows owners r ≡ false → count r (take n rows) ≤ count r doubtful
   pub part : (r : Record) → count r doubtful ≤ count r (take n rows)
-
-one_le : (b : Bool) → one_if b ≤ 1
-one_le true = omega arith
-one_le false = omega arith
 
 -- one row more, which is x
 module _ (rows : List Record) (n : ℕ) (x : Record) (there : n < length rows) (x_is : x ≡ slice_index_or rows n []) where
@@ -70,10 +67,7 @@ module _ (rows : List Record) (n : ℕ) (x : Record) (there : n < length rows) (
     same_count r f = let c = count_more r in let o = ap one_if (other r f (same x r) refl) in omega (arith, c, o)
 
     owns_here : (r : Record) → (at r == b) ≡ true → owns rows new r ≡ same x r
-    owns_here r f = ap (λ j. same (slice_index_or ([] ∷ rows) j []) r) (kept r ∙ new_here (at r) f ∙ one n) ∙ ap (λ y. same y r) (sym x_is)
-      where
-        one : (m : ℕ) → m + 1 ≡ suc m
-        one m = omega arith
+    owns_here r f = ap (λ j. same (slice_index_or ([] ∷ rows) j []) r) (kept r ∙ new_here (at r) f ∙ add-one n) ∙ ap (λ y. same y r) (sym x_is)
 
     owns_there : (r : Record) → (at r == b) ≡ false → owns rows new r ≡ owns rows owners r
     owns_there r f = ap (λ j. same (slice_index_or ([] ∷ rows) j []) r) (kept r ∙ new_there (at r) f)

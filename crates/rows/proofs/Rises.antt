@@ -1,22 +1,17 @@
 -- Counts that grow.
-use Rattle.std.proofs.Common.{◌≡◌, ◌≢◌, ℕ, zero, suc, ◌+◌, ◌≤◌, ◌<◌, ◌==◌, Bool, true, false, not, cond, List, [], ◌∷◌, ◌++◌, length, refl, sym, ap, subst, ◌∙◌, arith, length-append, ◌⊎◌, inl, inr, slice_set}
-use Rattle.std.proofs.lemmas.Bool.Decides.{eqb_tells}
+use Rattle.std.proofs.Common.{◌≡◌, ◌≢◌, ℕ, zero, suc, ◌+◌, ◌≤◌, ◌<◌, Bool, true, false, not, cond, List, [], ◌∷◌, ◌++◌, length, refl, sym, ap, subst, ◌∙◌, arith, length-append}
 use Rattle.std.specs.Prelude.{slice_index_or}
 use Rattle.std.specs.List.{list_any}
 use Rattle.semantics.specs.Multiset.{Record, same, one_if, count, ◌≈◌}
 use Rattle.semantics.proofs.MultisetSums.{total-append, ≈-from, ≈-trans}
 use Rattle.rows.specs.Indexes.{AreDifferent}
-use Rattle.rows.specs.Counts.{most, Run, repeated, expanded, rows_of, with_counts, AreCounts}
-use Rattle.rows.proofs.Runs.{count_expanded, count_repeated, count_at, expanded_more, more_once, more_often, more_runs, length_runs, run_at, rows_are}
+use Rattle.rows.specs.Counts.{most, Run, repeated, expanded, rows_of, with_counts}
+use Rattle.rows.proofs.Runs.{count_expanded, count_repeated, count_at, expanded_more, more_once, more_often, more_runs, length_runs, one_beyond, run_at, rows_are}
 
 -- by each place the count there
 abbrev pub sum_at : Record → List Record → (ℕ → ℕ) → ℕ
 sum_at r [] f = 0
 sum_at r (x ∷ rs) f = cond (same x r) (f 0) 0 + sum_at r rs (λ k. f (suc k))
-
-one_beyond : (k : ℕ) → slice_index_or {A = ℕ} [] k 1 ≡ 1
-one_beyond zero = refl
-one_beyond (suc k) = refl
 
 sum_alike : (r : Record) (rs : List Record) (f g : ℕ → ℕ) → ((k : ℕ) → f k ≡ g k) → sum_at r rs f ≡ sum_at r rs g
 sum_alike r [] f g e = refl
@@ -72,38 +67,13 @@ stands rs ns p row d h w =
     let row_is = ap (λ (c : Run). c.row) at ∙ w in
     ap (λ x. count x (expanded (with_counts rs ns))) (sym row_is) ∙ count_at (with_counts rs ns) p (subst AreDifferent (sym (rows_are rs ns)) d) (subst (λ n. p < n) (sym (length_runs rs ns)) h) ∙ ap (λ (c : Run). c.count) at
 
--- ---- numbers written
-
-pub written_here : (ns : List ℕ) (p n : ℕ) → p < length ns → slice_index_or (slice_set ns p n) p 1 ≡ n
-written_here [] p n h = absurd (omega (arith, h))
-written_here (m ∷ ns) zero n h = refl
-written_here (m ∷ ns) (suc p) n h = written_here ns p n (omega (arith, h))
-
-pub written_beside : (ns : List ℕ) (p n k : ℕ) → k ≢ p → slice_index_or (slice_set ns p n) k 1 ≡ slice_index_or ns k 1
-written_beside [] p n k h = refl
-written_beside (m ∷ ns) zero n zero h = absurd (h refl)
-written_beside (m ∷ ns) zero n (suc k) h = refl
-written_beside (m ∷ ns) (suc p) n zero h = refl
-written_beside (m ∷ ns) (suc p) n (suc k) h = written_beside ns p n k (λ e. h (ap suc e))
-
-pub written_length : (ns : List ℕ) (p n : ℕ) → length (slice_set ns p n) ≡ length ns
-written_length [] p n = refl
-written_length (m ∷ ns) zero n = refl
-written_length (m ∷ ns) (suc p) n = ap suc (written_length ns p n)
+-- ---- counts filled up
 
 pub filled_at : (ns : List ℕ) (k : ℕ) → slice_index_or (ns ++ 1 ∷ []) k 1 ≡ slice_index_or ns k 1
 filled_at [] zero = refl
 filled_at [] (suc k) = one_beyond k
 filled_at (m ∷ ns) zero = refl
 filled_at (m ∷ ns) (suc k) = filled_at ns k
-
--- counts of which one is written
-pub written_counts : (ns : List ℕ) (p n : ℕ) → p < length ns → 1 ≤ n → n ≤ most → AreCounts ns → AreCounts (slice_set ns p n)
-written_counts ns p n h l m old k = go (eqb_tells k p)
-  where
-    go : ((k == p) ≡ true) × (k ≡ p) ⊎ ((k == p) ≡ false) × (k ≢ p) → (1 ≤ slice_index_or (slice_set ns p n) k 1) × (slice_index_or (slice_set ns p n) k 1 ≤ most)
-    go (inl (e, q)) = (let z = ap (λ j. slice_index_or (slice_set ns p n) j 1) q ∙ written_here ns p n h in omega (arith, z, l), let z = ap (λ j. slice_index_or (slice_set ns p n) j 1) q ∙ written_here ns p n h in omega (arith, z, m))
-    go (inr (e, q)) = (let z = written_beside ns p n k q in omega (arith, z, (old k).0), let z = written_beside ns p n k q in omega (arith, z, (old k).1))
 
 -- one step of filling
 pub filled_more : (n : ℕ) (old now new : List ℕ) → length now < n → new ≡ now ++ 1 ∷ [] →

@@ -1,5 +1,5 @@
 -- Rows with counts, and the records that they stand for.
-use Rattle.std.proofs.Common.{◌≡◌, ℕ, zero, suc, ◌+◌, ◌≤◌, ◌<◌, Bool, true, false, cond, List, [], ◌∷◌, ◌++◌, length, refl, sym, ap, subst, ◌∙◌, arith, append_assoc, append-nil, length-append, ◌↔◌}
+use Rattle.std.proofs.Common.{◌≡◌, ℕ, zero, suc, ◌+◌, ◌≤◌, ◌<◌, Bool, true, false, cond, List, [], ◌∷◌, ◌++◌, length, refl, sym, ap, subst, ◌∙◌, arith, append_assoc, append-nil, ◌↔◌}
 use Rattle.std.specs.Prelude.{slice_index_or}
 use Rattle.semantics.specs.Multiset.{Record, same, one_if, count}
 use Rattle.semantics.proofs.MultisetSums.{Decides-same, same-refl, total-append}
@@ -68,15 +68,16 @@ length_runs [] ns = refl
 length_runs (r ∷ rs) [] = ap suc (length_runs rs [])
 length_runs (r ∷ rs) (n ∷ ns) = ap suc (length_runs rs ns)
 
+-- what no count says
+pub one_beyond : (k : ℕ) → slice_index_or {A = ℕ} [] k 1 ≡ 1
+one_beyond zero = refl
+one_beyond (suc k) = refl
+
 pub run_at : (rs : List Record) (ns : List ℕ) (k : ℕ) → k < length rs → slice_index_or (with_counts rs ns) k no_run ≡ record { row = slice_index_or rs k []; count = slice_index_or ns k 1 }
 run_at [] ns k h = absurd (omega (arith, h))
 run_at (r ∷ rs) [] zero h = refl
 run_at (r ∷ rs) (n ∷ ns) zero h = refl
-run_at (r ∷ rs) [] (suc k) h = run_at rs [] k (omega (arith, h)) ∙ ap (λ m. record { row = slice_index_or rs k []; count = m }) (beyond k)
-  where
-    beyond : (k : ℕ) → slice_index_or {A = ℕ} [] k 1 ≡ 1
-    beyond zero = refl
-    beyond (suc k) = refl
+run_at (r ∷ rs) [] (suc k) h = run_at rs [] k (omega (arith, h)) ∙ ap (λ m. record { row = slice_index_or rs k []; count = m }) (one_beyond k)
 run_at (r ∷ rs) (n ∷ ns) (suc k) h = run_at rs ns k (omega (arith, h))
 
 -- a row more, that stands once
@@ -211,16 +212,6 @@ all_fit (c ∷ cs) h r = go (same c.row r) refl (all_fit cs (other_runs c cs h) 
         let here : count r (expanded (c ∷ cs)) ≡ c.count = ap (λ x. count x (expanded (c ∷ cs))) (sym ((Decides-same c.row r).0 e)) ∙ count_at (c ∷ cs) 0 h.different (omega arith) in
         omega (arith, here, (h.counts 0).1)
     go false e i = let z = count_expanded r c cs ∙ ap (λ b. cond b c.count 0 + count r (expanded cs)) e in omega (arith, z, i)
-
--- one step of filling
-pub filled : (n : ℕ) (old now new : List ℕ) → length now < n → new ≡ now ++ 1 ∷ [] →
-    (length now ≤ n) × ((rs : List Record) → length rs ≡ n → with_counts rs now ≡ with_counts rs old) × (AreCounts old → AreCounts now) →
-    (length new ≤ n) × ((rs : List Record) → length rs ≡ n → with_counts rs new ≡ with_counts rs old) × (AreCounts old → AreCounts new)
-filled n old now new l e i = (
-  omega (arith, l, ap length e, length-append now (1 ∷ [])),
-  λ rs h. ap (with_counts rs) e ∙ fill_one rs now (omega (arith, l, h)) ∙ i.1 rs h,
-  λ h. subst AreCounts (sym e) (counts_more now 1 (omega arith) (omega arith) (i.2 h)),
-)
 
 pub no_runs : (rs : List Record) (ns : List ℕ) → (rs ≡ []) ↔ (with_counts rs ns ≡ [])
 no_runs [] ns = (λ e. refl, λ e. refl)

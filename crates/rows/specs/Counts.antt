@@ -1,6 +1,7 @@
 -- Records with repeats, as different rows with counts.
-use Rattle.std.specs.Prelude.{◌≡◌, ℕ, zero, suc, ◌*◌, ◌≤◌, ◌<◌, Bool, true, cond, List, [], ◌∷◌, ◌++◌, map, length, slice_index_or, Option, Some, None}
+use Rattle.std.specs.Prelude.{◌≡◌, ℕ, zero, suc, ◌*◌, ◌≤◌, ◌<◌, Bool, true, cond, List, [], ◌∷◌, ◌++◌, map, length, min, slice_index_or, Option, Some, None}
 use Rattle.semantics.specs.Multiset.{Record, same, count}
+use Rattle.rows.specs.FlatRows.{arity_of}
 use Rattle.rows.specs.Indexes.{AreDifferent}
 
 -- the greatest count
@@ -63,6 +64,11 @@ pub record AreRuns (cs : List Run) : Type 0 where
 pub record RunList : Type 0 where
   pub arity : ℕ
   pub runs : List Run
+
+-- the runs of a batch, one or more, and its weight: how many records they are, or the greatest usize if they are more
+abbrev pub IsWeighedBatch : RunList → (weight : ℕ) → Type 0
+IsWeighedBatch rows weight =
+    (0 < length rows.runs) × AreRuns rows.runs × (arity_of (expanded rows.runs) ≡ rows.arity) × (weight ≡ min (length (expanded rows.runs)) 18446744073709551615)
 
 -- no record stands there more often than a count may be
 abbrev pub AllFit : List Record → Type 0

@@ -1,3 +1,4 @@
 pub mod FlatRows
 pub mod Indexes
 pub mod Counts
+pub mod Matches

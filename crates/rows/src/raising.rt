@@ -1,6 +1,6 @@
 //! Counts by place: 1 where none is written.
 
-ghost use Rattle.std.specs.Prelude.{◌≡◌, ◌≢◌, ℕ, ◌≤◌, ◌<◌, ◌+◌, List, length, slice_index_or, IfErr, OnOk, OnErr};
+ghost use Rattle.std.specs.Prelude.{◌≡◌, ◌≢◌, ℕ, ◌≤◌, ◌<◌, ◌+◌, length, slice_index_or, IfErr, OnOk, OnErr};
 ghost use Rattle.rows.specs.Counts.{AreCounts, most};
 ghost use Rattle.rows.specs.declared.error.TallyError.TheVariants.{Count};
 

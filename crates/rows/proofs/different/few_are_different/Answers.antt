@@ -1,8 +1,5 @@
-use Rattle.std.proofs.Common.{rules, ◌≡◌, [], false}
-use Rattle.std.specs.Prelude.{slice_index_or}
-use Rattle.rows.specs.Indexes.{any_below}
-use Rattle.semantics.specs.Multiset.{same}
-use Rattle.rows.proofs.Walks.{differ_more, differ_all}
+use Rattle.std.proofs.Common.{rules}
+use Rattle.rows.proofs.Walks.{differ_more}
 use Rattle.rows.proofs.different.few_are_different.Goals as goal
 
 pub loop-place-preserved : goal.loop-place-preserved

@@ -1,4 +1,4 @@
-use Rattle.std.proofs.Common.{◌≡◌, ◌≤◌, [], length}
+use Rattle.std.proofs.Common.{◌≡◌, ◌≤◌, []}
 use Rattle.std.specs.Prelude.{slice_index_or}
 use Rattle.rows.specs.Indexes.{any_below}
 use Rattle.semantics.specs.Multiset.{same}

@@ -1,8 +1,6 @@
-use Rattle.std.proofs.Common.{rules, ◌≡◌, ◌∙◌, ap, sym, subst}
-use Rattle.semantics.specs.Multiset.{◌≈◌}
 use Rattle.rows.proofs.Runs.{all_fit, are_runs}
 use Rattle.rows.proofs.Merging.{merged_some, fit_alike}
-use Rattle.rows.specs.Counts.{RunList, expanded}
+use Rattle.rows.specs.Counts.{expanded}
 use Rattle.rows.proofs.batch.Batch.merged.Goals as goal
 
 pub returns-then-branch-clause-fits : goal.returns-then-branch-clause-fits
