@@ -5,7 +5,8 @@ use Rattle.expr_tree.specs.declared.scalar.Scalar.{Scalar}
 use Rattle.expr_tree.specs.Plain.{plain_scalar}
 use Rattle.expr_tree.specs.Views.{scalar_tree}
 
-rest : {X : Type 0} (x : X) (xs : List X) → take (length (x ∷ xs) - 1) xs ≡ xs
+-- all but the first
+pub rest : {X : Type 0} (x : X) (xs : List X) → take (length (x ∷ xs) - 1) xs ≡ xs
 rest x xs = grind (arith, common_steps)
 
 -- the first, and then the others

@@ -1,5 +1,6 @@
--- Sizes and depths of lists with one more item, and of groups.
-use Rattle.std.proofs.Common.{◌≡◌, suc, ◌+◌, ◌≤◌, max, List, [], ◌∷◌, ◌++◌, arith}
+-- Sizes and depths of lists with one more item, and of groups; the relations in a tree.
+use Rattle.std.proofs.Common.{◌≡◌, ℕ, suc, ◌+◌, ◌≤◌, max, List, [], ◌∷◌, ◌++◌, arith}
+use Rattle.expr_tree.specs.Trees.{RelTree}
 use Rattle.semantics.specs.Query.{Scalar, Rel, Agg, Let, Output}
 use Rattle.semantics.specs.Size.{scalar_size, scalars_size, rel_size, lets_size, outputs_size, scalar_depth, scalars_depth, aggs_depth, rel_depth, lets_depth, outputs_depth}
 
@@ -50,3 +51,14 @@ rel_depth-positive (Rel.iterate n x r b) = omega arith
 pub aggs_depth-le : (gs : List Agg) → aggs_depth gs ≤ 1
 aggs_depth-le [] = omega arith
 aggs_depth-le (g ∷ gs) = omega arith
+
+-- the number of relations in a tree
+abbrev pub rel_nodes : RelTree → ℕ
+rel_nodes (RelTree.named s x) = 1
+rel_nodes (RelTree.select s r xs) = rel_nodes r + 1
+rel_nodes (RelTree.filter s r c) = rel_nodes r + 1
+rel_nodes (RelTree.set_operation s o a b) = rel_nodes a + rel_nodes b + 1
+rel_nodes (RelTree.join s a b ps) = rel_nodes a + rel_nodes b + 1
+rel_nodes (RelTree.group s r ks gs) = rel_nodes r + 1
+rel_nodes (RelTree.distinct s r) = rel_nodes r + 1
+rel_nodes (RelTree.iterate s t n u x r b) = rel_nodes r + rel_nodes b + 1

@@ -67,7 +67,8 @@ impl<A: Allocator> Cond<A> {
     /// Moves the condition out of its place, where `0 = 0` is left. No memory is taken.
     pub fn take(&mut self) -> Cond<A>
         ensures moved { result ≡ self.old }
-        ensures left { plain_cond (cond_tree self.new) ≡ query.Cond.compare query.Comparison.equal (query.Scalar.literal (pos 0)) (query.Scalar.literal (pos 0)) }
+        ensures left { plain_cond (cond_tree self.new) ≡
+            query.Cond.compare query.Comparison.equal (query.Scalar.literal (pos 0)) (query.Scalar.literal (pos 0)) }
     {
         let zeros = Cond::Compare(
             NOWHERE,

@@ -1,14 +1,15 @@
 //! Copies of trees under another allocator: the same tree with the same spans.
 
 ghost use Rattle.std.specs.Prelude.{◌≡◌, IfOk, map};
+ghost use Rattle.expr_tree.specs.Trees.{RelTree};
 ghost use Rattle.expr_tree.specs.Views.{cond_tree, let_tree, output_tree, rel_tree, scalar_tree};
 
 use crate::condition::Cond;
 use crate::no_memory::NoMemory;
 use crate::program::{Input, Let, Output};
-use crate::relation::Rel;
+use crate::relation::{Agg, Column, Pair, Rel, SetOperator};
 use crate::scalar::Scalar;
-use record_core::Name;
+use record_core::Span;
 use std::alloc::Allocator;
 
 /// The same scalar, with the same spans, under the allocator `alloc`, which alone gives the memory.
@@ -67,38 +68,15 @@ pub fn copy_rel<A: Allocator, B: Allocator + Copy>(
     ensures { IfOk result (λ copy. rel_tree copy ≡ rel_tree relation.now) }
 {
     match relation {
-        Rel::Named(span, name) => Ok(Rel::Named(*span, copy_name(name))),
-        Rel::Select(span, of, scalars) => {
-            let of = copy_boxed(alloc, of)?;
-            let scalars = copy_scalars(alloc, scalars)?;
-            Ok(Rel::Select(*span, of, scalars))
-        }
-        Rel::Where(span, of, condition) => {
-            let of = copy_boxed(alloc, of)?;
-            let condition = copy_cond(alloc, condition)?;
-            Ok(Rel::Where(*span, of, condition))
-        }
+        Rel::Named(span, name) => Ok(Rel::Named(*span, name.copied())),
+        Rel::Select(span, of, scalars) => copy_select(alloc, *span, of, scalars),
+        Rel::Where(span, of, condition) => copy_where(alloc, *span, of, condition),
         Rel::SetOperation(span, operator, left, right) => {
-            let left = copy_boxed(alloc, left)?;
-            let right = copy_boxed(alloc, right)?;
-            Ok(Rel::SetOperation(*span, *operator, left, right))
+            copy_set_operation(alloc, *span, *operator, left, right)
         }
-        Rel::Join(span, left, right, pairs) => {
-            let left = copy_boxed(alloc, left)?;
-            let right = copy_boxed(alloc, right)?;
-            let pairs = copy_values(alloc, pairs)?;
-            Ok(Rel::Join(*span, left, right, pairs))
-        }
-        Rel::Group(span, of, keys, aggregates) => {
-            let of = copy_boxed(alloc, of)?;
-            let keys = copy_values(alloc, keys)?;
-            let aggregates = copy_values(alloc, aggregates)?;
-            Ok(Rel::Group(*span, of, keys, aggregates))
-        }
-        Rel::Distinct(span, of) => {
-            let of = copy_boxed(alloc, of)?;
-            Ok(Rel::Distinct(*span, of))
-        }
+        Rel::Join(span, left, right, pairs) => copy_join(alloc, *span, left, right, pairs),
+        Rel::Group(span, of, keys, aggregates) => copy_group(alloc, *span, of, keys, aggregates),
+        Rel::Distinct(span, of) => Ok(Rel::Distinct(*span, copy_boxed(alloc, of)?)),
         Rel::Iterate {
             span,
             turns_span,
@@ -115,12 +93,92 @@ pub fn copy_rel<A: Allocator, B: Allocator + Copy>(
                 turns_span: *turns_span,
                 turns: *turns,
                 name_span: *name_span,
-                name: copy_name(name),
+                name: name.copied(),
                 start,
                 body,
             })
         }
     }
+}
+
+/// The same `select`.
+#[cycle(copy)]
+fn copy_select<A: Allocator, B: Allocator + Copy>(
+    alloc: B,
+    span: Span,
+    of: &Rel<A>,
+    scalars: &Vec<Scalar<A>, A>,
+) -> Result<Rel<B>, NoMemory>
+    ensures { IfOk result (λ copy. rel_tree copy ≡ RelTree.select span (rel_tree of.now) (map scalar_tree scalars.now.items)) }
+{
+    let of = copy_boxed(alloc, of)?;
+    let scalars = copy_scalars(alloc, scalars)?;
+    Ok(Rel::Select(span, of, scalars))
+}
+
+/// The same `where`.
+#[cycle(copy)]
+fn copy_where<A: Allocator, B: Allocator + Copy>(
+    alloc: B,
+    span: Span,
+    of: &Rel<A>,
+    condition: &Cond<A>,
+) -> Result<Rel<B>, NoMemory>
+    ensures { IfOk result (λ copy. rel_tree copy ≡ RelTree.filter span (rel_tree of.now) (cond_tree condition.now)) }
+{
+    let of = copy_boxed(alloc, of)?;
+    let condition = copy_cond(alloc, condition)?;
+    Ok(Rel::Where(span, of, condition))
+}
+
+/// The same set operation.
+#[cycle(copy)]
+fn copy_set_operation<A: Allocator, B: Allocator + Copy>(
+    alloc: B,
+    span: Span,
+    operator: SetOperator,
+    left: &Rel<A>,
+    right: &Rel<A>,
+) -> Result<Rel<B>, NoMemory>
+    ensures { IfOk result (λ copy. rel_tree copy ≡ RelTree.set_operation span operator (rel_tree left.now) (rel_tree right.now)) }
+{
+    let left = copy_boxed(alloc, left)?;
+    let right = copy_boxed(alloc, right)?;
+    Ok(Rel::SetOperation(span, operator, left, right))
+}
+
+/// The same `join`.
+#[cycle(copy)]
+fn copy_join<A: Allocator, B: Allocator + Copy>(
+    alloc: B,
+    span: Span,
+    left: &Rel<A>,
+    right: &Rel<A>,
+    pairs: &Vec<Pair, A>,
+) -> Result<Rel<B>, NoMemory>
+    ensures { IfOk result (λ copy. rel_tree copy ≡ RelTree.join span (rel_tree left.now) (rel_tree right.now) pairs.now.items) }
+{
+    let left = copy_boxed(alloc, left)?;
+    let right = copy_boxed(alloc, right)?;
+    let pairs = copy_values(alloc, pairs)?;
+    Ok(Rel::Join(span, left, right, pairs))
+}
+
+/// The same `group`.
+#[cycle(copy)]
+fn copy_group<A: Allocator, B: Allocator + Copy>(
+    alloc: B,
+    span: Span,
+    of: &Rel<A>,
+    keys: &Vec<Column, A>,
+    aggregates: &Vec<Agg, A>,
+) -> Result<Rel<B>, NoMemory>
+    ensures { IfOk result (λ copy. rel_tree copy ≡ RelTree.group span (rel_tree of.now) keys.now.items aggregates.now.items) }
+{
+    let of = copy_boxed(alloc, of)?;
+    let keys = copy_values(alloc, keys)?;
+    let aggregates = copy_values(alloc, aggregates)?;
+    Ok(Rel::Group(span, of, keys, aggregates))
 }
 
 /// The same relation in a box, with the same spans.
@@ -135,18 +193,8 @@ fn copy_boxed<A: Allocator, B: Allocator + Copy>(
     Ok(Box::new(alloc, copy)?)
 }
 
-/// The same name. It lies inline, so no memory is taken.
-fn copy_name(name: &Name) -> Name
-    ensures { result ≡ name.now }
-{
-    match name.clone() {
-        Ok(copy) => copy,
-        Err(_) => unreachable!(),
-    }
-}
-
-/// The same values, in order.
-fn copy_values<T: Copy, A: Allocator, B: Allocator + Copy>(
+/// The same values, in order, under the allocator `alloc`.
+pub fn copy_values<T: Copy, A: Allocator, B: Allocator + Copy>(
     alloc: B,
     values: &Vec<T, A>,
 ) -> Result<Vec<T, B>, NoMemory>
@@ -159,8 +207,8 @@ fn copy_values<T: Copy, A: Allocator, B: Allocator + Copy>(
     Ok(copy)
 }
 
-/// The same scalars, in order.
-fn copy_scalars<A: Allocator, B: Allocator + Copy>(
+/// The same scalars, in order, with the same spans, under the allocator `alloc`.
+pub fn copy_scalars<A: Allocator, B: Allocator + Copy>(
     alloc: B,
     scalars: &Vec<Scalar<A>, A>,
 ) -> Result<Vec<Scalar<B>, B>, NoMemory>
@@ -184,7 +232,7 @@ pub(crate) fn copy_inputs<A: Allocator, B: Allocator + Copy>(
     for input in inputs {
         copy.push(Input {
             name_span: input.name_span,
-            name: copy_name(&input.name),
+            name: input.name.copied(),
             arity_span: input.arity_span,
             arity: input.arity,
         })?;
@@ -204,7 +252,7 @@ pub(crate) fn copy_lets<A: Allocator, B: Allocator + Copy>(
         let relation = Box::new(alloc, copy_rel(alloc, &item.relation)?)?;
         copy.push(Let {
             name_span: item.name_span,
-            name: copy_name(&item.name),
+            name: item.name.copied(),
             relation,
         })?;
     }
@@ -224,7 +272,7 @@ pub(crate) fn copy_outputs<A: Allocator, B: Allocator + Copy>(
         copy.push(Output {
             keyword_span: output.keyword_span,
             name_span: output.name_span,
-            name: copy_name(&output.name),
+            name: output.name.copied(),
             relation,
         })?;
     }

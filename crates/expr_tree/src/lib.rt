@@ -21,7 +21,7 @@ mod scalar;
 mod size;
 
 pub use condition::{Comparison, Cond, Connective};
-pub use copy::{copy_cond, copy_rel, copy_scalar};
+pub use copy::{copy_cond, copy_rel, copy_scalar, copy_scalars, copy_values};
 pub use depth::{cond_depth, rel_depth, scalar_depth};
 pub use evaluation::{eval_scalar, holds, negated, operate};
 pub use no_memory::NoMemory;

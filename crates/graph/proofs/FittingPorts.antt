@@ -1,5 +1,6 @@
 -- The ports of each vertex of a graph in memory fit its kind.
-use Rattle.std.proofs.Common.{◌≡◌, ℕ, zero, suc, ◌<◌, ◌≤◌, List, length, slice_index_or, sym, subst, subst₂, ◌⊎◌, inl, inr, arith}
+use Rattle.std.proofs.Common.{◌≡◌, ℕ, ◌<◌, ◌≤◌, List, length, slice_index_or, sym, subst, subst₂, ◌⊎◌, inl, inr, arith}
+use Rattle.std.proofs.lemmas.Bool.{cases_lt}
 use Rattle.std.proofs.lemmas.List.{get_or_past}
 use Rattle.std.proofs.Math.Bridge.{le_prop}
 use Rattle.std.proofs.Math.Logic.{∥∥₁_elim}
@@ -66,15 +67,10 @@ one_typed g arity = hlevel (one_fit, one_arity)
 
 -- ---- arities in memory are those of the program
 
-below_or_not : (a b : ℕ) → (a < b) ⊎ (b ≤ a)
-below_or_not a zero = inr (omega arith)
-below_or_not zero (suc b) = inl (omega arith)
-below_or_not (suc a) (suc b) = elim (below_or_not a b) [ inl h ↦ inl (omega arith) | inr h ↦ inr (omega arith) ]
-
 -- what feeds an in port, or beyond the last the first vertex, is a vertex of the graph
 source_there : (g : Graph) (v i : ℕ) → IsDataflow g → v < length g → (source g v i).vertex < length g
 unfolding source
-source_there g v i d h = go (below_or_not i (length (vertex g v).ins))
+source_there g v i d h = go (cases_lt i (length (vertex g v).ins))
   where
     go : (i < length (vertex g v).ins) ⊎ (length (vertex g v).ins ≤ i) → (slice_index_or (vertex g v).ins i no_port).vertex < length g
     go (inl l) = d.wired.fed v i h l

@@ -107,7 +107,8 @@ fn no_outs(alloc: Global, vertices: usize) -> Result<Vec<Outs>, NoMemory>
 /// One edge more begins at the port.
 fn add_out(outs: &mut Vec<Outs>, source: Port, edge: EdgeId) -> Result<(), NoMemory>
     requires { source.vertex.0 < length outs.old.items }
-    ensures { OnOk result (map outs_of outs.new.items ≡ slice_set (map outs_of outs.old.items) source.vertex.0 (grown (slice_index_or (map outs_of outs.old.items) source.vertex.0 ([], [])) source.out edge.0)) }
+    ensures { OnOk result (map outs_of outs.new.items ≡ slice_set (map outs_of outs.old.items) source.vertex.0
+        (grown (slice_index_or (map outs_of outs.old.items) source.vertex.0 ([], [])) source.out edge.0)) }
 {
     let place = &mut outs[source.vertex.0 as usize];
     if source.out == 0 {

@@ -62,7 +62,12 @@ impl Model for Graph {
 
     ghost view = { λ g. record { vertices = vec_items g.vertices; inputs = vec_items g.inputs; outputs = vec_items g.outputs; arities = vec_items g.arities } };
 
-    ghost invariant = { λ g. ∥ IsProgramGraph (graph_of (vec_items g.vertices)) (map input_of (vec_items g.inputs)) ∥₁ × HasTables (graph_of (vec_items g.vertices)) (map edge_of (vec_items g.edges)) (map outs_of (vec_items g.outs)) × (length (vec_items g.vertices) ≤ 4096) × ∥ HasProgramArities (graph_of (vec_items g.vertices)) (map input_of (vec_items g.inputs)) (vec_items g.arities) ∥₁ × IsDataflow (graph_of (vec_items g.vertices)) × (map number_of_output (vec_items g.outputs) ≡ output_numbers (graph_of (vec_items g.vertices))) };
+    ghost invariant = { λ g. ∥ IsProgramGraph (graph_of (vec_items g.vertices)) (map input_of (vec_items g.inputs)) ∥₁
+        × HasTables (graph_of (vec_items g.vertices)) (map edge_of (vec_items g.edges)) (map outs_of (vec_items g.outs))
+        × (length (vec_items g.vertices) ≤ 4096)
+        × ∥ HasProgramArities (graph_of (vec_items g.vertices)) (map input_of (vec_items g.inputs)) (vec_items g.arities) ∥₁
+        × IsDataflow (graph_of (vec_items g.vertices))
+        × (map number_of_output (vec_items g.outputs) ≡ output_numbers (graph_of (vec_items g.vertices))) };
 }
 
 impl Graph {

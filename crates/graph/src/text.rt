@@ -1,7 +1,6 @@
 //! The text of a graph: a line for each vertex.
 
 ghost use Rattle.std.specs.Prelude.{◌≡◌, ◌++◌, codes, decimal, map, IfOk, OnOk, OnErr};
-ghost use Rattle.semantics.specs.Meaning.{same_name};
 ghost use Rattle.graph.specs.Shown.{shown_graph, shown_names};
 ghost use Rattle.graph.specs.Text.{graph_text, kind_text, line, line_head, line_rest, lines, name_beside, output_text, port_text, ports_text};
 ghost use Rattle.graph.specs.Views.{graph_of, kind_of, name_of_output, number_of_output, port_of, sources_of, vertex_of};

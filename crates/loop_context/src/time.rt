@@ -5,7 +5,6 @@ ghost use Rattle.semantics.specs.Limits.{max_loops};
 ghost use Rattle.semantics.specs.Time.{Action, IsAtMost, after_action, at_epoch, last, is_before};
 
 use arrayvec::ArrayVec;
-use std::alloc::AllocError;
 use std::marker::Model;
 
 /// The greatest number of loops around a place.

@@ -16,6 +16,7 @@ use Rattle.grammar.proofs.Tokens.{first_one, rest_one}
 use Rattle.grammar.proofs.Relations.{one_relation}
 use Rattle.parser.specs.Scanning.{NoName}
 use Rattle.parser.specs.Items.{Declares, NoDeclaration, NoInputs, Binds}
+use Rattle.parser.proofs.Lists.{max_turned}
 
 made_input : Span → List ℕ → Span → ℕ → Input
 made_input s x d n = record { name_span = s; name = x; arity_span = d; arity = n }
@@ -158,9 +159,6 @@ no_lets_yet text ts = record {
 
 pub lets_begin : {X : Type 0} (text : List ℕ) (ts : List Token) (f : X → LetTree) (xs : List X) → xs ≡ [] → LetsOn text ts (map f xs) 1 ts
 lets_begin text ts f xs e = rw e (no_lets_yet text ts)
-
-max_turned : (h k n : ℕ) → max (max k h) n ≡ max h (max k n)
-max_turned h k n = omega arith
 
 pub lets_go_on : (text : List ℕ) (ts us vs ws : List Token) (xs zs : List LetTree) (l : LetTree) (s : Span) (h k n : ℕ) → LetsOn text ts xs h us → us ≡ keyword_at keyword.Let s ∷ vs → Binds text vs l k ws → zs ≡ xs ++ l ∷ [] → n ≡ max k h → LetsOn text ts zs n ws
 lets_go_on text ts us vs ws xs zs l s h k n g e d z j = record {

@@ -40,8 +40,12 @@ pub record ListOn {X : Type 0} (P : List Token → X → ℕ → List Token → 
   pub completes : (ys : List X) (k : ℕ) (vs : List Token) → Listed P us ys k vs → Listed P ts (xs ++ ys) (max h k) vs
   pub only : (zs : List X) (n : ℕ) (vs : List Token) → Listed P ts zs n vs → Goes P xs h us zs n vs
 
-max_zero : (k : ℕ) → k ≡ max 0 k
+-- heights of lists, added up in another order
+pub max_zero : (k : ℕ) → k ≡ max 0 k
 max_zero k = omega arith
+
+pub max_turned : (h k n : ℕ) → max (max k h) n ≡ max h (max k n)
+max_turned h k n = omega arith
 
 pub list_begins : {X : Type 0} (P : List Token → X → ℕ → List Token → Type 0) (ts : List Token) → ListOn P ts [] 0 ts
 list_begins P ts = record {

@@ -7,13 +7,14 @@ use Rattle.lexer.specs.declared.mark.Mark.TheVariants as mark
 use Rattle.expr_tree.specs.Trees.{RelTree, OutputTree}
 use Rattle.grammar.specs.Tokens.{mark_at, keyword_at, NoMark, NoKeyword}
 use Rattle.grammar.specs.Phrases.{Unread, Ended}
-use Rattle.grammar.specs.Relations.{piece, IsNameAt}
+use Rattle.grammar.specs.Relations.{piece}
 use Rattle.grammar.specs.Relations as relation
 use Rattle.grammar.specs.Programs.{default_name, OutputAt, unnamed, named, Outputs, last, more}
 use Rattle.grammar.proofs.Tokens.{rest_one}
 use Rattle.grammar.proofs.Programs.{one_output, not_named}
 use Rattle.parser.specs.Scanning.{NoName}
 use Rattle.parser.specs.Items.{BeginsNamed, NamesOutput, NoOutputs}
+use Rattle.parser.proofs.Lists.{max_turned, max_zero}
 
 -- what names an output
 pub no_output_name : (text : List ℕ) (s : Span) (ts : List Token) (n : List ℕ) → NoName text ts → n ≡ default_name → NamesOutput text s ts s n ts
@@ -67,9 +68,6 @@ pub record OutputsOn (text : List ℕ) (ts : List Token) (xs : List OutputTree) 
   pub completes : (ys : List OutputTree) (k : ℕ) → Outputs text us ys k → Outputs text ts (xs ++ ys) (max h k)
   pub only : (zs : List OutputTree) (n : ℕ) → Outputs text ts zs n → GoesOutputs text xs h us zs n
 
-max_zero : (k : ℕ) → k ≡ max 0 k
-max_zero k = omega arith
-
 none_yet : (text : List ℕ) (ts : List Token) → OutputsOn text ts [] 0 ts
 none_yet text ts = record {
   completes = λ ys k d. rw (← max_zero k) d;
@@ -82,9 +80,6 @@ outputs_begin text ts f xs e = rw e (none_yet text ts)
 next_output : {text : List ℕ} {us vs : List Token} {o : OutputTree} {k : ℕ} {ys : List OutputTree} {n : ℕ} → OutputAt text us o k vs → 0 < length vs → Outputs text us ys n → GoesOutputs text (o ∷ []) k vs ys n
 next_output {text = text} d some (last e) = let a = one_output text _ _ _ _ _ _ _ d e in let l = ap length a.left in absurd (omega arith)
 next_output {text = text} d some (more {os = os} {k = k} e r) = let a = one_output text _ _ _ _ _ _ _ d e in record { ys = os; k = k; reads = rw (← a.left) at r; value = cc a.value; height = cc a.height }
-
-max_turned : (h k n : ℕ) → max (max k h) n ≡ max h (max k n)
-max_turned h k n = omega arith
 
 pub outputs_go_on : (text : List ℕ) (ts us vs : List Token) (xs zs : List OutputTree) (o : OutputTree) (h k n : ℕ) → OutputsOn text ts xs h us → OutputAt text us o k vs → 0 < length vs → zs ≡ xs ++ o ∷ [] → n ≡ max k h → OutputsOn text ts zs n vs
 outputs_go_on text ts us vs xs zs o h k n g d some i j = record {

@@ -7,7 +7,6 @@ ghost use Rattle.expr_tree.specs.Trees.{CondTree};
 ghost use Rattle.expr_tree.specs.Views.{scalar_tree, cond_tree};
 ghost use Rattle.grammar.specs.Tokens.{NoMark, NoKeyword};
 ghost use Rattle.grammar.specs.Conditions.{Reads, Square, Single, Chain, connective, compares, operand, NoConnective};
-ghost use Rattle.parser.specs.declared.fault.Fault.TheVariants.{NoMemory};
 ghost use Rattle.parser.specs.Faults.{Denies};
 ghost use Rattle.parser.specs.Conditions.{Unread, NoComparison};
 

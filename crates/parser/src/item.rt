@@ -1,6 +1,6 @@
 //! Inputs and named relations from tokens.
 
-ghost use Rattle.std.specs.Prelude.{◌≡◌, ℕ, ◌<◌, ◌≤◌, length, map, IfOk, IfErr};
+ghost use Rattle.std.specs.Prelude.{ℕ, ◌<◌, ◌≤◌, length, map, IfOk, IfErr};
 ghost use Rattle.expr_tree.specs.Views.{let_tree};
 ghost use Rattle.grammar.specs.Phrases.{Unread};
 ghost use Rattle.grammar.specs.Programs.{Inputs, Lets};

@@ -1,6 +1,6 @@
 //! Programs from tokens, and from texts.
 
-ghost use Rattle.std.specs.Prelude.{◌≡◌, ◌≢◌, ℕ, ◌<◌, ◌≤◌, ◌^◌, length, IfOk, IfErr};
+ghost use Rattle.std.specs.Prelude.{◌≢◌, ℕ, ◌<◌, ◌≤◌, length, IfOk, IfErr};
 ghost use Rattle.record_core.specs.declared.span.Refusal.{Refusal};
 ghost use Rattle.expr_tree.specs.Trees.{ProgramTree};
 ghost use Rattle.expr_tree.specs.Views.{program_tree};

@@ -1,10 +1,8 @@
 //! Scalars from tokens.
 
 ghost use Rattle.std.specs.Prelude.{◌≡◌, ◌<◌, ◌≤◌, ◌∷◌, length, IfOk, IfErr, MatchOption, Some};
-ghost use Rattle.expr_tree.specs.Trees.{ScalarTree};
 ghost use Rattle.expr_tree.specs.Views.{scalar_tree};
 ghost use Rattle.grammar.specs.Scalars.{Reads, Atom, Unary, Chain, operator, operand, NoOperator};
-ghost use Rattle.parser.specs.declared.fault.Fault.TheVariants.{NoMemory};
 ghost use Rattle.parser.specs.Faults.{Denies};
 ghost use Rattle.parser.specs.Scalars.{Unread};
 

@@ -93,7 +93,8 @@ fn name_at(text: &[u8], span: Span) -> Option<Name>
 
 /// The place of a name, the name, and what follows it.
 pub fn after_name<'a>(text: &[u8], tokens: &'a [Token]) -> Option<(Span, Name, &'a [Token])>
-    ensures { MatchOption result (NoName text.now tokens.now) (λ r. (tokens.now ≡ token kind.Name r.0 ∷ r.2.now) × (r.1 ≡ piece text.now r.0) × IsNameAt text.now r.0) }
+    ensures { MatchOption result (NoName text.now tokens.now)
+        (λ r. (tokens.now ≡ token kind.Name r.0 ∷ r.2.now) × (r.1 ≡ piece text.now r.0) × IsNameAt text.now r.0) }
 {
     let (first, rest) = tokens.split_first()?;
     match first.kind {

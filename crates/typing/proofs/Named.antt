@@ -1,23 +1,18 @@
 -- A table of names shows the scope of its entries.
-use Rattle.std.proofs.Common.{◌≡◌, ℕ, ◌≤◌, ◌<◌, ◌↔◌, length, length-append, IsSome, option_to_list, Bool, true, false, cond, List, [], ◌∷◌, ◌++◌, Option, None, Some, IfSome, refl, sym, ◌∙◌, ap, subst, arith, drop, true≢false, Decides}
+use Rattle.std.proofs.Common.{◌≡◌, ℕ, ◌≤◌, ◌<◌, ◌↔◌, length, length-append, IsSome, option_to_list, Bool, true, false, cond, List, [], ◌∷◌, ◌++◌, Option, None, Some, IfSome, refl, sym, ◌∙◌, ap, subst, arith, drop, true≢false}
 use Rattle.std.specs.List.{AllByRecursion, IsDistinct}
 use Rattle.std.specs.Map.{keys_of}
 use Rattle.std.specs.Map as table
-use Rattle.std.proofs.lemmas.Bool.Decides.{Decides-eqb}
-use Rattle.std.specs.Cmp.Lexicographic.{pointwise_decides}
 use Rattle.semantics.specs.Limits.{max_fields}
 use Rattle.semantics.specs.Meaning.{same_name}
 use Rattle.semantics.specs.Typing.{Entry, Scope, lookup, entry}
+use Rattle.semantics.proofs.NamesAmong.{Decides-same_name}
 use Rattle.typing.specs.Scope.{scope_of}
 
 -- the entry declared last comes first
 pub scope_declared : (es : List (List ℕ × ℕ)) (x : List ℕ) (n : ℕ) → scope_of (es ++ (x, n) ∷ []) ≡ entry x n ∷ scope_of es
 scope_declared [] x n = refl
 scope_declared (e ∷ es) x n = ap (λ s. s ++ entry e.0 e.1 ∷ []) (scope_declared es x n)
-
--- the test of names decides whether they are equal
-Decides-same_name : (x y : List ℕ) → Decides (same_name x y) (x ≡ y)
-Decides-same_name = pointwise_decides (λ x y. Decides-eqb x y)
 
 -- a look-up in a scope with one more entry at its end
 lookup_last : (s : Scope) (e : Entry) (x : List ℕ) → lookup s x ≡ None → lookup (s ++ e ∷ []) x ≡ cond (same_name e.name x) (Some e.arity) None
@@ -41,7 +36,8 @@ absent : (es : List (List ℕ × ℕ)) (x : List ℕ) → AllByRecursion (λ y. 
 absent [] x h = refl
 absent (e ∷ es) x h = rw h.0 (absent es x h.1)
 
-same_name-sym : (x y : List ℕ) → same_name x y ≡ same_name y x
+-- the test of names is symmetric
+pub same_name-sym : (x y : List ℕ) → same_name x y ≡ same_name y x
 same_name-sym x y = go (same_name x y) (same_name y x) refl refl
   where
     go : (a b : Bool) → same_name x y ≡ a → same_name y x ≡ b → a ≡ b

@@ -40,6 +40,10 @@ is_arity n = nat_lt 0 n && nat_le n max_fields
 abbrev pub sized : Span → ℕ → Result ℕ Fault
 sized s n = cond (is_arity n) (Ok n) (Err (fault BAD_ARITY s))
 
+-- what follows once a loop in d others has no more turns than it may have, and isn't too deep
+abbrev pub within_limits : {X : Type 0} → (turns : ℕ) → Span → (d : ℕ) → Span → Result X Fault → Result X Fault
+within_limits n t d s v = cond (nat_le n max_turns) (cond (nat_lt d max_loops) v (Err (fault TOO_DEEP s))) (Err (fault TOO_MANY_TURNS t))
+
 -- of a relation
 abbrev pub verdict : RelTree → Scope → ℕ → Result ℕ Fault
 verdict (RelTree.named s x) scope d = known (lookup scope x) s
@@ -50,11 +54,8 @@ verdict (RelTree.join s p q ps) scope d = chain (verdict p scope d) (λ l. chain
 verdict (RelTree.group s r ks gs) scope d = chain (verdict r scope d) (λ m. within (first_beyond (flat_map (key_columns m) ks)) (within (first_beyond (flat_map (agg_columns m) gs)) (sized s (length ks + length gs))))
 verdict (RelTree.distinct s r) scope d = verdict r scope d
 verdict (RelTree.iterate s t n u x r b) scope d =
-    cond (nat_le n max_turns)
-    (cond (nat_lt d max_loops)
+    within_limits n t d s
     (chain (verdict r scope d) (λ m. unless_taken (lookup scope x) (fault NAME_TAKEN u) (chain (verdict b (entry x m ∷ scope) (suc d)) (λ k. cond (nat_eq k m) (Ok m) (Err (fault BODY_DIFFERS (span_of b)))))))
-    (Err (fault TOO_DEEP s)))
-    (Err (fault TOO_MANY_TURNS t))
 
 -- of an input: the scope after it
 abbrev pub input_verdict : Input → Scope → Result Scope Fault

@@ -4,7 +4,7 @@ ghost use Rattle.std.specs.Prelude.{◌≡◌, [], map, Ok, IfOk, IfErr, OnOk};
 ghost use Rattle.expr_tree.specs.Views.{let_tree, output_tree, program_tree};
 ghost use Rattle.typing.specs.FirstFault.{Told};
 ghost use Rattle.typing.specs.Shown.{typed_program};
-ghost use Rattle.typing.specs.Verdict.{arities_of, input_verdict, let_verdict, output_verdict, outputs_verdict, each, program_verdict, Says, Tells};
+ghost use Rattle.typing.specs.Verdict.{arities_of, input_verdict, let_verdict, output_verdict, outputs_verdict, each, program_verdict, Says};
 
 use crate::arities::Arities;
 use crate::limits::{MAX_INPUTS, MAX_OUTPUTS};

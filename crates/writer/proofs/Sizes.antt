@@ -16,16 +16,6 @@ cond_nodes (CondTree.compare s o a b) = 1
 cond_nodes (CondTree.logical s o a b) = cond_nodes a + cond_nodes b + 1
 cond_nodes (CondTree.negate s a) = cond_nodes a + 1
 
-abbrev pub rel_nodes : RelTree → ℕ
-rel_nodes (RelTree.named s x) = 1
-rel_nodes (RelTree.select s r xs) = rel_nodes r + 1
-rel_nodes (RelTree.filter s r c) = rel_nodes r + 1
-rel_nodes (RelTree.set_operation s o a b) = rel_nodes a + rel_nodes b + 1
-rel_nodes (RelTree.join s a b ps) = rel_nodes a + rel_nodes b + 1
-rel_nodes (RelTree.group s r ks gs) = rel_nodes r + 1
-rel_nodes (RelTree.distinct s r) = rel_nodes r + 1
-rel_nodes (RelTree.iterate s t n u x r b) = rel_nodes r + rel_nodes b + 1
-
 pub scalar_high : (t : ScalarTree) → 1 ≤ scalar_height t
 scalar_high (ScalarTree.literal s z) = omega arith
 scalar_high (ScalarTree.column s n) = omega arith

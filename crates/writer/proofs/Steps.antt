@@ -8,10 +8,6 @@ pub on_ok : {T E : Type 0} (r : Result T E) (P Q : Type 0) → OnOk r P → (P �
 on_ok (Ok x) P Q p f = f p
 on_ok (Err e) P Q p f = tt
 
-pub refused : {T E : Type 0} (r : Result T E) (P : Type 0) → P → OnErr r P
-refused (Ok x) P p = tt
-refused (Err e) P p = p
-
 -- a step before the last
 pub refused_last : {T E : Type 0} (r : Result T E) (o m w z : List ℕ) → m ≡ o ++ z → OnErr r (Extends m w) → OnErr r (Extends o w)
 refused_last (Ok x) o m w z h e = tt

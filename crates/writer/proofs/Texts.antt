@@ -33,22 +33,22 @@ list_more view f xs i x o m n w lt e h k j =
 pub list_all_text : {X Y : Type 0} (view : X → Y) (f : Y → List Piece) (xs : List X) (x : X) (rest : List X) (i : ℕ) (o m w : List ℕ) → xs ≡ x ∷ rest → length rest ≤ i → m ≡ o ++ text_of (f (view x)) → w ≡ m ++ text_of (flat_map (λ y. comma ++ f y) (map view (take i rest))) → w ≡ o ++ text_of (listed f (map view xs))
 list_all_text view f xs x rest i o m w p le h j = rw (p, j, h, take_all i rest le) (simp (append_assoc, flat_map-append))
 
-on_err : {T E : Type 0} (r : Result T E) (P : Type 0) → P → OnErr r P
-on_err (Ok x) P p = tt
-on_err (Err e) P p = p
+pub refused : {T E : Type 0} (r : Result T E) (P : Type 0) → P → OnErr r P
+refused (Ok x) P p = tt
+refused (Err e) P p = p
 
 -- what was appended before a refusal
 pub extends_from : (o m w : List ℕ) (z : List ℕ) → m ≡ o ++ z → Extends m w → Extends o w
 extends_from o m w z h e = (z ++ e.0, e.1 ∙ rw h (append_assoc o z e.0))
 
 pub refused_after : {T E : Type 0} (r : Result T E) (o k w : List ℕ) (y : List ℕ) → k ≡ o ++ y → Extends k w → OnErr r (Extends o w)
-refused_after r o k w y i e = on_err r (Extends o w) (extends_from o k w y i e)
+refused_after r o k w y i e = refused r (Extends o w) (extends_from o k w y i e)
 
 pub refused_after_two : {T E : Type 0} (r : Result T E) (o m k w : List ℕ) (x y : List ℕ) → m ≡ o ++ x → k ≡ m ++ y → Extends k w → OnErr r (Extends o w)
-refused_after_two r o m k w x y h i e = on_err r (Extends o w) (extends_from o m w x h (extends_from m k w y i e))
+refused_after_two r o m k w x y h i e = refused r (Extends o w) (extends_from o m w x h (extends_from m k w y i e))
 
 pub refused_after_three : {T E : Type 0} (r : Result T E) (o m k n w : List ℕ) (x y z : List ℕ) → m ≡ o ++ x → k ≡ m ++ y → n ≡ k ++ z → Extends n w → OnErr r (Extends o w)
-refused_after_three r o m k n w x y z h i j e = on_err r (Extends o w) (extends_from o m w x h (extends_from m k w y i (extends_from k n w z j e)))
+refused_after_three r o m k n w x y z h i j e = refused r (Extends o w) (extends_from o m w x h (extends_from m k w y i (extends_from k n w z j e)))
 
 -- the same of values that are shown as they are
 pub values_more : {X : Type 0} (f : X → List Piece) (xs : List X) (i : ℕ) (x : X) (o m n w : List ℕ) → i < length xs → x ≡ get_or xs i x → m ≡ o ++ text_of (flat_map (λ y. comma ++ f y) (take i xs)) → n ≡ m ++ codes ", " → w ≡ n ++ text_of (f x) → w ≡ o ++ text_of (flat_map (λ y. comma ++ f y) (take (i + 1) xs))

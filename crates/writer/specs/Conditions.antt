@@ -59,3 +59,7 @@ abbrev pub cond_height : CondTree → ℕ
 cond_height (CondTree.compare s o a b) = suc (max (scalar_height a) (scalar_height b))
 cond_height (CondTree.logical s o a b) = suc (max (raised (is_below (cond_rank a) (rank_of o)) (cond_height a)) (raised (is_below (cond_rank b) (right_of o)) (cond_height b)))
 cond_height (CondTree.negate s a) = suc (cond_height a)
+
+-- the same of an operand, in brackets where it binds less tightly than least
+abbrev pub operand_height : CondTree → (least : CondRank) → ℕ
+operand_height t least = raised (is_below (cond_rank t) least) (cond_height t)

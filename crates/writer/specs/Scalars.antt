@@ -67,6 +67,10 @@ scalar_height (ScalarTree.column s n) = 1
 scalar_height (ScalarTree.binary s o a b) = suc (max (raised (is_below (scalar_rank a) (rank_of o)) (scalar_height a)) (raised (is_below (scalar_rank b) (right_of o)) (scalar_height b)))
 scalar_height (ScalarTree.negate s a) = suc (raised (is_below (scalar_rank a) Single) (scalar_height a))
 
+-- the same of an operand, in brackets where it binds less tightly than least
+abbrev pub operand_height : ScalarTree → (least : ScalarRank) → ℕ
+operand_height t least = raised (is_below (scalar_rank t) least) (scalar_height t)
+
 -- the place of a node that has none
 abbrev pub nowhere : Span
 nowhere = record { start = 0; end = 0 }

@@ -78,7 +78,8 @@ fn write_compare<A: Allocator>(
     left: &Scalar<A>,
     right: &Scalar<A>,
 ) -> Result<(), AllocError>
-    ensures ok { OnOk result (out.new.items ≡ out.old.items ++ text_of (cond_pieces (CondTree.compare nowhere comparison (scalar_tree left.now) (scalar_tree right.now)))) }
+    ensures ok { OnOk result (out.new.items ≡ out.old.items
+        ++ text_of (cond_pieces (CondTree.compare nowhere comparison (scalar_tree left.now) (scalar_tree right.now)))) }
     ensures err { OnErr result (Extends out.old.items out.new.items) }
 {
     write_scalar(out, left)?;
@@ -94,7 +95,8 @@ fn write_logical<A: Allocator>(
     left: &Cond<A>,
     right: &Cond<A>,
 ) -> Result<(), AllocError>
-    ensures ok { OnOk result (out.new.items ≡ out.old.items ++ text_of (cond_pieces (CondTree.logical nowhere connective (cond_tree left.now) (cond_tree right.now)))) }
+    ensures ok { OnOk result (out.new.items ≡ out.old.items
+        ++ text_of (cond_pieces (CondTree.logical nowhere connective (cond_tree left.now) (cond_tree right.now)))) }
     ensures err { OnErr result (Extends out.old.items out.new.items) }
 {
     let least = CondRank::left_of(connective);

@@ -116,7 +116,8 @@ pub fn write_program<A: Allocator>(program: &Program<A>, out: &mut Vec<u8>) -> R
     // The text follows what was there.
     ensures written { OnOk result (out.new.items ≡ out.old.items ++ program_text (program_tree program.now)) }
     // It reads as the program, spans aside.
-    ensures reads { length (program_text (program_tree program.now)) ≤ max_length → ReadsAs (program_text (program_tree program.now)) (program_tree program.now) }
+    ensures reads { length (program_text (program_tree program.now)) ≤ max_length →
+        ReadsAs (program_text (program_tree program.now)) (program_tree program.now) }
     // After a refusal what was there is all.
     ensures unchanged { OnErr result (out.new.items ≡ out.old.items) }
 {

@@ -100,7 +100,8 @@ fn write_set_operation<A: Allocator>(
     left: &Rel<A>,
     right: &Rel<A>,
 ) -> Result<(), AllocError>
-    ensures ok { OnOk result (out.new.items ≡ out.old.items ++ text_of (rel_pieces (RelTree.set_operation nowhere operator (rel_tree left.now) (rel_tree right.now)))) }
+    ensures ok { OnOk result (out.new.items ≡ out.old.items
+        ++ text_of (rel_pieces (RelTree.set_operation nowhere operator (rel_tree left.now) (rel_tree right.now)))) }
     ensures err { OnErr result (Extends out.old.items out.new.items) }
 {
     write_operator(out, operator)?;
@@ -178,7 +179,8 @@ fn write_iterate<A: Allocator>(
     start: &Rel<A>,
     body: &Rel<A>,
 ) -> Result<(), AllocError>
-    ensures ok { OnOk result (out.new.items ≡ out.old.items ++ text_of (rel_pieces (RelTree.iterate nowhere nowhere turns nowhere name.now (rel_tree start.now) (rel_tree body.now)))) }
+    ensures ok { OnOk result (out.new.items ≡ out.old.items
+        ++ text_of (rel_pieces (RelTree.iterate nowhere nowhere turns nowhere name.now (rel_tree start.now) (rel_tree body.now)))) }
     ensures err { OnErr result (Extends out.old.items out.new.items) }
 {
     write_head(out, turns, name)?;

@@ -24,7 +24,8 @@ pub fn read_back<A: Allocator, B: Allocator + Copy>(
 ) -> Result<Program<B>, Refusal>
     requires { IsSource (program_tree program.now) }
     // What is read is the same, spans aside.
-    ensures same { length (program_text (program_tree program.now)) ≤ max_length → IfOk result (λ p. plain_program (program_tree p) ≡ plain_program (program_tree program.now)) }
+    ensures same { length (program_text (program_tree program.now)) ≤ max_length →
+        IfOk result (λ p. plain_program (program_tree p) ≡ plain_program (program_tree program.now)) }
     // Nothing but memory can be wanting.
     ensures memory { length (program_text (program_tree program.now)) ≤ max_length → IfErr result (λ e. e ≡ refusal.NoMemory) }
 {

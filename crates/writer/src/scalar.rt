@@ -72,7 +72,8 @@ fn write_binary<A: Allocator>(
     left: &Scalar<A>,
     right: &Scalar<A>,
 ) -> Result<(), AllocError>
-    ensures ok { OnOk result (out.new.items ≡ out.old.items ++ text_of (scalar_pieces (ScalarTree.binary nowhere operator (scalar_tree left.now) (scalar_tree right.now)))) }
+    ensures ok { OnOk result (out.new.items ≡ out.old.items
+        ++ text_of (scalar_pieces (ScalarTree.binary nowhere operator (scalar_tree left.now) (scalar_tree right.now)))) }
     ensures err { OnErr result (Extends out.old.items out.new.items) }
 {
     let least = ScalarRank::left_of(operator);

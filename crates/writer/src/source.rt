@@ -3,13 +3,13 @@
 //! Each function has `room` for phrases one within another, and goes no deeper than that: it takes no memory, and its recursion
 //! is as deep as the highest text.
 
-ghost use Rattle.std.specs.Prelude.{◌≡◌, ◌≤◌, ◌↔◌, IsTrue, map};
+ghost use Rattle.std.specs.Prelude.{◌≤◌, ◌↔◌, IsTrue, map};
 ghost use Rattle.record_core.specs.Names.{IsName};
 ghost use Rattle.expr_tree.specs.Views.{cond_tree, let_tree, output_tree, program_tree, rel_tree, scalar_tree};
 ghost use Rattle.writer.specs.Scalars as scalars;
-ghost use Rattle.writer.specs.Scalars.{raised, scalar_height, scalar_rank};
+ghost use Rattle.writer.specs.Scalars.{scalar_height};
 ghost use Rattle.writer.specs.Conditions as conditions;
-ghost use Rattle.writer.specs.Conditions.{cond_height, cond_rank};
+ghost use Rattle.writer.specs.Conditions.{cond_height};
 ghost use Rattle.writer.specs.Relations.{heights, rel_height};
 ghost use Rattle.writer.specs.Programs.{lets_height, output_height};
 ghost use Rattle.writer.specs.Sources.{Each, Filled, IsAggSource, IsColumnSource, IsCondSource, IsInputSource, IsLetSource, IsLiteral, IsNumber, IsOutputSource, IsPairSource, IsRelSource, IsScalarSource, IsSource};
@@ -56,7 +56,7 @@ fn scalar_fits<A: Allocator>(scalar: &Scalar<A>, room: u32) -> bool
 /// The same of an operand, with the brackets that its place asks for.
 #[cycle(fits)]
 fn operand_fits<A: Allocator>(scalar: &Scalar<A>, least: ScalarRank, room: u32) -> bool
-    ensures { IsTrue result ↔ (IsScalarSource (scalar_tree scalar.now) × (raised (scalars.is_below (scalar_rank (scalar_tree scalar.now)) least) (scalar_height (scalar_tree scalar.now)) ≤ room)) }
+    ensures { IsTrue result ↔ (IsScalarSource (scalar_tree scalar.now) × (scalars.operand_height (scalar_tree scalar.now) least ≤ room)) }
 {
     if ScalarRank::of(scalar).is_below(least) {
         room > 0 && scalar_fits(scalar, room - 1)
@@ -88,7 +88,7 @@ fn cond_fits<A: Allocator>(condition: &Cond<A>, room: u32) -> bool
 /// The same of an operand, with the brackets that its place asks for.
 #[cycle(fits_conditions)]
 fn side_fits<A: Allocator>(condition: &Cond<A>, least: CondRank, room: u32) -> bool
-    ensures { IsTrue result ↔ (IsCondSource (cond_tree condition.now) × (raised (conditions.is_below (cond_rank (cond_tree condition.now)) least) (cond_height (cond_tree condition.now)) ≤ room)) }
+    ensures { IsTrue result ↔ (IsCondSource (cond_tree condition.now) × (conditions.operand_height (cond_tree condition.now) least ≤ room)) }
 {
     if CondRank::of(condition).is_below(least) {
         room > 0 && cond_fits(condition, room - 1)

@@ -1,5 +1,5 @@
-use Rattle.writer.proofs.Texts.{extends_from}
-use Rattle.writer.proofs.Steps.{refused, refused_last}
+use Rattle.writer.proofs.Texts.{extends_from, refused}
+use Rattle.writer.proofs.Steps.{refused_last}
 use Rattle.writer.proofs.program.write_let.Goals as goal
 
 pub returns-in_err-push-clause-err : goal.returns-in_err-push-clause-err

@@ -1,7 +1,7 @@
 use Rattle.std.proofs.Common.{append_assoc}
 use Rattle.std.proofs.lemmas.Grind.{flat_map-append}
-use Rattle.writer.proofs.Texts.{extends_from}
-use Rattle.writer.proofs.Steps.{on_ok, refused, refused_last}
+use Rattle.writer.proofs.Texts.{extends_from, refused}
+use Rattle.writer.proofs.Steps.{on_ok, refused_last}
 use Rattle.writer.proofs.relation.+write.Goals as goal
 
 pub write_select-returns-in_err-push-clause-err : goal.write_select-returns-in_err-push-clause-err

@@ -1,6 +1,6 @@
 use Rattle.std.proofs.Common.{◌+◌, ◌*◌}
 use Rattle.expr_tree.specs.Views.{rel_tree}
-use Rattle.writer.proofs.Sizes.{rel_nodes}
+use Rattle.expr_tree.proofs.Sizes.{rel_nodes}
 use Rattle.writer.proofs.relation.+write.Given as goal
 
 abbrev pub decreases-write_rel : goal.decreases-write_rel
