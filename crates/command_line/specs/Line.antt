@@ -50,11 +50,11 @@ run_app =
     (word_rule (codes "QUERY")))
     (word_rule (codes "INPUT"))
 
--- `follow QUERY INPUT`, with or without `--workers N` and `--explain`
+-- `follow QUERY` or `follow QUERY INPUT`, with or without `--workers N` and `--explain`
 abbrev pub follow_app : App
 follow_app =
     with_rule (with_rule (with_rule (with_rule (new_app (codes "follow")) (option_rule (codes "workers"))) (flag_rule (codes "explain"))) (word_rule (codes "QUERY")))
-    (word_rule (codes "INPUT"))
+    (optional_rule (codes "INPUT"))
 
 -- `replay QUERY SCHEDULE`, with or without `--workers N`, `--views` and `--explain`
 abbrev pub replay_app : App
@@ -98,13 +98,18 @@ IsAskedHeap (Some word) (Some heap) = Spells word heap.bytes
 IsAskedHeap None (Some heap) = ⊥
 IsAskedHeap (Some word) None = ⊥
 
+-- the input that is named is followed; standard input where none is
+abbrev pub IsAskedInput : Option Text → Text → Type 0
+IsAskedInput None input = input ≡ codes "-"
+IsAskedInput (Some word) input = input ≡ word
+
 -- the options are what the matches of a command hold
 abbrev pub HoldsAt : Text → List Row → Options → Type 0
 HoldsAt name rows (Run query input workers watch stats explain) =
     (name ≡ codes "run") × (first_of (codes "QUERY") rows ≡ Some query.now) × (first_of (codes "INPUT") rows ≡ Some input.now) × AreAskedFor (first_of (codes "workers") rows) workers.count
     × IsFlag (codes "watch") rows watch × IsFlag (codes "stats") rows stats × IsFlag (codes "explain") rows explain
 HoldsAt name rows (Follow query input workers explain) =
-    (name ≡ codes "follow") × (first_of (codes "QUERY") rows ≡ Some query.now) × (first_of (codes "INPUT") rows ≡ Some input.now) × AreAskedFor (first_of (codes "workers") rows) workers.count
+    (name ≡ codes "follow") × (first_of (codes "QUERY") rows ≡ Some query.now) × IsAskedInput (first_of (codes "INPUT") rows) input.now × AreAskedFor (first_of (codes "workers") rows) workers.count
     × IsFlag (codes "explain") rows explain
 HoldsAt name rows (Check query input heap explain) =
     (name ≡ codes "check") × (first_of (codes "QUERY") rows ≡ Some query.now) × (option_map (λ s. s.now) input ≡ first_of (codes "INPUT") rows) × IsAskedHeap (first_of (codes "heap") rows) heap
@@ -125,3 +130,26 @@ HoldsOf (Some found) options = HoldsAt found.0 found.1 options
 -- the options are what the matches of the words hold
 abbrev pub Holds : List Text → Options → Type 0
 Holds words options = HoldsOf (subcommand_of line_app words) options
+
+-- both texts are standard input
+abbrev pub AreBothInput : (query other : Text) → Type 0
+AreBothInput query other = (query ≡ codes "-") × (other ≡ codes "-")
+
+-- both texts that the options name are standard input
+abbrev pub NamesInputTwice : Options → Type 0
+NamesInputTwice (Run query input workers watch stats explain) = AreBothInput query.now input.now
+NamesInputTwice (Follow query input workers explain) = AreBothInput query.now input.now
+NamesInputTwice (Check query (Some input) heap explain) = AreBothInput query.now input.now
+NamesInputTwice (Check query None heap explain) = ⊥
+NamesInputTwice (Graph query form heap explain) = ⊥
+NamesInputTwice (Format query explain) = ⊥
+NamesInputTwice (Replay query schedule workers views explain) = AreBothInput query.now schedule.now
+NamesInputTwice (Explain code) = ⊥
+
+-- the words ask for this: their matches hold the options, of whose texts at most one is standard input
+abbrev pub Asks : List Text → Options → Type 0
+Asks words options = Holds words options × (NamesInputTwice options → ⊥)
+
+-- the words name standard input for both texts
+abbrev pub AsksTwice : List Text → Type 0
+AsksTwice words = (options : Options) × Holds words options × NamesInputTwice options

@@ -1,13 +1,17 @@
 //! The commands of the line, read by `clap`.
 
-ghost use Rattle.std.specs.Prelude.{◌≡◌, map, option_map, IfOk, IfSome, codes, false};
+ghost use Rattle.std.specs.Prelude.{◌≡◌, map, option_map, IfErr, IfOk, IfSome, IsErrOf, codes, false};
 ghost use Rattle.clap.specs.Words.{app_of, first_of, found_of, new_app, rows_of, rule_of};
 ghost use Rattle.clap.specs.declared.builder.Command.TheViews.{out-Command as fields_of};
-ghost use Rattle.command_line.specs.Line.{AreAskedFor, Holds, HoldsAt, IsAskedHeap, IsFlag, check_app, explain_app, flag_rule, follow_app, format_app, graph_app, line_app, option_rule, optional_rule, replay_app, run_app, word_rule};
+ghost use Rattle.command_line.specs.Line.{AreAskedFor, AsksTwice, Asks, Holds, HoldsAt, IsAskedHeap, IsAskedInput, IsFlag, check_app, explain_app, flag_rule, follow_app, format_app, graph_app, line_app, option_rule, optional_rule, replay_app, run_app, word_rule};
+ghost use Rattle.command_line.specs.Faults.{IsOfWords};
+ghost use Rattle.command_line.specs.declared.line_fault.LineFault.TheVariants as fault;
 
 use crate::heap_size::HeapSize;
 use crate::line_fault::LineFault;
 use crate::line_options::{GraphForm, Options};
+use crate::option_owner::{Misplaced, misplaced_option};
+use crate::standard_input::is_input_twice;
 use crate::worker_count::Workers;
 use clap::error::ErrorKind;
 use clap::{Arg, ArgAction, ArgMatches, Command, Error};
@@ -22,9 +26,9 @@ const INPUT: &str = "The file with the input; - is standard input";
 /// What the help says of the word `SCHEDULE`.
 const SCHEDULE: &str = "The file with the schedule; - is standard input";
 
-/// The last lines of the help: the statuses, and where the language is described.
+/// The last lines of the help: how errors are explained, the statuses, and where the language is described.
 const LAST_LINES: &str =
-    "Exit status: 0 done, 2 command line, 3 query, 4 input or schedule, 5 memory, count or threads, 6 file\nThe language: LANGUAGE.md";
+    "An error is one line; with --explain more lines show its place and what is wrong there\nExit status: 0 done, 2 command line, 3 query, 4 input or schedule, 5 memory, count or threads, 6 file\nThe language: LANGUAGE.md";
 
 /// A word that has to be given, with its line of help.
 fn word_arg<'a>(alloc: Global, id: &'a str, about: &'a str) -> Arg<'a>
@@ -167,7 +171,11 @@ fn follow_command<'a>(alloc: Global) -> Result<Command<'a>, AllocError>
     .arg(workers_arg(alloc))?
     .arg(explain_arg(alloc))?
     .arg(word_arg(alloc, "QUERY", QUERY))?
-    .arg(word_arg(alloc, "INPUT", INPUT))
+    .arg(optional_arg(
+        alloc,
+        "INPUT",
+        "The file with the input; without it, and with -, standard input",
+    ))
 }
 
 fn replay_command<'a>(alloc: Global) -> Result<Command<'a>, AllocError>
@@ -208,7 +216,7 @@ fn program<'a>(alloc: Global) -> Command<'a>
     Command::new(alloc, "loom").after_help(LAST_LINES)
 }
 
-fn line_command<'a>(alloc: Global) -> Result<Command<'a>, AllocError>
+pub fn line_command<'a>(alloc: Global) -> Result<Command<'a>, AllocError>
     ensures { IfOk result (λ c. app_of c ≡ line_app) }
 {
     program(alloc)
@@ -272,13 +280,23 @@ fn check_options<'a>(found: &ArgMatches<'a>, heap: Option<HeapSize>) -> Option<O
     })
 }
 
+/// The input to be followed: standard input where none is named.
+fn followed_input<'a>(found: &ArgMatches<'a>) -> &'a str
+    ensures { IsAskedInput (first_of (codes "INPUT") (rows_of (found_of found.now))) result.now }
+{
+    match text_of(found, "INPUT") {
+        None => "-",
+        Some(input) => input,
+    }
+}
+
 /// The options of following on so many workers.
 fn follow_options<'a>(found: &ArgMatches<'a>, workers: Workers) -> Option<Options<'a>>
     requires { AreAskedFor (first_of (codes "workers") (rows_of (found_of found.now))) workers.count }
     ensures { IfSome result (HoldsAt (codes "follow") (rows_of (found_of found.now))) }
 {
     let query = text_of(found, "QUERY")?;
-    let input = text_of(found, "INPUT")?;
+    let input = followed_input(found);
     let explain = flag_of(found, "explain");
     Some(Options::Follow {
         query,
@@ -361,7 +379,9 @@ fn replay_options<'a>(found: &ArgMatches<'a>, workers: Workers) -> Option<Option
 }
 
 /// The fault of a word that is no number of workers.
-fn workers_fault(alloc: Global, word: &str) -> LineFault {
+fn workers_fault(alloc: Global, word: &str) -> LineFault
+    ensures { IsOfWords result }
+{
     match String::from_str(alloc, word) {
         Ok(word) => LineFault::Workers { word },
         Err(_) => LineFault::NoMemory,
@@ -369,7 +389,9 @@ fn workers_fault(alloc: Global, word: &str) -> LineFault {
 }
 
 /// The fault of a word that is no size of a heap.
-fn heap_fault(alloc: Global, word: &str) -> LineFault {
+fn heap_fault(alloc: Global, word: &str) -> LineFault
+    ensures { IsOfWords result }
+{
     match String::from_str(alloc, word) {
         Ok(word) => LineFault::Heap { word },
         Err(_) => LineFault::NoMemory,
@@ -378,7 +400,8 @@ fn heap_fault(alloc: Global, word: &str) -> LineFault {
 
 /// What the matches of `check` hold.
 fn check_line<'a>(alloc: Global, found: &ArgMatches<'a>) -> Result<Options<'a>, LineFault>
-    ensures { IfOk result (HoldsAt (codes "check") (rows_of (found_of found.now))) }
+    ensures held { IfOk result (HoldsAt (codes "check") (rows_of (found_of found.now))) }
+    ensures fault { IfErr result IsOfWords }
 {
     match heap_of(found) {
         Ok(heap) => check_options(found, heap).ok_or(LineFault::NoCommand),
@@ -388,7 +411,8 @@ fn check_line<'a>(alloc: Global, found: &ArgMatches<'a>) -> Result<Options<'a>, 
 
 /// What the matches of `graph` hold.
 fn graph_line<'a>(alloc: Global, found: &ArgMatches<'a>) -> Result<Options<'a>, LineFault>
-    ensures { IfOk result (HoldsAt (codes "graph") (rows_of (found_of found.now))) }
+    ensures held { IfOk result (HoldsAt (codes "graph") (rows_of (found_of found.now))) }
+    ensures fault { IfErr result IsOfWords }
 {
     match heap_of(found) {
         Ok(heap) => graph_options(found, heap).ok_or(LineFault::NoCommand),
@@ -398,7 +422,8 @@ fn graph_line<'a>(alloc: Global, found: &ArgMatches<'a>) -> Result<Options<'a>, 
 
 /// What the matches of `run` hold.
 fn run_line<'a>(alloc: Global, found: &ArgMatches<'a>) -> Result<Options<'a>, LineFault>
-    ensures { IfOk result (HoldsAt (codes "run") (rows_of (found_of found.now))) }
+    ensures held { IfOk result (HoldsAt (codes "run") (rows_of (found_of found.now))) }
+    ensures fault { IfErr result IsOfWords }
 {
     match workers_of(found) {
         Ok(workers) => run_options(found, workers).ok_or(LineFault::NoCommand),
@@ -408,7 +433,8 @@ fn run_line<'a>(alloc: Global, found: &ArgMatches<'a>) -> Result<Options<'a>, Li
 
 /// What the matches of `follow` hold.
 fn follow_line<'a>(alloc: Global, found: &ArgMatches<'a>) -> Result<Options<'a>, LineFault>
-    ensures { IfOk result (HoldsAt (codes "follow") (rows_of (found_of found.now))) }
+    ensures held { IfOk result (HoldsAt (codes "follow") (rows_of (found_of found.now))) }
+    ensures fault { IfErr result IsOfWords }
 {
     match workers_of(found) {
         Ok(workers) => follow_options(found, workers).ok_or(LineFault::NoCommand),
@@ -418,7 +444,8 @@ fn follow_line<'a>(alloc: Global, found: &ArgMatches<'a>) -> Result<Options<'a>,
 
 /// What the matches of `replay` hold.
 fn replay_line<'a>(alloc: Global, found: &ArgMatches<'a>) -> Result<Options<'a>, LineFault>
-    ensures { IfOk result (HoldsAt (codes "replay") (rows_of (found_of found.now))) }
+    ensures held { IfOk result (HoldsAt (codes "replay") (rows_of (found_of found.now))) }
+    ensures fault { IfErr result IsOfWords }
 {
     match workers_of(found) {
         Ok(workers) => replay_options(found, workers).ok_or(LineFault::NoCommand),
@@ -445,7 +472,8 @@ fn line_options<'a>(
     name: &str,
     found: &ArgMatches<'a>,
 ) -> Result<Options<'a>, LineFault>
-    ensures { IfOk result (HoldsAt name.now (rows_of (found_of found.now))) }
+    ensures held { IfOk result (HoldsAt name.now (rows_of (found_of found.now))) }
+    ensures fault { IfErr result IsOfWords }
 {
     match name.as_bytes() {
         b"run" => run_line(alloc, found),
@@ -457,9 +485,32 @@ fn line_options<'a>(
     }
 }
 
-/// Reads the line, whose first word is the program's own.
-pub fn options<'a>(alloc: Global, words: &'a [&'a str]) -> Result<Options<'a>, LineFault>
-    ensures { IfOk result (Holds (map (λ s. s.now) words.entry.now)) }
+/// The fault of words that clap refuses.
+fn refusal(alloc: Global, error: Error) -> LineFault
+    ensures { IsOfWords result }
+{
+    match error.kind() {
+        ErrorKind::OutOfMemory => LineFault::NoMemory,
+        ErrorKind::UnknownArgument => unknown_argument(alloc, error),
+        _ => LineFault::Line(error),
+    }
+}
+
+/// The fault of a word that the command doesn't know.
+fn unknown_argument(alloc: Global, error: Error) -> LineFault
+    ensures { IsOfWords result }
+{
+    match misplaced_option(alloc, &error) {
+        Ok(None) => LineFault::Line(error),
+        Ok(Some(Misplaced { option, commands })) => LineFault::Misplaced { option, commands },
+        Err(_) => LineFault::NoMemory,
+    }
+}
+
+/// The options that the words hold.
+fn held_options<'a>(alloc: Global, words: &'a [&'a str]) -> Result<Options<'a>, LineFault>
+    ensures held { IfOk result (Holds (map (λ s. s.now) words.entry.now)) }
+    ensures fault { IfErr result IsOfWords }
 {
     let command = match line_command(alloc) {
         Ok(command) => command,
@@ -467,7 +518,7 @@ pub fn options<'a>(alloc: Global, words: &'a [&'a str]) -> Result<Options<'a>, L
     };
     let found = match command.try_get_matches_from(words) {
         Ok(found) => found,
-        Err(error) => return Err(refusal(error)),
+        Err(error) => return Err(refusal(alloc, error)),
     };
     match found.subcommand() {
         None => Err(LineFault::NoCommand),
@@ -475,10 +526,18 @@ pub fn options<'a>(alloc: Global, words: &'a [&'a str]) -> Result<Options<'a>, L
     }
 }
 
-fn refusal(error: Error) -> LineFault {
-    if error.kind() == ErrorKind::OutOfMemory {
-        LineFault::NoMemory
-    } else {
-        LineFault::Line(error)
+/// Reads the line, whose first word is the program's own. A line that names standard input for both of its texts is refused, as the second
+/// one read would be empty.
+pub fn options<'a>(alloc: Global, words: &'a [&'a str]) -> Result<Options<'a>, LineFault>
+    ensures asked { IfOk result (Asks (map (λ s. s.now) words.entry.now)) }
+    ensures twice { IsErrOf result fault.InputTwice → AsksTwice (map (λ s. s.now) words.entry.now) }
+{
+    let asked = match held_options(alloc, words) {
+        Ok(asked) => asked,
+        Err(fault) => return Err(fault),
+    };
+    if is_input_twice(asked) {
+        return Err(LineFault::InputTwice);
     }
+    Ok(asked)
 }

@@ -1,13 +1,15 @@
 //! The command line: its words, what they ask for, and why they are refused.
 //!
 //! `options` reads the words. The contract for the layer above: the options are what the matches of the words hold, by clap's own
-//! definition of what matches. Nothing of Loom stands below, only `clap` and `thiserror`; the console does what the options ask for.
+//! definition of what matches, and of two texts at most one is standard input. Nothing of Loom stands below, only `clap` and `thiserror`; the console does what the options ask for.
 #![tactic(auto)]
 
 mod command;
 mod heap_size;
 mod line_fault;
 mod line_options;
+mod option_owner;
+mod standard_input;
 mod worker_count;
 
 pub use command::options;

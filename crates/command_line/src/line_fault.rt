@@ -16,6 +16,12 @@ pub enum LineFault {
     /// The word after `--heap` is no size of a heap.
     #[error("error: invalid value '{word}' for '--heap <BYTES>': {word} is not in 64..=16777216")]
     Heap { word: String },
+    /// An option that the command doesn't take, and others do: its name, and theirs.
+    #[error("error: unexpected argument '--{option}' found; it is an option of {commands}")]
+    Misplaced { option: String, commands: String },
+    /// Both texts are to be standard input.
+    #[error("error: only one of the two files can be '-', which is standard input")]
+    InputTwice,
     /// A word of the line is no UTF-8 text.
     #[error("error: invalid UTF-8 was detected in one or more arguments")]
     NoText,
@@ -36,6 +42,8 @@ impl LineFault {
             LineFault::NoMemory => 5,
             LineFault::Workers { .. }
             | LineFault::Heap { .. }
+            | LineFault::Misplaced { .. }
+            | LineFault::InputTwice
             | LineFault::NoText
             | LineFault::NoCommand
             | LineFault::Line(_) => 2,

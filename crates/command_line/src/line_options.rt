@@ -16,7 +16,7 @@ pub enum Options<'a> {
         stats: bool,
         explain: bool,
     },
-    /// `loom follow QUERY INPUT`, on one worker or `--workers N`, and a fault explained with `--explain`
+    /// `loom follow QUERY`, or `loom follow QUERY INPUT`, on one worker or `--workers N`, and a fault explained with `--explain`
     Follow {
         query: &'a str,
         input: &'a str,

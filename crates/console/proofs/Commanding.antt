@@ -2,7 +2,7 @@
 use Rattle.std.proofs.Common.{◌≡◌, ◌⊎◌, inl, inr, ℕ, List, Option, Result, refl, ◌∙◌}
 use Rattle.clap.specs.Words.{Text}
 use Rattle.command_line.specs.Faults.{line_status_of}
-use Rattle.command_line.specs.Line.{Holds}
+use Rattle.command_line.specs.Line.{Asks}
 use Rattle.command_line.specs.declared.line_fault.LineFault.{LineFault}
 use Rattle.command_line.specs.declared.line_fault.LineFault.TheVariants as line
 use Rattle.command_line.specs.declared.line_options.Options.{Options}
@@ -13,6 +13,8 @@ two_or_five : (fault : LineFault) → (line_status_of fault ≡ 2) ⊎ (line_sta
 two_or_five line.NoMemory = inr refl
 two_or_five (line.Workers word) = inl refl
 two_or_five (line.Heap word) = inl refl
+two_or_five (line.Misplaced option commands) = inl refl
+two_or_five line.InputTwice = inl refl
 two_or_five line.NoText = inl refl
 two_or_five line.NoCommand = inl refl
 two_or_five (line.Line error) = inl refl
@@ -23,6 +25,6 @@ refused texts words old fault status e = inl (refl, elim (two_or_five fault) [ i
 pub ended : (texts : Known) (options : Options) (old new : Option (List ℕ)) (result : Result (Unit {0}) Fault) (status : ℕ) → EndsOn texts options old new result → status ≡ status_after result → Obeys texts options old new status
 ended texts options old new result status e t = inr (record { result = result; ends = e; told = t })
 
-pub obeyed : (texts : Known) (words : List Text) (options : Options) (old new : Option (List ℕ)) (status : ℕ) → Holds words options → Obeys texts options old new status → Answers texts words old new status
+pub obeyed : (texts : Known) (words : List Text) (options : Options) (old new : Option (List ℕ)) (status : ℕ) → Asks words options → Obeys texts options old new status → Answers texts words old new status
 obeyed texts words options old new status h (inl down) = inl down
 obeyed texts words options old new status h (inr done) = inr (options, h, done)

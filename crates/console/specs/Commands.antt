@@ -3,7 +3,7 @@ use Rattle.std.specs.Prelude.{◌≡◌, ◌⊎◌, ℕ, Bool, true, false, List
 use Rattle.clap.specs.Words.{Text}
 use Rattle.refusals.specs.declared.table.Explanation.{Explanation}
 use Rattle.command_line.specs.Counts.{count_of}
-use Rattle.command_line.specs.Line.{Holds}
+use Rattle.command_line.specs.Line.{Asks}
 use Rattle.command_line.specs.declared.line_options.GraphForm.{GraphForm}
 use Rattle.command_line.specs.declared.line_options.Options.{Options}
 use Rattle.command_line.specs.declared.line_options.Options.TheVariants.{Run, Follow, Check, Graph, Format, Replay, Explain}
@@ -88,6 +88,6 @@ IsTurnedDown old new status = (new ≡ old) × ((status ≡ 2) ⊎ (status ≡ 5
 abbrev pub Obeys : Known → Options → Option (List ℕ) → Option (List ℕ) → ℕ → Type 0
 Obeys texts options old new status = IsTurnedDown old new status ⊎ HasEnded texts options old new status
 
--- the line is turned down, or the options are what its words hold, and their command has ended
+-- the line is turned down, or its words ask for the options, and their command has ended
 abbrev pub Answers : Known → (words : List Text) → Option (List ℕ) → Option (List ℕ) → ℕ → Type 0
-Answers texts words old new status = IsTurnedDown old new status ⊎ ((options : Options) × Holds words options × HasEnded texts options old new status)
+Answers texts words old new status = IsTurnedDown old new status ⊎ ((options : Options) × Asks words options × HasEnded texts options old new status)
