@@ -28,7 +28,7 @@ delivered_names [] xs = refl
 delivered_names (o ∷ os) xs =
     delivered_names os (slice_set xs o.to (with_mail (side_in xs o.to) o.message)) ∙ same_names xs o.to (with_mail (side_in xs o.to) o.message) refl
 
--- what is fed leaves the workers' tables as they are
+-- a feed leaves the workers' tables as they are
 pub feed_tables : (s t : Shown) (added : List Pointstamp) (input : ℕ) (batch : List Record) → FeedsBy s t added input batch → tables t ≡ tables s
 feed_tables s t added input batch f = ap tables f.state ∙ delivered_names f.letters s.sides
 

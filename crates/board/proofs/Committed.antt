@@ -49,7 +49,7 @@ no_counters : (cs : List ℕ) → length cs ≡ 0 → cs ≡ []
 no_counters [] e = refl
 no_counters (c ∷ cs) e = absurd (omega (arith, e))
 
--- what is emitted is emitted at an epoch
+-- an event emits only at an epoch
 ends_by : (g : Graph) (workers : ℕ) → IsDataflow g → (e : Event) → IsGoodEvent g e → event_at g e < length g → (role (vertex g (event_at g e)).kind ≡ Role.output) → event_time e ≡ at_epoch (event_time e).epoch
 ends_by g workers flows (Event.arrival m) good l out =
     let kind = role_output (vertex g (target g m.edge)).kind out in

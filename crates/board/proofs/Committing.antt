@@ -68,7 +68,7 @@ same_epochs m n = go (m == n) refl
     go true e = rw e refl
     go false e = rw e refl
 
--- what comes at a time comes for the epoch
+-- what comes to an output at a time comes for that time's epoch
 for_epoch : (e : ℕ) (t : Time) (records : List Record) → (records ≡ []) ⊎ (t ≡ at_epoch e) → (n : ℕ) → cond (same_time t (at_epoch n)) records [] ≡ cond (e == n) records []
 for_epoch e t records (inl none) n = ap (λ l. cond (same_time t (at_epoch n)) l []) none ∙ cond_same (same_time t (at_epoch n)) [] ∙ sym (ap (λ l. cond (e == n) l []) none ∙ cond_same (e == n) [])
 for_epoch e t records (inr at) n = ap (λ c. cond c records []) (ap (λ x. same_time x (at_epoch n)) at ∙ same_epochs e n)
@@ -80,7 +80,7 @@ pub record IsNetOf (g : Network) (s : Shown) : Type 0 where
   pub workers : g.workers ≡ length s.sides
   pub at : (e : Event) → event_vertex g e ≡ event_at (shown_graph s.graph) e
 
--- what is emitted is emitted for an epoch
+-- an event emits records only for an epoch
 pub record EndsAt (event : Event) (records : List Record) : Type 0 where
   pub at : (records ≡ []) ⊎ (event_time event ≡ at_epoch (event_time event).epoch)
 

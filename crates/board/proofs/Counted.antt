@@ -1,4 +1,4 @@
--- The number of passed epochs after each call: it stays, or each epoch below it has passed still.
+-- The number of passed epochs after each call: it stays, or each epoch below it has still passed.
 use Rattle.std.proofs.Common.{◌≡◌, ◌<◌, ◌≤◌, ◌+◌, ℕ, zero, suc, Bool, true, false, cond, List, [], ◌∷◌, length, refl, sym, ap, ◌∙◌, subst, arith, slice_set, slice_index_or}
 use Rattle.semantics.specs.Multiset.{Record}
 use Rattle.semantics.specs.Graph.{Graph}
@@ -31,7 +31,7 @@ open_rises (y ∷ ys) zero x e (suc j) = omega arith
 open_rises (y ∷ ys) (suc i) x e zero = omega arith
 open_rises (y ∷ ys) (suc i) x e (suc j) = open_rises ys i x e j
 
--- one input less is open
+-- closing an open input leaves one fewer open
 pub one_closed : (xs : List InputShown) (i : ℕ) → i < length xs → (slice_index_or xs i no_input).closed ≡ false → open_count (slice_set xs i (record (slice_index_or xs i no_input) { closed = true })) + 1 ≡ open_count xs
 one_closed [] i l e = absurd (omega (arith, l))
 one_closed (x ∷ xs) zero l e = order (open_bit x.closed) (open_count xs) (ap open_bit e)
@@ -43,13 +43,13 @@ one_closed (x ∷ xs) zero l e = order (open_bit x.closed) (open_count xs) (ap o
     order a n h = omega (arith, h)
 one_closed (x ∷ xs) (suc i) l e = let rest = one_closed xs i (omega (arith, l)) e in omega (arith, rest)
 
--- as many are open as before
+-- other changes leave as many inputs open
 pub as_open : (xs : List InputShown) (i : ℕ) (x : InputShown) → x.closed ≡ (slice_index_or xs i no_input).closed → open_count (slice_set xs i x) ≡ open_count xs
 as_open [] i x e = refl
 as_open (y ∷ ys) zero x e = ap (λ b. cond b 0 1 + open_count ys) e
 as_open (y ∷ ys) (suc i) x e = ap (λ n. cond y.closed 0 1 + n) (as_open ys i x e)
 
--- no more inputs are open than there are
+-- there are at most as many open inputs as inputs
 pub few_open : (xs : List InputShown) → open_count xs ≤ length xs
 few_open [] = omega arith
 few_open (x ∷ xs) = by x.closed (few_open xs)
@@ -58,7 +58,7 @@ few_open (x ∷ xs) = by x.closed (few_open xs)
     by true h = omega (arith, h)
     by false h = omega (arith, h)
 
--- the same by other views of the same
+-- the same for equal views
 pub kept_same : (graph graph' : Graph) (content content' : Pointstamp → ℕ) (s : Shown) → IsKept graph content s → graph' ≡ graph → ((q : Pointstamp) → content' q ≡ content q) → IsKept graph' content' s
 kept_same graph graph' content content' s kept g c =
     let e : content' ≡ content = λ i q. c q i in
@@ -67,7 +67,7 @@ kept_same graph graph' content content' s kept g c =
     subst B (sym e) (subst C (sym g) kept)
 
 module _ (graph : Graph) (viewers : ℕ) (content : Pointstamp → ℕ) (waiting : Waiting) (room : ℕ) (late : Bool) (passed : ℕ) (s : Shown) (keeps : Keeps graph viewers content waiting room late passed s) (t : Shown) where
-  -- of a refusal
+  -- after a refusal
   pub keeps_same : (graph' : Graph) (viewers' : ℕ) (content' : Pointstamp → ℕ) (waiting' : Waiting) (room' : ℕ) → graph' ≡ graph → viewers' ≡ viewers → ((q : Pointstamp) → content' q ≡ content q)
       → ((w k : ℕ) → waiting' w k ≡ waiting w k) → room ≤ room' → t ≡ s → Keeps graph' viewers' content' waiting' room' late passed t
   keeps_same graph' viewers' content' waiting' room' g v c w r e =
@@ -88,7 +88,7 @@ module _ (graph : Graph) (viewers : ℕ) (content : Pointstamp → ℕ) (waiting
       } in
       subst A (sym e) (subst B (sym content_is) (subst C (sym g) (subst D (sym v) (subst E (sym waiting_is) more))))
 
-  -- of a step that changes no input, and posts nothing
+  -- after a step that changes no input and posts nothing
   keeps_beside : (step : Step) → Goes s step t → t.inputs ≡ s.inputs → IsKept graph content t → Keeps graph viewers content waiting room late passed t
   keeps_beside step goes inputs kept = record {
     kept = kept;
@@ -99,7 +99,7 @@ module _ (graph : Graph) (viewers : ℕ) (content : Pointstamp → ℕ) (waiting
     passed_most = most_same graph (IsSeenBy content waiting viewers 0) s t inputs goes.graph passed keeps.passed_most;
   }
 
-  -- of what is handed out
+  -- after an event is handed out
   module _ (k : ℕ) (there : k < length s.sides) (free : (side_at s k).place ≡ Home) (runs : s.stopped ≡ false) (at : ℕ) (p : Pass) where
     pub keeps_message : HandsMessage s t k at p → Keeps graph viewers content waiting room late passed t
     keeps_message h =
@@ -113,14 +113,14 @@ module _ (graph : Graph) (viewers : ℕ) (content : Pointstamp → ℕ) (waiting
         let hands = hands_request graph content s keeps.kept k there free runs t at p h front in
         keeps_beside hands.taken hands.goes (ap (λ (z : Shown). z.inputs) h.state) kept
 
-  -- of an event that is given up
+  -- after an event is abandoned
   pub keeps_abandon : (k : ℕ) → k < length s.sides → (j : Job) → (side_at s k).place ≡ Out j → t ≡ after_abandon s k j → Keeps graph viewers content waiting room late passed t
   keeps_abandon k there j out e =
       let kept : IsKept graph content t = subst (IsKept graph content) (sym e) (abandon_kept s k there j out graph content keeps.kept) in
       let goes : Goes s (Step.abandon k j.happening) t = subst (Goes s (Step.abandon k j.happening)) (sym e) (abandon_goes s k there j out) in
       keeps_beside (Step.abandon k j.happening) goes (ap (λ (z : Shown). z.inputs) e) kept
 
-  -- what is asked after a feed, a seal, a close and a commit
+  -- what is known to have passed after a feed, a seal, a close and a commit
   pub fed_passed : (content' : Pointstamp → ℕ) (i : ℕ) (takes : (s.stopped ≡ false) × (i < length s.inputs) × ((input_at s i).closed ≡ false)) (batch : List Record)
       → 0 < length batch → HaveFields (arity_in s.graph i) batch → Feeds s t content content' i batch → HavePassed t passed
   fed_passed content' i takes batch some fields f =

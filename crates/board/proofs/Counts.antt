@@ -36,7 +36,7 @@ module _ (s : Shown) (flows : IsDataflow (shown_graph s.graph)) (some : 0 < leng
   sealed_there n (inl e) = inl e
   sealed_there n (inr (i, l, m)) = inr (i, l, (let a = is.open_epoch i in let b = is'.open_epoch i in omega (arith, m, a, b)))
 
--- what a step leaves
+-- what a step leaves of it
 module _ (graph : Graph) (content : Pointstamp → ℕ) (s : Shown) (kept : IsKept graph content s) (step : Step) (t : Shown) (goes : Goes s step t) where
   flows_then : IsDataflow (shown_graph t.graph)
   flows_then = subst (λ (g : GraphValue). IsDataflow (shown_graph g)) (sym goes.graph) kept.flows
@@ -50,7 +50,7 @@ module _ (graph : Graph) (content : Pointstamp → ℕ) (s : Shown) (kept : IsKe
   shown_then : Shows t (after_step (net s) kept.world step)
   shown_then = (goes.step kept.world kept.shows).1
 
-  -- of a network as the first: as the second
+  -- what holds of the first network holds of the second
   onto : (P : (g : Graph) (workers : ℕ) → Type 0) → P (shown_graph s.graph) (length s.sides) → P (shown_graph t.graph) (length t.sides)
   onto P h =
       let A : GraphValue → Type 0 = λ g. P (shown_graph g) (length s.sides) in
@@ -89,11 +89,11 @@ module _ (graph : Graph) (content : Pointstamp → ℕ) (s : Shown) (kept : IsKe
       let c = have kept.world kept.shows in
       (sealed_then w is rises n c.0, λ v e r l. stays w is v e (c.1 v e (back (λ g k. role (vertex g v).kind ≡ Role.output) r) l))
 
--- at the opening none has
+-- no epoch has passed at the opening
 pub have_new : (s : Shown) → HavePassed s 0
 have_new s w is = (inl refl, λ v e r l. absurd (omega (arith, l)))
 
--- and no input is sealed
+-- no input is sealed at the opening
 pub most_new : (graph : Graph) (these : Pointstamp → Type 0) (s : Shown) → ((i : ℕ) → input_at s i ≡ no_input) → IsMostSeen graph these s 0
 most_new graph these s unfed m most = (omega arith, λ l. absurd (none_sealed most.some l))
   where
@@ -101,7 +101,7 @@ most_new graph these s unfed m most = (omega arith, λ l. absurd (none_sealed mo
     none_sealed (inl e) l = omega (arith, e, l)
     none_sealed (inr (i, k, e)) l = let z = ap (λ (x : InputShown). x.open_epoch) (unfed i) in omega (arith, e, z, l)
 
--- where no input is sealed, what is seen stays so
+-- while no input is sealed, what is seen stays the same
 pub most_same : (graph : Graph) (these : Pointstamp → Type 0) (s t : Shown) → t.inputs ≡ s.inputs → t.graph ≡ s.graph → (n : ℕ) → IsMostSeen graph these s n → IsMostSeen graph these t n
 most_same graph these s t inputs same n most m seals =
     let O : List InputShown → Type 0 = λ xs. (m ≡ 0) ⊎ ((i : ℕ) × (i < length xs) × ((slice_index_or xs i no_input).open_epoch ≡ m)) in
@@ -110,7 +110,7 @@ most_same graph these s t inputs same n most m seals =
     let N : GraphValue → Type 0 = λ g. (k : ℕ) → k < length (output_numbers (shown_graph g)) → NoneOf (CouldResultIn graph) these (at_vertex (output_number (shown_graph g) k) (at_epoch n)) in
     ((most m before).0, λ l none. (most m before).1 l (subst N same none))
 
--- the number is one, and each epoch below it has passed
+-- the number is unique, and each epoch below it has passed
 module _ (graph : Graph) (content : Pointstamp → ℕ) (s : Shown) (kept : IsKept graph content s) where
   pub one_count : (m n : ℕ) → CountsPassed s m → CountsPassed s n → m ≡ n
   one_count m n a b =

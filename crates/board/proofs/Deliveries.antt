@@ -9,7 +9,7 @@ use Rattle.board.specs.Steps.{with_mail, delivered}
 use Rattle.board.proofs.Mails.{sent_to_other}
 use Rattle.board.proofs.Places.{index_set_here, index_set_other}
 
--- with these messages behind the others
+-- a side with these messages appended to its mail
 abbrev pub with_all : Side → List Message → Side
 with_all x ms = record x { mail = x.mail ++ ms }
 

@@ -73,14 +73,14 @@ joined_cond : (t : Bool) (b : List Record) → joined (cond t (b ∷ []) []) ≡
 joined_cond true b = append-nil b
 joined_cond false b = refl
 
--- with a batch more at an epoch
+-- the records with one more batch at an epoch
 pub records_more : (e : ℕ) (b : List Record) (es : Epochs) (n : ℕ) → records_at (more_at e (b ∷ []) es) n ≡ records_at es n ++ cond (e == n) b []
 records_more e b es n =
     ap joined (at_more e n (b ∷ []) es)
     ∙ joined_append (slice_index_or es n []) (cond (is e n) (b ∷ []) [])
     ∙ ap (λ l. records_at es n ++ l) (joined_cond (is e n) b ∙ ap (λ t. cond t b []) (is_eqb e n))
 
--- with a batch more of a vertex, if there is one
+-- the records with one more batch of a vertex, if there is one
 pub records_with : (v0 e : ℕ) (o : Option (List Record)) (es : List Epochs) → v0 < length es → (v n : ℕ)
     → records_at (emitted_by (with_emitted v0 e o es) v) n ≡ records_at (emitted_by es v) n ++ cond (v0 == v) (cond (e == n) (records_of o) []) []
 records_with v0 e None es l v n = sym (ap (λ x. records_at (emitted_by es v) n ++ cond (v0 == v) x []) (cond_same (e == n) []) ∙ ap (λ x. records_at (emitted_by es v) n ++ x) (cond_same (v0 == v) []) ∙ append-nil (records_at (emitted_by es v) n))

@@ -39,14 +39,14 @@ cond_some false r e = absurd cc
 lt_true : (m n : ℕ) → nat_lt m n ≡ true → m < n
 lt_true m n e = grind arith
 
--- an input that isn't refused is there and open, and the board runs
+-- if an input isn't refused, it exists and is open, and the board runs
 pub open_tells : (s : Shown) (i : ℕ) → input_refusal s i ≡ None → (s.stopped ≡ false) × (i < length s.inputs) × ((input_at s i).closed ≡ false)
 open_tells s i e =
     let a = first_none (cond s.stopped (Some refusal.Stopped) None) (first (cond (nat_lt i (length s.inputs)) None (Some refusal.UnknownInput)) (cond (input_at s i).closed (Some refusal.InputClosed) None)) e in
     let b = first_none (cond (nat_lt i (length s.inputs)) None (Some refusal.UnknownInput)) (cond (input_at s i).closed (Some refusal.InputClosed) None) a.1 in
     (cond_none s.stopped refusal.Stopped a.0, lt_true i (length s.inputs) (cond_some (nat_lt i (length s.inputs)) refusal.UnknownInput b.0), cond_none (input_at s i).closed refusal.InputClosed b.1)
 
--- a feed that isn't refused comes to such an input, and has its number of fields
+-- if a feed isn't refused, its input is such, and the batch has the input's number of fields
 pub feed_tells : (s : Shown) (i : ℕ) (batch : List Record) → feed_refusal s i batch ≡ None → (input_refusal s i ≡ None) × (arity_of batch ≡ arity_in s.graph i)
 feed_tells s i batch e =
     let a = first_none (input_refusal s i) (cond (arity_of batch == arity_in s.graph i) None (Some refusal.WrongFieldCount)) e in

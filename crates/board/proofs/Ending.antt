@@ -1,4 +1,4 @@
--- From what the code of a commit has at hand to what it promises.
+-- From what the code of a commit knows to what it promises.
 use Rattle.std.proofs.Common.{◌≡◌, ◌<◌, ◌+◌, ℕ, List, length, refl, sym, ap, ◌∙◌, subst, arith, slice_set, slice_index_or, length-set}
 use Rattle.atomic_table.specs.Seated.{TableId}
 use Rattle.semantics.specs.Multiset.{total}
@@ -49,7 +49,7 @@ module _ (s : Shown) (p : Pass) (own : IsOf s p) (ds : List Desk) (k : ℕ) (at 
   pub own_table : (t : TableId) → t ≡ p.table → t ≡ (side_in (sides_of ds) k).table
   own_table t e = e ∙ sym (own_side s p own).1 ∙ sym (ap (λ (x : Side). x.table) side_there)
 
--- what the code leaves is what the definition names
+-- what the code leaves is what the definition describes
 pub state_then : (s t : Shown) (p : Pass) (o o' : Output) (k v e : ℕ) (xs : List Side) → t.graph ≡ s.graph → t.inputs ≡ s.inputs → t.stopped ≡ s.stopped
     → t.sides ≡ delivered (slice_set xs k (settled (side_in xs k) v o'.shard.value o'.asked)) o'.sent.items → t.emitted ≡ with_emitted v e o.emitted s.emitted
     → xs ≡ s.sides → k ≡ p.worker → v ≡ event_at (shown_graph s.graph) p.job.happening → e ≡ (event_time p.job.happening).epoch → record o' { emitted = o.emitted } ≡ o

@@ -34,7 +34,7 @@ use Rattle.board.proofs.Keeping.{kept_more}
 use Rattle.board.proofs.Mails.{by_workers}
 use Rattle.board.proofs.Places.{same_set, index_set_here, index_set_other}
 
--- the function of epochs, with more at one
+-- the function by epoch, with more at one epoch
 put_more : (f : ℕ → List Record) (e : ℕ) (rs : List Record) (n : ℕ) → put f e (f e ++ rs) n ≡ f n ++ cond (e == n) rs []
 put_more f e rs n = go (eqb_tells n e) (eqb_tells e n)
   where
@@ -184,7 +184,7 @@ accepted s i batch e some each =
       fields = subst (λ (n : ℕ). HaveFields n batch) tells.1 (fields_of (arity_of batch) batch each);
     }
 
--- what a feed makes
+-- what a feed leaves
 module _ (graph graph' : Graph) (content content' : Pointstamp → ℕ) (s t : Shown) (kept : IsKept graph content s) (i : ℕ) (takes : (s.stopped ≡ false) × (i < length s.inputs) × ((input_at s i).closed ≡ false))
     (batch : List Record) (some : 0 < length batch) (fields : HaveFields (arity_in s.graph i) batch) where
   pub feeds_kept : Feeds s t content content' i batch → graph' ≡ graph → IsKept graph' content' t

@@ -1,4 +1,4 @@
--- Going through requests.
+-- A scan through requests.
 use Rattle.std.proofs.Common.{◌≡◌, ◌≢◌, ◌⊎◌, inl, inr, ◌<◌, ◌+◌, ◌++◌, ℕ, zero, suc, ◌==◌, true, false, List, [], ◌∷◌, length, sym, ◌∙◌, ap, subst, arith, slice_get, slice_index_or, Some, Result, Ok, Err, OnOk, OnErr}
 use Rattle.std.proofs.lemmas.Bool.Decides.{eqb_tells}
 use Rattle.machine.specs.World.{Request}
@@ -18,7 +18,7 @@ below_next n m l = go (eqb_tells n m)
     go (inl (t, q)) = inr q
     go (inr (t, q)) = inl (omega (arith, l, q))
 
--- one place more
+-- one more place is scanned
 pub blocked_next : (P : Request → Type 0) (rs : List Request) (place : ℕ) (r : Request) → slice_get rs place ≡ Some r → (P r → ⊥)
     → ((at : ℕ) (x : Request) → at < place → slice_get rs at ≡ Some x → P x → ⊥) → (at : ℕ) (x : Request) → at < place + 1 → slice_get rs at ≡ Some x → P x → ⊥
 blocked_next P rs place r got apart before at x l e h = go (below_next at place l)
@@ -30,7 +30,7 @@ blocked_next P rs place r got apart before at x l e h = go (below_next at place 
         let same : x ≡ r = cc in
         apart (subst P same h)
 
--- A request that may not be delivered hinders each at or after it at its vertex, so that these need no asking.
+-- A request that may not be delivered blocks each request of its vertex at or after it, so the views needn't be asked about those.
 pub blocked_behind : (g : Graph) → IsDataflow g → (these : Pointstamp → Type 0) (r r' : Request) → r.vertex ≡ r'.vertex → IsAtMost r.time r'.time
     → IsTimeAt g (Location.vertex r.vertex) r.time → IsTimeAt g (Location.vertex r'.vertex) r'.time
     → (IsDeliverable g these r → ⊥) → IsDeliverable g these r' → ⊥
@@ -43,7 +43,7 @@ blocked_behind g flows these r r' e order fits fits' blocked none =
     let back : CouldResultIn g p' p = subst (λ (x : Pointstamp). CouldResultIn g x p) here a in
     here ∙ sym (could_once g flows p p' c back))
 
--- behind a blocked one
+-- a request behind a blocked one is blocked
 module _ (g : Graph) (flows : IsDataflow g) (these : Pointstamp → Type 0) (rs : List Request) (known : (at : ℕ) (r : Request) → slice_get rs at ≡ Some r → IsTimeAt g (Location.vertex r.vertex) r.time) where
   pub stands_blocked : (place : ℕ) (b : IsBlocked g these rs place) (at : ℕ) (r : Request) → slice_get rs at ≡ Some r → StandsBefore rs r place → IsDeliverable g these r → ⊥
   stands_blocked place b at r got before =
@@ -54,14 +54,14 @@ module _ (g : Graph) (flows : IsDataflow g) (these : Pointstamp → Type 0) (rs 
   pub blocked_place : (place : ℕ) → IsBlocked g these rs place → place < length rs
   blocked_place place b = (get_index rs place b.request b.request b.there).0
 
--- one number more, of which the same holds
+-- one more number of which the same holds
 pub each_push : (P : ℕ → Type 0) (xs : List ℕ) (x : ℕ) → ((i : ℕ) → i < length xs → P (slice_index_or xs i 0)) → P x → (i : ℕ) → i < length (xs ++ x ∷ []) → P (slice_index_or (xs ++ x ∷ []) i 0)
 each_push P [] x all here zero l = here
 each_push P [] x all here (suc i) l = absurd (omega (arith, l))
 each_push P (y ∷ ys) x all here zero l = all 0 (omega arith)
 each_push P (y ∷ ys) x all here (suc i) l = each_push P ys x (λ j lj. all (suc j) (omega (arith, lj))) here i (omega (arith, l))
 
--- where it was put, or there was no room
+-- the same whether the number was appended or there was no room
 pub each_pushed : {T E : Type 0} (P : ℕ → Type 0) (xs ys : List ℕ) (x : ℕ) (r : Result T E) → OnOk r (ys ≡ xs ++ x ∷ []) → OnErr r (ys ≡ xs)
     → ((i : ℕ) → i < length xs → P (slice_index_or xs i 0)) → P x → (i : ℕ) → i < length ys → P (slice_index_or ys i 0)
 each_pushed P xs ys x (Ok _) ok err all here =

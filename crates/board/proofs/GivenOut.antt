@@ -32,7 +32,7 @@ table_at [] k t l e = absurd (omega arith)
 table_at (x ∷ xs) zero t l e = ap Some e
 table_at (x ∷ xs) (suc k) t l e = table_at xs k t (omega arith) e
 
--- one event alone is out
+-- two events that are out at one worker are the same
 out_one : (i j : Job) → Out i ≡ Out j → i ≡ j
 out_one i j e = cc
 
@@ -175,7 +175,7 @@ module _ (graph : Graph) (content : Pointstamp → ℕ) (s : Shown) (kept : IsKe
           let x : Side = out_with (record (side_at s k) { requests = remove (side_at s k).requests at }) (event_at (shown_graph s.graph) p.job.happening) p.job in
           ap tables h.state ∙ same_names s.sides k x refl
 
-  -- where there is no message, and no request may be delivered, the worker has no choice
+  -- a worker with no message and no deliverable request has no choice
   pub no_choice : length (side_at s k).mail ≡ 0
       → ((at : ℕ) (r : Request) → slice_get (side_at s k).requests at ≡ Some r → NoOtherOf (CouldResultIn graph) (λ q. 0 < content q) (request_pointstamp r) → ⊥) → HasNoChoice s k
   no_choice empty blocked w (Step.claim_message i at m) shows ok by =

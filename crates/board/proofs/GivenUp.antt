@@ -1,4 +1,4 @@
--- Giving an event up is one step, and keeps what a board keeps.
+-- Abandoning an event is one step, and keeps what a board keeps.
 use Rattle.std.proofs.Common.{◌≡◌, ◌<◌, ℕ, true, length, refl, ap, ◌∙◌, subst, arith, slice_set, slice_index_or, Option, Some, None, length-set}
 use Rattle.semantics.specs.Graph.{Graph}
 use Rattle.semantics.specs.Could.{Pointstamp}

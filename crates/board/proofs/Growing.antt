@@ -7,19 +7,19 @@ use Rattle.events.specs.Wired.{Wired}
 use Rattle.graph.specs.Shown.{GraphValue}
 use Rattle.vertices.specs.declared.shard.Shard.{Shard}
 
--- where nothing is, there is what stands beyond the last
+-- an empty list has the default everywhere
 pub nothing_there : {X : Type 0} (d : X) (i : ℕ) → slice_index_or [] i d ≡ d
 nothing_there d zero = refl
 nothing_there d (suc i) = refl
 
--- all elements are d, and one more
+-- if all elements are d, they still are with one more d
 pub all_same_more : {X : Type 0} (xs : List X) (d : X) → ((i : ℕ) → slice_index_or xs i d ≡ d) → (i : ℕ) → slice_index_or (xs ++ (d ∷ [])) i d ≡ d
 all_same_more [] d h zero = refl
 all_same_more [] d h (suc i) = nothing_there d i
 all_same_more (x ∷ xs) d h zero = h zero
 all_same_more (x ∷ xs) d h (suc i) = all_same_more xs d (λ k. h (suc k)) i
 
--- what holds of each element by its place, and one more
+-- what holds of each element by its place, and of one more
 pub each_more : {X : Type 0} (d : X) (P : ℕ → X → Type 0) (xs : List X) (x : X) → ((k : ℕ) → k < length xs → P k (slice_index_or xs k d)) → P (length xs) x
     → (k : ℕ) → k < length xs + 1 → P k (slice_index_or (xs ++ (x ∷ [])) k d)
 each_more d P [] x all here zero l = here

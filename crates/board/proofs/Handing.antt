@@ -1,4 +1,4 @@
--- From what the code of a claim has at hand to what it promises.
+-- From what the code of a claim knows to what it promises.
 use Rattle.std.proofs.Common.{◌≡◌, ◌<◌, ℕ, List, length, refl, sym, ap, ◌∙◌, subst, arith, slice_get, slice_set, slice_index_or, remove, Some, None}
 use Rattle.graph.specs.Shown.{shown_graph}
 use Rattle.machine.specs.World.{Message, Request, Event}

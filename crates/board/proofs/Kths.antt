@@ -1,4 +1,4 @@
--- The k-th of those elements of which something holds.
+-- The k-th of the elements of which P holds.
 use Rattle.std.proofs.Common.{◌≡◌, inl, inr, ◌≤◌, ◌+◌, ℕ, zero, suc, List, [], ◌∷◌, length, refl, sym, ap, subst, arith, slice_get, Some, drop}
 use Rattle.machine.specs.Choices.{Kth}
 
@@ -13,13 +13,13 @@ drop_all [] (suc i) l = refl
 drop_all (y ∷ ys) zero l = absurd (omega arith)
 drop_all (y ∷ ys) (suc i) l = drop_all ys i (omega arith)
 
--- where P holds of the first, the others are one behind
+-- where P holds of the first, the numbers of the others are one lower behind it
 after_one : {X : Type 0} (P : X → Type 0) (x : X) (ys : List X) (left a : ℕ) → P x → Kth P (x ∷ ys) (suc left) a → (b : ℕ) × (a ≡ suc b) × Kth P ys left b
 after_one P x ys left zero here h = absurd h
 after_one P x ys left (suc b) here (inl h) = (b, refl, h.1)
 after_one P x ys left (suc b) here (inr h) = absurd (h.0 here)
 
--- where it doesn't, the first is none of them
+-- where P doesn't hold of the first, the numbers stay
 after_none : {X : Type 0} (P : X → Type 0) (x : X) (ys : List X) (left a : ℕ) → (P x → ⊥) → Kth P (x ∷ ys) left a → (b : ℕ) × (a ≡ suc b) × Kth P ys left b
 after_none P x ys zero zero not h = absurd (not h)
 after_none P x ys zero (suc b) not h = (b, refl, h.1)
@@ -31,7 +31,7 @@ before_none : {X : Type 0} (P : X → Type 0) (x : X) (ys : List X) (left b : �
 before_none P x ys zero b not h = (not, h)
 before_none P x ys (suc left) b not h = inr (not, h)
 
--- the k-th of all is the one at `left` of those from `place` on
+-- the k-th of all is the `left`-th of those from `place` on
 pub record Remains {X : Type 0} (P : X → Type 0) (xs : List X) (k place left : ℕ) : Type 0 where
   pub onto : (a : ℕ) → Kth P (drop place xs) left a → Kth P xs k (place + a)
   pub back : (at : ℕ) → Kth P xs k at → (a : ℕ) × (at ≡ place + a) × Kth P (drop place xs) left a
@@ -50,7 +50,7 @@ module _ {X : Type 0} (P : X → Type 0) (xs : List X) (k : ℕ) where
       as_cons : (n a : ℕ) → Kth P (drop place xs) n a → Kth P (x ∷ drop (suc place) xs) n a
       as_cons n a h = let A : List X → Type 0 = λ ys. Kth P ys n a in subst A (drop_here xs place x got) h
 
-      -- it is this one
+      -- the k-th is this one
       pub remain_here : P x → left ≡ 0 → Kth P xs k place
       remain_here here last =
           let A : ℕ → Type 0 = λ n. Kth P xs k n in
@@ -85,14 +85,14 @@ module _ {X : Type 0} (P : X → Type 0) (xs : List X) (k : ℕ) where
                 (o.0, (let f : at ≡ place + r.0 = r.1 in let f' : r.0 ≡ suc o.0 = o.1 in omega (arith, f, f')), o.2);
           })
 
-    -- behind the last there is none
+    -- there is none behind the last
     pub remain_end : length xs ≤ place → (at : ℕ) → Kth P xs k at → ⊥
     remain_end l at h =
         let r = remain.back at h in
         let A : List X → Type 0 = λ ys. Kth P ys left r.0 in
         subst A (drop_all xs place l) r.2
 
--- the k-th stands in the list
+-- the k-th is in the list
 pub kth_there : {X : Type 0} (P : X → Type 0) (xs : List X) (k at : ℕ) → Kth P xs k at → (x : X) × (slice_get xs at ≡ Some x) × P x
 kth_there P [] k at h = absurd h
 kth_there P (x ∷ xs) zero zero h = (x, refl, h)
@@ -101,7 +101,7 @@ kth_there P (x ∷ xs) zero (suc at) h = kth_there P xs zero at h.1
 kth_there P (x ∷ xs) (suc k) (suc at) (inl h) = kth_there P xs k at h.1
 kth_there P (x ∷ xs) (suc k) (suc at) (inr h) = kth_there P xs (suc k) at h.1
 
--- of what holds of the same elements
+-- the same for two properties that hold of the same elements
 pub kth_same : {X : Type 0} (P Q : X → Type 0) → ((x : X) → P x → Q x) → ((x : X) → Q x → P x) → (xs : List X) (k at : ℕ) → Kth P xs k at → Kth Q xs k at
 kth_same P Q to from [] k at h = absurd h
 kth_same P Q to from (x ∷ xs) zero zero h = to x h

@@ -1,4 +1,4 @@
--- How many batches wait, by the views.
+-- The numbers of waiting batches, by the views.
 use Rattle.std.proofs.Common.{◌≡◌, ◌≢◌, ◌⊎◌, inl, inr, ◌<◌, ◌≤◌, ◌+◌, ℕ, zero, suc, ◌==◌, Bool, true, false, cond, nat_lt, List, [], ◌∷◌, ◌++◌, length, refl, sym, ap, ◌∙◌, subst, arith, slice_index_or}
 use Rattle.std.proofs.lemmas.Bool.Decides.{eqb_tells}
 use Rattle.semantics.specs.Could.{Pointstamp}
@@ -62,7 +62,7 @@ module _ (s : Shown) (n : ℕ) (waiting : Waiting) (passed : ℕ) where
   pub none_waits : (w : ℕ) → w < n → IsUpToDate (board_of s n waiting passed) w → (k : ℕ) → k < suc n → waiting w k ≡ []
   none_waits w lw up k lk = nothing_long (waiting w k) (sym (waits_at w k lw lk) ∙ up k)
 
-  -- against other views
+  -- compared with other views
   module _ (t : Shown) (waiting' : Waiting) (passed' : ℕ) where
     pub waits_same : (w k : ℕ) → (w < n → k < suc n → waiting' w k ≡ waiting w k) → waits_for (board_of t n waiting' passed') w k ≡ waits_for (board_of s n waiting passed) w k
     waits_same w k same = go (or_past w n) (or_past k (suc n))
@@ -102,7 +102,7 @@ module _ (s : Shown) (n : ℕ) (waiting : Waiting) (passed : ℕ) where
         longer true = if_same (k == by)
         longer false = omega arith
 
--- the same that waits is the same number
+-- the same batches give the same number
 pub counts_same : (n n' : ℕ) (waiting waiting' : Waiting) → n' ≡ n → ((w k : ℕ) → waiting' w k ≡ waiting w k) → counts_of n' waiting' ≡ counts_of n waiting
 counts_same n n' waiting waiting' e same = λ i. counts_of (e i) (λ w k. same w k i)
 
@@ -110,13 +110,13 @@ pub firsts_same : {A : Type 0} (n : ℕ) (f f' : ℕ → A) → ((k : ℕ) → k
 firsts_same zero f f' same = refl
 firsts_same (suc n) f f' same = λ i. same 0 (omega arith) i ∷ firsts_same n (λ k. f (suc k)) (λ k. f' (suc k)) (λ k l. same (suc k) (omega (arith, l))) i
 
--- the same below the number of workers
+-- the same if they agree below the number of workers
 pub counts_alike : (n : ℕ) (waiting waiting' : Waiting) → ((w k : ℕ) → w < n → waiting' w k ≡ waiting w k) → counts_of n waiting' ≡ counts_of n waiting
 counts_alike n waiting waiting' same =
     firsts_same n (λ w. first_of (suc n) (λ k. length (waiting w k))) (λ w. first_of (suc n) (λ k. length (waiting' w k)))
     (λ w lw. firsts_same (suc n) (λ k. length (waiting w k)) (λ k. length (waiting' w k)) (λ k lk. ap length (same w k lw)))
 
--- sums from the front
+-- a sum taken from the front
 below_front : (n : ℕ) (f : ℕ → ℕ) → sum_below (suc n) f ≡ f 0 + sum_below n (λ k. f (suc k))
 below_front zero f = omega arith
 below_front (suc n) f = let e = below_front n f in omega (arith, e)
@@ -130,7 +130,7 @@ all_wait s n waiting passed =
     sym (total_first (λ (ns : List ℕ). total (λ k. k) ns) n (λ w. first_of (suc n) (λ k. length (waiting w k)))
     ∙ below_same n _ _ (λ w l. total_first (λ k. k) (suc n) (λ k. length (waiting w k))))
 
--- ---- what a post leaves waiting
+-- ---- what waits after a post
 
 more_than_none : (m : ℕ) → 0 < m → nat_lt 0 m ≡ true
 more_than_none m l = grind arith
@@ -148,13 +148,13 @@ posted_some late middle old new b m n some same after w k l =
     let e : middle ≡ old = λ i x y. same x y i in
     after w k l ∙ ap (λ t. cond t (after_post late middle b w k) (middle w k)) (more_than_none m some) ∙ ap (λ (f : Waiting). after_post late f b w k) e
 
--- what is prompt stays so
+-- views that aren't late stay so
 pub posted_prompt : (late : Bool) (middle old new : Waiting) (b : Changes) (m n : ℕ) → ((w k : ℕ) → middle w k ≡ old w k)
     → ((w k : ℕ) → w < n → new w k ≡ cond (nat_lt 0 m) (after_post late middle b w k) (middle w k))
     → (late ≡ false → (w k : ℕ) → w < n → k < suc n → old w k ≡ []) → late ≡ false → (w k : ℕ) → w < n → k < suc n → new w k ≡ []
 posted_prompt late middle old new b m n same after prompt e w k l lk = after w k l ∙ prompt_after late e (nat_lt 0 m) middle b w k ∙ same w k ∙ prompt e w k l lk
 
--- nothing that wasn't there waits once all that waited for a worker is applied
+-- applying everything for a worker makes nothing else wait
 pub caught_prompt : (n worker : ℕ) (old new : Waiting) → ((k : ℕ) → k < n + 1 → new worker k ≡ []) → ((w k : ℕ) → (w ≡ worker → ⊥) → new w k ≡ old w k)
     → ((w k : ℕ) → w < n → k < suc n → old w k ≡ []) → (w k : ℕ) → w < n → k < suc n → new w k ≡ []
 caught_prompt n worker old new none others prompt w k lw lk = go (eqb_tells w worker)
@@ -168,7 +168,7 @@ pub caught_fewer : (s : Shown) (n worker : ℕ) (old new : Waiting) (passed pass
     → waits_for (board_of s n new passed') worker k ≤ waits_for (board_of s n old passed) worker k
 caught_fewer s n worker old new passed passed' l none k = let e = up_to_date s n new passed' worker (λ j lw lk. none j (omega (arith, lk))) k in omega (arith, e)
 
--- by what waits, what one application leaves
+-- what one application leaves, in terms of what waits
 pub applied_one : (s : Shown) (n : ℕ) (old new : Waiting) (passed passed' : ℕ) (w k : ℕ) → w < n → k < suc n → IsApplied w k old new true
     → waits_for (board_of s n old passed) w k ≡ suc (waits_for (board_of s n new passed') w k)
 applied_one s n old new passed passed' w k lw lk (IsApplied.took b e) =
@@ -177,7 +177,7 @@ applied_one s n old new passed passed' w k lw lk (IsApplied.took b e) =
 pub applied_none : (s : Shown) (n : ℕ) (old new : Waiting) (passed : ℕ) (w k : ℕ) → w < n → k < suc n → IsApplied w k old new false → waits_for (board_of s n old passed) w k ≡ 0
 applied_none s n old new passed w k lw lk (IsApplied.none e f) = waits_at s n old passed w k lw lk ∙ ap length e
 
--- where none was applied, all waits as before
+-- where none was applied, everything waits as before
 pub applied_nothing : (worker sender : ℕ) (old new : Waiting) → IsApplied worker sender old new false → ((w k : ℕ) → (w ≡ worker → k ≡ sender → ⊥) → new w k ≡ old w k) → (w k : ℕ) → new w k ≡ old w k
 applied_nothing worker sender old new (IsApplied.none e f) others w k = go (eqb_tells w worker) (eqb_tells k sender)
   where
@@ -186,14 +186,14 @@ applied_nothing worker sender old new (IsApplied.none e f) others w k = go (eqb_
     go (inl (t, a)) (inr (u, b)) = others w k (λ x y. b y)
     go (inr (t, a)) r = others w k (λ x y. a x)
 
--- none is applied where nothing waits
+-- a batch is applied only where one waits
 pub applied_some : (worker sender : ℕ) (old new : Waiting) → IsApplied worker sender old new true → old worker sender ≡ [] → ⊥
 applied_some worker sender old new (IsApplied.took b e) none = nothing (sym e ∙ none)
   where
     nothing : b ∷ new worker sender ≡ [] → ⊥
     nothing x = cc
 
--- what waits nowhere still doesn't after a batch was applied or none
+-- what doesn't wait still doesn't, whether a batch was applied or not
 pub none_still : (worker sender : ℕ) (old new : Waiting) (b : Bool) → IsApplied worker sender old new b → ((w k : ℕ) → (w ≡ worker → k ≡ sender → ⊥) → new w k ≡ old w k) → (w k : ℕ) → old w k ≡ [] → new w k ≡ []
 none_still worker sender old new b is others w k none = go (eqb_tells w worker) (eqb_tells k sender)
   where
@@ -206,7 +206,7 @@ none_still worker sender old new b is others w k none = go (eqb_tells w worker) 
     go (inl (t, a)) (inr (u, c)) = others w k (λ x y. c y) ∙ none
     go (inr (t, a)) r = others w k (λ x y. a x) ∙ none
 
--- a worker for whom the same waits sees no more than before
+-- a worker for which the same batches wait sees no more than before
 pub sees_same : (content content' : Pointstamp → ℕ) (old new : Waiting) (n w : ℕ) → ((q : Pointstamp) → content' q ≡ content q) → ((k : ℕ) → new w k ≡ old w k) → (q : Pointstamp) → IsSeenBy content' new n w q → IsSeenBy content old n w q
 sees_same content content' old new n w c same q seen =
     let row : new w ≡ old w = λ i k. same k i in

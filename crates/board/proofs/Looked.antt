@@ -14,7 +14,7 @@ use Rattle.board.specs.declared.look.OutputLook.{OutputLook}
 use Rattle.std.proofs.lemmas.Bool.Decides.{eqb_tells}
 use Rattle.board.specs.Promises.{IsOutputPlace, KeepsPromise, RunsProgram, emitted_at, meant_of}
 
--- what was fed to an input, among what was fed to each
+-- what was fed to one input, taken from what was fed to each
 pub fed_at : (is : List InputShown) (e i : ℕ) → slice_index_or (map (λ (x : InputShown). slice_index_or x.fed e []) is) i [] ≡ slice_index_or (slice_index_or is i no_input).fed e []
 fed_at [] e i = none i ∙ sym (none_fed i)
   where

@@ -1,4 +1,4 @@
--- Messages by the workers to whom they go.
+-- Messages by their target workers.
 use Rattle.std.proofs.Common.{◌≡◌, ◌≢◌, ℕ, zero, suc, ◌+◌, ◌<◌, ◌==◌, true, false, cond, List, [], ◌∷◌, refl, sym, ap, ◌∙◌, arith, slice_get, Some, ◌⊎◌, inl, inr}
 use Rattle.std.proofs.lemmas.Bool.Decides.{eqb_tells}
 use Rattle.semantics.specs.Multiset.{total}
@@ -19,7 +19,7 @@ sent_to_other to o os ne = go (eqb_tells o.to to)
     go (inl (t, q)) = absurd (ne q)
     go (inr (t, q)) = ap (λ b. cond b (o.message ∷ sent_to to os) (sent_to to os)) t
 
--- each is among those of its worker
+-- each message is among those of its worker
 pub at_worker : (os : List Letter) (i : ℕ) (o : Letter) → slice_get os i ≡ Some o → (at : ℕ) × (slice_get (sent_to o.to os) at ≡ Some o.message)
 at_worker [] i o e = absurd cc
 at_worker (p ∷ os) zero o e =
@@ -31,7 +31,7 @@ at_worker (p ∷ os) (suc i) o e = go (p.to == o.to) refl (at_worker os i o e)
     go true t r = (suc r.0, ap (λ b. slice_get (cond b (p.message ∷ sent_to o.to os) (sent_to o.to os)) (suc r.0)) t ∙ r.1)
     go false t r = (r.0, ap (λ b. slice_get (cond b (p.message ∷ sent_to o.to os) (sent_to o.to os)) r.0) t ∙ r.1)
 
--- the sum over all of them is the sum over the workers
+-- the sum over all messages is the sum over the workers
 pub by_workers : (n : ℕ) (f : Message → ℕ) (os : List Letter) → AllByRecursion (λ (l : Letter). l.to < n) os
     → sum_below n (λ to. total f (sent_to to os)) ≡ total (λ (o : Letter). f o.message) os
 by_workers n f [] there = below_zero n (λ to. 0) (λ k l. refl)

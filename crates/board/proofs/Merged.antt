@@ -33,7 +33,7 @@ pub granted : {T E P : Type 0} (r : Result T E) → is_err r ≡ false → OnOk 
 granted (Ok x) e p = p
 granted (Err y) e p = absurd cc
 
--- what the worker has done, as a step of the board's state
+-- what the worker has done is a step of the board's state
 module _ (s : Shown) (ds : List Desk) (same : sides_of ds ≡ s.sides) (k : ℕ) (there : k < length s.sides) (y d : Desk) (read : y ≡ slice_index_or ds k y) (t : Shown)
     (graph : t.graph ≡ s.graph) (inputs : t.inputs ≡ s.inputs) (emitted : t.emitted ≡ s.emitted) (stopped : t.stopped ≡ s.stopped) (sides : t.sides ≡ sides_of (slice_set ds k d))
     (rest : d.side ≡ record y.side { mail = d.side.mail }) where
@@ -102,7 +102,7 @@ module _ (s : Shown) (k : ℕ) (there : k < length s.sides) (free : (side_at s k
   pub merges : Merges s k at t
   merges = (h.merges.alike.first, h.merges.alike.second, merge_goes)
 
-  -- one pointstamp less is active
+  -- one fewer pointstamp is active
   pub merge_kept : (graph : Graph) (content : Pointstamp → ℕ) → IsKept graph content s → (graph' : Graph) (content' : Pointstamp → ℕ) → graph' ≡ graph
       → ((q : Pointstamp) → content' q + one_if_same q place ≡ content q) → IsKept graph' content' t
   unfolding x m n

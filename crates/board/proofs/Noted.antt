@@ -8,14 +8,14 @@ use Rattle.progress.specs.Content.{times_in}
 use Rattle.events.specs.declared.letter.Letter.{Letter}
 use Rattle.board.specs.Desks.{letters_count}
 
--- one pointstamp more at the end
+-- one more pointstamp at the end
 pub times_more : (ps qs : List Pointstamp) (p q : Pointstamp) → qs ≡ ps ++ (p ∷ []) → times_in qs q ≡ one_if_same q p + times_in ps q
 times_more ps qs p q e =
     let both = total-append (one_if_same q) ps (p ∷ []) in
     let same = ap (λ (l : List Pointstamp). times_in l q) e in
     omega arith
 
--- the first letters, and one more
+-- one more letter than the first i
 pub letters_more : (ls : List Letter) (i : ℕ) (o : Letter) (q : Pointstamp) → i < length ls → o ≡ slice_index_or ls i o
     → letters_count q (take (i + 1) ls) ≡ one_if_same q (message_pointstamp o.message) + letters_count q (take i ls)
 letters_more ls i o q l e =

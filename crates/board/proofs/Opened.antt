@@ -1,4 +1,4 @@
--- A new board keeps what a board keeps, and is as a new board is.
+-- A new board keeps what a board keeps, and is in the opening state.
 use Rattle.std.proofs.Common.{◌≡◌, ◌<◌, ◌≤◌, ℕ, [], length, sym, ◌∙◌, subst, arith, Option, Some, None, slice_index_or}
 use Rattle.semantics.specs.Graph.{Graph, input_count, vertex}
 use Rattle.semantics.specs.Could.{Pointstamp, at_vertex}

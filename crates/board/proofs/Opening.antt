@@ -1,4 +1,4 @@
--- The opening: a board that nothing was fed to keeps what a board keeps.
+-- The opening: a board to which nothing was fed keeps what a board keeps.
 use Rattle.std.proofs.Common.{◌≡◌, ◌<◌, ◌≤◌, ℕ, zero, suc, false, [], length, refl, sym, ap, ◌∙◌, arith}
 use Rattle.semantics.specs.Graph.{Graph, input_count}
 use Rattle.semantics.specs.Could.{Pointstamp, at_vertex}

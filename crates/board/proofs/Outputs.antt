@@ -1,4 +1,4 @@
--- The outputs of a graph, and what vertices have emitted when nothing was.
+-- The outputs of a graph, and what vertices have emitted at the opening.
 use Rattle.std.proofs.Common.{◌≡◌, ◌≤◌, ◌+◌, ℕ, zero, suc, Bool, true, false, cond, List, [], ◌∷◌, ◌++◌, length, refl, sym, ap, ◌∙◌, arith, length-append}
 use Rattle.semantics.specs.Graph.{Graph, Vertex, output_numbers, outputs_from}
 use Rattle.semantics.specs.Kinds.{is_output}
@@ -12,11 +12,11 @@ few_from k (x ∷ xs) = go (is_output x.kind) (few_from (suc k) xs)
     go true h = omega (arith, h)
     go false h = omega (arith, h)
 
--- a graph has no more outputs than vertices
+-- a graph has at most as many outputs as vertices
 pub few_outputs : (g : Graph) → length (output_numbers g) ≤ length g
 few_outputs g = few_from 0 g
 
--- so many vertices, and none of them has emitted anything
+-- there are `count` vertices, and none of them has emitted anything
 pub record AreSilent (es : List Epochs) (count : ℕ) : Type 0 where
   pub many : length es ≡ count
   pub none : (v : ℕ) → emitted_by es v ≡ []

@@ -18,7 +18,7 @@ use Rattle.board.specs.Seals.{AreOutputsIn, HavePassed, IsMostSeals, IsMostSeen,
 use Rattle.board.proofs.Counts.{passed_there}
 use Rattle.board.proofs.Worlds.{none, none_back}
 
--- one epoch more
+-- one more epoch
 pub passed_next : (P : ℕ → Type 0) (start n : ℕ) → P n → ((e : ℕ) → start ≤ e → e < n → P e) → (e : ℕ) → start ≤ e → e < n + 1 → P e
 passed_next P start n here before e l m = go (eqb_tells e n)
   where
@@ -104,7 +104,7 @@ module _ (graph : Graph) (content : Pointstamp → ℕ) (s : Shown) (kept : IsKe
         let m = most.most i (omega (arith, l, c)) in
         omega (arith, e, o, m)
 
-    -- From a number below which each epoch has passed one comes to a further one.
+    -- A number below which each epoch has passed can be raised over further epochs that have passed.
     pub have_further : (start : ℕ) → HavePassed s start → (n : ℕ) → n ≤ seals → ((e : ℕ) → start ≤ e → e < n → NoneLeftAtAll graph (λ q. 0 < content q) s e) → HavePassed s n
     have_further start before n within passed w is =
         (sealed_most w is n within, (passed_below (shown_graph s.graph) (length s.sides) w n).1 (λ k e l b. at k e l b (below_or e start)))
@@ -113,7 +113,7 @@ module _ (graph : Graph) (content : Pointstamp → ℕ) (s : Shown) (kept : IsKe
         at k e l b (inl early) = (passed_below (shown_graph s.graph) (length s.sides) w start).0 (before w is).1 k e l early
         at k e l b (inr late) = has_passed k e (passed e late b k l) w is
 
-    -- Where each epoch below n has passed, and some active pointstamp could still result at an output for the epoch n, n is the number.
+    -- If each epoch below n has passed, and some active pointstamp could still result at an output for the epoch n, then n is the number.
     pub counts : (n : ℕ) → HavePassed s n → n ≤ seals → (n < seals → NoneLeftAtAll graph (λ q. 0 < content q) s n → ⊥) → CountsPassed s n
     counts n have within first w is = record {
       sealed = (have w is).0;
@@ -127,14 +127,14 @@ module _ (graph : Graph) (content : Pointstamp → ℕ) (s : Shown) (kept : IsKe
             let each = (passed_below (shown_graph s.graph) (length s.sides) w m).0 all in
             absurd (first (omega (arith, l, x)) (λ k there. has_passed_back k n (λ w' is'. passed_there s kept.flows kept.some w w' is is' (output_number (shown_graph s.graph) k) n (each k n there x))))
 
-  -- a number that is known is at most the number
+  -- a number known to have passed is at most the number
   pub known_most : (n : ℕ) → HavePassed s n → (m : ℕ) → CountsPassed s m → n ≤ m
   known_most n have m counts = let h = have kept.world kept.shows in (counts kept.world kept.shows).greatest n h.0 h.1
 
   pub known_passed : (n : ℕ) → HavePassed s n → (e : ℕ) → e < n → (k : ℕ) → IsOutputPlace s k → HasPassed s k e
   known_passed n have e l k there w is = (passed_below (shown_graph s.graph) (length s.sides) w n).0 (have w is).1 k e there l
 
-  -- where just what is active is seen, the number that is seen is the number
+  -- where exactly what is active is seen, the seen number is the number
   pub seen_counts : (n : ℕ) (these : Pointstamp → Type 0) → ((q : Pointstamp) → these q → 0 < content q) → HavePassed s n → IsMostSeen graph these s n → CountsPassed s n
   seen_counts n these active have most =
       let seals = most_seals s in

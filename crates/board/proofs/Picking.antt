@@ -52,7 +52,7 @@ module _ (graph : Graph) (content : Pointstamp → ℕ) (s : Shown) (kept : IsKe
         let P : Step → Type 0 = λ x. IsChoice s k n x in
         (hands_request graph content s kept k there free runs t at p h front, subst P (sym (request_taken graph content s kept k there free runs t at p h front)) (chosen_request n i at h.request e h.got kth))
 
-  -- where no message has that number, and no request does behind the messages
+  -- the worker lacks the choice if no message has that number, and no request has it after the messages
   pub lacks : (n i : ℕ) → n ≡ length (side_at s k).mail + i → ((at : ℕ) → Kth (IsDeliverable graph (λ q. 0 < content q)) (side_at s k).requests i at → ⊥) → LacksChoice s k n
   lacks n i e none w (Step.claim_message k' at m) is c =
       let got : slice_get (side_at s k).mail n ≡ Some m = ap (λ ms. slice_get ms n) (sym (is.mail k there)) ∙ c.2 in

@@ -3,7 +3,7 @@ use Rattle.std.proofs.Common.{◌≡◌, ◌≢◌, ℕ, zero, suc, ◌<◌, ◌
 use Rattle.std.proofs.lemmas.Bool.Decides.{eqb_tells}
 use Rattle.machine.specs.Step.{put}
 
--- what stands at a place that is there doesn't depend on what stands beyond the last
+-- an element that exists doesn't depend on the default
 pub index_any : {X : Type 0} (xs : List X) (i : ℕ) (d x : X) → i < length xs → x ≡ slice_index_or xs i x → x ≡ slice_index_or xs i d
 index_any [] i d x l e = absurd (omega arith)
 index_any (y ∷ ys) zero d x l e = e
@@ -31,7 +31,7 @@ index_get [] i d l = absurd (omega arith)
 index_get (y ∷ ys) zero d l = refl
 index_get (y ∷ ys) (suc i) d l = index_get ys i d (omega arith)
 
--- a function and a list by place, each with another value at one place
+-- a function and a list that agree still do after one place is set in both
 pub put_set : {X Y : Type 0} (f : ℕ → Y) (g : X → Y) (xs : List X) (d : X) (i : ℕ) (x : X) (y : Y) → i < length xs → g x ≡ y
     → ((j : ℕ) → f j ≡ g (slice_index_or xs j d)) → (j : ℕ) → put f i y j ≡ g (slice_index_or (slice_set xs i x) j d)
 put_set f g xs d i x y l e same j = go (eqb_tells j i)
@@ -40,7 +40,7 @@ put_set f g xs d i x y l e same j = go (eqb_tells j i)
     go (inl (t, q)) = ap (λ b. cond b y (f j)) t ∙ sym e ∙ ap g (sym (ap (λ k. slice_index_or (slice_set xs i x) k d) q ∙ index_set_here xs i x d l))
     go (inr (t, q)) = ap (λ b. cond b y (f j)) t ∙ same j ∙ ap g (sym (index_set_other xs i j x d q))
 
--- the same for the places below n alone
+-- the same for the places below n only
 pub put_set_below : {X Y : Type 0} (n : ℕ) (f : ℕ → Y) (g : X → Y) (xs : List X) (d : X) (i : ℕ) (x : X) (y : Y) → i < length xs → g x ≡ y
     → ((j : ℕ) → j < n → f j ≡ g (slice_index_or xs j d)) → (j : ℕ) → j < n → put f i y j ≡ g (slice_index_or (slice_set xs i x) j d)
 put_set_below n f g xs d i x y l e same j lj = go (eqb_tells j i)
@@ -49,7 +49,7 @@ put_set_below n f g xs d i x y l e same j lj = go (eqb_tells j i)
     go (inl (t, q)) = ap (λ b. cond b y (f j)) t ∙ sym e ∙ ap g (sym (ap (λ k. slice_index_or (slice_set xs i x) k d) q ∙ index_set_here xs i x d l))
     go (inr (t, q)) = ap (λ b. cond b y (f j)) t ∙ same j lj ∙ ap g (sym (index_set_other xs i j x d q))
 
--- the function stays where the list's part stays
+-- a function that stays agrees with a list whose part stays
 pub same_set : {X Y : Type 0} (n : ℕ) (f : ℕ → Y) (g : X → Y) (xs : List X) (d : X) (i : ℕ) (x : X) → i < length xs → g x ≡ g (slice_index_or xs i d)
     → ((j : ℕ) → j < n → f j ≡ g (slice_index_or xs j d)) → (j : ℕ) → j < n → f j ≡ g (slice_index_or (slice_set xs i x) j d)
 same_set n f g xs d i x l e same j lj = go (eqb_tells j i)

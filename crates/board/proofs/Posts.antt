@@ -45,7 +45,7 @@ MayLaw =
 no_more : (a b : ℕ) → a ≡ b → a + 0 ≡ b
 no_more a b e = omega (arith, e)
 
--- `before` and `middle` are the same contents; the views are those of so many workers
+-- `before` and `middle` have the same contents; the views are for that many workers
 module _ (law : MayLaw) (graph graph' : Graph) (viewers : ℕ) (before middle : Pointstamp → ℕ) (s : Shown) (kept : IsKept graph before s) (viewers_are : viewers ≡ length s.sides) (same : graph' ≡ graph) (contents : (q : Pointstamp) → middle q ≡ before q) where
   may_post : (step : Step) → Allowed (net s) kept.world step → (sender : ℕ) → sender ≡ step_sender (net s) step → (added removed : List Pointstamp)
       → ((q : Pointstamp) → times_in added q ≡ step_adds (net s) kept.world step q) → ((q : Pointstamp) → times_in removed q ≡ step_removes (net s) kept.world step q)
@@ -130,7 +130,7 @@ posts_fed late s t n by middle old new passed passed' [] i records f many same a
 posts_fed late s t n by middle old new passed passed' (x ∷ xs) i records f many same after =
     inl (posts s n old passed t new passed' late by (x ∷ xs) [] many (posted_some late middle old new (batch by (x ∷ xs) []) (length (x ∷ xs) + 0) n (omega arith) same after))
 
--- as many workers and inputs as before
+-- there are as many workers and inputs as before
 module _ (s t : Shown) (added : List Pointstamp) (i : ℕ) (records : List Record) (f : FeedsBy s t added i records) where
   pub fed_workers : length t.sides ≡ length s.sides
   fed_workers = ap (λ (z : Shown). length z.sides) f.state ∙ delivered_length f.letters s.sides

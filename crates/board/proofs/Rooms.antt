@@ -24,7 +24,7 @@ sides_at [] (suc k) = refl
 sides_at (x ∷ ds) zero = refl
 sides_at (x ∷ ds) (suc k) = sides_at ds k
 
--- what an index reads
+-- what an index reads is that desk
 pub desk_read : (ds : List Desk) (k : ℕ) (d : Desk) → k < length ds → d ≡ slice_index_or ds k d → desk_in ds k ≡ d
 desk_read ds k d l e = sym (index_any ds k no_desk d l e)
 
@@ -63,7 +63,7 @@ all_more n ds k d (o ∷ ls) l h all = (go (eqb_tells o.to k), all_more n ds k d
         omega (arith, h, ap (λ (x : Desk). x.mail_room) e)
     go (inr (t, q)) = omega (arith, all.0, ap (λ (x : Desk). x.mail_room) (index_set_other ds k o.to d no_desk q))
 
--- one letter more
+-- one more letter
 pub all_take : (n : ℕ) (ds : List Desk) (ls : List Letter) (i : ℕ) (o : Letter) → i < length ls → o ≡ slice_index_or ls i o → AllRoom n ds (take i ls) → n ≤ (desk_in ds o.to).mail_room → AllRoom n ds (take (i + 1) ls)
 all_take n ds ls i o l e all h = let m : i + 1 ≡ suc i = omega arith in rw m (go ls i l e all)
   where
@@ -96,7 +96,7 @@ set_same [] k = refl
 set_same (x ∷ xs) zero = refl
 set_same (x ∷ xs) (suc k) = ap (λ l. x ∷ l) (set_same xs k)
 
--- a desk that shows the same in the place of another
+-- replacing a desk by one that shows the same leaves the sides
 pub sides_same : (ds : List Desk) (k : ℕ) (d x : Desk) → k < length ds → x ≡ slice_index_or ds k x → d.side ≡ x.side → sides_of (slice_set ds k d) ≡ sides_of ds
 sides_same ds k d x l e same =
     sides_set ds k d ∙ ap (λ z. slice_set (sides_of ds) k z) (same ∙ sym (side_read ds k x l e)) ∙ set_same (sides_of ds) k
@@ -123,7 +123,7 @@ reserved_next n ds ls i t o d x l q li e room all =
     let here : desk_in (slice_set ds t d) o.to ≡ d = ap (λ k. desk_in (slice_set ds t d) k) (sym q) ∙ index_set_here ds t d no_desk l in
     all_take n (slice_set ds t d) ls i o li e (all_more n ds t d (take i ls) l room all) (omega (arith, room, ap (λ (z : Desk). z.mail_room) here))
 
--- a desk with the same room
+-- replacing a desk by one with the same room leaves the room
 pub room_kept : (ds : List Desk) (k : ℕ) (d x : Desk) (ls : List Letter) → k < length ds → x ≡ slice_index_or ds k x → d.mail_room ≡ x.mail_room → HasRoom ds ls → HasRoom (slice_set ds k d) ls
 room_kept ds k d x ls l e same room i li = go (eqb_tells i k)
   where

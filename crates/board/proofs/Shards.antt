@@ -1,4 +1,4 @@
--- What holds of each worker's shard of each vertex, at home or out, holds on as they go out and come back.
+-- A property of each worker's shard of each vertex, at home or out, is kept as shards go out and come back.
 use Rattle.std.proofs.Common.{◌≡◌, ◌≢◌, ◌⊎◌, inl, inr, ◌<◌, ℕ, ◌==◌, true, false, List, length, refl, sym, ap, ◌∙◌, subst, slice_set, slice_index_or, Option, Some, None}
 use Rattle.std.proofs.lemmas.Bool.Decides.{eqb_tells}
 use Rattle.graph.specs.Shown.{shown_graph}
@@ -36,7 +36,7 @@ gone P xs v u j l there h = go (eqb_tells u v)
         subst A (sym (index_set_other xs v u None None q)) (kept_home P (slice_index_or xs u None) j h)
 
 module _ (s : Shown) (k : ℕ) (there : k < length s.sides) where
-  -- worker k has x instead: what holds of x's shards, and of the others'
+  -- worker k has the side x instead: the property holds of x's shards and of the others'
   pub each_with : (P Q : (worker vertex : ℕ) → Shard → Type 0) (x : Side) → EachShard s P
       → ((i v : ℕ) (y : Shard) → i ≢ k → P i v y → Q i v y)
       → ((v : ℕ) → v < length (shown_graph s.graph) → OnShard (Q k v) (known_shard x v))

@@ -1,4 +1,4 @@
--- Messages of a mailbox, taken out and put together, or put back.
+-- Messages of a mailbox that are taken out, and merged or put back.
 use Rattle.std.proofs.Common.{◌≡◌, ◌<◌, ◌≤◌, ◌+◌, ◌-◌, ◌⊎◌, inl, inr, ℕ, zero, suc, Bool, true, false, MatchBool, List, [], ◌∷◌, ◌++◌, length, take, drop, refl, sym, ap, ◌∙◌, subst, arith, slice_get, slice_index_or, remove, Some, None}
 use Rattle.std.specs.List.{insert}
 use Rattle.std.proofs.lemmas.List.Edits.{length-remove}
@@ -21,23 +21,23 @@ none_there (suc i) x e = absurd (cc)
 one_value : {X : Type 0} (y x : X) → Some y ≡ Some x → y ≡ x
 one_value y x e = cc
 
--- what was taken out and is put back
+-- putting back what was taken out restores the list
 put_back : {X : Type 0} (xs : List X) (i : ℕ) (x : X) → slice_get xs i ≡ Some x → insert (remove xs i) i x ≡ xs
 put_back [] i x e = absurd (none_there i x e)
 put_back (y ∷ xs) zero x e = ap (λ z. z ∷ xs) (sym (one_value y x e))
 put_back (y ∷ xs) (suc i) x e = ap (λ zs. y ∷ zs) (put_back xs i x e)
 
--- the first one stays first, where one behind it is taken out
+-- the first stays first when one behind it is taken out
 first_stays : {X : Type 0} (xs : List X) (at : ℕ) (d x : X) → slice_get xs 0 ≡ Some x → slice_index_or (remove xs (suc at)) 0 d ≡ x
 first_stays [] at d x e = absurd (none_there 0 x e)
 first_stays (y ∷ xs) at d x e = one_value y x e
 
--- both are taken out
+-- taking out both
 both_out : {X : Type 0} (xs : List X) (at : ℕ) (x : X) → slice_get xs 0 ≡ Some x → remove (remove xs (suc at)) 0 ≡ remove (drop 1 xs) at
 both_out [] at x e = absurd (none_there 0 x e)
 both_out (y ∷ xs) at x e = refl
 
--- the second is put back behind the first
+-- putting the second back behind the first
 both_back : {X : Type 0} (xs : List X) (at : ℕ) (x y : X) → slice_get xs 0 ≡ Some x → slice_get xs (suc at) ≡ Some y → insert (x ∷ remove (remove xs (suc at)) 0) (suc at) y ≡ xs
 both_back [] at x y e f = absurd (none_there 0 x e)
 both_back (z ∷ xs) at x y e f = let i : x ≡ z = sym (one_value z x e) in (λ j. i j ∷ put_back xs at y f j)
@@ -74,11 +74,11 @@ module _ (ms : List Message) (at : ℕ) (a : AreAlike ms at) (second first : Mes
       new_is ∙ (λ i. insert ((mail_is ∙ (λ j. (same_is ∙ first_is) j ∷ left_at j)) i) (next_of at i) ((back_is ∙ second_is) i))
       ∙ both_back ms at a.first a.second a.got a.other
 
--- no message is there behind the last
+-- there is no message behind the last
 pub not_alike : (ms : List Message) (at : ℕ) → length ms - 1 ≤ at → AreAlike ms at → ⊥
 not_alike ms at short a = let l = (get_index ms (suc at) a.second a.second a.other).0 in omega (arith, l, short)
 
--- two messages that were looked at
+-- two messages that were compared
 pub are_alike : (ms : List Message) (at : ℕ) (first second : Message) (r : Bool) → slice_get ms 0 ≡ Some first → slice_get ms (suc at) ≡ Some second
     → (r ≡ true → MayMerge first second) → (MayMerge first second → r ≡ true) → MatchBool r (AreAlike ms at) (AreAlike ms at → ⊥)
 are_alike ms at first second true got other may only = record { first = first; second = second; got = got; other = other; may = may refl }
@@ -92,7 +92,7 @@ are_alike ms at first second false got other may only = λ a.
 pub there : (ms : List Message) (at : ℕ) → AreAlike ms at → at + 1 < length ms
 there ms at a = let l = (get_index ms (suc at) a.second a.second a.other).0 in omega (arith, l)
 
--- the place behind the first is still one, once the second is out
+-- the place behind the first still exists once the second is out
 pub still_there : (ms : List Message) (at : ℕ) (a : AreAlike ms at) (left mail : List Message) (first : Message) → left ≡ remove (remove ms (suc at)) 0 → mail ≡ first ∷ left → at + 1 ≤ length mail
 still_there ms at a left mail first left_is mail_is =
     let l = there ms at a in
@@ -101,7 +101,7 @@ still_there ms at a left mail first left_is mail_is =
     let k : length mail ≡ suc (length (remove (remove ms (suc at)) 0)) = ap length mail_is ∙ ap (λ xs. suc (length xs)) left_is in
     omega (arith, l, n, m, k)
 
--- one place more that was looked at
+-- one more place that was compared
 pub none_more : (P : ℕ → Type 0) (from k : ℕ) → ((at : ℕ) → from ≤ at → at < k → P at → ⊥) → (P k → ⊥) → (at : ℕ) → from ≤ at → at < k + 1 → P at → ⊥
 none_more P from k before now at l m h = go (below_next at k m)
   where

@@ -1,4 +1,4 @@
--- All worlds that a board shows have the same active pointstamps, and these are its tracker's.
+-- All worlds that a board shows have the same active pointstamps, which are those of its tracker.
 use Rattle.std.proofs.Common.{◌≡◌, ◌<◌, ◌+◌, ℕ, cond, length, sym, ap₂, ◌∙◌, subst, arith}
 use Rattle.semantics.specs.Multiset.{total}
 use Rattle.semantics.specs.Graph.{Graph, input_count}

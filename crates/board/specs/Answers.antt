@@ -23,11 +23,11 @@ use Rattle.board.specs.declared.board.Claimed.TheVariants.{Stopped, Busy, Work, 
 use Rattle.board.specs.declared.board.CommitRefusal.{CommitRefusal}
 use Rattle.board.specs.declared.board.CommitRefusal.TheVariants.{NoMemory}
 
--- the worker holds this event, not given up
+-- the worker holds this event, and hasn't abandoned it
 abbrev pub Holds : Shown → Pass → Type 0
 Holds s p = (side_at s p.worker).place ≡ Out p.job
 
--- Ok ends the event by a step; want of memory leaves the board as it was, and the event whole
+-- Ok ends the event by a step; without memory the board is unchanged, and the event comes back whole
 abbrev pub Commits : Shown → Shown → Pass → {T : Type 0} → Result T CommitRefusal → Type 0
 Commits s t p (Ok _) = Holds s p × ((out : ℕ → List Record) × Goes s (Step.commit p.worker p.job.happening out) t)
 Commits s t p (Err (NoMemory d)) = (d ≡ p) × (t ≡ s)
@@ -49,7 +49,7 @@ pub record Hands (s : Shown) (k : ℕ) (t : Shown) (p : Pass) : Type 0 where
   pub holds : Holds t p
   pub own : IsOf t p
 
--- a message of this worker is one with its first message, by a step
+-- a message of this worker is merged into its first message, by a step
 abbrev pub Merges : Shown → (worker at : ℕ) → Shown → Type 0
 Merges s k at t = (first : Message) × (second : Message) × Goes s (Step.merge k at first second) t
 
@@ -83,11 +83,11 @@ input_refusal s i =
     (first (cond (nat_lt i (length s.inputs)) None (Some refusal.UnknownInput))
     (cond (input_at s i).closed (Some refusal.InputClosed) None))
 
--- of a seal: then, the last epoch
+-- of a seal: the same, then the last epoch
 abbrev pub seal_refusal : Shown → ℕ → Option StepRefusal
 seal_refusal s i = first (input_refusal s i) (cond ((input_at s i).open_epoch == 4294967295) (Some refusal.LastEpoch) None)
 
--- this refusal is answered; where there is none, Ok, or the want of memory
+-- this refusal is the answer; where there is none, Ok or want of memory
 abbrev pub AnswersOr : {T : Type 0} → Option StepRefusal → Result T StepRefusal → Type 0
 AnswersOr (Some r) (Ok _) = ⊥
 AnswersOr (Some r) (Err e) = e ≡ r
@@ -101,15 +101,15 @@ AnswersOnly (Some r) (Err e) = e ≡ r
 AnswersOnly None (Ok _) = Unit {0}
 AnswersOnly None (Err e) = ⊥
 
--- of a feed: then, records of another arity
+-- of a feed: the same, then records of another arity
 abbrev pub feed_refusal : Shown → ℕ → List Record → Option StepRefusal
 feed_refusal s i batch = first (input_refusal s i) (cond (arity_of batch == arity_in s.graph i) None (Some refusal.WrongFieldCount))
 
--- messages of this worker become one with its first message, at these places one after another; the last place comes first
+-- the messages at these places, the last place first, are merged into the worker's first message one after another
 abbrev pub MergesAll : (worker : ℕ) → (places : List ℕ) → Shown → Shown → Type 0
 MergesAll k [] s t = t ≡ s
 MergesAll k (at ∷ places) s t = (u : Shown) × MergesAll k places s u × Merges u k at t
 
--- the same at some places, or none
+-- messages at some places are merged, or none
 abbrev pub Gathers : Shown → (worker : ℕ) → Shown → Type 0
 Gathers s k t = (places : List ℕ) × MergesAll k places s t

@@ -1,4 +1,4 @@
--- What is handed out, and what is merged before.
+-- What is handed out, and what is merged before that.
 use Rattle.std.specs.Prelude.{◌≡◌, ℕ, List, Some, None, slice_get, slice_index_or}
 use Rattle.graph.specs.Shown.{shown_graph}
 use Rattle.semantics.specs.Could.{Pointstamp}
@@ -8,7 +8,7 @@ use Rattle.board.specs.Merging.{AreMerged}
 use Rattle.board.specs.Shown.{Shown, side_at, event_at}
 use Rattle.board.specs.Steps.{after_claim_message, after_claim_request, with_side}
 
--- the event is of this worker of the board, and the shard is that of its vertex
+-- the event is of this worker of the board, and the shard is the one of its vertex
 pub record IsTaken (s : Shown) (k : ℕ) (p : Pass) : Type 0 where
   pub worker : p.worker ≡ k
   pub table : p.table ≡ (side_at s k).table
@@ -29,7 +29,7 @@ pub record HandsRequest (s t : Shown) (worker at : ℕ) (p : Pass) : Type 0 wher
   pub taken : IsTaken s worker p
   pub state : t ≡ after_claim_request s worker at p.job
 
--- the message at this place behind the worker's first one is one with it; `place` is its pointstamp
+-- the message at this place behind the worker's first is merged into it; `place` is its pointstamp
 pub record MergesMail (s t : Shown) (worker at : ℕ) (place : Pointstamp) : Type 0 where
   pub mail : List Message
   pub merges : AreMerged (side_at s worker).mail mail at place

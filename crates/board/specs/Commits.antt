@@ -1,4 +1,4 @@
--- What a commit makes.
+-- What a commit does.
 use Rattle.std.specs.Prelude.{◌≡◌, ◌+◌, ℕ, List, length, Some, slice_get}
 use Rattle.semantics.specs.Multiset.{Record, total}
 use Rattle.progress.specs.Content.{times_in}
@@ -22,7 +22,7 @@ use Rattle.board.specs.Steps.{after_commit, after_feed}
 abbrev pub IsOf : Shown → Pass → Type 0
 IsOf s p = slice_get (tables s) p.worker ≡ Some p.table
 
--- the same by the code: `added` are the pointstamps that are active then, and `place` is the event's
+-- the same in terms of the code: `added` are the pointstamps that become active, and `place` is the event's
 pub record SettlesBy (s t : Shown) (added : List Pointstamp) (place : Pointstamp) (p : Pass) : Type 0 where
   pub out : (side_at s p.worker).place ≡ Out p.job
   pub output : Output
@@ -31,7 +31,7 @@ pub record SettlesBy (s t : Shown) (added : List Pointstamp) (place : Pointstamp
   pub added_are : (q : Pointstamp) → times_in added q ≡ letters_count q output.sent.items + total (λ n. one_if_same q (request_pointstamp n)) (requests_of output.asked)
   pub place_is : place ≡ event_pointstamp p.job.happening
 
--- the event was out; its output is what it leaves, and its pointstamps are those that are active then
+-- the event was out, its output is what it leaves, and what is active changes by its pointstamps
 pub record Settles (s t : Shown) (before after : Pointstamp → ℕ) (p : Pass) : Type 0 where
   pub out : (side_at s p.worker).place ≡ Out p.job
   pub output : Output
@@ -47,7 +47,7 @@ pub record Feeds (s t : Shown) (before after : Pointstamp → ℕ) (input : ℕ)
   pub state : t ≡ after_feed s input batch letters
   pub content : (q : Pointstamp) → after q ≡ letters_count q letters + before q
 
--- the same by the code: `added` are the messages' pointstamps
+-- the same in terms of the code: `added` are the messages' pointstamps
 pub record FeedsBy (s t : Shown) (added : List Pointstamp) (input : ℕ) (batch : List Record) : Type 0 where
   pub letters : List Letter
   pub parcels : AreParcels (network (shown_graph s.graph) (length s.sides)) 0 input (at_epoch (input_at s input).open_epoch) (λ q. batch) letters

@@ -1,4 +1,4 @@
--- Which requests may be delivered, where these pointstamps are active.
+-- Which requests may be delivered while these pointstamps are active.
 use Rattle.std.specs.Prelude.{◌≡◌, ℕ, List, Some, slice_get}
 use Rattle.semantics.specs.Graph.{Graph}
 use Rattle.semantics.specs.Could.{CouldResultIn, NoOtherOf, Pointstamp}
@@ -16,7 +16,7 @@ pub record IsBlocked (g : Graph) (these : Pointstamp → Type 0) (rs : List Requ
   pub there : slice_get rs place ≡ Some request
   pub blocked : IsDeliverable g these request → ⊥
 
--- at this place stands a request of the same vertex, whose time is at or before that of r
+-- this place has a request of the same vertex, whose time is at or before that of r
 pub record StandsBefore (rs : List Request) (r : Request) (place : ℕ) : Type 0 where
   pub request : Request
   pub there : slice_get rs place ≡ Some request

@@ -1,4 +1,4 @@
--- What a worker is seen as by the board's own code.
+-- A worker as the board's code sees it.
 use Rattle.std.specs.Prelude.{◌≡◌, [], ℕ, ◌<◌, ◌≤◌, Bool, true, false, List, length, map, slice_index_or, Option, Some, None}
 use Rattle.std.specs.List.{AllByRecursion}
 use Rattle.semantics.specs.Multiset.{total}
@@ -13,7 +13,7 @@ use Rattle.events.specs.Jobs.{Job}
 use Rattle.events.specs.Wired.{Wired}
 use Rattle.board.specs.Shown.{Shown, Side, input_at, side_at, no_side, no_wired}
 
--- what it shows, and for how many messages and requests more there is room
+-- what it shows, and for how many more messages and requests it has room
 pub record Desk : Type 0 where
   pub side : Side
   pub mail_room : ℕ
@@ -22,7 +22,7 @@ pub record Desk : Type 0 where
 abbrev pub no_desk : Desk
 no_desk = record { side = no_side; mail_room = 0; request_room = 0 }
 
--- the wiring is here, or with the event that is out
+-- the wiring, which is here or with the event that is out
 abbrev pub wired_of : {X : Type 0} → (X → Wired) → Place Job → Option X → Wired
 wired_of f Home (Some x) = f x
 wired_of f Home None = no_wired
@@ -56,7 +56,7 @@ sides_of ds = map (λ d. d.side) ds
 abbrev pub HasRoom : List Desk → List Letter → Type 0
 HasRoom ds ls = (k : ℕ) → k < length ds → length (sent_to k ls) ≤ (desk_in ds k).mail_room
 
--- the letters' workers are among so many
+-- each letter goes to one of that many workers
 abbrev pub AreWithin : ℕ → List Letter → Type 0
 AreWithin n ls = AllByRecursion (λ (l : Letter). l.to < n) ls
 
@@ -64,11 +64,11 @@ AreWithin n ls = AllByRecursion (λ (l : Letter). l.to < n) ls
 abbrev pub AreAtEdges : Graph → List Letter → Type 0
 AreAtEdges g ls = AllByRecursion (λ (l : Letter). IsTimeAt g (Location.edge l.message.edge) l.message.time) ls
 
--- how often a pointstamp is that of a letter
+-- how many letters have this pointstamp
 abbrev pub letters_count : Pointstamp → List Letter → ℕ
 letters_count p ls = total (λ l. one_if_same p (message_pointstamp l.message)) ls
 
--- nothing waits at a worker, and no event is out or lost
+-- nothing waits at a worker, and no event is out or abandoned
 pub record IsIdle (x : Side) : Type 0 where
   pub place : x.place ≡ Home
   pub mail : x.mail ≡ []

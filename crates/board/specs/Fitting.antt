@@ -1,4 +1,4 @@
--- Shards and what was fed fit the graph.
+-- Shards, and the records that were fed, fit the graph.
 use Rattle.std.specs.Prelude.{◌≡◌, ◌<◌, ℕ, length, slice_index_or}
 use Rattle.semantics.specs.Graph.{vertex, source}
 use Rattle.graph.specs.Shown.{GraphValue, shown_graph}
@@ -14,6 +14,6 @@ pub record FitsVertex (g : GraphValue) (v : ℕ) (x : Shard) : Type 0 where
   pub kind : shard_kind x ≡ (vertex (shown_graph g) v).kind
   pub takes : (port : ℕ) → port < length (vertex (shown_graph g) v).ins → TakesArity x port (arity_in g (source (shown_graph g) v port).vertex)
 
--- the same, whichever worker's it is
+-- the same for any worker
 abbrev pub FitsPlace : GraphValue → (worker vertex : ℕ) → Shard → Type 0
 FitsPlace g k v x = FitsVertex g v x

@@ -19,7 +19,7 @@ pub record HasShards (g : GraphValue) (n : ℕ) (shards : List (Option Shard)) :
   pub long : length shards ≡ n
   pub each : (v : ℕ) → v < n → IsFreshSlot g v (slice_index_or shards v None)
 
--- a worker that is wired so, has such a shard of each vertex, and nothing to do
+-- a worker with this wiring, with such a shard of each vertex, and nothing to do
 pub record IsFreshSide (w : Wired) (x : Side) : Type 0 where
   pub wired : x.wired ≡ w
   pub idle : IsIdle x
@@ -30,7 +30,7 @@ pub record HasFreshSides (w : Wired) (n : ℕ) (sides : List Side) : Type 0 wher
   pub long : length sides ≡ n
   pub each : (k : ℕ) → k < n → IsFreshSide w (side_in sides k)
 
--- a state of a graph and n workers to which nothing was done
+-- a state of a graph and n workers, with nothing done yet
 pub record IsNew (g : GraphValue) (n : ℕ) (s : Shown) : Type 0 where
   pub graph : s.graph ≡ g
   pub inputs : length s.inputs ≡ input_count (shown_graph g)

@@ -1,4 +1,4 @@
--- What a board keeps: some run leads to the world that it shows, and its views are of just the pointstamps that are active there.
+-- What a board keeps: some run leads to the world that it shows, and its views are of exactly the pointstamps that are active there.
 use Rattle.std.specs.Prelude.{◌≡◌, ◌<◌, ◌≤◌, ◌+◌, ℕ, suc, Bool, false, cond, List, [], ◌∷◌, length}
 use Rattle.semantics.specs.Graph.{Graph, input_count}
 use Rattle.semantics.specs.Could.{Pointstamp}
@@ -39,8 +39,8 @@ pub record IsKept (graph : Graph) (content : Pointstamp → ℕ) (s : Shown) : T
   pub fed : FedFits (shown_graph s.graph) (arity_in s.graph) world
   pub tracked : (p : Pointstamp) → content p ≡ active_count (net s) world p
 
--- The same; the views are of so many workers, and there is room for the closes of all inputs; so many epochs have passed, and as the
--- first worker sees it no more have.
+-- The same, and: the views are for that many workers, with room for the closes of all inputs; `passed` epochs have passed, and the first worker sees
+-- no others as passed.
 pub record Keeps (graph : Graph) (viewers : ℕ) (content : Pointstamp → ℕ) (waiting : Waiting) (room : ℕ) (late : Bool) (passed : ℕ) (s : Shown) : Type 0 where
   pub kept : IsKept graph content s
   pub viewers_are : viewers ≡ length s.sides
@@ -49,7 +49,7 @@ pub record Keeps (graph : Graph) (viewers : ℕ) (content : Pointstamp → ℕ) 
   pub passed_are : HavePassed s passed
   pub passed_most : IsMostSeen graph (IsSeenBy content waiting viewers 0) s passed
 
--- Whatever world it showed before, it shows after one that the step leaves, and the step is allowed there. What was emitted stays.
+-- From whatever world the board showed before, the step is allowed and leads to one that it shows after. What was emitted stays.
 pub record Goes (s : Shown) (taken : Step) (t : Shown) : Type 0 where
   pub step : (w : World) → Shows s w → Allowed (net s) w taken × Shows t (after_step (net s) w taken)
   pub graph : t.graph ≡ s.graph

@@ -1,17 +1,17 @@
--- What a board shows, with how late its workers' views of the active pointstamps are.
+-- What a board shows, and how late its workers' views of the active pointstamps are.
 use Rattle.std.specs.Prelude.{◌≡◌, ◌⊎◌, ◌+◌, ◌<◌, ◌≤◌, ℕ, zero, suc, ◌==◌, Bool, true, false, cond, List, [], ◌∷◌, length, slice_index_or}
 use Rattle.semantics.specs.Multiset.{total}
 use Rattle.views.specs.Waiting.{Waiting}
 use Rattle.board.specs.Shown.{Shown}
 
--- How many batches of changes wait for each worker, by sender; the senders are the workers, and then the feeder. `passed` is the number of
--- epochs that are known to have passed.
+-- `waiting` has how many batches of changes wait for each worker, by sender; the senders are the workers, and then the feeder. `passed` is the number
+-- of epochs known to have passed.
 pub record BoardShown : Type 0 where
   pub shown : Shown
   pub waits : List (List ℕ)
   pub passed : ℕ
 
--- the first n answers of f
+-- the first n values of f
 abbrev pub first_of : {A : Type 0} → (n : ℕ) → (ℕ → A) → List A
 first_of zero f = []
 first_of (suc n) f = f 0 ∷ first_of n (λ k. f (suc k))
@@ -20,7 +20,7 @@ first_of (suc n) f = f 0 ∷ first_of n (λ k. f (suc k))
 abbrev pub counts_of : (workers : ℕ) → Waiting → List (List ℕ)
 counts_of workers waiting = first_of workers (λ w. first_of (suc workers) (λ s. length (waiting w s)))
 
--- how many batches of a sender wait for a worker; none where one of them isn't there
+-- how many batches of a sender wait for a worker; none if there is no such worker or sender
 abbrev pub waits_for : BoardShown → (worker sender : ℕ) → ℕ
 waits_for b w s = slice_index_or (slice_index_or b.waits w []) s 0
 
@@ -36,7 +36,7 @@ AreUpToDate b = (w : ℕ) → IsUpToDate b w
 abbrev pub all_waits : BoardShown → ℕ
 all_waits b = total (λ ns. total (λ n. n) ns) b.waits
 
--- what a batch adds to what waits, where views are late
+-- what a post adds to the number that waits, where views are late
 abbrev pub one_more : (late : Bool) → (by sender : ℕ) → ℕ
 one_more late by s = cond late (cond (s == by) 1 0) 0
 
@@ -44,7 +44,7 @@ one_more late by s = cond late (cond (s == by) 1 0) 0
 abbrev pub Posts : (late : Bool) → (by : ℕ) → (old new : BoardShown) → Type 0
 Posts late by old new = (w s : ℕ) → w < length old.shown.sides → s < suc (length old.shown.sides) → waits_for new w s ≡ waits_for old w s + one_more late by s
 
--- a batch was posted, if something was delivered; else none was
+-- a batch was posted if something was delivered, and none otherwise
 abbrev pub PostsSome : (late : Bool) → (by : ℕ) → (old new : BoardShown) → Type 0
 PostsSome late by old new = Posts late by old new ⊎ ((new.shown.sides ≡ old.shown.sides) × (new.waits ≡ old.waits))
 
@@ -53,7 +53,7 @@ pub record IsAsLate (old new : BoardShown) : Type 0 where
   pub waits : new.waits ≡ old.waits
   pub passed : new.passed ≡ old.passed
 
--- what waits for other workers waits still, and no more waits for this one
+-- what waits for other workers still waits, and what waits for this one doesn't grow
 pub record Applies (worker : ℕ) (old new : BoardShown) : Type 0 where
   pub others : (w s : ℕ) → (w ≡ worker → ⊥) → waits_for new w s ≡ waits_for old w s
   pub fewer : (s : ℕ) → waits_for new worker s ≤ waits_for old worker s

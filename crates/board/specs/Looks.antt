@@ -19,7 +19,7 @@ pub record LookShown : Type 0 where
   pub fed : List (List (List Record))
   pub outputs : List OutputLook
 
--- what is seen where there is no such output
+-- what is seen of an output that doesn't exist
 abbrev pub no_output : OutputLook
 no_output = record { emitted = []; passed = false }
 
@@ -43,23 +43,23 @@ pub record IsPromisedBy (p : Program) (l : LookShown) (k : ℕ) : Type 0 where
   pub part : IsPartOf (joined (output_in l k).emitted) (meant_by p l k)
   pub whole : (output_in l k).passed ≡ true → joined (output_in l k).emitted ≈ meant_by p l k
 
--- the same of each well-typed program with that graph, and each of its outputs
+-- the same for each well-typed program with that graph, and each of its outputs
 abbrev pub IsPromised : LookShown → Type 0
 IsPromised l = (p : Program) (ns : List ℕ) → WellTyped p ns → shown_graph l.graph ≡ lowered p → (k : ℕ) → k < length p.outputs → IsPromisedBy p l k
 
--- It is what the board shows of an output at the epoch. What is seen as passed has passed; what has passed is seen so, if the first worker's
+-- The look is what the board shows of an output at the epoch. What it shows as passed has passed; what has passed is shown so, if the first worker's
 -- view is up to date.
 pub record IsOutputLookAt (b : BoardShown) (e k : ℕ) (o : OutputLook) : Type 0 where
   pub emitted : o.emitted ≡ slice_index_or (emitted_by b.shown.emitted (output_number (shown_graph b.shown.graph) k)) e []
   pub passed : o.passed ≡ true → HasPassed b.shown k e
   pub seen : IsUpToDate b 0 → HasPassed b.shown k e → o.passed ≡ true
 
--- they are what the board shows of its outputs at the epoch
+-- the looks are what the board shows of its outputs at the epoch
 pub record AreOutputLooks (b : BoardShown) (e : ℕ) (outputs : List OutputLook) : Type 0 where
   pub places : length outputs ≡ length (output_numbers (shown_graph b.shown.graph))
   pub each : (k : ℕ) → IsOutputPlace b.shown k → IsOutputLookAt b e k (slice_index_or outputs k no_output)
 
--- it is what the board shows of the epoch
+-- the look is what the board shows of the epoch
 pub record IsLookAt (b : BoardShown) (e : ℕ) (l : LookShown) : Type 0 where
   pub graph : l.graph ≡ b.shown.graph
   pub fed : (i : ℕ) → fed_by l i ≡ slice_index_or (input_at b.shown i).fed e []

@@ -1,4 +1,4 @@
--- Messages of a mailbox that are put together.
+-- Messages of a mailbox that are merged.
 use Rattle.std.specs.Prelude.{◌≡◌, ℕ, suc, List, ◌∷◌, drop, remove, slice_get, Some}
 use Rattle.semantics.specs.Could.{Pointstamp}
 use Rattle.machine.specs.Active.{message_pointstamp}
@@ -6,7 +6,7 @@ use Rattle.machine.specs.Step.{merged}
 use Rattle.machine.specs.World.{Message}
 use Rattle.events.specs.Merging.{MayMerge}
 
--- the first message and the one at this place behind it may be put together
+-- the message at this place behind the first may be merged into it
 pub record AreAlike (mail : List Message) (at : ℕ) : Type 0 where
   pub first : Message
   pub second : Message
@@ -14,7 +14,7 @@ pub record AreAlike (mail : List Message) (at : ℕ) : Type 0 where
   pub other : slice_get mail (suc at) ≡ Some second
   pub may : MayMerge first second
 
--- they are one then; `place` is the pointstamp of the second
+-- they are merged; `place` is the pointstamp of the second
 pub record AreMerged (old new : List Message) (at : ℕ) (place : Pointstamp) : Type 0 where
   pub alike : AreAlike old at
   pub place_is : place ≡ message_pointstamp alike.second

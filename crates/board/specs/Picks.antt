@@ -12,7 +12,7 @@ use Rattle.board.specs.Showing.{Shows}
 use Rattle.board.specs.declared.refusal.StepRefusal.{StepRefusal}
 use Rattle.board.specs.declared.refusal.StepRefusal.TheVariants.{Stopped, HoldsEvent, NoSuchEvent, UnknownInput, InputClosed, WrongFieldCount, LastEpoch, NoMemory}
 
--- the step claims the worker's choice of that number, in whatever world the board shows
+-- the step claims the worker's choice of that number, in any world that the board shows
 abbrev pub IsChoice : Shown → (worker choice : ℕ) → Step → Type 0
 IsChoice s k n step = (w : World) → Shows s w → Chooses (net s) w k n step
 
@@ -20,7 +20,8 @@ IsChoice s k n step = (w : World) → Shows s w → Chooses (net s) w k n step
 abbrev pub LacksChoice : Shown → (worker choice : ℕ) → Type 0
 LacksChoice s k n = (w : World) (step : Step) → Shows s w → Chooses (net s) w k n step → ⊥
 
--- why a pick is refused, where `prompt` says that the worker's view is up to date: the board is stopped; the worker holds an event; there is no such worker, or no such choice
+-- why a pick is refused: the board is stopped; the worker holds an event; or there is no such worker or no such choice; `prompt` says that the
+-- worker's view is up to date
 abbrev pub RefusesPick : (prompt : Type 0) → Shown → (worker choice : ℕ) → StepRefusal → Type 0
 RefusesPick prompt s k n Stopped = s.stopped ≡ true
 RefusesPick prompt s k n HoldsEvent = (s.stopped ≡ false) × (k < length s.sides) × ((side_at s k).place ≢ Home)
@@ -31,8 +32,8 @@ RefusesPick prompt s k n WrongFieldCount = ⊥
 RefusesPick prompt s k n LastEpoch = ⊥
 RefusesPick prompt s k n NoMemory = ⊥
 
--- An event that isn't spoiled, handed out by a step, which is that of the choice if the worker's view is up to date; or a refusal, which
--- changes nothing.
+-- A pick hands out an unspoiled event by a step, which is that of the choice if the worker's view is up to date; or it is refused, and nothing
+-- changes.
 abbrev pub Picks : (prompt : Type 0) → Shown → Shown → (worker choice : ℕ) → Result (Pass × Option ComputeFault) StepRefusal → Type 0
 Picks prompt s t k n (Ok x) = (hands : Hands s k t x.0) × (prompt → IsChoice s k n hands.taken) × (x.1 ≡ None)
 Picks prompt s t k n (Err e) = RefusesPick prompt s k n e × (t ≡ s)

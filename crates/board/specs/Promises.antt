@@ -19,11 +19,11 @@ pub record RunsProgram (p : Program) (s : Shown) : Type 0 where
   pub typed : WellTyped p arities
   pub graph : shown_graph s.graph ≡ lowered p
 
--- the epoch has passed at an output, in whatever world the board shows
+-- the epoch has passed at an output, in any world that the board shows
 abbrev pub HasPassed : Shown → (output epoch : ℕ) → Type 0
 HasPassed s k e = (w : World) → Shows s w → Passed (net s) w (output_number (shown_graph s.graph) k) e
 
--- so many epochs have passed
+-- that many epochs have passed
 abbrev pub CountsPassed : Shown → ℕ → Type 0
 CountsPassed s n = (w : World) → Shows s w → IsPassedCount (net s) w n
 
@@ -41,7 +41,7 @@ pub record Headline (p : Program) (s : Shown) (k e : ℕ) : Type 0 where
   pub part : IsPartOf (emitted_at s k e) (meant_of p s k e)
   pub whole : HasPassed s k e → emitted_at s k e ≈ meant_of p s k e
 
--- the same of each output
+-- the same for each output
 abbrev pub KeepsPromise : Program → Shown → Type 0
 KeepsPromise p s = (k e : ℕ) → k < length p.outputs → Headline p s k e
 
@@ -49,12 +49,12 @@ KeepsPromise p s = (k e : ℕ) → k < length p.outputs → Headline p s k e
 abbrev pub IsOutputPlace : Shown → (output : ℕ) → Type 0
 IsOutputPlace s k = k < length (output_numbers (shown_graph s.graph))
 
--- every input is closed, nothing waits, and no event is out or lost
+-- every input is closed, nothing waits, and no event is out or abandoned
 pub record IsDrained (s : Shown) : Type 0 where
   pub closed : (i : ℕ) → i < length s.inputs → (input_at s i).closed ≡ true
   pub idle : (k : ℕ) → k < length s.sides → IsIdle (side_at s k)
 
--- As a new board is: the inputs are open at epoch 0, nothing was fed or emitted, and nothing waits.
+-- The state of a new board: the inputs are open at epoch 0, nothing was fed or emitted, and nothing waits.
 pub record IsOpening (g : GraphValue) (n : ℕ) (s : Shown) : Type 0 where
   pub graph : s.graph ≡ g
   pub workers : length s.sides ≡ n

@@ -1,4 +1,4 @@
--- How far the inputs are sealed, and below which number each epoch has passed.
+-- How far the inputs are sealed, and up to where each epoch has passed.
 use Rattle.std.specs.Prelude.{◌≡◌, ◌⊎◌, ◌<◌, ◌≤◌, ℕ, length}
 use Rattle.semantics.specs.Could.{CouldResultIn, IsTimeAt, Location, NoneOf, Pointstamp, at_vertex}
 use Rattle.semantics.specs.Graph.{Graph, output_number}
@@ -10,7 +10,7 @@ use Rattle.board.specs.Shown.{Shown, input_at, net}
 use Rattle.board.specs.Showing.{Shows}
 use Rattle.board.specs.Promises.{IsOutputPlace}
 
--- the greatest number of seals of an input; 0 where there is none
+-- the greatest number of seals of an input; 0 if there are no inputs
 pub record IsMostSeals (s : Shown) (n : ℕ) : Type 0 where
   pub most : (i : ℕ) → i < length s.inputs → (input_at s i).open_epoch ≤ n
   pub some : (n ≡ 0) ⊎ ((i : ℕ) × (i < length s.inputs) × ((input_at s i).open_epoch ≡ n))
@@ -23,12 +23,12 @@ HavePassed s n = (w : World) → Shows s w → SealedTo (net s) w n × PassedBel
 abbrev pub NoneLeft : Graph → (these : Pointstamp → Type 0) → Shown → (output epoch : ℕ) → Type 0
 NoneLeft graph these s k e = NoneOf (CouldResultIn graph) these (at_vertex (output_number (shown_graph s.graph) k) (at_epoch e))
 
--- the same at each output
+-- the same for each output
 abbrev pub NoneLeftAtAll : Graph → (these : Pointstamp → Type 0) → Shown → (epoch : ℕ) → Type 0
 NoneLeftAtAll graph these s e = (k : ℕ) → IsOutputPlace s k → NoneLeft graph these s k e
 
--- Each epoch below n is seen to have passed, as far as inputs are sealed: n is at most the greatest number of seals, and if it is below,
--- some of these could still result at an output for the epoch n.
+-- Each epoch below n is seen to have passed, as far as inputs are sealed: n is at most the greatest number of seals, and if it is below, some of
+-- these could still result at an output for the epoch n.
 abbrev pub IsMostSeen : Graph → (these : Pointstamp → Type 0) → Shown → ℕ → Type 0
 IsMostSeen graph these s n = (m : ℕ) → IsMostSeals s m → (n ≤ m) × (n < m → NoneLeftAtAll graph these s n → ⊥)
 

@@ -10,7 +10,7 @@ use Rattle.tokens.specs.declared.rule.Place.TheVariants.{Home, Out, Lost}
 use Rattle.events.specs.Jobs.{Job}
 use Rattle.board.specs.Shown.{Shown, Side, input_at, side_at, emitted_by, records_at, held_of, event_at}
 
--- a shard that is at home, or the one that is out as it was
+-- a shard that is at home, or the one that is out, as it was when it went
 abbrev pub known : Option Shard → Place Job → Option Shard
 known (Some s) place = Some s
 known None Home = None
@@ -20,20 +20,20 @@ known None (Lost j) = Some j.before
 abbrev pub known_shard : Side → (vertex : ℕ) → Option Shard
 known_shard x v = known (slice_index_or x.shards v None) x.place
 
--- there is a shard, of which P holds
+-- there is a shard, and P holds of it
 abbrev pub OnShard : (Shard → Type 0) → Option Shard → Type 0
 OnShard P None = ⊥
 OnShard P (Some s) = P s
 
--- each worker has a shard of each vertex, of which P holds
+-- each worker has a shard of each vertex, and P holds of it
 abbrev pub EachShard : Shown → (P : (worker vertex : ℕ) → Shard → Type 0) → Type 0
 EachShard s P = (k v : ℕ) → k < length s.sides → v < length (shown_graph s.graph) → OnShard (P k v) (known_shard (side_at s k) v)
 
--- it shows what the world says that the worker has absorbed
+-- the shard shows what its worker has absorbed according to the world
 abbrev pub ShowsIn : World → (worker vertex : ℕ) → Shard → Type 0
 ShowsIn w k v x = shards.Shows x (λ p t. w.absorbed k v p t)
 
--- The board shows this world. `sent` is the world's alone, and what was emitted is a multiset.
+-- The board shows this world. Only the world has `sent`, and in it what was emitted is a multiset.
 pub record Shows (s : Shown) (w : World) : Type 0 where
   pub stopped : w.stopped ≡ s.stopped
   pub open_epoch : (i : ℕ) → w.open_epoch i ≡ (input_at s i).open_epoch
@@ -45,14 +45,14 @@ pub record Shows (s : Shown) (w : World) : Type 0 where
   pub absorbed : EachShard s (ShowsIn w)
   pub emitted : (v e : ℕ) → w.emitted v e ≈ records_at (emitted_by s.emitted v) e
 
--- An event that is out is of this board; its shard alone isn't at home.
+-- An event that is out is of this board; only its shard isn't at home.
 pub record IsOwn (s : Shown) (x : Side) (j : Job) : Type 0 where
   pub wired : j.wired ≡ x.wired
   pub vertex : event_at (shown_graph s.graph) j.happening < length (shown_graph s.graph)
   pub away : slice_index_or x.shards (event_at (shown_graph s.graph) j.happening) None ≡ None
   pub others : (v : ℕ) → v < length (shown_graph s.graph) → v ≢ event_at (shown_graph s.graph) j.happening → (y : Shard) × (slice_index_or x.shards v None ≡ Some y)
 
--- a worker is wired for this graph and so many workers, has a shard of each vertex, and what is out is its own
+-- the worker is wired for this graph and that many workers and has a shard of each vertex, and any event that is out is its own
 pub record IsSideOf (s : Shown) (workers : ℕ) (x : Side) : Type 0 where
   pub wired : x.wired ≡ record { graph = s.graph; workers = workers }
   pub shards : length x.shards ≡ length (shown_graph s.graph)

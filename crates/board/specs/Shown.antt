@@ -22,15 +22,15 @@ Epochs = List (List (List Record))
 abbrev pub records_at : Epochs → ℕ → List Record
 records_at es e = joined (slice_index_or es e [])
 
--- what a vertex has emitted, among what each has
+-- what one vertex has emitted, taken from what each has
 abbrev pub emitted_by : List Epochs → (vertex : ℕ) → Epochs
 emitted_by es v = slice_index_or es v []
 
--- the batches that it has emitted for an epoch
+-- the batches that the vertex has emitted for an epoch
 abbrev pub batches_at : List Epochs → (vertex epoch : ℕ) → List (List Record)
 batches_at es v e = slice_index_or (emitted_by es v) e []
 
--- what was emitted stays, and more comes only behind it
+-- what was emitted stays, and more is only appended
 abbrev pub EmitsBehind : (old new : List Epochs) → Type 0
 EmitsBehind old new = (v e : ℕ) → (more : List (List Record)) × (batches_at new v e ≡ batches_at old v e ++ more)
 
@@ -40,8 +40,8 @@ pub record InputShown : Type 0 where
   pub closed : Bool
   pub fed : Epochs
 
--- What a worker has. Its table is what its events are known by; its place says where the shard of its event is. The shards are by
--- vertex; that of an event that is out isn't there.
+-- A worker's part. The table is what its events are known by; the place says where the shard of its event is. The shards are by vertex; the shard of
+-- an event that is out is missing.
 pub record Side : Type 0 where
   pub wired : Wired
   pub table : TableId
@@ -62,7 +62,7 @@ pub record Shown : Type 0 where
 abbrev pub net : Shown → Network
 net s = network (shown_graph s.graph) (length s.sides)
 
--- what stands beyond the last
+-- the value beyond the last input
 abbrev pub no_input : InputShown
 no_input = record { open_epoch = 0; closed = false; fed = [] }
 

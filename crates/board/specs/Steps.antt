@@ -23,7 +23,7 @@ after_seal s i = with_input s i (record (input_at s i) { open_epoch = (input_at 
 abbrev pub after_close : Shown → (input : ℕ) → Shown
 after_close s i = with_input s i (record (input_at s i) { closed = true })
 
--- the event goes out, with its shard, and its cause is taken out of the mailbox or the requests
+-- the event goes out with its shard, and its cause is removed from the mailbox or the requests
 abbrev pub out_with : Side → (vertex : ℕ) → Job → Side
 out_with x v j = record x { place = Out j; shards = slice_set x.shards v None }
 
@@ -43,19 +43,19 @@ abbrev pub delivered : List Side → List Letter → List Side
 delivered xs [] = xs
 delivered xs (o ∷ os) = delivered (slice_set xs o.to (with_mail (side_in xs o.to) o.message)) os
 
--- more at the end of the entry e, which is made where it isn't there
+-- more batches at the end of the entry e, which is made if it is missing
 abbrev pub more_at : ℕ → List (List Record) → Epochs → Epochs
 more_at zero bs [] = bs ∷ []
 more_at zero bs (x ∷ xs) = (x ++ bs) ∷ xs
 more_at (suc e) bs [] = [] ∷ more_at e bs []
 more_at (suc e) bs (x ∷ xs) = x ∷ more_at e bs xs
 
--- a batch more of a vertex, if there is one
+-- one more batch of a vertex, if there is one
 abbrev pub with_emitted : (vertex epoch : ℕ) → Option (List Record) → List Epochs → List Epochs
 with_emitted v e None es = es
 with_emitted v e (Some b) es = slice_set es v (more_at e (b ∷ []) (emitted_by es v))
 
--- the shard is back at home, and what was asked for is a request
+-- the shard is back at home, and the request that was made is stored
 abbrev pub settled : Side → (vertex : ℕ) → Shard → Option Request → Side
 settled x v shard asked = record x { place = Home; shards = slice_set x.shards v (Some shard); requests = x.requests ++ requests_of asked }
 

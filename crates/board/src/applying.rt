@@ -6,7 +6,7 @@ ghost use Rattle.views.specs.Waiting.{IsSeenBy};
 
 use views::Views;
 
-/// Applies the sender's next batch to the worker's view, if both are there and one waits. What no view showed as possible, none does now.
+/// Applies the sender's next batch to the worker's view, if both exist and a batch waits. A pointstamp that no view showed as possible stays so.
 pub fn apply_there<V: Views>(views: &mut V, workers: u32, worker: u32, sender: u32)
     requires { workers ≡ V.workers views.old }
     ensures graph { V.graph views.new ≡ V.graph views.old }

@@ -43,27 +43,27 @@ use std::marker::Model;
 use std::sync::Arc;
 use views::{Direct, LocalViews, Views, catch_up, law_of_step, law_of_waiting};
 
-/// What a claim answers: the first that applies.
+/// The answer of `claim`: the first that applies, in this order.
 pub enum Claimed {
     /// The board is stopped.
     Stopped,
-    /// The worker holds an event, or isn't there.
+    /// The worker holds an event, or there is no such worker.
     Busy,
     /// An event for the worker.
     Work(Work),
-    /// Every input is closed, nothing waits, and no worker holds an event: there is nothing left to do.
+    /// Every input is closed, nothing waits and no worker holds an event: the run is complete.
     Drained,
-    /// There is nothing that the worker could do now.
+    /// The worker can do nothing now.
     Idle,
 }
 
 /// Why a commit was refused.
 pub enum CommitRefusal {
-    /// An allocator refused a growth. The board is as it was, and the event whole.
+    /// Out of memory. The board is unchanged, and the event comes back whole.
     NoMemory(Done),
 }
 
-/// The core state, with each worker's view of the active pointstamps, and the number of epochs that are known to have passed.
+/// The core state, with each worker's view of the active pointstamps, and the number of epochs known to have passed.
 #[derive(Drop)]
 pub struct Board<V: Views> {
     state: State,
@@ -93,7 +93,7 @@ impl<V: Views> Model for Board<V> {
 }
 
 impl Board<Direct<LocationTracker>> {
-    /// A board that runs a graph on 1 to 64 workers, who all see one tracker. The inputs are open at epoch 0.
+    /// A board that runs a graph on 1 to 64 workers, all of which see one tracker. The inputs are open at epoch 0.
     pub fn new(
         alloc: Global,
         graph: Arc<Graph, Global>,
@@ -114,7 +114,7 @@ impl Board<Direct<LocationTracker>> {
 }
 
 impl Board<LocalViews> {
-    /// A board that runs a graph on 1 to 64 workers, each with a view of its own, which may be late. The inputs are open at epoch 0.
+    /// A board that runs a graph on 1 to 64 workers, each with its own view, which may be late. The inputs are open at epoch 0.
     pub fn with_local_views(
         alloc: Global,
         graph: Arc<Graph, Global>,
@@ -134,8 +134,8 @@ impl Board<LocalViews> {
 }
 
 impl<V: Views> Board<V> {
-    /// A board that runs a graph on 1 to 64 workers, with views for so many workers of that graph, in which each input is active at epoch 0,
-    /// and nothing waits. The inputs are open at epoch 0.
+    /// A board that runs a graph on 1 to 64 workers, with the given views. They must be views of this graph for that many workers, with each input
+    /// active at epoch 0 and nothing waiting. The inputs are open at epoch 0.
     pub fn with_views(
         alloc: Global,
         graph: Arc<Graph, Global>,
@@ -187,8 +187,7 @@ impl<V: Views> Board<V> {
         result
     }
 
-    /// Feeds a batch that was cut for this board. Nothing is computed. What is left is to be let go of, by a caller with a lock once he
-    /// has given it back.
+    /// Feeds a batch that was already cut for this board; computes nothing. The caller must drop what is left of the batch after releasing its lock.
     pub fn feed_cut(&mut self, cut: CutBatch) -> (Result<(), StepRefusal>, Option<CutBatch>)
         requires { cut.wired ≡ record { graph = self.old.shown.graph; workers = length self.old.shown.sides } }
         ensures step { OnOk result.0 (Goes self.old.shown (Step.feed cut.input cut.batch) self.new.shown) }
@@ -217,7 +216,7 @@ impl<V: Views> Board<V> {
         }
     }
 
-    /// Why feeding this batch would be refused; nothing where it would not, or for want of memory alone.
+    /// The reason why feeding this batch would be refused, want of memory aside; `None` if there is none.
     pub fn feed_refusal(&self, input: u32, batch: &Batch) -> Option<StepRefusal>
         ensures { result ≡ feed_refusal self.now.shown input batch.now }
     {
@@ -263,7 +262,7 @@ impl<V: Views> Board<V> {
         }
     }
 
-    /// Closes an input: no more records will come. No memory is taken.
+    /// Closes an input: no more records will come. Takes no memory.
     pub fn close(&mut self, input: u32) -> Result<(), StepRefusal>
         ensures step { OnOk result (Goes self.old.shown (Step.close input) self.new.shown) }
         ensures refused { OnErr result (self.new ≡ self.old) }
@@ -286,8 +285,8 @@ impl<V: Views> Board<V> {
         Ok(())
     }
 
-    /// Puts the records of a message of a free worker behind those of its first message, if both are on one edge at one time; `place` is its
-    /// place behind the first. False if they aren't, if there is no such message or worker, if the board is stopped, or for want of memory.
+    /// Merges a message of a free worker into its first message, if both are on one edge at one time; `place` is its place behind the first. False if
+    /// they aren't, if there is no such message or worker, if the board is stopped, or if memory is short.
     pub fn merge(&mut self, worker: u32, place: usize) -> bool
         ensures merges { IsTrue result → Merges self.old.shown worker place self.new.shown }
         ensures refused { result ≡ false → self.new ≡ self.old }
@@ -321,8 +320,8 @@ impl<V: Views> Board<V> {
         }
     }
 
-    /// Hands out an event to the worker, wherever it has one. Where no message is there, or much waits for it, all that waits for it is
-    /// applied first. No memory is taken.
+    /// Hands out an event to the worker, if it has one. Where no message waits for it, or many batches of changes do, those batches are applied
+    /// first. Takes no memory.
     pub fn claim(&mut self, worker: u32) -> Claimed
         ensures claims { Claims self.old.shown self.new.shown worker result }
         ensures tables { tables self.new.shown ≡ tables self.old.shown }
@@ -361,7 +360,7 @@ impl<V: Views> Board<V> {
         None
     }
 
-    /// Hands out the first notification that may be delivered to a free worker for whom no message is there and nothing waits.
+    /// Hands out the first notification that may be delivered to a free worker that has no message and an up-to-date view.
     fn claim_rest(&mut self, worker: u32) -> Claimed
         requires there { worker < length self.old.shown.sides }
         requires free { (side_at self.old.shown worker).place ≡ Home }
@@ -385,7 +384,7 @@ impl<V: Views> Board<V> {
         }
     }
 
-    /// Applies all that waits for the worker to its view. Where nothing waits, or the worker isn't there, nothing is done. No memory is taken.
+    /// Applies all the changes that wait for the worker to its view. Does nothing if none wait, or if there is no such worker. Takes no memory.
     pub fn catch_up(&mut self, worker: u32)
         ensures shown { self.new.shown ≡ self.old.shown }
         ensures applies { Applies worker self.old self.new }
@@ -403,7 +402,7 @@ impl<V: Views> Board<V> {
         self.passed = passed_now(&self.views, &self.state, self.passed);
     }
 
-    /// The same if much waits for the worker, so that no view lags without bound.
+    /// The same only if many batches wait for the worker, so that no view lags without bound.
     fn refresh(&mut self, worker: u32)
         ensures shown { self.new.shown ≡ self.old.shown }
         ensures applies { Applies worker self.old self.new }
@@ -413,8 +412,8 @@ impl<V: Views> Board<V> {
         }
     }
 
-    /// Applies the sender's next batch of changes to the worker's view; the senders are the workers, and then whoever feeds, seals and closes.
-    /// False if none waits, or the worker or the sender isn't there. No memory is taken.
+    /// Applies the sender's next batch of changes to the worker's view. The senders are the workers, and then the feeder, which feeds, seals and
+    /// closes. False if none waits, or if there is no such worker or sender. Takes no memory.
     pub fn apply(&mut self, worker: u32, sender: u32) -> bool
         ensures shown { self.new.shown ≡ self.old.shown }
         ensures applied { AppliesOne worker sender self.old self.new result }
@@ -435,8 +434,8 @@ impl<V: Views> Board<V> {
         true
     }
 
-    /// Applies as `apply` does, and tells whether an epoch had passed at an output before, and whether it has since, by the output's place:
-    /// what `passed` called passed, it still does.
+    /// As `apply`. Also answers whether an epoch had passed at an output before the call, and whether it has passed after it. The output is given by
+    /// its place. An epoch that had passed still has.
     pub fn apply_and_ask(
         &mut self,
         worker: u32,
@@ -457,8 +456,8 @@ impl<V: Views> Board<V> {
         (had, is_past(&self.views, &self.state, output, epoch))
     }
 
-    /// Hands out the worker's choice of that number: its messages in order of arrival come first, then those of its requests that may
-    /// be delivered as the worker sees it, in the order in which they were made. No memory is taken.
+    /// Hands out the worker's choice of that number: first its messages in order of arrival, then those of its requests that its view lets through,
+    /// in the order in which they were made. Takes no memory.
     pub fn pick(&mut self, worker: u32, choice: u64) -> Result<Work, StepRefusal>
         ensures picks { Picks (IsUpToDate self.old worker) self.old.shown self.new.shown worker choice result }
         ensures tables { tables self.new.shown ≡ tables self.old.shown }
@@ -490,7 +489,7 @@ impl<V: Views> Board<V> {
         }
     }
 
-    /// The graph and the number of workers, shared: what is cut by it may be fed to this board.
+    /// The graph and the number of workers, shared. A batch that is cut with them may be fed to this board.
     pub fn share_wiring(&self) -> Result<Arc<Wiring, Global>, NoMemory>
         ensures { IfOk result (λ w. w.value ≡ record { graph = self.now.shown.graph; workers = length self.now.shown.sides }) }
     {
@@ -498,8 +497,8 @@ impl<V: Views> Board<V> {
         Ok(wiring)
     }
 
-    /// The first of the places behind the worker's first message, from this one on and among the first few, whose message is like the first:
-    /// on its edge at its time, and as small. None where there is no such worker.
+    /// The first place, from `from` on and within a fixed window, of a message that can be merged with the worker's first: on the same edge at the
+    /// same time, and as small. `None` if there is no such message or worker.
     pub fn next_alike(&self, worker: u32, from: usize) -> Option<usize>
         ensures found { IfSome result (λ at. (from ≤ at) × AreAlike (side_at self.now.shown worker).mail at) }
         ensures none { IfNone result ((at : ℕ) → from ≤ at → at < 16 → AreAlike (side_at self.now.shown worker).mail at → ⊥) }
@@ -511,7 +510,7 @@ impl<V: Views> Board<V> {
         self.state.next_alike(number, from)
     }
 
-    /// Whether the worker sees an event for it. What it doesn't see may be there if something waits for it.
+    /// Whether the worker sees an event for it. While changes wait for the worker, there may be one that it doesn't see.
     pub fn can_claim(&self, worker: u32) -> bool
         ensures some { IsTrue result → HasChoice self.now.shown worker }
         ensures none { result ≡ false → IsUpToDate self.now worker → HasNoChoice self.now.shown worker }
@@ -537,7 +536,8 @@ impl<V: Views> Board<V> {
         }
     }
 
-    /// Whether an epoch has passed at an output as the first worker sees it, by the output's place: no more records will come there for it.
+    /// Whether an epoch has passed at an output as the first worker sees it: no more records will come there for it. The output is given by its
+    /// place.
     pub fn passed(&self, output: u32, epoch: u32) -> bool
         requires { IsOutputPlace self.now.shown output }
         ensures passed { IsTrue result → HasPassed self.now.shown output epoch }
@@ -547,8 +547,8 @@ impl<V: Views> Board<V> {
         is_past(&self.views, &self.state, output, epoch)
     }
 
-    /// How many epochs have passed at every output as the first worker saw it when it last looked, from epoch 0 on: at most as many as the most
-    /// that an input was sealed. It takes no time.
+    /// The number of epochs, from 0 on, that had passed at every output when the first worker last looked. Never more than the most seals of any
+    /// input. Takes constant time.
     pub fn passed_count(&self) -> u64
         ensures value { result ≡ self.now.passed }
         ensures most { (n : ℕ) → CountsPassed self.now.shown n → result ≤ n }
@@ -558,7 +558,7 @@ impl<V: Views> Board<V> {
         self.passed as u64
     }
 
-    /// One number alone is that of the passed epochs, and each epoch below it has passed at each output. Nothing is done.
+    /// The number of passed epochs is unique, and each epoch below it has passed at each output. Nothing is done.
     pub fn law_count(&self)
         ensures one { (m n : ℕ) → CountsPassed self.now.shown m → CountsPassed self.now.shown n → m ≡ n }
         ensures below { (n : ℕ) → CountsPassed self.now.shown n → (epoch : ℕ) → epoch < n → (output : ℕ) → IsOutputPlace self.now.shown output → HasPassed self.now.shown output epoch }
@@ -567,7 +567,7 @@ impl<V: Views> Board<V> {
         let _ = &self.state;
     }
 
-    /// What has passed stays so, and the number of passed epochs doesn't fall, by any step from here. Nothing is done.
+    /// What has passed stays passed, and no step lowers the number of passed epochs. Nothing is done.
     pub fn law_stays(&self)
         ensures passed { (step : Step) (next : Shown) → Goes self.now.shown step next → (output epoch : ℕ) → HasPassed self.now.shown output epoch → HasPassed next output epoch }
         ensures count { (step : Step) (next : Shown) → Goes self.now.shown step next → (m n : ℕ) → CountsPassed self.now.shown m → CountsPassed next n → m ≤ n }
@@ -575,7 +575,7 @@ impl<V: Views> Board<V> {
         let _ = &self.state;
     }
 
-    /// The event is given up, and the board stops for good. No memory is taken.
+    /// Abandons the event, and stops the board for good. Takes no memory.
     pub fn abandon(&mut self, work: Work)
         requires { IsOf self.old.shown work.0 }
         ensures holds { Holds self.old.shown work.0 }
@@ -587,7 +587,7 @@ impl<V: Views> Board<V> {
         self.state.abandon(worker as usize, work.into_stub());
     }
 
-    /// The same for an event that was computed.
+    /// As `abandon`, for an event that was computed.
     pub fn abandon_done(&mut self, done: Done)
         requires { IsOf self.old.shown done }
         ensures holds { Holds self.old.shown done }
@@ -600,7 +600,7 @@ impl<V: Views> Board<V> {
         self.state.abandon(worker as usize, stub);
     }
 
-    /// Ends an event that the board handed out. A stopped board takes it too.
+    /// Ends an event that the board handed out. A stopped board accepts it too.
     pub fn commit(&mut self, done: Done) -> Result<(), CommitRefusal>
         requires { IsOf self.old.shown done }
         ensures commits { Commits self.old.shown self.new.shown done result }
@@ -622,21 +622,21 @@ impl<V: Views> Board<V> {
         }
     }
 
-    /// Why a call on that input would be refused, whatever it is; nothing where it would not.
+    /// The reason why any call on that input would be refused; `None` if there is none.
     pub fn input_refusal(&self, input: u32) -> Option<StepRefusal>
         ensures { result ≡ input_refusal self.now.shown input }
     {
         self.state.input_refusal(input)
     }
 
-    /// Whether the board is stopped: an event was given up.
+    /// Whether the board is stopped: an event was abandoned.
     pub fn is_stopped(&self) -> bool
         ensures { result ≡ self.now.shown.stopped }
     {
         self.state.is_stopped()
     }
 
-    /// Whether every input is closed, nothing waits, and no worker holds an event or lost one.
+    /// Whether every input is closed, nothing waits, and no worker holds or has abandoned an event.
     pub fn is_drained(&self) -> bool
         ensures { MatchBool result (IsDrained self.now.shown) (IsDrained self.now.shown → ⊥) }
     {
@@ -657,7 +657,7 @@ impl<V: Views> Board<V> {
         self.state.worker_count()
     }
 
-    /// Whether the worker holds an event that isn't given up; no where there is no such worker.
+    /// Whether the worker holds an event that isn't abandoned; false if there is no such worker.
     pub fn holding(&self, worker: u32) -> bool
         ensures { result ≡ is_out (side_at self.now.shown worker).place }
     {
@@ -665,7 +665,7 @@ impl<V: Views> Board<V> {
         self.state.has_worker(number) && self.state.is_holding(number)
     }
 
-    /// The batches that were fed to an input for an epoch, in order; none where the input isn't there.
+    /// The batches that were fed to an input for an epoch, in order; none if there is no such input.
     pub fn fed(&self, input: u32, epoch: u32) -> &[Batch]
         ensures { result.now ≡ slice_index_or (input_at self.now.shown input).fed epoch [] }
     {
@@ -679,7 +679,7 @@ impl<V: Views> Board<V> {
         self.state.output_count() as u32
     }
 
-    /// The batches that were emitted at an output for an epoch, in order, by the output's place.
+    /// The batches that were emitted at an output for an epoch, in order. The output is given by its place.
     pub fn emitted(&self, output: u32, epoch: u32) -> &[Batch]
         requires { IsOutputPlace self.now.shown output }
         ensures { result.now ≡ slice_index_or (emitted_by self.now.shown.emitted (output_number (shown_graph self.now.shown.graph) output)) epoch [] }
@@ -687,7 +687,7 @@ impl<V: Views> Board<V> {
         self.state.emitted(output as usize, epoch)
     }
 
-    /// What the board shows of an epoch, to be kept while the board goes on. The batches are shared.
+    /// What the board shows of an epoch, to be kept while the board goes on. The batches are shared, not copied.
     pub fn look(&self, alloc: Global, epoch: u32) -> Result<Look, NoMemory>
         ensures { IfOk result (λ l. IsLookAt self.now epoch l) }
     {
@@ -713,14 +713,14 @@ impl<V: Views> Board<V> {
         Ok(outputs)
     }
 
-    /// How many batches of changes wait, over all workers, or the greatest `u64` if there are more.
+    /// The number of batches of changes that wait, over all workers; `u64::MAX` if there are more.
     pub fn waiting_changes(&self) -> u64
         ensures { result ≡ min (2 ^ 64 - 1) (all_waits self.now) }
     {
         self.views.waiting()
     }
 
-    /// Nothing waits where there is no such worker or sender. Nothing is done.
+    /// Nothing waits for a worker, or from a sender, that doesn't exist. Nothing is done.
     pub fn law_waits(&self)
         ensures { (w s : ℕ) → (length self.now.shown.sides ≤ w) ⊎ (length self.now.shown.sides < s) → waits_for self.now w s ≡ 0 }
     {
@@ -734,7 +734,7 @@ impl<V: Views> Board<V> {
         let _ = &self.state;
     }
 
-    /// The promise at each output, of whatever program the board runs. Nothing is done.
+    /// The promise holds at each output, whatever program the board runs. Nothing is done.
     pub fn law_headline(&self)
         ensures { (p : Program) → RunsProgram p self.now.shown → KeepsPromise p self.now.shown }
     {

@@ -12,7 +12,7 @@ use events::Request;
 use exchange::Mailbox;
 use views::Views;
 
-/// The place of the request that comes at that number, from 0, among those that may be delivered as the worker sees it.
+/// The place of the request that comes at that number, from 0, among those that the worker's view lets through.
 pub fn kth_deliverable<V: Views>(
     views: &V,
     worker: u32,

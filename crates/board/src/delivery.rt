@@ -1,4 +1,4 @@
-//! Letters to mailboxes, and the pointstamps that are active by them.
+//! Delivers letters to mailboxes, and notes the pointstamps that they make active.
 
 ghost use Rattle.std.specs.Prelude.{◌≡◌, ◌≢◌, ◌<◌, ◌≤◌, ◌+◌, ℕ, [], length, slice_set, vec_capacity, OnOk};
 ghost use Rattle.semantics.specs.Multiset.{total};
@@ -19,7 +19,7 @@ use std::alloc::AllocError;
 use tokens::tie::Stub;
 use views::Views;
 
-/// Takes room in the mailboxes for these letters.
+/// Reserves room in the mailboxes for these letters.
 pub fn reserve_letters(workers: &mut Vec<Worker>, letters: &[Letter]) -> Result<(), RowsError>
     requires { AreWithin (length workers.old.items) letters.now }
     ensures sides { sides_of workers.new.items ≡ sides_of workers.old.items }
@@ -33,7 +33,7 @@ pub fn reserve_letters(workers: &mut Vec<Worker>, letters: &[Letter]) -> Result<
     Ok(())
 }
 
-/// Puts the letters into their mailboxes. No memory is taken.
+/// Puts the letters into their mailboxes. Takes no memory.
 pub fn deliver(workers: &mut Vec<Worker>, letters: Vec<Letter>)
     requires within { AreWithin (length workers.old.items) letters.items }
     requires room { HasRoom workers.old.items letters.items }
@@ -44,7 +44,7 @@ pub fn deliver(workers: &mut Vec<Worker>, letters: Vec<Letter>)
     }
 }
 
-/// Puts a letter into its mailbox. No memory is taken.
+/// Puts a letter into its mailbox. Takes no memory.
 fn put_letter(workers: &mut Vec<Worker>, letter: Letter)
     requires within { letter.to < length workers.old.items }
     requires room { 0 < (desk_in workers.old.items letter.to).mail_room }
@@ -56,7 +56,7 @@ fn put_letter(workers: &mut Vec<Worker>, letter: Letter)
     workers[to as usize].put(message);
 }
 
-/// Notes the pointstamps of letters behind the others. No memory is taken.
+/// Appends the pointstamps of the letters. Takes no memory.
 pub fn note_letters(added: &mut Vec<Pointstamp>, letters: &[Letter])
     requires room { length added.old.items + length letters.now ≤ vec_capacity added.old }
     ensures added { (q : Active) → times_in added.new.items q ≡ letters_count q letters.now + times_in added.old.items q }
@@ -72,7 +72,7 @@ pub fn note_letters(added: &mut Vec<Pointstamp>, letters: &[Letter])
     }
 }
 
-/// Notes the pointstamp of a request, if there is one, behind the others. No memory is taken.
+/// Appends the pointstamp of the request, if there is one. Takes no memory.
 fn note_request(added: &mut Vec<Pointstamp>, asked: &Option<Request>)
     requires room { length added.old.items < vec_capacity added.old }
     ensures added { (q : Active) → times_in added.new.items q ≡ total (λ n. one_if_same q (request_pointstamp n)) (requests_of asked.now) + times_in added.old.items q }
@@ -87,8 +87,8 @@ fn note_request(added: &mut Vec<Pointstamp>, asked: &Option<Request>)
     }
 }
 
-/// Takes room in the views for a step that adds so many pointstamps and removes one or none, and for the closes of so many inputs. None are
-/// noted then, and there is room to note so many. Where it is refused, all that is active or waits is as before.
+/// Reserves room in the views for a step that adds `count` pointstamps and removes at most one, and for the closes of `closing` inputs. The list
+/// `added` is then empty, with room for `count`. If refused, everything that is active or waits is unchanged.
 pub fn prepare_views<V: Views>(
     views: &mut V,
     added: &mut Vec<Pointstamp>,
@@ -116,7 +116,7 @@ pub fn prepare_views<V: Views>(
     Ok(())
 }
 
-/// Takes room for the letters and a request of a worker. Where it is refused, all shows as before.
+/// Reserves room for the letters and for a request of the worker. If refused, the workers show the same as before.
 pub fn prepare(
     workers: &mut Vec<Worker>,
     worker: usize,
@@ -137,8 +137,8 @@ pub fn prepare(
     Ok(())
 }
 
-/// Ends an event, where there is room: its shard comes back, what it sends is delivered, and what it asks for is a request. What is active
-/// then is noted, and the event's pointstamp comes back. No memory is taken.
+/// Ends an event for which room was reserved: takes its shard back, delivers what it sends, and stores the request that it makes. Notes what becomes
+/// active, and gives back the event's pointstamp. Takes no memory.
 pub fn finish(
     workers: &mut Vec<Worker>,
     added: &mut Vec<Pointstamp>,

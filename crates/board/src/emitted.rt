@@ -25,7 +25,7 @@ impl Model for Emitted {
 }
 
 impl Emitted {
-    /// None, of so many vertices.
+    /// No batches yet, for that many vertices.
     pub fn new(alloc: Global, vertices: usize) -> Result<Emitted, NoMemory>
         ensures count { IfOk result (λ e. length e ≡ vertices) }
         ensures none { IfOk result (λ e. (v : ℕ) → emitted_by e v ≡ []) }
@@ -38,7 +38,7 @@ impl Emitted {
         Ok(Emitted { lists })
     }
 
-    /// The batches of a vertex for an epoch; none where there are none.
+    /// The batches of a vertex for an epoch, perhaps none.
     pub fn at(&self, vertex: usize, epoch: u32) -> &[Batch]
         ensures { result.now ≡ slice_index_or (emitted_by self.now vertex) epoch [] }
     {
@@ -48,7 +48,7 @@ impl Emitted {
         }
     }
 
-    /// Adds a batch of a vertex to an epoch, if there is one. Where there is no memory nothing changes, and the batch comes back.
+    /// Adds a batch of a vertex to an epoch, if there is a batch. Out of memory, nothing changes, and the batch comes back.
     pub fn add_some(
         &mut self,
         vertex: usize,

@@ -7,7 +7,7 @@ use rows::Batch;
 use std::alloc::Global;
 use std::marker::Model;
 
-/// Batches in order.
+/// A list of batches, in order.
 #[derive(Drop)]
 pub struct Batches {
     list: Vec<Batch>,
@@ -22,7 +22,7 @@ impl Model for Batches {
 }
 
 impl Batches {
-    /// None.
+    /// Creates an empty list.
     pub fn new(alloc: Global) -> Batches
         ensures { result ≡ [] }
     {
@@ -37,7 +37,7 @@ impl Batches {
         self.list.as_slice()
     }
 
-    /// Puts a batch behind the others, or gives it back where there is no memory.
+    /// Appends a batch, or gives it back if memory is short.
     pub fn push(&mut self, batch: Batch) -> Result<(), Batch>
         ensures ok { OnOk result (self.new ≡ self.old ++ batch ∷ []) }
         ensures err { OnErr result (self.new ≡ self.old) }
@@ -66,7 +66,7 @@ impl Model for Epochs {
 }
 
 impl Epochs {
-    /// None.
+    /// Creates an empty list of epochs.
     pub fn new(alloc: Global) -> Epochs
         ensures { result ≡ [] }
     {
@@ -76,7 +76,7 @@ impl Epochs {
         }
     }
 
-    /// The batches of an epoch; none where it isn't there.
+    /// The batches of an epoch; none if it has no entry yet.
     pub fn at(&self, epoch: u32) -> &[Batch]
         ensures { result.now ≡ slice_index_or self.now epoch [] }
     {
@@ -86,8 +86,7 @@ impl Epochs {
         }
     }
 
-    /// Adds a batch to an epoch, which is made where it isn't there. Where there is no memory nothing changes, and the batch comes
-    /// back.
+    /// Adds a batch to an epoch, and makes the epoch's entry if it has none. Out of memory, nothing changes, and the batch comes back.
     pub fn add(&mut self, epoch: u32, batch: Batch) -> Result<(), Batch>
         ensures ok { OnOk result (self.new ≡ more_at epoch (batch ∷ []) self.old) }
         ensures err { OnErr result (self.new ≡ self.old) }
@@ -113,7 +112,7 @@ impl Epochs {
     }
 }
 
-/// Makes epochs without batches up to that number of them.
+/// Appends epochs without batches until there are `len` of them.
 fn pad(lists: &mut Vec<Batches>, alloc: Global, len: usize)
     requires room { len < vec_capacity lists.old }
     requires shorter { vec_len lists.old ≤ len }

@@ -1,4 +1,4 @@
-//! What may be delivered.
+//! Finds the requests whose notifications may be delivered.
 
 ghost use Rattle.std.specs.Prelude.{◌≡◌, ◌↔◌, ◌<◌, ℕ, suc, [], Some, length, slice_get, slice_index, EachIndex, IfSome, IfNone, IsTrue};
 ghost use Rattle.semantics.specs.Could.{IsTimeAt, Location as Where};
@@ -14,11 +14,11 @@ use graph::Location;
 use path_summary::Pointstamp;
 use views::{Views, law_of_waiting};
 
-/// How many requests that may not be delivered a scan remembers.
+/// The number of blocked requests that a scan remembers.
 const REMEMBERED: usize = 8;
 
-/// The place of the first request that may be delivered as the worker sees it. The views are asked for a vertex's first requests alone:
-/// what stands at or after one that may not be delivered may not be either.
+/// The place of the first request that the worker's view lets through. Of each vertex, the views are asked about the earliest requests only: a
+/// request at or after a blocked one is blocked too.
 pub fn first_seen<V: Views>(views: &V, worker: u32, requests: &Mailbox<Request>) -> Option<usize>
     requires worker { worker < V.workers views.now }
     requires flows { IsDataflow (V.graph views.now) }
@@ -40,7 +40,7 @@ pub fn first_seen<V: Views>(views: &V, worker: u32, requests: &Mailbox<Request>)
     None
 }
 
-/// The same where nothing waits for the worker: the first request that may be delivered.
+/// As `first_seen`, for a worker whose view is up to date: the first request that may be delivered.
 pub fn first_deliverable<V: Views>(
     views: &V,
     worker: u32,
@@ -57,7 +57,7 @@ pub fn first_deliverable<V: Views>(
     first_seen(views, worker, requests)
 }
 
-/// Whether a request may be delivered as the worker sees it.
+/// Whether the worker's view lets a request through.
 pub fn may_deliver<V: Views>(views: &V, worker: u32, request: &Request) -> bool
     requires worker { worker < V.workers views.now }
     requires known { IsTimeAt (V.graph views.now) (Where.vertex request.now.vertex) request.now.time }
@@ -70,7 +70,7 @@ pub fn may_deliver<V: Views>(views: &V, worker: u32, request: &Request) -> bool
     )
 }
 
-/// Whether a request of the same vertex, at the same time or before it, stands at one of these places.
+/// Whether one of these places has a request of the same vertex at the same time or an earlier one.
 fn is_behind(requests: &Mailbox<Request>, places: &[usize], request: &Request) -> bool
     requires { EachIndex places.now (λ i. slice_index places.now i < length requests.now.messages) }
     ensures { IsTrue result → (i : ℕ) × (i < length places.now) × StandsBefore requests.now.messages request.now (slice_index places.now i) }

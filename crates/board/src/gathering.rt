@@ -1,4 +1,4 @@
-//! Messages that are put together before a claim.
+//! Merges small messages before a claim.
 
 ghost use Rattle.std.specs.Prelude.{◌≡◌, ◌≤◌, false};
 ghost use Rattle.board.specs.Answers.{Gathers};
@@ -7,11 +7,11 @@ ghost use Rattle.board.specs.Shown.{tables};
 use crate::board::Board;
 use views::Views;
 
-/// How many messages one call puts together at most, so that its time is bounded.
+/// The most messages that one call merges, so that its time is bounded.
 const MOST: usize = 64;
 
-/// Makes messages of a free worker one with its first message: those of the places just behind it that are like it. What waits in many small
-/// messages is then one event. No record is copied. False where nothing was changed.
+/// Merges into a free worker's first message the messages close behind it that are like it, so that many small messages are one event. Copies no
+/// record. False if nothing was changed.
 pub fn gather<V: Views>(board: &mut Board<V>, worker: u32) -> bool
     ensures gathers { Gathers board.old.shown worker board.new.shown }
     ensures nothing { result ≡ false → board.new ≡ board.old }

@@ -8,7 +8,7 @@ use rows::Batch;
 use std::alloc::Global;
 use std::marker::Model;
 
-/// What was fed to an input, by epoch, its open epoch, and whether it is closed.
+/// What was fed to an input, by epoch; its open epoch; and whether it is closed.
 #[derive(Drop)]
 pub struct Input {
     open_epoch: u32,
@@ -25,7 +25,7 @@ impl Model for Input {
 }
 
 impl Input {
-    /// Open at epoch 0.
+    /// A new input, open at epoch 0.
     pub fn new(alloc: Global) -> Input
         ensures { result ≡ record { open_epoch = 0; closed = false; fed = [] } }
     {
@@ -54,7 +54,7 @@ impl Input {
         &self.fed
     }
 
-    /// Takes a batch at the open epoch, or changes nothing where there is no memory.
+    /// Takes a batch at the open epoch. Out of memory, nothing changes, and the batch comes back.
     pub fn feed(&mut self, batch: Batch) -> Result<(), Batch>
         ensures ok { OnOk result (self.new ≡ record self.old { fed = more_at self.old.open_epoch (batch ∷ []) self.old.fed }) }
         ensures err { OnErr result (self.new ≡ self.old) }
@@ -62,7 +62,7 @@ impl Input {
         self.fed.add(self.open_epoch, batch)
     }
 
-    /// The open epoch ends, and the next one is open.
+    /// Ends the open epoch, and opens the next.
     pub fn seal(&mut self)
         requires { self.old.open_epoch < 4294967295 }
         ensures { self.new ≡ record self.old { open_epoch = self.old.open_epoch + 1 } }

@@ -1,15 +1,14 @@
-//! How long workers' views have not been looked at.
+//! Counts how long each worker's view hasn't been brought up to date.
 
 ghost use Rattle.std.specs.Prelude.{◌≡◌};
 
 use expr_tree::NoMemory;
 use std::alloc::Global;
 
-/// After so many posts a worker that claims applies what waits for it, even if it sees an event.
+/// After this many posts, a worker that claims applies what waits for it, even if it sees an event.
 const MOST: u32 = 1024;
 
-/// How many batches were posted, and how many had been when each worker last applied all that waited for it. Memory and time alone rest
-/// on it.
+/// The number of batches posted, and that number at the time when each worker last applied everything. It affects memory and time only.
 #[derive(Drop)]
 pub struct Lag {
     posts: u32,
@@ -17,7 +16,7 @@ pub struct Lag {
 }
 
 impl Lag {
-    /// Of so many workers, for whom nothing waits.
+    /// For that many workers, all up to date.
     pub fn new(alloc: Global, workers: u32) -> Result<Lag, NoMemory> {
         let mut seen = Vec::with_capacity(alloc, workers as usize)?;
         for _worker in 0..workers {
@@ -26,12 +25,12 @@ impl Lag {
         Ok(Lag { posts: 0, seen })
     }
 
-    /// A batch was posted.
+    /// Counts a posted batch.
     pub fn post(&mut self) {
         self.posts = self.posts.wrapping_add(1);
     }
 
-    /// Whether many batches were posted since the worker applied all.
+    /// Whether many batches were posted since the worker last applied everything.
     pub fn is_long(&self, worker: u32) -> bool {
         match self.seen.get(worker as usize) {
             Some(seen) => self.posts.wrapping_sub(*seen) >= MOST,
@@ -39,7 +38,7 @@ impl Lag {
         }
     }
 
-    /// The worker applied all.
+    /// Notes that the worker has applied everything.
     pub fn catch_up(&mut self, worker: u32) {
         let posts = self.posts;
         if let Some(seen) = self.seen.get_mut(worker as usize) {

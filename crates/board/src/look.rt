@@ -1,4 +1,4 @@
-//! What a board shows of an epoch, to be kept while the board goes on.
+//! A snapshot of an epoch, to be kept while the board goes on.
 
 ghost use Rattle.std.specs.Prelude.{◌≡◌, ℕ, [], map, slice_index_or, IfOk};
 ghost use Rattle.board.specs.Looks.{IsPromised, fed_by, output_in};
@@ -19,7 +19,7 @@ pub struct OutputLook {
     pub(crate) passed: bool,
 }
 
-/// What was fed for an epoch, and what each output shows. The batches are shared with the board, and the graph too.
+/// What was fed for an epoch, and what each output shows. The batches and the graph are shared with the board.
 #[derive(Drop)]
 pub struct Look {
     wiring: Arc<Wiring, Global>,
@@ -45,7 +45,7 @@ impl Model for Look {
 }
 
 impl Look {
-    /// Of what keeps the promise.
+    /// A look at these parts, which must keep the promise.
     pub(crate) fn of(
         wiring: Arc<Wiring, Global>,
         fed: Vec<Batches>,
@@ -61,7 +61,7 @@ impl Look {
         }
     }
 
-    /// The batches that were fed to an input, in order; none where there is no such input.
+    /// The batches that were fed to an input, in order; none if there is no such input.
     pub fn fed(&self, input: u32) -> &[Batch]
         ensures { result.now ≡ fed_by self.now input }
     {
@@ -71,7 +71,7 @@ impl Look {
         }
     }
 
-    /// The batches that were emitted at an output, in order; none where there is no such output.
+    /// The batches that were emitted at an output, in order; none if there is no such output.
     pub fn emitted(&self, output: u32) -> &[Batch]
         ensures { result.now ≡ (output_in self.now output).emitted }
     {
@@ -81,7 +81,7 @@ impl Look {
         }
     }
 
-    /// Whether the epoch had passed at an output; no where there is no such output.
+    /// Whether the epoch had passed at an output; false if there is no such output.
     pub fn passed(&self, output: u32) -> bool
         ensures { result ≡ (output_in self.now output).passed }
     {
@@ -91,7 +91,7 @@ impl Look {
         }
     }
 
-    /// The promise at each output, of whatever program the board ran. Nothing is done.
+    /// The promise holds at each output, whatever program the board ran. Nothing is done.
     pub fn law_headline(&self)
         ensures { IsPromised self.now }
     {
@@ -99,7 +99,7 @@ impl Look {
     }
 }
 
-/// The same batches once more, shared.
+/// The same batches, shared.
 pub fn share_batches(alloc: Global, batches: &[Batch]) -> Result<Batches, NoMemory>
     ensures { IfOk result (λ copy. copy ≡ batches.now) }
 {

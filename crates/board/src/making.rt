@@ -1,4 +1,4 @@
-//! What a new board is made of.
+//! Makes the parts of a new board.
 
 ghost use Rattle.std.specs.Prelude.{◌≡◌, ◌<◌, ◌≤◌, [], ℕ, length, slice_index_or, IfOk, None};
 ghost use Rattle.graph.specs.Shown.{shown_graph};
@@ -15,7 +15,7 @@ use graph::{Graph, VertexId};
 use std::alloc::Global;
 use std::sync::Arc;
 
-/// So many inputs, open at epoch 0.
+/// That many inputs, open at epoch 0.
 pub fn new_inputs(alloc: Global, count: usize) -> Result<Vec<Input>, NoMemory>
     ensures long { IfOk result (λ is. length is.items ≡ count) }
     ensures unfed { IfOk result (λ is. (i : ℕ) → slice_index_or is.items i no_input ≡ no_input) }
@@ -27,7 +27,7 @@ pub fn new_inputs(alloc: Global, count: usize) -> Result<Vec<Input>, NoMemory>
     Ok(inputs)
 }
 
-/// So many workers of a graph, with nothing to do.
+/// That many workers of a graph, with nothing to do.
 pub fn new_workers(
     alloc: Global,
     wiring: &Arc<Wiring, Global>,

@@ -1,4 +1,4 @@
-//! Messages of a mailbox that are put together.
+//! Merges messages of a mailbox.
 
 ghost use Rattle.std.specs.Prelude.{◌≡◌, ◌≤◌, ◌<◌, ℕ, IfNone, IfSome, MatchBool};
 ghost use Rattle.std.specs.Bool.{OnTrue};
@@ -9,11 +9,11 @@ use exchange::Mailbox;
 use graph::Location;
 use path_summary::Pointstamp;
 
-/// How many places behind the first message are looked at, so that a claim's time is bounded.
+/// The number of places behind the first message that are searched, so that a claim's time is bounded.
 const WINDOW: usize = 16;
 
-/// Makes one of the first message and the one at that place behind it, if they are alike and there is memory, and gives the pointstamp of the
-/// second; else all is as before. No record is copied.
+/// Merges the message at that place behind the first into the first, if they are alike and memory allows, and gives the pointstamp of the second.
+/// Otherwise nothing changes. Copies no record.
 pub fn merge(mailbox: &mut Mailbox<Message>, place: usize) -> Option<Pointstamp>
     ensures merged { IfSome result (λ ends. AreMerged mailbox.old.messages mailbox.new.messages place ends) }
     ensures same { IfNone result (mailbox.new.messages ≡ mailbox.old.messages) }
@@ -35,7 +35,7 @@ pub fn merge(mailbox: &mut Mailbox<Message>, place: usize) -> Option<Pointstamp>
     }
 }
 
-/// Whether the first message and the one at that place behind it may be put together.
+/// Whether the message at that place behind the first may be merged into it.
 fn are_alike(mailbox: &Mailbox<Message>, place: usize) -> bool
     ensures alike { MatchBool result (AreAlike mailbox.now.messages place) (AreAlike mailbox.now.messages place → ⊥) }
     ensures fits { OnTrue result (place < 18446744073709551615) }
@@ -46,7 +46,7 @@ fn are_alike(mailbox: &Mailbox<Message>, place: usize) -> bool
     mailbox.get(0).may_merge(mailbox.get(place + 1))
 }
 
-/// The first of the places behind the first message, from this one on and among the first few, whose message is like the first.
+/// The first place, from `from` on and within the window, of a message that is like the first.
 pub fn next_alike(mailbox: &Mailbox<Message>, from: usize) -> Option<usize>
     ensures found { IfSome result (λ at. (from ≤ at) × AreAlike mailbox.now.messages at) }
     ensures none { IfNone result ((at : ℕ) → from ≤ at → at < 16 → AreAlike mailbox.now.messages at → ⊥) }

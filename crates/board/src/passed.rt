@@ -1,4 +1,4 @@
-//! How many epochs have passed.
+//! Counts the epochs that have passed.
 
 ghost use Rattle.std.specs.Prelude.{◌≡◌, ◌<◌, ◌≤◌, ◌↔◌, ℕ, IsTrue, length};
 ghost use Rattle.semantics.specs.Could.{IsTimeAt, Location as Where, at_vertex};
@@ -16,8 +16,8 @@ use loop_context::Time;
 use path_summary::Pointstamp;
 use views::Views;
 
-/// How many epochs have passed by now at every output as the first worker sees it, where each below `from` has. Each epoch that has passed
-/// since is asked for once.
+/// The number of epochs that have passed at every output as the first worker sees it; each below `from` already has. Asks once for each epoch that
+/// has passed since.
 pub fn passed_now<V: Views>(views: &V, state: &State, from: u32) -> u32
     requires kept { IsKept (V.graph views.now) (V.content views.now) state.now }
     requires viewers { V.workers views.now ≡ length state.now.sides }
@@ -29,8 +29,8 @@ pub fn passed_now<V: Views>(views: &V, state: &State, from: u32) -> u32
     passed_from(views, state, from, state.seals())
 }
 
-/// The first epoch from `from` on that hasn't passed at some output as the first worker sees it, at most `sealed`. Each epoch that has
-/// passed since is asked once.
+/// The first epoch from `from` on, and at most `sealed`, that hasn't passed at some output as the first worker sees it. Asks once for each epoch that
+/// has passed since.
 fn passed_from<V: Views>(views: &V, state: &State, from: u32, sealed: u32) -> u32
     requires order { from ≤ sealed }
     requires some { 0 < V.workers views.now }
@@ -48,7 +48,7 @@ fn passed_from<V: Views>(views: &V, state: &State, from: u32, sealed: u32) -> u3
     sealed
 }
 
-/// Whether nothing could come to any output for an epoch as the first worker sees it.
+/// Whether the first worker sees that no record could still come to any output for an epoch.
 pub fn is_over<V: Views>(views: &V, state: &State, epoch: u32) -> bool
     requires some { 0 < V.workers views.now }
     requires outputs { AreOutputsIn (V.graph views.now) state.now }
@@ -63,7 +63,7 @@ pub fn is_over<V: Views>(views: &V, state: &State, epoch: u32) -> bool
     true
 }
 
-/// Whether nothing could come to an output for an epoch as the first worker sees it, by the output's place.
+/// Whether the first worker sees that no record could still come to an output for an epoch. The output is given by its place.
 pub fn is_past<V: Views>(views: &V, state: &State, output: u32, epoch: u32) -> bool
     requires some { 0 < V.workers views.now }
     requires outputs { AreOutputsIn (V.graph views.now) state.now }
@@ -75,7 +75,7 @@ pub fn is_past<V: Views>(views: &V, state: &State, output: u32, epoch: u32) -> b
     views.none_before(0, &output_place(vertex, epoch))
 }
 
-/// Where the records of an epoch come to an output.
+/// The pointstamp at which the records of an epoch come to an output.
 pub fn output_place(output: VertexId, epoch: u32) -> Pointstamp
     ensures { result ≡ at_vertex output.0 (at_epoch epoch) }
 {

@@ -1,4 +1,4 @@
-//! Posting a step's changes.
+//! Posts a step's changes to the views.
 
 ghost use Rattle.std.specs.Prelude.{◌≡◌, ◌+◌, ◌<◌, ◌≤◌, ℕ, cond, length, nat_lt};
 ghost use Rattle.semantics.specs.Could.{CouldResultIn, Pointstamp as Active};
@@ -10,7 +10,7 @@ ghost use Rattle.views.specs.Waiting.{after_post, batch};
 use path_summary::Pointstamp;
 use views::Views;
 
-/// Posts one step's changes as one batch, if there are some.
+/// Posts one step's changes as one batch, if there are any.
 pub fn post<V: Views>(views: &mut V, sender: u32, added: &[Pointstamp], removed: &[Pointstamp])
     requires sender { sender ≤ V.workers views.old }
     requires room { length added.now + length removed.now ≤ V.room views.old }
@@ -28,7 +28,7 @@ pub fn post<V: Views>(views: &mut V, sender: u32, added: &[Pointstamp], removed:
     }
 }
 
-/// The same of pointstamps that were noted.
+/// As `post`, for pointstamps that were noted.
 pub fn post_noted<V: Views>(
     views: &mut V,
     sender: u32,

@@ -1,4 +1,4 @@
-//! Why a call is refused.
+//! The reasons for refusals.
 
 ghost use Rattle.std.specs.Prelude.{◌≡◌, ◌≢◌, Some};
 ghost use Rattle.board.specs.Codes.{refusal_code};
@@ -6,26 +6,26 @@ ghost use Rattle.board.specs.Codes.{refusal_code};
 /// Why a call was refused. A refused call leaves the board as it was.
 #[derive(Clone, Copy, Debug, PartialEq, Eq)]
 pub enum StepRefusal {
-    /// An event was given up, which stops the board for good.
+    /// An event was abandoned, which stops the board for good.
     Stopped,
-    /// A feed, a seal or a close names an input that isn't there.
+    /// A feed, a seal or a close names an input that doesn't exist.
     UnknownInput,
-    /// A feed, a seal or a close names an input that is closed already.
+    /// A feed, a seal or a close names an input that is already closed.
     InputClosed,
     /// A fed record has another number of fields than its input declares.
     WrongFieldCount,
-    /// A seal comes at epoch 4294967295, the last one.
+    /// A seal at epoch 4294967295, the last one.
     LastEpoch,
-    /// A worker is to pick an event while it holds one, even one that was given up.
+    /// A pick for a worker that holds an event, even one that was abandoned.
     HoldsEvent,
-    /// A worker is to pick an event, and it has no choice of that number, or there is no such worker.
+    /// A pick for a worker that has no choice of that number, or for a worker that doesn't exist.
     NoSuchEvent,
-    /// An allocator refused a growth.
+    /// Out of memory.
     NoMemory,
 }
 
 impl StepRefusal {
-    /// The number of the refusal. Want of memory has none: it says nothing of the call.
+    /// The code of the refusal. Want of memory has none, since it says nothing about the call.
     pub fn code(self) -> u8
         requires { self ≢ StepRefusal.NoMemory }
         ensures { refusal_code self ≡ Some result }

@@ -1,4 +1,4 @@
-//! The shard of a vertex, while it is at home.
+//! The place of a vertex's shard on the board.
 
 ghost use Rattle.std.specs.Prelude.{◌≡◌, Some, None};
 ghost use Rattle.vertices.specs.declared.shard.Shard as shard;
@@ -6,7 +6,7 @@ ghost use Rattle.vertices.specs.declared.shard.Shard as shard;
 use std::marker::Model;
 use vertices::Shard;
 
-/// A shard that is at home; nothing while it is out with an event.
+/// Holds the shard while it is at home; empty while the shard is out with an event.
 #[derive(Drop)]
 pub struct Slot {
     shard: Option<Box<Shard>>,
@@ -30,14 +30,14 @@ impl Model for Slot {
 }
 
 impl Slot {
-    /// With the shard at home.
+    /// A slot with its shard at home.
     pub fn full(shard: Box<Shard>) -> Slot
         ensures { result ≡ Some shard.value }
     {
         Slot { shard: Some(shard) }
     }
 
-    /// The shard, which goes out.
+    /// Takes the shard out.
     pub fn take(&mut self) -> Box<Shard>
         requires { (x : shard.Shard) × (self.old ≡ Some x) }
         ensures shard { self.old ≡ Some result.value }
@@ -46,7 +46,7 @@ impl Slot {
         self.shard.take().unwrap()
     }
 
-    /// The shard is back.
+    /// Puts the shard back.
     pub fn put(&mut self, shard: Box<Shard>)
         ensures { self.new ≡ Some shard.value }
     {

@@ -1,4 +1,4 @@
-//! What a board holds besides its views. Each method is exact; where it is refused, all shows as before.
+//! What a board holds besides its views. A method that is refused leaves it showing the same as before.
 
 ghost use Rattle.std.specs.Prelude.{◌≡◌, ◌≢◌, ◌+◌, ◌<◌, ◌≤◌, ℕ, [], length, map, slice_index_or, None, MatchBool, OnOk, OnErr, IfOk, IfErr, IfSome, IfNone};
 ghost use Rattle.semantics.specs.Could.{Location as Where, Pointstamp as Active};
@@ -70,7 +70,7 @@ impl Model for State {
 }
 
 impl State {
-    /// Of a graph and so many workers, to which nothing was done.
+    /// A new state of a graph and that many workers, with nothing done yet.
     pub fn opening(alloc: Global, graph: Arc<Graph, Global>, count: u32) -> Result<State, NoMemory>
         requires some { 0 < count }
         requires few { count ≤ 64 }
@@ -98,7 +98,7 @@ impl State {
         self.stopped
     }
 
-    /// Why a call on that input is refused, whatever it is.
+    /// The reason why any call on that input is refused.
     pub fn input_refusal(&self, input: u32) -> Option<StepRefusal>
         ensures { result ≡ input_refusal self.now input }
     {
@@ -136,7 +136,7 @@ impl State {
         self.wiring.graph().outputs()[place].vertex
     }
 
-    /// How often the input was sealed that was sealed most.
+    /// The greatest number of seals of any input.
     pub fn seals(&self) -> u32
         ensures { IsMostSeals self.now result }
     {
@@ -149,7 +149,7 @@ impl State {
         most
     }
 
-    /// Whether every input is closed, nothing waits, and no event is out or lost.
+    /// Whether every input is closed, nothing waits, and no event is out or abandoned.
     pub fn is_drained(&self) -> bool
         ensures { MatchBool result (IsDrained self.now) (IsDrained self.now → ⊥) }
     {
@@ -188,7 +188,7 @@ impl State {
         self.inputs[input].open_epoch()
     }
 
-    /// The open epoch ends, and the next one is open.
+    /// Ends the open epoch of an input, and opens the next.
     pub fn seal(&mut self, input: usize)
         requires there { input < length self.old.inputs }
         requires more { (input_at self.old input).open_epoch < 4294967295 }
@@ -197,7 +197,7 @@ impl State {
         self.inputs[input].seal();
     }
 
-    /// No more comes to the input.
+    /// Closes an input.
     pub fn close(&mut self, input: usize)
         requires { input < length self.old.inputs }
         ensures { self.new ≡ after_close self.old input }
@@ -211,7 +211,7 @@ impl State {
         worker < self.workers.len()
     }
 
-    /// Whether no event of the worker is out or lost.
+    /// Whether no event of the worker is out or abandoned.
     pub fn is_free(&self, worker: usize) -> bool
         requires { worker < length self.now.sides }
         ensures { MatchBool result ((side_at self.now worker).place ≡ Home) ((side_at self.now worker).place ≢ Home) }
@@ -219,7 +219,7 @@ impl State {
         self.workers[worker].is_free()
     }
 
-    /// Whether the worker holds an event that isn't given up.
+    /// Whether the worker holds an event that isn't abandoned.
     pub fn is_holding(&self, worker: usize) -> bool
         requires { worker < length self.now.sides }
         ensures { result ≡ is_out (side_at self.now worker).place }
@@ -234,7 +234,7 @@ impl State {
         self.wiring.workers()
     }
 
-    /// What was emitted at an output for an epoch; nothing where the epoch isn't there.
+    /// What was emitted at an output for an epoch; nothing if the epoch has no entry.
     pub fn emitted(&self, output: usize, epoch: u32) -> &[Batch]
         requires { IsOutputPlace self.now output }
         ensures { result.now ≡ slice_index_or (emitted_by self.now.emitted (output_number (shown_graph self.now.graph) output)) epoch [] }
@@ -242,7 +242,7 @@ impl State {
         self.emitted.at(self.output(output).0 as usize, epoch)
     }
 
-    /// What was fed to an input for an epoch; nothing where the input or the epoch isn't there.
+    /// What was fed to an input for an epoch; nothing if the input or the epoch has no entry.
     pub fn fed(&self, input: u32, epoch: u32) -> &[Batch]
         ensures { result.now ≡ slice_index_or (input_at self.now input).fed epoch [] }
     {
@@ -296,7 +296,7 @@ impl State {
         self.workers[worker].mailbox().len()
     }
 
-    /// The first of the places behind the worker's first message, from this one on and among the first few, whose message is like the first.
+    /// The first place, from `from` on and within the window, of a message that is like the worker's first.
     pub fn next_alike(&self, worker: usize, from: usize) -> Option<usize>
         requires { worker < length self.now.sides }
         ensures found { IfSome result (λ at. (from ≤ at) × AreAlike (side_at self.now worker).mail at) }
@@ -313,8 +313,7 @@ impl State {
         self.workers[worker].requests()
     }
 
-    /// Takes a batch at the open epoch of its input, if there is memory, and notes what is active by it; else all is as before, and the batch
-    /// comes back.
+    /// Feeds a batch at the open epoch of its input, and notes what becomes active. Out of memory, nothing changes, and the batch comes back.
     pub fn feed<V: Views>(
         &mut self,
         views: &mut V,
@@ -355,8 +354,8 @@ impl State {
         Ok(())
     }
 
-    /// Makes one of the worker's first message and the one at that place behind it, if both are on one edge at one time and there is memory, and
-    /// gives the pointstamp of the second; else all is as before.
+    /// Merges the message at that place behind the worker's first into the first, if both are on one edge at one time and memory allows, and gives
+    /// the pointstamp of the second. Otherwise nothing changes.
     pub fn merge(&mut self, worker: usize, place: usize) -> Option<Pointstamp>
         requires { worker < length self.old.sides }
         ensures merges { IfSome result (λ ends. MergesMail self.old self.new worker place ends) }
@@ -365,7 +364,7 @@ impl State {
         self.workers[worker].merge(place)
     }
 
-    /// Hands out a message. No memory is taken.
+    /// Hands out a message. Takes no memory.
     pub fn claim_message(&mut self, worker: usize, place: usize) -> Work
         requires there { worker < length self.old.sides }
         requires free { (side_at self.old worker).place ≡ Home }
@@ -381,7 +380,7 @@ impl State {
         Work::new(worker as u32, event, stub)
     }
 
-    /// Hands out a request. No memory is taken.
+    /// Hands out a request. Takes no memory.
     pub fn claim_request(&mut self, worker: usize, place: usize) -> Work
         requires there { worker < length self.old.sides }
         requires free { (side_at self.old worker).place ≡ Home }
@@ -396,7 +395,7 @@ impl State {
         Work::new(worker as u32, event, stub)
     }
 
-    /// The event is given up, and the board stops for good. No memory is taken.
+    /// Abandons the event, and stops the board for good. Takes no memory.
     pub fn abandon(&mut self, worker: usize, stub: Stub<Event>)
         requires there { worker < length self.old.sides }
         requires table { stub.table ≡ (side_at self.old worker).table }
@@ -407,7 +406,7 @@ impl State {
         self.stopped = true;
     }
 
-    /// Ends the event, if there is memory, notes what is active by it, and gives its pointstamp; else all is as before, and the event whole.
+    /// Ends the event, notes what becomes active, and gives the event's pointstamp. Out of memory, nothing changes, and the event comes back whole.
     pub fn commit<V: Views>(
         &mut self,
         views: &mut V,
@@ -458,7 +457,7 @@ fn vertex_at(graph: &Graph, location: Location) -> usize
     }
 }
 
-/// Adds what is emitted, if there is memory.
+/// Stores what is emitted. Out of memory, it comes back.
 fn emit(emitted: &mut Emitted, vertex: usize, epoch: u32, output: Output) -> Result<Output, Output>
     requires { vertex < length emitted.old }
     ensures ok { IfOk result (λ o. emitted.new ≡ with_emitted vertex epoch output.emitted emitted.old) }

@@ -1,4 +1,4 @@
-//! What a worker has.
+//! A worker's part of the board.
 
 ghost use Rattle.std.specs.Prelude.{◌≡◌, ◌≢◌, ◌<◌, ◌≤◌, ◌+◌, ◌++◌, ◌∷◌, ◌↔◌, ℕ, [], length, remove, slice_get, slice_index_or, Some, None, IsTrue, IfNone, IfOk, IfSome, OnOk, OnErr, MatchBool};
 ghost use Rattle.machine.specs.World.{Event as Happens, Message as Mail, Request as Wish};
@@ -20,8 +20,8 @@ use std::sync::Arc;
 use tokens::tie::{Stub, Tie};
 use vertices::Shard;
 
-/// A worker's mailbox, its requests, its shards by vertex, and the token by which its event is known. The wiring is here while no
-/// event is out, and the shard of that event isn't.
+/// A worker's mailbox, its requests, its shards by vertex, and the token by which its event is known. While an event is out, the wiring and the shard
+/// of that event are out with it.
 #[derive(Drop)]
 pub struct Worker {
     wiring: Option<Arc<Wiring, Global>>,
@@ -51,7 +51,7 @@ impl Model for Worker {
 }
 
 impl Worker {
-    /// With nothing to do.
+    /// A worker with nothing to do.
     pub fn new(
         alloc: Global,
         wiring: Arc<Wiring, Global>,
@@ -74,42 +74,42 @@ impl Worker {
         })
     }
 
-    /// Whether no event is out or lost.
+    /// Whether no event is out or abandoned.
     pub fn is_free(&self) -> bool
         ensures { MatchBool result (self.now.side.place ≡ Home) (self.now.side.place ≢ Home) }
     {
         self.wiring.is_some()
     }
 
-    /// Whether an event is out that isn't given up.
+    /// Whether an event is out that isn't abandoned.
     pub fn is_holding(&self) -> bool
         ensures { result ≡ is_out self.now.side.place }
     {
         self.wiring.is_none() && !self.lost
     }
 
-    /// Whether nothing waits and no event is out or lost.
+    /// Whether nothing waits, and no event is out or abandoned.
     pub fn is_idle(&self) -> bool
         ensures { MatchBool result (IsIdle self.now.side) (IsIdle self.now.side → ⊥) }
     {
         self.wiring.is_some() && self.mailbox.is_empty() && self.requests.is_empty()
     }
 
-    /// The messages that wait.
+    /// The messages that wait, in order of arrival.
     pub fn mailbox(&self) -> &Mailbox<Message>
         ensures { result.now.messages ≡ self.now.side.mail }
     {
         &self.mailbox
     }
 
-    /// The requests that wait.
+    /// The requests that wait, in the order in which they were made.
     pub fn requests(&self) -> &Mailbox<Request>
         ensures { result.now.messages ≡ self.now.side.requests }
     {
         &self.requests
     }
 
-    /// The first of the places behind the first message, from this one on and among the first few, whose message is like the first.
+    /// The first place, from `from` on and within the window, of a message that is like the first.
     pub fn next_alike(&self, from: usize) -> Option<usize>
         ensures found { IfSome result (λ at. (from ≤ at) × AreAlike self.now.side.mail at) }
         ensures none { IfNone result ((at : ℕ) → from ≤ at → at < 16 → AreAlike self.now.side.mail at → ⊥) }
@@ -117,7 +117,7 @@ impl Worker {
         next_alike(&self.mailbox, from)
     }
 
-    /// Takes room for that many messages more.
+    /// Reserves room for that many more messages.
     pub fn reserve_mail(&mut self, more: usize) -> Result<(), RowsError>
         ensures side { self.new.side ≡ self.old.side }
         ensures kept { self.old.mail_room ≤ self.new.mail_room }
@@ -127,7 +127,7 @@ impl Worker {
         self.mailbox.reserve(more)
     }
 
-    /// Takes room for a request more.
+    /// Reserves room for one more request.
     pub fn reserve_request(&mut self) -> Result<(), RowsError>
         ensures side { self.new.side ≡ self.old.side }
         ensures mail { self.new.mail_room ≡ self.old.mail_room }
@@ -136,7 +136,7 @@ impl Worker {
         self.requests.reserve(1)
     }
 
-    /// Puts a message into the mailbox. No memory is taken.
+    /// Appends a message to the mailbox. Takes no memory.
     pub fn put(&mut self, message: Message)
         requires { 0 < self.old.mail_room }
         ensures side { self.new.side ≡ with_mail self.old.side message }
@@ -146,8 +146,8 @@ impl Worker {
         self.mailbox.put_reserved(message);
     }
 
-    /// Makes one of the first message and the one at that place behind it, if they are alike and there is memory, and gives the pointstamp of the
-    /// second; else all is as before.
+    /// Merges the message at that place behind the first into the first, if they are alike and memory allows, and gives the pointstamp of the second.
+    /// Otherwise nothing changes.
     pub fn merge(&mut self, place: usize) -> Option<Pointstamp>
         ensures merged { IfSome result (λ ends. AreMerged self.old.side.mail self.new.side.mail place ends) }
         ensures same { IfNone result (self.new.side.mail ≡ self.old.side.mail) }
@@ -156,7 +156,7 @@ impl Worker {
         merge(&mut self.mailbox, place)
     }
 
-    /// Hands out a message, with the shard of its vertex. No memory is taken.
+    /// Hands out a message, with the shard of its vertex. Takes no memory.
     pub fn send_message(&mut self, place: usize, vertex: usize) -> (Event, Stub<Event>)
         requires free { self.old.side.place ≡ Home }
         requires there { place < length self.old.side.mail }
@@ -180,7 +180,7 @@ impl Worker {
         (event, stub)
     }
 
-    /// Hands out a request, with the shard of its vertex. No memory is taken.
+    /// Hands out a request, with the shard of its vertex. Takes no memory.
     pub fn send_request(&mut self, place: usize, vertex: usize) -> (Event, Stub<Event>)
         requires free { self.old.side.place ≡ Home }
         requires there { place < length self.old.side.requests }
@@ -204,7 +204,7 @@ impl Worker {
         (event, stub)
     }
 
-    /// The event that is out is this one.
+    /// Shows by the token that its event is the one that is out. Changes nothing.
     pub fn show(&mut self, stub: Stub<Event>) -> Stub<Event>
         requires { stub.table ≡ self.old.side.table }
         ensures out { self.old.side.place ≡ Out stub.job }
@@ -214,7 +214,7 @@ impl Worker {
         self.tie.show(stub)
     }
 
-    /// The event ends: its shard and the wiring are back, and what it asks for is a request. No memory is taken.
+    /// Ends the event: takes back its shard and the wiring, and stores the request that it makes. Takes no memory.
     pub fn settle(
         &mut self,
         vertex: usize,
@@ -239,7 +239,7 @@ impl Worker {
         }
     }
 
-    /// The event is given up. No memory is taken.
+    /// Abandons the event. Takes no memory.
     pub fn abandon(&mut self, stub: Stub<Event>)
         requires { stub.table ≡ self.old.side.table }
         ensures out { self.old.side.place ≡ Out stub.job }

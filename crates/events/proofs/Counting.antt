@@ -1,4 +1,4 @@
--- Where the counts of an event are too large, and that the records of a message in another order count the same.
+-- Where the counts of an event are too large; and the records of a message count the same in another order.
 use Rattle.std.proofs.Common.{◌≡◌, ℕ, ◌+◌, List, [], ◌++◌, ◌⊎◌, inl, inr, refl, sym, ap, subst, arith}
 use Rattle.semantics.specs.Graph.{Graph, in_port}
 use Rattle.semantics.specs.Kinds.{Kind, Role, out_ports, role}
@@ -22,11 +22,11 @@ use Rattle.events.specs.TooMany.{IsOverAt}
 use Rattle.events.specs.Wired.{Wired, graph_in}
 use Rattle.events.specs.declared.fault.ComputeFault.TheVariants as compute
 
--- a message that was taken apart, with its own records
+-- a message that was taken apart still has its own records
 pub message_at : (m : Message) (edge : ℕ) (time : Time) → edge ≡ m.edge → time ≡ m.time → record { edge = edge; time = time; records = m.records } ≡ m
 message_at m edge time e t = λ i. record { edge = e i; time = t i; records = m.records }
 
--- nothing is over in what fits
+-- records that fit have no count over the limit
 fits_not_over : (xs : List Record) → AllFit xs → IsOver xs → ⊥
 fits_not_over xs fits (r, over) = let le = fits r in omega (arith, le, over)
 
@@ -56,7 +56,7 @@ one_send Role.output op before now port records first second f s q = ≈-trans (
 -- ---- a message that a shard takes
 
 module _ (g : Graph) (m : Message) (shard : Shard) (batch : List Record) (e : batch ≈ m.records) (a : Absorbed) where
-  -- where it is taken, no count is too large
+  -- if the shard takes it, no count is too large
   pub taken_fits : (o : Out) → AllFit (kept_by (role (shard_kind shard)) a (in_port g m.edge) m.time batch) → ((q : ℕ) → AllFit (sent (out_ports (shard_kind shard)) o q))
       → SendsFor (shard_kind shard) m.time a (in_port g m.edge) batch o → IsOverAt g shard (Event.arrival m) a → ⊥
   taken_fits o fits sent_fits sends (inl over) = fits_not_over _ fits (kept_over_same (role (shard_kind shard)) a (in_port g m.edge) m.time m.records batch (≈-sym e) over)
@@ -65,7 +65,7 @@ module _ (g : Graph) (m : Message) (shard : Shard) (batch : List Record) (e : ba
       (over_same _ _ (one_send (role (shard_kind shard)) _ _ _ (in_port g m.edge) m.records would (sent (out_ports (shard_kind shard)) o) said
       (Sends_same (shard_kind shard) m.time a (in_port g m.edge) batch m.records (sent (out_ports (shard_kind shard)) o) e sends) q) over)
 
-  -- where a count is too large, it is
+  -- if a count is too large for the shard, the event's count is
   pub taken_over : IsOver (kept_by (role (shard_kind shard)) a (in_port g m.edge) m.time batch) ⊎ WouldSendOver (shard_kind shard) m.time a (in_port g m.edge) batch → IsOverAt g shard (Event.arrival m) a
   taken_over (inl over) = inl (kept_over_same (role (shard_kind shard)) a (in_port g m.edge) m.time batch m.records e over)
   taken_over (inr over) = inr (would_send_over_same (shard_kind shard) m.time a (in_port g m.edge) batch m.records e over)
@@ -78,7 +78,7 @@ output_fits g m shard a is h = none (subst (λ (x : Kind). IsOver (kept_by (role
     none (inl over) = nothing_over [] refl over
     none (inr (would, said, q, over)) = nothing_over (would q) (said q) over
 
--- ---- the same, by other names
+-- ---- the same for equal values
 
 module _ (w w' : Wired) (m m' : Message) (shard shard' : Shard) (e : w' ≡ w) (x : Event.arrival m' ≡ Event.arrival m) (same : shard' ≡ shard) (a : Absorbed) where
   pub over_as : IsOverAt (graph_in w) shard (Event.arrival m) a → IsOverAt (graph_in w') shard' (Event.arrival m') a
@@ -91,7 +91,7 @@ module _ (w w' : Wired) (m m' : Message) (shard shard' : Shard) (e : w' ≡ w) (
       subst (λ (y : Event). IsOverAt (graph_in w) shard y a) x
       (subst (λ (s : Shard). IsOverAt (graph_in w) s (Event.arrival m') a) same (subst (λ (v : Wired). IsOverAt (graph_in v) shard' (Event.arrival m') a) e over))
 
--- a shard's fault
+-- a shard's fault as an event's
 pub count_of : (f : ShardFault) → fault_of f ≡ compute.Count → f ≡ shard.Count
 count_of shard.NoMemory e = absurd cc
 count_of shard.Count e = refl

@@ -1,4 +1,4 @@
--- The messages of a batch that is cut, at whatever epoch it is fed.
+-- The messages of a batch that is cut, for any epoch at which it is fed.
 use Rattle.std.proofs.Common.{◌≡◌, ◌<◌, ◌≤◌, ◌+◌, ℕ, suc, zero, List, [], ◌∷◌, ◌++◌, map, length, take, drop, get_or, refl, sym, subst, ap, ap₂, ◌∙◌, arith, add-one}
 use Rattle.std.proofs.Math.ListN.{set}
 use Rattle.std.proofs.lemmas.List.{map-append}
@@ -16,9 +16,9 @@ use Rattle.events.specs.Letters.{AreParcels, by_two, letter_of, letters, letters
 use Rattle.events.specs.Wired.{graph_in, network_of}
 use Rattle.events.proofs.Seams.{parcels_are}
 
--- ---- a loop that writes each in turn
+-- ---- a loop that writes each element in turn
 
--- the first so many are written
+-- the first i elements are written
 abbrev pub written : {A : Type 0} (f : A → A) (i : ℕ) → List A → List A
 written f zero xs = xs
 written f (suc i) [] = []
@@ -39,7 +39,7 @@ written_all f zero (z ∷ zs) l = absurd (omega arith)
 written_all f (suc i) [] l = refl
 written_all f (suc i) (z ∷ zs) l = ap (λ vs. f z ∷ vs) (written_all f i zs (omega arith))
 
--- what a list holds once the whole of it was lent and came back as xs
+-- a list that was lent as a whole and came back as xs holds xs
 pub lent_whole : {A : Type 0} (n : ℕ) (xs ys : List A) → n ≡ length ys → length xs ≡ length ys → take n (xs ++ drop (length xs) ys) ≡ xs
 lent_whole {A} n xs ys e l = subst (λ (k : ℕ). take k (xs ++ drop (length xs) ys) ≡ xs) (l ∙ sym e) (taken_all xs (drop (length xs) ys) (dropped_all ys (length xs) (omega (arith, l))))
   where

@@ -1,4 +1,4 @@
--- Two messages put together.
+-- Two messages that are merged.
 use Rattle.std.proofs.Common.{◌≡◌, ℕ, ◌+◌, ◌<◌, List, [], ◌∷◌, ◌++◌, inr, length, refl, sym, ap, ◌∙◌, subst, arith, append-nil, append_assoc, length-append}
 use Rattle.std.specs.List.{AllByRecursion}
 use Rattle.semantics.specs.Multiset.{Record}
@@ -42,6 +42,6 @@ one_message first more l a one second others m b other few fewer same all e =
 pub one_batch : (first : List Record) (more : List (List Record)) → more ≡ [] → first ++ joined more ≡ first
 one_batch first more e = ap (λ bs. first ++ joined bs) e ∙ append-nil first
 
--- few records stand nowhere too often
+-- records that are few have no count over the limit
 pub not_over : (xs : List Record) → length xs < 2048 → IsOver xs → ⊥
 not_over xs few (r, over) = let le = count_le r xs in omega (arith, few, over, le)

@@ -24,7 +24,7 @@ cut_letters c = letters (network_of c.wired) 0 (at_epoch c.epoch) (by_two c.batc
 abbrev pub at_time : Time → Letter → Letter
 at_time t l = record l { message = record l.message { time = t } }
 
--- the letters are those of the batch, and the input is one of the graph
+-- the letters are those of the batch, and the graph has that input
 pub record IsCut (c : Cut) (ls : List Letter) : Type 0 where
   pub there : c.input < length (graph_in c.wired)
   pub kind : (vertex (graph_in c.wired) c.input).kind ≡ Kind.input

@@ -1,11 +1,11 @@
--- Messages that are put together, and the batches in which the records of a message lie.
+-- Messages that are merged, and the batches in which a message's records are stored.
 use Rattle.std.specs.Prelude.{◌≡◌, ℕ, ◌<◌, ◌⊎◌, List, [], ◌++◌, length, min}
 use Rattle.std.specs.List.{AllByRecursion}
 use Rattle.semantics.specs.Multiset.{Record}
 use Rattle.machine.specs.World.{Message}
 use Rattle.rows.specs.FlatRows.{arity_of, joined}
 
--- messages with fewer records than this may be put together
+-- messages with fewer records than this may be merged
 abbrev pub most_merged : ℕ
 most_merged = 1024
 
@@ -17,8 +17,8 @@ pub record MayMerge (first second : Message) : Type 0 where
   pub first_small : length first.records < most_merged
   pub second_small : length second.records < most_merged
 
--- The first batch isn't empty, all have one arity, and so many records are in them, where a number of 64 bits can tell. Several are
--- together only where they are few.
+-- The first batch isn't empty, all have one arity, and `len` is the number of records in them, capped at 64 bits. There are several batches only if
+-- there are few records.
 pub record AreOneMessage (first : List Record) (more : List (List Record)) (len fields : ℕ) : Type 0 where
   pub some : 0 < length first
   pub counted : len ≡ min (length (first ++ joined more)) 18446744073709551615

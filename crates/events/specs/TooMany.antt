@@ -1,4 +1,4 @@
--- Where the computation of an event meets a count that is too large.
+-- Where computing an event meets a count that is too large.
 use Rattle.std.specs.Prelude.{◌⊎◌}
 use Rattle.semantics.specs.Graph.{Graph, in_port}
 use Rattle.semantics.specs.Kinds.{role}
@@ -11,17 +11,17 @@ use Rattle.vertices.specs.declared.shard.Shard.{Shard}
 use Rattle.events.specs.Jobs.{Job}
 use Rattle.events.specs.Wired.{graph_in}
 
--- a count of what the shard would then have absorbed, or of what it would send, is above the greatest count; a notification absorbs
--- nothing, and sends different records
+-- a count of what the shard would have absorbed, or of what it would send, is above the greatest count; a notification absorbs nothing, and sends
+-- distinct records
 abbrev pub IsOverAt : Graph → Shard → Event → Absorbed → Type 0
 IsOverAt g shard (Event.arrival m) a =
     IsOver (kept_by (role (shard_kind shard)) a (in_port g m.edge) m.time m.records) ⊎ WouldSendOver (shard_kind shard) m.time a (in_port g m.edge) m.records
 IsOverAt g shard (Event.notification n) a = ⊥
 
--- it is so, whatever records the shard shows to have absorbed
+-- a count is too large, whichever records the shard shows as absorbed
 abbrev pub CountsOver : Job → Type 0
 CountsOver j = (a : Absorbed) → Shows j.before a → IsOverAt (graph_in j.wired) j.before j.happening a
 
--- it is not so
+-- no count is too large
 abbrev pub CountsFit : Job → Type 0
 CountsFit j = (a : Absorbed) → Shows j.before a → IsOverAt (graph_in j.wired) j.before j.happening a → ⊥

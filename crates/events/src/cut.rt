@@ -1,4 +1,4 @@
-//! A batch that is fed, cut into messages before the board is asked.
+//! A batch that is fed, cut into messages before the board sees it.
 
 ghost use Rattle.std.specs.Prelude.{◌≡◌, ◌≤◌, ◌<◌, length, map, IfOk};
 ghost use Rattle.semantics.specs.Graph.{vertex as vertex_in};
@@ -18,8 +18,8 @@ use std::alloc::Global;
 use std::marker::Model;
 use std::sync::Arc;
 
-/// A batch for an input, and the messages that feeding it at an epoch makes. To set another epoch is all that is left to do when it is
-/// known at which it is fed.
+/// A batch for an input, with the messages that feeding it at an epoch makes. Once the epoch is known at which it is fed, setting it is all that is
+/// left to do.
 #[derive(Drop)]
 pub struct CutBatch {
     wiring: Arc<Wiring, Global>,
@@ -47,7 +47,7 @@ impl Model for CutBatch {
 }
 
 impl CutBatch {
-    /// Cuts a batch for an input, to be fed at epoch 0.
+    /// Cuts a batch for an input, at first for epoch 0.
     pub fn of(
         alloc: Global,
         wiring: &Arc<Wiring, Global>,
@@ -84,7 +84,7 @@ impl CutBatch {
         &self.batch
     }
 
-    /// It is to be fed at that epoch.
+    /// Sets the epoch at which the batch is to be fed.
     pub fn set_epoch(&mut self, epoch: u32)
         ensures { self.new ≡ record self.old { epoch = epoch } }
     {
@@ -99,7 +99,7 @@ impl CutBatch {
         &self.letters
     }
 
-    /// Its messages, to be sent.
+    /// Gives the messages away, to be sent.
     pub fn into_letters(self) -> Vec<Letter>
         ensures same { result.items ≡ cut_letters self }
     {
@@ -113,7 +113,7 @@ impl CutBatch {
         letters
     }
 
-    /// Its messages are those of the batch, fed at its epoch, and they are few. Nothing is done.
+    /// The messages are those of the batch, fed at its epoch, and there are at most 524,288. Nothing is done.
     pub fn law_of_letters(&self)
         ensures parcels { AreParcels (network_of self.now.wired) 0 self.now.input (at_epoch self.now.epoch) (λ q. self.now.batch) (cut_letters self.now) }
         ensures few { length (cut_letters self.now) ≤ 524288 }

@@ -12,11 +12,10 @@ use rows::{Batch, TallyError};
 use std::alloc::Global;
 use std::marker::Model;
 
-/// Messages with fewer records than this may be put together; a larger one is worth an event of its own.
+/// Messages with fewer records than this may be merged; a larger one is worth an event by itself.
 const MOST_MERGED: usize = 1024;
 
-/// Records on their way to a worker. Where messages were put together their batches lie one after another, and are joined when the
-/// event is computed.
+/// Records on an edge at a time. A message that was merged holds several batches, which are joined when its event is computed.
 #[derive(Drop)]
 pub struct Message {
     edge: EdgeId,
@@ -41,7 +40,7 @@ impl Model for Message {
 }
 
 impl Message {
-    /// Of one batch. No memory is taken.
+    /// A message of one batch. Takes no memory.
     pub fn new(alloc: Global, edge: EdgeId, time: Time, batch: Batch) -> Message
         ensures { result ≡ record { edge = edge.0; time = time; records = batch } }
     {
@@ -67,21 +66,21 @@ impl Message {
         &self.time
     }
 
-    /// It is to come at that time.
+    /// Sets the time at which the message arrives.
     pub fn set_time(&mut self, time: Time)
         ensures { self.new ≡ record self.old { time = time } }
     {
         self.time = time;
     }
 
-    /// How many records there are, with their repeats: it stays at 18446744073709551615.
+    /// The number of records, repeats counted; 18446744073709551615 if there are more.
     pub fn len(&self) -> usize
         ensures { result ≡ min (length self.now.records) 18446744073709551615 }
     {
         self.len
     }
 
-    /// In how many rows the records lie, which is what they cost to compute. No clause speaks of it.
+    /// The number of rows in which the records are stored, which decides the cost of computing them. No clause is about it.
     pub fn rows(&self) -> usize {
         let mut rows = self.batch.len();
         for batch in &self.more {
@@ -90,7 +89,7 @@ impl Message {
         rows
     }
 
-    /// Whether the other's records may be put behind these. No record is looked at.
+    /// Whether the other message may be merged into this one. Looks at no record.
     pub fn may_merge(&self, other: &Message) -> bool
         ensures { IsTrue result ↔ MayMerge self.now other.now }
     {
@@ -101,7 +100,7 @@ impl Message {
             && other.len < MOST_MERGED
     }
 
-    /// Puts the other's records behind these, without copying one. For want of memory it comes back, and nothing has changed.
+    /// Appends the other message's batches, without copying a record. Out of memory, nothing changes, and the other message comes back.
     pub fn merge(&mut self, other: Message) -> Result<(), Message>
         requires { MayMerge self.old other }
         ensures merged { OnOk result (self.new ≡ record self.old { records = self.old.records ++ other.records }) }
@@ -127,7 +126,7 @@ impl Message {
         Ok(())
     }
 
-    /// The edge, the time, and the records as one batch, in some order; they are copied only where they lie in several.
+    /// The edge, the time, and the records as one batch, in some order. Copies records only if there are several batches.
     pub fn into_parts(self, alloc: Global) -> Result<(EdgeId, Time, Batch), EventFault>
         ensures edge { IfOk result (λ p. p.0.0 ≡ self.edge) }
         ensures time { IfOk result (λ p. p.1 ≡ self.time) }
@@ -153,7 +152,7 @@ impl Message {
     }
 }
 
-/// Puts a batch behind others, and more behind it, where there is room.
+/// Appends a batch and then more batches; there must be room.
 fn put_reserved(batches: &mut Vec<Batch>, batch: Batch, more: Vec<Batch>)
     requires { vec_len batches.old + length more.items + 1 ≤ vec_capacity batches.old }
     ensures { batches.new.items ≡ batches.old.items ++ batch ∷ more.items }

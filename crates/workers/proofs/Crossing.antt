@@ -1,4 +1,4 @@
--- An engine may be shared by threads, and an event may go to any of them: each layer, from the inside out.
+-- Threads may share an engine, and an event may go to any of them: each layer, from the inside out.
 use denote.RattleType.{RattleType}
 use denote.Param.Send.{IsSend, IsSync, sendable}
 use Rattle.std.proofs.Crossing.{crosses}
@@ -148,7 +148,7 @@ worker_send =
 state_field_send : IsSend state.the_field.row
 state_field_send = search (sendable, crosses, worker_send, wiring_send, wiring_sync, inputs.the_send, emitted.the_send) depth 20
 
--- a `&` of an engine may go to any thread, whoever names its board, if the views may
+-- a `&` of an engine may go to any thread if the views may, whatever type names its board
 pub engine_sync : (J V : RattleType) (n : naming.Ghosts J.Denot) (v : viewing.Ghosts V.Denot)
     → IsSend J → IsSync J → IsSend V → IsSync (engine.the_row J V n v)
 engine_sync J V n v s y w = search (sendable, crosses, state_field_send, lags.the_send, pointstamps.the_send, publishers.the_send, wiring_sync, wiring_send) depth 40

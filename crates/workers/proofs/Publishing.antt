@@ -1,4 +1,4 @@
--- After each call of the board, what is published is the number of passed epochs, and nothing waits for the first worker.
+-- After each call of the board, the number of passed epochs is published, and nothing waits for the first worker.
 use Rattle.std.proofs.Common.{◌≡◌, ◌≤◌, ℕ, zero, suc, List, [], max, Bool, true, false, MatchBool, slice_index_or, refl, sym, ap, subst, ◌∙◌, arith}
 use Rattle.atomic_table.specs.Seated.{TableId}
 use Rattle.graph.specs.Shown.{GraphValue}
@@ -12,16 +12,16 @@ use Rattle.board.specs.declared.board.Claimed.{Claimed}
 use Rattle.board.specs.declared.board.Claimed.TheVariants.{Stopped, Busy, Work, Drained, Idle}
 use Rattle.workers.specs.Held.{IsHeld, Publishes}
 
--- nothing waits for the first worker, whoever applies what waits
+-- nothing waits for the first worker still, for whichever worker the changes were applied
 pub prompt_applied : (worker : ℕ) (b t : BoardShown) → IsUpToDate b 0 → Applies worker b t → IsUpToDate t 0
 prompt_applied zero b t prompt applies s = let none = prompt s in let fewer = applies.fewer s in omega arith
 prompt_applied (suc worker) b t prompt applies s = applies.others 0 s (λ e. absurd (cc)) ∙ prompt s
 
--- nor where nothing was posted
+-- the same if nothing was posted
 pub prompt_kept : (b t : BoardShown) → IsUpToDate b 0 → IsAsLate b t → IsUpToDate t 0
 prompt_kept b t prompt late s = ap (λ (ws : List (List ℕ)). slice_index_or (slice_index_or ws 0 []) s 0) late.waits ∙ prompt s
 
--- the number that the board says is published
+-- the number that the board gives is published
 pub publishes : (old : ℕ) (b : BoardShown) (n new : ℕ) → IsUpToDate b 0 → n ≡ b.passed → (IsUpToDate b 0 → CountsPassed b.shown n) → new ≡ max old n → Publishes old b new
 publishes old b n new prompt value seen number = record {
   prompt = prompt;
@@ -44,7 +44,7 @@ module _ (names : List TableId) (graph : GraphValue) (b : BoardShown) (old : ℕ
   published : old ≤ t.passed → Publishes old t new → CountsPassed t.shown new
   published l p = let same : t.passed ≡ new = (let number = p.number in omega (arith, number, l)) in subst (CountsPassed t.shown) same p.counts
 
-  -- a step was taken
+  -- after a step
   pub after_step : (stays : (step : Step) (next : Shown) → Goes b.shown step next → (m n : ℕ) → CountsPassed b.shown m → CountsPassed next n → m ≤ n)
       (step : Step) → Goes b.shown step t.shown → tables t.shown ≡ tables b.shown → Publishes old t new → IsHeld names graph (record { board = t; published = new })
   after_step stays step goes same p = record {
@@ -54,13 +54,13 @@ module _ (names : List TableId) (graph : GraphValue) (b : BoardShown) (old : ℕ
     prompt = p.prompt;
   }
 
-  -- a step was taken, and then the board was caught up with
+  -- after a step and then a catch-up of the first worker
   pub after_publishing : (stays : (step : Step) (next : Shown) → Goes b.shown step next → (m n : ℕ) → CountsPassed b.shown m → CountsPassed next n → m ≤ n)
       (step : Step) (u : BoardShown) → Goes b.shown step u.shown → tables u.shown ≡ tables b.shown → t.shown ≡ u.shown → Publishes old t new
       → IsHeld names graph (record { board = t; published = new })
   after_publishing stays step u goes same is p = after_step stays step (subst (Goes b.shown step) (sym is) goes) (ap tables is ∙ same) p
 
-  -- nothing changed, but that what waits may have been applied
+  -- after a call that changed nothing, except that waiting batches may have been applied
   pub after_nothing : (one : (m n : ℕ) → CountsPassed b.shown m → CountsPassed b.shown n → m ≡ n)
       → t.shown ≡ b.shown → Publishes old t new → IsHeld names graph (record { board = t; published = new })
   after_nothing one is p =
@@ -82,7 +82,7 @@ module _ (names : List TableId) (graph : GraphValue) (b : BoardShown) (old : ℕ
   after_claim one stays worker Drained h same p = after_nothing one h.3 p
   after_claim one stays worker Idle h same p = after_nothing one h.5 p
 
--- messages became one, and then the board was caught up with; what was published is what the board knew before
+-- after messages were merged and the first worker caught up; what was published is what the board knew before
 pub after_gathering : (names : List TableId) (graph : GraphValue) (b : BoardShown) (old : ℕ) → IsHeld names graph (record { board = b; published = old })
     → (one : (m n : ℕ) → CountsPassed b.shown m → CountsPassed b.shown n → m ≡ n) (known : ℕ) → known ≡ b.passed → (IsUpToDate b 0 → CountsPassed b.shown known)
     → (u t : BoardShown) (new : ℕ) → tables u.shown ≡ tables b.shown → u.shown.graph ≡ b.shown.graph → b.passed ≤ u.passed → t.shown ≡ u.shown → u.passed ≤ t.passed
@@ -97,7 +97,7 @@ after_gathering names graph b old held one known value seen u t new same is_grap
       prompt = p.prompt;
     }
 
--- what waits for a worker was applied
+-- after what waits for a worker was applied
 pub after_catching_up : (names : List TableId) (graph : GraphValue) (b : BoardShown) (n : ℕ) → IsHeld names graph (record { board = b; published = n })
     → (worker : ℕ) (t : BoardShown) → t.shown ≡ b.shown → Applies worker b t → IsHeld names graph (record { board = t; published = n })
 after_catching_up names graph b n held worker t is applies = record {
@@ -107,12 +107,12 @@ after_catching_up names graph b n held worker t is applies = record {
   prompt = prompt_applied worker b t held.prompt applies;
 }
 
--- nothing changed
+-- after a refusal
 pub after_refusal : (names : List TableId) (graph : GraphValue) (b : BoardShown) (n : ℕ) → IsHeld names graph (record { board = b; published = n })
     → (t : BoardShown) → t ≡ b → IsHeld names graph (record { board = t; published = n })
 after_refusal names graph b n held t is = subst (λ (z : BoardShown). IsHeld names graph (record { board = z; published = n })) (sym is) held
 
--- what a worker for whom nothing waits is told is so, and was so before
+-- the answer to a worker for which nothing waits is true, and was true before
 pub choice : (b t : BoardShown) (worker : ℕ) (answer : Bool) → t.shown ≡ b.shown → IsUpToDate t worker
     → (answer ≡ true → HasChoice t.shown worker) → (answer ≡ false → IsUpToDate t worker → HasNoChoice t.shown worker)
     → MatchBool answer (HasChoice b.shown worker) (HasNoChoice b.shown worker)

@@ -1,4 +1,4 @@
--- Which board an event is of, by the names of the workers' tables.
+-- The board that an event is of, by the names of the workers' tables.
 use Rattle.std.specs.Prelude.{◌≡◌, List, Some, slice_get}
 use Rattle.atomic_table.specs.Seated.{TableId}
 use Rattle.events.specs.Jobs.{Pass}
@@ -9,7 +9,7 @@ use Rattle.board.specs.declared.board.Claimed.TheVariants.{Stopped, Busy, Work, 
 abbrev pub IsNamed : List TableId → Pass → Type 0
 IsNamed names p = slice_get names p.worker ≡ Some p.table
 
--- an event that is handed out is
+-- so is an event that is handed out
 abbrev pub GivesNamed : List TableId → Claimed → Type 0
 GivesNamed names Stopped = Unit {0}
 GivesNamed names Busy = Unit {0}

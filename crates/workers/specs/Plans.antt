@@ -1,4 +1,4 @@
--- What may be fed to a board, as far as its graph tells.
+-- What may be fed to a board, as far as its graph decides.
 use Rattle.std.specs.Prelude.{◌≡◌, ◌≢◌, ◌<◌, ℕ, List, length}
 use Rattle.semantics.specs.Graph.{vertex}
 use Rattle.semantics.specs.Kinds.{Kind}
@@ -13,7 +13,7 @@ use Rattle.board.specs.declared.refusal.StepRefusal.TheVariants.{Stopped, Unknow
 abbrev pub HasInput : GraphValue → (input : ℕ) → Type 0
 HasInput g i = (i < length (shown_graph g)) × ((vertex (shown_graph g) i).kind ≡ Kind.input)
 
--- there is no such input; it has another arity; there is no memory to cut the batch
+-- there is no such input; it has another arity; or there is no memory to cut the batch
 abbrev pub RefusesBatch : GraphValue → (input : ℕ) → List Record → StepRefusal → Type 0
 RefusesBatch g i batch UnknownInput = HasInput g i → ⊥
 RefusesBatch g i batch WrongFieldCount = HasInput g i × (arity_of batch ≢ arity_in g i)

@@ -1,4 +1,4 @@
--- What each seat has read is at most the word, and the word is what the one publisher has published.
+-- What each seat has read is at most the word, which is what the one publisher has published.
 use Rattle.std.specs.Prelude.{◌≡◌, ℕ, ◌≤◌, true, false, List, [], ◌∷◌, max}
 use mathlib.Core.Option.{some}
 use lib.ListN.{get_elem?}
@@ -11,7 +11,7 @@ reader n = record { publishes = false; number = n }
 abbrev pub publisher : ℕ → View
 publisher n = record { publishes = true; number = n }
 
--- a view beside the word, where p is the publisher's number
+-- a view fits the word, where p is the publisher's number
 pub record Fits (p word i : ℕ) (v : View) : Type 0 where
   pub alone : v.publishes ≡ true → i ≡ p
   pub above : v.publishes ≡ true → v.number ≡ word
@@ -22,7 +22,7 @@ abbrev pub Keeps : List ℕ → List View → Type 0
 Keeps [] views = ⊥
 Keeps (n ∷ ns) views = (p : ℕ) × ((i : ℕ) (v : View) → get_elem? views i ≡ some v → Fits p n i v)
 
--- a load tells the word, which is no less than what was read before
+-- a load gives the word, which is at least what was read before
 abbrev pub Reads : Me (Unit {0}) View → ℕ → Me (Unit {0}) View → Type 0
 Reads before n after = (before.0.number ≤ n) × (after ≡ (reader n, []))
 

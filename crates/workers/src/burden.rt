@@ -1,17 +1,17 @@
-//! How much comes to the workers, as far as it decides whom to wake.
+//! How much work waits for each worker, to decide which threads to wake.
 
 ghost use Rattle.std.specs.Prelude.{◌≡◌};
 
 use crate::crew::Crew;
 use events::{Done, Letter};
 
-/// A message of fewer rows is computed sooner than another thread has it.
+/// A message of fewer rows takes less time to compute than to hand to another thread.
 const LARGE: u64 = 32;
 
-/// So many rows in large messages are worth waking a thread.
+/// This many rows in large messages are worth waking a thread.
 const HEAVY: u64 = 2048;
 
-/// What an event or a batch brings: who gets a message, who gets a large one, and how many rows the largest has.
+/// What an event or a batch brings: the workers that get a message, those that get a large one, and the rows of the largest message.
 #[derive(Clone, Copy)]
 pub struct Brought {
     receivers: Crew,
@@ -20,7 +20,7 @@ pub struct Brought {
 }
 
 impl Brought {
-    /// By these letters.
+    /// What these letters bring.
     pub fn by(letters: &[Letter]) -> Brought {
         let mut brought = Brought {
             receivers: Crew::nobody(),
@@ -33,7 +33,7 @@ impl Brought {
         brought
     }
 
-    /// By a computed event, which comes back.
+    /// What a computed event brings; the event is given back.
     pub fn by_event(done: Done) -> (Brought, Done)
         ensures { result.1 ≡ done }
     {
@@ -52,8 +52,8 @@ impl Brought {
     }
 }
 
-/// Who got a message since he had nothing to do, and how many rows have come to each in large messages, halved each time that he
-/// has nothing to do. So it tells also whose notifications are about many rows.
+/// The workers that got a message since they last had nothing to do, and the rows of large messages that came to each. The rows are halved each time
+/// a worker has nothing to do, so they also show which workers' notifications are about many rows.
 #[derive(Drop)]
 pub struct Burdens {
     mailed: Crew,
@@ -62,7 +62,7 @@ pub struct Burdens {
 }
 
 impl Burdens {
-    /// Nothing has come.
+    /// Nothing has come to any worker.
     pub fn new() -> Burdens {
         Burdens {
             mailed: Crew::nobody(),
@@ -71,17 +71,17 @@ impl Burdens {
         }
     }
 
-    /// Who may have mail.
+    /// The workers that may have mail.
     pub fn mailed(&self) -> Crew {
         self.mailed
     }
 
-    /// Whose events are worth waking a thread.
+    /// The workers whose events are worth waking a thread.
     pub fn heavy(&self) -> Crew {
         self.heavy
     }
 
-    /// So much has come.
+    /// Notes what was brought.
     pub fn note(&mut self, brought: Brought) {
         self.mailed = self.mailed.or(brought.receivers);
         if !brought.burdened.is_empty() {
@@ -93,7 +93,7 @@ impl Burdens {
         }
     }
 
-    /// The worker has nothing to do.
+    /// Notes that the worker has nothing to do.
     pub fn lighten(&mut self, worker: u32) {
         self.mailed = self.mailed.without(worker);
         let rows = self.of(worker);

@@ -1,18 +1,18 @@
 //! Sets of workers.
 
-/// Some of a board's workers, of whom there are 64 at most.
+/// A set of a board's workers, of which there are at most 64.
 #[derive(Clone, Copy)]
 pub struct Crew {
     bits: u64,
 }
 
 impl Crew {
-    /// Nobody.
+    /// The empty set.
     pub fn nobody() -> Crew {
         Crew { bits: 0 }
     }
 
-    /// The one worker.
+    /// The set of one worker.
     fn of(worker: u32) -> Crew {
         Crew {
             bits: 1 << (worker % 64),
@@ -27,38 +27,38 @@ impl Crew {
         !self.both(Crew::of(worker)).is_empty()
     }
 
-    /// With that worker.
+    /// The set with that worker added.
     pub fn with(self, worker: u32) -> Crew {
         self.or(Crew::of(worker))
     }
 
-    /// Without that worker.
+    /// The set without that worker.
     pub fn without(self, worker: u32) -> Crew {
         self.but(Crew::of(worker))
     }
 
-    /// Those of either.
+    /// The union.
     pub fn or(self, other: Crew) -> Crew {
         Crew {
             bits: self.bits | other.bits,
         }
     }
 
-    /// Those of both.
+    /// The intersection.
     pub fn both(self, other: Crew) -> Crew {
         Crew {
             bits: self.bits & other.bits,
         }
     }
 
-    /// Those of this one alone.
+    /// The difference: this set's workers that aren't in the other.
     pub fn but(self, other: Crew) -> Crew {
         Crew {
             bits: self.bits & !other.bits,
         }
     }
 
-    /// One of them: that worker or the next in turn.
+    /// One of them: that worker if it is in the set, or else the next in turn.
     pub fn from(self, worker: u32) -> Option<u32> {
         if self.is_empty() {
             return None;

@@ -20,7 +20,7 @@ use std::collections::VecDeque;
 use std::sync::{Condvar, Mutex, Wait};
 use views::Views;
 
-/// A board under a lock, with a bell for each worker and one for those who wait for epochs to pass.
+/// A board under a lock, with a bell for each worker and one for the threads that wait for epochs to pass.
 #[derive(Drop)]
 pub struct Engine<J: Naming, V: Views> {
     floor: Mutex<Floor<J, V>>,
@@ -30,7 +30,7 @@ pub struct Engine<J: Naming, V: Views> {
 }
 
 impl<J: Naming, V: Views> Engine<J, V> {
-    /// Of a board, and of a publisher that has published nothing.
+    /// An engine over a board, with a publisher that has published nothing yet.
     pub fn new(
         alloc: Global,
         board: Board<V>,
@@ -50,7 +50,7 @@ impl<J: Naming, V: Views> Engine<J, V> {
         })
     }
 
-    /// Feeds a batch to an input at its open epoch, as the board's call. The batch is cut into messages before the lock is taken.
+    /// The board's `feed`. The batch is cut into messages before the lock is taken.
     pub fn feed<R: Wait>(
         &self,
         rt: &R,
@@ -68,8 +68,7 @@ impl<J: Naming, V: Views> Engine<J, V> {
         }
     }
 
-    /// Feeds and seals in this order, as the calls would one after another, up to the first that is refused. All batches are cut before,
-    /// and the lock is taken once.
+    /// Feeds and seals in order, as single calls would, up to the first that is refused. All batches are cut first, and the lock is taken once.
     pub fn feed_all<R: Wait>(
         &self,
         rt: &R,
@@ -87,7 +86,7 @@ impl<J: Naming, V: Views> Engine<J, V> {
         }
     }
 
-    /// Why a batch that can't be cut would be refused at first.
+    /// The board's first reason to refuse a batch that can't be cut.
     fn first_refusal<R: Wait>(&self, rt: &R, input: u32, refusal: StepRefusal) -> StepRefusal {
         match self.floor.lock(rt).held.input_refusal(input) {
             Some(first) => first,
@@ -95,21 +94,21 @@ impl<J: Naming, V: Views> Engine<J, V> {
         }
     }
 
-    /// Ends the open epoch of an input, as the board's call.
+    /// The board's `seal`.
     pub fn seal<R: Wait>(&self, rt: &R, input: u32) -> Result<(), StepRefusal> {
         let (result, wakes) = self.floor.lock(rt).seal(input);
         self.wake(wakes);
         result
     }
 
-    /// Closes an input, as the board's call.
+    /// The board's `close`.
     pub fn close<R: Wait>(&self, rt: &R, input: u32) -> Result<(), StepRefusal> {
         let (result, wakes) = self.floor.lock(rt).close(input);
         self.wake(wakes);
         result
     }
 
-    /// Sleeps until so many epochs have passed, or the board is stopped, or nothing is left to do.
+    /// Sleeps until `count` epochs have passed, or the board is stopped, or nothing is left to do.
     pub fn wait_for<R: Wait>(&self, rt: &R, count: u64) {
         let mut floor = self.floor.lock(rt);
         for _turn in rt.forever() {
@@ -120,8 +119,8 @@ impl<J: Naming, V: Views> Engine<J, V> {
         }
     }
 
-    /// What the board shows of an epoch, to be kept. The mark is read by the seat, in any case. None only where the mark says that
-    /// more epochs have passed than have here, as that of another engine may.
+    /// What the board shows of an epoch, to be kept. Always reads the mark by the seat. `None` only if the mark shows more passed epochs than this
+    /// engine has, which only another engine's mark can.
     pub fn look<R: Wait>(
         &self,
         rt: &R,
@@ -145,14 +144,14 @@ impl<J: Naming, V: Views> Engine<J, V> {
         Ok(Some(held.look(alloc, epoch)?))
     }
 
-    /// Claims an event for the worker's thread, and answers what it finds.
+    /// Claims an event for the worker's thread; doesn't sleep.
     pub(crate) fn try_claim<R: Wait>(&self, rt: &R, worker: u32) -> Claimed
         ensures { GivesNamed J.names result }
     {
         self.floor.lock(rt).claim(worker)
     }
 
-    /// Claims an event for the worker's thread, and sleeps while there is nothing that it could do.
+    /// Claims an event for the worker's thread; sleeps while there is nothing that the thread could do.
     pub(crate) fn claim<R: Wait>(&self, rt: &R, worker: u32) -> Claimed
         ensures { GivesNamed J.names result }
     {
@@ -172,7 +171,7 @@ impl<J: Naming, V: Views> Engine<J, V> {
         unreachable!()
     }
 
-    /// Ends an event and claims the thread's next one, in one taking of the lock. Without memory all stays, and the event comes back.
+    /// Ends an event and claims the thread's next one under one lock. Out of memory, nothing changes, and the event comes back.
     pub(crate) fn commit<R: Wait>(&self, rt: &R, worker: u32, done: Done) -> Result<Claimed, Done>
         requires { IsNamed J.names done }
         ensures next { IfOk result (λ claimed. GivesNamed J.names claimed) }
@@ -184,7 +183,7 @@ impl<J: Naming, V: Views> Engine<J, V> {
         result
     }
 
-    /// Gives an event up, which stops the board.
+    /// Abandons an event, which stops the board.
     pub(crate) fn abandon<R: Wait>(&self, rt: &R, work: Work)
         requires { IsNamed J.names work.0 }
     {
@@ -192,7 +191,7 @@ impl<J: Naming, V: Views> Engine<J, V> {
         self.wake(wakes);
     }
 
-    /// Gives a computed event up, which stops the board.
+    /// Abandons a computed event, which stops the board.
     pub(crate) fn abandon_done<R: Wait>(&self, rt: &R, done: Done)
         requires { IsNamed J.names done }
     {
@@ -200,7 +199,7 @@ impl<J: Naming, V: Views> Engine<J, V> {
         self.wake(wakes);
     }
 
-    /// Wakes them. No lock is held.
+    /// Wakes these threads. The lock must be free.
     fn wake(&self, wakes: Wakes) {
         if !wakes.workers().is_empty() {
             let mut worker = 0;
@@ -216,7 +215,7 @@ impl<J: Naming, V: Views> Engine<J, V> {
         }
     }
 
-    /// The board, once no thread shares the engine any more.
+    /// The board, once no thread shares the engine.
     pub(crate) fn into_board(self) -> Board<V>
         ensures graph { result.shown.graph ≡ J.graph }
         ensures prompt { IsUpToDate result 0 }
@@ -231,7 +230,7 @@ impl<J: Naming, V: Views> Engine<J, V> {
     }
 }
 
-/// A bell for each of so many workers.
+/// That many bells, one for each worker.
 fn new_bells(alloc: Global, workers: u32) -> Result<Vec<Condvar>, NoMemory> {
     let mut bells = Vec::with_capacity(alloc, workers as usize)?;
     for _worker in 0..workers {

@@ -1,17 +1,17 @@
-//! What the threads share under the lock: the board, and who is asleep.
+//! What the threads share under the lock: the board, and which threads are asleep.
 //!
-//! Each worker has a thread. A thread that has nothing to do for its own worker computes what waits for workers whose threads are asleep,
-//! and falls asleep only where there is nothing of that kind either. So small events are computed by whoever is up, and a thread is
-//! woken where it is worth its while:
+//! Each worker has a thread. A thread that has nothing to do for its own worker computes what waits for workers whose threads are asleep, and falls
+//! asleep only when there is nothing of that kind either. So small events are computed by the threads that are up, and a sleeping thread is woken
+//! only when it is worth the cost:
 //!
 //! - when many records have come to its worker, and it has something to do;
-//! - when nobody is up, or all who are have heavy events of their own, and it has something to do;
+//! - when no thread is up, or all that are up have heavy events of their own, and it has something to do;
 //! - when an input is closed, and it has something to do;
 //! - when the board is at its end.
 //!
-//! No wakeup is lost: whenever the lock is given back, either somebody is up, or nobody who sleeps has anything to do. For who is up looks
-//! after all who sleep before it sleeps or leaves, at `claim`; and where nobody is up, `due` asks all who sleep. Both apply what waits for
-//! a worker before they take it that it has nothing to do, so that no event is missed because a worker's view is late.
+//! No wakeup is lost: whenever the lock is released, either some thread is up, or no sleeping thread has anything to do. A thread that is up looks
+//! after all the sleepers before it sleeps or leaves, in `claim`. When no thread is up, `due` asks for each sleeper. Both apply what waits for a
+//! worker before they conclude that it has nothing to do, so no event is missed because a worker's view is late.
 
 ghost use Rattle.std.specs.Prelude.{◌≡◌, length, IfErr, IfOk};
 ghost use Rattle.board.specs.Lateness.{IsUpToDate};
@@ -26,10 +26,10 @@ use events::{CutBatch, Done, Work};
 use std::collections::VecDeque;
 use views::Views;
 
-/// No number of epochs is waited for.
+/// Nobody waits for epochs to pass.
 const NONE: u64 = u64::MAX;
 
-/// Whom a call wakes, once the lock is given back.
+/// The threads that a call wakes once the lock is released.
 #[derive(Clone, Copy)]
 pub struct Wakes {
     workers: Crew,
@@ -37,7 +37,7 @@ pub struct Wakes {
 }
 
 impl Wakes {
-    /// Nobody.
+    /// Wakes nobody.
     pub fn nobody() -> Wakes {
         Wakes {
             workers: Crew::nobody(),
@@ -45,19 +45,19 @@ impl Wakes {
         }
     }
 
-    /// The workers who are to be woken.
+    /// The workers whose threads are woken.
     pub fn workers(self) -> Crew {
         self.workers
     }
 
-    /// Whether those are to be woken who wait for epochs to pass.
+    /// Whether the threads that wait for epochs to pass are woken.
     pub fn has_feeders(self) -> bool {
         self.feeders
     }
 }
 
-/// A board with its publisher; whose threads are asleep, and whose are up, that is, hold an event or were woken; whose events another
-/// one's thread has; what has come to each; and the least number of epochs that somebody waits for.
+/// A board with its publisher; the threads that are asleep; those that are up, that is, hold an event or were woken; the workers whose event another
+/// worker's thread computes; what has come to each worker; and the least number of epochs that a thread waits for.
 #[derive(Drop)]
 pub struct Floor<J: Naming, V: Views> {
     pub held: Held<J, V>,
@@ -65,14 +65,14 @@ pub struct Floor<J: Naming, V: Views> {
     up: Crew,
     lent: Crew,
     burdens: Burdens,
-    /// Whom another one's thread has helped last, and whom `due` has asked last.
+    /// The worker that another worker's thread helped last, and the one that `due` asked for last.
     helped: u32,
     asked: u32,
     awaited: u64,
 }
 
 impl<J: Naming, V: Views> Floor<J, V> {
-    /// With nobody asleep.
+    /// All threads awake.
     pub fn new(held: Held<J, V>) -> Floor<J, V> {
         Floor {
             held,
@@ -86,7 +86,7 @@ impl<J: Naming, V: Views> Floor<J, V> {
         }
     }
 
-    /// As the board's call, what is left of it, and whom it wakes.
+    /// The board's `feed_cut`: its result, what is left of the batch, and the threads to wake.
     pub fn feed_cut(
         &mut self,
         slice: Slice<J>,
@@ -95,7 +95,7 @@ impl<J: Naming, V: Views> Floor<J, V> {
         (result, left, self.due())
     }
 
-    /// As the board's calls in order, up to the first that is refused; what is left then, and whom they wake.
+    /// The board's calls in order, up to the first that is refused; what is left of that one, and the threads to wake.
     pub fn feed_all(
         &mut self,
         feeds: &mut VecDeque<CutFeed<J>>,
@@ -113,13 +113,13 @@ impl<J: Naming, V: Views> Floor<J, V> {
         (Ok(()), None, self.due())
     }
 
-    /// As the board's call, and whom it wakes.
+    /// The board's `seal`, and the threads to wake.
     pub fn seal(&mut self, input: u32) -> (Result<(), StepRefusal>, Wakes) {
         let result = self.held.seal(input);
         (result, self.due())
     }
 
-    /// As the board's call, and whom it wakes: all who have something to do, since whoever closes an input may not come back.
+    /// The board's `close`. Wakes every worker that has something to do, since the thread that closes an input may make no further call.
     pub fn close(&mut self, input: u32) -> (Result<(), StepRefusal>, Wakes) {
         let result = self.held.close(input);
         let sleepers = self.sleepers();
@@ -130,7 +130,7 @@ impl<J: Naming, V: Views> Floor<J, V> {
         (result, wakes)
     }
 
-    /// An event for a thread: of its own worker, or else of one who is asleep.
+    /// An event for a thread: one of its own worker, or else one of a sleeping worker.
     pub fn claim(&mut self, thread: u32) -> Claimed
         ensures { GivesNamed J.names result }
     {
@@ -146,7 +146,7 @@ impl<J: Naming, V: Views> Floor<J, V> {
         claimed
     }
 
-    /// Ends an event, claims the thread's next one, and says whom that wakes. Where memory is wanting all stays, and the event comes back.
+    /// Ends an event and claims the thread's next one; also gives the threads to wake. Out of memory, nothing changes, and the event comes back.
     pub fn commit(
         &mut self,
         thread: u32,
@@ -169,7 +169,7 @@ impl<J: Naming, V: Views> Floor<J, V> {
         }
     }
 
-    /// Gives an event up, and wakes everybody.
+    /// Abandons an event, and wakes every thread.
     pub fn abandon(&mut self, work: Work) -> Wakes
         requires { IsNamed J.names work.0 }
     {
@@ -177,7 +177,7 @@ impl<J: Naming, V: Views> Floor<J, V> {
         self.due()
     }
 
-    /// Gives an event up, and wakes everybody.
+    /// Abandons a computed event, and wakes every thread.
     pub fn abandon_done(&mut self, done: Done) -> Wakes
         requires { IsNamed J.names done }
     {
@@ -185,12 +185,12 @@ impl<J: Naming, V: Views> Floor<J, V> {
         self.due()
     }
 
-    /// The thread, which has nothing to do, sleeps from now on.
+    /// Puts the thread, which has nothing to do, to sleep.
     pub fn fall_asleep(&mut self, thread: u32) {
         self.asleep = self.asleep.with(thread);
     }
 
-    /// Whether so many epochs have passed, or no more will. If not, that many are waited for.
+    /// Whether `count` epochs have passed, or no further ones will. If not, notes that a thread waits for that many.
     pub fn has_passed(&mut self, count: u64) -> bool {
         if count <= self.held.passed_count() || self.is_at_end() {
             return true;
@@ -217,7 +217,7 @@ impl<J: Naming, V: Views> Floor<J, V> {
         held.into_board()
     }
 
-    /// As the board's call, and what is left of it.
+    /// The board's `feed_cut`, and what is left of the batch.
     fn feed_slice(&mut self, slice: Slice<J>) -> (Result<(), StepRefusal>, Option<CutBatch>) {
         let (cut, brought) = slice.into_parts();
         let (result, left) = self.held.feed_cut(cut);
@@ -227,7 +227,7 @@ impl<J: Naming, V: Views> Floor<J, V> {
         (result, left)
     }
 
-    /// An event of the thread's own worker. Where another thread has one, there is none for now.
+    /// An event of the thread's own worker; idle while another thread has that worker's event.
     fn claim_own(&mut self, thread: u32) -> Claimed
         ensures { GivesNamed J.names result }
     {
@@ -237,7 +237,7 @@ impl<J: Naming, V: Views> Floor<J, V> {
         self.claim_of(thread)
     }
 
-    /// As the board's call, once alike messages of the worker are one; and it is noted where there is nothing to do.
+    /// The board's `claim`, after the worker's messages that are alike are merged. Notes a worker that has nothing to do.
     fn claim_of(&mut self, worker: u32) -> Claimed
         ensures { GivesNamed J.names result }
     {
@@ -249,8 +249,8 @@ impl<J: Naming, V: Views> Floor<J, V> {
         claimed
     }
 
-    /// An event where there is mail, as is known without asking: of the thread's own worker, or else of a sleeper, but of none who is
-    /// woken for it.
+    /// An event of a worker that has mail, as is known without asking the board: the thread's own worker, or else a sleeper for which nobody needs to
+    /// be woken.
     fn claim_mailed(&mut self, thread: u32) -> Claimed
         ensures { GivesNamed J.names result }
     {
@@ -267,8 +267,8 @@ impl<J: Naming, V: Views> Floor<J, V> {
         }
     }
 
-    /// An event where there is no mail: a notification of the thread's own worker, or else of a sleeper. To look for one costs a look at
-    /// all requests that wait.
+    /// An event of a worker without mail: a notification of the thread's own worker, or else of a sleeper. Finding one means looking at all the
+    /// requests that wait.
     fn claim_asked(&mut self, thread: u32) -> Claimed
         ensures { GivesNamed J.names result }
     {
@@ -280,7 +280,7 @@ impl<J: Naming, V: Views> Floor<J, V> {
         }
     }
 
-    /// An event of one of these workers, who sleep.
+    /// An event of one of these sleeping workers.
     fn claim_among(&mut self, workers: Crew) -> Claimed
         ensures { GivesNamed J.names result }
     {
@@ -302,18 +302,18 @@ impl<J: Naming, V: Views> Floor<J, V> {
         Claimed::Idle
     }
 
-    /// Who sleeps, and has no event that another thread has.
+    /// The sleeping workers whose event no other thread has.
     fn sleepers(&self) -> Crew {
         self.asleep.but(self.lent)
     }
 
-    /// They are up from now on.
+    /// Counts these threads as up from now on.
     fn rouse(&mut self, workers: Crew) {
         self.asleep = self.asleep.but(workers);
         self.up = self.up.or(workers);
     }
 
-    /// Whom this call wakes. They count as up from now on.
+    /// The threads that this call must wake. They count as up from now on.
     fn due(&mut self) -> Wakes {
         let workers = if self.asleep.is_empty() {
             Crew::nobody()
@@ -334,7 +334,7 @@ impl<J: Naming, V: Views> Floor<J, V> {
         self.held.is_stopped() || self.held.is_drained()
     }
 
-    /// Which of the sleeping workers are to be woken: all, where the board is at its end.
+    /// The sleeping workers to be woken: all of them, if the board is at its end.
     fn due_workers(&mut self) -> Crew {
         if self.is_at_end() {
             return self.asleep;
@@ -354,7 +354,7 @@ impl<J: Naming, V: Views> Floor<J, V> {
         self.next_if_can_claim(heavy)
     }
 
-    /// The next of them in turn, if it has something to do. Only one is asked, so that many who sleep cost an event no more.
+    /// The next of them in turn, if it has something to do. Asks for one only, so that the cost doesn't grow with the number of sleepers.
     fn next_if_can_claim(&mut self, workers: Crew) -> Crew {
         let Some(worker) = workers.from(self.asked) else {
             return Crew::nobody();
@@ -367,7 +367,7 @@ impl<J: Naming, V: Views> Floor<J, V> {
         }
     }
 
-    /// One of them who has something to do, if there is any.
+    /// The first of them that has something to do, if there is one.
     fn first_who_can_claim(&mut self, workers: Crew) -> Crew {
         for worker in 0..self.held.workers() {
             if workers.has(worker) && self.held.can_claim(worker) {
@@ -377,7 +377,7 @@ impl<J: Naming, V: Views> Floor<J, V> {
         Crew::nobody()
     }
 
-    /// Those of them who have something to do.
+    /// Those of them that have something to do.
     fn who_can_claim(&mut self, workers: Crew) -> Crew {
         let mut busy = Crew::nobody();
         for worker in 0..self.held.workers() {

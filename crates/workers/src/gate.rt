@@ -1,4 +1,4 @@
-//! What runs round a computation.
+//! What a worker's thread runs around a computation.
 
 ghost use Rattle.std.specs.Prelude.{◌≡◌, Some, IfErr, IfOk};
 ghost use Rattle.events.specs.Jobs.{FailsBy};
@@ -6,10 +6,10 @@ ghost use Rattle.events.specs.Jobs.{FailsBy};
 use events::{ComputeFault, Done, Work};
 use std::alloc::Global;
 
-/// What a worker's thread does with an event that it has claimed, which may be that of a worker whose thread sleeps. Both calls are made
-/// with no lock held. `turn` counts the thread's events from 0 and stays at 18446744073709551615.
+/// What a worker's thread does with an event that it has claimed; the event may be one of a worker whose thread sleeps. Both calls are made without
+/// the lock. `turn` counts the thread's events from 0, and stays at 18446744073709551615 when it gets there.
 pub trait Gate {
-    /// Computes the event, as `Work::compute`: where that is refused the work is spoiled, and is refused so again.
+    /// Computes the event, as `Work::compute` does: a refusal spoils the work, and another call is refused in the same way.
     fn compute(
         &self,
         alloc: Global,
@@ -25,7 +25,7 @@ pub trait Gate {
     fn after_commit(&self, worker: u32, turn: u64);
 }
 
-/// Computes, and does nothing else.
+/// A gate that only computes.
 pub struct NoGate;
 
 impl Gate for NoGate {

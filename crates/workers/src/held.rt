@@ -1,4 +1,4 @@
-//! What lies under the lock: the board, and who publishes how many epochs have passed.
+//! What the lock protects: the board, and the publisher of the number of passed epochs.
 
 ghost use Rattle.std.specs.Prelude.{◌≡◌, ◌<◌, ℕ, true, IfOk, MatchBool, OnErr, OnOk, length, max};
 ghost use Rattle.machine.specs.Step.{Step};
@@ -19,8 +19,8 @@ use std::alloc::Global;
 use std::marker::{Brand, Model, PhantomData};
 use views::Views;
 
-/// Which board it is: the tables by which its events are known, and the graph that it runs. No value is made of it; `Brand` stands for
-/// whatever board one call is about.
+/// Names a board by the tables by which its events are known, and by the graph that it runs. It has no values; `Brand` stands for the board that a
+/// call is about.
 pub trait Naming {
     ghost use Rattle.std.specs.Prelude.{List};
     ghost use Rattle.atomic_table.specs.Seated.{TableId};
@@ -39,7 +39,7 @@ impl Naming for Brand {
     ghost graph = { record { vertices = []; inputs = []; outputs = []; arities = [] } };
 }
 
-/// A board and its publisher. Each call is the board's; then all that waits for worker 0 is applied, and what has passed is published.
+/// A board and its publisher. Each call makes the board's call, then applies all that waits for worker 0, and publishes what has passed.
 #[derive(Drop)]
 pub struct Held<J: Naming, V: Views> {
     board: Board<V>,
@@ -66,7 +66,7 @@ impl<J: Naming, V: Views> Model for Held<J, V> {
 }
 
 impl<J: Naming, V: Views> Held<J, V> {
-    /// Publishes what has passed already.
+    /// Publishes the epochs that have passed already.
     pub fn new(board: Board<V>, publisher: Publisher) -> Held<J, V>
         requires names { tables board.shown ≡ J.names }
         requires graph { board.shown.graph ≡ J.graph }
@@ -84,7 +84,7 @@ impl<J: Naming, V: Views> Held<J, V> {
         }
     }
 
-    /// As the board's. The batch must be cut by the board's plan. What is left is to be let go of once the lock is given back.
+    /// The board's `feed_cut`; the batch must be cut by the board's plan. Drop what is left of it after the lock is released.
     pub fn feed_cut(&mut self, cut: CutBatch) -> (Result<(), StepRefusal>, Option<CutBatch>)
         requires { cut.wired ≡ record { graph = J.graph; workers = length J.names } }
         ensures step { OnOk result.0 (Goes self.old.board.shown (Step.feed cut.input cut.batch) self.new.board.shown) }
@@ -101,14 +101,14 @@ impl<J: Naming, V: Views> Held<J, V> {
         (Ok(()), left)
     }
 
-    /// As the board's: why a call on that input would be refused, whatever it is.
+    /// The board's `input_refusal`.
     pub fn input_refusal(&self, input: u32) -> Option<StepRefusal>
         ensures { result ≡ input_refusal self.now.board.shown input }
     {
         self.board.input_refusal(input)
     }
 
-    /// As the board's.
+    /// The board's `seal`.
     pub fn seal(&mut self, input: u32) -> Result<(), StepRefusal>
         ensures step { OnOk result (Goes self.old.board.shown (Step.seal input) self.new.board.shown) }
         ensures refused { OnErr result (self.new.board ≡ self.old.board) }
@@ -121,7 +121,7 @@ impl<J: Naming, V: Views> Held<J, V> {
         Ok(())
     }
 
-    /// As the board's. No memory is taken.
+    /// The board's `close`. Takes no memory.
     pub fn close(&mut self, input: u32) -> Result<(), StepRefusal>
         ensures step { OnOk result (Goes self.old.board.shown (Step.close input) self.new.board.shown) }
         ensures refused { OnErr result (self.new.board ≡ self.old.board) }
@@ -134,8 +134,8 @@ impl<J: Naming, V: Views> Held<J, V> {
         Ok(())
     }
 
-    /// Makes alike messages of a free worker one before it claims, where there are several workers: an exchange cuts what one worker sends into as
-    /// many messages, and each would be an event of its own. With one worker there is nothing to put together again.
+    /// With several workers, merges messages of a free worker that are alike, before it claims: an exchange cuts what one worker sends into as many
+    /// messages as there are workers, and each would be an event by itself. With one worker there is nothing to merge.
     pub fn gather(&mut self, worker: u32)
         ensures gathers { Gathers self.old.board.shown worker self.new.board.shown }
         ensures published { CountsPassed self.new.board.shown self.new.published }
@@ -151,7 +151,7 @@ impl<J: Naming, V: Views> Held<J, V> {
         publish(&mut self.board, &mut self.publisher);
     }
 
-    /// As the board's. No memory is taken.
+    /// The board's `claim`. Takes no memory.
     pub fn claim(&mut self, worker: u32) -> Claimed
         ensures claims { Claims self.old.board.shown self.new.board.shown worker result }
         ensures named { GivesNamed J.names result }
@@ -166,7 +166,7 @@ impl<J: Naming, V: Views> Held<J, V> {
         claimed
     }
 
-    /// As the board's.
+    /// The board's `commit`.
     pub fn commit(&mut self, done: Done) -> Result<(), CommitRefusal>
         requires { IsNamed J.names done }
         ensures commits { Commits self.old.board.shown self.new.board.shown done result }
@@ -179,7 +179,7 @@ impl<J: Naming, V: Views> Held<J, V> {
         Ok(())
     }
 
-    /// As the board's. No memory is taken.
+    /// The board's `abandon`. Takes no memory.
     pub fn abandon(&mut self, work: Work)
         requires { IsNamed J.names work.0 }
         ensures holds { Holds self.old.board.shown work.0 }
@@ -192,7 +192,7 @@ impl<J: Naming, V: Views> Held<J, V> {
         self.publisher.publish(self.board.passed_count());
     }
 
-    /// As the board's. No memory is taken.
+    /// The board's `abandon_done`. Takes no memory.
     pub fn abandon_done(&mut self, done: Done)
         requires { IsNamed J.names done }
         ensures holds { Holds self.old.board.shown done }
@@ -205,14 +205,14 @@ impl<J: Naming, V: Views> Held<J, V> {
         self.publisher.publish(self.board.passed_count());
     }
 
-    /// How many epochs have passed.
+    /// The number of epochs that have passed.
     pub fn passed_count(&self) -> u64
         ensures { CountsPassed self.now.board.shown result }
     {
         self.board.passed_count()
     }
 
-    /// Whether a claim of the worker would hand out an event. All that waits for the worker is applied first.
+    /// Whether a claim of the worker would hand out an event. Applies all that waits for the worker first.
     pub fn can_claim(&mut self, worker: u32) -> bool
         ensures choice { MatchBool result (HasChoice self.old.board.shown worker) (HasNoChoice self.old.board.shown worker) }
         ensures shown { self.new.board.shown ≡ self.old.board.shown }
@@ -223,7 +223,7 @@ impl<J: Naming, V: Views> Held<J, V> {
         self.board.can_claim(worker)
     }
 
-    /// Whether an event was given up.
+    /// Whether an event was abandoned.
     pub fn is_stopped(&self) -> bool
         ensures { result ≡ self.now.board.shown.stopped }
     {
@@ -244,7 +244,7 @@ impl<J: Naming, V: Views> Held<J, V> {
         self.board.workers()
     }
 
-    /// As the board's: what it shows of an epoch. The first worker's view is up to date, so what has passed is seen so.
+    /// The board's `look`. Worker 0's view is up to date, so the look shows every epoch that has passed as passed.
     pub fn look(&self, alloc: Global, epoch: u32) -> Result<Look, NoMemory>
         ensures look { IfOk result (λ l. IsLookAt self.now.board epoch l) }
         ensures prompt { IsUpToDate self.now.board 0 }
@@ -256,7 +256,7 @@ impl<J: Naming, V: Views> Held<J, V> {
         Ok(look)
     }
 
-    /// The board, which nobody shares any more.
+    /// The board, once nothing shares it.
     pub fn into_board(self) -> Board<V>
         ensures board { result ≡ self.board }
         ensures graph { result.shown.graph ≡ J.graph }
@@ -271,7 +271,7 @@ impl<J: Naming, V: Views> Held<J, V> {
     }
 }
 
-/// Applies all that waits for worker 0, and publishes how many epochs have passed.
+/// Applies all that waits for worker 0, and publishes the number of passed epochs.
 fn publish<V: Views>(board: &mut Board<V>, publisher: &mut Publisher)
     ensures shown { board.new.shown ≡ board.old.shown }
     ensures applies { Applies 0 board.old board.new }

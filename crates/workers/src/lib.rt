@@ -1,38 +1,37 @@
 //! Many workers on one board, and observers.
 //!
-//! An `Engine` is a board under a lock. A worker's thread `work`s: it claims an event, computes it with no lock held, and commits it. A
-//! commit and the same thread's next claim are one taking of the lock. What is fed is cut into messages by a `Plan`, with no lock held,
-//! and many small batches are fed in one taking.
+//! An `Engine` is a board under a lock. A worker's thread runs `work`: it claims an event, computes it without the lock, and commits it. It
+//! takes the lock once for a commit and its next claim. A `Plan` cuts what is fed into messages without the lock, and many small batches
+//! can be fed under one lock.
 //!
-//! A thread that has nothing to do for its own worker computes what waits for workers whose threads sleep. A thread is woken where that
-//! is worth its while, once the lock is given back: where many records wait for its worker, or nobody else is up. So many small events
-//! cost no wakings, and large ones are computed side by side (`floor.rt` has the rules, and why no wakeup is lost).
+//! A thread that has nothing to do for its own worker computes what waits for workers whose threads sleep. A thread is woken only when it is
+//! worth the cost, after the lock is released: when many records wait for its worker, or no other thread is up. So small events don't wake
+//! threads, and large ones are computed in parallel (`floor.rt` has the rules, and why no wakeup is lost).
 //!
 //! | Call | By | What it does | Answers |
 //! |---|---|---|---|
-//! | `Engine::feed`, `seal`, `close` | who has the input | the board's call | as the board's; refused, all is as before |
-//! | `Engine::feed_all` | who has the input | feeds and seals in order, in one taking of the lock | as the first that is refused; those before it are done |
-//! | `Engine::wait_for` | who has the input, or observes | sleeps until so many epochs have passed, or no more will | nothing |
-//! | `work` | a worker's thread | works, also for workers who sleep, and sleeps while there is nothing that it could do | drained, stopped, a count, busy |
+//! | `Engine::feed`, `seal`, `close` | the owner of the input | the board's call | as the board's; a refused call changes nothing |
+//! | `Engine::feed_all` | the owner of the input | feeds and seals in order, under one lock | the first refusal; the calls before it are done |
+//! | `Engine::wait_for` | the owner of the input, or an observer | sleeps until that many epochs have passed, or no further ones will | nothing |
+//! | `work` | a worker's thread | works, also for sleeping workers, and sleeps while there is nothing to do | drained, stopped, a count, busy |
 //! | `work_along` | the one thread of a run | works while there is something to do now | the same, or nothing |
-//! | `Mark::observe` | an observer | one load: no lock, no memory, no waiting | how many epochs have passed, never less than its seat has read |
-//! | `Engine::look` | an observer | one load by the seat, and what the board shows of an epoch | what is below the mark has passed; nothing, where the mark is another engine's and ahead |
-//! | `finish` | who has the engine alone | ends the run | its `Report`; nothing, where a seat has read more than has passed |
+//! | `Mark::observe` | an observer | one load: no lock, no memory, no waiting | the number of passed epochs, never below what its seat has read |
+//! | `Engine::look` | an observer | one load by the seat, and what the board shows of an epoch | epochs below the mark have passed; nothing, if the mark is another engine's and ahead |
+//! | `finish` | the sole owner of the engine | ends the run | its `Report`; nothing, if a seat has read more epochs than have passed |
 //!
-//! Want of memory in a worker, or a count that would be above 9223372036854775807, gives its event up. That stops the board, and all
-//! workers end.
+//! A worker that runs out of memory, or meets a count that would be above 9223372036854775807, abandons its event. That stops the board,
+//! and all workers end.
 //!
 //! The contract for the layers above:
 //!
-//! - `Held` is what lies under the lock. Each of its calls is the board's, with the board's contract. Then whoever holds the lock applies
-//!   all that waits for worker 0, and publishes what has passed. So whoever takes the lock finds a board that keeps the main promise, and
-//!   the mark at the number of epochs that have passed, neither more nor less, however late the other workers' views are.
-//! - A `Look` and a `Report` keep the promise by their types. Whether a report is drained is answered exactly.
-//! - An event goes back to the engine that handed it out, and to no other: that is a condition of the calls, of which `work` is proved
-//!   (`Naming`).
+//! - `Held` is what the lock protects. Each of its calls is the board's, with the board's contract; then it applies all that waits for
+//!   worker 0, and publishes what has passed. So a thread that takes the lock finds a board that keeps the main promise, and the mark at
+//!   exactly the number of epochs that have passed, however late the other workers' views are.
+//! - A `Look` and a `Report` keep the promise by their types. A report knows exactly whether it is drained.
+//! - An event goes back only to the engine that handed it out. The calls require that, and `work` is proved to obey (`Naming`).
 //!
-//! What a call on an engine did behind the lock no clause can name, nor that a thread is woken, nor that two threads compute at once:
-//! tests show these (`workers_conformance`). Below stand `board` and `events`, with what these stand on.
+//! No clause can say what a call on an engine does behind the lock, that a thread is woken, or that two threads compute at once: tests show
+//! these (`workers_conformance`). Built on `board`, `events` and the crates below them.
 #![tactic(auto)]
 
 mod burden;

@@ -1,4 +1,4 @@
-//! The progress mark: one atomic word, which one publisher raises and any number of observers read.
+//! The progress mark: an atomic word that one publisher raises and any number of observers read.
 
 ghost use Rattle.std.specs.Prelude.{◌≡◌, ◌≤◌, ◌<◌, ℕ, All, IfOk, max, vec_len};
 
@@ -11,7 +11,7 @@ use std::sync::Arc;
 
 type Word = Table<(), View, (), MarkRule, Global>;
 
-/// The mark: how many epochs are known to have passed, 0 at first.
+/// The number of epochs known to have passed, 0 at first.
 #[derive(Drop)]
 pub struct Mark {
     table: Arc<Word, Global>,
@@ -30,7 +30,7 @@ impl Model for Mark {
     ghost invariant = { λ m. (m.table.value.shared.table_id.words ≡ 1) × (m.table.value.shared.table_id.slots ≡ 0) };
 }
 
-/// An observer's seat at a mark, with the number that it has read last.
+/// An observer's seat at a mark, with the number that it read last.
 #[derive(Drop)]
 pub struct Seat {
     seat: atomic_table::Seat<(), View>,
@@ -50,7 +50,7 @@ impl Model for Seat {
     ghost invariant = { λ s. s.seat.me ≡ (reader s.seat.me.0.number, []) };
 }
 
-/// Who raises a mark, with the number that was published last.
+/// The one publisher of a mark, with the number that it published last.
 #[derive(Drop)]
 pub struct Publisher {
     table: Arc<Word, Global>,
@@ -94,7 +94,7 @@ impl Mark {
         Ok((Mark { table }, publisher, seats))
     }
 
-    /// How many epochs have passed, as far as was published: one load. It is never below what the seat has read.
+    /// The number of epochs that have passed, as far as published. One load; the result is never below what the seat read before.
     pub fn observe(&self, seat: &mut Seat) -> u64
         requires { seat.old.table ≡ self.now }
         ensures table { seat.new.table ≡ seat.old.table }
@@ -107,7 +107,7 @@ impl Mark {
 }
 
 impl Publisher {
-    /// Raises the mark to a number, by one fetch_max; where it is there already, nothing is written.
+    /// Raises the mark to a number by one fetch_max; writes nothing if the mark is already there.
     pub fn publish(&mut self, count: u64)
         ensures table { self.new.table ≡ self.old.table }
         ensures number { self.new.number ≡ max self.old.number count }
@@ -129,7 +129,7 @@ impl Publisher {
     }
 }
 
-/// A seat more, which has read nothing.
+/// One more seat, which has read nothing.
 fn another(word: &Word, first: &mut atomic_table::Seat<(), View>) -> Seat
     requires table { first.old.table_id ≡ word.now.shared.table_id }
     requires word { 0 < word.now.shared.table_id.words }

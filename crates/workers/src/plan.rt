@@ -1,4 +1,4 @@
-//! What is fed is cut by it while another thread may have the lock.
+//! Cuts what is fed into messages, while another thread may hold the lock.
 
 ghost use Rattle.std.specs.Prelude.{◌≡◌, length, IfErr, IfOk};
 ghost use Rattle.graph.specs.Views.{vertex_of};
@@ -41,23 +41,23 @@ impl<J: Naming> Model for Plan<J> {
     ghost invariant = { λ p. p.wiring.value ≡ record { graph = J.graph; workers = length J.names } };
 }
 
-/// What is to be fed.
+/// A feed or a seal, for `feed_all`.
 #[derive(Drop)]
 pub enum Feed {
     /// A batch, to an input at its open epoch.
     Batch { input: u32, batch: Batch },
-    /// The end of the open epoch of an input.
+    /// Ends the open epoch of an input.
     Seal { input: u32 },
 }
 
-/// The same, cut.
+/// A feed that is cut, or a seal.
 #[derive(Drop)]
 pub enum CutFeed<J: Naming> {
     Batch(Slice<J>),
     Seal(u32),
 }
 
-/// A batch that was cut for the board, and what it brings.
+/// A batch that was cut for the board, and what it brings to the workers.
 #[derive(Drop)]
 pub struct Slice<J: Naming> {
     cut: CutBatch,
@@ -84,7 +84,7 @@ impl<J: Naming> Model for Slice<J> {
 }
 
 impl<J: Naming> Slice<J> {
-    /// Of a cut batch.
+    /// A slice of a cut batch.
     fn of(cut: CutBatch) -> Slice<J>
         requires { cut.wired ≡ record { graph = J.graph; workers = length J.names } }
         ensures { result ≡ cut }
@@ -97,7 +97,7 @@ impl<J: Naming> Slice<J> {
         }
     }
 
-    /// The batch, and what it brings.
+    /// The cut batch, and what it brings.
     pub fn into_parts(self) -> (CutBatch, Brought)
         ensures cut { result.0 ≡ self }
         ensures wired { result.0.wired ≡ record { graph = J.graph; workers = length J.names } }
@@ -119,7 +119,7 @@ pub struct Uncut {
 }
 
 impl<J: Naming> Plan<J> {
-    /// Of the board's wiring.
+    /// A plan with the board's wiring.
     pub fn new(wiring: Arc<Wiring, Global>) -> Plan<J>
         requires { wiring.value ≡ record { graph = J.graph; workers = length J.names } }
     {
@@ -129,7 +129,7 @@ impl<J: Naming> Plan<J> {
         }
     }
 
-    /// A batch cut for an input of the board, or why not even an open input would take it.
+    /// Cuts a batch for an input of the board. Refused if even an open input wouldn't take it.
     pub fn cut(&self, alloc: Global, input: u32, batch: Batch) -> Result<CutBatch, StepRefusal>
         ensures wired { IfOk result (λ c. c.wired ≡ record { graph = J.graph; workers = length J.names }) }
         ensures input { IfOk result (λ c. c.input ≡ input) }
@@ -152,7 +152,7 @@ impl<J: Naming> Plan<J> {
 }
 
 impl<J: Naming> Plan<J> {
-    /// The same, with what the batch brings.
+    /// As `cut`, with what the batch brings.
     pub fn slice(&self, alloc: Global, input: u32, batch: Batch) -> Result<Slice<J>, StepRefusal>
         ensures input { IfOk result (λ c. c.input ≡ input) }
         ensures batch { IfOk result (λ c. c.batch ≡ batch) }
@@ -164,7 +164,7 @@ impl<J: Naming> Plan<J> {
         }
     }
 
-    /// All of them in order, put behind the others, up to the first that can't be cut.
+    /// Cuts all of them in order and appends them, up to the first that can't be cut.
     pub fn slice_all(
         &self,
         alloc: Global,
@@ -177,7 +177,7 @@ impl<J: Naming> Plan<J> {
         Ok(())
     }
 
-    /// One more of them, put behind the others.
+    /// Cuts one of them and appends it.
     fn slice_next(
         &self,
         alloc: Global,

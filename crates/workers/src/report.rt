@@ -1,4 +1,4 @@
-//! What a run has come to.
+//! The result of a run.
 
 ghost use Rattle.std.specs.Prelude.{◌≡◌, ◌≤◌, ◌<◌, ℕ, [], All, IfSome, IsTrue, MatchBool, length, slice_index_or};
 ghost use Rattle.graph.specs.Shown.{shown_graph};
@@ -16,7 +16,7 @@ use rows::Batch;
 use std::marker::Model;
 use views::Views;
 
-/// What a finished engine shows: its board, on which nobody works any more.
+/// What a finished engine shows: its board, on which no thread works.
 #[derive(Drop)]
 pub struct Report<V: Views> {
     board: Board<V>,
@@ -42,21 +42,21 @@ impl<V: Views> Model for Report<V> {
 }
 
 impl<V: Views> Report<V> {
-    /// Whether every input is closed, nothing waits, and no event is held or given up.
+    /// Whether every input is closed, nothing waits, and no event is held or abandoned.
     pub fn drained(&self) -> bool
         ensures { MatchBool result (IsDrained self.now) (IsDrained self.now → ⊥) }
     {
         self.board.is_drained()
     }
 
-    /// Whether an event was given up.
+    /// Whether an event was abandoned.
     pub fn stopped(&self) -> bool
         ensures { result ≡ self.now.stopped }
     {
         self.board.is_stopped()
     }
 
-    /// How many epochs have passed.
+    /// The number of epochs that have passed.
     pub fn passed(&self) -> u64
         ensures { CountsPassed self.now result }
     {
@@ -70,7 +70,7 @@ impl<V: Views> Report<V> {
         self.board.graph()
     }
 
-    /// The batches that were fed to an input for an epoch, in order; none where the input isn't there.
+    /// The batches that were fed to an input for an epoch, in order; none if there is no such input.
     pub fn fed(&self, input: u32, epoch: u32) -> &[Batch]
         ensures { result.now ≡ slice_index_or (input_at self.now input).fed epoch [] }
     {
@@ -84,7 +84,7 @@ impl<V: Views> Report<V> {
         self.board.output_count()
     }
 
-    /// The batches that were emitted at an output for an epoch, in order, by the output's place.
+    /// The batches that were emitted at an output for an epoch, in order. The output is given by its place.
     pub fn emitted(&self, output: u32, epoch: u32) -> &[Batch]
         requires { IsOutputPlace self.now output }
         ensures { result.now ≡ slice_index_or (emitted_by self.now.emitted (output_number (shown_graph self.now.graph) output)) epoch [] }
@@ -92,21 +92,21 @@ impl<V: Views> Report<V> {
         self.board.emitted(output, epoch)
     }
 
-    /// The promise at each output, of whatever program was run. Nothing is done.
+    /// The promise holds at each output, whatever program was run. Nothing is done.
     pub fn law_headline(&self)
         ensures { (p : Program) → RunsProgram p self.now → KeepsPromise p self.now }
     {
         self.board.law_headline();
     }
 
-    /// There are as many inputs as the graph has. Nothing is done.
+    /// There are as many inputs as in the graph. Nothing is done.
     pub fn law_inputs(&self)
         ensures { length self.now.inputs ≡ input_count (shown_graph self.now.graph) }
     {
         self.board.law_inputs();
     }
 
-    /// Where nothing is left to do, every epoch has passed at every output. Nothing is done.
+    /// If nothing is left to do, every epoch has passed at every output. Nothing is done.
     pub fn law_drained(&self)
         ensures { IsDrained self.now → (output epoch : ℕ) → HasPassed self.now output epoch }
     {
@@ -114,8 +114,8 @@ impl<V: Views> Report<V> {
     }
 }
 
-/// The end of a run, once no thread shares the engine any more. None only where the mark says that more epochs have passed than have
-/// here, as that of another engine may.
+/// Ends a run, once no thread shares the engine. `None` only if a seat has read more passed epochs than this engine has, which only another engine's
+/// mark can show.
 pub fn finish<J: Naming, V: Views>(
     engine: Engine<J, V>,
     mark: &Mark,
@@ -134,7 +134,7 @@ pub fn finish<J: Naming, V: Views>(
     }
 }
 
-/// Whether no seat has read more than so many epochs.
+/// Whether no seat has read more than `passed` epochs.
 fn are_within(mark: &Mark, seats: Vec<Seat>, passed: u64) -> bool
     requires { All (λ s. s.table ≡ mark.now) seats.items }
     ensures { IsTrue result → All (λ s. s.number ≤ passed) seats.items }
@@ -147,7 +147,7 @@ fn are_within(mark: &Mark, seats: Vec<Seat>, passed: u64) -> bool
     true
 }
 
-/// Whether the seat, which reads the mark once more, has read no more than so many epochs.
+/// Whether the seat, which reads the mark again, has read at most `passed` epochs.
 fn is_within(mark: &Mark, mut seat: Seat, passed: u64) -> bool
     requires { seat.table ≡ mark.now }
     ensures { IsTrue result → seat.number ≤ passed }

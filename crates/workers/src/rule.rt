@@ -1,14 +1,14 @@
-//! What each seat of a mark knows of its word.
+//! What each seat of a mark knows about its word.
 
 use atomic_table::{Play, Split, TableRule};
 
-/// What a seat knows. No value of it is made.
+/// What a seat knows. It has no values.
 pub struct View {
     pub publishes: bool,
     pub number: u64,
 }
 
-/// The one publisher knows the word; what an observer has read is at most the word.
+/// The one publisher knows the word; the number that an observer has read is at most the word.
 pub struct MarkRule;
 
 impl TableRule<(), View, ()> for MarkRule {
@@ -37,7 +37,7 @@ impl Play<(), View> for Raise {
     ghost then = { λ s before n after. Publishes s.first before n after };
 }
 
-/// A new observer, who has read nothing.
+/// A new observer, which has read nothing.
 pub struct Observer;
 
 impl Split<View> for Observer {

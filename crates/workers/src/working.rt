@@ -1,4 +1,4 @@
-//! What a worker's thread does.
+//! The loop of a worker's thread.
 
 ghost use Rattle.std.specs.Prelude.{IfOk};
 ghost use Rattle.workers.specs.Names.{GivesNamed, IsNamed};
@@ -17,17 +17,16 @@ use views::Views;
 pub enum Ended {
     /// Nothing is left to do.
     Drained,
-    /// The board is stopped: an event was given up, for want of memory, or in another thread.
+    /// The board is stopped: an event was abandoned, for want of memory or in another thread.
     Stopped,
-    /// A count would have been above 9223372036854775807, so the event was given up, and the board is stopped.
+    /// A count would have been above 9223372036854775807, so the event was abandoned and the board is stopped.
     Count,
     /// There is no such worker, or another thread works under its number.
     Busy,
 }
 
-/// Claims, computes by the gate and commits, until nothing is left to do or the board is stopped, and sleeps while there is nothing that
-/// the worker could do. An event for which memory is wanting, or of which a count would be too large, is given up. Its promise holds if it
-/// ends.
+/// Claims, computes by the gate and commits, until nothing is left to do or the board is stopped; sleeps while there is nothing that the thread could
+/// do. Abandons an event that runs out of memory, or in which a count would be too large. The promise holds if the call returns.
 pub fn work<J: Naming, V: Views, R: Wait, G: Gate>(
     rt: &R,
     alloc: Global,
@@ -45,7 +44,7 @@ pub fn work<J: Naming, V: Views, R: Wait, G: Gate>(
     unreachable!()
 }
 
-/// As `work`, but it never sleeps: None where there is nothing that the worker could do now. `turn` counts its events on.
+/// As `work`, but never sleeps: `None` if there is nothing that the worker could do now. `turn` goes on counting its events.
 pub fn work_along<J: Naming, V: Views, R: Wait, G: Gate>(
     rt: &R,
     alloc: Global,
@@ -58,7 +57,7 @@ pub fn work_along<J: Naming, V: Views, R: Wait, G: Gate>(
     go_on(rt, alloc, engine, worker, gate, turn, claimed)
 }
 
-/// Computes and commits what was claimed, and goes on with what comes with each commit. None where there is nothing to do now.
+/// Computes and commits what was claimed, and goes on with what each commit claims. `None` if there is nothing to do now.
 fn go_on<J: Naming, V: Views, R: Wait, G: Gate>(
     rt: &R,
     alloc: Global,

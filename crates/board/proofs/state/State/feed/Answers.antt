@@ -25,7 +25,7 @@ any_default [] n x y l = absurd (omega (arith, l))
 any_default (z ∷ xs) zero x y l = refl
 any_default (z ∷ xs) (suc n) x y l = any_default xs n x y (omega (arith, l))
 
--- what a place of the inputs has
+-- the input at a place
 input_here : (xs : List InputShown) (n m : ℕ) (x : InputShown) → x ≡ get_or xs n x → n ≡ m → m < length xs → x ≡ get_or xs m no_input
 input_here xs n m x is e l = is ∙ ap (λ (k : ℕ). get_or xs k x) e ∙ any_default xs m x no_input l
 
