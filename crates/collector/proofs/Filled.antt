@@ -11,7 +11,7 @@ use Rattle.collector.specs.Lines.{IsFilled}
 abbrev pub Filled : List (List ℕ) → Type 0
 Filled words = AllByRecursion IsFilled words
 
--- one filled word more is read
+-- one more filled word is read
 pub filled_more : (rest word after : List ℕ) (i : ℕ) (P : Type 0) → split_on 32 rest ≡ word ∷ split_on 32 after → i < length rest → i ≢ 0 → word ≡ take i rest → Filled (split_on 32 rest) ↔ P → Filled (split_on 32 after) ↔ P
 filled_more rest word after i P cut lt some is so_far =
     let filled : 0 < length word = omega (arith, some, ap length is, length-take-le i rest (omega arith)) in

@@ -46,7 +46,7 @@ row_push epoch input n [] j z = refl
 row_push epoch input n (Item.epoch ∷ is) j z = row_push epoch input (n + 1) is j z
 row_push epoch input n (Item.row i zs ∷ is) j z = one_more ((input == i) && (epoch + 1 == n)) ((input == j) && (epoch + 1 == epochs_after n is)) zs z (records_in epoch input n is) _ (row_push epoch input n is j z)
 
--- the lines that were read, and what is held of them
+-- the lines that were read, and what is known of them
 pub record ReadSoFar (inputs : List Input) (text rest : List ℕ) (number : ℕ) (e : Draft) : Type 0 where
   pub lines : List (List ℕ)
   pub items : List Item
@@ -73,7 +73,7 @@ nothing_read inputs text e none size = record {
   tracks = size;
 }
 
--- what a line says can be taken
+-- what a line says can be added
 pub can_take : (inputs : List Input) (e : Draft) (line : List ℕ) (item : Item) → length e.tracks.items ≡ length inputs → Says inputs (draft_count e) line item → CanTake e item
 can_take inputs e line Item.epoch size says = says.1
 can_take inputs e line (Item.row i zs) size says = (says.3, omega (arith, size, slice_get_within inputs i _ says.4.there), says.5)
@@ -114,11 +114,11 @@ next_read inputs text rest line after n e f item r cut less says takes =
       tracks = new.3 ∙ r.tracks;
     }
 
--- a text has a line at least
+-- a text has at least one line
 pub filled : (bs : List ℕ) → 0 < length (split_on 10 bs)
 filled bs = omega (arith, length-slice_split (λ b. b == 10) bs)
 
--- a line that a line feed ends has a fault
+-- a line that has its line feed has a fault
 pub faulty : (inputs : List Input) (text rest line after : List ℕ) (n : ℕ) (e : Draft) (fault : Fault) (code number : ℕ) → ReadSoFar inputs text rest n e → split_on 10 rest ≡ line ∷ split_on 10 after
     → IsFault inputs (draft_count e) line fault → code ≡ code_of fault → number ≡ n + 1 → IsRefused inputs text (At code number)
 faulty inputs text rest line after n e fault code number r cut bad is at = (
@@ -137,7 +137,7 @@ pub unended : (inputs : List Input) (text rest : List ℕ) (n : ℕ) (e : Draft)
 unended inputs text rest n e code number r cut some is at =
     (r.lines, r.items, r.said, at ∙ ap (λ k. k + 1) r.counted, rest, [], r.parts ∙ ap (λ (ls : List (List ℕ)). r.lines ++ ls) cut, inl (is, some, refl))
 
--- a text of no bytes
+-- a text without bytes
 pub no_rest : (rest : List ℕ) (b : Bool) → b ≡ (length rest == 0) → b ≡ true → rest ≡ []
 no_rest rest b is yes_way = elim (eqb_tells (length rest) 0) [
   | inl same ↦ nil_from_length rest same.1

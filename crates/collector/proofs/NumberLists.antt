@@ -12,7 +12,7 @@ AreNumbers_push [] (y ∷ ys) word z h fits is = absurd h
 AreNumbers_push (w ∷ ws) [] word z h fits is = absurd h
 AreNumbers_push (w ∷ ws) (y ∷ ys) word z h fits is = (h.0, AreNumbers_push ws ys word z h.1 fits is)
 
--- a word that is none, after others
+-- a word that isn't a number, after others
 pub AreNumbers_none : (before : List (List ℕ)) (word : List ℕ) (after : List (List ℕ)) (zs : List ℤ) → ((z : ℤ) → FitsSigned w64 z → word ≡ signed_decimal z → ⊥) → AreNumbers (before ++ word ∷ after) zs → ⊥
 AreNumbers_none [] word after [] none h = h
 AreNumbers_none [] word after (z ∷ zs) none h = none z h.0.0 h.0.1

@@ -63,7 +63,7 @@ first_same line f g r s a b = head_same f g r s (sym a.words ∙ b.words)
 rest_same : (line f g : List ℕ) (r s : List (List ℕ)) → HasWords line f r → HasWords line g s → r ≡ s
 rest_same line f g r s a b = tail_same f g r s (sym a.words ∙ b.words)
 
--- a line says one item
+-- a line says at most one item
 one_item : (inputs : List Input) (e : ℕ) (line : List ℕ) (x y : Item) → Says inputs e line x → Says inputs e line y → x ≡ y
 one_item inputs e line Item.epoch Item.epoch g h = refl
 one_item inputs e line Item.epoch (Item.row j ys) g h = absurd (h.2.other g.0)
@@ -97,7 +97,7 @@ said_sound inputs e line (Item.row i xs) WrongFields g h =
     let arity : length xs ≡ h.5 = one_arity inputs h.0 i h.4 (length xs) h.5 (subst (λ n. IsInput inputs n i (length xs)) first g.4) h.6 in
     h.9 (sym (ap length numbers) ∙ arity, subst IsRecord numbers g.5)
 
--- a fault that comes before another one isn't told with it
+-- a fault that comes before another excludes it
 one_fault : (inputs : List Input) (e : ℕ) (line : List ℕ) (f k : Fault) → IsFault inputs e line f → IsFault inputs e line k → f ≡ k
 one_fault inputs e line TooManyEpochs TooManyEpochs g h = refl
 one_fault inputs e line TooManyEpochs Malformed g h = absurd (h.0 g.0)
@@ -159,14 +159,14 @@ front_same (x ∷ xs) (y ∷ ys) e =
     let rest : xs ≡ ys = front_same xs ys (tail_same x y (xs ++ [] ∷ []) (ys ++ [] ∷ []) e) in
     cc
 
--- what a refusal says of its line, where so many epochs have begun
+-- a refusal is right about its line, after that many epochs have begun
 abbrev Faulty : List Input → ℕ → List ℕ → List (List ℕ) → ℕ → Type 0
 Faulty inputs e line rest code = ((code ≡ 43) × (0 < length line) × (rest ≡ [])) ⊎ ((fault : Fault) × (code ≡ code_of fault) × (0 < length rest) × IsFault inputs e line fault)
 
 pub none_after : (rest : List (List ℕ)) → rest ≡ [] → 0 < length rest → ⊥
 none_after rest e l = let n : length rest ≡ 0 = ap length e in omega (arith, n, l)
 
--- an only line that is empty has no bytes
+-- if the only line is empty, there are no bytes
 pub none_in : (line : List ℕ) (rest : List (List ℕ)) → [] ∷ [] ≡ line ∷ rest → 0 < length line → ⊥
 none_in line rest e l = let n : 0 ≡ length line = ap length (head_same [] line [] rest e) in omega (arith, n, l)
 
@@ -176,12 +176,12 @@ one_code inputs e line rest c d (inl g) (inr h) = absurd (none_after rest g.2 h.
 one_code inputs e line rest c d (inr g) (inl h) = absurd (none_after rest h.2 g.2)
 one_code inputs e line rest c d (inr g) (inr h) = g.1 ∙ ap code_of (one_fault inputs e line g.0 h.0 g.3 h.3) ∙ sym h.1
 
--- a line that says an item, and isn't the last, is no faulty one
+-- a line that says an item and isn't the last isn't faulty
 said_faulty : (inputs : List Input) (e : ℕ) (line : List ℕ) (rest : List (List ℕ)) (c : ℕ) (x : Item) → Says inputs e line x → 0 < length rest → Faulty inputs e line rest c → ⊥
 said_faulty inputs e line rest c x g l (inl h) = none_after rest h.2 l
 said_faulty inputs e line rest c x g l (inr h) = said_sound inputs e line x h.0 g h.3
 
--- of lines of which some say items and the next is faulty, both ways to see that are the same
+-- if some lines say items and the next is faulty, that can be seen in one way only
 one_stop : (inputs : List Input) (e : ℕ) (bs : List (List ℕ)) (xs : List Item) (k : List ℕ) (r : List (List ℕ)) (c : ℕ) (ds : List (List ℕ)) (ys : List Item) (l : List ℕ) (s : List (List ℕ)) (d : ℕ)
     → LinesSay inputs e bs xs → LinesSay inputs e ds ys → bs ++ k ∷ r ≡ ds ++ l ∷ s → Faulty inputs (epochs_after e xs) k r c → Faulty inputs (epochs_after e ys) l s d → (length bs ≡ length ds) × (c ≡ d)
 one_stop inputs e [] [] k r c [] [] l s d g h is f t =
@@ -206,7 +206,7 @@ one_stop inputs e (b ∷ bs) [] k r c ds ys l s d g h is f t = absurd g
 one_stop inputs e bs xs k r c [] (y ∷ ys) l s d g h is f t = absurd h
 one_stop inputs e bs xs k r c (b ∷ ds) [] l s d g h is f t = absurd h
 
--- lines that say items, up to the empty one behind the last line feed, have no faulty one
+-- lines that say items, up to the empty one after the last line feed, have no faulty one
 none_faulty : (inputs : List Input) (e : ℕ) (ls : List (List ℕ)) (xs : List Item) (bs : List (List ℕ)) (ys : List Item) (k : List ℕ) (r : List (List ℕ)) (c : ℕ)
     → LinesSay inputs e ls xs → LinesSay inputs e bs ys → ls ++ [] ∷ [] ≡ bs ++ k ∷ r → Faulty inputs (epochs_after e ys) k r c → ⊥
 none_faulty inputs e [] [] [] [] k r c g h is (inl f) = none_in k r is f.1

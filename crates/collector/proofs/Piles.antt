@@ -18,7 +18,7 @@ with_none [] = refl
 with_none (x ∷ []) = ap (λ (r : Records). r ∷ []) (append-nil x)
 with_none (x ∷ y ∷ xs) = ap (λ (r : List Records). x ∷ r) (with_none (y ∷ xs))
 
--- rows that stand apart are put at the end of the last epoch
+-- rows that were kept apart are appended to the last epoch
 pub sealed : {V : Type 0} (f : V → Records) (vs : List V) (n : ℕ) (old new : V) (rows : Records) → n + 1 ≡ length vs → old ≡ get_or vs n old → f new ≡ f old ++ rows → map f (set vs n new) ≡ with_open (map f vs) rows
 sealed f [] n old new rows e is gains = absurd (omega (arith, e))
 sealed f (v ∷ []) zero old new rows e is gains = ap (λ (r : Records). r ∷ []) (gains ∙ ap (λ w. f w ++ rows) is)
@@ -51,7 +51,7 @@ with_more (x ∷ []) rows more = ap (λ (r : Records). r ∷ []) (sym (append_as
 with_more (x ∷ y ∷ []) rows more = ap (λ (r : List Records). x ∷ r) (with_more (y ∷ []) rows more)
 with_more (x ∷ y ∷ z ∷ xs) rows more = ap (λ (r : List Records). x ∷ r) (with_more (y ∷ z ∷ xs) rows more)
 
--- one row more stands apart
+-- one more row is kept apart
 pub row_more : (xs : List Records) (rows : Records) (row : List ℤ) (old new : List Records) → old ≡ with_open xs rows → new ≡ with_open xs (rows ++ row ∷ []) → (k : ℕ) → get_or new k [] ≡ (if k + 1 == length old then get_or old k [] ++ row ∷ [] else get_or old k [])
 row_more xs rows row old new e f k =
     let g : new ≡ with_open old (row ∷ []) = f ∙ with_more xs rows (row ∷ []) ∙ ap (λ (ys : List Records). with_open ys (row ∷ [])) (sym e) in
@@ -60,12 +60,12 @@ row_more xs rows row old new e f k =
       | inr other ↦ rw other.0 (ap (λ (ys : List Records). get_or ys k []) g ∙ opened_other old (row ∷ []) k other.1)
     ]
 
--- an epoch begins, after what stood apart was put at the end of the last one
+-- an epoch begins, after the rows kept apart were appended to the last one
 pub begun : {V : Type 0} (f : V → Records) (vs pushed : List V) (v : V) (last : Records) (now : List Records) → pushed ≡ vs ++ v ∷ [] → f v ≡ [] → last ≡ [] → map f vs ≡ now → with_open (map f pushed) last ≡ now ++ [] ∷ []
 begun f vs pushed v last now e none apart was =
     ap (with_open (map f pushed)) apart ∙ with_none (map f pushed) ∙ ap (map f) e ∙ map_push f vs v ∙ ap (λ (r : Records). map f vs ++ r ∷ []) none ∙ ap (λ (rs : List Records). rs ++ [] ∷ []) was
 
--- one batch more
+-- one more batch
 pub batch_more : (bs : List Records) (i : ℕ) (d : Records) → i < length bs → joined (take (i + 1) bs) ≡ joined (take i bs) ++ get_or bs i d
 batch_more bs i d lt = ap joined (take_more bs i d lt) ∙ joined_behind (take i bs) (get_or bs i d)
 

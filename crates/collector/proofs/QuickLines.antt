@@ -18,7 +18,7 @@ use Rattle.collector.specs.Lines.{Item, Says, IsFilled, AreNumbers}
 use Rattle.collector.specs.Quick.{Fit, IsRowAt}
 use Rattle.collector.proofs.Splits.{step, stop}
 
--- a byte stands nowhere
+-- a byte doesn't occur
 abbrev Free : ℕ → List ℕ → Type 0
 Free byte bs = AllByRecursion (λ b. b ≢ byte) bs
 
@@ -72,7 +72,7 @@ are_numbers : (zs : List ℤ) → Fit zs → AreNumbers (map signed_decimal zs) 
 are_numbers [] fits = tt
 are_numbers (z ∷ zs) fits = ((fits.0, refl), are_numbers zs fits.1)
 
--- the line, what stands after it, and what it says
+-- the line, the text after it, and what it says
 pub row_line : (inputs : List Input) (epochs : ℕ) (text after : List ℕ) (fields : List ℤ) (i : ℕ) → IsRowAt inputs text fields i after → 0 < epochs
     → (line : List ℕ) × (split_on 10 text ≡ line ∷ split_on 10 after) × (length after < length text) × Says inputs epochs line (Item.row i fields)
 row_line inputs epochs text after fields i row begun =

@@ -43,7 +43,7 @@ field_more text rest after spelled fields new z k h space number fits e =
 pub fields_end : (text rest after : List ℕ) (fields : List ℤ) (k : ℕ) → FieldsRead text rest fields k → rest ≡ 10 ∷ after → text ≡ flat_map spaced fields ++ 10 ∷ after
 fields_end text rest after fields k h e = h.spelled ∙ ap (λ (t : List ℕ). flat_map spaced fields ++ t) e
 
--- no input before has this name and a space at the head of the text
+-- no earlier input has this name with a space at the head of the text
 abbrev pub NoneBefore : List ℕ → List Declared → ℕ → Type 0
 NoneBefore text inputs i = (k : ℕ) (d : Declared) → k < i → slice_get inputs k ≡ Some d → (rest : List ℕ) → text ≡ d.name.now ++ 32 ∷ rest → ⊥
 

@@ -26,7 +26,7 @@ split_some byte [] i lt at before = absurd (omega arith)
 split_some byte (b ∷ bs) zero lt at before = stop byte b bs at
 split_some byte (b ∷ bs) (suc i) lt at before = step byte b bs (take i bs) (split_on byte (drop (suc i) bs)) (before 0 (omega arith)) (split_some byte bs i (omega arith) at (λ k less. before (suc k) (omega arith)))
 
--- up to the first place of the byte, and after it
+-- the piece up to the first place of the byte, and the rest after it
 pub cut_at : (byte : ℕ) (bs piece after : List ℕ) (i : ℕ) → (i < length bs) × (get_or bs i 0 ≡ byte) × ((k : ℕ) → k < i → get_or bs k 0 ≢ byte) → piece ≡ take i bs → after ≡ drop (i + 1) bs → split_on byte bs ≡ piece ∷ split_on byte after
 cut_at byte bs piece after i h e f =
     let next : i + 1 ≡ suc i = omega arith in

@@ -39,18 +39,18 @@ stays_even ws input count new size even i lt = elim (eqb_tells i input) [
   | inr other ↦ ap length (get_or-set_other ws input i new [] other.1) ∙ even i lt
 ]
 
--- an empty list at the end shows nothing
+-- an empty list at the end makes no difference
 pub blank_end : {X : Type 0} (ws : List (List X)) (k : ℕ) → get_or (ws ++ [] ∷ []) k [] ≡ get_or ws k []
 blank_end [] zero = refl
 blank_end [] (suc k) = refl
 blank_end (w ∷ ws) zero = refl
 blank_end (w ∷ ws) (suc k) = blank_end ws k
 
--- no epoch, and one input more
+-- no epoch, and one more input
 pub still_none : (ws new : List (List Records)) → new ≡ ws ++ [] ∷ [] → ((k : ℕ) → get_or ws k [] ≡ []) → (k : ℕ) → get_or new k [] ≡ []
 still_none ws new e none k = ap (λ (vs : List (List Records)). get_or vs k []) e ∙ blank_end ws k ∙ none k
 
--- the epoch has begun for one input more
+-- the epoch has begun for one more input
 pub begun_here : (old ws : List (List Records)) (input : ℕ) (new : List Records) → input < length ws → ((i : ℕ) → i < input → get_or ws i [] ≡ get_or old i [] ++ [] ∷ []) → ((i : ℕ) → input ≤ i → get_or ws i [] ≡ get_or old i [])
     → new ≡ get_or ws input [] ++ [] ∷ [] → (i : ℕ) → i < input + 1 → get_or (set ws input new) i [] ≡ get_or old i [] ++ [] ∷ []
 begun_here old ws input new lt done rest e i below = elim (eqb_tells i input) [
@@ -66,7 +66,7 @@ begun_here old ws input new lt done rest e i below = elim (eqb_tells i input) [
 pub not_yet : (old ws : List (List Records)) (input : ℕ) (new : List Records) → ((i : ℕ) → input ≤ i → get_or ws i [] ≡ get_or old i []) → (i : ℕ) → input + 1 ≤ i → get_or (set ws input new) i [] ≡ get_or old i []
 not_yet old ws input new rest i le = get_or-set_other ws input i new [] (λ e. absurd (omega (arith, e, le))) ∙ rest i (omega arith)
 
--- it has begun for all of them
+-- the epoch has begun for all inputs
 pub all_begun : (old ws : List (List Records)) → length ws ≡ length old → ((i : ℕ) → i < length ws → get_or ws i [] ≡ get_or old i [] ++ [] ∷ []) → (epoch i : ℕ) → get_or (get_or ws i []) epoch [] ≡ get_or (get_or old i []) epoch []
 all_begun old ws size done epoch i = elim (cases_lt i (length ws)) [
   | inl lt ↦ ap (λ (rs : List Records). get_or rs epoch []) (done i lt) ∙ blank_end (get_or old i []) epoch

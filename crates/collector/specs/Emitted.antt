@@ -1,4 +1,4 @@
--- What outputs hold that are to be written.
+-- What the outputs emitted that are to be written.
 use Rattle.std.specs.Prelude.{ℕ, ℤ, List, [], map, slice_index_or}
 use Rattle.rows.specs.FlatRows.{joined}
 use Rattle.collector.specs.declared.output.OutputEpochs.{OutputEpochs}
@@ -11,6 +11,6 @@ names_of outputs = map (λ (o : OutputEpochs). o.name.now) outputs
 abbrev pub epochs_of : OutputEpochs → List (List (List ℤ))
 epochs_of o = map (λ v. joined v.now) o.epochs.items
 
--- the records of an output in an epoch, by their places; none beyond
+-- the records of an output in an epoch, by their places; none beyond the last
 abbrev pub records_of : List OutputEpochs → (output epoch : ℕ) → List (List ℤ)
 records_of outputs output epoch = slice_index_or (slice_index_or (map epochs_of outputs) output []) epoch []

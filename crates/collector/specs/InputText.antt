@@ -1,4 +1,4 @@
--- The input text: which epochs it tells, and its first faulty line.
+-- The input text: the epochs that it holds, and its first faulty line.
 use Rattle.std.specs.Prelude.{◌≡◌, ◌<◌, ◌+◌, ℕ, ℤ, List, [], ◌∷◌, ◌++◌, length, ◌==◌, ◌&&◌, if◌then◌else◌, ◌⊎◌}
 use Rattle.semantics.specs.Query.{Input}
 use Rattle.semantics.specs.Multiset.{◌≈◌}
@@ -10,12 +10,12 @@ use Rattle.collector.specs.declared.refusal.Fault.{Fault}
 use Rattle.collector.specs.declared.refusal.InputRefusal.{InputRefusal}
 use Rattle.collector.specs.declared.refusal.InputRefusal.TheVariants.{At, NoMemory}
 
--- how many epochs have begun after an item, where so many had before it
+-- how many epochs have begun after an item, if that many had before it
 abbrev pub begun_after : ℕ → Item → ℕ
 begun_after epochs Item.epoch = epochs + 1
 begun_after epochs (Item.row i zs) = epochs
 
--- how many epochs have begun after items
+-- how many epochs have begun after a list of items
 abbrev pub epochs_after : ℕ → List Item → ℕ
 epochs_after epochs [] = epochs
 epochs_after epochs (item ∷ items) = epochs_after (begun_after epochs item) items
@@ -33,7 +33,7 @@ LinesSay inputs epochs [] (item ∷ items) = ⊥
 LinesSay inputs epochs (line ∷ lines) [] = ⊥
 LinesSay inputs epochs (line ∷ lines) (item ∷ items) = Says inputs epochs line item × LinesSay inputs (begun_after epochs item) lines items
 
--- the text is so many epochs, each line ended by a line feed; an epoch has for each input a list of records
+-- the text holds that many epochs, each line ended by a line feed; an epoch has a list of records for each input
 pub record IsInputText (inputs : List Input) (text : List ℕ) (count : ℕ) (records : ℕ → ℕ → List (List ℤ)) : Type 0 where
   pub lines : List (List ℕ)
   pub items : List Item
@@ -46,8 +46,8 @@ pub record IsInputText (inputs : List Input) (text : List ℕ) (count : ℕ) (re
 abbrev pub IsReadFrom : List Input → (text : List ℕ) → Epochs → Type 0
 IsReadFrom inputs text e = (records : ℕ → ℕ → List (List ℤ)) × IsInputText inputs text (epoch_count e) records × ((epoch input : ℕ) → records_at e epoch input ≈ records epoch input)
 
--- A refusal names the first faulty line, counted from 1: the lines before it say items, and it is the last one and has no line
--- feed, or has a fault.
+-- A refusal names the first faulty line, counted from 1: the lines before it say items; and it has a fault, or it is the last line and has no line
+-- feed.
 abbrev pub IsRefused : List Input → List ℕ → InputRefusal → Type 0
 IsRefused inputs text NoMemory = Unit {0}
 IsRefused inputs text (At code number) = (before : List (List ℕ)) × (items : List Item) × LinesSay inputs 0 before items × (number ≡ length before + 1) × (line : List ℕ) × (rest : List (List ℕ)) × (split_on 10 text ≡ before ++ line ∷ rest)

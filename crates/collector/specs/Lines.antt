@@ -23,7 +23,7 @@ max_epochs = 4294967295
 abbrev pub IsWord : List ℕ → Type 0
 IsWord word = IsTrue (begins_name word) × IsTrue (list_all is_name_byte word) × (length word ≤ 32)
 
--- it isn't empty
+-- the word isn't empty
 abbrev pub IsFilled : List ℕ → Type 0
 IsFilled word = 0 < length word
 
@@ -54,13 +54,13 @@ pub record IsAbsent (inputs : List Input) (name : List ℕ) : Type 0 where
 abbrev pub MakeRecord : ℕ → List ℤ → Type 0
 MakeRecord arity zs = (length zs ≡ arity) × IsRecord zs
 
--- what a line says where so many epochs have begun
+-- what a line says after that many epochs have begun
 abbrev pub Says : List Input → ℕ → List ℕ → Item → Type 0
 Says inputs epochs line Item.epoch = (line ≡ codes "epoch") × (epochs < max_epochs)
 Says inputs epochs line (Item.row i zs) = (name : List ℕ) × (rest : List (List ℕ)) × HasWords line name rest × (0 < epochs) × IsInput inputs name i (length zs) × IsRecord zs × AreNumbers rest zs
 
--- The fault of a line, the first in this order: an epoch too many; or a line that isn't well formed, a record before the first
--- epoch, an unknown input, a word that is no number, a wrong number of fields.
+-- The fault of a line, the first in this order: one epoch too many; or a line that isn't well formed, a record before the first epoch, an unknown
+-- input, a word that isn't a number, a wrong number of fields.
 abbrev pub IsFault : List Input → ℕ → List ℕ → Fault → Type 0
 IsFault inputs epochs line TooManyEpochs = (line ≡ codes "epoch") × (max_epochs ≤ epochs)
 IsFault inputs epochs line Malformed = (line ≢ codes "epoch") × ((name : List ℕ) (rest : List (List ℕ)) → HasWords line name rest → ⊥)
@@ -69,7 +69,7 @@ IsFault inputs epochs line Unknown = (name : List ℕ) × (rest : List (List ℕ
 IsFault inputs epochs line BadNumber = (name : List ℕ) × (rest : List (List ℕ)) × HasWords line name rest × (0 < epochs) × (i : ℕ) × (arity : ℕ) × IsInput inputs name i arity × ((zs : List ℤ) → AreNumbers rest zs → ⊥)
 IsFault inputs epochs line WrongFields = (name : List ℕ) × (rest : List (List ℕ)) × HasWords line name rest × (0 < epochs) × (i : ℕ) × (arity : ℕ) × IsInput inputs name i arity × (zs : List ℤ) × AreNumbers rest zs × (MakeRecord arity zs → ⊥)
 
--- the number by which a fault is told
+-- the code of a fault
 abbrev pub code_of : Fault → ℕ
 code_of NoEpoch = 41
 code_of Unknown = 42

@@ -3,7 +3,7 @@ use Rattle.std.specs.Prelude.{◌≡◌, ℕ, ℤ, List, [], ◌∷◌, ◌++◌
 use Rattle.semantics.specs.Multiset.{◌≈◌}
 use Rattle.rows.specs.FlatRows.{RowList, joined}
 
--- the last epoch has these records too
+-- these records are added to the last epoch
 abbrev pub with_open : List (List (List ℤ)) → List (List ℤ) → List (List (List ℤ))
 with_open [] rows = []
 with_open (records ∷ []) rows = (records ++ rows) ∷ []
@@ -13,7 +13,7 @@ with_open (records ∷ next ∷ epochs) rows = records ∷ with_open (next ∷ e
 abbrev pub piled : List RowList → List (List ℤ)
 piled lists = joined (map (λ (r : RowList). r.rows) lists)
 
--- as many lists, and at each place the same records in some order
+-- the lists are as many, and at each place they have the same records in some order
 pub record AreAlike (xs ys : List (List (List ℤ))) : Type 0 where
   pub size : length xs ≡ length ys
   pub each : (k : ℕ) → slice_index_or xs k [] ≈ slice_index_or ys k []

@@ -12,21 +12,21 @@ use Rattle.collector.specs.declared.line.LineError.{LineError}
 use Rattle.collector.specs.declared.line.LineError.TheVariants as error
 use Rattle.collector.specs.declared.refusal.Fault.TheVariants.{Malformed, TooManyEpochs, NoEpoch, Unknown, BadNumber, WrongFields}
 
--- an input as the definitions have it
+-- an input, as the definitions have it
 abbrev pub plain : Declared → Input
 plain d = record { name = d.name.now; arity = d.arity }
 
--- the words of what stands after the first one, if anything does
+-- the words of the text after the first word, if there is any
 abbrev pub words_of : Option (Bor (List ℕ)) → List (List ℕ)
 words_of None = []
 words_of (Some text) = split_on 32 text.now
 
--- with the fields that the buffer holds
+-- the item of a line, with the fields in the buffer
 abbrev pub item_of : Line → List ℤ → Item
 item_of line.Epoch fields = Item.epoch
 item_of (line.Row input) fields = Item.row input fields
 
--- the input's number and its fields; or the first fault that words have after a name
+-- the input's number and its fields; or the first fault of the words after a name
 abbrev pub RowEnds : List Input → List ℕ → List (List ℕ) → List ℤ → Result ℕ LineError → Type 0
 RowEnds inputs name rest fields (Ok input) = IsInput inputs name input (length fields) × IsRecord fields × AreNumbers rest fields
 RowEnds inputs name rest fields (Err error.NoMemory) = Unit {0}

@@ -1,4 +1,4 @@
-//! Reading all that a reader gives, or so much of it.
+//! Reads all that a reader gives, or a limited number of bytes.
 
 ghost use Rattle.std.specs.Prelude.{◌≡◌, true, take, IfOk, IfSome, IsErrOf};
 ghost use Rattle.collector.specs.Watching.{has_failed, inner_of};
@@ -16,7 +16,7 @@ pub enum ReadFault {
     Failed,
 }
 
-/// All that the reader gives.
+/// Reads everything that the reader gives.
 pub fn read_all<R: Read>(alloc: Global, reader: &mut Watched<R>) -> Result<Vec<u8>, ReadFault>
     ensures bytes { IfOk result (λ v. IfSome (R.remaining (inner_of reader.old)) (λ xs. v.items ≡ xs)) }
     ensures failed { IsErrOf result Failed → has_failed reader.new ≡ true }
@@ -36,7 +36,7 @@ pub fn read_all<R: Read>(alloc: Global, reader: &mut Watched<R>) -> Result<Vec<u
     }
 }
 
-/// The first bytes that the reader gives, at most so many; it is asked for no more.
+/// Reads the first bytes that the reader gives, at most `limit` of them, and asks for none beyond.
 pub fn read_at_most<R: Read>(
     alloc: Global,
     limit: usize,

@@ -1,4 +1,4 @@
-//! Epochs while a text is read.
+//! The epochs of an input text while it is read.
 
 ghost use Rattle.std.specs.Prelude.{◌≡◌, ◌<◌, ◌+◌, ℕ, ◌^◌, ◌-◌, OnOk, IfOk, length, slice_index_or, ◌==◌, ◌&&◌, if◌then◌else◌};
 ghost use Rattle.record_core.specs.Records.{IsRecord};
@@ -10,7 +10,7 @@ use crate::track::Track;
 use rows::RowsError;
 use std::alloc::Global;
 
-/// The epochs that were read so far: in each, for each input, a list of records.
+/// The epochs read so far: for each input, a list of records by epoch.
 #[derive(Drop)]
 pub struct Draft {
     count: u32,
@@ -18,7 +18,7 @@ pub struct Draft {
 }
 
 impl Draft {
-    /// No epoch, for so many inputs.
+    /// A draft without epochs, for that many inputs.
     pub fn new(alloc: Global, inputs: usize) -> Result<Draft, RowsError>
         ensures none { IfOk result HasNone }
         ensures inputs { IfOk result (λ e. length e.tracks.items ≡ inputs) }
@@ -30,14 +30,14 @@ impl Draft {
         Ok(Draft { count: 0, tracks })
     }
 
-    /// How many epochs there are.
+    /// The number of epochs that have begun.
     pub fn count(&self) -> u32
         ensures { result ≡ draft_count self.now }
     {
         self.count
     }
 
-    /// The next epoch begins, with no record.
+    /// Begins the next epoch, without records.
     pub fn begin(&mut self, alloc: Global) -> Result<(), RowsError>
         requires few { draft_count self.old < 2 ^ 32 - 1 }
         requires even { IsEven self.old }
@@ -50,7 +50,7 @@ impl Draft {
         Ok(())
     }
 
-    /// A record joins the last epoch of an input.
+    /// Appends a record to the last epoch of an input.
     pub fn push(&mut self, alloc: Global, input: usize, row: &[i64]) -> Result<(), RowsError>
         requires some { 0 < draft_count self.old }
         requires within { input < length self.old.tracks.items }
@@ -61,7 +61,7 @@ impl Draft {
         self.tracks[input].push(alloc, row)
     }
 
-    /// The epochs, once the whole text is read.
+    /// Turns the draft into epochs, once the whole text is read.
     pub fn finish(self, alloc: Global) -> Result<Epochs, RowsError>
         ensures { IfOk result (IsKept self) }
     {

@@ -7,7 +7,7 @@ ghost use Rattle.collector.specs.Held.{epoch_count, records_at};
 use crate::track::Kept;
 use rows::Batch;
 
-/// The epochs that a text tells: in each, for each input, its records in batches.
+/// The epochs of a text: for each input, its records by epoch, in batches.
 #[derive(Drop)]
 pub struct Epochs {
     pub(crate) count: u32,
@@ -15,15 +15,15 @@ pub struct Epochs {
 }
 
 impl Epochs {
-    /// How many epochs there are.
+    /// The number of epochs.
     pub fn count(&self) -> u32
         ensures { result ≡ epoch_count self.now }
     {
         self.count
     }
 
-    /// The records of an input in an epoch, in batches of at most 16,384, each with how often it stands in its batch; none where
-    /// there is no such input or epoch.
+    /// The records of an input in an epoch, in batches of at most 16,384; a batch stores equal records once, with a count. None if there is no such
+    /// input or epoch.
     pub fn batches(&self, epoch: u32, input: u32) -> &[Batch]
         ensures { joined result.now ≡ records_at self.now epoch input }
     {

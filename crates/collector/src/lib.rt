@@ -1,8 +1,8 @@
-//! The texts at the edges: the input text read into epochs, the output text written.
+//! The text formats: reads the input text into epochs, and writes the output text.
 //!
-//! Below stand `record_core`, `semantics`, `decimal`, `rows` and `itoa`: nothing of graphs or of the engine. Above stands the console, which
-//! reads bytes, has the query run over the epochs of `read_input`, and has `write_epochs` put out what came of them. The contract for it:
-//! the epochs and the bytes are related by the text formats of `specs/`, and a refusal names the first faulty line.
+//! Built on `record_core`, `semantics`, `decimal`, `rows` and `itoa`; it knows nothing of graphs or of the engine. The console above reads bytes,
+//! runs the query over the epochs of `read_input`, and writes the results with `write_epochs`. The contract for it: epochs and bytes are related by
+//! the text formats of `specs/`, and a refusal names the first faulty line.
 #![tactic(auto)]
 
 mod bytes;

@@ -1,4 +1,4 @@
-//! What a line of an input text says.
+//! Reads one line of an input text.
 
 ghost use Rattle.std.specs.Prelude.{◌≡◌, ◌≢◌, ◌<◌, ◌≤◌, ◌↔◌, ℕ, ℤ, List, [], ◌∷◌, ◌++◌, codes, length, map, true, false, IsTrue, IfSome, IfNone, IfOk, IfErr};
 ghost use Rattle.std.specs.Fmt.{signed_decimal};
@@ -15,21 +15,21 @@ use decimal::signed_number;
 use record_core::{MAX_FIELDS, Name};
 use std::alloc::AllocError;
 
-/// An input whose records a text may have: its name, and how many fields its records have.
+/// An input that a text may have records for: its name, and the number of fields of its records.
 #[derive(Clone, Copy)]
 pub struct Declared<'a> {
     pub name: &'a Name,
     pub arity: u64,
 }
 
-/// What a line says. The fields of a record stand in the reader's buffer.
+/// What a line says. The fields of a record are in the reader's buffer.
 #[derive(Clone, Copy, Debug, PartialEq, Eq)]
 pub enum Line {
     Epoch,
     Row { input: usize },
 }
 
-/// Why a line says nothing.
+/// Why a line can't be read.
 #[derive(Clone, Copy, Debug, PartialEq, Eq)]
 pub enum LineError {
     Fault(Fault),
@@ -39,7 +39,7 @@ pub enum LineError {
 /// The most epochs of a text.
 const MAX_EPOCHS: u32 = 4_294_967_295;
 
-/// The longest word that is spelled like a name.
+/// The length of the longest word that is spelled like a name.
 const MAX_WORD: usize = 32;
 
 fn is_epoch(line: &[u8]) -> bool
@@ -72,7 +72,7 @@ pub fn is_word(word: &[u8]) -> bool
     begins(word) && word.len() <= MAX_WORD && goes_on(word)
 }
 
-/// The first word, and what stands after the space that ends it.
+/// The first word, and the text after the space that ends it, if there is one.
 pub fn first_word(line: &[u8]) -> (&[u8], Option<&[u8]>)
     ensures { split_on 32 line.now ≡ result.0.now ∷ words_of result.1 }
 {
@@ -116,7 +116,7 @@ fn is_same(word: &[u8], name: &[u8]) -> bool
     word == name
 }
 
-/// The first input of a name: its number, and how many fields its records have.
+/// The first input of that name: its number, and the number of fields of its records.
 pub fn find_input(inputs: &[Declared<'_>], name: &[u8]) -> Option<(usize, u64)>
     ensures found { IfSome result (λ p. IsInput (map plain inputs.now) name.now p.0 p.1) }
     ensures none { IfNone result (IsAbsent (map plain inputs.now) name.now) }
@@ -129,7 +129,7 @@ pub fn find_input(inputs: &[Declared<'_>], name: &[u8]) -> Option<(usize, u64)>
     None
 }
 
-/// Puts the numbers that the words are into the buffer; `false` where one of them is none.
+/// Reads the words as numbers into the buffer; `false` if one of them isn't a number.
 fn read_numbers(text: &[u8], fields: &mut Vec<i64>) -> Result<bool, AllocError>
     ensures numbers { IfOk result (λ b. b ≡ true → AreNumbers (split_on 32 text.now) fields.new.items) }
     ensures none { IfOk result (λ b. b ≡ false → (zs : List ℤ) → AreNumbers (split_on 32 text.now) zs → ⊥) }
@@ -153,7 +153,7 @@ fn read_numbers(text: &[u8], fields: &mut Vec<i64>) -> Result<bool, AllocError>
     }
 }
 
-/// The same for the words after the first.
+/// As `read_numbers`, for the words after the first.
 pub fn read_fields(rest: Option<&[u8]>, fields: &mut Vec<i64>) -> Result<bool, AllocError>
     ensures numbers { IfOk result (λ b. b ≡ true → AreNumbers (words_of rest.entry) fields.new.items) }
     ensures none { IfOk result (λ b. b ≡ false → (zs : List ℤ) → AreNumbers (words_of rest.entry) zs → ⊥) }
@@ -175,7 +175,7 @@ fn make_record(fields: &[i64], arity: u64) -> bool
     count as u64 == arity && 1 <= count && count <= MAX_FIELDS
 }
 
-/// What a line of words says where an epoch has begun. The line and its words are those of the caller.
+/// What a line of words says once an epoch has begun. The caller has split the line into its words.
 fn row_says(
     first: &[u8],
     rest: Option<&[u8]>,
@@ -200,7 +200,7 @@ fn row_says(
     }
 }
 
-/// What a line says where so many epochs have begun; the fields of a record are put into the buffer.
+/// What a line says after `epochs` epochs have begun. The fields of a record are put into the buffer.
 pub fn line_says(
     line: &[u8],
     inputs: &[Declared<'_>],

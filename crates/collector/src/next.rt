@@ -1,4 +1,4 @@
-//! The first line of a text.
+//! Reads the first line of a text.
 
 ghost use Rattle.std.specs.Prelude.{map};
 ghost use Rattle.collector.specs.Quick.{NextEnds};
@@ -17,7 +17,7 @@ pub enum Stop {
     NoLineFeed,
 }
 
-/// The first line, however it is spelled.
+/// Reads the first line, in whatever spelling.
 fn any_line<'a>(
     text: &'a [u8],
     inputs: &[Declared<'_>],
@@ -37,7 +37,7 @@ fn any_line<'a>(
     }
 }
 
-/// What the first line says where so many epochs have begun, and what stands after it.
+/// Reads the first line after `epochs` epochs have begun: what it says, and the text after it.
 pub fn next_line<'a>(
     text: &'a [u8],
     inputs: &[Declared<'_>],

@@ -1,6 +1,6 @@
-//! Records that are spelled as they print, read in one pass.
+//! A fast path: reads records that are spelled as they print, in one pass.
 //!
-//! What is read here is right; what isn't read here, be it wrong or only long, is left to the reader of lines.
+//! A record that is read here is read correctly. Anything else, wrong or only spelled at more length, is left to the reader of lines.
 
 ghost use Rattle.std.specs.Prelude.{◌≡◌, ◌<◌, ◌≤◌, ◌^◌, ◌++◌, ◌∷◌, ℕ, List, length, take, drop, map, decimal, FitsSigned, IsTrue, ◌↔◌, IfOk, IfSome, IfNone};
 ghost use Rattle.std.specs.Fmt.{signed_decimal};
@@ -14,10 +14,10 @@ use crate::line::Declared;
 use record_core::MAX_FIELDS;
 use std::alloc::AllocError;
 
-/// Ten times this and a digit more is an `i64`.
+/// The largest number that can be multiplied by ten and increased by a digit without leaving `i64`.
 const LARGEST: u64 = 922_337_203_685_477_579;
 
-/// The number at the head of the text, and how many bytes spell it.
+/// The number at the head of the text, and the number of bytes that spell it.
 fn quick_number(text: &[u8]) -> Option<(u64, usize)>
     ensures within { IfSome result (λ r. r.1 ≤ length text.now) }
     ensures number { IfSome result (λ r. take r.1 text.now ≡ decimal r.0) }
@@ -35,7 +35,7 @@ fn quick_number(text: &[u8]) -> Option<(u64, usize)>
     Some((value, at))
 }
 
-/// The signed number at the head of the text, and what stands after it.
+/// The signed number at the head of the text, and the text after it.
 fn quick_signed(text: &[u8]) -> Option<(i64, &[u8])>
     ensures spelled { IfSome result (λ r. text.now ≡ signed_decimal r.0 ++ r.1.now) }
     ensures fits { IfSome result (λ r. FitsSigned w64 r.0) }
@@ -61,7 +61,7 @@ fn quick_signed(text: &[u8]) -> Option<(i64, &[u8])>
     }
 }
 
-/// The fields at the head of the text, each after a space, and a line feed after the last: what stands after them.
+/// Reads the fields at the head of the text, each after a space, up to a line feed after the last; gives the text after it.
 fn quick_fields<'a>(
     text: &'a [u8],
     arity: u64,
@@ -94,7 +94,7 @@ fn is_same(word: &[u8], name: &[u8]) -> bool
     word == name
 }
 
-/// What stands after a name at the head of the text: a space, and more.
+/// The text after a name at the head of the text, if a space follows it.
 fn after_name<'a>(text: &'a [u8], name: &[u8]) -> Option<&'a [u8]>
     ensures some { IfSome result (λ rest. text.entry.now ≡ name.now ++ rest.now) }
     ensures none { IfNone result ((rest : List ℕ) → text.entry.now ≡ name.now ++ 32 ∷ rest → ⊥) }
@@ -111,7 +111,7 @@ fn after_name<'a>(text: &'a [u8], name: &[u8]) -> Option<&'a [u8]>
     }
 }
 
-/// The record at the head of the text: the number of its input, and what stands after its line.
+/// Reads the record at the head of the text: the number of its input, and the text after its line.
 pub fn quick_row<'a>(
     text: &'a [u8],
     inputs: &[Declared<'_>],

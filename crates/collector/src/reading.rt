@@ -1,4 +1,4 @@
-//! The input text, read.
+//! Reads the input text.
 
 ghost use Rattle.std.specs.Prelude.{map, IfOk, IfErr, OnOk};
 ghost use Rattle.collector.specs.Growth.{CanTake, IsEven, Takes};
@@ -13,10 +13,10 @@ use crate::refusal::InputRefusal;
 use rows::RowsError;
 use std::alloc::{AllocError, Global};
 
-/// The code of a last line that no line feed ends.
+/// The code for a last line without line feed.
 const NO_LINE_FEED: u8 = 43;
 
-/// Takes what a line says; the fields of a record stand in the buffer.
+/// Adds what a line says to the draft. The fields of a record are in the buffer.
 fn take_line(alloc: Global, draft: &mut Draft, said: Line, fields: &[i64]) -> Result<(), RowsError>
     requires even { IsEven draft.old }
     requires can { CanTake draft.old (item_of said fields.now) }
@@ -28,10 +28,10 @@ fn take_line(alloc: Global, draft: &mut Draft, said: Line, fields: &[i64]) -> Re
     }
 }
 
-/// Reads a whole input text for these inputs, in the time of its length.
+/// Reads a whole input text for these inputs, in linear time.
 ///
-/// Lines end with a line feed. A line `epoch` begins the next epoch; any other is an input's name and its record's fields, each
-/// after one space. After a refusal nothing is kept; it names the first faulty line.
+/// Lines end with a line feed. A line `epoch` begins the next epoch; any other line is an input's name and a record's fields, each after one space. A
+/// refusal names the first faulty line, and nothing is kept.
 pub fn read_input(
     alloc: Global,
     text: &[u8],

@@ -1,4 +1,4 @@
-//! Why an input text is refused.
+//! The reasons why an input text is refused.
 
 ghost use Rattle.std.specs.Prelude.{◌≡◌};
 ghost use Rattle.collector.specs.Lines.{code_of};
@@ -7,25 +7,25 @@ ghost use Rattle.collector.specs.declared.refusal.InputRefusal.TheVariants.{NoMe
 use rows::RowsError;
 use std::alloc::{AllocError, AllocFailed};
 
-/// What is wrong with a line that a line feed ends.
+/// What is wrong with a line that has its line feed.
 #[derive(Clone, Copy, Debug, PartialEq, Eq)]
 pub enum Fault {
-    /// `a  1`, `a 1 ` or an empty line: an empty word, or a first word that no name or keyword is spelled like.
+    /// `a 1`, `a 1 ` or an empty line: an empty word, or a first word that isn't spelled like a name or keyword.
     Malformed,
-    /// `epoch`, for the 4,294,967,296th time.
+    /// `epoch` for the 4,294,967,296th time.
     TooManyEpochs,
     /// `a 1` before the first `epoch`.
     NoEpoch,
     /// `c 1` where no input is named `c`.
     Unknown,
-    /// `a 01`, `a +1`, `a x`: a word after the first that no number is printed as.
+    /// `a 01`, `a +1`, `a x`: a word after the first that isn't a number in its printed form.
     BadNumber,
     /// `a 1 2` where the input `a` has one field.
     WrongFields,
 }
 
 impl Fault {
-    /// The number by which it is told.
+    /// The code of the fault.
     pub fn code(self) -> u8
         ensures { result ≡ code_of self }
     {
@@ -40,8 +40,7 @@ impl Fault {
     }
 }
 
-/// The first faulty line of an input text, counted from 1, and what is wrong with it; 43 is a last line without line feed.
-/// Or want of memory.
+/// The first faulty line of an input text, counted from 1, with the code of its fault (43 for a last line without line feed); or want of memory.
 #[derive(Clone, Copy, Debug, PartialEq, Eq)]
 pub enum InputRefusal {
     At { code: u8, line: u64 },

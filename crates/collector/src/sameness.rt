@@ -1,10 +1,10 @@
-//! Records in batches, compared.
+//! Compares records in batches.
 
 ghost use Rattle.std.specs.Prelude.{◌≡◌, ◌↔◌, IsTrue};
 
 use rows::Batch;
 
-/// Whether the batches are the same, one by one.
+/// Whether two lists have the same batches, in the same order.
 pub fn same_batches(left: &[Batch], right: &[Batch]) -> bool
     ensures { IsTrue result ↔ (left.now ≡ right.now) }
 {

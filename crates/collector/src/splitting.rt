@@ -1,11 +1,11 @@
-//! The pieces round a byte.
+//! Splits bytes at a byte.
 
 ghost use Rattle.std.specs.Prelude.{◌≡◌, ◌≢◌, ◌<◌, ℕ, map, length, slice_index, take, drop, ◌+◌, ◌++◌, ◌∷◌, [], IfSome, IfNone, IfOk};
 ghost use Rattle.collector.specs.Pieces.{split_on};
 
 use std::alloc::{AllocError, Global};
 
-/// Where a byte first stands.
+/// The first place of a byte.
 pub fn find(bytes: &[u8], byte: u8) -> Option<usize>
     ensures found { IfSome result (λ i. (i < length bytes.now) × (slice_index bytes.now i ≡ byte) × ((k : ℕ) → k < i → slice_index bytes.now k ≢ byte)) }
     ensures none { IfNone result ((k : ℕ) → k < length bytes.now → slice_index bytes.now k ≢ byte) }
@@ -18,7 +18,7 @@ pub fn find(bytes: &[u8], byte: u8) -> Option<usize>
     None
 }
 
-/// What stands before a place, and after it.
+/// The bytes before a place, and those after it.
 pub fn around(bytes: &[u8], at: usize) -> (&[u8], &[u8])
     requires { at < length bytes.now }
     ensures before { result.0.now ≡ take at bytes.now }

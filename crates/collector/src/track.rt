@@ -1,4 +1,4 @@
-//! The records of one input.
+//! The records of one input, while a text is read.
 
 ghost use Rattle.std.specs.Prelude.{◌≡◌, ◌<◌, ◌≤◌, ◌+◌, ℕ, ℤ, List, ◌++◌, ◌∷◌, [], OnOk, IfOk, map, length, slice_index_or, ◌==◌, if◌then◌else◌};
 ghost use Rattle.record_core.specs.Records.{IsRecord};
@@ -11,10 +11,10 @@ use std::alloc::{AllocError, Global};
 use std::marker::Model;
 use std::mem;
 
-/// The most records of a list of rows.
+/// The most records of one list of rows.
 const BATCH: usize = 16_384;
 
-/// The records of one input while a text is read, in lists of rows for each epoch; the last ones of the last epoch stand in `last`.
+/// The records of one input while a text is read: for each epoch, lists of rows. The newest rows of the last epoch are kept apart, in `last`.
 #[derive(Drop)]
 pub struct Track {
     epochs: Vec<Vec<Rows>>,
@@ -31,7 +31,7 @@ impl Model for Track {
 }
 
 impl Track {
-    /// No epoch.
+    /// A track without epochs.
     pub fn new(alloc: Global) -> Track
         ensures { result ≡ [] }
     {
@@ -41,7 +41,7 @@ impl Track {
         }
     }
 
-    /// The next epoch begins, with no record.
+    /// Begins the next epoch, without records.
     pub fn begin(&mut self, alloc: Global) -> Result<(), RowsError>
         ensures { OnOk result (self.new ≡ self.old ++ [] ∷ []) }
     {
@@ -51,7 +51,7 @@ impl Track {
         Ok(())
     }
 
-    /// A record joins the last epoch.
+    /// Appends a record to the last epoch.
     pub fn push(&mut self, alloc: Global, row: &[i64]) -> Result<(), RowsError>
         requires some { 0 < length self.old }
         requires record { IsRecord row.now }
@@ -63,7 +63,7 @@ impl Track {
         Ok(())
     }
 
-    /// What was read, in batches: equal records of a list of rows are taken together.
+    /// Turns what was read into batches: equal records of one list of rows are stored once, with a count.
     pub fn finish(self, alloc: Global) -> Result<Kept, RowsError>
         ensures { IfOk result (λ k. AreAlike k self) }
     {
@@ -77,7 +77,7 @@ impl Track {
     }
 }
 
-/// The rows of lists in batches, one for each list that has some.
+/// The rows of the lists as batches, one for each list that isn't empty.
 fn batches_of(alloc: Global, lists: Vec<Rows>) -> Result<Vec<Batch>, RowsError>
     ensures { IfOk result (λ batches. joined batches.items ≈ piled lists.items) }
 {
@@ -90,7 +90,7 @@ fn batches_of(alloc: Global, lists: Vec<Rows>) -> Result<Vec<Batch>, RowsError>
     Ok(batches)
 }
 
-/// Puts rows at the end of the last epoch.
+/// Appends rows to the last epoch.
 fn seal(epochs: &mut Vec<Vec<Rows>>, rows: Rows) -> Result<(), RowsError>
     ensures { OnOk result (map (λ v. piled v.items) epochs.new.items ≡ with_open (map (λ v. piled v.items) epochs.old.items) rows.rows) }
 {
@@ -105,7 +105,7 @@ fn seal(epochs: &mut Vec<Vec<Rows>>, rows: Rows) -> Result<(), RowsError>
     Ok(())
 }
 
-/// The last rows have room for a row of that many numbers.
+/// Makes room in `last` for a row of `arity` numbers: moves its rows into the last epoch if it is full or has another arity.
 fn make_room(
     alloc: Global,
     epochs: &mut Vec<Vec<Rows>>,
@@ -126,7 +126,7 @@ fn make_room(
     Ok(())
 }
 
-/// No rows, with room for a whole list where more than one is wanted.
+/// An empty list of rows, with room for `BATCH` rows if `many`.
 fn fresh(alloc: Global, arity: usize, many: bool) -> Result<Rows, RowsError>
     requires some { 1 ≤ arity }
     requires fits { arity ≤ 16 }
@@ -139,7 +139,7 @@ fn fresh(alloc: Global, arity: usize, many: bool) -> Result<Rows, RowsError>
     }
 }
 
-/// The records of one input, in batches for each epoch.
+/// The records of one input, in batches by epoch.
 #[derive(Drop)]
 pub struct Kept {
     epochs: Vec<Vec<Batch>>,
@@ -155,7 +155,7 @@ impl Model for Kept {
 }
 
 impl Kept {
-    /// The records of an epoch in their batches; none where it hasn't begun.
+    /// The batches of an epoch; none if it hasn't begun.
     pub fn batches(&self, epoch: usize) -> &[Batch]
         ensures { joined result.now ≡ slice_index_or self.now epoch [] }
     {

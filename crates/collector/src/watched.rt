@@ -1,7 +1,7 @@
 //! Readers and writers that remember whether they failed.
 //!
-//! A fault may say "cannot read" or "cannot write" only where the reader or the writer really failed. Each of them fails here, in
-//! `pull` or in `push`, and nowhere else; so whoever tells such a fault can show it by the mark that is set here.
+//! A fault may say "cannot read" or "cannot write" only if the reader or the writer really failed. They fail only in `pull`, `push` and `settle`,
+//! which set a mark, so a caller that reports such a fault can prove it by the mark.
 
 ghost use Rattle.std.specs.Prelude.{◌≡◌, ◌<◌, ◌≤◌, false, true, length, take, IfSome, IfNone, OnSome, OnOk, OnErr};
 ghost use Rattle.std.specs.Io.{ReadsAtMost};
@@ -32,7 +32,7 @@ impl<T> Watched<T> {
         }
     }
 
-    /// What the system said of the last read that failed.
+    /// The system's reason for the last read that failed.
     pub fn reason(&self) -> Option<ErrorKind> {
         self.reason
     }
@@ -46,8 +46,8 @@ impl<T> Watched<T> {
 }
 
 impl<R: Read> Watched<R> {
-    /// One read into the piece: how many bytes came, 0 only at the end or into an empty piece.
-    /// Where it answers an error, and only there, the reader has failed.
+    /// Reads once into the piece, and gives the number of bytes, which is 0 only at the end or for an empty piece. The reader has failed exactly if
+    /// the answer is an error.
     pub fn pull(&mut self, piece: &mut [u8]) -> io::Result<usize>
         ensures bound { ReadsAtMost result piece.new }
         ensures bytes { ReadConsumes (R.remaining (inner_of self.old)) (R.remaining (inner_of self.new)) result piece.new }
@@ -66,8 +66,8 @@ impl<R: Read> Watched<R> {
 }
 
 impl<W: Write> Watched<W> {
-    /// One write of a beginning of the piece: how many bytes were taken, at least 1.
-    /// `None` where the writer answered an error, or took none: only there it has failed.
+    /// Writes a beginning of the piece once, and gives the number of bytes taken, at least 1. `None` if the writer gave an error or took no byte;
+    /// only then has it failed.
     pub fn push(&mut self, piece: &[u8]) -> Option<usize>
         requires { 0 < length piece.now }
         ensures some { IfSome result (λ n. (0 < n) × (n ≤ length piece.now)) }
@@ -85,7 +85,7 @@ impl<W: Write> Watched<W> {
         }
     }
 
-    /// Hands on what the writer still holds back. `false` where it failed, and only there it has failed.
+    /// Flushes the writer. `false` if that failed; only then has the writer failed.
     pub fn settle(&mut self) -> bool
         ensures bytes { Keeps (W.contents (inner_of self.old)) (W.contents (inner_of self.new)) }
         ensures ok { result ≡ true → has_failed self.new ≡ has_failed self.old }

@@ -1,4 +1,4 @@
-//! Writing bytes whole, or a beginning of them.
+//! Writes bytes whole, or a beginning of them.
 
 ghost use Rattle.std.specs.Prelude.{◌≡◌, true, OnOk, OnErr};
 ghost use Rattle.std.specs.Io.KnownBytes.{Appends};
@@ -12,7 +12,7 @@ use std::io::Write;
 #[derive(Clone, Copy, Debug, PartialEq, Eq)]
 pub struct Broken;
 
-/// Writes the bytes. After an error a beginning of them was written, and the writer failed in this call.
+/// Writes the bytes. After an error the writer has failed in this call, and a beginning of the bytes was written.
 pub fn put<W: Write>(writer: &mut Watched<W>, bytes: &[u8]) -> Result<(), Broken>
     ensures ok { OnOk result (Appends (W.contents (inner_of writer.old)) (W.contents (inner_of writer.new)) bytes.now) }
     ensures err { OnErr result (AppendsFront (W.contents (inner_of writer.old)) (W.contents (inner_of writer.new)) bytes.now) }

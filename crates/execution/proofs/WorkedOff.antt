@@ -1,4 +1,4 @@
--- A report that was fed what was read, of as many epochs and inputs as there are.
+-- A report that was fed what was read, with as many epochs and inputs.
 use Rattle.std.proofs.Common.{◌≡◌, ℕ, length, arith}
 use Rattle.graph.specs.Shown.{GraphValue, shown_inputs}
 use Rattle.board.specs.Shown.{Shown}

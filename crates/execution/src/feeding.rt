@@ -1,4 +1,4 @@
-//! Feeding an engine epoch by epoch.
+//! Feeds an engine epoch by epoch.
 
 use crate::task::{AHEAD, Task};
 use crate::unfinished::Unfinished;
@@ -9,13 +9,13 @@ use std::sync::Wait;
 use views::Views;
 use workers::{Ended, Engine, Feed, Gate, Naming, work_along};
 
-/// The most epochs that are fed while the lock is held once.
+/// The most epochs that are fed under one lock.
 const EPOCHS_AT_ONCE: u32 = AHEAD / 2;
 
-/// From this number on the gathered records are fed.
+/// Once this many records are gathered, they are fed.
 const RECORDS_AT_ONCE: usize = 4096;
 
-/// What is to be fed next, and how many records that is.
+/// What is to be fed next, and its number of records.
 #[derive(Drop)]
 struct Portion {
     feeds: Vec<Feed>,
@@ -30,7 +30,7 @@ impl Portion {
         }
     }
 
-    /// Adds a batch, which is shared, not copied.
+    /// Adds a batch. Its records are shared, not copied.
     fn add(&mut self, input: u32, batch: &Batch) -> Result<(), Unfinished> {
         self.records = self.records.saturating_add(batch.len());
         let batch = batch.share()?;
@@ -67,7 +67,7 @@ fn feed_portion<J: Naming, V: Views, R: Wait>(
     Ok(())
 }
 
-/// Gathers the batches of one input's epoch, and feeds them where they are many.
+/// Gathers the batches of one input's epoch, and feeds what is gathered once it is large.
 fn feed_batches<J: Naming, V: Views, R: Wait>(
     rt: &R,
     alloc: Global,
@@ -85,7 +85,7 @@ fn feed_batches<J: Naming, V: Views, R: Wait>(
     Ok(())
 }
 
-/// Gathers one epoch of every input, and its end.
+/// Gathers one epoch of every input, with its end.
 fn feed_epoch<J: Naming, V: Views, R: Wait>(
     rt: &R,
     alloc: Global,
@@ -123,8 +123,8 @@ fn work_now<J: Naming, V: Views, R: Wait, G: Gate>(
     }
 }
 
-/// Feeds and seals epoch by epoch, many small ones at once, and never more of them ahead of what has passed than `AHEAD`: a thread that
-/// is alone works between, another one sleeps until half of them are gone.
+/// Feeds and seals epoch by epoch, many small epochs at once, and stays at most `AHEAD` epochs ahead of what has passed: a thread that is alone works
+/// in between, and any other sleeps until half of them have passed.
 pub fn feed_epochs<J: Naming, V: Views, R: Wait, G: Gate>(
     rt: &R,
     alloc: Global,
@@ -147,7 +147,7 @@ pub fn feed_epochs<J: Naming, V: Views, R: Wait, G: Gate>(
     feed_portion(rt, alloc, engine, &mut portion)
 }
 
-/// Closes every input. On a stopped board none can be closed, nor needs to be.
+/// Closes every input. On a stopped board no input can be closed, and none needs to be.
 pub fn close_inputs<J: Naming, V: Views, R: Wait>(rt: &R, engine: &Engine<J, V>, inputs: u32) {
     for input in 0..inputs {
         let _ = engine.close(rt, input);

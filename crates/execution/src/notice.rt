@@ -1,4 +1,4 @@
-//! What the workers tell as they end.
+//! What the workers report as they end.
 
 use std::sync::atomic::{AtomicBool, Ordering};
 use workers::Ended;
@@ -10,14 +10,14 @@ pub struct Notice {
 }
 
 impl Notice {
-    /// Nothing was told.
+    /// Nothing reported yet.
     pub fn new() -> Notice {
         Notice {
             over: AtomicBool::new(false),
         }
     }
 
-    /// Keeps why a worker has stopped working, as far as it matters.
+    /// Notes why a worker stopped working, if that was a count.
     pub fn note(&self, ended: Ended) {
         match ended {
             Ended::Count => self.over.store(true, Ordering::SeqCst),

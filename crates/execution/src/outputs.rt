@@ -21,7 +21,7 @@ fn emitted_for<'a, V: Views>(report: &'a Report<V>, output: u32, epoch: u32) -> 
     report.emitted(output, epoch)
 }
 
-/// What was emitted at an output, for each epoch of so many.
+/// What was emitted at an output for each of the first `count` epochs.
 fn emitted_at_output<'a, V: Views>(
     alloc: Global,
     report: &'a Report<V>,
@@ -38,7 +38,7 @@ fn emitted_at_output<'a, V: Views>(
     Ok(lists)
 }
 
-/// What was emitted at each output, by its name, for each epoch of so many.
+/// What was emitted at each output, with its name, for each of the first `count` epochs.
 pub fn emitted<'a, V: Views>(
     alloc: Global,
     report: &'a Report<V>,

@@ -1,4 +1,4 @@
-//! Whether a report was fed what was read.
+//! Checks that a report was fed what was read.
 
 ghost use Rattle.std.specs.Prelude.{◌≡◌, ◌<◌, ℕ, IsTrue};
 ghost use Rattle.collector.specs.Held.{records_at};
@@ -8,14 +8,14 @@ use collector::{Epochs, same_batches};
 use views::Views;
 use workers::Report;
 
-/// Whether an input was fed, at an epoch, just what was read.
+/// Whether an input was fed, at an epoch, exactly what was read.
 fn is_same<V: Views>(report: &Report<V>, input: u32, epochs: &Epochs, epoch: u32) -> bool
     ensures { IsTrue result → fed_at report.now input epoch ≡ records_at epochs.now epoch input }
 {
     same_batches(report.fed(input, epoch), epochs.batches(epoch, input))
 }
 
-/// Whether all inputs were fed, at an epoch, just what was read.
+/// Whether all inputs were fed, at an epoch, exactly what was read.
 fn is_fed_at<V: Views>(report: &Report<V>, inputs: u32, epochs: &Epochs, epoch: u32) -> bool
     ensures { IsTrue result → (i : ℕ) → i < inputs → fed_at report.now i epoch ≡ records_at epochs.now epoch i }
 {
@@ -27,7 +27,7 @@ fn is_fed_at<V: Views>(report: &Report<V>, inputs: u32, epochs: &Epochs, epoch: 
     true
 }
 
-/// Whether all inputs were fed just what was read.
+/// Whether all inputs were fed exactly what was read.
 pub fn is_fed<V: Views>(report: &Report<V>, inputs: u32, epochs: &Epochs, count: u32) -> bool
     ensures { IsTrue result → HoldsFed report.now inputs epochs.now count }
 {

@@ -14,15 +14,15 @@ pub enum Unfinished {
     Count,
     /// A worker's thread could not be started.
     NoWorker,
-    /// The engine refused a call for another reason than memory, or it isn't drained, or it was fed something else than was read. No run
-    /// is known that ends so.
+    /// The engine refused a call for a reason other than memory, or it isn't drained, or it was fed something other than what was read. No run is
+    /// known that ends like this.
     Incomplete,
 }
 
 impl From<StepRefusal> for Unfinished {
     fn from(refusal: StepRefusal) -> Unfinished {
         match refusal {
-            // Where an event was given up for a count that is too large, its worker says so.
+            // If an event was abandoned for a count that is too large, its worker reports that.
             StepRefusal::NoMemory | StepRefusal::Stopped => Unfinished::NoMemory,
             StepRefusal::UnknownInput
             | StepRefusal::InputClosed

@@ -1,4 +1,4 @@
-//! Telling how far a run is.
+//! Reports the progress of a run.
 
 ghost use Rattle.std.specs.Prelude.{◌≡◌};
 
@@ -9,16 +9,16 @@ use std::sync::Wait;
 use views::Views;
 use workers::{Engine, Mark, Naming, Seat};
 
-/// How a watcher is told how many epochs have passed.
+/// How a watcher writes the number of passed epochs.
 #[derive(Clone, Copy, Debug, PartialEq, Eq)]
 pub enum Telling {
-    /// By a line each time, as a file or a pipe needs it.
+    /// One line each time, for a file or a pipe.
     Lines,
-    /// By one line of a terminal, whose number rises in place.
+    /// One line of a terminal, whose number rises in place.
     InPlace,
 }
 
-/// A writer that is told how many epochs have passed.
+/// A writer to which the number of passed epochs is reported.
 #[derive(Drop)]
 pub struct Watcher<W> {
     pub writer: W,
@@ -26,7 +26,7 @@ pub struct Watcher<W> {
 }
 
 impl<W: Write> Watcher<W> {
-    /// Tells one number, in one write.
+    /// Reports one number, in one write.
     fn tell(&mut self, passed: u64) -> io::Result<()> {
         let mut text: ArrayVec<u8, 32> = ArrayVec::new();
         match self.telling {
@@ -37,7 +37,7 @@ impl<W: Write> Watcher<W> {
         self.writer.flush()
     }
 
-    /// Ends the line that rose in place. Other lines have ended.
+    /// Ends the line whose number rose in place. Lines of their own have ended already.
     fn end(&mut self) -> io::Result<()> {
         match self.telling {
             Telling::Lines => Ok(()),
@@ -49,8 +49,8 @@ impl<W: Write> Watcher<W> {
     }
 }
 
-/// Tells the watcher whenever more epochs have passed than were told, and sleeps in between. It ends when no more can pass, or the writer
-/// has failed.
+/// Reports to the watcher whenever more epochs have passed than it has reported, and sleeps in between. Ends when no more can pass, or the writer has
+/// failed.
 pub fn watch<J: Naming, V: Views, R: Wait, W: Write>(
     rt: &R,
     engine: &Engine<J, V>,

@@ -1,4 +1,4 @@
--- What calls leave, put together.
+-- What several calls do together.
 use Rattle.std.proofs.Common.{◌≡◌, ◌<◌, ◌⊎◌, ◌-◌, ◌∙◌, ◌++◌, All, ℕ, List, [], length, map, refl, sym, ap, subst, arith, inl, inr, get_or}
 use Rattle.std.specs.Prelude.{Bool, true, false, Option, Some, None, Result, Ok, Err, OnOk, IfOk, IfNone, if◌then◌else◌, is_err, is_ok, is_some, not, slice_index_or}
 use Rattle.std.proofs.Math.ListN.{get_or-append}
@@ -26,7 +26,7 @@ pub on_ok : {T E A B : Type 0} (r : Result T E) → (A → B) → OnOk r A → O
 on_ok (Ok t) f h = f h
 on_ok (Err e) f h = tt
 
--- what the Ok of a call says, where it was Ok
+-- what the Ok of a call says, if it was Ok
 pub ok_of : {T E A : Type 0} (r : Result T E) (t : T) → r ≡ Ok t → OnOk r A → A
 ok_of (Ok u) t is h = h
 ok_of (Err e) t is h = absurd cc
@@ -58,7 +58,7 @@ label_at g outputs k x is_alone names lt is same =
     let name : name_of_output x ≡ slice_index_or (shown_names g) k [] = ap name_of_output is ∙ sym (get_or-map name_of_output outputs k x [] lt) ∙ ap (λ ns. slice_index_or ns k []) names in
     ap (λ b. label_of b (name_of_output x)) (same ∙ ap is_plain names) ∙ ap (label_of (is_plain (shown_names g))) name
 
--- what was told, after more work
+-- what was written, after more work
 can_later : (s t : Shown) (base : ℕ) (u : Telling) (items : List Item) (begun begun2 sealed sealed2 : ℕ) (entries : List Entry) (text : List ℕ) → Grows s t → begun2 ≡ begun → sealed2 ≡ sealed → CanTell s base u items begun sealed entries text → CanTell t base u items begun2 sealed2 entries text
 can_later s t base u items begun begun2 sealed sealed2 entries text grows b c can = record {
   told = told_later s t base u.done (told_count u) (said_records items) (said_records items) entries text can.told grows (λ e i lt. refl);

@@ -1,4 +1,4 @@
--- What a thread is handed of an event, and what it hands back, may go to any thread.
+-- What a thread gets of an event, and what it gives back, may go to any thread.
 use denote.Param.Send.{IsSend, sendable}
 use Rattle.std.proofs.Crossing.{crosses}
 use Rattle.events.specs.contracts.work.Work as work

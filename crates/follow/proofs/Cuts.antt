@@ -1,11 +1,11 @@
--- Pieces of a text to which more comes.
+-- The pieces of a text that grows.
 use Rattle.std.proofs.Common.{◌≡◌, ◌<◌, ◌∙◌, ℕ, Bool, true, false, List, [], ◌∷◌, ◌++◌, length, cond, refl, sym, ap, arith}
 use Rattle.std.specs.List.{onto_first}
 use Rattle.std.specs.Prelude.{◌==◌}
 use Rattle.std.proofs.lemmas.List.Splits.{length-slice_split}
 use Rattle.collector.specs.Pieces.{split_on}
 
--- the pieces of two texts, one behind the other: the last piece of the one goes on with the first of the other
+-- the pieces of two texts, one after the other: the last piece of the one goes on with the first of the other
 abbrev pub glued : List (List ℕ) → List (List ℕ) → List (List ℕ)
 glued [] qs = qs
 glued (p ∷ []) [] = p ∷ []
@@ -48,7 +48,7 @@ lines_glued (l ∷ []) [] qs some = absurd (omega arith)
 lines_glued (l ∷ []) (p ∷ ps) qs some = refl
 lines_glued (l ∷ next ∷ lines) ps qs some = ap (λ (xs : List (List ℕ)). l ∷ xs) (lines_glued (next ∷ lines) ps qs some)
 
--- more bytes behind what isn't read yet
+-- more bytes after those that aren't read yet
 pub more_bytes : (text rest piece : List ℕ) (lines : List (List ℕ)) → split_on 10 text ≡ lines ++ split_on 10 rest → split_on 10 (text ++ piece) ≡ lines ++ split_on 10 (rest ++ piece)
 more_bytes text rest piece lines e =
     let some : 0 < length (split_on 10 rest) = omega (arith, length-slice_split (λ b. b == 10) rest) in

@@ -59,7 +59,7 @@ pub rows_append : (f : Record → List ℕ) (xs ys : List Record) → flat_map f
 rows_append f [] ys = refl
 rows_append f (x ∷ xs) ys = ap (λ (zs : List ℕ). f x ++ zs) (rows_append f xs ys) ∙ sym (append_assoc (f x) (flat_map f xs) (flat_map f ys))
 
--- a row once more
+-- one more repeat of a row
 pub times_more : (f : Record → List ℕ) (row : Record) (n : ℕ) (start out new : List ℕ) → out ≡ start ++ flat_map f (repeated n row) → new ≡ out ++ f row → new ≡ start ++ flat_map f (repeated (n + 1) row)
 times_more f row n start out new h e =
     e ∙ ap (λ (xs : List ℕ). xs ++ f row) h ∙ append_assoc start (flat_map f (repeated n row)) (f row) ∙ ap (λ (xs : List ℕ). start ++ xs) (again n ∙ ap (λ (m : ℕ). flat_map f (repeated m row)) (let e : suc n ≡ n + 1 = omega arith in e))
@@ -68,7 +68,7 @@ times_more f row n start out new h e =
     again zero = sym (append-nil (f row))
     again (suc n) = append_assoc (f row) (flat_map f (repeated n row)) (f row) ∙ ap (λ (xs : List ℕ). f row ++ xs) (again n)
 
--- one more of the different records of a batch
+-- one more of the distinct records of a batch
 pub runs_more : (f : Record → List ℕ) (cs : List Run) (k : ℕ) (row : Record) (n : ℕ) (start out new : List ℕ) → k < length cs → row ≡ (slice_index_or cs k no_run).row → n ≡ (slice_index_or cs k no_run).count → out ≡ start ++ flat_map f (expanded (take k cs))
     → new ≡ out ++ flat_map f (repeated n row) → new ≡ start ++ flat_map f (expanded (take (k + 1) cs))
 runs_more f cs k row n start out new lt r c h e =
@@ -85,7 +85,7 @@ runs_done f cs k all start out le is h = h ∙ ap (λ (ds : List Run). start ++ 
 pub joined_more : (batches : List (List Record)) (i : ℕ) (batch : List Record) → i < length batches → batch ≡ slice_index_or batches i batch → joined (take (i + 1) batches) ≡ joined (take i batches) ++ batch
 joined_more batches i batch lt is = ap joined (take_more batches i batch lt) ∙ joined_behind (take i batches) (slice_index_or batches i batch) ∙ ap (λ (x : List Record). joined (take i batches) ++ x) (sym is)
 
--- one batch more
+-- one more batch
 pub batches_more : (f : Record → List ℕ) (batches : List (List Record)) (i : ℕ) (batch : List Record) (start out new : List ℕ) → i < length batches → batch ≡ slice_index_or batches i batch → out ≡ start ++ flat_map f (joined (take i batches)) → new ≡ out ++ flat_map f batch
     → new ≡ start ++ flat_map f (joined (take (i + 1) batches))
 batches_more f batches i batch start out new lt is e more =
@@ -93,6 +93,6 @@ batches_more f batches i batch start out new lt is e more =
     let both : flat_map f (joined (take (i + 1) batches)) ≡ flat_map f before ++ flat_map f batch = ap (flat_map f) (joined_more batches i batch lt is) ∙ rows_append f before batch in
     more ∙ ap (λ (xs : List ℕ). xs ++ flat_map f batch) e ∙ append_assoc start (flat_map f before) (flat_map f batch) ∙ ap (λ (xs : List ℕ). start ++ xs) (sym both)
 
--- the first batches and the rest
+-- the first batches, and the rest
 pub joined_parts : (n : ℕ) (batches : List (List Record)) → joined (take n batches) ++ joined (drop n batches) ≡ joined batches
 joined_parts n batches = sym (joined_append (take n batches) (drop n batches)) ∙ ap joined (take-append-drop n batches)

@@ -1,4 +1,4 @@
--- What was fed and what waits, against what the items say.
+-- What was fed and what waits, compared with what the items say.
 use Rattle.std.proofs.Common.{◌≡◌, ◌<◌, ◌≤◌, ◌+◌, ◌-◌, ◌∙◌, ℕ, Bool, true, false, List, [], ◌∷◌, ◌++◌, length, cond, refl, sym, ap, subst, arith, append_assoc, inl, inr, eq-eqb}
 use Rattle.std.specs.Prelude.{◌==◌, ◌&&◌}
 use Rattle.std.proofs.lemmas.Bool.Decides.{eqb_tells}
@@ -31,7 +31,7 @@ one_waits true false fed before after r z e h = h
 one_waits false true fed before after r z e h = ap (λ (xs : List Record). fed ++ xs) e ∙ h
 one_waits false false fed before after r z e h = h
 
--- an epoch of the board is the last one that began where that of the input is
+-- an epoch of the board is the last that began exactly if the input's is
 same_test : (base e begun epochs : ℕ) → base + begun ≡ epochs → (e + 1 == begun) ≡ (base + e + 1 == epochs)
 same_test base e begun epochs is = elim (eqb_tells (e + 1) begun) [
   | inl here ↦ here.0 ∙ sym (eq-eqb (base + e + 1) epochs (omega (arith, here.1, is)))
@@ -116,7 +116,7 @@ fed_one s t x y base items i batch rows same f g lt feeds = record {
       | inr other ↦ absurd (let p : true ≡ false = sym yes_way ∙ other.0 in cc)
     ]
 
--- where nothing waits nothing is to be fed
+-- where nothing waits, there is nothing to feed
 pub fed_none : (s : Shown) (x y : Intake) (base : ℕ) (items : List Item) (i : ℕ) → IsFed s base x items → Empties x y i [] → IsFed s base y items
 fed_none s x y base items i f g = record {
   live = f.live;
@@ -142,7 +142,7 @@ in_order s x base items f none i e = sym (append-nil (f.order i e)) ∙ ap (λ (
 pub all_fed : (s : Shown) (x : Intake) (base : ℕ) (items : List Item) → IsFed s base x items → ((i : ℕ) → waiting x i ≡ []) → IsAllFed s base items
 all_fed s x base items f none = record { live = f.live; fed = λ i e. ≈-trans (f.alike i e) (≈-from (in_order s x base items f none i e)) }
 
--- what another step of the board leaves, where the open epochs are known
+-- what another step of the board leaves, if the open epochs are known
 begun_at : (s t : Shown) (x y : Intake) (base : ℕ) (items : List Item) → IsFed s base x items → ((i : ℕ) → waiting x i ≡ []) → Grows s t → ((i e : ℕ) → fed_at t i e ≡ fed_at s i e) → y.begun ≡ x.begun + 1 → y.portion.items ≡ x.portion.items
     → ((i : ℕ) → i < length x.portion.items → open_at t i ≡ x.begun) → IsFed t base y (items ++ Item.epoch ∷ [])
 begun_at s t x y base items f none grows fed begun same opened = record {
@@ -215,7 +215,7 @@ sent_none s x y i rows g none = record {
   fed = λ base items f. (fed_none s x y base items i f (subst (Empties x y i) none g), grows_not s f.live);
 }
 
--- of the first n inputs nothing waits
+-- at the first n inputs nothing waits
 pub record SentSome (s t : Shown) (x y : Intake) (n : ℕ) : Type 0 where
   pub holds : Holds x y
   pub none : (i : ℕ) → i < n → waiting y i ≡ []
@@ -248,11 +248,11 @@ all_sent s t x y n p le = record {
   fed = p.fed;
 }
 
--- where nothing was fed, and nothing waits
+-- nothing is missing where nothing was fed and nothing waits
 pub nothing_waits : (x : Intake) (i e : ℕ) {fed : List Record} → waiting x i ≡ [] → fed ≡ [] → fed ++ missing x i e ≡ []
 nothing_waits x i e none f = ap (λ (xs : List Record). xs ++ missing x i e) f ∙ nothing_either (e + 1 == x.begun) (waiting x i) none
 
--- a line is counted, which changes nothing else
+-- counting a line changes nothing else
 pub counted_fed : (s : Shown) (x y : Intake) (base : ℕ) (items : List Item) → Counts x y → IsFed s base x items → IsFed s base y items
 counted_fed s x y base items c f = record {
   live = f.live;

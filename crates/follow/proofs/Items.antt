@@ -1,4 +1,4 @@
--- What lines say, and what they say later.
+-- What lines say, and what later lines add.
 use Rattle.std.proofs.Common.{◌≡◌, ◌+◌, ◌∙◌, ℤ, Bool, true, false, List, [], ◌∷◌, ◌++◌, cond, refl, ap, arith, inl, inr}
 use Rattle.std.specs.Prelude.{◌==◌, ◌&&◌}
 use Rattle.std.proofs.lemmas.Bool.Decides.{eqb_tells}

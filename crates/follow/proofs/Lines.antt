@@ -18,7 +18,7 @@ use Rattle.follow.proofs.Fed.{counted_fed}
 use Rattle.follow.proofs.Items.{continues_here, continues_item, continues_on}
 use Rattle.follow.proofs.Moved.{grows_not, grows_on}
 
--- lines were taken, from those that were taken at first
+-- lines were taken, after those taken at first
 pub record TakenSo (base : ℕ) (s t : Shown) (y : Intake) (inputs : List Input) (bytes rest : List ℕ) (items : List Item) : Type 0 where
   pub lines : List (List ℕ)
   pub later : List Item
@@ -26,14 +26,14 @@ pub record TakenSo (base : ℕ) (s t : Shown) (y : Intake) (inputs : List Input)
   pub continues : Continues items later
   pub grows : Grows s t
 
--- whatever was taken at first
+-- the same, whatever was taken at first
 abbrev pub Takes : (base : ℕ) → (s t : Shown) → (x y : Intake) → List Input → (text rest : List ℕ) → Type 0
 Takes base s t x y inputs text rest = (bytes : List ℕ) (lines : List (List ℕ)) (items : List Item) → HasTaken s base x inputs bytes text lines items → TakenSo base s t y inputs bytes rest items
 
 pub takes_none : (base : ℕ) (s : Shown) (x : Intake) (inputs : List Input) (text : List ℕ) → Takes base s s x x inputs text text
 takes_none base s x inputs text = λ bytes lines items h. record { lines = lines; later = items; taken = h; continues = continues_here items; grows = grows_not s h.fed.live }
 
--- one line more
+-- one more line
 taken_more : (base : ℕ) (s t u : Shown) (y z v : Intake) (inputs : List Input) (bytes rest after line : List ℕ) (items : List Item) (item : Item) (r : TakenSo base s t y inputs bytes rest items) → split_on 10 rest ≡ line ∷ split_on 10 after → Says inputs (base + y.begun) line item → Moves t u y z item → Counts z v
     → HasTaken u base v inputs bytes after (r.lines ++ line ∷ []) (r.later ++ item ∷ [])
 taken_more base s t u y z v inputs bytes rest after line items item r cut says moves counts = record {
@@ -55,7 +55,7 @@ takes_more base s t u x y z v inputs text rest after line item takes cut says mo
       grows = grows_on s t u r.grows (moves.fed base r.later r.taken.fed).1;
     }
 
--- the same where it begins an epoch, and no more are taken
+-- the same if the line begins an epoch, and no more are taken
 pub took_epoch : (base : ℕ) (s t u : Shown) (x y z v : Intake) (inputs : List Input) (text rest after line : List ℕ) (item : Item) → Takes base s t x y inputs text rest → split_on 10 rest ≡ line ∷ split_on 10 after → Says inputs (base + y.begun) line item → Moves t u y z item → Counts z v → item ≡ Item.epoch
     → TakesLines base s u x v inputs text after taken.Epoch
 took_epoch base s t u x y z v inputs text rest after line item takes cut says moves counts is = λ bytes lines items h.

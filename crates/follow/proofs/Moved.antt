@@ -25,7 +25,7 @@ works_by s t taken live goes fed opened =
       opened = λ i. sym (after.open_epoch i) ∙ opened i ∙ live.1.open_epoch i;
     }
 
--- nothing at all
+-- nothing was done
 pub works_not : (s : Shown) → IsLive s → Works s s
 works_not s live = record { grows = record { live = live; graph = refl; emitted = λ v e. ([], sym (append-nil (batches_at s.emitted v e))) }; fed = λ i e. refl; opened = λ i. refl }
 

@@ -1,4 +1,4 @@
--- A new board where an epoch has just begun, and all before it are complete.
+-- A new board when an epoch has just begun, and all before it are complete.
 use Rattle.std.proofs.Common.{◌≡◌, ◌≤◌, ◌+◌, ◌-◌, ◌∙◌, ℕ, Bool, true, false, List, [], ◌∷◌, ◌++◌, length, cond, take, refl, sym, ap, subst, arith, inl, inr, eq-eqb, slice_index_or}
 use Rattle.std.specs.Prelude.{◌==◌, ◌&&◌, if◌then◌else◌, Option}
 use Rattle.std.proofs.lemmas.Bool.Decides.{eqb_tells}
@@ -49,7 +49,7 @@ unsaid_last items e i ends le =
     let same = ap (epochs_after 0) ends.1 in
     ap (λ (xs : List Item). records_in e i 0 xs) ends.1 ∙ epoch_push e i 0 ends.0 ∙ unsaid e i 0 ends.0 (omega (arith, size, same, le))
 
--- ---- nothing waits, and nothing was told
+-- ---- nothing waits, and nothing was written
 
 second_nothing : (xs ys : List Record) → xs ++ ys ≡ [] → ys ≡ []
 second_nothing xs ys e = nil_from_length ys (omega (arith, ap length e, length-append xs ys))

@@ -40,7 +40,7 @@ take_past : (xs ys : List ℕ) (n : ℕ) → take (length xs + n) (xs ++ ys) ≡
 take_past [] ys n = let e : 0 + n ≡ n = omega arith in ap (λ (k : ℕ). take k ys) e
 take_past (x ∷ xs) ys n = let e : suc (length xs) + n ≡ suc (length xs + n) = omega arith in ap (λ (k : ℕ). take k (x ∷ xs ++ ys)) e ∙ ap (λ (zs : List ℕ). x ∷ zs) (take_past xs ys n)
 
--- a beginning of more text, behind what was written
+-- a beginning of more text, after what was written
 front_then : (a b c : Option (List ℕ)) (xs ys : List ℕ) → Appends a b xs → AppendsFront b c ys → AppendsFront a c (xs ++ ys)
 front_then a b c xs ys p q = (length xs + q.0, omega (arith, q.1, length-append xs ys), subst (Appends a c) (sym (take_past xs ys q.0)) (Appends-then a b c xs (take q.0 ys) p q.2))
 
@@ -119,7 +119,7 @@ pub unread : (g : GraphValue) (s : Shown) (base : ℕ) (x : Intake) (t : Telling
 unread g s base x t bytes pending left start now w unended =
     known_follows g s base x t bytes pending bytes left start now (Err ending.Read) (pending ∷ []) w.known (w.known.taken.parts ∙ ap (λ (ps : List (List ℕ)). w.known.lines ++ ps) unended) (pending, refl) w.written
 
--- ---- one piece more
+-- ---- one more piece
 
 pub more_pending : (g : GraphValue) (s : Shown) (base : ℕ) (x : Intake) (t : Telling) (bytes pending piece : List ℕ) (start now : Option (List ℕ)) → IsWritten g s base x t bytes pending start now → IsWritten g s base x t (bytes ++ piece) (pending ++ piece) start now
 more_pending g s base x t bytes pending piece start now w =
@@ -229,7 +229,7 @@ unended_last g s base x t bytes pending left start now e w unended end some (inl
 unended_last g s base x t bytes pending left start now e w unended end some (inr is) =
     subst (λ (y : Ending). Follows g bytes left start now (Err y)) (sym is) (halted g s base x t bytes pending left start now halt.Incomplete w)
 
--- what is told at the end
+-- what is written at the end
 last_told : (g : GraphValue) (s s2 : Shown) (base : ℕ) (x : Intake) (t t2 : Telling) (bytes pending out : List ℕ) (start now : Option (List ℕ)) (w : IsWritten g s base x t bytes pending start now) → Ends base s s2 x t t2 out → Ended base s2 x t2 w.known.items w.known.text out s
 last_told g s s2 base x t t2 bytes pending out start now w ends =
     let k = w.known in

@@ -1,4 +1,4 @@
--- What was told, as more is emitted, said and told.
+-- What was written, as more is emitted, said and written.
 use Rattle.std.proofs.Common.{◌≡◌, ◌<◌, ◌≤◌, ◌+◌, ◌∙◌, ℕ, List, [], ◌++◌, length, take, drop, refl, sym, ap, subst, arith, append_assoc, inl, inr, slice_index_or}
 use Rattle.std.specs.List.{flat_map}
 use Rattle.std.proofs.lemmas.Bool.Decides.{eqb_tells}
@@ -49,7 +49,7 @@ told_later s t base done count r q entries text h grows same = record {
   first = λ k. let m = emitted_more s t k done grows in h.first k ∙ sym (ap (λ (bs : List (List Record)). joined (take (count k) bs)) m.1 ∙ ap joined (take-append-le (count k) (batches_of s k done) m.0 (h.within k)));
 }
 
--- ---- more is told at one output
+-- ---- more is written at one output
 
 more_told : (g : GraphValue) (r : Records) (done k : ℕ) (label : List ℕ) (rows : List Record) (entries : List Entry) (text : List ℕ) → IsTold g r done entries text → k < length (shown_names g)
     → label ≡ label_of (is_plain (shown_names g)) (slice_index_or (shown_names g) k []) → IsTold g r done (entries ++ entries_at k rows) (text ++ flat_map (row_line done label) rows)
@@ -154,7 +154,7 @@ part_nothing g records = λ p k is lt. record { within = λ r. omega arith }
 
 -- ---- one epoch after another
 
--- what was told so far
+-- what was written so far
 pub record ToldTill (s : Shown) (base : ℕ) (t : Telling) (items : List Item) (begun sealed : ℕ) (text old new : List ℕ) : Type 0 where
   pub entries : List Entry
   pub lines : List ℕ

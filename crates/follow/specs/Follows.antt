@@ -1,4 +1,4 @@
--- Answers that are told while the input still comes.
+-- Answers that are written while the input still comes.
 use Rattle.std.specs.Prelude.{◌≡◌, ◌<◌, ◌≤◌, ◌⊎◌, ℕ, ◌+◌, ◌-◌, List, [], ◌∷◌, ◌++◌, length, Option, Result, Ok, Err}
 use Rattle.std.specs.Io.KnownBytes.{Appends, Consumes, IsAtEnd}
 use Rattle.std.specs.List.{flat_map}
@@ -27,12 +27,12 @@ pub record IsGraphOf (g : GraphValue) (p : Program) : Type 0 where
 abbrev pub IsWhole : GraphValue → (records : ℕ → List Record) → List Entry → Type 0
 IsWhole g records entries = (p : Program) (k : ℕ) → IsGraphOf g p → k < length p.outputs → records_of k entries ≈ program_meaning p k records
 
--- they are part of it
+-- at each output the entries are part of it
 abbrev pub IsPart : GraphValue → (records : ℕ → List Record) → List Entry → Type 0
 IsPart g records entries = (p : Program) (k : ℕ) → IsGraphOf g p → k < length p.outputs → IsPartOf (records_of k entries) (program_meaning p k records)
 
--- The text tells the epochs in order. So many are complete: of each, all lines of its answer, and then the line that says so. Of the
--- next one it tells these entries.
+-- The text has the epochs in order. The first `done` are complete: for each, all lines of its answer, and then the line that says so. Of the next one
+-- it has these entries.
 pub data IsTold (g : GraphValue) (records : (epoch input : ℕ) → List Record) : (done : ℕ) → List Entry → (text : List ℕ) → Type 0 where
   tells_nothing : IsTold g records 0 [] []
   tells_more : (done : ℕ) (entries more : List Entry) (text : List ℕ) → IsTold g records done entries text → AreAt (length (shown_names g)) more
@@ -43,12 +43,12 @@ pub data IsTold (g : GraphValue) (records : (epoch input : ℕ) → List Record)
 abbrev pub said_records : List Item → (epoch input : ℕ) → List Record
 said_records items epoch input = records_in epoch input 0 items
 
--- what is told of the lines so far: the complete epochs' answers are whole, and that of the next one is part of what is meant
+-- what is written after the lines so far: the answers of the complete epochs are whole, and that of the next is part of what is meant
 pub record IsAnswer (g : GraphValue) (items : List Item) (done : ℕ) (entries : List Entry) (text : List ℕ) : Type 0 where
   pub told : IsTold g (said_records items) done entries text
   pub part : IsPart g (said_records items done) entries
 
--- the bytes begin with these lines, which say these items; the rest is pieces that aren't read as lines
+-- the bytes begin with these lines, which say these items; the rest is not read as lines
 pub record IsRead (inputs : List Input) (bytes : List ℕ) (lines : List (List ℕ)) (items : List Item) (rest : List (List ℕ)) : Type 0 where
   pub parts : split_on 10 bytes ≡ lines ++ rest
   pub said : LinesSay inputs 0 lines items
@@ -64,13 +64,13 @@ pub record IsAllTold (inputs : List Input) (bytes : List ℕ) (left : Option (Li
   pub complete : done ≡ epochs_after 0 items
   pub none : entries ≡ []
 
--- the line after those that were read is the first faulty one; a last line without line feed is one only at the end
+-- the line after those that were read is the first faulty one; a last line without line feed is faulty only at the end
 pub record IsFaulty (inputs : List Input) (bytes : List ℕ) (left : Option (List ℕ)) (lines : List (List ℕ)) (code line : ℕ) : Type 0 where
   pub refused : IsRefused inputs bytes (At code line)
   pub next : line ≡ length lines + 1
   pub last : code ≡ 43 → IsAtEnd left
 
--- how far it was read: to the end, to a faulty line, to the last whole line before the reader failed, or not said how far
+-- how far the bytes were read: to the end, to a faulty line, to the last whole line before the reader failed, or unspecified
 abbrev pub Reaches : List Input → (bytes : List ℕ) → (left : Option (List ℕ)) → (lines : List (List ℕ)) → List Item → (rest : List (List ℕ)) → (done : ℕ) → List Entry → Result (Unit {0}) Ending → Type 0
 Reaches inputs bytes left lines items rest done entries (Ok _) = IsAllTold inputs bytes left items done entries
 Reaches inputs bytes left lines items rest done entries (Err (ending.Input code line)) = IsFaulty inputs bytes left lines code line
@@ -80,7 +80,7 @@ Reaches inputs bytes left lines items rest done entries (Err ending.NoMemory) = 
 Reaches inputs bytes left lines items rest done entries (Err ending.Count) = Unit {0}
 Reaches inputs bytes left lines items rest done entries (Err ending.Incomplete) = Unit {0}
 
--- the text was written; where the writer failed, a beginning of it
+-- the text was written; if the writer failed, a beginning of it
 abbrev pub Writes : (old new : Option (List ℕ)) → (text : List ℕ) → Result (Unit {0}) Ending → Type 0
 Writes old new text (Ok _) = Appends old new text
 Writes old new text (Err (ending.Input code line)) = Appends old new text
@@ -90,7 +90,7 @@ Writes old new text (Err ending.NoMemory) = Appends old new text
 Writes old new text (Err ending.Count) = Appends old new text
 Writes old new text (Err ending.Incomplete) = Appends old new text
 
--- These bytes were read, and this is left; what was written is an answer to the lines that were read.
+-- These bytes were read, and these are left; what was written is an answer to the lines that were read.
 pub record Follows (g : GraphValue) (bytes : List ℕ) (left old new : Option (List ℕ)) (result : Result (Unit {0}) Ending) : Type 0 where
   pub lines : List (List ℕ)
   pub items : List Item
@@ -104,6 +104,6 @@ pub record Follows (g : GraphValue) (bytes : List ℕ) (left old new : Option (L
   pub reaches : Reaches (shown_inputs g) bytes left lines items rest done entries result
   pub writes : Writes old new text result
 
--- some bytes were read, and following them ended so
+-- some bytes were read, and following them ended like this
 abbrev pub FollowsInput : GraphValue → (unread left old new : Option (List ℕ)) → Result (Unit {0}) Ending → Type 0
 FollowsInput g unread left old new result = (bytes : List ℕ) × Consumes unread left bytes × Follows g bytes left old new result

@@ -1,4 +1,4 @@
--- Where following stands: the board, what was taken of the input, and what was told.
+-- The state of following: the board, what was taken of the input, and what was written.
 use Rattle.std.specs.Prelude.{◌≡◌, ◌<◌, ◌≤◌, ℕ, ◌+◌, ◌-◌, ◌==◌, cond, List, [], ◌∷◌, ◌++◌, length, take, Option, slice_index_or}
 use Rattle.std.specs.Io.KnownBytes.{Appends}
 use Rattle.semantics.specs.Multiset.{Record, ◌≈◌}
@@ -71,11 +71,11 @@ no_rows = record { arity = 1; rows = [] }
 abbrev pub waiting : Intake → (input : ℕ) → List Record
 waiting x i = (slice_index_or x.portion.items i no_rows).rows
 
--- what is missing of an epoch on the board: what waits belongs to the last one that began
+-- what an epoch on the board still lacks: what waits belongs to the last one that began
 abbrev pub missing : Intake → (input epoch : ℕ) → List Record
 missing x i e = cond (e + 1 == x.begun) (waiting x i) []
 
--- What the items say of the epochs from the base on was fed, or waits. The board counts its epochs from the base, and each input's open one is
+-- What the items say of the epochs from the base on was fed, or waits. The board counts its epochs from the base, and the open epoch of each input is
 -- the last that began.
 pub record IsFed (s : Shown) (base : ℕ) (x : Intake) (items : List Item) : Type 0 where
   pub live : IsLive s
@@ -99,19 +99,20 @@ pub record HasTaken (s : Shown) (base : ℕ) (x : Intake) (inputs : List Input) 
   pub said : LinesSay inputs 0 lines items
   pub counted : x.line ≡ length lines
 
--- ---- what was told
+-- ---- what was written
 
--- how many batches of an output were told of the first epoch that isn't complete
+-- how many batches of an output were written for the first incomplete epoch
 abbrev pub told_count : Telling → (output : ℕ) → ℕ
 told_count t k = slice_index_or t.told.items k 0
 
--- All epochs before the base are complete, and so many after it; of the next one the entries are the first batches that were emitted, so many at each output.
+-- All epochs before the base and the next `done` are complete; the entries are the first batches that were emitted for the epoch after those, `count`
+-- at each output.
 pub record HasTold (s : Shown) (base done : ℕ) (count : (output : ℕ) → ℕ) (records : (epoch input : ℕ) → List Record) (entries : List Entry) (text : List ℕ) : Type 0 where
   pub told : IsTold s.graph records (base + done) entries text
   pub within : (k : ℕ) → count k ≤ length (batches_of s k done)
   pub first : (k : ℕ) → records_of k entries ≡ joined (take (count k) (batches_of s k done))
 
--- of the bytes these lines were taken, and the answer to them is told as far as the board has worked
+-- these lines of the bytes were taken, and the answer to them is written as far as the board has worked
 pub record IsKnown (g : GraphValue) (s : Shown) (base : ℕ) (x : Intake) (t : Telling) (bytes pending : List ℕ) : Type 0 where
   pub lines : List (List ℕ)
   pub items : List Item
@@ -130,7 +131,7 @@ pub record IsWritten (g : GraphValue) (s : Shown) (base : ℕ) (x : Intake) (t :
   pub known : IsKnown g s base x t bytes pending
   pub written : Appends old new known.text
 
--- the same where following is, and what is pending is a piece of a line
+-- the same for a position, where what is pending is part of a line
 pub record Stands (g : GraphValue) (s : Shown) (p : Position) (bytes : List ℕ) (old new : Option (List ℕ)) : Type 0 where
   pub stood : IsWritten g s p.base p.intake p.telling bytes p.pending.items old new
   pub unended : split_on 10 p.pending.items ≡ p.pending.items ∷ []

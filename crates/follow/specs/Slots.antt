@@ -8,6 +8,6 @@ use Rattle.follow.specs.declared.slot.Slot.{Slot}
 abbrev pub IsNamed : List TableId → Pass → Type 0
 IsNamed tables p = slice_get tables p.worker ≡ Some p.table
 
--- the same, computed or not
+-- the same, whether the event is computed or not
 abbrev pub IsSlotOf : List TableId → Slot → Type 0
 IsSlotOf tables x = IfSome x.held (λ w. IsNamed tables w.0) × IfSome x.done (IsNamed tables)

@@ -1,4 +1,4 @@
--- What the calls of following leave.
+-- What the calls of following do.
 use Rattle.std.specs.Prelude.{◌≡◌, ◌≢◌, ◌<◌, ◌≤◌, ℕ, ◌+◌, ◌-◌, ◌==◌, cond, List, [], ◌∷◌, ◌++◌, length, drop, Option, Result, Ok, Err}
 use Rattle.std.specs.List.{flat_map}
 use Rattle.semantics.specs.Multiset.{Record}
@@ -52,7 +52,7 @@ pub record Holds (x y : Intake) : Type 0 where
   pub line : y.line ≡ x.line
   pub inputs : length y.portion.items ≡ length x.portion.items
 
--- a record more waits at an input, of an epoch that began
+-- one more record waits at an input, of an epoch that began
 pub record Gathers (x y : Intake) (input : ℕ) (row : Record) : Type 0 where
   pub some : 0 < x.begun
   pub holds : Holds x y
@@ -96,13 +96,13 @@ pub record Continues (items later : List Item) : Type 0 where
 abbrev pub EndsInEpoch : List Item → Type 0
 EndsInEpoch items = (before : List Item) × (items ≡ before ++ Item.epoch ∷ [])
 
--- why no more lines were taken: the rest is a piece of a line, the next line has a fault of that number, or an epoch has begun
+-- why no more lines were taken: the rest is part of a line, the next line has a fault of that code, or an epoch has begun
 abbrev pub Stops : List Input → (bytes rest : List ℕ) → (lines : ℕ) → List Item → Taken → Type 0
 Stops inputs bytes rest n items taken.Whole = split_on 10 rest ≡ rest ∷ []
 Stops inputs bytes rest n items (taken.Fault code) = IsRefused inputs bytes (At code (n + 1)) × (code ≡ 43 → ⊥)
 Stops inputs bytes rest n items taken.Epoch = EndsInEpoch items
 
--- lines were taken, and this is left of the bytes
+-- lines were taken, and these bytes are left
 pub record Took (base : ℕ) (s t : Shown) (y : Intake) (inputs : List Input) (bytes rest : List ℕ) (how : Taken) (items : List Item) : Type 0 where
   pub lines : List (List ℕ)
   pub later : List Item
@@ -115,38 +115,38 @@ pub record Took (base : ℕ) (s t : Shown) (y : Intake) (inputs : List Input) (b
 abbrev pub TakesLines : (base : ℕ) → (s t : Shown) → (x y : Intake) → List Input → (text rest : List ℕ) → Taken → Type 0
 TakesLines base s t x y inputs text rest how = (bytes : List ℕ) (lines : List (List ℕ)) (items : List Item) → HasTaken s base x inputs bytes text lines items → Took base s t y inputs bytes rest how items
 
--- ---- what is told
+-- ---- what is written
 
--- nothing was told
+-- nothing was written
 pub record IsFresh (t : Telling) : Type 0 where
   pub done : t.done ≡ 0
   pub none : (k : ℕ) → told_count t k ≡ 0
 
--- nothing was taken and told
+-- nothing was taken or written
 pub record IsFirst (p : Position) : Type 0 where
   pub base : p.base ≡ 0
   pub new : IsNew p.intake
   pub fresh : IsFresh p.telling
   pub none : p.pending.items ≡ []
 
--- one epoch more is complete
+-- one more epoch is complete
 pub record Nexts (t u : Telling) : Type 0 where
   pub done : u.done ≡ t.done + 1
   pub none : (k : ℕ) → told_count u k ≡ 0
 
--- the lines of the batches beyond the first so many are appended
+-- the lines of the batches after the first ones are appended
 pub record TellsHere (batches : List (List Record)) (label : List ℕ) (epoch told : ℕ) (old new : List ℕ) (count : ℕ) : Type 0 where
   pub lines : new ≡ old ++ flat_map (row_line epoch label) (joined (drop told batches))
   pub counted : count ≡ length batches
 
--- all that was emitted at an output for the first epoch that isn't complete is told
+-- all that was emitted at an output for the first incomplete epoch is written
 pub record TellsOne (s : Shown) (base : ℕ) (t u : Telling) (output : ℕ) (label : List ℕ) (old new : List ℕ) : Type 0 where
   pub done : u.done ≡ t.done
   pub here : told_count u output ≡ length (batches_of s output t.done)
   pub others : (k : ℕ) → k ≢ output → told_count u k ≡ told_count t k
   pub lines : new ≡ old ++ flat_map (row_line (base + t.done) label) (joined (drop (told_count t output) (batches_of s output t.done)))
 
--- more entries were told: at the first n outputs all that was emitted
+-- more entries were written: at the first n outputs, all that was emitted
 pub record ToldMore (s : Shown) (base done n : ℕ) (u : Telling) (records : (epoch input : ℕ) → List Record) (entries : List Entry) (text old new : List ℕ) : Type 0 where
   pub more : List Entry
   pub lines : List ℕ
@@ -154,16 +154,16 @@ pub record ToldMore (s : Shown) (base done n : ℕ) (u : Telling) (records : (ep
   pub appended : new ≡ old ++ lines
   pub all : (k : ℕ) → k < n → IsOutputPlace s k → records_of k (entries ++ more) ≡ emitted_at s k done
 
--- the same, whatever was told before
+-- the same, whatever was written before
 pub record TellsTo (s : Shown) (base n : ℕ) (t u : Telling) (old new : List ℕ) : Type 0 where
   pub done : u.done ≡ t.done
   pub more : (records : (epoch input : ℕ) → List Record) (entries : List Entry) (text : List ℕ) → HasTold s base t.done (told_count t) records entries text → ToldMore s base t.done n u records entries text old new
 
--- at every output
+-- the same at every output
 abbrev pub TellsOpen : Shown → (base : ℕ) → (t u : Telling) → (old new : List ℕ) → Type 0
 TellsOpen s base t u old new = (n : ℕ) × ((k : ℕ) → IsOutputPlace s k → k < n) × TellsTo s base n t u old new
 
--- what was told is an answer to the items, of epochs below `sealed` a whole one
+-- what was written is an answer to the items, and a whole one for epochs below `sealed`
 pub record ToldSo (s : Shown) (base : ℕ) (u : Telling) (items : List Item) (begun sealed : ℕ) (text old new : List ℕ) : Type 0 where
   pub entries : List Entry
   pub lines : List ℕ
@@ -173,7 +173,7 @@ pub record ToldSo (s : Shown) (base : ℕ) (u : Telling) (items : List Item) (be
   pub order : u.done ≤ sealed
   pub none : u.done ≡ begun → entries ≡ []
 
--- what was told before, of which this is to be known
+-- what must be known of what was written before
 pub record CanTell (s : Shown) (base : ℕ) (t : Telling) (items : List Item) (begun sealed : ℕ) (entries : List Entry) (text : List ℕ) : Type 0 where
   pub told : HasTold s base t.done (told_count t) (said_records items) entries text
   pub order : t.done ≤ sealed
@@ -185,7 +185,7 @@ Tells s base t u begun sealed old new =
 
 -- ---- answers
 
--- what waited was fed and worked off, and this is to be told; the epochs before the last one may be complete
+-- what waited was fed and worked off, and this is to be written; the epochs before the last one may be complete
 pub record Gone (base : ℕ) (t : Shown) (x y : Intake) (v : Telling) (items : List Item) (text out : List ℕ) (s : Shown) : Type 0 where
   pub graph : t.graph ≡ s.graph
   pub holds : Holds x y
@@ -218,7 +218,7 @@ abbrev pub FollowsLines : List Input → (s t : Shown) → (p q : Position) → 
 FollowsLines inputs s t p q old new result =
     (g : GraphValue) (bytes : List ℕ) (left start : Option (List ℕ)) → inputs ≡ shown_inputs g → IsWritten g s p.base p.intake p.telling bytes p.pending.items start old → TookLines g bytes left start new t q result
 
--- where an epoch has just begun, a new board may take the place of the old one
+-- when an epoch has just begun, a new board may replace the old one
 abbrev pub Renews : GraphValue → (s t : Shown) → (p q : Position) → Type 0
 Renews g s t p q =
     (bytes : List ℕ) (start now : Option (List ℕ)) (w : IsWritten g s p.base p.intake p.telling bytes p.pending.items start now) → EndsInEpoch w.known.items → IsWritten g t q.base q.intake q.telling bytes q.pending.items start now
@@ -228,14 +228,14 @@ abbrev pub GoesOn : GraphValue → (bytes : List ℕ) → (left start new : Opti
 GoesOn g bytes left start new s p (Ok _) = Stands g s p bytes start new
 GoesOn g bytes left start new s p (Err e) = Follows g bytes left start new (Err e)
 
--- the same after a piece, from wherever following stood
+-- the same after a piece, from any position
 abbrev pub FollowsPiece : GraphValue → List Input → (s t : Shown) → (p q : Position) → (piece : List ℕ) → (old new : Option (List ℕ)) → Result (Unit {0}) Ending → Type 0
 FollowsPiece g inputs s t p q piece old new result = (bytes : List ℕ) (left start : Option (List ℕ)) → inputs ≡ shown_inputs g → Stands g s p bytes start old → GoesOn g (bytes ++ piece) left start new t q result
 
--- following ends where nothing is left
+-- following ends when nothing is left
 abbrev pub FollowsEnd : Shown → Position → (old new : Option (List ℕ)) → Result (Unit {0}) Ending → Type 0
 FollowsEnd s p old new result = (g : GraphValue) (bytes : List ℕ) (left start : Option (List ℕ)) → IsAtEnd left → Stands g s p bytes start old → Follows g bytes left start new result
 
--- the whole input is followed, from where it opens
+-- the whole input is followed, from its start
 abbrev pub FollowsAll : GraphValue → List Input → Shown → Position → (unread left old new : Option (List ℕ)) → Result (Unit {0}) Ending → Type 0
 FollowsAll g inputs s p unread left old new result = inputs ≡ shown_inputs g → Stands g s p [] old old → FollowsInput g unread left old new result

@@ -1,4 +1,4 @@
-//! What was taken, answered.
+//! Computes and writes out the answer to the lines that were taken.
 
 ghost use Rattle.std.specs.Prelude.{IfOk};
 ghost use Rattle.follow.specs.Steps.{Ends, Goes};
@@ -13,7 +13,8 @@ use std::alloc::Global;
 use std::thread::Threads;
 use views::Views;
 
-/// Feeds all that waits and works it off; the text of what is to be told then. An epoch has `records` of the lines taken since the last time.
+/// Feeds all that waits, works until there is nothing to do, and gives the text to write then. `records` is the number of lines per epoch since the
+/// last call.
 pub fn answer_open<V: Views, R: Threads + Sync>(
     rt: &R,
     alloc: Global,
@@ -34,7 +35,7 @@ pub fn answer_open<V: Views, R: Threads + Sync>(
     Ok(out)
 }
 
-/// The same at the end of the input: every input is closed.
+/// As `answer_open`, at the end of the input: closes every input.
 pub fn answer_last<V: Views, R: Threads + Sync>(
     rt: &R,
     alloc: Global,

@@ -1,4 +1,4 @@
-//! The lines of records in batches.
+//! Writes the lines of records in batches.
 
 ghost use Rattle.std.specs.Prelude.{◌≡◌, ◌++◌, OnOk};
 ghost use Rattle.std.specs.List.{flat_map};
@@ -12,7 +12,7 @@ use record_core::Name;
 use rows::Batch;
 use std::alloc::AllocError;
 
-/// Appends the line of a record, so many times.
+/// Appends the line of a record `count` times.
 fn push_times(
     out: &mut Vec<u8>,
     epoch: u32,
@@ -29,7 +29,7 @@ fn push_times(
     Ok(())
 }
 
-/// Appends the lines of a batch's records, each as often as it stands there.
+/// Appends the lines of a batch's records, each as often as its count.
 fn push_batch(
     out: &mut Vec<u8>,
     epoch: u32,

@@ -1,4 +1,4 @@
-//! The workers of a board, whose events one thread claims and ends, and several compute.
+//! The workers of a board. One thread claims and ends their events, and several threads compute them.
 
 ghost use Rattle.std.specs.Prelude.{◌≡◌, ◌<◌, ◌≤◌, All, IfOk, IfSome, List, Ok, Err, OnOk, is_ok, true};
 ghost use Rattle.atomic_table.specs.Seated.{TableId};
@@ -16,7 +16,7 @@ use std::alloc::{AllocFailed, Global};
 use std::thread::{Threads, for_each_mut};
 use views::Views;
 
-/// An event of so many records is worth a thread.
+/// An event of this many records is worth a thread.
 pub const HEAVY: u64 = 1024;
 
 /// The number of a board's workers, 1 to 64.
@@ -28,7 +28,7 @@ pub struct Crew {
 }
 
 impl Crew {
-    /// So many workers.
+    /// A crew of that many workers.
     pub fn new(count: u32) -> Crew
         requires some { 0 < count }
         requires few { count ≤ 64 }
@@ -37,7 +37,7 @@ impl Crew {
         Crew { count }
     }
 
-    /// How many they are.
+    /// The number of workers.
     pub fn count(self) -> u32
         ensures value { result ≡ self.count }
         ensures some { 0 < result }
@@ -47,7 +47,7 @@ impl Crew {
     }
 }
 
-/// What was done: nothing, as no worker has an event; or events that sent messages of at most so many records.
+/// What a round of work did: nothing, since no worker had an event; or events whose largest message had that many records.
 #[derive(Clone, Copy, Debug, PartialEq, Eq)]
 pub enum Pace {
     Idle,
@@ -55,7 +55,7 @@ pub enum Pace {
 }
 
 impl Pace {
-    /// With an event more, which sent a message of so many records.
+    /// The same with one more event, whose largest message has that many records.
     fn with(self, records: u64) -> Pace {
         match self {
             Pace::Idle => Pace::Sent(records),
@@ -64,7 +64,7 @@ impl Pace {
     }
 }
 
-/// How many records the largest message of a computed event has; the event comes back.
+/// The number of records of a computed event's largest message; the event is given back.
 fn weighed(done: Done) -> (u64, Done)
     ensures { result.1 ≡ done }
 {
@@ -77,7 +77,7 @@ fn weighed(done: Done) -> (u64, Done)
     (records, Done::from_parts(worker, stub, output))
 }
 
-/// Ends an event that was computed: how many records its largest message has.
+/// Ends a computed event, and gives the number of records of its largest message.
 fn end<V: Views>(board: &mut Board<V>, done: Done) -> Result<u64, Halt>
     requires own { IsOf board.old.shown done }
     ensures tables { tables board.new.shown ≡ tables board.old.shown }
@@ -93,7 +93,7 @@ fn end<V: Views>(board: &mut Board<V>, done: Done) -> Result<u64, Halt>
     }
 }
 
-/// Computes an event, and ends it: how many records its largest message has.
+/// Computes an event and ends it, and gives the number of records of its largest message.
 fn process<V: Views>(alloc: Global, board: &mut Board<V>, work: Work) -> Result<u64, Halt>
     requires own { IsOf board.old.shown work.0 }
     ensures tables { tables board.new.shown ≡ tables board.old.shown }
@@ -108,7 +108,7 @@ fn process<V: Views>(alloc: Global, board: &mut Board<V>, work: Work) -> Result<
     }
 }
 
-/// Why an event ends the work that was not computed.
+/// Why an event that was not computed ends the work.
 fn halted(fault: Option<ComputeFault>) -> Halt {
     match fault {
         Some(fault) => Halt::from(fault),
@@ -116,7 +116,7 @@ fn halted(fault: Option<ComputeFault>) -> Halt {
     }
 }
 
-/// Ends an event where it was computed, and else gives it up.
+/// Ends an event if it was computed, and otherwise abandons it.
 fn settle<V: Views>(board: &mut Board<V>, slot: Slot) -> Result<u64, Halt>
     requires own { IsSlotOf (tables board.old.shown) slot }
     ensures tables { tables board.new.shown ≡ tables board.old.shown }
@@ -136,7 +136,7 @@ fn settle<V: Views>(board: &mut Board<V>, slot: Slot) -> Result<u64, Halt>
     }
 }
 
-/// Claims an event of a worker, where it has one.
+/// Claims an event of a worker, if it has one.
 fn claim<V: Views>(board: &mut Board<V>, worker: u32) -> Result<Option<Work>, Halt>
     ensures tables { tables board.new.shown ≡ tables board.old.shown }
     ensures own { IfOk result (λ o. IfSome o (λ w. IsOf board.old.shown w.0)) }
@@ -149,7 +149,7 @@ fn claim<V: Views>(board: &mut Board<V>, worker: u32) -> Result<Option<Work>, Ha
     }
 }
 
-/// Adds an event to those that are to be computed; where there is no memory for that, it is given up.
+/// Adds an event to those to be computed; without memory for that, abandons it.
 fn keep<V: Views>(board: &mut Board<V>, slots: &mut Vec<Slot>, work: Work) -> Result<(), Halt>
     requires event { IsOf board.old.shown work.0 }
     requires own { All (IsSlotOf (tables board.old.shown)) slots.old.items }
@@ -181,7 +181,7 @@ fn claim_each<V: Views>(board: &mut Board<V>, crew: Crew, slots: &mut Vec<Slot>)
     Ok(())
 }
 
-/// Computes them side by side.
+/// Computes them in parallel.
 fn compute_each<R: Threads + Sync>(rt: &R, alloc: Global, slots: &mut Vec<Slot>)
     ensures { (tables : List TableId) → All (IsSlotOf tables) slots.old.items → All (IsSlotOf tables) slots.new.items }
 {
@@ -194,7 +194,7 @@ fn compute_each<R: Threads + Sync>(rt: &R, alloc: Global, slots: &mut Vec<Slot>)
     );
 }
 
-/// What two calls made, where both came to an end. A count that is too large is told before other faults.
+/// The results of two calls, if both succeeded. A count that is too large takes precedence over other faults.
 fn both<A: Copy, B: Copy>(first: Result<A, Halt>, second: Result<B, Halt>) -> Result<(A, B), Halt>
     ensures made { IfOk result (λ p. (first ≡ Ok p.0) × (second ≡ Ok p.1)) }
     ensures first { first ≡ Err halt.Count → result ≡ Err halt.Count }
@@ -207,7 +207,7 @@ fn both<A: Copy, B: Copy>(first: Result<A, Halt>, second: Result<B, Halt>) -> Re
     }
 }
 
-/// What comes of one event more; the fault where either has one.
+/// Adds one event's result; a fault if either has one.
 fn joined(pace: Result<Pace, Halt>, sent: Result<u64, Halt>) -> Result<Pace, Halt>
     ensures { IfOk result (λ p. (is_ok pace ≡ true) × (is_ok sent ≡ true)) }
 {
@@ -215,7 +215,7 @@ fn joined(pace: Result<Pace, Halt>, sent: Result<u64, Halt>) -> Result<Pace, Hal
     Ok(pace.with(records))
 }
 
-/// Ends all that were computed.
+/// Ends all events that were computed.
 fn settle_each<V: Views>(board: &mut Board<V>, mut slots: Vec<Slot>) -> Result<Pace, Halt>
     requires own { All (IsSlotOf (tables board.old.shown)) slots.items }
     ensures tables { tables board.new.shown ≡ tables board.old.shown }
@@ -229,7 +229,7 @@ fn settle_each<V: Views>(board: &mut Board<V>, mut slots: Vec<Slot>) -> Result<P
     pace
 }
 
-/// Claims an event of each worker that has one, computes them side by side, and ends them.
+/// Claims an event of each worker that has one, computes them in parallel, and ends them.
 fn work_beside<V: Views, R: Threads + Sync>(
     rt: &R,
     alloc: Global,
@@ -259,7 +259,7 @@ fn work_in_turn<V: Views>(alloc: Global, crew: Crew, board: &mut Board<V>) -> Re
     Ok(pace)
 }
 
-/// Works on one event of each worker that has one: side by side where events may have so many records.
+/// Works on one event of each worker that has one, in parallel if events may have at least `HEAVY` records.
 fn work_once<V: Views, R: Threads + Sync>(
     rt: &R,
     alloc: Global,
@@ -275,8 +275,8 @@ fn work_once<V: Views, R: Threads + Sync>(
     work_in_turn(alloc, crew, board)
 }
 
-/// Works until there is nothing to do now. Messages of so many records are on their way at first. A notification may come some turns after
-/// the messages that it is about, so what was sent counts for less turn by turn.
+/// Works until there is nothing to do now. `records` is the size of the messages that are under way at first. A notification may come some rounds
+/// after the messages that it is about, so the number of records sent is halved from round to round, not dropped.
 pub fn work_off<V: Views, R: Threads + Sync>(
     rt: &R,
     alloc: Global,

@@ -1,4 +1,4 @@
-//! How following ends.
+//! The ways in which following ends.
 
 ghost use Rattle.std.specs.Prelude.{◌≡◌};
 ghost use Rattle.follow.specs.Steps.{ending_of};
@@ -13,28 +13,28 @@ use std::alloc::{AllocError, AllocFailed};
 /// Why following ended before the whole input was answered.
 #[derive(Clone, Copy, Debug, PartialEq, Eq)]
 pub enum Ending {
-    /// The first faulty line of the input, counted from 1, and the number by which its fault is told; 43 is a last line without line feed.
+    /// The first faulty line of the input, counted from 1, and the code of its fault; 43 is a last line without line feed.
     Input { code: u8, line: u64 },
     /// The reader failed.
     Read,
-    /// The writer failed: a beginning of the text was written.
+    /// The writer failed; a beginning of the text was written.
     Write,
-    /// An allocator refused a growth.
+    /// Out of memory.
     NoMemory,
     /// A count would have been above 9223372036854775807.
     Count,
-    /// The board refused a call for another reason than memory, or an epoch isn't complete at the end. It isn't known to come.
+    /// The board refused a call for a reason other than memory, or an epoch isn't complete at the end. Not known to be possible.
     Incomplete,
 }
 
-/// Why the work stopped in its middle. Nothing is written then.
+/// Why the work stopped half-way. Nothing is written then.
 #[derive(Clone, Copy, Debug, PartialEq, Eq)]
 pub enum Halt {
-    /// An allocator refused a growth.
+    /// Out of memory.
     NoMemory,
     /// A count would have been above 9223372036854775807.
     Count,
-    /// A case that isn't known to come.
+    /// A case that isn't known to be possible.
     Incomplete,
 }
 
@@ -75,7 +75,7 @@ impl From<StepRefusal> for Halt {
     fn from(refusal: StepRefusal) -> Halt {
         match refusal {
             StepRefusal::NoMemory => Halt::NoMemory,
-            // Following ends where an event is given up, so no call should find a stopped board.
+            // Following ends when an event is abandoned, so no call should find a stopped board.
             StepRefusal::Stopped
             | StepRefusal::UnknownInput
             | StepRefusal::InputClosed
@@ -88,7 +88,7 @@ impl From<StepRefusal> for Halt {
 }
 
 impl Halt {
-    /// How following ends then.
+    /// The ending for this halt.
     pub fn ending(self) -> Ending
         ensures { result ≡ ending_of self }
     {
@@ -99,7 +99,7 @@ impl Halt {
         }
     }
 
-    /// Which of two is told: a count that is too large before all others, and else the first.
+    /// Which of two is reported: a count that is too large before all others, and otherwise the first.
     pub fn or(self, other: Halt) -> Halt
         ensures first { self ≡ halt.Count → result ≡ halt.Count }
         ensures second { other ≡ halt.Count → result ≡ halt.Count }

@@ -1,4 +1,4 @@
-//! An input, followed from its first byte to its end.
+//! Follows an input from its first byte to its end.
 
 ghost use Rattle.std.specs.Prelude.{◌≡◌, ◌⊎◌, ◌+◌, map, true, IfOk, IsErrOf, OnErr};
 ghost use Rattle.graph.specs.Views.{input_of};
@@ -29,10 +29,10 @@ use std::sync::Arc;
 use std::thread::Threads;
 use views::{Direct, Views};
 
-/// The number of a last line that no line feed ends.
+/// The code of a last line without line feed.
 const NO_LINE_FEED: u8 = 43;
 
-/// How following ends at the line after those that were taken, which has a fault of that number.
+/// The ending at the line after those that were taken, which has a fault of that code.
 fn faulty(intake: &Intake, code: u8) -> Ending
     ensures { (result ≡ ending.Input code (intake.now.line + 1)) ⊎ (result ≡ ending.Incomplete) }
 {
@@ -42,7 +42,7 @@ fn faulty(intake: &Intake, code: u8) -> Ending
     }
 }
 
-/// Takes the lines that are there; what stands after them stays.
+/// Takes the whole lines that are pending, and leaves the text after them.
 fn take_text<V: Views>(
     alloc: Global,
     board: &mut Board<V>,
@@ -64,14 +64,14 @@ fn take_text<V: Views>(
     }
 }
 
-/// How many lines an epoch has, of those that were taken since so many had been and so many epochs had begun.
+/// The number of lines per epoch, among those taken since `begun` epochs had begun and `line` lines had been taken.
 fn lines_of_epoch(intake: &Intake, begun: u32, line: u64) -> u64 {
     let lines = intake.line.saturating_sub(line);
     let epochs = intake.begun.saturating_sub(begun);
     lines / u64::from(epochs).saturating_add(1)
 }
 
-/// Takes the lines that are pending, up to an epoch that is to get a new board, and writes what can be told then.
+/// Takes the pending lines, up to an epoch that is to get a new board, and writes what can be answered then.
 fn follow_lines<V: Views, R: Threads + Sync, W: Write>(
     rt: &R,
     alloc: Global,
@@ -119,7 +119,7 @@ fn follow_lines<V: Views, R: Threads + Sync, W: Write>(
     }
 }
 
-/// Follows a piece of the input, behind what is pending of a line. A piece without line feed only joins it.
+/// Follows a piece of the input, after the pending part of a line. A piece without line feed is only added to it.
 fn follow_piece<R: Threads + Sync, W: Write>(
     rt: &R,
     alloc: Global,
@@ -155,7 +155,7 @@ fn follow_piece<R: Threads + Sync, W: Write>(
     Err(Ending::Incomplete)
 }
 
-/// Ends following where the reader has no more bytes.
+/// Ends following once the reader has no more bytes.
 fn follow_end<V: Views, R: Threads + Sync, W: Write>(
     rt: &R,
     alloc: Global,
@@ -232,7 +232,7 @@ fn follow_pieces<T: Threads + Sync, R: Read, W: Write>(
     Err(Ending::Incomplete)
 }
 
-/// The inputs of a graph as the reader of lines takes them.
+/// The inputs of a graph, as the reader of lines needs them.
 fn declared<'a>(alloc: Global, inputs: &'a [DeclaredInput]) -> Result<Vec<Declared<'a>>, Halt>
     ensures { IfOk result (λ v. map plain v.items ≡ map input_of inputs.entry.now) }
 {
@@ -246,7 +246,7 @@ fn declared<'a>(alloc: Global, inputs: &'a [DeclaredInput]) -> Result<Vec<Declar
     Ok(declared)
 }
 
-/// A new board over the graph, beside which the graph is kept.
+/// A new board over the graph, and the graph itself.
 fn opened(
     alloc: Global,
     crew: Crew,
@@ -261,7 +261,7 @@ fn opened(
     Ok((graph, board))
 }
 
-/// Follows the input of a graph on a new board: what it reads, and what it has written, is an answer to it.
+/// Follows the input of a graph on a new board: what it writes is an answer to what it reads.
 fn follow_graph<T: Threads + Sync, R: Read, W: Write>(
     rt: &T,
     alloc: Global,
@@ -298,12 +298,12 @@ fn follow_graph<T: Threads + Sync, R: Read, W: Write>(
     Ok(ended)
 }
 
-/// Follows an input text to its end: a piece is read, its records are fed, what can be done is done, and what was emitted is written before
-/// more is read. With several workers, events that may be of many records are computed by a thread each.
+/// Follows an input text to its end. After each piece that it reads, it feeds the records, does what can be done, and writes what was emitted before
+/// it reads more. With several workers, large events are computed by a thread each.
 ///
-/// The lines of the first epoch that isn't complete are written as they come, and the line that says so once it has passed at every output.
-/// At `Ok` every epoch is complete. What was written before a fault stays true: it is an answer to the lines before it. What was read behind
-/// the last line that was taken is left in `rest`: at a fault it begins with the faulty line.
+/// The records of the first epoch that isn't complete are written as they come, and the line that says that it is complete once it has passed at
+/// every output. At `Ok` every epoch is complete. What was written before a fault stays true: it is an answer to the lines before the fault. The
+/// bytes read after the last line that was taken are left in `rest`; at a fault they begin with the faulty line.
 pub fn follow<T: Threads + Sync, R: Read, W: Write>(
     rt: &T,
     alloc: Global,

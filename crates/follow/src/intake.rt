@@ -16,7 +16,7 @@ use std::alloc::Global;
 use std::mem::replace;
 use views::Views;
 
-/// How many epochs of the board have begun, how many lines were taken, and of each input the records of the last epoch that wait to be fed.
+/// The number of the board's epochs that have begun, the number of lines taken, and for each input the records of the last epoch that wait to be fed.
 #[derive(Drop)]
 pub struct Intake {
     pub begun: u32,
@@ -25,7 +25,7 @@ pub struct Intake {
 }
 
 impl Intake {
-    /// Nothing was taken.
+    /// An intake that has taken nothing.
     pub fn new(alloc: Global, inputs: &[Declared<'_>]) -> Result<Intake, Halt>
         ensures { IfOk result IsNew }
     {
@@ -40,7 +40,7 @@ impl Intake {
         })
     }
 
-    /// A record of an input waits to be fed.
+    /// Keeps a record of an input, to be fed.
     fn gather(&mut self, input: usize, row: &[i64]) -> Result<(), Halt>
         ensures { OnOk result (Gathers self.old self.new input row.now) }
     {
@@ -66,7 +66,7 @@ impl Intake {
     }
 }
 
-/// No rows of that arity.
+/// An empty list of rows of that arity.
 fn no_rows(alloc: Global, arity: u64) -> Result<Rows, Halt>
     ensures { IfOk result (λ r. r.rows ≡ []) }
 {
@@ -86,7 +86,7 @@ fn take_rows(alloc: Global, intake: &mut Intake, input: usize) -> Rows
     replace(&mut intake.portion[input], Rows::new(alloc, arity))
 }
 
-/// Feeds what waits of an input.
+/// Feeds the rows of an input that wait.
 fn feed_rows<V: Views>(
     alloc: Global,
     board: &mut Board<V>,
@@ -123,7 +123,7 @@ pub fn feed_portion<V: Views>(
     Ok(())
 }
 
-/// The next epoch begins: what waits is fed, and the epoch before it is sealed at each input.
+/// Begins the next epoch: feeds what waits, and seals the epoch before it at each input.
 fn begin<V: Views>(alloc: Global, board: &mut Board<V>, intake: &mut Intake) -> Result<(), Halt>
     ensures { OnOk result (Moves board.old.shown board.new.shown intake.old intake.new Item.epoch) }
 {
@@ -140,7 +140,7 @@ fn begin<V: Views>(alloc: Global, board: &mut Board<V>, intake: &mut Intake) -> 
     Ok(())
 }
 
-/// Takes what a line says; the fields of a record stand in the buffer.
+/// Takes what a line says. The fields of a record are in the buffer.
 fn take_item<V: Views>(
     alloc: Global,
     board: &mut Board<V>,
@@ -166,8 +166,8 @@ fn begins_epoch(said: Line) -> bool
     }
 }
 
-/// Takes the lines of a text, one after another, up to one that begins an epoch, from line `until` on: what stands after them, and why no more
-/// were taken. The board's epochs begin at the epoch `base`.
+/// Takes the lines of a text one after another, but stops after the first line at or beyond line `until` that begins an epoch. Gives the text after
+/// them, and why it stopped. The board's epoch 0 is the input's epoch `base`.
 pub fn take_lines<'a, V: Views>(
     alloc: Global,
     board: &mut Board<V>,

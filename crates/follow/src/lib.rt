@@ -1,16 +1,15 @@
 //! Answers while the input still comes.
 //!
-//! `follow` reads an input text piece by piece. It feeds each record as its line arrives, seals every input at the next line `epoch`, and
-//! writes what is emitted: a line for each record of the first epoch that isn't complete, and the line that says it is, once it has passed at
-//! every output. The contract for the layers above is `Follows` of `specs/`: what was written is an answer to the lines that were read. A
-//! complete epoch's lines are its whole answer, and those of the next one are part of what is meant.
+//! `follow` reads an input text piece by piece. It feeds each record as its line arrives, and seals every input at the next line `epoch`. It writes a
+//! line for each record that is emitted for the first incomplete epoch, and a line that says that the epoch is complete once it has passed at every
+//! output. The contract for the layers above is `Follows` of `specs/`: what was written is an answer to the lines that were read. The lines of a
+//! complete epoch are its whole answer, and those of the next one are part of what is meant.
 //!
-//! A board takes 16,384 lines or so. At the next epoch, once all before it are complete, a new board takes its place, so that memory is that
-//! of those lines and of one epoch, however long the input is: on the old board nothing active is left that could result in a record.
+//! A board takes about 16,384 lines. At the next epoch, once all epochs before it are complete, a new board takes its place: on the old board no
+//! active pointstamp is left that could result in a record. So memory holds those lines and one epoch, however long the input is.
 //!
-//! One thread reads, claims and ends events, and writes. Where there are several workers and their events may be of many records, a thread
-//! computes each. Below stand `board`, `collector`, which reads lines, and `workers`, for the proof that an event may go to another thread, with
-//! what these stand on.
+//! One thread reads, claims and ends events, and writes. With several workers, events that may have many records are computed by a thread each. Built
+//! on `board`, on `collector`, which reads lines, on `workers`, for the proof that an event may go to another thread, and on the crates below them.
 #![tactic(auto)]
 
 mod answering;

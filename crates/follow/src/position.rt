@@ -1,4 +1,4 @@
-//! How far following is.
+//! How far following has come.
 
 ghost use Rattle.std.specs.Prelude.{IfOk};
 ghost use Rattle.follow.specs.Steps.{IsFirst};
@@ -9,21 +9,21 @@ use crate::telling::Telling;
 use collector::Declared;
 use std::alloc::Global;
 
-/// What was taken of the input, and what was told.
+/// What was taken of the input, and what was written of the answer.
 #[derive(Drop)]
 pub struct Position {
-    /// The epoch of the input at which the board's epochs begin. Those before it are complete.
+    /// The input's epoch at which the board's epochs begin. Those before it are complete.
     pub base: u32,
-    /// The line from which on the next epoch gets a new board.
+    /// From this line on, the next epoch gets a new board.
     pub until: u64,
     pub intake: Intake,
     pub telling: Telling,
-    /// What stands behind the last line that was taken.
+    /// The bytes after the last line that was taken.
     pub pending: Vec<u8>,
 }
 
 impl Position {
-    /// At the beginning of an input; the next epoch gets a new board from that line on.
+    /// The position at the beginning of an input. From line `until` on, the next epoch gets a new board.
     pub fn new(
         alloc: Global,
         inputs: &[Declared<'_>],

@@ -1,4 +1,4 @@
-//! New boards for later epochs, so that memory is that of some epochs and not of all.
+//! Replaces the board between epochs, so that memory holds some epochs and not all.
 
 ghost use Rattle.std.specs.Prelude.{◌≡◌, IfOk, OnOk};
 ghost use Rattle.machine.specs.World.{opening};
@@ -16,10 +16,10 @@ use std::alloc::Global;
 use std::sync::Arc;
 use views::Direct;
 
-/// The number of lines that a board takes; the epoch that is open then it takes whole.
+/// The number of lines that a board takes, before the epoch that is open then is finished on it.
 pub const LINES: u64 = 16_384;
 
-/// A new board over the graph, whose workers all see one tracker, so that none is late.
+/// A new board over the graph, whose workers all see one tracker, so that no view is late.
 pub fn new_board(
     alloc: Global,
     graph: &Arc<Graph, Global>,
@@ -33,7 +33,7 @@ pub fn new_board(
     Ok(board)
 }
 
-/// Puts a new board in place of one on which all epochs are complete but the last, of which nothing was told. Where that isn't so the board stays.
+/// Replaces a board on which all epochs but the last are complete, and nothing was written of the last. Otherwise the board stays.
 pub fn renew(
     alloc: Global,
     graph: &Arc<Graph, Global>,

@@ -8,7 +8,7 @@ ghost use Rattle.follow.specs.Slots.{IsNamed, IsSlotOf};
 use events::{ComputeFault, Done, Work};
 use std::alloc::Global;
 
-/// An event that was claimed, and then what was computed of it, or why that was refused.
+/// An event that was claimed; later its result, or why it was refused.
 pub struct Slot {
     pub held: Option<Work>,
     pub done: Option<Done>,
@@ -16,7 +16,7 @@ pub struct Slot {
 }
 
 impl Slot {
-    /// An event that was claimed.
+    /// A slot with a claimed event.
     pub fn new(work: Work) -> Slot
         ensures { (tables : List TableId) → IsNamed tables work.0 → IsSlotOf tables result }
     {
@@ -27,7 +27,7 @@ impl Slot {
         }
     }
 
-    /// Computes it. Where that is refused it stays claimed.
+    /// Computes the event. If that is refused, the event stays claimed.
     pub fn compute(&mut self, alloc: Global)
         ensures { (tables : List TableId) → IsSlotOf tables self.old → IsSlotOf tables self.new }
     {

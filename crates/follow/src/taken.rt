@@ -3,10 +3,10 @@
 /// Where taking lines stopped.
 #[derive(Clone, Copy, Debug, PartialEq, Eq)]
 pub enum Taken {
-    /// Every whole line was taken; a piece of the next one is left.
+    /// Every whole line was taken; part of the next line may be left.
     Whole,
-    /// The next line has the fault of that number.
+    /// The next line has the fault of that code.
     Fault(u8),
-    /// The last line began an epoch, and the board has taken enough lines.
+    /// The last line taken began an epoch, and the board has taken enough lines.
     Epoch,
 }

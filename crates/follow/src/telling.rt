@@ -1,4 +1,4 @@
-//! What is told of what was emitted.
+//! Writes out what was emitted.
 
 ghost use Rattle.std.specs.Prelude.{◌≡◌, ◌<◌, ℕ, ◌+◌, ◌++◌, IfOk, IsTrue, OnOk, map};
 ghost use Rattle.board.specs.Promises.{HasPassed, IsOutputPlace};
@@ -17,7 +17,7 @@ use record_core::Name;
 use std::alloc::Global;
 use views::Views;
 
-/// How many epochs of the board are complete, and of each output, how many batches were told of the first one that isn't.
+/// The number of the board's epochs that are complete, and for each output the number of batches of the next epoch that were written.
 #[derive(Drop)]
 pub struct Telling {
     pub done: u32,
@@ -25,7 +25,7 @@ pub struct Telling {
 }
 
 impl Telling {
-    /// Nothing was told, at so many outputs.
+    /// Nothing written yet, for that many outputs.
     pub fn new(alloc: Global, outputs: u32) -> Result<Telling, Halt>
         ensures { IfOk result IsFresh }
     {
@@ -36,7 +36,7 @@ impl Telling {
         Ok(Telling { done: 0, told })
     }
 
-    /// Whether nothing was told of the first epoch that isn't complete.
+    /// Whether nothing was written of the first epoch that isn't complete.
     pub fn is_untold(&self) -> bool
         ensures { IsTrue result → (k : ℕ) → told_count self.now k ≡ 0 }
     {
@@ -48,7 +48,7 @@ impl Telling {
         true
     }
 
-    /// The epoch is complete; nothing was told of the next one.
+    /// Counts the epoch as complete; nothing was written of the next one.
     fn complete(&mut self) -> Result<(), Halt>
         ensures { OnOk result (Nexts self.old self.new) }
     {
@@ -85,7 +85,7 @@ fn has_passed<V: Views>(board: &Board<V>, epoch: u32) -> bool
     true
 }
 
-/// Appends the lines of the batches that were emitted at an output for an epoch, after the first so many; how many there are.
+/// Appends the lines of the batches that were emitted at an output for an epoch, without the first `told`; gives the number of batches.
 fn push_output<V: Views>(
     board: &Board<V>,
     base: u32,
@@ -110,7 +110,7 @@ fn push_output<V: Views>(
     Ok(batches.len())
 }
 
-/// Appends the lines of what was emitted at an output for the first epoch that isn't complete and wasn't told.
+/// Appends the lines of what was emitted at an output for the first incomplete epoch and wasn't written yet.
 fn tell_output<V: Views>(
     board: &Board<V>,
     base: u32,
@@ -137,7 +137,7 @@ fn tell_output<V: Views>(
     }
 }
 
-/// Appends the lines of what was emitted at each output for the first epoch that isn't complete and wasn't told.
+/// Appends the lines of what was emitted at each output for the first incomplete epoch and wasn't written yet.
 fn tell_open<V: Views>(
     board: &Board<V>,
     base: u32,
@@ -155,7 +155,7 @@ fn tell_open<V: Views>(
     Ok(())
 }
 
-/// Appends the line of a complete epoch of the board.
+/// Appends the line that says that an epoch of the board is complete.
 fn push_done(out: &mut Vec<u8>, base: u32, done: u32) -> Result<(), Halt>
     ensures { OnOk result (out.new.items ≡ out.old.items ++ complete_line (base + done)) }
 {
@@ -166,8 +166,8 @@ fn push_done(out: &mut Vec<u8>, base: u32, done: u32) -> Result<(), Halt>
     Ok(())
 }
 
-/// Appends what is to be told: the board's epochs in order, each up to the first that isn't complete. Those below `sealed` are complete once
-/// they have passed. The board's epochs begin at the epoch `base`.
+/// Appends what can be written: the board's epochs in order, up to the first that isn't complete. An epoch below `sealed` is complete once it has
+/// passed. The board's epoch 0 is the input's epoch `base`.
 pub fn tell<V: Views>(
     board: &Board<V>,
     base: u32,

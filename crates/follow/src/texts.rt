@@ -42,7 +42,7 @@ fn push_fields(out: &mut Vec<u8>, row: &[i64]) -> Result<(), AllocError>
     Ok(())
 }
 
-/// Appends what tells an output: nothing where it is the only one and named `out`.
+/// Appends an output's label: nothing if it is the only one and named `out`.
 fn push_label(out: &mut Vec<u8>, plain: bool, name: &Name) -> Result<(), AllocError>
     ensures { OnOk result (out.new.items ≡ out.old.items ++ label_of plain name.now) }
 {

@@ -45,7 +45,7 @@ fn close<V: Views>(board: &mut Board<V>, input: usize) -> Result<(), Halt>
     Ok(())
 }
 
-/// Seals the first inputs, so many.
+/// Seals the first `inputs` inputs.
 pub fn seal_inputs<V: Views>(board: &mut Board<V>, inputs: usize) -> Result<(), Halt>
     ensures { OnOk result (IsLive board.old.shown → Seals board.old.shown board.new.shown inputs) }
 {
@@ -55,7 +55,7 @@ pub fn seal_inputs<V: Views>(board: &mut Board<V>, inputs: usize) -> Result<(), 
     Ok(())
 }
 
-/// Closes the first inputs, so many.
+/// Closes the first `inputs` inputs.
 pub fn close_inputs<V: Views>(board: &mut Board<V>, inputs: usize) -> Result<(), Halt>
     ensures { OnOk result (IsLive board.old.shown → Works board.old.shown board.new.shown) }
 {

@@ -1,4 +1,4 @@
--- The inputs that a graph in memory declares are its own, with their arities.
+-- The inputs that a graph in memory declares are its input vertices, with their arities.
 use Rattle.std.proofs.Common.{◌≡◌, ◌<◌, ◌≤◌, ◌∙◌, ◌++◌, ◌∷◌, [], ℕ, List, length, map, refl, sym, ap, subst, arith, Some}
 use Rattle.std.specs.Prelude.{option_map, slice_get, slice_index_or}
 use Rattle.std.proofs.Math.Logic.{∥∥₁_elim}

@@ -1,4 +1,4 @@
--- What is in hand, after each step.
+-- What is in hand after each step.
 use Rattle.std.proofs.Common.{◌≡◌, ◌≢◌, ◌<◌, ◌∙◌, ◌++◌, ◌∷◌, [], arith, replicate, ℕ, List, length, Option, Some, None, true, false, cond, sym, ap, inl, inr}
 use Rattle.std.specs.Prelude.{slice_get}
 use Rattle.std.proofs.lemmas.Bool.{cases_lt}
@@ -20,14 +20,14 @@ hand_stays s t hand h stays = record {
   own = λ k p at. (ap (λ ts. slice_get ts p.worker) stays.tables ∙ (h.own k p at).0, (h.own k p at).1);
 }
 
--- nobody's hold changes
+-- no worker's held event changes
 pub hold_same : (w v : World) (n : ℕ) (hand : List (Option Pass)) → ((k : ℕ) → v.held k ≡ w.held k) → HoldsAll w n hand → HoldsAll v n hand
 hold_same w v n hand same h = record {
   there = λ k event lt at. h.there k event lt (sym (same k) ∙ at);
   held = λ k p lt at. same k ∙ h.held k p lt at;
 }
 
--- one worker takes an event, which comes to its place in hand
+-- one worker takes an event, which goes to its place in hand
 pub hold_taken : (w v : World) (n k : ℕ) (hand new : List (Option Pass)) (p : Pass) → HoldsAll w n hand → v.held k ≡ Held.holding false p.job.happening → ((j : ℕ) → j ≢ k → v.held j ≡ w.held j)
     → in_hand new k ≡ Some p → ((j : ℕ) → j ≢ k → in_hand new j ≡ in_hand hand j) → HoldsAll v n new
 hold_taken w v n k hand new p h held others at rest = record { there = there; held = back }
@@ -61,7 +61,7 @@ hold_ended w v n k hand new h held others at rest = record { there = there; held
       | inr other ↦ others j other.1 ∙ h.held j q lt (sym (rest j other.1) ∙ e)
     ]
 
--- one worker takes an event and ends it, past its hand
+-- one worker takes an event and ends it without having it in hand
 pub hold_through : (w v : World) (n k : ℕ) (hand : List (Option Pass)) → HoldsAll w n hand → w.held k ≡ Held.nothing → v.held k ≡ Held.nothing → ((j : ℕ) → j ≢ k → v.held j ≡ w.held j) → HoldsAll v n hand
 hold_through w v n k hand h before after others = hold_same w v n hand same h
   where
@@ -71,7 +71,7 @@ hold_through w v n k hand h before after others = hold_same w v n hand same h
       | inr other ↦ others j other.1
     ]
 
--- one worker takes an event and gives it up, past its hand
+-- one worker takes an event and abandons it without having it in hand
 pub hold_lost : (w v : World) (n k : ℕ) (hand : List (Option Pass)) (lost : Event) → HoldsAll w n hand → w.held k ≡ Held.nothing → v.held k ≡ Held.holding true lost → ((j : ℕ) → j ≢ k → v.held j ≡ w.held j) → HoldsAll v n hand
 hold_lost w v n k hand lost h before after others = record { there = there; held = back }
   where
@@ -93,7 +93,7 @@ put_other f k x j other = elim (eqb_tells j k) [
   | inr no_way ↦ ap (λ b. cond b x (f j)) no_way.0
 ]
 
--- a claim changes what this worker holds, and nobody else's
+-- a claim changes only what its worker holds
 pub claim_others : (g : Network) (w : World) (k : ℕ) (taken : Step) → IsClaimBy k taken → (j : ℕ) → j ≢ k → (after_step g w taken).held j ≡ w.held j
 claim_others g w k (Step.feed i records) by j other = absurd by
 claim_others g w k (Step.seal i) by j other = absurd by
@@ -130,7 +130,7 @@ holds_nothing w n m hand is none = record {
   held = λ k p lt at. absurd (let f : None ≡ Some p = sym (ap (λ (xs : List (Option Pass)). in_hand xs k) is ∙ in_none m k) ∙ at in cc);
 }
 
--- the last place is taken off, and its event given up: the others are the board's still
+-- the last place is removed, and its event abandoned; the others are still the board's
 pub last_off : (s t : Shown) (rest new : List (Option Pass)) (x : Option Pass) → rest ≡ new ++ x ∷ [] → tables t ≡ tables s → ((k : ℕ) (p : Pass) → in_hand rest k ≡ Some p → IsOf s p) → (k : ℕ) (p : Pass) → in_hand new k ≡ Some p → IsOf t p
 last_off s t rest new x e same own k p at = elim (cases_lt k (length new)) [
   | inl lt ↦ ap (λ ts. slice_get ts p.worker) same ∙ own k p (ap (λ (xs : List (Option Pass)). in_hand xs k) e ∙ get_or_append_left new (x ∷ []) None k lt ∙ at)

@@ -57,9 +57,9 @@ pub record HasInputs (s : Shown) : Type 0 where
 pub input_count_is : (s : Shown) (inputs : List Input) → AreInputsOf s.graph inputs → length s.inputs ≡ input_count (shown_graph s.graph) → HasInputs s
 input_count_is s inputs are e = record { all = omega (arith, are.count, ap length are.same, e); few = omega (arith, are.few, e) }
 
--- ---- which input, and why not
+-- ---- which input, and the reason for a refusal
 
--- what is answered where a call on this input is refused
+-- the answer when a call on this input is refused
 why : (late : Bool) (s : Shown) (name : List ℕ) (i arity : ℕ) → HasInputs s → IsNumbered (shown_inputs s.graph) name (i, arity) → (r : StepRefusal) (code : ℕ) → refusal_of r ≡ refusal.Step code → (w : World) → Shows s w
     → (b c d : Bool) → s.stopped ≡ b → nat_lt i (length s.inputs) ≡ c → (input_at s i).closed ≡ d
     → first (cond b (Some step.Stopped) None) (first (cond c None (Some step.UnknownInput)) (cond d (Some step.InputClosed) None)) ≡ Some r → RefusesInput (setting_of late s) w name code
@@ -86,7 +86,7 @@ pub refused_input : (late : Bool) (s : Shown) (name : List ℕ) (i arity : ℕ) 
     → (w : World) → Shows s w → RefusesInput (setting_of late s) w name code
 refused_input late s name i arity size numbered r e code told w shows = why late s name i arity size numbered r code told w shows s.stopped (nat_lt i (length s.inputs)) (input_at s i).closed refl refl refl e
 
--- where no call on it is refused it is an open input of an engine that runs
+-- if no call on it is refused, it is an open input of an engine that runs
 pub record IsOpen (s : Shown) (name : List ℕ) (i arity : ℕ) : Type 0 where
   pub runs : s.stopped ≡ false
   pub is : IsInput (shown_inputs s.graph) name i arity
@@ -140,7 +140,7 @@ fed_leads late b c hand name fields i arity is fits goes same posts =
     let fed = feed_posts late b c x (after_step (net b.shown) x.world (Step.feed i (fields ∷ []))) goes.workers shows after posts in
     (fed.0, fed.1, Does.does_feed name fields i fed.0 (subst (IsInput (shown_inputs b.shown.graph) name i) (sym fits.0) is.is) fits.1 allowed fed.2))
 
--- fields that make no record of an input that is open
+-- fields that make no record of an open input
 pub unfit_leads : (late : Bool) (b c : BoardShown) (hand : Hand) (name : List ℕ) (fields : List ℤ) (i arity : ℕ) → IsOpen b.shown name i arity → (MakeRecord arity fields → ⊥) → c ≡ b → Leads late b c hand hand (Command.feed name fields) (refusal_line 33)
 unfit_leads late b c hand name fields i arity is none same =
     refused_leads late b c hand (Command.feed name fields) (refusal_line 33) same
@@ -148,7 +148,7 @@ unfit_leads late b c hand name fields i arity is none same =
 
 -- ---- a seal
 
--- what a seal's refusals say, where none of the input's apply
+-- what a seal's refusals say, if none of the input's apply
 at_last_epoch : (late : Bool) (s : Shown) (name : List ℕ) (i arity : ℕ) → IsOpen s name i arity → (r : StepRefusal) (code : ℕ) → refusal_of r ≡ refusal.Step code → (w : World) → Shows s w → (b : Bool) → ((input_at s i).open_epoch == 4294967295) ≡ b
     → AnswersOr {T = Unit {0}} (cond b (Some step.LastEpoch) None) (Err r) → RefusesSeal (setting_of late s) w name code
 at_last_epoch late s name i arity is r code told w shows true at e =
@@ -165,7 +165,7 @@ refused_seal late s name i arity size numbered r e code told w shows = by_input 
     by_input (Some q) at e = RefusesSeal.seal_input code (refused_input late s name i arity size numbered r (at ∙ ap Some (sym e)) code told w shows)
     by_input None at e = at_last_epoch late s name i arity (open_input s name i arity size numbered at) r code told w shows ((input_at s i).open_epoch == 4294967295) refl e
 
--- a call that was taken was refused by nothing
+-- a call that succeeded had no reason for a refusal
 pub taken_first : (o p : Option StepRefusal) → AnswersOr {T = Unit {0}} (first o p) (Ok tt) → o ≡ None
 taken_first None p h = refl
 taken_first (Some r) p h = absurd h
@@ -178,12 +178,12 @@ pub refused_only : (o : Option StepRefusal) (r : StepRefusal) → AnswersOnly {T
 refused_only None r h = absurd h
 refused_only (Some q) r h = ap Some (sym h)
 
--- a feed to an open input of a record that fits it is refused for want of memory alone
+-- a feed of a fitting record to an open input is refused only for want of memory
 pub only_memory : (o : Option StepRefusal) (r : StepRefusal) → o ≡ None → AnswersOr {T = Unit {0}} o (Err r) → r ≡ step.NoMemory
 only_memory None r e h = h
 only_memory (Some q) r e h = absurd (let f : Some q ≡ None = e in cc)
 
--- a batch of one record that fits an input that is open: no refusal but for want of memory
+-- a batch of one record that fits an open input has no refusal but want of memory
 pub fit_feed : (s : Shown) (inputs : List Input) (name : List ℕ) (i arity : ℕ) (fields : List ℤ) (batch : List Record) → AreInputsOf s.graph inputs → IsOpen s name i arity → MakeRecord arity fields → batch ≡ fields ∷ [] → input_refusal s i ≡ None → feed_refusal s i batch ≡ None
 fit_feed s inputs name i arity fields batch are is fits alone none =
     let there : slice_get inputs i ≡ Some (record { name = name; arity = arity }) = ap (λ xs. slice_get xs i) are.same ∙ is.is.there in

@@ -1,4 +1,4 @@
--- On a board that has just been opened.
+-- A board that has just been opened.
 use Rattle.std.proofs.Common.{◌≡◌, ◌∙◌, ℕ, Bool, List, length, ap, subst}
 use Rattle.graph.specs.Shown.{GraphValue}
 use Rattle.board.specs.Shown.{Shown}

@@ -1,4 +1,4 @@
--- An epoch has passed in one world that the board shows exactly where it has in another.
+-- An epoch has passed in one world that the board shows exactly if it has in another.
 use Rattle.std.proofs.Common.{◌∙◌, ℕ, sym, ap, subst}
 use Rattle.std.specs.Prelude.{slice_get}
 use Rattle.semantics.specs.Could.{Pointstamp, at_vertex}

@@ -17,7 +17,7 @@ pub setting_same : (late : Bool) (s t : Shown) → Stays s t → setting_of late
 setting_same late s t h =
     ap (λ x. setting_on (kind_of late) x (length t.sides)) h.graph ∙ ap (λ (k : ℕ). setting_on (kind_of late) s.graph k) h.workers
 
--- from whatever state the board showed at first, the lines lead to one that it shows now
+-- from any state that the board showed at first, the lines lead to one that it shows now
 pub record Replayed (late : Bool) (b c : BoardShown) (old new : List (Option Pass)) (commands : List Command) (text : List ℕ) : Type 0 where
   pub stays : Stays b.shown c.shown
   pub led : (x : State) → ShowsState b x → HoldsAll x.world (length b.shown.sides) old → (y : State) × ShowsState c y × HoldsAll y.world (length b.shown.sides) new × Replays (setting_of late b.shown) x commands y text
@@ -46,7 +46,7 @@ told_leads late b hand epoch text tells = record {
   led = λ x shows holds. record { after = x; shows = shows; hand_after = holds; does = Does.does_print epoch text (tells x shows) };
 }
 
--- whatever a call of no worker answers, what is in hand is the board's still
+-- a call that involves no worker leaves what is in hand the board's
 pub answered_hand : (late : Bool) (b c : BoardShown) (hand : List (Option Pass)) (command : Command) (r : Result (Unit {0}) Refusal) → IsHand b.shown hand → Answers late b c hand hand command r → IsHand c.shown hand
 answered_hand late b c hand command (Ok u) h a = hand_stays b.shown c.shown hand h a.stays
 answered_hand late b c hand command (Err (refusal.Step code)) h a = hand_stays b.shown c.shown hand h a.stays

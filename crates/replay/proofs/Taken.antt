@@ -45,7 +45,7 @@ claim_free g w k (Step.merge k' at m n) by allowed = absurd by
 claim_free g w k (Step.commit k' event out) by allowed = absurd by
 claim_free g w k (Step.abandon k' event) by allowed = absurd by
 
--- where its worker holds nothing, its place in hand is empty
+-- if its worker holds nothing, its place in hand is empty
 nothing_in_hand : (w : World) (n k : ℕ) (hand : List (Option Pass)) → HoldsAll w n hand → k < n → w.held k ≡ Held.nothing → in_hand hand k ≡ None
 nothing_in_hand w n k hand h lt free = none (in_hand hand k) refl
   where
@@ -53,7 +53,7 @@ nothing_in_hand w n k hand h lt free = none (in_hand hand k) refl
     none None e = e
     none (Some p) e = absurd (let f : Held.nothing ≡ Held.holding false p.job.happening = sym free ∙ h.held k p lt e in cc)
 
--- what is picked is taken in whatever state the board shows
+-- what is picked is taken in any state that the board shows
 picks : (late : Bool) (b : BoardShown) (t : Shown) (x : State) (k n : ℕ) (p : Pass) (hands : Hands b.shown k t p) → KnowsWaits late b → (IsUpToDate b k → IsChoice b.shown k n hands.taken) → ShowsState b x → Takes (setting_of late b.shown) x k n hands.taken
 picks late b t x k n p hands knows choice shows = record {
   claims = hands.by;
@@ -138,7 +138,7 @@ delivered_leads late b c d hand k n p hands knows choice waits ends stays = reco
           does = Does.does_deliver k n hands.taken p.job.happening ends.out (picks late b c.shown x k n p hands knows choice shows) allowed;
         }
 
--- an event was taken and given up
+-- an event was taken and abandoned
 pub lost_leads : (late : Bool) (b c d : BoardShown) (hand : List (Option Pass)) (k n : ℕ) (p : Pass) (hands : Hands b.shown k c.shown p) → KnowsWaits late b → (IsUpToDate b k → IsChoice b.shown k n hands.taken) → c.waits ≡ b.waits → IsGivenUp c p d → Stays b.shown d.shown
     → (command : Command) → ((x : State) → GivesUp (setting_of late b.shown) x k n hands.taken p.job.happening → Does (setting_of late b.shown) x command (after_giving_up (setting_of late b.shown) x hands.taken k p.job.happening) (refusal_line 39))
     → Leads late b d hand hand command (refusal_line 39)
@@ -163,7 +163,7 @@ lost_leads late b c d hand k n p hands knows choice waits lost stays command doe
           does = does x (record { takes = picks late b c.shown x k n p hands knows choice shows; allowed = allowed });
         }
 
--- computing an event that was taken is refused: memory is wanted, or a count would be too large
+-- computing an event that was taken is refused: there is no memory, or a count would be too large
 pub lost_answers : (late : Bool) (b c d : BoardShown) (hand : List (Option Pass)) (k n : ℕ) (p : Pass) (e : Refusal) (hands : Hands b.shown k c.shown p) → KnowsWaits late b → (IsUpToDate b k → IsChoice b.shown k n hands.taken) → c.waits ≡ b.waits → IsGivenUp c p d → Stays b.shown d.shown
     → (command : Command) → ((x : State) → GivesUp (setting_of late b.shown) x k n hands.taken p.job.happening → Does (setting_of late b.shown) x command (after_giving_up (setting_of late b.shown) x hands.taken k p.job.happening) (refusal_line 39))
     → (e ≡ refusal.NoMemory) ⊎ (e ≡ refusal.Step 39) → Answers late b d hand hand command {T = Unit {0}} (Err e)
@@ -171,7 +171,7 @@ lost_answers late b c d hand k n p e hands knows choice waits lost stays command
 lost_answers late b c d hand k n p e hands knows choice waits lost stays command does (inr count) =
     subst (λ (x : Refusal). Answers late b d hand hand command {T = Unit {0}} (Err x)) (sym count) (lost_leads late b c d hand k n p hands knows choice waits lost stays command does)
 
--- what a refused pick is told by
+-- the code of a refused pick
 pub refused_pick : (late : Bool) (b : BoardShown) (k n : ℕ) (e : StepRefusal) → KnowsWaits late b → Refuses (IsUpToDate b k) b.shown k n e → (code : ℕ) → refusal_of e ≡ refusal.Step code → (x : State) → ShowsState b x → RefusesPick (setting_of late b.shown) x k n code
 refused_pick late b k n step.Stopped knows h code told x shows =
     subst (RefusesPick (setting_of late b.shown) x k n) (let f : refusal.Step 37 ≡ refusal.Step code = told in let e : 37 ≡ code = cc in e) (RefusesPick.pick_stopped (shows.world.stopped ∙ h))
@@ -196,7 +196,7 @@ stays_on s t u h i = record { graph = i.graph ∙ h.graph; workers = i.workers �
 pub picked_stays : (s t : Shown) (k : ℕ) (p : Pass) → Hands s k t p → tables t ≡ tables s → Stays s t
 picked_stays s t k p hands same = record { graph = hands.goes.graph; workers = hands.goes.workers; tables = same }
 
--- what comes to a worker's place in hand is of the board and of the worker
+-- what goes to a worker's place in hand is of the board and of the worker
 pub kept_hand : (s u : Shown) (hand new : List (Option Pass)) (k : ℕ) (p : Pass) → IsHand s hand → Stays s u → new ≡ slice_set hand k (Some p) → IsOf u p → p.worker ≡ k → k < length hand → IsHand u new
 kept_hand s u hand new k p h stays is of own room = record {
   places = ap length is ∙ length-set hand k (Some p) ∙ h.places ∙ sym stays.workers;
@@ -227,7 +227,7 @@ past_hand hand k le = get_or_past hand k None le
 pub still_empty : (hand : List (Option Pass)) (k : ℕ) → in_hand hand k ≡ None → slice_set hand k None ≡ hand
 still_empty hand k e = ap (λ x. slice_set hand k x) (sym e) ∙ set-get_or hand k None
 
--- an event ends, or memory is wanted
+-- an event ends, or there is no memory
 pub end_answers : (late : Bool) (b c : BoardShown) (old new : List (Option Pass)) (command : Command) (r : Result (Unit {0}) Refusal) (p : Pass) (a : BoardShown) → OnOk r (Ends late a p c) → IfErr r (λ e. e ≡ refusal.NoMemory) → Stays b.shown c.shown → (Ends late a p c → Leads late b c old new command [])
     → Answers late b c old new command r
 end_answers late b c old new command (Ok u) p a ends memory stays leads = leads ends

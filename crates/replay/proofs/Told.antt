@@ -1,4 +1,4 @@
--- What a question tells.
+-- What a question prints.
 use Rattle.std.proofs.Common.{◌≡◌, ◌<◌, ◌≤◌, ◌+◌, ◌∙◌, ℕ, List, [], ◌∷◌, ◌++◌, length, map, take, get_or, Bool, true, false, refl, sym, ap, subst, append_assoc, arith}
 use Rattle.std.specs.Prelude.{IsTrue, slice_index_or}
 use Rattle.std.specs.List.{flat_map}
@@ -42,22 +42,22 @@ promise_kept late s w k epoch p shows headline = record {
   whole = λ passed. ≈-trans (at_output late s w k epoch shows) (subst (λ ys. emitted_at s k epoch ≈ ys) (meant_same s w k epoch p shows) (headline.whole (λ v sv. passed_same s w v (output_number (shown_graph s.graph) k) epoch shows sv passed)));
 }
 
--- records in order are so for the same multiset
+-- a list of records in order is the same for equal multisets
 in_order_alike : {xs ys : List Record} (rows : List Record) → xs ≈ ys → IsInOrder ys rows → IsInOrder xs rows
 in_order_alike {xs} {ys} rows e h = record { permutation = IsPermutation-trans xs ys rows (permutation_from_same xs ys e) h.permutation; ascending = h.ascending }
 
--- what worker 0 sees as passed has passed, and all that has passed if it sees all that was posted
+-- what worker 0 sees as passed has passed; and it sees all that has passed, if it sees everything that was posted
 pub record IsSeenRight (b : BoardShown) (k epoch : ℕ) (seen : Bool) : Type 0 where
   pub passed : IsTrue seen → HasPassed b.shown k epoch
   pub all : IsUpToDate b 0 → HasPassed b.shown k epoch → IsTrue seen
 
--- the word that was told
+-- the word that is printed
 word_told : (late : Bool) (b : BoardShown) (x : State) (k epoch : ℕ) (seen : Bool) → KnowsWaits late b → ShowsState b x → IsSeenRight b k epoch seen → HasWord (setting_of late b.shown) x k epoch (word_of seen)
 word_told late b x k epoch true knows shows right = HasWord.has_passed (right.passed refl x.world shows.world)
 word_told late b x k epoch false knows shows right =
     HasWord.is_open (λ sees passed. let t : false ≡ true = right.all (up_to_date late b x 0 knows shows sees) (λ v sv. passed_same b.shown x.world v (output_number (shown_graph b.shown.graph) k) epoch shows.world sv passed) in absurd cc)
 
--- an output of the board is one of each program that it runs
+-- an output of the board is an output of each program that it runs
 place_in : (late : Bool) (s : Shown) (k : ℕ) (p : Program) → IsOutputPlace s k → IsGraphOf (setting_of late s) p → k < length p.outputs
 place_in late s k p there is = let n = lowered_outputs p in let m = ap (λ g. length (output_numbers g)) is.graph in omega (arith, there, n, m)
 

@@ -1,4 +1,4 @@
--- What waits on the board, and in the state that it shows.
+-- What waits on the board and in the state that it shows.
 use Rattle.std.proofs.Common.{◌≡◌, ◌<◌, ◌≤◌, ◌+◌, ◌∙◌, ◌⊎◌, inl, inr, ℕ, suc, Bool, true, false, List, length, refl, sym, ap, arith}
 use Rattle.std.proofs.lemmas.Bool.{cases_lt}
 use Rattle.std.proofs.lemmas.Bool.Decides.{eqb_tells}
@@ -17,12 +17,12 @@ use Rattle.replay.proofs.Holding.{put_other}
 abbrev pub IsWithin : BoardShown → Type 0
 IsWithin b = (worker sender : ℕ) → (length b.shown.sides ≤ worker) ⊎ (length b.shown.sides < sender) → waits_for b worker sender ≡ 0
 
--- nor where views aren't late
+-- the same, and where views aren't late nothing waits
 pub record KnowsWaits (late : Bool) (b : BoardShown) : Type 0 where
   pub prompt : late ≡ false → AreUpToDate b
   pub within : IsWithin b
 
--- a worker that sees all has a view that is up to date
+-- a worker that sees everything has an up-to-date view
 pub up_to_date : (late : Bool) (b : BoardShown) (x : State) (k : ℕ) → KnowsWaits late b → ShowsState b x → SeesAll (kind_of late) (length b.shown.sides) x.waits k → IsUpToDate b k
 up_to_date false b x k knows shows sees = knows.prompt refl k
 up_to_date true b x k knows shows sees = λ j. elim (cases_lt k (length b.shown.sides)) [
@@ -33,7 +33,7 @@ up_to_date true b x k knows shows sees = λ j. elim (cases_lt k (length b.shown.
   | inr gone ↦ knows.within k j (inl gone)
 ]
 
--- what a board adds to what waits
+-- what a post adds is the same on the board and in the state
 added_same : (late : Bool) (by j : ℕ) → one_more late by j ≡ added (kind_of late) by j
 added_same false by j = refl
 added_same true by j = refl
@@ -79,7 +79,7 @@ shows_applied b c waits worker sender same shows others = λ k j there within.
       | inr other ↦ rest other.1 ∙ before ∙ sym (put_other (waits worker) sender (waits_for c worker sender) j other.1)
     ]
 
--- a batch waits only where the worker and the sender are there
+-- a batch waits only if the worker and the sender exist
 pub there_if_some : (b : BoardShown) (k j rest : ℕ) → IsWithin b → waits_for b k j ≡ suc rest → (k < length b.shown.sides) × (j ≤ length b.shown.sides)
 there_if_some b k j rest knows some = elim (cases_lt k (length b.shown.sides)) [
   | inl there ↦ elim (cases_lt (length b.shown.sides) j) [
@@ -89,7 +89,7 @@ there_if_some b k j rest knows some = elim (cases_lt k (length b.shown.sides)) [
   | inr gone ↦ absurd (omega (arith, some, knows k j (inl gone)))
 ]
 
--- as a board begins
+-- the state of a new board
 pub shows_first : (b : BoardShown) → Shows b.shown opening → AreUpToDate b → ShowsState b (record { world = opening; waits = λ worker sender. 0 })
 shows_first b shows prompt = record { world = shows; waits = λ k j there within. prompt k j }
 

@@ -20,7 +20,7 @@ use Rattle.schedule.specs.Commands.{Command}
 use Rattle.schedule.specs.declared.verb.ViewKind.{ViewKind}
 use Rattle.replay.specs.Waits.{SeesAll, State, Waits, posted, waiting_now}
 
--- what a schedule runs on: a graph on so many workers with views of that kind, and the graph's inputs and the names of its outputs, in order
+-- what a schedule runs on: a graph, the number of workers and their kind of view, and the graph's inputs and the names of its outputs, in order
 pub record Setting : Type 0 where
   pub graph : Graph
   pub workers : ℕ
@@ -37,7 +37,7 @@ pub record IsGraphOf (s : Setting) (p : Program) : Type 0 where
   pub typed : WellTyped p arities
   pub graph : s.graph ≡ lowered p
 
--- ---- refusals: each is told by its number, the first in the order written here
+-- ---- refusals: each has a code, and the first in the order written here counts
 
 -- of every call on an input: the engine is stopped; no input has the name; the input is closed
 pub data RefusesInput (s : Setting) (w : World) (name : List ℕ) : (code : ℕ) → Type 0 where
@@ -45,39 +45,39 @@ pub data RefusesInput (s : Setting) (w : World) (name : List ℕ) : (code : ℕ)
   is_unknown : w.stopped ≡ false → IsAbsent s.inputs name → RefusesInput s w name 32
   is_closed : (i arity : ℕ) → w.stopped ≡ false → IsInput s.inputs name i arity → w.closed i ≡ true → RefusesInput s w name 31
 
--- of a feed: then, the fields make no record of the input
+-- of a feed: the same, then the fields make no record of the input
 pub data RefusesFeed (s : Setting) (w : World) (name : List ℕ) (fields : List ℤ) : (code : ℕ) → Type 0 where
   feed_input : (code : ℕ) → RefusesInput s w name code → RefusesFeed s w name fields code
   misfit : (i arity : ℕ) → w.stopped ≡ false → IsInput s.inputs name i arity → w.closed i ≡ false → (MakeRecord arity fields → ⊥) → RefusesFeed s w name fields 33
 
--- of a seal: then, the open epoch is the last one
+-- of a seal: the same, then the open epoch is the last one
 pub data RefusesSeal (s : Setting) (w : World) (name : List ℕ) : (code : ℕ) → Type 0 where
   seal_input : (code : ℕ) → RefusesInput s w name code → RefusesSeal s w name code
   last_epoch : (i arity : ℕ) → w.stopped ≡ false → IsInput s.inputs name i arity → w.closed i ≡ false → w.open_epoch i ≡ 4294967295 → RefusesSeal s w name 38
 
--- the worker sees all that was posted
+-- the worker sees everything that was posted
 abbrev pub SeesAllOf : Setting → State → (worker : ℕ) → Type 0
 SeesAllOf s x worker = SeesAll s.views s.workers x.waits worker
 
--- the worker takes an event that it may take: its choice of that number, if it sees all that was posted
+-- the worker takes an event that it may take: its choice of that number, if it sees everything that was posted
 pub record Takes (s : Setting) (x : State) (worker choice : ℕ) (taken : Step) : Type 0 where
   pub claims : IsClaimBy worker taken
   pub chosen : SeesAllOf s x worker → Chooses (net_of s) x.world worker choice taken
   pub allowed : Allowed (net_of s) x.world taken
 
--- Of a pick: the engine is stopped; the worker holds an event; it isn't there, or has no such choice. A worker that doesn't see all that
--- was posted may see fewer choices than it has.
+-- Of a pick: the engine is stopped; the worker holds an event; it doesn't exist, or has no such choice. A worker that doesn't see everything that was
+-- posted may see fewer choices than it has.
 pub data RefusesPick (s : Setting) (x : State) (worker choice : ℕ) : (code : ℕ) → Type 0 where
   pick_stopped : x.world.stopped ≡ true → RefusesPick s x worker choice 37
   holds_event : x.world.stopped ≡ false → worker < s.workers → (x.world.held worker ≡ Held.nothing → ⊥) → RefusesPick s x worker choice 35
   no_choice : x.world.stopped ≡ false → (worker < s.workers → x.world.held worker ≡ Held.nothing) → (SeesAllOf s x worker → (taken : Step) → Takes s x worker choice taken → ⊥) → RefusesPick s x worker choice 34
 
--- the worker isn't there, or holds no event, or one that was given up
+-- the worker doesn't exist, or holds no event, or one that was abandoned
 abbrev pub HasNothingHeld : Setting → World → (worker : ℕ) → Type 0
 HasNothingHeld s w worker = (event : Event) → worker < s.workers → w.held worker ≡ Held.holding false event → ⊥
 
--- The worker takes an event that it may take, and gives it up, which stops the engine: computing it was refused, since a count of what its
--- shard would then have absorbed, or of what it would send, would be above 9223372036854775807.
+-- The worker takes an event that it may take, and abandons it, which stops the engine: computing it was refused, since a count of what its shard
+-- would have absorbed, or of what it would send, would be above 9223372036854775807.
 pub record GivesUp (s : Setting) (x : State) (worker choice : ℕ) (taken : Step) (event : Event) : Type 0 where
   pub takes : Takes s x worker choice taken
   pub allowed : Allowed (net_of s) (after_step (net_of s) x.world taken) (Step.abandon worker event)
@@ -87,7 +87,7 @@ pub record GivesUp (s : Setting) (x : State) (worker choice : ℕ) (taken : Step
 abbrev pub refusal_line : ℕ → List ℕ
 refusal_line code = codes "refused " ++ decimal code ++ 10 ∷ []
 
--- Whether an epoch has passed at an output, with the word for it. It is open too where it has passed and worker 0 doesn't see so yet.
+-- Whether an epoch has passed at an output, with the word for it. It also counts as open if it has passed and worker 0 doesn't see that yet.
 pub data HasWord (s : Setting) (x : State) (output epoch : ℕ) : (word : List ℕ) → Type 0 where
   has_passed : Passed (net_of s) x.world (output_number s.graph output) epoch → HasWord s x output epoch (codes " passed")
   is_open : (SeesAllOf s x 0 → Passed (net_of s) x.world (output_number s.graph output) epoch → ⊥) → HasWord s x output epoch (codes " open")
@@ -100,13 +100,12 @@ heading epoch label word = codes "epoch " ++ (decimal epoch ++ (label ++ (word +
 abbrev pub answer_of : Setting → World → (output epoch : ℕ) → List Record
 answer_of s w output epoch = w.emitted (output_number s.graph output) epoch
 
--- the answer at an output for an epoch so far is part of what the program means there on what was fed for it, and all of it once the
--- epoch has passed
+-- the answer at an output for an epoch so far is part of what the program means there on what was fed for it, and all of it once the epoch has passed
 pub record KeepsPromise (s : Setting) (w : World) (output epoch : ℕ) (p : Program) : Type 0 where
   pub part : IsPartOf (answer_of s w output epoch) (meant p w output epoch)
   pub whole : Passed (net_of s) w (output_number s.graph output) epoch → answer_of s w output epoch ≈ meant p w output epoch
 
--- a line that says whether the epoch has passed at an output, and the answer there so far, each record on a line, in order
+-- a line that says whether the epoch has passed at an output, and the answer there so far, one record a line, in order
 pub record TellsOutput (s : Setting) (x : State) (epoch output : ℕ) (label text : List ℕ) : Type 0 where
   pub word : List ℕ
   pub says : HasWord s x output epoch word
@@ -115,13 +114,13 @@ pub record TellsOutput (s : Setting) (x : State) (epoch output : ℕ) (label tex
   pub lines : text ≡ heading epoch label word ++ flat_map record_line rows
   pub promise : (p : Program) → IsGraphOf s p → KeepsPromise s x.world output epoch p
 
--- the same of each output of these names, from a place on
+-- the same for each output of these names, from a place on
 abbrev pub TellsFrom : Setting → State → (epoch : ℕ) → (names : List Name) → (output : ℕ) → (text : List ℕ) → Type 0
 TellsFrom s x epoch [] output text = text ≡ []
 TellsFrom s x epoch (name ∷ names) output text =
     (first rest : List ℕ) × TellsOutput s x epoch output (label_of (is_plain s.outputs) name) first × TellsFrom s x epoch names (output + 1) rest × (text ≡ first ++ rest)
 
--- of all outputs
+-- the same for all outputs
 abbrev pub Tells : Setting → State → (epoch : ℕ) → (text : List ℕ) → Type 0
 Tells s x epoch text = TellsFrom s x epoch s.outputs 0 text
 
@@ -131,7 +130,7 @@ Tells s x epoch text = TellsFrom s x epoch s.outputs 0 text
 abbrev pub NothingCame : Setting → (before after : World) → Type 0
 NothingCame s before after = (worker : ℕ) → worker < s.workers → after.mail worker ≡ before.mail worker
 
--- A feed posts a batch, as the sender by the number of workers. It may post none where none of its records comes to a worker.
+-- A feed posts a batch; its sender is the number of workers. It may post none if none of its records comes to a worker.
 abbrev pub FeedPosts : Setting → (before after : State) → Type 0
 FeedPosts s before after = (after.waits ≡ posted s.views s.workers before.waits) ⊎ ((after.waits ≡ before.waits) × NothingCame s before.world after.world)
 
@@ -143,16 +142,16 @@ after_posting s x taken by = record { world = after_step (net_of s) x.world take
 abbrev pub after_taking : Setting → State → Step → State
 after_taking s x taken = record { world = after_step (net_of s) x.world taken; waits = x.waits }
 
--- the state after an event was taken and given up
+-- the state after an event was taken and abandoned
 abbrev pub after_giving_up : Setting → State → (taken : Step) → (worker : ℕ) → Event → State
 after_giving_up s x taken worker event = after_taking s (after_taking s x taken) (Step.abandon worker event)
 
--- Nothing of the sender waits for the worker, or one of them isn't there.
+-- no batch of the sender waits for the worker, or one of them doesn't exist
 abbrev pub HasNothingWaiting : Setting → State → (worker sender : ℕ) → Type 0
 HasNothingWaiting s x worker sender = worker < s.workers → sender ≤ s.workers → x.waits worker sender ≡ 0
 
--- From the state x the command prints this text, and leaves this state: that after the engine's step which it names, or x itself; or the
--- event that it took is given up, and the engine stopped; or one batch fewer waits.
+-- From the state x the command prints this text and leaves this state: the one after the engine's step that it names; or x itself; or the one after
+-- the event that it took is abandoned and the engine stopped; or one with one batch fewer waiting.
 pub data Does (s : Setting) (x : State) : Command → State → (text : List ℕ) → Type 0 where
   does_feed : (name : List ℕ) (fields : List ℤ) (i : ℕ) (waits : Waits) → IsInput s.inputs name i (length fields) → IsRecord fields → Allowed (net_of s) x.world (Step.feed i (fields ∷ []))
       → FeedPosts s x (record { world = after_step (net_of s) x.world (Step.feed i (fields ∷ [])); waits = waits }) → Does s x (Command.feed name fields) (record { world = after_step (net_of s) x.world (Step.feed i (fields ∷ [])); waits = waits }) []

@@ -1,4 +1,4 @@
--- What a line's call leaves.
+-- What the call for each line does.
 use Rattle.std.specs.Prelude.{Bool, true, false, codes, ◌≡◌, ◌<◌, ◌≤◌, ◌⊎◌, ℕ, List, [], length, Option, Result, Ok, Err, slice_get, slice_index_or, Some, None}
 use Rattle.semantics.specs.Multiset.{Record}
 use Rattle.semantics.specs.Query.{Input}
@@ -28,24 +28,24 @@ abbrev pub word_of : Bool → List ℕ
 word_of true = codes " passed"
 word_of false = codes " open"
 
--- a number tells the refusal; want of memory has none
+-- a code gives the refusal; want of memory has none
 abbrev pub told_by : Option ℕ → Refusal
 told_by (Some code) = refusal.Step code
 told_by None = refusal.NoMemory
 
--- how a refusal of the board is told
+-- the refusal of a line for a refusal of the board
 abbrev pub refusal_of : StepRefusal → Refusal
 refusal_of r = told_by (refusal_code r)
 
--- where a graph's schedule runs
+-- the setting of a graph's schedule
 abbrev pub setting_on : ViewKind → GraphValue → (workers : ℕ) → Setting
 setting_on kind g n = record { graph = shown_graph g; workers = n; views = kind; inputs = shown_inputs g; outputs = shown_names g }
 
--- where the schedule of a board runs whose views may be late or not
+-- the setting of the schedule of a board, whose views may be late or not
 abbrev pub setting_of : (late : Bool) → Shown → Setting
 setting_of late s = setting_on (kind_of late) s.graph (length s.sides)
 
--- this waits on the board, for each worker of each sender
+-- the board has this many batches waiting, for each worker and sender
 abbrev pub ShowsWaits : BoardShown → Waits → Type 0
 ShowsWaits b waits = (worker sender : ℕ) → worker < length b.shown.sides → sender ≤ length b.shown.sides → waits_for b worker sender ≡ waits worker sender
 
@@ -61,7 +61,7 @@ pub record AreInputsOf (g : GraphValue) (inputs : List Input) : Type 0 where
   pub few : input_count (shown_graph g) ≤ 4096
   pub arities : (i : ℕ) (input : Input) → slice_get inputs i ≡ Some input → slice_index_or (shown_arities g) i 0 ≡ input.arity
 
--- the first input of that name has this number and arity; the greatest number is for a name that no input has
+-- the first input of that name has this number and arity; a name that no input has gets the greatest number
 abbrev pub IsNumbered : List Input → List ℕ → ℕ × ℕ → Type 0
 IsNumbered inputs name p = IsInput inputs name p.0 p.1 ⊎ (IsAbsent inputs name × (p.0 ≡ 4294967295))
 
@@ -71,14 +71,14 @@ pub record Stays (s t : Shown) : Type 0 where
   pub workers : length t.sides ≡ length s.sides
   pub tables : tables t ≡ tables s
 
--- from the state x the command leads to a state that the board shows then, with just what its workers hold in hand
+-- from the state x the command leads to a state that the board shows then, and in hand is exactly what its workers hold
 pub record Led (late : Bool) (b c : BoardShown) (hand : List (Option Pass)) (command : Command) (text : List ℕ) (x : State) : Type 0 where
   pub after : State
   pub shows : ShowsState c after
   pub hand_after : HoldsAll after.world (length b.shown.sides) hand
   pub does : Does (setting_of late b.shown) x command after text
 
--- the same from whatever state the board showed
+-- the same from any state that the board showed
 pub record Leads (late : Bool) (b c : BoardShown) (old new : List (Option Pass)) (command : Command) (text : List ℕ) : Type 0 where
   pub stays : Stays b.shown c.shown
   pub led : (x : State) → ShowsState b x → HoldsAll x.world (length b.shown.sides) old → Led late b c new command text x
@@ -89,7 +89,7 @@ Answers late b c old new command (Ok _) = Leads late b c old new command []
 Answers late b c old new command (Err (refusal.Step code)) = Leads late b c old new command (refusal_line code)
 Answers late b c old new command (Err refusal.NoMemory) = Stays b.shown c.shown
 
--- the command is no question
+-- the command isn't a question
 abbrev pub IsStep : Command → Type 0
 IsStep (Command.feed input fields) = Unit {0}
 IsStep (Command.seal input) = Unit {0}
@@ -100,7 +100,7 @@ IsStep (Command.deliver worker choice) = Unit {0}
 IsStep (Command.print epoch) = ⊥
 IsStep (Command.apply worker sender) = Unit {0}
 
--- the event was out on the board, and a commit ended it, and posted its changes
+-- the event was out on the board; a commit ended it and posted its changes
 pub record Ends (late : Bool) (b : BoardShown) (p : Pass) (c : BoardShown) : Type 0 where
   pub holds : Holds b.shown p
   pub out : ℕ → List Record
@@ -108,7 +108,7 @@ pub record Ends (late : Bool) (b : BoardShown) (p : Pass) (c : BoardShown) : Typ
   pub posts : Posts late p.worker b c
   pub stays : Stays b.shown c.shown
 
--- the event was out on the board, and was given up, which stopped the board and posted nothing
+-- the event was out on the board; it was abandoned, which stopped the board and posted nothing
 pub record IsGivenUp (b : BoardShown) (p : Pass) (c : BoardShown) : Type 0 where
   pub holds : Holds b.shown p
   pub goes : Goes b.shown (Step.abandon p.worker p.job.happening) c.shown

@@ -5,16 +5,16 @@ use Rattle.machine.specs.Step.{put}
 use Rattle.schedule.specs.declared.verb.ViewKind.{ViewKind}
 use Rattle.schedule.specs.declared.verb.ViewKind.TheVariants.{Shared, Local}
 
--- how many batches wait for a worker, by sender; the senders are the workers and, by the number of workers, whoever feeds, seals and closes
+-- how many batches wait for a worker, by sender; the senders are the workers and, by the number of workers, the feeder
 abbrev pub Waits : Type 0
 Waits = (worker sender : ℕ) → ℕ
 
--- what a line goes on from: the engine's world, and what waits
+-- the state from which a line goes on: the engine's world, and what waits
 pub record State : Type 0 where
   pub world : World
   pub waits : Waits
 
--- as a schedule begins: the engine's opening world, and nothing waits
+-- the state in which a schedule begins: the engine's opening world, and nothing waits
 abbrev pub at_first : State
 at_first = record { world = opening; waits = λ worker sender. 0 }
 
@@ -23,12 +23,12 @@ abbrev pub kind_of : (late : Bool) → ViewKind
 kind_of false = Shared
 kind_of true = Local
 
--- the worker sees all that was posted: nothing waits for it of any of the workers or the feeder. Where workers share one view, each does.
+-- the worker sees everything that was posted: no batch of any worker or the feeder waits for it; with one shared view, every worker does
 abbrev pub SeesAll : ViewKind → (workers : ℕ) → Waits → (worker : ℕ) → Type 0
 SeesAll Shared n waits worker = Unit {0}
 SeesAll Local n waits worker = (sender : ℕ) → sender ≤ n → waits worker sender ≡ 0
 
--- what a batch adds to what waits of a sender: one of who posts it, where workers have views of their own
+-- what a batch adds to what waits from a sender: one from the sender that posts it, if each worker has its own view
 abbrev pub added : ViewKind → (by sender : ℕ) → ℕ
 added Shared by sender = 0
 added Local by sender = cond (sender == by) 1 0
@@ -37,6 +37,6 @@ added Local by sender = cond (sender == by) 1 0
 abbrev pub posted : ViewKind → (by : ℕ) → Waits → Waits
 posted kind by waits = λ worker sender. waits worker sender + added kind by sender
 
--- so many batches of the sender wait for the worker now
+-- this many batches of the sender wait for the worker now
 abbrev pub waiting_now : Waits → (worker sender number : ℕ) → Waits
 waiting_now waits worker sender number = put waits worker (put (waits worker) sender number)

@@ -1,4 +1,4 @@
-//! What is printed.
+//! Writes what a schedule prints.
 
 ghost use Rattle.std.specs.Prelude.{◌≡◌, ◌++◌, ℕ, List, OnOk, decimal, map};
 ghost use Rattle.board.specs.Promises.{IsOutputPlace};
@@ -46,7 +46,7 @@ fn passed_word(has_passed: bool) -> &'static [u8]
     if has_passed { b" passed" } else { b" open" }
 }
 
-/// Appends the line of an epoch, at an output that is told by a label.
+/// Appends the line of an epoch at an output, with the output's label.
 fn push_heading(
     out: &mut Vec<u8>,
     epoch: u64,
@@ -97,7 +97,7 @@ fn push_output<V: Views>(
     Ok(())
 }
 
-/// Appends, of each output, whether the epoch has passed there, as worker 0 sees it, and what was emitted for it so far.
+/// Appends, for each output, whether the epoch has passed there, as worker 0 sees it, and what was emitted for it so far.
 pub fn push_answer<V: Views>(
     alloc: Global,
     board: &Board<V>,

@@ -1,4 +1,4 @@
-//! Lines that name an input.
+//! Lines of a schedule that name an input.
 
 ghost use Rattle.std.specs.Prelude.{◌≡◌, ◌<◌, length, map, ◌≤◌, ◌∷◌, [], List, Option, IfOk, IfSome, IfNone};
 ghost use Rattle.collector.specs.Said.{plain};
@@ -15,7 +15,7 @@ use rows::Batch;
 use std::alloc::{AllocError, Global};
 use views::Views;
 
-/// The number of an input and its arity; a name that no input has gets the greatest number.
+/// The number of an input and its arity. A name that no input has gets the greatest number.
 fn numbered(inputs: &[Declared<'_>], name: &[u8]) -> (u32, u64)
     requires few { length inputs.now ≤ 4096 }
     ensures { IsNumbered (map plain inputs.now) name.now result }
@@ -36,7 +36,7 @@ fn batch_of(alloc: Global, row: Record) -> Result<Batch, AllocError>
     }
 }
 
-/// The record of an input of that arity; `None` where the fields make none.
+/// A record for an input of that arity; `None` if the fields don't make one.
 fn record_of(fields: &[i64], arity: u64) -> Option<Record>
     ensures found { IfSome result (λ r. (r ≡ fields.now) × MakeRecord arity fields.now) }
     ensures none { IfNone result (MakeRecord arity fields.now → ⊥) }

@@ -1,4 +1,4 @@
-//! What a schedule has in hand.
+//! The events that a schedule has in hand: claimed and computed, but not committed.
 
 ghost use Rattle.std.specs.Prelude.{◌≡◌, ℕ, IfOk, None, Option, Some, replicate};
 ghost use Rattle.events.specs.Jobs.{Pass};
@@ -10,7 +10,7 @@ use events::Done;
 use std::alloc::{AllocError, Global};
 use views::Views;
 
-/// Nothing in hand, for so many workers.
+/// Nothing in hand, for that many workers.
 pub fn empty_hand(alloc: Global, workers: u32) -> Result<Vec<Option<Done>>, AllocError>
     ensures { IfOk result (λ hand. hand.items ≡ replicate workers None) }
 {
@@ -22,7 +22,7 @@ pub fn empty_hand(alloc: Global, workers: u32) -> Result<Vec<Option<Done>>, Allo
     Ok(hand)
 }
 
-/// Gives up all that is in hand.
+/// Abandons everything in hand.
 pub fn give_up<V: Views>(board: &mut Board<V>, hand: Vec<Option<Done>>)
     requires { (k : ℕ) (p : Pass) → in_hand hand.items k ≡ Some p → IsOf board.old.shown p }
 {

@@ -1,4 +1,4 @@
-//! A schedule, done.
+//! Runs a schedule.
 
 ghost use Rattle.std.specs.Prelude.{◌≡◌, ◌++◌, ℕ, List, map, length, IfOk, OnOk};
 ghost use Rattle.collector.specs.Said.{plain};
@@ -20,7 +20,7 @@ use schedule::Line;
 use std::alloc::{AllocError, Global};
 use views::Views;
 
-/// Does what a line other than a question tells.
+/// Does what a line says that isn't a question.
 fn step<V: Views>(
     alloc: Global,
     board: &mut Board<V>,
@@ -46,7 +46,7 @@ fn step<V: Views>(
     }
 }
 
-/// Does what a line tells, and appends what it prints.
+/// Does what a line says, and appends what it prints.
 fn replay_line<V: Views>(
     alloc: Global,
     board: &mut Board<V>,
@@ -72,7 +72,7 @@ fn replay_line<V: Views>(
     }
 }
 
-/// Does what the lines tell, one after another; the text of what they print.
+/// Does what the lines say, one after another, and gives the text of what they print.
 fn replay_lines<V: Views>(
     alloc: Global,
     board: &mut Board<V>,
@@ -92,12 +92,12 @@ fn replay_lines<V: Views>(
     Ok(out)
 }
 
-/// Does a schedule on a board whose workers hold nothing: its lines, one after another, each in the caller's thread. What is still in
-/// hand at the end is given up.
+/// Runs a schedule on a board whose workers hold nothing: does its lines one after another in the caller's thread. Events that are still in hand at
+/// the end are abandoned.
 ///
-/// The answer is the text of what the lines print. A step that the board refuses prints its number and changes nothing, and the
-/// schedule goes on. Where a count would be too large, the event that was taken is given up, which stops the board, the line prints 39, and
-/// the schedule goes on too. Want of memory ends it.
+/// The answer is the text of what the lines print. A step that the board refuses prints its code and changes nothing, and the schedule goes on. If a
+/// count would be too large, the event that was taken is abandoned, which stops the board; the line prints 39, and the schedule goes on too. Running
+/// out of memory ends it.
 pub fn replay<V: Views>(
     alloc: Global,
     board: Board<V>,

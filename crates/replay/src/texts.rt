@@ -1,4 +1,4 @@
-//! From a schedule's text to the answer's.
+//! From a schedule's text to the text of its answer.
 
 ghost use Rattle.std.specs.Prelude.{◌≡◌, ◌<◌, ◌≤◌, map, IfOk, IfErr};
 ghost use Rattle.graph.specs.Shown.{shown_inputs};
@@ -24,7 +24,7 @@ use std::alloc::{AllocError, Global};
 use std::sync::Arc;
 use views::{Direct, LocalViews, Views};
 
-/// The graph's inputs are its own, with the arities of its vertices. Nothing is done.
+/// The inputs that a graph declares are its input vertices, with their arities. Nothing is done.
 pub fn law_graph_inputs(graph: &Graph)
     ensures { AreInputsOf graph.now (shown_inputs graph.now) }
 {
@@ -33,7 +33,7 @@ pub fn law_graph_inputs(graph: &Graph)
     let _ = graph.vertex_count();
 }
 
-/// The inputs of a graph as the readers of texts take them.
+/// The inputs of a graph, as the readers of texts need them.
 fn declared<'a>(alloc: Global, inputs: &'a [DeclaredInput]) -> Result<Vec<Declared<'a>>, AllocError>
     ensures { IfOk result (λ v. map plain v.items ≡ map input_of inputs.entry.now) }
 {
@@ -66,8 +66,8 @@ fn replay_new<V: Views>(
     }
 }
 
-/// Does a schedule on a new board that runs the graph on 1 to 64 workers, who share one view or have views of their own; the text of what
-/// it prints. The schedule is read whole first. It is refused by its first faulty line, and then nothing is done.
+/// Runs a schedule on a new board for the graph and 1 to 64 workers, which share one view or have one each, and gives the text of what it prints. The
+/// schedule is read whole first; if it has a faulty line it is refused by the first one, and nothing is done.
 pub fn replay_text(
     alloc: Global,
     graph: Graph,

@@ -1,4 +1,4 @@
-//! Lines that name a worker.
+//! Lines of a schedule that name a worker.
 
 ghost use Rattle.std.specs.Prelude.{◌≡◌, ◌<◌, ◌⊎◌, List, Option, Some, None, length, slice_set, IfOk, IfErr, OnErr, OnOk};
 ghost use Rattle.events.specs.Jobs.{Pass};
@@ -14,8 +14,7 @@ use events::{ComputeFault, Done, Work};
 use std::alloc::Global;
 use views::Views;
 
-/// Computes an event that was taken. Where that is refused, for want of memory or a count that is too large, it is given up, and the board
-/// stopped.
+/// Computes an event that was taken. If that is refused, for want of memory or a count that is too large, abandons the event, which stops the board.
 fn computed<V: Views>(alloc: Global, board: &mut Board<V>, work: Work) -> Result<Done, Refusal>
     requires own { IsOf board.old.shown work.0 }
     ensures done { IfOk result (λ d. d ≡ work.0) }
@@ -38,7 +37,7 @@ fn computed<V: Views>(alloc: Global, board: &mut Board<V>, work: Work) -> Result
     }
 }
 
-/// Ends an event that was computed; without memory it is given up, and the board stopped.
+/// Ends a computed event; without memory, abandons it, which stops the board.
 fn ended<V: Views>(board: &mut Board<V>, done: Done) -> Result<(), Refusal>
     requires own { IsOf board.old.shown done }
     ensures ends { OnOk result (Ends V.late board.old done board.new) }
@@ -68,7 +67,7 @@ fn keep<V: Views>(board: &mut Board<V>, hand: &mut [Option<Done>], worker: u32, 
     }
 }
 
-/// The worker takes its choice of that number, computes it, and has it in hand. It is given up where a count would be too large.
+/// The worker takes its choice of that number, computes it, and keeps it in hand. Abandons it if a count would be too large.
 pub fn take<V: Views>(
     alloc: Global,
     board: &mut Board<V>,
@@ -94,7 +93,7 @@ pub fn take<V: Views>(
     Ok(())
 }
 
-/// Ends what the worker has in hand.
+/// Ends the event that the worker has in hand.
 pub fn commit<V: Views>(
     board: &mut Board<V>,
     hand: &mut [Option<Done>],
@@ -114,7 +113,7 @@ pub fn commit<V: Views>(
     }
 }
 
-/// The worker takes its choice of that number, computes it, and commits it. It is given up where a count would be too large.
+/// The worker takes its choice of that number, computes it, and commits it. Abandons it if a count would be too large.
 pub fn deliver<V: Views>(
     alloc: Global,
     board: &mut Board<V>,
