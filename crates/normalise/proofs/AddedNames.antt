@@ -1,10 +1,10 @@
 -- Sets of names to which the free names of relations are added.
 use Rattle.std.proofs.Common.{◌≡◌, ◌⊎◌, ◌↔◌, ◌<◌, ◌-◌, length, take, drop, get_or, map, arith, Bool, true, false, cond, not, List, [], ◌∷◌, ◌++◌, filter, refl, sym, ap, subst, inl, inr, ◌∙◌, IsTrue}
-use Rattle.std.proofs.lemmas.Grind.{common_steps}
 use Rattle.semantics.specs.Multiset.{IsAmong}
 use Rattle.expr_tree.specs.declared.relation.SetOperator.{SetOperator}
 use Rattle.expr_tree.specs.declared.relation.SetOperator.TheVariants as operation
 use Rattle.expr_tree.specs.Plain.{plain_set_operation}
+use Rattle.expr_tree.proofs.Fronts.{rest}
 use Rattle.semantics.specs.Query.{Name, Rel}
 use Rattle.semantics.specs.Meaning.{same_name}
 use Rattle.semantics.specs.FreeNames.{free, other_than}
@@ -62,9 +62,6 @@ adds_set_operation operation.Except p q before between after f g = adds_both (fr
 adds_set_operation operation.Intersect p q before between after f g = adds_both (free p) (free q) before between after f g
 
 -- ---- a list by its first element
-
-rest : {A : Type 0} (x : A) (xs : List A) → take (length (x ∷ xs) - 1) xs ≡ xs
-rest x xs = grind (arith, common_steps)
 
 -- the first, and then the others
 pub first_then : {A B : Type 0} (f : A → B) (xs : List A) (x : A) → 0 < length xs → x ≡ get_or xs 0 x → map f xs ≡ f x ∷ map f (take (length xs - 1) (drop 1 xs))

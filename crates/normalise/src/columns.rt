@@ -1,10 +1,11 @@
 //! Whether scalars together use each column at most once, so that no scalar that replaces a column is copied.
 
-ghost use Rattle.std.specs.Prelude.{◌≡◌, ◌<◌, ◌++◌, [], ◌∷◌, IsTrue, IsFalse, map};
+ghost use Rattle.std.specs.Prelude.{◌<◌, [], ◌∷◌, IsTrue, IsFalse};
 ghost use Rattle.std.specs.List.{AllByRecursion};
 ghost use Rattle.semantics.specs.Limits.{max_fields};
 ghost use Rattle.semantics.specs.Normal.{UsesOnce, uses, uses_all};
 ghost use Rattle.expr_tree.specs.Plain.{plain_scalar};
+ghost use Rattle.expr_tree.specs.PlainLists.{plain_scalars};
 ghost use Rattle.expr_tree.specs.Views.{scalar_tree};
 ghost use Rattle.normalise.specs.Marks.{Marks, Repeats};
 
@@ -40,8 +41,8 @@ fn mark_columns<A: Allocator>(scalar: &Scalar<A>, seen: &mut [bool]) -> bool
 
 /// The same of scalars together.
 fn mark_all<A: Allocator>(scalars: &[Scalar<A>], seen: &mut [bool]) -> bool
-    ensures marked { IsTrue result → Marks (uses_all (map plain_scalar (map scalar_tree scalars.now))) seen.new seen.old }
-    ensures repeated { IsFalse result → Repeats (uses_all (map plain_scalar (map scalar_tree scalars.now))) seen.old }
+    ensures marked { IsTrue result → Marks (uses_all (plain_scalars scalars.now)) seen.new seen.old }
+    ensures repeated { IsFalse result → Repeats (uses_all (plain_scalars scalars.now)) seen.old }
 {
     match scalars {
         [] => true,
@@ -52,8 +53,8 @@ fn mark_all<A: Allocator>(scalars: &[Scalar<A>], seen: &mut [bool]) -> bool
 /// Whether the scalars together use each column at most once. They are over a relation, whose records have at most 16 columns;
 /// of scalars with a column beyond, the answer is no.
 pub(crate) fn use_once<A: Allocator>(scalars: &[Scalar<A>]) -> bool
-    ensures once { IsTrue result → UsesOnce (map plain_scalar (map scalar_tree scalars.now)) }
-    ensures again { IsFalse result → AllByRecursion (λ c. c < max_fields) (uses_all (map plain_scalar (map scalar_tree scalars.now))) → UsesOnce (map plain_scalar (map scalar_tree scalars.now)) → ⊥ }
+    ensures once { IsTrue result → UsesOnce (plain_scalars scalars.now) }
+    ensures again { IsFalse result → AllByRecursion (λ c. c < max_fields) (uses_all (plain_scalars scalars.now)) → UsesOnce (plain_scalars scalars.now) → ⊥ }
 {
     let mut seen = [false; MAX_FIELDS];
     mark_all(scalars, &mut seen)

@@ -1,11 +1,12 @@
 //! The names that a relation takes from outside.
 
-ghost use Rattle.std.specs.Prelude.{OnOk, map};
+ghost use Rattle.std.specs.Prelude.{OnOk};
 ghost use Rattle.std.specs.HashSet.{contains};
 ghost use Rattle.semantics.specs.FreeNames.{free, free_in_outputs};
 ghost use Rattle.semantics.specs.Meaning.{same_name};
-ghost use Rattle.expr_tree.specs.Plain.{plain_output, plain_rel};
-ghost use Rattle.expr_tree.specs.Views.{output_tree, rel_tree};
+ghost use Rattle.expr_tree.specs.Plain.{plain_rel};
+ghost use Rattle.expr_tree.specs.PlainLists.{plain_outputs};
+ghost use Rattle.expr_tree.specs.Views.{rel_tree};
 ghost use Rattle.normalise.specs.Reached.{Adds};
 
 use expr_tree::{NoMemory, Output, Rel};
@@ -63,7 +64,7 @@ pub(crate) fn add_free_in_outputs<A: Allocator + Copy>(
     names: &mut Names<A>,
     outputs: &[Output<A>],
 ) -> Result<(), NoMemory>
-    ensures { OnOk result (Adds (free_in_outputs (map plain_output (map output_tree outputs.now))) (contains same_name names.new) (contains same_name names.old)) }
+    ensures { OnOk result (Adds (free_in_outputs (plain_outputs outputs.now)) (contains same_name names.new) (contains same_name names.old)) }
 {
     match outputs {
         [] => Ok(()),

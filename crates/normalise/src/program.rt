@@ -1,14 +1,15 @@
 //! Programs rewritten: the outputs, then the lets from the last to the first, of which those that nothing reaches are dropped.
 
-ghost use Rattle.std.specs.Prelude.{◌≡◌, ◌≤◌, ℕ, List, IfOk, OnOk, map};
+ghost use Rattle.std.specs.Prelude.{◌≡◌, ◌≤◌, ℕ, List, IfOk, OnOk};
 ghost use Rattle.std.specs.List.{AllZip};
 ghost use Rattle.semantics.specs.Meaning.{program_meaning};
 ghost use Rattle.semantics.specs.Multiset.{Record};
 ghost use Rattle.semantics.specs.Normal.{NormalProgram};
 ghost use Rattle.semantics.specs.Rewriting.{RewritesTo};
 ghost use Rattle.semantics.specs.Size.{program_size};
-ghost use Rattle.expr_tree.specs.Plain.{plain_let, plain_output, plain_program};
-ghost use Rattle.expr_tree.specs.Views.{let_tree, output_tree};
+ghost use Rattle.expr_tree.specs.Plain.{plain_output, plain_program};
+ghost use Rattle.expr_tree.specs.PlainLists.{plain_lets, plain_outputs};
+ghost use Rattle.expr_tree.specs.Views.{output_tree};
 ghost use Rattle.typing.specs.Shown.{output_arities, typed_program};
 ghost use Rattle.normalise.specs.Reached.{IsReachedOf};
 ghost use Rattle.normalise.specs.Rewritten.{IsRewrittenOutput};
@@ -33,7 +34,7 @@ fn rewrite_outputs<A: Allocator + Copy>(
     alloc: A,
     outputs: &mut Vec<Output<A>, A>,
 ) -> Result<(), NoMemory>
-    ensures { OnOk result (AllZip IsRewrittenOutput (map plain_output (map output_tree outputs.new.items)) (map plain_output (map output_tree outputs.old.items))) }
+    ensures { OnOk result (AllZip IsRewrittenOutput (plain_outputs outputs.new.items) (plain_outputs outputs.old.items)) }
 {
     for output in outputs.iter_mut() {
         rewrite_output(alloc, output)?;
@@ -46,7 +47,7 @@ fn reached_lets<A: Allocator + Copy>(
     mut lets: Vec<Let<A>, A>,
     outputs: &[Output<A>],
 ) -> Result<Vec<Let<A>, A>, NoMemory>
-    ensures { IfOk result (λ kept. IsReachedOf (map plain_let (map let_tree kept.items)) (map plain_let (map let_tree lets.items)) (map plain_output (map output_tree outputs.now))) }
+    ensures { IfOk result (λ kept. IsReachedOf (plain_lets kept.items) (plain_lets lets.items) (plain_outputs outputs.now)) }
 {
     let alloc = *lets.allocator();
     let mut reached: Names<A> = Names::new(alloc);

@@ -1,18 +1,19 @@
 //! Relations rewritten: the parts first, then the rules at each node, which find the parts done.
 
-ghost use Rattle.std.specs.Prelude.{IfOk, IsFalse, IsTrue, map};
+ghost use Rattle.std.specs.Prelude.{IfOk, IsFalse, IsTrue};
 ghost use Rattle.std.specs.List.{AllByRecursion};
 ghost use Rattle.semantics.specs.Query as query;
 ghost use Rattle.semantics.specs.Normal.{IsSet, NormalCond, NormalScalar};
-ghost use Rattle.expr_tree.specs.Plain.{plain_cond, plain_rel, plain_scalar};
-ghost use Rattle.expr_tree.specs.Views.{cond_tree, rel_tree, scalar_tree};
+ghost use Rattle.expr_tree.specs.Plain.{plain_cond, plain_rel};
+ghost use Rattle.expr_tree.specs.PlainLists.{plain_scalars};
+ghost use Rattle.expr_tree.specs.Views.{cond_tree, rel_tree};
 ghost use Rattle.normalise.specs.Rewritten.{IsRewritten, Reduced};
 
 use crate::columns::use_once;
 use crate::replacement::replace_all;
 use crate::scalars::{fold_all, folded_cond};
 use expr_tree::{Cond, Connective, NoMemory, Rel, Scalar, SetOperator};
-use record_core::Span;
+use record_core::{Name, Span};
 use std::alloc::Allocator;
 
 /// A `select` of a rewritten relation. Of a `select` it becomes one, where no scalar is copied, and is tried again on what that was of.
@@ -21,8 +22,8 @@ fn select_of<A: Allocator>(
     mut of: Box<Rel<A>, A>,
     mut scalars: Vec<Scalar<A>, A>,
 ) -> Rel<A>
-    ensures { Reduced (plain_rel (rel_tree of.value)) → AllByRecursion NormalScalar (map plain_scalar (map scalar_tree scalars.items)) →
-        IsRewritten (plain_rel (rel_tree result)) (query.Rel.select (plain_rel (rel_tree of.value)) (map plain_scalar (map scalar_tree scalars.items))) }
+    ensures { Reduced (plain_rel (rel_tree of.value)) → AllByRecursion NormalScalar (plain_scalars scalars.items) →
+        IsRewritten (plain_rel (rel_tree result)) (query.Rel.select (plain_rel (rel_tree of.value)) (plain_scalars scalars.items)) }
 {
     match of.take() {
         Rel::Select(inner_span, inner, mut named) => {
@@ -50,7 +51,8 @@ fn where_of<A: Allocator + Copy>(
 ) -> Result<Rel<A>, NoMemory>
     requires reduced { Reduced (plain_rel (rel_tree of.value)) }
     requires normal { NormalCond (plain_cond (cond_tree condition)) }
-    ensures { IfOk result (λ made. IsRewritten (plain_rel (rel_tree made)) (query.Rel.filter (plain_rel (rel_tree of.value)) (plain_cond (cond_tree condition)))) }
+    ensures { IfOk result (λ made. IsRewritten (plain_rel (rel_tree made))
+        (query.Rel.filter (plain_rel (rel_tree of.value)) (plain_cond (cond_tree condition)))) }
 {
     match of.take() {
         Rel::Where(_, inner, first) => {
@@ -122,10 +124,7 @@ pub(crate) fn rewritten<A: Allocator + Copy>(alloc: A, relation: Rel<A>) -> Resu
             let of = rewritten_in_box(alloc, of)?;
             Ok(Rel::Group(span, of, keys, aggregates))
         }
-        Rel::Distinct(span, of) => {
-            let of = rewritten_in_box(alloc, of)?;
-            Ok(distinct_of(span, of))
-        }
+        Rel::Distinct(span, of) => Ok(distinct_of(span, rewritten_in_box(alloc, of)?)),
         Rel::Iterate {
             span,
             turns_span,
@@ -134,23 +133,39 @@ pub(crate) fn rewritten<A: Allocator + Copy>(alloc: A, relation: Rel<A>) -> Resu
             name,
             start,
             body,
-        } => {
-            let start = rewritten_in_box(alloc, start)?;
-            if turns == 0 {
-                return Ok(Box::into_inner(start));
-            }
-            let body = rewritten_in_box(alloc, body)?;
-            Ok(Rel::Iterate {
-                span,
-                turns_span,
-                turns,
-                name_span,
-                name,
-                start,
-                body,
-            })
-        }
+        } => rewritten_loop(alloc, span, turns_span, turns, name_span, name, start, body),
     }
+}
+
+/// The loop rewritten: its start if it has no turns, and else its start and its body.
+#[cycle(rewrite)]
+fn rewritten_loop<A: Allocator + Copy>(
+    alloc: A,
+    span: Span,
+    turns_span: Span,
+    turns: u64,
+    name_span: Span,
+    name: Name,
+    start: Box<Rel<A>, A>,
+    body: Box<Rel<A>, A>,
+) -> Result<Rel<A>, NoMemory>
+    ensures { IfOk result (λ made. IsRewritten (plain_rel (rel_tree made))
+        (query.Rel.iterate turns name (plain_rel (rel_tree start.value)) (plain_rel (rel_tree body.value)))) }
+{
+    let start = rewritten_in_box(alloc, start)?;
+    if turns == 0 {
+        return Ok(Box::into_inner(start));
+    }
+    let body = rewritten_in_box(alloc, body)?;
+    Ok(Rel::Iterate {
+        span,
+        turns_span,
+        turns,
+        name_span,
+        name,
+        start,
+        body,
+    })
 }
 
 /// The relation in its box.

@@ -1,11 +1,12 @@
 //! Columns replaced by the scalars that they name. The scalars are moved, so each column may stand at one place only; what is made is
 //! folded on the way, and what was folded before isn't looked at again.
 
-ghost use Rattle.std.specs.Prelude.{◌≡◌, ◌∷◌, [], map};
+ghost use Rattle.std.specs.Prelude.{◌∷◌, [], map};
 ghost use Rattle.std.specs.List.{AllByRecursion, AllZip};
 ghost use Rattle.semantics.specs.Normal as normal;
 ghost use Rattle.semantics.specs.Normal.{NormalScalar, uses, uses_all};
 ghost use Rattle.expr_tree.specs.Plain.{plain_scalar};
+ghost use Rattle.expr_tree.specs.PlainLists.{plain_scalars};
 ghost use Rattle.expr_tree.specs.Views.{scalar_tree};
 ghost use Rattle.normalise.specs.Replaced.{MovesOut, Once, named_by};
 ghost use Rattle.normalise.specs.Rewritten.{IsFolded};
@@ -17,9 +18,9 @@ use std::alloc::Allocator;
 
 /// The scalar that a column names, moved out of its place; 0 where there is none, which no typed query asks.
 fn moved_out<A: Allocator>(span: Span, column: u64, by: &mut [Scalar<A>]) -> Scalar<A>
-    ensures folded { AllByRecursion NormalScalar (map plain_scalar (map scalar_tree by.old)) →
-        IsFolded (plain_scalar (scalar_tree result)) (named_by (map plain_scalar (map scalar_tree by.old)) column) }
-    ensures moved { MovesOut (column ∷ []) (map plain_scalar (map scalar_tree by.new)) (map plain_scalar (map scalar_tree by.old)) }
+    ensures folded { AllByRecursion NormalScalar (plain_scalars by.old) →
+        IsFolded (plain_scalar (scalar_tree result)) (named_by (plain_scalars by.old) column) }
+    ensures moved { MovesOut (column ∷ []) (plain_scalars by.new) (plain_scalars by.old) }
 {
     let index = column as usize;
     if index < by.len() {
@@ -32,9 +33,9 @@ fn moved_out<A: Allocator>(span: Span, column: u64, by: &mut [Scalar<A>]) -> Sca
 /// The scalar with each column replaced by the scalar that it names, folded.
 #[cycle(replace)]
 fn replaced<A: Allocator>(scalar: Scalar<A>, by: &mut [Scalar<A>]) -> Scalar<A>
-    ensures folded { AllByRecursion NormalScalar (map plain_scalar (map scalar_tree by.old)) → Once (uses (plain_scalar (scalar_tree scalar))) →
-        IsFolded (plain_scalar (scalar_tree result)) (normal.replaced (map plain_scalar (map scalar_tree by.old)) (plain_scalar (scalar_tree scalar))) }
-    ensures moved { MovesOut (uses (plain_scalar (scalar_tree scalar))) (map plain_scalar (map scalar_tree by.new)) (map plain_scalar (map scalar_tree by.old)) }
+    ensures folded { AllByRecursion NormalScalar (plain_scalars by.old) → Once (uses (plain_scalar (scalar_tree scalar))) →
+        IsFolded (plain_scalar (scalar_tree result)) (normal.replaced (plain_scalars by.old) (plain_scalar (scalar_tree scalar))) }
+    ensures moved { MovesOut (uses (plain_scalar (scalar_tree scalar))) (plain_scalars by.new) (plain_scalars by.old) }
 {
     match scalar {
         Scalar::Literal(span, number) => Scalar::Literal(span, number),
@@ -57,9 +58,9 @@ fn replaced_in_box<A: Allocator>(
     mut place: Box<Scalar<A>, A>,
     by: &mut [Scalar<A>],
 ) -> Box<Scalar<A>, A>
-    ensures folded { AllByRecursion NormalScalar (map plain_scalar (map scalar_tree by.old)) → Once (uses (plain_scalar (scalar_tree place.value))) →
-        IsFolded (plain_scalar (scalar_tree result.value)) (normal.replaced (map plain_scalar (map scalar_tree by.old)) (plain_scalar (scalar_tree place.value))) }
-    ensures moved { MovesOut (uses (plain_scalar (scalar_tree place.value))) (map plain_scalar (map scalar_tree by.new)) (map plain_scalar (map scalar_tree by.old)) }
+    ensures folded { AllByRecursion NormalScalar (plain_scalars by.old) → Once (uses (plain_scalar (scalar_tree place.value))) →
+        IsFolded (plain_scalar (scalar_tree result.value)) (normal.replaced (plain_scalars by.old) (plain_scalar (scalar_tree place.value))) }
+    ensures moved { MovesOut (uses (plain_scalar (scalar_tree place.value))) (plain_scalars by.new) (plain_scalars by.old) }
 {
     let scalar = place.take();
     *place = replaced(scalar, by);
@@ -68,8 +69,8 @@ fn replaced_in_box<A: Allocator>(
 
 /// Replaces the columns of each of the scalars.
 pub(crate) fn replace_all<A: Allocator>(scalars: &mut Vec<Scalar<A>, A>, by: &mut [Scalar<A>])
-    ensures { AllByRecursion NormalScalar (map plain_scalar (map scalar_tree by.old)) → Once (uses_all (map plain_scalar (map scalar_tree scalars.old.items))) →
-        AllZip IsFolded (map plain_scalar (map scalar_tree scalars.new.items)) (map (normal.replaced (map plain_scalar (map scalar_tree by.old))) (map plain_scalar (map scalar_tree scalars.old.items))) }
+    ensures { AllByRecursion NormalScalar (plain_scalars by.old) → Once (uses_all (plain_scalars scalars.old.items)) →
+        AllZip IsFolded (plain_scalars scalars.new.items) (map (normal.replaced (plain_scalars by.old)) (plain_scalars scalars.old.items)) }
 {
     for scalar in scalars.iter_mut() {
         let before = scalar.take();

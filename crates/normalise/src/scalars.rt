@@ -1,10 +1,11 @@
 //! Scalars and conditions, with literals folded. No memory is taken: a node that stays keeps its box.
 
-ghost use Rattle.std.specs.Prelude.{◌≡◌, MatchOption, map};
+ghost use Rattle.std.specs.Prelude.{◌≡◌, MatchOption};
 ghost use Rattle.std.specs.List.{AllZip};
 ghost use Rattle.semantics.specs.Query as query;
 ghost use Rattle.semantics.specs.Normal.{IsLiteral, NormalScalar};
 ghost use Rattle.expr_tree.specs.Plain.{plain_cond, plain_operator, plain_scalar};
+ghost use Rattle.expr_tree.specs.PlainLists.{plain_scalars};
 ghost use Rattle.expr_tree.specs.Views.{cond_tree, scalar_tree};
 ghost use Rattle.normalise.specs.Rewritten.{IsFolded, IsFoldedCond};
 
@@ -30,7 +31,8 @@ pub(crate) fn operation<A: Allocator>(
     right: Box<Scalar<A>, A>,
 ) -> Scalar<A>
     ensures { NormalScalar (plain_scalar (scalar_tree left.value)) → NormalScalar (plain_scalar (scalar_tree right.value)) →
-        IsFolded (plain_scalar (scalar_tree result)) (plain_operator operator (plain_scalar (scalar_tree left.value)) (plain_scalar (scalar_tree right.value))) }
+        IsFolded (plain_scalar (scalar_tree result))
+        (plain_operator operator (plain_scalar (scalar_tree left.value)) (plain_scalar (scalar_tree right.value))) }
 {
     match (number(&*left), number(&*right)) {
         (Some(x), Some(y)) => Scalar::Literal(span, operate(operator, x, y)),
@@ -81,7 +83,7 @@ fn folded_in_box<A: Allocator>(mut place: Box<Scalar<A>, A>) -> Box<Scalar<A>, A
 
 /// Folds each of the scalars.
 pub(crate) fn fold_all<A: Allocator>(scalars: &mut Vec<Scalar<A>, A>)
-    ensures { AllZip IsFolded (map plain_scalar (map scalar_tree scalars.new.items)) (map plain_scalar (map scalar_tree scalars.old.items)) }
+    ensures { AllZip IsFolded (plain_scalars scalars.new.items) (plain_scalars scalars.old.items) }
 {
     for scalar in scalars.iter_mut() {
         let before = scalar.take();

@@ -26,21 +26,21 @@ rewritten-returns-in_ok-of-in-Group g t c =
     let of = c.in_ok-of-in-Group.ensures in
     rw c.in-Group.is (record { reached = reached_group _ _ _ _ of.reached; reduced = of.reduced })
 
-pub rewritten-returns-in_ok-of-in-Distinct : goal.rewritten-returns-in_ok-of-in-Distinct
-rewritten-returns-in_ok-of-in-Distinct g t c =
-    let of = c.in_ok-of-in-Distinct.ensures in
+pub rewritten-returns-in_ok-rewritten_in_box-in-Distinct : goal.rewritten-returns-in_ok-rewritten_in_box-in-Distinct
+rewritten-returns-in_ok-rewritten_in_box-in-Distinct g t c =
+    let of = c.in_ok-rewritten_in_box-in-Distinct.ensures in
     rw c.in-Distinct.is (rewritten_then _ _ _ c.distinct_of.ensures (reached_distinct _ _ of.reached))
 
-pub rewritten-returns-then-turns-eq0 : goal.rewritten-returns-then-turns-eq0
-rewritten-returns-then-turns-eq0 g t c =
-    let start = c.in_ok-start-in-Iterate.ensures in
-    rw (c.in-Iterate.is, c.into_inner.ensures) (rewritten_no_turns c.in-Iterate.turns c.in-Iterate.name _ _ _ c.if-turns-eq0.true start)
+pub rewritten_loop-returns-then-turns-eq0 : goal.rewritten_loop-returns-then-turns-eq0
+rewritten_loop-returns-then-turns-eq0 g t c =
+    let start = c.in_ok-start.ensures in
+    rw c.into_inner.ensures (rewritten_no_turns c.args.turns c.args.name _ _ _ c.if-turns-eq0.true start)
 
-pub rewritten-returns-in_ok-body-in-Iterate : goal.rewritten-returns-in_ok-body-in-Iterate
-rewritten-returns-in_ok-body-in-Iterate g t c =
-    let start = c.in_ok-start-in-Iterate.ensures in
-    let body = c.in_ok-body-in-Iterate.ensures in
-    rw c.in-Iterate.is (rewritten_iterate c.in-Iterate.turns c.in-Iterate.name _ _ _ _ c.if-turns-eq0.false start body)
+pub rewritten_loop-returns : goal.rewritten_loop-returns
+rewritten_loop-returns g t c =
+    let start = c.in_ok-start.ensures in
+    let body = c.in_ok-body.ensures in
+    rewritten_iterate c.args.turns c.args.name _ _ _ _ c.if-turns-eq0.false start body
 
 pub rewritten-returns-in-Named : goal.rewritten-returns-in-Named
 rewritten-returns-in-Named g t c = rw c.in-Named.is (record { reached = reached_itself _; reduced = tt })
