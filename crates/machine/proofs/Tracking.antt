@@ -1,4 +1,4 @@
--- What a tracker and a view of the active pointstamps may rest on, for the graph of a program.
+-- What a tracker and a view of the active pointstamps may rely on, for the graph of a program.
 use Rattle.std.proofs.Common.{◌≡◌, ◌<◌, ◌+◌, ◌↔◌, ℕ, List}
 use Rattle.semantics.specs.Multiset.{◌≈◌, IsPartOf}
 use Rattle.semantics.specs.Time.{Time}
