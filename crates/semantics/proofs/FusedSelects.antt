@@ -1,4 +1,4 @@
--- To fuse two selects makes no tree larger.
+-- Fusing two selects makes no tree larger.
 use Rattle.std.proofs.Common.{◌≡◌, ℕ, zero, suc, ◌+◌, ◌*◌, ◌≤◌, false, nat_eq, List, [], ◌∷◌, ◌++◌, map, length, slice_index_or, refl, ap, ◌∙◌, arith, pos, length-append}
 use Rattle.std.proofs.lemmas.Bool.Decides.{nat_tests}
 use Rattle.semantics.specs.Multiset.{one_if}

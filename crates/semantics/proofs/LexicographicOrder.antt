@@ -1,10 +1,10 @@
--- Lists of bounded length, in lexicographic order, have no descent without end; and the fixed point of equations that read only below.
+-- Lists of bounded length, in lexicographic order, have no infinite descent.
 use Rattle.std.proofs.Common.{◌≡◌, ℕ, zero, suc, ◌≤◌, ◌<◌, nat_lt, nat_le, nat_eq, Bool, true, ◌&&◌, List, [], ◌∷◌, length, sym, subst, arith, ltb-true, leb-true, eqb-true, le-leb, inl, inr, ◌⊎◌}
 use Rattle.std.proofs.lemmas.Bool.{and_parts, or_cases, true≢false, and_from}
 use mathlib.Core.WellFounded.{Acc, WellFounded}
 use Rattle.semantics.specs.Time.{is_before}
 
--- xs stands before ys, and is no longer than n
+-- xs comes before ys, and is no longer than n
 abbrev pub under : ℕ → List ℕ → List ℕ → Bool
 under n xs ys = is_before xs ys && nat_le (length xs) n
 
