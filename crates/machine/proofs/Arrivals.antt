@@ -311,7 +311,7 @@ module _ (g : Network) (law : IsNetwork g) (w : World) (h : History) (keeps : Ke
       go (inl x) = let z : some (done_after h k0 m k0 (g.edge_into v (g.in_port m.edge)) t) ≡ 1 = ap some x.is ∙ some_append (h.done k0 (g.edge_into v (g.in_port m.edge)) t) m.records good_message.1 in omega arith
       go (inr x) = absurd (x.other refl (sym edge_here ∙ ap (λ z. g.edge_into z (g.in_port m.edge)) a) b)
 
-  -- what is asked for, and what was processed
+  -- what is asked for matches what was processed
   wish : (v : ℕ) (t : Time) → g.role v ≡ Role.notified → total (wished v t) (asked g w k0 (Event.arrival m)) + some (done_at g h k0 v t) ≡ some (done_at g (history_done h k0 m) k0 v t)
   wish v t s = go (notified_asked (g.role (g.target m.edge)) (g.target m.edge) m.time at_any) (eqb_tells (g.target m.edge) v) (same_time_tells m.time t)
     where

@@ -46,7 +46,7 @@ pub record IsNetwork (g : Network) : Type 0 where
   pub role_is_input : (i : ℕ) → g.role i ≡ Role.input → i < g.inputs
   pub has_worker : 0 < g.workers
   pub routed : (k e : ℕ) (r : Record) → k < g.workers → g.home k e r < g.workers
-  -- a record goes by key alone, where the vertex has keys
+  -- if the vertex has keys, a record is routed by its key only
   pub by_key : (k j e : ℕ) (r : Record) → (g.role (g.target e) ≡ Role.stateful) ⊎ (g.role (g.target e) ≡ Role.notified) → g.home k e r ≡ g.home j e r
   pub input_act : (v : ℕ) (t : Time) → g.role v ≡ Role.input → g.act v t ≡ t
   -- each time is at most once among those that its action's value comes from

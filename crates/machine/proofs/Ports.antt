@@ -37,7 +37,7 @@ some_before : (xs ys : List Record) → some xs ≡ 1 → some (xs ++ ys) ≡ 1
 some_before [] ys e = absurd (omega arith)
 some_before (x ∷ xs) ys e = refl
 
--- where something has come to a port, something has come
+-- if something has come to a port, something has come at all
 pub some_of_port : (f : ℕ → List Record) (n p : ℕ) → p < n → 0 < some (f p) → some (end_to_end f n) ≡ 1
 some_of_port f zero p l s = absurd (omega arith)
 some_of_port f (suc n) p l s = go (eqb_tells p n) (some_of_port f n p)

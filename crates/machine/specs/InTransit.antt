@@ -19,7 +19,7 @@ pub record IsGoodRequest (g : Graph) (n : Request) : Type 0 where
   pub fits : IsTimeAt g (Location.vertex n.vertex) n.time
   pub notified : role (vertex g n.vertex).kind ≡ Role.notified
 
--- of what a worker holds
+-- the same for what a worker holds
 abbrev pub IsGoodEvent : Graph → Event → Type 0
 IsGoodEvent g (Event.arrival m) = IsGoodMessage g m
 IsGoodEvent g (Event.notification n) = IsGoodRequest g n

@@ -1,5 +1,5 @@
--- A network: the vertices and edges of a dataflow graph, with the worker to which each record goes. The engine needs to know no more of a graph.
--- (Naiad, SOSP 2013, sections 2.1 and 3.1: the logical graph, and the workers that run it.)
+-- A network: the vertices and edges of a dataflow graph, with the worker to which each record goes. That is all that the engine needs to know of a
+-- graph. (Naiad, SOSP 2013, sections 2.1 and 3.1: the logical graph, and the workers that run it.)
 use Rattle.std.specs.Prelude.{ℕ, List}
 use Rattle.semantics.specs.Multiset.{Record}
 use Rattle.semantics.specs.Kinds.{Role}

@@ -43,7 +43,7 @@ one_fed = Step.feed 0 (one_field (pos 5) ∷ []) ∷ []
 abbrev pub one_record : List Step
 one_record = Step.feed 0 (one_field (pos 5) ∷ []) ∷ Step.claim_message 0 0 the_five ∷ Step.commit 0 (Event.arrival the_five) nothing_sent ∷ []
 
--- and then the input is sealed
+-- then the input is sealed
 abbrev pub one_record_sealed : List Step
 one_record_sealed = one_record ++ Step.seal 0 ∷ []
 
@@ -81,7 +81,7 @@ both_absorbed =
 abbrev pub the_request : Request
 the_request = record { vertex = 1; time = at_epoch 0 }
 
--- and then the input is sealed
+-- then the input is sealed
 abbrev pub absorbed_and_sealed : List Step
 absorbed_and_sealed = both_absorbed ++ Step.seal 0 ∷ []
 
@@ -93,7 +93,7 @@ first_notified = absorbed_and_sealed ++ Step.claim_request 0 0 the_request ∷ [
 abbrev pub counts_of_0 : ℕ → List Record
 counts_of_0 q = two_fields 1 1 ∷ two_fields 3 1 ∷ []
 
--- and commits it
+-- worker 0 commits it
 abbrev pub first_committed : List Step
 first_committed = first_notified ++ Step.commit 0 (Event.notification the_request) counts_of_0 ∷ []
 

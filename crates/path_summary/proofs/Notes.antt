@@ -99,7 +99,7 @@ noted_more old new e l t g n =
       next = noted_push new Action.next t (noted_grown old new Action.next t g n.next);
     }
 
--- more places, and no more summaries
+-- more places for notes, and the same summaries
 pub noted_places : (s : List Summary) (e l t : List ℕ) → AreNoted s e l t → AreNoted s (e ++ (0 ∷ [])) l t × (AreNoted s (e ++ (0 ∷ [])) (l ++ (0 ∷ [])) t × AreNoted s (e ++ (0 ∷ [])) (l ++ (0 ∷ [])) (t ++ (0 ∷ [])))
 noted_places s e l t n =
     let e' = noted_push s Action.enter e n.enter in

@@ -1,4 +1,4 @@
--- Rows of a table: what a step of making them keeps, and what the last tests show.
+-- Rows of a table: what each step of making them keeps, and what the last tests show.
 use Rattle.std.proofs.Common.{◌≡◌, ◌⊎◌, inl, inr, ℕ, zero, suc, ◌+◌, ◌<◌, true, List, [], ◌∷◌, ◌++◌, length, Option, Some, slice_get, slice_set, slice_index_or, refl, sym, ap, subst, ◌∙◌, arith}
 use Rattle.semantics.specs.Time.{Time, after_action}
 use Rattle.semantics.specs.Kinds.{action}

@@ -1,4 +1,4 @@
--- The whole table.
+-- The whole table of a graph.
 use Rattle.std.specs.Prelude.{◌≡◌, ◌⊎◌, ℕ, ◌<◌, List, [], length, Option, slice_index_or}
 use Rattle.semantics.specs.Time.{Action, Time}
 use Rattle.semantics.specs.Could.{Location, Pointstamp}

@@ -160,7 +160,7 @@ taken_right L R R' old next a u = let w = count-with L old.time old.count R u in
 pub taken_last : (L R : Bag) (old : Entry) → IsNone L → IsNone R → Adds [] (with_times L old.time old.count R) old.time old.count
 taken_last L R old l r u = let w = count-with L old.time old.count R u in let a = l u in let b = r u in omega arith
 
--- the top taken out, where a side is empty
+-- the top is removed, if a side is empty
 pub lifted_right : (L : Bag) (t : Time) (n : ℕ) (R : Bag) → IsNone L → Adds R (with_times L t n R) t n
 lifted_right L t n R none u = let w = count-with L t n R u in let a = none u in omega arith
 

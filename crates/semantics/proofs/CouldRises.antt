@@ -152,7 +152,7 @@ rise_after loops v w a (Goes.out_of_loop q h) t l =
 rise_after loops v w a (Goes.round_loop e h) t l = lex_epoch t.epoch (woven (loops v) t.counters (2 * v + 1)) (woven (loops w) (front t.counters ++ (suc (last t.counters) ∷ [])) (2 * w))
     (subst (λ es. is_before (woven (loops v) t.counters (2 * v + 1)) (woven es (front t.counters ++ (suc (last t.counters) ∷ [])) (2 * w)) ≡ true) (sym e) (next_rise_any (loops v) t.counters (2 * v + 1) (2 * w) h l))
 
--- at a later time
+-- woven lists at a later time come later
 woven_later : (es cs ds : List ℕ) (p : ℕ) → length cs ≡ length es → length ds ≡ length es → is_before cs ds ≡ true → is_before (woven es cs p) (woven es ds p) ≡ true
 woven_later es [] [] p l m h = absurd (true≢false (sym h))
 woven_later es [] (d ∷ ds) p l m h = absurd (omega arith)
@@ -255,7 +255,7 @@ module _ (g : Graph) (loops : ℕ → List ℕ) (wired : IsWired g) (nested : Is
   rank_later (Location.edge e) t u f h k = let n = (entered g e f.0).known in later_rises (loops (target g e)) (2 * target g e) t u (f.1 ∙ sym (nested.homes (target g e) n)) (h.1 ∙ sym (nested.homes (target g e) n)) k
   rank_later (Location.vertex v) t u f h k = later_rises (loops v) (2 * v + 1) t u (f.1 ∙ sym (nested.homes v f.0)) (h.1 ∙ sym (nested.homes v f.0)) k
 
-  -- the rank rises to another pointstamp
+  -- the rank rises to any other pointstamp that could result
   pub could_rises : (p q : Pointstamp) → CouldResultIn g p q → (p ≡ q) ⊎ (is_before (rank_at p.location p.time) (rank_at q.location q.time) ≡ true)
   could_rises p q a =
       go (path_rises a.path p.location q.location p.time a.leads a.starts)
@@ -323,6 +323,6 @@ module _ (g : Graph) (d : IsDataflow g) where
   pub path_depth : (path : List PathStep) (l m : Location) (t : Time) → IsPath g l path m → IsTimeAt g l t → IsTimeAt g m (path_time g path t)
   path_depth path l m t h f = path_fits g d.loops d.wired d.nested path l m t h f
 
--- at a seal, an input's next epoch
+-- at a seal the rank rises to the input's next epoch
 pub rank_sealed : (g : Graph) (loops : ℕ → List ℕ) (v n : ℕ) → is_before (rank g loops (at_vertex v (at_epoch n))) (rank g loops (at_vertex v (at_epoch (n + 1)))) ≡ true
 rank_sealed g loops v n = lex_head n (n + 1) (woven (loops v) [] (2 * v + 1)) (woven (loops v) [] (2 * v + 1)) (omega arith)

@@ -44,7 +44,7 @@ pub in_a_and_b_means : program_meaning in_a_and_b 0 a_and_b ≡ one_field (pos 2
 unfolding program_meaning meaning let_names
 in_a_and_b_means = refl
 
--- the first turn has 2 alone, the second 1
+-- the first turn has only 2, the second only 1
 pub except_in_loop_means : program_meaning except_in_loop 0 one_and_two ≡ one_field (pos 1) ∷ []
 unfolding program_meaning meaning let_names
 except_in_loop_means = refl

@@ -25,7 +25,7 @@ nothing_under n (y ∷ ys) h = true≢false (sym h)
 acc_nil : (n : ℕ) → Acc (Under n) []
 acc_nil n = Acc.intro [] (λ ys h. absurd (nothing_under n ys h))
 
--- with the heads below b
+-- the step for a head x, from all smaller heads
 module _ (n : ℕ) (tails : (xs : List ℕ) → length xs ≤ n → Acc (Under n) xs) where
   inner : (x : ℕ) (lower : (y : ℕ) (ys : List ℕ) → y < x → length ys ≤ n → Acc (Under (suc n)) (y ∷ ys)) (xs : List ℕ) → Acc (Under n) xs → Acc (Under (suc n)) (x ∷ xs)
   inner x lower xs a = elim a as (λ xs a. Acc (Under (suc n)) (x ∷ xs)) [

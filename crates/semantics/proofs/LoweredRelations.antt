@@ -197,7 +197,7 @@ module _ (g : Graph) (inputs : Inputs) (f : Flow) (flow : IsFlow g inputs f) whe
       names_at : ℕ → Names
       names_at c y = cond (nat_lt c n) (bind x (value_at c) names y) []
 
-      -- from one turn to the next
+      -- what the body means at one turn gives the next turn
       turn : (c : ℕ) (t : Bool) → nat_lt c n ≡ t → meaning b (names_at c) ≡ cond (nat_lt (suc c) (suc n)) (value_at (suc c)) []
       turn c true q =
           let k' = ltb-true c n q in
@@ -208,7 +208,7 @@ module _ (g : Graph) (inputs : Inputs) (f : Flow) (flow : IsFlow g inputs f) whe
           meaning_none b (names_at c) (λ y. ap (λ t. cond t (bind x (value_at c) names y) []) q)
           ∙ ap (λ t. cond t (value_at (suc c)) []) (sym (le-ltb (suc c) (suc n) (omega arith)))
 
-      -- within the body, at each turn
+      -- the names agree in the body at each turn
       agree_in : (c : ℕ) → out (port (suc loop) 0) (deeper u c) ≈ cond (nat_lt c (suc n)) (value_at c) [] → Agree (free b) inside (deeper u c) (names_at c)
       agree_in c m y h = go (same_name x y) refl
         where

@@ -38,12 +38,12 @@ abbrev pub step_edge : PathStep → ℕ
 step_edge (PathStep.enters e) = e
 step_edge (PathStep.leaves e) = e
 
--- where a step starts
+-- the location at which a step starts
 abbrev pub step_from : Graph → PathStep → Location
 step_from g (PathStep.enters e) = Location.edge e
 step_from g (PathStep.leaves e) = Location.vertex (edge_source g e).vertex
 
--- where it ends
+-- the location at which a step ends
 abbrev pub step_to : Graph → PathStep → Location
 step_to g (PathStep.enters e) = Location.vertex (target g e)
 step_to g (PathStep.leaves e) = Location.edge e
@@ -58,7 +58,7 @@ abbrev pub IsPath : Graph → Location → List PathStep → Location → Type 0
 IsPath g l [] m = l ≡ m
 IsPath g l (s ∷ path) m = (step_edge s < edge_count g) × (l ≡ step_from g s) × IsPath g (step_to g s) path m
 
--- where a path takes a time
+-- the time to which a path takes a time
 abbrev pub path_time : Graph → List PathStep → Time → Time
 path_time g [] t = t
 path_time g (s ∷ path) t = path_time g path (step_time g s t)

@@ -49,7 +49,7 @@ output_number g k = slice_index_or (output_numbers g) k (length g)
 
 -- ---- edges: an edge is given by the vertex that it enters and the in port, or by a number, in the order of these two
 
--- the port where the edge into an in port of w begins
+-- the port at which the edge into an in port of w begins
 unfoldable pub source : Graph → (w port : ℕ) → Port
 unfolding vertex
 source g w i = slice_index_or (vertex g w).ins i no_port
@@ -75,6 +75,6 @@ edge_into [] v p = p
 edge_into (x ∷ g) zero p = p
 edge_into (x ∷ g) (suc v) p = length x.ins + edge_into g v p
 
--- the port where an edge begins
+-- the port at which an edge begins
 abbrev pub edge_source : Graph → (edge : ℕ) → Port
 edge_source g e = source g (target g e) (in_port g e)

@@ -94,7 +94,7 @@ pub data ProgramStep : Program → Program → Type 0 where
   lets : {inputs : List Input} {as' bs : List Let} {outs : List Output} → LetsStep outs as' bs → ProgramStep (record { inputs = inputs; lets = as'; outputs = outs }) (record { inputs = inputs; lets = bs; outputs = outs })
   outputs : {inputs : List Input} {as' : List Let} {os os' : List Output} → OneOf OutputStep os os' → ProgramStep (record { inputs = inputs; lets = as'; outputs = os }) (record { inputs = inputs; lets = as'; outputs = os' })
 
--- by any number of steps
+-- the same, by any number of steps
 abbrev pub RewritesTo : Program → Program → Type 0
 RewritesTo p q = Steps ProgramStep p q
 

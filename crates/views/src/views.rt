@@ -88,7 +88,7 @@ pub trait Views: Drop {
             NoneOf (CouldResultIn (graph self.now)) (IsSeenBy (content self.now) (waiting self.now) (workers self.now) worker) p.now }
         ensures there { IsTrue result → NoneOf (CouldResultIn (graph self.now)) (λ q. 0 < content self.now q) p.now };
 
-    /// The number of batches that wait, over all workers, or the greatest `u64` if there are more.
+    /// The number of batches that wait, over all workers; `u64::MAX` if there are more.
     fn waiting(&self) -> u64
         ensures { result ≡ min (2 ^ 64 - 1) (all_waiting (waiting self.now) (workers self.now)) };
 }
