@@ -1,4 +1,4 @@
--- Claims.
+-- What a board shows after a claim.
 use Rattle.std.proofs.Common.{◌≡◌, ◌<◌, ℕ, false, List, length, refl, sym, ap, ◌∙◌, arith, slice_get, slice_set, slice_index_or, remove, Some, None, length-set}
 use Rattle.graph.specs.Shown.{shown_graph}
 use Rattle.machine.specs.World.{World, Message, Request, Event, Held}

@@ -58,7 +58,7 @@ ends_by g workers flows (Event.arrival m) good l out =
     λ i. record { epoch = m.time.epoch; counters = none i }
 ends_by g workers flows (Event.notification n) good l out = absurd (let z : Role.notified ≡ Role.output = sym good.notified ∙ out in cc)
 
--- a side of the board, with other mail
+-- a side of the board with other mail is still one
 pub with_mail_of : (s : Shown) (n : ℕ) (x : Side) (ms : List Message) → IsSideOf s n x → IsSideOf s n (with_all x ms)
 with_mail_of s n x ms is = record {
   wired = is.wired;
@@ -66,7 +66,7 @@ with_mail_of s n x ms is = record {
   own = λ j e. let o = is.own j e in record { wired = o.wired; vertex = o.vertex; away = o.away; others = o.others };
 }
 
--- the worker's side, settled
+-- a worker's side is still one once its event is settled
 settled_of : (s : Shown) (n : ℕ) (x : Side) (v : ℕ) (shard : _) (asks : Option Request) → IsSideOf s n x → IsSideOf s n (settled x v shard asks)
 settled_of s n x v shard asks is = record {
   wired = is.wired;

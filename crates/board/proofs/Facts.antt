@@ -68,7 +68,7 @@ module _ (graph : Graph) (content : Pointstamp → ℕ) (s : Shown) (kept : IsKe
         by (Event.arrival m) h = h.fits
         by (Event.notification n) h = h.fits
 
-    -- where a request for its vertex and time would be
+    -- the graph has the location and the time of a request at the event's vertex and time
     pub wish_located : IsTimeAt (shown_graph s.graph) (Location.vertex (event_at (shown_graph s.graph) j.happening)) (event_time j.happening)
     wish_located = by j.happening own.vertex good
       where

@@ -13,13 +13,13 @@ drop_all [] (suc i) l = refl
 drop_all (y ∷ ys) zero l = absurd (omega arith)
 drop_all (y ∷ ys) (suc i) l = drop_all ys i (omega arith)
 
--- where P holds of the first, the numbers of the others are one lower behind it
+-- if P holds of the first, the number of each later one is one lower in the rest
 after_one : {X : Type 0} (P : X → Type 0) (x : X) (ys : List X) (left a : ℕ) → P x → Kth P (x ∷ ys) (suc left) a → (b : ℕ) × (a ≡ suc b) × Kth P ys left b
 after_one P x ys left zero here h = absurd h
 after_one P x ys left (suc b) here (inl h) = (b, refl, h.1)
 after_one P x ys left (suc b) here (inr h) = absurd (h.0 here)
 
--- where P doesn't hold of the first, the numbers stay
+-- if P doesn't hold of the first, the numbers are the same in the rest
 after_none : {X : Type 0} (P : X → Type 0) (x : X) (ys : List X) (left a : ℕ) → (P x → ⊥) → Kth P (x ∷ ys) left a → (b : ℕ) × (a ≡ suc b) × Kth P ys left b
 after_none P x ys zero zero not h = absurd (not h)
 after_none P x ys zero (suc b) not h = (b, refl, h.1)

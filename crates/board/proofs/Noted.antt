@@ -1,4 +1,4 @@
--- Pointstamps in a list, noted one after another.
+-- A list of pointstamps, noted one after another.
 use Rattle.std.proofs.Common.{◌≡◌, ◌∙◌, ℕ, ◌+◌, ◌<◌, List, [], ◌∷◌, ◌++◌, length, take, slice_index_or, sym, ap, arith}
 use Rattle.std.proofs.lemmas.List.{take_more}
 use Rattle.semantics.specs.Could.{Pointstamp}

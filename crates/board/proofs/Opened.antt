@@ -22,7 +22,7 @@ use Rattle.board.specs.Shown.{Shown, side_at}
 use Rattle.board.specs.Showing.{EachShard, IsSideOf, OnShard, Shows, known}
 use Rattle.board.proofs.Opening.{IsFresh, kept_opening, shows_opening}
 
--- a shard at home is known
+-- what holds of a shard at home holds of the one that is known
 at_place : (P Q : Shard → Type 0) → ((x : Shard) → P x → Q x) → (o : Option Shard) (place : Place Job) → OnShard P o → OnShard Q (known o place)
 at_place P Q f None place h = absurd h
 at_place P Q f (Some x) place h = f x h

@@ -30,7 +30,7 @@ of_first n [] h l = absurd (omega (arith, l))
 of_first n (r ∷ rs) h l = h r (count_here r rs)
 
 module _ (graph : Graph) (content : Pointstamp → ℕ) (s : Shown) (kept : IsKept graph content s) (k : ℕ) (there : k < length s.sides) (free : (side_at s k).place ≡ Home) where
-  -- the shard of a vertex is at home, and is what it should be
+  -- the shard of a vertex is at home
   pub shard_home : (v : ℕ) → v < length (shown_graph s.graph) → (x : Shard) × (slice_index_or (side_at s k).shards v None ≡ Some x)
   shard_home v l =
       let P : Place Job → Type 0 = λ p. OnShard (ShowsIn kept.world k v) (known (slice_index_or (side_at s k).shards v None) p) in

@@ -1,4 +1,4 @@
--- Seals and closes.
+-- What a board shows after a seal or a close.
 use Rattle.std.proofs.Common.{◌≡◌, ◌<◌, ◌+◌, ℕ, suc, true, false, length, sym, ap, ◌∙◌, arith}
 use Rattle.semantics.specs.Kinds.{Role}
 use Rattle.machine.specs.World.{World}

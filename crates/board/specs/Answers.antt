@@ -71,7 +71,7 @@ IfNothing Idle P = P
 
 -- ---- refusals of calls on an input
 
--- the first, or else the second
+-- the first, or the second if there is no first
 abbrev pub first : Option StepRefusal → Option StepRefusal → Option StepRefusal
 first None second = second
 first (Some r) second = Some r
@@ -94,7 +94,7 @@ AnswersOr (Some r) (Err e) = e ≡ r
 AnswersOr None (Ok _) = Unit {0}
 AnswersOr None (Err e) = e ≡ refusal.NoMemory
 
--- the same of a call that takes no memory
+-- the same for a call that takes no memory
 abbrev pub AnswersOnly : {T : Type 0} → Option StepRefusal → Result T StepRefusal → Type 0
 AnswersOnly (Some r) (Ok _) = ⊥
 AnswersOnly (Some r) (Err e) = e ≡ r

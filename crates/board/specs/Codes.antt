@@ -1,4 +1,4 @@
--- The numbers of refusals.
+-- The codes of refusals.
 use Rattle.std.specs.Prelude.{ℕ, Option, Some, None}
 use Rattle.board.specs.declared.refusal.StepRefusal.{StepRefusal}
 use Rattle.board.specs.declared.refusal.StepRefusal.TheVariants as refusal

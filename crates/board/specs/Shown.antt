@@ -94,7 +94,7 @@ held_of Home = Held.nothing
 held_of (Out j) = Held.holding false j.happening
 held_of (Lost j) = Held.holding true j.happening
 
--- the vertex that an event is at
+-- the vertex of an event
 abbrev pub event_at : Graph → Event → ℕ
 event_at g (Event.arrival m) = target g m.edge
 event_at g (Event.notification n) = n.vertex

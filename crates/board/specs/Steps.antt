@@ -1,4 +1,4 @@
--- What each call leaves.
+-- What each call does.
 use Rattle.std.specs.Prelude.{ℕ, ◌+◌, zero, suc, true, List, [], ◌∷◌, ◌++◌, Option, Some, None, slice_set, remove}
 use Rattle.semantics.specs.Multiset.{Record}
 use Rattle.machine.specs.World.{Message, Request}
@@ -38,7 +38,7 @@ after_claim_request s k at j =
 abbrev pub with_mail : Side → Message → Side
 with_mail x m = record x { mail = x.mail ++ m ∷ [] }
 
--- the messages lie in their workers' mailboxes
+-- the messages are in their workers' mailboxes
 abbrev pub delivered : List Side → List Letter → List Side
 delivered xs [] = xs
 delivered xs (o ∷ os) = delivered (slice_set xs o.to (with_mail (side_in xs o.to) o.message)) os

@@ -1,4 +1,4 @@
-//! Applying a batch of changes to a view.
+//! Applies a batch of changes to a view.
 
 ghost use Rattle.std.specs.Prelude.{◌≡◌, ◌<◌, ◌≤◌, ℕ, []};
 ghost use Rattle.semantics.specs.Could.{CouldResultIn, NoneOf, Pointstamp as Active};

@@ -57,7 +57,7 @@ pub enum Claimed {
     Idle,
 }
 
-/// Why a commit was refused.
+/// The reason why a commit was refused.
 pub enum CommitRefusal {
     /// Out of memory. The board is unchanged, and the event comes back whole.
     NoMemory(Done),
@@ -320,8 +320,8 @@ impl<V: Views> Board<V> {
         }
     }
 
-    /// Hands out an event to the worker, if it has one. Where no message waits for it, or many batches of changes do, those batches are applied
-    /// first. Takes no memory.
+    /// Hands out an event to the worker, if it has one. If no message waits for it, or many batches of changes do, those batches are applied first.
+    /// Takes no memory.
     pub fn claim(&mut self, worker: u32) -> Claimed
         ensures claims { Claims self.old.shown self.new.shown worker result }
         ensures tables { tables self.new.shown ≡ tables self.old.shown }
@@ -727,7 +727,7 @@ impl<V: Views> Board<V> {
         let _ = &self.state;
     }
 
-    /// Where views aren't late, nothing waits. Nothing is done.
+    /// If views aren't late, nothing waits. Nothing is done.
     pub fn law_prompt(&self)
         ensures { V.late ≡ false → AreUpToDate self.now }
     {
@@ -748,7 +748,7 @@ impl<V: Views> Board<V> {
         let _ = &self.state;
     }
 
-    /// A drained board has passed every epoch at every output. Nothing is done.
+    /// On a drained board, every epoch has passed at every output. Nothing is done.
     pub fn law_drained(&self)
         ensures { IsDrained self.now.shown → (output epoch : ℕ) → HasPassed self.now.shown output epoch }
     {

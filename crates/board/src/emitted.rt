@@ -1,4 +1,4 @@
-//! What each vertex has emitted.
+//! What each vertex has emitted, by epoch.
 
 ghost use Rattle.std.specs.Prelude.{◌≡◌, ◌<◌, ℕ, [], length, slice_index_or, IfOk, IfErr, OnOk, OnErr};
 ghost use Rattle.board.specs.Shown.{emitted_by};
@@ -10,7 +10,7 @@ use rows::Batch;
 use std::alloc::Global;
 use std::marker::Model;
 
-/// Batches by vertex and epoch. Only output vertices have some.
+/// Batches by vertex and epoch. Only output vertices have any.
 #[derive(Drop)]
 pub struct Emitted {
     lists: Vec<Epochs>,

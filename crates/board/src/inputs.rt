@@ -1,4 +1,4 @@
-//! An input of a board.
+//! An input of a board, and what was fed to it.
 
 ghost use Rattle.std.specs.Prelude.{◌≡◌, ◌+◌, ◌<◌, [], ◌∷◌, true, false, OnOk, OnErr};
 ghost use Rattle.board.specs.Steps.{more_at};

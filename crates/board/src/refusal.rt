@@ -3,7 +3,7 @@
 ghost use Rattle.std.specs.Prelude.{◌≡◌, ◌≢◌, Some};
 ghost use Rattle.board.specs.Codes.{refusal_code};
 
-/// Why a call was refused. A refused call leaves the board as it was.
+/// Why a call was refused. A refused call leaves the board unchanged.
 #[derive(Clone, Copy, Debug, PartialEq, Eq)]
 pub enum StepRefusal {
     /// An event was abandoned, which stops the board for good.
@@ -12,7 +12,7 @@ pub enum StepRefusal {
     UnknownInput,
     /// A feed, a seal or a close names an input that is already closed.
     InputClosed,
-    /// A fed record has another number of fields than its input declares.
+    /// A fed record doesn't have the number of fields that its input declares.
     WrongFieldCount,
     /// A seal at epoch 4294967295, the last one.
     LastEpoch,

@@ -1,4 +1,4 @@
--- One declared input more.
+-- One more declared input.
 use Rattle.std.proofs.Common.{◌≡◌, ◌<◌, ◌+◌, ℕ, List, [], ◌∷◌, ◌++◌, get_or, length, map, take, sym, ap, ap₂, ◌∙◌}
 use Rattle.std.proofs.lemmas.List.{map_more, map-append}
 use Rattle.semantics.specs.Query.{Input}

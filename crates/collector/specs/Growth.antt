@@ -34,7 +34,7 @@ abbrev pub CanTake : Draft → Item → Type 0
 CanTake e Item.epoch = draft_count e < max_epochs
 CanTake e (Item.row i zs) = (0 < draft_count e) × (i < length e.tracks.items) × IsRecord zs
 
--- they have taken it
+-- the epochs have taken what a line says
 abbrev pub Takes : Draft → Draft → Item → Type 0
 Takes e f Item.epoch = Begins e f
 Takes e f (Item.row i zs) = Gains e f i zs

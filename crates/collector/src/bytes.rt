@@ -8,7 +8,7 @@ use crate::watched::Watched;
 use std::alloc::Global;
 use std::io::Read;
 
-/// Why nothing was read.
+/// The reason why nothing was read.
 #[derive(Clone, Copy, Debug, PartialEq, Eq)]
 pub enum ReadFault {
     NoMemory,

@@ -1,7 +1,7 @@
 -- How a number's spelling begins.
 use Rattle.std.specs.Prelude.{◌≡◌, ◌<◌, ◌≤◌, ℕ, List, [], ◌∷◌, length, slice_index, ◌⊎◌}
 
--- a digit stands first, and a zero stands alone
+-- a digit comes first, and nothing follows a zero
 abbrev pub MayBegin : List ℕ → Type 0
 MayBegin [] = ⊥
 MayBegin (b ∷ bs) = (48 ≤ b) × (b ≤ 57) × (b ≡ 48 → length bs ≡ 0)

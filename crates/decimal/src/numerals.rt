@@ -1,11 +1,11 @@
-//! Reading of numbers.
+//! Reads numbers.
 
 ghost use Rattle.std.specs.Prelude.{◌≡◌, ◌≢◌, ◌<◌, ◌^◌, ◌≤◌, ◌↔◌, ℕ, ℤ, slice_index, FitsSigned, IfSome, IfNone, IsTrue, decimal};
 ghost use Rattle.decimal.specs.Numerals.{MayBegin, MayBeginSigned};
 ghost use Rattle.std.specs.Fmt.{signed_decimal};
 ghost use Rattle.std.specs.Int.{w64};
 
-/// The number that the bytes spell: `0`, or a digit from `1` on and digits. `None` exactly where they spell none that fits.
+/// The number that the bytes spell: `0`, or a digit from `1` on and further digits. `None` exactly if they don't spell a number in range.
 pub fn number(text: &[u8]) -> Option<u64>
     ensures found { IfSome result (λ n. text.now ≡ decimal n) }
     ensures none { IfNone result ((n : ℕ) → n < 2 ^ 64 → text.now ≢ decimal n) }
@@ -22,8 +22,8 @@ pub fn number(text: &[u8]) -> Option<u64>
     Some(number)
 }
 
-/// The signed number that the bytes spell: `0`, or an optional `-`, a digit from `1` on and digits. `None` exactly where they
-/// spell none that fits.
+/// The signed number that the bytes spell: `0`, or an optional `-`, a digit from `1` on and further digits. `None` exactly if they don't spell a
+/// number in range.
 pub fn signed_number(text: &[u8]) -> Option<i64>
     ensures found { IfSome result (λ z. text.now ≡ signed_decimal z) }
     ensures none { IfNone result ((z : ℤ) → FitsSigned w64 z → text.now ≢ signed_decimal z) }
@@ -40,7 +40,7 @@ pub fn signed_number(text: &[u8]) -> Option<i64>
     Some(number)
 }
 
-/// Whether a digit stands first, and a zero alone.
+/// Whether a digit comes first, and nothing follows a zero.
 fn may_begin(text: &[u8]) -> bool
     ensures { IsTrue result ↔ MayBegin text.now }
 {
@@ -68,7 +68,7 @@ fn may_begin_signed(text: &[u8]) -> bool
     }
 }
 
-/// Whether a digit from `1` on stands first.
+/// Whether a digit from `1` on comes first.
 fn begins_above_zero(text: &[u8]) -> bool
     ensures { IsTrue result ↔ ((48 < slice_index text.now 0) × (slice_index text.now 0 ≤ 57)) }
 {

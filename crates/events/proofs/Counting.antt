@@ -1,4 +1,4 @@
--- Where the counts of an event are too large; and the records of a message count the same in another order.
+-- Where the counts of an event are too large; and records in another order have the same counts.
 use Rattle.std.proofs.Common.{◌≡◌, ℕ, ◌+◌, List, [], ◌++◌, ◌⊎◌, inl, inr, refl, sym, ap, subst, arith}
 use Rattle.semantics.specs.Graph.{Graph, in_port}
 use Rattle.semantics.specs.Kinds.{Kind, Role, out_ports, role}

@@ -53,7 +53,7 @@ lent_whole {A} n xs ys e l = subst (λ (k : ℕ). take k (xs ++ drop (length xs)
     taken_all [] ws m = refl
     taken_all (z ∷ zs) ws m = ap (λ vs. z ∷ vs) (taken_all zs ws m)
 
--- ---- another time
+-- ---- letters at another time
 
 over_at : (e : ℕ) (t u : Time) (ps : List Parcel) → map (at_time u) (map (letter_of e t) ps) ≡ map (letter_of e u) ps
 over_at e t u [] = refl

@@ -1,4 +1,4 @@
--- The worker of a key, by a fold.
+-- The worker of a key, as a fold.
 use Rattle.std.proofs.Common.{◌≡◌, ℕ, ◌%◌, List, [], ◌∷◌, fold, refl, ap}
 use Rattle.semantics.specs.Multiset.{Record}
 use Rattle.semantics.specs.Meaning.{field, project}

@@ -46,7 +46,7 @@ full_parcel : (w : ℕ) (records : List Record) → 0 < length records → parce
 full_parcel w [] h = absurd (omega (arith, h))
 full_parcel w (r ∷ records) h = refl
 
--- the one parcel that there is then
+-- there is one parcel then
 pub all_to_one : (home : Record → ℕ) (w n : ℕ) (records : List Record) → w < n → 0 < length records → ((k : ℕ) → k < length records → home (slice_index_or records k []) ≡ w) → parcels home records n ≡ record { worker = w; batch = records } ∷ []
 all_to_one home w zero records l some h = absurd (omega (arith, l))
 all_to_one home w (suc n) records l some h = go (eqb_tells w n) (λ q. all_to_one home w n records (above q) some h)
@@ -133,9 +133,9 @@ parcels_sum routing workers sender records list l e =
     subst (λ (xs : List Record). records ≈ xs) (sym (ap (flat_map (λ (p : Parcel). p.batch)) e ∙ from_parcels (home_of routing workers sender) records workers))
     (parts_sum (home_of routing workers sender) workers records (λ r. home_there routing workers sender r l))
 
--- ---- runs in parts
+-- ---- runs, divided into parts
 
--- a parcel of what there is of a batch
+-- one parcel, of what a batch has for the worker
 pub put_one : (w : ℕ) (b : List Record) (cs : List Run) (old new : List Parcel) → 0 < length (runs b) → b ≡ expanded cs → new ≡ old ++ record { worker = w; batch = b } ∷ [] → new ≡ old ++ parcel w (expanded cs)
 put_one w [] cs old new h e f = absurd (omega (arith, h))
 put_one w (r ∷ records) cs old new h e f = f ∙ ap (λ l. old ++ parcel w l) e

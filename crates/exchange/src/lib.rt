@@ -1,10 +1,9 @@
-//! How records go from worker to worker: to which, in which parcels, and where they wait.
+//! Moves records between workers: to which worker, in which parcels, and where they wait.
 //!
-//! The contract for the layers above: `route` and `home` are the definition's; `split` takes a batch apart by the workers to whom
-//! its records go, and loses, doubles and reorders nothing; a `Mailbox` is a list in order of arrival, from which any place may
-//! be taken.
+//! The contract for the layers above: `route` and `home` are the definition's; `split` divides a batch by the workers to which its records go, and
+//! loses, doubles and reorders nothing; a `Mailbox` is a list in order of arrival, from which any place may be taken.
 //!
-//! Below stand `rows`, `record_core` and `semantics`. The board sends by it.
+//! Built on `rows`, `record_core` and `semantics`. The crate `events` splits batches with it, and the board's mailboxes are its mailboxes.
 #![tactic(auto)]
 
 mod mailbox;

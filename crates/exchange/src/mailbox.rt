@@ -1,4 +1,4 @@
-//! Messages that wait.
+//! Mailboxes for messages that wait.
 
 ghost use Rattle.std.specs.Prelude.{◌≡◌, ◌<◌, ◌≤◌, ◌+◌, ℕ, [], ◌++◌, ◌∷◌, IsTrue, ◌↔◌, OnOk, OnErr, IfErr, length, remove, slice_index_or, if◌then◌else◌, is_ok};
 ghost use Rattle.std.specs.List.{insert};
@@ -9,7 +9,7 @@ use std::alloc::{AllocFailed, Global};
 use std::collections::VecDeque;
 use std::marker::Model;
 
-/// Messages in order of arrival. Any place may be taken, and the rest keeps its order; taking the first costs no more for many.
+/// Messages in order of arrival. Any place may be taken, and the rest keeps its order. Taking the first costs the same however many there are.
 #[derive(Drop)]
 pub struct Mailbox<T> {
     messages: VecDeque<T>,
@@ -26,7 +26,7 @@ impl<T> Model for Mailbox<T> {
 }
 
 impl<T> Mailbox<T> {
-    /// No messages. No memory is taken.
+    /// An empty mailbox. Takes no memory.
     pub fn new(alloc: Global) -> Mailbox<T>
         ensures { result.messages ≡ [] }
     {
@@ -35,7 +35,7 @@ impl<T> Mailbox<T> {
         }
     }
 
-    /// How many messages wait.
+    /// The number of messages that wait.
     pub fn len(&self) -> usize
         ensures { result ≡ length self.now.messages }
     {
@@ -48,7 +48,7 @@ impl<T> Mailbox<T> {
         self.messages.is_empty()
     }
 
-    /// A message, by its place from 0, the one that came first.
+    /// The message at a place, counted from 0 in order of arrival.
     pub fn get(&self, place: usize) -> &T
         requires { place < length self.now.messages }
         ensures { result.now ≡ slice_index_or self.now.messages place result.now }
@@ -56,7 +56,7 @@ impl<T> Mailbox<T> {
         &self.messages[place]
     }
 
-    /// Takes room for that many messages more.
+    /// Reserves room for that many more messages.
     pub fn reserve(&mut self, more: usize) -> Result<(), RowsError>
         ensures messages { self.new.messages ≡ self.old.messages }
         ensures kept { self.old.room ≤ self.new.room }
@@ -66,7 +66,7 @@ impl<T> Mailbox<T> {
         Ok(())
     }
 
-    /// Puts a message behind the others, or gives it back where there is no memory.
+    /// Appends a message, or gives it back if memory is short.
     pub fn put(&mut self, message: T) -> Result<(), AllocFailed<T>>
         ensures messages { self.new.messages ≡ (if is_ok result then self.old.messages ++ message ∷ [] else self.old.messages) }
         ensures back { IfErr result (λ e. e.value ≡ message) }
@@ -74,7 +74,7 @@ impl<T> Mailbox<T> {
         self.messages.push_back(message)
     }
 
-    /// Puts a message behind the others, where there is room. No memory is taken.
+    /// Appends a message; there must be room. Takes no memory.
     pub fn put_reserved(&mut self, message: T)
         requires { 0 < self.old.room }
         ensures messages { self.new.messages ≡ self.old.messages ++ message ∷ [] }
@@ -83,7 +83,7 @@ impl<T> Mailbox<T> {
         self.messages.push_back_reserved(message);
     }
 
-    /// Puts a message before the others, where there is room. No memory is taken.
+    /// Puts a message before the others; there must be room. Takes no memory.
     pub fn put_first(&mut self, message: T)
         requires { 0 < self.old.room }
         ensures messages { self.new.messages ≡ message ∷ self.old.messages }
@@ -92,7 +92,7 @@ impl<T> Mailbox<T> {
         self.messages.push_front_reserved(message);
     }
 
-    /// Puts a message at a place from 0, where there is room; those from there on move back. No memory is taken.
+    /// Inserts a message at a place, counted from 0; there must be room. Those from there on move back. Takes no memory.
     pub fn put_at(&mut self, place: usize, message: T)
         requires place { place ≤ length self.old.messages }
         requires room { 0 < self.old.room }
@@ -105,7 +105,7 @@ impl<T> Mailbox<T> {
         }
     }
 
-    /// Takes a message out, by its place from 0; those behind it move up. No memory is taken.
+    /// Removes the message at a place, counted from 0; those behind it move up. Takes no memory.
     pub fn take(&mut self, place: usize) -> T
         requires { place < length self.old.messages }
         ensures value { result ≡ slice_index_or self.old.messages place result }

@@ -1,4 +1,4 @@
-//! The worker to which a record goes.
+//! Decides to which worker a record goes.
 
 ghost use Rattle.std.specs.Prelude.{◌≡◌, ◌<◌, ◌≤◌, ℕ, fold};
 ghost use Rattle.semantics.specs.Meaning.{field as column_of, project};
@@ -8,22 +8,21 @@ ghost use Rattle.exchange.specs.Hashes.{step};
 
 use rows::field;
 
-/// The greatest number of workers.
+/// The most workers.
 pub const MAX_WORKERS: u32 = 64;
 
-/// By what an edge sends a record to a worker.
+/// How an edge routes its records to workers.
 #[derive(Drop)]
 pub enum Routing {
-    /// By these columns, in this order, where equal keys must meet on one worker.
+    /// By these columns, in this order, for a vertex that needs equal keys on one worker.
     ByKey(Vec<u64>),
     /// By all fields.
     ByRecord,
-    /// The record stays at the worker that sends it.
+    /// The record stays at its sender.
     Stay,
 }
 
-/// The worker of a key, out of 1 to 64: the fields are read as unsigned numbers, and the hash is taken modulo 2^64. No memory is
-/// taken.
+/// The worker of a key, out of 1 to 64. The hash reads the fields as unsigned numbers, modulo 2^64. Takes no memory.
 #[tactic(auto, using(crate::proofs::Folds::route_folds))]
 pub fn route(key: &[i64], workers: u32) -> u32
     requires some { 0 < workers }
@@ -60,7 +59,7 @@ fn hash_step(hash: u64, value: i64) -> u64
     hash.wrapping_mul(31).wrapping_add(value.cast_unsigned())
 }
 
-/// The worker of what a row has in these columns.
+/// The worker of the key that a row has in these columns.
 #[tactic(auto, using(crate::proofs::Folds::route_projects))]
 fn route_columns(columns: &[u64], row: &[i64], workers: u32) -> u32
     requires some { 0 < workers }
@@ -72,7 +71,7 @@ fn route_columns(columns: &[u64], row: &[i64], workers: u32) -> u32
 }
 
 impl Routing {
-    /// The worker to which a record goes, out of 1 to 64, from the worker that sends it. No memory is taken.
+    /// The worker, out of 1 to 64, to which a record from `sender` goes. Takes no memory.
     pub fn home(&self, workers: u32, sender: u32, row: &[i64]) -> u32
         requires fits { workers ≤ 64 }
         requires sender { sender < workers }

@@ -1,4 +1,4 @@
-//! Batches taken apart by workers.
+//! Divides batches among workers.
 
 ghost use Rattle.std.specs.Prelude.{◌≡◌, ◌<◌, ◌≤◌, ◌==◌, ℕ, [], ◌∷◌, ◌++◌, List, IfOk, IfSome, OnOk, length, filter, slice_index_or, flat_map};
 ghost use Rattle.semantics.specs.Multiset.{◌≈◌};
@@ -12,7 +12,7 @@ use crate::routing::Routing;
 use rows::{Batch, CountedRows, RowsError};
 use std::alloc::Global;
 
-/// The records of a batch that go to one worker, in their order: one or more.
+/// The records of a batch that go to one worker, at least one, in their order.
 #[derive(Drop)]
 pub struct Parcel {
     pub worker: u32,
@@ -22,8 +22,8 @@ pub struct Parcel {
 /// Parcels for different workers, in the order of the workers.
 pub type Parcels = Vec<Parcel>;
 
-/// Takes a batch apart: a parcel for each worker, out of 1 to 64, to whom some of the records go, and in it these, in their order.
-/// Where all go to one worker the batch is handed on as it is.
+/// Divides a batch among 1 to 64 workers: one parcel for each worker that gets records, which keep their order. If all go to one worker, the batch is
+/// passed on unchanged.
 pub fn split(
     alloc: Global,
     batch: Batch,
@@ -46,7 +46,7 @@ pub fn split(
     Ok(parcels)
 }
 
-/// The worker to whom all records go, where it is one.
+/// The worker to which all records go, if there is one.
 #[tactic(auto, using(crate::proofs::Gathering::home_there))]
 fn common_home(batch: &Batch, routing: &Routing, workers: u32, sender: u32) -> Option<u32>
     requires fits { workers ≤ 64 }
@@ -70,7 +70,7 @@ fn common_home(batch: &Batch, routing: &Routing, workers: u32, sender: u32) -> O
     Some(worker)
 }
 
-/// For each worker the rows that go there.
+/// The rows that go to each worker.
 fn spread(
     alloc: Global,
     batch: &Batch,
@@ -120,7 +120,7 @@ fn gather(alloc: Global, parts: Vec<CountedRows>) -> Result<Parcels, RowsError>
     Ok(parcels)
 }
 
-/// A parcel of these rows, where there are some.
+/// Appends a parcel of these rows, if there are any.
 fn put_parcel(
     alloc: Global,
     worker: u32,

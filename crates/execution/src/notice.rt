@@ -3,7 +3,7 @@
 use std::sync::atomic::{AtomicBool, Ordering};
 use workers::Ended;
 
-/// Whether a count was too large in any thread.
+/// Whether a count was too large, in any thread.
 #[derive(Drop)]
 pub struct Notice {
     over: AtomicBool,

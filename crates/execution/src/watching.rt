@@ -37,7 +37,7 @@ impl<W: Write> Watcher<W> {
         self.writer.flush()
     }
 
-    /// Ends the line whose number rose in place. Lines of their own have ended already.
+    /// Ends the line whose number rose in place. Separate lines have ended already.
     fn end(&mut self) -> io::Result<()> {
         match self.telling {
             Telling::Lines => Ok(()),

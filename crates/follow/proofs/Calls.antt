@@ -35,7 +35,7 @@ ok_of (Err e) t is h = absurd cc
 pub All-front : {X : Type 0} (P : X → Type 0) (xs ys : List X) → All P (xs ++ ys) → All P xs
 All-front P xs ys all = λ k d lt. subst P (get_or-append xs ys d k lt) (all k d (omega (arith, lt, length-append xs ys)))
 
--- what the Ok of two calls says together
+-- what the Ok of two calls says about both
 pub on_both : {T U V E A B C : Type 0} (first : Result T E) (second : Result U E) (whole : Result V E) → IfOk whole (λ v. (is_ok first ≡ true) × (is_ok second ≡ true)) → (A → B → C) → OnOk first A → OnOk second B → OnOk whole C
 on_both (Ok t) (Ok u) (Ok v) both f a b = f a b
 on_both (Err e) second (Ok v) both f a b = absurd (let p : false ≡ true = both.0 in cc)

@@ -74,7 +74,7 @@ fed_here fed batch begun now e r at none h = elim (eqb_tells e now) [
       ]
 ]
 
--- at an input, or at another one
+-- the same for an input that was fed or another one
 fed_there : (a b : Bool) (here fed missed : ℕ → List Record) (e : ℕ) (r waits after : List Record) → after ≡ cond a [] waits → (a ≡ true → here e ≡ r) → (a ≡ false → fed e ++ cond b waits [] ≡ r) → cond a here fed e ++ cond b after [] ≡ r
 fed_there true b here fed missed e r waits after is h g = ap (λ (xs : List Record). here e ++ xs) (nothing_either b after is) ∙ append-nil (here e) ∙ h refl
 fed_there false b here fed missed e r waits after is h g = ap (λ (xs : List Record). fed e ++ cond b xs []) is ∙ g refl

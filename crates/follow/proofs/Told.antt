@@ -80,7 +80,7 @@ told_one s base t u k label old new r entries text h one lt is = record {
         ap (λ (xs : List Record). records_of k entries ++ xs) (of_same k rows) ∙ ap (λ (xs : List Record). xs ++ rows) (h.first k) ∙ joined_parts (told_count t k) (batches_of s k t.done)
         ∙ ap joined (sym (take_all (told_count u k) (batches_of s k t.done) (omega (arith, one.here))))
 
--- nothing more yet
+-- nothing more is written yet
 pub told_none : (s : Shown) (base : ℕ) (t : Telling) (r : Records) (entries : List Entry) (text old : List ℕ) → HasTold s base t.done (told_count t) r entries text → ToldMore s base t.done 0 t r entries text old old
 told_none s base t r entries text old h = record {
   more = [];

@@ -27,7 +27,7 @@ zero_push [] x none e (suc i) = refl
 zero_push (y ∷ xs) x none e zero = none zero
 zero_push (y ∷ xs) x none e (suc i) = zero_push xs x (λ k. none (suc k)) e i
 
--- the places below n have
+-- the places below n have 0
 abbrev pub AreZeroBelow : List ℕ → (n : ℕ) → Type 0
 AreZeroBelow xs n = (k : ℕ) → k < n → slice_index_or xs k 0 ≡ 0
 

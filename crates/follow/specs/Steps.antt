@@ -25,7 +25,7 @@ use Rattle.follow.specs.declared.taken.Taken.{Taken}
 use Rattle.follow.specs.declared.taken.Taken.TheVariants as taken
 use Rattle.follow.specs.declared.telling.Telling.{Telling}
 
--- how following ends where the work stops
+-- how following ends if the work stops
 abbrev pub ending_of : Halt → Ending
 ending_of halt.NoMemory = ending.NoMemory
 ending_of halt.Count = ending.Count

@@ -109,7 +109,7 @@ fn feed_rows<V: Views>(
     }
 }
 
-/// Feeds all that waits.
+/// Feeds everything that waits.
 pub fn feed_portion<V: Views>(
     alloc: Global,
     board: &mut Board<V>,

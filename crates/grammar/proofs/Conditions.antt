@@ -1,4 +1,4 @@
--- No tokens begin with two conditions.
+-- Tokens begin with at most one condition.
 use Rattle.std.proofs.Common.{◌≡◌, ℕ, suc, ◌≤◌, arith, List, ◌∷◌, refl, ap, sym, ◌∙◌}
 use Rattle.record_core.specs.declared.span.Span.{Span}
 use Rattle.record_core.specs.declared.keyword.Keyword.TheVariants as keyword
@@ -56,7 +56,7 @@ one_reading (more {o = o} i d r) (more {o = p} j x y) = let h = one_reading d x 
 pub one_condition : IsOne ConditionAt
 one_condition ts us vs x y h k d e = let a = one_reading d.1 e.1 in record { value = a.tree; height = a.height; left = a.left }
 
--- what follows makes it no lower
+-- adding what follows doesn't lower it
 pub grows : {l : ConnectiveLevel} {a t : CondTree} {e f : Span} {h n : ℕ} {us vs : List Token} → Reads (Rest l a e h) us t f n vs → h ≤ n
 grows (stop x) = omega arith
 grows {h = h} (more {k = k} i d r) = let w = grows r in omega arith

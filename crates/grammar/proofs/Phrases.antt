@@ -1,4 +1,4 @@
--- No tokens begin with two lists of phrases, columns, pairs or aggregates.
+-- Tokens begin with at most one list of phrases, columns, pairs or aggregates.
 use Rattle.std.proofs.Common.{◌≡◌, ℕ, List, [], ◌∷◌, refl, ap, ap₂, sym, ◌∙◌}
 use Rattle.record_core.specs.declared.span.Span.{Span}
 use Rattle.record_core.specs.declared.keyword.Keyword.{Keyword}
@@ -56,7 +56,7 @@ one_pair ts us vs x y h k d e =
     let b = rest_one (rest_one a) in
     record { value = ap₂ made_pair (same_column x.left y.left (first_one a)) (same_column x.right y.right (first_one b)); height = d.2 ∙ sym e.2; left = rest_one b }
 
--- two aggregates of one keyword
+-- two aggregates with the same keyword
 one_of : {k l : Keyword} {s r : Span} {c d : Column} {ts us vs : List Token} → AggOf k s c ts us → AggOf l r d ts vs → OneOf k l s r c d us vs
 one_of {k = k} {l = l} {c = c} {d = d} f g =
     let a = sym f.2 ∙ g.2 in
@@ -67,7 +67,7 @@ one_of {k = k} {l = l} {c = c} {d = d} f g =
     let e : kind.Keyword k ≡ kind.Keyword l = ap (λ x. x.kind) t in
     record { keyword = cc; span = f.1 ∙ (ap₂ (λ x (y : Column). reaching x y.span) p w ∙ sym g.1); column = w; left = rest_one b }
 
--- a keyword alone isn't one with a column
+-- a keyword alone isn't a keyword with a column
 apart : {k l : Keyword} {s r : Span} {c : Column} {ts us vs : List Token} → ts ≡ keyword_at k s ∷ us → AggOf l r c ts vs → k ≡ l
 apart {k = k} {l = l} d g = let t = first_one (sym d ∙ g.2) in let e : kind.Keyword k ≡ kind.Keyword l = ap (λ x. x.kind) t in cc
 

@@ -1,4 +1,4 @@
--- No tokens are two programs.
+-- Tokens are at most one program.
 use Rattle.std.proofs.Common.{◌≡◌, ℕ, max, List, [], ◌∷◌, refl, ap, ap₂, sym, ◌∙◌}
 use Rattle.record_core.specs.declared.span.Span.{Span}
 use Rattle.expr_tree.specs.declared.program.Input.{Input}
@@ -29,7 +29,7 @@ one_lets {text = text} (binding {x = x} i d r) (binding j e t) =
     let b = one_lets r (rw (← rest_one a.left) at t) in
     record { value = ap₂ (λ q bs. record { name_span = x; name = piece text x; relation = q } ∷ bs) a.value b.value; height = cc (a.height, b.height); left = b.left }
 
--- a name and what stands for it aren't a relation and its semicolon
+-- a name with its relation isn't a relation with its semicolon
 pub not_named : {text : List ℕ} {x p q : Span} {r : RelTree} {h : ℕ} {ts us : List Token} → relation.Reads text (token kind.Name x ∷ mark_at mark.Equal p ∷ ts) r h (mark_at mark.Semicolon q ∷ us) → ⊥
 not_named d = elim d [ ]
 

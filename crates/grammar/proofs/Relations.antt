@@ -1,4 +1,4 @@
--- No tokens begin with two relations.
+-- Tokens begin with at most one relation.
 use Rattle.std.proofs.Common.{◌≡◌, ℕ, List, Option, Some, None, refl, ap, sym, ◌∙◌}
 use Rattle.record_core.specs.declared.keyword.Keyword.{Keyword}
 use Rattle.record_core.specs.declared.keyword.Keyword.TheVariants as keyword
@@ -30,7 +30,7 @@ of_keyword Intersect = refl
 pub one_operator : {w v : SetOperator} → operator_keyword w ≡ operator_keyword v → w ≡ v
 one_operator {w = w} {v = v} e = some_one (sym (of_keyword w) ∙ (ap set_operator e ∙ of_keyword v))
 
--- the other keywords are of none
+-- the other keywords have no set operator
 pub no_operator : {k : Keyword} (w : SetOperator) → set_operator k ≡ None → k ≡ operator_keyword w → ⊥
 no_operator w n e = let f : None ≡ Some w = sym n ∙ (ap set_operator e ∙ of_keyword w) in absurd cc
 

@@ -1,4 +1,4 @@
--- No tokens begin with two scalars.
+-- Tokens begin with at most one scalar.
 use Rattle.std.proofs.Common.{◌≡◌, ℕ, suc, ◌≤◌, arith, List, [], ◌∷◌, refl, ap}
 use Rattle.record_core.specs.declared.span.Span.{Span}
 use Rattle.expr_tree.specs.Trees.{ScalarTree}
@@ -41,7 +41,7 @@ one_reading (more {o = o} i d r) (more {o = p} j x y) = let h = one_reading d x 
 pub one_scalar : IsOne ScalarAt
 one_scalar ts us vs x y h k d e = let a = one_reading d.1 e.1 in record { value = a.tree; height = a.height; left = a.left }
 
--- what follows makes it no lower
+-- adding what follows doesn't lower it
 pub grows : {l : OperatorLevel} {a t : ScalarTree} {e f : Span} {h n : ℕ} {us vs : List Token} → Reads (Rest l a e h) us t f n vs → h ≤ n
 grows (stop x) = omega arith
 grows {h = h} (more {k = k} i d r) = let w = grows r in omega arith

@@ -1,4 +1,4 @@
--- No text is two programs.
+-- A text is at most one program.
 use Rattle.std.proofs.Common.{◌≡◌, ℕ, List}
 use Rattle.lexer.proofs.Unique.{lexes_one}
 use Rattle.expr_tree.specs.Trees.{ProgramTree}

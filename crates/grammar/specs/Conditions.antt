@@ -38,20 +38,20 @@ abbrev pub NoConnective : ConnectiveLevel → List Token → Type 0
 NoConnective l [] = Unit {0}
 NoConnective l (t ∷ ts) = connective l t.kind ≡ None
 
--- what is read; of a chain also what follows its operands so far, with their tree, extent and height
+-- what is read; for a chain, also the tree, extent and height of its operands so far
 pub data Part : Type 0 where
   Square : Part
   Single : Part
   Chain : ConnectiveLevel → Part
   Rest : ConnectiveLevel → CondTree → Span → ℕ → Part
 
--- what stands between the connectives of a level
+-- the operand between the connectives of a level
 abbrev pub operand : ConnectiveLevel → Part
 operand Conjunctions = Single
 operand Disjunctions = Chain Conjunctions
 
--- the tokens begin with that part, which is this tree and has this extent and height, and these tokens are left;
--- brackets are within the extent of a part, and not within the span of its node, but those of `not [..]` are
+-- the tokens begin with that part, which is this tree with this extent and height, and these tokens are left; a part's extent includes its brackets,
+-- but the span of its node doesn't, except for those of `not [..]`
 pub data Reads : Part → List Token → CondTree → Span → ℕ → List Token → Type 0 where
   -- test = "not" "[" cond "]" | "[" cond "]" | scalar compare scalar
   square : {s r e : Span} {t : CondTree} {h : ℕ} {ts us : List Token} → Reads (Chain Disjunctions) ts t e h (mark_at mark.CloseSquare r ∷ us) → Reads Square (mark_at mark.OpenSquare s ∷ ts) t (reaching s r) (suc h) us

@@ -25,6 +25,6 @@ pub record Agree {X : Type 0} (x y : X) (h k : ℕ) (us vs : List Token) : Type 
   pub height : h ≡ k
   pub left : us ≡ vs
 
--- no tokens begin with two such phrases
+-- tokens begin with at most one such phrase
 abbrev pub IsOne : {X : Type 0} → (List Token → X → ℕ → List Token → Type 0) → Type 0
 IsOne {X} P = (ts us vs : List Token) (x y : X) (h k : ℕ) → P ts x h us → P ts y k vs → Agree x y h k us vs

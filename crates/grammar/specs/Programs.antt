@@ -37,8 +37,7 @@ pub data Outputs (text : List ℕ) : List Token → List OutputTree → ℕ → 
   last : {o : OutputTree} {h : ℕ} {ts : List Token} → OutputAt text ts o h [] → Outputs text ts (o ∷ []) h
   more : {o : OutputTree} {os : List OutputTree} {h k : ℕ} {ts us : List Token} → OutputAt text ts o h us → Outputs text us os k → Outputs text ts (o ∷ os) (max h k)
 
--- the tokens are a program, which is this tree and whose highest phrase has this height:
--- program = { input } { let } output { output }
+-- the tokens are a program, which is this tree, and its highest phrase has this height: program = { input } { let } output { output }
 pub record ReadsProgram (text : List ℕ) (ts : List Token) (p : ProgramTree) (h : ℕ) : Type 0 where
   pub us : List Token
   pub vs : List Token

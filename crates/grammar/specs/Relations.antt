@@ -1,4 +1,4 @@
--- The grammar of relations, as a relation between tokens and trees; `text` is where the bytes of names stand.
+-- The grammar of relations, as a relation between tokens and trees; `text` has the bytes of the names.
 use Rattle.std.specs.Prelude.{ℕ, suc, max, length, ◌<◌, ◌≤◌, ◌^◌, ◌-◌, ◌≡◌, List, ◌∷◌, take, drop}
 use Rattle.record_core.specs.declared.span.Span.{Span}
 use Rattle.record_core.specs.declared.keyword.Keyword.{Keyword}
@@ -23,7 +23,7 @@ use Rattle.grammar.specs.Conditions.{ConditionAt}
 abbrev pub piece : List ℕ → Span → List ℕ
 piece text s = take (s.end - s.start) (drop s.start text)
 
--- the span is of a name
+-- the span has a name
 abbrev pub IsNameAt : List ℕ → Span → Type 0
 IsNameAt text s = (s.end ≤ length text) × IsName (piece text s)
 
@@ -39,7 +39,7 @@ ColumnAt ts c h us = (ts ≡ column_at c ∷ us) × (h ≡ 1)
 abbrev pub PairAt : List Token → Pair → ℕ → List Token → Type 0
 PairAt ts p h us = (s : Span) × (ts ≡ column_at p.left ∷ mark_at mark.Equal s ∷ column_at p.right ∷ us) × (h ≡ 1)
 
--- a keyword and a column, and the span from the one to the other
+-- a keyword and a column, and the span over both
 abbrev pub AggOf : Keyword → Span → Column → List Token → List Token → Type 0
 AggOf k s c ts us = (r : Span) × (s ≡ reaching r c.span) × (ts ≡ keyword_at k r ∷ column_at c ∷ us)
 
@@ -56,7 +56,7 @@ operator_keyword Concat = keyword.Concat
 operator_keyword Except = keyword.Except
 operator_keyword Intersect = keyword.Intersect
 
--- the tokens begin with a relation, which is this tree and has this height, and these tokens are left
+-- the tokens begin with a relation, which is this tree with this height, and these tokens are left
 pub data Reads (text : List ℕ) : List Token → RelTree → ℕ → List Token → Type 0 where
   -- rel = NAME
   named : {s : Span} {ts : List Token} → IsNameAt text s → Reads text (token kind.Name s ∷ ts) (RelTree.named s (piece text s)) 1 ts

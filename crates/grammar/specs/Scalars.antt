@@ -24,20 +24,20 @@ abbrev pub NoOperator : OperatorLevel → List Token → Type 0
 NoOperator l [] = Unit {0}
 NoOperator l (t ∷ ts) = operator l t.kind ≡ None
 
--- what is read; of a chain also what follows its operands so far, with their tree, extent and height
+-- what is read; for a chain, also the tree, extent and height of its operands so far
 pub data Part : Type 0 where
   Atom : Part
   Unary : Part
   Chain : OperatorLevel → Part
   Rest : OperatorLevel → ScalarTree → Span → ℕ → Part
 
--- what stands between the operators of a level
+-- the operand between the operators of a level
 abbrev pub operand : OperatorLevel → Part
 operand Products = Unary
 operand Sums = Chain Products
 
--- the tokens begin with that part, which is this tree and has this extent and height, and these tokens are left;
--- brackets are within the extent of a part, and not within the span of its node
+-- the tokens begin with that part, which is this tree with this extent and height, and these tokens are left; a part's extent includes its brackets,
+-- but the span of its node doesn't
 pub data Reads : Part → List Token → ScalarTree → Span → ℕ → List Token → Type 0 where
   -- atom = NUMBER | COLUMN | "(" scalar ")"
   number : {s : Span} {n : ℕ} {ts : List Token} → n < 2 ^ 63 → Reads Atom (token (kind.Number n) s ∷ ts) (ScalarTree.literal s (pos n)) s 1 ts

@@ -1,4 +1,4 @@
--- What a text is as a program.
+-- The program that a text is.
 use Rattle.std.specs.Prelude.{ℕ, ◌≤◌, List}
 use Rattle.lexer.specs.declared.token.Token.{Token}
 use Rattle.lexer.specs.Tokens.{Lexes}

@@ -10,27 +10,27 @@ ghost use Rattle.grammar.specs.Relations as relation;
 ghost use Rattle.grammar.specs.Programs.{ReadsProgram};
 ghost use Rattle.grammar.specs.Texts.{Reads};
 
-/// No tokens begin with two scalars.
+/// Tokens begin with at most one scalar.
 pub fn one_scalar()
     ensures { IsOne ScalarAt }
 {}
 
-/// No tokens begin with two conditions.
+/// Tokens begin with at most one condition.
 pub fn one_condition()
     ensures { IsOne ConditionAt }
 {}
 
-/// No tokens begin with two relations.
+/// Tokens begin with at most one relation.
 pub fn one_relation()
     ensures { (text : List ℕ) → IsOne (relation.Reads text) }
 {}
 
-/// No tokens are two programs.
+/// Tokens are at most one program.
 pub fn one_program()
     ensures { (text : List ℕ) (ts : List Token) (p q : ProgramTree) (h k : ℕ) → ReadsProgram text ts p h → ReadsProgram text ts q k → (p ≡ q) × (h ≡ k) }
 {}
 
-/// No text is two programs.
+/// A text is at most one program.
 pub fn one_text()
     ensures { (text : List ℕ) (p q : ProgramTree) → Reads text p → Reads text q → p ≡ q }
 {}

@@ -1,13 +1,13 @@
-//! How tight operators and connectives bind.
+//! How tightly operators and connectives bind.
 
-/// The levels of the operators between scalars, the tighter first: `*`, then `+` and `-`.
+/// The levels of the operators between scalars, the tightest first: `*`, then `+` and `-`.
 #[derive(Clone, Copy, Debug, PartialEq, Eq)]
 pub enum OperatorLevel {
     Products,
     Sums,
 }
 
-/// The levels of the connectives between conditions, the tighter first: `and`, then `or`.
+/// The levels of the connectives between conditions, the tightest first: `and`, then `or`.
 #[derive(Clone, Copy, Debug, PartialEq, Eq)]
 pub enum ConnectiveLevel {
     Conjunctions,

@@ -1,11 +1,11 @@
 //! The grammar of queries: definitions and laws, no program code.
 //!
-//! Each class of phrases is a relation between tokens and trees (`specs/`), whose constructors stand beside their lines of the
-//! grammar: scalars, conditions, relations, programs. It says what the tokens begin with, which tree that is, how high it is,
-//! and which tokens are left. A text is the program that its tokens are.
+//! Each class of phrases (scalars, conditions, relations, programs) is a relation between tokens and trees in `specs/`; its constructors are next to
+//! their lines of the grammar. The relation says which tree the tokens begin with, how high the tree is, and which tokens are left. A text is the
+//! program that its tokens are.
 //!
-//! The contract for the layers above: no tokens are read in two ways, and no text is two programs. Below stand `lexer` with the
-//! tokens, `expr_tree` with the trees and `record_core`; the parser reads by these relations.
+//! The contract for the layers above: no tokens are read in two ways, and no text is two programs. Built on `lexer` with the tokens, `expr_tree` with
+//! the trees, and `record_core`; the parser reads by these relations.
 #![tactic(auto)]
 
 mod laws;

@@ -13,14 +13,14 @@ use Rattle.record_core.specs.Names.{is_digit}
 use Rattle.lexer.specs.Lexemes.{shape_of, HasShape, IsLexeme, IsLongest}
 use Rattle.lexer.proofs.Marks.{place}
 
--- where each byte passes, one does
+-- if every byte passes, the byte at a place does
 pub each_at : (p : ℕ → Bool) (bs : List ℕ) → IsTrue (list_all p bs) → (i : ℕ) → i < length bs → p (get_or bs i 0) ≡ true
 each_at p bs each i lt = elim (cases_Bool (p (get_or bs i 0))) [
   | inl t ↦ t
   | inr f ↦ let g = list_all_at p bs i 0 lt f in absurd cc
 ]
 
--- no longer run does
+-- no longer run passes
 pub run_ends : (p : ℕ → Bool) (bs : List ℕ) (n j : ℕ) → n < j → j ≤ length bs → (n < length bs → p (get_or bs n 0) ≡ false) → IsTrue (list_all p (take j bs)) → ⊥
 run_ends p bs n j lt le stop each =
     let t : p (get_or (take j bs) n 0) ≡ true = each_at p (take j bs) each n (omega (arith, length-take-le j bs le)) in
@@ -28,7 +28,7 @@ run_ends p bs n j lt le stop each =
     let f : p (get_or bs n 0) ≡ false = stop (omega arith) in
     cc
 
--- a lexeme whose bytes after the first are a run
+-- the longest lexeme, if its bytes after the first are a run
 pub longest_run : (s : Shape) (p : ℕ → Bool) (bytes : List ℕ) (b : ℕ) (bs : List ℕ) (n : ℕ) → bytes ≡ b ∷ bs → shape_of b ≡ s
     → (IsTrue (list_all p (take n bs)) → HasShape s b (take n bs)) → ((xs : List ℕ) → HasShape s b xs → IsTrue (list_all p xs))
     → n ≤ length bs → IsTrue (list_all p (take n bs)) → (n < length bs → p (get_or bs n 0) ≡ false)
@@ -47,7 +47,7 @@ longest_run s p bytes b bs n parts e to from le each stop =
         let h : HasShape s b (take j bs) = rw e at is in
         run_ends p bs n j (omega arith) (omega arith) stop (from (take j bs) h)
 
--- a lone `#` begins no lexeme
+-- a `#` without digits begins no lexeme
 pub lone : (bytes : List ℕ) (b : ℕ) (bs : List ℕ) (n : ℕ) → bytes ≡ b ∷ bs → shape_of b ≡ Reference → n ≡ 0 → (n < length bs → is_digit (get_or bs n 0) ≡ false)
     → (k : ℕ) → k ≤ length bytes → IsLexeme (take k bytes) → ⊥
 lone bytes b bs n parts e zeroth stop = rw parts none
@@ -73,7 +73,7 @@ sign_mark : (k b : ℕ) (bs : List ℕ) → shape_of b ≡ Sign → IsLexeme (ta
 sign_mark zero b bs e is = absurd is
 sign_mark (suc j) b bs e is = let h : HasShape Sign b (take j bs) = rw e at is in h
 
--- where no mark stands, no lexeme begins with such a byte
+-- if no mark is at the front, no lexeme begins with such a byte
 pub no_mark : (bytes : List ℕ) (b : ℕ) (bs : List ℕ) → bytes ≡ b ∷ bs → shape_of b ≡ Sign → ((m : Mark) → BeginsWith bytes m → ⊥) → (k : ℕ) → k ≤ length bytes → IsLexeme (take k bytes) → ⊥
 no_mark bytes b bs parts e none k le is =
     let h = sign_mark k b bs e (subst (λ (x : List ℕ). IsLexeme (take k x)) parts is) in

@@ -10,7 +10,7 @@ use Rattle.lexer.specs.declared.mark.Mark.TheVariants.{NotEqual, AtMost, AtLeast
 use Rattle.lexer.specs.declared.mark.TheConstants.{MARKS}
 use Rattle.lexer.specs.Marks.{mark_text, BeginsWith, IsLongestMark}
 
--- what `starts_with` says of the mark's text
+-- what `starts_with` says for the mark's text
 pub begins : (bytes text : List ℕ) (m : Mark) → text ≡ mark_text m → bytes_eq text (take (length text) bytes) ≡ true → BeginsWith bytes m
 begins bytes text m e t =
     let is : text ≡ take (length text) bytes = (bytes_eq-Decides text (take (length text) bytes)).0 t in
@@ -22,7 +22,7 @@ begins_not bytes text m e f b =
     let t : bytes_eq text (take (length text) bytes) ≡ true = (bytes_eq-Decides text (take (length text) bytes)).1 is in
     cc
 
--- one more mark isn't there
+-- one more mark isn't at the front
 pub not_there : (bytes text : List ℕ) (n : ℕ) → ((m : Mark) (i : ℕ) → i < n → slice_get MARKS i ≡ Some m → BeginsWith bytes m → ⊥)
     → text ≡ mark_text (get_or MARKS n NotEqual) → bytes_eq text (take (length text) bytes) ≡ false
     → (m : Mark) (i : ℕ) → i < n + 1 → slice_get MARKS i ≡ Some m → BeginsWith bytes m → ⊥
@@ -34,7 +34,7 @@ not_there bytes text n before e f m i lt at = elim (cases_lt i n) [
       begins_not bytes text m (e ∙ ap (λ (j : ℕ). mark_text (get_or MARKS j NotEqual)) (sym same) ∙ ap mark_text here) f
 ]
 
--- where a mark stands in the table: one of two bytes before one of one byte
+-- the place of a mark in the table: one of two bytes comes before one of one byte
 pub record Place (m : Mark) : Type 0 where
   pub at : ℕ
   pub small : at < 16
@@ -67,7 +67,7 @@ two_bytes (suc zero) lt = refl
 two_bytes (suc (suc zero)) lt = refl
 two_bytes (suc (suc (suc i))) lt = absurd (omega arith)
 
--- the first mark in the table that stands there is the longest
+-- the first mark of the table that is at the front is the longest there
 pub is_longest : (bytes : List ℕ) (n : ℕ) → ((m : Mark) (i : ℕ) → i < n → slice_get MARKS i ≡ Some m → BeginsWith bytes m → ⊥) → BeginsWith bytes (get_or MARKS n NotEqual)
     → IsLongestMark bytes (get_or MARKS n NotEqual)
 is_longest bytes n before b = record {

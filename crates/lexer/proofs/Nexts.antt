@@ -65,7 +65,7 @@ pub goes_on : (text : List ℕ) (at : ℕ) (ts : List Token) (mid : ℕ) (t : To
 goes_on text at [] mid t so_far next = (subst (λ (i : ℕ). IsNext text i t) (sym so_far) next, refl)
 goes_on text at (u ∷ us) mid t so_far next = (so_far.0, goes_on text u.span.end us mid t so_far.1 next)
 
--- each token is in its place
+-- each token is at its place
 pub placed : (text : List ℕ) (at : ℕ) (ts : List Token) (stop : ℕ) → at ≤ length text → LexesTo text at ts stop → All (IsPlaced text) ts
 placed text at [] stop le tokens k d lt = absurd (omega arith)
 placed text at (t ∷ ts) stop le tokens zero d lt = record { order = tokens.0.order; within = (next_ends text at t le tokens.0).1; spelled = tokens.0.spelled }

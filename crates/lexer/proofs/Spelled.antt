@@ -1,4 +1,4 @@
--- A word spells one token at most, of the kind that its first byte says.
+-- A word spells at most one token, of the kind that its first byte shows.
 use Rattle.std.proofs.Common.{◌≡◌, ◌≢◌, ◌<◌, ◌≤◌, ◌^◌, ◌∙◌, ℕ, List, [], ◌∷◌, length, take, true, refl, sym, ap, arith, rules, get_or, decimal, inl, inr, eqb}
 use Rattle.std.specs.Str.Parse.{AllDigits}
 use Rattle.std.specs.Int.{IsInRange}
@@ -89,7 +89,7 @@ spelled_shape word (kind.Column n) h = ap shape_of_text h.0
 spelled_shape word (kind.Mark m) h = ap shape_of_text h ∙ mark_shape m
 spelled_shape word (kind.Keyword k) h = ap shape_of_text h ∙ keyword_shape k
 
--- none of the numbers is it, so nothing is
+-- the word isn't any number, so it spells nothing
 pub no_number : (word : List ℕ) → shape_of_text word ≡ Numeral → ((n : ℕ) → n < 2 ^ 63 → word ≢ decimal n) → (t : TokenKind) → Spells word t → ⊥
 no_number word s none (kind.Number n) h = none n h.1 h.0
 no_number word s none kind.Name h = let e = spelled_shape word kind.Name h in cc
@@ -119,7 +119,7 @@ no_column word b bs parts s none (kind.Keyword k) h = let e = spelled_shape word
 pub is_column : (word : List ℕ) (b : ℕ) (bs : List ℕ) (n : ℕ) → word ≡ b ∷ bs → shape_of b ≡ Reference → (bs ≡ decimal n) × (n < 2 ^ 63) → Spells word (kind.Column n)
 is_column word b bs n parts s h = (parts ∙ ap (λ (x : ℕ). x ∷ bs) (reference_is b s) ∙ ap (λ (xs : List ℕ). 35 ∷ xs) h.0, h.1)
 
--- a word that is no keyword and too long is nothing
+-- a word that isn't a keyword and is too long spells nothing
 pub no_word : (word : List ℕ) → shape_of_text word ≡ Word → ((k : Keyword) → word ≢ keyword_text k) → 32 < length word → (t : TokenKind) → Spells word t → ⊥
 no_word word s none long (kind.Keyword k) h = none k h
 no_word word s none long kind.Name h = let short = h.short in absurd (omega arith)

@@ -25,7 +25,7 @@ use Rattle.lexer.proofs.Lexemes.{each_at}
 use Rattle.std.specs.Str.{bytes_eq}
 use Rattle.lexer.proofs.Spelled.{spelled_shape}
 
--- white space, and then a byte that is none
+-- white space, then a byte that isn't white space
 record Begun (text : List ℕ) (at s : ℕ) : Type 0 where
   after : at ≤ s
   spaces : IsTrue (list_all is_space (take (s - at) (drop at text)))
@@ -137,7 +137,7 @@ make k s e = record { kind = k; span = record { start = s; end = e } }
 token_is : (t u : Token) → t.kind ≡ u.kind → t.span.start ≡ u.span.start → t.span.end ≡ u.span.end → t ≡ u
 token_is t u e f g = ap (λ (k : TokenKind). make k t.span.start t.span.end) e ∙ ap (λ (s : ℕ). make u.kind s t.span.end) f ∙ ap (λ (x : ℕ). make u.kind u.span.start x) g
 
--- the first mark with a text
+-- the first mark with that text
 abbrev mark_at : List ℕ → List Mark → Mark
 mark_at word [] = mark.Star
 mark_at word (m ∷ ms) = cond (bytes_eq word (mark_text m)) m (mark_at word ms)
@@ -160,7 +160,7 @@ mark_back mark.Plus = refl
 mark_back mark.Minus = refl
 mark_back mark.Star = refl
 
--- a word spells one token
+-- a word spells at most one token
 spells_one : (word : List ℕ) (t u : TokenKind) → Spells word t → Spells word u → t ≡ u
 spells_one word kind.Name kind.Name p q = refl
 spells_one word (kind.Number m) (kind.Number n) p q = ap (λ (i : ℕ). kind.Number i) (decimal_injective m n (omega (arith, p.1)) (omega (arith, q.1)) (sym p.0 ∙ q.0))
@@ -202,7 +202,7 @@ next_fault text at t code start end next fault =
           b.none t.kind (subst (λ (k : ℕ). Spells (take k (drop t.span.start text)) t.kind) size next.spelled)
     ]
 
--- a text has one list of tokens
+-- a text has at most one list of tokens
 tokens_one : (text : List ℕ) (at : ℕ) (ts us : List Token) (p q : ℕ) → LexesTo text at ts p → IsTrue (list_all is_space (drop p text)) → LexesTo text at us q → IsTrue (list_all is_space (drop q text)) → us ≡ ts
 tokens_one text at [] [] p q a b c d = refl
 tokens_one text at [] (u ∷ us) p q a b c d = absurd (next_end text at u c.0 (subst (λ (i : ℕ). IsTrue (list_all is_space (drop i text))) (sym a) b))
@@ -215,7 +215,7 @@ tokens_one text at (t ∷ ts) (u ∷ us) p q a b c d =
 pub lexes_one : (text : List ℕ) (ts us : List Token) → Lexes text ts → Lexes text us → us ≡ ts
 lexes_one text ts us p q = tokens_one text 0 ts us p.stop q.stop p.tokens p.rest q.tokens q.rest
 
--- a text with a fault has none
+-- a text with a fault has no list of tokens
 fault_none : (text : List ℕ) (at : ℕ) (ts us : List Token) (p q code start end : ℕ) → LexesTo text at ts p → IsFault text p code start end → LexesTo text at us q → IsTrue (list_all is_space (drop q text)) → ⊥
 fault_none text at [] [] p q code start end a f c d = begun_end text at start (begun_fault text at code start end (subst (λ (i : ℕ). IsFault text i code start end) (sym a) f)) (subst (λ (i : ℕ). IsTrue (list_all is_space (drop i text))) (sym c) d)
 fault_none text at [] (u ∷ us) p q code start end a f c d = next_fault text at u code start end c.0 (subst (λ (i : ℕ). IsFault text i code start end) (sym a) f)
@@ -232,7 +232,7 @@ refused_none text (At code span) us r memory q = elim r [
   | inr fault ↦ fault_none text 0 fault.1 us fault.2 q.stop code span.start span.end fault.3 fault.4 q.tokens q.rest
 ]
 
--- one first fault
+-- a text has at most one first fault
 fault_one : (text : List ℕ) (at c s e d u f : ℕ) → IsFault text at c s e → IsFault text at d u f → (d ≡ c) × (u ≡ s) × (f ≡ e)
 fault_one text at c s e d u f p q =
     let start : u ≡ s = begun_one text at u s (begun_fault text at d u f q) (begun_fault text at c s e p) in

@@ -10,7 +10,7 @@ use Rattle.lexer.specs.declared.lexeme.Shape.TheVariants.{Word, Numeral, Referen
 use Rattle.lexer.specs.Lexemes.{is_space, shape_of, IsLexeme, IsLongest}
 use Rattle.lexer.specs.Tokens.{Spells, IsNext, LexesTo, max_length}
 
--- no token begins with the first byte, nor is it white space
+-- the first byte begins no token, and isn't white space
 pub record IsStray (bytes : List ℕ) : Type 0 where
   pub some : 0 < length bytes
   pub solid : IsFalse (is_space (slice_index bytes 0))
@@ -21,7 +21,7 @@ pub record IsMisspelled (bytes : List ℕ) (n : ℕ) : Type 0 where
   pub longest : IsLongest bytes n
   pub none : (t : TokenKind) → Spells (take n bytes) t → ⊥
 
--- 3 for a name that is too long, 2 for digits that are no number of the language
+-- 3 for a name that is too long, 2 for digits that aren't a number of the language
 abbrev pub fault_code : Shape → ℕ
 fault_code Word = 3
 fault_code Numeral = 2
@@ -36,13 +36,13 @@ pub record IsFault (text : List ℕ) (at code start end : ℕ) : Type 0 where
   pub what : ((code ≡ 1) × (end ≡ start + 1) × IsStray (drop start text))
       ⊎ ((code ≡ fault_code (shape_of (slice_index text start))) × IsMisspelled (drop start text) (end - start))
 
--- Why a text is refused: it is too long, or has tokens up to a fault. Want of memory may come at any text.
+-- Why a text is refused: it is too long, or has tokens up to a fault. Any text may be refused for want of memory.
 abbrev pub Refuses : List ℕ → Refusal → Type 0
 Refuses text NoMemory = ⊤
 Refuses text (At code span) = ((max_length < length text) × (code ≡ 6) × (span.start ≡ max_length) × (span.end ≡ max_length))
     ⊎ ((length text ≤ max_length) × (ts : List Token) × (at : ℕ) × LexesTo text 0 ts at × IsFault text at code span.start span.end)
 
--- what a text begins with at a place: white space alone, or white space and a token
+-- what the text has next at a place: only white space, or white space and a token
 abbrev pub Begins : List ℕ → ℕ → Option Token → Type 0
 Begins text at None = IsTrue (list_all is_space (drop at text))
 Begins text at (Some t) = IsNext text at t

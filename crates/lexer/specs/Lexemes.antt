@@ -35,7 +35,7 @@ abbrev pub IsLexeme : List ℕ → Type 0
 IsLexeme [] = ⊥
 IsLexeme (b ∷ bs) = HasShape (shape_of b) b bs
 
--- the first n bytes are a lexeme, and no more bytes are
+-- the first n bytes are a lexeme, and no longer front is one
 pub record IsLongest (bytes : List ℕ) (n : ℕ) : Type 0 where
   pub within : n ≤ length bytes
   pub lexeme : IsLexeme (take n bytes)

@@ -22,11 +22,11 @@ mark_text mark.Plus = codes "+"
 mark_text mark.Minus = codes "-"
 mark_text mark.Star = codes "*"
 
--- the mark stands at the front of the bytes
+-- the mark is at the front of the bytes
 abbrev pub BeginsWith : List ℕ → Mark → Type 0
 BeginsWith bytes m = take (length (mark_text m)) bytes ≡ mark_text m
 
--- it does, and no longer mark does
+-- the mark is at the front, and no longer one is
 pub record IsLongestMark (bytes : List ℕ) (m : Mark) : Type 0 where
   pub begins : BeginsWith bytes m
   pub longest : (n : Mark) → length (mark_text m) < length (mark_text n) → BeginsWith bytes n → ⊥

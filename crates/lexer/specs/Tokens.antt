@@ -24,13 +24,13 @@ pub record IsNext (text : List ℕ) (at : ℕ) (t : Token) : Type 0 where
   pub longest : IsLongest (drop t.span.start text) (t.span.end - t.span.start)
   pub spelled : Spells (slice_range text t.span.start t.span.end) t.kind
 
--- the token lies in the text, and the slice at its span spells it
+-- the token is inside the text, and the slice at its span spells it
 pub record IsPlaced (text : List ℕ) (t : Token) : Type 0 where
   pub order : t.span.start < t.span.end
   pub within : t.span.end ≤ length text
   pub spelled : Spells (slice_range text t.span.start t.span.end) t.kind
 
--- from at up to stop the text has just these tokens
+-- from at up to stop the text has exactly these tokens
 abbrev pub LexesTo : List ℕ → ℕ → List Token → ℕ → Type 0
 LexesTo text at [] stop = at ≡ stop
 LexesTo text at (t ∷ ts) stop = IsNext text at t × LexesTo text t.span.end ts stop

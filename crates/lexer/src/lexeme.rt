@@ -1,4 +1,4 @@
-//! How far the token at the front of some bytes reaches.
+//! Finds the length of the token at the front of some bytes.
 
 ghost use Rattle.std.specs.Prelude.{◌≡◌, ◌<◌, ◌≤◌, ℕ, length, slice_index, take, IsTrue, IsFalse, IfSome, IfNone};
 ghost use Rattle.std.specs.List.{list_all};
@@ -19,7 +19,7 @@ pub(crate) enum Shape {
     Sign,
 }
 
-/// Bytes that stand side by side in one token, or between tokens.
+/// Bytes that may follow one another in one token, or between tokens.
 #[derive(Clone, Copy, Debug, PartialEq, Eq)]
 pub(crate) enum Class {
     Space,
@@ -50,7 +50,7 @@ impl Class {
     }
 }
 
-/// How many bytes of a class stand at the front.
+/// The number of bytes of a class at the front.
 pub(crate) fn run(bytes: &[u8], class: Class) -> usize
     ensures within { result ≤ length bytes.now }
     ensures each { IsTrue (list_all (passes class) (take result bytes.now)) }
@@ -64,7 +64,7 @@ pub(crate) fn run(bytes: &[u8], class: Class) -> usize
     bytes.len()
 }
 
-/// How many bytes the token at the front has, if one begins there.
+/// The number of bytes of the token at the front, if one begins there.
 pub(crate) fn lexeme_len(bytes: &[u8]) -> Option<usize>
     ensures found { IfSome result (λ n. IsLongest bytes.now n) }
     ensures none { IfNone result ((k : ℕ) → k ≤ length bytes.now → ¬ (IsLexeme (take k bytes.now))) }

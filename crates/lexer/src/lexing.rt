@@ -19,24 +19,24 @@ pub const MAX_LENGTH: usize = 1_048_576;
 
 /// The tokens of a text, in order.
 ///
-/// Refusals, the first in the text alone:
-/// - 1: a byte that begins no token, also a `#` with no digit and a `!` with no `=` at once after it. Its span is the byte.
+/// Refusals, of which only the first in the text is reported:
+/// - 1: a byte that begins no token, including a `#` without a digit and a `!` without a `=` directly after it. Its span is the byte.
 /// - 2: a number with a leading zero or above 9223372036854775807. Its span is the whole run of digits, with the `#` of a column.
 /// - 3: a name of more than 32 bytes. Its span is the whole run of name bytes.
-/// - 6: a text of more than 1,048,576 bytes, told before all others. Its span is the empty one at 1048576.
+/// - 6: a text of more than 1,048,576 bytes; reported before all others. Its span is the empty one at 1048576.
 /// - `NoMemory`: the allocator refused.
 pub fn lex<A: Allocator>(alloc: A, text: &[u8]) -> Result<Vec<Token, A>, Refusal>
     // They are the text's tokens, in order, and the rest is white space.
     ensures tokens { IfOk result (λ v. Lexes text.now v.items) }
-    // The text has no others.
+    // The text has no other tokens.
     ensures only { IfOk result (λ v. (ts : List Token) → Lexes text.now ts → ts ≡ v.items) }
-    // Each lies in the text, and its span's slice spells it: at a name, a slice that is a name.
+    // Each is in the text, and its span's slice spells it; a name's slice is a name.
     ensures placed { IfOk result (λ v. All (IsPlaced text.now) v.items) }
-    // A refusal tells the first fault.
+    // A refusal is the first fault.
     ensures refused { IfErr result (λ e. Refuses text.now e) }
     // The text has no other first fault.
     ensures first { IfErr result (λ e. e ≢ Refusal.NoMemory → (f : Refusal) → f ≢ Refusal.NoMemory → Refuses text.now f → f ≡ e) }
-    // A text that is refused, but for memory, has no tokens.
+    // A text that is refused, except for want of memory, has no tokens.
     ensures none { IfErr result (λ e. e ≢ Refusal.NoMemory → (ts : List Token) → ¬ (Lexes text.now ts)) }
 {
     scan(alloc, text)
@@ -61,7 +61,7 @@ fn scan<A: Allocator>(alloc: A, text: &[u8]) -> Result<Vec<Token, A>, Refusal>
     Ok(tokens)
 }
 
-/// The token that comes next, after white space.
+/// The next token, after white space.
 fn next_token(text: &[u8], at: usize) -> Result<Option<Token>, Refusal>
     requires short { length text.now ≤ max_length }
     requires within { at ≤ length text.now }
@@ -92,7 +92,7 @@ fn next_token(text: &[u8], at: usize) -> Result<Option<Token>, Refusal>
     }
 }
 
-/// The code of a lexeme that spells no token, by its first byte.
+/// The code for a lexeme that spells no token, by its first byte.
 fn bad_code(byte: u8) -> u8
     ensures { result ≡ fault_code (shape_of byte) }
 {

@@ -1,8 +1,8 @@
 //! From the bytes of a query to its tokens.
 //!
-//! The contract for the layers above: `lex` is `Ok` only with the tokens of the text, at each place the longest, and only white
-//! space between them; no other list is one. A numbered refusal is the first fault of the text, with its code and place, and a
-//! text that is refused so has no tokens. The parser stands above, `record_core` and `decimal` below.
+//! The contract for the layers above: `lex` is `Ok` only with the tokens of the text, at each place the longest, and only white space between them;
+//! no other list has that property. A numbered refusal is the first fault of the text, with its code and place; such a text has no list of tokens.
+//! Built on `record_core` and `decimal`; the parser uses it.
 #![tactic(auto)]
 
 mod lexeme;

@@ -45,7 +45,7 @@ const MARKS: [Mark; 16] = [
 ];
 
 impl Mark {
-    /// How it is spelled: one or two bytes.
+    /// The spelling of the mark: one or two bytes.
     pub fn text(self) -> &'static [u8]
         ensures { result.now ≡ mark_text self }
     {
@@ -69,7 +69,7 @@ impl Mark {
         }
     }
 
-    /// The mark at the front of the bytes, the longer one where two stand there.
+    /// The mark at the front of the bytes; the longer one if two are there.
     pub(crate) fn at_front(bytes: &[u8]) -> Option<Mark>
         ensures found { IfSome result (λ m. IsLongestMark bytes.now m) }
         ensures none { IfNone result ((m : Mark) → ¬ (BeginsWith bytes.now m)) }

@@ -1,4 +1,4 @@
-//! Which token a lexeme spells.
+//! Decides which token a lexeme spells.
 
 ghost use Rattle.std.specs.Prelude.{◌≡◌, ◌≢◌, ◌<◌, ◌^◌, ℕ, slice_index, decimal, IfSome, IfNone};
 ghost use Rattle.lexer.specs.declared.token.TokenKind.{TokenKind};
@@ -11,7 +11,7 @@ use crate::token::TokenKind;
 use decimal::number;
 use record_core::Keyword;
 
-/// The token that a lexeme spells. None for a name that is too long, and for digits that are no number of the language.
+/// The token that a lexeme spells. `None` for a name that is too long, and for digits that aren't a number of the language.
 pub(crate) fn kind_of(word: &[u8]) -> Option<TokenKind>
     requires { IsLexeme word.now }
     ensures found { IfSome result (λ t. Spells word.now t) }

@@ -12,7 +12,7 @@ last_from_append : (d : ℕ) (cs : List ℕ) (c : ℕ) → last_from d (cs ++ (c
 last_from_append d [] c = refl
 last_from_append d (x ∷ cs) c = last_from_append x cs c
 
--- what was put at the end is the last
+-- what was appended is the last
 pub last_append : (cs : List ℕ) (c : ℕ) → last (cs ++ (c ∷ [])) ≡ c
 last_append cs c = last_from_append 0 cs c
 
@@ -20,7 +20,7 @@ front_from_append : (d : ℕ) (cs : List ℕ) (c : ℕ) → front_from d (cs ++ 
 front_from_append d [] c = refl
 front_from_append d (x ∷ cs) c = ap (λ l. d ∷ l) (front_from_append x cs c)
 
--- what was there before something was put at the end is all but the last
+-- what was there before something was appended is all but the last
 pub front_append : (cs : List ℕ) (c : ℕ) → front (cs ++ (c ∷ [])) ≡ cs
 front_append [] c = refl
 front_append (x ∷ cs) c = front_from_append x cs c

@@ -3,7 +3,7 @@ use Rattle.semantics.specs.Time as semantics
 use Rattle.loop_context.specs.declared.action.Action.{Action}
 use Rattle.loop_context.specs.declared.action.Action.TheVariants.{Stay, Enter, Leave, Next}
 
--- the definition's action
+-- the action, in the definition's terms
 abbrev pub action_of : Action → semantics.Action
 action_of Stay = semantics.Action.stay
 action_of Enter = semantics.Action.enter

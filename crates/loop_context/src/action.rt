@@ -1,6 +1,6 @@
 //! What vertices do to times.
 
-/// Nothing, into a loop, out of it, or to its next turn.
+/// No change, into a loop, out of it, or to its next turn.
 #[derive(Clone, Copy, Debug, PartialEq, Eq)]
 pub enum Action {
     Stay,

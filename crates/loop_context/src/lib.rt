@@ -1,9 +1,9 @@
-//! Times: an epoch, and a counter for each loop around a place.
+//! Timestamps: an epoch, and a counter for each loop around a place.
 //!
-//! The contract for the layers above: a time is seen as `semantics`' `Time`; it is ordered by the definition's order, and it is
-//! taken into a loop, out of it and to the next turn as ingress, egress and feedback vertices do. Nothing here takes memory.
+//! The contract for the layers above: a time is `semantics`' `Time` with the definition's order. It is taken into a loop, out of it and to the next
+//! turn as ingress, egress and feedback vertices do. Nothing here takes memory.
 //!
-//! Below stand `semantics` and `arrayvec`. Path summaries, trackers, shards and the board speak of times.
+//! Built on `semantics` and `arrayvec`. Path summaries, trackers, shards and the board use times.
 #![tactic(auto)]
 
 mod action;

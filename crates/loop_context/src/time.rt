@@ -1,4 +1,4 @@
-//! Times.
+//! The type of timestamps.
 
 ghost use Rattle.std.specs.Prelude.{◌≡◌, ◌⊎◌, ◌≤◌, ◌<◌, ◌↔◌, ◌^◌, ◌-◌, true, length, IsTrue, IsNone, IfSome, SomeIff};
 ghost use Rattle.semantics.specs.Limits.{max_loops};
@@ -7,7 +7,7 @@ ghost use Rattle.semantics.specs.Time.{Action, IsAtMost, after_action, at_epoch,
 use arrayvec::ArrayVec;
 use std::marker::Model;
 
-/// The greatest number of loops around a place.
+/// The most loops around a place.
 pub const MAX_LOOPS: usize = 16;
 
 /// An epoch, and the counters of the loops around a place, outermost first: at most `MAX_LOOPS`.
@@ -32,7 +32,7 @@ impl Model for Time {
 }
 
 impl Time {
-    /// The time of these; `None` exactly for more than `MAX_LOOPS` counters.
+    /// A time with this epoch and these counters; `None` exactly for more than `MAX_LOOPS` counters.
     pub fn new(epoch: u32, counters: &[u32]) -> Option<Time>
         ensures { SomeIff result (length counters.now ≤ max_loops) (record { epoch = epoch; counters = counters.now }) }
     {
@@ -99,21 +99,21 @@ impl Time {
         }
     }
 
-    /// Whether this time is at or before the other: its epoch is, and its counters are in lexicographic order.
+    /// Whether this time is at or before the other: its epoch is at most the other's, and so are its counters, in lexicographic order.
     pub fn leq(&self, other: &Time) -> bool
         ensures { IsTrue result ↔ IsAtMost self.now other.now }
     {
         self.epoch <= other.epoch && in_order(self.counters(), other.counters())
     }
 
-    /// Whether the counters of this time are those of the other, or before them in lexicographic order.
+    /// Whether the counters of this time are at or before the other's in lexicographic order.
     pub fn counters_leq(&self, other: &Time) -> bool
         ensures { IsTrue result ↔ ((self.now.counters ≡ other.now.counters) ⊎ (is_before self.now.counters other.now.counters ≡ true)) }
     {
         in_order(self.counters(), other.counters())
     }
 
-    /// The time on the way into a loop, at its first turn; `None` exactly where `MAX_LOOPS` loops are around it already.
+    /// The time on the way into a loop, at its first turn; `None` exactly if `MAX_LOOPS` loops are already around it.
     pub fn enter(&self) -> Option<Time>
         ensures entered { IfSome result (λ t. t ≡ after_action Action.enter self.now) }
         ensures deepest { IsNone result ↔ (length self.now.counters ≡ max_loops) }
@@ -136,7 +136,7 @@ impl Time {
         time
     }
 
-    /// The time at the next turn of the innermost loop; `None` exactly where its counter is the greatest u32.
+    /// The time at the next turn of the innermost loop; `None` exactly if its counter is the greatest u32.
     #[tactic(auto, using(crate::proofs::Counters::last_append, crate::proofs::Counters::front_append))]
     pub fn next(&self) -> Option<Time>
         requires { 0 < length self.now.counters }
@@ -150,7 +150,7 @@ impl Time {
     }
 }
 
-/// Whether the counters are in lexicographic order.
+/// Whether the first counters are at or before the second in lexicographic order.
 #[tactic(auto, using(crate::proofs::Counters::order_from_slices, crate::proofs::Counters::slices_from_order))]
 fn in_order(counters: &[u32], others: &[u32]) -> bool
     ensures { IsTrue result ↔ ((counters.now ≡ others.now) ⊎ (is_before counters.now others.now ≡ true)) }

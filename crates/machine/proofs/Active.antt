@@ -184,7 +184,7 @@ module _ (g : Network) (law : IsNetwork g) (w : World) where
       way k (inr (x, y)) (inl (x', y')) = absurd (x x')
       way k (inr (x, y)) (inr (x', y')) = ap₂ (λ ms z. total (λ m. one_if_same p (message_pointstamp m)) (w.mail k) + total (λ n. one_if_same p (request_pointstamp n)) ms + held_count p z) y y'
 
-  -- two messages of one pointstamp become one
+  -- two messages with one pointstamp are merged
   count_merge : (k0 at : ℕ) (m n : Message) → Allowed g w (Step.merge k0 at m n) → (p : Pointstamp) → active_count g (after_step g w (Step.merge k0 at m n)) p + step_removes g w (Step.merge k0 at m n) p ≡ active_count g w p + 0
   count_merge k0 at m n ok p =
       let a : sum_below g.workers (worker_count (after_step g w (Step.merge k0 at m n)) p) + worker_count w p k0 ≡ sum_below g.workers (worker_count w p) + worker_count (after_step g w (Step.merge k0 at m n)) p k0 =

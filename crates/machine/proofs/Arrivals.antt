@@ -1,4 +1,4 @@
--- A commit of a message keeps what every reached world keeps.
+-- A commit of a message keeps the facts that hold in every reached world.
 use Rattle.std.proofs.Common.{◌≡◌, ◌≢◌, ◌≤◌, ◌<◌, ℕ, zero, suc, ◌+◌, Bool, true, false, cond, eqb, List, [], ◌∷◌, ◌++◌, ◌⊎◌, inl, inr, refl, sym, ap, ◌∙◌, subst, ap₂, arith, append-nil}
 use Rattle.std.proofs.lemmas.Bool.Decides.{eqb_tells}
 use Rattle.semantics.specs.Multiset.{total, Record, count, end_to_end, ◌≈◌}
@@ -126,7 +126,7 @@ module _ (g : Network) (law : IsNetwork g) (w : World) (h : History) (keeps : Ke
   port_of : (v p : ℕ) → p < g.ports v → m.edge ≡ g.edge_into v p → g.in_port m.edge ≡ p
   port_of v p lp e = ap g.in_port e ∙ law.port_into v p lp
 
-  -- nobody was told that nothing more comes
+  -- no worker was notified that nothing more comes
   untold : g.role (g.target m.edge) ≡ Role.notified → (k : ℕ) → k < g.workers → h.told k (g.target m.edge) m.time ≡ false
   untold s k lk = go (h.told k (g.target m.edge) m.time) refl
     where
@@ -200,7 +200,7 @@ module _ (g : Network) (law : IsNetwork g) (w : World) (h : History) (keeps : Ke
   always : g.role (g.target m.edge) ≢ Role.notified → h.told k0 (g.target m.edge) m.time ≡ true
   always s = keeps.always_told k0 (g.target m.edge) m.time s
 
-  -- at a port: what was there, and the message
+  -- at a port: what was there, plus the message
   done_split : (p : ℕ) → p < g.ports (g.target m.edge) → (done_after h k0 m k0 (g.edge_into (g.target m.edge) p) m.time) ≈ (([] ++ h.done k0 (g.edge_into (g.target m.edge) p) m.time) ++ only_at (g.in_port m.edge) m.records p)
   done_split p lp = record { counts = λ r. go r (done_tells h k0 m k0 (g.edge_into (g.target m.edge) p) m.time) (eqb_tells p (g.in_port m.edge)) }
     where
@@ -295,7 +295,7 @@ module _ (g : Network) (law : IsNetwork g) (w : World) (h : History) (keeps : Ke
   any_is : g.role (g.target m.edge) ≡ Role.notified → at_any ≡ done_at g h k0 (g.target m.edge) m.time
   any_is s = end_same (λ p. w.absorbed k0 (g.target m.edge) p m.time) (λ p. h.done k0 (g.edge_into (g.target m.edge) p) m.time) (g.ports (g.target m.edge)) (λ p lp. keeps.shards k0 (g.target m.edge) p m.time ok.0 lp (inr s))
 
-  -- at another vertex or time nothing more was processed
+  -- at another vertex or time, nothing more was processed
   done_same : (k v : ℕ) (t : Time) → (k ≡ k0 → g.target m.edge ≡ v → m.time ≡ t → ⊥) → done_at g (history_done h k0 m) k v t ≡ done_at g h k v t
   done_same k v t never = end_same (λ p. done_after h k0 m k (g.edge_into v p) t) (λ p. h.done k (g.edge_into v p) t) (g.ports v) (λ p lp. go p lp (done_tells h k0 m k (g.edge_into v p) t))
     where
@@ -303,7 +303,7 @@ module _ (g : Network) (law : IsNetwork g) (w : World) (h : History) (keeps : Ke
       go p lp (inl x) = absurd (never x.worker (vertex_of v p lp x.edge) x.time)
       go p lp (inr x) = x.is
 
-  -- at the message's own there is something now
+  -- at the message's own vertex and time, something was processed now
   done_some : (v : ℕ) (t : Time) → g.target m.edge ≡ v → m.time ≡ t → some (done_at g (history_done h k0 m) k0 v t) ≡ 1
   done_some v t a b = some_of_port (λ p. done_after h k0 m k0 (g.edge_into v p) t) (g.ports v) (g.in_port m.edge) (subst (λ (x : ℕ). g.in_port m.edge < g.ports x) a (law.target_ports m.edge good_message.0)) (go (done_tells h k0 m k0 (g.edge_into v (g.in_port m.edge)) t))
     where
@@ -311,7 +311,7 @@ module _ (g : Network) (law : IsNetwork g) (w : World) (h : History) (keeps : Ke
       go (inl x) = let z : some (done_after h k0 m k0 (g.edge_into v (g.in_port m.edge)) t) ≡ 1 = ap some x.is ∙ some_append (h.done k0 (g.edge_into v (g.in_port m.edge)) t) m.records good_message.1 in omega arith
       go (inr x) = absurd (x.other refl (sym edge_here ∙ ap (λ z. g.edge_into z (g.in_port m.edge)) a) b)
 
-  -- what is asked for, and what was processed
+  -- what is asked for matches what was processed
   wish : (v : ℕ) (t : Time) → g.role v ≡ Role.notified → total (wished v t) (asked g w k0 (Event.arrival m)) + some (done_at g h k0 v t) ≡ some (done_at g (history_done h k0 m) k0 v t)
   wish v t s = go (notified_asked (g.role (g.target m.edge)) (g.target m.edge) m.time at_any) (eqb_tells (g.target m.edge) v) (same_time_tells m.time t)
     where

@@ -1,4 +1,4 @@
--- A commit keeps what every reached world keeps.
+-- A commit keeps the facts that hold in every reached world.
 use Rattle.std.proofs.Common.{◌≡◌, ◌≢◌, ◌≤◌, ◌<◌, ℕ, ◌+◌, ◌*◌, true, false, cond, eqb, List, [], ◌⊎◌, inl, inr, sym, ap, ◌∙◌, subst, arith}
 use Rattle.std.proofs.lemmas.Bool.Decides.{eqb_tells}
 use Rattle.semantics.specs.Multiset.{total, Record, count}
@@ -22,7 +22,7 @@ use Rattle.machine.proofs.Progress.{put_tells, put_here}
 use Rattle.machine.proofs.Steps.{sent_elsewhere}
 
 module _ (g : Network) (law : IsNetwork g) (w : World) (h : History) (keeps : Kept g w h) where
-  -- records that were sent lie within what the vertex's times count
+  -- the records that were sent are among those at the vertex's counted times
   pub once : HasFlows g → (e : ℕ) (t : Time) (r : Record) → e < g.edges → g.IsPointstamp (on_edge e t) → 0 < count r (w.sent e t) → times_in t (g.times_before (g.target e) (g.act (g.target e) t)) ≡ 1
   once flows e t r le fits some = go (law.before_once (g.target e) t (g.act (g.target e) t))
     where
@@ -35,7 +35,7 @@ module _ (g : Network) (law : IsNetwork g) (w : World) (h : History) (keeps : Ke
           absurd (omega arith)
 
   module _ (k0 : ℕ) (event : Event) (out : ℕ → List Record) (ok : Allowed g w (Step.commit k0 event out)) where
-    -- what was held is given up, and the parcels come
+    -- what was held is gone, and the parcels are under way
     pub way_after : (e : ℕ) (t : Time) (r : Record) → sum_below g.workers (under_way (after_step g w (Step.commit k0 event out)) e t r) + carried_by e t r event
         ≡ sum_below g.workers (under_way w e t r) + sum_below g.workers (λ k. total (carried e t r) (parcels g k0 (event_vertex g event) (g.act (event_vertex g event) (event_time event)) out k g.edges))
     way_after e t r =

@@ -6,7 +6,7 @@ use Rattle.semantics.specs.Time.{same_counters}
 use Rattle.semantics.proofs.MultisetSums.{Decides-same}
 use Rattle.machine.specs.Active.{sum_below}
 
--- the test of two lists, with what it tells
+-- the test of two lists, with what it shows
 pub same_list_tells : (xs ys : List ℕ) → ((same_counters xs ys ≡ true) × (xs ≡ ys)) ⊎ ((same_counters xs ys ≡ false) × (xs ≢ ys))
 same_list_tells [] [] = inl (refl, refl)
 same_list_tells [] (y ∷ ys) = inr (refl, λ e. cc)
@@ -18,7 +18,7 @@ same_list_tells (x ∷ xs) (y ∷ ys) = go (eqb_tells x y) (same_list_tells xs y
     go (inl (a, b)) (inr (c, d)) = inr (rw a c, λ e. d cc)
     go (inr (a, b)) s = inr (rw a refl, λ e. b cc)
 
--- the test of two records, with what it tells
+-- the test of two records, with what it shows
 pub same_tells : (x r : Record) → ((same x r ≡ true) × (x ≡ r)) ⊎ ((same x r ≡ false) × (x ≢ r))
 same_tells x r = go (same x r) refl
   where
@@ -61,7 +61,7 @@ pub below_add : (n : ℕ) (f f' : ℕ → ℕ) → sum_below n (λ k. f k + f' k
 below_add zero f f' = refl
 below_add (suc n) f f' = omega (arith, below_add n f f')
 
--- one is no more than all
+-- one term is at most the sum
 pub below_one : (n k : ℕ) (f : ℕ → ℕ) → k < n → f k ≤ sum_below n f
 below_one zero k f l = absurd (omega arith)
 below_one (suc n) k f l = go (eqb_tells k n) (below_one n k f)
@@ -90,7 +90,7 @@ pub total_same : {X : Type 0} (f f' : X → ℕ) (xs : List X) → ((x : X) → 
 total_same f f' [] h = refl
 total_same f f' (x ∷ xs) h = omega (arith, total_same f f' xs h, h x)
 
--- one taken out of a list
+-- one element taken out of a list
 pub total-remove : {X : Type 0} (f : X → ℕ) (xs : List X) (at : ℕ) (x : X) → slice_get xs at ≡ Some x → total f (remove xs at) + f x ≡ total f xs
 total-remove f [] at x e = absurd cc
 total-remove f (y ∷ ys) zero x e = let s : f y ≡ f x = cc in omega arith
@@ -99,7 +99,7 @@ total-remove f (y ∷ ys) (suc at) x e = omega (arith, total-remove f ys at x e)
 pub total_one : {X : Type 0} (f : X → ℕ) (xs : List X) (at : ℕ) (x : X) → slice_get xs at ≡ Some x → f x ≤ total f xs
 total_one f xs at x e = omega (arith, total-remove f xs at x e)
 
--- a list of records with a count has one
+-- if a record has a count in the lists end to end, one of them has it
 pub counted-end_to_end : (f : ℕ → List Record) (n : ℕ) (r : Record) → count r (end_to_end f n) ≡ sum_below n (λ k. count r (f k))
 counted-end_to_end f zero r = refl
 counted-end_to_end f (suc n) r = omega (arith, count-append r (end_to_end f n) (f n), counted-end_to_end f n r)

@@ -1,4 +1,4 @@
--- What the kept facts give at a world: the headline's parts.
+-- What the kept facts imply at a world: the parts of the headline.
 use Rattle.std.proofs.Common.{◌≡◌, ◌≢◌, ◌≤◌, ◌<◌, ℕ, ◌+◌, Bool, true, false, eqb, List, [], ◌∷◌, ◌⊎◌, inl, inr, refl, sym, ap, ◌∙◌, subst, arith, slice_get, Some}
 use Rattle.std.proofs.lemmas.Bool.Decides.{eqb_tells}
 use mathlib.Core.WellFounded.{Acc}
@@ -19,7 +19,7 @@ use Rattle.machine.proofs.NetFlow.{IsNetFlow}
 use Rattle.machine.proofs.Places.{same_time_tells, total_zero, total_times, total_times_more, is_input_role, is_notified_role, inner_kind, edge_not_vertex, some_below}
 use Rattle.machine.proofs.Rank.{could_back, lower}
 
--- a message of this edge and time is there, or nothing is carried
+-- a message of this edge and time is there, or it carries nothing there
 pub carried_place : (e : ℕ) (t : Time) (r : Record) (m : Message) → (carried e t r m ≡ 0) ⊎ (message_pointstamp m ≡ on_edge e t)
 carried_place e t r m = go (eqb_tells m.edge e) (same_time_tells m.time t)
   where
@@ -37,7 +37,7 @@ wished_place v t n = go (eqb_tells n.vertex v) (same_time_tells n.time t)
     go (inr (a, b)) s = inl (rw a refl)
 
 module _ (g : Network) (law : IsNetwork g) (w : World) where
-  -- nothing is under way on an edge in which no active pointstamp could result
+  -- nothing is under way on an edge if no active pointstamp could result there
   pub nothing_under_way : (e : ℕ) (t : Time) (r : Record) → g.IsPointstamp (on_edge e t) → NoneBefore g w (on_edge e t) → sum_below g.workers (under_way w e t r) ≡ 0
   nothing_under_way e t r fits none = below_zero g.workers (under_way w e t r) (λ k l. worker k l)
     where
@@ -66,7 +66,7 @@ module _ (g : Network) (law : IsNetwork g) (w : World) where
           let b : held_records e t r (w.held k) ≡ 0 = hand k (w.held k) l refl in
           omega arith
 
-  -- nobody waits for a notification of a vertex and time in which no active pointstamp could result
+  -- no notification of a vertex and time is waited for if no active pointstamp could result there
   pub nothing_wished : (v : ℕ) (t : Time) → ((p : Pointstamp) → IsActive g w p → p ≡ at_vertex v t → ⊥) → (k : ℕ) → k < g.workers → wishes w v t k ≡ 0
   nothing_wished v t not_here k l =
       let a : total (wished v t) (w.requests k) ≡ 0 = total_zero (w.requests k) (wished v t) (λ at n s. request at n s (wished_place v t n)) in
@@ -90,7 +90,7 @@ module _ (g : Network) (law : IsNetwork g) (w : World) where
       hand (Held.holding up x) s = event up x s
 
 module _ (g : Network) (law : IsNetwork g) (w : World) (h : History) (keeps : Kept g w h) where
-  -- what the workers' parts have made is Op of their sum, where each group with something has its notification
+  -- what the workers' parts have made is `op` of their sum, if each part of a group that absorbed something has had its notification
   pub parts_make : (v q : ℕ) (t : Time) (r : Record) → g.role v ≢ Role.input → g.role v ≢ Role.output
       → sum_below g.workers (λ k. count r (g.op v q t (ins g (h.done k) v t))) ≡ count r (g.op v q t (all_parts g (λ k p. h.done k (g.edge_into v p) t)))
   parts_make v q t r a b = go (inner_kind (g.role v) a b)
@@ -102,7 +102,7 @@ module _ (g : Network) (law : IsNetwork g) (w : World) (h : History) (keeps : Ke
       go (inl s) = sym (law.op_stateless v q t (λ k p. h.done k (g.edge_into v p) t) g.workers s r)
       go (inr s) = sym (law.op_cut v q t (λ k p. h.done k (g.edge_into v p) t) s (cut s) r)
 
-  -- no more than that, in any case
+  -- at most that, in any case
   pub made_le : (v q : ℕ) (t : Time) (r : Record) (k : ℕ) → made g h v q t r k ≤ count r (g.op v q t (ins g (h.done k) v t))
   made_le v q t r k = go (h.told k v t) refl
     where
@@ -110,7 +110,7 @@ module _ (g : Network) (law : IsNetwork g) (w : World) (h : History) (keeps : Ke
       go true e = rw e (omega arith)
       go false e = rw e (omega arith)
 
-  -- a group without a wish has made what its part has
+  -- a part that waits for no notification has made everything that `op` gives for it
   pub made_all : (v q : ℕ) (t : Time) (r : Record) (k : ℕ) → k < g.workers → (g.role v ≡ Role.notified → wishes w v t k ≡ 0) → made g h v q t r k ≡ count r (g.op v q t (ins g (h.done k) v t))
   made_all v q t r k l none = go (h.told k v t) refl (is_notified_role (g.role v))
     where
@@ -130,7 +130,7 @@ module _ (g : Network) (law : IsNetwork g) (w : World) (h : History) (keeps : Ke
           rw e (sym (ap (count r) o))
 
   module _ (flow : ℕ → Time → List Record) (flows : IsNetFlow g w.fed flow) where
-    -- what is no longer under way was processed
+    -- what isn't under way any more was processed
     pub processed : (e : ℕ) (t : Time) → e < g.edges → g.IsPointstamp (on_edge e t) → NoneBefore g w (on_edge e t) → (w.sent e t) ≈ (flow e t) → (r : Record) → sum_below g.workers (λ k. count r (h.done k e t)) ≡ count r (flow e t)
     processed e t l fits none s r =
         let b : count r (w.sent e t) ≡ sum_below g.workers (λ k. count r (h.done k e t)) + sum_below g.workers (under_way w e t r) = keeps.balance e t r l in
@@ -144,7 +144,7 @@ module _ (g : Network) (law : IsNetwork g) (w : World) (h : History) (keeps : Ke
     pub none_before_edge : (v p : ℕ) (t : Time) → p < g.ports v → g.IsPointstamp (at_vertex v t) → NoneBefore g w (at_vertex v t) → NoneBefore g w (on_edge (g.edge_into v p) t)
     none_before_edge v p t lp fits none q active c = none q active (law.could_on q (on_edge (g.edge_into v p) t) (at_vertex v t) c (subst (λ (x : ℕ). g.Could (on_edge (g.edge_into v p) t) (at_vertex x t)) (law.target_into v p lp) (law.could_enter (g.edge_into v p) t (law.into_is_edge v p lp) (law.fits_into v p t lp fits))))
 
-    -- a vertex all of whose in ports were processed in full has made what the flow has
+    -- a vertex with all its in ports processed in full has made what the flow has
     pub vertex_whole : (v q : ℕ) (t : Time) (r : Record) → g.role v ≢ Role.input → g.role v ≢ Role.output
         → ((p : ℕ) → p < g.ports v → (s : Record) → sum_below g.workers (λ k. count s (h.done k (g.edge_into v p) t)) ≡ count s (flow (g.edge_into v p) t))
         → sum_below g.workers (λ k. count r (g.op v q t (ins g (h.done k) v t))) ≡ count r (g.op v q t (ins g flow v t))
@@ -155,7 +155,7 @@ module _ (g : Network) (law : IsNetwork g) (w : World) (h : History) (keeps : Ke
     abbrev WholeBelow : Pointstamp → ℕ → Type 0
     WholeBelow p v = (p' : ℕ) (t' : Time) → Lower g (on_edge (g.edge_into v p') t') p → g.edge_into v p' < g.edges → g.IsPointstamp (on_edge (g.edge_into v p') t') → NoneBefore g w (on_edge (g.edge_into v p') t') → (w.sent (g.edge_into v p') t') ≈ (flow (g.edge_into v p') t')
 
-    -- sent is equal to the flow at a pointstamp in which no active pointstamp could result
+    -- what was sent equals the flow at a pointstamp in which no active pointstamp could result
     pub whole_at : (p : Pointstamp) → Acc (Lower g) p → (e : ℕ) (t : Time) → p ≡ on_edge e t → e < g.edges → g.IsPointstamp (on_edge e t) → NoneBefore g w (on_edge e t) → (w.sent e t) ≈ (flow e t)
     whole_at p (Acc.intro x low) e u is l fits none = record { counts = λ r. go r (is_input_role (g.role (g.source e))) (λ p' t' a. whole_at (on_edge (g.edge_into (g.source e) p') t') (low (on_edge (g.edge_into (g.source e) p') t') a) (g.edge_into (g.source e) p') t' refl) }
       where
@@ -182,7 +182,7 @@ module _ (g : Network) (law : IsNetwork g) (w : World) (h : History) (keeps : Ke
     abbrev PartBelow : Pointstamp → ℕ → Type 0
     PartBelow p v = (p' : ℕ) (t' : Time) → Lower g (on_edge (g.edge_into v p') t') p → g.edge_into v p' < g.edges → g.IsPointstamp (on_edge (g.edge_into v p') t') → IsPartOf (w.sent (g.edge_into v p') t') (flow (g.edge_into v p') t')
 
-    -- a group that has its notification at some worker has all that it will ever have
+    -- a group that has had its notification at some worker has everything that it will ever get
     pub none_before_told : (v : ℕ) (t : Time) (k : ℕ) → k < g.workers → g.IsPointstamp (at_vertex v t) → g.role v ≡ Role.notified → Due w h k v t → (p : ℕ) → p < g.ports v → NoneBefore g w (on_edge (g.edge_into v p) t)
     none_before_told v t k lk fits s due p lp q active c =
         let le : g.edge_into v p < g.edges = law.into_is_edge v p lp in
@@ -191,7 +191,7 @@ module _ (g : Network) (law : IsNetwork g) (w : World) (h : History) (keeps : Ke
         let back : g.Could (at_vertex v t) (on_edge (g.edge_into v p) t) = subst (λ (x : Pointstamp). g.Could x (on_edge (g.edge_into v p) t)) is c in
         edge_not_vertex (g.edge_into v p) v t t (could_back g law (on_edge (g.edge_into v p) t) (at_vertex v t) enter back)
 
-    -- sent is part of the flow
+    -- what was sent is part of the flow
     pub part_at : (p : Pointstamp) → Acc (Lower g) p → (e : ℕ) (t : Time) → p ≡ on_edge e t → e < g.edges → g.IsPointstamp (on_edge e t) → IsPartOf (w.sent e t) (flow e t)
     part_at p (Acc.intro x low) e u is l fits = record { within = λ r. go r (is_input_role (g.role (g.source e))) (λ p' t' a. part_at (on_edge (g.edge_into (g.source e) p') t') (low (on_edge (g.edge_into (g.source e) p') t') a) (g.edge_into (g.source e) p') t' refl) }
       where

@@ -1,4 +1,4 @@
--- Nothing is active in a drained world, and only there.
+-- A world is drained exactly if nothing is active in it.
 use Rattle.std.proofs.Common.{◌≡◌, ◌<◌, ℕ, zero, Bool, true, false, List, [], ◌∷◌, Some, refl, sym, ap, ◌∙◌, slice_get}
 use Rattle.semantics.specs.Could.{Pointstamp, at_vertex}
 use Rattle.semantics.specs.Time.{at_epoch}

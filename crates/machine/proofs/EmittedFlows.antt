@@ -1,4 +1,4 @@
--- What is emitted at an output, against a flow of the graph.
+-- What is emitted at an output, compared with a flow of the graph.
 use Rattle.std.proofs.Common.{◌≡◌, ◌≤◌, ◌<◌, ℕ, List, length, ap, ◌∙◌, subst}
 use Rattle.semantics.specs.Multiset.{IsPartOf, ◌≈◌, count}
 use Rattle.semantics.specs.Time.{at_epoch}

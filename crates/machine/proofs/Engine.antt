@@ -277,7 +277,7 @@ sources_once Action.enter t u = once_cond t (outer u) (in_first_turn u.counters)
 sources_once Action.leave t u = once_below t u turn_count
 sources_once Action.next t u = once_cond t (deeper (outer u) (last u.counters - 1)) (nat_lt 0 (last u.counters))
 
--- a time that its action's value doesn't count is that of a turn over the limit
+-- a time that the value of its action doesn't count is one of a turn over the limit
 uncounted : (k : Kind) (t : Time) → (ends_turn k ≡ true → 0 < length t.counters) → times_in t (times_before (action k) (after_action (action k) t)) ≡ 0 → (ends_turn k ≡ true) × (turn_count ≤ last t.counters)
 uncounted k t inside none = go k inside (λ d. let x = among_times t (times_before (action k) (after_action (action k) t)) (times_before_all (action k) t (after_action (action k) t) d refl) in omega arith)
   where
@@ -308,7 +308,7 @@ count-flat_map : (h : Time → List Record) (r : Record) (ts : List Time) → co
 count-flat_map h r [] = refl
 count-flat_map h r (t ∷ ts) = count-append r (h t) (flat_map h ts) ∙ ap (λ n. count r (h t) + n) (count-flat_map h r ts)
 
--- a key that is there is a record's
+-- a key that occurs is the key of a record
 keyed_record : (f : Record → Record) (k : Record) (xs : List Record) → 0 < count k (map f xs) → (r : Record) × (0 < count r xs) × (f r ≡ k)
 keyed_record f k [] h = absurd (omega arith)
 keyed_record f k (x ∷ xs) h = go (same (f x) k) refl (keyed_record f k xs)
@@ -363,7 +363,7 @@ module _ (g : Graph) (flows : IsDataflow g) (workers : ℕ) (some : 0 < workers)
       let p : length (vertex g v).ins ≡ 1 = full v l ∙ ap in_ports o in
       (ap role o, omega arith)
 
-  -- beyond the last vertex there are no ports
+  -- there are no ports beyond the last vertex
   has_port : (v : ℕ) → 0 < length (vertex g v).ins → v < length g
   has_port v l = by (known_or_none g v)
     where
@@ -379,7 +379,7 @@ module _ (g : Graph) (flows : IsDataflow g) (workers : ℕ) (some : 0 < workers)
       let s : (key : Record → Record) × (route_key (kind (target g e)) (in_port g e) ≡ Some key) = has_route_key (kind (target g e)) h (in_port g e) in
       home_keyed e k r s.0 s.1 ∙ sym (home_keyed e j r s.0 s.1)
 
-  -- op reads the ports alone
+  -- op looks at the ports only
   op_alike : (v q : ℕ) (t : Time) (a b : ℕ → List Record) → ((p : ℕ) → p < length (vertex g v).ins → a p ≈ b p) → op (kind v) t a q ≈ op (kind v) t b q
   op_alike v q t a b h = go (known_or_none g v)
     where
@@ -407,7 +407,7 @@ module _ (g : Graph) (flows : IsDataflow g) (workers : ℕ) (some : 0 < workers)
       ports : (p : ℕ) → p < in_ports (kind v) → p < length (vertex g v).ins
       ports p l = omega (arith, full v (keyed_known v h), l)
 
-      -- the worker of a key is where its records are
+      -- the worker of a key is the one that its records go to
       at : (i p : ℕ) (f : Record → Record) (k : Record) → i < workers → p < length (vertex g v).ins → route_key (kind v) p ≡ Some f → 0 < count k (map f (part i p)) → i ≡ route k workers
       at i p f k li lp e c =
           let s : (r : Record) × (0 < count r (part i p)) × (f r ≡ k) = keyed_record f k (part i p) c in

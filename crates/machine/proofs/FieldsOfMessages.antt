@@ -1,4 +1,4 @@
--- What is fed with its input's arity stays of the arity of each port.
+-- If what is fed has its input's arity, the records at each port have the port's arity.
 use Rattle.std.proofs.Common.{◌≡◌, ◌⊎◌, ◌≤◌, ◌<◌, ◌∙◌, ◌+◌, ℕ, Bool, List, Some, sym, ap, subst, arith, length, slice_get}
 use Rattle.semantics.specs.Multiset.{Record, count}
 use Rattle.semantics.specs.Time.{Time, at_epoch}

@@ -17,7 +17,7 @@ use Rattle.machine.specs.Engine.{engine}
 use Rattle.machine.specs.Headline.{output_of, IsRunOf, IsRunOn, meant}
 use Rattle.machine.proofs.EmittedFlows as graphs
 
--- an output's vertex is one of the graph, and an output
+-- an output's vertex is a vertex of the graph, and an output
 pub output_at : (p : Program) (output : ℕ) → output < length p.outputs → (output_of p output < length (lowered p)) × ((vertex (lowered p) (output_of p output)).kind ≡ Kind.output)
 output_at p output l = output_is_there (lowered p) output (subst (λ n. output < n) (sym (lowered_outputs p)) l)
 

@@ -1,4 +1,4 @@
--- What lies in mailboxes, in requests and in workers' hands fits the graph.
+-- What is in mailboxes, in requests and held by workers fits the graph.
 use Rattle.std.proofs.Common.{◌≡◌, ◌≢◌, ◌⊎◌, inl, inr, ◌≤◌, ◌<◌, ℕ, List, [], ◌∷◌, Some, refl, arith, ap, subst, slice_get, length, true, false, Bool}
 use Rattle.semantics.specs.Multiset.{Record, count, same, one_if}
 use Rattle.semantics.specs.Time.{last, turn_count}
@@ -75,14 +75,14 @@ module _ (g : Graph) (workers : ℕ) (steps : List Step) (w : World) (is : IsRun
   mail_good : (k at : ℕ) (m : Message) → k < workers → slice_get (w.mail k) at ≡ Some m → GoodMessage (network g workers) k m
   mail_good k at m l there = each_at (GoodMessage (network g workers) k) (w.mail k) at m (keeps.1.good_mail k l) there
 
-  -- what lies in a mailbox was sent
+  -- what is in a mailbox was sent
   pub mail_sent : (k at : ℕ) (m : Message) → k < workers → slice_get (w.mail k) at ≡ Some m → (r : Record) → count r m.records ≤ count r (w.sent m.edge m.time)
   mail_sent k at m l there = way_part k m l (mail_good k at m l there) (λ r. let c = total_one (carried m.edge m.time r) (w.mail k) at m there in omega arith)
 
   pub held_good : (k : ℕ) (up : Bool) (event : Event) → k < workers → w.held k ≡ Held.holding up event → GoodEvent (network g workers) k event
   held_good k up event l there = subst (GoodHeld (network g workers) k) there (keeps.1.good_held k l)
 
-  -- and so was what is held
+  -- what is held was sent
   pub held_sent : (k : ℕ) (up : Bool) (m : Message) → k < workers → w.held k ≡ Held.holding up (Event.arrival m) → (r : Record) → count r m.records ≤ count r (w.sent m.edge m.time)
   held_sent k up m l there = way_part k m l (held_good k up (Event.arrival m) l there) (λ r. let c : held_records m.edge m.time r (w.held k) ≡ carried m.edge m.time r m = ap (held_records m.edge m.time r) there in omega arith)
 

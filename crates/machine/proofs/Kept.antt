@@ -1,4 +1,4 @@
--- What every reached world keeps.
+-- The facts that hold in every reached world.
 use Rattle.std.specs.Prelude.{◌≡◌, ◌≢◌, ◌<◌, ℕ, ◌+◌, Bool, true, false, cond, ◌==◌, List, [], ◌∷◌, ◌⊎◌}
 use Rattle.semantics.specs.Multiset.{end_to_end, total, Record, count, ◌≈◌, IsPartOf}
 use Rattle.semantics.specs.Time.{Time, same_time, at_epoch}
@@ -12,17 +12,17 @@ use Rattle.semantics.specs.Kinds.{Role}
 use Rattle.machine.proofs.Laws.{AtHome, IsOutput}
 use Rattle.machine.proofs.NetFlow.{fed_at}
 
--- each element has P
+-- P holds of each element
 abbrev pub each : {X : Type 0} → (X → Type 0) → List X → Type 0
 each P [] = Unit {0}
 each P (x ∷ xs) = P x × each P xs
 
--- What the world doesn't tell: what each worker has processed, by edge and time, and which of its notifications it has processed.
+-- What the world doesn't record: what each worker has processed, by edge and time, and which of its notifications it has processed.
 pub record History : Type 0 where
   pub done : ℕ → ℕ → Time → List Record
   pub told : ℕ → ℕ → Time → Bool
 
--- how often a record is in a message, if that is on this edge at this time
+-- how often a record is in a message, if the message is on this edge at this time
 abbrev pub carried : ℕ → Time → Record → Message → ℕ
 carried e t r m = cond (m.edge == e) (cond (same_time m.time t) (count r m.records) 0) 0
 
@@ -34,11 +34,11 @@ abbrev pub held_records : ℕ → Time → Record → Held → ℕ
 held_records e t r Held.nothing = 0
 held_records e t r (Held.holding up event) = carried_by e t r event
 
--- under way to one worker
+-- how many are under way to one worker
 abbrev pub under_way : World → ℕ → Time → Record → ℕ → ℕ
 under_way w e t r k = total (carried e t r) (w.mail k) + held_records e t r (w.held k)
 
--- one request or notification of this vertex and time
+-- 1 for a request or notification of this vertex and time
 abbrev pub wished : ℕ → Time → Request → ℕ
 wished v t n = cond (n.vertex == v) (cond (same_time n.time t) 1 0) 0
 
@@ -53,7 +53,7 @@ held_wish v t (Held.holding up event) = wished_by v t event
 abbrev pub wishes : World → ℕ → Time → ℕ → ℕ
 wishes w v t k = total (wished v t) (w.requests k) + held_wish v t (w.held k)
 
--- 1 where there is something
+-- 1 if the list isn't empty
 abbrev pub some : List Record → ℕ
 some [] = 0
 some (r ∷ records) = 1
@@ -96,10 +96,10 @@ pub record Kept (g : Network) (w : World) (h : History) : Type 0 where
   -- another vertex sent what its workers' parts have made
   pub from_vertex : (e : ℕ) (u : Time) (r : Record) → e < g.edges → g.IsPointstamp (on_edge e u) → g.role (g.source e) ≢ Role.input →
       count r (w.sent e u) ≡ total (λ t. sum_below g.workers (made g h (g.source e) (g.out_port e) t r)) (g.times_before (g.source e) u)
-  -- a group waits for its notification, exactly where it absorbed something and had none yet; all others are never told anything
+  -- a group waits for its notification exactly if it absorbed something and had no notification yet; no other vertex is ever notified
   pub notifications : (k v : ℕ) (t : Time) → k < g.workers → g.role v ≡ Role.notified → wishes w v t k + bit (h.told k v t) ≡ some (done_at g h k v t)
   pub always_told : (k v : ℕ) (t : Time) → g.role v ≢ Role.notified → h.told k v t ≡ true
-  -- no more comes to a group that has its notification
+  -- nothing more comes to a group that has had its notification
   pub settled : (k v : ℕ) (t : Time) → k < g.workers → g.role v ≡ Role.notified → Due w h k v t → NoOtherBefore g w (at_vertex v t)
   pub at_home : (k e : ℕ) (t : Time) → k < g.workers → e < g.edges → g.role (g.target e) ≡ Role.stateful ⊎ g.role (g.target e) ≡ Role.notified → AtHome g k e (h.done k e t)
   pub good_mail : (k : ℕ) → k < g.workers → each (GoodMessage g k) (w.mail k)
@@ -110,7 +110,7 @@ pub record Kept (g : Network) (w : World) (h : History) : Type 0 where
   -- what was emitted is what the output vertices processed
   pub output : (v n : ℕ) (r : Record) → IsOutput g v → count r (w.emitted v n) ≡ sum_below g.workers (λ k. count r (h.done k (g.edge_into v 0) (at_epoch n)))
 
--- the headline's parts, at a world whose inputs' records have this flow
+-- the parts of the headline, at a world whose inputs' records have this flow
 pub record Headline (g : Network) (w : World) (flow : ℕ → Time → List Record) : Type 0 where
   pub part : (e : ℕ) (t : Time) → e < g.edges → g.IsPointstamp (on_edge e t) → IsPartOf (w.sent e t) (flow e t)
   pub whole : (e : ℕ) (t : Time) → e < g.edges → g.IsPointstamp (on_edge e t) → NoneBefore g w (on_edge e t) → (w.sent e t) ≈ (flow e t)

@@ -8,7 +8,7 @@ use Rattle.machine.specs.Network.{Network}
 use Rattle.machine.specs.Active.{sum_below}
 use Rattle.semantics.specs.Kinds.{Role}
 
--- t is in the list exactly once
+-- how often t is in the list
 abbrev pub times_in : Time → List Time → ℕ
 times_in t ts = total (λ u. cond (same_time t u) 1 0) ts
 
@@ -16,7 +16,7 @@ times_in t ts = total (λ u. cond (same_time t u) 1 0) ts
 abbrev pub all_parts : Network → (ℕ → ℕ → List Record) → ℕ → List Record
 all_parts g part p = end_to_end (λ k. part k p) g.workers
 
--- each worker's part has only records that are at home there, where the vertex sends by key
+-- where the vertex sends by key, each worker's part has only records that belong there
 abbrev pub AtHome : Network → ℕ → ℕ → List Record → Type 0
 AtHome g k e records = (r : Record) → 0 < count r records → (sender : ℕ) → g.home sender e r ≡ k
 
@@ -24,7 +24,7 @@ AtHome g k e records = (r : Record) → 0 < count r records → (sender : ℕ) �
 abbrev pub CutByKey : Network → ℕ → (ℕ → ℕ → List Record) → Type 0
 CutByKey g v part = (k p : ℕ) → k < g.workers → p < g.ports v → AtHome g k (g.edge_into v p) (part k p)
 
--- another pointstamp, that could result in q
+-- a different pointstamp that could result in q
 abbrev pub Lower : Network → Pointstamp → Pointstamp → Type 0
 Lower g p q = g.Could p q × (p ≢ q)
 
@@ -46,20 +46,20 @@ pub record IsNetwork (g : Network) : Type 0 where
   pub role_is_input : (i : ℕ) → g.role i ≡ Role.input → i < g.inputs
   pub has_worker : 0 < g.workers
   pub routed : (k e : ℕ) (r : Record) → k < g.workers → g.home k e r < g.workers
-  -- a record goes by key alone, where the vertex has keys
+  -- if the vertex has keys, a record is routed by its key only
   pub by_key : (k j e : ℕ) (r : Record) → (g.role (g.target e) ≡ Role.stateful) ⊎ (g.role (g.target e) ≡ Role.notified) → g.home k e r ≡ g.home j e r
   pub input_act : (v : ℕ) (t : Time) → g.role v ≡ Role.input → g.act v t ≡ t
-  -- each time is once among those that its action's value comes from, or never
+  -- each time is at most once among those that its action's value comes from
   pub before_once : (v : ℕ) (t u : Time) → times_in t (g.times_before v u) ≡ 0 ⊎ times_in t (g.times_before v u) ≡ 1
   pub before_acts : (e : ℕ) (t u : Time) → e < g.edges → g.IsPointstamp (on_edge e u) → 0 < times_in t (g.times_before (g.source e) u) → g.act (g.source e) t ≡ u
-  -- op is of multisets, below its ports
+  -- op depends on its ports' multisets only
   pub op_same : (v q : ℕ) (t : Time) (a b : ℕ → List Record) → ((p : ℕ) → p < g.ports v → (a p) ≈ (b p)) → (g.op v q t a) ≈ (g.op v q t b)
-  -- nothing in gives nothing out
+  -- op makes nothing from nothing
   pub op_nothing : (v q : ℕ) (t : Time) (a : ℕ → List Record) → ((p : ℕ) → p < g.ports v → a p ≡ []) → g.op v q t a ≡ []
-  -- parts without a common key, or of a vertex without keys
+  -- op of parts without a common key, or of a vertex without keys
   pub op_stateless : (v q : ℕ) (t : Time) (part : ℕ → ℕ → List Record) (n : ℕ) → g.role v ≡ Role.stateless → (r : Record) → count r (g.op v q t (λ p. end_to_end (λ k. part k p) n)) ≡ sum_below n (λ k. count r (g.op v q t (part k)))
   pub op_cut : (v q : ℕ) (t : Time) (part : ℕ → ℕ → List Record) → g.role v ≡ Role.stateful ⊎ g.role v ≡ Role.notified → CutByKey g v part → (r : Record) → count r (g.op v q t (all_parts g part)) ≡ sum_below g.workers (λ k. count r (g.op v q t (part k)))
-  -- more in gives more out
+  -- op makes more from more
   pub op_more : (v q : ℕ) (t : Time) (a b : ℕ → List Record) → g.role v ≢ Role.notified → ((p : ℕ) → p < g.ports v → IsPartOf (a p) (b p)) → IsPartOf (g.op v q t a) (g.op v q t b)
   -- depths
   pub fits_enter : (e : ℕ) (t : Time) → e < g.edges → g.IsPointstamp (on_edge e t) → g.IsPointstamp (at_vertex (g.target e) t)
@@ -75,5 +75,5 @@ pub record IsNetwork (g : Network) : Type 0 where
   pub could_enter : (e : ℕ) (t : Time) → e < g.edges → g.IsPointstamp (on_edge e t) → g.Could (on_edge e t) (at_vertex (g.target e) t)
   pub could_leave : (e : ℕ) (t : Time) → e < g.edges → g.IsPointstamp (at_vertex (g.source e) t) → g.Could (at_vertex (g.source e) t) (on_edge e (g.act (g.source e) t))
   pub could_later : (v n : ℕ) → g.role v ≡ Role.input → g.Could (at_vertex v (at_epoch n)) (at_vertex v (at_epoch (n + 1)))
-  -- there is no descent without end
+  -- there is no infinite descent
   pub founded : (p : Pointstamp) → Acc (Lower g) p

@@ -1,4 +1,4 @@
--- What a viewer lets through, the true pointstamps let through: over a graph, for changes of any caller, and for those of a run.
+-- What a viewer lets through, the real pointstamps let through: over a graph, for changes of any caller and for those of a run.
 use Rattle.std.proofs.Common.{◌≡◌, ◌≤◌, ◌<◌, ℕ, zero, suc, Bool, true, false, List, [], ◌∷◌, ◌++◌, refl, ap, arith}
 use Rattle.semantics.specs.Multiset.{total}
 use Rattle.semantics.specs.Graph.{Graph, input_count}
@@ -31,7 +31,7 @@ same_total f (b ∷ log) a = let h : when b.applied (f b) ≡ f b = ap (λ x. wh
 seen_is_there : (first : Pointstamp → ℕ) (log : List Changes) → AllApplied log → (p : Pointstamp) → IsSeen first log p → IsThere first log p
 seen_is_there first log all p seen = let d = same_total (λ b. b.adds p) log all in let r = same_total (λ b. b.removes p) log all in omega arith
 
--- what is applied too may add no more than there is, and removes no less
+-- applying more adds at most what there is, and removes at least as much
 more_adds : (log more : List Changes) → AppliesMore log more → (p : Pointstamp) → total (λ b. when b.applied (b.adds p)) more ≤ total (λ b. b.adds p) log
 more_adds [] [] m p = omega arith
 more_adds [] (c ∷ more) m p = absurd m

@@ -27,7 +27,7 @@ use Rattle.machine.proofs.Runs.{keep_step, keep_opening, start}
 use Rattle.machine.proofs.Sending.{Parcel, parcels_good, fits_sent, each_at}
 use Rattle.machine.proofs.Steps.{good_of}
 
--- a pointstamp that the step removes, or, of the feeder's steps, an input's that is active
+-- a pointstamp that the step removes or, for the feeder's steps, an active one of an input
 abbrev From : Network → World → Step → Pointstamp → Type 0
 From g w step p = (0 < step_removes g w step p) ⊎ ((step_sender g step ≡ g.workers) × AtInput g.inputs p × (0 < active_count g w p))
 
@@ -169,7 +169,7 @@ module _ (g : Network) (law : IsNetwork g) (w : World) (good : Good g w) where
       feeder (Step.commit k event out) ok p at l = absurd (by_commit k event out ok p at _ _ refl refl l)
       feeder (Step.abandon k event) ok p at l = absurd (omega arith)
 
-  -- and leave what is active after the step
+  -- the changes leave what is active after the step
   pub counts_after : (step : Step) → Allowed g w step → (applied : Bool) → (p : Pointstamp) → content_after (active_count g w) (changes_of g w step applied) p ≡ active_count g (after_step g w step) p
   counts_after step ok applied p =
       let a : active_count g (after_step g w step) p + step_removes g w step p ≡ active_count g w p + step_adds g w step p = count_step g law w step ok p in
@@ -191,7 +191,7 @@ posted_run g law flows (step ∷ steps) (flag ∷ flags) w w' h keeps run =
           (λ p. sym (counts_after g law w (good_of g law w h keeps) step run.0 flag p)) (posted_run g law flows steps flags (after_step g w step) w' next.0 next.1 run.1),
     )
 
--- the active pointstamps are the first ones, and what was added, without what was removed
+-- the active pointstamps are the first ones plus what was added, without what was removed
 active_total : (g : Network) (law : IsNetwork g) (steps : List Step) (flags : List Bool) (w w' : World) → Run g w steps w' → (p : Pointstamp) → active_count g w' p + all_removes (log_of g w steps flags) p ≡ all_adds (active_count g w) (log_of g w steps flags) p
 active_total g law [] flags w w' run p = let a : active_count g w p ≡ active_count g w' p = ap (λ x. active_count g x p) run in omega arith
 active_total g law (step ∷ steps) [] w w' run p = let a = count_step g law w step run.0 p in let b = active_total g law steps [] (after_step g w step) w' run.1 p in omega arith
@@ -201,7 +201,7 @@ module _ (g : Network) (law : IsNetwork g) (flows : HasFlows g) (steps : List St
   pub posted : ArePosted g.Could g.inputs g.workers (active_count g opening) (log_of g opening steps flags)
   posted = posted_run g law flows steps flags opening w (start g) (keep_opening g law) run
 
-  -- what is active is there by the changes, and the other way round
+  -- a pointstamp is active exactly if it is there by the changes
   pub is_there : (q : Pointstamp) → IsActive g w q → IsThere (active_count g opening) (log_of g opening steps flags) q
   is_there q x = let a = active_total g law steps flags opening w run q in let b = counted g law w q x in omega arith
 

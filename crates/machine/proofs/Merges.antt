@@ -1,4 +1,4 @@
--- Two messages of a mailbox as one.
+-- Two messages of a mailbox, merged.
 use Rattle.std.proofs.Common.{◌≡◌, ◌<◌, ℕ, zero, suc, ◌+◌, Bool, true, false, cond, ◌==◌, List, [], ◌∷◌, ◌++◌, drop, ◌⊎◌, inl, inr, sym, ap, ◌∙◌, subst, ap₂, arith, slice_get, remove, Some}
 use Rattle.semantics.specs.Multiset.{total, Record, count}
 use Rattle.semantics.specs.Time.{Time, same_time}
@@ -23,7 +23,7 @@ pub each_merged : (P : Message → Type 0) (ms : List Message) (at : ℕ) (m n :
 each_merged P [] at m n a p = (p, each-remove P [] at tt)
 each_merged P (x ∷ ms) at m n a p = (p, each-remove P ms at a.1)
 
--- what is in the mailbox after a merge was there before, or is both as one
+-- a message of the mailbox after a merge was there before, or is the merged one
 pub merged_from : (ms : List Message) (at : ℕ) (m n : Message) (i : ℕ) (x : Message) → slice_get (mail_merged ms at m n) i ≡ Some x → (merged m n ≡ x) ⊎ ((to : ℕ) × (slice_get ms to ≡ Some x))
 merged_from ms at m n zero x e = inl cc
 merged_from [] at m n (suc i) x e = let r = slice_get-remove [] at i x e in absurd (nothing r.0 r.1)
@@ -32,7 +32,7 @@ merged_from [] at m n (suc i) x e = let r = slice_get-remove [] at i x e in absu
     nothing to e = cc
 merged_from (y ∷ ms) at m n (suc i) x e = let r = slice_get-remove ms at i x e in inr (suc r.0, r.1)
 
--- it carries what both carry
+-- the merged message carries what both carry
 pub carried_merged : (e : ℕ) (t : Time) (r : Record) (m n : Message) → n.edge ≡ m.edge → n.time ≡ m.time → carried e t r (merged m n) ≡ carried e t r m + carried e t r n
 carried_merged e t r m n a b = go (m.edge == e) (same_time m.time t) ∙ ap₂ (λ x u. carried e t r m + cond (x == e) (cond (same_time u t) (count r n.records) 0) 0) (sym a) (sym b)
   where

@@ -7,7 +7,7 @@ use Rattle.semantics.specs.Kinds.{Role}
 use Rattle.machine.specs.Network.{Network}
 use Rattle.machine.proofs.Laws.{times_in}
 
--- what the in ports of a vertex have at a time, where edges have these
+-- what the in ports of a vertex have at a time, if the edges have these records
 abbrev pub ins : Network → (ℕ → Time → List Record) → ℕ → Time → ℕ → List Record
 ins g edges v t p = edges (g.edge_into v p) t
 

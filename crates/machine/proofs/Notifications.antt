@@ -1,4 +1,4 @@
--- A commit of a notification keeps what every reached world keeps.
+-- A commit of a notification keeps the facts that hold in every reached world.
 use Rattle.std.proofs.Common.{◌≡◌, ◌≢◌, ◌≤◌, ◌<◌, ℕ, ◌+◌, Bool, true, false, cond, eqb, List, [], ◌∷◌, ◌++◌, ◌⊎◌, inl, inr, refl, sym, ap, ◌∙◌, subst, arith, append-nil}
 use Rattle.std.proofs.lemmas.Bool.Decides.{eqb_tells}
 use Rattle.semantics.specs.Multiset.{total, Record, count}
@@ -31,7 +31,7 @@ told_after h k0 n k v t = cond (eqb k k0) (cond (eqb n.vertex v) (cond (same_tim
 abbrev pub history_told : History → ℕ → Request → History
 history_told h k0 n = record { done = h.done; told = told_after h k0 n }
 
--- it is this one, or nothing is changed
+-- it is this notification, or nothing has changed
 pub told_tells : (h : History) (k0 : ℕ) (n : Request) (k v : ℕ) (t : Time) →
     ((k ≡ k0) × (n.vertex ≡ v) × (n.time ≡ t) × (told_after h k0 n k v t ≡ true) × (wished v t n ≡ 1))
     ⊎ (((k ≢ k0) ⊎ ((v ≢ n.vertex) ⊎ (t ≢ n.time))) × (told_after h k0 n k v t ≡ h.told k v t) × ((k ≡ k0) → wished v t n ≡ 0))
@@ -49,7 +49,7 @@ some_le : (xs : List Record) → some xs ≤ 1
 some_le [] = omega arith
 some_le (x ∷ xs) = omega arith
 
--- a list with something has a record
+-- a list that isn't empty has a record
 pub some_row : (xs : List Record) → 0 < some xs → (r : Record) × (0 < count r xs)
 some_row [] l = absurd (omega arith)
 some_row (x ∷ xs) l = (x, rw (same-refl x) (omega arith))
@@ -61,7 +61,7 @@ module _ (g : Network) (law : IsNetwork g) (w : World) (h : History) (keeps : Ke
   here : g.IsPointstamp (at_vertex n.vertex n.time)
   here = let x : GoodRequest g n = held_good g law w (good_of g law w h keeps) k0 (Event.notification n) ok.0 ok.1 in x.1
 
-  -- the worker had a wish, and was told nothing yet
+  -- the worker had asked, and was not notified yet
   wish_held : held_wish n.vertex n.time (w.held k0) ≡ 1
   wish_held = ap (held_wish n.vertex n.time) ok.1 ∙ rw (eqb_self n.vertex, same_time_self n.time) refl
 

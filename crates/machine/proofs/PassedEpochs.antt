@@ -1,4 +1,4 @@
--- What has passed stays so, and the number of passed epochs is one and doesn't fall.
+-- What has passed stays passed, and the number of passed epochs is unique and never falls.
 use Rattle.std.proofs.Common.{◌≡◌, ◌≢◌, ◌⊎◌, inl, inr, ◌≤◌, ◌<◌, ◌+◌, ◌↔◌, ℕ, false, List, ap, arith}
 use Rattle.semantics.specs.Multiset.{Record}
 use Rattle.semantics.specs.Graph.{Graph}

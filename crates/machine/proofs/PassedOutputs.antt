@@ -1,4 +1,4 @@
--- Each epoch below a number has passed at each output: by the graph's outputs.
+-- Whether each epoch below a number has passed at each output, in terms of the graph's outputs.
 use Rattle.std.proofs.Common.{◌≡◌, ◌↔◌, ◌<◌, ℕ, nat_lt, Bool, true, false, length, refl, ap, subst, arith, ltb-true, ltb-false}
 use Rattle.semantics.specs.Kinds.{Role, role}
 use Rattle.semantics.specs.Graph.{Graph, vertex, output_numbers, output_number}
@@ -18,5 +18,5 @@ passed_below g workers w n = (
     go v epoch o true e each =
         let p = output_has_place g v (ltb-true v (length g) e) (role_output (vertex g v).kind o) in
         subst (λ u. Passed (network g workers) w u epoch) p.2 (each p.0 p.1)
-    -- to beyond the last vertex nothing could come
+    -- nothing could come to a vertex beyond the last
     go v epoch o false e each = λ q active could. let l = ltb-false v (length g) e in let m = could.ends.0 in absurd (omega arith)

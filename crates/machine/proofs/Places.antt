@@ -72,7 +72,7 @@ inner_kind Role.output a b = absurd (b refl)
 pub edge_not_vertex : (e v : ℕ) (t u : Time) → on_edge e t ≢ at_vertex v u
 edge_not_vertex e v t u h = let l : Location.edge e ≡ Location.vertex v = ap (λ (p : Pointstamp). p.location) h in absurd cc
 
--- one of the numbers below n passes, or none does
+-- one of the numbers below n passes the test, or none does
 pub some_below : (n : ℕ) (f : ℕ → Bool) → ((k : ℕ) × (k < n) × (f k ≡ true)) ⊎ ((k : ℕ) → k < n → f k ≡ false)
 some_below zero f = inr (λ k l. absurd (omega arith))
 some_below (suc n) f = go (f n) refl (some_below n f)

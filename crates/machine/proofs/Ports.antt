@@ -16,7 +16,7 @@ no_parts : (xs ys : List Record) → xs ++ ys ≡ [] → (xs ≡ []) × (ys ≡ 
 no_parts [] ys e = (refl, e)
 no_parts (x ∷ xs) ys e = absurd cc
 
--- where nothing has come, nothing has come to any port
+-- if nothing has come at all, nothing has come to any port
 pub each_empty : (f : ℕ → List Record) (n : ℕ) → end_to_end f n ≡ [] → (p : ℕ) → p < n → f p ≡ []
 each_empty f zero e p l = absurd (omega arith)
 each_empty f (suc n) e p l = go (no_parts (end_to_end f n) (f n) e) (less_or_last p n l) (λ a. each_empty f n a p)
@@ -37,7 +37,7 @@ some_before : (xs ys : List Record) → some xs ≡ 1 → some (xs ++ ys) ≡ 1
 some_before [] ys e = absurd (omega arith)
 some_before (x ∷ xs) ys e = refl
 
--- where something has come to a port, something has come
+-- if something has come to a port, something has come at all
 pub some_of_port : (f : ℕ → List Record) (n p : ℕ) → p < n → 0 < some (f p) → some (end_to_end f n) ≡ 1
 some_of_port f zero p l s = absurd (omega arith)
 some_of_port f (suc n) p l s = go (eqb_tells p n) (some_of_port f n p)
@@ -46,7 +46,7 @@ some_of_port f (suc n) p l s = go (eqb_tells p n) (some_of_port f n p)
     go (inl (a, e)) ih = some_append (end_to_end f n) (f n) (subst (λ (x : ℕ). 0 < some (f x)) e s)
     go (inr (a, ne)) ih = some_before (end_to_end f n) (f n) (ih (omega arith) s)
 
--- and the other way round
+-- if something has come, it has come to some port
 pub port_of_some : (f : ℕ → List Record) (n : ℕ) → 0 < some (end_to_end f n) → (p : ℕ) × (p < n) × (0 < some (f p))
 port_of_some f zero s = absurd (omega arith)
 port_of_some f (suc n) s = go (f n) refl (port_of_some f n)

@@ -1,4 +1,4 @@
--- What was posted leaves nothing removed that wasn't there, and each added pointstamp justified.
+-- Changes that were posted remove nothing that wasn't there, and justify each pointstamp that they add.
 use Rattle.std.proofs.Common.{◌≡◌, ◌≢◌, ◌≤◌, ◌<◌, ℕ, zero, suc, ◌+◌, ◌-◌, List, [], ◌∷◌, ◌⊎◌, inl, inr, refl, subst, arith}
 use Rattle.semantics.specs.Multiset.{total}
 use Rattle.semantics.specs.Could.{Pointstamp}

@@ -1,4 +1,4 @@
--- No step makes a pointstamp active in which no active pointstamp could have resulted before.
+-- A step makes a pointstamp active only if an active pointstamp could have resulted in it before.
 use Rattle.std.proofs.Common.{◌≡◌, ◌≢◌, ◌<◌, ℕ, zero, suc, ◌+◌, true, false, cond, eqb, List, [], ◌∷◌, ◌++◌, ◌⊎◌, inl, inr, refl, sym, ap, ◌∙◌, subst, arith, slice_get, remove, Some}
 use Rattle.std.proofs.lemmas.Bool.Decides.{eqb_tells}
 use Rattle.semantics.specs.Multiset.{Record, end_to_end}
@@ -21,7 +21,7 @@ use Rattle.machine.proofs.Merges.{mail_merged, merged_from}
 use Rattle.machine.proofs.Rank.{could_back}
 use Rattle.machine.proofs.Sending.{Parcel, parcels_good, fits_sent, fits_fed, each_at, slice_get-append, slice_get-remove}
 
--- each pointstamp that is active in w' one could have come to from an active pointstamp of w
+-- each pointstamp that is active in w' could have come from an active pointstamp of w
 abbrev pub Under : Network → World → World → Type 0
 Under g w w' = (q : Pointstamp) → IsActive g w' q → (p : Pointstamp) × IsActive g w p × g.Could p q
 
@@ -34,15 +34,15 @@ no_other_under g law w w' under p none q active c =
     let is : u.0 ≡ p = none u.0 u.1 (law.could_on u.0 q p u.2 c) in
     could_back g law q p c (subst (λ (x : Pointstamp). g.Could x q) is u.2)
 
--- the request that a notified vertex's shard makes where it had absorbed these
+-- the request that a notified vertex's shard makes if it had absorbed these records
 abbrev pub asked_first : ℕ → Time → List Record → List Request
 asked_first v t before = cond (asks Role.notified before) (record { vertex = v; time = t } ∷ []) []
 
--- by role
+-- the same by role
 abbrev pub asked_by : Role → ℕ → Time → List Record → List Request
 asked_by role v t before = cond (asks role before) (record { vertex = v; time = t } ∷ []) []
 
--- one place of a function changes
+-- a function with another value at one place
 pub put_tells : {X : Type 0} (f : ℕ → X) (k : ℕ) (x : X) (j : ℕ) → ((j ≡ k) × (put f k x j ≡ x)) ⊎ ((j ≢ k) × (put f k x j ≡ f j))
 put_tells f k x j = go (eqb_tells j k)
   where
@@ -53,7 +53,7 @@ put_tells f k x j = go (eqb_tells j k)
 pub put_here : {X : Type 0} (f : ℕ → X) (k : ℕ) (x : X) → put f k x k ≡ x
 put_here f k x = rw (eqb_self k) refl
 
--- what is in a world is well formed
+-- the parts of a world are well formed
 pub record Good (g : Network) (w : World) : Type 0 where
   pub mail : (k : ℕ) → k < g.workers → each (GoodMessage g k) (w.mail k)
   pub requests : (k : ℕ) → k < g.workers → each (GoodRequest g) (w.requests k)

@@ -9,6 +9,6 @@ use Rattle.machine.proofs.Laws.{IsNetwork}
 use Rattle.machine.proofs.NetFlow.{IsNetFlow, HasFlows}
 use Rattle.machine.proofs.Kept.{Headline}
 
--- at every world at the end of a run, whatever was sent is part of the flow, and all of it where nothing more can come
+-- in every reached world, whatever was sent is part of the flow, and all of it where nothing more can come
 abbrev pub EveryRunKeeps : Type 1
 EveryRunKeeps = (g : Network) → IsNetwork g → HasFlows g → (w : World) → Reached g w → (flow : ℕ → Time → List Record) → IsNetFlow g w.fed flow → Headline g w flow

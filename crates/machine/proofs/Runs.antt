@@ -107,7 +107,7 @@ run_more : (g : Network) (steps : List Step) (w w' : World) (step : Step) → Ru
 run_more g [] w w' step run ok = (subst (λ (x : World). Allowed g x step) (sym run) ok, ap (λ x. after_step g x step) run)
 run_more g (s ∷ steps) w w' step run ok = (run.0, run_more g steps (after_step g w s) w' step run.1 ok)
 
--- a run goes on by a step
+-- a run can be continued by a step
 pub reached_more : (g : Network) (w : World) (step : Step) → Reached g w → Allowed g w step → Reached g (after_step g w step)
 reached_more g w step reached ok = (reached.0 ++ step ∷ [], run_more g reached.0 opening w step reached.1 ok)
 

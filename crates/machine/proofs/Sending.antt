@@ -19,7 +19,7 @@ both : (b : Bool) (n : ℕ) → cond b n n ≡ n
 both true n = refl
 both false n = refl
 
--- the records that pass, counted
+-- the count of the records that pass a test
 pub count-filter : (p : Record → Bool) (r : Record) (xs : List Record) → count r (filter p xs) ≡ cond (p r) (count r xs) 0
 count-filter p r [] = sym (both (p r) 0)
 count-filter p r (x ∷ xs) = go (p r) (p x) refl refl (same_tells x r) (count-filter p r xs)
@@ -53,7 +53,7 @@ pub total-as_message : (e e' : ℕ) (t u : Time) (r : Record) (records : List Re
 total-as_message e e' t u r [] = sym (ap (λ n. cond (eqb e' e) n 0) (both (same_time u t) 0) ∙ both (eqb e' e) 0)
 total-as_message e e' t u r (x ∷ xs) = omega arith
 
--- on an edge from another number on there is nothing
+-- a worker has nothing on an edge beyond the last number
 total-parcels_past : (g : Network) (sender v : ℕ) (u : Time) (out : ℕ → List Record) (to e : ℕ) (t : Time) (r : Record) (n : ℕ) → n ≤ e →
     total (carried e t r) (parcels g sender v u out to n) ≡ 0
 total-parcels_past g sender v u out to e t r zero l = refl
@@ -98,7 +98,7 @@ total-parcels g sender v u out to e t r (suc n) l = go (eqb_tells n e) (g.source
         let m' = rw a at m in
         rw d (total-append (carried e t r) (parcels g sender v u out to n) (as_message n u (filter (λ x. g.home sender n x == to) (out (g.out_port n)))) ∙ omega arith)
 
--- what is added to an edge's mail is what is added to sent
+-- what is added to an edge's mail is what is added to `sent`
 pub sends_all : (g : Network) (law : IsNetwork g) (sender v : ℕ) (u : Time) (out : ℕ → List Record) (e : ℕ) (t : Time) (r : Record) → sender < g.workers → e < g.edges →
     sum_below g.workers (λ to. total (carried e t r) (parcels g sender v u out to g.edges)) ≡ count r (cond (g.source e == v) (cond (same_time u t) (out (g.out_port e)) []) [])
 sends_all g law sender v u out e t r ls le =
@@ -174,7 +174,7 @@ parcels_good g law sender v u out to (suc n) fits l =
     go (inl (a, b)) = rw a (as_message_parcel g law sender v u to n _ (omega arith) b (fits n (omega arith) b) (λ r some. at_home r some (g.home sender n r == to) refl))
     go (inr (a, b)) = rw a tt
 
--- what a vertex sends fits, where its time does
+-- what a vertex sends fits, if its time does
 pub fits_sent : (g : Network) (law : IsNetwork g) (v : ℕ) (t : Time) → g.IsPointstamp (at_vertex v t) → (e : ℕ) → e < g.edges → g.source e ≡ v → g.IsPointstamp (on_edge e (g.act v t))
 fits_sent g law v t fits e le s = subst (λ (x : ℕ). g.IsPointstamp (on_edge e (g.act x t))) s (law.fits_leave e t le (subst (λ (x : ℕ). g.IsPointstamp (at_vertex x t)) (sym s) fits))
 

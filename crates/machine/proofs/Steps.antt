@@ -1,4 +1,4 @@
--- Each step but a commit keeps what every reached world keeps.
+-- Each step except a commit keeps the facts that hold in every reached world.
 use Rattle.std.proofs.Common.{◌≡◌, ◌≢◌, ◌<◌, ℕ, suc, ◌+◌, Bool, true, false, cond, ◌&&◌, eqb, List, [], ◌∷◌, ◌++◌, ◌⊎◌, inl, inr, sym, ap, ◌∙◌, subst, ap₂, arith, slice_get, remove}
 use Rattle.std.proofs.lemmas.Bool.Decides.{eqb_tells}
 use Rattle.semantics.specs.Multiset.{total, Record, count}
@@ -81,7 +81,7 @@ module _ (g : Network) (law : IsNetwork g) (w : World) (h : History) (keeps : Ke
         output = keeps.output;
       }
 
-  -- a step that leaves what is under way and wished at each worker
+  -- a step that changes neither what is under way nor what is waited for at any worker
   pub keep_abandon : (k : ℕ) (event : Event) → Allowed g w (Step.abandon k event) → Kept g (after_step g w (Step.abandon k event)) h
   keep_abandon k0 event ok =
       record {
@@ -268,7 +268,7 @@ module _ (g : Network) (law : IsNetwork g) (w : World) (h : History) (keeps : Ke
       count r (sent_after g w v u out e t) ≡ count r (w.sent e t) + sum_below g.workers (λ k. total (carried e t r) (parcels g sender v u out k g.edges))
   way_sent sender v u out e t r ls le = count-append r (w.sent e t) _ ∙ ap (λ n. count r (w.sent e t) + n) (sym (sends_all g law sender v u out e t r ls le))
 
-  -- on an edge of another vertex nothing is sent
+  -- nothing is sent on an edge of another vertex
   pub sent_elsewhere : (v : ℕ) (u : Time) (out : ℕ → List Record) (e : ℕ) (t : Time) (r : Record) → g.source e ≢ v → count r (sent_after g w v u out e t) ≡ count r (w.sent e t)
   sent_elsewhere v u out e t r ne = go (eqb_tells (g.source e) v)
     where

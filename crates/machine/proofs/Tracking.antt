@@ -1,4 +1,4 @@
--- What a tracker and a view of the active pointstamps may rest on, for the graph of a program.
+-- What a tracker and a view of the active pointstamps may rely on, for the graph of a program.
 use Rattle.std.proofs.Common.{◌≡◌, ◌<◌, ◌+◌, ◌↔◌, ℕ, List}
 use Rattle.semantics.specs.Multiset.{◌≈◌, IsPartOf}
 use Rattle.semantics.specs.Time.{Time}
@@ -38,7 +38,7 @@ module _ (g : Graph) (workers : ℕ) (steps : List Step) (w : World) (is : IsRun
   pub have_flows : HasFlows (network g workers)
   have_flows = net_flows g is.flows workers is.some
 
-  -- of a flow on what was fed
+  -- the headline for a flow on what was fed
   pub kept : (f : Flow) → IsFlow g w.fed f → Headline (network g workers) w (edge_flow g f)
   kept f h = every_run_keeps (network g workers) laws have_flows w (steps, is.run) (edge_flow g f) (net_flow g is.flows workers is.some w.fed f h)
 

@@ -1,4 +1,4 @@
--- What a view lets through, the true pointstamps let through.
+-- What a view lets through, the real pointstamps let through.
 use Rattle.std.proofs.Common.{◌≡◌, ◌≤◌, ◌<◌, ℕ, zero, suc, Bool, true, false, List, [], ◌∷◌, ◌⊎◌, inl, inr, refl, ap, subst, arith}
 use mathlib.Core.WellFounded.{Acc}
 use Rattle.semantics.specs.Multiset.{total}
@@ -20,7 +20,7 @@ pub total_when : (log : List Changes) (f : Changes → ℕ) → total (λ b. whe
 total_when [] f = omega arith
 total_when (b ∷ log) f = let a = when_le b.applied (f b) in let c = total_when log f in omega arith
 
--- changes that aren't applied and remove the pointstamp leave less seen than there was
+-- if changes that remove the pointstamp aren't applied, fewer removals are seen than were made
 not_applied : (sender : ℕ) (there : Pointstamp → Type 0) (p : Pointstamp) (log : List Changes) → NoneApplied sender log → RemovedOrThere there sender log p →
     (total (λ b. when b.applied (b.removes p)) log < total (λ b. b.removes p) log) ⊎ there p
 not_applied sender there p [] none r = inr r
@@ -34,7 +34,7 @@ not_applied sender there p (b ∷ log) none (inr r) = go (not_applied sender the
     go (inl l) = let a = when_le b.applied (b.removes p) in inl (omega arith)
     go (inr t) = inr t
 
--- where an add of a pointstamp isn't seen, a removal of a pointstamp below it isn't seen either, or that pointstamp is there
+-- if an add of a pointstamp isn't seen, then a removal of a lower one isn't seen either, or that one is there
 lacking : (g : Network) (feeder : ℕ) (there : Pointstamp → Type 0) (q : Pointstamp) (log : List Changes) → InOrder log → Justified g feeder there log →
     total (λ b. when b.applied (b.adds q)) log < total (λ b. b.adds q) log →
     (p : Pointstamp) × Lower g p q × g.Could p q × ((total (λ b. when b.applied (b.removes p)) log < total (λ b. b.removes p) log) ⊎ there p)
@@ -66,7 +66,7 @@ lacking g feeder there q (b ∷ log) order just l = go b.applied refl (lacking g
     go false e ih = split (b.adds q) refl e ih
 
 module _ (g : Network) (law : IsNetwork g) (first : Pointstamp → ℕ) (log : List Changes) (is_log : IsLog g first log) (order : InOrder log) where
-  -- where the view lacks an add of q, it sees some pointstamp that could result in q
+  -- if the view lacks an add of q, it sees some pointstamp that could result in q
   seen_below : (q : Pointstamp) → Acc (Lower g) q → seen_adds first log q < all_adds first log q → (p : Pointstamp) × IsSeen first log p × g.Could p q
   seen_below q (Acc.intro x low) l = go (lacking g g.workers (IsThere first log) q log order is_log.justified (omega arith)) (λ p a. seen_below p (low p a))
     where
@@ -94,7 +94,7 @@ module _ (g : Network) (law : IsNetwork g) (first : Pointstamp → ℕ) (log : L
       let is : o.0 ≡ p = none o.0 o.1 (law.could_on o.0 q p o.2 c) in
       could_back g law q p c (subst (λ (x : Pointstamp). g.Could x q) is o.2)
 
-  -- what a view lets through it lets through when more is applied
+  -- what a view lets through, it still does when more is applied
   pub view_stays : (more : List Changes) → ((q : Pointstamp) → seen_adds first more q ≤ all_adds first log q) → ((q : Pointstamp) → seen_removes log q ≤ seen_removes more q) → (p : Pointstamp) → NoneOf g.Could (IsSeen first log) p → NoneOf g.Could (IsSeen first more) p
   view_stays more adds removes p none q seen c = go (less_or_same (seen_adds first log q) (all_adds first log q) (let k = total_when log (λ b. b.adds q) in omega arith))
     where

@@ -151,7 +151,7 @@ pub first_open : Passed splitter (after_steps splitter opening second_first) (ou
 unfolding lowered lower lower_lets lower_outputs vertex source route
 first_open passed = passed (on_edge 0 (at_epoch 0)) (IsActive.of_mail 0 0 (three_on 0) (omega arith) refl) message_reaches_first
 
--- what a path leads to from the edge into the `where`: that vertex, the edge into the first output and its vertex
+-- the locations that a path can reach from the edge into the `where`: that vertex, the edge into the first output and its vertex
 to_first : Location → Bool
 to_first (Location.edge e) = (e == 0) || (e == 1)
 to_first (Location.vertex v) = (v == 1) || (v == 2)

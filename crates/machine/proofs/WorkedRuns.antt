@@ -92,7 +92,7 @@ fed_less same = differs (same.counts (one_field (pos 5)))
     differs : ◌≡◌ {A = ℕ} 0 1 → ⊥
     differs e = cc
 
--- ---- an event that is given up
+-- ---- an abandoned event
 
 pub given_up_run : IsRunOf copying 1 given_up (after_steps copier opening given_up)
 unfolding lowered lower lower_lets lower_outputs vertex source route

@@ -1,5 +1,5 @@
--- The active pointstamps: of messages, requests and held events, and of open inputs. An event counts until its commit ends, and
--- for good once it is given up. (Naiad, SOSP 2013, section 2.3.)
+-- The active pointstamps: of messages, requests and held events, and of open inputs. An event counts until its commit ends, and for good once it is
+-- abandoned. (Naiad, SOSP 2013, section 2.3.)
 use Rattle.std.specs.Prelude.{◌≡◌, ℕ, zero, suc, ◌+◌, ◌<◌, Bool, false, cond, ◌==◌, slice_get, Some}
 use Rattle.semantics.specs.Multiset.{total}
 use Rattle.semantics.specs.Could.{Pointstamp, Location, on_edge, at_vertex}
@@ -35,14 +35,14 @@ abbrev pub sum_below : ℕ → (ℕ → ℕ) → ℕ
 sum_below zero f = 0
 sum_below (suc n) f = sum_below n f + f n
 
--- the locations are one
+-- the locations are equal
 abbrev pub same_location : Location → Location → Bool
 same_location (Location.edge e) (Location.edge f) = e == f
 same_location (Location.edge e) (Location.vertex v) = false
 same_location (Location.vertex v) (Location.edge e) = false
 same_location (Location.vertex v) (Location.vertex u) = v == u
 
--- 1 where the two pointstamps are one
+-- 1 if the two pointstamps are equal
 abbrev pub one_if_same : Pointstamp → Pointstamp → ℕ
 one_if_same p q = cond (same_location p.location q.location) (cond (same_time p.time q.time) 1 0) 0
 

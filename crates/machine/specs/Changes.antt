@@ -1,4 +1,4 @@
--- What each step changes of the active pointstamps, and who made the change. (Naiad, SOSP 2013, section 3.3: progress updates.)
+-- How each step changes the active pointstamps, and which sender made the change. (Naiad, SOSP 2013, section 3.3: progress updates.)
 use Rattle.std.specs.Prelude.{ℕ, ◌+◌, List}
 use Rattle.semantics.specs.Multiset.{total, Record}
 use Rattle.semantics.specs.Could.{Pointstamp, at_vertex}
@@ -14,7 +14,7 @@ use Rattle.machine.specs.Step.{Step}
 abbrev pub parcel_count : Network → (sender vertex : ℕ) → Time → (out : ℕ → List Record) → Pointstamp → ℕ
 parcel_count g sender v u out p = sum_below g.workers (λ to. total (λ m. one_if_same p (message_pointstamp m)) (parcels g sender v u out to g.edges))
 
--- how often a step adds a pointstamp; what is claimed was active before, and stays so
+-- how often a step adds a pointstamp; what is claimed was active before, and stays active
 abbrev pub step_adds : Network → World → Step → Pointstamp → ℕ
 step_adds g w (Step.feed i records) p = parcel_count g 0 i (at_epoch (w.open_epoch i)) (λ q. records) p
 step_adds g w (Step.seal i) p = one_if_same p (at_vertex i (at_epoch (w.open_epoch i + 1)))
@@ -27,7 +27,7 @@ step_adds g w (Step.commit k event out) p =
     + total (λ n. one_if_same p (request_pointstamp n)) (asked g w k event)
 step_adds g w (Step.abandon k event) p = 0
 
--- how often it removes one; what is given up stays active for good
+-- how often a step removes a pointstamp; what is abandoned stays active for good
 abbrev pub step_removes : Network → World → Step → Pointstamp → ℕ
 step_removes g w (Step.feed i records) p = 0
 step_removes g w (Step.seal i) p = one_if_same p (at_vertex i (at_epoch (w.open_epoch i)))
@@ -38,7 +38,7 @@ step_removes g w (Step.merge k at m n) p = one_if_same p (message_pointstamp n)
 step_removes g w (Step.commit k event out) p = one_if_same p (event_pointstamp event)
 step_removes g w (Step.abandon k event) p = 0
 
--- who made the change: a worker, or, by the number of workers, the one who feeds, seals and closes
+-- the sender of the change: a worker or, by the number of workers, the feeder, which feeds, seals and closes
 abbrev pub step_sender : Network → Step → ℕ
 step_sender g (Step.feed i records) = g.workers
 step_sender g (Step.seal i) = g.workers

@@ -3,7 +3,7 @@ use Rattle.std.specs.Prelude.{◌≡◌, ℕ, ◌<◌, true, []}
 use Rattle.machine.specs.Network.{Network}
 use Rattle.machine.specs.World.{Held, World}
 
--- every input is closed, and no worker has a message, a request or a held event; one given up is held for good
+-- every input is closed, and no worker has a message, a request or a held event; an abandoned one is held for good
 pub record IsDrained (g : Network) (w : World) : Type 0 where
   pub closed : (i : ℕ) → i < g.inputs → w.closed i ≡ true
   pub mail : (k : ℕ) → k < g.workers → w.mail k ≡ []

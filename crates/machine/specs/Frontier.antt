@@ -1,4 +1,4 @@
--- What can still come: to a pointstamp, and to an output for an epoch. (Naiad, SOSP 2013, section 2.3: the frontier.)
+-- What can still come to a pointstamp, and to an output for an epoch. (Naiad, SOSP 2013, section 2.3: the frontier.)
 use Rattle.std.specs.Prelude.{◌≡◌, ◌⊎◌, ℕ, ◌≤◌, ◌<◌}
 use Rattle.semantics.specs.Could.{Pointstamp, at_vertex, NoneOf, NoOtherOf}
 use Rattle.semantics.specs.Time.{at_epoch}
@@ -11,7 +11,7 @@ use Rattle.machine.specs.Active.{IsActive}
 abbrev pub NoneBefore : Network → World → Pointstamp → Type 0
 NoneBefore g w p = NoneOf g.Could (IsActive g w) p
 
--- no active pointstamp that is different from it could result in it
+-- no other active pointstamp could result in it
 abbrev pub NoOtherBefore : Network → World → Pointstamp → Type 0
 NoOtherBefore g w p = NoOtherOf g.Could (IsActive g w) p
 
@@ -27,7 +27,7 @@ PassedBelow g w n = (v epoch : ℕ) → g.role v ≡ Role.output → epoch < n �
 abbrev pub SealedTo : Network → World → ℕ → Type 0
 SealedTo g w n = (n ≡ 0) ⊎ ((i : ℕ) × (i < g.inputs) × (n ≤ w.open_epoch i))
 
--- n is the number of epochs that have passed: the greatest number, at most the greatest number of seals, below which each has
+-- n is the number of epochs that have passed: the greatest number, up to the most seals, below which every epoch has passed
 pub record IsPassedCount (g : Network) (w : World) (n : ℕ) : Type 0 where
   pub sealed : SealedTo g w n
   pub passed : PassedBelow g w n

@@ -1,4 +1,4 @@
--- The words of the main theorem.
+-- The terms of the main theorem.
 use Rattle.std.specs.Prelude.{ℕ, ◌<◌, List}
 use Rattle.semantics.specs.Multiset.{Record}
 use Rattle.semantics.specs.Query.{Program}
@@ -14,7 +14,7 @@ use Rattle.machine.specs.Engine.{network, engine}
 
 -- the program is well typed, and the steps lead its engine from the opening world to w
 pub record IsRunOf (p : Program) (workers : ℕ) (steps : List Step) (w : World) : Type 0 where
-  -- of the outputs, in order
+  -- the arities of the outputs, in order
   pub arities : List ℕ
   pub typed : WellTyped p arities
   pub some : 0 < workers
@@ -28,7 +28,7 @@ meant p w k epoch = program_meaning p k (λ i. w.fed i epoch)
 abbrev pub output_of : Program → (output : ℕ) → ℕ
 output_of p k = output_number (lowered p) k
 
--- the same of any dataflow graph
+-- the same for any dataflow graph
 pub record IsRunOn (g : Graph) (workers : ℕ) (steps : List Step) (w : World) : Type 0 where
   pub flows : IsDataflow g
   pub some : 0 < workers

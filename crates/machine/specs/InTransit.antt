@@ -1,4 +1,4 @@
--- What lies in mailboxes, in requests and in workers' hands: it fits the graph.
+-- What is in mailboxes, in requests and held by workers fits the graph.
 use Rattle.std.specs.Prelude.{◌≡◌, ℕ, ◌<◌, true, length}
 use Rattle.semantics.specs.Time.{last, turn_count}
 use Rattle.semantics.specs.Kinds.{Kind, Role, role, ends_turn}
@@ -11,7 +11,7 @@ pub record IsGoodMessage (g : Graph) (m : Message) : Type 0 where
   -- the graph has its edge, and its time has the edge's depth
   pub fits : IsTimeAt g (Location.edge m.edge) m.time
   pub some : 0 < length m.records
-  -- into a feedback or an egress the last counter is within the limit of turns
+  -- on an edge into a feedback or an egress, the last counter is within the limit of turns
   pub within : ends_turn (vertex g (target g m.edge)).kind ≡ true → last m.time.counters < turn_count
 
 pub record IsGoodRequest (g : Graph) (n : Request) : Type 0 where
@@ -19,7 +19,7 @@ pub record IsGoodRequest (g : Graph) (n : Request) : Type 0 where
   pub fits : IsTimeAt g (Location.vertex n.vertex) n.time
   pub notified : role (vertex g n.vertex).kind ≡ Role.notified
 
--- of what a worker holds
+-- the same for what a worker holds
 abbrev pub IsGoodEvent : Graph → Event → Type 0
 IsGoodEvent g (Event.arrival m) = IsGoodMessage g m
 IsGoodEvent g (Event.notification n) = IsGoodRequest g n

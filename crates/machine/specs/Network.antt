@@ -1,5 +1,5 @@
--- A network: the vertices and edges of a dataflow graph, with the worker to which each record goes. It is what the engine needs
--- to know of a graph. (Naiad, SOSP 2013, sections 2.1 and 3.1: the logical graph, and the workers that run it.)
+-- A network: the vertices and edges of a dataflow graph, with the worker to which each record goes. That is all that the engine needs to know of a
+-- graph. (Naiad, SOSP 2013, sections 2.1 and 3.1: the logical graph, and the workers that run it.)
 use Rattle.std.specs.Prelude.{ℕ, List}
 use Rattle.semantics.specs.Multiset.{Record}
 use Rattle.semantics.specs.Kinds.{Role}
@@ -22,14 +22,14 @@ pub record Network : Type 1 where
   pub ports : (vertex : ℕ) → ℕ
   -- what a vertex does to the time of what it sends
   pub act : (vertex : ℕ) → Time → Time
-  -- what a vertex makes at a time, for an out port, of what its in ports have
+  -- what a vertex makes at a time, for an out port, from the records of its in ports
   pub op : (vertex out : ℕ) → Time → (ins : ℕ → List Record) → List Record
   -- the worker to which a record goes on an edge, from a worker
   pub home : (sender edge : ℕ) → Record → ℕ
   -- the first pointstamp could result in the second
   pub Could : Pointstamp → Pointstamp → Type 0
-  -- what proofs alone look at: the edge into an in port, the times that a vertex's action takes to this one, and that the
-  -- location is the graph's and the time has its depth
+  -- used by proofs only: the edge into an in port; the times that a vertex's action takes to this one; and that the location is in the graph and the
+  -- time has its depth
   pub edge_into : (vertex port : ℕ) → ℕ
   pub times_before : (vertex : ℕ) → Time → List Time
   pub IsPointstamp : Pointstamp → Type 0

@@ -1,4 +1,4 @@
--- When changes may be posted for the viewers, whoever makes them: what is removed is there, and what is added comes from it.
+-- When a sender may post changes: what it removes must be there, and what it adds must come from it.
 use Rattle.std.specs.Prelude.{◌≡◌, ◌≢◌, ◌⊎◌, ◌≤◌, ◌<◌, ℕ, ◌+◌, ◌-◌, List, [], ◌∷◌}
 use Rattle.semantics.specs.Graph.{Graph, input_count}
 use Rattle.semantics.specs.Could.{Pointstamp, Location, CouldResultIn}
@@ -9,12 +9,12 @@ use Rattle.machine.specs.Views.{Changes, InOrder}
 abbrev pub AtInput : (inputs : ℕ) → Pointstamp → Type 0
 AtInput inputs p = (i : ℕ) × (i < inputs) × (p.location ≡ Location.vertex i)
 
--- These changes may come where each pointstamp is there so many times. `feeder` is the sender who feeds, seals and closes.
+-- These changes may be posted while each pointstamp is there `content` times. `feeder` is the sender that feeds, seals and closes.
 pub record MayPost (could : Pointstamp → Pointstamp → Type 0) (inputs feeder : ℕ) (content : Pointstamp → ℕ) (b : Changes) : Type 0 where
   -- what is removed is there
   pub there : (p : Pointstamp) → b.removes p ≤ content p
-  -- what is added differs from, and could be the result of, a pointstamp that is removed, or, if the feeder adds it, of one that
-  -- is there at an input's vertex
+  -- what is added differs from a pointstamp that could result in it; that one is removed by these changes or, if the feeder adds, is there at an
+  -- input's vertex
   pub justified : (q : Pointstamp) → 0 < b.adds q → (p : Pointstamp) × (p ≢ q) × could p q
       × ((0 < b.removes p) ⊎ ((b.sender ≡ feeder) × AtInput inputs p × (0 < content p)))
   -- only the feeder adds or removes pointstamps at inputs' vertices
@@ -24,13 +24,13 @@ pub record MayPost (could : Pointstamp → Pointstamp → Type 0) (inputs feeder
 abbrev pub content_after : (Pointstamp → ℕ) → Changes → Pointstamp → ℕ
 content_after content b p = content p + b.adds p - b.removes p
 
--- each of these changes may come after those before it
+-- each of these changes may be posted after those before it
 abbrev pub ArePosted : (could : Pointstamp → Pointstamp → Type 0) → (inputs feeder : ℕ) → (content : Pointstamp → ℕ) → List Changes → Type 0
 ArePosted could inputs feeder content [] = Unit {0}
 ArePosted could inputs feeder content (b ∷ log) =
     MayPost could inputs feeder content b × ArePosted could inputs feeder (content_after content b) log
 
--- the changes were posted over a dataflow graph, and the viewer has applied some of them, each sender's in their order
+-- the changes were posted over a dataflow graph, and the viewer has applied some of them, each sender's in order
 pub record IsView (g : Graph) (workers : ℕ) (first : Pointstamp → ℕ) (log : List Changes) : Type 0 where
   pub flows : IsDataflow g
   pub some : 0 < workers

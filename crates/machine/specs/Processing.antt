@@ -1,4 +1,4 @@
--- What the commit of an event leaves behind at its vertex, by the vertex's role. (Naiad, SOSP 2013, section 2.2: OnRecv, OnNotify.)
+-- What the commit of an event leaves at its vertex, by the vertex's role. (Naiad, SOSP 2013, section 2.2: OnRecv, OnNotify.)
 use Rattle.std.specs.Prelude.{ℕ, cond, ◌==◌, List, [], ◌∷◌, ◌++◌}
 use Rattle.semantics.specs.Multiset.{Record, end_to_end}
 use Rattle.semantics.specs.Time.{Time, same_time, at_epoch}
@@ -7,24 +7,24 @@ use Rattle.semantics.specs.Shard.{SendsBy, SendsAtNotification, asks}
 use Rattle.machine.specs.Network.{Network}
 use Rattle.machine.specs.World.{Message, Request, Event, World}
 
--- where an event is processed
+-- the vertex at which an event is processed
 abbrev pub event_vertex : Network → Event → ℕ
 event_vertex g (Event.arrival m) = g.target m.edge
 event_vertex g (Event.notification n) = n.vertex
 
--- when
+-- the time at which an event is processed
 abbrev pub event_time : Event → Time
 event_time (Event.arrival m) = m.time
 event_time (Event.notification n) = n.time
 
 -- ---- what is absorbed
 
--- what was absorbed, with these records by a worker at a vertex, port and time
+-- what was absorbed, plus these records by a worker at a vertex, port and time
 abbrev pub absorbed_with : World → (worker vertex port : ℕ) → Time → List Record → (worker vertex port : ℕ) → Time → List Record
 absorbed_with w k v p t records k' v' p' t' =
     w.absorbed k' v' p' t' ++ cond (k' == k) (cond (v == v') (cond (p == p') (cond (same_time t t') records []) []) []) []
 
--- only the vertices with a state absorb
+-- only stateful and notified vertices absorb
 abbrev pub absorbed_by : Role → World → (worker vertex port : ℕ) → Time → List Record → (worker vertex port : ℕ) → Time → List Record
 absorbed_by Role.input w k v p t records = w.absorbed
 absorbed_by Role.stateless w k v p t records = w.absorbed
@@ -32,7 +32,7 @@ absorbed_by Role.stateful w k v p t records = absorbed_with w k v p t records
 absorbed_by Role.notified w k v p t records = absorbed_with w k v p t records
 absorbed_by Role.output w k v p t records = w.absorbed
 
--- of messages alone
+-- only messages are absorbed
 abbrev pub absorbed_after : Network → World → (worker : ℕ) → Event → (worker vertex port : ℕ) → Time → List Record
 absorbed_after g w k (Event.arrival m) = absorbed_by (g.role (g.target m.edge)) w k (g.target m.edge) (g.in_port m.edge) m.time m.records
 absorbed_after g w k (Event.notification n) = w.absorbed
@@ -43,7 +43,7 @@ absorbed_after g w k (Event.notification n) = w.absorbed
 abbrev pub absorbed_at : Network → World → (worker vertex : ℕ) → Time → List Record
 absorbed_at g w k v t = end_to_end (λ p. w.absorbed k v p t) (g.ports v)
 
--- the requests that an event makes: one, by the first records that a notified vertex's shard absorbs at a time
+-- the requests that an event makes: one, when a notified vertex's shard absorbs its first records at a time
 abbrev pub asked : Network → World → (worker : ℕ) → Event → List Request
 asked g w k (Event.arrival m) =
     cond (asks (g.role (g.target m.edge)) (absorbed_at g w k (g.target m.edge) m.time)) (record { vertex = g.target m.edge; time = m.time } ∷ []) []
@@ -51,7 +51,7 @@ asked g w k (Event.notification n) = []
 
 -- ---- what is emitted
 
--- what was emitted, with these records at an output vertex at a time
+-- what was emitted, plus these records at an output vertex at a time
 abbrev pub emitted_with : World → (vertex : ℕ) → Time → List Record → (output epoch : ℕ) → List Record
 emitted_with w v t records v' n = w.emitted v' n ++ cond (v == v') (cond (same_time t (at_epoch n)) records []) []
 
@@ -63,7 +63,7 @@ emitted_by Role.stateful w v t records = w.emitted
 emitted_by Role.notified w v t records = w.emitted
 emitted_by Role.output w v t records = emitted_with w v t records
 
--- of messages alone
+-- only messages are emitted
 abbrev pub emitted_after : Network → World → Event → (output epoch : ℕ) → List Record
 emitted_after g w (Event.arrival m) = emitted_by (g.role (g.target m.edge)) w (g.target m.edge) m.time m.records
 emitted_after g w (Event.notification n) = w.emitted

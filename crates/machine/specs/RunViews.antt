@@ -12,13 +12,13 @@ use Rattle.machine.specs.Views.{Changes, IsSeen, InOrder}
 abbrev pub changes_of : Network → World → Step → (applied : Bool) → Changes
 changes_of g w step applied = record { sender = step_sender g step; adds = step_adds g w step; removes = step_removes g w step; applied = applied }
 
--- the changes of steps from a world on; the flags say which were applied, and what has no flag wasn't
+-- the changes of a list of steps from a world on; a flag says whether a step's changes were applied, and a step without a flag wasn't
 abbrev pub log_of : Network → World → List Step → (flags : List Bool) → List Changes
 log_of g w [] flags = []
 log_of g w (step ∷ steps) [] = changes_of g w step false ∷ log_of g (after_step g w step) steps []
 log_of g w (step ∷ steps) (flag ∷ flags) = changes_of g w step flag ∷ log_of g (after_step g w step) steps flags
 
--- of a run's own changes each sender's are applied in their order
+-- of a run's changes, each sender's are applied in order
 abbrev pub AppliesInOrder : Network → List Step → (flags : List Bool) → Type 0
 AppliesInOrder g steps flags = InOrder (log_of g opening steps flags)
 

@@ -1,5 +1,5 @@
--- The steps that the engine may take: when each is allowed, and what it leaves. A step names all that was chosen, the event and
--- the records sent too, so that what it leaves is a function of it. What isn't named stays.
+-- The steps that the engine may take: when each is allowed, and what it does. A step names everything that was chosen, including the event and the
+-- records sent, so the world after it is a function of the step. What isn't mentioned stays.
 use Rattle.std.specs.Prelude.{◌≡◌, ℕ, suc, ◌+◌, ◌<◌, true, false, cond, ◌==◌, List, ◌∷◌, ◌++◌, drop, length, slice_get, remove, Some}
 use Rattle.semantics.specs.Multiset.{Record}
 use Rattle.semantics.specs.Time.{at_epoch}
@@ -14,19 +14,19 @@ use Rattle.machine.specs.Processing.{event_vertex, event_time, absorbed_after, a
 pub data Step : Type 0 where
   -- records come to an input at its open epoch
   feed : (input : ℕ) → List Record → Step
-  -- the input's open epoch ends, and the next one is open
+  -- the input's open epoch ends, and the next one opens
   seal : (input : ℕ) → Step
-  -- nothing more comes to the input
+  -- no more records come to the input
   close : (input : ℕ) → Step
   -- a worker takes a message out of its mailbox, or a request that may be delivered; `at` is its place there
   claim_message : (worker at : ℕ) → Message → Step
   claim_request : (worker at : ℕ) → Request → Step
-  -- a worker puts the records of a message in its mailbox behind those of the first one, which is on the same edge at the same time;
-  -- `at` is its place behind the first
+  -- a worker appends the records of a message in its mailbox to those of its first message, which is on the same edge at the same time; `at` is its
+  -- place behind the first
   merge : (worker at : ℕ) (first second : Message) → Step
-  -- the held event ends, its vertex sends `out`, by out port
+  -- the held event ends, and its vertex sends `out`, by out port
   commit : (worker : ℕ) → Event → (out : ℕ → List Record) → Step
-  -- the held event is given up, and the engine stops
+  -- the held event is abandoned, and the engine stops
   abandon : (worker : ℕ) → Event → Step
 
 -- ---- when a step may be taken
@@ -39,8 +39,8 @@ InputOpen g w i = (g.role i ≡ Role.input) × (w.closed i ≡ false) × (w.stop
 abbrev pub MayClaim : Network → World → (worker : ℕ) → Type 0
 MayClaim g w k = (k < g.workers) × (w.held k ≡ Held.nothing) × (w.stopped ≡ false)
 
--- A request may be delivered where no other active pointstamp could result in its own; its twin at another worker has the same
--- pointstamp and doesn't hinder it. A stopped engine still takes commits.
+-- A request may be delivered if no other pointstamp that is active could result in its own. The request of another worker for the same pointstamp
+-- doesn't block it. A stopped engine still takes commits.
 abbrev pub Allowed : Network → World → Step → Type 0
 Allowed g w (Step.feed i records) = InputOpen g w i × (0 < length records)
 Allowed g w (Step.seal i) = InputOpen g w i
@@ -52,22 +52,21 @@ Allowed g w (Step.merge k at m n) =
 Allowed g w (Step.commit k event out) = (k < g.workers) × (w.held k ≡ Held.holding false event) × Makes g w k event out
 Allowed g w (Step.abandon k event) = (k < g.workers) × (w.held k ≡ Held.holding false event)
 
--- ---- what a step leaves
+-- ---- what a step does
 
 -- f with another value at k
 abbrev pub put : {X : Type 0} → (ℕ → X) → (k : ℕ) → X → ℕ → X
 put f k x j = cond (j == k) x (f j)
 
--- what was fed, with more records at the input's open epoch
+-- what was fed, plus records at the input's open epoch
 abbrev pub fed_after : World → (input : ℕ) → List Record → (input epoch : ℕ) → List Record
 fed_after w i records = put w.fed i (put (w.fed i) (w.open_epoch i) (w.fed i (w.open_epoch i) ++ records))
 
--- both messages as one
+-- both messages merged
 abbrev pub merged : (first second : Message) → Message
 merged m n = record m { records = m.records ++ n.records }
 
--- The world after a step. What is fed has no worker of its own: it goes by key or by the whole record, so that the sender 0 below
--- is as good as any.
+-- The world after a step. No worker sends what is fed; it is routed by key or by the whole record, so the sender 0 below could be any.
 abbrev pub after_step : Network → World → Step → World
 after_step g w (Step.feed i records) =
     record w {

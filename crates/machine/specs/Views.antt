@@ -1,23 +1,23 @@
--- Changes of the active pointstamps as a list, and what a viewer sees that has applied only a part of them. (Naiad, SOSP 2013,
--- section 3.3: each worker's view of the progress updates.)
+-- Changes of the active pointstamps as a list, and what a viewer sees that has applied only some of them. (Naiad, SOSP 2013, section 3.3: each
+-- worker's view of the progress updates.)
 use Rattle.std.specs.Prelude.{◌≡◌, ◌<◌, ℕ, ◌+◌, Bool, true, false, List, [], ◌∷◌}
 use Rattle.semantics.specs.Multiset.{total}
 use Rattle.semantics.specs.Could.{Pointstamp}
 
--- one step's changes: which sender made them, how often each pointstamp is added and removed, and whether the viewer has applied them
+-- one step's changes: the sender, how often each pointstamp is added and removed, and whether the viewer has applied them
 pub record Changes : Type 0 where
   pub sender : ℕ
   pub adds : Pointstamp → ℕ
   pub removes : Pointstamp → ℕ
   pub applied : Bool
 
--- ---- all changes: `first` says how often each pointstamp was there at first, and the list has the oldest changes first
+-- ---- all changes: `first` is how often each pointstamp was there at first, and the list has the oldest changes first
 
--- all that was ever there
+-- how often a pointstamp was ever added, `first` included
 abbrev pub all_adds : (first : Pointstamp → ℕ) → List Changes → Pointstamp → ℕ
 all_adds first log p = first p + total (λ b. b.adds p) log
 
--- all that was ever removed
+-- how often a pointstamp was ever removed
 abbrev pub all_removes : List Changes → Pointstamp → ℕ
 all_removes log p = total (λ b. b.removes p) log
 
@@ -27,20 +27,20 @@ IsThere first log p = all_removes log p < all_adds first log p
 
 -- ---- what is seen of them
 
--- n where it is so, else nothing
+-- n if the flag is set, and otherwise 0
 abbrev pub when : Bool → ℕ → ℕ
 when true n = n
 when false n = 0
 
--- what of the added was applied
+-- the adds that were applied
 abbrev pub seen_adds : (first : Pointstamp → ℕ) → List Changes → Pointstamp → ℕ
 seen_adds first log p = first p + total (λ b. when b.applied (b.adds p)) log
 
--- what of the removed was applied
+-- the removals that were applied
 abbrev pub seen_removes : List Changes → Pointstamp → ℕ
 seen_removes log p = total (λ b. when b.applied (b.removes p)) log
 
--- the pointstamp's count in the view is above 0; a count below 0 is none
+-- the pointstamp's count in the view is above 0; a negative count means that it isn't seen
 abbrev pub IsSeen : (first : Pointstamp → ℕ) → List Changes → Pointstamp → Type 0
 IsSeen first log p = seen_removes log p < seen_adds first log p
 
@@ -51,7 +51,7 @@ abbrev pub NoneApplied : (sender : ℕ) → List Changes → Type 0
 NoneApplied sender [] = Unit {0}
 NoneApplied sender (b ∷ log) = (b.sender ≡ sender → b.applied ≡ false) × NoneApplied sender log
 
--- the changes of one sender are applied in their order
+-- each sender's changes are applied in order
 abbrev pub InOrder : List Changes → Type 0
 InOrder [] = Unit {0}
 InOrder (b ∷ log) = (b.applied ≡ false → NoneApplied b.sender log) × InOrder log
@@ -61,7 +61,7 @@ abbrev pub AllApplied : List Changes → Type 0
 AllApplied [] = Unit {0}
 AllApplied (b ∷ log) = (b.applied ≡ true) × AllApplied log
 
--- the same changes, and what was applied still is
+-- the same changes, and what was applied stays applied
 abbrev pub AppliesMore : List Changes → List Changes → Type 0
 AppliesMore [] [] = Unit {0}
 AppliesMore [] (c ∷ more) = ⊥

@@ -1,4 +1,4 @@
--- Small runs of the engine that are computed, as checks of the definitions.
+-- Small runs of the engine that are computed, to check the definitions.
 use Rattle.std.specs.Prelude.{ℕ, List, [], ◌∷◌, ◌++◌, pos}
 use Rattle.semantics.specs.Multiset.{Record}
 use Rattle.semantics.specs.Time.{at_epoch}
@@ -39,15 +39,15 @@ the_five = message_on 0 (one_field (pos 5) ∷ [])
 abbrev pub one_fed : List Step
 one_fed = Step.feed 0 (one_field (pos 5) ∷ []) ∷ []
 
--- the record 5 is fed, and the output's worker takes and commits it
+-- the record 5 is fed, and the output's worker claims and commits it
 abbrev pub one_record : List Step
 one_record = Step.feed 0 (one_field (pos 5) ∷ []) ∷ Step.claim_message 0 0 the_five ∷ Step.commit 0 (Event.arrival the_five) nothing_sent ∷ []
 
--- and then the input is sealed
+-- then the input is sealed
 abbrev pub one_record_sealed : List Step
 one_record_sealed = one_record ++ Step.seal 0 ∷ []
 
--- the record 5 is fed, the input is closed, and the event is taken and given up
+-- the record 5 is fed, the input is closed, and the event is claimed and abandoned
 abbrev pub given_up : List Step
 given_up = Step.feed 0 (one_field (pos 5) ∷ []) ∷ Step.close 0 ∷ Step.claim_message 0 0 the_five ∷ Step.abandon 0 (Event.arrival the_five) ∷ []
 
@@ -70,7 +70,7 @@ to_worker_0 = message_on 0 (one_field (pos 1) ∷ one_field (pos 3) ∷ [])
 abbrev pub to_worker_1 : Message
 to_worker_1 = message_on 0 (one_field (pos 2) ∷ [])
 
--- each worker's shard of the group takes in its message
+-- each worker's shard of the group absorbs its message
 abbrev pub both_absorbed : List Step
 both_absorbed =
     three_fed
@@ -81,11 +81,11 @@ both_absorbed =
 abbrev pub the_request : Request
 the_request = record { vertex = 1; time = at_epoch 0 }
 
--- and then the input is sealed
+-- then the input is sealed
 abbrev pub absorbed_and_sealed : List Step
 absorbed_and_sealed = both_absorbed ++ Step.seal 0 ∷ []
 
--- worker 0 takes its notification
+-- worker 0 claims its notification
 abbrev pub first_notified : List Step
 first_notified = absorbed_and_sealed ++ Step.claim_request 0 0 the_request ∷ []
 
@@ -93,15 +93,15 @@ first_notified = absorbed_and_sealed ++ Step.claim_request 0 0 the_request ∷ [
 abbrev pub counts_of_0 : ℕ → List Record
 counts_of_0 q = two_fields 1 1 ∷ two_fields 3 1 ∷ []
 
--- and commits it
+-- worker 0 commits it
 abbrev pub first_committed : List Step
 first_committed = first_notified ++ Step.commit 0 (Event.notification the_request) counts_of_0 ∷ []
 
--- the records 1 and 3 are fed one after the other, and worker 0 has a message of each
+-- the records 1 and 3 are fed one after the other, and worker 0 has a message for each
 abbrev pub two_fed : List Step
 two_fed = Step.feed 0 (one_field (pos 1) ∷ []) ∷ Step.feed 0 (one_field (pos 3) ∷ []) ∷ []
 
--- it merges the two, takes the one and commits it
+-- it merges the two, and claims and commits the result
 abbrev pub two_merged : List Step
 two_merged =
     two_fed
@@ -122,7 +122,7 @@ differ = engine in_a_alone 1
 abbrev pub one_on : (edge : ℕ) → Message
 one_on e = message_on e (one_field (pos 1) ∷ [])
 
--- the record 1 is fed to a, and taken in by the except; then a is sealed
+-- the record 1 is fed to a, and absorbed by the except; then a is sealed
 abbrev pub a_sealed : List Step
 a_sealed = Step.feed 0 (one_field (pos 1) ∷ []) ∷ Step.claim_message 0 0 (one_on 0) ∷ Step.commit 0 (Event.arrival (one_on 0)) nothing_sent ∷ Step.seal 0 ∷ []
 
@@ -138,7 +138,7 @@ a_and_b_sealed = a_sealed ++ Step.seal 1 ∷ []
 abbrev pub one_sent : ℕ → List Record
 one_sent q = one_field (pos 1) ∷ []
 
--- the except takes its notification and commits it
+-- the except claims its notification and commits it
 abbrev pub difference_committed : List Step
 difference_committed = a_and_b_sealed ++ Step.claim_request 0 0 except_request ∷ Step.commit 0 (Event.notification except_request) one_sent ∷ []
 
@@ -148,11 +148,11 @@ difference_committed = a_and_b_sealed ++ Step.claim_request 0 0 except_request �
 abbrev pub meeter : Network
 meeter = engine in_a_and_b 1
 
--- the record 1 is fed to a and taken in
+-- the record 1 is fed to a and absorbed
 abbrev pub one_in_a : List Step
 one_in_a = Step.feed 0 (one_field (pos 1) ∷ []) ∷ Step.claim_message 0 0 (one_on 0) ∷ Step.commit 0 (Event.arrival (one_on 0)) nothing_sent ∷ []
 
--- and then to b, and what the intersect sends is emitted
+-- then it is fed to b, and what the intersect sends is emitted
 abbrev pub one_in_both : List Step
 one_in_both =
     one_in_a
@@ -169,6 +169,6 @@ splitter = engine small_and_all 1
 abbrev pub three_on : (edge : ℕ) → Message
 three_on e = message_on e (one_field (pos 3) ∷ [])
 
--- the record 3 is fed and the input sealed; the second output's worker takes and commits it, and that of the `where` doesn't yet
+-- the record 3 is fed and the input sealed; the second output's worker claims and commits it, and the `where` doesn't yet
 abbrev pub second_first : List Step
 second_first = Step.feed 0 (one_field (pos 3) ∷ []) ∷ Step.seal 0 ∷ Step.claim_message 0 1 (three_on 2) ∷ Step.commit 0 (Event.arrival (three_on 2)) nothing_sent ∷ []

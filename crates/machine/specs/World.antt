@@ -9,37 +9,37 @@ pub record Message : Type 0 where
   pub time : Time
   pub records : List Record
 
--- a wish to be told when nothing more can come to a vertex at a time
+-- asks for a notification at a vertex once nothing more can come to it at a time
 pub record Request : Type 0 where
   pub vertex : ℕ
   pub time : Time
 
--- what a worker processes: a message that arrives, or the notification that was asked for
+-- what a worker processes: a message that arrives, or a notification that was asked for
 pub data Event : Type 0 where
   arrival : Message → Event
   notification : Request → Event
 
--- what a worker holds: nothing, or an event, perhaps given up
+-- what a worker holds: nothing, or an event, perhaps abandoned
 pub data Held : Type 0 where
   nothing : Held
   holding : (given_up : Bool) → Event → Held
 
 pub record World : Type 0 where
-  -- of each input, which is the vertex of the same number
+  -- by input, which is the vertex of the same number
   pub fed : (input epoch : ℕ) → List Record
   pub open_epoch : (input : ℕ) → ℕ
   pub closed : (input : ℕ) → Bool
-  -- of each worker; mailbox and requests in the order in which they came
+  -- by worker; the mailbox in order of arrival, the requests in the order in which they were made
   pub mail : (worker : ℕ) → List Message
   pub requests : (worker : ℕ) → List Request
   pub held : (worker : ℕ) → Held
-  -- what each worker's shard of a vertex with a state has taken in, by port and time
+  -- what each worker's shard of a vertex with a state has absorbed, by port and time
   pub absorbed : (worker vertex port : ℕ) → Time → List Record
   -- by output vertex and epoch
   pub emitted : (output epoch : ℕ) → List Record
-  -- an event was given up
+  -- whether an event was abandoned
   pub stopped : Bool
-  -- all that was ever sent on an edge at a time: no engine keeps it, the theorems speak of it
+  -- everything that was ever sent on an edge at a time; no engine stores it, only the theorems use it
   pub sent : (edge : ℕ) → Time → List Record
 
 -- before all steps

@@ -7,7 +7,7 @@ ghost use Rattle.machine.specs.Engine.{network};
 ghost use Rattle.machine.specs.Headline.{IsRunOn};
 ghost use Rattle.machine.specs.Choices.{Chooses, IsClaimBy};
 
-/// A worker's choice may be taken, its n-th choice is one, and no claim that is allowed is left out.
+/// A worker's choice may be taken, the n-th choice is unique, and every allowed claim is a choice.
 pub fn law_choice()
     ensures allowed { (g : Graph) (workers : ℕ) (w : World) (worker n : ℕ) (step : Step) →
         MayClaim (network g workers) w worker → Chooses (network g workers) w worker n step →
@@ -19,7 +19,7 @@ pub fn law_choice()
         ((n : ℕ) → Chooses (network g workers) w worker n step → ⊥) → ⊥ }
 {}
 
-/// A held event that isn't given up can always be committed.
+/// A held event that isn't abandoned can always be committed.
 pub fn law_commit()
     ensures { (g : Graph) (workers : ℕ) (steps : List Step) (w : World) →
         IsRunOn g workers steps w → (worker : ℕ) (event : Event) → worker < workers →

@@ -12,9 +12,9 @@ ghost use Rattle.machine.specs.Step.{Step};
 ghost use Rattle.machine.specs.Engine.{engine, network};
 ghost use Rattle.machine.specs.Headline.{IsRunOf, IsRunOn, meant, output_of};
 
-/// The main theorem. For every well-typed query, every number of workers, every list of steps, every moment and each output: the
-/// records emitted there for an epoch are part of the multiset that the output's tree means on the records fed for that epoch (so
-/// far), and are all of it once the epoch has passed at that output.
+/// The main theorem. It holds for every well-typed query, every number of workers, every list of steps, every moment and each output: the records
+/// emitted there for an epoch are part of the multiset that the output's tree means on the records fed for that epoch so far, and all of it once the
+/// epoch has passed at that output.
 pub fn law_headline()
     ensures part { (p : Program) (workers : ℕ) (steps : List Step) (w : World) →
         IsRunOf p workers steps w → (output epoch : ℕ) → output < length p.outputs →
@@ -25,8 +25,8 @@ pub fn law_headline()
         w.emitted (output_of p output) epoch ≈ meant p w output epoch }
 {}
 
-/// Of any dataflow graph: what was emitted at an output vertex for an epoch is part of the flow on its edge, on what was fed, and
-/// all of it once the epoch has passed there.
+/// For any dataflow graph: what was emitted at an output vertex for an epoch is part of the flow on its edge, on what was fed, and all of it once the
+/// epoch has passed there.
 pub fn law_emitted()
     ensures part { (g : Graph) (workers : ℕ) (steps : List Step) (w : World) →
         IsRunOn g workers steps w → (flow : Flow) → IsFlow g w.fed flow →
@@ -38,7 +38,7 @@ pub fn law_emitted()
         w.emitted v epoch ≈ flow v 0 (at_epoch epoch) }
 {}
 
-/// A program's run is a run of its graph, so that the laws of graphs speak of it.
+/// A program's run is a run of its graph, so the laws of graphs apply to it.
 pub fn law_run_of_graph()
     ensures { (p : Program) (workers : ℕ) (steps : List Step) (w : World) →
         IsRunOf p workers steps w → IsRunOn (lowered p) workers steps w }

@@ -10,7 +10,7 @@ ghost use Rattle.machine.specs.Step.{Allowed, Step, after_step};
 ghost use Rattle.machine.specs.Engine.{network};
 ghost use Rattle.machine.specs.Headline.{IsRunOn};
 
-/// Where no active pointstamp could result, or none but the pointstamp itself, that stays so by every step.
+/// If no active pointstamp could result in a pointstamp, or none but itself, no step changes that.
 pub fn law_frontier()
     ensures none_before { (g : Graph) (workers : ℕ) (steps : List Step) (w : World) →
         IsRunOn g workers steps w → (step : Step) → Allowed (network g workers) w step →
@@ -22,7 +22,7 @@ pub fn law_frontier()
         NoOtherBefore (network g workers) (after_step (network g workers) w step) pointstamp }
 {}
 
-/// An epoch that has passed at an output stays so by every step.
+/// An epoch that has passed at an output stays passed, whatever the step.
 pub fn law_passed()
     ensures { (g : Graph) (workers : ℕ) (steps : List Step) (w : World) →
         IsRunOn g workers steps w → (step : Step) → Allowed (network g workers) w step →
@@ -30,7 +30,7 @@ pub fn law_passed()
         Passed (network g workers) (after_step (network g workers) w step) output epoch }
 {}
 
-/// That each epoch below n has passed at each output is told by the graph's outputs, by their places.
+/// Whether each epoch below n has passed at each output can be seen at the graph's outputs, by their places.
 pub fn law_passed_below()
     ensures { (g : Graph) (workers : ℕ) (w : World) (n : ℕ) →
         PassedBelow (network g workers) w n
@@ -38,7 +38,7 @@ pub fn law_passed_below()
         Passed (network g workers) w (output_number g output) epoch) }
 {}
 
-/// The number of passed epochs is one, and doesn't fall by any step.
+/// The number of passed epochs is unique, and no step lowers it.
 pub fn law_passed_count()
     ensures one { (g : Graph) (workers : ℕ) (w : World) (m n : ℕ) →
         IsPassedCount (network g workers) w m → IsPassedCount (network g workers) w n → m ≡ n }
@@ -48,7 +48,7 @@ pub fn law_passed_count()
         IsPassedCount (network g workers) (after_step (network g workers) w step) n → m ≤ n }
 {}
 
-/// A world is drained exactly where no pointstamp is active. Then every epoch has passed.
+/// A world is drained exactly if no pointstamp is active. Then every epoch has passed.
 pub fn law_drained()
     ensures exact { (g : Graph) → IsDataflow g → (workers : ℕ) → 0 < workers → (w : World) →
         IsDrained (network g workers) w ↔ ((pointstamp : Pointstamp) → IsActive (network g workers) w pointstamp → ⊥) }

@@ -10,10 +10,9 @@ ghost use Rattle.machine.specs.Views.{AllApplied, AppliesMore, Changes, IsSeen, 
 ghost use Rattle.machine.specs.Posting.{IsView};
 ghost use Rattle.machine.specs.RunViews.{AppliesInOrder, SeesNoOtherBefore, SeesNoneBefore, log_of};
 
-/// A viewer that has applied any part of the changes, each sender's in their order, sees that no pointstamp could result in p,
-/// or none but p itself, only where that is so of those that are there, and exactly so where nothing waits. That none could
-/// stays so when more is applied, and when changes are posted that add nothing that could result in p. It holds for changes of
-/// any caller that may be posted.
+/// A viewer has applied some of the changes, each sender's in order. It sees that no pointstamp could result in p, or none but p itself, only if that
+/// is true of the pointstamps that are there, and exactly then if nothing waits. Once it sees that none could, that stays so when more is applied,
+/// and when changes are posted that add nothing that could result in p. The changes may come from any caller, as long as they may be posted.
 pub fn law_view()
     ensures none { (g : Graph) (workers : ℕ) (first : Pointstamp → ℕ) (log : List Changes) → IsView g workers first log →
         (p : Pointstamp) → NoneOf (CouldResultIn g) (IsSeen first log) p → NoneOf (CouldResultIn g) (IsThere first log) p }
@@ -33,8 +32,8 @@ pub fn law_view()
         NoneOf (CouldResultIn g) (IsSeen first log) p → NoneOf (CouldResultIn g) (IsSeen first (log ++ b ∷ [])) p }
 {}
 
-/// A worker that has applied any part of a run's changes, each sender's in their order, sees that no active pointstamp could
-/// result, or no other, only where that is so in the world, and exactly so where nothing waits for it.
+/// A worker has applied some of a run's changes, each sender's in order. It sees that no active pointstamp could result in p, or no other one, only
+/// if that is true in the world, and exactly then if nothing waits for it.
 pub fn law_view_of_run()
     ensures none { (g : Graph) (workers : ℕ) (steps : List Step) (w : World) →
         IsRunOn g workers steps w → (flags : List Bool) → AppliesInOrder (network g workers) steps flags → (p : Pointstamp) →

@@ -11,7 +11,7 @@ ghost use Rattle.machine.specs.Step.{Step};
 ghost use Rattle.machine.specs.Headline.{IsRunOf, IsRunOn, output_of};
 ghost use Rattle.machine.specs.InTransit.{FedFits, IsGoodEvent, IsGoodMessage, IsGoodRequest};
 
-/// What lies in mailboxes, in requests and in workers' hands fits the graph.
+/// What is in mailboxes, in requests and held by workers fits the graph.
 pub fn law_in_transit()
     ensures messages { (g : Graph) (workers : ℕ) (steps : List Step) (w : World) →
         IsRunOn g workers steps w → (worker at : ℕ) (m : Message) → worker < workers →
@@ -24,8 +24,8 @@ pub fn law_in_transit()
         w.held worker ≡ Held.holding given_up event → IsGoodEvent g event }
 {}
 
-/// Where each record that was fed has its input's arity, each record under way, absorbed or emitted has its port's, and what a
-/// program's engine emits at an output has that output's.
+/// If each record that was fed has its input's arity, then each record under way, absorbed or emitted has its port's, and what a program's engine
+/// emits at an output has that output's.
 pub fn law_arities()
     ensures messages { (g : Graph) (workers : ℕ) (steps : List Step) (w : World) →
         IsRunOn g workers steps w → (arity : ℕ → ℕ) → IsTyped g arity → FedFits g arity w →

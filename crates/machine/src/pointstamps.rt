@@ -11,7 +11,7 @@ ghost use Rattle.machine.specs.Changes.{step_adds, step_removes};
 ghost use Rattle.machine.specs.Posting.{ArePosted, MayPost};
 ghost use Rattle.machine.specs.RunViews.{changes_of, log_of};
 
-/// A pointstamp is active exactly where its count is above 0, and a step changes the counts by what it adds and removes.
+/// A pointstamp is active exactly if its count is above 0, and a step changes the counts by what it adds and removes.
 pub fn law_active()
     ensures counts { (g : Graph) → IsDataflow g → (workers : ℕ) → 0 < workers →
         (w : World) (pointstamp : Pointstamp) →
@@ -23,7 +23,7 @@ pub fn law_active()
         ≡ active_count (network g workers) w pointstamp + step_adds (network g workers) w step pointstamp }
 {}
 
-/// The changes of each allowed step may be posted where the active pointstamps are there, those of a run one after the other.
+/// The changes of an allowed step may be posted while exactly the active pointstamps are there; so may those of a run, one after the other.
 pub fn law_posted()
     ensures step { (g : Graph) (workers : ℕ) (steps : List Step) (w : World) →
         IsRunOn g workers steps w → (step : Step) → Allowed (network g workers) w step → (applied : Bool) →

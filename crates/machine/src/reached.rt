@@ -5,7 +5,7 @@ ghost use Rattle.machine.specs.Step.{Allowed, Step, after_step};
 ghost use Rattle.machine.specs.Run.{Reached};
 ghost use Rattle.machine.specs.Engine.{network};
 
-/// The opening world is at the end of a run, and so is what an allowed step leaves.
+/// The opening world is reached by a run, and so is the world after an allowed step from a reached one.
 pub fn law_reached()
     ensures opening { (g : Graph) (workers : ℕ) → Reached (network g workers) opening }
     ensures step { (g : Graph) (workers : ℕ) (w : World) (step : Step) →

@@ -10,7 +10,7 @@ ghost use Rattle.machine.specs.Step.{Step};
 ghost use Rattle.machine.specs.Engine.{network};
 ghost use Rattle.machine.specs.Headline.{IsRunOn};
 
-/// What was sent on an edge is part of the flow on what was fed, and all of it where no active pointstamp could result.
+/// What was sent on an edge is part of the flow on what was fed, and all of it if no active pointstamp could result there.
 pub fn law_sent()
     ensures part { (g : Graph) (workers : ℕ) (steps : List Step) (w : World) →
         IsRunOn g workers steps w → (flow : Flow) → IsFlow g w.fed flow →

@@ -10,9 +10,9 @@ ghost use Rattle.machine.specs.WorkedRuns.{after_steps, message_on, copying, cop
 ghost use Rattle.machine.specs.WorkedRuns.{counting, counter, three_fed, two_fed, two_merged, fed_in_two_epochs, to_worker_0, to_worker_1, both_absorbed, the_request, absorbed_and_sealed, first_notified, first_committed};
 ghost use Rattle.machine.specs.WorkedRuns.{differ, a_sealed, except_request, a_and_b_sealed, one_on, difference_committed, meeter, one_in_a, one_in_both, splitter, second_first};
 
-/// Of `input a/1; output a;` on one worker: the record 5 is fed, and nothing emitted yet, so that what was emitted is not all that
-/// the query means; it is claimed and committed, and so emitted. The epoch has not passed
-/// then, since the input is open; it has once the input is sealed.
+/// `input a/1; output a;` on one worker. The record 5 is fed; nothing is emitted yet, so what was emitted is not all that the query means. The
+/// message is claimed and committed, and so the record is emitted. The epoch has not passed then, since the input is open; it has once the input is
+/// sealed.
 pub fn law_one_record()
     ensures run_fed { IsRunOf copying 1 one_fed (after_steps copier opening one_fed) }
     ensures less { (after_steps copier opening one_fed).emitted (output_of copying 0) 0
@@ -24,7 +24,7 @@ pub fn law_one_record()
     ensures passed { Passed copier (after_steps copier opening one_record_sealed) (output_of copying 0) 0 }
 {}
 
-/// An event that is given up keeps its epoch open, also where every input is closed and no message or request is left.
+/// An abandoned event keeps its epoch open, even if every input is closed and no message or request is left.
 pub fn law_given_up()
     ensures run { IsRunOf copying 1 given_up (after_steps copier opening given_up) }
     ensures is_open { Passed copier (after_steps copier opening given_up) (output_of copying 0) 0 → ⊥ }
@@ -36,8 +36,8 @@ pub fn law_batch()
     ensures to_1 { (after_steps counter opening three_fed).mail 1 ≡ to_worker_1 ∷ [] }
 {}
 
-/// Two records of keys of worker 0 that are fed to the group in one epoch, one after the other, make two messages. Merged, claimed and
-/// committed, they are absorbed as one list. Messages of two epochs aren't merged.
+/// Two records with keys of worker 0 that are fed to the group in one epoch, one after the other, make two messages. Once these are merged, claimed
+/// and committed, they are absorbed as one list. Messages of two epochs aren't merged.
 pub fn law_merge()
     ensures two { (after_steps counter opening two_fed).mail 0
         ≡ message_on 0 (one_field (pos 1) ∷ []) ∷ message_on 0 (one_field (pos 3) ∷ []) ∷ [] }
@@ -48,9 +48,9 @@ pub fn law_merge()
         (Step.merge 0 0 (message_on 0 (one_field (pos 1) ∷ [])) second) → ⊥ }
 {}
 
-/// Of `input a/1; output group(a; #0; count);` on two workers: each worker asks once for a notification, which is held back while
-/// the input is open at the epoch. Once the input is sealed it may be delivered, although the other worker's twin of it is still
-/// asked for, and the twin too, although the first is still held. The notification sends one record for each key with its count.
+/// `input a/1; output group(a; #0; count);` on two workers. Each worker asks once for a notification, which is held back while the input is open at
+/// the epoch. Once the input is sealed it may be delivered, although the other worker's request for the same pointstamp is still waiting; and so may
+/// that one, while the first is held. The notification sends one record for each key, with its count.
 pub fn law_notification()
     ensures asked_by_0 { (after_steps counter opening both_absorbed).requests 0 ≡ the_request ∷ [] }
     ensures asked_by_1 { (after_steps counter opening both_absorbed).requests 1 ≡ the_request ∷ [] }
@@ -62,9 +62,9 @@ pub fn law_notification()
         ≡ message_on 1 (two_fields 1 1 ∷ two_fields 3 1 ∷ []) ∷ [] }
 {}
 
-/// Of `input a/1; input b/1; output except(a, b);` on one worker: the record 1 of `a` is taken in, and nothing sent. The except
-/// has asked for a notification, which is held back while `b` is open, also once `a` is sealed, since `b` may still take the record
-/// away. Once `b` is sealed it is delivered, and sends the record.
+/// `input a/1; input b/1; output except(a, b);` on one worker. The record 1 of `a` is absorbed, and nothing is sent. The except has asked for a
+/// notification, which is held back while `b` is open, even after `a` is sealed, since `b` may still take the record away. Once `b` is sealed it is
+/// delivered, and sends the record.
 pub fn law_difference()
     ensures asked { (after_steps differ opening a_sealed).requests 0 ≡ except_request ∷ [] }
     ensures none_sent { (after_steps differ opening a_sealed).mail 0 ≡ [] }
@@ -74,8 +74,8 @@ pub fn law_difference()
     ensures sent { (after_steps differ opening difference_committed).mail 0 ≡ one_on 2 ∷ [] }
 {}
 
-/// Of `input a/1; input b/1; output intersect(a, b);` on one worker: the record 1 of `a` alone sends nothing; with that of `b` it
-/// is sent and emitted, while the epoch is open.
+/// `input a/1; input b/1; output intersect(a, b);` on one worker. The record 1 of `a` sends nothing by itself; with that of `b` it is sent and
+/// emitted, while the epoch is still open.
 pub fn law_common()
     ensures none_sent { (after_steps meeter opening one_in_a).mail 0 ≡ [] }
     ensures run { IsRunOf in_a_and_b 1 one_in_both (after_steps meeter opening one_in_both) }
@@ -83,9 +83,9 @@ pub fn law_common()
     ensures is_open { Passed meeter (after_steps meeter opening one_in_both) (output_of in_a_and_b 0) 0 → ⊥ }
 {}
 
-/// Of `input a/1; output x = where(a; #0 < 5); output y = a;` on one worker: the record 3 is fed and the input sealed. Once the
-/// message to the second output is committed, the record is emitted there and the epoch has passed there, while at the first output
-/// nothing is emitted and the epoch is open.
+/// `input a/1; output x = where(a; #0 < 5); output y = a;` on one worker. The record 3 is fed and the input sealed. Once the message to the second
+/// output is committed, the record is emitted there and the epoch has passed there, while at the first output nothing is emitted and the epoch is
+/// open.
 pub fn law_two_outputs()
     ensures run { IsRunOf small_and_all 1 second_first (after_steps splitter opening second_first) }
     ensures emitted { (after_steps splitter opening second_first).emitted (output_of small_and_all 1) 0 ≡ one_field (pos 3) ∷ [] }

@@ -22,7 +22,7 @@ column_back c [] r q h e = absurd h
 column_back c (s ∷ ss) r q (inl t) e = t r q (ap (λ l. get_or l 0 (pos 0)) e)
 column_back c (s ∷ ss) r q (inr h) e = column_back c ss r q h (ap others e)
 
--- each column is read back, so the records are the same
+-- each column can be read back, so the records are equal
 same_record : (n : ℕ) (ss : List Scalar) (r q : Record) → length r ≡ n → length q ≡ n → AllDetermined n ss → IsInRange r → IsInRange q → values_of ss r ≡ values_of ss q → r ≡ q
 same_record n ss r q l m determined a b e =
     ext_get_or (pos 0) r q (l ∙ sym m) (λ c k. sym (a c k) ∙ column_back c ss r q (determined c (omega (arith, k, l))) e ∙ b c (omega (arith, k, l, m)))
@@ -42,7 +42,7 @@ length_changed : (f : Record → Record) (cs : List Run) → length (rows_of (ma
 length_changed f [] = refl
 length_changed f (c ∷ cs) = ap suc (length_changed f cs)
 
--- runs of different rows stay so where each column is determined
+-- runs with different rows keep them different if each column is determined
 runs_kept : (n : ℕ) (ss : List Scalar) (cs : List Run) → AreRuns cs → AllHave n (rows_of cs) → ((j : ℕ) → j < length cs → IsInRange (slice_index_or cs j no_run).row) →
     AllDetermined n ss → AreRuns (map (changed (values_of ss)) cs)
 runs_kept n ss cs runs each range determined = record {

@@ -1,4 +1,4 @@
--- What is made of one record more.
+-- What one more record adds.
 use Rattle.std.proofs.Common.{◌≡◌, ℕ, suc, ◌+◌, ◌<◌, ◌≤◌, Bool, true, false, cond, List, [], ◌∷◌, ◌++◌, map, filter, take, length, slice_index_or, refl, sym, ap, subst, ◌∙◌, if◌then◌else◌}
 use Rattle.std.proofs.lemmas.List.{take_all, take_more, map-append}
 use Rattle.rows.specs.Counts.{Run, expanded, no_run, rows_of, AreRuns}
@@ -12,7 +12,7 @@ pub length_of_map : {A B : Type 0} (f : A → B) (xs : List A) → length (map f
 length_of_map f [] = refl
 length_of_map f (x ∷ xs) = ap suc (length_of_map f xs)
 
--- of a record at which the condition may hold
+-- a record at which the condition may hold
 pub kept_more : (c : Cond) (cs old new : List Run) (k : ℕ) → k < length cs → old ≡ filter (λ d. holds c d.row) (take k cs) → new ≡ old ++ (if holds c (slice_index_or cs k no_run).row then slice_index_or cs k no_run ∷ [] else []) →
     new ≡ filter (λ d. holds c d.row) (take (k + 1) cs)
 kept_more c cs old new k h e f =
@@ -37,7 +37,7 @@ kept_different c cs new k d h f =
 abbrev pub values_of : List Scalar → Record → Record
 values_of ss r = map (λ s. value s r) ss
 
--- of a record of values
+-- a record of values
 pub values_more : (ss : List Scalar) (cs old new : List Run) (k : ℕ) → k < length cs → old ≡ map (changed (values_of ss)) (take k cs) →
     new ≡ old ++ record { row = map (λ s. value s (slice_index_or cs k no_run).row) ss; count = (slice_index_or cs k no_run).count } ∷ [] → new ≡ map (changed (values_of ss)) (take (k + 1) cs)
 values_more ss cs old new k h e f =

@@ -1,4 +1,4 @@
--- What determines a column still determines it under a negation, and between a literal and an operator that is undone.
+-- What determines a column still determines it under a negation, and beside a literal under an operator that can be undone.
 use Rattle.std.proofs.Common.{◌≡◌, ℕ, zero, suc, ◌*◌, ℤ, ◌+ℤ◌, ◌-ℤ◌, ◌*ℤ◌, pos, negsuc, Option, None, Some, IfSome, is_some, true, true≢false, refl, sym, ap, ◌∙◌, arith}
 use Rattle.std.proofs.Math.IntN.{neg_ℤ, neg_ℤ-neg_ℤ, zero-*ℤ, one, *ℤ-one, *ℤ_comm}
 use Rattle.std.proofs.Math.Nat.{mul_assoc}
@@ -11,7 +11,7 @@ use Rattle.semantics.specs.Query.{Scalar}
 use Rattle.semantics.specs.Meaning.{exact}
 use Rattle.operators.specs.Columns.{Determines, IsInvertible}
 
--- g undoes f, and takes a wrapped number as it takes the number
+-- g undoes f, and treats a wrapped number like the number
 undone : (f g : ℤ → ℤ) → ((a : ℤ) → int_wrap w64 (g (int_wrap w64 a)) ≡ int_wrap w64 (g a)) → ((a : ℤ) → int_wrap w64 (g (f a)) ≡ int_wrap w64 a) →
     (a b : ℤ) → int_wrap w64 (f a) ≡ int_wrap w64 (f b) → int_wrap w64 a ≡ int_wrap w64 b
 undone f g wrapped back a b e = sym (back a) ∙ sym (wrapped (f a)) ∙ ap (λ z. int_wrap w64 (g z)) e ∙ wrapped (f b) ∙ back b

@@ -1,4 +1,4 @@
--- Aggregates of a record that stands many times.
+-- Aggregates of a record that occurs many times.
 use Rattle.std.proofs.Common.{◌≡◌, ◌<◌, ◌≤◌, ℕ, zero, suc, List, [], ◌∷◌, ◌++◌, map, length, ℤ, pos, ◌+ℤ◌, ◌*ℤ◌, refl, sym, ap, ap₂, ◌∙◌, arith, append_assoc}
 use Rattle.std.specs.Int.{int_wrap, w64, int_min, int_max}
 use Rattle.std.proofs.lemmas.Int.{ints, int_wrap-add_left, int_wrap-add_right, int_min_is, int_max_is}
@@ -10,9 +10,9 @@ use Rattle.semantics.proofs.DistinctAndGroups.{aggregate-same}
 use Rattle.semantics.proofs.MultisetSums.{append_comm}
 use Rattle.operators.specs.Aggregates.{begun, weighed, weighed_all}
 
--- ---- one record more
+-- ---- one more record
 
--- with one record more
+-- the aggregate with one more record
 abbrev stepped : Agg → ℤ → Record → ℤ
 stepped Agg.count v r = int_wrap w64 (v +ℤ pos 1)
 stepped (Agg.sum c) v r = int_wrap w64 (v +ℤ field c r)
@@ -31,7 +31,7 @@ front (Agg.max c) y ys x = refl
 one_more : (a : Agg) (y : Record) (ys : List Record) (x : Record) → stepped a (aggregate a (y ∷ ys)) x ≡ aggregate a ((y ∷ ys) ++ x ∷ [])
 one_more a y ys x = front a y ys x ∙ aggregate-same a (x ∷ y ∷ ys) ((y ∷ ys) ++ x ∷ []) (append_comm (x ∷ []) (y ∷ ys))
 
--- ---- many records more
+-- ---- many more records
 
 sums : (v f : ℤ) (n : ℕ) → (v +ℤ f) +ℤ (pos n *ℤ f) ≡ v +ℤ (pos (suc n) *ℤ f)
 sums v f n = omega (arith, ints)
@@ -72,7 +72,7 @@ last_one : (n : ℕ) (x : Record) → repeated (suc n) x ≡ repeated n x ++ x �
 last_one zero x = refl
 last_one (suc n) x = ap (λ l. x ∷ l) (last_one n x)
 
--- a record that stands n times more, in one step
+-- a record that occurs n more times, in one step
 weighed_aggregate : (a : Agg) (y : Record) (ys : List Record) (x : Record) (n : ℕ) → weighed a (aggregate a (y ∷ ys)) x (suc n) ≡ aggregate a ((y ∷ ys) ++ repeated (suc n) x)
 weighed_aggregate a y ys x zero = once a (aggregate a (y ∷ ys)) x ∙ one_more a y ys x
 weighed_aggregate a y ys x (suc n) =
@@ -85,7 +85,7 @@ weighed_aggregates as' [] x (suc n) h m = absurd (omega (arith, h))
 weighed_aggregates [] (y ∷ ys) x (suc n) h m = refl
 weighed_aggregates (a ∷ as') (y ∷ ys) x (suc n) h m = ap₂ (λ v vs. v ∷ vs) (weighed_aggregate a y ys x n) (weighed_aggregates as' (y ∷ ys) x (suc n) h m)
 
--- ---- a record alone
+-- ---- one record
 
 one_sum : (f : ℤ) → pos 1 *ℤ f ≡ f +ℤ pos 0
 one_sum f = omega (arith, ints)
@@ -102,7 +102,7 @@ least_of_one f = omega (arith, ints, int_min_is f f)
 greatest_of_one : (f : ℤ) → f ≡ int_max f f
 greatest_of_one f = omega (arith, ints, int_max_is f f)
 
--- first once, and then so many times more
+-- first once, then the remaining times
 begun_first : (a : Agg) (x : Record) (n : ℕ) → begun a x (suc (suc n)) ≡ weighed a (aggregate a (x ∷ [])) x (suc n)
 begun_first Agg.count x n = ap (int_wrap w64) (more_counts n) ∙ sym (int_wrap-add_left w64 (pos 1) (pos (suc n)))
 begun_first (Agg.sum c) x n =

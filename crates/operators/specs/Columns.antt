@@ -1,4 +1,4 @@
--- Columns that are determined by scalars' values.
+-- Columns that scalars determine.
 use Rattle.std.specs.Prelude.{◌≡◌, ℕ, ◌<◌, List, [], ◌∷◌, length, ◌⊎◌}
 use Rattle.expr_tree.specs.declared.scalar.Operator.{Operator}
 use Rattle.expr_tree.specs.Plain.{plain_operator}
@@ -23,6 +23,6 @@ AllDetermined n ss = (c : ℕ) → c < n → IsDetermined c ss
 abbrev pub IsInvertible : Operator → Scalar → Type 0
 IsInvertible o t = (c : ℕ) (s : Scalar) → Determines c s → Determines c (plain_operator o s t) × Determines c (plain_operator o t s)
 
--- each field is in the range of 64 bits, so that a column's value is the field
+-- each field is in the range of 64 bits, so a column's value is the field
 abbrev pub IsInRange : Record → Type 0
 IsInRange r = (c : ℕ) → c < length r → value (Scalar.column c) r ≡ field c r

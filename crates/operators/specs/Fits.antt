@@ -1,4 +1,4 @@
--- That the columns of scalars, conditions, pairs and aggregates are there is a fact with one proof at most.
+-- That the columns of scalars, conditions, pairs and aggregates exist is a fact with at most one proof.
 use Rattle.std.specs.Prelude.{ℕ}
 use Rattle.std.specs.Coded.{×_prop, Unit-prop, le_prop}
 use Rattle.semantics.specs.Query.{Scalar, Cond}

@@ -9,7 +9,7 @@ ghost use Rattle.operators.specs.Columns.{IsDetermined, IsInvertible, Determines
 use expr_tree::{Operator, Scalar};
 use std::alloc::Global;
 
-/// Whether each column below `arity` is determined by one of the scalars. It may say no of one that is. No memory is taken.
+/// Whether each column below `arity` is determined by one of the scalars. A sufficient test: false doesn't mean that one isn't. Takes no memory.
 pub(crate) fn all_determined(scalars: &[Scalar<Global>], arity: usize) -> bool
     ensures { IsTrue result → AllDetermined arity (map plain_scalar (map scalar_tree scalars.now)) }
 {
@@ -31,7 +31,7 @@ fn is_determined(scalars: &[Scalar<Global>], column: u64) -> bool
     false
 }
 
-/// The column that the scalar determines, if one is found: negation, and operators beside literals, are undone.
+/// The column that the scalar determines, if one is found. Negations, and operators with a literal on one side, are undone.
 fn determined_column(scalar: &Scalar<Global>) -> Option<u64>
     ensures { IfSome result (λ c. Determines c (plain_scalar (scalar_tree scalar.now))) }
 {
@@ -51,7 +51,7 @@ fn determined_column(scalar: &Scalar<Global>) -> Option<u64>
     }
 }
 
-/// Whether the operator between this scalar and another can be undone, so that what the other determines stays determined.
+/// Whether the operator between this scalar and another can be undone, so that the whole determines what the other determines.
 fn is_invertible(operator: Operator, scalar: &Scalar<Global>) -> bool
     ensures { IsTrue result → IsInvertible operator (plain_scalar (scalar_tree scalar.now)) }
 {
@@ -63,12 +63,12 @@ fn is_invertible(operator: Operator, scalar: &Scalar<Global>) -> bool
     }
 }
 
-/// The number whose product with this one wraps to 1: there is one where this one is odd.
+/// The number whose product with this one wraps to 1; there is one if this number is odd.
 fn inverse(number: i64) -> Option<i64>
     ensures { IfSome result (λ x. int_wrap w64 (number *ℤ x) ≡ pos 1) }
 {
     let mut near = number;
-    // The product's last three bits are those of 1, and each turn makes that twice as many.
+    // At first the lowest three bits of the product are those of 1; each turn doubles the number of such bits.
     for _ in 0..5 {
         near = near.wrapping_mul(2i64.wrapping_sub(number.wrapping_mul(near)));
     }

@@ -5,7 +5,7 @@ ghost use Rattle.semantics.proofs.VertexLaws.{op_nothing, op_parts};
 
 use crate::operator::Operator;
 
-/// The records as they are, on their way out of a loop.
+/// The unchanged records, on their way out of a loop.
 #[derive(Clone, Copy, Debug, PartialEq, Eq)]
 pub struct Egress;
 

@@ -1,4 +1,4 @@
-//! Differences of sets.
+//! Set differences.
 
 ghost use Rattle.semantics.specs.Kinds.{Kind};
 ghost use Rattle.semantics.proofs.VertexLaws.{op_nothing, op_parts};

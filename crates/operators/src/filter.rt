@@ -17,7 +17,7 @@ use expr_tree::{Cond, holds};
 use rows::{Batch, CountedRows, RowsError};
 use std::alloc::Global;
 
-/// The records at which the condition holds. Each column of it is below `arity`.
+/// The records at which the condition holds. Each of its columns is below `arity`.
 #[derive(Drop)]
 pub struct Where {
     pub arity: usize,
@@ -56,7 +56,7 @@ impl Where {
         Ok(rows)
     }
 
-    /// One record, if the condition holds.
+    /// Adds one record, if the condition holds.
     fn offer(&self, batch: &Batch, place: usize, rows: &mut CountedRows) -> Result<(), RowsError>
         requires columns { arity_of batch.now ≡ self.now.arity }
         requires place { place < length (runs batch.now) }

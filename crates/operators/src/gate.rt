@@ -1,12 +1,12 @@
-//! The turns of a loop.
+//! The end of a loop's turns.
 
 ghost use Rattle.semantics.specs.Kinds.{Kind};
 ghost use Rattle.semantics.proofs.VertexLaws.{op_nothing, op_parts};
 
 use crate::operator::Operator;
 
-/// The end of a loop's turns: what comes in before the turn of that number goes on around the loop by port 0, and what comes in at
-/// it leaves by port 1.
+/// Decides whether a loop's variable goes on: what comes in before the turn of that number goes around the loop by port 0, and what comes in at that
+/// turn leaves by port 1.
 #[derive(Clone, Copy, Debug, PartialEq, Eq)]
 pub struct Gate {
     pub turns: u64,

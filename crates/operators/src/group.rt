@@ -40,7 +40,7 @@ impl Operator for Group {
     }
 }
 
-/// At most 16 numbers: a key, or a key's aggregates. They lie inline.
+/// At most 16 numbers, stored inline: a key, or a key's aggregates.
 #[derive(Drop)]
 pub struct Numbers {
     items: ArrayVec<i64, 16>,
@@ -57,7 +57,7 @@ impl Model for Numbers {
 }
 
 impl Numbers {
-    /// No numbers.
+    /// An empty list.
     pub fn new() -> Numbers
         ensures { result ≡ [] }
     {
@@ -87,7 +87,7 @@ impl Numbers {
 }
 
 impl Group {
-    /// Makes `key` what stands for the key of a record: the key, or a 0 where the group has no columns.
+    /// Sets `key` to what represents the key of a record: the key, or a 0 if the group has no columns.
     pub fn key(&self, row: &[i64], key: &mut Numbers)
         ensures { key.new ≡ stored_key (map (λ k. k.index) self.now.columns.items) row.now }
     {
@@ -95,7 +95,7 @@ impl Group {
         put_key(key, &self.columns, row);
     }
 
-    /// Makes `values` the aggregates of a record alone that stands so many times.
+    /// Sets `values` to the aggregates of one record with this count.
     pub fn begin(&self, row: &[i64], count: u64, values: &mut Numbers)
         requires { count ≤ 9223372036854775807 }
         ensures { values.new ≡ map (λ a. begun a row.now count) (map plain_agg self.now.aggregates.items) }
@@ -104,7 +104,7 @@ impl Group {
         push_begun(values, &self.aggregates, row, count);
     }
 
-    /// Makes `weighed` the aggregates with a record that stands so many times more: one step, however often it stands there.
+    /// Sets `weighed` to the aggregates with a record of this count added, in one step whatever the count.
     pub fn weigh(&self, values: &[i64], row: &[i64], count: u64, weighed: &mut Numbers)
         requires { count ≤ 9223372036854775807 }
         ensures { weighed.new ≡ weighed_all (map plain_agg self.now.aggregates.items) values.now row.now count }
@@ -114,7 +114,7 @@ impl Group {
     }
 }
 
-/// What stands for the key, where there is nothing yet.
+/// Appends what represents the key to an empty list.
 fn put_key(key: &mut Numbers, columns: &[Column], row: &[i64])
     requires none { key.old ≡ [] }
     requires few { length columns.now ≤ 16 }
@@ -127,7 +127,7 @@ fn put_key(key: &mut Numbers, columns: &[Column], row: &[i64])
     }
 }
 
-/// The columns of a row, after what is there.
+/// Appends the columns of a row.
 fn push_columns(key: &mut Numbers, columns: &[Column], row: &[i64])
     requires { length key.old + length columns.now ≤ 16 }
     ensures { key.new ≡ key.old ++ project (map (λ k. k.index) columns.now) row.now }
@@ -138,7 +138,7 @@ fn push_columns(key: &mut Numbers, columns: &[Column], row: &[i64])
     }
 }
 
-/// The aggregates of a record alone that stands so many times, after what is there.
+/// Appends the aggregates of one record with this count.
 fn push_begun(values: &mut Numbers, aggregates: &[Agg], row: &[i64], count: u64)
     requires room { length values.old + length aggregates.now ≤ 16 }
     requires count { count ≤ 9223372036854775807 }
@@ -150,7 +150,7 @@ fn push_begun(values: &mut Numbers, aggregates: &[Agg], row: &[i64], count: u64)
     }
 }
 
-/// The aggregates with a record that stands so many times more, after what is there.
+/// Appends the aggregates with a record of this count added.
 fn push_weighed(made: &mut Numbers, aggregates: &[Agg], values: &[i64], row: &[i64], count: u64)
     requires room { length made.old + length aggregates.now ≤ 16 }
     requires count { count ≤ 9223372036854775807 }
@@ -171,7 +171,7 @@ fn plus(left: i64, right: i64) -> i64
     left.wrapping_add(right)
 }
 
-/// An aggregate of a record alone that stands so many times.
+/// An aggregate of one record with this count.
 fn begin(aggregate: &Agg, row: &[i64], count: u64) -> i64
     requires { count ≤ 9223372036854775807 }
     ensures { result ≡ begun (plain_agg aggregate.now) row.now count }
@@ -184,7 +184,7 @@ fn begin(aggregate: &Agg, row: &[i64], count: u64) -> i64
     }
 }
 
-/// An aggregate with a record that stands so many times more.
+/// An aggregate with a record of this count added.
 fn weigh(aggregate: &Agg, value: i64, row: &[i64], count: u64) -> i64
     requires { count ≤ 9223372036854775807 }
     ensures { result ≡ weighed (plain_agg aggregate.now) value row.now count }

@@ -1,12 +1,12 @@
-//! Names from outside a loop.
+//! Names from outside a loop, kept for its turns.
 
 ghost use Rattle.semantics.specs.Kinds.{Kind};
 ghost use Rattle.semantics.proofs.VertexLaws.{op_nothing, op_parts};
 
 use crate::operator::Operator;
 
-/// A relation from outside a loop, kept for each turn: what comes in before the turn of that number goes to the body by port 0, and
-/// before the last turn to the next turn by port 1.
+/// A relation from outside a loop, kept for each turn: what comes in before the turn of that number goes to the body by port 0 and, before the last
+/// turn, to the next turn by port 1.
 #[derive(Clone, Copy, Debug, PartialEq, Eq)]
 pub struct Hold {
     pub turns: u64,

@@ -1,11 +1,11 @@
-//! Inputs.
+//! The entry of an input's records into the graph.
 
 ghost use Rattle.semantics.specs.Kinds.{Kind};
 ghost use Rattle.semantics.proofs.VertexLaws.{op_nothing, op_parts};
 
 use crate::operator::Operator;
 
-/// Where the records of an input of the query enter the graph. It has no in port.
+/// Where the records of a query's input enter the graph. It has no in port.
 #[derive(Clone, Copy, Debug, PartialEq, Eq)]
 pub struct Input;
 

@@ -1,9 +1,8 @@
-//! The kinds of vertices of a dataflow graph, a module for each.
+//! The kinds of vertices of a dataflow graph, one module each.
 //!
-//! The contract for the layers above: each type names its kind by `Operator::kind_of`, a ghost function, and proves the laws of that
-//! kind's equation (`semantics`) by which its records may be spread over workers. What its functions compute is said by their own
-//! clauses. Below stand `semantics`, `expr_tree`, `rows`, `record_core` and `arrayvec`; the shards of vertices keep what an operator
-//! needs from one batch to the next.
+//! The contract for the layers above: each type names its kind by `Operator::kind_of`, a ghost function, and proves those laws of the kind's equation
+//! (`semantics`) by which its records may be spread over workers. The clauses of its functions say what they compute. Built on `semantics`,
+//! `expr_tree`, `rows`, `record_core` and `arrayvec`; the shards of vertices keep what an operator needs from one batch to the next.
 #![tactic(auto)]
 
 mod concat;

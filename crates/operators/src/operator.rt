@@ -1,4 +1,4 @@
-//! What each kind of vertex has in common.
+//! The trait of all kinds of vertices.
 
 ghost use Rattle.std.specs.Prelude.{◌≡◌, ℕ, List, []};
 ghost use Rattle.semantics.specs.Kinds.{Kind, in_ports, out_ports};
@@ -6,12 +6,12 @@ ghost use Rattle.semantics.specs.Multiset.{Record, ◌≈◌, end_to_end};
 ghost use Rattle.semantics.specs.Op.{op, IsCut, IsSum};
 ghost use Rattle.semantics.specs.Time.{Time};
 
-/// A kind of vertex. Its meaning is the equation of the kind: at one time, it takes a multiset of records for each in port, and
-/// gives one for each out port.
+/// A kind of vertex. Its meaning is the equation of the kind: at one time, it takes a multiset of records for each in port, and gives one for each
+/// out port.
 ///
-/// The laws of the equation, which each implementation proves: nothing in gives nothing out; and where what comes in is cut into
-/// parts such that no route key stands in two of them (for a kind without route keys, cut in any way), the results of the parts
-/// add up to the result of the whole. So the records of a vertex may be spread over workers by route key.
+/// Each implementation proves the laws of the equation. Nothing in gives nothing out. If what comes in is cut into parts with no route key in two
+/// parts (in any way for a kind without route keys), the results of the parts add up to the result of the whole. So the records of a vertex may be
+/// spread over workers by route key.
 pub trait Operator {
     ghost kind_of: { Self → Kind };
 

@@ -1,4 +1,4 @@
-//! Computed records.
+//! Records that are computed from others.
 
 ghost use Rattle.std.specs.Prelude.{◌≡◌, ℕ, ◌≤◌, ◌<◌, ◌+◌, ◌++◌, ◌∷◌, [], length, map, slice_index_or, IfOk, IfErr, OnOk};
 ghost use Rattle.arrayvec.specs.ArrayVec.{array_vec_len};
@@ -23,7 +23,7 @@ use expr_tree::{Scalar, eval_scalar};
 use rows::{Batch, CountedRows, RowsError, TallyError};
 use std::alloc::Global;
 
-/// For each record the record of the scalars' values, 1 to 16. Each column of theirs is below `arity`.
+/// For each record, the record of the scalars' values, 1 to 16 of them. Each of their columns is below `arity`.
 #[derive(Drop)]
 pub struct Select {
     pub arity: usize,
@@ -50,9 +50,8 @@ impl Operator for Select {
 }
 
 impl Select {
-    /// For each record of the batch the record of the scalars' values; `None` never, since a batch has some. `Count` exactly where
-    /// one of them stands there too often. Equal ones are not looked for where each column is determined, since different records then
-    /// stay different.
+    /// For each record of the batch, the record of the scalars' values. Never `None`, since a batch isn't empty. `Count` exactly if the count of a
+    /// result would be too large. If each column is determined, different records have different results, so equal results aren't searched for.
     #[tactic(auto, using(rows::proofs::Runs::all_fit))]
     pub fn apply(&self, alloc: Global, batch: &Batch) -> Result<Option<Batch>, TallyError>
         requires { arity_of batch.now ≡ self.now.arity }
@@ -89,7 +88,7 @@ fn select_all(
     Ok(made)
 }
 
-/// The record of the scalars' values on one record.
+/// Appends the record of the scalars' values for one record.
 #[tactic(auto, using(crate::proofs::Steps::length_of_map))]
 fn push_selected(
     scalars: &[Scalar<Global>],
@@ -112,7 +111,7 @@ fn push_selected(
     made.push(fields.as_slice(), batch.count(place))
 }
 
-/// Reads each field: what is read is in the range of 64 bits.
+/// Reads each field, which shows that it is in the range of 64 bits.
 fn read_fields(item: &[i64])
     ensures { IsInRange item.now }
 {
@@ -121,7 +120,7 @@ fn read_fields(item: &[i64])
     }
 }
 
-/// The scalars' values on a record, after those that are there.
+/// Appends the scalars' values for a record.
 fn push_values(fields: &mut ArrayVec<i64, 16>, scalars: &[Scalar<Global>], item: &[i64])
     requires columns { AllByRecursion (ScalarFits (length item.now)) (map plain_scalar (map scalar_tree scalars.now)) }
     requires room { array_vec_len fields.old + length scalars.now ≤ 16 }
@@ -133,7 +132,7 @@ fn push_values(fields: &mut ArrayVec<i64, 16>, scalars: &[Scalar<Global>], item:
     }
 }
 
-/// The scalar's value on a record: of a column, the field.
+/// The scalar's value for a record; for a column, the field.
 fn scalar_value(scalar: &Scalar<Global>, item: &[i64]) -> i64
     requires { ScalarFits (length item.now) (plain_scalar (scalar_tree scalar.now)) }
     ensures { result ≡ value (plain_scalar (scalar_tree scalar.now)) item.now }

@@ -1,4 +1,4 @@
--- Summaries carry counters as their paths do, and the test of two summaries tells which carries them less far.
+-- Summaries do to counters what their paths do, and the test of two summaries shows which leads less far.
 use Rattle.std.proofs.Common.{◌≡◌, inl, inr, ℕ, zero, suc, ◌+◌, ◌-◌, ◌≤◌, ◌<◌, nat_lt, nat_eq, Bool, true, false, cond, ◌&&◌, ◌||◌, List, [], ◌∷◌, ◌++◌, length, refl, sym, ap, ap₂, subst, ◌∙◌, arith, append-nil, get_or, take, drop, append_assoc, length-append}
 use Rattle.std.proofs.lemmas.Bool.Decides.{nat_tests}
 use Rattle.std.proofs.Math.Seq.{take-length}
@@ -18,7 +18,7 @@ kept_raised (suc zero) j (c ∷ cs) h = refl
 kept_raised (suc (suc k)) j (c ∷ []) h = absurd (omega arith)
 kept_raised (suc (suc k)) j (c ∷ d ∷ ds) h = ap (λ (l : List ℕ). c ∷ l) (kept_raised (suc k) j (d ∷ ds) (omega arith))
 
--- where a summary carries counters is where the definition's does
+-- a summary does to counters what the definition's does
 carried_applied : (f : Summary) (cs : List ℕ) → f.keep ≤ length cs → carried f cs ≡ applied f cs
 carried_applied f cs h = ap (λ (l : List ℕ). l ++ f.tail) (kept_raised f.keep f.add cs h)
 
@@ -33,7 +33,7 @@ kept_all (c ∷ cs) = ap₂ (λ (a : ℕ) (l : List ℕ). a ∷ l) (plain (lengt
 pub carried-identity : (d : ℕ) (cs : List ℕ) → length cs ≡ d → carried (identity d) cs ≡ cs
 carried-identity d cs l = append-nil (kept d 0 cs) ∙ subst (λ n. kept n 0 cs ≡ cs) l (kept_all cs)
 
--- it still keeps no more than there is, and raises nothing where it keeps nothing
+-- it still keeps at most as many as there are, and raises nothing if it keeps nothing
 pub sits_then : (a : Action) (f : Summary) (d : ℕ) → Sits d f → MayTake a f → Sits d (then_action a f)
 sits_then Action.stay f d h m = h
 sits_then Action.enter f d h m = record { short = h.short; still = h.still }
@@ -48,14 +48,14 @@ sits_then Action.next f d h m = go f.tail m
     go [] n = record { short = h.short; still = λ e. absurd (omega arith) }
     go (c ∷ cs) n = record { short = h.short; still = h.still }
 
--- a summary and then an action
+-- a summary, then an action
 pub carried_then : (a : Action) (f : Summary) (cs : List ℕ) → Sits (length cs) f → MayTake a f → carried (then_action a f) cs ≡ counters_after a (carried f cs)
 carried_then a f cs h m =
     carried_applied (then_action a f) cs (sits_then a f (length cs) h m).short
     ∙ then_applied a f cs h.short m
     ∙ ap (counters_after a) (sym (carried_applied f cs h.short))
 
--- how many counters there are then
+-- how many counters there are after
 pub length-carried : (f : Summary) (cs : List ℕ) → f.keep ≤ length cs → length (carried f cs) ≡ f.keep + length f.tail
 length-carried f cs h = length-append (kept f.keep f.add cs) f.tail ∙ ap (λ n. n + length f.tail) (length-kept f.keep f.add cs h)
   where
@@ -80,14 +80,14 @@ fewer_kept zero (suc m) i j as' bs (c ∷ cs) l h n = lex_head c (c + j) (kept (
 fewer_kept (suc k) zero i j as' bs (c ∷ cs) l h n = absurd (omega arith)
 fewer_kept (suc k) (suc m) i j as' bs (c ∷ cs) l h n = lex_tail c c (kept (suc m) i cs ++ as') (kept (suc k) j cs ++ bs) refl (fewer_kept k m i j as' bs cs (omega arith) (omega arith) n)
 
--- the test of a summary and itself
+-- the test of a summary with itself
 pub below_self : (f : Summary) → is_below f f ≡ true
 below_self f = go (order_self f.tail)
   where
     go : in_order f.tail f.tail ≡ true → is_below f f ≡ true
     go e = grind (arith, nat_tests)
 
--- what the test tells
+-- what the test shows
 data Told (f h : Summary) : Type 0 where
   adds : f.keep ≡ h.keep → f.add < h.add → Told f h
   tails : f.keep ≡ h.keep → f.add ≡ h.add → in_order f.tail h.tail ≡ true → Told f h
@@ -117,7 +117,7 @@ below_from d f h a b t = record { at = λ cs l. go cs l (told f h t) }
     go cs l (Told.tails k m e) = subst (λ n. Later (kept n f.add cs ++ f.tail) (carried h cs)) (sym k) (subst (λ n. Later (kept h.keep n cs ++ f.tail) (carried h cs)) (sym m) (later_behind (kept h.keep h.add cs) f.tail h.tail (order_later f.tail h.tail e)))
     go cs l (Told.fewer k m) = kept_fewer h.keep f.keep f.add h.add f.tail h.tail cs (omega (arith, a.short)) b.still k m
 
--- ---- counters put one by one
+-- ---- counters pushed one by one
 
 pub raised_first : (k j c : ℕ) → k ≡ 0 → raised_at k j c ≡ c + j
 raised_first zero j c e = refl
@@ -162,6 +162,6 @@ pushed_kept out out1 out2 (c ∷ cs) k j v h l e f g =
     g ∙ ap₂ (λ (x y : List ℕ). x ++ kept (k - 1) j y) f m ∙ append_assoc out (v ∷ []) (kept (k - 1) j cs)
     ∙ ap (λ (x : List ℕ). out ++ x) (ap (λ (x : ℕ). x ∷ kept (k - 1) j cs) e ∙ sym (kept_some k j c cs h))
 
--- summaries by their parts
+-- summaries with equal parts are equal
 pub same_parts : (f h : Summary) → f.keep ≡ h.keep → f.add ≡ h.add → f.tail ≡ h.tail → f ≡ h
 same_parts f h a b c = λ i. record { keep = a i; add = b i; tail = c i }

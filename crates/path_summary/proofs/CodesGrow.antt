@@ -1,4 +1,4 @@
--- The different summaries grow at the end of their list, so codes keep what they stand for.
+-- The list of different summaries grows at its end, so codes keep their meaning.
 use Rattle.std.proofs.Common.{◌≡◌, ◌⊎◌, inl, inr, ℕ, zero, suc, ◌+◌, ◌≤◌, ◌<◌, List, [], ◌∷◌, ◌++◌, length, Option, Some, None, slice_get, slice_set, slice_index_or, refl, sym, ap, ap₂, ◌∙◌, arith, append-nil, append_assoc, length-append}
 use Rattle.std.proofs.Math.ListN.{replicate}
 use Rattle.semantics.specs.Summary.{Summary}
@@ -31,16 +31,16 @@ decoded_more : (old new : List Summary) (c : ℕ) → Grows old new → c ≤ le
 decoded_more old new zero g h = refl
 decoded_more old new (suc c) g h = ap (λ (l : List Summary). slice_get l c) g.is ∙ get-append old g.more c (omega arith)
 
--- a code that stands for a summary is one of theirs
+-- a code of a summary is one of the list's
 pub decoded_within : (summaries : List Summary) (c : ℕ) (f : Summary) → decoded summaries c ≡ Some f → c ≤ length summaries
 decoded_within summaries zero f h = omega arith
 decoded_within summaries (suc c) f h = let k = get_below summaries c f h in omega arith
 
--- and stands for it still when there are more
+-- a code keeps its summary when the list grows
 pub decoded_still : (old new : List Summary) (c : ℕ) (f : Summary) → Grows old new → decoded old c ≡ Some f → decoded new c ≡ Some f
 decoded_still old new c f g h = decoded_more old new c g (decoded_within old c f h) ∙ h
 
--- each code of theirs stands for one
+-- each code of the list has a summary
 pub decoded_some : (summaries : List Summary) (c : ℕ) → 0 < c → c ≤ length summaries → (f : Summary) × (decoded summaries c ≡ Some f)
 decoded_some summaries zero p h = absurd (omega arith)
 decoded_some summaries (suc c) p h = get_there summaries c (omega arith)
@@ -74,7 +74,7 @@ found_code summaries f x i c h e k m =
 
 -- ---- rows of codes
 
--- what stands in a row, by the code that stands there
+-- the entry of a row, by the code at its place
 pub entry_row : (summaries : List Summary) (codes : List ℕ) (x : ℕ) → entry (row_of summaries codes) x ≡ decoded summaries (slice_index_or codes x 0)
 entry_row summaries [] zero = refl
 entry_row summaries [] (suc x) = refl
@@ -86,7 +86,7 @@ row_set summaries [] i c = refl
 row_set summaries (d ∷ codes) zero c = refl
 row_set summaries (d ∷ codes) (suc i) c = ap (λ (row : List (Option Summary)). decoded summaries d ∷ row) (row_set summaries codes i c)
 
--- a row stands for the same when there are more summaries
+-- a row keeps its entries when the list grows
 pub row_grown : (old new : List Summary) (codes : List ℕ) → Grows old new → AreCodes old codes → row_of new codes ≡ row_of old codes
 row_grown old new codes g a = go codes a.within
   where
@@ -97,7 +97,7 @@ row_grown old new codes g a = go codes a.within
 pub codes_grown : (old new : List Summary) (codes : List ℕ) → Grows old new → AreCodes old codes → AreCodes new codes
 codes_grown old new codes g a = record { within = λ x. let h = a.within x in let k = grows_length old new g in omega arith }
 
--- what stands in codes of which one was set
+-- the entries of codes of which one was set
 pub code_set : (codes : List ℕ) (i c x : ℕ) → (slice_index_or (slice_set codes i c) x 0 ≡ slice_index_or codes x 0) ⊎ ((x ≡ i) × (slice_index_or (slice_set codes i c) x 0 ≡ c))
 code_set [] i c x = inl refl
 code_set (d ∷ codes) zero c zero = inr (refl, refl)
@@ -132,6 +132,6 @@ zero_at (suc n) (suc x) = zero_at n x
 pub codes_none : (summaries : List Summary) (n : ℕ) → AreCodes summaries (replicate n 0)
 codes_none summaries n = record { within = λ x. let e = zero_at n x in omega arith }
 
--- nothing stands there
+-- there is no entry
 pub none_there : (summaries : List Summary) (n x : ℕ) → entry (row_of summaries (replicate n 0)) x ≡ None
 none_there summaries n x = entry_row summaries (replicate n 0) x ∙ ap (decoded summaries) (zero_at n x)

@@ -1,4 +1,4 @@
--- What a table decides is what could result in what.
+-- A table decides exactly what could result in what.
 use Rattle.std.proofs.Common.{◌≡◌, inl, inr, ℕ, ◌+◌, ◌≤◌, ◌<◌, List, [], ◌∷◌, ◌++◌, length, Option, Some, refl, sym, ap, subst, ◌∙◌, arith, length-append}
 use Rattle.semantics.specs.Time.{Time, Action, IsAtMost, after_action}
 use Rattle.semantics.specs.Kinds.{action}
@@ -43,7 +43,7 @@ module _ (g : Graph) (T : ℕ → ℕ → Option Summary) (table : IsTable g T) 
   push_time [] e t = refl
   push_time (s ∷ path) e t = push_time path e (step_time g s t)
 
-  -- in time, by where the counters are carried
+  -- at or before in time, by the counters
   by_counters : (t u v : Time) (cs : List ℕ) → v ≡ record { epoch = t.epoch; counters = cs } → t.epoch ≤ u.epoch → Later cs u.counters → IsAtMost v u
   by_counters t u v cs e n h = subst (λ (x : Time). IsAtMost x u) (sym e) (record { epochs = n; counters = h })
 
@@ -83,7 +83,7 @@ module _ (g : Graph) (T : ℕ → ℕ → Option Summary) (table : IsTable g T) 
     unfolding home
     at_home = home_fits p.location p.time fits
 
-    -- what an entry does has the depth of the vertex
+    -- the result of an entry has the depth of the vertex
     reached_length : (x : ℕ) (f : Summary) → T home x ≡ Some f → length (carried f p.time.counters) ≡ (vertex g x).depth
     reached_length x f k =
         let o = table.sound home x f at_home.0 k in
@@ -174,6 +174,6 @@ module _ (g : Graph) (T : ℕ → ℕ → Option Summary) (table : IsTable g T) 
 pub decided_could : (g : Graph) (T : ℕ → ℕ → Option Summary) → IsTable g T → (p q : Pointstamp) → IsTimeAt g p.location p.time → IsTimeAt g q.location q.time → Decided g T p q.location q.time → CouldResultIn g p q
 decided_could g T table p q = decided_could_at g T table p q
 
--- and what could result the table decides
+-- the table decides what could result
 pub could_decided : (g : Graph) (T : ℕ → ℕ → Option Summary) → IsTable g T → IsDataflow g → (p q : Pointstamp) → CouldResultIn g p q → Decided g T p q.location q.time
 could_decided g T table flow p q c = could_decided_at g T table p q flow c

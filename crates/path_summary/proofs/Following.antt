@@ -1,4 +1,4 @@
--- A summary and then an action, where its tail has a last counter.
+-- A summary, then an action, if the tail has a last counter.
 use Rattle.std.proofs.Common.{◌≡◌, ℕ, suc, ◌+◌, ◌<◌, List, [], ◌∷◌, ◌++◌, length, sym, ap, ap₂, ◌∙◌, arith, length-append}
 use Rattle.semantics.specs.Summary.{Summary, left_by, turned_by}
 use Rattle.semantics.specs.Time.{Action}
@@ -20,7 +20,7 @@ turned_last f (x ∷ xs) new c e = ap₂ (λ ds d. with_tail f (ds ++ (suc d ∷
 pub left_follows : (f : Summary) (new : List ℕ) (c : ℕ) → 0 < f.keep + length f.tail → f.tail ≡ new ++ (c ∷ []) → Follows Action.leave f (record { keep = f.keep; add = f.add; tail = new })
 left_follows f new c h e = record { is = sym (left_last f f.tail new c e); may = h }
 
--- round a loop
+-- to a loop's next turn
 pub turned_follows : (f : Summary) (new after : List ℕ) (c : ℕ) → 0 < f.keep + length f.tail → f.tail ≡ new ++ (c ∷ []) → after ≡ new ++ ((c + 1) ∷ []) → Follows Action.next f (record { keep = f.keep; add = f.add; tail = after })
 turned_follows f new after c h e q =
     let n : c + 1 ≡ suc c = omega arith in

@@ -1,4 +1,4 @@
--- The test of the order.
+-- The test of the order of counters.
 use Rattle.std.proofs.Common.{◌≡◌, ◌⊎◌, inl, inr, ℕ, ◌≤◌, ◌<◌, Some, nat_lt, nat_eq, Bool, true, ◌&&◌, ◌||◌, List, [], ◌∷◌, ◌++◌, length, refl, sym, ap, ap₂, subst, ◌∙◌, arith}
 use Rattle.std.proofs.lemmas.Bool.{true≢false}
 use Rattle.std.proofs.lemmas.Bool.Decides.{nat_tests}
@@ -12,7 +12,7 @@ use Rattle.std.specs.Bool.{Decides}
 use Rattle.path_summary.specs.Carried.{carried, counters_after}
 use Rattle.path_summary.specs.Tables.{Covers}
 
--- by cases of the first counters
+-- by cases on the first counters
 pub order_cases : (c d : ℕ) (r : Bool) → (nat_lt c d || (nat_eq c d && r)) ≡ true → (c < d) ⊎ ((c ≡ d) × (r ≡ true))
 order_cases c d r h = grind (arith, nat_tests)
 
@@ -26,7 +26,7 @@ pub order_self : (cs : List ℕ) → in_order cs cs ≡ true
 order_self [] = refl
 order_self (c ∷ cs) = order_tail c c (in_order cs cs) refl (order_self cs)
 
--- the test tells the order
+-- if the test passes, the order holds
 pub order_later : (cs ds : List ℕ) → in_order cs ds ≡ true → Later cs ds
 order_later [] [] h = inl refl
 order_later [] (d ∷ ds) h = inr refl
@@ -50,7 +50,7 @@ before_order (c ∷ cs) (d ∷ ds) h = go (lex_cases c d cs ds h) (before_order 
     go (inl a) ih = order_head c d (in_order cs ds) a
     go (inr a) ih = order_tail c d (in_order cs ds) a.0 (ih a.1)
 
--- and the order is told by it
+-- if the order holds, the test passes
 pub later_order : (cs ds : List ℕ) → Later cs ds → in_order cs ds ≡ true
 later_order cs ds (inl e) = subst (λ (x : List ℕ). in_order cs x ≡ true) e (order_self cs)
 later_order cs ds (inr h) = before_order cs ds h
@@ -66,7 +66,7 @@ later_trans as' bs cs h k =
 pub later_after : (a : Action) (cs ds : List ℕ) → length cs ≡ length ds → Later cs ds → Later (counters_after a cs) (counters_after a ds)
 later_after a cs ds l h = (at_most_after a (with_counters cs) (with_counters ds) l (record { epochs = omega arith; counters = h })).counters
 
--- behind the same counters
+-- after equal counters
 pub later_behind : (xs cs ds : List ℕ) → Later cs ds → Later (xs ++ cs) (xs ++ ds)
 later_behind [] cs ds h = h
 later_behind (x ∷ xs) cs ds h = go (later_behind xs cs ds h)
@@ -75,14 +75,14 @@ later_behind (x ∷ xs) cs ds h = go (later_behind xs cs ds h)
     go (inl e) = inl (ap (λ (l : List ℕ). x ∷ l) e)
     go (inr e) = inr (lex_tail x x (xs ++ cs) (xs ++ ds) refl e)
 
--- an action takes a time where it takes its counters
+-- an action does to a time what it does to its counters
 pub after_is : (a : Action) (t : Time) → after_action a t ≡ record { epoch = t.epoch; counters = counters_after a t.counters }
 after_is Action.stay t = refl
 after_is Action.enter t = refl
 after_is Action.leave t = refl
 after_is Action.next t = refl
 
--- whether an entry covers, by the test
+-- whether an entry covers, in terms of the test
 pub covers_in : (a : Action) (t u : Time) (f : Summary) (b : Bool) → t.epoch ≤ u.epoch → b ≡ in_order (counters_after a (carried f t.counters)) u.counters → Decides b (Covers (Some f) a t u)
 covers_in a t u f b h e = (
   λ m. record { epochs = h; least = f; known = refl; counters = order_later (counters_after a (carried f t.counters)) u.counters (sym e ∙ m) },

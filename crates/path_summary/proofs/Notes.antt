@@ -1,4 +1,4 @@
--- What is noted of summaries after actions stays true, and tells of rows what a step and a test of theirs ask.
+-- What is noted of summaries after actions stays true, and is enough for the steps and tests of rows.
 use Rattle.std.proofs.Common.{◌≡◌, ◌⊎◌, inl, inr, ℕ, zero, suc, ◌-◌, ◌≤◌, ◌<◌, true, false, List, [], ◌∷◌, ◌++◌, length, Option, Some, None, slice_set, slice_index_or, refl, sym, ap, subst, ◌∙◌, arith}
 use Rattle.std.proofs.Math.ListN.{replicate}
 use Rattle.std.proofs.lemmas.List.{length-replicate}
@@ -34,7 +34,7 @@ leads_grown old new a code next g l =
 pub leads_from : (old new : List Summary) (a : Action) (code next : ℕ) (f h : Summary) → decoded old code ≡ Some f → Follows a f h → Grows old new → decoded new next ≡ Some h → next ≤ length new → LeadsTo new a code next
 leads_from old new a code next f h k q g d m = record { before = f; known = decoded_still old new code f g k; after = h; there = d; follows = q; within = m }
 
--- a vertex that does nothing
+-- a vertex that changes nothing
 pub leads_stay : (summaries : List Summary) (code : ℕ) → 0 < code → code ≤ length summaries → LeadsTo summaries Action.stay code code
 leads_stay summaries code p h =
     let s = decoded_some summaries code p h in
@@ -53,7 +53,7 @@ push_zero [] (suc x) = nothing_at x
 push_zero (n ∷ notes) zero = refl
 push_zero (n ∷ notes) (suc x) = push_zero notes x
 
--- one place more, with nothing noted
+-- one more place, with nothing noted
 noted_push : (summaries : List Summary) (a : Action) (notes : List ℕ) → IsNoted summaries a notes → IsNoted summaries a (notes ++ (0 ∷ []))
 noted_push summaries a notes n =
     record { each = λ x. subst (λ (c : ℕ). (c ≡ 0) ⊎ LeadsTo summaries a (suc x) c) (sym (push_zero notes x)) (n.each x) }
@@ -72,7 +72,7 @@ noted_at summaries a notes (suc code) next n l =
     let e : suc code - 1 ≡ code = omega arith in
     subst (λ (i : ℕ). IsNoted summaries a (slice_set notes i next)) (sym e) (noted_set summaries a notes code next n l)
 
--- what a note tells
+-- what a note says
 pub noted_tells : (summaries : List Summary) (a : Action) (notes : List ℕ) (code next : ℕ) → IsNoted summaries a notes → 0 < code → next ≡ slice_index_or notes (code - 1) 0 → 0 < next → LeadsTo summaries a code next
 noted_tells summaries a notes zero next n p e h = absurd (omega arith)
 noted_tells summaries a notes (suc code) next n p e h =
@@ -90,7 +90,7 @@ no_notes summaries a = record { each = λ x. inl (nothing_at x) }
 pub none_noted : AreNoted [] [] [] []
 none_noted = record { enter = no_notes [] Action.enter; leave = no_notes [] Action.leave; next = no_notes [] Action.next }
 
--- one summary more, and a place for notes on it
+-- one more summary, and a place for notes on it
 pub noted_more : (old new : List Summary) (e l t : List ℕ) → Grows old new → AreNoted old e l t → AreNoted new (e ++ (0 ∷ [])) (l ++ (0 ∷ [])) (t ++ (0 ∷ []))
 noted_more old new e l t g n =
     record {
@@ -99,7 +99,7 @@ noted_more old new e l t g n =
       next = noted_push new Action.next t (noted_grown old new Action.next t g n.next);
     }
 
--- places alone
+-- more places for notes, and the same summaries
 pub noted_places : (s : List Summary) (e l t : List ℕ) → AreNoted s e l t → AreNoted s (e ++ (0 ∷ [])) l t × (AreNoted s (e ++ (0 ∷ [])) (l ++ (0 ∷ [])) t × AreNoted s (e ++ (0 ∷ [])) (l ++ (0 ∷ [])) (t ++ (0 ∷ [])))
 noted_places s e l t n =
     let e' = noted_push s Action.enter e n.enter in
@@ -122,7 +122,7 @@ noted_next s e l t code next n k = record { enter = n.enter; leave = n.leave; ne
 
 -- ---- rows
 
--- a step that puts a code
+-- a step that sets a code
 pub stepped_to : (k : Link) (old new : List Summary) (codes : List ℕ) (from code to next : ℕ) (a : Action) → Grows old new → AreCodes old codes → from ≡ k.source → to ≡ k.target → a ≡ k.acts → code ≡ slice_index_or codes from 0 → LeadsTo new a code next
     → ((f h : Summary) → decoded new (slice_index_or codes to 0) ≡ Some f → decoded new next ≡ Some h → is_below f h ≡ false) → Stepped k (row_of old codes) (row_of new (slice_set codes to next))
 stepped_to k old new codes from code to next a g w ef et ea ec l fresh =
@@ -137,7 +137,7 @@ stepped_to k old new codes from code to next a g w ef et ea ec l fresh =
     ∙ ap (λ (x : ℕ). slice_set (row_of old codes) x (decoded new next)) et
     ∙ ap (λ (o : Option Summary). slice_set (row_of old codes) k.target o) l.there)
 
--- a step where nothing stands
+-- a step where there is no entry
 pub stepped_none : (k : Link) (s : List Summary) (codes : List ℕ) (from : ℕ) → from ≡ k.source → slice_index_or codes from 0 ≡ 0 → Stepped k (row_of s codes) (row_of s codes)
 stepped_none k s codes from ef z = Stepped.same refl (λ f e. absurd (never f e))
   where
@@ -147,7 +147,7 @@ stepped_none k s codes from ef z = Stepped.same refl (λ f e. absurd (never f e)
     never : (f : Summary) → entry (row_of s codes) k.source ≡ Some f → ⊥
     never f e = let n = nothing in cc
 
--- or where a code stands that is at or below
+-- a step where the code's entry is at or below
 pub stepped_not : (k : Link) (old new : List Summary) (codes : List ℕ) (from code to next : ℕ) (a : Action) → Grows old new → AreCodes old codes → from ≡ k.source → to ≡ k.target → a ≡ k.acts → code ≡ slice_index_or codes from 0 → LeadsTo new a code next
     → ((h : Summary) → decoded new next ≡ Some h → IsCodeBelow new (slice_index_or codes to 0) h) → Stepped k (row_of old codes) (row_of new codes)
 stepped_not k old new codes from code to next a g w ef et ea ec l below =

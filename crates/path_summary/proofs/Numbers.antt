@@ -1,4 +1,4 @@
--- The numbers of a walk's summary are at most its edges, so there is room for one action more.
+-- The numbers of a walk's summary are at most its number of edges, so there is room for one more action.
 use Rattle.std.proofs.Common.{◌≡◌, ℕ, zero, suc, ◌≤◌, ◌<◌, List, [], ◌∷◌, ◌++◌, length, Some, slice_get, refl, sym, ap, subst, ◌∙◌, arith, length-append}
 use Rattle.std.proofs.Math.Bridge.{le_prop}
 use Rattle.std.proofs.Math.Logic.{∥∥₁_elim}
@@ -12,7 +12,7 @@ use Rattle.path_summary.specs.Rows.{HasRoom}
 use Rattle.path_summary.specs.Walks.{HaveLoops, Walk, every, IsOfWalk}
 use Rattle.path_summary.proofs.Passes.{may_by, stands_by}
 
--- each is at most n
+-- each number is at most n
 abbrev AreAtMost : ℕ → List ℕ → Type 0
 AreAtMost n [] = Unit {0}
 AreAtMost n (c ∷ cs) = (c ≤ n) × AreAtMost n cs

@@ -1,4 +1,4 @@
--- Passes over the edges: how far a row has got, so that it is closed after as many passes as there are vertices.
+-- Passes over the edges: how a row progresses, so that it is closed after as many passes as there are vertices.
 use Rattle.std.proofs.Common.{◌≡◌, ◌⊎◌, inl, inr, ℕ, zero, suc, ◌≤◌, ◌<◌, nat_eq, Bool, true, false, cond, List, length, Option, Some, None, slice_get, slice_index_or, refl, sym, ap, subst, ◌∙◌, arith}
 use Rattle.std.proofs.lemmas.Bool.{true≢false, eqb-true, eq-eqb}
 use Rattle.std.proofs.Math.Bool.{Bool-set}
@@ -17,7 +17,7 @@ use Rattle.path_summary.proofs.Standing.{Stands, stands_home, stands_over, order
 
 -- ---- sets of vertices
 
--- without one vertex
+-- a set without one vertex
 abbrev pub without : ℕ → (ℕ → Bool) → ℕ → Bool
 without z within y = cond (nat_eq y z) false (within y)
 
@@ -33,7 +33,7 @@ size_same z within (suc n) l = go (nat_eq n z) refl (size_same z within n (omega
     go true e h = absurd (let a = eqb-true n z e in omega arith)
     go false e h = ap (λ m. cond (within n) (suc m) m) h
 
--- one fewer
+-- a set without one vertex is smaller by one
 size_fewer : (z : ℕ) (within : ℕ → Bool) (n : ℕ) → within z ≡ true → z < n → suc (size (without z within) n) ≡ size within n
 size_fewer z within zero w l = absurd (omega arith)
 size_fewer z within (suc n) w l = go (nat_eq n z) refl (size_fewer z within n w)
@@ -60,7 +60,7 @@ size_every : (n : ℕ) → size every n ≡ n
 size_every zero = refl
 size_every (suc n) = ap suc (size_every n)
 
--- a set of vertices with one of these is not empty
+-- a set with one of the first vertices is not empty
 size_some : (z : ℕ) (within : ℕ → Bool) (n : ℕ) → within z ≡ true → z < n → 0 < size within n
 size_some z within n w l = let e = size_fewer z within n w l in omega arith
 
@@ -91,19 +91,19 @@ module _ (w : Links) (loops : ℕ → List ℕ) (nested : AreNested w loops) (v 
   pub walk_size : (within : ℕ → Bool) (n x : ℕ) (f : Summary) → Walk w v within n x f → 0 < size within (length w.depths)
   walk_size within n x f h = size_some x within (length w.depths) (walk_within within n x f h) (walk_known within n x f h)
 
-  -- how a walk comes to z for the first time
+  -- how a walk reaches z for the first time
   data Comes (within : ℕ → Bool) (z : ℕ) (f : Summary) : Type 0 where
     at_home : z ≡ v → f ≡ identity (slice_index_or w.depths v 0) → Comes within z f
     over : (e : ℕ) (k : Link) (g : Summary) (n : ℕ) → slice_get w.edges e ≡ Some k → Walk w v (without z within) n k.source g → z ≡ k.target → f ≡ then_action k.acts g → Comes within z f
 
-  -- the walk to x comes to z, first with f, and rises from there
+  -- the walk to x reaches z, first with f, and rises from there
   record First (within : ℕ → Bool) (z x : ℕ) (h : Summary) : Type 0 where
     least : Summary
     comes : Comes within z least
     stands : Stands loops v z least
     rises : in_order (rank_from loops v z least) (rank_from loops v x h) ≡ true
 
-  -- it comes to z, or it does not
+  -- the walk reaches z, or it does not
   split : (within : ℕ → Bool) (z n x : ℕ) (f : Summary) → Walk w v within n x f → Walk w v (without z within) n x f ⊎ First within z x f
   split within z zero x f h = go (nat_eq x z) refl
     where
@@ -155,7 +155,7 @@ module _ (w : Links) (loops : ℕ → List ℕ) (nested : AreNested w loops) (v 
   has_on : (row : List (Option Summary)) (b x : ℕ) (f h : Summary) → ((x : ℕ) (f : Summary) → entry row x ≡ Some f → IsOfWalk w v b x f) → HasBelow row x f → Stands loops v x f → Stands loops v x h → is_below f h ≡ true → HasBelow row x h
   has_on row b x f h of a s t l = record { least = a.least; known = a.known; below = below_trans loops v x a.least f h (stands_of b x a.least (of x a.least a.known)) s t a.below l }
 
-  -- where each entry's next steps are there, the row has got one further
+  -- if each entry's next steps are there, the row is one pass further
   pub passed : (b c m : ℕ) (old new : List (Option Summary)) → HasGot w v b m old → ((x : ℕ) (f : Summary) → entry new x ≡ Some f → IsOfWalk w v c x f)
       → HasBelow new v (identity (slice_index_or w.depths v 0))
       → ((e : ℕ) (k : Link) (f : Summary) → slice_get w.edges e ≡ Some k → entry old k.source ≡ Some f → HasBelow new k.target (then_action k.acts f))
@@ -182,9 +182,9 @@ module _ (w : Links) (loops : ℕ → List ℕ) (nested : AreNested w loops) (v 
           let t = walk_stands within n x f walk in
           has_on new c x a.least f of (come a.least a.comes) a.stands t (rank_start loops v x a.least f a.stands t a.rises)
 
--- ---- by some loops, whichever they are
+-- ---- for any loops
 
--- whether an entry stands there, at or below f
+-- whether there is an entry at or below f
 abbrev below_at : Option Summary → Summary → Bool
 below_at None f = false
 below_at (Some g) f = is_below g f
@@ -243,12 +243,12 @@ module _ (w : Links) (some : ∥ HaveLoops w ∥₁) (v : ℕ) (known : v < leng
   pub walk_on : (b e : ℕ) (k : Link) (f : Summary) → slice_get w.edges e ≡ Some k → IsOfWalk w v b k.source f → IsOfWalk w v (suc b) k.target (then_action k.acts f)
   walk_on b e k f h o = record { steps = suc o.steps; few = let l = o.few in omega arith; walk = (e, k, f, h, o.walk, refl, refl, refl) }
 
-  -- where the next steps of all entries are there, the row is closed
+  -- if the next steps of all entries are there, the row is closed
   pub closed_by : (b : ℕ) (row : List (Option Summary)) → ((x : ℕ) (f : Summary) → entry row x ≡ Some f → IsOfWalk w v b x f)
       → ((e : ℕ) (k : Link) (f : Summary) → slice_get w.edges e ≡ Some k → entry row k.source ≡ Some f → HasBelow row k.target (then_action k.acts f)) → IsClosed w row
   closed_by b row of done = record { steps = λ e k h. record { step = λ f q. (may_by b e k f h (of k.source f q), done e k f h q) } }
 
-  -- after as many passes as there are vertices it is
+  -- after as many passes as there are vertices, the row is closed
   pub closed_last : (b : ℕ) (row : List (Option Summary)) → HasGot w v b (length w.depths) row → IsClosed w row
   closed_last b row got = closed_by b row got.of_walks (λ e k f h q. go e k f h (got.of_walks k.source f q))
     where

@@ -1,4 +1,4 @@
--- Rows of a table: what a step of their making keeps, and what the last tests show.
+-- Rows of a table: what each step of making them keeps, and what the last tests show.
 use Rattle.std.proofs.Common.{◌≡◌, ◌⊎◌, inl, inr, ℕ, zero, suc, ◌+◌, ◌<◌, true, List, [], ◌∷◌, ◌++◌, length, Option, Some, slice_get, slice_set, slice_index_or, refl, sym, ap, subst, ◌∙◌, arith}
 use Rattle.semantics.specs.Time.{Time, after_action}
 use Rattle.semantics.specs.Kinds.{action}
@@ -68,7 +68,7 @@ module _ (g : Graph) where
   over_time [] e t = refl
   over_time (s ∷ path) e t = over_time path e (step_time g s t)
 
-  -- a path that goes on over an edge
+  -- a path that is extended over an edge
   path_one_more : (v e : ℕ) (f : Summary) → e < edge_count g → MayTake (action (vertex g (edge_source g e).vertex).kind) f → IsOfPath g v (edge_source g e).vertex f → IsOfPath g v (target g e) (then_action (action (vertex g (edge_source g e).vertex).kind) f)
   path_one_more v e f k m o =
       let a = action (vertex g (edge_source g e).vertex).kind in
@@ -81,7 +81,7 @@ module _ (g : Graph) where
         sits = sits_then a f (vertex g v).depth o.sits m;
       }
 
--- a walk is a path, in each graph that has these edges
+-- a walk is a path in any graph that has these edges
 pub walk_path : (w : Links) → ∥ HaveLoops w ∥₁ → (v : ℕ) → v < length w.depths → (g : Graph) → Draws w g → v < length g → (n x : ℕ) (f : Summary) → Walk w v every n x f → IsOfPath g v x f
 walk_path w some v known g draws l zero x f h =
     subst (λ (y : ℕ). IsOfPath g v y f) (sym h.0)

@@ -1,5 +1,5 @@
--- What a walk's summary has to do with the loops around its ends; so two summaries of walks between the same two vertices are in
--- one order, that of the counters to which they carry the first turns of all loops.
+-- How a walk's summary is related to the loops around its ends. So two summaries of walks between the same two vertices are ordered as the counters
+-- to which they take the first turns of all loops.
 use Rattle.std.proofs.Common.{◌≡◌, ◌⊎◌, inl, inr, ℕ, zero, suc, ◌+◌, ◌*◌, ◌-◌, ◌≤◌, ◌<◌, nat_lt, nat_eq, Bool, true, cond, ◌&&◌, ◌||◌, List, [], ◌∷◌, ◌++◌, length, slice_index_or, refl, sym, ap, subst, ◌∙◌, arith, length-append}
 use Rattle.std.proofs.lemmas.Bool.Decides.{nat_tests}
 use Rattle.semantics.specs.Dataflow.{Goes}
@@ -41,7 +41,7 @@ index_any [] i c d l = absurd (omega arith)
 index_any (x ∷ xs) zero c d l = refl
 index_any (x ∷ xs) (suc i) c d l = index_any xs i c d (omega arith)
 
--- a greater one stands beyond the last
+-- a greater element is beyond the last
 index_rises : (xs : List ℕ) (i c d : ℕ) → c < d → slice_index_or xs i c ≤ slice_index_or xs i d
 index_rises [] zero c d l = omega arith
 index_rises [] (suc i) c d l = omega arith
@@ -62,8 +62,8 @@ index_left (x ∷ xs) c d (suc i) l m = index_left xs c d i l (omega arith)
 
 -- ---- loops around the ends of a walk
 
--- f is the summary of a walk from v to x: the counters kept are those of loops common to both; and where it adds nothing to the
--- last of these, x stands behind the next loop of v, seen from outside that loop.
+-- f is the summary of a walk from v to x: the counters that it keeps are those of loops around both; and if it adds nothing to the last of these, x
+-- comes after the next loop of v, seen from outside that loop.
 pub record Stands (loops : ℕ → List ℕ) (v x : ℕ) (f : Summary) : Type 0 where
   pub long : f.keep + length f.tail ≡ length (loops x)
   pub few : f.keep ≤ length (loops v)
@@ -165,7 +165,7 @@ stands_over loops v y w a (Goes.into_loop e q l) f s = enter_on loops v y w f s 
 stands_over loops v y w a (Goes.out_of_loop q l) f s = leave_on loops v y w f s q l f.tail refl
 stands_over loops v y w a (Goes.round_loop e p) f s = turn_on loops v y w f s e p f.tail refl
 
--- what keeps fewer adds something
+-- a summary that keeps fewer adds something
 pub fewer_adds : (loops : ℕ → List ℕ) (v x : ℕ) (f h : Summary) → Stands loops v x f → Stands loops v x h → h.keep < f.keep → 0 < h.add
 fewer_adds loops v x f h s t l = go h.add refl
   where
@@ -179,7 +179,7 @@ fewer_adds loops v x f h s t l = go h.add refl
 
 -- ---- from the first turns
 
--- the first turn of each of so many loops
+-- the first turn of each of that many loops
 abbrev pub zeros : ℕ → List ℕ
 zeros zero = []
 zeros (suc d) = 0 ∷ zeros d
@@ -200,11 +200,11 @@ order_total (c ∷ cs) (d ∷ ds) = go (order_total cs ds)
     go (inl a) = grind (arith, nat_tests)
     go (inr a) = grind (arith, nat_tests)
 
--- behind the same counter
+-- after an equal counter
 order_behind : (c : ℕ) (r : Bool) → (nat_lt c c || (nat_eq c c && r)) ≡ true → r ≡ true
 order_behind c r h = grind (arith, nat_tests)
 
--- summaries that keep as many
+-- summaries that keep the same number
 same_kept : (k i j d : ℕ) (as' bs : List ℕ) → k ≤ d → (k ≡ 0 → i ≡ 0) → (k ≡ 0 → j ≡ 0) → in_order (kept k i (zeros d) ++ as') (kept k j (zeros d) ++ bs) ≡ true → (nat_lt i j || (nat_eq i j && in_order as' bs)) ≡ true
 same_kept zero i j d as' bs l p q h = let a = p refl in let b = q refl in grind (arith, nat_tests)
 same_kept (suc k) i j zero as' bs l p q h = absurd (omega arith)
@@ -224,7 +224,7 @@ module _ (loops : ℕ → List ℕ) (v x : ℕ) where
   abbrev depth : ℕ
   depth = length (loops v)
 
-  -- where a summary carries the first turns
+  -- the counters to which a summary takes the first turns
   abbrev pub start : Summary → List ℕ
   start f = carried f (zeros (length (loops v)))
 
@@ -234,7 +234,7 @@ module _ (loops : ℕ → List ℕ) (v x : ℕ) where
   pub length-start : (f : Summary) → Stands loops v x f → length (start f) ≡ length (loops x)
   length-start f s = length-carried f (zeros (length (loops v))) (omega (arith, s.few, length-zeros (length (loops v)))) ∙ s.long
 
-  -- the test of two summaries is that of these counters
+  -- the test of two summaries is the test of these counters
   pub below_start : (f h : Summary) → Stands loops v x f → Stands loops v x h → is_below f h ≡ true → in_order (start f) (start h) ≡ true
   below_start f h s t b = later_order (start f) (start h) ((below_from (length (zeros (length (loops v)))) f h (sits f s) (sits h t) b).at (zeros (length (loops v))) refl)
 
@@ -282,7 +282,7 @@ module _ (loops : ℕ → List ℕ) (v x : ℕ) where
 -- ---- ranks
 
 module _ (loops : ℕ → List ℕ) (v : ℕ) where
-  -- the rank of a vertex at the counters to which a summary carries the first turns
+  -- the rank of a vertex at the counters to which a summary takes the first turns
   abbrev pub rank_from : ℕ → Summary → List ℕ
   rank_from x f = vertex_rank loops x (record { epoch = 0; counters = carried f (zeros (length (loops v))) })
 
@@ -312,7 +312,7 @@ module _ (loops : ℕ → List ℕ) (v : ℕ) where
       go (inl a) ih = absurd (omega arith)
       go (inr a) ih = more (order_cases c d (in_order (woven es cs p) (woven es ds p)) a.1) ih
 
-  -- at one vertex ranks are in the order of the counters
+  -- at one vertex, ranks are ordered as the counters
   pub rank_start : (x : ℕ) (f h : Summary) → Stands loops v x f → Stands loops v x h → in_order (rank_from x f) (rank_from x h) ≡ true → is_below f h ≡ true
   rank_start x f h s t o =
       start_below loops v x f h s t

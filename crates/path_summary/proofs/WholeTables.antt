@@ -50,7 +50,7 @@ packed_push w old new rows row n e g all p v l = go (last_or v (length rows) (om
         subst (λ (k : ℕ). IsPacked w new (slice_index_or (rows ++ (row ∷ [])) k []) k) (sym a)
         (subst (λ (cs : List ℕ). IsPacked w new cs (length rows)) (sym (row_last rows row)) (subst (λ (k : ℕ). IsPacked w new row k) (sym e) p))
 
--- its edges keep to its loops
+-- the edges respect the loops
 pub links_nested : (g : Graph) (w : Links) → Draws w g → IsDataflow g → HaveLoops w
 links_nested g w draws d = record {
   loops = d.loops;
@@ -115,7 +115,7 @@ decided_same g w summaries rows draws p (Location.vertex x) u f h = ap (λ (n : 
 decided_same g w summaries rows draws p (Location.edge e) u f h =
     ap₂ (λ (n : ℕ) (k : Link). Stays p.location p.time (Location.edge e) u ⊎ Covers (entry_at summaries rows n k.source) k.acts p.time u) (home_is w g draws p.location p.time f) (link_is w g draws e h.0)
 
--- what the rows say is what could result
+-- what the rows decide is what could result
 pub decides_could : (g : Graph) (w : Links) (summaries : List Summary) (rows : List (List ℕ)) → IsMade g w summaries rows → (p q : Pointstamp) → IsTimeAt g p.location p.time → IsTimeAt g q.location q.time → (b : Bool) → Decides b (DecidedIn w summaries rows p q.location q.time) → IsTrue b ↔ CouldResultIn g p q
 decides_could g w summaries rows made p q f h b d =
     let T = entry_at summaries rows in
@@ -131,7 +131,7 @@ decides_could g w summaries rows made p q f h b d =
     true_is : (b : Bool) → b ≡ true → IsTrue b
     true_is b e = grind arith
 
--- pointstamps by their parts
+-- pointstamps with equal parts are equal
 pub same_pointstamp : (p q : Pointstamp) → p.time ≡ q.time → p.location ≡ q.location → p ≡ q
 same_pointstamp p q a b = λ i. record { time = a i; location = b i }
 

@@ -1,4 +1,4 @@
--- The codes of a row as they are kept.
+-- The codes of a row, as they are stored.
 use Rattle.std.specs.Prelude.{ℕ, List}
 use Rattle.path_summary.specs.declared.kept.Codes.{Codes}
 use Rattle.path_summary.specs.declared.kept.Codes.TheVariants.{Narrow, Wide}

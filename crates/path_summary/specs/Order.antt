@@ -2,7 +2,7 @@
 use Rattle.std.specs.Prelude.{◌≡◌, ◌⊎◌, ℕ, nat_lt, nat_eq, Bool, true, false, ◌&&◌, ◌||◌, List, [], ◌∷◌}
 use Rattle.semantics.specs.Time.{is_before}
 
--- the first is the second, or stands before it
+-- the lists are equal, or the first comes before the second
 abbrev pub Later : List ℕ → List ℕ → Type 0
 Later cs ds = (cs ≡ ds) ⊎ (is_before cs ds ≡ true)
 

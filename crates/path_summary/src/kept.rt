@@ -1,4 +1,4 @@
-//! A row of the table as it is kept.
+//! A finished row of the table, stored in little memory.
 
 ghost use Rattle.std.specs.Prelude.{◌≡◌, ◌≤◌, ℕ, length, IfOk, slice_index_or};
 ghost use Rattle.path_summary.specs.Codes.{AreCodes};
@@ -9,13 +9,13 @@ use expr_tree::NoMemory;
 use std::alloc::Global;
 use std::marker::Model;
 
-/// The codes of a row, in 2 bytes each where there are few summaries so far.
+/// The codes of a row, in 2 bytes each if the number of summaries so far allows it.
 #[derive(Drop)]
 pub struct Kept {
     codes: Codes,
 }
 
-/// Codes in 2 bytes, or in as many as a code may need.
+/// Codes in 2 bytes each, or in full width.
 #[derive(Drop)]
 enum Codes {
     Narrow(Vec<u16>),
@@ -32,7 +32,7 @@ impl Model for Kept {
 }
 
 impl Kept {
-    /// The codes of a row, over these summaries.
+    /// Stores the codes of a row over these summaries.
     pub fn of(alloc: Global, row: Row, summaries: &Summaries) -> Result<Kept, NoMemory>
         requires { AreCodes summaries.now row }
         ensures { IfOk result (λ k. k ≡ row) }
@@ -47,7 +47,7 @@ impl Kept {
         })
     }
 
-    /// The code that stands there, 0 beyond the last vertex.
+    /// The code at a vertex; 0 beyond the last vertex.
     pub fn code(&self, x: u32) -> usize
         ensures { result ≡ slice_index_or self.now x 0 }
     {

@@ -1,10 +1,9 @@
-//! Which pointstamp could result in which.
+//! Decides which pointstamp could result in which.
 //!
-//! The contract for the layers above: `Paths::could` is true exactly where the definition's could-result-in holds in the graph,
-//! and takes no memory. It reads a table of one path summary for each two vertices between which there is a path, made once for
-//! each graph.
+//! The contract for the layers above: `Paths::could` is true exactly where the definition's could-result-in holds in the graph, and takes no memory.
+//! It reads a table that is made once for each graph, with one path summary for each two vertices that a path connects.
 //!
-//! Below stand `semantics`, `loop_context`, `graph`, `expr_tree` and `arrayvec`. Trackers of progress stand on this.
+//! Built on `semantics`, `loop_context`, `graph`, `expr_tree` and `arrayvec`. Trackers of progress use it.
 #![tactic(auto)]
 
 mod kept;

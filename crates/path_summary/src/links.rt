@@ -1,4 +1,4 @@
-//! The edges of a graph as a table's making reads them: from vertex to vertex, with the action of the first.
+//! The edges of a graph in the form that the making of a table needs: from vertex to vertex, with the action of the first.
 
 ghost use Rattle.std.specs.Prelude.{◌≡◌, ◌<◌, ◌≤◌, ◌∷◌, ◌++◌, [], ℕ, length, IfOk, slice_get, slice_index_or};
 ghost use Rattle.graph.specs.Shown.{shown_graph};
@@ -107,7 +107,7 @@ impl Links {
         self.depths.len()
     }
 
-    /// The vertex from which what is at a location goes on.
+    /// The vertex from which paths from a location go on.
     pub fn home(&self, location: Location) -> u32
         requires { plain.IsKnown self.now (location_of location) }
         ensures { result ≡ plain.home_in self.now (location_of location) }

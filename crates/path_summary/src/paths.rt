@@ -1,4 +1,4 @@
-//! The table of a graph, and what it answers.
+//! The table of a graph, and the answers that it gives.
 
 ghost use Rattle.std.specs.Prelude.{◌≡◌, ◌≤◌, ◌<◌, ◌++◌, ◌∷◌, [], ◌↔◌, List, ℕ, Option, Some, None, IsTrue, IfOk, IfSome, IfNone, false, length, slice_index_or};
 ghost use Rattle.std.specs.Bool.{Decides};
@@ -53,7 +53,7 @@ impl Model for Paths {
 }
 
 impl Paths {
-    /// The paths of a graph. 2 bytes are kept for each two vertices, more where there are over 65,535 different summaries.
+    /// The paths of a graph. The table takes 2 bytes for each two vertices, or more if there are over 65,535 different summaries.
     pub fn of(alloc: Global, graph: &Arc<Graph, Global>) -> Result<Paths, NoMemory>
         ensures { IfOk result (λ p. p ≡ graph.now.value) }
     {
@@ -71,29 +71,29 @@ impl Paths {
         })
     }
 
-    /// The graph that they are of.
+    /// The graph of the paths.
     pub fn graph(&self) -> &Graph
         ensures { result.now ≡ self.now }
     {
         &self.graph
     }
 
-    /// Whether the graph has the location of `p`, and the time its depth: what the calls below ask of pointstamps.
+    /// Whether the graph has the location of `p`, and its time the location's depth. The calls below require that of pointstamps.
     pub fn fits(&self, p: &Pointstamp) -> bool
         ensures { IsTrue result ↔ IsTimeAt (shown_graph self.now) p.now.location p.now.time }
     {
         is_time_at(self.graph(), p)
     }
 
-    /// The graph is a dataflow graph, so the laws of such graphs hold of it. Nothing is done.
+    /// The graph is a dataflow graph, so the laws of dataflow graphs hold of it. Nothing is done.
     pub fn law_of_dataflow(&self)
         ensures { ∥ IsDataflow (shown_graph self.now) ∥₁ }
     {
         let _ = &self.graph;
     }
 
-    /// Whether `p` could result in `q`: some path, perhaps of no steps, takes it to one at or before `q`. Each is to have the depth
-    /// of its location.
+    /// Whether `p` could result in `q`: some path, perhaps without steps, takes it to one at or before `q`. The time of each must have the depth of
+    /// its location.
     pub fn could(&self, p: &Pointstamp, q: &Pointstamp) -> bool
         requires from { IsTimeAt (shown_graph self.now) p.now.location p.now.time }
         requires to { IsTimeAt (shown_graph self.now) q.now.location q.now.time }
@@ -103,7 +103,7 @@ impl Paths {
     }
 }
 
-/// Whether the graph has the location, and the time its depth.
+/// Whether the graph has the location, and the time has its depth.
 fn is_time_at(graph: &Graph, p: &Pointstamp) -> bool
     ensures { IsTrue result ↔ IsTimeAt (shown_graph graph.now) p.now.location p.now.time }
 {
@@ -135,7 +135,7 @@ fn rows_of(alloc: Global, links: &Links, summaries: &mut Summaries) -> Result<Ve
     Ok(rows)
 }
 
-/// By the table, whether `p` could result in `q`.
+/// Whether `p` could result in `q`, by the table.
 fn could_in(
     links: &Links,
     summaries: &Summaries,
@@ -157,7 +157,7 @@ fn could_in(
     }
 }
 
-/// Whether the entry from one vertex to another, and then the action, take `p` to a time at or before `q`'s.
+/// Whether the entry from one vertex to another, followed by the action, takes `p` to a time at or before that of `q`.
 fn comes(
     summaries: &Summaries,
     rows: &[Kept],
@@ -187,14 +187,14 @@ fn entry<'a>(summaries: &'a Summaries, rows: &[Kept], from: u32, to: u32) -> Opt
     summaries.get(code)
 }
 
-/// Whether a summary and then an action take `time` to one at or before `until`.
+/// Whether a summary followed by an action takes `time` to one at or before `until`.
 fn covers(summary: &Summary, action: Action, time: &Time, until: &Time) -> bool
     ensures { Decides result (Covers (Some summary.now) (action_of action) time.now until.now) }
 {
     time.epoch() <= until.epoch() && summary.reaches(action, time.counters(), until.counters())
 }
 
-/// Whether `p` stays on its edge until `q`.
+/// Whether `p` is at or before `q` on the same edge.
 fn stays(p: &Pointstamp, q: &Pointstamp) -> bool
     ensures { Decides result (Stays p.now.location p.now.time q.now.location q.now.time) }
 {

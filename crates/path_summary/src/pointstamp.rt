@@ -1,4 +1,4 @@
-//! Pointstamps.
+//! The type of pointstamps.
 
 ghost use Rattle.std.specs.Prelude.{◌≡◌, ◌↔◌, IsTrue};
 ghost use Rattle.graph.specs.Locations.{location_of};
@@ -52,7 +52,7 @@ impl Pointstamp {
         }
     }
 
-    /// Whether the two are one.
+    /// Whether the two are equal.
     #[tactic(auto, using(crate::proofs::WholeTables::same_pointstamp))]
     pub fn same(&self, other: &Pointstamp) -> bool
         ensures { IsTrue result ↔ (self.now ≡ other.now) }
@@ -62,7 +62,7 @@ impl Pointstamp {
     }
 }
 
-/// Whether the locations are one.
+/// Whether the locations are equal.
 pub fn same_location(location: Location, other: Location) -> bool
     ensures { IsTrue result ↔ (location_of location ≡ location_of other) }
 {

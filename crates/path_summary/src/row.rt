@@ -1,4 +1,4 @@
-//! One row of the table while it is made: the summaries from one vertex to each, by code.
+//! A row of the table while it is made: the summaries from one vertex to each vertex, by code.
 
 ghost use Rattle.std.specs.Prelude.{◌≡◌, ◌<◌, ◌≤◌, ◌*◌, ℕ, Some, suc, true, false, length, IfOk, slice_set, slice_index_or};
 ghost use Rattle.semantics.specs.Summary.{Summary as Definition};
@@ -16,7 +16,7 @@ use loop_context::Action;
 use std::alloc::Global;
 use std::marker::Model;
 
-/// For each vertex the code of a summary of a path to it, 0 where none is known.
+/// For each vertex, the code of a summary of a path to it; 0 if none is known.
 #[derive(Drop)]
 pub struct Row {
     codes: Vec<usize>,
@@ -50,7 +50,7 @@ impl Row {
         Ok(row)
     }
 
-    /// From a vertex to itself, and nowhere else.
+    /// The first row: from a vertex to itself only.
     fn opening(
         alloc: Global,
         links: &Links,
@@ -77,14 +77,14 @@ impl Row {
         &self.codes
     }
 
-    /// The codes themselves.
+    /// The codes, given away.
     pub fn into_codes(self) -> Vec<usize>
         ensures { result.items ≡ self }
     {
         self.codes
     }
 
-    /// The code that stands there, 0 beyond the last vertex.
+    /// The code at a vertex; 0 beyond the last vertex.
     fn code(&self, x: u32) -> usize
         ensures { result ≡ slice_index_or self.now x 0 }
     {
@@ -102,7 +102,7 @@ impl Row {
         }
     }
 
-    /// Goes on by one edge; whether that changed something.
+    /// Extends the row over one edge; true if that changed something.
     fn step(&mut self, summaries: &mut Summaries, link: &Link) -> Result<bool, NoMemory>
         requires codes { AreCodes summaries.old self.old }
         requires room { (f : Definition) → entry (row_of summaries.old self.old) link.now.source ≡ Some f → HasRoom link.now.acts f }
@@ -128,7 +128,7 @@ impl Row {
         Ok(true)
     }
 
-    /// Goes on once by each edge; whether that changed something.
+    /// Extends the row over each edge once; true if that changed something.
     fn pass(&mut self, links: &Links, summaries: &mut Summaries) -> Result<bool, NoMemory>
         requires codes { AreCodes summaries.old self.old }
         requires edges { length links.now.edges ≤ 8192 }
@@ -149,7 +149,7 @@ impl Row {
         Ok(changed)
     }
 
-    /// Goes on by passes until one changes nothing, at most as often as there are vertices: then no edge leads below an entry.
+    /// Makes passes until one changes nothing, at most as many as there are vertices. Then no edge leads below an entry.
     fn fill(&mut self, links: &Links, summaries: &mut Summaries) -> Result<(), NoMemory>
         requires codes { AreCodes summaries.old self.old }
         requires few { length links.now.depths ≤ 4096 }

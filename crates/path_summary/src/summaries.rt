@@ -1,4 +1,4 @@
-//! The few different summaries of a graph's paths, by code, with what each is after an action.
+//! The few different summaries of a graph's paths, by code, and the code of each after an action.
 
 ghost use Rattle.std.specs.Prelude.{◌≡◌, ◌<◌, ◌≤◌, ◌-◌, [], Some, None, true, false, length, slice_index_or, slice_set, IfOk, IfSome, IfNone};
 ghost use Rattle.semantics.specs.Summary.{Summary as Definition};
@@ -13,7 +13,7 @@ use loop_context::Action;
 use std::alloc::Global;
 use std::marker::Model;
 
-/// Different summaries. The first has the code 1, the second 2, and so on; 0 stands for none.
+/// A list of different summaries. The first has the code 1, the second 2, and so on; 0 means none.
 #[derive(Drop)]
 pub struct Summaries {
     list: Vec<Summary>,
@@ -35,7 +35,7 @@ impl Model for Summaries {
 }
 
 impl Summaries {
-    /// No summary.
+    /// An empty list.
     pub fn new(alloc: Global) -> Self
         ensures { result ≡ [] }
     {
@@ -47,14 +47,14 @@ impl Summaries {
         }
     }
 
-    /// How many there are.
+    /// The number of summaries.
     pub fn count(&self) -> usize
         ensures { result ≡ length self.now }
     {
         self.list.len()
     }
 
-    /// What a code stands for.
+    /// The summary with a code.
     pub fn get(&self, code: usize) -> Option<&Summary>
         ensures none { IfNone result (decoded self.now code ≡ None) }
         ensures some { IfSome result (λ f. decoded self.now code ≡ Some f.now) }
@@ -62,7 +62,7 @@ impl Summaries {
         self.list.get(code.checked_sub(1)?)
     }
 
-    /// The code of a summary, which is added where it isn't there.
+    /// The code of a summary, which is added if it is new.
     pub fn code_of(&mut self, summary: Summary) -> Result<usize, NoMemory>
         ensures grows { Grows self.old self.new }
         ensures code { IfOk result (λ c. decoded self.new c ≡ Some summary) }
@@ -87,7 +87,7 @@ impl Summaries {
         None
     }
 
-    /// Adds a summary, and tells its code.
+    /// Adds a summary, and gives its code.
     fn add(&mut self, summary: Summary) -> Result<usize, NoMemory>
         ensures grows { Grows self.old self.new }
         ensures code { IfOk result (λ c. decoded self.new c ≡ Some summary) }
@@ -100,7 +100,7 @@ impl Summaries {
         Ok(self.list.len())
     }
 
-    /// The code of what a code's summary is after an action, for which there is to be room.
+    /// The code of a summary after an action. There must be room for the action.
     pub fn after(&mut self, code: usize, action: Action) -> Result<usize, NoMemory>
         requires some { 0 < code }
         requires there { code ≤ length self.old }
@@ -117,7 +117,7 @@ impl Summaries {
         Ok(next)
     }
 
-    /// What the code of a summary stands for.
+    /// The summary with a code that has one.
     fn known(&self, code: usize) -> &Summary
         requires some { 0 < code }
         requires there { code ≤ length self.now }
@@ -126,7 +126,7 @@ impl Summaries {
         &self.list[code - 1]
     }
 
-    /// The code of what a code's summary is after an action, where that is noted.
+    /// The noted code of a summary after an action, if there is one.
     fn noted(&self, code: usize, action: Action) -> Option<usize>
         requires some { 0 < code }
         requires there { code ≤ length self.now }
@@ -152,7 +152,7 @@ impl Summaries {
         }
     }
 
-    /// Whether a code's summary is told to carry counters to ones at or before those of another's.
+    /// A sufficient test: true only if the summary with `code` takes counters to ones at or before those of the one with `other`.
     pub fn is_below(&self, code: usize, other: usize) -> bool
         ensures below { result ≡ true → (h : Definition) → decoded self.now other ≡ Some h → IsCodeBelow self.now code h }
         ensures not { result ≡ false → (f h : Definition) → decoded self.now code ≡ Some f → decoded self.now other ≡ Some h → is_below f h ≡ false }
@@ -170,7 +170,7 @@ impl Summaries {
     }
 }
 
-/// What is noted for a code.
+/// The note for a code, if there is one.
 fn noted_in(notes: &[usize], code: usize) -> Option<usize>
     requires { 0 < code }
     ensures some { IfSome result (λ c. 0 < c) }

@@ -1,4 +1,4 @@
-//! Summaries of paths: what a path does to counters.
+//! Path summaries: what a path does to counters.
 
 ghost use Rattle.std.specs.Prelude.{◌≡◌, ◌<◌, ◌≤◌, ◌+◌, ◌-◌, ◌^◌, ◌↔◌, ◌++◌, IsTrue, length};
 ghost use Rattle.std.specs.List.{All};
@@ -14,10 +14,10 @@ use arrayvec::ArrayVec;
 use loop_context::{Action, MAX_LOOPS};
 use std::marker::Model;
 
-/// The most counters that a summary carries others to: those that it keeps, those that it appends, and one that an action may add.
+/// The most counters after a summary: those that it keeps, those that it appends, and one that an action may add.
 const MAX_CARRIED: usize = 2 * MAX_LOOPS + 1;
 
-/// Keep so many counters, add to the last of these, append the tail.
+/// Keeps `keep` counters, adds to the last of them, and appends the tail.
 #[derive(Drop)]
 pub struct Summary {
     keep: u32,
@@ -34,7 +34,7 @@ impl Model for Summary {
 }
 
 impl Summary {
-    /// Of the path of no steps.
+    /// The summary of a path without steps.
     pub fn identity(depth: u32) -> Self
         ensures { result ≡ identity depth }
     {
@@ -45,7 +45,7 @@ impl Summary {
         }
     }
 
-    /// Followed by an action, for which there is to be room.
+    /// The summary followed by an action. There must be room for the action.
     pub fn then(&self, action: Action) -> Summary
         requires { HasRoom (action_of action) self.now }
         ensures { Follows (action_of action) self.now result }
@@ -120,7 +120,7 @@ impl Summary {
         }
     }
 
-    /// Whether this one is told to carry counters to ones at or before those of the other.
+    /// A sufficient test: true only if this summary takes counters to ones at or before those of the other.
     pub fn is_below(&self, other: &Summary) -> bool
         ensures { result ≡ is_below self.now other.now }
     {
@@ -132,7 +132,7 @@ impl Summary {
         }
     }
 
-    /// Whether the two are one.
+    /// Whether the two are equal.
     #[tactic(auto, using(crate::proofs::Carrying::same_parts))]
     pub fn same(&self, other: &Summary) -> bool
         ensures { IsTrue result ↔ (self.now ≡ other.now) }
@@ -141,7 +141,7 @@ impl Summary {
         parts && self.tail.as_slice() == other.tail.as_slice()
     }
 
-    /// Whether this one, and then the action, carry these counters to ones at or before those.
+    /// Whether this summary, followed by the action, takes these counters to ones at or before those of `until`.
     pub fn reaches(&self, action: Action, counters: &[u32], until: &[u32]) -> bool
         requires { length counters.now ≤ max_loops }
         ensures { result ≡ in_order (counters_after (action_of action) (carried self.now counters.now)) until.now }
@@ -178,7 +178,7 @@ fn copied_counters(counters: &[u32]) -> ArrayVec<u32, MAX_LOOPS>
     copied
 }
 
-/// Whether the counters are in lexicographic order.
+/// Whether the first counters are at or before the second in lexicographic order.
 fn in_order(counters: &[u32], others: &[u32]) -> bool
     ensures { result ≡ in_order counters.now others.now }
 {
@@ -193,7 +193,7 @@ fn in_order(counters: &[u32], others: &[u32]) -> bool
     }
 }
 
-/// The same order, over wider numbers.
+/// As `in_order`, with wider numbers on the left.
 fn in_order_wide(counters: &[u64], others: &[u32]) -> bool
     ensures { result ≡ in_order counters.now others.now }
 {
@@ -209,7 +209,7 @@ fn in_order_wide(counters: &[u64], others: &[u32]) -> bool
     }
 }
 
-/// A kept counter, raised where it is the last that is kept.
+/// A kept counter, raised if it is the last one kept.
 #[tactic(auto, using(crate::proofs::Carrying::raised_first, crate::proofs::Carrying::raised_later))]
 fn raise_last(keep: u32, add: u32, counter: u32) -> u64
     requires { 0 < keep }
@@ -243,7 +243,7 @@ fn push_kept(out: &mut ArrayVec<u64, MAX_CARRIED>, keep: u32, add: u32, counters
     }
 }
 
-/// What an action does to counters.
+/// Applies an action to counters.
 #[tactic(auto, using(crate::proofs::Carrying::popped_front, crate::proofs::Carrying::popped_last))]
 fn act(counters: &mut ArrayVec<u64, MAX_CARRIED>, action: Action)
     requires few { length counters.old.items ≤ max_loops + max_loops }

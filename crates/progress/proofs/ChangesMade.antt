@@ -1,4 +1,4 @@
--- Changes and questions, one after the other.
+-- Changes and questions, one after another.
 use Rattle.std.proofs.Common.{◌≡◌, ℕ, zero, suc, ◌+◌, ◌-◌, ◌≤◌, ◌<◌, Bool, List, [], ◌∷◌, ◌++◌, length, drop, Some, slice_get, refl, sym, ap, subst, arith, add-one, append_assoc}
 use Rattle.std.specs.Prelude.{IsTrue, ◌↔◌}
 use Rattle.semantics.specs.Graph.{Graph}
@@ -8,7 +8,7 @@ use Rattle.progress.specs.declared.change.Change.{Change}
 use Rattle.progress.specs.declared.change.Change.TheVariants.{Add, Remove, Ask}
 use Rattle.progress.specs.Asked.{content_after, ArePossible, AreAnswers}
 
--- of a list's first changes these answers were given, and what is active goes on with the others
+-- these answers were given for the list's first changes, and what is active goes on with the others
 pub record IsMade (g : Graph) (old : Pointstamp → ℕ) (all : List Change) (now : Pointstamp → ℕ) (others : List Change) (given : List Bool) : Type 0 where
   pub possible : ArePossible g now others
   pub content : (q : Pointstamp) → content_after now others q ≡ content_after old all q
@@ -36,7 +36,7 @@ answered g old now all others given p b m is =
       answers = λ more a. subst (AreAnswers (CouldResultIn g) old all) (sym (append_assoc given (b ∷ []) more)) (m.answers (b ∷ more) (is, a));
     }
 
--- the item at a place, and those behind it
+-- the item at a place, and those after it
 pub here_drop : {X : Type 0} (xs : List X) (n : ℕ) (x : X) → slice_get xs n ≡ Some x → drop n xs ≡ x ∷ drop (n + 1) xs
 here_drop {X} xs n x h = rw (add-one n) (go xs n h)
   where

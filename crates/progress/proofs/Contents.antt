@@ -27,14 +27,14 @@ same_some x y e = cc
 either : (a b : ℕ) → 0 < a + b → (0 < a) ⊎ (0 < b)
 either a b h = grind arith
 
--- what stands in a list is there
+-- an element of a list occurs
 pub times_got : (xs : List Pointstamp) (i : ℕ) (q : Pointstamp) → slice_get xs i ≡ Some q → 0 < times_in xs q
 times_got [] zero q h = absurd (let e = h in cc)
 times_got [] (suc i) q h = absurd (let e = h in cc)
 times_got (x ∷ xs) zero q h = let e : one_if_same q x ≡ 1 = ap (one_if_same q) (same_some x q h) ∙ one_self q in omega arith
 times_got (x ∷ xs) (suc i) q h = let e = times_got xs i q h in omega arith
 
--- and what is there stands somewhere
+-- what occurs is at some place of the list
 pub times_some : (xs : List Pointstamp) (q : Pointstamp) → 0 < times_in xs q → (i : ℕ) × (slice_get xs i ≡ Some q)
 times_some [] q h = absurd (omega arith)
 times_some (x ∷ xs) q h = go (either (one_if_same q x) (times_in xs q) h) (times_some xs q)
@@ -59,7 +59,7 @@ times-removed q [] (suc i) p h = absurd (let e = h in cc)
 times-removed q (x ∷ xs) zero p h = ap (λ (y : Pointstamp). one_if_same q y + times_in xs q) (same_some x p h)
 times-removed q (x ∷ xs) (suc i) p h = let e = times-removed q xs i p h in omega arith
 
--- one more or one less that is known, or was there
+-- one more occurrence of a known pointstamp, or one fewer of one that occurred
 pub all_more : (g : Graph) (old new : Pointstamp → ℕ) (p : Pointstamp) → AllAt g old → IsTimeAt g p.location p.time → ((q : Pointstamp) → new q ≡ one_if_same q p + old q) → AllAt g new
 all_more g old new p all on e q h = go (either (one_if_same q p) (old q) (subst (λ k. 0 < k) (e q) h))
   where
@@ -91,7 +91,7 @@ clear_more g xs p x other n before h d i q l k m c = go (last_or i n l)
 pub all_clear : (g : Graph) (xs : List Pointstamp) (p : Pointstamp) (other : Bool) (n : ℕ) → length xs ≤ n → ClearTo g xs p other n → IsClear g (times_in xs) p other
 all_clear g xs p other n l clear q h m c = let s = times_some xs q h in clear s.0 q (let b = got_below xs s.0 q s.1 in omega arith) s.1 m c
 
--- ---- what is clear is in the frontier, or has none before
+-- ---- a pointstamp that is clear is in the frontier, or has none before it
 
 pub frontier_by : (g : Graph) (content : Pointstamp → ℕ) (p : Pointstamp) (b : Bool) → (b ≡ true → IsClear g content p true) → (b ≡ false → IsBlocked g content p true) → IsTrue b ↔ NoOtherOf (CouldResultIn g) (λ q. 0 < content q) p
 frontier_by g content p b clear blocked = (λ t q h c. other q h c (clear (true_is b t)), λ n. back b refl n)

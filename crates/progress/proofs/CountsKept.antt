@@ -1,4 +1,4 @@
--- Occurrence and precursor counts, as pointstamps come and go.
+-- Occurrence and precursor counts, as pointstamps are added and removed.
 use Rattle.std.proofs.Common.{◌≡◌, ◌≢◌, ◌⊎◌, inl, inr, ℕ, zero, suc, ◌+◌, ◌*◌, ◌≤◌, ◌<◌, true, false, eqb, List, [], ◌∷◌, ◌++◌, length, take, Some, slice_get, slice_set, refl, sym, ap, subst, ◌∙◌, arith, add-one}
 use Rattle.std.specs.Prelude.{remove, IsTrue, ◌↔◌}
 use Rattle.std.proofs.lemmas.Bool.Decides.{eqb_tells}
@@ -81,7 +81,7 @@ count_keep g p q (x ∷ xs) zero n e (inr a) b = a.1
 count_keep g p q (x ∷ xs) (suc i) n e (inl a) b = inl (a.0, (a.1.0, a.1.1, count_keep g p q xs i a.1.0 e a.1.2 b))
 count_keep g p q (x ∷ xs) (suc i) n e (inr a) b = inr (a.0, count_keep g p q xs i n e a.1 b)
 
--- 0 exactly where there is none
+-- the count is 0 exactly if there is no precursor
 pub count_zero : (g : Graph) (p q : Pointstamp) (xs : List Pointstamp) (n i : ℕ) → IsPrecursorCount g xs p n → slice_get xs i ≡ Some q → IsPrecursor g q p → 0 < n
 count_zero g p q xs n i h e b = let r = count_drop g p q xs i n e h b in let k = r.1 in omega arith
 
@@ -107,7 +107,7 @@ pub all_many : (xs : List Counted) → ((i : ℕ) (c : Counted) → slice_get xs
 all_many [] h = omega arith
 all_many (x ∷ xs) h = let a = h zero x refl in let e = all_many xs (λ i c g. h (suc i) c g) in omega arith
 
--- a pointstamp that stands nowhere occurs 0 times, and the other way round
+-- a pointstamp that isn't in the list occurs 0 times, and conversely
 pub occurs_got : (xs : List Counted) (i : ℕ) (c : Counted) → slice_get xs i ≡ Some c → 0 < c.occurrences → 0 < occurrences_in xs c.pointstamp
 occurs_got [] zero c h l = absurd (let e = h in cc)
 occurs_got [] (suc i) c h l = absurd (let e = h in cc)
@@ -162,7 +162,7 @@ stamp_there xs q h =
     let s = occurs_some xs q h in
     times_got (pointstamps xs) s.0 q (stamp_got xs s.0 s.1.0 s.1.1 ∙ ap (λ (y : Pointstamp). Some y) s.1.2)
 
--- where each is active, one that stands there occurs
+-- if each is active, one in the list occurs
 pub stamp_occurs : (xs : List Counted) (i : ℕ) (q : Pointstamp) → ((i : ℕ) (c : Counted) → slice_get xs i ≡ Some c → 0 < c.occurrences) → slice_get (pointstamps xs) i ≡ Some q → 0 < occurrences_in xs q
 stamp_occurs xs i q all h =
     let s = got_stamp xs i q h in
@@ -208,7 +208,7 @@ take_whole (x ∷ xs) (suc n) l = ap (λ (l : List Pointstamp). x ∷ l) (take_w
 
 -- ---- one change of each, in turn
 
--- those below n are changed as R says, the others not yet
+-- those below n are changed as R says, and the others not yet
 pub record IsDoneTo (R : Counted → Counted → Type 0) (old new : List Counted) (n : ℕ) : Type 0 where
   pub stamps : pointstamps new ≡ pointstamps old
   pub done : (i : ℕ) (c d : Counted) → i < n → slice_get old i ≡ Some c → slice_get new i ≡ Some d → R c d
@@ -232,7 +232,7 @@ set_else (x ∷ xs) zero (suc j) d h = refl
 set_else (x ∷ xs) (suc i) zero d h = refl
 set_else (x ∷ xs) (suc i) (suc j) d h = set_else xs i j d (λ e. h (ap suc e))
 
--- what stands in a list with one entry set is that entry, or stood there before
+-- an element of a list with one entry set is that entry, or was there before
 set_got : (xs : List Counted) (i j : ℕ) (c d e : Counted) → slice_get xs i ≡ Some c → slice_get (slice_set xs i d) j ≡ Some e → ((j ≡ i) × (e ≡ d)) ⊎ ((j ≢ i) × (slice_get xs j ≡ Some e))
 set_got xs i j c d e h k = go (eqb_tells j i)
   where
@@ -301,7 +301,7 @@ exact_set g xs i c d h e f l x =
         (subst (λ (p : Pointstamp). IsPrecursorCount g (pointstamps xs) p d.precursors) (sym e) (subst (IsPrecursorCount g (pointstamps xs) c.pointstamp) (sym f) (x.precursors i c h)))
     precursors j b (inr m) = x.precursors j b m.1
 
--- what stands at the same place of two lists of the same pointstamps
+-- the elements at one place of two lists of the same pointstamps
 pub facing : (xs ys : List Counted) (i : ℕ) (d : Counted) → pointstamps ys ≡ pointstamps xs → slice_get ys i ≡ Some d → (c : Counted) × (slice_get xs i ≡ Some c) × (c.pointstamp ≡ d.pointstamp)
 facing xs ys i d e h = got_stamp xs i d.pointstamp (ap (λ (l : List Pointstamp). slice_get l i) (sym e) ∙ stamp_got ys i d h)
 
@@ -362,7 +362,7 @@ exact_enters g p xs ys c fits x fresh all e l n =
 pub known_removed : (g : Graph) (xs : List Counted) (i : ℕ) → AreKnown g xs → AreKnown g (remove xs i)
 known_removed g xs i all j d h = let r = got_removed xs i j d h in all r.0 d r.1
 
--- what p is a precursor of has one
+-- a pointstamp of which p is a precursor has a precursor
 pub removed_some : (g : Graph) (p : Pointstamp) (xs : List Counted) (i : ℕ) → AreExact g xs → slice_get (pointstamps xs) i ≡ Some p → (j : ℕ) (d : Counted) → slice_get (remove xs i) j ≡ Some d → IsPrecursor g p d.pointstamp → 0 < d.precursors
 removed_some g p xs i x at j d h b = let r = got_removed xs i j d h in count_zero g d.pointstamp p (pointstamps xs) d.precursors i (x.precursors r.0 d r.1) at b
 
@@ -458,7 +458,7 @@ occurs_less p xs i c d h at e f =
 
 -- ---- the frontier
 
--- one that is active is in it exactly where it has no precursor
+-- an active pointstamp is in the frontier exactly if it has no precursor
 pub frontier_counted : (g : Graph) (p : Pointstamp) (xs : List Counted) (i : ℕ) (c : Counted) → AreExact g xs → slice_get xs i ≡ Some c → slice_get (pointstamps xs) i ≡ Some p → (c.precursors ≡ 0 → NoOtherOf (CouldResultIn g) (λ q. 0 < occurrences_in xs q) p) × (NoOtherOf (CouldResultIn g) (λ q. 0 < occurrences_in xs q) p → c.precursors ≡ 0)
 frontier_counted g p xs i c x h at = (λ z q a k. none z q a k (one_tells q p), λ free. back free c.precursors refl)
   where
@@ -480,7 +480,7 @@ frontier_counted g p xs i c x h at = (λ z q a k. none z q a k (one_tells q p), 
         let s = count_some g p (pointstamps xs) c.precursors (omega arith) number in
         absurd (s.1.2.0 (free s.1.0 (stamp_occurs xs s.0 s.1.0 x.active s.1.1) s.1.2.1))
 
--- nor does one that is not active ask for itself
+-- a pointstamp that isn't active doesn't block itself
 pub clear_others : (g : Graph) (content : Pointstamp → ℕ) (p : Pointstamp) → IsClear g content p false → IsClear g content p true
 clear_others g content p clear q h d c = clear q h (λ e. absurd (let k = e in cc)) c
 

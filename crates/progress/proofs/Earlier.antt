@@ -1,4 +1,4 @@
--- Of the active times of a location only one with the least counters, among those in no later epoch, need be asked.
+-- Among the active times of a location in no later epoch, only one with the least counters need be checked.
 use Rattle.std.proofs.Common.{◌≡◌, ℕ, ◌≤◌, ◌<◌, Bool, true, List, [], ◌∷◌, refl, ap, subst, ◌∙◌, arith}
 use Rattle.std.proofs.Math.Logic.{∥∥₁_elim}
 use Rattle.semantics.specs.Time.{Time, Action, after_action}
@@ -35,7 +35,7 @@ fits_moved : (g : Graph) (l : Location) (n : ℕ) (t : Time) → IsTimeAt g l t 
 fits_moved g (Location.edge e) n t f = f
 fits_moved g (Location.vertex v) n t f = f
 
--- what u could result in, so could t, where its counters are no later and its epoch is in time
+-- t could result in what u could, if its counters are no later and its epoch is in time
 earlier_could : (g : Graph) → IsDataflow g → (l : Location) (t u : Time) (q : Pointstamp) → IsTimeAt g l t → NoLater t u → t.epoch ≤ q.time.epoch → CouldResultIn g (stamp l u) q → CouldResultIn g (stamp l t) q
 earlier_could g flow l t u q f h n c =
     let k = path_keeps g flow.loops flow.wired flow.nested c.path l q.location (moved u.epoch t) u c.leads (fits_moved g l u.epoch t f) c.starts (record { epochs = omega arith; counters = h }) in
@@ -49,7 +49,7 @@ earlier_could g flow l t u q f h n c =
       in_time = record { epochs = omega (arith, n, path_epoch g c.path t); counters = b.counters };
     }
 
--- a later epoch could result in nothing
+-- a time in a later epoch could not result
 in_time : (g : Graph) (l : Location) (t : Time) (q : Pointstamp) → CouldResultIn g (stamp l t) q → t.epoch ≤ q.time.epoch
 in_time g l t q c = let e = path_epoch g c.path t in let k = c.in_time.epochs in omega arith
 

@@ -1,4 +1,4 @@
--- What changes of a fork keep.
+-- What a change of a fork keeps.
 use Rattle.std.proofs.Common.{◌≡◌, ◌≢◌, ◌⊎◌, inl, inr, ℕ, ◌+◌, ◌-◌, ◌/◌, [], ◌≤◌, ◌<◌, Bool, true, false, Option, Some, None, sym, ap, subst, ◌∙◌, arith}
 use Rattle.semantics.specs.Time.{Time, same_time}
 use Rattle.std.proofs.lemmas.Bool.{true≢false}
@@ -13,7 +13,7 @@ use Rattle.progress.proofs.Orders.{no_later_self, no_later_on, same_self, same_i
 either : (a b : ℕ) → 0 < a + b → (0 < a) ⊎ (0 < b)
 either a b h = grind arith
 
--- what is there came, or was there
+-- what occurs was added, or occurred before
 pub was_or_came : (old new : Bag) (t u : Time) (n : ℕ) → Adds old new t n → 0 < count new u → (u ≡ t) ⊎ (0 < count old u)
 was_or_came old new t u n h l = go (either (if_same u t n) (count old u) (subst (λ k. 0 < k) (h u) l))
   where
@@ -21,16 +21,16 @@ was_or_came old new t u n h l = go (either (if_same u t n) (count old u) (subst 
     go (inl a) = inl (same_is u t n a)
     go (inr b) = inr b
 
--- what is there of what is left was there
+-- what is left occurred before
 was_there : (old new : Bag) (t u : Time) (n : ℕ) → Adds new old t n → 0 < count new u → 0 < count old u
 was_there old new t u n h l = let e = h u in omega arith
 
--- how often a time of a fork is there
+-- how often a time of a fork occurs
 pub count-with : (L : Bag) (t : Time) (n : ℕ) (R : Bag) (u : Time) → count (with_times L t n R) u ≡ if_same u t n + (count L u + count R u)
 count-with L t n R u = ap (λ k. if_same u t n + k) (total-append (λ (h : Held). if_same u h.0 h.1) L R)
 
 module _ (L : Bag) (t : Time) (n s : ℕ) (R : Bag) where
-  -- where a time of a fork stands
+  -- where a time of a fork is
   pub data Stands (u : Time) : Type 0 where
     here : u ≡ t → Stands u
     left : 0 < count L u → Stands u
@@ -47,7 +47,7 @@ module _ (L : Bag) (t : Time) (n s : ℕ) (R : Bag) where
       go (inl a) = Stands.here (same_is u t n a)
       go (inr a) = below (either (count L u) (count R u) a)
 
-  -- its own time is there, and first
+  -- its own time occurs, and comes first
   pub fork_there : 0 < n → 0 < count (with_times L t n R) t
   fork_there h = let e = same_self t n in let w = count-with L t n R t in omega arith
 
@@ -160,7 +160,7 @@ taken_right L R R' old next a u = let w = count-with L old.time old.count R u in
 pub taken_last : (L R : Bag) (old : Entry) → IsNone L → IsNone R → Adds [] (with_times L old.time old.count R) old.time old.count
 taken_last L R old l r u = let w = count-with L old.time old.count R u in let a = l u in let b = r u in omega arith
 
--- the top taken out, where a side is empty
+-- the top is removed, if a side is empty
 pub lifted_right : (L : Bag) (t : Time) (n : ℕ) (R : Bag) → IsNone L → Adds R (with_times L t n R) t n
 lifted_right L t n R none u = let w = count-with L t n R u in let a = none u in omega arith
 
@@ -204,7 +204,7 @@ less_left L L' R t u n a v = let w = count-with L t n R v in let x = count-with 
 pub less_right : (L R R' : Bag) (t u : Time) (n : ℕ) → Adds R' R u 1 → Adds (with_times L t n R') (with_times L t n R) u 1
 less_right L R R' t u n a v = let w = count-with L t n R v in let x = count-with L t n R' v in let e = a v in omega arith
 
--- on which side another time stands
+-- the side on which another time is
 pub on_left : (L R : Bag) (t u : Time) (n s : ℕ) → IsFork L t n s R → 0 < count (with_times L t n R) u → (u ≡ t → ⊥) → key_of u < s → 0 < count L u
 on_left L R t u n s f h d k = go (stands L t n s R u h)
   where
@@ -221,7 +221,7 @@ on_right L R t u n s f h d k = go (stands L t n s R u h)
     go (Stands.left a) = absurd (let m = f.below u a in omega arith)
     go (Stands.right a) = a
 
--- ---- the least of the times that are asked for
+-- ---- the least of the times that count for a question
 
 pub least_here : (L R : Bag) (t : Time) (n s : ℕ) (until : Time) (other : Bool) → IsFork L t n s R → IsAsked until other t → IsLeast (with_times L t n R) until other t
 least_here L R t n s until other f a = record { there = fork_there L t n s R f.some; asked = a; least = λ u h k. fork_first L t n s R f u h }
@@ -267,7 +267,7 @@ least_both_right L R t v w n s until other f d l r h = record { there = let k = 
     go u k (Stands.left a) = no_later_on w v u h (l.least u a k)
     go u k (Stands.right a) = r.least u a k
 
--- what is on the right of a split of a later epoch isn't asked for
+-- what is on the right of a split in a later epoch doesn't count
 pub right_late : (L R : Bag) (t : Time) (n s : ℕ) (until : Time) (other : Bool) → IsFork L t n s R → until.epoch < s / 4294967296 → IsNoneAsked R until other
 right_late L R t n s until other f h u l k = absurd (let e = split_epoch u s (f.above u l) in let m = k.epochs in omega arith)
 

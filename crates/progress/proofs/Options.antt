@@ -1,4 +1,4 @@
--- Facts under options.
+-- Implications inside options, and facts about truth values.
 use Rattle.std.proofs.Common.{◌≡◌, Option, Some, None, Bool, true, false, arith}
 use Rattle.std.specs.Prelude.{IsTrue, IfSome, IfNone}
 

@@ -1,4 +1,4 @@
--- The order of counters, and times in one number.
+-- The order of counters, and times as one number.
 use Rattle.std.proofs.Common.{◌≡◌, ◌≢◌, ◌⊎◌, inl, inr, ℕ, ◌+◌, ◌*◌, ◌/◌, ◌%◌, ◌^◌, ◌≤◌, ◌<◌, Bool, true, false, cond, List, [], ◌∷◌, refl, sym, ap₂, arith}
 use Rattle.semantics.specs.Time.{Time, is_before, same_time}
 use Rattle.semantics.proofs.OneFlow.{lex_head, lex_tail}
@@ -29,7 +29,7 @@ later_total (c ∷ cs) (d ∷ ds) = go (order c d) (later_total cs ds)
     go (inr (inl a)) (inr h) = inr (more d c ds cs (sym a) h)
     go (inr (inr a)) ih = inr (inr (lex_head d c ds cs a))
 
--- where the first isn't at or before the second, the second is at or before the first
+-- if the first isn't at or before the second, the second is at or before the first
 pub other_way : (t u : Time) → (NoLater t u → ⊥) → NoLater u t
 other_way t u n = go (later_total t.counters u.counters)
   where
@@ -81,6 +81,6 @@ pub mixed_small : (n : ℕ) (cs : List ℕ) → n < 2 ^ 32 → mixed_from n cs <
 mixed_small n [] h = h
 mixed_small n (c ∷ cs) h = mixed_small ((n * 31 + c) % (2 ^ 32)) cs (omega arith)
 
--- a key at the split or above is of an epoch at that of the split or above
+-- a key at or above the split is in an epoch at or after that of the split
 pub split_epoch : (t : Time) (split : ℕ) → split ≤ key_of t → split / 4294967296 ≤ t.epoch
 split_epoch t split h = let m = mixed_small 0 t.counters (omega arith) in omega arith

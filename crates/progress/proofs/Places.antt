@@ -63,7 +63,7 @@ at_vertex es old new v t c a q = go q.location
         here (inl (x, y)) = rw x (subst (λ (i : ℕ). count (slice_index_or new i []) q.time ≡ cond (same_time q.time t) 1 0 + count (slice_index_or old i []) q.time) (sym y) (a q.time))
         here (inr (x, y)) = rw x (let e = ap (λ (b : Bag). count b q.time) (c.others d y) in omega arith)
 
--- an edge's pointstamp put in or taken out
+-- an edge's pointstamp is added or removed
 pub edge_adds : (old new vs : List Bag) (e : ℕ) (p : Pointstamp) → Location.edge e ≡ p.location → IsChangedAt old new e → Adds (slice_index_or old e []) (slice_index_or new e []) p.time 1 → AddsOne (times_at old vs) (times_at new vs) p
 edge_adds old new vs e p q c a = subst (λ (l : Location). AddsOne (times_at old vs) (times_at new vs) (stamp l p.time)) q (at_edge old new vs e p.time c a)
 
@@ -76,7 +76,7 @@ edge_takes old new vs e p q c a = edge_adds new old vs e p q (record { long = sy
 pub vertex_takes : (es old new : List Bag) (v : ℕ) (p : Pointstamp) → Location.vertex v ≡ p.location → IsChangedAt old new v → Adds (slice_index_or new v []) (slice_index_or old v []) p.time 1 → AddsOne (times_at es new) (times_at es old) p
 vertex_takes es old new v p q c a = vertex_adds es new old v p q (record { long = sym c.long; others = λ i n. sym (c.others i n) }) a
 
--- a write of one place
+-- one place is written
 pub changed_set : (old : List Bag) (n : ℕ) (b : Bag) → IsChangedAt old (slice_set old n b) n
 changed_set old n b = record { long = long old n; others = others old n }
   where

@@ -6,7 +6,7 @@ use Rattle.semantics.specs.Could.{Location, Pointstamp, IsTimeAt, CouldResultIn}
 use Rattle.machine.specs.Active.{one_if_same}
 use Rattle.progress.specs.Bag.{Bag, count}
 
--- how often it stands in a list
+-- how often a pointstamp is in a list
 abbrev pub times_in : List Pointstamp → Pointstamp → ℕ
 times_in active q = total (one_if_same q) active
 
@@ -15,7 +15,7 @@ abbrev pub bag_at : (edges vertices : List Bag) → Location → Bag
 bag_at edges vertices (Location.edge e) = slice_index_or edges e []
 bag_at edges vertices (Location.vertex v) = slice_index_or vertices v []
 
--- how often it is among these
+-- how often a pointstamp is among these
 abbrev pub times_at : (edges vertices : List Bag) → Pointstamp → ℕ
 times_at edges vertices q = count (bag_at edges vertices q.location) q.time
 
@@ -23,11 +23,11 @@ times_at edges vertices q = count (bag_at edges vertices q.location) q.time
 abbrev pub AllAt : Graph → (Pointstamp → ℕ) → Type 0
 AllAt g content = (q : Pointstamp) → 0 < content q → IsTimeAt g q.location q.time
 
--- none of these, or, where others are asked for, none that is different from p, could result in p
+-- none of these could result in p or, if `other`, none but p itself
 abbrev pub IsClear : Graph → (content : Pointstamp → ℕ) → Pointstamp → (other : Bool) → Type 0
 IsClear g content p other = (q : Pointstamp) → 0 < content q → (other ≡ true → q ≡ p → ⊥) → CouldResultIn g q p → ⊥
 
--- one of these could result in p; where others are asked for, one that is different from it
+-- one of these could result in p; if `other`, one that is different from p
 pub record IsBlocked (g : Graph) (content : Pointstamp → ℕ) (p : Pointstamp) (other : Bool) : Type 0 where
   pub by : Pointstamp
   pub active : 0 < content by

@@ -11,7 +11,7 @@ use Rattle.progress.specs.declared.counted.Counted.{Counted}
 abbrev pub occurrences_in : List Counted → Pointstamp → ℕ
 occurrences_in counted q = total (λ c. one_if_same q c.pointstamp * c.occurrences) counted
 
--- and all of them together
+-- the total of all occurrence counts
 abbrev pub all_occurrences : List Counted → ℕ
 all_occurrences counted = total (λ c. c.occurrences) counted
 
@@ -19,7 +19,7 @@ all_occurrences counted = total (λ c. c.occurrences) counted
 abbrev pub pointstamps : List Counted → List Pointstamp
 pointstamps counted = map (λ c. c.pointstamp) counted
 
--- a precursor of p is another that could result in it
+-- a precursor of p is another pointstamp that could result in it
 abbrev pub IsPrecursor : Graph → Pointstamp → Pointstamp → Type 0
 IsPrecursor g q p = (q ≡ p → ⊥) × CouldResultIn g q p
 
@@ -32,25 +32,25 @@ IsPrecursorCount g (q ∷ qs) p n = (IsPrecursor g q p × ((m : ℕ) × (n ≡ s
 abbrev pub AreKnown : Graph → List Counted → Type 0
 AreKnown g counted = (i : ℕ) (c : Counted) → slice_get counted i ≡ Some c → IsTimeAt g c.pointstamp.location c.pointstamp.time
 
--- each is active and stands once, and its precursor count is that among all of them
+-- each is active and occurs once in the list, and its precursor count is exact
 pub record AreExact (g : Graph) (counted : List Counted) : Type 0 where
   pub known : AreKnown g counted
   pub active : (i : ℕ) (c : Counted) → slice_get counted i ≡ Some c → 0 < c.occurrences
   pub once : (q : Pointstamp) → times_in (pointstamps counted) q ≤ 1
   pub precursors : (i : ℕ) (c : Counted) → slice_get counted i ≡ Some c → IsPrecursorCount g (pointstamps counted) c.pointstamp c.precursors
 
--- the same but for a precursor more, where p is one
+-- the same with p added to the precursor count, if p is a precursor
 pub record CountsPrecursor (g : Graph) (p : Pointstamp) (old new : Counted) : Type 0 where
   pub pointstamp : new.pointstamp ≡ old.pointstamp
   pub occurrences : new.occurrences ≡ old.occurrences
   pub precursors : (IsPrecursor g p old.pointstamp × (new.precursors ≡ suc old.precursors)) ⊎ ((IsPrecursor g p old.pointstamp → ⊥) × (new.precursors ≡ old.precursors))
 
--- so is each of them
+-- the same for each of them
 pub record AllCountPrecursor (g : Graph) (p : Pointstamp) (old new : List Counted) : Type 0 where
   pub same : pointstamps new ≡ pointstamps old
   pub each : (i : ℕ) (c d : Counted) → slice_get old i ≡ Some c → slice_get new i ≡ Some d → CountsPrecursor g p c d
 
--- p is active once more, and nothing else
+-- one more occurrence of p, and no other change
 pub record OccursOnceMore (p : Pointstamp) (old new : List Counted) : Type 0 where
   pub content : (q : Pointstamp) → occurrences_in new q ≡ one_if_same q p + occurrences_in old q
   pub all : all_occurrences new ≡ suc (all_occurrences old)

@@ -6,7 +6,7 @@ use Rattle.progress.specs.declared.tree.Node.TheVariants.{Leaf, Fork}
 use Rattle.progress.specs.declared.tree.Tree.TheDeep.{deep-Node}
 use Rattle.progress.specs.Bags.{bag_of}
 
--- no side is deeper than the node has entries
+-- no side is deeper than the node's number of entries
 pub deep_entries : (n : Node) → max (deep-Node n) 0 ≤ length (bag_of n)
 deep_entries Leaf = omega arith
 deep_entries (Fork left here split right) = omega (arith, length-append left.value right.value)

@@ -7,11 +7,11 @@ use Rattle.machine.specs.Active.{one_if_same}
 use Rattle.progress.specs.Bag.{Bag, count}
 use Rattle.progress.specs.Content.{AllAt, times_at}
 
--- it stands in the list
+-- a location is in the list
 abbrev pub Among : List Location → Location → Type 0
 Among ls l = (i : ℕ) × (slice_get ls i ≡ Some l)
 
--- some time is there
+-- the bag has a time
 abbrev pub HasSome : Bag → Type 0
 HasSome bag = (t : Time) × (0 < count bag t)
 
@@ -19,34 +19,34 @@ HasSome bag = (t : Time) × (0 < count bag t)
 abbrev pub stamp : Location → Time → Pointstamp
 stamp l t = record { time = t; location = l }
 
--- a tree for each edge and each vertex; what is active is known; where something is active is listed
+-- there is a tree for each edge and each vertex; what is active is known; and the locations where something is active are listed
 pub record IsKept (g : Graph) (edges vertices : List Bag) (listed : List Location) : Type 0 where
   pub edges_long : length edges ≡ edge_count g
   pub vertices_long : length vertices ≡ length g
   pub known : AllAt g (times_at edges vertices)
   pub where_active : (q : Pointstamp) → 0 < times_at edges vertices q → Among listed q.location
 
--- no time there, or, where others are asked for, none that makes another pointstamp, could result in p
+-- no time in the bag could result in p or, if `other`, none that makes another pointstamp than p
 abbrev pub IsClearAt : Graph → Bag → Location → Pointstamp → (other : Bool) → Type 0
 IsClearAt g bag l p other = (t : Time) → 0 < count bag t → (other ≡ true → stamp l t ≡ p → ⊥) → CouldResultIn g (stamp l t) p → ⊥
 
--- some time there does
+-- some time in the bag could
 pub record IsBlockedAt (g : Graph) (bag : Bag) (l : Location) (p : Pointstamp) (other : Bool) : Type 0 where
   pub by : Time
   pub active : 0 < count bag by
   pub differs : other ≡ true → stamp l by ≡ p → ⊥
   pub could : CouldResultIn g (stamp l by) p
 
--- p is active once more
+-- one more occurrence of p
 abbrev pub AddsOne : (old new : Pointstamp → ℕ) → Pointstamp → Type 0
 AddsOne old new p = (q : Pointstamp) → new q ≡ one_if_same q p + old q
 
--- there is a tree for the location
+-- the location has a tree
 abbrev pub IsIn : (edges vertices : ℕ) → Location → Type 0
 IsIn edges vertices (Location.edge e) = e < edges
 IsIn edges vertices (Location.vertex v) = v < vertices
 
--- the lists are as long, and differ only at that number
+-- the lists are equally long, and differ only at that number
 pub record IsChangedAt (old new : List Bag) (number : ℕ) : Type 0 where
   pub long : length new ≡ length old
   pub others : (i : ℕ) → (i ≡ number → ⊥) → slice_index_or new i [] ≡ slice_index_or old i []

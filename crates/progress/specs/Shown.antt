@@ -4,13 +4,13 @@ use Rattle.semantics.specs.Could.{Pointstamp}
 use Rattle.graph.specs.Shown.{GraphValue}
 use Rattle.progress.specs.Bag.{Bag}
 
--- of a list of active pointstamps
+-- a tracker with a list of active pointstamps
 pub record Listed : Type 0 where
   pub graph : GraphValue
   pub active : List Pointstamp
   pub spare : ℕ
 
--- of active times by location
+-- a tracker with active times by location
 pub record Located : Type 0 where
   pub graph : GraphValue
   pub edges : List Bag

@@ -1,4 +1,4 @@
--- What the parts of a search tree's changes do.
+-- What the parts of a change of a search tree do.
 use Rattle.std.specs.Prelude.{◌≡◌, ℕ, Option, Some, None}
 use Rattle.semantics.specs.Time.{Time}
 use Rattle.progress.specs.Times.{NoLater}
@@ -7,12 +7,12 @@ use Rattle.progress.specs.declared.tree.Entry.{Entry}
 use Rattle.progress.specs.declared.tree.Node.{Node}
 use Rattle.progress.specs.declared.tree.Node.TheVariants.{Leaf, Fork}
 
--- of two entries the one with the lesser counters stays, and the other goes on
+-- of two entries, the one with the lesser counters stays, and the other is passed on
 pub data IsSifted (old entry new rest : Entry) : Type 0 where
   stays : new ≡ old → rest ≡ entry → NoLater old.time entry.time → IsSifted old entry new rest
   swaps : new ≡ entry → rest ≡ old → NoLater entry.time old.time → IsSifted old entry new rest
 
--- what is on top of the first comes before all of the second; the second is empty where the first is
+-- the top of the first comes before all of the second; the second is empty if the first is
 pub record Leads (first second : Bag) : Type 0 where
   pub empty : top first ≡ None → IsNone second
   pub before : (t : Time) (n : ℕ) → top first ≡ Some (held t n) → IsFirst t second

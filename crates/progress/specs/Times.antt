@@ -1,4 +1,4 @@
--- Times in one number, by which they are spread over a tree.
+-- Times as one number, by which they are distributed over a tree.
 use Rattle.std.specs.Prelude.{◌≡◌, ◌⊎◌, ℕ, ◌+◌, ◌*◌, ◌^◌, ◌%◌, true, List, [], ◌∷◌}
 use Rattle.semantics.specs.Time.{Time, is_before}
 
@@ -11,6 +11,6 @@ mixed_from n (c ∷ cs) = mixed_from ((n * 31 + c) % (2 ^ 32)) cs
 abbrev pub key_of : Time → ℕ
 key_of t = t.epoch * 2 ^ 32 + mixed_from 0 t.counters
 
--- the first counters are the second, or stand before them
+-- the first counters are at or before the second
 abbrev pub NoLater : Time → Time → Type 0
 NoLater t u = (t.counters ≡ u.counters) ⊎ (is_before t.counters u.counters ≡ true)

@@ -1,4 +1,4 @@
-//! A list of changes and questions, over any tracker.
+//! Runs a list of changes and questions on any tracker.
 
 ghost use Rattle.std.specs.Prelude.{◌≡◌, ◌+◌, ◌<◌, ◌≤◌, ◌++◌, ℕ, IfOk, OnErr, OnOk, length, vec_capacity, vec_len};
 ghost use Rattle.semantics.specs.Could.{CouldResultIn, Pointstamp as Active};
@@ -9,8 +9,8 @@ use crate::progress::Progress;
 use expr_tree::NoMemory;
 use std::alloc::Global;
 
-/// Makes the changes in order, and answers each question by what is active at that point, as `in_frontier` does. All room is made
-/// first, so that after a refusal what is active is as before.
+/// Makes the changes in order, and answers each question as `in_frontier` does, from what is active at that point. Reserves all room first, so that
+/// after a refusal the active pointstamps are unchanged.
 pub fn changes<P: Progress>(
     alloc: Global,
     tracker: &mut P,
@@ -29,7 +29,7 @@ pub fn changes<P: Progress>(
     Ok(answers)
 }
 
-/// The room that is enough for all of them.
+/// Enough room for all of them.
 fn room_for(changes: &[Change]) -> Result<u32, NoMemory>
     ensures { IfOk result (λ n. n ≡ length changes.now) }
 {
@@ -39,7 +39,7 @@ fn room_for(changes: &[Change]) -> Result<u32, NoMemory>
     }
 }
 
-/// Makes the changes and answers the questions, where there is room for all.
+/// Makes the changes and answers the questions; there must be room for all.
 fn make<P: Progress>(tracker: &mut P, changes: &[Change], answers: &mut Vec<bool>)
     requires possible { ArePossible (P.graph tracker.old) (P.content tracker.old) changes.now }
     requires room { length changes.now ≤ P.room tracker.old }

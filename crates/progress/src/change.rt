@@ -1,8 +1,8 @@
-//! Changes of what is active, and questions.
+//! Changes of the active pointstamps, and questions.
 
 use path_summary::Pointstamp;
 
-/// A change of what is active, or the question whether a pointstamp is in the frontier.
+/// A change of the active pointstamps, or the question whether a pointstamp is in the frontier.
 #[derive(Drop)]
 pub enum Change {
     Add(Pointstamp),

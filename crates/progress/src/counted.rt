@@ -1,4 +1,4 @@
-//! Pointstamps with their occurrence and precursor counts, and how the counts follow what comes and goes.
+//! Pointstamps with their occurrence and precursor counts, kept up to date.
 
 ghost use Rattle.std.specs.Prelude.{◌≡◌, ◌<◌, ◌↔◌, ◌^◌, ◌-◌, ℕ, IsTrue, IfSome, IfNone, Some, true, false, length, slice_get, vec_capacity, vec_len};
 ghost use Rattle.graph.specs.Shown.{shown_graph};
@@ -10,7 +10,7 @@ ghost use Rattle.progress.specs.declared.counted.Counted.{Counted as Declared};
 
 use path_summary::{Paths, Pointstamp};
 
-/// An active pointstamp, how often it is active, and how many others that are active could result in it.
+/// An active pointstamp, how often it is active, and how many other active pointstamps could result in it.
 #[derive(Drop)]
 pub struct Counted {
     pub pointstamp: Pointstamp,
@@ -18,7 +18,7 @@ pub struct Counted {
     pub precursors: usize,
 }
 
-/// Where it stands.
+/// The place of a pointstamp in the list.
 pub fn place_of(active: &[Counted], p: &Pointstamp) -> Option<usize>
     ensures some { IfSome result (λ i. slice_get (pointstamps active.now) i ≡ Some p.now) }
     ensures none { IfNone result (occurrences_in active.now p.now ≡ 0) }
@@ -31,7 +31,7 @@ pub fn place_of(active: &[Counted], p: &Pointstamp) -> Option<usize>
     None
 }
 
-/// Whether none of these could result in `p`, itself included.
+/// Whether none of these, `p` included, could result in `p`.
 pub fn is_clear(paths: &Paths, active: &[Counted], p: &Pointstamp) -> bool
     requires known { IsTimeAt (shown_graph paths.now) p.now.location p.now.time }
     requires exact { AreExact (shown_graph paths.now) active.now }
@@ -46,7 +46,7 @@ pub fn is_clear(paths: &Paths, active: &[Counted], p: &Pointstamp) -> bool
     true
 }
 
-/// It is active once more.
+/// Adds one occurrence of `p`.
 pub fn put(paths: &Paths, active: &mut Vec<Counted>, p: &Pointstamp)
     requires known { IsTimeAt (shown_graph paths.now) p.now.location p.now.time }
     requires exact { AreExact (shown_graph paths.now) active.old.items }
@@ -61,7 +61,7 @@ pub fn put(paths: &Paths, active: &mut Vec<Counted>, p: &Pointstamp)
     }
 }
 
-/// It is active once less.
+/// Removes one occurrence of `p`.
 pub fn take(paths: &Paths, active: &mut Vec<Counted>, p: &Pointstamp)
     requires exact { AreExact (shown_graph paths.now) active.old.items }
     requires there { 0 < occurrences_in active.old.items p.now }
@@ -78,7 +78,7 @@ pub fn take(paths: &Paths, active: &mut Vec<Counted>, p: &Pointstamp)
     }
 }
 
-/// The one at that place is active once more.
+/// Adds one occurrence of the pointstamp at that place.
 fn occur_again(active: &mut Vec<Counted>, place: usize)
     requires there { place < length active.old.items }
     requires room { all_occurrences active.old.items < 2 ^ 64 - 1 }
@@ -90,7 +90,7 @@ fn occur_again(active: &mut Vec<Counted>, place: usize)
     counted.occurrences += 1;
 }
 
-/// The one at that place is active once less, and still active.
+/// Removes one occurrence of the pointstamp at that place, which has more.
 fn occur_less(active: &mut Vec<Counted>, place: usize)
     requires there { place < length active.old.items }
     requires again { (c : Declared) → slice_get active.old.items place ≡ Some c → 1 < c.occurrences }
@@ -102,7 +102,7 @@ fn occur_less(active: &mut Vec<Counted>, place: usize)
     counted.occurrences -= 1;
 }
 
-/// It comes to be active, which it was not.
+/// Adds the first occurrence of `p`.
 fn enter(paths: &Paths, active: &mut Vec<Counted>, p: &Pointstamp)
     requires known { IsTimeAt (shown_graph paths.now) p.now.location p.now.time }
     requires exact { AreExact (shown_graph paths.now) active.old.items }
@@ -121,7 +121,7 @@ fn enter(paths: &Paths, active: &mut Vec<Counted>, p: &Pointstamp)
     });
 }
 
-/// The one at that place, which is `p` and active once, is active no more.
+/// Removes the only occurrence of `p`, which is at that place.
 fn leave(paths: &Paths, active: &mut Vec<Counted>, p: &Pointstamp, place: usize)
     requires exact { AreExact (shown_graph paths.now) active.old.items }
     requires there { slice_get (pointstamps active.old.items) place ≡ Some p.now }
@@ -134,7 +134,7 @@ fn leave(paths: &Paths, active: &mut Vec<Counted>, p: &Pointstamp, place: usize)
     remove_precursor(paths, active, p);
 }
 
-/// How many of these are precursors of `p`.
+/// The number of these that are precursors of `p`.
 fn precursor_count(paths: &Paths, active: &[Counted], p: &Pointstamp) -> usize
     requires known { IsTimeAt (shown_graph paths.now) p.now.location p.now.time }
     requires all { AreKnown (shown_graph paths.now) active.now }
@@ -149,7 +149,7 @@ fn precursor_count(paths: &Paths, active: &[Counted], p: &Pointstamp) -> usize
     count
 }
 
-/// Counts `p` once more as a precursor of each of which it is one.
+/// Adds `p` to the precursor count of each pointstamp of which it is a precursor.
 fn add_precursor(paths: &Paths, active: &mut Vec<Counted>, p: &Pointstamp)
     requires known { IsTimeAt (shown_graph paths.now) p.now.location p.now.time }
     requires all { AreKnown (shown_graph paths.now) active.old.items }
@@ -164,7 +164,7 @@ fn add_precursor(paths: &Paths, active: &mut Vec<Counted>, p: &Pointstamp)
     }
 }
 
-/// Counts `p` once less as a precursor of each of which it is one.
+/// Subtracts `p` from the precursor count of each pointstamp of which it is a precursor.
 fn remove_precursor(paths: &Paths, active: &mut Vec<Counted>, p: &Pointstamp)
     requires known { IsTimeAt (shown_graph paths.now) p.now.location p.now.time }
     requires all { AreKnown (shown_graph paths.now) active.old.items }
@@ -178,7 +178,7 @@ fn remove_precursor(paths: &Paths, active: &mut Vec<Counted>, p: &Pointstamp)
     }
 }
 
-/// Counts `p` once more, where it is a precursor.
+/// Adds `p` to one precursor count, if it is a precursor.
 fn count_precursor(paths: &Paths, counted: &mut Counted, p: &Pointstamp)
     requires from { IsTimeAt (shown_graph paths.now) p.now.location p.now.time }
     requires to { IsTimeAt (shown_graph paths.now) counted.old.pointstamp.location counted.old.pointstamp.time }
@@ -190,7 +190,7 @@ fn count_precursor(paths: &Paths, counted: &mut Counted, p: &Pointstamp)
     }
 }
 
-/// Counts `p` once less, where it is a precursor.
+/// Subtracts `p` from one precursor count, if it is a precursor.
 fn discount_precursor(paths: &Paths, counted: &mut Counted, p: &Pointstamp)
     requires from { IsTimeAt (shown_graph paths.now) p.now.location p.now.time }
     requires to { IsTimeAt (shown_graph paths.now) counted.old.pointstamp.location counted.old.pointstamp.time }

@@ -1,4 +1,4 @@
-//! A tracker that keeps how many active pointstamps come before each.
+//! A tracker that keeps precursor counts.
 
 ghost use Rattle.std.specs.Prelude.{◌≡◌, ◌+◌, ◌<◌, ◌≤◌, ◌↔◌, ℕ, [], IsTrue, OnOk, vec_capacity, vec_len};
 ghost use Rattle.graph.specs.Shown.{shown_graph};
@@ -13,9 +13,8 @@ use std::alloc::Global;
 use std::marker::Model;
 use std::sync::Arc;
 
-/// A tracker that keeps for each active pointstamp its occurrence count and its precursor count: how often it is active, and how
-/// many others that are active could result in it. The frontier are those without a precursor. What comes or goes changes the
-/// precursor counts of the others.
+/// A tracker that keeps for each active pointstamp its occurrence count, how often it is active, and its precursor count, how many other active
+/// pointstamps could result in it. The frontier is those without a precursor. An addition or a removal updates the precursor counts of the others.
 #[derive(Drop)]
 pub struct CountTracker {
     paths: Arc<Paths, Global>,
@@ -45,7 +44,7 @@ impl Model for CountTracker {
 }
 
 impl CountTracker {
-    /// None is active.
+    /// A tracker in which nothing is active.
     pub fn new(alloc: Global, paths: Arc<Paths, Global>) -> CountTracker
         ensures { result ≡ record { graph = paths.value; active = []; spare = 0 } }
     {
@@ -57,7 +56,7 @@ impl CountTracker {
         }
     }
 
-    /// Both counts of each active pointstamp are exact.
+    /// Both counts of each active pointstamp are exact. Nothing is done.
     pub fn law_of_counts(&self)
         ensures { AreExact (shown_graph self.now.graph) self.now.active }
     {

@@ -1,10 +1,10 @@
 //! Trackers of progress: multisets of active pointstamps that answer what can still come.
 //!
-//! The contract for the layers above: `Progress`, whose answers are exact by the multiset of active pointstamps. `PlainTracker` asks
-//! each of these; `LocationTracker` asks one time of each location; `CountTracker` keeps how many of the others come before each.
+//! The contract for the layers above: `Progress`, whose answers are exact for the multiset of active pointstamps. `PlainTracker` checks every active
+//! pointstamp; `LocationTracker` checks one time of each location; `CountTracker` keeps for each the number of others that could result in it.
 //!
-//! `changes` runs a list of changes and questions over any of them. Below stand `machine` and
-//! `path_summary`, with what it stands on; views and the board use trackers.
+//! `changes` runs a list of changes and questions on any of them. Built on `machine`, `path_summary` and the crates below the latter; views and the
+//! board use trackers.
 #![tactic(auto)]
 
 mod asking;

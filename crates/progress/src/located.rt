@@ -1,4 +1,4 @@
-//! A tracker by location, which asks one time of each.
+//! A tracker by location, which checks one time of each.
 
 ghost use Rattle.std.specs.Prelude.{◌≡◌, ◌+◌, ◌<◌, ◌≤◌, ◌↔◌, ◌∷◌, ◌++◌, ℕ, List, [], IsTrue, IfOk, IfSome, IfNone, OnOk, Some, None, true, false, length, map, slice_get, slice_index_or, slice_set, vec_capacity, vec_len};
 ghost use Rattle.graph.specs.Locations.{location_of};
@@ -19,11 +19,11 @@ use std::alloc::Global;
 use std::marker::Model;
 use std::sync::Arc;
 
-/// How many rooms of forks that are gone are used again.
+/// The most rooms of removed forks that are kept for reuse.
 const ROOMS: usize = 512;
 
-/// A tracker that keeps the active times of each location in order. A question asks, at each location where something is active, one
-/// time: of those in no later epoch one with the least counters.
+/// A tracker that keeps the active times of each location in order. A question checks one time at each location where something is active: one with
+/// the least counters among those in no later epoch.
 #[derive(Drop)]
 pub struct LocationTracker {
     alloc: Global,
@@ -57,7 +57,7 @@ impl Model for LocationTracker {
 }
 
 impl LocationTracker {
-    /// None is active.
+    /// A tracker in which nothing is active.
     pub fn new(alloc: Global, paths: Arc<Paths, Global>) -> Result<LocationTracker, NoMemory>
         ensures graph { IfOk result (λ t. t.graph ≡ paths.value) }
         ensures none { IfOk result (λ t. (q : Active) → times_at t.edges t.vertices q ≡ 0) }
@@ -142,7 +142,7 @@ impl Progress for LocationTracker {
     }
 }
 
-/// So many trees without a time.
+/// That many empty trees.
 fn empty_trees(alloc: Global, count: usize) -> Result<Vec<Tree>, NoMemory>
     ensures long { IfOk result (λ ts. length ts.items ≡ count) }
     ensures empty { IfOk result (λ ts. (i : ℕ) → slice_index_or ts.items i [] ≡ []) }
@@ -154,7 +154,7 @@ fn empty_trees(alloc: Global, count: usize) -> Result<Vec<Tree>, NoMemory>
     Ok(trees)
 }
 
-/// Room for so many entries in all.
+/// Makes room for `count` entries in all.
 fn make_rooms(alloc: Global, rooms: &mut Vec<Room>, count: u32) -> Result<(), NoMemory>
     ensures more { length rooms.old.items ≤ length rooms.new.items }
     ensures room { OnOk result (count ≤ length rooms.new.items) }
@@ -168,7 +168,7 @@ fn make_rooms(alloc: Global, rooms: &mut Vec<Room>, count: u32) -> Result<(), No
     Ok(())
 }
 
-/// The tree of a location, where there is one.
+/// The tree of a location, if there is one.
 fn tree_at<'a>(edges: &'a [Tree], vertices: &'a [Tree], location: Location) -> Option<&'a Tree>
     ensures some { IfSome result (λ t. t.now ≡ bag_at edges.now vertices.now (location_of location)) }
     ensures none { IfNone result (bag_at edges.now vertices.now (location_of location) ≡ []) }
@@ -179,7 +179,7 @@ fn tree_at<'a>(edges: &'a [Tree], vertices: &'a [Tree], location: Location) -> O
     }
 }
 
-/// Whether nothing is active there.
+/// Whether nothing is active at the location.
 fn is_empty_at(edges: &[Tree], vertices: &[Tree], location: Location) -> bool
     ensures empty { result ≡ true → IsNone (bag_at edges.now vertices.now (location_of location)) }
     ensures some { result ≡ false → HasSome (bag_at edges.now vertices.now (location_of location)) }
@@ -190,7 +190,7 @@ fn is_empty_at(edges: &[Tree], vertices: &[Tree], location: Location) -> bool
     }
 }
 
-/// Whether one of the trees has it.
+/// Whether the tree of its location has `p`.
 fn is_among(edges: &[Tree], vertices: &[Tree], p: &Pointstamp) -> bool
     ensures { IsTrue result ↔ (0 < times_at edges.now vertices.now p.now) }
 {
@@ -200,7 +200,7 @@ fn is_among(edges: &[Tree], vertices: &[Tree], p: &Pointstamp) -> bool
     }
 }
 
-/// It is active once more.
+/// Adds one occurrence of `p`.
 fn put(edges: &mut Vec<Tree>, vertices: &mut Vec<Tree>, p: &Pointstamp, rooms: &mut Vec<Room>)
     requires known { IsIn (length edges.old.items) (length vertices.old.items) p.now.location }
     requires room { 0 < length rooms.old.items }
@@ -215,7 +215,7 @@ fn put(edges: &mut Vec<Tree>, vertices: &mut Vec<Tree>, p: &Pointstamp, rooms: &
     }
 }
 
-/// A time is there once more in the tree of that number.
+/// Adds one occurrence of a time to the tree of that number.
 fn add_at(trees: &mut Vec<Tree>, number: u32, time: &Time, rooms: &mut Vec<Room>)
     requires there { number < length trees.old.items }
     requires room { 0 < length rooms.old.items }
@@ -231,7 +231,7 @@ fn add_at(trees: &mut Vec<Tree>, number: u32, time: &Time, rooms: &mut Vec<Room>
     tree.add(entry, Range::WHOLE, rooms);
 }
 
-/// It is active once less.
+/// Removes one occurrence of `p`.
 fn take(edges: &mut Vec<Tree>, vertices: &mut Vec<Tree>, p: &Pointstamp, rooms: &mut Vec<Room>)
     requires known { IsIn (length edges.old.items) (length vertices.old.items) p.now.location }
     requires active { 0 < times_at edges.old.items vertices.old.items p.now }
@@ -246,7 +246,7 @@ fn take(edges: &mut Vec<Tree>, vertices: &mut Vec<Tree>, p: &Pointstamp, rooms: 
     }
 }
 
-/// A time is there once less in the tree of that number.
+/// Removes one occurrence of a time from the tree of that number.
 fn remove_at(trees: &mut Vec<Tree>, number: u32, time: &Time, rooms: &mut Vec<Room>)
     requires there { number < length trees.old.items }
     requires active { 0 < count (slice_index_or trees.old.items number []) time.now }
@@ -258,7 +258,7 @@ fn remove_at(trees: &mut Vec<Tree>, number: u32, time: &Time, rooms: &mut Vec<Ro
     tree.remove(time, rooms);
 }
 
-/// Puts a location into the list, where it is fresh.
+/// Adds a location to the list if it is fresh.
 fn list(listed: &mut Vec<Location>, location: Location, fresh: bool)
     requires { vec_len listed.old < vec_capacity listed.old }
     ensures fresh { fresh ≡ true → Among (map location_of listed.new.items) (location_of location) }
@@ -271,7 +271,7 @@ fn list(listed: &mut Vec<Location>, location: Location, fresh: bool)
     }
 }
 
-/// Takes a location out of the list, where nothing is active there any more.
+/// Removes a location from the list if nothing is active there any more.
 fn unlist(listed: &mut Vec<Location>, location: Location, empty: bool)
     ensures still { (l : Place) → (empty ≡ true → l ≡ location_of location → ⊥) → Among (map location_of listed.old.items) l → Among (map location_of listed.new.items) l }
     ensures fewer { vec_len listed.new ≤ vec_len listed.old }
@@ -285,7 +285,7 @@ fn unlist(listed: &mut Vec<Location>, location: Location, empty: bool)
     }
 }
 
-/// Where it stands in the list.
+/// The place of a location in the list.
 fn place_of(listed: &[Location], location: Location) -> Option<usize>
     ensures { IfSome result (λ i. slice_get (map location_of listed.now) i ≡ Some (location_of location)) }
 {
@@ -297,7 +297,7 @@ fn place_of(listed: &[Location], location: Location) -> Option<usize>
     None
 }
 
-/// The location of that place in the list.
+/// The location at that place in the list.
 #[tactic(auto, using(crate::proofs::Places::get_mapped))]
 fn location_at(listed: &[Location], place: usize) -> Location
     requires { place < length listed.now }
@@ -306,7 +306,7 @@ fn location_at(listed: &[Location], place: usize) -> Location
     listed[place]
 }
 
-/// Whether nothing that is active could result in `p`; where `other`, nothing that is different from it.
+/// Whether nothing active could result in `p`; if `other`, nothing but `p` itself.
 fn is_clear(
     paths: &Paths,
     edges: &[Tree],
@@ -329,7 +329,7 @@ fn is_clear(
     true
 }
 
-/// The same of what is active at one location.
+/// As `is_clear`, for what is active at one location.
 fn is_clear_at(
     paths: &Paths,
     edges: &[Tree],
@@ -349,7 +349,7 @@ fn is_clear_at(
     }
 }
 
-/// Whether none of these times of a location could result in `p`. One is asked.
+/// Whether none of these times of a location could result in `p`. Checks one of them.
 fn is_clear_in(paths: &Paths, tree: &Tree, location: Location, p: &Pointstamp, other: bool) -> bool
     requires to { IsTimeAt (shown_graph paths.now) p.now.location p.now.time }
     requires known { (t : Instant) → 0 < count tree.now t → IsTimeAt (shown_graph paths.now) (location_of location) t }
@@ -364,7 +364,7 @@ fn is_clear_in(paths: &Paths, tree: &Tree, location: Location, p: &Pointstamp, o
     }
 }
 
-/// Whether others are asked for and `p` is at that location.
+/// Whether `p` itself is excepted and is at that location.
 fn is_excepting(location: Location, p: &Pointstamp, other: bool) -> bool
     ensures { IsTrue result ↔ ((other ≡ true) × (location_of location ≡ p.now.location)) }
 {

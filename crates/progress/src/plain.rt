@@ -1,4 +1,4 @@
-//! A tracker that asks each active pointstamp.
+//! A tracker that checks every active pointstamp.
 
 ghost use Rattle.std.specs.Prelude.{◌≡◌, ◌+◌, ◌<◌, ◌≤◌, ◌↔◌, ◌∷◌, ◌++◌, ℕ, List, [], IsTrue, IfSome, IfNone, Some, true, false, length, remove, slice_get, vec_capacity, vec_len};
 ghost use Rattle.graph.specs.Shown.{shown_graph};
@@ -41,7 +41,7 @@ impl Model for PlainTracker {
 }
 
 impl PlainTracker {
-    /// None is active.
+    /// A tracker in which nothing is active.
     pub fn new(alloc: Global, paths: Arc<Paths, Global>) -> PlainTracker
         ensures { result ≡ record { graph = paths.value; active = []; spare = 0 } }
     {
@@ -54,7 +54,7 @@ impl PlainTracker {
 }
 
 impl PlainTracker {
-    /// Whether it is active.
+    /// Whether `p` is active.
     #[tactic(auto, using(crate::proofs::Contents::times_got))]
     pub fn is_active(&self, p: &Pointstamp) -> bool
         ensures { IsTrue result ↔ (0 < times_in self.now.active p.now) }
@@ -102,7 +102,7 @@ impl Progress for PlainTracker {
     }
 }
 
-/// Where it stands.
+/// The place of `p` in the list.
 fn place_of(active: &[Pointstamp], p: &Pointstamp) -> Option<usize>
     ensures some { IfSome result (λ i. slice_get active.now i ≡ Some p.now) }
     ensures none { IfNone result (times_in active.now p.now ≡ 0) }
@@ -115,7 +115,7 @@ fn place_of(active: &[Pointstamp], p: &Pointstamp) -> Option<usize>
     None
 }
 
-/// Whether none of these could result in `p`; where `other`, none that is different from it.
+/// Whether none of these could result in `p`; if `other`, none but `p` itself.
 fn is_clear(paths: &Paths, active: &[Pointstamp], p: &Pointstamp, other: bool) -> bool
     requires known { IsTimeAt (shown_graph paths.now) p.now.location p.now.time }
     requires all { AllAt (shown_graph paths.now) (times_in active.now) }
@@ -130,7 +130,7 @@ fn is_clear(paths: &Paths, active: &[Pointstamp], p: &Pointstamp, other: bool) -
     true
 }
 
-/// Whether `q` could result in `p`, and, where `other`, is different from it.
+/// Whether `q` could result in `p` and, if `other`, is different from it.
 fn blocks(paths: &Paths, q: &Pointstamp, p: &Pointstamp, other: bool) -> bool
     requires from { IsTimeAt (shown_graph paths.now) q.now.location q.now.time }
     requires to { IsTimeAt (shown_graph paths.now) p.now.location p.now.time }

@@ -1,6 +1,6 @@
-//! The active times of one location, with counts, in a search tree: each subtree has on top the least counters of all its times, and
-//! parts the others by epoch and counters, such that the next epochs are soon apart. A fork with an empty side goes with its entry. So it
-//! is at most some 90 deep, but for times of one key, and what is asked lies on one way down.
+//! The active times of one location, with counts, in a search tree. The top of each subtree has the least counters of all its times. A subtree
+//! divides the others by epoch and counters, so that the next epochs are soon in different parts. A fork with an empty side is removed together with
+//! its entry. So the tree is at most about 90 deep, except for times of one key, and a question follows one path down.
 
 ghost use Rattle.std.specs.Prelude.{◌≡◌, ◌≤◌, ◌<◌, ◌+◌, ◌^◌, ◌↔◌, [], ℕ, Some, None, true, false, IsTrue, IfSome, IfNone, length};
 ghost use Rattle.progress.specs.Bag.{Adds, IsAsked, IsFirst, IsLeast, IsNone, IsNoneAsked, count, held, top, with_times};
@@ -13,21 +13,21 @@ use loop_context::Time;
 use std::marker::Model;
 use std::mem;
 
-/// A time, and how often it is there.
+/// A time, and how often it is active.
 #[derive(Drop)]
 pub struct Entry {
     pub time: Time,
     pub count: u32,
 }
 
-/// Room for one entry more.
+/// Room for one more entry.
 #[derive(Drop)]
 pub struct Room {
     pub left: Box<Tree>,
     pub right: Box<Tree>,
 }
 
-/// Keys from `low` up to `high`, and the greatest distance, one less than a power of 2, at which keys lie near one another.
+/// Keys from `low` up to `high`, and the greatest distance, one less than a power of 2, at which keys count as near each other.
 #[derive(Clone, Copy)]
 pub struct Range {
     low: u64,
@@ -36,7 +36,7 @@ pub struct Range {
 }
 
 impl Range {
-    /// All keys. Those of 256 epochs lie near one another.
+    /// All keys. Those of 256 epochs count as near each other.
     pub const WHOLE: Range = Range {
         low: 0,
         high: u64::MAX,
@@ -52,8 +52,8 @@ impl Range {
             .saturating_add(self.high.saturating_sub(self.low) / 2)
     }
 
-    /// Where a fork that comes there with a key parts the range: where it is wide, at an end of the keys near this one, since what
-    /// comes next most likely lies there; else in the middle.
+    /// The key at which a new fork divides the range. A wide range is divided at an end of the keys near this one, since the next keys most likely
+    /// fall there; any other in the middle.
     fn split(&self, key: u64) -> u64 {
         let end = (key | self.near).saturating_add(1);
         let start = key & !self.near;
@@ -68,7 +68,7 @@ impl Range {
         }
     }
 
-    /// The same distance in a part of the range: twice as great where it is wide, so that few wide ranges lie in one another.
+    /// The near distance for a part of the range: twice as great for a wide range, so that few wide ranges are nested.
     fn near_below(&self) -> u64 {
         if self.is_wide() {
             self.near.saturating_mul(2) | 1
@@ -101,7 +101,7 @@ pub struct Tree {
     node: Node,
 }
 
-/// A fork has an entry, and the number that parts the keys on its left from those on its right.
+/// A fork has an entry, and the number that separates the keys on its left from those on its right.
 #[cycle(tree)]
 #[derive(Drop)]
 enum Node {
@@ -130,7 +130,7 @@ impl Model for Tree {
 }
 
 impl Tree {
-    /// No time.
+    /// An empty tree.
     pub fn new() -> Tree
         ensures { result ≡ [] }
     {
@@ -150,7 +150,7 @@ impl Tree {
         }
     }
 
-    /// Whether there is no time.
+    /// Whether the tree has no time.
     pub fn is_empty(&self) -> bool
         ensures empty { result ≡ true → IsNone self.now }
         ensures some { result ≡ false → HasSome self.now }
@@ -161,7 +161,7 @@ impl Tree {
         }
     }
 
-    /// Puts an entry in. Room is taken only where no entry of its time has a count to raise.
+    /// Adds an entry. Uses a room only if the tree has no entry of its time whose count could be raised.
     pub fn add(&mut self, entry: Entry, range: Range, rooms: &mut Vec<Room>)
         requires some { 0 < entry.count }
         requires room { 0 < length rooms.old.items }
@@ -192,7 +192,7 @@ impl Tree {
         }
     }
 
-    /// Takes the top out where a side has no time: the other side moves up. Else nothing changes.
+    /// Removes the top of a fork with an empty side: the other side moves up. Otherwise nothing changes.
     fn lift(&mut self, rooms: &mut Vec<Room>) -> Option<Entry>
         ensures none { IfNone result (self.new ≡ self.old) }
         ensures top { IfSome result (λ e. top self.old ≡ Some (held e.time e.count)) }
@@ -223,7 +223,7 @@ impl Tree {
         }
     }
 
-    /// Whether it is a fork of which a side has no time.
+    /// Whether this is a fork with an empty side.
     fn is_one_sided(&self) -> bool {
         match &self.node {
             Node::Leaf => false,
@@ -231,7 +231,7 @@ impl Tree {
         }
     }
 
-    /// Takes the entry with the least counters out.
+    /// Removes the entry with the least counters, and gives it.
     pub fn pull(&mut self, rooms: &mut Vec<Room>) -> Option<Entry>
         ensures none { IfNone result (IsNone self.old × (top self.old ≡ None)) }
         ensures still { IfNone result (IsNone self.new) }
@@ -262,7 +262,7 @@ impl Tree {
         }
     }
 
-    /// Takes a time out once.
+    /// Removes one occurrence of a time.
     pub fn remove(&mut self, time: &Time, rooms: &mut Vec<Room>)
         requires { 0 < count self.old time.now }
         ensures removed { Adds self.new self.old time.now 1 }
@@ -304,8 +304,7 @@ impl Tree {
         }
     }
 
-    /// Of the times whose epoch is at most that of `until`, and which, where `other`, are different from it, one with the least
-    /// counters.
+    /// A time with the least counters, among those in no later epoch than `until` and, if `other`, different from it.
     pub fn least(&self, until: &Time, other: bool) -> Option<&Time>
         ensures none { IfNone result (IsNoneAsked self.now until.now other) }
         ensures some { IfSome result (λ t. IsLeast self.now until.now other t.now) }
@@ -339,7 +338,7 @@ impl Tree {
     }
 }
 
-/// Keeps the room of a fork that is gone, where it needs no memory.
+/// Keeps the room of a removed fork for reuse, if that takes no memory.
 fn keep(rooms: &mut Vec<Room>, left: Box<Tree>, right: Box<Tree>)
     ensures { length rooms.old.items ≤ length rooms.new.items }
 {
@@ -373,7 +372,7 @@ fn entry_of(node: Node) -> Option<Entry>
     }
 }
 
-/// Leaves the entry with the lesser counters here, and gives the other.
+/// Keeps the entry with the lesser counters here, and gives the other.
 fn sift(here: &mut Entry, entry: Entry) -> Entry
     ensures { IsSifted here.old entry here.new result }
 {
@@ -384,7 +383,7 @@ fn sift(here: &mut Entry, entry: Entry) -> Entry
     }
 }
 
-/// Whether what comes next is on the left.
+/// Whether the entry to move up next is on the left.
 fn leads(left: &Tree, right: &Tree) -> bool
     ensures left { result ≡ true → Leads left.now right.now }
     ensures right { result ≡ false → Leads right.now left.now }
@@ -398,14 +397,14 @@ fn leads(left: &Tree, right: &Tree) -> bool
     }
 }
 
-/// Whether a time is in no later epoch, and, where `other`, is different.
+/// Whether a time is in no later epoch than `until` and, if `other`, different from it.
 fn is_asked(time: &Time, until: &Time, other: bool) -> bool
     ensures { IsTrue result ↔ IsAsked until.now other time.now }
 {
     time.epoch() <= until.epoch() && !(other && time == until)
 }
 
-/// The number by which times are spread: the epoch, then the counters mixed.
+/// The number by which times are distributed over the tree: the epoch, then the mixed counters.
 fn key(time: &Time) -> u64
     ensures { result ≡ key_of time.now }
 {

@@ -1,4 +1,4 @@
--- The table of keywords: where each stands, and what a search through a part of it tells.
+-- The table of keywords: the place of each, and what a search through a part of it shows.
 use Rattle.std.proofs.Common.{◌≡◌, ◌≢◌, ◌<◌, ◌+◌, ◌∙◌, ℕ, List, [], ◌∷◌, true, false, Some, refl, sym, ap, arith, get_or, inl, inr, cond}
 use Rattle.std.specs.Prelude.{slice_get}
 use Rattle.std.specs.Str.{bytes_eq}
@@ -25,7 +25,7 @@ not_there ks word text n before e f k i lt at is = elim (cases_lt i n) [
       differs text word f (e ∙ ap (λ (j : ℕ). keyword_text (get_or ks j Input)) (sym same) ∙ ap keyword_text here ∙ sym is)
 ]
 
--- where a keyword stands in the table
+-- the place of a keyword in the table
 pub place : (k : Keyword) → (i : ℕ) × (i < 20) × (slice_get KEYWORDS i ≡ Some k)
 place Input = (0, omega arith, refl)
 place Let = (1, omega arith, refl)

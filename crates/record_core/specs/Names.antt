@@ -44,7 +44,7 @@ keyword_text keyword.Or = codes "or"
 keyword_text keyword.Not = codes "not"
 keyword_text keyword.Epoch = codes "epoch"
 
--- a letter, then letters, digits and underscores; at most 32 bytes, and no keyword
+-- a letter, then letters, digits and underscores; at most 32 bytes, and not a keyword
 pub record IsName (bytes : List ℕ) : Type 0 where
   pub begins : IsTrue (begins_name bytes)
   pub goes_on : IsTrue (list_all is_name_byte bytes)

@@ -9,11 +9,11 @@ use Rattle.std.specs.Ordering.{int_cmp, int_eq}
 abbrev pub IsRecord : List ℤ → Type 0
 IsRecord fields = (1 ≤ length fields) × (length fields ≤ 16)
 
--- as many fields, and each equal to its fellow
+-- as many fields, each equal to the one at its place
 abbrev pub fields_eq : List ℤ → List ℤ → Bool
 fields_eq = pointwise int_eq
 
--- by the first field that differs, and a list before those that go on from it
+-- by the first field that differs; a list comes before its extensions
 abbrev pub fields_cmp : List ℤ → List ℤ → Ordering
 fields_cmp = slice_cmp int_cmp
 

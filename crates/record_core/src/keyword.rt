@@ -1,9 +1,9 @@
-//! Keywords.
+//! The keywords of the language.
 
 ghost use Rattle.std.specs.Prelude.{◌≡◌, ◌≢◌, IfSome, IfNone};
 ghost use Rattle.record_core.specs.Names.{keyword_text};
 
-/// A word of the language that is no name. `epoch` stands in no query; it begins an epoch of an input text.
+/// A word of the language that can't be a name. `epoch` isn't used in queries; it begins an epoch of an input text.
 #[derive(Clone, Copy, Debug, PartialEq, Eq)]
 pub enum Keyword {
     Input,
@@ -52,7 +52,7 @@ const KEYWORDS: [Keyword; 20] = [
 ];
 
 impl Keyword {
-    /// How it is spelled.
+    /// The spelling of the keyword.
     pub fn text(self) -> &'static [u8]
         ensures { result.now ≡ keyword_text self }
     {
@@ -80,7 +80,7 @@ impl Keyword {
         }
     }
 
-    /// The keyword that the word is.
+    /// The keyword with that spelling, if there is one.
     pub fn of(word: &[u8]) -> Option<Keyword>
         ensures found { IfSome result (λ k. word.now ≡ keyword_text k) }
         ensures none { IfNone result ((k : Keyword) → word.now ≢ keyword_text k) }

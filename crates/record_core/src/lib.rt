@@ -1,7 +1,7 @@
-//! What every layer speaks of: records, names, keywords, places in a text, refusals.
+//! The common types of all layers: records, names, keywords, places in a text, refusals.
 //!
-//! The contract for the layers above: a record is its list of fields, a name its list of bytes, and both compare, order and
-//! hash as those lists do. Nothing here takes memory. Below stands `arrayvec`.
+//! The contract for the layers above: a record is its list of fields, a name is its list of bytes, and both compare, order and hash like those lists.
+//! Nothing here takes memory. Built on `arrayvec`.
 #![tactic(auto)]
 
 mod keyword;

@@ -1,4 +1,4 @@
-//! Names.
+//! The type of names.
 
 ghost use Rattle.std.specs.Prelude.{⊤, ◌≡◌, ◌↔◌, IsTrue, Some, SomeIff, refl};
 ghost use Rattle.std.specs.Cmp.{nat_eq_equiv, partial_equiv_from_equiv};
@@ -18,8 +18,8 @@ use std::cmp::Ordering;
 use std::hash::{Hash, Hasher};
 use std::marker::Model;
 
-/// A name: a letter `a` to `z`, then letters, digits and `_`; 1 to 32 bytes in all, and no keyword. It is equal, ordered and
-/// hashed as its list of bytes is.
+/// A name: a letter `a` to `z`, then letters, digits and `_`; 1 to 32 bytes in all, and not a keyword. It compares, orders and hashes like its list
+/// of bytes.
 #[derive(Drop, Debug)]
 pub struct Name {
     bytes: ArrayVec<u8, 32>,
@@ -39,7 +39,7 @@ impl Model for Name {
 }
 
 impl Name {
-    /// The name of these bytes; `None` exactly where they aren't a name. No memory is taken.
+    /// The name with these bytes; `None` exactly if they aren't a name. Takes no memory.
     pub fn new(text: &[u8]) -> Option<Name>
         ensures { SomeIff result (IsName text.now) text.now }
     {
@@ -61,7 +61,7 @@ impl Name {
         self.bytes.as_slice()
     }
 
-    /// A name with the same bytes. No memory is taken.
+    /// A name with the same bytes. Takes no memory.
     pub fn copied(&self) -> Name
         ensures { result ≡ self.now }
     {

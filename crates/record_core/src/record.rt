@@ -1,4 +1,4 @@
-//! Records.
+//! The type of records.
 
 ghost use Rattle.std.specs.Prelude.{⊤, ◌≡◌, ◌≤◌, ◌↔◌, ◌^◌, length, IsTrue, Some, SomeIff, refl};
 ghost use Rattle.std.specs.Cmp.{int_cmp_total, int_eq_equiv, partial_equiv_from_equiv, po};
@@ -14,10 +14,10 @@ use std::cmp::Ordering;
 use std::hash::{Hash, Hasher};
 use std::marker::Model;
 
-/// The greatest number of fields of a record.
+/// The most fields of a record.
 pub const MAX_FIELDS: usize = 16;
 
-/// A record: 1 to 16 signed 64-bit fields. It is equal, ordered and hashed as its list of fields is.
+/// A record: 1 to 16 signed 64-bit fields. It compares, orders and hashes like its list of fields.
 #[derive(Drop, Debug)]
 pub struct Record {
     items: ArrayVec<i64, 16>,
@@ -37,7 +37,7 @@ impl Model for Record {
 }
 
 impl Record {
-    /// The record of these fields; `None` exactly for no field and for more than 16. No memory is taken.
+    /// The record with these fields; `None` exactly for no fields and for more than 16. Takes no memory.
     pub fn new(fields: &[i64]) -> Option<Record>
         ensures { SomeIff result (IsRecord fields.now) fields.now }
     {
@@ -59,7 +59,7 @@ impl Record {
         self.items.as_slice()
     }
 
-    /// A record with the same fields. No memory is taken.
+    /// A record with the same fields. Takes no memory.
     pub fn copied(&self) -> Record
         ensures { result ≡ self.now }
     {

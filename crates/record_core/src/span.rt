@@ -1,11 +1,11 @@
-//! Places in a text, and what a refusal says.
+//! Places in a text, and refusals.
 
 ghost use Rattle.std.specs.Prelude.{◌≡◌};
 ghost use Rattle.record_core.specs.declared.span.Refusal.TheVariants.{NoMemory};
 
 use std::alloc::{AllocError, AllocFailed};
 
-/// A place in a text: byte offsets, the end left out.
+/// A place in a text, as byte offsets; the end is exclusive.
 #[derive(Clone, Copy, Debug, PartialEq, Eq)]
 pub struct Span {
     pub start: u32,

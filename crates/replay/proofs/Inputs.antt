@@ -49,7 +49,7 @@ pub refused_answers : (late : Bool) (b c : BoardShown) (hand : Hand) (command : 
 refused_answers late b c hand command (refusal.Step code) same does = refused_leads late b c hand command (refusal_line code) same (does code refl)
 refused_answers late b c hand command refusal.NoMemory same does = stays_same b.shown c.shown (ap (λ (x : BoardShown). x.shown) same)
 
--- the board has the graph's inputs, and not many
+-- the board has an input for each of the graph's, and at most 4096
 pub record HasInputs (s : Shown) : Type 0 where
   pub all : length (shown_inputs s.graph) ≤ length s.inputs
   pub few : length s.inputs ≤ 4096

@@ -36,7 +36,7 @@ next_read kind text rest line after n commands command r cut less says = record 
   short = omega (arith, r.short, less);
 }
 
--- a line that a line feed ends has a fault
+-- a line that has its line feed has a fault
 pub faulty : (kind : ViewKind) (text rest line after : List ℕ) (n : ℕ) (commands : List Command) (fault : Fault) (code number : ℕ) → ReadSoFar kind text rest n commands → split_on 10 rest ≡ line ∷ split_on 10 after
     → IsFault kind line fault → code ≡ code_of fault → number ≡ n + 1 → IsRefused kind text (At code number)
 faulty kind text rest line after n commands fault code number r cut bad is at = (

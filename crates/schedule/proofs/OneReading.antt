@@ -20,7 +20,7 @@ use Rattle.schedule.specs.declared.refusal.ScheduleRefusal.TheVariants.{At}
 
 -- ---- words
 
--- the verb of a letter
+-- a letter has at most one verb
 one_verb : (v w : Verb) → letter v ≡ letter w → v ≡ w
 one_verb verb.Feed verb.Feed e = refl
 one_verb verb.Feed verb.Seal e = absurd (omega (arith, e))
@@ -105,7 +105,7 @@ one_fields (x ∷ xs) (y ∷ ys) f g e =
 one_count : (m n : ℕ) (r s : List (List ℕ)) → m < 2 ^ 32 → n < 2 ^ 32 → decimal m ∷ r ≡ decimal n ∷ s → m ≡ n
 one_count m n r s l k e = decimal_injective m n (omega (arith, l)) (omega (arith, k)) (head_same (decimal m) (decimal n) r s e)
 
--- the arguments of a verb's commands tell the command
+-- the arguments of a verb's commands determine the command
 command_same : (x y : Command) → verb_of x ≡ verb_of y → arguments x ≡ arguments y → IsProper x → IsProper y → x ≡ y
 command_same (Command.feed ix fx) (Command.feed iy fy) v e p q = let first : ix ≡ iy = head_same ix iy (map signed_decimal fx) (map signed_decimal fy) e in let rest : fx ≡ fy = one_fields fx fy p.1 q.1 (tail_same ix iy (map signed_decimal fx) (map signed_decimal fy) e) in cc
 command_same (Command.feed ix fx) (Command.seal iy) v e p q = absurd cc
@@ -172,7 +172,7 @@ command_same (Command.apply wx cx) (Command.deliver wy cy) v e p q = absurd cc
 command_same (Command.apply wx cx) (Command.print ey) v e p q = absurd cc
 command_same (Command.apply wx cx) (Command.apply wy cy) v e p q = let first : wx ≡ wy = one_count wx wy (decimal cx ∷ []) (decimal cy ∷ []) p.0 q.0 e in let rest : cx ≡ cy = one_count cx cy [] [] p.1 q.1 (tail_same (decimal wx) (decimal wy) (decimal cx ∷ []) (decimal cy ∷ []) e) in cc
 
--- a line says one command
+-- a line says at most one command
 one_command : (kind : ViewKind) (line : List ℕ) (x y : Command) → Says kind line x → Says kind line y → x ≡ y
 one_command kind line x y g h = command_same x y (verb_same kind line (verb_of x) (verb_of y) (arguments x) (arguments y) g.words h.words) (words_same kind line (verb_of x) (verb_of y) (arguments x) (arguments y) g.words h.words) g.proper h.proper
 
@@ -242,7 +242,7 @@ one_reading kind (l ∷ ls) (x ∷ xs) (y ∷ ys) g h =
     let rest : xs ≡ ys = one_reading kind ls xs ys g.1 h.1 in
     cc
 
--- what a refusal says of its line
+-- a refusal is right about its line
 abbrev Faulty : ViewKind → List ℕ → List (List ℕ) → ℕ → Type 0
 Faulty kind line rest code = ((code ≡ 43) × (0 < length line) × (rest ≡ [])) ⊎ ((fault : Fault) × (code ≡ code_of fault) × (0 < length rest) × IsFault kind line fault)
 
@@ -252,12 +252,12 @@ one_code kind line rest c d (inl g) (inr h) = absurd (none_after rest g.2 h.2)
 one_code kind line rest c d (inr g) (inl h) = absurd (none_after rest h.2 g.2)
 one_code kind line rest c d (inr g) (inr h) = g.1 ∙ ap code_of (one_fault kind line g.0 h.0 g.3 h.3) ∙ sym h.1
 
--- a line that says a command, and isn't the last, is no faulty one
+-- a line that says a command and isn't the last isn't faulty
 said_faulty : (kind : ViewKind) (line : List ℕ) (rest : List (List ℕ)) (c : ℕ) (x : Command) → Says kind line x → 0 < length rest → Faulty kind line rest c → ⊥
 said_faulty kind line rest c x g l (inl h) = none_after rest h.2 l
 said_faulty kind line rest c x g l (inr h) = said_sound kind line x h.0 g h.3
 
--- of lines of which some say commands and the next is faulty, both ways to see that are the same
+-- if some lines say commands and the next is faulty, that can be seen in one way only
 one_stop : (kind : ViewKind) (bs : List (List ℕ)) (xs : List Command) (k : List ℕ) (r : List (List ℕ)) (c : ℕ) (ds : List (List ℕ)) (ys : List Command) (l : List ℕ) (s : List (List ℕ)) (d : ℕ)
     → SayAll kind bs xs → SayAll kind ds ys → bs ++ k ∷ r ≡ ds ++ l ∷ s → Faulty kind k r c → Faulty kind l s d → (length bs ≡ length ds) × (c ≡ d)
 one_stop kind [] [] k r c [] [] l s d g h is f t =
@@ -280,7 +280,7 @@ one_stop kind (b ∷ bs) [] k r c ds ys l s d g h is f t = absurd g
 one_stop kind bs xs k r c [] (y ∷ ys) l s d g h is f t = absurd h
 one_stop kind bs xs k r c (b ∷ ds) [] l s d g h is f t = absurd h
 
--- lines that say commands, up to the empty one behind the last line feed, have no faulty one
+-- lines that say commands, up to the empty one after the last line feed, have no faulty one
 none_faulty : (kind : ViewKind) (ls : List (List ℕ)) (xs : List Command) (bs : List (List ℕ)) (ys : List Command) (k : List ℕ) (r : List (List ℕ)) (c : ℕ) → SayAll kind ls xs → SayAll kind bs ys → ls ++ [] ∷ [] ≡ bs ++ k ∷ r → Faulty kind k r c → ⊥
 none_faulty kind [] [] [] [] k r c g h is (inl f) = none_in k r is f.1
 none_faulty kind [] [] [] [] k r c g h is (inr f) = none_after r (sym (tail_same [] k [] r is)) f.2

@@ -1,4 +1,4 @@
--- The words behind a verb's letter.
+-- The words after a verb's letter.
 use Rattle.std.proofs.Common.{◌≡◌, ◌≢◌, ◌<◌, ◌≤◌, ◌^◌, ◌∙◌, ℕ, ℤ, List, [], ◌∷◌, length, map, refl, sym, ap, subst, arith}
 use Rattle.std.specs.Prelude.{FitsSigned, decimal, Option, Some, None, ◌==◌}
 use Rattle.std.specs.Int.{w64}
@@ -72,7 +72,7 @@ no_second words first second e none ns h = bad ns (subst (λ ws. AreCounts ws ns
     bad (n ∷ []) g = g.1
     bad (n ∷ m ∷ ns) g = none m g.1.0.0 g.1.0.1
 
--- the words behind a feed's letter
+-- the words after a feed's letter
 pub feed_formed : (words : List (List ℕ)) (input : List ℕ) (rest : List (List ℕ)) → words ≡ input ∷ rest → IsWord input → AllByRecursion IsFilled rest → HasName words
 feed_formed words input rest e word filled = subst HasName (sym e) (word, filled)
 
@@ -82,7 +82,7 @@ feed_bad words input rest e bad = subst HasBadField (sym e) bad
 pub no_name : (words : List (List ℕ)) (input : List ℕ) (rest : List (List ℕ)) → words ≡ input ∷ rest → (IsWord input → AllByRecursion IsFilled rest → ⊥) → HasName words → ⊥
 no_name words input rest e none h = let g : HasName (input ∷ rest) = subst HasName e h in none g.0 g.1
 
--- a name alone
+-- only a name
 pub one_named : (words : List (List ℕ)) (name : List ℕ) → words ≡ name ∷ [] → IsWord name → HasName words × (length words ≡ 1)
 one_named words name e word = subst (λ ws. HasName ws × (length ws ≡ 1)) (sym e) ((word, tt), refl)
 

@@ -1,4 +1,4 @@
--- What a line of a schedule tells to do, and the words that spell it.
+-- What a line of a schedule says to do, and the words that spell it.
 use Rattle.std.specs.Prelude.{◌<◌, ◌^◌, ℕ, ℤ, List, [], ◌∷◌, map, decimal, FitsSigned}
 use Rattle.std.specs.Fmt.{signed_decimal}
 use Rattle.std.specs.Int.{w64}
@@ -9,8 +9,8 @@ use Rattle.schedule.specs.declared.verb.Verb.TheVariants as verb
 use Rattle.schedule.specs.declared.verb.ViewKind.{ViewKind}
 use Rattle.schedule.specs.declared.verb.ViewKind.TheVariants.{Shared, Local}
 
--- a record comes to an input; an input's open epoch ends; nothing more comes to it; a worker takes one of its choices, commits what
--- it holds, or does both; what was emitted for an epoch is asked for; a worker applies the next batch of changes that a sender posted
+-- a record comes to an input; an input's open epoch ends; an input is closed; a worker takes one of its choices, commits what it holds, or does both;
+-- what was emitted for an epoch is asked for; a worker applies the next batch of changes that a sender posted
 pub data Command : Type 0 where
   feed : (input : List ℕ) → (fields : List ℤ) → Command
   seal : (input : List ℕ) → Command
@@ -21,7 +21,7 @@ pub data Command : Type 0 where
   print : (epoch : ℕ) → Command
   apply : (worker sender : ℕ) → Command
 
--- the letter that a verb is told by
+-- the letter of a verb
 abbrev pub letter : Verb → ℕ
 letter verb.Feed = 102
 letter verb.Seal = 115
@@ -32,7 +32,7 @@ letter verb.Deliver = 100
 letter verb.Print = 112
 letter verb.Apply = 118
 
--- the verbs that a schedule may have: that of views only where each worker has a view of its own
+-- the verbs that a schedule may have; the one about views only if each worker has its own
 abbrev pub IsKnown : ViewKind → Verb → Type 0
 IsKnown Local v = Unit {0}
 IsKnown Shared verb.Feed = Unit {0}
@@ -54,7 +54,7 @@ verb_of (Command.deliver worker choice) = verb.Deliver
 verb_of (Command.print epoch) = verb.Print
 verb_of (Command.apply worker sender) = verb.Apply
 
--- the words behind the verb's letter; each number has one spelling
+-- the words after the verb's letter; each number has one spelling
 abbrev pub arguments : Command → List (List ℕ)
 arguments (Command.feed input fields) = input ∷ map signed_decimal fields
 arguments (Command.seal input) = input ∷ []
@@ -65,7 +65,7 @@ arguments (Command.deliver worker choice) = decimal worker ∷ decimal choice �
 arguments (Command.print epoch) = decimal epoch ∷ []
 arguments (Command.apply worker sender) = decimal worker ∷ decimal sender ∷ []
 
--- inputs are spelled like names or keywords; fields have 64 bits with a sign, other numbers 32 bits
+-- inputs are spelled like names or keywords; fields are signed 64-bit numbers, and other numbers have 32 bits
 abbrev pub IsProper : Command → Type 0
 IsProper (Command.feed input fields) = IsWord input × AllByRecursion (FitsSigned w64) fields
 IsProper (Command.seal input) = IsWord input

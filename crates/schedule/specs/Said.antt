@@ -13,7 +13,7 @@ use Rattle.schedule.specs.declared.line.LineError.TheVariants as error
 use Rattle.schedule.specs.declared.refusal.Fault.{Fault}
 use Rattle.schedule.specs.declared.refusal.Fault.TheVariants.{Malformed, BadNumber}
 
--- what a line that was read tells to do
+-- the command of a line that was read
 abbrev pub command_of : Line → Command
 command_of (line.Feed input fields) = Command.feed input.now fields.items
 command_of (line.Seal input) = Command.seal input.now
@@ -24,7 +24,7 @@ command_of (line.Deliver worker choice) = Command.deliver worker choice
 command_of (line.Print epoch) = Command.print epoch
 command_of (line.Apply worker sender) = Command.apply worker sender
 
--- the one name that the words are, or none
+-- the one name that the words are; none if they aren't
 abbrev pub NameEnds : List (List ℕ) → Option (Bor (List ℕ)) → Type 0
 NameEnds words (Some name) = (words ≡ name.now ∷ []) × IsWord name.now
 NameEnds words None = (name : List ℕ) → words ≡ name ∷ [] → IsWord name → ⊥
@@ -41,7 +41,7 @@ CountsEnd words (Ok p) = words ≡ decimal p.0 ∷ decimal p.1 ∷ []
 CountsEnd words (Err Malformed) = AreFilled 2 words → ⊥
 CountsEnd words (Err BadNumber) = AreFilled 2 words × ((ns : List ℕ) → AreCounts words ns → ⊥)
 
--- what the words behind a verb's letter say, or their first fault
+-- what the words after a verb's letter say, or their first fault
 abbrev pub ArgumentsEnd : Verb → List (List ℕ) → Result Line LineError → Type 0
 ArgumentsEnd v words (Ok said) = (verb_of (command_of said) ≡ v) × (words ≡ arguments (command_of said)) × IsProper (command_of said)
 ArgumentsEnd v words (Err error.NoMemory) = Unit {0}

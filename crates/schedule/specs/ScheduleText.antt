@@ -12,7 +12,7 @@ use Rattle.schedule.specs.declared.refusal.Fault.TheVariants.{Malformed, BadNumb
 use Rattle.schedule.specs.declared.refusal.ScheduleRefusal.{ScheduleRefusal}
 use Rattle.schedule.specs.declared.refusal.ScheduleRefusal.TheVariants.{At, NoMemory}
 
--- the line's words, between single spaces, are the letter of a verb that the schedule may have, and these
+-- the line's words, separated by single spaces, are the letter of a verb that the schedule may have, and these words
 pub record HasWords (kind : ViewKind) (line : List ℕ) (verb : Verb) (words : List (List ℕ)) : Type 0 where
   pub known : IsKnown kind verb
   pub split : split_on 32 line ≡ (letter verb ∷ []) ∷ words
@@ -24,17 +24,17 @@ pub record Says (kind : ViewKind) (line : List ℕ) (command : Command) : Type 0
 
 -- ---- faults
 
--- so many words, none empty
+-- that many words, none empty
 pub record AreFilled (count : ℕ) (words : List (List ℕ)) : Type 0 where
   pub counted : length words ≡ count
   pub filled : AllByRecursion IsFilled words
 
--- a word that is spelled like a name, and others, none empty
+-- a word that is spelled like a name, and other words, none empty
 abbrev pub HasName : List (List ℕ) → Type 0
 HasName [] = ⊥
 HasName (name ∷ words) = IsWord name × AllByRecursion IsFilled words
 
--- the words that a verb wants behind its letter, whatever stands where a number must
+-- the words that a verb needs after its letter, whatever is in the place of a number
 abbrev pub IsFormed : Verb → List (List ℕ) → Type 0
 IsFormed verb.Feed words = HasName words
 IsFormed verb.Seal words = HasName words × (length words ≡ 1)
@@ -52,12 +52,12 @@ AreCounts [] (n ∷ ns) = ⊥
 AreCounts (word ∷ words) [] = ⊥
 AreCounts (word ∷ words) (n ∷ ns) = ((n < 2 ^ 32) × (word ≡ decimal n)) × AreCounts words ns
 
--- the words behind the first are no numbers of 64 bits with a sign
+-- the words after the first are not all signed 64-bit numbers
 abbrev pub HasBadField : List (List ℕ) → Type 0
 HasBadField [] = ⊥
 HasBadField (name ∷ words) = (zs : List ℤ) → AreNumbers words zs → ⊥
 
--- where numbers must stand, others stand
+-- where numbers are needed, there are other words
 abbrev pub HasBadNumber : Verb → List (List ℕ) → Type 0
 HasBadNumber verb.Feed words = HasBadField words
 HasBadNumber verb.Seal words = ⊥
@@ -68,12 +68,12 @@ HasBadNumber verb.Deliver words = (ns : List ℕ) → AreCounts words ns → ⊥
 HasBadNumber verb.Print words = (ns : List ℕ) → AreCounts words ns → ⊥
 HasBadNumber verb.Apply words = (ns : List ℕ) → AreCounts words ns → ⊥
 
--- The fault of a line, the first in this order: it has no verb's form; a number of it is none.
+-- The fault of a line, the first in this order: it doesn't have its verb's form; one of its numbers isn't a number.
 abbrev pub IsFault : ViewKind → List ℕ → Fault → Type 0
 IsFault kind line Malformed = (v : Verb) (words : List (List ℕ)) → HasWords kind line v words → IsFormed v words → ⊥
 IsFault kind line BadNumber = (v : Verb) × (words : List (List ℕ)) × HasWords kind line v words × IsFormed v words × HasBadNumber v words
 
--- the number by which a fault is told
+-- the code of a fault
 abbrev pub code_of : Fault → ℕ
 code_of BadNumber = 44
 code_of Malformed = 46
@@ -93,8 +93,8 @@ pub record IsScheduleText (kind : ViewKind) (text : List ℕ) (commands : List C
   pub parts : split_on 10 text ≡ lines ++ [] ∷ []
   pub said : SayAll kind lines commands
 
--- A refusal names the first faulty line, counted from 1: the lines before it say commands, and it is the last one and has no line
--- feed, or has a fault.
+-- A refusal names the first faulty line, counted from 1: the lines before it say commands; and it has a fault, or it is the last line and has no line
+-- feed.
 abbrev pub IsRefused : ViewKind → List ℕ → ScheduleRefusal → Type 0
 IsRefused kind text NoMemory = Unit {0}
 IsRefused kind text (At code number) = (before : List (List ℕ)) × (commands : List Command) × SayAll kind before commands × (number ≡ length before + 1) × (line : List ℕ) × (rest : List (List ℕ)) × (split_on 10 text ≡ before ++ line ∷ rest)

@@ -1,4 +1,4 @@
-//! The words behind a verb's letter.
+//! Reads the words after a verb's letter.
 
 ghost use Rattle.std.specs.Prelude.{◌≡◌, ◌≢◌, ◌<◌, ◌^◌, ℕ, List, [], ◌∷◌, decimal, IfSome, IfNone, IfOk, IfErr};
 ghost use Rattle.collector.specs.Lines.{IsFilled};
@@ -13,7 +13,7 @@ use collector::{first_word, is_word, read_fields, rest_is_filled};
 use decimal::number;
 use std::alloc::Global;
 
-/// The one word that stands behind the letter.
+/// The only word after the letter, if there is exactly one.
 fn only_word(rest: Option<&[u8]>) -> Option<&[u8]>
     ensures found { IfSome result (λ word. words_of rest.entry ≡ word.now ∷ []) }
     ensures none { IfNone result ((word : List ℕ) → words_of rest.entry ≡ word ∷ [] → ⊥) }
@@ -28,7 +28,7 @@ fn only_word(rest: Option<&[u8]>) -> Option<&[u8]>
     }
 }
 
-/// The two words that stand behind the letter.
+/// The two words after the letter, if there are exactly two.
 fn two_words(rest: Option<&[u8]>) -> Option<(&[u8], &[u8])>
     ensures found { IfSome result (λ p. words_of rest.entry ≡ p.0.now ∷ p.1.now ∷ []) }
     ensures none { IfNone result ((first second : List ℕ) → words_of rest.entry ≡ first ∷ second ∷ [] → ⊥) }
@@ -58,7 +58,7 @@ fn count_of(word: &[u8]) -> Option<u32>
     }
 }
 
-/// The one name that stands behind the letter.
+/// The only name after the letter.
 pub fn one_name(rest: Option<&[u8]>) -> Option<&[u8]>
     ensures { NameEnds (words_of rest.entry) result }
 {
@@ -68,7 +68,7 @@ pub fn one_name(rest: Option<&[u8]>) -> Option<&[u8]>
     if is_word(name) { Some(name) } else { None }
 }
 
-/// The one number that stands behind the letter.
+/// The only number after the letter.
 pub fn one_count(rest: Option<&[u8]>) -> Result<u32, Fault>
     ensures { CountEnds (words_of rest.entry) result }
 {
@@ -84,7 +84,7 @@ pub fn one_count(rest: Option<&[u8]>) -> Result<u32, Fault>
     }
 }
 
-/// The two numbers that stand behind the letter.
+/// The two numbers after the letter.
 pub fn two_counts(rest: Option<&[u8]>) -> Result<(u32, u32), Fault>
     ensures { CountsEnd (words_of rest.entry) result }
 {
@@ -103,7 +103,7 @@ pub fn two_counts(rest: Option<&[u8]>) -> Result<(u32, u32), Fault>
     Ok((left, right))
 }
 
-/// An input's name and the fields of a record.
+/// Reads an input's name and the fields of a record.
 pub fn read_feed(alloc: Global, rest: Option<&[u8]>) -> Result<Line<'_>, LineError>
     ensures { ArgumentsEnd verb.Feed (words_of rest.entry) result }
 {

@@ -1,4 +1,4 @@
-//! What a line of a schedule says.
+//! Reads one line of a schedule.
 
 ghost use Rattle.collector.specs.Said.{words_of};
 ghost use Rattle.schedule.specs.Said.{ArgumentsEnd, LineEnds};
@@ -9,35 +9,35 @@ use crate::verb::{Verb, ViewKind, verb_of};
 use collector::first_word;
 use std::alloc::Global;
 
-/// What a line tells to do. The names are the text's own bytes; whether an input has one is found out when the line is done.
+/// What a line says. The names are bytes of the text; whether an input has such a name is found out when the line is done.
 #[derive(Drop)]
 pub enum Line<'a> {
-    /// A record of these fields comes to the input of that name.
+    /// Feeds a record of these fields to the input of that name.
     Feed { input: &'a [u8], fields: Vec<i64> },
-    /// The input's open epoch ends.
+    /// Ends the input's open epoch.
     Seal { input: &'a [u8] },
-    /// Nothing more comes to the input.
+    /// Closes the input.
     Close { input: &'a [u8] },
     /// The worker takes its choice of that number, and computes it.
     Take { worker: u32, choice: u32 },
-    /// What the worker holds ends.
+    /// Commits what the worker holds.
     Commit { worker: u32 },
     /// The worker takes its choice of that number, computes it, and commits it.
     Deliver { worker: u32, choice: u32 },
-    /// Tells whether the epoch has passed, and what was emitted for it so far.
+    /// Prints whether the epoch has passed, and what was emitted for it so far.
     Print { epoch: u32 },
-    /// The worker applies the next batch of changes that the sender posted. Only where workers have views of their own.
+    /// The worker applies the next batch of changes that the sender posted. Only if each worker has its own view.
     Apply { worker: u32, sender: u32 },
 }
 
-/// Why a line says nothing.
+/// Why a line can't be read.
 #[derive(Clone, Copy, Debug, PartialEq, Eq)]
 pub enum LineError {
     Fault(Fault),
     NoMemory,
 }
 
-/// What the words behind a verb's letter say.
+/// What the words after a verb's letter say.
 fn arguments_say(alloc: Global, verb: Verb, rest: Option<&[u8]>) -> Result<Line<'_>, LineError>
     ensures { ArgumentsEnd verb (words_of rest.entry) result }
 {

@@ -1,4 +1,4 @@
-//! A schedule, read.
+//! Reads a schedule.
 
 ghost use Rattle.std.specs.Prelude.{map, IfOk, IfErr};
 ghost use Rattle.schedule.specs.Said.{command_of};
@@ -10,13 +10,13 @@ use crate::verb::ViewKind;
 use collector::{around, find};
 use std::alloc::Global;
 
-/// The code of a last line that no line feed ends.
+/// The code of a last line without line feed.
 const NO_LINE_FEED: u8 = 43;
 
-/// Reads a whole schedule, in the time of its length. The lines borrow their names from the text. By the kind of the workers' views it
-/// may have lines that apply changes, or none.
+/// Reads a whole schedule, in linear time. The lines borrow their names from the text. The kind of the workers' views decides whether it may have
+/// lines that apply changes.
 ///
-/// After a refusal nothing is kept; it names the first faulty line.
+/// A refusal names the first faulty line, and nothing is kept.
 pub fn read_schedule(
     alloc: Global,
     kind: ViewKind,

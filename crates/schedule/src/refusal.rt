@@ -1,4 +1,4 @@
-//! Why a schedule is refused.
+//! The reasons why a schedule is refused.
 
 ghost use Rattle.std.specs.Prelude.{◌≡◌};
 ghost use Rattle.schedule.specs.ScheduleText.{code_of};
@@ -6,18 +6,18 @@ ghost use Rattle.schedule.specs.declared.refusal.ScheduleRefusal.TheVariants.{No
 
 use std::alloc::{AllocError, AllocFailed};
 
-/// What is wrong with a line that a line feed ends.
+/// What is wrong with a line that has its line feed.
 #[derive(Clone, Copy, Debug, PartialEq, Eq)]
 pub enum Fault {
-    /// `q 1`, `t 0`, `f a  1`: another first word than a verb's letter, a wrong number of words, an empty word, or a name that no
-    /// name or keyword is spelled like.
+    /// `q 1`, `t 0`, `f a 1`: a first word that isn't a verb's letter, a wrong number of words, an empty word, or a name that isn't spelled like a
+    /// name or keyword.
     Malformed,
-    /// `t 0 01`, `p -1`, `f a +1`: a word that must be a number, and no number is printed so.
+    /// `t 0 01`, `p -1`, `f a +1`: a word that must be a number, and isn't one in its printed form.
     BadNumber,
 }
 
 impl Fault {
-    /// The number by which it is told.
+    /// The code of the fault.
     pub fn code(self) -> u8
         ensures { result ≡ code_of self }
     {
@@ -28,8 +28,7 @@ impl Fault {
     }
 }
 
-/// The first faulty line of a schedule, counted from 1, and what is wrong with it; 43 is a last line without line feed. Or want of
-/// memory.
+/// The first faulty line of a schedule, counted from 1, with the code of its fault (43 for a last line without line feed); or want of memory.
 #[derive(Clone, Copy, Debug, PartialEq, Eq)]
 pub enum ScheduleRefusal {
     At { code: u8, line: u64 },

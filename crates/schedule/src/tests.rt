@@ -1,7 +1,7 @@
 use super::*;
 use std::alloc::Global;
 
-/// What a text is read as, told in short.
+/// The result of reading a text, in short.
 fn refusal(kind: ViewKind, text: &str, alloc: Global) -> Option<ScheduleRefusal> {
     match read_schedule(alloc, kind, text.as_bytes()) {
         Ok(_) => None,

@@ -1,11 +1,11 @@
-//! What a line's first word tells to do.
+//! The verbs: what a line's first word says to do.
 
 ghost use Rattle.std.specs.Prelude.{◌≡◌, ◌≢◌, ◌∷◌, [], IfSome, IfNone};
 ghost use Rattle.schedule.specs.Commands.{IsKnown, letter};
 ghost use Rattle.schedule.specs.declared.verb.Verb.{Verb};
 ghost use Rattle.schedule.specs.declared.verb.Verb.TheVariants.{Apply};
 
-/// What a line tells to do.
+/// What a line says to do.
 #[derive(Clone, Copy, Debug, PartialEq, Eq)]
 pub enum Verb {
     Feed,
@@ -18,16 +18,16 @@ pub enum Verb {
     Apply,
 }
 
-/// By what the workers of a schedule see the progress of the run.
+/// How the workers of a schedule see the progress of the run.
 #[derive(Clone, Copy, Debug, PartialEq, Eq)]
 pub enum ViewKind {
     /// All workers see the same, at once.
     Shared,
-    /// Each worker has a view of its own, and a schedule says when it applies what others posted.
+    /// Each worker has its own view, and a schedule says when it applies what others posted.
     Local,
 }
 
-/// The verb of views, where workers have their own.
+/// The verb about views, if each worker has its own.
 fn view_verb(kind: ViewKind) -> Option<Verb>
     ensures found { IfSome result (λ verb. IsKnown kind verb × (verb ≡ Apply)) }
     ensures none { IfNone result (IsKnown kind Apply → ⊥) }
@@ -38,7 +38,7 @@ fn view_verb(kind: ViewKind) -> Option<Verb>
     }
 }
 
-/// What the first word tells to do; `None` where it is no verb's letter. The verb of views is one only where workers have their own.
+/// The verb that a first word stands for; `None` if it isn't a verb's letter. The verb about views counts only if each worker has its own.
 pub fn verb_of(kind: ViewKind, word: &[u8]) -> Option<Verb>
     ensures found { IfSome result (λ verb. IsKnown kind verb × (word.now ≡ letter verb ∷ [])) }
     ensures none { IfNone result ((verb : Verb) → IsKnown kind verb → word.now ≢ letter verb ∷ []) }

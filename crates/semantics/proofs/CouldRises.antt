@@ -30,7 +30,7 @@ lex_end : (fs : List ℕ) (a b : ℕ) → a < b → is_before (fs ++ (a ∷ []))
 lex_end [] a b h = lex_head a b [] [] h
 lex_end (f ∷ fs) a b h = lex_tail f f (fs ++ (a ∷ [])) (fs ++ (b ∷ [])) refl (lex_end fs a b h)
 
--- the lists without their last, or these are the same and the last is smaller
+-- the lists without their last elements are in order, or these are equal and the last is smaller
 abbrev Shorter : List ℕ → List ℕ → ℕ → ℕ → Type 0
 Shorter fs hs a b = (is_before fs hs ≡ true) ⊎ ((fs ≡ hs) × (a < b))
 
@@ -152,7 +152,7 @@ rise_after loops v w a (Goes.out_of_loop q h) t l =
 rise_after loops v w a (Goes.round_loop e h) t l = lex_epoch t.epoch (woven (loops v) t.counters (2 * v + 1)) (woven (loops w) (front t.counters ++ (suc (last t.counters) ∷ [])) (2 * w))
     (subst (λ es. is_before (woven (loops v) t.counters (2 * v + 1)) (woven es (front t.counters ++ (suc (last t.counters) ∷ [])) (2 * w)) ≡ true) (sym e) (next_rise_any (loops v) t.counters (2 * v + 1) (2 * w) h l))
 
--- at a later time
+-- woven lists at a later time come later
 woven_later : (es cs ds : List ℕ) (p : ℕ) → length cs ≡ length es → length ds ≡ length es → is_before cs ds ≡ true → is_before (woven es cs p) (woven es ds p) ≡ true
 woven_later es [] [] p l m h = absurd (true≢false (sym h))
 woven_later es [] (d ∷ ds) p l m h = absurd (omega arith)
@@ -255,7 +255,7 @@ module _ (g : Graph) (loops : ℕ → List ℕ) (wired : IsWired g) (nested : Is
   rank_later (Location.edge e) t u f h k = let n = (entered g e f.0).known in later_rises (loops (target g e)) (2 * target g e) t u (f.1 ∙ sym (nested.homes (target g e) n)) (h.1 ∙ sym (nested.homes (target g e) n)) k
   rank_later (Location.vertex v) t u f h k = later_rises (loops v) (2 * v + 1) t u (f.1 ∙ sym (nested.homes v f.0)) (h.1 ∙ sym (nested.homes v f.0)) k
 
-  -- the rank rises to another pointstamp
+  -- the rank rises to any other pointstamp that could result
   pub could_rises : (p q : Pointstamp) → CouldResultIn g p q → (p ≡ q) ⊎ (is_before (rank_at p.location p.time) (rank_at q.location q.time) ≡ true)
   could_rises p q a =
       go (path_rises a.path p.location q.location p.time a.leads a.starts)
@@ -274,7 +274,7 @@ module _ (g : Graph) (loops : ℕ → List ℕ) (wired : IsWired g) (nested : Is
   rank_short (Location.edge e) t f = omega (arith, length-woven (loops (target g e)) t.counters (2 * target g e), wired.shallow (target g e) (entered g e f.0).known, f.1)
   rank_short (Location.vertex v) t f = omega (arith, length-woven (loops v) t.counters (2 * v + 1), wired.shallow v f.0, f.1)
 
-  -- no descent without end
+  -- there is no infinite descent
   pub could_founded : (p : Pointstamp) → Acc (λ q s. CouldResultIn g q s × (q ≡ s → ⊥)) p
   could_founded p = go (rank_at p.location p.time) ((under_well_founded longest_rank).apply (rank_at p.location p.time)) p refl
     where
@@ -297,7 +297,7 @@ module _ (g : Graph) (d : IsDataflow g) where
       → is_before (rank g d.loops (record { time = t; location = step_from g s })) (rank g d.loops (record { time = step_time g s t; location = step_to g s })) ≡ true
   rank_along s t l f = step_rise g d.loops d.wired d.nested s t l f
 
-  -- and so to whatever else a pointstamp could result in
+  -- the rank rises to any other pointstamp that could result
   pub rank_onward : (p q : Pointstamp) → CouldResultIn g p q → (p ≡ q) ⊎ (is_before (rank g d.loops p) (rank g d.loops q) ≡ true)
   rank_onward p q a = could_rises g d.loops d.wired d.nested p q a
 
@@ -319,10 +319,10 @@ module _ (g : Graph) (d : IsDataflow g) where
       go (inr x) (inl e) = sym e
       go (inr x) (inr y) = absurd (lex_not_self (of p) (lex_trans (of p) (of q) (of p) x y))
 
-  -- paths keep to the depths of locations
+  -- a path takes a time of its start's depth to one of its end's depth
   pub path_depth : (path : List PathStep) (l m : Location) (t : Time) → IsPath g l path m → IsTimeAt g l t → IsTimeAt g m (path_time g path t)
   path_depth path l m t h f = path_fits g d.loops d.wired d.nested path l m t h f
 
--- at a seal, an input's next epoch
+-- at a seal the rank rises to the input's next epoch
 pub rank_sealed : (g : Graph) (loops : ℕ → List ℕ) (v n : ℕ) → is_before (rank g loops (at_vertex v (at_epoch n))) (rank g loops (at_vertex v (at_epoch (n + 1)))) ≡ true
 rank_sealed g loops v n = lex_head n (n + 1) (woven (loops v) [] (2 * v + 1)) (woven (loops v) [] (2 * v + 1)) (omega arith)

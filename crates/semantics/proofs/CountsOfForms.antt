@@ -1,4 +1,4 @@
--- The counts of what each form means: those of a join are products.
+-- The counts of what each form means; those of a join are products.
 use Rattle.std.proofs.Common.{filter, map, subst, ◌+◌, ◌≡◌, ℕ, ◌*◌, ◌<◌, Bool, true, false, cond, List, [], ◌∷◌, ◌++◌, length, refl, sym, ap, ap₂, ◌∙◌, arith}
 use Rattle.std.proofs.lemmas.Bool.{true≢false, false_from_ne_true}
 use Rattle.semantics.specs.Multiset.{Record, same, one_if, total, count}

@@ -27,7 +27,7 @@ pub no_turn_means : program_meaning no_turns 0 (λ i. one_field (pos 5) ∷ []) 
 unfolding program_meaning meaning let_names int_wrap
 no_turn_means = refl
 
--- whatever the start has, the body's outer name stays what it was
+-- whatever the start has, the outer name in the body keeps its meaning
 pub outer_name_means : (records : ℕ → List Record) → program_meaning outer_name 0 records ≡ records 1
 unfolding program_meaning meaning let_names
 outer_name_means records = refl
@@ -44,7 +44,7 @@ pub in_a_and_b_means : program_meaning in_a_and_b 0 a_and_b ≡ one_field (pos 2
 unfolding program_meaning meaning let_names
 in_a_and_b_means = refl
 
--- the first turn has 2 alone, the second 1
+-- the first turn has only 2, the second only 1
 pub except_in_loop_means : program_meaning except_in_loop 0 one_and_two ≡ one_field (pos 1) ∷ []
 unfolding program_meaning meaning let_names
 except_in_loop_means = refl
@@ -65,7 +65,7 @@ pub no_more_means : program_meaning small_and_all 2 (λ i. one_field (pos 3) ∷
 unfolding program_meaning meaning let_names
 no_more_means = refl
 
--- ---- and they are well typed
+-- ---- these programs are well typed
 
 pub reachability_typed : WellTyped reachability (2 ∷ [])
 unfolding HasArity
@@ -104,7 +104,7 @@ outputs_typed = record {
   rest = ((refl, (omega arith, tt)), refl, (refl, refl, tt));
 }
 
--- a second output of the first one's name
+-- a second output with the first one's name isn't allowed
 pub one_name_untyped : (ns : List ℕ) → WellTyped twice_out ns → ⊥
 one_name_untyped ns t = go ns t.rest
   where

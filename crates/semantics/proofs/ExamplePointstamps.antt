@@ -21,7 +21,7 @@ round =
       in_time = at_most_refl (turn 2);
     }
 
--- and in the output, out of the loop
+-- the gate could result in the output, out of the loop
 pub out : CouldResultIn (lowered two_turns) (at_vertex 3 (turn 1)) (at_vertex 7 (at_epoch 0))
 unfolding lowered lower lower_lets lower_outputs vertex source
 out =
@@ -64,7 +64,7 @@ number p = by p.location
     by (Location.edge e) = e
     by (Location.vertex v) = v
 
--- but not in the concat at the same turn, since that could result in the gate
+-- the gate could not result in the concat at the same turn, since that could result in the gate
 pub not_back : CouldResultIn (lowered two_turns) (at_vertex 3 (turn 1)) (at_vertex 2 (turn 1)) → ⊥
 unfolding number
 not_back back = differs (could_once (lowered two_turns) (typed_dataflow two_turns (1 ∷ []) two_turns_typed) (at_vertex 3 (turn 1)) (at_vertex 2 (turn 1)) back forth)

@@ -1,5 +1,4 @@
--- What is on one side alone, and what is on both: counts, equal multisets, parts, and what holds where the sides are cut by the
--- whole record.
+-- What only one side has, and what both have: counts, equal multisets, parts, and inputs that are cut by the whole record.
 use Rattle.std.proofs.Common.{◌≡◌, ℕ, zero, suc, ◌+◌, ◌≤◌, ◌<◌, nat_lt, Bool, true, false, cond, not, ◌&&◌, List, ◌++◌, filter, refl, sym, ap, ap₂, ◌∙◌, arith, ltb-true, lt-ltb}
 use Rattle.semantics.specs.Multiset.{Record, same, one_if, count, is_present, each_once, ◌≈◌, IsPartOf}
 use Rattle.semantics.specs.Meaning.{only_left, in_both}
@@ -9,7 +8,7 @@ use Rattle.semantics.proofs.DistinctAndGroups.{count-distinct}
 use Rattle.semantics.proofs.KeyedParts.{apart_records}
 use Rattle.semantics.proofs.CountsOfForms.{count-filter}
 
--- ---- both forms at once: each present record of xs, once, by whether it is present in ys
+-- ---- both forms at once: each record of xs, once, chosen by whether it is in ys
 
 abbrev chosen : (Bool → Bool) → List Record → List Record → List Record
 chosen p xs ys = each_once (filter (λ r. p (is_present r ys)) xs)
@@ -40,7 +39,7 @@ chosen_same p xs xs' ys ys' h k = record {
   counts = λ r. count-chosen p xs ys r ∙ ap₂ (chosen_count p) (h.counts r) (k.counts r) ∙ sym (count-chosen p xs' ys' r);
 }
 
--- where no record is in two of the parts that go together
+-- if no record is in two of the parts that go together
 apart_counts : (p : Bool → Bool) (m m' n n' : ℕ) → (0 < m → 0 < m' → ⊥) → (0 < m → 0 < n' → ⊥) → (0 < m' → 0 < n → ⊥) → chosen_count p (m + m') (n + n') ≡ chosen_count p m n + chosen_count p m' n'
 apart_counts p zero zero n n' h k l = refl
 apart_counts p (suc m) (suc m') n n' h k l = absurd (h (omega arith) (omega arith))
@@ -83,7 +82,7 @@ pub in_both_cut : (xs xs' ys ys' : List Record) → HasNoCommonKey (λ x. x) (λ
     → in_both (xs ++ xs') (ys ++ ys') ≈ (in_both xs ys ++ in_both xs' ys')
 in_both_cut xs xs' ys ys' h k l = chosen_cut (λ b. b) xs xs' ys ys' h k l
 
--- more on either side, more on both
+-- more on either side gives more on both
 pub in_both_part : (xs xs' ys ys' : List Record) → IsPartOf xs xs' → IsPartOf ys ys' → IsPartOf (in_both xs ys) (in_both xs' ys')
 in_both_part xs xs' ys ys' h k = record { within = λ r. let a = count-intersect xs ys r in let b = count-intersect xs' ys' r in let c = go r (is_present r xs) (is_present r ys) refl refl in omega arith }
   where

@@ -1,4 +1,4 @@
--- Vertices keep to the arities of their ports; so in a flow on inputs of the right arities each edge's records have their port's.
+-- Vertices keep to the arities of their ports; so in a flow on inputs of the right arities, each edge's records have their port's arity.
 use Rattle.std.proofs.Common.{◌≡◌, ℕ, zero, suc, ◌+◌, ◌*◌, ◌≤◌, ◌<◌, nat_lt, nat_eq, Bool, true, false, cond, List, [], ◌∷◌, ◌++◌, map, filter, flat_map, length, refl, sym, ap, subst, ◌∙◌, arith, length-append}
 use Rattle.std.specs.List.{AllByRecursion}
 use Rattle.semantics.specs.Multiset.{Record, same, one_if, count, each_once}

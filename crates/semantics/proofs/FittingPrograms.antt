@@ -1,4 +1,4 @@
--- What the check of a program leaves for its graph to rest on.
+-- What the check of a program guarantees for its graph.
 use Rattle.std.specs.Prelude.{ℕ, suc, ◌≤◌, ◌<◌, List, [], ◌∷◌, map}
 use Rattle.semantics.specs.Multiset.{IsAmong}
 use Rattle.semantics.specs.FreeNames.{free}
@@ -23,7 +23,7 @@ Limited (Rel.except p q) = Limited p × Limited q
 Limited (Rel.intersect p q) = Limited p × Limited q
 Limited (Rel.iterate n x r b) = (n < turn_count) × Limited r × Limited b
 
--- no more loops inside one another than may be, where d are already open
+-- at most the allowed number of loops are inside one another, if d are already open
 abbrev pub Nested : ℕ → Rel → Type 0
 Nested d (Rel.named x) = Unit {0}
 Nested d (Rel.select r ss) = Nested d r

@@ -1,4 +1,4 @@
--- To fuse two selects makes no tree larger.
+-- Fusing two selects makes no tree larger.
 use Rattle.std.proofs.Common.{◌≡◌, ℕ, zero, suc, ◌+◌, ◌*◌, ◌≤◌, false, nat_eq, List, [], ◌∷◌, ◌++◌, map, length, slice_index_or, refl, ap, ◌∙◌, arith, pos, length-append}
 use Rattle.std.proofs.lemmas.Bool.Decides.{nat_tests}
 use Rattle.semantics.specs.Multiset.{one_if}
@@ -6,7 +6,7 @@ use Rattle.semantics.specs.Query.{Scalar, Rel}
 use Rattle.semantics.specs.Size.{scalar_size, scalars_size, rel_size}
 use Rattle.semantics.specs.Normal.{replaced, uses, uses_all, use_count, UsesOnce}
 
--- the sizes of what the columns are replaced by
+-- the total size of the scalars that replace these columns
 abbrev weights : List Scalar → List ℕ → ℕ
 weights ss [] = 0
 weights ss (c ∷ cs) = scalar_size (slice_index_or ss c (Scalar.literal (pos 0))) + weights ss cs
@@ -27,7 +27,7 @@ size-replaced_all : (ss ts : List Scalar) → scalars_size (map (replaced ss) ts
 size-replaced_all ss [] = refl
 size-replaced_all ss (t ∷ ts) = omega (arith, size-replaced ss t, size-replaced_all ss ts, weights-append ss (uses t) (uses_all ts), length-append (uses t) (uses_all ts))
 
--- one lower, without the zeros
+-- each number lowered by one, and the zeros left out
 abbrev preds : List ℕ → List ℕ
 preds [] = []
 preds (zero ∷ cs) = preds cs

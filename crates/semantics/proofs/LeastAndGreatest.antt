@@ -1,5 +1,4 @@
--- The least field of records is at most each, and is one of them; so is the greatest, the other way round. So each rests on the
--- multiset alone.
+-- The least field of records is at most each field, and is one of them; likewise the greatest. So each depends only on the multiset.
 use Rattle.std.proofs.Common.{◌≡◌, ℕ, ◌+◌, ◌<◌, Bool, true, false, List, [], ◌∷◌, map, refl, sym, ap, subst, ◌∙◌, arith, inl, inr, ◌⊎◌, ℤ, ◌≤ℤ◌}
 use Rattle.std.proofs.lemmas.Int.{ints, clamps, by_lt_z}
 use Rattle.std.specs.Int.{int_min, int_max}
@@ -7,7 +6,7 @@ use Rattle.semantics.specs.Multiset.{Record, same, one_if, count, ◌≈◌}
 use Rattle.semantics.specs.Meaning.{field, reduced}
 use Rattle.semantics.proofs.MultisetSums.{Decides-same, count_here, empty_from_same, ≈-sym}
 
--- f takes one of two numbers, that stands before both
+-- f takes one of two numbers, the one that comes before the other
 module _ (c : ℕ) (f : ℤ → ℤ → ℤ) (Before : ℤ → ℤ → Type 0) (self : (a : ℤ) → Before a a) (left : (a b : ℤ) → Before (f a b) a) (right : (a b d : ℤ) → Before b d → Before (f a b) d) (one_of : (a b : ℤ) → (f a b ≡ a) ⊎ (f a b ≡ b)) (both : (a b : ℤ) → Before a b → Before b a → a ≡ b) where
   abbrev chosen : List Record → ℤ
   chosen xs = reduced f (map (field c) xs)

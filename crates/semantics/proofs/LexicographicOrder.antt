@@ -1,10 +1,10 @@
--- Lists of bounded length, in lexicographic order, have no descent without end; and the fixed point of equations that read only below.
+-- Lists of bounded length, in lexicographic order, have no infinite descent.
 use Rattle.std.proofs.Common.{◌≡◌, ℕ, zero, suc, ◌≤◌, ◌<◌, nat_lt, nat_le, nat_eq, Bool, true, ◌&&◌, List, [], ◌∷◌, length, sym, subst, arith, ltb-true, leb-true, eqb-true, le-leb, inl, inr, ◌⊎◌}
 use Rattle.std.proofs.lemmas.Bool.{and_parts, or_cases, true≢false, and_from}
 use mathlib.Core.WellFounded.{Acc, WellFounded}
 use Rattle.semantics.specs.Time.{is_before}
 
--- xs stands before ys, and is no longer than n
+-- xs comes before ys, and is no longer than n
 abbrev pub under : ℕ → List ℕ → List ℕ → Bool
 under n xs ys = is_before xs ys && nat_le (length xs) n
 
@@ -25,7 +25,7 @@ nothing_under n (y ∷ ys) h = true≢false (sym h)
 acc_nil : (n : ℕ) → Acc (Under n) []
 acc_nil n = Acc.intro [] (λ ys h. absurd (nothing_under n ys h))
 
--- with the heads below b
+-- the step for a head x, from all smaller heads
 module _ (n : ℕ) (tails : (xs : List ℕ) → length xs ≤ n → Acc (Under n) xs) where
   inner : (x : ℕ) (lower : (y : ℕ) (ys : List ℕ) → y < x → length ys ≤ n → Acc (Under (suc n)) (y ∷ ys)) (xs : List ℕ) → Acc (Under n) xs → Acc (Under (suc n)) (x ∷ xs)
   inner x lower xs a = elim a as (λ xs a. Acc (Under (suc n)) (x ∷ xs)) [

@@ -34,13 +34,13 @@ all_vertex P [] v a l = absurd (omega arith)
 all_vertex P (x ∷ g) zero a l = a.0
 all_vertex P (x ∷ g) (suc v) a l = all_vertex P g v a.1 (omega arith)
 
--- neither input nor output
+-- a vertex that is neither input nor output
 record Inner (v : Vertex) : Type 0 where
   no_input : is_input v.kind ≡ false
   no_output : is_output v.kind ≡ false
   inside : ends_turn v.kind ≡ true → 0 < v.depth
 
--- of a kind that ends no turn
+-- a vertex of a kind that ends no turn is inner
 plain_inner : (v : Vertex) → is_input v.kind ≡ false → is_output v.kind ≡ false → ends_turn v.kind ≡ false → Inner v
 plain_inner v a b c = record { no_input = a; no_output = b; inside = λ e. absurd (true≢false (sym e ∙ c)) }
 
@@ -110,7 +110,7 @@ inputs_first (x ∷ as') rest (suc v) a l e = let h = inputs_first as' rest v a 
 
 -- ---- outputs
 
--- what holds of inner vertices and of those of outputs
+-- what holds of inner vertices and of outputs' vertices
 outputs_all : (P : Vertex → Type 0) → ((x : Vertex) → Inner x → P x) → ((p : Port) → P (new_vertex Kind.output 0 (p ∷ []))) → (os : List Output) (ports : Ports) (k : ℕ) → AllByRecursion P (lower_outputs os ports k)
 unfolding lower_outputs
 outputs_all P inner end [] ports k = tt
@@ -126,7 +126,7 @@ outputs_after (x ∷ xs) ys k a =
     ∙ outputs_after xs ys (suc k) a.1
     ∙ ap (λ n. outputs_from n ys) (let z : suc k + length xs ≡ k + suc (length xs) = omega arith in z)
 
--- the outputs' own vertices, where they are made
+-- the outputs' own vertices, at the places where they are made
 pub outputs_made : (os : List Output) (ports : Ports) (k : ℕ) → outputs_from k (lower_outputs os ports k) ≡ outputs_at os ports k
 unfolding lower_outputs
 outputs_made [] ports k = refl
@@ -168,7 +168,7 @@ output_numbers_are p =
     ∙ ap (λ k. outputs_from k (outputs_of p)) (let z : 0 + length (input_vertices p.inputs) + length (lets_of p).made ≡ length p.inputs + length (lets_of p).made = omega (arith, length-input_vertices p.inputs) in z)
     ∙ outputs_made p.outputs (lets_of p).ports (length p.inputs + length (lets_of p).made)
 
--- as many as the program has
+-- there are as many as the program has outputs
 pub lowered_outputs : (p : Program) → length (output_numbers (lowered p)) ≡ length p.outputs
 lowered_outputs p = ap length (output_numbers_are p) ∙ length-outputs_at p.outputs (lets_of p).ports (length p.inputs + length (lets_of p).made)
 

@@ -21,7 +21,7 @@ use Rattle.semantics.proofs.RankRises.{rises_from_nested}
 use Rattle.semantics.proofs.FittingPrograms.{Nested, LetsFit, AllFit, names_after, input_list, IsFitting}
 use Rattle.semantics.proofs.VertexFlows.{IsAt}
 
--- ---- vertices that are wired, in the loops that they are said to be in
+-- ---- vertices that are wired, and are in the loops given for them
 
 pub record SoundAs (g : Graph) (loops : ℕ → List ℕ) (w : ℕ) (v : Vertex) : Type 0 where
   pub full : length v.ins ≡ in_ports v.kind
@@ -140,7 +140,7 @@ homed_right loops k n [] js e s = subst (λ m. Homed loops m js) (omega arith) s
 homed_right loops k zero (h ∷ hs) js e s = absurd (omega arith)
 homed_right loops k (suc n) (h ∷ hs) js e s = subst (λ m. Homed loops m js) (omega arith) (homed_right loops (suc k) n hs js (omega arith) s.1)
 
--- what leaves v is among `here`'s edges
+-- what leaves v is among the edges of `here`
 pub data Exits (loops : ℕ → List ℕ) (v : ℕ) (here : List ℕ) : Action → Type 0 where
   plain : loops v ≡ here → Exits loops v here Action.stay
   outward : loops v ≡ here ++ (v ∷ []) → Exits loops v here Action.leave
@@ -169,7 +169,7 @@ module _ (g : Graph) (loops : ℕ → List ℕ) where
   edge_from : (p : Port) (here : List ℕ) (k w : ℕ) → Avail p here k → loops w ≡ here → k ≤ w → w < length g → (p.vertex < length g) × (p.out < out_ports (vertex g p.vertex).kind) × Goes loops p.vertex w (action (vertex g p.vertex).kind)
   edge_from p here k w a h l m = (let b = a.below in omega arith, a.is_out, exits_step loops p.vertex w here (action (vertex g p.vertex).kind) a.exits h (let b = a.below in omega arith))
 
-  -- an edge from a vertex that is at hand
+  -- an edge from a vertex that was already made
   edge_of : (v o w : ℕ) (x : Vertex) (a : Action) → IsAt g v x → o < out_ports x.kind → action x.kind ≡ a → Goes loops v w a → (v < length g) × (o < out_ports (vertex g v).kind) × Goes loops v w (action (vertex g v).kind)
   edge_of v o w x a at n e s = (at.known, subst (λ (y : Vertex). o < out_ports y.kind) (sym at.is) n, subst (λ (y : Vertex). Goes loops v w (action y.kind)) (sym at.is) (subst (Goes loops v w) (sym e) s))
 
@@ -288,7 +288,7 @@ module _ (g : Graph) (loops : ℕ → List ℕ) where
       deep : length in' ≡ suc d
       deep = omega (arith, length-append here (suc back ∷ []))
 
-      -- where each part stands
+      -- where each part is
       in_loop : Stands g loop made
       in_loop = stands_right g k start.made made s
 
@@ -298,7 +298,7 @@ module _ (g : Graph) (loops : ℕ → List ℕ) where
       at_back : Stands g back ends
       at_back = stands_right g first body.made ends at_first
 
-      -- and its loops
+      -- the loops of each part
       home_loop : Homed loops loop (here ∷ in' ∷ in' ∷ (carry_homes here in' ys ++ (homes b inside (suc d) first in' ++ (in' ∷ in' ∷ []))))
       home_loop = homed_right loops k (length start.made) (homes r ports d k here) _ (length-homes r ports d k here) h
 

@@ -23,7 +23,7 @@ outputs_at (o ∷ os) ports k =
     let last = k + length (lower o.value ports 0 k).made in
     last ∷ outputs_at os ports (suc last)
 
--- of a program's
+-- the same for a program
 abbrev pub outputs_at_of : Program → List ℕ
 outputs_at_of p = outputs_at p.outputs (lets_of p).ports (length p.inputs + length (lets_of p).made)
 
@@ -33,7 +33,7 @@ all_at P [] i a l = absurd (omega arith)
 all_at P (p ∷ ps) zero a l = a.0
 all_at P (p ∷ ps) (suc i) a l = all_at P ps i a.1 (omega arith)
 
--- a list's part stands where it stands
+-- an element of a list's part is at its place in the list
 pub at_length : (vs ws : List Vertex) (v : Vertex) → slice_index_or (vs ++ (v ∷ ws)) (length vs) no_vertex ≡ v
 at_length [] ws v = refl
 at_length (u ∷ us) ws v = at_length us ws v

@@ -38,7 +38,7 @@ module _ (g : Graph) (inputs : Inputs) (f : Flow) (flow : IsFlow g inputs f) whe
   abbrev out : Port → Time → List Record
   out p u = port_flow g inputs f p u
 
-  -- the names among ys stand at u for what they mean
+  -- each of the names in ys has at u, at its port, what it means
   abbrev pub Agree : List Name → Ports → Time → Names → Type 0
   Agree ys ports u names = (y : Name) → IsAmong y ys → out (ports y) u ≈ names y
 
@@ -71,7 +71,7 @@ module _ (g : Graph) (inputs : Inputs) (f : Flow) (flow : IsFlow g inputs f) whe
       (≈-trans (≈-from (ap (λ b. cond b (out (port (suc a) 0) (deeper u c)) []) (lt-ltb (c + 1) n (omega arith))))
       (held_turn d a n p u s h l c (omega arith))))
 
-  -- the records of a name at a turn: none from the turn n on
+  -- the records of a name at a turn; none from turn n on
   abbrev pub until : ℕ → ℕ → List Record → List Record
   until n c xs = cond (nat_lt c n) xs []
 
@@ -97,11 +97,11 @@ module _ (g : Graph) (inputs : Inputs) (f : Flow) (flow : IsFlow g inputs f) whe
 
   -- ---- relations
 
-  -- what is to be shown of a relation
+  -- the claim about a relation
   abbrev Claim : Rel → Type 0
   Claim r = (ports : Ports) (d k : ℕ) (names : Names) (u : Time) → Stands g k (lower r ports d k).made → length u.counters ≡ d → Agree (free r) ports u names → out (lower r ports d k).gives u ≈ meaning r names
 
-  -- the sum over all turns, where only the turn n has something
+  -- the sum over all turns, if only turn n has records
   sum_none : (h : ℕ → List Record) (n : ℕ) (xs : List Record) → ((c : ℕ) → h c ≈ cond (nat_eq c n) xs []) → (m : ℕ) → m ≤ n → flat_map h (below m) ≈ []
   sum_none h n xs e zero l = ≈-refl []
   sum_none h n xs e (suc m) l =
@@ -119,7 +119,7 @@ module _ (g : Graph) (inputs : Inputs) (f : Flow) (flow : IsFlow g inputs f) whe
           lower_m : (m ≡ n → ⊥) → n < m
           lower_m k = omega arith
 
-  -- where no name has records, a relation has none
+  -- if no name has records, a relation has none
   turns_none : (step : List Record → List Record) → (step [] ≡ []) → (n : ℕ) → repeated step n [] ≡ []
   turns_none step e zero = refl
   turns_none step e (suc n) = ap step (turns_none step e n) ∙ e
@@ -197,7 +197,7 @@ module _ (g : Graph) (inputs : Inputs) (f : Flow) (flow : IsFlow g inputs f) whe
       names_at : ℕ → Names
       names_at c y = cond (nat_lt c n) (bind x (value_at c) names y) []
 
-      -- from one turn to the next
+      -- what the body means at one turn gives the next turn
       turn : (c : ℕ) (t : Bool) → nat_lt c n ≡ t → meaning b (names_at c) ≡ cond (nat_lt (suc c) (suc n)) (value_at (suc c)) []
       turn c true q =
           let k' = ltb-true c n q in
@@ -208,7 +208,7 @@ module _ (g : Graph) (inputs : Inputs) (f : Flow) (flow : IsFlow g inputs f) whe
           meaning_none b (names_at c) (λ y. ap (λ t. cond t (bind x (value_at c) names y) []) q)
           ∙ ap (λ t. cond t (value_at (suc c)) []) (sym (le-ltb (suc c) (suc n) (omega arith)))
 
-      -- within the body, at each turn
+      -- the names agree in the body at each turn
       agree_in : (c : ℕ) → out (port (suc loop) 0) (deeper u c) ≈ cond (nat_lt c (suc n)) (value_at c) [] → Agree (free b) inside (deeper u c) (names_at c)
       agree_in c m y h = go (same_name x y) refl
         where
@@ -250,7 +250,7 @@ module _ (g : Graph) (inputs : Inputs) (f : Flow) (flow : IsFlow g inputs f) whe
   last_one : (k : ℕ) (vs : List Vertex) (v : Vertex) → Stands g k (vs ++ (v ∷ [])) → IsAt g (k + length vs) v
   last_one k vs v s = (stands_right g k vs (v ∷ []) s).0
 
-  -- a vertex with one in port, that sends what an operation makes of it
+  -- a vertex with one in port, which sends what an operation makes of it
   one_claim : (op : List Record → List Record) → ((xs ys : List Record) → xs ≈ ys → op xs ≈ op ys) → (w d : ℕ) (kind : Kind) (p : Port) (u : Time) (xs : List Record) → IsAt g w (new_vertex kind d (p ∷ [])) → length u.counters ≡ d → (out (port w 0) u ≡ op (f w 0 u) ++ []) → out p u ≈ xs → out (port w 0) u ≈ op xs
   one_claim op keeps w d kind p u xs at l e h = ≈-trans (≈-from (e ∙ append-nil (op (f w 0 u)))) (keeps (f w 0 u) xs (≈-trans (edge_at g inputs f flow w (new_vertex kind d (p ∷ [])) at 0 u (omega arith) l) h))
 
@@ -259,7 +259,7 @@ module _ (g : Graph) (inputs : Inputs) (f : Flow) (flow : IsFlow g inputs f) whe
       (≈-trans (edge_at g inputs f flow w (new_vertex kind d (p ∷ q ∷ [])) at 0 u (omega arith) l) h)
       (≈-trans (edge_at g inputs f flow w (new_vertex kind d (p ∷ q ∷ [])) at 1 u (omega arith) l) h'))
 
-  -- where two relations stand
+  -- where two relations are
   last_two : (k : ℕ) (vs ws : List Vertex) (v : Vertex) → Stands g k (vs ++ (ws ++ (v ∷ []))) → IsAt g (k + length vs + length ws) v
   last_two k vs ws v s = last_one (k + length vs) ws v (stands_right g k vs (ws ++ (v ∷ [])) s)
 

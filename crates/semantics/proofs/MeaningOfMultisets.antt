@@ -1,4 +1,4 @@
--- A meaning is of multisets: it depends on the counts of what the names mean alone.
+-- A meaning depends only on the multisets that the names mean.
 use Rattle.std.proofs.Common.{ℕ, zero, suc, List, [], ◌∷◌, true, false, Bool, cond, map, slice_index_or}
 use Rattle.semantics.specs.Multiset.{Record, ◌≈◌}
 use Rattle.semantics.specs.Query.{Scalar, Cond, Name, Rel, Input, Let, Output, Program}

@@ -1,4 +1,4 @@
--- More in gives more out, but at a group and an except.
+-- More in gives more out, except at a group and an except.
 use Rattle.std.proofs.Common.{refl, ◌≡◌, ℕ, zero, suc, ◌+◌, ◌<◌, nat_lt, nat_eq, Bool, true, false, cond, List, [], map, arith}
 use Rattle.semantics.specs.Multiset.{Record, IsPartOf}
 use Rattle.semantics.specs.Kinds.{Role, role, Kind, in_ports}
@@ -41,7 +41,7 @@ op_part (Kind.gate n) w t xs ys (suc out) h = cond_part (nat_eq (last t.counters
 op_part (Kind.hold n) w t xs ys zero h = cond_part (nat_lt (last t.counters) n) (xs 0) (ys 0) (h 0 (omega arith))
 op_part (Kind.hold n) w t xs ys (suc out) h = cond_part (nat_lt (last t.counters + 1) n) (xs 0) (ys 0) (h 0 (omega arith))
 
--- but at a vertex that waits for its notification
+-- the same for every kind, except at a vertex that waits for its notification
 pub op_more : (kind : Kind) → (role kind ≡ Role.notified → ⊥) → (t : Time) (xs ys : ℕ → List Record) (out : ℕ) → ((i : ℕ) → i < in_ports kind → IsPartOf (xs i) (ys i)) → IsPartOf (op kind t xs out) (op kind t ys out)
 op_more kind n t xs ys out h = op_part kind (grows kind n) t xs ys out h
   where

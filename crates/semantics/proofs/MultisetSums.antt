@@ -64,7 +64,7 @@ pub total-append : {X : Type 0} (f : X → ℕ) (xs ys : List X) → total f (xs
 total-append f [] ys = omega arith
 total-append f (x ∷ xs) ys = omega (arith, total-append f xs ys)
 
--- sums of functions that are alike, or below one another
+-- sums of functions that are equal, or one below the other
 pub total-le : (f g : Record → ℕ) → ((x : Record) → f x ≤ g x) → (xs : List Record) → total f xs ≤ total g xs
 total-le f g h [] = omega arith
 total-le f g h (x ∷ xs) = omega (arith, h x, total-le f g h xs)
@@ -72,7 +72,7 @@ total-le f g h (x ∷ xs) = omega (arith, h x, total-le f g h xs)
 pub total-alike : (f g : Record → ℕ) → ((x : Record) → f x ≡ g x) → (xs : List Record) → total f xs ≡ total g xs
 total-alike f g h xs = ap (λ k. total k xs) (fun_ext h)
 
--- a sum over lists end_to_end end to end is a sum of sums
+-- a sum over lists end to end is a sum of sums
 pub total-flat_map : (f : Record → ℕ) (h : Record → List Record) (xs : List Record) → total f (flat_map h xs) ≡ total (λ x. total f (h x)) xs
 total-flat_map f h [] = refl
 total-flat_map f h (x ∷ xs) = total-append f (h x) (flat_map h xs) ∙ ap (λ n. total f (h x) + n) (total-flat_map f h xs)
@@ -93,7 +93,7 @@ pub total-filter : (f : Record → ℕ) (p : Record → Bool) (xs : List Record)
 total-filter f p [] = refl
 total-filter f p (x ∷ xs) = total-cond f (p x) (x ∷ filter p xs) (filter p xs) ∙ rw (total-filter f p xs) (cond_plus (p x) (f x) (total (λ z. cond (p z) (f z) 0) xs))
 
--- an operation whose counts are sums over its input keeps parts, sameness and sums
+-- an operation whose counts are sums over its input keeps parts, equality and sums
 abbrev pub IsLinear : (List Record → List Record) → Type 0
 IsLinear op = (f : Record → ℕ) → (g : Record → ℕ) × ((xs : List Record) → total f (op xs) ≡ total g xs)
 
@@ -134,7 +134,7 @@ append_same xs ys us vs p q = record { counts = λ r. omega (arith, p.counts r, 
 pub append_comm : (xs ys : List Record) → (xs ++ ys) ≈ (ys ++ xs)
 append_comm xs ys = record { counts = λ r. omega (arith, total-append (λ x. one_if (same x r)) xs ys, total-append (λ x. one_if (same x r)) ys xs) }
 
--- what stands in a list
+-- what is in a list
 pub total_present : (f g : Record → ℕ) (xs : List Record) → ((x : Record) → 0 < count x xs → f x ≡ g x) → total f xs ≡ total g xs
 total_present f g [] h = refl
 total_present f g (x ∷ xs) h = ap₂ (λ m n. m + n) (h x (count_here x xs)) (total_present f g xs (λ z k. h z (omega (arith, k))))
@@ -150,7 +150,7 @@ empty_from_counts (x ∷ xs) h = absurd (omega (arith, h x, count_here x xs))
 pub empty_from_same : (xs : List Record) → xs ≈ [] → xs ≡ []
 empty_from_same xs h = empty_from_counts xs (λ r. h.counts r)
 
--- a fold by a function that doesn't mind the order
+-- a fold by a function that doesn't depend on the order
 pub gather-without : {B : Type 0} (f : Record → B → B) (b : B) → ((x y : Record) (c : B) → f x (f y c) ≡ f y (f x c)) → (y : Record) (xs : List Record) → 0 < count y xs → folded f b xs ≡ f y (folded f b (without y xs))
 gather-without f b swaps y [] h = absurd (omega arith)
 gather-without f b swaps y (x ∷ xs) h = go (same x y) refl (gather-without f b swaps y xs)
@@ -168,7 +168,7 @@ gather-same f b swaps (x ∷ xs) ys h =
     let rest : xs ≈ without x ys = record { counts = λ r. omega (arith, h.counts r, total-without (λ z. one_if (same z r)) x ys here) } in
     ap (f x) (gather-same f b swaps xs (without x ys) rest) ∙ sym (gather-without f b swaps x ys here)
 
--- a part and what is left of the whole are the whole
+-- a part and the rest of the whole make the whole
 pub part-less : (xs ys : List Record) → IsPartOf ys xs → (ys ++ less xs ys) ≈ xs
 part-less xs [] p = ≈-refl xs
 part-less xs (y ∷ ys) p =
@@ -178,6 +178,6 @@ part-less xs (y ∷ ys) p =
     let ih : (ys ++ less (without y xs) ys) ≈ without y xs = part-less (without y xs) ys rest in
     record { counts = λ r. omega (arith, ih.counts r, split r) }
 
--- what is gained, with what was there before, is what is there after
+-- what is gained, plus what was there before, is what is there after
 pub less-append : (after before : List Record) → IsPartOf before after → (less after before ++ before) ≈ after
 less-append after before h = ≈-trans (append_comm (less after before) before) (part-less after before h)

@@ -1,4 +1,4 @@
--- A graph along whose steps the rank rises has one flow.
+-- A graph has one flow if the rank rises along its steps.
 use Rattle.std.proofs.Common.{◌≡◌, ℕ, zero, suc, ◌+◌, ◌*◌, ◌≤◌, ◌<◌, nat_lt, nat_eq, Bool, true, false, cond, ◌&&◌, List, [], ◌∷◌, map, flat_map, length, refl, sym, ◌∙◌, arith, lt-ltb, eq-eqb, inl, inr, ◌⊎◌}
 use Rattle.std.proofs.lemmas.Bool.{and_from, or_left, or_right, true≢false}
 use Rattle.std.specs.List.{AllByRecursion}
@@ -21,7 +21,7 @@ use Rattle.semantics.proofs.DistinctAndGroups.{distinct_same, grouped_same}
 
 -- ---- ranks, by the vertex that an edge enters
 
--- of a vertex; `loops v` are the egresses of the loops that v stands in, outermost first
+-- of a vertex; `loops v` are the egresses of the loops around v, outermost first
 abbrev pub vertex_rank : (ℕ → List ℕ) → ℕ → Time → List ℕ
 vertex_rank loops v t = t.epoch ∷ woven (loops v) t.counters (2 * v + 1)
 
@@ -29,11 +29,11 @@ vertex_rank loops v t = t.epoch ∷ woven (loops v) t.counters (2 * v + 1)
 abbrev pub edge_rank : (ℕ → List ℕ) → ℕ → Time → List ℕ
 edge_rank loops w t = t.epoch ∷ woven (loops w) t.counters (2 * w)
 
--- the fields of a rank, at most
+-- the most fields of a rank
 abbrev pub longest_rank : ℕ
 longest_rank = 2 * max_loops + 2
 
--- along each step from a vertex to an edge, the time keeps to its vertex's depth, and the rank rises
+-- along each step from a vertex to an edge, the time has its vertex's depth, and the rank rises
 pub record Rises (g : Graph) (loops : ℕ → List ℕ) : Type 0 where
   pub steps : (w i : ℕ) (u : Time) → IsEdgeTime g w i u → AllByRecursion (λ t. (length t.counters ≡ (vertex g (source g w i).vertex).depth) × (is_before (vertex_rank loops (source g w i).vertex t) (edge_rank loops w u) ≡ true)) (times_before (action (vertex g (source g w i).vertex).kind) u)
 
@@ -76,7 +76,7 @@ pub cond_same : (b : Bool) (xs ys : List Record) → xs ≈ ys → cond b xs [] 
 cond_same true xs ys h = h
 cond_same false xs ys h = ≈-refl []
 
--- ---- the equation of a vertex reads its in ports, at one time
+-- ---- the equation of a vertex depends on its in ports, at one time
 
 pub op_same : (kind : Kind) (t : Time) (xs ys : ℕ → List Record) (out : ℕ) → ((i : ℕ) → i < in_ports kind → xs i ≈ ys i) → op kind t xs out ≈ op kind t ys out
 op_same Kind.input t xs ys out h = ≈-refl []

@@ -1,4 +1,4 @@
--- A program rewrites to at most one normal form: no step changes what a function makes of it, and of a normal form it makes that.
+-- A program rewrites to at most one normal form: a function of programs is kept by each step, and gives a normal form itself.
 use Rattle.std.proofs.Common.{◌≡◌, ℕ, zero, suc, ◌≤◌, ◌+◌, Bool, true, false, cond, not, nat_eq, nat_lt, List, [], ◌∷◌, ◌++◌, filter, map, inl, inr, ◌⊎◌, subst, refl, sym, ap, ap₂, ◌∙◌, arith, ℤ, ◌+ℤ◌, ◌-ℤ◌, ◌*ℤ◌, neg_ℤ}
 use Rattle.std.proofs.lemmas.Bool.Decides.{nat_tests}
 use Rattle.std.specs.List.{AllByRecursion}
@@ -270,7 +270,7 @@ norm-step (RelStep.intersect_right {p = p} d) = ap (Rel.intersect (norm p)) (nor
 norm-step (RelStep.loop_start {n = n} {x = x} {b = b} d) = ap (λ u. turned n x u (norm b)) (norm-step d)
 norm-step (RelStep.loop_body {n = n} {x = x} {r = r} d) = ap (turned n x (norm r)) (norm-step d)
 
--- ---- no name comes in
+-- ---- no name is added
 
 fused-free : (r : Rel) (ss : List Scalar) → free (fused r ss) ≡ free r
 fused-free (Rel.select r us) ss = go (once (uses_all ss)) (fused-free r (map fold (map (replaced us) ss)))

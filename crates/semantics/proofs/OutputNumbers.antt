@@ -1,4 +1,4 @@
--- The numbers of a graph's outputs: each is that of an output vertex, each output vertex has one, and they rise.
+-- The numbers of a graph's outputs: each is the number of an output vertex, each output vertex has one, and they rise.
 use Rattle.std.proofs.Common.{◌≡◌, ℕ, zero, suc, ◌+◌, ◌<◌, Bool, true, false, cond, List, [], ◌∷◌, length, slice_index_or, refl, sym, ap, subst, ◌∙◌, arith}
 use Rattle.std.proofs.lemmas.Bool.{true≢false}
 use Rattle.semantics.specs.Kinds.{Kind, is_output}
@@ -21,7 +21,7 @@ is_output_kind Kind.feedback e = absurd (true≢false (sym e))
 is_output_kind (Kind.gate n) e = absurd (true≢false (sym e))
 is_output_kind (Kind.hold n) e = absurd (true≢false (sym e))
 
--- the number n is that of an output among vertices from number k on
+-- n is the number of an output among vertices from number k on
 record OutputAmong (xs : List Vertex) (k n : ℕ) : Type 0 where
   place : ℕ
   within : place < length xs
@@ -40,7 +40,7 @@ found (x ∷ xs) k i none l = go (is_output x.kind) refl (λ i l. found xs (suc 
     go true e ih (suc i) l = one_on x xs k _ (ih i (omega arith))
     go false e ih i l = one_on x xs k _ (ih i l)
 
--- an output vertex has its place
+-- an output vertex has a place
 record PlaceOf (xs : List Vertex) (k none v : ℕ) : Type 0 where
   place : ℕ
   within : place < length (outputs_from k xs)

@@ -58,7 +58,7 @@ raised_end : (j x : ℕ) (xs : List ℕ) → raised_from j x xs ≡ front_from x
 raised_end j x [] = refl
 raised_end j x (y ∷ ys) = ap (λ z. x ∷ z) (raised_end j y ys)
 
--- the first but the last of them
+-- the first k without the last of them
 front-take : (k : ℕ) (cs : List ℕ) → suc k ≤ length cs → front (take (suc k) cs) ≡ take k cs
 front-take k [] l = absurd (omega arith)
 front-take zero (c ∷ cs) l = refl
@@ -176,7 +176,7 @@ module _ (g : Graph) (loops : ℕ → List ℕ) (wired : IsWired g) (nested : Is
   take_whole [] = refl
   take_whole (c ∷ cs) = ap (λ z. c ∷ z) (take_whole cs)
 
-  -- where the summary of a path takes a time is where the path does
+  -- the summary of a path takes a time where the path does
   pub path_summary : (path : List PathStep) (l m : Location) (t : Time) → IsPath g l path m → IsTimeAt g l t
       → path_time g path t ≡ record { epoch = t.epoch; counters = applied (summary_of g (length t.counters) path) t.counters }
   path_summary path l m t h fits =

@@ -18,7 +18,7 @@ use Rattle.semantics.proofs.LoweredPrograms.{length-input_vertices, all_at, stan
 use Rattle.semantics.proofs.FittingPrograms.{Limited, LetsFit, AllFit, IsFitting}
 use Rattle.semantics.proofs.VertexFlows.{length-deeper, out_gate_round, out_gate_done, out_hold_next}
 
--- a time inside a loop is that of a turn
+-- a time inside a loop is the time of a turn
 front_last : (c : ℕ) (cs : List ℕ) → front_from c cs ++ (last_from c cs ∷ []) ≡ c ∷ cs
 front_last c [] = refl
 front_last c (d ∷ ds) = ap (λ l. c ∷ l) (front_last d ds)

@@ -11,11 +11,11 @@ use Rattle.semantics.specs.Time.{Time, last_from, front_from, last, deeper, oute
 
 -- ---- single steps
 
--- behind the same loop at the same turn
+-- after the same loop at the same turn
 pub lex_behind : (x c : ℕ) (xs ys : List ℕ) → is_before xs ys ≡ true → is_before (x ∷ c ∷ xs) (x ∷ c ∷ ys) ≡ true
 lex_behind x c xs ys h = lex_tail x x (c ∷ xs) (c ∷ ys) refl (lex_tail c c xs ys refl h)
 
--- out of a loop, at each counter
+-- out of a loop, for each counter
 pub leave_rank : (es cs : List ℕ) (v w c : ℕ) → length cs ≡ length es → v < w → is_before (woven (es ++ (v ∷ [])) (cs ++ (c ∷ [])) (2 * v + 1)) (woven es cs (2 * w)) ≡ true
 leave_rank [] [] v w c l h = lex_head (2 * v + 1) (2 * w) (c ∷ (2 * v + 1) ∷ []) [] (omega arith)
 leave_rank [] (d ∷ ds) v w c l h = absurd (omega arith)
@@ -29,7 +29,7 @@ enter_rank [] (d ∷ ds) b v e p l h = absurd (omega arith)
 enter_rank (x ∷ es) [] b v e p l h = absurd (omega arith)
 enter_rank (x ∷ es) (d ∷ ds) b v e p l h = lex_behind (2 * x + 1) b (woven es (front_from d ds) (2 * v + 1)) (woven (es ++ (e ∷ [])) (d ∷ ds) p) (enter_rank es ds d v e p (omega arith) h)
 
--- round a loop: the last counter rises
+-- to a loop's next turn: the last counter rises
 next_rank : (x : ℕ) (es cs : List ℕ) (b p q : ℕ) → length cs ≡ length es → 0 < last_from b cs → is_before (woven (x ∷ es) (front_from b cs ++ ((last_from b cs - 1) ∷ [])) p) (woven (x ∷ es) (b ∷ cs) q) ≡ true
 next_rank x [] [] b p q l h = lex_tail (2 * x + 1) (2 * x + 1) ((b - 1) ∷ p ∷ []) (b ∷ q ∷ []) refl (lex_head (b - 1) b (p ∷ []) (q ∷ []) (omega arith))
 next_rank x [] (d ∷ ds) b p q l h = absurd (omega arith)
@@ -56,7 +56,7 @@ StepRises loops v w u t = (length t.counters ≡ length (loops v)) × (is_before
 pub lex_epoch : (u : ℕ) (xs ys : List ℕ) → is_before xs ys ≡ true → is_before (u ∷ xs) (u ∷ ys) ≡ true
 lex_epoch u xs ys h = lex_tail u u xs ys refl h
 
--- into a loop, and round it, by the counters
+-- into a loop and to its next turn, in terms of the counters
 enter_times : (loops : ℕ → List ℕ) (v w e : ℕ) → loops w ≡ loops v ++ (e ∷ []) → v < e → (ep : ℕ) (cs : List ℕ) → length cs ≡ length (loops w) → StepRises loops v w (record { epoch = ep; counters = cs }) (outer (record { epoch = ep; counters = cs }))
 enter_times loops v w e q h ep [] l = absurd (omega (arith, ap length q, length-append (loops v) (e ∷ [])))
 enter_times loops v w e q h ep (c ∷ cs) l =

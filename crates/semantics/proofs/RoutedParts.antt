@@ -1,5 +1,5 @@
--- Records that go to their workers by route keys: each to a worker that is there, equal keys to one worker, so the workers' parts
--- are a cut of what comes in, and sum to it.
+-- Records are routed by their keys: each to a worker that exists, and equal keys to one worker. So the workers' parts are a cut of what comes in, and
+-- sum to it.
 use Rattle.std.proofs.Common.{ltb-false, ltb-true, ◌≡◌, ◌≢◌, ℕ, zero, suc, ◌+◌, ◌≤◌, ◌<◌, nat_lt, Bool, true, false, cond, ◌==◌, List, [], ◌∷◌, map, filter, Option, Some, None, refl, sym, ap, ap₂, subst, ◌∙◌, arith, inl, inr, ◌⊎◌, lt-ltb, le-ltb}
 use Rattle.std.proofs.lemmas.Bool.Decides.{eqb_tells}
 use Rattle.std.proofs.Math.Nat.{mod-lt}
@@ -18,7 +18,7 @@ home_below (Some key) from_input workers sender r l = mod-lt _ (let z : 0 < work
 home_below None true workers sender r l = mod-lt _ (let z : 0 < workers = omega arith in z)
 home_below None false workers sender r l = l
 
--- the sender doesn't matter where there is a key, nor does anything of the record but its key
+-- if there is a key, only the key matters: neither the sender nor anything else of the record
 pub home_of_key : (key : Option (Record → Record)) (f : Record → Record) → key ≡ Some f → (from_input : Bool) (workers sender : ℕ) (r : Record) → home_by key from_input workers sender r ≡ route (f r) workers
 home_of_key key f e from_input workers sender r = ap (λ k. home_by k from_input workers sender r) e
 
@@ -64,7 +64,7 @@ routed_sum kind ins from_input workers sender l = record { sums = λ i k. parts_
 
 -- ---- no key is in two parts
 
--- a key that is in a part is routed there
+-- a key in a part is routed there
 key_at_home : (f : Record → Record) (workers w : ℕ) (xs : List Record) (k : Record) → 0 < count k (map f (filter (λ r. route (f r) workers == w) xs)) → route k workers ≡ w
 key_at_home f workers w [] k h = absurd (omega arith)
 key_at_home f workers w (x ∷ xs) k h = go (eqb_tells (route (f x) workers) w) (key_at_home f workers w xs k)

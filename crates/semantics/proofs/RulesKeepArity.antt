@@ -1,4 +1,4 @@
--- The rules of the normaliser keep a relation's arity, and a program well typed.
+-- The rules of the normaliser keep a relation's arity, and keep programs well typed.
 use Rattle.std.proofs.Common.{◌≡◌, ℕ, zero, suc, ◌<◌, Bool, true, false, cond, List, [], ◌∷◌, ◌++◌, map, length, slice_index_or, pos, Some, None, refl, sym, subst, ◌∙◌, arith, ap, inl, inr}
 use Rattle.std.specs.List.{AllByRecursion}
 use Rattle.semantics.proofs.NamesAmong.{Decides-same_name, among_left, among_right, among_others}
@@ -57,7 +57,7 @@ pub arity_no_turns : (x : Name) (r b : Rel) (scope : Scope) (l n : ℕ) → HasA
 unfolding HasArity
 arity_no_turns x r b scope l n t = t.2
 
--- ---- a relation looks at the arities of its free names alone, and its loops' variables stay new in a smaller scope
+-- ---- the arity of a relation depends only on the arities of its free names, and its loops' variables stay new in a smaller scope
 
 pub arity_free : (r : Rel) (scope scope' : Scope) (l n : ℕ) → ((y : Name) → IsAmong y (free r) → lookup scope y ≡ lookup scope' y) → ((y : Name) → lookup scope y ≡ None → lookup scope' y ≡ None) → HasArity r scope l n → HasArity r scope' l n
 unfolding HasArity
@@ -86,7 +86,7 @@ arity_free (Rel.iterate k x r b) scope scope' l n h none t = (
     absent y true e = e
     absent y false e = none y e
 
--- ---- a let that no output reaches may be dropped, where those after it are reached
+-- ---- a let that no output reaches may be dropped, if those after it are reached
 
 outputs_free : (os : List Output) (ns : List ℕ) (before scope scope' : Scope) → ((y : Name) → IsAmong y (free_in_outputs os) → lookup scope y ≡ lookup scope' y) → ((y : Name) → lookup scope y ≡ None → lookup scope' y ≡ None) → OutputsFit scope before os ns → OutputsFit scope' before os ns
 outputs_free [] [] before scope scope' h none t = tt

@@ -11,7 +11,7 @@ use Rattle.semantics.specs.Normal.{replaced, Reaches}
 use Rattle.semantics.specs.Query.{Scalar, Cond, Name, Rel, Input, Let, Output}
 use Rattle.semantics.proofs.DistinctAndGroups.{count-distinct}
 
--- ---- scalars: the value of a sum is that of its parts' values
+-- ---- scalars: the value of a sum depends on its parts' values
 
 pub value-plus : (s t : Scalar) (r : Record) → value (Scalar.plus s t) r ≡ int_wrap w64 (value s r +ℤ value t r)
 value-plus s t r = sym (int_wrap-add_left w64 (exact s r) (value t r) ∙ int_wrap-add_right w64 (exact s r) (exact t r))
@@ -41,7 +41,7 @@ zero_plus a = omega (arith, ints)
 wrap_twice : (a : ℤ) → int_wrap w64 (int_wrap w64 a) ≡ int_wrap w64 a
 wrap_twice a = ap (int_wrap w64) (sym (zero_plus (int_wrap w64 a))) ∙ int_wrap-add_right w64 (pos 0) a ∙ ap (int_wrap w64) (zero_plus a)
 
--- folding of literals: two of them
+-- folding two literals
 pub fold-plus : (a b : ℤ) (r : Record) → value (Scalar.literal (int_wrap w64 (a +ℤ b))) r ≡ value (Scalar.plus (Scalar.literal a) (Scalar.literal b)) r
 fold-plus a b r = wrap_twice (a +ℤ b)
 
@@ -103,7 +103,7 @@ distinct_distinct (x ∷ xs) = go (nat_lt 0 (count x xs)) refl (distinct_distinc
         let none : count x (each_once xs) ≡ 0 = count-distinct x xs ∙ ap one_if e in
         ap (λ n. cond (nat_lt 0 n) (each_once (each_once xs)) (x ∷ each_once (each_once xs))) none ∙ ap (λ l. x ∷ l) ih
 
--- ---- a relation looks at its free names alone
+-- ---- a relation depends only on its free names
 
 pub turns-same : (f g : List Record → List Record) → ((xs : List Record) → f xs ≡ g xs) → (n : ℕ) (xs ys : List Record) → xs ≡ ys → repeated f n xs ≡ repeated g n ys
 turns-same f g h zero xs ys e = e
@@ -140,7 +140,7 @@ outputs-free (o ∷ os) names names' h =
     ap₂ (λ a l. a ∷ l) (meaning-free o.value names names' (λ y j. h y (among_left y (free o.value) (free_in_outputs os) j)))
     (outputs-free os names names' (λ y j. h y (among_right y (free o.value) (free_in_outputs os) j)))
 
--- names that agree where an output reaches them give each output one meaning
+-- names that agree where an output reaches them give each output the same meaning
 pub meaning-reached : (as' : List Let) (outs : List Output) (names names' : Names) → ((y : Name) → Reaches y as' outs → names y ≡ names' y) → outputs_meanings outs (let_names as' names) ≡ outputs_meanings outs (let_names as' names')
 unfolding let_names
 meaning-reached [] outs names names' h = outputs-free outs names names' h
@@ -150,7 +150,7 @@ meaning-reached (a ∷ as') outs names names' h = meaning-reached as' outs (bind
     go y j true e = meaning-free a.value names names' (λ z k. h z (inr (k, subst (λ w. Reaches w as' outs) (sym ((Decides-same_name a.name y).0 e)) j)))
     go y j false e = h y (inl j)
 
--- a first let that no output reaches may be dropped
+-- the first let may be dropped if no output reaches it
 pub unreached_let : (a : Let) (as' : List Let) (outs : List Output) (names : Names) → (Reaches a.name as' outs → ⊥) → outputs_meanings outs (let_names (a ∷ as') names) ≡ outputs_meanings outs (let_names as' names)
 unfolding let_names
 unreached_let a as' outs names n = meaning-reached as' outs (bind a.name (meaning a.value names) names) names (λ y j. go y j (same_name a.name y) refl)

@@ -1,4 +1,4 @@
--- A stateful shard can always send what is gained, and that alone, up to order.
+-- A stateful shard can always send what is gained, and nothing else, up to order.
 use Rattle.std.proofs.Common.{subst, ◌≡◌, ◌↔◌, ℕ, ◌+◌, ◌≤◌, ◌<◌, Bool, true, false, not, ◌&&◌, List, ◌++◌, sym, ◌∙◌, arith}
 use Rattle.semantics.specs.Multiset.{Record, same, one_if, count, is_present, ◌≈◌, IsPartOf, less}
 use Rattle.semantics.specs.Time.{Time}

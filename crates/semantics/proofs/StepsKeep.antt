@@ -1,4 +1,4 @@
--- What a rewriting step keeps: the meaning, the arity, and the size within what it was. And a normal form has no step.
+-- A rewriting step keeps the meaning and the arity, and doesn't increase the size; a normal form has no step.
 use Rattle.std.proofs.Common.{◌≡◌, ℕ, suc, ◌≤◌, cond, not, ◌&&◌, ◌||◌, List, [], ◌∷◌, ◌++◌, map, length, slice_index_or, refl, sym, ap, ◌∙◌, arith, ◌+ℤ◌, ◌-ℤ◌, ◌*ℤ◌, neg_ℤ}
 use Rattle.std.specs.List.{AllByRecursion}
 use Rattle.std.specs.Int.{int_wrap}
@@ -14,7 +14,7 @@ use Rattle.semantics.proofs.RulesKeepMeaning.{value-plus, value-minus, value-tim
 use Rattle.semantics.proofs.RulesKeepArity.{arity_where, arity_select, arity_no_turns, rest_dropped}
 use Rattle.semantics.proofs.FusedSelects.{size-select_select}
 
--- ---- steps one after the other
+-- ---- sequences of steps
 
 pub steps_then : {X : Type 0} {S : X → X → Type 0} {x y z : X} → Steps S x y → Steps S y z → Steps S x z
 steps_then Steps.stay e = e

@@ -6,7 +6,7 @@ use Rattle.semantics.specs.Time.{IsTaken, in_first_turn, last_from, Time, last, 
 use Rattle.semantics.proofs.QuietEnds.{turn_of}
 use Rattle.semantics.proofs.VertexFlows.{first_turn-push, last-deeper, outer-deeper}
 
--- the words of the specs, under the names that the engine's proofs cite
+-- the words of the specs, under the names that the engine's proofs use
 abbrev pub Among : Time → List Time → Type 0
 Among t ts = IsAmong t ts
 
@@ -74,7 +74,7 @@ among_map_back u t [] h = absurd h
 among_map_back u t (c ∷ cs) (inl e) = (c, e)
 among_map_back u t (c ∷ cs) (inr h) = among_map_back u t cs h
 
--- and each source of u is taken to u, where u is within a loop after an enter or a next
+-- each source of u is taken to u, if u is inside a loop after an enter or a next
 abbrev pub Reached : Action → Time → Type 0
 Reached Action.stay u = Unit {0}
 Reached Action.leave u = Unit {0}

@@ -104,18 +104,18 @@ module _ (arity : ℕ → ℕ) where
   all_typed_at k (v ∷ vs) s zero l = subst (λ n. TypedAs n v) (omega arith) s.0
   all_typed_at k (v ∷ vs) s (suc i) l = subst (λ n. TypedAs n (slice_index_or vs i no_vertex)) (omega arith) (all_typed_at (suc k) vs s.1 i (omega arith))
 
-  -- what a relation's vertices and port come to
+  -- the vertices and the port of a relation are typed
   pub record Typed (k : ℕ) (r : Lowered) (n : ℕ) : Type 0 where
     pub all : AllTyped k r.made
     pub gives : arity r.gives.vertex ≡ n
     pub fields : IsArity n
 
-  -- a port of n fields stands for the name
+  -- the name stands for a port of n fields
   pub record NameOf (p : Port) (n : ℕ) : Type 0 where
     pub has : arity p.vertex ≡ n
     pub fields : IsArity n
 
-  -- a vertex with one in port, whose arity is m, and with the arity n
+  -- a vertex with one in port of arity m, and with the arity n, is typed
   one_typed : (k m n : ℕ) (r : Lowered) (kind : Kind) (d : ℕ) (as' : List ℕ) → Typed k r m → length as' ≡ length r.made → Listed k (as' ++ (n ∷ []))
       → ((ins : ℕ → ℕ) → ins 0 ≡ m → PortsFit kind ins n) → IsArity n → Typed k (record { made = r.made ++ (new_vertex kind d (r.gives ∷ []) ∷ []); gives = port (k + length r.made) 0 }) n
   one_typed k m n r kind d as' t l h fit fields =
@@ -345,7 +345,7 @@ module _ (arity : ℕ → ℕ) where
       let ports' = stands_for a.name r.gives ports in
       omega (arith, length-made_arities a.value of ports 0 k, length-lets_made as' of' ports' (k + length r.made), length-append (made_arities a.value of) (lets_made_arities as' of'), length-append r.made (lower_lets as' ports' (k + length r.made)).made)
 
-  -- what the lets leave for the outputs
+  -- what the lets guarantee to the outputs
   pub record AfterLets (as' : List Let) (of : Arities) (ports : Ports) (k : ℕ) (xs : List Name) (outs : List Output) (ns : List ℕ) : Type 0 where
     pub all : AllTyped k (lower_lets as' ports k).made
     pub names : (y : Name) → IsAmong y (names_after xs as') → NameOf ((lower_lets as' ports k).ports y) (let_arities as' of y)
@@ -400,7 +400,7 @@ module _ (arity : ℕ → ℕ) where
       go w n is zero none l later = is
       go w n is (suc i) none l later = later.each i none (omega arith)
 
--- an input's name isn't one that was there before
+-- an input's name is different from those before it
 fresh : (as' : List Input) (scope : Scope) (y : Name) (m : ℕ) → InputsFit scope as' → lookup scope y ≡ Some m → IsAmong y (input_list as') → ⊥
 fresh [] scope y m t e j = j
 fresh (a ∷ as') scope y m t e (inl q) = let z : lookup scope y ≡ None = subst (λ w. lookup scope w ≡ None) q t.0 in clash (sym e ∙ z)

@@ -24,7 +24,7 @@ among_append y (x ∷ xs) ys (inr h) = go (among_append y xs ys h)
     go (inl k) = inl (inr k)
     go (inr k) = inr k
 
--- what a filter of names keeps
+-- what remains of names after a filter
 from_others_apart : (x y : Name) (ys : List Name) → IsAmong y (filter (other_than x) ys) → IsAmong y ys × (same_name x y ≡ false)
 from_others_apart x y [] h = absurd h
 from_others_apart x y (z ∷ zs) h = go (same_name x z) refl h (from_others_apart x y zs)
@@ -124,7 +124,7 @@ inputs_fit (a ∷ as') scope xs all c f y n h = inputs_fit as' (entry a.name a.a
 none_in_scope : Covers [] []
 none_in_scope y n h = absurd (cc)
 
--- what `check` accepts
+-- a program that `check` accepts fits
 pub typed_fits : (p : Program) (ns : List ℕ) → WellTyped p ns → IsFitting p
 typed_fits p ns t =
     let c = inputs_fit p.inputs [] [] (input_list p.inputs) none_in_scope (λ y. only y) in

@@ -1,4 +1,4 @@
--- Counters at the end of a time, and what vertices of each kind send in a flow.
+-- Counters at the end of a time, and what each kind of vertex sends in a flow.
 use Rattle.std.proofs.Common.{◌≡◌, ℕ, suc, ◌+◌, ◌-◌, ◌<◌, nat_lt, nat_eq, Bool, true, false, cond, List, [], ◌∷◌, ◌++◌, map, flat_map, length, slice_index_or, refl, sym, ap, ap₂, subst, ◌∙◌, arith, append-nil, lt-ltb, le-ltb, ne_eqb, length-append}
 use Rattle.semantics.specs.Multiset.{Record, ◌≈◌}
 use Rattle.semantics.specs.Flow.{Inputs, Flow, IsFlow, sent_or_fed, port_flow}
@@ -37,7 +37,7 @@ length-deeper u c = omega (arith, length-append u.counters (c ∷ []))
 
 -- ---- what vertices send
 
--- that vertex stands at that number
+-- the vertex is at that number
 pub record IsAt (g : Graph) (w : ℕ) (v : Vertex) : Type 0 where
   pub is : vertex g w ≡ v
   pub known : w < length g
@@ -95,7 +95,7 @@ module _ (g : Graph) (inputs : Inputs) (f : Flow) (flow : IsFlow g inputs f) whe
   cond_in true xs ys h = ≈-trans (≈-from (append-nil xs)) h
   cond_in false xs ys h = ≈-refl []
 
-  -- at a gate, by the counter
+  -- at a gate, depending on the counter
   pub out_gate_round : (w d n : ℕ) (p : Port) (u : Time) (c : ℕ) → IsAt g w (new_vertex (Kind.gate n) (suc d) (p ∷ [])) → length u.counters ≡ d → out (port w 0) (deeper u c) ≈ cond (nat_lt c n) (out p (deeper u c)) []
   out_gate_round w d n p u c at l = ≈-trans (≈-from (out_at w 0 (new_vertex (Kind.gate n) (suc d) (p ∷ [])) (deeper u c) at ∙ ap (λ k. cond (nat_lt k n) (f w 0 (deeper u c)) [] ++ []) (last-deeper u c)))
       (cond_in (nat_lt c n) (f w 0 (deeper u c)) (out p (deeper u c)) (in_first w (Kind.gate n) (suc d) p (deeper u c) at (length-deeper u c ∙ ap suc l)))
@@ -112,7 +112,7 @@ module _ (g : Graph) (inputs : Inputs) (f : Flow) (flow : IsFlow g inputs f) whe
   out_hold_next w d n p u c at l = ≈-trans (≈-from (out_at w 1 (new_vertex (Kind.hold n) (suc d) (p ∷ [])) (deeper u c) at ∙ ap (λ k. cond (nat_lt (k + 1) n) (f w 0 (deeper u c)) [] ++ []) (last-deeper u c)))
       (cond_in (nat_lt (c + 1) n) (f w 0 (deeper u c)) (out p (deeper u c)) (in_first w (Kind.hold n) (suc d) p (deeper u c) at (length-deeper u c ∙ ap suc l)))
 
-  -- what enters an egress, over all counters
+  -- what enters an egress, summed over the counters
   out_egress_upto : (w d : ℕ) (p : Port) (u : Time) → IsAt g w (new_vertex Kind.egress (suc d) (p ∷ [])) → length u.counters ≡ d → (n : ℕ) → flat_map (λ t. f w 0 t) (map (deeper u) (below n)) ≈ flat_map (λ c. out p (deeper u c)) (below n)
   out_egress_upto w d p u at l n = go (below n)
     where

@@ -1,4 +1,4 @@
--- The laws of the equation of a vertex: nothing in gives nothing out; parts with no route key in common add up.
+-- The laws of the equation of a vertex: nothing in gives nothing out; the results of parts with no common route key add up.
 use Rattle.std.proofs.Common.{◌≡◌, ℕ, zero, suc, ◌+◌, ◌<◌, nat_lt, nat_eq, Bool, true, false, cond, List, [], ◌++◌, map, Some, refl, ◌∙◌, arith, inl, inr, ◌⊎◌}
 use Rattle.semantics.specs.Multiset.{Record, same, one_if, count, ◌≈◌, end_to_end}
 use Rattle.semantics.specs.Op.{HasNoCommonKey, IsCut, IsSum, op}

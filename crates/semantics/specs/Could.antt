@@ -4,7 +4,7 @@ use Rattle.semantics.specs.Time.{Time, after_action, IsAtMost}
 use Rattle.semantics.specs.Kinds.{action}
 use Rattle.semantics.specs.Graph.{Graph, vertex as vertex_of, edge_count, target, edge_source}
 
--- on the edge, or at the vertex, of that number
+-- the edge or the vertex of that number
 pub data Location : Type 0 where
   edge : ℕ → Location
   vertex : ℕ → Location
@@ -29,7 +29,7 @@ IsTimeAt g (Location.vertex v) t = (v < length g) × (length t.counters ≡ (ver
 
 -- ---- paths
 
--- by the number of an edge: from it to the vertex that it enters; from the vertex that it leaves to it
+-- by the number of an edge: from it to the vertex that it enters, or from the vertex that it leaves to it
 pub data PathStep : Type 0 where
   enters leaves : ℕ → PathStep
 
@@ -38,17 +38,17 @@ abbrev pub step_edge : PathStep → ℕ
 step_edge (PathStep.enters e) = e
 step_edge (PathStep.leaves e) = e
 
--- where a step starts
+-- the location at which a step starts
 abbrev pub step_from : Graph → PathStep → Location
 step_from g (PathStep.enters e) = Location.edge e
 step_from g (PathStep.leaves e) = Location.vertex (edge_source g e).vertex
 
--- where it ends
+-- the location at which a step ends
 abbrev pub step_to : Graph → PathStep → Location
 step_to g (PathStep.enters e) = Location.vertex (target g e)
 step_to g (PathStep.leaves e) = Location.edge e
 
--- a vertex's action is taken on the way out
+-- a vertex's action applies on the way out
 abbrev pub step_time : Graph → PathStep → Time → Time
 step_time g (PathStep.enters e) t = t
 step_time g (PathStep.leaves e) t = after_action (action (vertex_of g (edge_source g e).vertex).kind) t
@@ -58,7 +58,7 @@ abbrev pub IsPath : Graph → Location → List PathStep → Location → Type 0
 IsPath g l [] m = l ≡ m
 IsPath g l (s ∷ path) m = (step_edge s < edge_count g) × (l ≡ step_from g s) × IsPath g (step_to g s) path m
 
--- where a path takes a time
+-- the time to which a path takes a time
 abbrev pub path_time : Graph → List PathStep → Time → Time
 path_time g [] t = t
 path_time g (s ∷ path) t = path_time g path (step_time g s t)
@@ -71,12 +71,12 @@ pub record CouldResultIn (g : Graph) (p q : Pointstamp) : Type 0 where
   pub leads : IsPath g p.location path q.location
   pub in_time : IsAtMost (path_time g path p.time) q.time
 
--- ---- frontiers, over any set of pointstamps and any such relation
+-- ---- frontiers, for any set of pointstamps and any such relation
 
 -- none of these could result in p
 abbrev pub NoneOf : (could : Pointstamp → Pointstamp → Type 0) → (these : Pointstamp → Type 0) → Pointstamp → Type 0
 NoneOf could these p = (q : Pointstamp) → these q → could q p → ⊥
 
--- none of these that is different from p could result in it
+-- none of these, except p itself, could result in p
 abbrev pub NoOtherOf : (could : Pointstamp → Pointstamp → Type 0) → (these : Pointstamp → Type 0) → Pointstamp → Type 0
 NoOtherOf could these p = (q : Pointstamp) → these q → could q p → q ≡ p

@@ -1,4 +1,4 @@
--- Dataflow graphs: what the graph of each well-typed program is. (Naiad, SOSP 2013, section 2.1: loop contexts, properly nested.)
+-- Dataflow graphs: the graph of each well-typed program is one. (Naiad, SOSP 2013, section 2.1: loop contexts, properly nested.)
 use Rattle.std.specs.Prelude.{◌≡◌, ◌⊎◌, ℕ, ◌≤◌, ◌<◌, true, List, [], ◌∷◌, ◌++◌, length}
 use Rattle.semantics.specs.Limits.{max_loops}
 use Rattle.semantics.specs.Multiset.{◌≈◌}
@@ -16,21 +16,21 @@ pub record IsWired (g : Graph) : Type 0 where
       (source g w i).out < out_ports (vertex g (source g w i).vertex).kind
   pub shallow : (v : ℕ) → v < length g → (vertex g v).depth ≤ max_loops
 
--- An edge from v to w stays in v's loop, or goes into a loop, out of one or round it. `loops v` are the egresses of the
--- loops that v stands in, outermost first.
+-- An edge from v to w stays in v's loop, or goes into a loop, out of one, or to its next turn. `loops v` are the egresses of the loops around v,
+-- outermost first.
 pub data Goes (loops : ℕ → List ℕ) (v w : ℕ) : Action → Type 0 where
   same_loop : loops w ≡ loops v → v < w → Goes loops v w Action.stay
   into_loop : (e : ℕ) → loops w ≡ loops v ++ (e ∷ []) → v < e → Goes loops v w Action.enter
   out_of_loop : loops v ≡ loops w ++ (v ∷ []) → v < w → Goes loops v w Action.leave
   round_loop : loops w ≡ loops v → 0 < length (loops v) → Goes loops v w Action.next
 
--- each edge keeps to the loops, and a vertex is as deep as it stands in loops
+-- each edge respects the loops, and a vertex's depth is the number of loops around it
 pub record IsNested (g : Graph) (loops : ℕ → List ℕ) : Type 0 where
   pub homes : (v : ℕ) → v < length g → length (loops v) ≡ (vertex g v).depth
   pub goes : (w i : ℕ) → w < length g → i < length (vertex g w).ins →
       Goes loops (source g w i).vertex w (action (vertex g (source g w i).vertex).kind)
 
--- inputs first, and inputs and outputs outside all loops
+-- inputs come first, and inputs and outputs are outside all loops
 pub record IsShaped (g : Graph) : Type 0 where
   pub inputs_first : (v : ℕ) → v < length g → (vertex g v).kind ≡ Kind.input → v < input_count g
   -- each end of a turn is inside a loop

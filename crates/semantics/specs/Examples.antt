@@ -1,4 +1,4 @@
--- Small programs whose meanings and graphs are computed, as checks of the definitions.
+-- Small programs whose meanings and graphs are computed, to check the definitions.
 use Rattle.std.specs.Prelude.{ℕ, zero, suc, ℤ, List, [], ◌∷◌, pos}
 use Rattle.semantics.specs.Multiset.{Record}
 use Rattle.semantics.specs.Time.{Time}
@@ -34,7 +34,7 @@ two_fields m n = pos m ∷ pos n ∷ []
 abbrev pub three_fields : ℤ → ℤ → ℤ → Record
 three_fields l m n = l ∷ m ∷ n ∷ []
 
--- the name of an output that is given none: `out`
+-- the name of an output without a name: `out`
 abbrev pub name_out : Name
 name_out = 111 ∷ 117 ∷ 116 ∷ []
 

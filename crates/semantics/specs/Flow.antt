@@ -1,4 +1,4 @@
--- Flows: what each edge of a graph has at each time, by equations alone: no order, messages or workers.
+-- Flows: what each edge of a graph has at each time, by equations only: no order, messages or workers.
 use Rattle.std.specs.Prelude.{◌≡◌, ℕ, ◌<◌, List, flat_map, length}
 use Rattle.semantics.specs.Multiset.{Record, ◌≈◌}
 use Rattle.semantics.specs.Time.{Time, times_before}
@@ -10,7 +10,7 @@ use Rattle.semantics.specs.Op.{op}
 abbrev pub Inputs : Type 0
 Inputs = (input epoch : ℕ) → List Record
 
--- what each edge has at each time: the vertex that it enters, the in port, the time
+-- what each edge has at each time, by the vertex that it enters, the in port and the time
 abbrev pub Flow : Type 0
 Flow = (vertex port : ℕ) → Time → List Record
 
@@ -18,7 +18,7 @@ Flow = (vertex port : ℕ) → Time → List Record
 abbrev pub sent_by : Kind → Flow → ℕ → ℕ → Time → List Record
 sent_by kind f v out u = flat_map (λ t. op kind t (λ i. f v i t) out) (times_before (action kind) u)
 
--- what a vertex sends: an input its records, every other by its equation
+-- what a vertex sends: an input sends its records, any other vertex what its equation gives
 abbrev pub sent_or_fed : Inputs → Kind → Flow → ℕ → ℕ → Time → List Record
 sent_or_fed inputs Kind.input f v out u = inputs v u.epoch
 sent_or_fed inputs kind f v out u = sent_by kind f v out u
@@ -33,7 +33,7 @@ pub record IsEdgeTime (g : Graph) (w i : ℕ) (u : Time) : Type 0 where
   pub is_port : i < length (vertex g w).ins
   pub has_depth : length u.counters ≡ (vertex g w).depth
 
--- each edge has at each time what leaves the port that it comes from
+-- each edge has at each time what leaves the port at which it begins
 pub record IsFlow (g : Graph) (inputs : Inputs) (f : Flow) : Type 0 where
   pub equations : (w i : ℕ) (u : Time) → IsEdgeTime g w i u → f w i u ≈ port_flow g inputs f (source g w i) u
 

@@ -3,11 +3,11 @@ use Rattle.std.specs.Prelude.{Bool, not, List, [], ◌∷◌, ◌++◌, filter}
 use Rattle.semantics.specs.Meaning.{same_name}
 use Rattle.semantics.specs.Query.{Name, Rel, Output}
 
--- y is another name than x
+-- y is a different name from x
 abbrev pub other_than : Name → Name → Bool
 other_than x y = not (same_name x y)
 
--- the names that occur free, in order, with repeats: a loop's variable is bound in its body alone
+-- the names that occur free, in order, with repeats; a loop's variable is bound only in its body
 abbrev pub free : Rel → List Name
 free (Rel.named x) = x ∷ []
 free (Rel.select r ss) = free r
@@ -20,12 +20,12 @@ free (Rel.except p q) = free p ++ free q
 free (Rel.intersect p q) = free p ++ free q
 free (Rel.iterate n x r b) = free r ++ filter (other_than x) (free b)
 
--- of all outputs, in order
+-- the same for all outputs, in order
 abbrev pub free_in_outputs : List Output → List Name
 free_in_outputs [] = []
 free_in_outputs (o ∷ os) = free o.value ++ free_in_outputs os
 
--- each name once, where it occurs first
+-- each name once, at its first occurrence
 abbrev pub firsts : List Name → List Name
 firsts [] = []
 firsts (x ∷ xs) = x ∷ filter (other_than x) (firsts xs)

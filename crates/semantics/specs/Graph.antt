@@ -17,11 +17,11 @@ pub record Vertex : Type 0 where
 abbrev pub Graph : Type 0
 Graph = List Vertex
 
--- what stands beyond the last vertex
+-- the value beyond the last vertex
 abbrev pub no_vertex : Vertex
 no_vertex = record { kind = Kind.output; depth = 0; ins = [] }
 
--- what stands beyond the last in port
+-- the value beyond the last in port
 abbrev pub no_port : Port
 no_port = record { vertex = 0; out = 0 }
 
@@ -29,12 +29,12 @@ no_port = record { vertex = 0; out = 0 }
 unfoldable pub vertex : Graph → ℕ → Vertex
 vertex g v = slice_index_or g v no_vertex
 
--- the vertices before the first that is no input
+-- the number of inputs: the vertices before the first that isn't an input
 abbrev pub input_count : Graph → ℕ
 input_count [] = 0
 input_count (x ∷ g) = cond (is_input x.kind) (suc (input_count g)) 0
 
--- the numbers of those vertices that are outputs, in order; the first vertex has the number k
+-- the numbers of the output vertices, in order; the first vertex of the list has the number k
 abbrev pub outputs_from : (k : ℕ) → List Vertex → List ℕ
 outputs_from k [] = []
 outputs_from k (x ∷ xs) = cond (is_output x.kind) (k ∷ outputs_from (suc k) xs) (outputs_from (suc k) xs)
@@ -43,13 +43,13 @@ outputs_from k (x ∷ xs) = cond (is_output x.kind) (k ∷ outputs_from (suc k) 
 abbrev pub output_numbers : Graph → List ℕ
 output_numbers g = outputs_from 0 g
 
--- the number of the vertex of an output, by the output's place; beyond the last output that of no vertex
+-- the vertex number of an output, by the output's place; for a place beyond the last, a number that no vertex has
 abbrev pub output_number : Graph → (output : ℕ) → ℕ
 output_number g k = slice_index_or (output_numbers g) k (length g)
 
--- ---- edges: an edge is the vertex that it enters with the in port, or a number, in the order of these two
+-- ---- edges: an edge is given by the vertex that it enters and the in port, or by a number, in the order of these two
 
--- the port where the edge into an in port of w begins
+-- the port at which the edge into an in port of w begins
 unfoldable pub source : Graph → (w port : ℕ) → Port
 unfolding vertex
 source g w i = slice_index_or (vertex g w).ins i no_port
@@ -75,6 +75,6 @@ edge_into [] v p = p
 edge_into (x ∷ g) zero p = p
 edge_into (x ∷ g) (suc v) p = length x.ins + edge_into g v p
 
--- the port where an edge begins
+-- the port at which an edge begins
 abbrev pub edge_source : Graph → (edge : ℕ) → Port
 edge_source g e = source g (target g e) (in_port g e)

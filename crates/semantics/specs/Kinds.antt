@@ -1,5 +1,5 @@
--- The kinds of vertices, and a table of what each is to the graph: its ports, what it does to times, its route keys, its role.
--- (Naiad, SOSP 2013, sections 2.1 and 2.2: vertices, and the ingress, egress and feedback vertices of a loop context.)
+-- The kinds of vertices, and a table of what each means to the graph: its ports, what it does to times, its route keys, its role. (Naiad, SOSP 2013,
+-- sections 2.1 and 2.2: vertices, and the ingress, egress and feedback vertices of a loop context.)
 use Rattle.std.specs.Prelude.{ℕ, zero, suc, Bool, true, false, List, Option, Some, None}
 use Rattle.semantics.specs.Query.{Scalar, Cond, Agg, Pair}
 use Rattle.semantics.specs.Multiset.{Record}
@@ -51,7 +51,7 @@ out_ports Kind.feedback = 1
 out_ports (Kind.gate n) = 2
 out_ports (Kind.hold n) = 2
 
--- what a kind does to the time of what passes it, on the way out
+-- what a kind does to the time of what it sends
 abbrev pub action : Kind → Action
 action Kind.input = Action.stay
 action Kind.output = Action.stay
@@ -69,7 +69,7 @@ action Kind.feedback = Action.next
 action (Kind.gate n) = Action.stay
 action (Kind.hold n) = Action.stay
 
--- the route key of a record that comes in at a port, for the kinds whose equal keys must meet on one worker
+-- the route key of a record that comes in at a port, for the kinds that need records of equal keys on one worker
 abbrev pub route_key : Kind → (port : ℕ) → Option (Record → Record)
 route_key Kind.input port = None
 route_key Kind.output port = None
@@ -88,7 +88,7 @@ route_key Kind.feedback port = None
 route_key (Kind.gate n) port = None
 route_key (Kind.hold n) port = None
 
--- a turn of a loop ends there: what comes in leaves the loop, or goes into its next turn
+-- a turn of a loop ends at this kind: what comes in leaves the loop, or goes to its next turn
 abbrev pub ends_turn : Kind → Bool
 ends_turn Kind.input = false
 ends_turn Kind.output = false
@@ -142,9 +142,9 @@ is_output Kind.feedback = false
 is_output (Kind.gate n) = false
 is_output (Kind.hold n) = false
 
--- How a vertex answers what comes in. An input has no in port. A stateless vertex sends what its equation makes of each
--- message; a stateful one absorbs the message, and sends what its equation gains by it; a notified one absorbs it, and sends
--- when it is told that no more can come at that time; an output sends nothing.
+-- How a vertex answers what comes in. An input has no in port. A stateless vertex sends what its equation makes of each message. A stateful one
+-- absorbs the message, and sends what its equation gains by it. A notified one absorbs it, and sends when it is notified that no more can come at
+-- that time. An output sends nothing.
 pub data Role : Type 0 where
   input stateless stateful notified output : Role
 

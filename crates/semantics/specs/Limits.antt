@@ -1,22 +1,22 @@
 -- The limits of the language, each named once.
 use Rattle.std.specs.Prelude.{ℕ}
 
--- the fields of a record, at most; it has at least one
+-- the most fields of a record; it has at least one
 abbrev pub max_fields : ℕ
 max_fields = 16
 
--- the inputs of a program, at most
+-- the most inputs of a program
 abbrev pub max_inputs : ℕ
 max_inputs = 16
 
--- the outputs of a program, at most
+-- the most outputs of a program
 abbrev pub max_outputs : ℕ
 max_outputs = 16
 
--- the turns of one loop, at most
+-- the most turns of a loop
 abbrev pub max_turns : ℕ
 max_turns = 65535
 
--- the loops inside one another, at most
+-- the most loops inside one another
 abbrev pub max_loops : ℕ
 max_loops = 16

@@ -1,6 +1,6 @@
--- The graph of a relation and of a program: vertices in the order in which they are made, and the port that a relation gives.
--- A loop is an ingress, a concat, a gate and an egress, with a feedback from its body; each name that its body takes from
--- outside goes round beside it, by a hold.
+-- The graph of a relation and of a program: vertices in the order in which they are made, and the port that a relation gives. A loop is an ingress, a
+-- concat, a gate and an egress, with a feedback from its body; each name that its body takes from outside is carried from turn to turn beside it, by
+-- a hold.
 use Rattle.std.specs.Prelude.{ℕ, suc, ◌+◌, cond, List, [], ◌∷◌, ◌++◌, map, length}
 use Rattle.semantics.specs.Kinds.{Kind}
 use Rattle.semantics.specs.Graph.{Port, no_port, Vertex, Graph}
@@ -14,7 +14,7 @@ use Rattle.semantics.specs.Query.{Name, Rel, Input, Let, Output, Program}
 abbrev pub Ports : Type 0
 Ports = Name → Port
 
--- x stands for p, and the others for what they stood for
+-- x stands for p, and the other names for what they stood for
 abbrev pub stands_for : Name → Port → Ports → Ports
 stands_for x p ports y = cond (same_name x y) p (ports y)
 
@@ -26,7 +26,7 @@ port v out = record { vertex = v; out = out }
 abbrev pub new_vertex : Kind → (depth : ℕ) → List Port → Vertex
 new_vertex kind depth ins = record { kind = kind; depth = depth; ins = ins }
 
--- for each carried name: ingress, concat, hold and feedback, from number k on; d is the depth outside
+-- for each carried name: ingress, concat, hold and feedback, from number k on; d is the depth outside the loop
 abbrev pub carry : (turns : ℕ) → Ports → (d k : ℕ) → List Name → List Vertex
 carry n ports d k [] = []
 carry n ports d k (y ∷ ys) =
@@ -46,11 +46,11 @@ pub record Lowered : Type 0 where
   pub made : List Vertex
   pub gives : Port
 
--- a vertex after those of its relation, whose first is the number k
+-- one more vertex after those of its relation, which begin at number k
 abbrev pub then_one : (k : ℕ) → Lowered → Kind → (d : ℕ) → Lowered
 then_one k r kind d = record { made = r.made ++ (new_vertex kind d (r.gives ∷ []) ∷ []); gives = port (k + length r.made) 0 }
 
--- a vertex after those of its two relations
+-- one more vertex after those of its two relations
 abbrev pub then_two : (k : ℕ) → Lowered → Lowered → Kind → (d : ℕ) → Lowered
 then_two k p q kind d =
     record {
@@ -58,7 +58,7 @@ then_two k p q kind d =
       gives = port (k + length p.made + length q.made) 0;
     }
 
--- a loop after its start r; k is the number of its first vertex, ys are the names that it carries, b is its body
+-- a loop after its start r; k is the number of its first vertex, ys are the names that it carries, and b is its body
 abbrev pub looped : (turns k : ℕ) → Lowered → Ports → (d : ℕ) → List Name → Lowered → Lowered
 looped n k r ports d ys b =
     let first = suc (suc (suc k)) + length (carry n ports d (suc (suc (suc k))) ys) in
@@ -75,11 +75,11 @@ looped n k r ports d ys b =
       gives = port (suc last) 0;
     }
 
--- the vertices of a loop's start, and then the loop's
+-- the vertices of a loop's start, then the loop's
 abbrev pub after_start : Lowered → Lowered → Lowered
 after_start r l = record { made = r.made ++ l.made; gives = l.gives }
 
--- of a relation at depth d, from number k on
+-- the vertices and port of a relation at depth d, from number k on
 unfoldable pub lower : Rel → Ports → (d k : ℕ) → Lowered
 lower (Rel.named x) ports d k = record { made = []; gives = ports x }
 lower (Rel.select r ss) ports d k = then_one k (lower r ports d k) (Kind.select ss) d
@@ -108,16 +108,16 @@ lower (Rel.iterate n x r b) ports d k =
 
 -- ---- programs
 
--- a vertex for each input
+-- one vertex for each input
 abbrev pub input_vertices : List Input → List Vertex
 input_vertices as' = map (λ a. new_vertex Kind.input 0 []) as'
 
--- each input's name stands for its vertex; the first is the number i
+-- each input's name stands for its vertex; the first has the number i
 abbrev pub input_ports : List Input → (i : ℕ) → Ports
 input_ports [] i x = no_port
 input_ports (a ∷ as') i x = stands_for a.name (port i 0) (input_ports as' (suc i)) x
 
--- the vertices made, and what the names then stand for
+-- the vertices made, and what the names stand for after them
 pub record LoweredLets : Type 0 where
   pub made : List Vertex
   pub ports : Ports
@@ -134,7 +134,7 @@ lower_lets (a ∷ as') ports k =
 abbrev pub lets_of : Program → LoweredLets
 lets_of p = lower_lets p.lets (input_ports p.inputs 0) (length p.inputs)
 
--- each output in order: the vertices of its relation, and then its own
+-- each output in order: the vertices of its relation, then its own
 unfoldable pub lower_outputs : List Output → Ports → (k : ℕ) → List Vertex
 lower_outputs [] ports k = []
 lower_outputs (o ∷ os) ports k =

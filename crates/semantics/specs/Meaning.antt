@@ -1,5 +1,5 @@
--- What scalars, conditions, relations and programs mean. The forms have the meanings of LINQ's Enumerable, on multisets: no
--- order, and sums that wrap at 64 bits. No time, graph or message occurs.
+-- What scalars, conditions, relations and programs mean. The forms have the meanings of LINQ's Enumerable, on multisets: without order, and with sums
+-- that wrap at 64 bits. There are no times, graphs or messages here.
 use Rattle.std.specs.Prelude.{ℕ, zero, suc, Bool, cond, not, ◌&&◌, ◌||◌, List, [], ◌∷◌, ◌++◌, map, filter, flat_map, ℤ, pos, ◌+ℤ◌, ◌-ℤ◌, ◌*ℤ◌, neg_ℤ, slice_index_or, nat_eq}
 use Rattle.std.specs.Cmp.Lexicographic.{pointwise}
 use Rattle.std.specs.Ordering.{int_eq}
@@ -13,7 +13,7 @@ use Rattle.semantics.specs.Query.{Scalar, Comparison, Cond, Agg, Name, Pair, Rel
 abbrev pub field : ℕ → Record → ℤ
 field c r = slice_index_or r c (pos 0)
 
--- the whole number, without bound
+-- the value as an unbounded whole number
 abbrev pub exact : Scalar → Record → ℤ
 exact (Scalar.column c) r = field c r
 exact (Scalar.literal z) r = z
@@ -22,11 +22,11 @@ exact (Scalar.minus s t) r = exact s r -ℤ exact t r
 exact (Scalar.times s t) r = exact s r *ℤ exact t r
 exact (Scalar.negation s) r = neg_ℤ (exact s r)
 
--- brought to 64 bits
+-- the value, wrapped to 64 bits
 abbrev pub value : Scalar → Record → ℤ
 value s r = int_wrap w64 (exact s r)
 
--- how a comparison comes out
+-- the result of a comparison
 abbrev pub compares : Comparison → ℤ → ℤ → Bool
 compares Comparison.equal a b = int_eq a b
 compares Comparison.not_equal a b = not (int_eq a b)
@@ -46,22 +46,22 @@ holds (Cond.negation c) r = not (holds c r)
 abbrev pub project : List ℕ → Record → Record
 project cs r = map (λ c. field c r) cs
 
--- from the last record on, each taken into b
+-- a fold from the last record to the first
 abbrev pub folded : {B : Type 0} → (Record → B → B) → B → List Record → B
 folded f b [] = b
 folded f b (x ∷ xs) = f x (folded f b xs)
 
--- z and the numbers after it, taken together by f
+-- z and the numbers after it, combined by f
 abbrev pub reduced_from : (ℤ → ℤ → ℤ) → ℤ → List ℤ → ℤ
 reduced_from f z [] = z
 reduced_from f z (w ∷ ws) = f z (reduced_from f w ws)
 
--- numbers taken together by f, without a start value; 0 where there is none
+-- the numbers combined by f without a start value; 0 if there are none
 abbrev pub reduced : (ℤ → ℤ → ℤ) → List ℤ → ℤ
 reduced f [] = pos 0
 reduced f (z ∷ zs) = reduced_from f z zs
 
--- an aggregate over records, with repeats (LINQ: Count, Sum, Min, Max; here counts and sums wrap at 64 bits)
+-- an aggregate of records, repeats included (LINQ: Count, Sum, Min, Max; here counts and sums wrap at 64 bits)
 abbrev pub aggregate : Agg → List Record → ℤ
 aggregate Agg.count rs = int_wrap w64 (pos (total (λ r. 1) rs))
 aggregate (Agg.sum c) rs = int_wrap w64 (folded (λ r n. field c r +ℤ n) (pos 0) rs)
@@ -86,7 +86,7 @@ left_columns ps = map (λ p. p.left) ps
 abbrev pub right_columns : List Pair → List ℕ
 right_columns ps = map (λ p. p.right) ps
 
--- each a with each b that agrees with it in the columns of all pairs, a's fields first (LINQ: Join)
+-- each a with each b that agrees with it in the columns of all pairs, with a's fields first (LINQ: Join)
 abbrev pub paired : List Pair → List Record → List Record → List Record
 paired ps xs ys = flat_map (λ a. map (λ b. a ++ b) (filter (λ b. same (project (left_columns ps) a) (project (right_columns ps) b)) ys)) xs
 
@@ -94,15 +94,15 @@ paired ps xs ys = flat_map (λ a. map (λ b. a ++ b) (filter (λ b. same (projec
 abbrev pub with_key : List ℕ → Record → List Record → List Record
 with_key ks k xs = filter (λ r. same (project ks r) k) xs
 
--- a record for each key that is present: the key, then the aggregates of its records (LINQ: GroupBy)
+-- one record for each key that is present: the key, then the aggregates of its records (LINQ: GroupBy)
 abbrev pub grouped : List ℕ → List Agg → List Record → List Record
 grouped ks as' xs = map (λ k. k ++ map (λ a. aggregate a (with_key ks k xs)) as') (each_once (map (project ks) xs))
 
--- once each, what is present on the left and not on the right (LINQ: Except)
+-- each record that is on the left and not on the right, once (LINQ: Except)
 abbrev pub only_left : List Record → List Record → List Record
 only_left xs ys = each_once (filter (λ r. not (is_present r ys)) xs)
 
--- once each, what is present on both sides (LINQ: Intersect)
+-- each record that is on both sides, once (LINQ: Intersect)
 abbrev pub in_both : List Record → List Record → List Record
 in_both xs ys = each_once (filter (λ r. is_present r ys) xs)
 
@@ -116,7 +116,7 @@ Names = Name → List Record
 abbrev pub same_name : Name → Name → Bool
 same_name x y = pointwise nat_eq x y
 
--- x means xs, and the others what they meant
+-- x means xs, and the other names what they meant
 abbrev pub bind : Name → List Record → Names → Names
 bind x xs names y = cond (same_name x y) xs (names y)
 
@@ -125,7 +125,7 @@ abbrev pub repeated : {A : Type 0} → (A → A) → ℕ → A → A
 repeated f zero a = a
 repeated f (suc n) a = f (repeated f n a)
 
--- what a relation means, where the names mean that
+-- what a relation means, given what the names mean
 unfoldable pub meaning : Rel → Names → List Record
 meaning (Rel.named x) names = names x
 meaning (Rel.select r ss) names = selected ss (meaning r names)
@@ -140,7 +140,7 @@ meaning (Rel.iterate n x r b) names = repeated (λ xs. meaning b (bind x xs name
 
 -- ---- programs, for the multisets of one epoch
 
--- each input's name means its records; the first is the number i
+-- each input's name means its records; the first has the number i
 abbrev pub input_names : List Input → ℕ → (ℕ → List Record) → Names
 input_names [] i records x = []
 input_names (a ∷ as') i records x = bind a.name (records i) (input_names as' (suc i) records) x
@@ -150,7 +150,7 @@ unfoldable pub let_names : List Let → Names → Names
 let_names [] names = names
 let_names (a ∷ as') names = let_names as' (bind a.name (meaning a.value names) names)
 
--- what a program means at each output, by its place, on the records of its inputs; nothing beyond the last
+-- what a program means at each output, by its place, on the records of its inputs; nothing beyond the last output
 unfoldable pub program_meaning : Program → (output : ℕ) → (ℕ → List Record) → List Record
 program_meaning p k records =
     let names = let_names p.lets (input_names p.inputs 0 records) in

@@ -1,4 +1,4 @@
--- Multisets of records: lists, compared by how often each record stands in them.
+-- Multisets of records: lists, compared by how often each record is in them.
 use Rattle.std.specs.Prelude.{◌≡◌, ◌⊎◌, ℕ, zero, suc, ◌+◌, ◌≤◌, nat_lt, Bool, true, false, cond, List, [], ◌∷◌, ◌++◌, ℤ}
 use Rattle.std.specs.Cmp.Lexicographic.{pointwise}
 use Rattle.std.specs.Ordering.{int_eq}
@@ -11,7 +11,7 @@ Record = List ℤ
 abbrev pub same : Record → Record → Bool
 same a b = pointwise int_eq a b
 
--- 1 where it is so, else 0
+-- 1 for true, 0 for false
 abbrev pub one_if : Bool → ℕ
 one_if true = 1
 one_if false = 0
@@ -21,12 +21,12 @@ abbrev pub total : {X : Type 0} → (X → ℕ) → List X → ℕ
 total f [] = 0
 total f (x ∷ xs) = f x + total f xs
 
--- how often r stands in xs
+-- how often r is in xs
 abbrev pub count : Record → List Record → ℕ
 count r xs = total (λ x. one_if (same x r)) xs
 
 infix 30 ◌≈◌
--- xs and ys are one multiset
+-- xs and ys are the same multiset
 pub record ◌≈◌ (xs ys : List Record) : Type 0 where
   pub counts : (r : Record) → count r xs ≡ count r ys
 
@@ -39,11 +39,11 @@ abbrev pub IsAmong : {X : Type 0} → X → List X → Type 0
 IsAmong x [] = ⊥
 IsAmong x (y ∷ ys) = (y ≡ x) ⊎ IsAmong x ys
 
--- r stands in xs
+-- r is in xs
 abbrev pub is_present : Record → List Record → Bool
 is_present r xs = nat_lt 0 (count r xs)
 
--- each record that is present, once
+-- each record of the list, once
 abbrev pub each_once : List Record → List Record
 each_once [] = []
 each_once (x ∷ xs) = cond (is_present x xs) (each_once xs) (x ∷ each_once xs)
@@ -58,7 +58,7 @@ abbrev pub without : Record → List Record → List Record
 without y [] = []
 without y (x ∷ xs) = cond (same x y) xs (x ∷ without y xs)
 
--- xs less what stands in ys
+-- xs without what is in ys
 abbrev pub less : List Record → List Record → List Record
 less xs [] = xs
 less xs (y ∷ ys) = less (without y xs) ys

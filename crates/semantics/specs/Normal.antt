@@ -1,6 +1,6 @@
--- The rules of the normaliser, and the trees to which none of them applies: literals are folded, a `where` of a `where`
--- becomes one, so does a `select` of a `select` that copies no scalar, a `distinct` of a `distinct`, an `except` or an
--- `intersect` and a loop of no turns become what they hold, and a let that no output reaches is dropped.
+-- The rules of the normaliser, and the trees to which none of them applies. Literals are folded. A `where` of a `where` becomes one, and so does a
+-- `select` of a `select` if no scalar is copied. A `distinct` of a `distinct`, an `except` or an `intersect` becomes what it holds, and so does a
+-- loop of no turns. A let that no output reaches is dropped.
 use Rattle.std.specs.Prelude.{◌≡◌, ◌⊎◌, ℕ, ◌+◌, ◌≤◌, nat_eq, List, [], ◌∷◌, ◌++◌, slice_index_or, pos}
 use Rattle.std.specs.List.{AllByRecursion}
 use Rattle.semantics.specs.Multiset.{IsAmong, one_if}
@@ -23,12 +23,12 @@ abbrev pub uses_all : List Scalar → List ℕ
 uses_all [] = []
 uses_all (s ∷ ss) = uses s ++ uses_all ss
 
--- how often c stands among them
+-- how often c is among them
 abbrev pub use_count : ℕ → List ℕ → ℕ
 use_count c [] = 0
 use_count c (d ∷ ds) = one_if (nat_eq c d) + use_count c ds
 
--- all together use each column at most once, so that no scalar that replaces a column is copied
+-- all together use each column at most once, so no scalar that replaces a column is copied
 abbrev pub UsesOnce : List Scalar → Type 0
 UsesOnce ss = (c : ℕ) → use_count c (uses_all ss) ≤ 1
 
@@ -73,7 +73,7 @@ NormalScalar (Scalar.minus s t) = NormalScalar s × NormalScalar t × (IsLiteral
 NormalScalar (Scalar.times s t) = NormalScalar s × NormalScalar t × (IsLiteral s → IsLiteral t → ⊥)
 NormalScalar (Scalar.negation s) = NormalScalar s × (IsLiteral s → ⊥)
 
--- no literals in its scalars can be folded; conditions themselves aren't
+-- no literals in its scalars can be folded; the conditions themselves aren't folded
 abbrev pub NormalCond : Cond → Type 0
 NormalCond (Cond.compare c s t) = NormalScalar s × NormalScalar t
 NormalCond (Cond.conjunction c d) = NormalCond c × NormalCond d
@@ -106,7 +106,7 @@ IsSelect (Rel.except p q) = ⊥
 IsSelect (Rel.intersect p q) = ⊥
 IsSelect (Rel.iterate n x r b) = ⊥
 
--- a set by its form: a `distinct`, an `except` or an `intersect`, each of which has no record twice
+-- the form gives a set: a `distinct`, an `except` or an `intersect`, in which no record occurs twice
 abbrev pub IsSet : Rel → Type 0
 IsSet (Rel.named x) = ⊥
 IsSet (Rel.select r ss) = ⊥

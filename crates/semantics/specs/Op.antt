@@ -1,12 +1,12 @@
--- The equation of a vertex at one time: from a multiset for each in port to one for each out port. The vertices of a query's
--- forms do what the forms mean; those of a loop go by the last counter.
+-- The equation of a vertex at one time: from a multiset for each in port to one for each out port. The vertices of a query's forms compute what the
+-- forms mean; those of a loop depend on the last counter.
 use Rattle.std.specs.Prelude.{◌≡◌, ℕ, zero, suc, ◌+◌, ◌<◌, nat_lt, nat_eq, cond, List, [], ◌++◌, map, Some}
 use Rattle.semantics.specs.Multiset.{Record, count, ◌≈◌, each_once, end_to_end}
 use Rattle.semantics.specs.Meaning.{selected, kept, paired, grouped, only_left, in_both}
 use Rattle.semantics.specs.Time.{Time, last}
 use Rattle.semantics.specs.Kinds.{Kind, in_ports, route_key}
 
--- what a vertex of that kind makes of what its in ports have
+-- what a vertex of that kind makes of the records at its in ports
 abbrev pub op : Kind → Time → (ins : ℕ → List Record) → (out : ℕ) → List Record
 op Kind.input t ins out = []
 op Kind.output t ins out = []
@@ -28,11 +28,11 @@ op (Kind.hold n) t ins (suc out) = cond (nat_lt (last t.counters + 1) n) (ins 0)
 
 -- ---- inputs that are cut by route keys
 
--- no key of xs by f is a key of ys by g
+-- no key of xs under f is a key of ys under g
 pub record HasNoCommonKey (f g : Record → Record) (xs ys : List Record) : Type 0 where
   pub never : (k : Record) → 0 < count k (map f xs) → 0 < count k (map g ys) → ⊥
 
--- no route key is in two of the parts below n: `parts w` are the records of the part w at each port
+-- no route key is in two of the first n parts; `parts w` are the records of part w at each port
 pub record IsCut (kind : Kind) (parts : ℕ → ℕ → List Record) (n : ℕ) : Type 0 where
   pub apart : (v w : ℕ) → v < n → w < n → (v ≡ w → ⊥) → (i j : ℕ) → i < in_ports kind → j < in_ports kind →
       (f g : Record → Record) → route_key kind i ≡ Some f → route_key kind j ≡ Some g →

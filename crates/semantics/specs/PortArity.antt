@@ -1,4 +1,4 @@
--- The arities of a graph's ports: how many fields the records have that go through them.
+-- The arities of a graph's ports: how many fields the records that go through them have.
 use Rattle.std.specs.Prelude.{◌≡◌, ℕ, ◌+◌, ◌<◌, cond, List, [], ◌∷◌, ◌++◌, map, length}
 use Rattle.std.specs.List.{AllByRecursion}
 use Rattle.semantics.specs.Multiset.{Record, count}
@@ -9,11 +9,11 @@ use Rattle.semantics.specs.FreeNames.{carried}
 use Rattle.semantics.specs.Kinds.{Kind}
 use Rattle.semantics.specs.Graph.{Graph, vertex, source}
 
--- each record that is present has n fields
+-- each record of the list has n fields
 abbrev pub HaveFields : ℕ → List Record → Type 0
 HaveFields n xs = (r : Record) → 0 < count r xs → length r ≡ n
 
--- what a kind asks of the arities of its in ports, and the arity of what it sends
+-- what a kind requires of the arities of its in ports, and the arity of what it sends
 abbrev pub PortsFit : Kind → (ins : (port : ℕ) → ℕ) → (out : ℕ) → Type 0
 PortsFit Kind.input ins out = Unit {0}
 PortsFit Kind.output ins out = out ≡ ins 0
@@ -31,7 +31,7 @@ PortsFit Kind.feedback ins out = out ≡ ins 0
 PortsFit (Kind.gate n) ins out = out ≡ ins 0
 PortsFit (Kind.hold n) ins out = out ≡ ins 0
 
--- each vertex's ports fit; `arity v` is that of all out ports of v, and of an output vertex's in port
+-- each vertex's ports fit; `arity v` is the arity of all out ports of v, and for an output vertex that of its in port
 pub record IsTyped (g : Graph) (arity : (vertex : ℕ) → ℕ) : Type 0 where
   pub ports : (v : ℕ) → v < length g → PortsFit (vertex g v).kind (λ i. arity (source g v i).vertex) (arity v)
   pub fields : (v : ℕ) → v < length g → IsArity (arity v)
@@ -42,7 +42,7 @@ pub record IsTyped (g : Graph) (arity : (vertex : ℕ) → ℕ) : Type 0 where
 abbrev pub Arities : Type 0
 Arities = Name → ℕ
 
--- x has n fields, and the others what they had
+-- x has n fields, and the other names have what they had
 abbrev pub with_arity : Name → ℕ → Arities → Arities
 with_arity x n of y = cond (same_name x y) n (of y)
 

@@ -1,8 +1,8 @@
--- The trees of a query, without the places of the text where they stand. The forms are LINQ's Select, Where, Concat, Join,
--- GroupBy, Distinct, Except and Intersect, and a loop of a fixed number of turns.
+-- The trees of a query, without the places of the text. The forms are LINQ's Select, Where, Concat, Join, GroupBy, Distinct, Except and Intersect,
+-- and a loop of a fixed number of turns.
 use Rattle.std.specs.Prelude.{ℕ, ℤ, List}
 
--- what is computed of a record: a column, a number, or an operation on scalars
+-- what is computed from a record: a column, a number, or an operation on scalars
 pub data Scalar : Type 0 where
   column : ℕ → Scalar
   literal : ℤ → Scalar
@@ -19,7 +19,7 @@ pub data Cond : Type 0 where
   conjunction disjunction : Cond → Cond → Cond
   negation : Cond → Cond
 
--- aggregates of a group; a number is a column
+-- aggregates of a group; the number is a column
 pub data Agg : Type 0 where
   count : Agg
   sum min max : ℕ → Agg
@@ -33,7 +33,7 @@ pub record Pair : Type 0 where
   pub left : ℕ
   pub right : ℕ
 
--- Relations: a name, each form over the relations that it takes, and a loop: its turns, its variable, its start, its body.
+-- Relations: a name; each form over the relations that it takes; and a loop with its turns, variable, start and body.
 pub data Rel : Type 0 where
   named : Name → Rel
   select : Rel → List Scalar → Rel
@@ -55,7 +55,7 @@ pub record Let : Type 0 where
   pub name : Name
   pub value : Rel
 
--- a named output, and what is put out there
+-- a named output, with the relation that it emits
 pub record Output : Type 0 where
   pub name : Name
   pub value : Rel

@@ -1,5 +1,5 @@
--- The normaliser's rules as a rewriting system: one step uses one rule at one place, whose parts are normal (from the inside out), and
--- a program rewrites to another by steps one after the other. A tree with no step left is a normal form.
+-- The normaliser's rules as a rewriting system. One step applies one rule at one place whose parts are normal (from the inside out); a program
+-- rewrites to another by a sequence of steps. A tree without a step is a normal form.
 use Rattle.std.specs.Prelude.{ℕ, List, ◌∷◌, map, ℤ, ◌+ℤ◌, ◌-ℤ◌, ◌*ℤ◌, neg_ℤ}
 use Rattle.std.specs.List.{AllByRecursion}
 use Rattle.std.specs.Int.{int_wrap}
@@ -7,14 +7,14 @@ use mir.Syntax.{w64}
 use Rattle.semantics.specs.Query.{Scalar, Comparison, Cond, Agg, Name, Pair, Rel, Input, Let, Output, Program}
 use Rattle.semantics.specs.Normal.{UsesOnce, replaced, Reaches, AllReached, NormalScalar, NormalCond, IsSet, NormalRel, NormalProgram}
 
--- ---- steps one after the other
+-- ---- sequences of steps
 
 -- none, or a step and then more
 pub data Steps {X : Type 0} (Step : X → X → Type 0) : X → X → Type 0 where
   stay : {x : X} → Steps Step x x
   next : {x y z : X} → Step x y → Steps Step y z → Steps Step x z
 
--- one element takes a step, the others stay
+-- one element takes a step, and the others stay
 pub data OneOf {X : Type 0} (Step : X → X → Type 0) : List X → List X → Type 0 where
   here : {x y : X} {xs : List X} → Step x y → OneOf Step (x ∷ xs) (y ∷ xs)
   later : {x : X} {xs ys : List X} → OneOf Step xs ys → OneOf Step (x ∷ xs) (x ∷ ys)
@@ -22,7 +22,7 @@ pub data OneOf {X : Type 0} (Step : X → X → Type 0) : List X → List X → 
 -- ---- one step of a scalar
 
 pub data ScalarStep : Scalar → Scalar → Type 0 where
-  -- literals are folded: the wrapped value
+  -- literals are folded to the wrapped value
   sum : {a b : ℤ} → ScalarStep (Scalar.plus (Scalar.literal a) (Scalar.literal b)) (Scalar.literal (int_wrap w64 (a +ℤ b)))
   difference : {a b : ℤ} → ScalarStep (Scalar.minus (Scalar.literal a) (Scalar.literal b)) (Scalar.literal (int_wrap w64 (a -ℤ b)))
   product : {a b : ℤ} → ScalarStep (Scalar.times (Scalar.literal a) (Scalar.literal b)) (Scalar.literal (int_wrap w64 (a *ℤ b)))
@@ -52,7 +52,7 @@ pub data CondStep : Cond → Cond → Type 0 where
 pub data RelStep : Rel → Rel → Type 0 where
   -- where of where, with the inner condition first
   wheres : {r : Rel} {c d : Cond} → NormalRel (Rel.filter r c) → NormalCond d → RelStep (Rel.filter (Rel.filter r c) d) (Rel.filter r (Cond.conjunction c d))
-  -- select of select, where no scalar is copied
+  -- select of select, if no scalar is copied
   selects : {r : Rel} {ss ts : List Scalar} → NormalRel (Rel.select r ss) → AllByRecursion NormalScalar ts → UsesOnce ts → RelStep (Rel.select (Rel.select r ss) ts) (Rel.select r (map (replaced ss) ts))
   -- distinct of a distinct, an except or an intersect
   distincts : {r : Rel} → NormalRel r → IsSet r → RelStep (Rel.distinct r) r
@@ -94,7 +94,7 @@ pub data ProgramStep : Program → Program → Type 0 where
   lets : {inputs : List Input} {as' bs : List Let} {outs : List Output} → LetsStep outs as' bs → ProgramStep (record { inputs = inputs; lets = as'; outputs = outs }) (record { inputs = inputs; lets = bs; outputs = outs })
   outputs : {inputs : List Input} {as' : List Let} {os os' : List Output} → OneOf OutputStep os os' → ProgramStep (record { inputs = inputs; lets = as'; outputs = os }) (record { inputs = inputs; lets = as'; outputs = os' })
 
--- by any number of steps
+-- the same, by any number of steps
 abbrev pub RewritesTo : Program → Program → Type 0
 RewritesTo p q = Steps ProgramStep p q
 

@@ -6,7 +6,7 @@ use Rattle.semantics.specs.Multiset.{Record}
 use Rattle.semantics.specs.Kinds.{is_input, route_key}
 use Rattle.semantics.specs.Graph.{Graph, vertex, target, in_port, edge_source}
 
--- 31 times the hash so far, and the field read as an unsigned number, modulo 2^64; field by field
+-- for each field: 31 times the hash so far, plus the field read as an unsigned number, modulo 2^64
 abbrev pub hash_from : ℕ → Record → ℕ
 hash_from h [] = h
 hash_from h (v ∷ vs) = hash_from ((31 * h + cast_unsigned w64 v) % 2 ^ 64) vs
@@ -15,13 +15,13 @@ hash_from h (v ∷ vs) = hash_from ((31 * h + cast_unsigned w64 v) % 2 ^ 64) vs
 unfoldable pub route : (key : Record) → (workers : ℕ) → ℕ
 route key workers = hash_from 7 key % workers
 
--- by the key, where the edge's target has one; else by the whole record out of an input; else at the sender's
+-- by the key, if the edge's target has one; otherwise by the whole record from an input, and otherwise to the sender
 abbrev pub home_by : Option (Record → Record) → (from_input : Bool) → (workers sender : ℕ) → Record → ℕ
 home_by (Some key) from_input workers sender r = route (key r) workers
 home_by None true workers sender r = route r workers
 home_by None false workers sender r = sender
 
--- where a record goes on an edge
+-- the worker to which a record goes on an edge
 abbrev pub home : Graph → (workers sender edge : ℕ) → Record → ℕ
 home g workers sender e r =
     home_by (route_key (vertex g (target g e)).kind (in_port g e)) (is_input (vertex g (edge_source g e).vertex).kind) workers

@@ -3,12 +3,12 @@ use Rattle.std.specs.Prelude.{◌≡◌, ℕ, Bool, true, false, cond, ◌==◌,
 use Rattle.semantics.specs.Multiset.{Record, ◌≈◌}
 use Rattle.semantics.specs.Kinds.{Role}
 
--- these records at one port, and nothing at the others
+-- these records at one port, and none at the others
 abbrev pub only_at : ℕ → List Record → ℕ → List Record
 only_at p records p' = cond (p' == p) records []
 
--- What a shard sends for records that come to a port: `op` is its vertex's equation at the time, `before` what it had absorbed
--- there by port, `now` what it then has, and `out` what it sends by out port. An input is sent nothing.
+-- What a shard sends for records that come to a port: `op` is its vertex's equation at the time, `before` what it had absorbed there by port, `now`
+-- what it has absorbed after, and `out` what it sends by out port. An input gets no messages.
 abbrev pub SendsBy : Role → (op : (out : ℕ) → (ins : ℕ → List Record) → List Record) → (before now : (port : ℕ) → List Record)
     → (port : ℕ) → List Record → (out : ℕ → List Record) → Type 0
 SendsBy Role.input op before now port records out = ⊥
@@ -18,13 +18,12 @@ SendsBy Role.stateful op before now port records out = (q : ℕ) → (out q ++ o
 SendsBy Role.notified op before now port records out = (q : ℕ) → out q ≡ []
 SendsBy Role.output op before now port records out = (q : ℕ) → out q ≡ []
 
--- what a shard sends at its notification, of all that it absorbed at that time
+-- what a shard sends at its notification, from all that it absorbed at that time
 abbrev pub SendsAtNotification : (op : (out : ℕ) → (ins : ℕ → List Record) → List Record) → (absorbed : (port : ℕ) → List Record)
     → (out : ℕ → List Record) → Type 0
 SendsAtNotification op absorbed out = (q : ℕ) → out q ≈ op q absorbed
 
--- a shard asks for a notification by the first records that it absorbs at a time; `before` is what it had absorbed there at all
--- its ports
+-- a shard asks for a notification when it absorbs its first records at a time; `before` is what it had absorbed there at all its ports
 abbrev pub asks : Role → (before : List Record) → Bool
 asks Role.input before = false
 asks Role.stateless before = false

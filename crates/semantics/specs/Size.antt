@@ -2,7 +2,7 @@
 use Rattle.std.specs.Prelude.{ℕ, suc, ◌+◌, max, List, [], ◌∷◌, length}
 use Rattle.semantics.specs.Query.{Scalar, Cond, Agg, Rel, Let, Output, Program}
 
--- ---- size: the number of relation, condition, scalar and aggregate nodes, and one for each let
+-- ---- size: the number of relation, condition, scalar and aggregate nodes, plus one for each let
 
 -- of a scalar
 abbrev pub scalar_size : Scalar → ℕ
@@ -25,7 +25,7 @@ cond_size (Cond.conjunction c d) = suc (cond_size c + cond_size d)
 cond_size (Cond.disjunction c d) = suc (cond_size c + cond_size d)
 cond_size (Cond.negation c) = suc (cond_size c)
 
--- of a relation; the columns of a join or of a key are no nodes
+-- of a relation; the columns of a join or of a key don't count as nodes
 abbrev pub rel_size : Rel → ℕ
 rel_size (Rel.named x) = 1
 rel_size (Rel.select r ss) = suc (rel_size r + scalars_size ss)
@@ -43,7 +43,7 @@ abbrev pub lets_size : List Let → ℕ
 lets_size [] = 0
 lets_size (a ∷ as') = suc (rel_size a.value + lets_size as')
 
--- of outputs together; an output is no node itself
+-- of outputs together; an output itself doesn't count as a node
 abbrev pub outputs_size : List Output → ℕ
 outputs_size [] = 0
 outputs_size (o ∷ os) = rel_size o.value + outputs_size os
@@ -52,7 +52,7 @@ outputs_size (o ∷ os) = rel_size o.value + outputs_size os
 abbrev pub program_size : Program → ℕ
 program_size p = lets_size p.lets + outputs_size p.outputs
 
--- ---- depth: the greatest number of nodes on one way down, each a child of the one before
+-- ---- depth: the greatest number of nodes on a way down, each a child of the one before
 
 -- of a scalar
 abbrev pub scalar_depth : Scalar → ℕ

@@ -1,5 +1,5 @@
--- Well-typed relations and programs: each name is known, each column is there, arities agree, and limits are kept. What the
--- check of a query refuses is what some case here asks.
+-- Well-typed relations and programs: each name is known, each column exists, arities agree, and limits are kept. The check of a query refuses a
+-- program exactly when a condition here fails.
 use Rattle.std.specs.Prelude.{◌≡◌, ℕ, suc, ◌+◌, ◌≤◌, ◌<◌, cond, List, [], ◌∷◌, length, Option, Some, None}
 use Rattle.std.specs.List.{AllByRecursion}
 use Rattle.semantics.specs.Limits.{max_fields, max_inputs, max_outputs, max_turns, max_loops}
@@ -11,7 +11,7 @@ pub record Entry : Type 0 where
   pub name : Name
   pub arity : ℕ
 
--- the names in scope, the last first
+-- the names in scope, the latest first
 abbrev pub Scope : Type 0
 Scope = List Entry
 
@@ -51,7 +51,7 @@ AggFits n (Agg.sum c) = c < n
 AggFits n (Agg.min c) = c < n
 AggFits n (Agg.max c) = c < n
 
--- the relation has the arity n in that scope, in the body of d loops
+-- the relation has the arity n in that scope, inside the bodies of d loops
 unfoldable pub HasArity : Rel → Scope → (d n : ℕ) → Type 0
 HasArity (Rel.named x) scope d n = lookup scope x ≡ Some n
 HasArity (Rel.select r ss) scope d n =
@@ -80,8 +80,7 @@ abbrev pub after_inputs : Scope → List Input → Scope
 after_inputs scope [] = scope
 after_inputs scope (a ∷ as') = after_inputs (entry a.name a.arity ∷ scope) as'
 
--- outputs in order, of these arities, each name new among those `before` it; output names are a scope of their own, which no
--- relation sees
+-- outputs in order, of these arities, each name different from those `before` it; output names have a scope by themselves, which no relation sees
 abbrev pub OutputsFit : Scope → (before : Scope) → List Output → List ℕ → Type 0
 OutputsFit scope before [] [] = Unit {0}
 OutputsFit scope before [] (n ∷ ns) = ⊥

@@ -10,10 +10,10 @@ ghost use Rattle.semantics.specs.Graph.{output_numbers};
 ghost use Rattle.semantics.specs.Lower.{lowered, port, new_vertex};
 ghost use Rattle.semantics.specs.Examples.{one_field, two_fields, three_fields, first_plus_1, twice, sums_by_key, reachability, no_turns, outer_name, loop_in_loop, two_turns, outer_name_in_loops, in_a_alone, in_a_and_b, except_in_loop, small_and_all, least_of_let, twice_out, a_and_b, one_and_two, turn};
 
-/// What small programs mean: `a` twice is each record twice; a sum wraps at 64 bits; the edges 1-2, 2-3 and 3-4 give all pairs
-/// that are connected by up to four of them; a loop of no turns gives its start; a loop whose body is a name from outside
-/// gives what that name means; and two turns of three turns of `#0 + 1` add 6. Of `a` and `b`, what is in `a` alone and what is in
-/// both is told once. Two outputs each mean their own relation, and beyond the last there is nothing. A relation that names a let means
+/// The meanings of small programs. `a` concatenated with itself has each record twice as often; a sum wraps at 64 bits; the edges 1-2, 2-3 and 3-4
+/// give all pairs that are connected by up to four of them; a loop of no turns gives its start; a loop whose body is a name from outside gives what
+/// that name means; and two turns of three turns of `#0 + 1` add 6. An except of `a` and `b` has each record once that only `a` has, and an intersect
+/// each that both have. Each of two outputs means its own relation, and an output beyond the last means nothing. A relation that names a let means
 /// what the let's relation means.
 pub fn law_meanings()
     ensures twice { (records : List Record) → program_meaning twice 0 (λ i. records) ≡ records ++ records }
@@ -34,7 +34,7 @@ pub fn law_meanings()
     ensures no_more { program_meaning small_and_all 2 (λ i. one_field (pos 3) ∷ one_field (pos 7) ∷ []) ≡ [] }
 {}
 
-/// Programs with loops are well typed, and one with two outputs; one whose outputs have one name isn't.
+/// Programs with loops are well typed, and so is one with two outputs; a program whose outputs have the same name isn't.
 pub fn law_well_typed()
     ensures reachability { WellTyped reachability (2 ∷ []) }
     ensures loops { WellTyped outer_name_in_loops (1 ∷ []) }
@@ -42,8 +42,8 @@ pub fn law_well_typed()
     ensures one_name { (ns : List ℕ) → WellTyped twice_out ns → ⊥ }
 {}
 
-/// The graphs of three programs with loops, of an except, of two outputs, and of a let with two outputs, vertex by vertex: a vertex is
-/// its kind, its depth and the ports that feed it. The vertices of the two outputs of `small_and_all` are 2 and 3.
+/// The graphs of three programs with loops, of an except, of two outputs, and of a let with two outputs, vertex by vertex: a vertex is its kind, its
+/// depth and the ports that feed it. The vertices of the two outputs of `small_and_all` are 2 and 3.
 pub fn law_graphs()
     ensures two_turns { lowered two_turns ≡
         new_vertex Kind.input 0 []
@@ -115,8 +115,8 @@ pub fn law_graphs()
     ensures outputs { output_numbers (lowered small_and_all) ≡ 2 ∷ 3 ∷ [] }
 {}
 
-/// In the graph of `two_turns`: the gate (vertex 3) at one turn could result in itself, in the concat (vertex 2) at the next turn
-/// and in the output (vertex 7), but not in the concat at the same turn.
+/// In the graph of `two_turns`, the gate (vertex 3) at one turn could result in itself, in the concat (vertex 2) at the next turn and in the output
+/// (vertex 7), but not in the concat at the same turn.
 pub fn law_could_result_in()
     ensures itself { CouldResultIn (lowered two_turns) (at_vertex 3 (turn 1)) (at_vertex 3 (turn 1)) }
     ensures round { CouldResultIn (lowered two_turns) (at_vertex 3 (turn 1)) (at_vertex 2 (turn 2)) }

@@ -25,9 +25,9 @@ pub fn law_outputs()
     ensures in_order { (g : Graph) (j k : ℕ) → j < k → k < length (output_numbers g) → output_number g j < output_number g k }
 {}
 
-/// The graph of a well-typed program is a dataflow graph, so it has exactly one flow. It has the program's outputs. Its edge
-/// into each output vertex has, at each epoch, what the program means at that output on that epoch's inputs, and a flow is empty
-/// on an edge into a feedback or an egress at last counters over the limit of turns.
+/// The graph of a well-typed program is a dataflow graph, so it has exactly one flow. It has the program's outputs. At each epoch, its edge into each
+/// output vertex has what the program means at that output on that epoch's inputs. On an edge into a feedback or an egress a flow is empty at last
+/// counters over the limit of turns.
 pub fn law_program()
     ensures dataflow { (p : Program) (ns : List ℕ) → WellTyped p ns → IsDataflow (lowered p) }
     ensures one_flow { (p : Program) (ns : List ℕ) (inputs : Inputs) → WellTyped p ns → HasOneFlow (lowered p) inputs }
@@ -41,8 +41,8 @@ pub fn law_program()
         f w i u ≈ [] }
 {}
 
-/// The ports of a well-typed program's graph have their arities, those of the inputs and of each output among them. In a flow on
-/// inputs of the right arities each edge's records have the arity of the port where it begins.
+/// Each port of a well-typed program's graph has its arity, including the inputs and outputs. In a flow on inputs of the right arities, each edge's
+/// records have the arity of the port at which the edge begins.
 pub fn law_arities()
     ensures ports { (p : Program) (ns : List ℕ) → WellTyped p ns → IsTyped (lowered p) (λ v. slice_index_or (program_arities p) v 0) }
     ensures inputs { (p : Program) (i : ℕ) → i < length p.inputs →

@@ -3,7 +3,7 @@ ghost use Rattle.semantics.specs.Multiset.{Record, same, one_if, count, total, �
 ghost use Rattle.semantics.specs.Meaning.{field, value, holds, project, left_columns, right_columns, aggregate, selected, kept, paired, grouped, only_left, in_both, meaning, Names, program_meaning};
 ghost use Rattle.semantics.specs.Query.{Scalar, Cond, Agg, Pair, Rel, Name, Program};
 
-/// How often a record stands in what each form means.
+/// The count of a record in what each form means.
 pub fn law_counts()
     ensures select { (ss : List Scalar) (xs : List Record) (s : Record) →
         count s (selected ss xs) ≡ total (λ r. one_if (same (map (λ t. value t r) ss) s)) xs }
@@ -18,15 +18,15 @@ pub fn law_counts()
     ensures intersect { (xs ys : List Record) (r : Record) → count r (in_both xs ys) ≡ one_if (is_present r xs && is_present r ys) }
 {}
 
-/// An except and an intersect are told by sets: of what is present on the left, once each, that which is not, or is, present on the
-/// right; and a record is present in a set where it was present before.
+/// An except and an intersect are determined by the sets of their sides' records: each record of the left side, once, that the right side doesn't
+/// have, or has. A set has the same records as the list it was made of.
 pub fn law_of_sets()
     ensures except { (xs ys : List Record) → only_left xs ys ≈ filter (λ r. not (is_present r ys)) (each_once xs) }
     ensures intersect { (xs ys : List Record) → in_both xs ys ≈ filter (λ r. is_present r ys) (each_once xs) }
     ensures present { (r : Record) (xs : List Record) → is_present r (each_once xs) ≡ is_present r xs }
 {}
 
-/// The least and the greatest field of a group's records: a bound for all of them, and a field of one of them.
+/// The least and the greatest field of a group's records: each is a bound for all of them, and a field of one of them.
 pub fn law_least_and_greatest()
     ensures least { (c : ℕ) (x : Record) (xs : List Record) (y : Record) →
         0 < count y (x ∷ xs) → aggregate (Agg.min c) (x ∷ xs) ≤ℤ field c y }
@@ -38,7 +38,7 @@ pub fn law_least_and_greatest()
         (y : Record) × (0 < count y (x ∷ xs)) × (aggregate (Agg.max c) (x ∷ xs) ≡ field c y) }
 {}
 
-/// Equal multisets in give equal multisets out: for each form, for a relation and for a program.
+/// Equal multisets in give equal multisets out, for each form, for a relation and for a program.
 pub fn law_of_multisets()
     ensures select { (ss : List Scalar) (xs ys : List Record) → xs ≈ ys → selected ss xs ≈ selected ss ys }
     ensures filter { (c : Cond) (xs ys : List Record) → xs ≈ ys → kept c xs ≈ kept c ys }

@@ -1,7 +1,7 @@
 ghost use Rattle.std.specs.Prelude.{◌≡◌, ◌≤◌, ◌<◌, ◌+◌, ◌++◌, List, ℕ, IsPermutation};
 ghost use Rattle.semantics.specs.Multiset.{Record, count, total, ◌≈◌, IsPartOf, each_once, less};
 
-/// Multisets are equal, and part of one another, by their counts alone.
+/// Whether multisets are equal, or part of one another, depends only on their counts.
 pub fn law_equal_multisets()
     ensures itself { (xs : List Record) → xs ≈ xs }
     ensures other_way { (xs ys : List Record) → xs ≈ ys → ys ≈ xs }

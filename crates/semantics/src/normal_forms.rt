@@ -9,7 +9,7 @@ ghost use Rattle.semantics.specs.Normal.{UsesOnce, replaced, Reaches, AllReached
 ghost use Rattle.semantics.specs.Rewriting.{RelStep, ProgramStep, RewritesTo, IsNormalForm};
 ghost use Rattle.semantics.specs.Typing.{Scope, HasArity, WellTyped};
 
-/// Folding of literals keeps a scalar's value.
+/// Folding literals keeps a scalar's value.
 pub fn law_folding()
     ensures plus { (a b : ℤ) (r : Record) →
         value (Scalar.literal (int_wrap w64 (a +ℤ b))) r ≡ value (Scalar.plus (Scalar.literal a) (Scalar.literal b)) r }
@@ -21,7 +21,7 @@ pub fn law_folding()
         value (Scalar.literal (int_wrap w64 (neg_ℤ a))) r ≡ value (Scalar.negation (Scalar.literal a)) r }
 {}
 
-/// A scalar's value is that of its parts' values, so that a part may be replaced by one of the same value.
+/// A scalar's value depends only on its parts' values, so a part may be replaced by one of the same value.
 pub fn law_parts_of_scalars()
     ensures plus { (s t : Scalar) (r : Record) → value (Scalar.plus s t) r ≡ int_wrap w64 (value s r +ℤ value t r) }
     ensures minus { (s t : Scalar) (r : Record) → value (Scalar.minus s t) r ≡ int_wrap w64 (value s r -ℤ value t r) }
@@ -29,8 +29,8 @@ pub fn law_parts_of_scalars()
     ensures negation { (s : Scalar) (r : Record) → value (Scalar.negation s) r ≡ int_wrap w64 (neg_ℤ (value s r)) }
 {}
 
-/// Each rule on relations keeps the meaning, as the same list, and where it could grow a tree it doesn't: a `select` of a
-/// `select` becomes one only where the outer scalars together use each column at most once.
+/// Each rule on relations keeps the meaning, as the same list. The one rule that could grow a tree is restricted so that it doesn't: a `select` of a
+/// `select` becomes one only if the outer scalars together use each column at most once.
 pub fn law_rules()
     ensures where_of_where { (r : Rel) (c d : Cond) (names : Names) →
         meaning (Rel.filter (Rel.filter r c) d) names ≡ meaning (Rel.filter r (Cond.conjunction c d)) names }
@@ -74,8 +74,8 @@ pub fn law_rules_keep_arity()
         HasArity (Rel.iterate 0 x r b) scope loops n → HasArity r scope loops n }
 {}
 
-/// A program stays well typed without a let that no output reaches, where the lets after that one are reached: so unreached lets
-/// are dropped from the last to the first.
+/// A program stays well typed without a let that no output reaches, if the lets after it are reached; so unreached lets are dropped from the last to
+/// the first.
 pub fn law_unreached_let_keeps_arity()
     ensures { (inputs : List Input) (before : List Let) (a : Let) (after : List Let) (outs : List Output) (ns : List ℕ) →
         AllReached after outs → (Reaches a.name after outs → ⊥) →
@@ -83,7 +83,7 @@ pub fn law_unreached_let_keeps_arity()
         WellTyped (record { inputs = inputs; lets = before ++ after; outputs = outs }) ns }
 {}
 
-/// A step of a relation keeps the meaning and the arity and makes it no larger, and a relation to which no rule applies has none.
+/// A step of a relation keeps the meaning and the arity, and doesn't make it larger. A relation to which no rule applies has no step.
 pub fn law_steps()
     ensures meaning { (p q : Rel) (names : Names) → RelStep p q → meaning p names ≡ meaning q names }
     ensures arity { (p q : Rel) (scope : Scope) (loops n : ℕ) → RelStep p q → HasArity p scope loops n → HasArity q scope loops n }
@@ -91,8 +91,8 @@ pub fn law_steps()
     ensures normal { (p q : Rel) → NormalRel p → RelStep p q → ⊥ }
 {}
 
-/// A program that is rewritten keeps its inputs, its outputs' names, its meaning and its type, and is no larger; one may go on from where it came to, and
-/// from a normal form there is no step.
+/// Rewriting a program keeps its inputs, its outputs' names, its meaning and its type, and doesn't make it larger. Rewriting can go on from its
+/// result, and from a normal form there is no step.
 pub fn law_rewriting()
     ensures inputs { (p q : Program) → RewritesTo p q → q.inputs ≡ p.inputs }
     ensures names { (p q : Program) → RewritesTo p q → map (λ (o : Output). o.name) q.outputs ≡ map (λ (o : Output). o.name) p.outputs }
@@ -104,7 +104,7 @@ pub fn law_rewriting()
     ensures normal { (p q : Program) → NormalProgram p → ProgramStep p q → ⊥ }
 {}
 
-/// A program rewrites to one normal form alone.
+/// A program rewrites to at most one normal form.
 pub fn law_one_normal_form()
     ensures { (p q r : Program) → IsNormalForm q p → IsNormalForm r p → q ≡ r }
 {}

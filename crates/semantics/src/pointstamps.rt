@@ -6,8 +6,8 @@ ghost use Rattle.semantics.specs.Could.{Location, Pointstamp, at_vertex, IsTimeA
 ghost use Rattle.semantics.specs.Summary.{applied, summary_of};
 ghost use Rattle.semantics.specs.Rank.{rank};
 
-/// Could result in: a path takes a time where its summary does, and to one of the depth of where it leads. Each pointstamp
-/// could result in itself, the relation goes onward, and no two pointstamps could result in each other.
+/// Could-result-in: a path takes a time where its summary does, and to a time of its target's depth. Each pointstamp could result in itself; the
+/// relation is transitive; and no two pointstamps could result in each other.
 pub fn law_could()
     ensures summary { (g : Graph) → IsDataflow g → (path : List PathStep) (l m : Location) (t : Time) →
         IsPath g l path m → IsTimeAt g l t →
@@ -20,7 +20,7 @@ pub fn law_could()
     ensures once { (g : Graph) → IsDataflow g → (p q : Pointstamp) → CouldResultIn g p q → CouldResultIn g q p → p ≡ q }
 {}
 
-/// The rank rises along each step of a path, to whatever else a pointstamp could result in, and at a seal.
+/// The rank rises along each step of a path, to any other pointstamp that could result, and at a seal.
 pub fn law_rank()
     ensures step { (g : Graph) (d : IsDataflow g) (s : PathStep) (t : Time) →
         step_edge s < edge_count g → IsTimeAt g (step_from g s) t →

@@ -4,8 +4,8 @@ ghost use Rattle.semantics.specs.Kinds.{Kind, route_key};
 ghost use Rattle.semantics.specs.Op.{IsSum, IsCut};
 ghost use Rattle.semantics.specs.Route.{home_by};
 
-/// Routing: a record goes to a worker that is there; records of equal route keys meet at one worker, whoever sends them. So what
-/// comes in to a vertex, taken apart by workers, sums to the whole, and no route key is in two workers' parts.
+/// Routing: a record goes to a worker that exists, and records with equal route keys go to the same worker, from any sender. So the workers' parts of
+/// what comes to a vertex sum to the whole, and no route key is in two parts.
 pub fn law_routing()
     ensures worker { (key : Option (Record → Record)) (from_input : Bool) (workers sender : ℕ) (r : Record) →
         sender < workers → home_by key from_input workers sender r < workers }

@@ -2,7 +2,7 @@ ghost use Rattle.std.specs.Prelude.{◌≡◌, ◌⊎◌, ◌<◌, ◌≤◌, �
 ghost use Rattle.semantics.specs.Multiset.{IsAmong};
 ghost use Rattle.semantics.specs.Time.{Time, Action, after_action, times_before, IsTaken, IsAtMost};
 
-/// The order of times: each is at most itself, the order goes onward, and an action keeps the order of times of one depth.
+/// The order of times is reflexive and transitive, and an action keeps the order of times of the same depth.
 pub fn law_order()
     ensures itself { (t : Time) → IsAtMost t t }
     ensures onward { (t u v : Time) → IsAtMost t u → IsAtMost u v → IsAtMost t v }

@@ -6,10 +6,9 @@ ghost use Rattle.semantics.specs.Op.{op, IsSum, IsCut};
 ghost use Rattle.semantics.specs.Shard.{SendsBy, SendsAtNotification};
 ghost use Rattle.semantics.specs.PortArity.{HaveFields, PortsFit};
 
-/// The laws of the equation of a vertex: nothing in gives nothing out; where the inputs are cut into parts with no route key in
-/// two parts (for a kind without route key, cut in any way), the results of the parts add up; equal multisets in give equal
-/// multisets out; more in gives more out, but at a vertex that waits for its notification; and records of the right arities
-/// give records of the right arity.
+/// The laws of the equation of a vertex. Nothing in gives nothing out. If the inputs are cut into parts with no route key in two parts (in any way
+/// for a kind without route key), the results of the parts add up. Equal multisets in give equal multisets out. More in gives more out, except at a
+/// vertex that waits for its notification. Records of the right arities give records of the right arity.
 pub fn law_vertex()
     ensures nothing { (kind : Kind) (t : Time) (out : ℕ) → op kind t (λ p. []) out ≡ [] }
     ensures parts { (kind : Kind) (t : Time) (ins : ℕ → List Record) (parts : ℕ → ℕ → List Record) (n out : ℕ) →
@@ -23,8 +22,8 @@ pub fn law_vertex()
         ((i : ℕ) → i < in_ports kind → HaveFields (arity i) (ins i)) → (out : ℕ) → HaveFields n (op kind t ins out) }
 {}
 
-/// Whatever a stateful shard had absorbed and then has, it can send what is gained; and what it may send is one multiset for
-/// each out port.
+/// Whatever a stateful shard had absorbed before and has absorbed now, it can send what is gained; and what it may send is one multiset for each out
+/// port.
 pub fn law_stateful_shard()
     ensures gained { (kind : Kind) → role kind ≡ Role.stateful → (t : Time) (before now : ℕ → List Record) →
         ((i : ℕ) → i < in_ports kind → IsPartOf (before i) (now i)) → (port : ℕ) (records : List Record) →
@@ -36,8 +35,8 @@ pub fn law_stateful_shard()
         (q : ℕ) → out q ≈ other q }
 {}
 
-/// What is right to send at the two kinds that compare their ports, told by each record. An except sends it at the notification,
-/// once where it is present on port 0 and not on port 1. An intersect sends it once, by the message that makes it present on both.
+/// What must be sent at the two kinds that compare their ports, for each record. An except sends the record at the notification, once, if it is
+/// present on port 0 and not on port 1. An intersect sends it once, for the message that makes it present on both.
 pub fn law_compared_ports()
     ensures except { (t : Time) (absorbed : ℕ → List Record) (out : ℕ → List Record) →
         SendsAtNotification (λ q ins. op Kind.except t ins q) absorbed out

@@ -1,4 +1,4 @@
-//! What is counted for a vertex at a worker.
+//! The counters of a vertex at a worker.
 
 use std::sync::atomic::{AtomicU64, Ordering};
 
@@ -52,7 +52,7 @@ impl Counter {
 }
 
 impl Counts {
-    /// No event, and no record.
+    /// All zero.
     pub fn none() -> Counts {
         Counts {
             events: 0,
@@ -61,7 +61,7 @@ impl Counts {
         }
     }
 
-    /// Both together.
+    /// The sums of both.
     pub fn with(self, more: Counts) -> Counts {
         Counts {
             events: self.events.saturating_add(more.events),

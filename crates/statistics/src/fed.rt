@@ -1,4 +1,4 @@
-//! The records that will be fed, counted before the run.
+//! Counts the records that will be fed, before the run.
 
 ghost use Rattle.std.specs.Prelude.{◌≡◌, ◌<◌, ◌≤◌};
 ghost use Rattle.graph.specs.Views.{vertex_of};
@@ -13,7 +13,7 @@ use std::alloc::Global;
 use std::sync::Arc;
 
 impl Tally {
-    /// Counts what comes of feeding the epochs to the inputs: the messages that the engine will make for the vertices after them.
+    /// Counts the messages that feeding the epochs to the inputs will make, for the vertices that they go to.
     pub(crate) fn count_fed(
         &self,
         alloc: Global,
@@ -33,7 +33,7 @@ impl Tally {
         Ok(())
     }
 
-    /// Counts what comes of feeding one input.
+    /// Counts the messages of feeding one input.
     fn count_input(
         &self,
         alloc: Global,
@@ -52,7 +52,7 @@ impl Tally {
         Ok(())
     }
 
-    /// Counts what comes of feeding a batch to an input.
+    /// Counts the messages of feeding a batch to an input.
     fn count_batch(
         &self,
         alloc: Global,

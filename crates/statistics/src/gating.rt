@@ -8,7 +8,7 @@ use std::alloc::Global;
 use workers::Gate;
 
 impl Tally {
-    /// The same event with its output, counted.
+    /// The same event with its output, after it is counted.
     fn counted(&self, done: Done) -> Done
         ensures { result ≡ done }
     {

@@ -1,4 +1,4 @@
-//! What was counted, as lines.
+//! Writes the counts as lines.
 
 use crate::counter::{Counter, Counts};
 use crate::tally::Tally;
@@ -11,8 +11,8 @@ use std::sync::atomic::Ordering;
 const LINE_LIMIT: usize = 256;
 
 impl Tally {
-    /// Writes a line for each vertex, and for each worker where the workers' numbers differ, and then how many messages and epochs there
-    /// were. Nothing is written after a write that fails.
+    /// Writes a line for each vertex, and one for each worker where the workers' numbers differ; then the numbers of messages and epochs. Stops after
+    /// a write that fails.
     pub fn write<W: Write>(&self, writer: &mut W) -> io::Result<()> {
         let lines = self.graph.as_slice().split(|byte| *byte == b'\n');
         for (counters, line) in self.counters.iter().zip(lines) {
@@ -22,7 +22,7 @@ impl Tally {
         writer.flush()
     }
 
-    /// The last two lines.
+    /// Writes the last two lines.
     fn write_sums<W: Write>(&self, writer: &mut W) -> io::Result<()> {
         let messages = self.messages.load(Ordering::SeqCst);
         let epochs = self.epochs;
@@ -33,7 +33,7 @@ impl Tally {
     }
 }
 
-/// Of a graph's line the number and the kind: what stands before the second space.
+/// The number and the kind at the start of a graph's line: everything before the second space.
 fn head_of(line: &[u8]) -> &[u8] {
     let mut spaces = 0u32;
     for place in 0..line.len() {
@@ -47,7 +47,7 @@ fn head_of(line: &[u8]) -> &[u8] {
     line
 }
 
-/// The lines of a vertex: all workers together, and then each, where there are several of them and their counts differ.
+/// Writes the lines of a vertex: one for all workers together, and one for each if there are several and their counts differ.
 fn write_vertex<W: Write>(head: &[u8], counters: &[Counter], writer: &mut W) -> io::Result<()> {
     let mut all = Counts::none();
     for counter in counters {
@@ -73,7 +73,7 @@ fn are_same(counters: &[Counter]) -> bool {
     }
 }
 
-/// One line, in one write.
+/// Writes one line, in one write.
 fn write_line<W: Write>(
     head: &[u8],
     worker: Option<usize>,

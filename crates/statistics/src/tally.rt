@@ -1,4 +1,4 @@
-//! What is counted in a run.
+//! The counters of a run.
 
 ghost use Rattle.std.specs.Prelude.{◌<◌, ◌≤◌};
 
@@ -10,7 +10,7 @@ use std::alloc::{AllocError, Global};
 use std::sync::Arc;
 use std::sync::atomic::{AtomicU64, Ordering};
 
-/// The counters of a run. A thread that computes an event adds to those of the worker whose event it is.
+/// The counters of a run. A thread that computes an event adds to the counters of the event's worker.
 #[derive(Drop)]
 pub struct Tally {
     /// The text of the graph, whose lines begin with the number and the kind of each vertex.
@@ -24,7 +24,7 @@ pub struct Tally {
 }
 
 impl Tally {
-    /// The counters for a run of the graph on so many workers, to which the epochs will be fed. What comes of feeding them is counted.
+    /// The counters for a run of the graph on that many workers. The messages of feeding the epochs are counted already.
     pub fn of(
         alloc: Global,
         graph: &Arc<Graph, Global>,

@@ -98,7 +98,7 @@ module _ (g : Graph) (content : Pointstamp → ℕ) (workers : ℕ) (queues : Li
   stays_applied flow p none =
       none_stays g workers w s content (waiting_of queues) (waiting_of queues') b (h.history w there) sends took_first (λ t d. waits_else w t (λ _. d)) h.some flow p none
 
--- what comes of a call
+-- the result of a call
 pub record Outcome (g : Graph) (content : Pointstamp → ℕ) (workers : ℕ) (queues : List Queued) (spare s w : ℕ) (queues' : List Queued) (b : Bool) : Type 0 where
   pub late : AreViews g content workers queues' spare
   pub applied : IsApplied w s (waiting_of queues) (waiting_of queues') b

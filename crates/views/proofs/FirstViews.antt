@@ -13,7 +13,7 @@ use Rattle.views.specs.declared.queue.Change.{Change}
 same_some : {X : Type 0} (x y : X) → Some x ≡ Some y → x ≡ y
 same_some x y e = cc
 
--- one more at the end
+-- one more element at the end
 pub push_each : {X : Type 0} (P : X → Type 0) (xs : List X) (y : X) → ((i : ℕ) (x : X) → slice_get xs i ≡ Some x → P x) → P y → (i : ℕ) (x : X) → slice_get (xs ++ (y ∷ [])) i ≡ Some x → P x
 push_each P [] y h p zero x e = subst P (same_some y x e) p
 push_each P [] y h p (suc zero) x e = absurd (let k = e in cc)

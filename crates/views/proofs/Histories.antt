@@ -1,4 +1,4 @@
--- Histories go on: a batch is posted, or a worker applies the next batch of a sender.
+-- Histories are continued: a batch is posted, or a worker applies the next batch of a sender.
 use Rattle.std.proofs.Common.{◌≡◌, ◌≢◌, ◌⊎◌, inl, inr, ℕ, suc, ◌+◌, ◌≤◌, ◌<◌, ◌-◌, ◌==◌, Bool, true, false, cond, eqb, List, [], ◌∷◌, ◌++◌, refl, sym, ap, subst, ◌∙◌, arith}
 use Rattle.std.proofs.lemmas.Bool.{true≢false}
 use Rattle.std.proofs.lemmas.Bool.Decides.{eqb_tells}
@@ -94,7 +94,7 @@ history_posted g workers worker content content' waiting waiting' b h e l may c 
 abbrev with_applied : Changes → Changes
 with_applied b = record { sender = b.sender; adds = b.adds; removes = b.removes; applied = true }
 
--- the first of the sender that isn't applied is
+-- the sender's first batch that isn't applied is applied
 abbrev apply_next : ℕ → List Changes → List Changes
 apply_next s [] = []
 apply_next s (b ∷ log) = cond b.applied (b ∷ apply_next s log) (cond (s == b.sender) (with_applied b ∷ log) (b ∷ apply_next s log))
@@ -150,7 +150,7 @@ pending_others s t (b ∷ log) d = go b.applied (s == b.sender) refl refl (pendi
     go false false u e ih =
         pending_false t b (apply_next s log) (t == b.sender) u refl ∙ ap (λ (l : List Changes). cond (t == b.sender) (b ∷ l) l) ih ∙ sym (pending_false t b log (t == b.sender) u refl)
 
--- what comes of it for the sender
+-- the effect on the sender
 record Took (s : ℕ) (log new : List Changes) (b : Changes) (rest : List Changes) : Type 0 where
   left : pending s new ≡ rest
   adds : (q : Pointstamp) → total (λ x. when x.applied (x.adds q)) new ≡ b.adds q + total (λ x. when x.applied (x.adds q)) log

@@ -1,4 +1,4 @@
--- Room is made, and what waits and is seen stays.
+-- Room is made, and what waits and what is seen stays.
 use Rattle.std.proofs.Common.{◌≡◌, ◌≢◌, ◌⊎◌, inl, inr, ℕ, zero, suc, ◌+◌, ◌*◌, ◌≤◌, ◌<◌, true, false, eqb, List, [], ◌∷◌, length, drop, Some, slice_get, slice_set, slice_index_or, refl, sym, ap, subst, ◌∙◌, arith, length-drop}
 use Rattle.std.proofs.lemmas.Bool.Decides.{eqb_tells}
 use Rattle.semantics.specs.Graph.{Graph}
@@ -41,7 +41,7 @@ queues_set old qs s q q' h got same =
         subst (IsSameQueue p) e (queue_on p q q' (h.each t p q a (ap (slice_get qs) x.1 ∙ got)) same)
     go t p r a b (inr x) = h.each t p r a (sym (get_set_else qs s t q' x.1) ∙ b)
 
--- what was there at a place, where there is something now
+-- if there is an element at a place now, there was one before
 pub there_too : {X : Type 0} (old new : List X) (i : ℕ) (y : X) → length new ≡ length old → slice_get new i ≡ Some y → (x : X) × (slice_get old i ≡ Some x)
 there_too old [] zero y e h = absurd (let k = h in cc)
 there_too old [] (suc i) y e h = absurd (let k = h in cc)
@@ -170,7 +170,7 @@ free_set qs s n q' l h f t q m got = go (last_or t s m)
         let e : q' ≡ q = same_some q' q (sym (get_set_here qs s q' l) ∙ ap (slice_get (slice_set qs s q')) (sym x) ∙ got) in
         subst (λ (r : Queued). n ≤ r.free) e f
 
--- the least is where some worker is, or the end
+-- the least place is that of some worker, or the end
 pub ends_at : (xs : List Change) (ts : List ℕ) (m n : ℕ) → IsQueue xs ts → n ≡ length xs → IsOneOf ts n m → EndsFrom false (drop m xs)
 ends_at xs ts m n q e (IsOneOf.end f) = subst (EndsFrom false) (sym (ap (λ k. drop k xs) (f ∙ e) ∙ drop_whole xs)) tt
 ends_at xs ts m n q e (IsOneOf.place w l f) = subst (λ k. EndsFrom false (drop k xs)) (sym (f ∙ nth_same ts w n (length xs) l)) (q.between w l)

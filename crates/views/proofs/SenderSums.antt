@@ -27,7 +27,7 @@ sum_moved (suc n) s f f' k k' l h e = go (eqb_tells s n) (sum_moved n s f f' k k
         let b = sum_same n f f' (λ i m. h i (λ y. let z = x.1 in omega arith)) in omega arith
     go (inr x) ih = let d = x.1 in let a = ih (omega arith) h e in let b = h n (λ y. d (sym y)) in omega arith
 
--- a batch is posted behind what waits for its sender
+-- a batch is posted after those that wait from its sender
 pub sum_posted : (f : Changes → ℕ) (n : ℕ) (waits waits' : ℕ → List Changes) (b : Changes) → b.sender < n
     → ((s : ℕ) → waits' s ≡ cond (s == b.sender) (waits s ++ (b ∷ [])) (waits s))
     → sum_below n (λ s. total f (waits' s)) ≡ sum_below n (λ s. total f (waits s)) + f b
@@ -44,7 +44,7 @@ sum_posted f n waits waits' b l is =
     other s d (inl x) = absurd (d x.1)
     other s d (inr x) = ap (λ y. total f (cond y (waits s ++ (b ∷ [])) (waits s))) x.0
 
--- the first batch of a sender waits no more
+-- the first batch of a sender doesn't wait any more
 pub sum_applied : (f : Changes → ℕ) (n s : ℕ) (waits waits' : ℕ → List Changes) (b : Changes) → s < n → waits s ≡ b ∷ waits' s → ((t : ℕ) → (t ≡ s → ⊥) → waits' t ≡ waits t)
     → sum_below n (λ t. total f (waits' t)) + f b ≡ sum_below n (λ t. total f (waits t))
 sum_applied f n s waits waits' b l e others =

@@ -48,7 +48,7 @@ removes_total s false (Add p ∷ xs) q e = let a = removes_total s true xs q e i
 removes_total s true (Remove p ∷ xs) q e = let a = removes_total s true xs q e in let o = onto_removes (λ q. 0) (λ q. one_if_same q p) (batches_of s xs) q (some_parts s xs e) in omega arith
 removes_total s false (Remove p ∷ xs) q e = let a = removes_total s true xs q e in let o = onto_removes (λ q. 0) (λ q. one_if_same q p) (batches_of s xs) q (some_parts s xs e) in omega arith
 
--- what comes behind a removal that lets p through
+-- what follows a removal that lets p through
 pub removal_passed : (g : Graph) (content : Pointstamp → ℕ) (p : Pointstamp) (other : Bool) (r : Pointstamp) (xs : List Change) → LetsThrough g content p other r
     → ((q : Pointstamp) → 0 < removes_in xs q → LetsThrough g content p other q) → (q : Pointstamp) → 0 < removes_in (Remove r ∷ xs) q → LetsThrough g content p other q
 removal_passed g content p other r xs here rest q l = go (one_tells q r)

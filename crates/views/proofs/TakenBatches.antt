@@ -15,7 +15,7 @@ use Rattle.views.specs.Queued.{onto_first, batches_of, EndsFrom, AllKnown, as_ch
 use Rattle.views.specs.declared.queue.Change.{Change}
 use Rattle.views.specs.declared.queue.Change.TheVariants.{Add, Remove, End}
 
--- changes of the first batch were passed, up to here
+-- changes of the first batch were passed, up to this place
 pub record IsTaking (old new : List Change) : Type 0 where
   pub adds : Pointstamp → ℕ
   pub removes : Pointstamp → ℕ
@@ -114,7 +114,7 @@ some_parts s (Remove p ∷ xs) e = onto_some (λ q. 0) (λ q. one_if_same q p) (
     onto_some a r [] h = h
     onto_some a r (b ∷ bs) h = omega arith
 
--- where something is untaken, a batch waits
+-- if something is untaken, a batch waits
 pub waiting_some : (s n : ℕ) (xs : List Change) → n < length xs → EndsFrom false (drop n xs) → batches_of s (drop n xs) ≡ [] → ⊥
 waiting_some s n xs l e none =
     let d = length-drop n xs in
@@ -223,7 +223,7 @@ queue_none taken z =
     drop_none zero = refl
     drop_none (suc n) = refl
 
--- a worker is further on
+-- a worker's place moves on
 set_here : (xs : List ℕ) (w n d : ℕ) → w < length xs → slice_index_or (slice_set xs w n) w d ≡ n
 set_here [] w n d h = absurd (omega arith)
 set_here (x ∷ xs) zero n d h = refl

@@ -1,4 +1,4 @@
--- Pointstamps that a worker still sees since their removals wait for it.
+-- Pointstamps that a worker still sees because their removals wait for it.
 use Rattle.std.specs.Prelude.{◌≡◌, ℕ, ◌-◌, ◌<◌, Bool, true, List, length, Some, slice_get}
 use Rattle.semantics.specs.Multiset.{total}
 use Rattle.semantics.specs.Graph.{Graph}
@@ -7,11 +7,11 @@ use Rattle.machine.specs.Active.{sum_below}
 use Rattle.views.specs.Queued.{Queued, AllKnown}
 use Rattle.views.specs.WorkerViews.{waiting_of}
 
--- how often what waits for a worker adds it, over all senders
+-- how often the changes that wait for a worker add a pointstamp, over all senders
 abbrev pub adds_for : List Queued → (worker : ℕ) → Pointstamp → ℕ
 adds_for queues w q = sum_below (length queues) (λ s. total (λ b. b.adds q) (waiting_of queues w s))
 
--- how often it removes it
+-- how often they remove it
 abbrev pub removes_for : List Queued → (worker : ℕ) → Pointstamp → ℕ
 removes_for queues w q = sum_below (length queues) (λ s. total (λ b. b.removes q) (waiting_of queues w s))
 
@@ -19,7 +19,7 @@ removes_for queues w q = sum_below (length queues) (λ s. total (λ b. b.removes
 abbrev pub stale_count : List Queued → (worker : ℕ) → Pointstamp → ℕ
 stale_count queues w q = removes_for queues w q - adds_for queues w q
 
--- q isn't among these, or could not result in p, or, where others are asked for, is p
+-- q doesn't block p: it isn't among these, or could not result in p or, if `other`, is p itself
 abbrev pub LetsThrough : Graph → (content : Pointstamp → ℕ) → (p : Pointstamp) → (other : Bool) → (q : Pointstamp) → Type 0
 LetsThrough g content p other q = 0 < content q → (other ≡ true → q ≡ p → ⊥) → CouldResultIn g q p → ⊥
 

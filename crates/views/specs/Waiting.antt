@@ -1,4 +1,4 @@
--- What workers see: what is active, without the batches of changes that wait for the worker.
+-- What a worker sees: what is active, without the batches of changes that wait for it.
 use Rattle.std.specs.Prelude.{◌≡◌, ℕ, suc, ◌+◌, ◌<◌, ◌==◌, Bool, true, false, cond, List, [], ◌∷◌, ◌++◌, length}
 use Rattle.semantics.specs.Multiset.{total}
 use Rattle.semantics.specs.Could.{Pointstamp, CouldResultIn}
@@ -16,19 +16,19 @@ batch sender added removed = record { sender = sender; adds = times_in added; re
 abbrev pub Waiting : Type 0
 Waiting = (worker sender : ℕ) → List Changes
 
--- how often what waits for a worker adds it; the senders are the workers and the feeder
+-- how often the changes that wait for a worker add a pointstamp; the senders are the workers and the feeder
 abbrev pub waiting_adds : Waiting → (workers worker : ℕ) → Pointstamp → ℕ
 waiting_adds waiting workers worker q = sum_below (suc workers) (λ s. total (λ b. b.adds q) (waiting worker s))
 
--- how often what waits for a worker removes it
+-- how often the changes that wait for a worker remove it
 abbrev pub waiting_removes : Waiting → (workers worker : ℕ) → Pointstamp → ℕ
 waiting_removes waiting workers worker q = sum_below (suc workers) (λ s. total (λ b. b.removes q) (waiting worker s))
 
--- the worker sees it: without what waits for the worker its count is above 0; a count below 0 is none
+-- the worker sees the pointstamp: its count without what waits for the worker is above 0; a negative count means that it isn't seen
 abbrev pub IsSeenBy : (content : Pointstamp → ℕ) → Waiting → (workers worker : ℕ) → Pointstamp → Type 0
 IsSeenBy content waiting workers worker q = waiting_adds waiting workers worker q < content q + waiting_removes waiting workers worker q
 
--- what waits once a batch is posted: it waits for each worker, or, where the views aren't late, for none
+-- what waits once a batch is posted: it waits for every worker or, if the views aren't late, for none
 abbrev pub after_post : (late : Bool) → Waiting → Changes → Waiting
 after_post false waiting b worker sender = waiting worker sender
 after_post true waiting b worker sender = cond (sender == b.sender) (waiting worker sender ++ (b ∷ [])) (waiting worker sender)
@@ -45,19 +45,19 @@ SomeWait waiting workers worker = (s : ℕ) × (s < suc workers) × (waiting wor
 abbrev pub all_waiting : Waiting → (workers : ℕ) → ℕ
 all_waiting waiting workers = sum_below workers (λ w. sum_below (suc workers) (λ s. length (waiting w s)))
 
--- the sender's next batch waits no more for the worker; where none waited, nothing changed
+-- the sender's next batch doesn't wait for the worker any more; if none waited, nothing changed
 pub data IsApplied (worker sender : ℕ) (old new : Waiting) : Bool → Type 0 where
   took : (b : Changes) → old worker sender ≡ b ∷ new worker sender → IsApplied worker sender old new true
   none : old worker sender ≡ [] → new worker sender ≡ [] → IsApplied worker sender old new false
 
 -- ---- histories: all batches that were posted, the oldest first, and which of them a worker has applied
 
--- those of a sender that it hasn't applied
+-- the sender's batches that the worker hasn't applied
 abbrev pub pending : (sender : ℕ) → List Changes → List Changes
 pending s [] = []
 pending s (b ∷ log) = cond b.applied (pending s log) (cond (s == b.sender) (b ∷ pending s log) (pending s log))
 
--- some history leads to what is there and to what waits for the worker
+-- some history leads to the content and to what waits for the worker
 pub record IsHistory (g : Graph) (workers : ℕ) (content : Pointstamp → ℕ) (waiting : Waiting) (worker : ℕ) : Type 0 where
   pub first : Pointstamp → ℕ
   pub log : List Changes

@@ -1,4 +1,4 @@
--- Views that are late: a tracker of what is active, and each sender's queue.
+-- Views that may be late: a tracker of what is active, and each sender's queue.
 use Rattle.std.specs.Prelude.{◌≡◌, ℕ, zero, suc, ◌*◌, ◌≤◌, ◌<◌, List, [], ◌∷◌, length, Some, slice_get}
 use Rattle.semantics.specs.Graph.{Graph}
 use Rattle.semantics.specs.Could.{Pointstamp, IsTimeAt}
@@ -27,13 +27,13 @@ untaken_at (q ∷ queues) (suc s) w = untaken_at queues s w
 abbrev pub waiting_of : List Queued → Waiting
 waiting_of queues w s = batches_of s (untaken_at queues s w)
 
--- of a sender's queue
+-- a sender's queue fits
 pub record IsSender (g : Graph) (workers spare : ℕ) (q : Queued) : Type 0 where
   pub taken : length q.taken ≡ workers
   pub known : AllKnown g q.changes
   pub free : 2 * spare ≤ q.free
 
--- of them all: for each worker some history leads to what waits, and there is room for what may be posted
+-- all queues fit: for each worker some history leads to what waits, and there is room for what may be posted
 pub record AreViews (g : Graph) (content : Pointstamp → ℕ) (workers : ℕ) (queues : List Queued) (spare : ℕ) : Type 0 where
   pub some : 0 < workers
   pub few : workers ≤ 64
@@ -42,16 +42,16 @@ pub record AreViews (g : Graph) (content : Pointstamp → ℕ) (workers : ℕ) (
   pub history : (w : ℕ) → w < workers → IsHistory g workers content (waiting_of queues) w
   pub sender : (s : ℕ) (q : Queued) → slice_get queues s ≡ Some q → IsSender g workers spare q
 
--- the queues are the same, but for their room
+-- the queues are the same, except for their room
 pub record AreSameQueues (old new : List Queued) : Type 0 where
   pub long : length new ≡ length old
   pub each : (s : ℕ) (q q' : Queued) → slice_get old s ≡ Some q → slice_get new s ≡ Some q' → IsSameQueue q q'
 
--- each queue has room for so much
+-- each queue has room for that much
 abbrev pub AllFree : List Queued → (count : ℕ) → Type 0
 AllFree queues n = (s : ℕ) (q : Queued) → slice_get queues s ≡ Some q → n ≤ q.free
 
--- each queue knows so many workers
+-- each queue has a place for each of that many workers
 abbrev pub AllTaken : List Queued → (workers : ℕ) → Type 0
 AllTaken queues n = (s : ℕ) (q : Queued) → slice_get queues s ≡ Some q → length q.taken ≡ n
 

@@ -1,4 +1,4 @@
-//! Applying all that waits for a worker.
+//! Applies all that waits for a worker.
 
 ghost use Rattle.std.specs.Prelude.{◌≡◌, ◌+◌, ◌<◌, ◌≤◌, ◌^◌, ℕ, []};
 ghost use Rattle.semantics.specs.Could.{CouldResultIn, NoneOf, Pointstamp as Active};
@@ -6,7 +6,7 @@ ghost use Rattle.views.specs.Waiting.{IsSeenBy};
 
 use crate::views::Views;
 
-/// Applies all that waits for the worker, sender by sender. Where nothing waits, no sender is asked.
+/// Applies all that waits for the worker, sender by sender. If nothing waits, no sender is looked at.
 pub fn catch_up<V: Views>(views: &mut V, worker: u32, workers: u32)
     requires worker { worker < workers }
     requires workers { workers ≡ V.workers views.old }
@@ -29,7 +29,7 @@ pub fn catch_up<V: Views>(views: &mut V, worker: u32, workers: u32)
     }
 }
 
-/// Applies all that waits for the worker of one sender.
+/// Applies all that waits for the worker from one sender.
 fn take_all<V: Views>(views: &mut V, worker: u32, sender: u32)
     requires worker { worker < V.workers views.old }
     requires sender { sender ≤ V.workers views.old }

@@ -1,4 +1,4 @@
-//! Batches in a list of changes, each with its end.
+//! Batches in a list of changes, each with an end marker.
 
 ghost use Rattle.std.specs.Prelude.{◌≡◌, ◌+◌, ◌<◌, ◌≤◌, ◌∷◌, ◌++◌, ℕ, List, [], false, drop, length, map, slice_index_or, take, vec_capacity, vec_len};
 ghost use Rattle.machine.specs.Active.{one_if_same};
@@ -44,7 +44,7 @@ fn push_removed(changes: &mut Vec<Change>, removed: &[Pointstamp])
     }
 }
 
-/// Where the batch that begins at `from` ends: there the next one begins.
+/// The place where the batch that begins at `from` ends, and the next one begins.
 pub fn end_of_batch(changes: &[Change], from: usize) -> usize
     requires some { from < length changes.now }
     requires ends { EndsFrom false (drop from changes.now) }
@@ -87,7 +87,7 @@ pub fn forget(changes: &mut Vec<Change>, count: usize)
     changes.truncate(kept);
 }
 
-/// Lowers each place.
+/// Lowers each place by `by`.
 pub fn lower(taken: &mut Vec<usize>, by: usize)
     requires { (w : ℕ) → w < length taken.old.items → by ≤ slice_index_or taken.old.items w by }
     ensures long { length taken.new.items ≡ length taken.old.items }
@@ -130,7 +130,7 @@ pub fn times(changes: &[Change], p: &Pointstamp) -> (usize, usize)
     (adds, removes)
 }
 
-/// One where the two are one.
+/// 1 if the two are equal, and otherwise 0.
 fn one_if_same(p: &Pointstamp, q: &Pointstamp) -> usize
     ensures { result ≡ one_if_same p.now q.now }
 {

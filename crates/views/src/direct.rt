@@ -23,7 +23,7 @@ pub struct Direct<P> {
 }
 
 impl<P: Progress> Direct<P> {
-    /// Lets 1 to 64 workers see one tracker of a graph, in which nothing is active yet. Each input is then active at epoch 0.
+    /// Views for 1 to 64 workers on one tracker of a graph, in which nothing may be active yet. Each input is then active at epoch 0.
     pub fn new(
         alloc: Global,
         paths: &Paths,

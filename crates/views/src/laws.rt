@@ -1,4 +1,4 @@
-//! What the engine's steps post, and what a worker without waiting batches sees.
+//! What the engine's steps post, and what a worker with an up-to-date view sees.
 
 ghost use Rattle.std.specs.Prelude.{◌≡◌, ◌↔◌, ◌+◌, ◌<◌, ℕ, suc, Bool, List, []};
 ghost use Rattle.semantics.specs.Graph.{Graph, input_count};
@@ -14,8 +14,8 @@ ghost use Rattle.progress.specs.Content.{times_in};
 ghost use Rattle.machine.specs.Views.{Changes};
 ghost use Rattle.views.specs.Waiting.{IsSeenBy, Waiting, after_post, all_waiting, batch};
 
-/// If the content is what is active in a run's world, then the changes of an allowed step may be posted as a batch, and the content is
-/// then what is active in the next world.
+/// If the content is what is active in a run's world, the changes of an allowed step may be posted as a batch, and the content after that is what is
+/// active in the next world.
 pub fn law_of_step()
     ensures may { (g : Graph) (workers : ℕ) (steps : List Step) (w : World) → IsRunOn g workers steps w →
         (step : Step) → Allowed (network g workers) w step →
@@ -37,8 +37,8 @@ pub fn law_of_step()
     machine::pointstamps::law_active();
 }
 
-/// A worker for whom nothing waits sees exactly what is active. Where the number of waiting batches is 0, nothing waits for anyone. If
-/// nothing that a worker sees could result in p, that stays so when a batch is posted that adds nothing that could.
+/// A worker for which nothing waits sees exactly what is active. If the number of waiting batches is 0, nothing waits for any worker. If nothing that
+/// a worker sees could result in p, that stays so when a batch is posted that adds nothing that could.
 pub fn law_of_waiting()
     ensures seen { (content : Active → ℕ) (waiting : Waiting) (workers worker : ℕ) → ((s : ℕ) → s < suc workers → waiting worker s ≡ []) →
         (q : Active) → IsSeenBy content waiting workers worker q ↔ (0 < content q) }

@@ -1,14 +1,14 @@
 //! Views of progress: what each worker sees of the active pointstamps (Naiad, section 3.3).
 //!
-//! The contract for the layers above: `Views`. A worker's view may be late, but what it lets through is let through by what is really
-//! active, and exactly so once nothing waits for the worker.
+//! The contract for the layers above: `Views`. A worker's view may be late, but it lets nothing through that the active pointstamps don't
+//! let through, and exactly the same once nothing waits for the worker.
 //!
 //! | Type | A batch of changes is seen | Cost of a batch |
 //! |---|---|---|
 //! | `Direct` | at once, by all workers | one update of one tracker for each change |
-//! | `LocalViews` | by each worker once it applies it; each sender's in their order | the same, and one step of each worker along its sender's queue |
+//! | `LocalViews` | by each worker once it applies it; each sender's batches in order | the same, plus one step of each worker along its sender's queue |
 //!
-//! Below stand the trackers of crate `progress`, `machine`, and what these two stand on.
+//! Built on the trackers of crate `progress`, on `machine`, and on the crates below these two.
 #![tactic(auto)]
 
 mod all_waiting;

@@ -1,4 +1,4 @@
-//! Views that are late: what waits for a worker is left out of what is active.
+//! Views that may be late: a worker doesn't see what waits for it.
 
 ghost use Rattle.std.specs.Prelude.{◌≡◌, ◌+◌, ◌-◌, ◌^◌, ◌<◌, ◌≤◌, ◌↔◌, ℕ, List, [], IfOk, IsTrue, MatchBool, OnOk, Some, length, min, slice_get, true};
 ghost use Rattle.graph.specs.Shown.{shown_graph};
@@ -22,11 +22,11 @@ use std::alloc::Global;
 use std::marker::Model;
 use std::sync::Arc;
 
-/// The least number of changes that room is made for, so that most steps find some.
+/// The least number of changes to reserve room for, so that most steps find room.
 const BLOCK: u32 = 64;
 
-/// One tracker of what is active, and a queue of each sender's batches, in which each worker has a place. A batch is kept until every
-/// worker has applied it.
+/// One tracker of what is active, and for each sender a queue of its batches, in which each worker has a place. A batch is kept until every worker
+/// has applied it.
 #[derive(Drop)]
 pub struct LocalViews {
     paths: Arc<Paths, Global>,
@@ -170,7 +170,7 @@ impl Views for LocalViews {
     }
 }
 
-/// Makes room for so many changes and ends of batches in each queue.
+/// Makes room for `count` changes and ends of batches in each queue.
 fn reserve_queues(queues: &mut Vec<Queue>, count: usize) -> Result<(), NoMemory>
     ensures same { AreSameQueues queues.old.items queues.new.items }
     ensures free { OnOk result (AllFree queues.new.items count) }
@@ -195,7 +195,7 @@ fn first_queues(alloc: Global, workers: u32) -> Result<Vec<Queue>, NoMemory>
     Ok(queues)
 }
 
-/// Whether something waits for a worker.
+/// Whether a batch waits for a worker.
 fn some_wait(queues: &[Queue], worker: u32) -> bool
     requires { HasPlaces queues.now worker }
     ensures { MatchBool result ((s : ℕ) × (s < length queues.now) × (waiting_of queues.now worker s ≡ [] → ⊥))
@@ -210,7 +210,7 @@ fn some_wait(queues: &[Queue], worker: u32) -> bool
     false
 }
 
-/// The number of batches that wait, over so many workers.
+/// The number of batches that wait, over all the workers.
 fn all_wait(queues: &[Queue], workers: u32) -> u64
     requires few { workers ≤ 64 }
     requires taken { AllTaken queues.now workers }

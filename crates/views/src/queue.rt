@@ -72,7 +72,7 @@ impl Queue {
         Ok(())
     }
 
-    /// Drops what every worker has applied, if that is at least half: so each change is moved once or twice in all.
+    /// Drops what every worker has applied, if that is at least half of the queue. So each change is moved only once or twice.
     fn trim(&mut self)
         ensures { IsSameQueue self.old self.new }
     {
@@ -125,7 +125,7 @@ impl Queue {
         ends(self.waiting(worker))
     }
 
-    /// The worker applies the next batch. False if there is none.
+    /// Takes the next batch for the worker. False if there is none.
     pub fn take(&mut self, worker: u32) -> bool
         requires { worker < length self.old.taken }
         ensures took { result ≡ true → IsTaken (untaken self.old worker) (untaken self.new worker) }

@@ -1,4 +1,4 @@
-//! Pointstamps that a worker still sees though they are gone: their removals wait for it.
+//! Pointstamps that a worker still sees although they are gone, because their removals wait for it.
 
 ghost use Rattle.std.specs.Prelude.{◌≡◌, ◌↔◌, ◌+◌, ◌<◌, ◌≤◌, ℕ, IsTrue, MatchBool, Some, length, slice_get, true, false};
 ghost use Rattle.graph.specs.Shown.{shown_graph};
@@ -12,7 +12,7 @@ use crate::batches::times;
 use crate::queue::{Change, Queue};
 use path_summary::{Paths, Pointstamp};
 
-/// Whether a stale pointstamp could result in `p`; where `other`, one that is different from it. Only removals that wait are asked.
+/// Whether a stale pointstamp could result in `p`; if `other`, one that is different from it. Looks only at removals that wait.
 pub fn is_blocked(paths: &Paths, queues: &[Queue], worker: u32, p: &Pointstamp, other: bool) -> bool
     requires few { length queues.now ≤ 65 }
     requires placed { HasPlaces queues.now worker }
@@ -31,7 +31,7 @@ pub fn is_blocked(paths: &Paths, queues: &[Queue], worker: u32, p: &Pointstamp, 
     false
 }
 
-/// The same of what these changes remove.
+/// As `is_blocked`, for what these changes remove.
 fn is_blocked_by_one_of(
     paths: &Paths,
     queues: &[Queue],
@@ -61,7 +61,7 @@ fn is_blocked_by_one_of(
     false
 }
 
-/// The same of one pointstamp.
+/// As `is_blocked`, for one pointstamp.
 fn is_blocked_by(
     paths: &Paths,
     queues: &[Queue],
@@ -86,7 +86,7 @@ fn is_blocked_by(
     is_stale(queues, worker, q)
 }
 
-/// Whether what waits for the worker removes it more often than it adds it.
+/// Whether the changes that wait for the worker remove the pointstamp more often than they add it.
 fn is_stale(queues: &[Queue], worker: u32, p: &Pointstamp) -> bool
     requires few { length queues.now ≤ 65 }
     requires placed { HasPlaces queues.now worker }

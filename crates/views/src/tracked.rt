@@ -1,4 +1,4 @@
-//! Changes of a tracker.
+//! Applies changes to a tracker.
 
 ghost use Rattle.std.specs.Prelude.{◌≡◌, ◌+◌, ◌<◌, ◌≤◌, length};
 ghost use Rattle.semantics.specs.Could.{IsTimeAt, Pointstamp as Active};
@@ -7,7 +7,7 @@ ghost use Rattle.progress.specs.Content.{times_in};
 use path_summary::Pointstamp;
 use progress::Progress;
 
-/// Adds each of these once.
+/// Adds one occurrence of each.
 pub fn add_all<P: Progress>(tracker: &mut P, added: &[Pointstamp])
     requires room { length added.now ≤ P.room tracker.old }
     requires known { (q : Active) → 0 < times_in added.now q → IsTimeAt (P.graph tracker.old) q.location q.time }
@@ -20,7 +20,7 @@ pub fn add_all<P: Progress>(tracker: &mut P, added: &[Pointstamp])
     }
 }
 
-/// Removes each of these once.
+/// Removes one occurrence of each.
 pub fn remove_all<P: Progress>(tracker: &mut P, removed: &[Pointstamp])
     requires there { (q : Active) → times_in removed.now q ≤ P.content tracker.old q }
     ensures graph { P.graph tracker.new ≡ P.graph tracker.old }

@@ -1,4 +1,4 @@
-//! What the views of all workers promise.
+//! The trait of the views of all workers.
 
 ghost use Rattle.std.specs.Prelude.{◌≡◌, ◌⊎◌, ◌+◌, ◌-◌, ◌^◌, ◌<◌, ◌≤◌, ◌↔◌, ℕ, Bool, IsTrue, MatchBool, OnOk, length, min};
 ghost use Rattle.semantics.specs.Graph.{Graph as Definition, input_count};
@@ -26,7 +26,7 @@ pub trait Views: Drop {
 
     ghost late: { Bool };
 
-    /// Makes room for `count` changes. After either answer what is active and what waits is as before, and the room hasn't shrunk.
+    /// Makes room for `count` changes. Whether it succeeds or not, what is active and what waits is unchanged, and the room hasn't shrunk.
     fn reserve(&mut self, count: u32) -> Result<(), NoMemory>
         ensures graph { graph self.new ≡ graph self.old }
         ensures workers { workers self.new ≡ workers self.old }
@@ -35,7 +35,7 @@ pub trait Views: Drop {
         ensures kept { room self.old ≤ room self.new }
         ensures room { OnOk result (count ≤ room self.new) };
 
-    /// The number of changes there is room for.
+    /// The number of changes that there is room for.
     fn spare(&self) -> u32
         ensures { result ≡ room self.now };
 
@@ -67,7 +67,7 @@ pub trait Views: Drop {
             NoneOf (CouldResultIn (graph self.old)) (IsSeenBy (content self.new) (waiting self.new) (workers self.old) worker) p }
         ensures room { room self.old ≤ room self.new };
 
-    /// Whether something waits for the worker.
+    /// Whether a batch waits for the worker.
     fn waits(&self, worker: u32) -> bool
         requires worker { worker < workers self.now }
         ensures { MatchBool result (SomeWait (waiting self.now) (workers self.now) worker) (NoneWaits (waiting self.now) (workers self.now) worker) };
@@ -88,7 +88,7 @@ pub trait Views: Drop {
             NoneOf (CouldResultIn (graph self.now)) (IsSeenBy (content self.now) (waiting self.now) (workers self.now) worker) p.now }
         ensures there { IsTrue result → NoneOf (CouldResultIn (graph self.now)) (λ q. 0 < content self.now q) p.now };
 
-    /// The number of batches that wait, over all workers, or the greatest `u64` if there are more.
+    /// The number of batches that wait, over all workers; `u64::MAX` if there are more.
     fn waiting(&self) -> u64
         ensures { result ≡ min (2 ^ 64 - 1) (all_waiting (waiting self.now) (workers self.now)) };
 }

@@ -1,4 +1,4 @@
--- A list of one.
+-- Lists of one element.
 use Rattle.std.proofs.Common.{All, [], ◌∷◌, zero, suc, arith}
 use Rattle.workers.specs.Tokens.{Token}
 

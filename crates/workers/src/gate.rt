@@ -21,7 +21,7 @@ pub trait Gate {
         ensures spoiled { IfErr result (λ e. (e.0.0 ≡ work.0) × (e.0.1 ≡ Some e.1)) }
         ensures again { (f : ComputeFault) → work.1 ≡ Some f → FailsBy f result };
 
-    /// Called once the event is committed.
+    /// Called after the event is committed.
     fn after_commit(&self, worker: u32, turn: u64);
 }
 

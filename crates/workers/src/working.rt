@@ -12,7 +12,7 @@ use std::alloc::Global;
 use std::sync::Wait;
 use views::Views;
 
-/// Why a worker has stopped working.
+/// The reason why a worker stopped working.
 #[derive(Clone, Copy, Debug, PartialEq, Eq)]
 pub enum Ended {
     /// Nothing is left to do.
