@@ -87,7 +87,7 @@ input_refusal s i =
 abbrev pub seal_refusal : Shown → ℕ → Option StepRefusal
 seal_refusal s i = first (input_refusal s i) (cond ((input_at s i).open_epoch == 4294967295) (Some refusal.LastEpoch) None)
 
--- this refusal is the answer; where there is none, Ok or want of memory
+-- this refusal is the answer; where there is none, Ok or lack of memory
 abbrev pub AnswersOr : {T : Type 0} → Option StepRefusal → Result T StepRefusal → Type 0
 AnswersOr (Some r) (Ok _) = ⊥
 AnswersOr (Some r) (Err e) = e ≡ r

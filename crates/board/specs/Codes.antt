@@ -3,7 +3,7 @@ use Rattle.std.specs.Prelude.{ℕ, Option, Some, None}
 use Rattle.board.specs.declared.refusal.StepRefusal.{StepRefusal}
 use Rattle.board.specs.declared.refusal.StepRefusal.TheVariants as refusal
 
--- the code that the command line and the texts use; want of memory has none
+-- the code that the command line and the texts use; lack of memory has none
 abbrev pub refusal_code : StepRefusal → Option ℕ
 refusal_code refusal.InputClosed = Some 31
 refusal_code refusal.UnknownInput = Some 32

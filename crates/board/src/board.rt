@@ -216,7 +216,7 @@ impl<V: Views> Board<V> {
         }
     }
 
-    /// The reason why feeding this batch would be refused, want of memory aside; `None` if there is none.
+    /// The reason why feeding this batch would be refused, apart from lack of memory; `None` if there is none.
     pub fn feed_refusal(&self, input: u32, batch: &Batch) -> Option<StepRefusal>
         ensures { result ≡ feed_refusal self.now.shown input batch.now }
     {

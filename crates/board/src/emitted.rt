@@ -48,7 +48,7 @@ impl Emitted {
         }
     }
 
-    /// Adds a batch of a vertex to an epoch, if there is a batch. Out of memory, nothing changes, and the batch comes back.
+    /// Adds a batch of a vertex to an epoch, if there is a batch. If memory runs out, nothing changes, and the batch comes back.
     pub fn add_some(
         &mut self,
         vertex: usize,

@@ -86,7 +86,7 @@ impl Epochs {
         }
     }
 
-    /// Adds a batch to an epoch, and makes the epoch's entry if it has none. Out of memory, nothing changes, and the batch comes back.
+    /// Adds a batch to an epoch, and makes the epoch's entry if it has none. If memory runs out, nothing changes, and the batch comes back.
     pub fn add(&mut self, epoch: u32, batch: Batch) -> Result<(), Batch>
         ensures ok { OnOk result (self.new ≡ more_at epoch (batch ∷ []) self.old) }
         ensures err { OnErr result (self.new ≡ self.old) }

@@ -54,7 +54,7 @@ impl Input {
         &self.fed
     }
 
-    /// Takes a batch at the open epoch. Out of memory, nothing changes, and the batch comes back.
+    /// Takes a batch at the open epoch. If memory runs out, nothing changes, and the batch comes back.
     pub fn feed(&mut self, batch: Batch) -> Result<(), Batch>
         ensures ok { OnOk result (self.new ≡ record self.old { fed = more_at self.old.open_epoch (batch ∷ []) self.old.fed }) }
         ensures err { OnErr result (self.new ≡ self.old) }

@@ -9,9 +9,9 @@
 //! - At every moment, for every epoch and each output, what was emitted there is part of what the program means there on what was fed,
 //!   and all of it once the epoch has passed at that output (`Board::law_headline`, `specs/Promises.antt`). That holds for every
 //!   well-typed program, every number of workers and every order of the calls. A `Look` keeps it while the board goes on.
-//! - Views may be late (`views`), but they let nothing through that the pointstamps which are really active don't let through. The board
-//!   reports an epoch as passed only when it has passed, and exactly then if nothing waits for the first worker. A worker is idle only when
-//!   its view is up to date. What has passed stays passed, and a drained board has passed every epoch (`Board::law_drained`).
+//! - A view may be late (`views`), but it never lets through what the active pointstamps hold back. The board reports an epoch as passed
+//!   only when it has passed, and exactly then if nothing waits for the first worker. A worker is idle only when its view is up to date.
+//!   What has passed stays passed, and on a drained board every epoch has passed (`Board::law_drained`).
 //! - An event is known by its token (`tokens`): only an event that this board handed out can come back to it, and only once.
 //!
 //! A worker is in one of three states:

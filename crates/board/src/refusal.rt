@@ -25,7 +25,7 @@ pub enum StepRefusal {
 }
 
 impl StepRefusal {
-    /// The code of the refusal. Want of memory has none, since it says nothing about the call.
+    /// The code of the refusal. Lack of memory has none, since it says nothing about the call.
     pub fn code(self) -> u8
         requires { self ≢ StepRefusal.NoMemory }
         ensures { refusal_code self ≡ Some result }

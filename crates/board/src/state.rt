@@ -313,7 +313,7 @@ impl State {
         self.workers[worker].requests()
     }
 
-    /// Feeds a batch at the open epoch of its input, and notes what becomes active. Out of memory, nothing changes, and the batch comes back.
+    /// Feeds a batch at the open epoch of its input, and notes what becomes active. If memory runs out, nothing changes, and the batch comes back.
     pub fn feed<V: Views>(
         &mut self,
         views: &mut V,
@@ -406,7 +406,8 @@ impl State {
         self.stopped = true;
     }
 
-    /// Ends the event, notes what becomes active, and gives the event's pointstamp. Out of memory, nothing changes, and the event comes back whole.
+    /// Ends the event, notes what becomes active, and gives the event's pointstamp. If memory runs out, nothing changes, and the event comes back
+    /// whole.
     pub fn commit<V: Views>(
         &mut self,
         views: &mut V,
@@ -457,7 +458,7 @@ fn vertex_at(graph: &Graph, location: Location) -> usize
     }
 }
 
-/// Stores what is emitted. Out of memory, it comes back.
+/// Stores what is emitted. If memory runs out, it comes back.
 fn emit(emitted: &mut Emitted, vertex: usize, epoch: u32, output: Output) -> Result<Output, Output>
     requires { vertex < length emitted.old }
     ensures ok { IfOk result (λ o. emitted.new ≡ with_emitted vertex epoch output.emitted emitted.old) }

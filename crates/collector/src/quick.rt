@@ -14,7 +14,7 @@ use crate::line::Declared;
 use record_core::MAX_FIELDS;
 use std::alloc::AllocError;
 
-/// The largest number that can be multiplied by ten and increased by a digit without leaving `i64`.
+/// The largest number that can be multiplied by ten and increased by any digit without leaving `i64`.
 const LARGEST: u64 = 922_337_203_685_477_579;
 
 /// The number at the head of the text, and the number of bytes that spell it.

@@ -40,7 +40,7 @@ impl Fault {
     }
 }
 
-/// The first faulty line of an input text, counted from 1, with the code of its fault (43 for a last line without line feed); or want of memory.
+/// The first faulty line of an input text, counted from 1, with the code of its fault (43 for a last line without line feed); or lack of memory.
 #[derive(Clone, Copy, Debug, PartialEq, Eq)]
 pub enum InputRefusal {
     At { code: u8, line: u64 },

@@ -1,7 +1,7 @@
 -- How a number's spelling begins.
 use Rattle.std.specs.Prelude.{◌≡◌, ◌<◌, ◌≤◌, ℕ, List, [], ◌∷◌, length, slice_index, ◌⊎◌}
 
--- a digit comes first, and nothing follows a zero
+-- a digit comes first, and nothing follows a leading zero
 abbrev pub MayBegin : List ℕ → Type 0
 MayBegin [] = ⊥
 MayBegin (b ∷ bs) = (48 ≤ b) × (b ≤ 57) × (b ≡ 48 → length bs ≡ 0)

@@ -40,7 +40,7 @@ pub fn signed_number(text: &[u8]) -> Option<i64>
     Some(number)
 }
 
-/// Whether a digit comes first, and nothing follows a zero.
+/// Whether a digit comes first, and nothing follows a leading zero.
 fn may_begin(text: &[u8]) -> bool
     ensures { IsTrue result ↔ MayBegin text.now }
 {

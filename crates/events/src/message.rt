@@ -100,7 +100,7 @@ impl Message {
             && other.len < MOST_MERGED
     }
 
-    /// Appends the other message's batches, without copying a record. Out of memory, nothing changes, and the other message comes back.
+    /// Appends the other message's batches, without copying a record. If memory runs out, nothing changes, and the other message comes back.
     pub fn merge(&mut self, other: Message) -> Result<(), Message>
         requires { MayMerge self.old other }
         ensures merged { OnOk result (self.new ≡ record self.old { records = self.old.records ++ other.records }) }

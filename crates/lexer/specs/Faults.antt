@@ -36,7 +36,7 @@ pub record IsFault (text : List ℕ) (at code start end : ℕ) : Type 0 where
   pub what : ((code ≡ 1) × (end ≡ start + 1) × IsStray (drop start text))
       ⊎ ((code ≡ fault_code (shape_of (slice_index text start))) × IsMisspelled (drop start text) (end - start))
 
--- Why a text is refused: it is too long, or has tokens up to a fault. Any text may be refused for want of memory.
+-- Why a text is refused: it is too long, or has tokens up to a fault. Any text may be refused for lack of memory.
 abbrev pub Refuses : List ℕ → Refusal → Type 0
 Refuses text NoMemory = ⊤
 Refuses text (At code span) = ((max_length < length text) × (code ≡ 6) × (span.start ≡ max_length) × (span.end ≡ max_length))

@@ -36,7 +36,7 @@ pub fn lex<A: Allocator>(alloc: A, text: &[u8]) -> Result<Vec<Token, A>, Refusal
     ensures refused { IfErr result (λ e. Refuses text.now e) }
     // The text has no other first fault.
     ensures first { IfErr result (λ e. e ≢ Refusal.NoMemory → (f : Refusal) → f ≢ Refusal.NoMemory → Refuses text.now f → f ≡ e) }
-    // A text that is refused, except for want of memory, has no tokens.
+    // A text that is refused, except for lack of memory, has no tokens.
     ensures none { IfErr result (λ e. e ≢ Refusal.NoMemory → (ts : List Token) → ¬ (Lexes text.now ts)) }
 {
     scan(alloc, text)

@@ -194,7 +194,7 @@ fn covers(summary: &Summary, action: Action, time: &Time, until: &Time) -> bool
     time.epoch() <= until.epoch() && summary.reaches(action, time.counters(), until.counters())
 }
 
-/// Whether `p` is at or before `q` on the same edge.
+/// Whether `p` is at the location of `q`, and at or before its time.
 fn stays(p: &Pointstamp, q: &Pointstamp) -> bool
     ensures { Decides result (Stays p.now.location p.now.time q.now.location q.now.time) }
 {

@@ -149,7 +149,7 @@ fn precursor_count(paths: &Paths, active: &[Counted], p: &Pointstamp) -> usize
     count
 }
 
-/// Adds `p` to the precursor count of each pointstamp of which it is a precursor.
+/// Adds one to the precursor count of each pointstamp of which `p` is a precursor.
 fn add_precursor(paths: &Paths, active: &mut Vec<Counted>, p: &Pointstamp)
     requires known { IsTimeAt (shown_graph paths.now) p.now.location p.now.time }
     requires all { AreKnown (shown_graph paths.now) active.old.items }
@@ -164,7 +164,7 @@ fn add_precursor(paths: &Paths, active: &mut Vec<Counted>, p: &Pointstamp)
     }
 }
 
-/// Subtracts `p` from the precursor count of each pointstamp of which it is a precursor.
+/// Subtracts one from the precursor count of each pointstamp of which `p` is a precursor.
 fn remove_precursor(paths: &Paths, active: &mut Vec<Counted>, p: &Pointstamp)
     requires known { IsTimeAt (shown_graph paths.now) p.now.location p.now.time }
     requires all { AreKnown (shown_graph paths.now) active.old.items }
@@ -178,7 +178,7 @@ fn remove_precursor(paths: &Paths, active: &mut Vec<Counted>, p: &Pointstamp)
     }
 }
 
-/// Adds `p` to one precursor count, if it is a precursor.
+/// Adds one to the precursor count, if `p` is a precursor.
 fn count_precursor(paths: &Paths, counted: &mut Counted, p: &Pointstamp)
     requires from { IsTimeAt (shown_graph paths.now) p.now.location p.now.time }
     requires to { IsTimeAt (shown_graph paths.now) counted.old.pointstamp.location counted.old.pointstamp.time }
@@ -190,7 +190,7 @@ fn count_precursor(paths: &Paths, counted: &mut Counted, p: &Pointstamp)
     }
 }
 
-/// Subtracts `p` from one precursor count, if it is a precursor.
+/// Subtracts one from the precursor count, if `p` is a precursor.
 fn discount_precursor(paths: &Paths, counted: &mut Counted, p: &Pointstamp)
     requires from { IsTimeAt (shown_graph paths.now) p.now.location p.now.time }
     requires to { IsTimeAt (shown_graph paths.now) counted.old.pointstamp.location counted.old.pointstamp.time }

@@ -12,7 +12,7 @@ pub struct Span {
     pub end: u32,
 }
 
-/// Why a text was refused: a numbered fault at its place, or want of memory.
+/// Why a text was refused: a numbered fault at its place, or lack of memory.
 #[derive(Clone, Copy, Debug, PartialEq, Eq)]
 pub enum Refusal {
     At { code: u8, span: Span },

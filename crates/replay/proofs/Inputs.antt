@@ -178,12 +178,12 @@ pub refused_only : (o : Option StepRefusal) (r : StepRefusal) → AnswersOnly {T
 refused_only None r h = absurd h
 refused_only (Some q) r h = ap Some (sym h)
 
--- a feed of a fitting record to an open input is refused only for want of memory
+-- a feed of a fitting record to an open input is refused only for lack of memory
 pub only_memory : (o : Option StepRefusal) (r : StepRefusal) → o ≡ None → AnswersOr {T = Unit {0}} o (Err r) → r ≡ step.NoMemory
 only_memory None r e h = h
 only_memory (Some q) r e h = absurd (let f : Some q ≡ None = e in cc)
 
--- a batch of one record that fits an open input has no refusal but want of memory
+-- a batch of one record that fits an open input has no refusal but lack of memory
 pub fit_feed : (s : Shown) (inputs : List Input) (name : List ℕ) (i arity : ℕ) (fields : List ℤ) (batch : List Record) → AreInputsOf s.graph inputs → IsOpen s name i arity → MakeRecord arity fields → batch ≡ fields ∷ [] → input_refusal s i ≡ None → feed_refusal s i batch ≡ None
 fit_feed s inputs name i arity fields batch are is fits alone none =
     let there : slice_get inputs i ≡ Some (record { name = name; arity = arity }) = ap (λ xs. slice_get xs i) are.same ∙ is.is.there in

@@ -28,7 +28,7 @@ abbrev pub word_of : Bool → List ℕ
 word_of true = codes " passed"
 word_of false = codes " open"
 
--- a code gives the refusal; want of memory has none
+-- a code gives the refusal; lack of memory has none
 abbrev pub told_by : Option ℕ → Refusal
 told_by (Some code) = refusal.Step code
 told_by None = refusal.NoMemory

@@ -14,7 +14,7 @@ use events::{ComputeFault, Done, Work};
 use std::alloc::Global;
 use views::Views;
 
-/// Computes an event that was taken. If that is refused, for want of memory or a count that is too large, abandons the event, which stops the board.
+/// Computes an event that was taken. If that is refused, for lack of memory or a count that is too large, abandons the event, which stops the board.
 fn computed<V: Views>(alloc: Global, board: &mut Board<V>, work: Work) -> Result<Done, Refusal>
     requires own { IsOf board.old.shown work.0 }
     ensures done { IfOk result (λ d. d ≡ work.0) }

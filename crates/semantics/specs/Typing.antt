@@ -1,5 +1,5 @@
--- Well-typed relations and programs: each name is known, each column exists, arities agree, and limits are kept. The check of a query refuses a
--- program exactly when a condition here fails.
+-- Well-typed relations and programs: each name is known, each column exists, arities agree, and limits are kept. The check of a query refuses what
+-- breaks a condition here.
 use Rattle.std.specs.Prelude.{◌≡◌, ℕ, suc, ◌+◌, ◌≤◌, ◌<◌, cond, List, [], ◌∷◌, length, Option, Some, None}
 use Rattle.std.specs.List.{AllByRecursion}
 use Rattle.semantics.specs.Limits.{max_fields, max_inputs, max_outputs, max_turns, max_loops}

@@ -1,7 +1,7 @@
 //! Views of progress: what each worker sees of the active pointstamps (Naiad, section 3.3).
 //!
-//! The contract for the layers above: `Views`. A worker's view may be late, but it lets nothing through that the active pointstamps don't
-//! let through, and exactly the same once nothing waits for the worker.
+//! The contract for the layers above: `Views`. A worker's view may be late, but it never lets through what the active pointstamps hold back.
+//! Once nothing waits for the worker, it lets through exactly what they do.
 //!
 //! | Type | A batch of changes is seen | Cost of a batch |
 //! |---|---|---|

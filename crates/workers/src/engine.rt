@@ -171,7 +171,7 @@ impl<J: Naming, V: Views> Engine<J, V> {
         unreachable!()
     }
 
-    /// Ends an event and claims the thread's next one under one lock. Out of memory, nothing changes, and the event comes back.
+    /// Ends an event and claims the thread's next one under one lock. If memory runs out, nothing changes, and the event comes back.
     pub(crate) fn commit<R: Wait>(&self, rt: &R, worker: u32, done: Done) -> Result<Claimed, Done>
         requires { IsNamed J.names done }
         ensures next { IfOk result (λ claimed. GivesNamed J.names claimed) }

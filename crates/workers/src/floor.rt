@@ -146,7 +146,7 @@ impl<J: Naming, V: Views> Floor<J, V> {
         claimed
     }
 
-    /// Ends an event and claims the thread's next one; also gives the threads to wake. Out of memory, nothing changes, and the event comes back.
+    /// Ends an event and claims the thread's next one; also gives the threads to wake. If memory runs out, nothing changes, and the event comes back.
     pub fn commit(
         &mut self,
         thread: u32,
@@ -249,8 +249,8 @@ impl<J: Naming, V: Views> Floor<J, V> {
         claimed
     }
 
-    /// An event of a worker that has mail, as is known without asking the board: the thread's own worker, or else a sleeper for which nobody needs to
-    /// be woken.
+    /// An event of a worker that has mail, as is known without asking the board: the thread's own worker, or else a sleeper whose mail isn't worth
+    /// waking its thread.
     fn claim_mailed(&mut self, thread: u32) -> Claimed
         ensures { GivesNamed J.names result }
     {

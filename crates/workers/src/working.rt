@@ -17,7 +17,7 @@ use views::Views;
 pub enum Ended {
     /// Nothing is left to do.
     Drained,
-    /// The board is stopped: an event was abandoned, for want of memory or in another thread.
+    /// The board is stopped: an event was abandoned, for lack of memory or in another thread.
     Stopped,
     /// A count would have been above 9223372036854775807, so the event was abandoned and the board is stopped.
     Count,
