@@ -1,7 +1,7 @@
 -- Records counted in.
 use Rattle.std.proofs.Common.{◌≡◌, ℕ, suc, ◌+◌, ◌<◌, ◌≤◌, nat_lt, Bool, true, false, cond, List, [], ◌∷◌, ◌++◌, take, length, slice_index_or, refl, sym, ap, subst, ◌∙◌, arith, append_assoc, length-append, lt-ltb}
 use Rattle.std.proofs.lemmas.List.{take_all}
-use Rattle.rows.specs.Counts.{AllFit, AreRuns, IsOver, Run, expanded, most, no_run, rows_of, runs}
+use Rattle.rows.specs.Counts.{AllFit, AreRuns, IsOver, Run, expanded, most, no_run, rows_of}
 use Rattle.rows.specs.Indexes.{AreDifferent}
 use Rattle.rows.proofs.Runs.{count_expanded}
 use Rattle.rows.proofs.Keeping.{once_where_different, different_where_once}

@@ -1,5 +1,5 @@
 -- What is kept and sent fits, or some of it is too often.
-use Rattle.std.proofs.Common.{◌≡◌, ℕ, zero, suc, ◌<◌, ◌≤◌, Bool, List, [], Some, None, subst, sym, arith, ◌∙◌, Result, ◌↔◌, ◌⊎◌}
+use Rattle.std.proofs.Common.{◌≡◌, ℕ, zero, suc, ◌<◌, ◌≤◌, Bool, List, [], Some, None, subst, sym, arith, ◌∙◌, Result, ◌↔◌}
 use Rattle.std.specs.Prelude.{Option, IfErr}
 use Rattle.std.proofs.lemmas.Result.{IfErr-weaker}
 use Rattle.rows.specs.Counts.{AllFit, AreRunCounts, AreRuns, IsOver, Run, expanded, rows_of, runs}
@@ -76,9 +76,6 @@ KeptFits s a p t batch = AllFit (kept_by (role (shard_kind s)) a p t batch)
 
 abbrev pub SentFits : Shard → Out → Type 0
 SentFits s out = (q : ℕ) → AllFit (sent (out_ports (shard_kind s)) out q)
-
-abbrev pub IsTooOften : Shard → Absorbed → (port : ℕ) → Time → List Record → Type 0
-IsTooOften s a p t batch = IsOver (kept_by (role (shard_kind s)) a p t batch) ⊎ WouldSendOver (shard_kind s) t a p batch
 
 -- ---- ports
 

@@ -2,6 +2,8 @@
 use Rattle.std.proofs.Common.{◌≡◌, ℕ, zero, suc, ◌+◌, ◌<◌, ◌≤◌, nat_lt, nat_eq, ◌||◌, Bool, true, false, not, cond, List, [], ◌∷◌, ◌++◌, map, take, length, slice_index_or, slice_set, ℤ, pos, refl, sym, ap, subst, ◌∙◌, arith, append_assoc, append-nil, length-append, lt-ltb, ltb-true, ltb-false}
 use Rattle.std.proofs.lemmas.Bool.{true≢false}
 use Rattle.std.proofs.lemmas.Bool.Decides.{Decides-eqb}
+use Rattle.std.proofs.lemmas.List.{length-map}
+use Rattle.std.proofs.Math.Seq.{take-append_seam}
 use Rattle.std.specs.List.{list_any}
 use Rattle.rows.specs.Indexes.{AreDifferent}
 use Rattle.semantics.specs.Meaning.{field, project, with_key, aggregate, grouped}
@@ -252,14 +254,6 @@ all_sent [] as' keys values (x ∷ xs) sent h e =
     ≈-trans (all_shown (stored_key []) as' keys values (x ∷ xs) h (shown_key []) sent e)
     (≈-from (ap (map (λ k. map (λ a. aggregate a (keyed (stored_key []) k (x ∷ xs))) as')) (one_key (pos 0 ∷ []) x xs) ∙ ap (map (λ k. k ++ map (λ a. aggregate a (with_key [] k (x ∷ xs))) as')) (sym (one_key [] x xs))))
 
--- groups of no record
-pub no_groups : (key : Record → Record) (as' : List Agg) (keys values : List Record) → keys ≡ [] → values ≡ [] → AreGrouped key as' keys values []
-no_groups key as' keys values e f = record {
-  keys_are = ≈-from e;
-  as_many = ap length f ∙ sym (ap length e);
-  values_are = λ p h. absurd (omega (arith, h, ap length e));
-}
-
 -- the groups of one more of counted records
 pub runs_more : (P : List Record → Type 0) (xs : List Record) (cs : List Run) (k : ℕ) (row : Record) (n : ℕ) → k < length cs → row ≡ (slice_index_or cs k no_run).row → n ≡ (slice_index_or cs k no_run).count →
     P ((xs ++ expanded (take k cs)) ++ repeated n row) → P (xs ++ expanded (take (k + 1) cs))
@@ -268,24 +262,16 @@ runs_more P xs cs k row n h e f p =
 
 -- ---- the records of groups are different
 
-length_map : (f : ℕ → ℤ) (ks : List ℕ) → length (map f ks) ≡ length ks
-length_map f [] = refl
-length_map f (k ∷ ks) = ap suc (length_map f ks)
-
 -- a row that begins with a key tells the key
 begins : (a d t : Record) → one_if (same (a ++ d) t) ≤ one_if (same a (take (length a) t))
 begins a d t = go (same (a ++ d) t) refl
   where
-    first : (a d : Record) → take (length a) (a ++ d) ≡ a
-    first [] d = refl
-    first (x ∷ a) d = ap (λ l. x ∷ l) (first a d)
-
     go : (b : Bool) → same (a ++ d) t ≡ b → one_if (same (a ++ d) t) ≤ one_if (same a (take (length a) t))
     go false e = let z = ap one_if e in omega (arith, z)
     go true e =
         let is : a ++ d ≡ t = (Decides-same (a ++ d) t).0 e in
         let z = ap one_if e in
-        let w = ap one_if (ap (same a) (ap (take (length a)) (sym is) ∙ first a d) ∙ same-refl a) in
+        let w = ap one_if (ap (same a) (ap (take (length a)) (sym is) ∙ take-append_seam a d) ∙ same-refl a) in
         omega (arith, z, w)
 
 rows_once : (n : ℕ) (f : Record → Record) (keys : List Record) (t : Record) → ((y : Record) → 0 < count y keys → length y ≡ n) → count t (map (λ k. k ++ f k) keys) ≤ count (take n t) keys
@@ -301,7 +287,7 @@ projected ks [] y h = absurd (omega (arith, h))
 projected ks (x ∷ xs) y h = go (same (project ks x) y) refl (projected ks xs y)
   where
     go : (b : Bool) → same (project ks x) y ≡ b → (0 < count y (map (project ks) xs) → length y ≡ length ks) → length y ≡ length ks
-    go true e i = ap length (sym ((Decides-same (project ks x) y).0 e)) ∙ length_map (λ c. field c x) ks
+    go true e i = ap length (sym ((Decides-same (project ks x) y).0 e)) ∙ length-map ks (λ c. field c x)
     go false e i = i (let z = ap one_if e in omega (arith, h, z))
 
 present : (xs : List Record) (y : Record) → 0 < count y (each_once xs) → 0 < count y xs

@@ -1,10 +1,10 @@
 -- Batches one behind another.
-use Rattle.std.proofs.Common.{◌≡◌, ℕ, suc, ◌+◌, ◌<◌, ◌≤◌, List, [], ◌∷◌, ◌++◌, length, take, get_or, sym, ap, ◌∙◌, subst, arith, length-append}
+use Rattle.std.proofs.Common.{◌≡◌, ℕ, ◌+◌, ◌<◌, ◌≤◌, List, [], ◌∷◌, ◌++◌, length, take, get_or, sym, ap, ◌∙◌, subst, arith, length-append}
 use Rattle.std.specs.Prelude.{min}
 use Rattle.std.specs.List.{AllByRecursion}
 use Rattle.rows.specs.Counts.{Run, expanded, most, runs}
 use Rattle.rows.specs.FlatRows.{arity_of, joined}
-use Rattle.rows.proofs.Joined.{item_more}
+use Rattle.rows.proofs.Joined.{item_next}
 use Rattle.semantics.specs.Multiset.{Record}
 
 pub all_more : (P : List Record → Type 0) (bs : List (List Record)) (b : List Record) → AllByRecursion P bs → P b → AllByRecursion P (bs ++ b ∷ [])
@@ -25,8 +25,4 @@ few_more xs b weight more sum few m s l =
 -- one batch more
 pub batch_more : (P : List Record → Type 0) (bs : List (List Record)) (k : ℕ) (b : List Record) (cs : List Run) → k < length bs → b ≡ get_or bs k b → cs ≡ runs b → expanded (runs b) ≡ b → P (joined (take k bs) ++ expanded cs) → P (joined (take (k + 1) bs))
 batch_more P bs k b cs h e c all p =
-    let next : joined (take (k + 1) bs) ≡ joined (take k bs) ++ b = ap (λ n. joined (take n bs)) (one k) ∙ item_more bs k b h e in
-    subst P (ap (λ l. joined (take k bs) ++ l) (ap expanded c ∙ all) ∙ sym next) p
-  where
-    one : (m : ℕ) → m + 1 ≡ suc m
-    one m = omega arith
+    subst P (ap (λ l. joined (take k bs) ++ l) (ap expanded c ∙ all) ∙ sym (item_next bs k b h e)) p

@@ -5,14 +5,14 @@ use Rattle.std.proofs.lemmas.List.Elements.{filter_more}
 use Rattle.std.specs.List.{list_any}
 use Rattle.rows.specs.Counts.{AreRuns, Run, expanded, no_run, rows_of}
 use Rattle.rows.specs.Indexes.{AreDifferent}
-use Rattle.rows.proofs.Keeping.{different_where_once}
+use Rattle.rows.proofs.Keeping.{different_where_once, one_le}
 use Rattle.rows.proofs.Runs.{length_rows, row_at}
 use Rattle.semantics.specs.Meaning.{only_left, in_both}
 use Rattle.semantics.specs.Multiset.{Record, same, one_if, count, is_present, ◌≈◌, each_once}
 use Rattle.semantics.proofs.CountsOfForms.{count-filter}
 use Rattle.semantics.proofs.DistinctAndGroups.{count-distinct, distinct_same}
 use Rattle.semantics.proofs.ExceptAndIntersect.{count-except, count-intersect, present_in_set}
-use Rattle.semantics.proofs.MultisetSums.{Decides-same, total-append, append_same, ≈-refl, ≈-trans, ≈-from}
+use Rattle.semantics.proofs.MultisetSums.{Decides-same, total-append, append_same, ≈-refl, ≈-trans}
 use Rattle.vertices.proofs.Counting.{rows_once}
 use Rattle.vertices.proofs.Sets.{found_counts}
 
@@ -47,10 +47,6 @@ common_turned xs ys = record {
     go true false = refl
     go false true = refl
     go false false = refl
-
--- a record that was there already
-pub common_old : (old new other sent : List Record) → new ≡ old → (sent ++ in_both old other) ≈ (sent ++ in_both new other)
-common_old old new other sent e = ≈-from (ap (λ l. sent ++ in_both l other) (sym e))
 
 -- a new record, which the other side doesn't have
 pub common_alone : (x : Record) (old new other sent : List Record) → list_any (λ r. same r x) other ≡ false → new ≡ old ++ x ∷ [] → (sent ++ in_both old other) ≈ (sent ++ in_both new other)
@@ -131,12 +127,8 @@ different_sends sends before xs ys e = different_where_once sends (λ r.
     let a = e.counts r in
     let b = total-append (λ x. one_if (same x r)) sends before in
     let c = count-intersect xs ys r in
-    let d = at_most_one (is_present r xs && is_present r ys) in
+    let d = one_le (is_present r xs && is_present r ys) in
     omega (arith, a, b, c, d))
-  where
-    at_most_one : (b : Bool) → one_if b ≤ 1
-    at_most_one true = omega arith
-    at_most_one false = omega arith
 
 pub none_different : (rows : List Record) → rows ≡ [] → AreDifferent rows
 none_different rows e i j l m f = absurd (omega (arith, l, ap length e))

@@ -1,7 +1,6 @@
 -- What a shard shows, sends and keeps is so of the same records in any other order.
 use Rattle.std.proofs.Common.{ℕ, ◌==◌, cond, ◌++◌, List, [], arith}
-use Rattle.rows.specs.Counts.{AllFit, IsOver}
-use Rattle.rows.proofs.Merging.{fit_alike}
+use Rattle.rows.specs.Counts.{IsOver}
 use Rattle.semantics.specs.Kinds.{Kind, Role, role}
 use Rattle.semantics.specs.Multiset.{Record, ◌≈◌}
 use Rattle.semantics.specs.Op.{op}
@@ -72,9 +71,6 @@ kept_same Role.stateless a b alike port t xs ys e = ≈-refl []
 kept_same Role.stateful a b alike port t xs ys e = append_same (a port t) (b port t) xs ys (alike port t) e
 kept_same Role.notified a b alike port t xs ys e = append_same (a port t) (b port t) xs ys (alike port t) e
 kept_same Role.output a b alike port t xs ys e = ≈-refl []
-
-pub kept_fits_same : (r : Role) (a : Absorbed) (port : ℕ) (t : Time) (xs ys : List Record) → xs ≈ ys → AllFit (kept_by r a port t xs) → AllFit (kept_by r a port t ys)
-kept_fits_same r a port t xs ys e h = fit_alike (kept_by r a port t xs) (kept_by r a port t ys) (kept_same r a a (λ p u. ≈-refl (a p u)) port t xs ys e) h
 
 pub over_same : (xs ys : List Record) → xs ≈ ys → IsOver xs → IsOver ys
 over_same xs ys e h = (h.0, let z = e.counts h.0 in omega (arith, z, h.1))

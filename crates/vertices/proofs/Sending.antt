@@ -1,5 +1,5 @@
 -- What is sent is what the kind's equation makes.
-use Rattle.std.proofs.Common.{◌≡◌, ℕ, zero, suc, ◌+◌, ◌<◌, ◌==◌, nat_lt, nat_eq, Bool, true, cond, ◌&&◌, List, [], ◌++◌, Some, None, refl, sym, ap, ◌∙◌, arith, append-nil}
+use Rattle.std.proofs.Common.{◌≡◌, ℕ, zero, suc, ◌+◌, ◌<◌, ◌==◌, nat_lt, nat_eq, Bool, true, cond, ◌&&◌, List, [], ◌++◌, Some, refl, sym, ap, ◌∙◌, arith, append-nil}
 use Rattle.std.proofs.lemmas.Bool.Decides.{Decides-eqb}
 use Rattle.std.specs.Cmp.Lexicographic.{pointwise_decides}
 use Rattle.semantics.specs.Kinds.{Kind}
@@ -72,9 +72,6 @@ left_sends ps t a batch out h q = ≈-trans h (≈-from (λ j. paired ps (sym (t
 pub right_sends : (ps : List Pair) (t : Time) (a : Absorbed) (batch : List Record) (out : Out) → (records_of out.first ++ paired ps (a 0 t) (a 1 t)) ≈ paired ps (a 0 t) (a 1 t ++ batch) → SendsFor (Kind.join ps) t a 1 batch out
 right_sends ps t a batch out h q = ≈-trans h (≈-from (λ j. paired ps (sym (append-nil (a 0 t)) j) (sym (there a 1 t batch) j)))
 
-pub group_sends : (ks : List ℕ) (as' : List Agg) (t : Time) (a : Absorbed) (batch : List Record) (out : Out) → out.first ≡ None → SendsFor (Kind.group ks as') t a 0 batch out
-group_sends ks as' t a batch out e q = ap records_of e
-
 pub group_notified : (ks : List ℕ) (as' : List Agg) (t : Time) (a : Absorbed) (out : Out) → records_of out.first ≈ grouped ks as' (a 0 t) → SendsAtNotification (λ q ins. op (Kind.group ks as') t ins q) (λ p. a p t) (sent 1 out)
 group_notified ks as' t a out h q = h
 
@@ -83,9 +80,6 @@ intersect_sends t a p batch out h q = ≈-trans h (≈-from (λ j. in_both (a 0 
   where
     then : batch ≡ cond (same_time t t) batch []
     then = sym (ap (λ b. cond b batch []) (same_time_refl t))
-
-pub except_sends : (t : Time) (a : Absorbed) (p : ℕ) (batch : List Record) (out : Out) → out.first ≡ None → SendsFor Kind.except t a p batch out
-except_sends t a p batch out e q = ap records_of e
 
 pub except_notified : (t : Time) (a : Absorbed) (out : Out) → records_of out.first ≈ only_left (a 0 t) (a 1 t) → SendsAtNotification (λ q ins. op Kind.except t ins q) (λ p. a p t) (sent 1 out)
 except_notified t a out h q = h

@@ -37,10 +37,6 @@ module _ {S H : Type 0} (m : HashMap Time S H) (time : Time) (P : S → (ℕ →
   pub state_made : (s : S) → get same_time m time ≡ None → AreStatesOf P m a → P s (λ p. []) → P s (λ p. a p time)
   state_made s e h made = so_of_none (P s) e h made
 
--- nothing at all
-pub before_all : {S H : Type 0} (m : HashMap Time S H) (P : S → (ℕ → List Record) → Type 0) → ((t : Time) → get same_time m t ≡ None) → AreStatesOf P m (λ p t. [])
-before_all m P e t = subst (λ o. IsStateOf P o (λ p. [])) (sym (e t)) (λ p. refl)
-
 module _ {S H : Type 0} (m n : HashMap Time S H) (time : Time) (v : S) (e : (t : Time) → get same_time n t ≡ cond (same_time time t) (Some v) (get same_time m t)) where
   -- the states of one time more
   pub states_more : (P : S → (ℕ → List Record) → Type 0) (a : Absorbed) (port : ℕ) (batch : List Record) → AreStatesOf P m a → P v (λ p. a p time ++ cond (port == p) batch []) → AreStatesOf P n (with_records a port time batch)

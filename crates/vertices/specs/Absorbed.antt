@@ -12,6 +12,18 @@ Absorbed = (port : ℕ) → Time → List Record
 abbrev pub with_records : Absorbed → (port : ℕ) → Time → List Record → Absorbed
 with_records a p t records p' t' = a p' t' ++ cond (p == p') (cond (same_time t t') records []) []
 
+-- the records by port, with these more at one port
+abbrev pub more_at : (ℕ → List Record) → (port : ℕ) → List Record → (ℕ → List Record)
+more_at f p records p' = f p' ++ cond (p == p') records []
+
+-- a vertex of that role keeps a state for each time
+abbrev pub HasState : Role → Type 0
+HasState Role.input = ⊥
+HasState Role.stateless = ⊥
+HasState Role.stateful = Unit {0}
+HasState Role.notified = Unit {0}
+HasState Role.output = ⊥
+
 -- only the vertices with a state absorb
 abbrev pub absorbed_by : Role → Absorbed → (port : ℕ) → Time → List Record → Absorbed
 absorbed_by Role.input a p t records = a

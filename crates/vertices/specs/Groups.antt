@@ -1,9 +1,9 @@
 -- The groups of records.
-use Rattle.std.specs.Prelude.{◌≡◌, ℕ, ◌<◌, List, [], ◌∷◌, map, filter, length, slice_index_or}
+use Rattle.std.specs.Prelude.{◌≡◌, ℕ, ◌<◌, List, [], ◌∷◌, ◌++◌, map, filter, length, slice_index_or}
 use Rattle.expr_tree.specs.Plain.{plain_agg}
 use Rattle.operators.specs.declared.group.Group.{Group}
 use Rattle.operators.specs.Aggregates.{stored_key}
-use Rattle.semantics.specs.Meaning.{aggregate}
+use Rattle.semantics.specs.Meaning.{aggregate, grouped}
 use Rattle.semantics.specs.Multiset.{Record, same, ◌≈◌, each_once}
 use Rattle.semantics.specs.Query.{Agg}
 use Rattle.vertices.specs.declared.groups.Groups.{Groups}
@@ -41,3 +41,15 @@ pub record AreGroupsOf (g : Group) (groups : Groups) (xs : List Record) : Type 0
   pub arity : groups.keys.arity ≡ key_arity (columns_of g)
   pub width : groups.values.arity ≡ length (aggregates_of g)
   pub grouped : AreGrouped (stored_key (columns_of g)) (aggregates_of g) groups.keys.rows groups.values.rows xs
+
+-- a record for each group of the records
+abbrev pub group_records : Group → List Record → List Record
+group_records g xs = grouped (columns_of g) (aggregates_of g) xs
+
+-- the rows are the group records of what came to port 0
+abbrev pub AreGroupRecords : Group → (rows : List Record) → (ℕ → List Record) → Type 0
+AreGroupRecords g rows f = rows ≈ group_records g (f 0)
+
+-- the record of the group at a place: its key, then its aggregates
+abbrev pub group_record : Group → Groups → (place : ℕ) → Record
+group_record g groups place = shown_key (columns_of g) (slice_index_or groups.keys.rows place []) ++ slice_index_or groups.values.rows place []

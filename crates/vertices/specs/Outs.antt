@@ -1,12 +1,12 @@
 -- What is sent for one event.
-use Rattle.std.specs.Prelude.{ℕ, zero, suc, List, Option}
+use Rattle.std.specs.Prelude.{ℕ, zero, suc, Bool, List, Option, ◌⊎◌}
 use Rattle.rows.specs.Counts.{IsOver, records_in}
-use Rattle.semantics.specs.Kinds.{Kind, role, out_ports}
-use Rattle.semantics.specs.Multiset.{Record}
+use Rattle.semantics.specs.Kinds.{Kind, role, in_ports, out_ports}
+use Rattle.semantics.specs.Multiset.{Record, end_to_end}
 use Rattle.semantics.specs.Op.{op}
-use Rattle.semantics.specs.Shard.{SendsBy}
+use Rattle.semantics.specs.Shard.{SendsAtNotification, SendsBy, asks}
 use Rattle.semantics.specs.Time.{Time}
-use Rattle.vertices.specs.Absorbed.{Absorbed, absorbed_by}
+use Rattle.vertices.specs.Absorbed.{Absorbed, absorbed_by, kept_by}
 use Rattle.vertices.specs.declared.out.Out.{Out}
 
 -- the records of a batch, if there is one
@@ -35,3 +35,15 @@ SendsFor kind t a port records out = Sends kind t a port records (sent (out_port
 -- some out port would send a record too often
 abbrev pub WouldSendOver : Kind → Time → Absorbed → (port : ℕ) → List Record → Type 0
 WouldSendOver kind t a port records = (would : ℕ → List Record) × Sends kind t a port records would × (q : ℕ) × IsOver (would q)
+
+-- a shard of that kind would then keep a record too often, or send one too often
+abbrev pub GoesOver : Kind → Time → Absorbed → (port : ℕ) → List Record → Type 0
+GoesOver kind t a port records = IsOver (kept_by (role kind) a port t records) ⊎ WouldSendOver kind t a port records
+
+-- what it sends at its notification of a time
+abbrev pub SendsForNotification : Kind → Time → Absorbed → Out → Type 0
+SendsForNotification kind t a out = SendsAtNotification (λ q ins. op kind t ins q) (λ p. a p t) (sent (out_ports kind) out)
+
+-- whether it asks for a notification when records of a time come
+abbrev pub asks_at : Kind → Time → Absorbed → Bool
+asks_at kind t a = asks (role kind) (end_to_end (λ p. a p t) (in_ports kind))

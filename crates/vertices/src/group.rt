@@ -6,12 +6,11 @@ ghost use Rattle.rows.specs.FlatRows.{arity_of};
 ghost use Rattle.rows.specs.Indexes.{AreDifferent};
 ghost use Rattle.rows.specs.declared.error.TallyError.TheVariants.{Count as TallyCount};
 ghost use Rattle.semantics.specs.Kinds.{Role};
-ghost use Rattle.semantics.specs.Meaning.{grouped};
 ghost use Rattle.semantics.specs.Multiset.{◌≈◌};
 ghost use Rattle.semantics.specs.Shard.{asks};
-ghost use Rattle.vertices.specs.Absorbed.{Absorbed, with_records};
-ghost use Rattle.vertices.specs.ByTime.{AreStatesOf};
-ghost use Rattle.vertices.specs.Groups.{columns_of, aggregates_of, key_arity};
+ghost use Rattle.vertices.specs.Absorbed.{Absorbed};
+ghost use Rattle.vertices.specs.ByTime.{Absorbs, AreStatesOf, ForAbsorbed};
+ghost use Rattle.vertices.specs.Groups.{AreGroupRecords, columns_of, group_records, key_arity};
 ghost use Rattle.vertices.specs.Piles.{IsPileThen};
 ghost use Rattle.vertices.specs.declared.fault.ShardFault.TheVariants.{Count, NoMemory};
 
@@ -75,10 +74,10 @@ impl GroupShard {
         requires whole { (a : Absorbed) × AreStatesOf (IsPileThen self.old.arity) self.old.times a }
         ensures operator { self.new.operator ≡ self.old.operator }
         ensures arity { self.new.arity ≡ self.old.arity }
-        ensures absorbed { OnOk result ((a : Absorbed) → AreStatesOf (IsPileThen self.old.arity) self.old.times a → AreStatesOf (IsPileThen self.old.arity) self.new.times (with_records a 0 time.now batch.now)) }
-        ensures asked { IfOk result (λ asked. (a : Absorbed) → AreStatesOf (IsPileThen self.old.arity) self.old.times a → asked ≡ asks Role.notified (a 0 time.now)) }
-        ensures fits { OnOk result ((a : Absorbed) → AreStatesOf (IsPileThen self.old.arity) self.old.times a → AllFit (a 0 time.now ++ batch.now)) }
-        ensures over { IfErr result (λ e. e ≡ Count → (a : Absorbed) → AreStatesOf (IsPileThen self.old.arity) self.old.times a → IsOver (a 0 time.now ++ batch.now)) }
+        ensures absorbed { OnOk result (Absorbs (IsPileThen self.old.arity) self.old.times self.new.times 0 time.now batch.now) }
+        ensures asked { IfOk result (λ asked. ForAbsorbed (IsPileThen self.old.arity) self.old.times time.now (λ f. asked ≡ asks Role.notified (f 0))) }
+        ensures fits { OnOk result (ForAbsorbed (IsPileThen self.old.arity) self.old.times time.now (λ f. AllFit (f 0 ++ batch.now))) }
+        ensures over { IfErr result (λ e. e ≡ Count → ForAbsorbed (IsPileThen self.old.arity) self.old.times time.now (λ f. IsOver (f 0 ++ batch.now))) }
     {
         if let Some(pile) = self.times.get_mut(time) {
             if let Err(error) = absorb(pile, batch) {
@@ -96,7 +95,7 @@ impl GroupShard {
 
     /// A record for each group of a time.
     pub fn on_notify(&self, alloc: Global, time: &Time) -> Result<Rows, ShardFault>
-        ensures grouped { IfOk result (λ rows. (a : Absorbed) → AreStatesOf (IsPileThen self.now.arity) self.now.times a → rows.rows ≈ grouped (columns_of self.now.operator) (aggregates_of self.now.operator) (a 0 time.now)) }
+        ensures grouped { IfOk result (λ rows. ForAbsorbed (IsPileThen self.now.arity) self.now.times time.now (AreGroupRecords self.now.operator rows.rows)) }
         ensures different { IfOk result (λ rows. AreDifferent rows.rows) }
         ensures never { IfErr result (λ e. e ≡ NoMemory) }
     {
@@ -114,7 +113,7 @@ impl GroupShard {
 
     /// A record for each group of the records, each of which is looked at once.
     fn grouped(&self, alloc: Global, pile: &Pile) -> Result<Rows, RowsError>
-        ensures grouped { IfOk result (λ rows. rows.rows ≈ grouped (columns_of self.now.operator) (aggregates_of self.now.operator) pile.now.records) }
+        ensures grouped { IfOk result (λ rows. rows.rows ≈ group_records self.now.operator pile.now.records) }
         ensures different { IfOk result (λ rows. AreDifferent rows.rows) }
     {
         let mut groups = Groups::new(alloc, &self.operator, &self.no_keys)?;

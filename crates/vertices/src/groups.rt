@@ -1,11 +1,10 @@
 //! The groups of counted records.
 
-ghost use Rattle.std.specs.Prelude.{◌≡◌, ◌+◌, ◌<◌, ◌++◌, ◌∷◌, List, [], length, map, IfOk, OnOk, ◌≤◌, slice_index_or};
+ghost use Rattle.std.specs.Prelude.{◌≡◌, ◌+◌, ◌<◌, ◌++◌, ◌∷◌, List, [], length, map, IfOk, OnOk, ◌≤◌};
 ghost use Rattle.rows.specs.Counts.{expanded, most, repeated};
 ghost use Rattle.rows.specs.Indexes.{AreDifferent};
-ghost use Rattle.semantics.specs.Meaning.{grouped};
 ghost use Rattle.semantics.specs.Multiset.{Record, ◌≈◌};
-ghost use Rattle.vertices.specs.Groups.{AreGroupsOf, aggregates_of, columns_of, key_arity, shown_key};
+ghost use Rattle.vertices.specs.Groups.{AreGroupsOf, columns_of, group_record, group_records, key_arity, shown_key};
 
 use expr_tree::Column;
 use operators::{Group, Numbers};
@@ -84,7 +83,7 @@ impl Groups {
     /// A record for each group: its key, then its aggregates.
     pub(crate) fn finished(&self, alloc: Global, operator: &Group) -> Result<Rows, RowsError>
         requires { (xs : List Record) × AreGroupsOf operator.now self.now xs }
-        ensures grouped { IfOk result (λ rows. (xs : List Record) → AreGroupsOf operator.now self.now xs → rows.rows ≈ grouped (columns_of operator.now) (aggregates_of operator.now) xs) }
+        ensures grouped { IfOk result (λ rows. (xs : List Record) → AreGroupsOf operator.now self.now xs → rows.rows ≈ group_records operator.now xs) }
         ensures different { IfOk result (λ rows. AreDifferent rows.rows) }
     {
         let arity = operator.columns.len() + operator.aggregates.len();
@@ -100,7 +99,7 @@ impl Groups {
         requires whole { (xs : List Record) × AreGroupsOf operator.now self.now xs }
         requires place { place < length self.now.keys.rows }
         requires arity { rows.old.arity ≡ length operator.now.columns.items + length operator.now.aggregates.items }
-        ensures rows { OnOk result (rows.new.rows ≡ rows.old.rows ++ (shown_key (columns_of operator.now) (slice_index_or self.now.keys.rows place []) ++ slice_index_or self.now.values.rows place []) ∷ []) }
+        ensures rows { OnOk result (rows.new.rows ≡ rows.old.rows ++ group_record operator.now self.now place ∷ []) }
         ensures arity { rows.new.arity ≡ rows.old.arity }
     {
         let key = self.keys.row(place);

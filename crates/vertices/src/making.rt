@@ -133,7 +133,7 @@ fn new_group(
     requires arity { IsArity arity }
     requires some { 1 ≤ length columns.now + length aggregates.now }
     requires few { length columns.now + length aggregates.now ≤ 16 }
-    ensures fresh { (second : ℕ) → IfOk result (λ s. IsFreshShard (Equation.group (map (λ k. k.index) columns.now) (map plain_agg aggregates.now)) arity second s) }
+    ensures fresh { (n : ℕ) → IfOk result (λ s. IsFreshShard (Equation.group (map (λ k. k.index) columns.now) (map plain_agg aggregates.now)) arity n s) }
     ensures never { IfErr result (λ e. e ≡ fault.NoMemory) }
 {
     let columns = columns.to_vec(alloc)?;

@@ -1,6 +1,6 @@
 //! What a shard sends and asks for.
 
-ghost use Rattle.std.specs.Prelude.{◌≡◌, ◌<◌, ◌==◌, None, OnOk, IfErr, false};
+ghost use Rattle.std.specs.Prelude.{◌≡◌, ◌<◌, None, OnOk, IfErr, false};
 ghost use Rattle.rows.specs.Counts.{AllFit, expanded, rows_of};
 ghost use Rattle.rows.specs.Indexes.{AreDifferent};
 ghost use Rattle.vertices.specs.declared.fault.ShardFault.TheVariants.{NoMemory};

@@ -1,6 +1,6 @@
 //! The records of one time, as they come.
 
-ghost use Rattle.std.specs.Prelude.{◌≡◌, ◌++◌, IfOk, IfErr, OnOk, [], length, ◌≤◌};
+ghost use Rattle.std.specs.Prelude.{◌≡◌, ◌++◌, IfErr, OnOk, [], length, ◌≤◌};
 ghost use Rattle.std.specs.List.{AllByRecursion};
 ghost use Rattle.rows.specs.Counts.{AllFit, IsOver};
 ghost use Rattle.rows.specs.FlatRows.{arity_of, joined};

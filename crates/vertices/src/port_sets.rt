@@ -1,14 +1,12 @@
 //! What an except or an intersect keeps at one time.
 
-ghost use Rattle.std.specs.Prelude.{◌≡◌, ◌≤◌, ◌<◌, ◌==◌, ℕ, List, cond, not, ◌++◌, ◌∷◌, ◌+◌, [], if◌then◌else◌, filter, length, slice_index_or, IfErr, IfOk, OnOk};
-ghost use Rattle.std.specs.List.{list_any};
-ghost use Rattle.rows.specs.Counts.{AllFit, AreRuns, IsOver, expanded, most, no_run, repeated, rows_of};
+ghost use Rattle.std.specs.Prelude.{◌≡◌, ◌≤◌, ◌<◌, ℕ, List, not, ◌++◌, ◌+◌, [], filter, length, IfErr, IfOk, OnOk};
+ghost use Rattle.rows.specs.Counts.{AllFit, AreRuns, IsOver, expanded, most, repeated, rows_of};
 ghost use Rattle.rows.specs.FlatRows.{arity_of};
-ghost use Rattle.rows.specs.Indexes.{AreDifferent};
 ghost use Rattle.rows.specs.declared.error.TallyError.TheVariants.{Count};
-ghost use Rattle.semantics.specs.Meaning.{in_both};
-ghost use Rattle.semantics.specs.Multiset.{Record, ◌≈◌, count as count_of, same};
-ghost use Rattle.vertices.specs.States.{AreSetsOf};
+ghost use Rattle.semantics.specs.Multiset.{Record, ◌≈◌, count as count_of};
+ghost use Rattle.vertices.specs.Absorbed.{more_at};
+ghost use Rattle.vertices.specs.States.{AreSetsOf, IntersectGains, common_rows, is_right, only_left_at};
 
 use rows::{Batch, Rows, RowsError, Tally, TallyError};
 use std::alloc::Global;
@@ -48,7 +46,7 @@ fn meet(
     requires some { 1 ≤ count }
     requires fits { count ≤ most }
     ensures records { OnOk result (expanded tally.new.runs ≈ (expanded tally.old.runs ++ repeated count row.now)) }
-    ensures sent { OnOk result ((sends.new.rows ++ in_both (rows_of tally.old.runs) (rows_of other.now.runs)) ≈ (sends.old.rows ++ in_both (rows_of tally.new.runs) (rows_of other.now.runs))) }
+    ensures sent { OnOk result ((sends.new.rows ++ common_rows tally.old other.now) ≈ (sends.old.rows ++ common_rows tally.new other.now)) }
     ensures over { IfErr result (λ e. e ≡ Count → most < count_of row.now (expanded tally.old.runs) + count) }
     ensures arity { tally.new.arity ≡ tally.old.arity }
     ensures same { sends.new.arity ≡ sends.old.arity }
@@ -77,7 +75,7 @@ fn meet_all(
     requires batch { arity_of batch.now ≡ tally.old.arity }
     requires sends { sends.old.arity ≡ tally.old.arity }
     ensures records { OnOk result ((xs : List Record) → expanded tally.old.runs ≈ xs → expanded tally.new.runs ≈ (xs ++ batch.now)) }
-    ensures sent { OnOk result ((sends.new.rows ++ in_both (rows_of tally.old.runs) (rows_of other.now.runs)) ≈ (sends.old.rows ++ in_both (rows_of tally.new.runs) (rows_of other.now.runs))) }
+    ensures sent { OnOk result ((sends.new.rows ++ common_rows tally.old other.now) ≈ (sends.old.rows ++ common_rows tally.new other.now)) }
     ensures before { AreRuns tally.old.runs }
     ensures beside { AreRuns other.now.runs }
     ensures runs { OnOk result (AreRuns tally.new.runs) }
@@ -111,7 +109,7 @@ impl PortSets {
     pub(crate) fn absorb(&mut self, port: u32, batch: &Batch) -> Result<(), TallyError>
         requires port { port < 2 }
         requires whole { (f : ℕ → List Record) × AreSetsOf (arity_of batch.now) self.old f }
-        ensures absorbed { OnOk result ((n : ℕ) (f : ℕ → List Record) → AreSetsOf n self.old f → AreSetsOf n self.new (λ p. f p ++ cond (port == p) batch.now [])) }
+        ensures absorbed { OnOk result ((n : ℕ) (f : ℕ → List Record) → AreSetsOf n self.old f → AreSetsOf n self.new (more_at f port batch.now)) }
         ensures fits { OnOk result ((n : ℕ) (f : ℕ → List Record) → AreSetsOf n self.old f → AllFit (f port ++ batch.now)) }
         ensures over { IfErr result (λ e. e ≡ Count → (n : ℕ) (f : ℕ → List Record) → AreSetsOf n self.old f → IsOver (f port ++ batch.now)) }
     {
@@ -134,8 +132,8 @@ impl PortSets {
         requires port { port < 2 }
         requires sends { sends.old ≡ record { arity = arity_of batch.now; rows = [] } }
         requires whole { (f : ℕ → List Record) × AreSetsOf (arity_of batch.now) self.old f }
-        ensures absorbed { OnOk result ((n : ℕ) (f : ℕ → List Record) → AreSetsOf n self.old f → AreSetsOf n self.new (λ p. f p ++ cond (port == p) batch.now [])) }
-        ensures gained { OnOk result ((n : ℕ) (f : ℕ → List Record) → AreSetsOf n self.old f → (sends.new.rows ++ in_both (f 0) (f 1)) ≈ in_both (f 0 ++ cond (port == 0) batch.now []) (f 1 ++ cond (port == 1) batch.now [])) }
+        ensures absorbed { OnOk result ((n : ℕ) (f : ℕ → List Record) → AreSetsOf n self.old f → AreSetsOf n self.new (more_at f port batch.now)) }
+        ensures gained { OnOk result ((n : ℕ) (f : ℕ → List Record) → AreSetsOf n self.old f → IntersectGains port batch.now sends.new.rows f) }
         ensures fits { OnOk result ((n : ℕ) (f : ℕ → List Record) → AreSetsOf n self.old f → AllFit (f port ++ batch.now)) }
         ensures over { IfErr result (λ e. e ≡ Count → (n : ℕ) (f : ℕ → List Record) → AreSetsOf n self.old f → IsOver (f port ++ batch.now)) }
     {
@@ -150,7 +148,7 @@ impl PortSets {
     /// The records of port 0 that aren't at port 1, each once.
     #[tactic(auto, using(crate::proofs::PortSets::alone_more, crate::proofs::PortSets::all_alone))]
     pub(crate) fn only_left(&self, alloc: Global) -> Result<Rows, RowsError>
-        ensures rows { IfOk result (λ rows. rows.rows ≡ filter (λ r. not (list_any (λ x. same x r) (rows_of self.now.right.runs))) (rows_of self.now.left.runs)) }
+        ensures rows { IfOk result (λ rows. rows.rows ≡ filter (λ r. not (is_right self.now r)) (rows_of self.now.left.runs)) }
         ensures left { AreRuns self.now.left.runs }
         ensures right { AreRuns self.now.right.runs }
     {
@@ -166,7 +164,7 @@ impl PortSets {
     fn offer(&self, place: usize, rows: &mut Rows) -> Result<(), RowsError>
         requires place { place < length self.now.left.runs }
         requires arity { rows.old.arity ≡ self.now.left.arity }
-        ensures rows { OnOk result (rows.new.rows ≡ rows.old.rows ++ (if list_any (λ x. same x (slice_index_or self.now.left.runs place no_run).row) (rows_of self.now.right.runs) then [] else (slice_index_or self.now.left.runs place no_run).row ∷ [])) }
+        ensures rows { OnOk result (rows.new.rows ≡ rows.old.rows ++ only_left_at self.now place) }
         ensures arity { rows.new.arity ≡ rows.old.arity }
     {
         let row = self.left.row(place);

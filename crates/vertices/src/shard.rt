@@ -1,14 +1,11 @@
 //! The shard of a vertex of any kind.
 
-ghost use Rattle.std.specs.Prelude.{◌≡◌, ◌<◌, ◌⊎◌, ℕ, None, false, IfErr, OnOk};
-ghost use Rattle.rows.specs.Counts.{AllFit, IsOver};
+ghost use Rattle.std.specs.Prelude.{◌≡◌, ◌<◌, ℕ, None, false, IfErr, OnOk};
+ghost use Rattle.rows.specs.Counts.{AllFit};
 ghost use Rattle.rows.specs.FlatRows.{arity_of};
 ghost use Rattle.semantics.specs.Kinds.{Role, in_ports, out_ports, role};
-ghost use Rattle.semantics.specs.Multiset.{end_to_end};
-ghost use Rattle.semantics.specs.Op.{op};
-ghost use Rattle.semantics.specs.Shard.{SendsAtNotification, asks};
-ghost use Rattle.vertices.specs.Absorbed.{Absorbed, absorbed_by, kept_by};
-ghost use Rattle.vertices.specs.Outs.{SendsFor, WouldSendOver, sent};
+ghost use Rattle.vertices.specs.Absorbed.{Absorbed, HasState, absorbed_by, kept_by};
+ghost use Rattle.vertices.specs.Outs.{GoesOver, SendsFor, SendsForNotification, WouldSendOver, asks_at, sent};
 ghost use Rattle.vertices.specs.Shards.{Shows, TakesArity, shard_kind};
 ghost use Rattle.vertices.specs.declared.fault.ShardFault.TheVariants.{Count, NoMemory};
 
@@ -68,10 +65,10 @@ impl Shard {
         ensures arity { OnOk result ((p n : ℕ) → TakesArity self.old p n → TakesArity self.new p n) }
         ensures absorbed { OnOk result ((a : Absorbed) → Shows self.old a → Shows self.new (absorbed_by (role (shard_kind self.old)) a port time.now batch)) }
         ensures sends { OnOk result ((a : Absorbed) → Shows self.old a → SendsFor (shard_kind self.old) time.now a port batch out.new) }
-        ensures asked { OnOk result ((a : Absorbed) → Shows self.old a → out.new.asked ≡ asks (role (shard_kind self.old)) (end_to_end (λ p. a p time.now) (in_ports (shard_kind self.old)))) }
+        ensures asked { OnOk result ((a : Absorbed) → Shows self.old a → out.new.asked ≡ asks_at (shard_kind self.old) time.now a) }
         ensures fits { OnOk result ((a : Absorbed) → Shows self.old a → AllFit (kept_by (role (shard_kind self.old)) a port time.now batch)) }
         ensures fits_sent { OnOk result ((q : ℕ) → AllFit (sent (out_ports (shard_kind self.old)) out.new q)) }
-        ensures over { IfErr result (λ e. e ≡ Count → (a : Absorbed) → Shows self.old a → IsOver (kept_by (role (shard_kind self.old)) a port time.now batch) ⊎ WouldSendOver (shard_kind self.old) time.now a port batch) }
+        ensures over { IfErr result (λ e. e ≡ Count → (a : Absorbed) → Shows self.old a → GoesOver (shard_kind self.old) time.now a port batch) }
     {
         if port == 0 {
             self.on_first(alloc, time, batch, out)?;
@@ -85,7 +82,7 @@ impl Shard {
     pub fn on_notify(&self, alloc: Global, time: &Time, out: &mut Out) -> Result<(), ShardFault>
         requires role { role (shard_kind self.now) ≡ Role.notified }
         requires whole { (a : Absorbed) × Shows self.now a }
-        ensures sends { OnOk result ((a : Absorbed) → Shows self.now a → SendsAtNotification (λ q ins. op (shard_kind self.now) time.now ins q) (λ p. a p time.now) (sent (out_ports (shard_kind self.now)) out.new)) }
+        ensures sends { OnOk result ((a : Absorbed) → Shows self.now a → SendsForNotification (shard_kind self.now) time.now a out.new) }
         ensures fits_sent { OnOk result ((q : ℕ) → AllFit (sent (out_ports (shard_kind self.now)) out.new q)) }
         ensures never { IfErr result (λ e. e ≡ NoMemory) }
         ensures asked { out.new.asked ≡ out.old.asked }
@@ -131,22 +128,55 @@ impl Shard {
         ensures arity { OnOk result ((p n : ℕ) → TakesArity self.old p n → TakesArity self.new p n) }
         ensures absorbed { OnOk result ((a : Absorbed) → Shows self.old a → Shows self.new (absorbed_by (role (shard_kind self.old)) a 0 time.now batch)) }
         ensures sends { OnOk result ((a : Absorbed) → Shows self.old a → SendsFor (shard_kind self.old) time.now a 0 batch out.new) }
-        ensures asked { OnOk result ((a : Absorbed) → Shows self.old a → out.new.asked ≡ asks (role (shard_kind self.old)) (end_to_end (λ p. a p time.now) (in_ports (shard_kind self.old)))) }
+        ensures asked { OnOk result ((a : Absorbed) → Shows self.old a → out.new.asked ≡ asks_at (shard_kind self.old) time.now a) }
         ensures fits { OnOk result ((a : Absorbed) → Shows self.old a → AllFit (kept_by (role (shard_kind self.old)) a 0 time.now batch)) }
         ensures fits_sent { OnOk result ((q : ℕ) → AllFit (sent (out_ports (shard_kind self.old)) out.new q)) }
-        ensures over { IfErr result (λ e. e ≡ Count → (a : Absorbed) → Shows self.old a → IsOver (kept_by (role (shard_kind self.old)) a 0 time.now batch) ⊎ WouldSendOver (shard_kind self.old) time.now a 0 batch) }
+        ensures over { IfErr result (λ e. e ≡ Count → (a : Absorbed) → Shows self.old a → GoesOver (shard_kind self.old) time.now a 0 batch) }
     {
         match self {
             Shard::Input(_) => unreachable!(),
             Shard::Output(_) => Ok(()),
-            Shard::Select(operator) => {
-                select(operator, alloc, time, &batch, out)?;
+            Shard::Join(_)
+            | Shard::Group(_)
+            | Shard::Distinct(_)
+            | Shard::Except(_)
+            | Shard::Intersect(_) => self.absorb_first(alloc, time, batch, out),
+            Shard::Select(_)
+            | Shard::Where(_)
+            | Shard::Concat(_)
+            | Shard::Ingress(_)
+            | Shard::Egress(_)
+            | Shard::Feedback(_)
+            | Shard::Gate(_)
+            | Shard::Hold(_) => {
+                self.send_first(alloc, time, batch, out)?;
                 Ok(())
             }
-            Shard::Where(operator) => {
-                filter(operator, alloc, time, &batch, out)?;
-                Ok(())
-            }
+        }
+    }
+
+    /// Takes a batch that comes to port 0 into the state of its time, and sends what is gained by it.
+    fn absorb_first(
+        &mut self,
+        alloc: Global,
+        time: &Time,
+        batch: Batch,
+        out: &mut Out,
+    ) -> Result<(), ShardFault>
+        requires state { HasState (role (shard_kind self.old)) }
+        requires arity { TakesArity self.old 0 (arity_of batch) }
+        requires whole { (a : Absorbed) × Shows self.old a }
+        requires out { out.old ≡ record { first = None; second = None; asked = false } }
+        ensures kind { OnOk result (shard_kind self.new ≡ shard_kind self.old) }
+        ensures arity { OnOk result ((p n : ℕ) → TakesArity self.old p n → TakesArity self.new p n) }
+        ensures absorbed { OnOk result ((a : Absorbed) → Shows self.old a → Shows self.new (absorbed_by (role (shard_kind self.old)) a 0 time.now batch)) }
+        ensures sends { OnOk result ((a : Absorbed) → Shows self.old a → SendsFor (shard_kind self.old) time.now a 0 batch out.new) }
+        ensures asked { OnOk result ((a : Absorbed) → Shows self.old a → out.new.asked ≡ asks_at (shard_kind self.old) time.now a) }
+        ensures fits { OnOk result ((a : Absorbed) → Shows self.old a → AllFit (kept_by (role (shard_kind self.old)) a 0 time.now batch)) }
+        ensures fits_sent { OnOk result ((q : ℕ) → AllFit (sent (out_ports (shard_kind self.old)) out.new q)) }
+        ensures over { IfErr result (λ e. e ≡ Count → (a : Absorbed) → Shows self.old a → GoesOver (shard_kind self.old) time.now a 0 batch) }
+    {
+        match self {
             Shard::Join(shard) => {
                 join_left(shard, alloc, time, &batch, out)?;
                 Ok(())
@@ -167,6 +197,38 @@ impl Shard {
                 intersect(shard, alloc, 0, time, &batch, out)?;
                 Ok(())
             }
+            Shard::Input(_) => unreachable!(),
+            Shard::Output(_) => unreachable!(),
+            Shard::Select(_) => unreachable!(),
+            Shard::Where(_) => unreachable!(),
+            Shard::Concat(_) => unreachable!(),
+            Shard::Ingress(_) => unreachable!(),
+            Shard::Egress(_) => unreachable!(),
+            Shard::Feedback(_) => unreachable!(),
+            Shard::Gate(_) => unreachable!(),
+            Shard::Hold(_) => unreachable!(),
+        }
+    }
+
+    /// Sends what a vertex without a state makes of a batch that comes to port 0.
+    fn send_first(
+        &self,
+        alloc: Global,
+        time: &Time,
+        batch: Batch,
+        out: &mut Out,
+    ) -> Result<(), ShardFault>
+        requires role { role (shard_kind self.now) ≡ Role.stateless }
+        requires arity { TakesArity self.now 0 (arity_of batch) }
+        requires out { out.old ≡ record { first = None; second = None; asked = false } }
+        ensures sends { OnOk result ((a : Absorbed) → SendsFor (shard_kind self.now) time.now a 0 batch out.new) }
+        ensures fits_sent { OnOk result ((q : ℕ) → AllFit (sent (out_ports (shard_kind self.now)) out.new q)) }
+        ensures over { IfErr result (λ e. e ≡ Count → (a : Absorbed) → WouldSendOver (shard_kind self.now) time.now a 0 batch) }
+        ensures asked { out.new.asked ≡ out.old.asked }
+    {
+        match self {
+            Shard::Select(operator) => select(operator, alloc, time, &batch, out),
+            Shard::Where(operator) => filter(operator, alloc, time, &batch, out),
             Shard::Concat(_) => {
                 forward(time, 0, batch, out);
                 Ok(())
@@ -187,10 +249,14 @@ impl Shard {
                 gate(operator, time, batch, out);
                 Ok(())
             }
-            Shard::Hold(operator) => {
-                hold(operator, time, batch, out)?;
-                Ok(())
-            }
+            Shard::Hold(operator) => hold(operator, time, batch, out),
+            Shard::Input(_) => unreachable!(),
+            Shard::Output(_) => unreachable!(),
+            Shard::Join(_) => unreachable!(),
+            Shard::Group(_) => unreachable!(),
+            Shard::Distinct(_) => unreachable!(),
+            Shard::Except(_) => unreachable!(),
+            Shard::Intersect(_) => unreachable!(),
         }
     }
 
@@ -210,10 +276,10 @@ impl Shard {
         ensures arity { OnOk result ((p n : ℕ) → TakesArity self.old p n → TakesArity self.new p n) }
         ensures absorbed { OnOk result ((a : Absorbed) → Shows self.old a → Shows self.new (absorbed_by (role (shard_kind self.old)) a 1 time.now batch)) }
         ensures sends { OnOk result ((a : Absorbed) → Shows self.old a → SendsFor (shard_kind self.old) time.now a 1 batch out.new) }
-        ensures asked { OnOk result ((a : Absorbed) → Shows self.old a → out.new.asked ≡ asks (role (shard_kind self.old)) (end_to_end (λ p. a p time.now) (in_ports (shard_kind self.old)))) }
+        ensures asked { OnOk result ((a : Absorbed) → Shows self.old a → out.new.asked ≡ asks_at (shard_kind self.old) time.now a) }
         ensures fits { OnOk result ((a : Absorbed) → Shows self.old a → AllFit (kept_by (role (shard_kind self.old)) a 1 time.now batch)) }
         ensures fits_sent { OnOk result ((q : ℕ) → AllFit (sent (out_ports (shard_kind self.old)) out.new q)) }
-        ensures over { IfErr result (λ e. e ≡ Count → (a : Absorbed) → Shows self.old a → IsOver (kept_by (role (shard_kind self.old)) a 1 time.now batch) ⊎ WouldSendOver (shard_kind self.old) time.now a 1 batch) }
+        ensures over { IfErr result (λ e. e ≡ Count → (a : Absorbed) → Shows self.old a → GoesOver (shard_kind self.old) time.now a 1 batch) }
     {
         match self {
             Shard::Concat(_) => {

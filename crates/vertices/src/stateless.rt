@@ -1,14 +1,14 @@
 //! What vertices without a state send.
 
-ghost use Rattle.std.specs.Prelude.{◌≡◌, ◌<◌, ℕ, None, false, map, OnOk, IfErr};
-ghost use Rattle.expr_tree.specs.Plain.{plain_cond, plain_scalar};
-ghost use Rattle.expr_tree.specs.Views.{cond_tree, scalar_tree};
+ghost use Rattle.std.specs.Prelude.{◌≡◌, ◌<◌, ℕ, None, false, OnOk, IfErr};
 ghost use Rattle.rows.specs.Counts.{AllFit};
 ghost use Rattle.rows.specs.FlatRows.{arity_of};
 ghost use Rattle.semantics.specs.Kinds.{Kind};
 ghost use Rattle.vertices.specs.Absorbed.{Absorbed};
 ghost use Rattle.vertices.specs.Outs.{SendsFor, WouldSendOver, sent};
+ghost use Rattle.vertices.specs.Shards.{shard_kind};
 ghost use Rattle.vertices.specs.declared.fault.ShardFault.TheVariants.{Count, NoMemory};
+ghost use Rattle.vertices.specs.declared.shard.Shard.TheVariants as Shard;
 
 use crate::fault::ShardFault;
 use crate::out::Out;
@@ -27,9 +27,9 @@ pub fn select(
     out: &mut Out,
 ) -> Result<(), ShardFault>
     requires { arity_of batch.now ≡ operator.now.arity }
-    ensures sends { OnOk result ((a : Absorbed) → SendsFor (Kind.select (map plain_scalar (map scalar_tree operator.now.scalars.items))) time.now a 0 batch.now out.new) }
+    ensures sends { OnOk result ((a : Absorbed) → SendsFor (shard_kind (Shard.Select operator.now)) time.now a 0 batch.now out.new) }
     ensures fits_sent { OnOk result ((q : ℕ) → AllFit (sent 1 out.new q)) }
-    ensures over { IfErr result (λ e. e ≡ Count → (a : Absorbed) → WouldSendOver (Kind.select (map plain_scalar (map scalar_tree operator.now.scalars.items))) time.now a 0 batch.now) }
+    ensures over { IfErr result (λ e. e ≡ Count → (a : Absorbed) → WouldSendOver (shard_kind (Shard.Select operator.now)) time.now a 0 batch.now) }
     ensures asked { out.new.asked ≡ out.old.asked }
 {
     out.first = operator.apply(alloc, batch)?;
@@ -46,7 +46,7 @@ pub fn filter(
     out: &mut Out,
 ) -> Result<(), ShardFault>
     requires { arity_of batch.now ≡ operator.now.arity }
-    ensures sends { OnOk result ((a : Absorbed) → SendsFor (Kind.filter (plain_cond (cond_tree operator.now.condition))) time.now a 0 batch.now out.new) }
+    ensures sends { OnOk result ((a : Absorbed) → SendsFor (shard_kind (Shard.Where operator.now)) time.now a 0 batch.now out.new) }
     ensures fits_sent { OnOk result ((q : ℕ) → AllFit (sent 1 out.new q)) }
     ensures never { IfErr result (λ e. e ≡ NoMemory) }
     ensures asked { out.new.asked ≡ out.old.asked }
@@ -75,7 +75,7 @@ pub fn forward(time: &Time, port: u32, batch: Batch, out: &mut Out)
 #[tactic(auto, using(crate::proofs::Sending::gate_sends))]
 pub fn gate(operator: &Gate, time: &Time, batch: Batch, out: &mut Out)
     requires { out.old ≡ record { first = None; second = None; asked = false } }
-    ensures sends { (a : Absorbed) → SendsFor (Kind.gate operator.now.turns) time.now a 0 batch out.new }
+    ensures sends { (a : Absorbed) → SendsFor (shard_kind (Shard.Gate operator.now)) time.now a 0 batch out.new }
     ensures fits_sent { (q : ℕ) → AllFit (sent 2 out.new q) }
     ensures asked { out.new.asked ≡ out.old.asked }
 {
@@ -92,7 +92,7 @@ pub fn gate(operator: &Gate, time: &Time, batch: Batch, out: &mut Out)
 #[tactic(auto, using(crate::proofs::Sending::hold_sends))]
 pub fn hold(operator: &Hold, time: &Time, batch: Batch, out: &mut Out) -> Result<(), ShardFault>
     requires { out.old ≡ record { first = None; second = None; asked = false } }
-    ensures sends { OnOk result ((a : Absorbed) → SendsFor (Kind.hold operator.now.turns) time.now a 0 batch out.new) }
+    ensures sends { OnOk result ((a : Absorbed) → SendsFor (shard_kind (Shard.Hold operator.now)) time.now a 0 batch out.new) }
     ensures fits_sent { OnOk result ((q : ℕ) → AllFit (sent 2 out.new q)) }
     ensures never { IfErr result (λ e. e ≡ NoMemory) }
     ensures asked { out.new.asked ≡ out.old.asked }

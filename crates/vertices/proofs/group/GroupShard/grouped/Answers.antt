@@ -1,6 +1,5 @@
-use Rattle.std.proofs.Common.{rules, ◌≡◌, ◌∙◌, ◌≤◌, [], ap, subst, arith, length, take}
+use Rattle.std.proofs.Common.{rules, ◌≡◌, ◌∙◌, ap, subst, take}
 use Rattle.std.proofs.lemmas.List.{take_all}
-use Rattle.rows.specs.Counts.{expanded}
 use Rattle.rows.specs.FlatRows.{joined}
 use Rattle.vertices.specs.Groups.{AreGroupsOf}
 use Rattle.vertices.proofs.Piles.{batch_more}

@@ -1,4 +1,4 @@
-use Rattle.std.proofs.Common.{◌≡◌, ◌++◌, List, take, length, []}
+use Rattle.std.proofs.Common.{take}
 use Rattle.rows.specs.FlatRows.{joined}
 use Rattle.vertices.specs.Groups.{AreGroupsOf}
 use Rattle.vertices.proofs.group.GroupShard.grouped.Given as goal

@@ -1,8 +1,8 @@
 use Rattle.std.proofs.Common.{rules, ◌≡◌, ◌≤◌, ◌++◌, ◌∷◌, [], List, length, ap, sym, subst, ◌∙◌, append-nil, arith}
 use Rattle.std.specs.List.{AllByRecursion}
-use Rattle.semantics.specs.Multiset.{Record, ◌≈◌, count}
+use Rattle.semantics.specs.Multiset.{Record, count}
 use Rattle.semantics.proofs.MultisetSums.{append_comm, ≈-from, ≈-trans}
-use Rattle.rows.specs.Counts.{IsOver, most}
+use Rattle.rows.specs.Counts.{most}
 use Rattle.rows.specs.FlatRows.{arity_of, joined}
 use Rattle.rows.proofs.Joined.{joined_behind}
 use Rattle.rows.proofs.Merging.{few_fit, fit_alike}
