@@ -8,11 +8,12 @@ use Rattle.semantics.specs.Graph as graph
 use Rattle.semantics.specs.Lower.{lower, Lowered, Ports, carry, new_vertex, port, then_one, then_two}
 use Rattle.graph.specs.Views.{graph_of, port_of}
 use Rattle.lowering.specs.Faults.{IsTooMany, IsOver}
+use Rattle.lowering.specs.Loops.{inside_of}
 use Rattle.lowering.specs.Steps.{IsLowered}
 use Rattle.graph.specs.declared.vertex.Port.{Port}
 use Rattle.graph.specs.declared.vertex.Vertex.{Vertex}
 use Rattle.lowering.specs.declared.fault.LowerFault.{LowerFault}
-use Rattle.lowering.proofs.Forms.{full_one, full_two, inside_of, loop_lowered, one_made, over_close, two_made}
+use Rattle.lowering.proofs.Forms.{full_one, full_two, loop_lowered, one_made, over_close, two_made}
 
 pub one_ok : (r : Result Port LowerFault) (m0 m1 m2 : List Vertex) (from : graph.Port) (l : Lowered) (kind : semantics.Kind) (d : ℕ) → IsLowered (graph_of m0) (graph_of m1) from l
     → OnOk r (graph_of m2 ≡ graph_of m1 ++ (new_vertex kind d (from ∷ []) ∷ [])) → IfOk r (λ p. port_of p ≡ port (length m1) 0)

@@ -3,10 +3,11 @@ use Rattle.std.proofs.Common.{◌≡◌, ℕ, suc, ◌+◌, ◌<◌, ◌≤◌, 
 use Rattle.semantics.specs.Query.{Name, Rel}
 use Rattle.semantics.specs.Kinds as semantics
 use Rattle.semantics.specs.Graph as graph
-use Rattle.semantics.specs.Lower.{lower, Lowered, Ports, new_vertex, port, stands_for, carried_ports, carry, looped, after_start, then_one, then_two}
+use Rattle.semantics.specs.Lower.{lower, Lowered, Ports, new_vertex, port, carry, looped, after_start, then_one, then_two}
 use Rattle.semantics.specs.FreeNames.{carried}
 use Rattle.graph.specs.Views.{graph_of}
 use Rattle.lowering.specs.Faults.{IsTooMany, IsOver}
+use Rattle.lowering.specs.Loops.{inside_of}
 use Rattle.lowering.specs.Steps.{IsLowered}
 use Rattle.graph.specs.declared.vertex.Vertex.{Vertex}
 use Rattle.lowering.specs.declared.fault.LowerFault.{LowerFault}
@@ -48,10 +49,6 @@ loop_made m0 m1 m2 m3 m4 S C B T ing con gate v e1 e2 e3 e4 =
     e4 ∙ ap₂ (λ x n. set x (suc n) v ++ T) e (sym (length_graph_of m1)) ∙ ap (λ x. x ++ T) (set_second g ing con v (gate ∷ (C ++ B)))
     ∙ append_assoc g (ing ∷ v ∷ gate ∷ (C ++ B)) T ∙ ap (λ x. g ++ (ing ∷ v ∷ gate ∷ x)) (append_assoc C B T)
     ∙ ap (λ x. x ++ (ing ∷ v ∷ gate ∷ (C ++ (B ++ T)))) e1 ∙ append_assoc (graph_of m0) S (ing ∷ v ∷ gate ∷ (C ++ (B ++ T)))
-
--- the lists that a loop's body is lowered by
-abbrev pub inside_of : Ports → Name → ℕ → List Name → Ports
-inside_of ports x j ys = stands_for x (port (suc (suc j)) 0) (carried_ports ports (suc (suc (suc j))) ys)
 
 pub loop_lowered : (n : ℕ) (x : Name) (r b : Rel) (ports inside : Ports) (d e : ℕ) (m0 m1 m2 m3 m4 : List Vertex) (from back out : graph.Port) (con : graph.Vertex)
     → IsLowered (graph_of m0) (graph_of m1) from (lower r ports d (length m0))

@@ -1,5 +1,5 @@
 -- Names gathered are those that a loop carries.
-use Rattle.std.proofs.Common.{◌≡◌, Bool, true, false, cond, not, ◌||◌, List, [], ◌∷◌, ◌++◌, filter, refl, sym, ap, ap₂, ◌∙◌, append_assoc, append-nil, true≢false}
+use Rattle.std.proofs.Common.{◌≡◌, Bool, true, false, cond, not, ◌||◌, List, [], ◌∷◌, ◌++◌, filter, refl, sym, ap, ap₂, ◌∙◌, append_assoc, append-nil}
 use Rattle.std.specs.List.{list_any}
 use Rattle.indexmap.specs.IndexSet.{insert_key}
 use Rattle.semantics.specs.Query.{Name, Rel}
@@ -7,19 +7,11 @@ use Rattle.semantics.specs.Meaning.{same_name}
 use Rattle.semantics.specs.FreeNames.{free, firsts, other_than, carried}
 use Rattle.lowering.specs.Gathering.{has, gathered}
 use Rattle.semantics.proofs.NamesAmong.{Decides-same_name}
+use Rattle.typing.proofs.Named.{same_name-sym}
 
 pub gathered_append : (bound acc xs ys : List Name) → gathered bound acc (xs ++ ys) ≡ gathered bound (gathered bound acc xs) ys
 gathered_append bound acc [] ys = refl
 gathered_append bound acc (x ∷ xs) ys = gathered_append bound (cond (has x bound || has x acc) acc (acc ++ (x ∷ []))) xs ys
-
-same_name-sym : (x y : Name) → same_name x y ≡ same_name y x
-same_name-sym x y = go (same_name x y) (same_name y x) refl refl
-  where
-    go : (a b : Bool) → same_name x y ≡ a → same_name y x ≡ b → a ≡ b
-    go true true p q = refl
-    go false false p q = refl
-    go true false p q = absurd (true≢false (sym ((Decides-same_name y x).1 (sym ((Decides-same_name x y).0 p))) ∙ q))
-    go false true p q = absurd (true≢false (sym ((Decides-same_name x y).1 (sym ((Decides-same_name y x).0 q))) ∙ p))
 
 has_any : (y : Name) (xs : List Name) → list_any (same_name y) xs ≡ has y xs
 has_any y [] = refl

@@ -174,10 +174,6 @@ inputs_below : (as' : List Input) (i m : ℕ) → i + length as' ≤ m → 0 < m
 inputs_below [] i m h z = λ x. z
 inputs_below (a ∷ as') i m h z = stands_below a.name (port i 0) (input_ports as' (suc i)) m (omega arith) (inputs_below as' (suc i) m (omega arith) z)
 
-pub length_inputs : (as' : List Input) → length (input_vertices as') ≡ length as'
-length_inputs [] = refl
-length_inputs (a ∷ as') = ap suc (length_inputs as')
-
 -- without a name in scope no relation is well typed
 no_leaf : (r : Rel) (d n : ℕ) → HasArity r [] d n → ⊥
 unfolding HasArity

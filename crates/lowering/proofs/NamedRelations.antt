@@ -1,9 +1,10 @@
 -- Named relations, lowered one after another.
-use Rattle.std.proofs.Common.{◌≡◌, ℕ, zero, suc, ◌+◌, ◌<◌, List, [], ◌∷◌, ◌++◌, map, length, get_or, take, drop, refl, sym, ap, subst, ◌∙◌, arith, append_assoc, append-nil, length-append}
+use Rattle.std.proofs.Common.{◌≡◌, ℕ, zero, suc, ◌+◌, ◌<◌, List, [], ◌∷◌, ◌++◌, length, get_or, take, drop, refl, sym, ap, subst, ◌∙◌, arith, append_assoc, append-nil, length-append}
 use Rattle.std.specs.Prelude.{Result, Ok, Err, IfErr}
 use Rattle.std.specs.Result.{IsErrAnd}
 use Rattle.expr_tree.specs.declared.program.Let as declared
 use Rattle.expr_tree.specs.Plain.{plain_let, plain_rel}
+use Rattle.expr_tree.specs.PlainLists.{plain_lets}
 use Rattle.expr_tree.specs.Views.{let_tree, rel_tree}
 use Rattle.semantics.specs.Query.{Let}
 use Rattle.semantics.specs.Lower.{lower, lower_lets, LoweredLets, Ports, stands_for}
@@ -74,9 +75,6 @@ next_over e xs ys m0 m1 s0 s1 a o =
     subst (λ (r : LoweredLets). IsOver e (length m0 + length r.made)) (sym (lets_append xs ys s0 (length m0))) (is_over e _ _ o1 (omega (arith, length-append l.made m.made)))
 
 -- ---- a loop over them
-
-abbrev pub plain_lets : {A : Type 0} → List (declared.Let A) → List Let
-plain_lets xs = map plain_let (map let_tree xs)
 
 taken : {A : Type 0} → (xs : List (declared.Let A)) (i : ℕ) (x : declared.Let A) → i < length xs → x ≡ get_or xs i x → plain_lets (take (suc i) xs) ≡ plain_lets (take i xs) ++ (plain_let (let_tree x) ∷ [])
 taken [] i x h e = absurd (omega arith)

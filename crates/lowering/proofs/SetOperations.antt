@@ -7,7 +7,7 @@ use Rattle.semantics.specs.FreeNames.{free}
 use Rattle.semantics.specs.Lower.{Ports, lower, then_two}
 use Rattle.semantics.specs.Query.{Rel}
 use Rattle.semantics.proofs.FittingPrograms.{Nested}
-use Rattle.lowering.specs.SetOperators.{operator_kind}
+use Rattle.lowering.specs.FormKinds.{operator_kind}
 
 -- the names that occur free in both parts
 pub set_free : (o : SetOperator) (p q : Rel) → free (plain_set_operation o p q) ≡ free p ++ free q

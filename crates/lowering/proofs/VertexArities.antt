@@ -1,5 +1,6 @@
 -- The arity of what a vertex sends, from those of the vertices before it.
 use Rattle.std.proofs.Common.{◌≡◌, ℕ, zero, suc, ◌+◌, ◌-◌, ◌<◌, ◌≤◌, false, ◌⊎◌, inl, inr, List, [], ◌∷◌, ◌++◌, length, map, refl, sym, ap, ap₂, subst, ◌∙◌, arith, length-append, true≢false, slice_index_or}
+use Rattle.std.proofs.lemmas.Bool.{cases_lt}
 use Rattle.std.proofs.lemmas.List.{get_or-append_right, get_or_append_left}
 use Rattle.expr_tree.specs.Plain.{plain_input}
 use Rattle.expr_tree.specs.declared.program.Input.{Input as Declared}
@@ -9,8 +10,9 @@ use Rattle.semantics.specs.Graph.{Graph, Port, Vertex, no_port, no_vertex, sourc
 use Rattle.semantics.specs.Lower.{input_vertices, lowered, new_vertex}
 use Rattle.semantics.specs.PortArity.{IsTyped, PortsFit, program_arities}
 use Rattle.semantics.specs.Typing.{WellTyped}
+use Rattle.semantics.proofs.LoweredPrograms.{length-input_vertices}
 use Rattle.lowering.specs.Sent.{arity_in, sent}
-use Rattle.lowering.proofs.Leads.{AllBelow, FirstBelow, Leads, behind_inputs, leads_at, length_inputs, program_leads, some_input}
+use Rattle.lowering.proofs.Leads.{AllBelow, FirstBelow, Leads, behind_inputs, leads_at, program_leads, some_input}
 
 fits_sent : (kind : Kind) (n : ℕ) (ins : ℕ → ℕ) (out : ℕ) → is_input kind ≡ false → PortsFit kind ins out → out ≡ sent kind n (ins 0) (ins 1)
 fits_sent Kind.input n ins out e h = absurd (true≢false e)
@@ -66,18 +68,13 @@ input_at (a ∷ as') g (suc v) h = input_at as' g v (omega arith)
 input_sent : (kind : Kind) (n a b : ℕ) → kind ≡ Kind.input → sent kind n a b ≡ n
 input_sent kind n a b e = subst (λ k. sent k n a b ≡ n) (sym e) refl
 
-split : (v m : ℕ) → (v < m) ⊎ (m ≤ v)
-split v zero = inr (omega arith)
-split zero (suc m) = inl (omega arith)
-split (suc v) (suc m) = elim (split v m) [ inl h ↦ inl (omega arith) | inr h ↦ inr (omega arith) ]
-
 -- the arity of vertex v, where those before it are known; d is the declared one, if it is an input
 pub one_arity : (p : Program) (ns : List ℕ) (as' : List ℕ) (x : Vertex) (v d : ℕ) → WellTyped p ns → IsTyped (lowered p) (λ u. slice_index_or (program_arities p) u 0)
     → ((i : ℕ) → i < length p.inputs → slice_index_or (program_arities p) i 0 ≡ slice_index_or (map (λ a. a.arity) p.inputs) i 0)
     → v < length (lowered p) → x ≡ vertex (lowered p) v → d ≡ slice_index_or (map (λ a. a.arity) p.inputs) v 0 → ((u : ℕ) → u < v → slice_index_or as' u 0 ≡ slice_index_or (program_arities p) u 0)
     → sent x.kind d (arity_in as' x.ins 0) (arity_in as' x.ins 1) ≡ slice_index_or (program_arities p) v 0
 unfolding lowered vertex source
-one_arity p ns as' x v d w typed declared lt e q k = go (split v m)
+one_arity p ns as' x v d w typed declared lt e q k = go (cases_lt v m)
   where
     m : ℕ
     m = length p.inputs
@@ -90,8 +87,8 @@ one_arity p ns as' x v d w typed declared lt e q k = go (split v m)
     go (inr h) =
         let z = some_input p.inputs p ns refl w (omega arith) in
         let j : m + (v - m) ≡ v = omega arith in
-        let short : v - m < length (behind_inputs p) = omega (arith, lt, length-append (input_vertices p.inputs) (behind_inputs p), length_inputs p.inputs) in
-        let there : x ≡ slice_index_or (behind_inputs p) (v - m) no_vertex = e ∙ get_or-append_right (input_vertices p.inputs) (behind_inputs p) m v no_vertex (length_inputs p.inputs) h in
+        let short : v - m < length (behind_inputs p) = omega (arith, lt, length-append (input_vertices p.inputs) (behind_inputs p), length-input_vertices p.inputs) in
+        let there : x ≡ slice_index_or (behind_inputs p) (v - m) no_vertex = e ∙ get_or-append_right (input_vertices p.inputs) (behind_inputs p) m v no_vertex (length-input_vertices p.inputs) h in
         let leads : Leads v x = subst (λ y. Leads v y) (sym there) (subst (λ i. Leads i (slice_index_or (behind_inputs p) (v - m) no_vertex)) j (leads_at (behind_inputs p) m (v - m) (program_leads p z) short)) in
         let fits : PortsFit x.kind (λ i. A (slice_index_or x.ins i no_port).vertex) (A v) = subst (λ y. PortsFit y.kind (λ i. A (slice_index_or y.ins i no_port).vertex) (A v)) (sym e) (typed.ports v lt) in
         vertex_sent x v d (A v) A as' (omega arith) leads k fits
@@ -119,7 +116,7 @@ one_counted p as' bs i a typed lt c e b = subst (λ l. CountedTo p (i + 1) l) (s
     size = omega (arith, length-append as' (a ∷ []), c.0)
 
     known : (u : ℕ) → u < i + 1 → slice_index_or (as' ++ (a ∷ [])) u 0 ≡ A u
-    known u h = go (split u i)
+    known u h = go (cases_lt u i)
       where
         go : (u < i) ⊎ (i ≤ u) → slice_index_or (as' ++ (a ∷ [])) u 0 ≡ A u
         go (inl l) = let k : u < length as' = omega (arith, c.0) in get_or_append_left as' (a ∷ []) 0 u k ∙ c.1 u l
@@ -129,7 +126,7 @@ one_counted p as' bs i a typed lt c e b = subst (λ l. CountedTo p (i + 1) l) (s
             get_or-append_right as' (a ∷ []) i u 0 c.0 l ∙ ap (λ j. slice_index_or (a ∷ []) j 0) z ∙ e ∙ ap A (sym s)
 
     small : (u : ℕ) → slice_index_or (as' ++ (a ∷ [])) u 0 ≤ 16
-    small u = go (split u i)
+    small u = go (cases_lt u i)
       where
         go : (u < i) ⊎ (i ≤ u) → slice_index_or (as' ++ (a ∷ [])) u 0 ≤ 16
         go (inl l) = let k : u < length as' = omega (arith, c.0) in subst (λ x. x ≤ 16) (sym (get_or_append_left as' (a ∷ []) 0 u k)) (c.2 u)

@@ -4,4 +4,5 @@ pub mod Gathering
 pub mod Steps
 pub mod Computing
 pub mod Sent
-pub mod SetOperators
+pub mod FormKinds
+pub mod Loops

@@ -1,6 +1,6 @@
 //! The arities of a graph's ports.
 
-ghost use Rattle.std.specs.Prelude.{◌≡◌, ◌≤◌, ◌<◌, ℕ, List, length, map, slice_index_or, IfOk};
+ghost use Rattle.std.specs.Prelude.{◌≡◌, ◌≤◌, ◌<◌, ℕ, List, map, slice_index_or, IfOk};
 ghost use Rattle.expr_tree.specs.Plain.{plain_program};
 ghost use Rattle.expr_tree.specs.Views.{program_tree};
 ghost use Rattle.semantics.specs.Lower.{lowered};
@@ -45,7 +45,8 @@ fn declared_arity(inputs: &[Input], number: usize) -> u64
 /// The arity of what a vertex sends, from those of the vertices before it.
 fn sent_arity(vertex: &Vertex, declared: u64, arities: &[u64]) -> u64
     requires { (v : ℕ) → slice_index_or arities.now v 0 ≤ 16 }
-    ensures { result ≡ sent (kind_of vertex.now.kind) declared (arity_in arities.now (sources_of vertex.now.ins) 0) (arity_in arities.now (sources_of vertex.now.ins) 1) }
+    ensures { result ≡ sent (kind_of vertex.now.kind) declared
+        (arity_in arities.now (sources_of vertex.now.ins) 0) (arity_in arities.now (sources_of vertex.now.ins) 1) }
 {
     let (first, second) = two_sources(vertex.ins);
     let first = arity_at(arities, first);

@@ -12,7 +12,6 @@
 #![tactic(auto)]
 
 mod arities;
-mod copies;
 mod fault;
 mod form_vertices;
 mod loops;

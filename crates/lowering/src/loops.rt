@@ -1,13 +1,11 @@
 //! The vertices of a loop.
 
-ghost use Rattle.std.specs.Prelude.{◌≡◌, ◌≤◌, ◌<◌, ◌++◌, ◌∷◌, [], suc, ◌+◌, ◌-◌, length, slice_set, IfOk, IfErr, OnOk};
-ghost use Rattle.expr_tree.specs.Plain.{plain_rel};
-ghost use Rattle.expr_tree.specs.Views.{rel_tree};
+ghost use Rattle.std.specs.Prelude.{◌≡◌, ◌≤◌, ◌<◌, ◌++◌, ◌∷◌, [], suc, ◌+◌, length, slice_set, IfOk, IfErr, OnOk};
 ghost use Rattle.semantics.specs.Kinds as semantics;
-ghost use Rattle.semantics.specs.FreeNames.{carried};
 ghost use Rattle.semantics.specs.Limits.{max_loops};
-ghost use Rattle.semantics.specs.Lower.{carried_ports, carry, new_vertex, port, stands_for};
+ghost use Rattle.semantics.specs.Lower.{carried_ports, carry, new_vertex, port};
 ghost use Rattle.lowering.specs.Faults.{IsOver};
+ghost use Rattle.lowering.specs.Loops.{body_port, carry_one, inside_of, loop_entry, names_carried, with_loop_exit};
 ghost use Rattle.lowering.specs.Scopes.{Extends, ports_of};
 ghost use Rattle.graph.specs.Views.{graph_of, port_of};
 
@@ -34,11 +32,14 @@ pub fn open_loop<A: Allocator>(
     made: &mut Vec<Vertex>,
 ) -> Result<Port, LowerFault>
     requires { depth < max_loops }
-    ensures made { OnOk result (graph_of made.new.items ≡ graph_of made.old.items ++ (new_vertex semantics.Kind.ingress depth (port_of start ∷ []) ∷ new_vertex semantics.Kind.concat (suc depth) (port (length made.old.items) 0 ∷ port (length made.old.items) 0 ∷ []) ∷ new_vertex (semantics.Kind.gate turns) (suc depth) (port (suc (length made.old.items)) 0 ∷ []) ∷ carry turns (ports_of scope.old) depth (suc (suc (suc (length made.old.items)))) (carried variable.now (plain_rel (rel_tree body.now))))) }
-    ensures gives { IfOk result (λ p. port_of p ≡ port (suc (suc (length made.old.items))) 0) }
-    ensures inside { OnOk result (ports_of scope.new ≡ stands_for variable.now (port (suc (suc (length made.old.items))) 0) (carried_ports (ports_of scope.old) (suc (suc (suc (length made.old.items)))) (carried variable.now (plain_rel (rel_tree body.now))))) }
+    ensures made { OnOk result (graph_of made.new.items ≡ graph_of made.old.items
+        ++ loop_entry turns (port_of start) (ports_of scope.old) depth (length made.old.items) (names_carried variable.now body.now)) }
+    ensures gives { IfOk result (λ p. port_of p ≡ body_port (length made.old.items)) }
+    ensures inside { OnOk result (ports_of scope.new ≡
+        inside_of (ports_of scope.old) variable.now (length made.old.items) (names_carried variable.now body.now)) }
     ensures outside { OnOk result (Extends scope.old scope.new) }
-    ensures many { IfErr result (λ e. IsOver e (length made.old.items + suc (suc (suc (length (carry turns (ports_of scope.old) depth (suc (suc (suc (length made.old.items)))) (carried variable.now (plain_rel (rel_tree body.now))))))))) }
+    ensures many { IfErr result (λ e. IsOver e (length made.old.items
+        + length (loop_entry turns (port_of start) (ports_of scope.old) depth (length made.old.items) (names_carried variable.now body.now)))) }
 {
     let names = carried_names(alloc, variable, body)?;
     let first = add_vertex(made, Kind::Ingress, depth, Sources::One(start))?;
@@ -59,7 +60,7 @@ pub fn close_loop(
     requires shallow { depth < max_loops }
     requires first { 2 ≤ gate.vertex.0 }
     requires made { gate.vertex.0 < length made.old.items }
-    ensures made { OnOk result (graph_of made.new.items ≡ slice_set (graph_of made.old.items) (gate.vertex.0 - 1) (new_vertex semantics.Kind.concat (suc depth) (port (gate.vertex.0 - 2) 0 ∷ port (length made.old.items) 0 ∷ [])) ++ (new_vertex semantics.Kind.feedback (suc depth) (port_of body ∷ []) ∷ new_vertex semantics.Kind.egress (suc depth) (port gate.vertex.0 1 ∷ []) ∷ [])) }
+    ensures made { OnOk result (graph_of made.new.items ≡ with_loop_exit made.old.items gate.vertex.0 (port_of body) depth) }
     ensures gives { IfOk result (λ p. port_of p ≡ port (suc (length made.old.items)) 0) }
     ensures many { IfErr result (λ e. IsOver e (length made.old.items + 2)) }
 {
@@ -96,7 +97,8 @@ fn carry_names(
     ensures made { OnOk result (graph_of made.new.items ≡ graph_of made.old.items ++ carry turns (ports_of scope.old) depth (length made.old.items) names.now) }
     ensures inside { OnOk result (ports_of scope.new ≡ carried_ports (ports_of scope.old) (length made.old.items) names.now) }
     ensures outside { OnOk result (Extends scope.old scope.new) }
-    ensures many { IfErr result (λ e. IsOver e (length made.old.items + length (carry turns (ports_of scope.old) depth (length made.old.items) names.now))) }
+    ensures many { IfErr result (λ e. IsOver e (length made.old.items
+        + length (carry turns (ports_of scope.old) depth (length made.old.items) names.now))) }
 {
     match names {
         [] => Ok(()),
@@ -114,8 +116,8 @@ fn carry_names(
 /// hold's out port 0.
 fn carry_one(turns: u64, from: Port, depth: u32, made: &mut Vec<Vertex>) -> Result<Port, LowerFault>
     requires { depth < max_loops }
-    ensures made { OnOk result (graph_of made.new.items ≡ graph_of made.old.items ++ (new_vertex semantics.Kind.ingress depth (port_of from ∷ []) ∷ new_vertex semantics.Kind.concat (suc depth) (port (length made.old.items) 0 ∷ port (suc (suc (suc (length made.old.items)))) 0 ∷ []) ∷ new_vertex (semantics.Kind.hold turns) (suc depth) (port (suc (length made.old.items)) 0 ∷ []) ∷ new_vertex semantics.Kind.feedback (suc depth) (port (suc (suc (length made.old.items))) 1 ∷ []) ∷ [])) }
-    ensures gives { IfOk result (λ p. port_of p ≡ port (suc (suc (length made.old.items))) 0) }
+    ensures made { OnOk result (graph_of made.new.items ≡ graph_of made.old.items ++ carry_one turns (port_of from) depth (length made.old.items)) }
+    ensures gives { IfOk result (λ p. port_of p ≡ body_port (length made.old.items)) }
     ensures many { IfErr result (λ e. IsOver e (length made.old.items + 4)) }
 {
     let first = add_vertex(made, Kind::Ingress, depth, Sources::One(from))?;
@@ -137,7 +139,8 @@ fn carry_one(turns: u64, from: Port, depth: u32, made: &mut Vec<Vertex>) -> Resu
 #[tactic(auto, using(crate::proofs::MoreVertices::graph_of_set))]
 fn set_concat(made: &mut Vec<Vertex>, number: usize, depth: u32, first: Port, second: Port)
     requires { number < length made.old.items }
-    ensures { graph_of made.new.items ≡ slice_set (graph_of made.old.items) number (new_vertex semantics.Kind.concat depth (port_of first ∷ port_of second ∷ [])) }
+    ensures { graph_of made.new.items ≡
+        slice_set (graph_of made.old.items) number (new_vertex semantics.Kind.concat depth (port_of first ∷ port_of second ∷ [])) }
 {
     made[number] = Vertex {
         kind: Kind::Concat,

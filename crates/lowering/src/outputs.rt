@@ -41,7 +41,8 @@ fn output_vertices(alloc: Global, vertices: &[Vertex]) -> Result<Vec<VertexId>, 
 
 /// A vertex put at the end, if its kind is an output's.
 fn put_output(numbers: &mut Vec<VertexId>, vertex: VertexId, kind: &Kind) -> Result<(), NoMemory>
-    ensures { OnOk result (map vertex_number numbers.new.items ≡ map vertex_number numbers.old.items ++ cond (is_output (kind_of kind.now)) (vertex.0 ∷ []) []) }
+    ensures { OnOk result (map vertex_number numbers.new.items ≡
+        map vertex_number numbers.old.items ++ cond (is_output (kind_of kind.now)) (vertex.0 ∷ []) []) }
 {
     if kind.is_output() {
         numbers.push(vertex)?;

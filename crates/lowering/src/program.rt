@@ -1,12 +1,13 @@
 //! Programs to vertices.
 
 ghost use Rattle.std.specs.Prelude.{◌≡◌, ◌≤◌, ◌<◌, ◌++◌, ◌∷◌, ◌+◌, [], length, map, IfOk, IfErr, OnOk};
-ghost use Rattle.expr_tree.specs.Plain.{plain_input, plain_let, plain_output, plain_program};
-ghost use Rattle.expr_tree.specs.Views.{let_tree, output_tree, program_tree};
-ghost use Rattle.semantics.specs.Lower.{input_ports, input_vertices, lower_lets, lower_outputs, lowered};
+ghost use Rattle.expr_tree.specs.Plain.{plain_input, plain_program};
+ghost use Rattle.expr_tree.specs.PlainLists.{plain_lets, plain_outputs};
+ghost use Rattle.expr_tree.specs.Views.{program_tree};
+ghost use Rattle.semantics.specs.Lower.{input_ports, input_vertices, lowered};
 ghost use Rattle.lowering.specs.Faults.{IsOver, IsTooMany};
 ghost use Rattle.lowering.specs.Scopes.{ports_of};
-ghost use Rattle.lowering.specs.Steps.{AreLowered, AreNested, IsNested, OutputsNested};
+ghost use Rattle.lowering.specs.Steps.{AreLowered, AreNested, IsNested, OutputsNested, lowered_lets, lowered_outputs};
 ghost use Rattle.graph.specs.Views.{graph_of};
 
 use crate::fault::LowerFault;
@@ -67,9 +68,10 @@ fn lower_relations<A: Allocator>(
     scope: &mut Scope,
     made: &mut Vec<Vertex>,
 ) -> Result<(), LowerFault>
-    requires nested { AreNested (map plain_let (map let_tree lets.now)) }
-    ensures ok { OnOk result (AreLowered (graph_of made.old.items) (graph_of made.new.items) (ports_of scope.new) (lower_lets (map plain_let (map let_tree lets.now)) (ports_of scope.old) (length made.old.items))) }
-    ensures many { IfErr result (λ e. IsOver e (length made.old.items + length (lower_lets (map plain_let (map let_tree lets.now)) (ports_of scope.old) (length made.old.items)).made)) }
+    requires nested { AreNested (plain_lets lets.now) }
+    ensures ok { OnOk result (AreLowered (graph_of made.old.items) (graph_of made.new.items) (ports_of scope.new)
+        (lowered_lets lets.now scope.old (length made.old.items))) }
+    ensures many { IfErr result (λ e. IsOver e (length made.old.items + length (lowered_lets lets.now scope.old (length made.old.items)).made)) }
 {
     for i in 0..lets.len() {
         lower_let(alloc, &lets[i], scope, made)?;
@@ -84,9 +86,10 @@ fn lower_let<A: Allocator>(
     scope: &mut Scope,
     made: &mut Vec<Vertex>,
 ) -> Result<(), LowerFault>
-    requires nested { AreNested (plain_let (let_tree item.now) ∷ []) }
-    ensures ok { OnOk result (AreLowered (graph_of made.old.items) (graph_of made.new.items) (ports_of scope.new) (lower_lets (plain_let (let_tree item.now) ∷ []) (ports_of scope.old) (length made.old.items))) }
-    ensures many { IfErr result (λ e. IsOver e (length made.old.items + length (lower_lets (plain_let (let_tree item.now) ∷ []) (ports_of scope.old) (length made.old.items)).made)) }
+    requires nested { AreNested (plain_lets (item.now ∷ [])) }
+    ensures ok { OnOk result (AreLowered (graph_of made.old.items) (graph_of made.new.items) (ports_of scope.new)
+        (lowered_lets (item.now ∷ []) scope.old (length made.old.items))) }
+    ensures many { IfErr result (λ e. IsOver e (length made.old.items + length (lowered_lets (item.now ∷ []) scope.old (length made.old.items)).made)) }
 {
     let port = lower_rel(alloc, &item.relation, scope, 0, made)?;
     scope.bind(&item.name, port)?;
@@ -100,9 +103,9 @@ fn lower_outputs<A: Allocator>(
     scope: &mut Scope,
     made: &mut Vec<Vertex>,
 ) -> Result<(), LowerFault>
-    requires nested { OutputsNested (map plain_output (map output_tree outputs.now)) }
-    ensures made { OnOk result (graph_of made.new.items ≡ graph_of made.old.items ++ lower_outputs (map plain_output (map output_tree outputs.now)) (ports_of scope.old) (length made.old.items)) }
-    ensures many { IfErr result (λ e. IsOver e (length made.old.items + length (lower_outputs (map plain_output (map output_tree outputs.now)) (ports_of scope.old) (length made.old.items)))) }
+    requires nested { OutputsNested (plain_outputs outputs.now) }
+    ensures made { OnOk result (graph_of made.new.items ≡ graph_of made.old.items ++ lowered_outputs outputs.now scope.old (length made.old.items)) }
+    ensures many { IfErr result (λ e. IsOver e (length made.old.items + length (lowered_outputs outputs.now scope.old (length made.old.items)))) }
 {
     match outputs {
         [] => Ok(()),

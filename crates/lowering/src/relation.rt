@@ -6,6 +6,7 @@ ghost use Rattle.expr_tree.specs.Views.{rel_tree};
 ghost use Rattle.semantics.specs.Lower.{lower};
 ghost use Rattle.semantics.proofs.FittingPrograms.{Nested};
 ghost use Rattle.lowering.specs.Faults.{IsOver};
+ghost use Rattle.lowering.specs.Loops.{plain_loop};
 ghost use Rattle.lowering.specs.Scopes.{ports_of};
 ghost use Rattle.lowering.specs.Steps.{IsLowered};
 ghost use Rattle.graph.specs.Views.{graph_of, port_of};
@@ -17,9 +18,11 @@ use crate::scope::Scope;
 use crate::vertex::add_vertex;
 use expr_tree::Rel;
 use graph::{Kind, Port, Sources, Vertex};
+use record_core::Name;
 use std::alloc::{Allocator, Global};
 
 /// Makes the vertices of a relation after those that are there, and gives the port that the relation gives.
+#[cycle(lower)]
 pub fn lower_rel<A: Allocator>(
     alloc: Global,
     relation: &Rel<A>,
@@ -28,9 +31,11 @@ pub fn lower_rel<A: Allocator>(
     made: &mut Vec<Vertex>,
 ) -> Result<Port, LowerFault>
     requires nested { Nested depth (plain_rel (rel_tree relation.now)) }
-    ensures ok { IfOk result (λ p. IsLowered (graph_of made.old.items) (graph_of made.new.items) (port_of p) (lower (plain_rel (rel_tree relation.now)) (ports_of scope.old) depth (length made.old.items))) }
+    ensures ok { IfOk result (λ p. IsLowered (graph_of made.old.items) (graph_of made.new.items) (port_of p)
+        (lower (plain_rel (rel_tree relation.now)) (ports_of scope.old) depth (length made.old.items))) }
     ensures scope { OnOk result (scope.new ≡ scope.old) }
-    ensures many { IfErr result (λ e. IsOver e (length made.old.items + length (lower (plain_rel (rel_tree relation.now)) (ports_of scope.old) depth (length made.old.items)).made)) }
+    ensures many { IfErr result (λ e. IsOver e (length made.old.items
+        + length (lower (plain_rel (rel_tree relation.now)) (ports_of scope.old) depth (length made.old.items)).made)) }
 {
     match relation {
         Rel::Named(_, name) => Ok(scope.find(name)),
@@ -66,13 +71,33 @@ pub fn lower_rel<A: Allocator>(
             start,
             body,
             ..
-        } => {
-            let outside = scope.len();
-            let from = lower_rel(alloc, start, scope, depth, made)?;
-            let gate = open_loop(alloc, *turns, name, body, from, scope, depth, made)?;
-            let last = lower_rel(alloc, body, scope, depth + 1, made)?;
-            scope.leave(outside);
-            close_loop(made, gate, last, depth)
-        }
+        } => lower_loop(alloc, *turns, name, start, body, scope, depth, made),
     }
+}
+
+/// Makes the vertices of a loop after those that are there, and gives the egress's out port.
+#[cycle(lower)]
+fn lower_loop<A: Allocator>(
+    alloc: Global,
+    turns: u64,
+    variable: &Name,
+    start: &Rel<A>,
+    body: &Rel<A>,
+    scope: &mut Scope,
+    depth: u32,
+    made: &mut Vec<Vertex>,
+) -> Result<Port, LowerFault>
+    requires nested { Nested depth (plain_loop turns variable.now start.now body.now) }
+    ensures ok { IfOk result (λ p. IsLowered (graph_of made.old.items) (graph_of made.new.items) (port_of p)
+        (lower (plain_loop turns variable.now start.now body.now) (ports_of scope.old) depth (length made.old.items))) }
+    ensures scope { OnOk result (scope.new ≡ scope.old) }
+    ensures many { IfErr result (λ e. IsOver e (length made.old.items
+        + length (lower (plain_loop turns variable.now start.now body.now) (ports_of scope.old) depth (length made.old.items)).made)) }
+{
+    let outside = scope.len();
+    let from = lower_rel(alloc, start, scope, depth, made)?;
+    let gate = open_loop(alloc, turns, variable, body, from, scope, depth, made)?;
+    let last = lower_rel(alloc, body, scope, depth + 1, made)?;
+    scope.leave(outside);
+    close_loop(made, gate, last, depth)
 }

@@ -1,9 +1,9 @@
 use Rattle.std.proofs.Common.{length, take}
+use Rattle.expr_tree.specs.PlainLists.{plain_lets}
 use Rattle.semantics.specs.Lower.{lower_lets}
 use Rattle.lowering.specs.Scopes.{ports_of}
 use Rattle.lowering.specs.Steps.{AreLowered}
 use Rattle.graph.specs.Views.{graph_of}
-use Rattle.lowering.proofs.NamedRelations.{plain_lets}
 use Rattle.lowering.proofs.program.lower_relations.Given as goal
 
 abbrev pub invariant-loop-i : goal.invariant-loop-i

@@ -2,85 +2,87 @@ use Rattle.std.proofs.Common.{◌≡◌, ℕ, suc, ◌+◌, ◌-◌, length, map
 use Rattle.expr_tree.specs.declared.relation.Column.{Column}
 use Rattle.expr_tree.specs.Plain.{plain_agg, plain_cond, plain_pair, plain_rel, plain_scalar}
 use Rattle.expr_tree.specs.Views.{cond_tree, rel_tree, scalar_tree}
+use Rattle.semantics.specs.FreeNames.{carried}
 use Rattle.semantics.specs.Kinds as semantics
-use Rattle.semantics.specs.Lower.{lower}
+use Rattle.semantics.specs.Lower.{carry, lower}
+use Rattle.lowering.specs.Faults.{IsOver}
 use Rattle.lowering.specs.Scopes.{ports_of}
 use Rattle.graph.specs.Views.{graph_of}
-use Rattle.lowering.specs.SetOperators.{operator_kind}
+use Rattle.lowering.specs.FormKinds.{operator_kind}
 use Rattle.lowering.proofs.Answered.{loop_many, loop_ok, one_many, one_ok, two_many, two_ok}
 use Rattle.lowering.proofs.Forms.{nothing_made, over_body, over_left, over_one, over_open, over_right, over_start}
 use Rattle.lowering.proofs.NamedRelations.{passed_on}
 use Rattle.lowering.proofs.MoreVertices.{number_of}
 use Rattle.lowering.proofs.SetOperations.{set_lowered}
-use Rattle.lowering.proofs.relation.+lower_rel.Goals as goal
+use Rattle.lowering.proofs.relation.+lower.Goals as goal
 
-pub returns-in-Named-clause-ok : goal.returns-in-Named-clause-ok
+pub lower_rel-returns-in-Named-clause-ok : goal.lower_rel-returns-in-Named-clause-ok
 unfolding lower
-returns-in-Named-clause-ok g t c =
+lower_rel-returns-in-Named-clause-ok g t c =
     rw c.in-Named.is (nothing_made (graph_of c.args.made.now.items) _ _ refl c.find.ensures)
 
-pub returns-in_err-from-in-Select-clause-many : goal.returns-in_err-from-in-Select-clause-many
+pub lower_rel-returns-in_err-from-in-Select-clause-many : goal.lower_rel-returns-in_err-from-in-Select-clause-many
 unfolding lower
-returns-in_err-from-in-Select-clause-many g t c =
+lower_rel-returns-in_err-from-in-Select-clause-many g t c =
     passed_on c.from_residual.result c.in_err-from-in-Select.field-0.0 _ c.from_residual.ensures.1 (rw c.in-Select.is (over_one _ _ _ (semantics.Kind.select (map plain_scalar (map scalar_tree c.in-Select.scalars.items))) c.args.depth (rw c.deref.ensures at c.in_err-from-in-Select.ensures.many)))
 
-pub returns-in_ok-from-in-Select-clause-ok : goal.returns-in_ok-from-in-Select-clause-ok
+pub lower_rel-returns-in_ok-from-in-Select-clause-ok : goal.lower_rel-returns-in_ok-from-in-Select-clause-ok
 unfolding lower
-returns-in_ok-from-in-Select-clause-ok g t c =
+lower_rel-returns-in_ok-from-in-Select-clause-ok g t c =
     rw c.in-Select.is (one_ok c.add_select.result c.args.made.now.items c.lower_rel.new.made.items c.add_select.new.made.items _ _ (semantics.Kind.select (map plain_scalar (map scalar_tree c.in-Select.scalars.items))) c.args.depth (rw c.deref.ensures at c.in_ok-from-in-Select.ensures.ok) c.add_select.ensures.made c.add_select.ensures.gives)
 
-pub returns-in_ok-from-in-Select-clause-many : goal.returns-in_ok-from-in-Select-clause-many
+pub lower_rel-returns-in_ok-from-in-Select-clause-many : goal.lower_rel-returns-in_ok-from-in-Select-clause-many
 unfolding lower
-returns-in_ok-from-in-Select-clause-many g t c =
+lower_rel-returns-in_ok-from-in-Select-clause-many g t c =
     rw c.in-Select.is (one_many c.add_select.result c.args.made.now.items c.lower_rel.new.made.items _ _ (semantics.Kind.select (map plain_scalar (map scalar_tree c.in-Select.scalars.items))) c.args.depth (rw c.deref.ensures at c.in_ok-from-in-Select.ensures.ok) c.add_select.ensures.many)
 
-pub returns-in_err-from-in-Where-clause-many : goal.returns-in_err-from-in-Where-clause-many
+pub lower_rel-returns-in_err-from-in-Where-clause-many : goal.lower_rel-returns-in_err-from-in-Where-clause-many
 unfolding lower
-returns-in_err-from-in-Where-clause-many g t c =
+lower_rel-returns-in_err-from-in-Where-clause-many g t c =
     passed_on c.from_residual-in_err-from-in-Where.result c.in_err-from-in-Where.field-0.0 _ c.from_residual-in_err-from-in-Where.ensures.1 (rw c.in-Where.is (over_one _ _ _ (semantics.Kind.filter (plain_cond (cond_tree c.in-Where.condition))) c.args.depth (rw c.deref-in-Where.ensures at c.in_err-from-in-Where.ensures.many)))
 
-pub returns-in_ok-from-in-Where-clause-ok : goal.returns-in_ok-from-in-Where-clause-ok
+pub lower_rel-returns-in_ok-from-in-Where-clause-ok : goal.lower_rel-returns-in_ok-from-in-Where-clause-ok
 unfolding lower
-returns-in_ok-from-in-Where-clause-ok g t c =
+lower_rel-returns-in_ok-from-in-Where-clause-ok g t c =
     rw c.in-Where.is (one_ok c.add_where.result c.args.made.now.items c.lower_rel-in-Where.new.made.items c.add_where.new.made.items _ _ (semantics.Kind.filter (plain_cond (cond_tree c.in-Where.condition))) c.args.depth (rw c.deref-in-Where.ensures at c.in_ok-from-in-Where.ensures.ok) c.add_where.ensures.made c.add_where.ensures.gives)
 
-pub returns-in_ok-from-in-Where-clause-many : goal.returns-in_ok-from-in-Where-clause-many
+pub lower_rel-returns-in_ok-from-in-Where-clause-many : goal.lower_rel-returns-in_ok-from-in-Where-clause-many
 unfolding lower
-returns-in_ok-from-in-Where-clause-many g t c =
+lower_rel-returns-in_ok-from-in-Where-clause-many g t c =
     rw c.in-Where.is (one_many c.add_where.result c.args.made.now.items c.lower_rel-in-Where.new.made.items _ _ (semantics.Kind.filter (plain_cond (cond_tree c.in-Where.condition))) c.args.depth (rw c.deref-in-Where.ensures at c.in_ok-from-in-Where.ensures.ok) c.add_where.ensures.many)
 
-pub returns-in_err-from-in-Group-clause-many : goal.returns-in_err-from-in-Group-clause-many
+pub lower_rel-returns-in_err-from-in-Group-clause-many : goal.lower_rel-returns-in_err-from-in-Group-clause-many
 unfolding lower
-returns-in_err-from-in-Group-clause-many g t c =
+lower_rel-returns-in_err-from-in-Group-clause-many g t c =
     passed_on c.from_residual-in_err-from-in-Group.result c.in_err-from-in-Group.field-0.0 _ c.from_residual-in_err-from-in-Group.ensures.1 (rw c.in-Group.is (over_one _ _ _ (semantics.Kind.group (map (λ (k : Column). k.index) c.in-Group.keys.items) (map plain_agg c.in-Group.aggregates.items)) c.args.depth (rw c.deref-in-Group.ensures at c.in_err-from-in-Group.ensures.many)))
 
-pub returns-in_ok-from-in-Group-clause-ok : goal.returns-in_ok-from-in-Group-clause-ok
+pub lower_rel-returns-in_ok-from-in-Group-clause-ok : goal.lower_rel-returns-in_ok-from-in-Group-clause-ok
 unfolding lower
-returns-in_ok-from-in-Group-clause-ok g t c =
+lower_rel-returns-in_ok-from-in-Group-clause-ok g t c =
     rw c.in-Group.is (one_ok c.add_group.result c.args.made.now.items c.lower_rel-in-Group.new.made.items c.add_group.new.made.items _ _ (semantics.Kind.group (map (λ (k : Column). k.index) c.in-Group.keys.items) (map plain_agg c.in-Group.aggregates.items)) c.args.depth (rw c.deref-in-Group.ensures at c.in_ok-from-in-Group.ensures.ok) c.add_group.ensures.made c.add_group.ensures.gives)
 
-pub returns-in_ok-from-in-Group-clause-many : goal.returns-in_ok-from-in-Group-clause-many
+pub lower_rel-returns-in_ok-from-in-Group-clause-many : goal.lower_rel-returns-in_ok-from-in-Group-clause-many
 unfolding lower
-returns-in_ok-from-in-Group-clause-many g t c =
+lower_rel-returns-in_ok-from-in-Group-clause-many g t c =
     rw c.in-Group.is (one_many c.add_group.result c.args.made.now.items c.lower_rel-in-Group.new.made.items _ _ (semantics.Kind.group (map (λ (k : Column). k.index) c.in-Group.keys.items) (map plain_agg c.in-Group.aggregates.items)) c.args.depth (rw c.deref-in-Group.ensures at c.in_ok-from-in-Group.ensures.ok) c.add_group.ensures.many)
 
-pub returns-in_err-from-in-Distinct-clause-many : goal.returns-in_err-from-in-Distinct-clause-many
+pub lower_rel-returns-in_err-from-in-Distinct-clause-many : goal.lower_rel-returns-in_err-from-in-Distinct-clause-many
 unfolding lower
-returns-in_err-from-in-Distinct-clause-many g t c =
+lower_rel-returns-in_err-from-in-Distinct-clause-many g t c =
     passed_on c.from_residual-in_err-from-in-Distinct.result c.in_err-from-in-Distinct.field-0.0 _ c.from_residual-in_err-from-in-Distinct.ensures.1 (rw c.in-Distinct.is (over_one _ _ _ semantics.Kind.distinct c.args.depth (rw c.deref-in-Distinct.ensures at c.in_err-from-in-Distinct.ensures.many)))
 
-pub returns-in_ok-from-in-Distinct-clause-ok : goal.returns-in_ok-from-in-Distinct-clause-ok
+pub lower_rel-returns-in_ok-from-in-Distinct-clause-ok : goal.lower_rel-returns-in_ok-from-in-Distinct-clause-ok
 unfolding lower
-returns-in_ok-from-in-Distinct-clause-ok g t c =
+lower_rel-returns-in_ok-from-in-Distinct-clause-ok g t c =
     rw c.in-Distinct.is (one_ok c.add_vertex.result c.args.made.now.items c.lower_rel-in-Distinct.new.made.items c.add_vertex.new.made.items _ _ semantics.Kind.distinct c.args.depth (rw c.deref-in-Distinct.ensures at c.in_ok-from-in-Distinct.ensures.ok) c.add_vertex.ensures.made c.add_vertex.ensures.gives)
 
-pub returns-in_ok-from-in-Distinct-clause-many : goal.returns-in_ok-from-in-Distinct-clause-many
+pub lower_rel-returns-in_ok-from-in-Distinct-clause-many : goal.lower_rel-returns-in_ok-from-in-Distinct-clause-many
 unfolding lower
-returns-in_ok-from-in-Distinct-clause-many g t c =
+lower_rel-returns-in_ok-from-in-Distinct-clause-many g t c =
     rw c.in-Distinct.is (one_many c.add_vertex.result c.args.made.now.items c.lower_rel-in-Distinct.new.made.items _ _ semantics.Kind.distinct c.args.depth (rw c.deref-in-Distinct.ensures at c.in_ok-from-in-Distinct.ensures.ok) c.add_vertex.ensures.many)
 
-pub returns-in_err-left-in-SetOperation-clause-many : goal.returns-in_err-left-in-SetOperation-clause-many
-returns-in_err-left-in-SetOperation-clause-many g t c =
+pub lower_rel-returns-in_err-left-in-SetOperation-clause-many : goal.lower_rel-returns-in_err-left-in-SetOperation-clause-many
+lower_rel-returns-in_err-left-in-SetOperation-clause-many g t c =
     let ports = ports_of c.args.scope.now in
     let k = length c.args.made.now.items in
     let p = plain_rel (rel_tree c.in-SetOperation.left.value) in
@@ -90,8 +92,8 @@ returns-in_err-left-in-SetOperation-clause-many g t c =
     let kind : semantics.Kind = operator_kind c.in-SetOperation.operator in
     passed_on c.from_residual-in_err-left-in-SetOperation.result c.in_err-left-in-SetOperation.field-0.0 _ c.from_residual-in_err-left-in-SetOperation.ensures.1 (rw (c.in-SetOperation.is, set_lowered c.in-SetOperation.operator p q ports c.args.depth k) (over_left _ k l (r (k + length l.made)) kind c.args.depth (rw c.deref-in-SetOperation.ensures at c.in_err-left-in-SetOperation.ensures.many)))
 
-pub returns-in_err-right-in-SetOperation-clause-many : goal.returns-in_err-right-in-SetOperation-clause-many
-returns-in_err-right-in-SetOperation-clause-many g t c =
+pub lower_rel-returns-in_err-right-in-SetOperation-clause-many : goal.lower_rel-returns-in_err-right-in-SetOperation-clause-many
+lower_rel-returns-in_err-right-in-SetOperation-clause-many g t c =
     let ports = ports_of c.args.scope.now in
     let k = length c.args.made.now.items in
     let p = plain_rel (rel_tree c.in-SetOperation.left.value) in
@@ -102,8 +104,8 @@ returns-in_err-right-in-SetOperation-clause-many g t c =
     let i = rw c.deref-in-SetOperation.ensures at c.in_ok-left-in-SetOperation.ensures.ok in
     passed_on c.from_residual-in_err-right-in-SetOperation.result c.in_err-right-in-SetOperation.field-0.0 _ c.from_residual-in_err-right-in-SetOperation.ensures.1 (rw (c.in-SetOperation.is, set_lowered c.in-SetOperation.operator p q ports c.args.depth k) (over_right _ c.args.made.now.items c.lower_rel-in-SetOperation.new.made.items _ l r kind c.args.depth i (rw (c.deref-in-SetOperation-2.ensures, c.in_ok-left-in-SetOperation.ensures.scope) at c.in_err-right-in-SetOperation.ensures.many)))
 
-pub returns-in_ok-right-in-SetOperation-clause-ok : goal.returns-in_ok-right-in-SetOperation-clause-ok
-returns-in_ok-right-in-SetOperation-clause-ok g t c =
+pub lower_rel-returns-in_ok-right-in-SetOperation-clause-ok : goal.lower_rel-returns-in_ok-right-in-SetOperation-clause-ok
+lower_rel-returns-in_ok-right-in-SetOperation-clause-ok g t c =
     let ports = ports_of c.args.scope.now in
     let k = length c.args.made.now.items in
     let p = plain_rel (rel_tree c.in-SetOperation.left.value) in
@@ -115,8 +117,8 @@ returns-in_ok-right-in-SetOperation-clause-ok g t c =
     let j = rw (c.deref-in-SetOperation-2.ensures, c.in_ok-left-in-SetOperation.ensures.scope) at c.in_ok-right-in-SetOperation.ensures.ok in
     rw (c.in-SetOperation.is, set_lowered c.in-SetOperation.operator p q ports c.args.depth k) (two_ok c.add_set_operation.result c.args.made.now.items c.lower_rel-in-SetOperation.new.made.items c.lower_rel-in-SetOperation-2.new.made.items c.add_set_operation.new.made.items _ _ l r kind c.args.depth i j c.add_set_operation.ensures.made c.add_set_operation.ensures.gives)
 
-pub returns-in_ok-right-in-SetOperation-clause-many : goal.returns-in_ok-right-in-SetOperation-clause-many
-returns-in_ok-right-in-SetOperation-clause-many g t c =
+pub lower_rel-returns-in_ok-right-in-SetOperation-clause-many : goal.lower_rel-returns-in_ok-right-in-SetOperation-clause-many
+lower_rel-returns-in_ok-right-in-SetOperation-clause-many g t c =
     let ports = ports_of c.args.scope.now in
     let k = length c.args.made.now.items in
     let p = plain_rel (rel_tree c.in-SetOperation.left.value) in
@@ -128,9 +130,9 @@ returns-in_ok-right-in-SetOperation-clause-many g t c =
     let j = rw (c.deref-in-SetOperation-2.ensures, c.in_ok-left-in-SetOperation.ensures.scope) at c.in_ok-right-in-SetOperation.ensures.ok in
     rw (c.in-SetOperation.is, set_lowered c.in-SetOperation.operator p q ports c.args.depth k) (two_many c.add_set_operation.result c.args.made.now.items c.lower_rel-in-SetOperation.new.made.items c.lower_rel-in-SetOperation-2.new.made.items _ _ l r kind c.args.depth i j c.add_set_operation.ensures.many)
 
-pub returns-in_err-left-in-Join-clause-many : goal.returns-in_err-left-in-Join-clause-many
+pub lower_rel-returns-in_err-left-in-Join-clause-many : goal.lower_rel-returns-in_err-left-in-Join-clause-many
 unfolding lower
-returns-in_err-left-in-Join-clause-many g t c =
+lower_rel-returns-in_err-left-in-Join-clause-many g t c =
     let ports = ports_of c.args.scope.now in
     let k = length c.args.made.now.items in
     let p = plain_rel (rel_tree c.in-Join.left.value) in
@@ -140,9 +142,9 @@ returns-in_err-left-in-Join-clause-many g t c =
     let kind : semantics.Kind = semantics.Kind.join (map plain_pair c.in-Join.pairs.items) in
     passed_on c.from_residual-in_err-left-in-Join.result c.in_err-left-in-Join.field-0.0 _ c.from_residual-in_err-left-in-Join.ensures.1 (rw c.in-Join.is (over_left _ k l (r (k + length l.made)) kind c.args.depth (rw c.deref-in-Join.ensures at c.in_err-left-in-Join.ensures.many)))
 
-pub returns-in_err-right-in-Join-clause-many : goal.returns-in_err-right-in-Join-clause-many
+pub lower_rel-returns-in_err-right-in-Join-clause-many : goal.lower_rel-returns-in_err-right-in-Join-clause-many
 unfolding lower
-returns-in_err-right-in-Join-clause-many g t c =
+lower_rel-returns-in_err-right-in-Join-clause-many g t c =
     let ports = ports_of c.args.scope.now in
     let k = length c.args.made.now.items in
     let p = plain_rel (rel_tree c.in-Join.left.value) in
@@ -153,9 +155,9 @@ returns-in_err-right-in-Join-clause-many g t c =
     let i = rw c.deref-in-Join.ensures at c.in_ok-left-in-Join.ensures.ok in
     passed_on c.from_residual-in_err-right-in-Join.result c.in_err-right-in-Join.field-0.0 _ c.from_residual-in_err-right-in-Join.ensures.1 (rw c.in-Join.is (over_right _ c.args.made.now.items c.lower_rel-in-Join.new.made.items _ l r kind c.args.depth i (rw (c.deref-in-Join-2.ensures, c.in_ok-left-in-Join.ensures.scope) at c.in_err-right-in-Join.ensures.many)))
 
-pub returns-in_ok-right-in-Join-clause-ok : goal.returns-in_ok-right-in-Join-clause-ok
+pub lower_rel-returns-in_ok-right-in-Join-clause-ok : goal.lower_rel-returns-in_ok-right-in-Join-clause-ok
 unfolding lower
-returns-in_ok-right-in-Join-clause-ok g t c =
+lower_rel-returns-in_ok-right-in-Join-clause-ok g t c =
     let ports = ports_of c.args.scope.now in
     let k = length c.args.made.now.items in
     let p = plain_rel (rel_tree c.in-Join.left.value) in
@@ -167,9 +169,9 @@ returns-in_ok-right-in-Join-clause-ok g t c =
     let j = rw (c.deref-in-Join-2.ensures, c.in_ok-left-in-Join.ensures.scope) at c.in_ok-right-in-Join.ensures.ok in
     rw c.in-Join.is (two_ok c.add_join.result c.args.made.now.items c.lower_rel-in-Join.new.made.items c.lower_rel-in-Join-2.new.made.items c.add_join.new.made.items _ _ l r kind c.args.depth i j c.add_join.ensures.made c.add_join.ensures.gives)
 
-pub returns-in_ok-right-in-Join-clause-many : goal.returns-in_ok-right-in-Join-clause-many
+pub lower_rel-returns-in_ok-right-in-Join-clause-many : goal.lower_rel-returns-in_ok-right-in-Join-clause-many
 unfolding lower
-returns-in_ok-right-in-Join-clause-many g t c =
+lower_rel-returns-in_ok-right-in-Join-clause-many g t c =
     let ports = ports_of c.args.scope.now in
     let k = length c.args.made.now.items in
     let p = plain_rel (rel_tree c.in-Join.left.value) in
@@ -181,83 +183,85 @@ returns-in_ok-right-in-Join-clause-many g t c =
     let j = rw (c.deref-in-Join-2.ensures, c.in_ok-left-in-Join.ensures.scope) at c.in_ok-right-in-Join.ensures.ok in
     rw c.in-Join.is (two_many c.add_join.result c.args.made.now.items c.lower_rel-in-Join.new.made.items c.lower_rel-in-Join-2.new.made.items _ _ l r kind c.args.depth i j c.add_join.ensures.many)
 
-pub returns-in_err-from-in-Iterate-clause-many : goal.returns-in_err-from-in-Iterate-clause-many
+pub lower_loop-returns-in_err-from-clause-many : goal.lower_loop-returns-in_err-from-clause-many
 unfolding lower
-returns-in_err-from-in-Iterate-clause-many g t c =
-    let x = c.in-Iterate.name in
-    let r = plain_rel (rel_tree c.in-Iterate.start.value) in
-    let b = plain_rel (rel_tree c.in-Iterate.body.value) in
+lower_loop-returns-in_err-from-clause-many g t c =
+    let x = c.args.variable.now in
+    let r = plain_rel (rel_tree c.args.start.now) in
+    let b = plain_rel (rel_tree c.args.body.now) in
     let ports = ports_of c.args.scope.now in
     let d = c.args.depth in
-    let n = c.in-Iterate.turns in
-    passed_on c.from_residual-in_err-from-in-Iterate.result c.in_err-from-in-Iterate.field-0.0 _ c.from_residual-in_err-from-in-Iterate.ensures.1 (rw c.in-Iterate.is (over_start _ n x r b ports d (length c.args.made.now.items) (rw c.deref-in-Iterate.ensures at c.in_err-from-in-Iterate.ensures.many)))
+    let n = c.args.turns in
+    passed_on c.from_residual.result c.in_err-from.field-0.0 _ c.from_residual.ensures.1 (over_start _ n x r b ports d (length c.args.made.now.items) c.in_err-from.ensures.many)
 
-pub returns-in_err-gate-in-Iterate-clause-many : goal.returns-in_err-gate-in-Iterate-clause-many
+pub lower_loop-returns-in_err-gate-clause-many : goal.lower_loop-returns-in_err-gate-clause-many
 unfolding lower
-returns-in_err-gate-in-Iterate-clause-many g t c =
-    let x = c.in-Iterate.name in
-    let r = plain_rel (rel_tree c.in-Iterate.start.value) in
-    let b = plain_rel (rel_tree c.in-Iterate.body.value) in
+lower_loop-returns-in_err-gate-clause-many g t c =
+    let x = c.args.variable.now in
+    let r = plain_rel (rel_tree c.args.start.now) in
+    let b = plain_rel (rel_tree c.args.body.now) in
     let ports = ports_of c.args.scope.now in
     let d = c.args.depth in
-    let n = c.in-Iterate.turns in
-    let i = rw c.deref-in-Iterate.ensures at c.in_ok-from-in-Iterate.ensures.ok in
-    passed_on c.from_residual-in_err-gate-in-Iterate.result c.in_err-gate-in-Iterate.field-0.0 _ c.from_residual-in_err-gate-in-Iterate.ensures.1 (rw c.in-Iterate.is (over_open _ n x r b ports d c.args.made.now.items c.lower_rel-in-Iterate.new.made.items _ i (rw (c.deref-in-Iterate-2.ensures, c.in_ok-from-in-Iterate.ensures.scope) at c.in_err-gate-in-Iterate.ensures.many)))
+    let n = c.args.turns in
+    let i = c.in_ok-from.ensures.ok in
+    let k = length c.lower_rel.new.made.items in
+    let over : IsOver c.in_err-gate.field-0.0 (k + suc (suc (suc (length (carry n (ports_of c.lower_rel.new.scope) d (suc (suc (suc k))) (carried x b)))))) = c.in_err-gate.ensures.many in
+    passed_on c.from_residual-in_err-gate.result c.in_err-gate.field-0.0 _ c.from_residual-in_err-gate.ensures.1 (over_open _ n x r b ports d c.args.made.now.items c.lower_rel.new.made.items _ i (rw c.in_ok-from.ensures.scope at over))
 
-pub returns-in_err-last-in-Iterate-clause-many : goal.returns-in_err-last-in-Iterate-clause-many
+pub lower_loop-returns-in_err-last-clause-many : goal.lower_loop-returns-in_err-last-clause-many
 unfolding lower
-returns-in_err-last-in-Iterate-clause-many g t c =
-    let x = c.in-Iterate.name in
-    let r = plain_rel (rel_tree c.in-Iterate.start.value) in
-    let b = plain_rel (rel_tree c.in-Iterate.body.value) in
+lower_loop-returns-in_err-last-clause-many g t c =
+    let x = c.args.variable.now in
+    let r = plain_rel (rel_tree c.args.start.now) in
+    let b = plain_rel (rel_tree c.args.body.now) in
     let ports = ports_of c.args.scope.now in
     let d = c.args.depth in
-    let n = c.in-Iterate.turns in
-    let i = rw c.deref-in-Iterate.ensures at c.in_ok-from-in-Iterate.ensures.ok in
-    let o = rw (c.deref-in-Iterate-2.ensures, c.in_ok-from-in-Iterate.ensures.scope) at c.in_ok-gate-in-Iterate.ensures.made in
-    let s = rw (c.deref-in-Iterate-2.ensures, c.in_ok-from-in-Iterate.ensures.scope) at c.in_ok-gate-in-Iterate.ensures.inside in
+    let n = c.args.turns in
+    let i = c.in_ok-from.ensures.ok in
+    let o = rw c.in_ok-from.ensures.scope at c.in_ok-gate.ensures.made in
+    let s = rw c.in_ok-from.ensures.scope at c.in_ok-gate.ensures.inside in
     let q : d + 1 ≡ suc d = omega arith in
-    passed_on c.from_residual-in_err-last-in-Iterate.result c.in_err-last-in-Iterate.field-0.0 _ c.from_residual-in_err-last-in-Iterate.ensures.1 (rw c.in-Iterate.is (over_body _ n x r b ports _ d (d + 1) c.args.made.now.items c.lower_rel-in-Iterate.new.made.items c.open_loop.new.made.items _ _ _ _ i o s q (rw c.deref-in-Iterate-3.ensures at c.in_err-last-in-Iterate.ensures.many)))
+    passed_on c.from_residual-in_err-last.result c.in_err-last.field-0.0 _ c.from_residual-in_err-last.ensures.1 (over_body _ n x r b ports _ d (d + 1) c.args.made.now.items c.lower_rel.new.made.items c.open_loop.new.made.items _ _ _ _ i o s q c.in_err-last.ensures.many)
 
-pub returns-in_ok-last-in-Iterate-clause-ok : goal.returns-in_ok-last-in-Iterate-clause-ok
+pub lower_loop-returns-clause-ok : goal.lower_loop-returns-clause-ok
 unfolding lower
-returns-in_ok-last-in-Iterate-clause-ok g t c =
-    let x = c.in-Iterate.name in
-    let r = plain_rel (rel_tree c.in-Iterate.start.value) in
-    let b = plain_rel (rel_tree c.in-Iterate.body.value) in
+lower_loop-returns-clause-ok g t c =
+    let x = c.args.variable.now in
+    let r = plain_rel (rel_tree c.args.start.now) in
+    let b = plain_rel (rel_tree c.args.body.now) in
     let ports = ports_of c.args.scope.now in
     let d = c.args.depth in
-    let n = c.in-Iterate.turns in
-    let i = rw c.deref-in-Iterate.ensures at c.in_ok-from-in-Iterate.ensures.ok in
-    let o = rw (c.deref-in-Iterate-2.ensures, c.in_ok-from-in-Iterate.ensures.scope) at c.in_ok-gate-in-Iterate.ensures.made in
-    let s = rw (c.deref-in-Iterate-2.ensures, c.in_ok-from-in-Iterate.ensures.scope) at c.in_ok-gate-in-Iterate.ensures.inside in
+    let n = c.args.turns in
+    let i = c.in_ok-from.ensures.ok in
+    let o = rw c.in_ok-from.ensures.scope at c.in_ok-gate.ensures.made in
+    let s = rw c.in_ok-from.ensures.scope at c.in_ok-gate.ensures.inside in
     let q : d + 1 ≡ suc d = omega arith in
-    let j = rw c.deref-in-Iterate-3.ensures at c.in_ok-last-in-Iterate.ensures.ok in
-    let v : c.in_ok-gate-in-Iterate.gate.vertex.0 ≡ suc (suc (length c.lower_rel-in-Iterate.new.made.items)) = ap (λ p. p.vertex) c.in_ok-gate-in-Iterate.ensures.gives in
-    let v1 : c.in_ok-gate-in-Iterate.gate.vertex.0 - 1 ≡ suc (length c.lower_rel-in-Iterate.new.made.items) = omega (arith, v) in
-    let v2 : c.in_ok-gate-in-Iterate.gate.vertex.0 - 2 ≡ length c.lower_rel-in-Iterate.new.made.items = omega (arith, v) in
-    rw c.in-Iterate.is (loop_ok c.close_loop.result n x r b ports _ d (d + 1) c.args.made.now.items c.lower_rel-in-Iterate.new.made.items c.open_loop.new.made.items c.lower_rel-in-Iterate-2.new.made.items c.close_loop.new.made.items _ _ _ i o s q j (rw (v1, v2, v) at c.close_loop.ensures.made) c.close_loop.ensures.gives)
+    let j = c.in_ok-last.ensures.ok in
+    let v : c.in_ok-gate.gate.vertex.0 ≡ suc (suc (length c.lower_rel.new.made.items)) = ap (λ p. p.vertex) c.in_ok-gate.ensures.gives in
+    let v1 : c.in_ok-gate.gate.vertex.0 - 1 ≡ suc (length c.lower_rel.new.made.items) = omega (arith, v) in
+    let v2 : c.in_ok-gate.gate.vertex.0 - 2 ≡ length c.lower_rel.new.made.items = omega (arith, v) in
+    loop_ok c.close_loop.result n x r b ports _ d (d + 1) c.args.made.now.items c.lower_rel.new.made.items c.open_loop.new.made.items c.lower_rel-2.new.made.items c.close_loop.new.made.items _ _ _ i o s q j (rw (v1, v2, v) at c.close_loop.ensures.made) c.close_loop.ensures.gives
 
-pub returns-in_ok-last-in-Iterate-clause-many : goal.returns-in_ok-last-in-Iterate-clause-many
+pub lower_loop-returns-clause-many : goal.lower_loop-returns-clause-many
 unfolding lower
-returns-in_ok-last-in-Iterate-clause-many g t c =
-    let x = c.in-Iterate.name in
-    let r = plain_rel (rel_tree c.in-Iterate.start.value) in
-    let b = plain_rel (rel_tree c.in-Iterate.body.value) in
+lower_loop-returns-clause-many g t c =
+    let x = c.args.variable.now in
+    let r = plain_rel (rel_tree c.args.start.now) in
+    let b = plain_rel (rel_tree c.args.body.now) in
     let ports = ports_of c.args.scope.now in
     let d = c.args.depth in
-    let n = c.in-Iterate.turns in
-    let i = rw c.deref-in-Iterate.ensures at c.in_ok-from-in-Iterate.ensures.ok in
-    let o = rw (c.deref-in-Iterate-2.ensures, c.in_ok-from-in-Iterate.ensures.scope) at c.in_ok-gate-in-Iterate.ensures.made in
-    let s = rw (c.deref-in-Iterate-2.ensures, c.in_ok-from-in-Iterate.ensures.scope) at c.in_ok-gate-in-Iterate.ensures.inside in
+    let n = c.args.turns in
+    let i = c.in_ok-from.ensures.ok in
+    let o = rw c.in_ok-from.ensures.scope at c.in_ok-gate.ensures.made in
+    let s = rw c.in_ok-from.ensures.scope at c.in_ok-gate.ensures.inside in
     let q : d + 1 ≡ suc d = omega arith in
-    let j = rw c.deref-in-Iterate-3.ensures at c.in_ok-last-in-Iterate.ensures.ok in
-    rw c.in-Iterate.is (loop_many c.close_loop.result n x r b ports _ d (d + 1) c.args.made.now.items c.lower_rel-in-Iterate.new.made.items c.open_loop.new.made.items c.lower_rel-in-Iterate-2.new.made.items _ _ _ _ _ i o s q j c.close_loop.ensures.many)
+    let j = c.in_ok-last.ensures.ok in
+    loop_many c.close_loop.result n x r b ports _ d (d + 1) c.args.made.now.items c.lower_rel.new.made.items c.open_loop.new.made.items c.lower_rel-2.new.made.items _ _ _ _ _ i o s q j c.close_loop.ensures.many
 
-pub close_loop-requires-clause-made : goal.close_loop-requires-clause-made
-close_loop-requires-clause-made g t c =
+pub lower_loop-close_loop-requires-clause-made : goal.lower_loop-close_loop-requires-clause-made
+lower_loop-close_loop-requires-clause-made g t c =
     let d = c.args.depth in
-    let o = rw (c.deref-in-Iterate-2.ensures, c.in_ok-from-in-Iterate.ensures.scope) at c.in_ok-gate-in-Iterate.ensures.made in
-    let j = rw c.deref-in-Iterate-3.ensures at c.in_ok-last-in-Iterate.ensures.ok in
-    let v : c.in_ok-gate-in-Iterate.gate.vertex.0 ≡ suc (suc (length c.lower_rel-in-Iterate.new.made.items)) = ap (λ p. p.vertex) c.in_ok-gate-in-Iterate.ensures.gives in
-    omega (arith, v, number_of c.lower_rel-in-Iterate.new.made.items c.open_loop.new.made.items _ o, number_of c.open_loop.new.made.items c.lower_rel-in-Iterate-2.new.made.items _ j.made)
+    let o = rw c.in_ok-from.ensures.scope at c.in_ok-gate.ensures.made in
+    let j = c.in_ok-last.ensures.ok in
+    let v : c.in_ok-gate.gate.vertex.0 ≡ suc (suc (length c.lower_rel.new.made.items)) = ap (λ p. p.vertex) c.in_ok-gate.ensures.gives in
+    omega (arith, v, number_of c.lower_rel.new.made.items c.open_loop.new.made.items _ o, number_of c.open_loop.new.made.items c.lower_rel-2.new.made.items _ j.made)
