@@ -10,7 +10,7 @@
 //! |---|---|---|
 //! | `execute` | feeds the epochs to an engine over a new board, and works it off | `Unfinished`: no report; a count that is too large at any worker is told before want of memory |
 //! | `Parallelism::of` | how many threads and workers a run of the epochs has | never |
-| `emitted` | what a report has emitted, by output and epoch | memory |
+//! | `emitted` | what a report has emitted, by output and epoch | memory |
 //!
 //! The contract for `console` above: the report that `execute` gives is of the board's graph, it is drained, and what its inputs were fed is
 //! what was read. The report keeps the promise of its board, so what it has emitted at each output for each epoch is what the query means there.
