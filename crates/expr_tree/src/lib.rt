@@ -27,6 +27,8 @@ pub use evaluation::{eval_scalar, holds, negated, operate};
 pub use no_memory::NoMemory;
 pub use program::{Input, Let, Output, Program};
 pub use relation::{Agg, Column, Pair, Rel, SetOperator};
-pub use sameness::{same, same_cond, same_rel, same_scalar};
+pub use sameness::{
+    same, same_aggs, same_columns, same_cond, same_pairs, same_rel, same_scalar, same_scalars,
+};
 pub use scalar::{Operator, Scalar};
 pub use size::{cond_size, rel_size, scalar_size};

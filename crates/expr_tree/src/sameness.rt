@@ -97,7 +97,7 @@ fn same_name(left: &Name, right: &Name) -> bool
 }
 
 /// Whether the scalars are equal, one by one.
-fn same_scalars<A: Allocator, B: Allocator>(left: &[Scalar<A>], right: &[Scalar<B>]) -> bool
+pub fn same_scalars<A: Allocator, B: Allocator>(left: &[Scalar<A>], right: &[Scalar<B>]) -> bool
     ensures { IsTrue result ↔ (map plain_scalar (map scalar_tree left.now) ≡ map plain_scalar (map scalar_tree right.now)) }
 {
     match (left, right) {
@@ -108,7 +108,7 @@ fn same_scalars<A: Allocator, B: Allocator>(left: &[Scalar<A>], right: &[Scalar<
 }
 
 /// Whether the columns are equal, one by one.
-fn same_columns(left: &[Column], right: &[Column]) -> bool
+pub fn same_columns(left: &[Column], right: &[Column]) -> bool
     ensures { IsTrue result ↔ (map (λ k. k.index) left.now ≡ map (λ k. k.index) right.now) }
 {
     match (left, right) {
@@ -119,7 +119,7 @@ fn same_columns(left: &[Column], right: &[Column]) -> bool
 }
 
 /// Whether the pairs are equal, one by one.
-fn same_pairs(left: &[Pair], right: &[Pair]) -> bool
+pub fn same_pairs(left: &[Pair], right: &[Pair]) -> bool
     ensures { IsTrue result ↔ (map plain_pair left.now ≡ map plain_pair right.now) }
 {
     match (left, right) {
@@ -145,7 +145,7 @@ fn same_agg(left: Agg, right: Agg) -> bool
 }
 
 /// Whether the aggregates are equal, one by one.
-fn same_aggs(left: &[Agg], right: &[Agg]) -> bool
+pub fn same_aggs(left: &[Agg], right: &[Agg]) -> bool
     ensures { IsTrue result ↔ (map plain_agg left.now ≡ map plain_agg right.now) }
 {
     match (left, right) {

@@ -1,8 +1,8 @@
 -- The tests of equality decide it, so they are equivalences. The laws of `PartialEq` and `Eq` cite these.
-use Rattle.std.proofs.Common.{◌≡◌, ◌↔◌, ◌∙◌, ℕ, Bool, IsTrue, nat_eq, refl, sym, ap, ap₂, Decides}
+use Rattle.std.proofs.Common.{◌≡◌, ◌↔◌, ◌∙◌, ℕ, Bool, IsTrue, List, nat_eq, refl, sym, ap, ap₂, Decides}
 use Rattle.std.proofs.lemmas.Bool.Decides.{Decides-and, Decides-eqb, Decides-int_eq, Decides-like, same_from_decides}
 use Rattle.std.specs.Cmp.{IsEquivalence, and_equiv, nat_eq_equiv, on_equiv}
-use Rattle.std.specs.Cmp.Lexicographic.{lists_equiv, pointwise_decides}
+use Rattle.std.specs.Cmp.Lexicographic.{lists_equiv, pointwise, pointwise_decides}
 use Rattle.semantics.specs.Query.{Scalar, Comparison, Cond, Agg, Pair, Name, Input}
 use Rattle.semantics.specs.Kinds.{Kind}
 use Rattle.semantics.specs.Graph.{Port, Vertex}
@@ -21,6 +21,10 @@ equiv_from_decides E d = record {
   congr = λ x y z h. ap (λ w. E w z) ((d x y).0 h);
 }
 
+-- a test that decides whether two lists are equal
+pub list_tested : {X : Type 0} (E : X → X → Bool) → ((x y : X) → Decides (E x y) (x ≡ y)) → (r : Bool) (xs ys : List X) → IsTrue r ↔ (xs ≡ ys) → r ≡ pointwise E xs ys
+list_tested E d r xs ys h = same_from_decides r (pointwise E xs ys) h (pointwise_decides d xs ys)
+
 pub scalar_decides : (a b : Scalar) → Decides (scalar_eq a b) (a ≡ b)
 scalar_decides (Scalar.column m) (Scalar.column n) = Decides-like (nat_eq m n) (λ e. ap Scalar.column e) (λ e. cc) (Decides-eqb m n)
 scalar_decides (Scalar.literal y) (Scalar.literal z) = Decides-like _ (λ e. ap Scalar.literal e) (λ e. cc) (Decides-int_eq y z)
@@ -29,10 +33,6 @@ scalar_decides (Scalar.minus a b) (Scalar.minus c d) = Decides-like _ (λ h. ap�
 scalar_decides (Scalar.times a b) (Scalar.times c d) = Decides-like _ (λ h. ap₂ Scalar.times h.0 h.1) (λ e. (cc, cc)) (Decides-and _ _ (scalar_decides a c) (scalar_decides b d))
 scalar_decides (Scalar.negation a) (Scalar.negation b) = Decides-like _ (λ e. ap Scalar.negation e) (λ e. cc) (scalar_decides a b)
 scalar_decides a b = (λ e. cc, λ e. cc)
-
--- a test that decides whether two scalars are equal
-pub scalar_tested : (r : Bool) (a b : Scalar) → IsTrue r ↔ (a ≡ b) → r ≡ scalar_eq a b
-scalar_tested r a b h = same_from_decides r (scalar_eq a b) h (scalar_decides a b)
 
 comparison_decides : (o p : Comparison) → Decides (comparison_eq o p) (o ≡ p)
 comparison_decides Comparison.equal Comparison.equal = (λ e. refl, λ e. refl)
@@ -54,7 +54,7 @@ cond_decides a b = (λ e. cc, λ e. cc)
 pub cond_tested : (r : Bool) (a b : Cond) → IsTrue r ↔ (a ≡ b) → r ≡ cond_eq a b
 cond_tested r a b h = same_from_decides r (cond_eq a b) h (cond_decides a b)
 
-agg_decides : (a b : Agg) → Decides (agg_eq a b) (a ≡ b)
+pub agg_decides : (a b : Agg) → Decides (agg_eq a b) (a ≡ b)
 agg_decides Agg.count Agg.count = (λ e. refl, λ e. refl)
 agg_decides (Agg.sum m) (Agg.sum n) = Decides-like _ (λ e. ap Agg.sum e) (λ e. cc) (Decides-eqb m n)
 agg_decides (Agg.min m) (Agg.min n) = Decides-like _ (λ e. ap Agg.min e) (λ e. cc) (Decides-eqb m n)
@@ -64,7 +64,7 @@ agg_decides a b = (λ e. cc, λ e. cc)
 abbrev paired : ℕ → ℕ → Pair
 paired l r = record { left = l; right = r }
 
-pair_decides : (p q : Pair) → Decides (pair_eq p q) (p ≡ q)
+pub pair_decides : (p q : Pair) → Decides (pair_eq p q) (p ≡ q)
 pair_decides p q = Decides-like _ (λ h. ap₂ paired h.0 h.1) (λ e. (ap (λ x. x.left) e, ap (λ x. x.right) e)) (Decides-and _ _ (Decides-eqb p.left q.left) (Decides-eqb p.right q.right))
 
 port_decides : (p q : Port) → Decides (same_port p q) (p ≡ q)

@@ -3,8 +3,9 @@
 ghost use Rattle.std.specs.Prelude.{◌≡◌, ◌↔◌, IsTrue, map, nat_eq};
 ghost use Rattle.std.specs.Cmp.{on_equiv, partial_equiv_from_equiv};
 ghost use Rattle.std.specs.Cmp.Lexicographic.{pointwise};
-ghost use Rattle.expr_tree.specs.Plain.{plain_agg, plain_cond, plain_pair, plain_scalar};
-ghost use Rattle.expr_tree.specs.Views.{cond_tree, scalar_tree};
+ghost use Rattle.expr_tree.specs.Plain.{plain_agg, plain_cond, plain_pair};
+ghost use Rattle.expr_tree.specs.PlainLists.{plain_scalars};
+ghost use Rattle.expr_tree.specs.Views.{cond_tree};
 ghost use Rattle.semantics.specs.Meaning.{same_name};
 ghost use Rattle.graph.specs.Edges.{same_port};
 ghost use Rattle.graph.specs.Equality.{agg_eq, cond_eq, graph_eq, input_eq, kind_eq, pair_eq, scalar_eq, vertex_eq};
@@ -14,7 +15,9 @@ ghost use Rattle.graph.specs.Views.{graph_of, input_of, kind_of, name_of_output,
 
 use crate::graph::{DeclaredInput, Graph, GraphOutput};
 use crate::vertex::{Kind, Port, Sources, Vertex};
-use expr_tree::{Agg, Column, Cond, Pair, Scalar, same_cond, same_scalar};
+use expr_tree::{
+    Agg, Column, Cond, Pair, Scalar, same_aggs, same_columns, same_cond, same_pairs, same_scalars,
+};
 use std::alloc::Global;
 
 impl PartialEq for Graph {
@@ -72,12 +75,12 @@ impl PartialEq for Kind {
         match (self, other) {
             (Kind::Input, Kind::Input) => true,
             (Kind::Output, Kind::Output) => true,
-            (Kind::Select(ss), Kind::Select(ts)) => same_scalars(ss, ts),
+            (Kind::Select(ss), Kind::Select(ts)) => equal_scalars(ss, ts),
             (Kind::Where(c), Kind::Where(d)) => equal_conds(c, d),
             (Kind::Concat, Kind::Concat) => true,
-            (Kind::Join(ps), Kind::Join(qs)) => same_pairs(ps, qs),
+            (Kind::Join(ps), Kind::Join(qs)) => equal_pairs(ps, qs),
             (Kind::Group(ks, gs), Kind::Group(ls, hs)) => {
-                same_columns(ks, ls) && same_aggs(gs, hs)
+                equal_columns(ks, ls) && equal_aggs(gs, hs)
             }
             (Kind::Distinct, Kind::Distinct) => true,
             (Kind::Except, Kind::Except) => true,
@@ -156,71 +159,30 @@ fn equal_conds(left: &Cond<Global>, right: &Cond<Global>) -> bool
     same_cond(left, right)
 }
 
-/// Whether two scalars are equal, spans aside.
-fn equal_scalars(left: &Scalar<Global>, right: &Scalar<Global>) -> bool
-    ensures { result ≡ scalar_eq (plain_scalar (scalar_tree left.now)) (plain_scalar (scalar_tree right.now)) }
+/// Whether the scalars are equal one by one, spans aside.
+fn equal_scalars(left: &[Scalar<Global>], right: &[Scalar<Global>]) -> bool
+    ensures { result ≡ pointwise scalar_eq (plain_scalars left.now) (plain_scalars right.now) }
 {
-    same_scalar(left, right)
+    same_scalars(left, right)
 }
 
-/// Whether the scalars are equal, one by one.
-fn same_scalars(left: &[Scalar<Global>], right: &[Scalar<Global>]) -> bool
-    ensures { result ≡ pointwise scalar_eq (map plain_scalar (map scalar_tree left.now)) (map plain_scalar (map scalar_tree right.now)) }
-{
-    match (left, right) {
-        ([], []) => true,
-        ([x, xs @ ..], [y, ys @ ..]) => equal_scalars(x, y) && same_scalars(xs, ys),
-        _ => false,
-    }
-}
-
-/// Whether the columns are equal, one by one.
-fn same_columns(left: &[Column], right: &[Column]) -> bool
+/// Whether the columns are equal one by one, spans aside.
+fn equal_columns(left: &[Column], right: &[Column]) -> bool
     ensures { result ≡ pointwise nat_eq (map (λ k. k.index) left.now) (map (λ k. k.index) right.now) }
 {
-    match (left, right) {
-        ([], []) => true,
-        ([x, xs @ ..], [y, ys @ ..]) => x.index == y.index && same_columns(xs, ys),
-        _ => false,
-    }
+    same_columns(left, right)
 }
 
-/// Whether the pairs are equal, one by one.
-fn same_pairs(left: &[Pair], right: &[Pair]) -> bool
+/// Whether the pairs are equal one by one, spans aside.
+fn equal_pairs(left: &[Pair], right: &[Pair]) -> bool
     ensures { result ≡ pointwise pair_eq (map plain_pair left.now) (map plain_pair right.now) }
 {
-    match (left, right) {
-        ([], []) => true,
-        ([x, xs @ ..], [y, ys @ ..]) => equal_pairs(*x, *y) && same_pairs(xs, ys),
-        _ => false,
-    }
+    same_pairs(left, right)
 }
 
-fn equal_pairs(left: Pair, right: Pair) -> bool
-    ensures { result ≡ pair_eq (plain_pair left) (plain_pair right) }
-{
-    left.left.index == right.left.index && left.right.index == right.right.index
-}
-
-/// Whether the aggregates are equal, one by one.
-fn same_aggs(left: &[Agg], right: &[Agg]) -> bool
+/// Whether the aggregates are equal one by one, spans aside.
+fn equal_aggs(left: &[Agg], right: &[Agg]) -> bool
     ensures { result ≡ pointwise agg_eq (map plain_agg left.now) (map plain_agg right.now) }
 {
-    match (left, right) {
-        ([], []) => true,
-        ([x, xs @ ..], [y, ys @ ..]) => equal_aggs(*x, *y) && same_aggs(xs, ys),
-        _ => false,
-    }
-}
-
-fn equal_aggs(left: Agg, right: Agg) -> bool
-    ensures { result ≡ agg_eq (plain_agg left) (plain_agg right) }
-{
-    match (left, right) {
-        (Agg::Count(_), Agg::Count(_)) => true,
-        (Agg::Sum(_, x), Agg::Sum(_, y)) => x.index == y.index,
-        (Agg::Min(_, x), Agg::Min(_, y)) => x.index == y.index,
-        (Agg::Max(_, x), Agg::Max(_, y)) => x.index == y.index,
-        _ => false,
-    }
+    same_aggs(left, right)
 }

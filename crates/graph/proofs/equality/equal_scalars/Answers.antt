@@ -1,5 +1,6 @@
-use Rattle.graph.specs.EqualityLaws.{scalar_tested}
+use Rattle.graph.specs.Equality.{scalar_eq}
+use Rattle.graph.specs.EqualityLaws.{scalar_decides, list_tested}
 use Rattle.graph.proofs.equality.equal_scalars.Goals as goal
 
 pub returns : goal.returns
-returns c = scalar_tested c.same_scalar.result _ _ c.same_scalar.ensures
+returns c = list_tested scalar_eq scalar_decides c.same_scalars.result _ _ c.same_scalars.ensures
