@@ -3,6 +3,7 @@
 use crate::bracket::{
     OpenBracket, form_bracket, is_form, last_open, last_word, open_bracket, split_word,
 };
+use crate::names::is_like;
 use record_core::{Keyword, Span};
 
 /// The hint for a byte that begins no word, by what is before and after it.
@@ -13,8 +14,10 @@ fn of_byte(before: &[u8], byte: u8, behind: &[u8]) -> Option<&'static str> {
         ),
         (b'A'..=b'Z', _) => Some("names and keywords are in lower case"),
         (b'\'' | b'"', _) => Some("there are no strings; give each text a number"),
-        (b'.', _) => Some("a column is written by its number, as #0, and numbers are whole"),
-        (b'$', _) => Some("a column is written by its number, as #0"),
+        (b'.', [b'0'..=b'9', ..]) if !is_name(last_word(before)) => Some(
+            "numbers are whole; write 12.50 as 1250 cents",
+        ),
+        (b'.' | b'$', _) => Some("a column is written by its number, as #0"),
         (b'&', _) => Some("use `and`"),
         (b'|', _) => Some("use `or`"),
         (b'%', _) => Some("there is no division"),
@@ -72,6 +75,16 @@ fn of_sign(before: &[u8], word: &[u8], behind: &[u8]) -> Option<&'static str> {
     }
 }
 
+/// The word that begins an item, if a word is like it.
+fn like_item(word: &[u8]) -> Option<&'static str> {
+    match word {
+        _ if is_like(b"input", word) => Some("did you mean input?"),
+        _ if is_like(b"output", word) => Some("did you mean output?"),
+        _ if is_like(b"let", word) => Some("did you mean let?"),
+        _ => None,
+    }
+}
+
 /// The hint for a word that can't stand there, by the words before it.
 fn of_item(before: &[u8], word: &[u8]) -> Option<&'static str> {
     let (front, last) = split_word(before);
@@ -81,16 +94,30 @@ fn of_item(before: &[u8], word: &[u8]) -> Option<&'static str> {
         (_, b"input" | b"let", _) if Keyword::of(word).is_some() => Some(
             "a keyword can't be a name",
         ),
-        (_, _, b"-") if last_word(front) == b"input".as_slice() => Some(
-            "a name has lower-case letters, digits and _, as my_sale",
-        ),
         _ if last_word(front) == b"input".as_slice() => Some(
             "the number of fields follows the name, as in input a/2;",
         ),
         ([.., b';'], _, b"input") => Some("inputs come before lets and outputs"),
         ([.., b';'], _, b"let") => Some("lets come before outputs"),
+        ([.., b';'], _, _) if is_name(word) && last_open(before).is_none() => like_item(word),
         (_, _, b"input" | b"let" | b"output") => Some("a ; is missing before it"),
         (_, b"not", _) => Some("not is followed by a condition in [ ], as in not [#0 = 1]"),
+        _ => None,
+    }
+}
+
+/// The hint for a `-` or a form's name behind a relation, by what comes after it.
+fn of_relation(before: &[u8], word: &[u8], behind: &[u8]) -> Option<&'static str> {
+    let (front, last) = split_word(before);
+    let is_declared = matches!(last_word(front), b"input" | b"let");
+    let is_relation = !is_declared && (is_name(last) || before.ends_with(b")"));
+    let is_inside = is_name(last) && matches!(behind, [b'a'..=b'z' | b'0'..=b'9' | b'_', ..]);
+    match word {
+        b"-" if is_declared || is_inside => Some(
+            "a name has lower-case letters, digits and _, as my_sale",
+        ),
+        b"-" if is_relation => Some("use except(a, b)"),
+        _ if is_relation => shape_of(word),
         _ => None,
     }
 }
@@ -162,6 +189,12 @@ fn of_condition(before: &[u8], bracket: OpenBracket<'_>, word: &[u8]) -> Option<
         b"where" if is_comparison(word) && form.semicolons > 0 => Some(
             "two comparisons are joined by and, as in 1 < #0 and #0 < 5",
         ),
+        b"join" if word == b"and".as_slice() => Some(
+            "a comma joins two pairs, as in join(a, b; #0 = #0, #1 = #1)",
+        ),
+        b"join" if is_comparison(word) && word != b"=".as_slice() && form.semicolons > 0 => Some(
+            "a join has only =: compare further in a where, as in where(join(a, b; #0 = #0); #1 < #2)",
+        ),
         _ => None,
     }
 }
@@ -176,6 +209,25 @@ fn of_name(behind: &[u8]) -> &'static str {
     match behind.trim_ascii_start() {
         [b'(', ..] => "there are no functions; numbers are computed by +, - and *",
         _ => "a column is written by its number, as #0",
+    }
+}
+
+/// The hint for a word of SQL where columns come in a form's bracket.
+fn of_sql(before: &[u8], word: &[u8]) -> Option<&'static str> {
+    let bracket = open_bracket(before)?;
+    if bracket.semicolons == 0 {
+        return None;
+    }
+    match (bracket.name, before, word) {
+        (b"select", [.., b';' | b','], b"*") => Some(
+            "list the columns, as in select(a; #0, #1), or write a for all of them",
+        ),
+        (b"select" | b"where" | b"group" | b"join", _, b"as") => Some(
+            "columns have no names; they are numbered from #0",
+        ),
+        (b"where", _, b"in") => Some("compare with each number, as in #0 = 1 or #0 = 2"),
+        (b"where", _, b"between") => Some("compare with both bounds, as in 1 <= #0 and #0 <= 5"),
+        _ => None,
     }
 }
 
@@ -228,8 +280,10 @@ pub fn hint(text: &[u8], code: u8, span: Span) -> Option<&'static str> {
         (1, [byte]) => of_byte(before, *byte, behind),
         (4, []) => of_end(before),
         (4, _) => of_sign(before, word, behind)
+            .or(of_relation(before, word, behind))
             .or(of_item(before, word))
             .or(of_call(before, word))
+            .or(of_sql(before, word))
             .or(in_bracket(before, word, behind)),
         _ => None,
     }

@@ -3,14 +3,15 @@
 use crate::bracket::{FORMS, split_word};
 use crate::display::Word;
 use bumpalo::Bump;
+use expr_tree::Program;
 use parser::parse;
 use record_core::{Keyword, Span};
-use std::alloc::Global;
+use std::alloc::{Allocator, Global};
 use std::io;
 use std::io::Write;
 
 /// Whether two names differ in no more than two bytes side by side, and share two others at their ends.
-fn is_like(left: &[u8], right: &[u8]) -> bool {
+pub fn is_like(left: &[u8], right: &[u8]) -> bool {
     let front = left
         .iter()
         .zip(right.iter())
@@ -48,6 +49,16 @@ fn write_meant<W: Write>(
     Ok(is_meant)
 }
 
+/// Whether a word names an output and no relation.
+fn is_output<A: Allocator>(program: &Program<A>, word: &[u8]) -> bool {
+    let is_let = program.lets.iter().any(|item| item.name.bytes() == word);
+    !is_let
+        && program
+            .outputs
+            .iter()
+            .any(|output| output.name.bytes() == word)
+}
+
 /// Writes which name of a query is meant by a word that names no relation at its place, if one is.
 fn write_similar<W: Write>(
     alloc: Global,
@@ -59,6 +70,13 @@ fn write_similar<W: Write>(
     let arena = Bump::new(alloc);
     match parse(&arena, text) {
         Ok(program) => {
+            if is_output(&program, word) {
+                let name = Word(word);
+                return write!(
+                    writer,
+                    ": it names an output; write let {name} = ..; before the outputs, and output {name} = {name};"
+                );
+            }
             for input in program.inputs.iter() {
                 if write_meant(input.name.bytes(), input.name_span, word, span, writer)? {
                     return Ok(());
