@@ -8,7 +8,7 @@ ghost use Rattle.diagnostics.specs.declared.fault.Fault.TheVariants as fault;
 
 use crate::fault::run_fault;
 use board::Board;
-use collector::{Epochs, OutFault, Watched, write_epochs};
+use collector::{Alone, Epochs, OutFault, Watched, write_epochs};
 use command_line::Workers;
 use diagnostics::Fault;
 use execution::{Parallelism, Watcher, emitted, execute};
@@ -38,7 +38,7 @@ fn write_emitted<V: Views, W: Write>(
         Ok(outputs) => outputs,
         Err(_) => return Err(Fault::NoMemory),
     };
-    match write_epochs(alloc, outputs.as_slice(), epochs.count(), writer) {
+    match write_epochs(alloc, &Alone, outputs.as_slice(), epochs.count(), writer) {
         Ok(()) => Ok(()),
         Err(OutFault::NoMemory) => Err(Fault::NoMemory),
         Err(OutFault::Write) => Err(Fault::Write),
