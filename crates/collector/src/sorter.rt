@@ -19,7 +19,12 @@ pub trait Sorter {
 pub struct Alone;
 
 impl Sorter for Alone {
-    fn append(&self, alloc: Global, out: &mut Vec<u8>, batches: &[Batch]) -> Result<(), AllocError> {
+    fn append(
+        &self,
+        alloc: Global,
+        out: &mut Vec<u8>,
+        batches: &[Batch],
+    ) -> Result<(), AllocError> {
         push_sorted(alloc, out, batches)
     }
 }
