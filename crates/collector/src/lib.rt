@@ -2,7 +2,8 @@
 //!
 //! Built on `record_core`, `semantics`, `decimal`, `rows` and `itoa`; it knows nothing of graphs or of the engine. The console above reads bytes,
 //! runs the query over the epochs of `read_input`, and writes the results with `write_epochs`. The contract for it: epochs and bytes are related by
-//! the text formats of `specs/`, and a refusal names the first faulty line.
+//! the text formats of `specs/`, and a refusal names the first faulty line. A `Sorter` sorts the records of an epoch: `Alone` in the caller's thread,
+//! or one of a crate above, which may give each `Partition` to a thread.
 #![tactic(auto)]
 
 mod bytes;
