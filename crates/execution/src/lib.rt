@@ -10,7 +10,8 @@
 //! |---|---|---|
 //! | `execute` | feeds the epochs to an engine over a new board, and works it off | `Unfinished`: no report; a count that is too large at any worker is told before want of memory |
 //! | `Parallelism::of` | how many threads and workers a run of the epochs has | never |
-| `emitted` | what a report has emitted, by output and epoch | memory |
+//! | `ParallelSorter` | sorts and formats the records of an epoch, by several threads where there are many | memory |
+//! | `emitted` | what a report has emitted, by output and epoch | memory |
 //!
 //! The contract for `console` above: the report that `execute` gives is of the board's graph, it is drained, and what its inputs were fed is
 //! what was read. The report keeps the promise of its board, so what it has emitted at each output for each epoch is what the query means there.
@@ -24,6 +25,7 @@ mod notice;
 mod outputs;
 mod parallelism;
 mod readings;
+mod sorting;
 mod task;
 mod threads;
 mod unfinished;
@@ -32,5 +34,6 @@ mod watching;
 pub use executing::execute;
 pub use outputs::emitted;
 pub use parallelism::Parallelism;
+pub use sorting::ParallelSorter;
 pub use unfinished::Unfinished;
 pub use watching::{Telling, Watcher};
