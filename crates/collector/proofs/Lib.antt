@@ -16,4 +16,5 @@ pub mod Piles
 pub mod OneReading
 pub mod OneOrder
 pub mod Repeats
+pub mod Within
 pub mod Batched

@@ -1,5 +1,7 @@
 -- Records in batches, and one more of them.
-use Rattle.std.proofs.Common.{◌≡◌, ◌≢◌, ◌<◌, ◌+◌, ◌∙◌, ℕ, zero, suc, ℤ, List, [], ◌∷◌, ◌++◌, length, map, take, refl, sym, ap, arith, append_assoc, get_or, set, inl, inr}
+use Rattle.std.specs.List.{filter}
+use Rattle.std.proofs.lemmas.List.Elements.{filter-append}
+use Rattle.std.proofs.Common.{Bool, ◌≡◌, ◌≢◌, ◌<◌, ◌+◌, ◌∙◌, ℕ, zero, suc, ℤ, List, [], ◌∷◌, ◌++◌, length, map, take, refl, sym, ap, arith, append_assoc, get_or, set, inl, inr}
 use Rattle.std.specs.Prelude.{◌==◌, if◌then◌else◌}
 use Rattle.std.proofs.lemmas.Bool.Decides.{eqb_tells}
 use Rattle.std.proofs.lemmas.List.{append-nil, map_push, take_more}
@@ -69,8 +71,10 @@ begun f vs pushed v last now e none apart was =
 pub batch_more : (bs : List Records) (i : ℕ) (d : Records) → i < length bs → joined (take (i + 1) bs) ≡ joined (take i bs) ++ get_or bs i d
 batch_more bs i d lt = ap joined (take_more bs i d lt) ∙ joined_behind (take i bs) (get_or bs i d)
 
-pub batch_taken : (bs : List Records) (i : ℕ) (item all new : Records) → i < length bs → item ≡ get_or bs i item → all ≡ joined (take i bs) → new ≡ all ++ item → new ≡ joined (take (i + 1) bs)
-batch_taken bs i item all new lt is so_far e = e ∙ ap (λ (rs : Records). rs ++ item) so_far ∙ ap (λ (b : Records). joined (take i bs) ++ b) is ∙ sym (batch_more bs i item lt)
+-- the same of the records that pass a test
+pub batch_taken : (p : List ℤ → Bool) (bs : List Records) (i : ℕ) (item all new : Records) → i < length bs → item ≡ get_or bs i item → all ≡ filter p (joined (take i bs)) → new ≡ all ++ filter p item → new ≡ filter p (joined (take (i + 1) bs))
+batch_taken p bs i item all new lt is so_far e =
+    e ∙ ap (λ (rs : Records). rs ++ filter p item) so_far ∙ sym (filter-append p (joined (take i bs)) item) ∙ ap (filter p) (ap (λ (b : Records). joined (take i bs) ++ b) is ∙ sym (batch_more bs i item lt))
 
 -- the first batches of one list are those of the other
 pub front_more : (bs : List Records) (i : ℕ) (item other : Records) (all rest after : List Records) → i < length bs → item ≡ get_or bs i item → rest ≡ other ∷ after → item ≡ other → all ≡ take i bs ++ rest → all ≡ take (i + 1) bs ++ after

@@ -8,6 +8,7 @@ pub mod Drafts
 pub mod Growth
 pub mod Watching
 pub mod Written
+pub mod Partitions
 pub mod OutputText
 pub mod Emitted
 pub mod Quick

@@ -2,7 +2,8 @@
 //!
 //! Built on `record_core`, `semantics`, `decimal`, `rows` and `itoa`; it knows nothing of graphs or of the engine. The console above reads bytes,
 //! runs the query over the epochs of `read_input`, and writes the results with `write_epochs`. The contract for it: epochs and bytes are related by
-//! the text formats of `specs/`, and a refusal names the first faulty line.
+//! the text formats of `specs/`, and a refusal names the first faulty line. A `Sorter` sorts the records of an epoch: `Alone` in the caller's thread,
+//! or one of a crate above, which may give each `Partition` to a thread.
 #![tactic(auto)]
 
 mod bytes;
@@ -12,10 +13,12 @@ mod laws;
 mod line;
 mod next;
 mod output;
+mod partition;
 mod quick;
 mod reading;
 mod refusal;
 mod sameness;
+mod sorter;
 mod splitting;
 mod track;
 mod watched;
@@ -26,10 +29,12 @@ pub use epochs::Epochs;
 pub use laws::{law_one_answer, law_one_reading};
 pub use line::{Declared, Line, find_input, first_word, is_word, read_fields, rest_is_filled};
 pub use next::{Stop, next_line};
-pub use output::{OutFault, OutputEpochs, push_sorted, write_epochs};
+pub use output::{OutFault, OutputEpochs, push_partition, push_sorted, write_epochs};
+pub use partition::Partition;
 pub use reading::read_input;
 pub use refusal::{Fault, InputRefusal};
 pub use sameness::same_batches;
+pub use sorter::{Alone, Sorter};
 pub use splitting::{around, find};
 pub use watched::Watched;
 pub use writing::{Broken, put};

@@ -15,6 +15,8 @@ mod limits;
 #[cfg(test)]
 mod replays;
 #[cfg(test)]
+mod sorting;
+#[cfg(test)]
 mod texts;
 #[cfg(test)]
 mod watching;

@@ -1,7 +1,7 @@
 //! Input texts read and output texts written, with readers and writers that fail.
 
 use collector::{
-    Declared, Epochs, InputRefusal, OutFault, OutputEpochs, ReadFault, Watched, read_all,
+    Alone, Declared, Epochs, InputRefusal, OutFault, OutputEpochs, ReadFault, Watched, read_all,
     read_at_most, read_input, write_epochs,
 };
 use record_core::Name;
@@ -171,7 +171,7 @@ fn writes(rt: HostRuntime) -> Result<(), Fail> {
         written: Vec::new(rt.alloc()),
     });
     assert_eq!(rt;
-        write_epochs(rt.alloc(), outputs.as_slice(), 3, &mut out),
+        write_epochs(rt.alloc(), &Alone, outputs.as_slice(), 3, &mut out),
         Ok(())
     );
     let text = b"epoch 0\n-5\n-5\n10\n10 -1\nepoch 1\nepoch 2\n-9223372036854775808\n";
@@ -196,7 +196,7 @@ fn full_writers(rt: HostRuntime) -> Result<(), Fail> {
                 fails,
                 written: Vec::new(rt.alloc()),
             });
-            let done = write_epochs(rt.alloc(), outputs.as_slice(), 1, &mut out);
+            let done = write_epochs(rt.alloc(), &Alone, outputs.as_slice(), 1, &mut out);
             if room < text.len() {
                 assert_eq!(rt; done, Err(OutFault::Write));
             } else {
@@ -207,7 +207,7 @@ fn full_writers(rt: HostRuntime) -> Result<(), Fail> {
     }
     let mut out = Watched::new(Holding);
     assert_eq!(rt;
-        write_epochs(rt.alloc(), outputs.as_slice(), 0, &mut out),
+        write_epochs(rt.alloc(), &Alone, outputs.as_slice(), 0, &mut out),
         Err(OutFault::Write)
     );
     Ok(())

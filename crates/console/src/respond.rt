@@ -11,7 +11,7 @@ use board::Board;
 use collector::{Epochs, OutFault, Watched, write_epochs};
 use command_line::Workers;
 use diagnostics::Fault;
-use execution::{Parallelism, Watcher, emitted, execute};
+use execution::{ParallelSorter, Parallelism, Watcher, emitted, execute};
 use graph::Graph;
 use statistics::Tally;
 use std::alloc::Global;
@@ -21,10 +21,12 @@ use std::thread::Threads;
 use views::Views;
 use workers::{Gate, NoGate, Report};
 
-/// Writes what a run that is worked off has emitted.
-fn write_emitted<V: Views, W: Write>(
+/// Writes what a run that is worked off has emitted; up to that many threads sort the records of an epoch.
+fn write_emitted<V: Views, R: Threads + Sync, W: Write>(
+    rt: &R,
     alloc: Global,
     report: &Report<V>,
+    threads: u32,
     epochs: &Epochs,
     writer: &mut Watched<W>,
 ) -> Result<(), Fault>
@@ -38,7 +40,8 @@ fn write_emitted<V: Views, W: Write>(
         Ok(outputs) => outputs,
         Err(_) => return Err(Fault::NoMemory),
     };
-    match write_epochs(alloc, outputs.as_slice(), epochs.count(), writer) {
+    let sorter = ParallelSorter::new(rt, threads);
+    match write_epochs(alloc, &sorter, outputs.as_slice(), epochs.count(), writer) {
         Ok(()) => Ok(()),
         Err(OutFault::NoMemory) => Err(Fault::NoMemory),
         Err(OutFault::Write) => Err(Fault::Write),
@@ -60,7 +63,7 @@ fn respond_on<V: Views + Send, R: Threads + Wait + Sync, G: Gate + Sync, W: Writ
     ensures failed { IsErrOf result fault.Write → has_failed writer.new ≡ true }
 {
     match execute(rt, alloc, board, threads, epochs, gate, watcher) {
-        Ok(report) => write_emitted(alloc, &report, epochs, writer),
+        Ok(report) => write_emitted(rt, alloc, &report, threads, epochs, writer),
         Err(unfinished) => Err(run_fault(unfinished)),
     }
 }

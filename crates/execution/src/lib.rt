@@ -8,8 +8,9 @@
 //!
 //! | Call | What it does | Fails |
 //! |---|---|---|
-//! | `execute` | feeds the epochs to an engine over a new board, and works it off | `Unfinished`: no report; a count that is too large at any worker is told before want of memory |
+//! | `execute` | feeds the epochs to an engine over a new board, and works it off | `Unfinished`: no report; a count that is too large at any worker is reported before lack of memory |
 //! | `Parallelism::of` | how many threads and workers a run of the epochs has | never |
+//! | `ParallelSorter` | sorts and formats the records of an epoch, by several threads where there are many | memory |
 //! | `emitted` | what a report has emitted, by output and epoch | memory |
 //!
 //! The contract for `console` above: the report that `execute` gives is of the board's graph, it is drained, and what its inputs were fed is
@@ -24,6 +25,7 @@ mod notice;
 mod outputs;
 mod parallelism;
 mod readings;
+mod sorting;
 mod task;
 mod threads;
 mod unfinished;
@@ -32,5 +34,6 @@ mod watching;
 pub use executing::execute;
 pub use outputs::emitted;
 pub use parallelism::Parallelism;
+pub use sorting::ParallelSorter;
 pub use unfinished::Unfinished;
 pub use watching::{Telling, Watcher};

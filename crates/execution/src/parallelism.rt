@@ -53,7 +53,10 @@ impl Parallelism {
     {
         let count = epochs.count();
         if count < MANY_EPOCHS {
-            return Parallelism { threads: asked, workers: asked };
+            return Parallelism {
+                threads: asked,
+                workers: asked,
+            };
         }
         let each = u64::from(count) * RECORDS_EACH;
         let inputs = u32::try_from(graph.inputs().len()).unwrap_or(u32::MAX);
