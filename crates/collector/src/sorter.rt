@@ -10,8 +10,12 @@ use std::alloc::{AllocError, Global};
 
 /// A way to sort records and to append their lines.
 pub trait Sorter {
+    // What must be known of its types where it is used: of one with threads, that they may share its handle.
+    ghost is_usable: { Type 0 };
+
     /// Appends the lines of records, in ascending order.
     fn append(&self, alloc: Global, out: &mut Vec<u8>, batches: &[Batch]) -> Result<(), AllocError>
+        requires { is_usable }
         ensures { OnOk result (AppendsSorted out.old.items out.new.items (joined batches.now)) };
 }
 
@@ -19,6 +23,10 @@ pub trait Sorter {
 pub struct Alone;
 
 impl Sorter for Alone {
+    ghost use Rattle.std.specs.Prelude.{⊤};
+
+    ghost is_usable = { ⊤ };
+
     fn append(
         &self,
         alloc: Global,
