@@ -3,7 +3,7 @@ use Rattle.std.specs.Prelude.{◌≡◌, ℕ, List, [], ◌∷◌, ◌++◌, if�
 use Rattle.std.specs.List.{flat_map}
 use Rattle.std.specs.Str.{bytes_eq}
 use Rattle.std.specs.Io.KnownBytes.{Appends}
-use Rattle.semantics.specs.Query.{Input, Output}
+use Rattle.semantics.specs.Query.{Input, Output, Program}
 use Rattle.semantics.specs.Typing.{WellTyped}
 use Rattle.expr_tree.specs.Trees.{ProgramTree}
 use Rattle.expr_tree.specs.Plain.{plain_program}
@@ -36,13 +36,17 @@ output_lines (o ∷ os) (n ∷ ns) = output_line o n ++ output_lines os ns
 abbrev pub arities_text : List Input → List Output → (arities : List ℕ) → List ℕ
 arities_text inputs outputs arities = flat_map input_line inputs ++ output_lines outputs arities
 
+-- the lines of a program whose outputs have these arities
+abbrev pub check_text : Program → (arities : List ℕ) → List ℕ
+check_text p arities = arities_text p.inputs p.outputs arities
+
 -- the query text reads as a well-typed program, and the text tells its inputs and its arities
 pub record IsChecked (query text : List ℕ) : Type 0 where
   pub tree : ProgramTree
   pub arities : List ℕ
   pub read : grammar.Reads query tree
   pub typed : WellTyped (plain_program tree) arities
-  pub told : text ≡ arities_text (plain_program tree).inputs (plain_program tree).outputs arities
+  pub told : text ≡ check_text (plain_program tree) arities
 
 -- why a query text isn't checked: it is refused, or there was no memory
 abbrev pub IsCheckFault : List ℕ → Fault → Type 0

@@ -1,5 +1,5 @@
 -- What a command line comes to: what is written of it to standard output, and its status.
-use Rattle.std.specs.Prelude.{◌≡◌, ◌⊎◌, ℕ, Bool, true, false, List, take, decimal, Option, Some, None, Result, Ok, Err, IfSome, option_map}
+use Rattle.std.specs.Prelude.{◌≡◌, ◌⊎◌, ℕ, Bool, true, false, List, decimal, Option, Some, None, Result, Ok, Err, IfSome, option_map}
 use Rattle.clap.specs.Words.{Text}
 use Rattle.refusals.specs.declared.table.Explanation.{Explanation}
 use Rattle.command_line.specs.Counts.{count_of}
@@ -11,12 +11,8 @@ use Rattle.command_line.specs.declared.worker_count.Workers.{Workers}
 use Rattle.diagnostics.specs.Explanations.{ExplanationEnds}
 use Rattle.diagnostics.specs.Faults.{status_of}
 use Rattle.diagnostics.specs.declared.fault.Fault.{Fault}
-use Rattle.console.specs.Checks.{CheckEnds}
-use Rattle.console.specs.Followed.{FollowEnds}
-use Rattle.console.specs.Formats.{FormatEnds}
-use Rattle.console.specs.Graphs.{GraphEnds}
 use Rattle.console.specs.Heeded.{Heeds}
-use Rattle.console.specs.InputChecks.{CheckInputEnds}
+use Rattle.console.specs.Readings.{ChecksBothOver, ChecksOver, FollowsOver, FormatsOver, GraphsOver, read_part}
 use Rattle.console.specs.Replayed.{ReplayEnds}
 use Rattle.console.specs.Runs.{Ends}
 use Rattle.schedule.specs.declared.verb.ViewKind.{ViewKind}
@@ -29,21 +25,21 @@ Known = List ℕ → Option (List ℕ)
 -- each command ends as its function promises, on the texts that are known
 abbrev pub RunsOn : Known → (query input : List ℕ) → Option (List ℕ) → Option (List ℕ) → Result (Unit {0}) Fault → Type 0
 RunsOn texts query input old new result =
-    IfSome (texts query) (λ q. Heeds (take 1048577 q) old new result × IfSome (texts input) (λ i. Ends (take 1048577 q) i old new result))
+    IfSome (texts query) (λ q. Heeds (read_part q) old new result × IfSome (texts input) (λ i. Ends (read_part q) i old new result))
 
 abbrev pub FollowsOn : Known → (query input : List ℕ) → Option (List ℕ) → Option (List ℕ) → Result (Unit {0}) Fault → Type 0
-FollowsOn texts query input old new result = IfSome (texts query) (λ q. FollowEnds (take 1048577 q) (texts input) old new result)
+FollowsOn texts query input old new result = FollowsOver (texts query) (texts input) old new result
 
 -- the query alone where no input is named, and else both
 abbrev pub ChecksOn : Known → (query : List ℕ) → (input : Option (List ℕ)) → Option (List ℕ) → Option (List ℕ) → Result (Unit {0}) Fault → Type 0
-ChecksOn texts query None old new result = IfSome (texts query) (λ q. CheckEnds (take 1048577 q) old new result)
-ChecksOn texts query (Some input) old new result = IfSome (texts query) (λ q. IfSome (texts input) (λ i. CheckInputEnds (take 1048577 q) i old new result))
+ChecksOn texts query None old new result = ChecksOver (texts query) old new result
+ChecksOn texts query (Some input) old new result = ChecksBothOver (texts query) (texts input) old new result
 
 abbrev pub FormatsOn : Known → (query : List ℕ) → Option (List ℕ) → Option (List ℕ) → Result (Unit {0}) Fault → Type 0
-FormatsOn texts query old new result = IfSome (texts query) (λ q. FormatEnds (take 1048577 q) old new result)
+FormatsOn texts query old new result = FormatsOver (texts query) old new result
 
 abbrev pub GraphsOn : Known → GraphForm → (query : List ℕ) → Option (List ℕ) → Option (List ℕ) → Result (Unit {0}) Fault → Type 0
-GraphsOn texts form query old new result = IfSome (texts query) (λ q. GraphEnds form (take 1048577 q) old new result)
+GraphsOn texts form query old new result = GraphsOver form (texts query) old new result
 
 -- the workers have views of their own where that is asked for
 abbrev pub kind_asked : (views : Bool) → ViewKind
@@ -53,7 +49,7 @@ kind_asked false = Shared
 abbrev pub ReplaysOn : Known → Workers → ViewKind → (query schedule : List ℕ) → Option (List ℕ) → Option (List ℕ) → Result (Unit {0}) Fault → Type 0
 ReplaysOn texts workers kind query schedule old new result =
     IfSome (texts query)
-    (λ q. Heeds (take 1048577 q) old new result × IfSome (texts schedule) (λ s. ReplayEnds (take 1048577 q) (count_of workers) kind s old new result))
+    (λ q. Heeds (read_part q) old new result × IfSome (texts schedule) (λ s. ReplayEnds (read_part q) (count_of workers) kind s old new result))
 
 -- what a refusal's number means is written
 abbrev pub Explains : (code : List ℕ) → Option (List ℕ) → Option (List ℕ) → Result (Unit {0}) Fault → Type 0

@@ -5,7 +5,7 @@ use Rattle.semantics.specs.Query.{Program}
 use Rattle.semantics.specs.Meaning.{program_meaning}
 use Rattle.graph.specs.Shown.{GraphValue, shown_graph, shown_inputs, shown_names}
 use Rattle.follow.specs.Entries.{Entry, records_of}
-use Rattle.follow.specs.Follows.{FollowsInput}
+use Rattle.follow.specs.Follows.{FollowsInput, IsPart, IsWhole}
 use Rattle.follow.specs.declared.ending.Ending.{Ending}
 use Rattle.follow.specs.declared.ending.Ending.TheVariants as ending
 use Rattle.console.specs.Compiled.{IsCompiled, IsQueryFault}
@@ -24,6 +24,14 @@ AreWhole p records entries = (k : ℕ) → k < length p.outputs → records_of k
 abbrev pub ArePart : Program → (records : ℕ → List Record) → List Entry → Type 0
 ArePart p records entries = (k : ℕ) → k < length p.outputs → IsPartOf (records_of k entries) (program_meaning p k records)
 
+-- what is whole by the graph of the query's text is whole by the text's program
+abbrev pub IsWholeByText : List ℕ → GraphValue → (records : ℕ → List Record) → List Entry → Type 0
+IsWholeByText query g records entries = (c : IsGraphOfText query g) → IsWhole g records entries → AreWhole c.program records entries
+
+-- what is a part by the graph is a part by the program
+abbrev pub IsPartByText : List ℕ → GraphValue → (records : ℕ → List Record) → List Entry → Type 0
+IsPartByText query g records entries = (c : IsGraphOfText query g) → IsPart g records entries → ArePart c.program records entries
+
 -- Over the graph of the query, some bytes of the input were read, and what was written is an answer to the lines among them. `before` is
 -- what there was of the input.
 pub record IsFollowed (query : List ℕ) (before old new : Option (List ℕ)) (result : Result (Unit {0}) Ending) : Type 0 where
@@ -33,7 +41,8 @@ pub record IsFollowed (query : List ℕ) (before old new : Option (List ℕ)) (r
   pub follows : FollowsInput graph before left old new result
 
 -- The input is answered to its end at Ok. At a faulty line, or where the reader or the writer failed, what was written is an answer to
--- what was read before; so it is where a count is too large. Nothing is written where the query can't be read or is refused. Want of memory may come at any place.
+-- what was read before; so it is where a count is too large. Nothing is written where the query can't be read or is refused. Lack of
+-- memory may come at any place.
 abbrev pub FollowEnds : List ℕ → (before : Option (List ℕ)) → Option (List ℕ) → Option (List ℕ) → Result (Unit {0}) Fault → Type 0
 FollowEnds query before old new (Ok u) = IsFollowed query before old new (Ok u)
 FollowEnds query before old new (Err (Input code line)) = IsFollowed query before old new (Err (ending.Input code line))

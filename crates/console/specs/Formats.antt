@@ -7,6 +7,7 @@ use Rattle.grammar.specs.Texts as grammar
 use Rattle.parser.specs.Refusals as parser
 use Rattle.writer.specs.Programs.{program_text}
 use Rattle.writer.specs.Sources.{ReadsAs}
+use Rattle.lexer.specs.Tokens.{max_length}
 use Rattle.collector.specs.Written.{AppendsFront}
 use Rattle.diagnostics.specs.declared.fault.Fault.{Fault}
 use Rattle.diagnostics.specs.declared.fault.Fault.TheVariants.{Query, TooManyVertices, Input, Schedule, NoMemory, Count, NoWorker, Incomplete, ReadQuery, ReadInput, Write}
@@ -17,7 +18,7 @@ pub record IsCanonical (query text : List ℕ) : Type 0 where
   pub tree : ProgramTree
   pub read : grammar.Reads query tree
   pub told : text ≡ program_text tree
-  pub back : length text ≤ 1048576 → ReadsAs text tree
+  pub back : length text ≤ max_length → ReadsAs text tree
 
 -- why a query text has no canonical form: it is no program, or there was no memory
 abbrev pub IsFormatFault : List ℕ → Fault → Type 0

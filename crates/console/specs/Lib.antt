@@ -10,4 +10,5 @@ pub mod InputChecks
 pub mod Formats
 pub mod Replayed
 pub mod Followed
+pub mod Readings
 pub mod Commands

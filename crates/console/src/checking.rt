@@ -1,18 +1,20 @@
 //! The check of a query: its inputs and its arities.
 
-ghost use Rattle.std.specs.Prelude.{◌≡◌, ◌++◌, ◌⊎◌, true, map, take, IfErr, IfOk, IfSome, IsErrOf, OnOk};
+ghost use Rattle.std.specs.Prelude.{◌≡◌, ◌++◌, true, map, IfErr, IfOk, IsErrOf, OnOk};
 ghost use Rattle.std.specs.List.{flat_map};
 ghost use Rattle.expr_tree.specs.Plain.{plain_input, plain_output, plain_program};
 ghost use Rattle.expr_tree.specs.Views.{output_tree, program_tree};
 ghost use Rattle.collector.specs.Watching.{has_failed, inner_of};
-ghost use Rattle.console.specs.Checks.{CheckEnds, IsCheckFault, IsChecked, arities_text, input_line, output_line, output_lines};
-ghost use Rattle.console.specs.Runs.{IsAfterReading, IsUnreadQuery};
+ghost use Rattle.console.specs.Checks.{CheckEnds, IsCheckFault, IsChecked, input_line, output_line, output_lines, check_text};
+ghost use Rattle.console.specs.Readings.{KeepsQuery, ChecksOver};
+ghost use Rattle.console.specs.Runs.{IsAfterReading};
 ghost use Rattle.diagnostics.specs.declared.fault.Fault.TheVariants as fault;
 
 use crate::compiling::typed_program;
 use crate::fault::query_fault;
 use crate::running::read_query;
-use collector::{Watched, put};
+use crate::writing::write_text;
+use collector::Watched;
 use diagnostics::{Fault, Texts};
 use expr_tree::{Input, Output, Program};
 use itoa::Buffer;
@@ -89,7 +91,7 @@ pub fn arities_of<A: Allocator>(
     program: &Program<A>,
     arities: &[u64],
 ) -> Result<Vec<u8>, AllocError>
-    ensures { IfOk result (λ t. t.items ≡ arities_text (plain_program (program_tree program.now)).inputs (plain_program (program_tree program.now)).outputs arities.now) }
+    ensures { IfOk result (λ t. t.items ≡ check_text (plain_program (program_tree program.now)) arities.now) }
 {
     let mut text = Vec::new(alloc);
     push_inputs(&mut text, &program.inputs)?;
@@ -128,10 +130,7 @@ fn write_checked<A: Allocator + Copy, W: Write>(
         Ok(text) => text,
         Err(fault) => return Err(fault),
     };
-    match put(writer, text.as_slice()) {
-        Ok(()) => Ok(()),
-        Err(_) => Err(Fault::Write),
-    }
+    write_text(writer, text.as_slice())
 }
 
 /// Reads a query, checks it, and writes its arities: a line `input NAME/ARITY` for each input in order, and for each output
@@ -144,10 +143,10 @@ pub fn check_query<A: Allocator + Copy, Q: Read, W: Write>(
     texts: &mut Texts,
     writer: &mut Watched<W>,
 ) -> Result<(), Fault>
-    ensures ends { IfSome (Q.remaining (inner_of query.old)) (λ q. CheckEnds (take 1048577 q) (W.contents (inner_of writer.old)) (W.contents (inner_of writer.new)) result) }
+    ensures ends { ChecksOver (Q.remaining (inner_of query.old)) (W.contents (inner_of writer.old)) (W.contents (inner_of writer.new)) result }
     ensures query { IsErrOf result fault.ReadQuery → has_failed query.new ≡ true }
     ensures writer { IsErrOf result fault.Write → has_failed writer.new ≡ true }
-    ensures kept { IfSome (Q.remaining (inner_of query.old)) (λ q. IfErr result (λ e. IsUnreadQuery e ⊎ (texts.new.query.items ≡ take 1048577 q))) }
+    ensures kept { KeepsQuery (Q.remaining (inner_of query.old)) result texts.new.query.items }
 {
     match read_query(alloc, query) {
         Ok(text) => texts.query = text,

@@ -1,9 +1,9 @@
 //! The dispatcher: from the words of a command line to what is written, and the status.
 
-ghost use Rattle.std.specs.Prelude.{◌≡◌, map, option_map};
+ghost use Rattle.std.specs.Prelude.{◌≡◌, map, option_map, IfNone, IfSome};
 ghost use Rattle.collector.specs.Watching.{inner_of};
 ghost use Rattle.command_line.specs.Faults.{line_status_of};
-ghost use Rattle.console.specs.Commands.{Answers, ChecksOn, FollowsOn, FormatsOn, GraphsOn, Obeys, ReplaysOn, RunsOn, kind_asked, status_after};
+ghost use Rattle.console.specs.Commands.{Answers, ChecksOn, EndsOn, FollowsOn, FormatsOn, GraphsOn, Obeys, ReplaysOn, RunsOn, kind_asked, status_after};
 
 use crate::checking::check_query;
 use crate::following::follow_query;
@@ -102,7 +102,8 @@ fn check_in<'a, A: Allocator + Copy, S: Sources<'a>, W: Write>(
     texts: &mut Texts,
     out: &mut Watched<W>,
 ) -> Result<(), Fault>
-    ensures { ChecksOn (S.content sources.now) query.now (option_map (λ s. s.now) input.entry) (W.contents (inner_of out.old)) (W.contents (inner_of out.new)) result }
+    ensures { ChecksOn (S.content sources.now) query.now (option_map (λ s. s.now) input.entry)
+        (W.contents (inner_of out.old)) (W.contents (inner_of out.new)) result }
 {
     let mut query = Watched::new(sources.open(query));
     let done = match input {
@@ -128,7 +129,8 @@ fn check_named<'a, S: Sources<'a>, W: Write>(
     texts: &mut Texts,
     out: &mut Watched<W>,
 ) -> Result<(), Fault>
-    ensures { ChecksOn (S.content sources.now) query.now (option_map (λ s. s.now) input.entry) (W.contents (inner_of out.old)) (W.contents (inner_of out.new)) result }
+    ensures { ChecksOn (S.content sources.now) query.now (option_map (λ s. s.now) input.entry)
+        (W.contents (inner_of out.old)) (W.contents (inner_of out.new)) result }
 {
     match heap {
         None => {
@@ -291,13 +293,104 @@ fn tell<E: Write>(
     }
 }
 
-/// Tells which numbers refusals have, where none has that one.
-fn tell_numbers<E: Write>(code: &str, err: &mut E) -> u8
+/// Tells which numbers refusals have, where none has the one that is to be explained.
+fn tell_numbers<E: Write>(asked: &Options, err: &mut E) -> u8
     ensures { result ≡ 2 }
 {
-    let code = Word(code.as_bytes());
-    let _ = writeln!(err, "{code} is no error number; these are {NUMBERS}");
+    if let Options::Explain { code } = asked {
+        let code = Word(code.as_bytes());
+        let _ = writeln!(err, "{code} is no error number; these are {NUMBERS}");
+    }
     2
+}
+
+/// Does what the options ask for, if that needs no engine. None if it needs one, or if no refusal has the number that is to be explained;
+/// then nothing is written.
+fn answer_alone<'a, S: Sources<'a>, W: Write>(
+    alloc: Global,
+    sources: &S,
+    asked: Options<'a>,
+    texts: &mut Texts,
+    out: &mut Watched<W>,
+) -> Option<Result<(), Fault>>
+    ensures done { IfSome result (EndsOn (S.content sources.now) asked.entry (W.contents (inner_of out.old)) (W.contents (inner_of out.new))) }
+    ensures none { IfNone result (W.contents (inner_of out.new) ≡ W.contents (inner_of out.old)) }
+{
+    match asked {
+        Options::Check {
+            query,
+            input,
+            heap,
+            ..
+        } => Some(check_named(alloc, sources, heap, query, input, texts, out)),
+        Options::Graph {
+            query,
+            form,
+            heap,
+            ..
+        } => Some(graph_named(alloc, sources, heap, form, query, texts, out)),
+        Options::Format { query, .. } => Some(format_named(alloc, sources, query, texts, out)),
+        Options::Explain { code } => match explained(code) {
+            Some(row) => Some(write_explanation(alloc, row, out)),
+            None => None,
+        },
+        Options::Run { .. } | Options::Follow { .. } | Options::Replay { .. } => None,
+    }
+}
+
+/// Does what the options ask for. None if no refusal has the number that is to be explained; then nothing is written.
+fn answer_asked<
+    'a,
+    R: Threads + Wait + Sync,
+    S: Sources<'a>,
+    W: Write,
+    E: Write,
+    O: Write + Send + Drop,
+>(
+    rt: &R,
+    alloc: Global,
+    sources: &S,
+    asked: Options<'a>,
+    texts: &mut Texts,
+    out: &mut Watched<W>,
+    err: &mut E,
+    watcher: &mut Option<Watcher<O>>,
+) -> Option<Result<(), Fault>>
+    ensures done { IfSome result (EndsOn (S.content sources.now) asked.entry (W.contents (inner_of out.old)) (W.contents (inner_of out.new))) }
+    ensures none { IfNone result (W.contents (inner_of out.new) ≡ W.contents (inner_of out.old)) }
+{
+    match asked {
+        Options::Run {
+            query,
+            input,
+            workers,
+            watch,
+            stats,
+            ..
+        } => Some(run_named(
+            rt, alloc, sources, workers, watch, stats, query, input, texts, out, watcher, err,
+        )),
+        Options::Follow {
+            query,
+            input,
+            workers,
+            ..
+        } => Some(follow_named(rt, alloc, sources, workers, query, input, texts, out)),
+        Options::Replay {
+            query,
+            schedule,
+            workers,
+            views,
+            ..
+        } => {
+            let kind = view_kind(views);
+            Some(replay_named(alloc, sources, workers, kind, query, schedule, texts, out))
+        }
+        Options::Check { .. }
+        | Options::Graph { .. }
+        | Options::Format { .. }
+        | Options::Explain { .. } => answer_alone(alloc, sources, asked, texts, out),
+    }
 }
 
 /// Does what the options ask for, and tells a fault. Gives the status.
@@ -314,54 +407,10 @@ fn obey<'a, R: Threads + Wait + Sync, S: Sources<'a>, W: Write, E: Write, O: Wri
     ensures { Obeys (S.content sources.now) asked.entry (W.contents (inner_of out.old)) (W.contents (inner_of out.new)) result }
 {
     let mut texts = Texts::new(alloc);
-    let done = match asked {
-        Options::Run {
-            query,
-            input,
-            workers,
-            watch,
-            stats,
-            ..
-        } => run_named(
-            rt, alloc, sources, workers, watch, stats, query, input, &mut texts, out, watcher, err,
-        ),
-        Options::Follow {
-            query,
-            input,
-            workers,
-            ..
-        } => follow_named(rt, alloc, sources, workers, query, input, &mut texts, out),
-        Options::Check {
-            query,
-            input,
-            heap,
-            ..
-        } => check_named(alloc, sources, heap, query, input, &mut texts, out),
-        Options::Graph {
-            query,
-            form,
-            heap,
-            ..
-        } => graph_named(alloc, sources, heap, form, query, &mut texts, out),
-        Options::Format { query, .. } => format_named(alloc, sources, query, &mut texts, out),
-        Options::Replay {
-            query,
-            schedule,
-            workers,
-            views,
-            ..
-        } => {
-            let kind = view_kind(views);
-            replay_named(
-                alloc, sources, workers, kind, query, schedule, &mut texts, out,
-            )
-        }
-        Options::Explain { code } => match explained(code) {
-            Some(row) => write_explanation(alloc, row, out),
-            None => return tell_numbers(code, err),
-        },
-    };
-    tell(alloc, &asked, &done, &texts, err)
+    match answer_asked(rt, alloc, sources, asked, &mut texts, out, err, watcher) {
+        Some(done) => tell(alloc, &asked, &done, &texts, err),
+        None => tell_numbers(&asked, err),
+    }
 }
 
 /// Tells why a line is refused, and gives the status.

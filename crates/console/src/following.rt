@@ -1,8 +1,9 @@
 //! The answer to an input that is followed, from bytes to bytes.
 
-ghost use Rattle.std.specs.Prelude.{◌≡◌, ◌⊎◌, true, take, IfErr, IfSome, IsErrOf};
+ghost use Rattle.std.specs.Prelude.{◌≡◌, true, IsErrOf};
 ghost use Rattle.collector.specs.Watching.{has_failed, inner_of};
 ghost use Rattle.console.specs.Followed.{FollowEnds};
+ghost use Rattle.console.specs.Readings.{FollowsOver};
 ghost use Rattle.diagnostics.specs.declared.fault.Fault.TheVariants as fault;
 
 use crate::fault::follow_fault;
@@ -65,7 +66,8 @@ pub fn follow_query<R: Threads + Sync, Q: Read, I: Read, W: Write>(
     texts: &mut Texts,
     writer: &mut Watched<W>,
 ) -> Result<(), Fault>
-    ensures ends { IfSome (Q.remaining (inner_of query.old)) (λ q. FollowEnds (take 1048577 q) (I.remaining (inner_of input.old)) (W.contents (inner_of writer.old)) (W.contents (inner_of writer.new)) result) }
+    ensures ends { FollowsOver (Q.remaining (inner_of query.old)) (I.remaining (inner_of input.old))
+        (W.contents (inner_of writer.old)) (W.contents (inner_of writer.new)) result }
     ensures query { IsErrOf result fault.ReadQuery → has_failed query.new ≡ true }
     ensures input { IsErrOf result fault.ReadInput → has_failed input.new ≡ true }
     ensures writer { IsErrOf result fault.Write → has_failed writer.new ≡ true }

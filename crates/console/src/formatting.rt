@@ -1,14 +1,16 @@
 //! The canonical form of a query, written.
 
-ghost use Rattle.std.specs.Prelude.{◌≡◌, ◌⊎◌, true, take, IfErr, IfOk, IfSome, IsErrOf};
+ghost use Rattle.std.specs.Prelude.{◌≡◌, true, IfErr, IfOk, IsErrOf};
 ghost use Rattle.collector.specs.Watching.{has_failed, inner_of};
 ghost use Rattle.console.specs.Formats.{FormatEnds, IsCanonical, IsFormatFault};
-ghost use Rattle.console.specs.Runs.{IsAfterReading, IsUnreadQuery};
+ghost use Rattle.console.specs.Readings.{KeepsQuery, FormatsOver};
+ghost use Rattle.console.specs.Runs.{IsAfterReading};
 ghost use Rattle.diagnostics.specs.declared.fault.Fault.TheVariants as fault;
 
 use crate::fault::query_fault;
 use crate::running::read_query;
-use collector::{Watched, put};
+use crate::writing::write_text;
+use collector::Watched;
 use diagnostics::{Fault, Texts};
 use parser::parse;
 use std::alloc::{Allocator, Global};
@@ -49,10 +51,7 @@ fn write_canonical<A: Allocator + Copy, W: Write>(
         Ok(text) => text,
         Err(fault) => return Err(fault),
     };
-    match put(writer, text.as_slice()) {
-        Ok(()) => Ok(()),
-        Err(_) => Err(Fault::Write),
-    }
+    write_text(writer, text.as_slice())
 }
 
 /// Reads a query, and writes its canonical text: each item on a line, one space between words, and brackets only where they are
@@ -65,10 +64,10 @@ pub fn format_query<A: Allocator + Copy, Q: Read, W: Write>(
     texts: &mut Texts,
     writer: &mut Watched<W>,
 ) -> Result<(), Fault>
-    ensures ends { IfSome (Q.remaining (inner_of query.old)) (λ q. FormatEnds (take 1048577 q) (W.contents (inner_of writer.old)) (W.contents (inner_of writer.new)) result) }
+    ensures ends { FormatsOver (Q.remaining (inner_of query.old)) (W.contents (inner_of writer.old)) (W.contents (inner_of writer.new)) result }
     ensures query { IsErrOf result fault.ReadQuery → has_failed query.new ≡ true }
     ensures writer { IsErrOf result fault.Write → has_failed writer.new ≡ true }
-    ensures kept { IfSome (Q.remaining (inner_of query.old)) (λ q. IfErr result (λ e. IsUnreadQuery e ⊎ (texts.new.query.items ≡ take 1048577 q))) }
+    ensures kept { KeepsQuery (Q.remaining (inner_of query.old)) result texts.new.query.items }
 {
     match read_query(alloc, query) {
         Ok(text) => texts.query = text,

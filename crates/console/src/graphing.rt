@@ -1,16 +1,18 @@
 //! The graph of a query, written.
 
-ghost use Rattle.std.specs.Prelude.{◌≡◌, ◌⊎◌, true, take, IfOk, IfErr, IfSome, IsErrOf};
+ghost use Rattle.std.specs.Prelude.{◌≡◌, true, IfOk, IfErr, IsErrOf};
 ghost use Rattle.collector.specs.Watching.{has_failed, inner_of};
 ghost use Rattle.console.specs.Compiled.{IsQueryFault};
 ghost use Rattle.console.specs.Graphs.{GraphEnds, ShowsGraph};
-ghost use Rattle.console.specs.Runs.{IsAfterReading, IsUnreadQuery};
+ghost use Rattle.console.specs.Readings.{KeepsQuery, GraphsOver};
+ghost use Rattle.console.specs.Runs.{IsAfterReading};
 ghost use Rattle.diagnostics.specs.declared.fault.Fault.TheVariants as fault;
 
 use crate::compiling::compile;
 use crate::fault::graph_fault;
 use crate::running::read_query;
-use collector::{Watched, put};
+use crate::writing::write_text;
+use collector::Watched;
 use command_line::GraphForm;
 use diagnostics::{Fault, Texts};
 use graph::{graph_dot, graph_text};
@@ -58,10 +60,7 @@ fn write_shown<A: Allocator + Copy, W: Write>(
         Ok(text) => text,
         Err(fault) => return Err(fault),
     };
-    match put(writer, text.as_slice()) {
-        Ok(()) => Ok(()),
-        Err(_) => Err(Fault::Write),
-    }
+    write_text(writer, text.as_slice())
 }
 
 /// Reads a query, compiles it, and writes its graph: a line for each vertex, or a text that Graphviz draws. It is written only once
@@ -74,10 +73,10 @@ pub fn graph_query<A: Allocator + Copy, Q: Read, W: Write>(
     texts: &mut Texts,
     writer: &mut Watched<W>,
 ) -> Result<(), Fault>
-    ensures ends { IfSome (Q.remaining (inner_of query.old)) (λ q. GraphEnds form (take 1048577 q) (W.contents (inner_of writer.old)) (W.contents (inner_of writer.new)) result) }
+    ensures ends { GraphsOver form (Q.remaining (inner_of query.old)) (W.contents (inner_of writer.old)) (W.contents (inner_of writer.new)) result }
     ensures query { IsErrOf result fault.ReadQuery → has_failed query.new ≡ true }
     ensures writer { IsErrOf result fault.Write → has_failed writer.new ≡ true }
-    ensures kept { IfSome (Q.remaining (inner_of query.old)) (λ q. IfErr result (λ e. IsUnreadQuery e ⊎ (texts.new.query.items ≡ take 1048577 q))) }
+    ensures kept { KeepsQuery (Q.remaining (inner_of query.old)) result texts.new.query.items }
 {
     match read_query(alloc, query) {
         Ok(text) => texts.query = text,

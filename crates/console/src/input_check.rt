@@ -1,18 +1,20 @@
 //! The check of a query together with an input.
 
-ghost use Rattle.std.specs.Prelude.{◌≡◌, ◌⊎◌, true, map, take, IfErr, IfOk, IfSome, IsErrOf};
+ghost use Rattle.std.specs.Prelude.{◌≡◌, true, map, IfErr, IfOk, IsErrOf};
 ghost use Rattle.expr_tree.specs.Plain.{plain_input};
 ghost use Rattle.collector.specs.Said.{plain};
 ghost use Rattle.collector.specs.Watching.{has_failed, inner_of};
 ghost use Rattle.console.specs.InputChecks.{CheckInputEnds, IsCheckedInput, IsInputCheckFault};
-ghost use Rattle.console.specs.Runs.{IsAfterReading, IsUnreadInput, IsUnreadQuery};
+ghost use Rattle.console.specs.Readings.{ChecksBothOver, KeepsInput, KeepsQuery};
+ghost use Rattle.console.specs.Runs.{IsAfterReading};
 ghost use Rattle.diagnostics.specs.declared.fault.Fault.TheVariants as fault;
 
 use crate::checking::arities_of;
 use crate::compiling::typed_program;
 use crate::fault::{input_fault, query_fault};
 use crate::running::{read_input_text, read_query};
-use collector::{Declared, Watched, put, read_input};
+use crate::writing::write_text;
+use collector::{Declared, Watched, read_input};
 use diagnostics::{Fault, Texts};
 use expr_tree::Input;
 use std::alloc::{AllocError, Allocator, Global};
@@ -78,10 +80,7 @@ fn write_checked<A: Allocator + Copy, W: Write>(
         Ok(text) => text,
         Err(fault) => return Err(fault),
     };
-    match put(writer, text.as_slice()) {
-        Ok(()) => Ok(()),
-        Err(_) => Err(Fault::Write),
-    }
+    write_text(writer, text.as_slice())
 }
 
 /// Reads a query and an input, checks both, and writes the query's arities as `check_query` does, once both are right.
@@ -96,12 +95,13 @@ pub fn check_input<A: Allocator + Copy, Q: Read, I: Read, W: Write>(
     texts: &mut Texts,
     writer: &mut Watched<W>,
 ) -> Result<(), Fault>
-    ensures ends { IfSome (Q.remaining (inner_of query.old)) (λ q. IfSome (I.remaining (inner_of input.old)) (λ i. CheckInputEnds (take 1048577 q) i (W.contents (inner_of writer.old)) (W.contents (inner_of writer.new)) result)) }
+    ensures ends { ChecksBothOver (Q.remaining (inner_of query.old)) (I.remaining (inner_of input.old))
+        (W.contents (inner_of writer.old)) (W.contents (inner_of writer.new)) result }
     ensures query { IsErrOf result fault.ReadQuery → has_failed query.new ≡ true }
     ensures input { IsErrOf result fault.ReadInput → has_failed input.new ≡ true }
     ensures writer { IsErrOf result fault.Write → has_failed writer.new ≡ true }
-    ensures kept_query { IfSome (Q.remaining (inner_of query.old)) (λ q. IfErr result (λ e. IsUnreadQuery e ⊎ (texts.new.query.items ≡ take 1048577 q))) }
-    ensures kept_input { IfSome (I.remaining (inner_of input.old)) (λ i. IfErr result (λ e. IsUnreadQuery e ⊎ (IsUnreadInput e ⊎ (texts.new.input.items ≡ i)))) }
+    ensures kept_query { KeepsQuery (Q.remaining (inner_of query.old)) result texts.new.query.items }
+    ensures kept_input { KeepsInput (I.remaining (inner_of input.old)) result texts.new.input.items }
 {
     match read_query(alloc, query) {
         Ok(text) => texts.query = text,

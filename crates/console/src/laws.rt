@@ -7,9 +7,8 @@ ghost use Rattle.semantics.specs.Multiset.{Record};
 ghost use Rattle.semantics.specs.Query.{Input, Name};
 ghost use Rattle.graph.specs.Shown.{GraphValue};
 ghost use Rattle.follow.specs.Entries.{Entry};
-ghost use Rattle.follow.specs.Follows.{IsPart, IsWhole};
 ghost use Rattle.console.specs.Compiled.{IsCompiled, IsTooLarge};
-ghost use Rattle.console.specs.Followed.{AreWhole, ArePart, IsGraphOfText};
+ghost use Rattle.console.specs.Followed.{IsPartByText, IsWholeByText};
 ghost use Rattle.console.specs.Runs.{IsRun};
 
 /// A text has at most one graph, and where it is too large that graph has over 4096 vertices, so that none is given.
@@ -30,6 +29,6 @@ pub fn law_one_answer()
 /// What is whole, or a part, by the graph is so by the query's text: the lines of a complete epoch are, at each output, all of what the
 /// text's program means there on the epoch's records; the lines of the next one are part of it.
 pub fn law_followed()
-    ensures whole { (query : List ℕ) (g : GraphValue) (records : ℕ → List Record) (entries : List Entry) (c : IsGraphOfText query g) → IsWhole g records entries → AreWhole c.program records entries }
-    ensures part { (query : List ℕ) (g : GraphValue) (records : ℕ → List Record) (entries : List Entry) (c : IsGraphOfText query g) → IsPart g records entries → ArePart c.program records entries }
+    ensures whole { (query : List ℕ) (g : GraphValue) (records : ℕ → List Record) (entries : List Entry) → IsWholeByText query g records entries }
+    ensures part { (query : List ℕ) (g : GraphValue) (records : ℕ → List Record) (entries : List Entry) → IsPartByText query g records entries }
 {}

@@ -31,6 +31,7 @@ mod replaying;
 mod respond;
 mod running;
 mod sources;
+mod writing;
 
 pub use checking::check_query;
 pub use command_line::{GraphForm, HeapSize, LineFault, Options, Workers};

@@ -1,16 +1,17 @@
 //! The replay of a schedule, from bytes to bytes.
 
-ghost use Rattle.std.specs.Prelude.{◌≡◌, ◌⊎◌, true, take, IfErr, IfOk, IfSome, IsErrOf};
+ghost use Rattle.std.specs.Prelude.{◌≡◌, true, IfErr, IfOk, IsErrOf};
 ghost use Rattle.collector.specs.Watching.{has_failed, inner_of};
 ghost use Rattle.command_line.specs.Counts.{count_of};
-ghost use Rattle.console.specs.Heeded.{Heeds};
+ghost use Rattle.console.specs.Readings.{HeedsOver, KeepsInput, KeepsQuery, ReplaysOver};
 ghost use Rattle.console.specs.Replayed.{IsReplay, IsReplayFault, ReplayEnds};
-ghost use Rattle.console.specs.Runs.{IsAfterReading, IsUnreadInput, IsUnreadQuery};
+ghost use Rattle.console.specs.Runs.{IsAfterReading};
 ghost use Rattle.diagnostics.specs.declared.fault.Fault.TheVariants as fault;
 
 use crate::fault::schedule_fault;
 use crate::running::{graph_of_text, read_input_text, read_query};
-use collector::{Watched, put};
+use crate::writing::write_text;
+use collector::Watched;
 use command_line::Workers;
 use diagnostics::{Fault, Texts};
 use replay::replay_text;
@@ -56,10 +57,7 @@ fn write_replayed<W: Write>(
         Ok(text) => text,
         Err(fault) => return Err(fault),
     };
-    match put(writer, text.as_slice()) {
-        Ok(()) => Ok(()),
-        Err(_) => Err(Fault::Write),
-    }
+    write_text(writer, text.as_slice())
 }
 
 /// Reads a query and a schedule, does the schedule's lines on that many workers over the query's graph, and writes what they print. The
@@ -78,13 +76,14 @@ pub fn replay_schedule<Q: Read, S: Read, W: Write>(
     texts: &mut Texts,
     writer: &mut Watched<W>,
 ) -> Result<(), Fault>
-    ensures ends { IfSome (Q.remaining (inner_of query.old)) (λ q. IfSome (S.remaining (inner_of schedule.old)) (λ s. ReplayEnds (take 1048577 q) (count_of workers) kind s (W.contents (inner_of writer.old)) (W.contents (inner_of writer.new)) result)) }
-    ensures heeds { IfSome (Q.remaining (inner_of query.old)) (λ q. Heeds (take 1048577 q) (W.contents (inner_of writer.old)) (W.contents (inner_of writer.new)) result) }
+    ensures ends { ReplaysOver (count_of workers) kind (Q.remaining (inner_of query.old)) (S.remaining (inner_of schedule.old))
+        (W.contents (inner_of writer.old)) (W.contents (inner_of writer.new)) result }
+    ensures heeds { HeedsOver (Q.remaining (inner_of query.old)) (W.contents (inner_of writer.old)) (W.contents (inner_of writer.new)) result }
     ensures query { IsErrOf result fault.ReadQuery → has_failed query.new ≡ true }
     ensures schedule { IsErrOf result fault.ReadInput → has_failed schedule.new ≡ true }
     ensures writer { IsErrOf result fault.Write → has_failed writer.new ≡ true }
-    ensures kept_query { IfSome (Q.remaining (inner_of query.old)) (λ q. IfErr result (λ e. IsUnreadQuery e ⊎ (texts.new.query.items ≡ take 1048577 q))) }
-    ensures kept_schedule { IfSome (S.remaining (inner_of schedule.old)) (λ s. IfErr result (λ e. IsUnreadQuery e ⊎ (IsUnreadInput e ⊎ (texts.new.input.items ≡ s)))) }
+    ensures kept_query { KeepsQuery (Q.remaining (inner_of query.old)) result texts.new.query.items }
+    ensures kept_schedule { KeepsInput (S.remaining (inner_of schedule.old)) result texts.new.input.items }
 {
     match read_query(alloc, query) {
         Ok(text) => texts.query = text,

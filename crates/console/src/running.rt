@@ -1,6 +1,6 @@
 //! A run, from bytes to bytes.
 
-ghost use Rattle.std.specs.Prelude.{◌≡◌, ◌≤◌, ◌⊎◌, length, take, true, map, IfOk, IfErr, IfSome, IsErrOf};
+ghost use Rattle.std.specs.Prelude.{◌≡◌, ◌≤◌, length, true, map, IfOk, IfErr, IfSome, IsErrOf};
 ghost use Rattle.graph.specs.Shown.{shown_graph, shown_inputs, shown_names};
 ghost use Rattle.graph.specs.Views.{input_of};
 ghost use Rattle.collector.specs.InputText.{IsReadFrom, IsRefused};
@@ -8,6 +8,7 @@ ghost use Rattle.collector.specs.Said.{plain};
 ghost use Rattle.collector.specs.Watching.{has_failed, inner_of};
 ghost use Rattle.console.specs.Compiled.{IsCompiled, IsQueryFault};
 ghost use Rattle.console.specs.Heeded.{Heeds};
+ghost use Rattle.console.specs.Readings.{HeedsOver, KeepsInput, KeepsQuery, RunsOver, read_part};
 ghost use Rattle.console.specs.Runs.{Ends, IsAfterReading, IsUnreadInput, IsUnreadQuery};
 ghost use Rattle.diagnostics.specs.declared.fault.Fault.TheVariants as fault;
 
@@ -22,17 +23,18 @@ use command_line::Workers;
 use diagnostics::{Fault, Texts};
 use execution::Watcher;
 use graph::{DeclaredInput, Graph};
+use lexer::MAX_LENGTH;
 use std::alloc::{AllocError, Global};
 use std::io::{Read, Write};
 use std::sync::Wait;
 use std::thread::Threads;
 
 /// The longest query text, in bytes, and one byte more: enough to tell that a text is too long.
-const QUERY_LIMIT: usize = 1_048_577;
+const QUERY_LIMIT: usize = MAX_LENGTH + 1;
 
 /// Reads a query text, and no byte past the limit.
 pub fn read_query<Q: Read>(alloc: Global, query: &mut Watched<Q>) -> Result<Vec<u8>, Fault>
-    ensures bytes { IfOk result (λ v. IfSome (Q.remaining (inner_of query.old)) (λ q. v.items ≡ take 1048577 q)) }
+    ensures bytes { IfOk result (λ v. IfSome (Q.remaining (inner_of query.old)) (λ q. v.items ≡ read_part q)) }
     ensures failed { IsErrOf result fault.ReadQuery → has_failed query.new ≡ true }
     ensures unread { IfErr result IsUnreadQuery }
 {
@@ -124,12 +126,12 @@ fn answer<R: Threads + Wait + Sync, W: Write, O: Write + Send, E: Write>(
 
 /// Reads a query and its input, and writes the answer, which so many workers compute. Its promise holds if it ends.
 ///
-/// The faults in the order in which they are told: the query can't be read, the input can't be read, the query is refused, the
-/// input is refused, a count is too large, the writer failed. Want of memory may come at any place, but a count that was too large at any
-/// worker is told before it, and a worker that can't be started before anything is written. The texts that were read are left in `texts`. A watcher that is given is told how many epochs have passed, as
-/// `passed M` with rising numbers, the last one once all workers have ended; where its writer fails, nothing else changes. With `stats`
-/// lines on `err` say, once the answer is written, what each vertex of the graph computed, took in and sent; where that writer fails,
-/// nothing else changes.
+/// Faults are reported in this order: the query can't be read, the input can't be read, the query is refused, the input is refused, a count
+/// is too large, the writer failed. Lack of memory may come at any point, but a count that was too large at any worker is reported before
+/// it, and a worker that can't be started before anything is written. The texts that were read are left in `texts`. A watcher gets lines
+/// `passed M` with rising numbers, the last one once all workers have ended; if its writer fails, nothing else changes. With `stats`, lines
+/// on `err` say, once the answer is written, what each vertex of the graph computed, took in and sent; if that writer fails, nothing else
+/// changes.
 pub fn run<R: Threads + Wait + Sync, Q: Read, I: Read, W: Write, O: Write + Send, E: Write>(
     rt: &R,
     alloc: Global,
@@ -142,13 +144,14 @@ pub fn run<R: Threads + Wait + Sync, Q: Read, I: Read, W: Write, O: Write + Send
     watcher: &mut Option<Watcher<O>>,
     err: &mut E,
 ) -> Result<(), Fault>
-    ensures ends { IfSome (Q.remaining (inner_of query.old)) (λ q. IfSome (I.remaining (inner_of input.old)) (λ i. Ends (take 1048577 q) i (W.contents (inner_of writer.old)) (W.contents (inner_of writer.new)) result)) }
-    ensures heeds { IfSome (Q.remaining (inner_of query.old)) (λ q. Heeds (take 1048577 q) (W.contents (inner_of writer.old)) (W.contents (inner_of writer.new)) result) }
+    ensures ends { RunsOver (Q.remaining (inner_of query.old)) (I.remaining (inner_of input.old))
+        (W.contents (inner_of writer.old)) (W.contents (inner_of writer.new)) result }
+    ensures heeds { HeedsOver (Q.remaining (inner_of query.old)) (W.contents (inner_of writer.old)) (W.contents (inner_of writer.new)) result }
     ensures query { IsErrOf result fault.ReadQuery → has_failed query.new ≡ true }
     ensures input { IsErrOf result fault.ReadInput → has_failed input.new ≡ true }
     ensures writer { IsErrOf result fault.Write → has_failed writer.new ≡ true }
-    ensures kept_query { IfSome (Q.remaining (inner_of query.old)) (λ q. IfErr result (λ e. IsUnreadQuery e ⊎ (texts.new.query.items ≡ take 1048577 q))) }
-    ensures kept_input { IfSome (I.remaining (inner_of input.old)) (λ i. IfErr result (λ e. IsUnreadQuery e ⊎ (IsUnreadInput e ⊎ (texts.new.input.items ≡ i)))) }
+    ensures kept_query { KeepsQuery (Q.remaining (inner_of query.old)) result texts.new.query.items }
+    ensures kept_input { KeepsInput (I.remaining (inner_of input.old)) result texts.new.input.items }
 {
     match read_query(alloc, query) {
         Ok(text) => texts.query = text,
