@@ -15,8 +15,8 @@
 //!
 //! The contract for `console` above: the report that `execute` gives is of the board's graph, it is drained, and what its inputs were fed is
 //! what was read. The report keeps the promise of its board, so what it has emitted at each output for each epoch is what the query means there.
-//! Nothing of it rests on what the threads did: the report is asked. Below stand `workers`, `board` and `collector`, with what these
-//! stand on.
+//! Nothing of it rests on what the threads did: the report is asked. Below are `workers`, `board`, `collector` and
+//! `sample_sort`, with what these use.
 #![tactic(auto)]
 
 mod executing;
