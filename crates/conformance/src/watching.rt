@@ -137,7 +137,8 @@ fn many_small_epochs(rt: HostRuntime) -> Result<(), Fail> {
     let mut watcher = keeping(&rt, Telling::Lines);
     let text = copied(&rt, &rt, input.as_bytes(), &mut watcher, &mut err)?;
     assert!(rt; text.ends_with(b"epoch 254\n1\n2\nepoch 255\n1\n2\n"));
-    let counted = b"0 input events 0 in 512 sent 512\n1 output events 256 in 512 sent 0\nmessages 256\nepochs 256\n";
+    let counted =
+        b"0 input events 0 in 512 sent 512\n1 output events 256 in 512 sent 0\nmessages 256\nepochs 256\n";
     assert_eq!(rt; err.as_slice(), counted.as_slice());
     Ok(())
 }

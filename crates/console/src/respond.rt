@@ -104,7 +104,16 @@ fn respond_together<R: Threads + Wait + Sync, G: Gate + Sync, W: Write, O: Write
 {
     match Board::with_local_views(alloc, graph, parallelism.workers()) {
         Ok(board) => {
-            respond_on(rt, alloc, board, parallelism.threads(), epochs, gate, writer, watcher)
+            respond_on(
+                rt,
+                alloc,
+                board,
+                parallelism.threads(),
+                epochs,
+                gate,
+                writer,
+                watcher,
+            )
         }
         Err(_) => Err(Fault::NoMemory),
     }
@@ -125,7 +134,16 @@ fn respond_by<R: Threads + Wait + Sync, G: Gate + Sync, W: Write, O: Write + Sen
     ensures failed { IsErrOf result fault.Write → has_failed writer.new ≡ true }
 {
     if parallelism.workers() == 1 {
-        respond_alone(rt, alloc, parallelism.threads(), graph, epochs, gate, writer, watcher)
+        respond_alone(
+            rt,
+            alloc,
+            parallelism.threads(),
+            graph,
+            epochs,
+            gate,
+            writer,
+            watcher,
+        )
     } else {
         respond_together(rt, alloc, parallelism, graph, epochs, gate, writer, watcher)
     }
@@ -149,7 +167,16 @@ fn respond_counted<R: Threads + Wait + Sync, W: Write, O: Write + Send, E: Write
         Ok(tally) => tally,
         Err(_) => return Err(Fault::NoMemory),
     };
-    let done = respond_by(rt, alloc, parallelism, graph, epochs, &tally, writer, watcher);
+    let done = respond_by(
+        rt,
+        alloc,
+        parallelism,
+        graph,
+        epochs,
+        &tally,
+        writer,
+        watcher,
+    );
     if done.is_ok() {
         let _ = tally.write(err);
     }
@@ -179,6 +206,15 @@ pub fn respond<R: Threads + Wait + Sync, W: Write, O: Write + Send, E: Write>(
     if stats {
         respond_counted(rt, alloc, parallelism, graph, epochs, writer, watcher, err)
     } else {
-        respond_by(rt, alloc, parallelism, graph, epochs, &NoGate, writer, watcher)
+        respond_by(
+            rt,
+            alloc,
+            parallelism,
+            graph,
+            epochs,
+            &NoGate,
+            writer,
+            watcher,
+        )
     }
 }
