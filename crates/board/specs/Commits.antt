@@ -1,6 +1,6 @@
 -- What a commit does.
 use Rattle.std.specs.Prelude.{◌≡◌, ◌+◌, ℕ, List, length, Some, slice_get}
-use Rattle.semantics.specs.Multiset.{Record, total}
+use Rattle.semantics.specs.Multiset.{Record}
 use Rattle.progress.specs.Content.{times_in}
 use Rattle.semantics.specs.Time.{at_epoch}
 use Rattle.graph.specs.Shown.{shown_graph}
@@ -8,13 +8,13 @@ use Rattle.machine.specs.Engine.{network}
 use Rattle.events.specs.Letters.{AreParcels}
 use Rattle.events.specs.declared.letter.Letter.{Letter}
 use Rattle.semantics.specs.Could.{Pointstamp}
-use Rattle.machine.specs.Active.{one_if_same, request_pointstamp, event_pointstamp}
+use Rattle.machine.specs.Active.{one_if_same, event_pointstamp}
 use Rattle.tokens.specs.declared.rule.Place.TheVariants.{Out}
 use Rattle.events.specs.Happenings.{requests_of}
 use Rattle.events.specs.Jobs.{Pass}
 use Rattle.events.specs.Outputs.{IsOutputOf}
 use Rattle.events.specs.declared.work.Output.{Output}
-use Rattle.board.specs.Desks.{letters_count}
+use Rattle.board.specs.Desks.{letters_count, requests_count}
 use Rattle.board.specs.Shown.{Shown, input_at, side_at, tables}
 use Rattle.board.specs.Steps.{after_commit, after_feed}
 
@@ -28,7 +28,7 @@ pub record SettlesBy (s t : Shown) (added : List Pointstamp) (place : Pointstamp
   pub output : Output
   pub is : IsOutputOf p.worker p.job output
   pub state : t ≡ after_commit s p.worker p.job output.shard.value output.sent.items output.emitted output.asked
-  pub added_are : (q : Pointstamp) → times_in added q ≡ letters_count q output.sent.items + total (λ n. one_if_same q (request_pointstamp n)) (requests_of output.asked)
+  pub added_are : (q : Pointstamp) → times_in added q ≡ letters_count q output.sent.items + requests_count q (requests_of output.asked)
   pub place_is : place ≡ event_pointstamp p.job.happening
 
 -- the event was out, its output is what it leaves, and what is active changes by its pointstamps
@@ -38,7 +38,7 @@ pub record Settles (s t : Shown) (before after : Pointstamp → ℕ) (p : Pass) 
   pub is : IsOutputOf p.worker p.job output
   pub state : t ≡ after_commit s p.worker p.job output.shard.value output.sent.items output.emitted output.asked
   pub content : (q : Pointstamp) → after q + one_if_same q (event_pointstamp p.job.happening)
-      ≡ letters_count q output.sent.items + total (λ n. one_if_same q (request_pointstamp n)) (requests_of output.asked) + before q
+      ≡ letters_count q output.sent.items + requests_count q (requests_of output.asked) + before q
 
 -- the records were fed, and their messages' pointstamps are active
 pub record Feeds (s t : Shown) (before after : Pointstamp → ℕ) (input : ℕ) (batch : List Record) : Type 0 where

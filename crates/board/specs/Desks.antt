@@ -4,7 +4,8 @@ use Rattle.std.specs.List.{AllByRecursion}
 use Rattle.semantics.specs.Multiset.{total}
 use Rattle.semantics.specs.Graph.{Graph}
 use Rattle.semantics.specs.Could.{Pointstamp, Location, IsTimeAt}
-use Rattle.machine.specs.Active.{one_if_same, message_pointstamp}
+use Rattle.machine.specs.Active.{one_if_same, message_pointstamp, request_pointstamp}
+use Rattle.machine.specs.World.{Request}
 use Rattle.events.specs.declared.letter.Letter.{Letter}
 use Rattle.events.specs.Letters.{sent_to}
 use Rattle.tokens.specs.declared.rule.Place.{Place}
@@ -67,6 +68,10 @@ AreAtEdges g ls = AllByRecursion (λ (l : Letter). IsTimeAt g (Location.edge l.m
 -- how many letters have this pointstamp
 abbrev pub letters_count : Pointstamp → List Letter → ℕ
 letters_count p ls = total (λ l. one_if_same p (message_pointstamp l.message)) ls
+
+-- how many requests have this pointstamp
+abbrev pub requests_count : Pointstamp → List Request → ℕ
+requests_count p rs = total (λ n. one_if_same p (request_pointstamp n)) rs
 
 -- nothing waits at a worker, and no event is out or abandoned
 pub record IsIdle (x : Side) : Type 0 where

@@ -10,7 +10,8 @@ use Rattle.board.specs.Answers.{Hands}
 use Rattle.board.specs.Shown.{Shown, net, side_at}
 use Rattle.board.specs.Showing.{Shows}
 use Rattle.board.specs.declared.refusal.StepRefusal.{StepRefusal}
-use Rattle.board.specs.declared.refusal.StepRefusal.TheVariants.{Stopped, HoldsEvent, NoSuchEvent, UnknownInput, InputClosed, WrongFieldCount, LastEpoch, NoMemory}
+use Rattle.board.specs.declared.refusal.StepRefusal.TheVariants.{Stopped, HoldsEvent, NoSuchEvent, UnknownInput}
+use Rattle.board.specs.declared.refusal.StepRefusal.TheVariants.{InputClosed, WrongFieldCount, LastEpoch, NoMemory}
 
 -- the step claims the worker's choice of that number, in any world that the board shows
 abbrev pub IsChoice : Shown → (worker choice : ℕ) → Step → Type 0

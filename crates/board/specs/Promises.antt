@@ -49,6 +49,10 @@ KeepsPromise p s = (k e : ℕ) → k < length p.outputs → Headline p s k e
 abbrev pub IsOutputPlace : Shown → (output : ℕ) → Type 0
 IsOutputPlace s k = k < length (output_numbers (shown_graph s.graph))
 
+-- the epoch has passed at each output
+abbrev pub HasPassedAtAll : Shown → (epoch : ℕ) → Type 0
+HasPassedAtAll s e = (k : ℕ) → IsOutputPlace s k → HasPassed s k e
+
 -- every input is closed, nothing waits, and no event is out or abandoned
 pub record IsDrained (s : Shown) : Type 0 where
   pub closed : (i : ℕ) → i < length s.inputs → (input_at s i).closed ≡ true

@@ -38,10 +38,14 @@ after_claim_request s k at j =
 abbrev pub with_mail : Side → Message → Side
 with_mail x m = record x { mail = x.mail ++ m ∷ [] }
 
--- the messages are in their workers' mailboxes
+-- a letter's message is in its worker's mailbox
+abbrev pub with_letter : List Side → Letter → List Side
+with_letter xs o = slice_set xs o.to (with_mail (side_in xs o.to) o.message)
+
+-- the same for all of them
 abbrev pub delivered : List Side → List Letter → List Side
 delivered xs [] = xs
-delivered xs (o ∷ os) = delivered (slice_set xs o.to (with_mail (side_in xs o.to) o.message)) os
+delivered xs (o ∷ os) = delivered (with_letter xs o) os
 
 -- more batches at the end of the entry e, which is made if it is missing
 abbrev pub more_at : ℕ → List (List Record) → Epochs → Epochs
@@ -59,10 +63,14 @@ with_emitted v e (Some b) es = slice_set es v (more_at e (b ∷ []) (emitted_by 
 abbrev pub settled : Side → (vertex : ℕ) → Shard → Option Request → Side
 settled x v shard asked = record x { place = Home; shards = slice_set x.shards v (Some shard); requests = x.requests ++ requests_of asked }
 
+-- a worker's event has ended, and what it sends is delivered
+abbrev pub sides_after_commit : List Side → (worker vertex : ℕ) → Shard → List Letter → Option Request → List Side
+sides_after_commit xs k v shard outgoing asked = delivered (slice_set xs k (settled (side_in xs k) v shard asked)) outgoing
+
 abbrev pub after_commit : Shown → (worker : ℕ) → Job → Shard → List Letter → Option (List Record) → Option Request → Shown
 after_commit s k j shard outgoing emitted asked =
     record s {
-      sides = delivered (slice_set s.sides k (settled (side_at s k) (event_at (shown_graph s.graph) j.happening) shard asked)) outgoing;
+      sides = sides_after_commit s.sides k (event_at (shown_graph s.graph) j.happening) shard outgoing asked;
       emitted = with_emitted (event_at (shown_graph s.graph) j.happening) (event_time j.happening).epoch emitted s.emitted;
     }
 

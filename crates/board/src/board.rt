@@ -1,6 +1,7 @@
 //! The board: the core state of a run.
 
-ghost use Rattle.std.specs.Prelude.{◌≡◌, ◌⊎◌, ◌-◌, ◌^◌, ◌<◌, ◌≤◌, ℕ, [], length, min, slice_index_or, false, None, IfOk, IfSome, IfNone, IsTrue, MatchBool, OnOk, OnErr};
+ghost use Rattle.std.specs.Prelude.{◌≡◌, ◌⊎◌, ◌-◌, ◌^◌, ◌<◌, ◌≤◌, ℕ, [], length, min, slice_index_or};
+ghost use Rattle.std.specs.Prelude.{false, None, IfOk, IfSome, IfNone, IsTrue, MatchBool, OnOk, OnErr};
 ghost use Rattle.graph.specs.Shown.{shown_graph};
 ghost use Rattle.semantics.specs.Could.{Pointstamp as Active, at_vertex};
 ghost use Rattle.views.specs.Opening.{active_at_first};
@@ -9,7 +10,8 @@ ghost use Rattle.semantics.specs.Query.{Program};
 ghost use Rattle.semantics.specs.Time.{at_epoch};
 ghost use Rattle.machine.specs.Step.{Step};
 ghost use Rattle.machine.specs.World.{opening};
-ghost use Rattle.board.specs.Answers.{AnswersOnly, AnswersOr, Claims, Commits, Hands, HasChoice, HasNoChoice, Holds, IfNothing, Merges, feed_refusal, input_refusal, seal_refusal};
+ghost use Rattle.board.specs.Answers.{AnswersOnly, AnswersOr, Claims, Commits, Hands, HasChoice, HasNoChoice};
+ghost use Rattle.board.specs.Answers.{Holds, IfNothing, Merges, feed_refusal, input_refusal, seal_refusal};
 ghost use Rattle.board.specs.Kept.{Goes};
 ghost use Rattle.board.specs.Merging.{AreAlike};
 ghost use Rattle.board.specs.Commits.{IsOf};
@@ -18,7 +20,7 @@ ghost use Rattle.board.specs.Desks.{is_out};
 ghost use Rattle.board.specs.Lateness.{Applies, AppliesOne, AreUpToDate, IsAsLate, IsUpToDate, Posts, PostsSome, all_waits, waits_for};
 ghost use Rattle.board.specs.Looks.{AreOutputLooks, IsLookAt};
 ghost use Rattle.board.specs.Picks.{Picks};
-ghost use Rattle.board.specs.Promises.{CountsPassed, HasPassed, IsDrained, IsOpening, IsOutputPlace, KeepsPromise, RunsProgram};
+ghost use Rattle.board.specs.Promises.{CountsPassed, HasPassed, HasPassedAtAll, IsDrained, IsOpening, IsOutputPlace, KeepsPromise, RunsProgram};
 ghost use Rattle.board.specs.Showing.{Shows};
 ghost use Rattle.board.specs.Shown.{Shown, emitted_by, input_at, side_at, tables};
 
@@ -85,7 +87,8 @@ impl<V: Views> Model for Board<V> {
 
     ghost Value = { BoardShown };
 
-    ghost coded = { Prim.hlevel (codes, shard_row.the_row.coded, (scalar.the_row heap.the_row allocates.ghosts).coded, (condition.the_row heap.the_row allocates.ghosts).coded) };
+    ghost coded = { Prim.hlevel (codes, shard_row.the_row.coded,
+        (scalar.the_row heap.the_row allocates.ghosts).coded, (condition.the_row heap.the_row allocates.ghosts).coded) };
 
     ghost view = { λ b. record { shown = b.state; waits = counts_of (V.workers b.views) (V.waiting b.views); passed = b.passed } };
 
@@ -561,15 +564,16 @@ impl<V: Views> Board<V> {
     /// The number of passed epochs is unique, and each epoch below it has passed at each output. Nothing is done.
     pub fn law_count(&self)
         ensures one { (m n : ℕ) → CountsPassed self.now.shown m → CountsPassed self.now.shown n → m ≡ n }
-        ensures below { (n : ℕ) → CountsPassed self.now.shown n → (epoch : ℕ) → epoch < n → (output : ℕ) → IsOutputPlace self.now.shown output → HasPassed self.now.shown output epoch }
-        ensures known { (epoch : ℕ) → epoch < self.now.passed → (output : ℕ) → IsOutputPlace self.now.shown output → HasPassed self.now.shown output epoch }
+        ensures below { (n : ℕ) → CountsPassed self.now.shown n → (epoch : ℕ) → epoch < n → HasPassedAtAll self.now.shown epoch }
+        ensures known { (epoch : ℕ) → epoch < self.now.passed → HasPassedAtAll self.now.shown epoch }
     {
         let _ = &self.state;
     }
 
     /// What has passed stays passed, and no step lowers the number of passed epochs. Nothing is done.
     pub fn law_stays(&self)
-        ensures passed { (step : Step) (next : Shown) → Goes self.now.shown step next → (output epoch : ℕ) → HasPassed self.now.shown output epoch → HasPassed next output epoch }
+        ensures passed { (step : Step) (next : Shown) → Goes self.now.shown step next →
+            (output epoch : ℕ) → HasPassed self.now.shown output epoch → HasPassed next output epoch }
         ensures count { (step : Step) (next : Shown) → Goes self.now.shown step next → (m n : ℕ) → CountsPassed self.now.shown m → CountsPassed next n → m ≤ n }
     {
         let _ = &self.state;

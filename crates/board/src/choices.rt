@@ -1,11 +1,9 @@
 //! The choices of a worker, by number.
 
-ghost use Rattle.std.specs.Prelude.{◌≡◌, ◌<◌, ℕ, Some, slice_get, IfSome, IfNone};
-ghost use Rattle.semantics.specs.Could.{IsTimeAt, Location as Where};
+ghost use Rattle.std.specs.Prelude.{◌<◌, ℕ, IfSome, IfNone};
 ghost use Rattle.machine.specs.Choices.{Kth};
-ghost use Rattle.machine.specs.World.{Request as Wish};
 ghost use Rattle.views.specs.Waiting.{IsSeenBy};
-ghost use Rattle.board.specs.Deliverable.{IsDeliverable};
+ghost use Rattle.board.specs.Deliverable.{AreAtVertices, HasDeliverable, IsDeliverable};
 
 use crate::frontier::may_deliver;
 use events::Request;
@@ -20,10 +18,12 @@ pub fn kth_deliverable<V: Views>(
     number: u64,
 ) -> Option<usize>
     requires worker { worker < V.workers views.now }
-    requires known { (at : ℕ) (r : Wish) → slice_get requests.now.messages at ≡ Some r → IsTimeAt (V.graph views.now) (Where.vertex r.vertex) r.time }
-    ensures some { IfSome result (λ at. Kth (IsDeliverable (V.graph views.now) (IsSeenBy (V.content views.now) (V.waiting views.now) (V.workers views.now) worker)) requests.now.messages number at) }
-    ensures there { IfSome result (λ at. (r : Wish) × (slice_get requests.now.messages at ≡ Some r) × IsDeliverable (V.graph views.now) (λ q. 0 < V.content views.now q) r) }
-    ensures none { IfNone result ((at : ℕ) → Kth (IsDeliverable (V.graph views.now) (IsSeenBy (V.content views.now) (V.waiting views.now) (V.workers views.now) worker)) requests.now.messages number at → ⊥) }
+    requires known { AreAtVertices (V.graph views.now) requests.now.messages }
+    ensures some { IfSome result (λ at. Kth (IsDeliverable (V.graph views.now)
+        (IsSeenBy (V.content views.now) (V.waiting views.now) (V.workers views.now) worker)) requests.now.messages number at) }
+    ensures there { IfSome result (λ at. HasDeliverable (V.graph views.now) (λ q. 0 < V.content views.now q) requests.now.messages at) }
+    ensures none { IfNone result ((at : ℕ) → Kth (IsDeliverable (V.graph views.now)
+        (IsSeenBy (V.content views.now) (V.waiting views.now) (V.workers views.now) worker)) requests.now.messages number at → ⊥) }
 {
     let mut left = number;
     for place in 0..requests.len() {

@@ -1,14 +1,12 @@
 //! Delivers letters to mailboxes, and notes the pointstamps that they make active.
 
-ghost use Rattle.std.specs.Prelude.{◌≡◌, ◌≢◌, ◌<◌, ◌≤◌, ◌+◌, ℕ, [], length, slice_set, vec_capacity, OnOk};
-ghost use Rattle.semantics.specs.Multiset.{total};
+ghost use Rattle.std.specs.Prelude.{◌≡◌, ◌≢◌, ◌<◌, ◌≤◌, ◌+◌, ℕ, [], length, vec_capacity, OnOk};
 ghost use Rattle.semantics.specs.Could.{Pointstamp as Active};
 ghost use Rattle.progress.specs.Content.{times_in};
-ghost use Rattle.machine.specs.Active.{one_if_same, request_pointstamp};
 ghost use Rattle.events.specs.Happenings.{requests_of};
-ghost use Rattle.board.specs.Desks.{AreWithin, HasRoom, desk_in, letters_count, sides_of};
+ghost use Rattle.board.specs.Desks.{AreWithin, HasRoom, desk_in, letters_count, requests_count, sides_of};
 ghost use Rattle.board.specs.Shown.{side_in};
-ghost use Rattle.board.specs.Steps.{delivered, settled, with_mail};
+ghost use Rattle.board.specs.Steps.{delivered, sides_after_commit, with_letter};
 
 use crate::worker::Worker;
 use events::{Event, Letter, Output, Request};
@@ -48,7 +46,7 @@ pub fn deliver(workers: &mut Vec<Worker>, letters: Vec<Letter>)
 fn put_letter(workers: &mut Vec<Worker>, letter: Letter)
     requires within { letter.to < length workers.old.items }
     requires room { 0 < (desk_in workers.old.items letter.to).mail_room }
-    ensures sides { sides_of workers.new.items ≡ slice_set (sides_of workers.old.items) letter.to (with_mail (side_in (sides_of workers.old.items) letter.to) letter.message) }
+    ensures sides { sides_of workers.new.items ≡ with_letter (sides_of workers.old.items) letter }
     ensures here { (desk_in workers.new.items letter.to).mail_room + 1 ≡ (desk_in workers.old.items letter.to).mail_room }
     ensures others { (k : ℕ) → k ≢ letter.to → (desk_in workers.new.items k).mail_room ≡ (desk_in workers.old.items k).mail_room }
 {
@@ -75,7 +73,7 @@ pub fn note_letters(added: &mut Vec<Pointstamp>, letters: &[Letter])
 /// Appends the pointstamp of the request, if there is one. Takes no memory.
 fn note_request(added: &mut Vec<Pointstamp>, asked: &Option<Request>)
     requires room { length added.old.items < vec_capacity added.old }
-    ensures added { (q : Active) → times_in added.new.items q ≡ total (λ n. one_if_same q (request_pointstamp n)) (requests_of asked.now) + times_in added.old.items q }
+    ensures added { (q : Active) → times_in added.new.items q ≡ requests_count q (requests_of asked.now) + times_in added.old.items q }
     ensures few { length added.new.items ≤ length added.old.items + 1 }
     ensures capacity { vec_capacity added.new ≡ vec_capacity added.old }
 {
@@ -156,8 +154,9 @@ pub fn finish(
     requires request { 0 < (desk_in workers.old.items worker).request_room }
     requires none { added.old.items ≡ [] }
     requires capacity { length output.sent.items + 1 ≤ vec_capacity added.old }
-    ensures sides { sides_of workers.new.items ≡ delivered (slice_set (sides_of workers.old.items) worker (settled (side_in (sides_of workers.old.items) worker) vertex output.shard.value output.asked)) output.sent.items }
-    ensures added { (q : Active) → times_in added.new.items q ≡ letters_count q output.sent.items + total (λ n. one_if_same q (request_pointstamp n)) (requests_of output.asked) }
+    ensures sides { sides_of workers.new.items ≡
+        sides_after_commit (sides_of workers.old.items) worker vertex output.shard.value output.sent.items output.asked }
+    ensures added { (q : Active) → times_in added.new.items q ≡ letters_count q output.sent.items + requests_count q (requests_of output.asked) }
     ensures few { length added.new.items ≤ length output.sent.items + 1 }
     ensures place { result ≡ output.place }
 {

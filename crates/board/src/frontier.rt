@@ -1,11 +1,10 @@
 //! Finds the requests whose notifications may be delivered.
 
-ghost use Rattle.std.specs.Prelude.{◌≡◌, ◌↔◌, ◌<◌, ℕ, suc, [], Some, length, slice_get, slice_index, EachIndex, IfSome, IfNone, IsTrue};
+ghost use Rattle.std.specs.Prelude.{◌≡◌, ◌↔◌, ◌<◌, ℕ, suc, [], length, slice_index, EachIndex, IfSome, IfNone, IsTrue};
 ghost use Rattle.semantics.specs.Could.{IsTimeAt, Location as Where};
-ghost use Rattle.machine.specs.World.{Request as Wish};
 ghost use Rattle.semantics.specs.Dataflow.{IsDataflow};
 ghost use Rattle.views.specs.Waiting.{IsSeenBy};
-ghost use Rattle.board.specs.Deliverable.{IsDeliverable, StandsBefore};
+ghost use Rattle.board.specs.Deliverable.{AreAtVertices, HasDeliverable, IsDeliverable, NoneDeliverable, StandsBefore};
 
 use arrayvec::ArrayVec;
 use events::Request;
@@ -22,9 +21,10 @@ const REMEMBERED: usize = 8;
 pub fn first_seen<V: Views>(views: &V, worker: u32, requests: &Mailbox<Request>) -> Option<usize>
     requires worker { worker < V.workers views.now }
     requires flows { IsDataflow (V.graph views.now) }
-    requires known { (at : ℕ) (r : Wish) → slice_get requests.now.messages at ≡ Some r → IsTimeAt (V.graph views.now) (Where.vertex r.vertex) r.time }
-    ensures some { IfSome result (λ at. (r : Wish) × (slice_get requests.now.messages at ≡ Some r) × IsDeliverable (V.graph views.now) (λ q. 0 < V.content views.now q) r) }
-    ensures none { IfNone result ((at : ℕ) (r : Wish) → slice_get requests.now.messages at ≡ Some r → IsDeliverable (V.graph views.now) (IsSeenBy (V.content views.now) (V.waiting views.now) (V.workers views.now) worker) r → ⊥) }
+    requires known { AreAtVertices (V.graph views.now) requests.now.messages }
+    ensures some { IfSome result (λ at. HasDeliverable (V.graph views.now) (λ q. 0 < V.content views.now q) requests.now.messages at) }
+    ensures none { IfNone result (NoneDeliverable (V.graph views.now)
+        (IsSeenBy (V.content views.now) (V.waiting views.now) (V.workers views.now) worker) requests.now.messages) }
 {
     let mut fronts = ArrayVec::<usize, REMEMBERED>::new();
     for place in 0..requests.len() {
@@ -48,10 +48,10 @@ pub fn first_deliverable<V: Views>(
 ) -> Option<usize>
     requires worker { worker < V.workers views.now }
     requires flows { IsDataflow (V.graph views.now) }
-    requires known { (at : ℕ) (r : Wish) → slice_get requests.now.messages at ≡ Some r → IsTimeAt (V.graph views.now) (Where.vertex r.vertex) r.time }
+    requires known { AreAtVertices (V.graph views.now) requests.now.messages }
     requires prompt { (s : ℕ) → s < suc (V.workers views.now) → V.waiting views.now worker s ≡ [] }
-    ensures some { IfSome result (λ at. (r : Wish) × (slice_get requests.now.messages at ≡ Some r) × IsDeliverable (V.graph views.now) (λ q. 0 < V.content views.now q) r) }
-    ensures none { IfNone result ((at : ℕ) (r : Wish) → slice_get requests.now.messages at ≡ Some r → IsDeliverable (V.graph views.now) (λ q. 0 < V.content views.now q) r → ⊥) }
+    ensures some { IfSome result (λ at. HasDeliverable (V.graph views.now) (λ q. 0 < V.content views.now q) requests.now.messages at) }
+    ensures none { IfNone result (NoneDeliverable (V.graph views.now) (λ q. 0 < V.content views.now q) requests.now.messages) }
 {
     law_of_waiting();
     first_seen(views, worker, requests)
@@ -61,7 +61,8 @@ pub fn first_deliverable<V: Views>(
 pub fn may_deliver<V: Views>(views: &V, worker: u32, request: &Request) -> bool
     requires worker { worker < V.workers views.now }
     requires known { IsTimeAt (V.graph views.now) (Where.vertex request.now.vertex) request.now.time }
-    ensures seen { IsTrue result ↔ IsDeliverable (V.graph views.now) (IsSeenBy (V.content views.now) (V.waiting views.now) (V.workers views.now) worker) request.now }
+    ensures seen { IsTrue result ↔
+        IsDeliverable (V.graph views.now) (IsSeenBy (V.content views.now) (V.waiting views.now) (V.workers views.now) worker) request.now }
     ensures there { IsTrue result → IsDeliverable (V.graph views.now) (λ q. 0 < V.content views.now q) request.now }
 {
     views.in_frontier(

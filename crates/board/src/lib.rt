@@ -30,12 +30,13 @@
 //! | `feed_cut` | the owner of the input | the same for records that are already cut into messages; computes nothing | the same |
 //! | `seal` | the owner of the input | the open epoch ends, the next is open | stopped, unknown, closed, last epoch, memory |
 //! | `close` | the owner of the input | no more records come | stopped, unknown, closed |
-//! | `merge`, `gather` | a worker | the records of one message, or of up to 64, join those of the first | answers no: stopped, unknown, not free, memory, none alike |
-//! | `claim` | a worker | hands out the first event that the worker may process; a worker that sees none catches up first | answers stopped, busy, drained, idle |
+//! | `merge`, `gather` | a worker | the records of one message, or of up to 64, join the first's | answers no: stopped, unknown, not free, memory, none alike |
+//! | `claim` | a worker | hands out the first event that the worker may process; one that sees none catches up first | answers stopped, busy, drained, idle |
 //! | `pick` | a replay | hands out the worker's event of that number | stopped, holding, no such event |
-//! | `commit` | the holder of the computed event | ends the event: shard, messages, request and records go to their places | memory: the event comes back whole |
+//! | `commit` | the holder of the computed event | ends it: shard, messages, request and records go to their places | memory: the event comes back whole |
 //! | `abandon`, `abandon_done` | the holder of the event | drops the event, and the board stops | never |
-//! | `catch_up`, `apply`, `apply_and_ask` | anyone | a worker's view takes in all that waits for it, or one batch; `apply_and_ask` also reports what had passed before and has passed after | never; does nothing if nothing waits |
+//! | `catch_up` | anyone | a worker's view takes in all that waits for it | never; does nothing if nothing waits |
+//! | `apply`, `apply_and_ask` | anyone | it takes in one batch; `apply_and_ask` also reports what had passed before and has passed after | the same |
 //!
 //! `look`, `emitted`, `fed`, `passed`, `passed_count` and the other calls read, and anyone may make them.
 //!

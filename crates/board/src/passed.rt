@@ -38,7 +38,8 @@ fn passed_from<V: Views>(views: &V, state: &State, from: u32, sealed: u32) -> u3
     ensures from { from ≤ result }
     ensures most { result ≤ sealed }
     ensures passed { (e : ℕ) → from ≤ e → e < result → NoneLeftAtAll (V.graph views.now) (λ q. 0 < V.content views.now q) state.now e }
-    ensures first { result < sealed → NoneLeftAtAll (V.graph views.now) (IsSeenBy (V.content views.now) (V.waiting views.now) (V.workers views.now) 0) state.now result → ⊥ }
+    ensures first { result < sealed →
+        NoneLeftAtAll (V.graph views.now) (IsSeenBy (V.content views.now) (V.waiting views.now) (V.workers views.now) 0) state.now result → ⊥ }
 {
     for epoch in from..sealed {
         if !is_over(views, state, epoch) {
@@ -53,7 +54,8 @@ pub fn is_over<V: Views>(views: &V, state: &State, epoch: u32) -> bool
     requires some { 0 < V.workers views.now }
     requires outputs { AreOutputsIn (V.graph views.now) state.now }
     ensures there { IsTrue result → NoneLeftAtAll (V.graph views.now) (λ q. 0 < V.content views.now q) state.now epoch }
-    ensures seen { NoneLeftAtAll (V.graph views.now) (IsSeenBy (V.content views.now) (V.waiting views.now) (V.workers views.now) 0) state.now epoch → IsTrue result }
+    ensures seen {
+        NoneLeftAtAll (V.graph views.now) (IsSeenBy (V.content views.now) (V.waiting views.now) (V.workers views.now) 0) state.now epoch → IsTrue result }
 {
     for output in 0..state.output_count() {
         if !views.none_before(0, &output_place(state.output(output), epoch)) {
@@ -69,7 +71,8 @@ pub fn is_past<V: Views>(views: &V, state: &State, output: u32, epoch: u32) -> b
     requires outputs { AreOutputsIn (V.graph views.now) state.now }
     requires place { IsOutputPlace state.now output }
     ensures there { IsTrue result → NoneLeft (V.graph views.now) (λ q. 0 < V.content views.now q) state.now output epoch }
-    ensures seen { IsTrue result ↔ NoneLeft (V.graph views.now) (IsSeenBy (V.content views.now) (V.waiting views.now) (V.workers views.now) 0) state.now output epoch }
+    ensures seen { IsTrue result ↔
+        NoneLeft (V.graph views.now) (IsSeenBy (V.content views.now) (V.waiting views.now) (V.workers views.now) 0) state.now output epoch }
 {
     let vertex = state.output(output as usize);
     views.none_before(0, &output_place(vertex, epoch))

@@ -62,9 +62,11 @@ impl Model for State {
 
     ghost Value = { Shown };
 
-    ghost coded = { Prim.hlevel (codes, shard_row.the_row.coded, (scalar.the_row heap.the_row allocates.ghosts).coded, (condition.the_row heap.the_row allocates.ghosts).coded) };
+    ghost coded = { Prim.hlevel (codes, shard_row.the_row.coded,
+        (scalar.the_row heap.the_row allocates.ghosts).coded, (condition.the_row heap.the_row allocates.ghosts).coded) };
 
-    ghost view = { λ s. record { graph = s.wiring.value.graph; inputs = s.inputs.items; sides = sides_of s.workers.items; emitted = s.emitted; stopped = s.stopped } };
+    ghost view = { λ s. record {
+        graph = s.wiring.value.graph; inputs = s.inputs.items; sides = sides_of s.workers.items; emitted = s.emitted; stopped = s.stopped } };
 
     ghost invariant = { λ s. s.wiring.value.workers ≡ length s.workers.items };
 }

@@ -1,6 +1,7 @@
 //! A worker's part of the board.
 
-ghost use Rattle.std.specs.Prelude.{◌≡◌, ◌≢◌, ◌<◌, ◌≤◌, ◌+◌, ◌++◌, ◌∷◌, ◌↔◌, ℕ, [], length, remove, slice_get, slice_index_or, Some, None, IsTrue, IfNone, IfOk, IfSome, OnOk, OnErr, MatchBool};
+ghost use Rattle.std.specs.Prelude.{◌≡◌, ◌≢◌, ◌<◌, ◌≤◌, ◌+◌, ◌++◌, ◌∷◌, ◌↔◌, ℕ, [], length, remove, slice_get};
+ghost use Rattle.std.specs.Prelude.{slice_index_or, Some, None, IsTrue, IfNone, IfOk, IfSome, OnOk, OnErr, MatchBool};
 ghost use Rattle.machine.specs.World.{Event as Happens, Message as Mail, Request as Wish};
 ghost use Rattle.tokens.specs.declared.rule.Place.TheVariants.{Home, Out, Lost};
 ghost use Rattle.vertices.specs.declared.shard.Shard as shard;
@@ -43,9 +44,14 @@ impl Model for Worker {
 
     ghost Value = { Desk };
 
-    ghost coded = { Prim.hlevel (codes, shard_row.the_row.coded, (scalar.the_row heap.the_row allocates.ghosts).coded, (condition.the_row heap.the_row allocates.ghosts).coded) };
+    ghost coded = { Prim.hlevel (codes, shard_row.the_row.coded,
+        (scalar.the_row heap.the_row allocates.ghosts).coded, (condition.the_row heap.the_row allocates.ghosts).coded) };
 
-    ghost view = { λ w. record { side = record { wired = wired_of (λ x. x.value) w.tie.place w.wiring; table = w.tie.table; mail = w.mailbox.messages; requests = w.requests.messages; place = w.tie.place; shards = w.shards.items }; mail_room = w.mailbox.room; request_room = w.requests.room } };
+    ghost view = { λ w. record {
+        side = record {
+            wired = wired_of (λ x. x.value) w.tie.place w.wiring; table = w.tie.table;
+            mail = w.mailbox.messages; requests = w.requests.messages; place = w.tie.place; shards = w.shards.items };
+        mail_room = w.mailbox.room; request_room = w.requests.room } };
 
     ghost invariant = { λ w. IsHome w.tie.place w.wiring w.lost };
 }

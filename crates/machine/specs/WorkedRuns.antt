@@ -171,4 +171,5 @@ three_on e = message_on e (one_field (pos 3) ∷ [])
 
 -- the record 3 is fed and the input sealed; the second output's worker claims and commits it, and the `where` doesn't yet
 abbrev pub second_first : List Step
-second_first = Step.feed 0 (one_field (pos 3) ∷ []) ∷ Step.seal 0 ∷ Step.claim_message 0 1 (three_on 2) ∷ Step.commit 0 (Event.arrival (three_on 2)) nothing_sent ∷ []
+second_first =
+    Step.feed 0 (one_field (pos 3) ∷ []) ∷ Step.seal 0 ∷ Step.claim_message 0 1 (three_on 2) ∷ Step.commit 0 (Event.arrival (three_on 2)) nothing_sent ∷ []

@@ -7,8 +7,10 @@ ghost use Rattle.machine.specs.Frontier.{Passed};
 ghost use Rattle.machine.specs.Step.{Step, Allowed};
 ghost use Rattle.machine.specs.Headline.{IsRunOf, meant, output_of};
 ghost use Rattle.machine.specs.WorkedRuns.{after_steps, message_on, copying, copier, one_fed, one_record, one_record_sealed, given_up};
-ghost use Rattle.machine.specs.WorkedRuns.{counting, counter, three_fed, two_fed, two_merged, fed_in_two_epochs, to_worker_0, to_worker_1, both_absorbed, the_request, absorbed_and_sealed, first_notified, first_committed};
-ghost use Rattle.machine.specs.WorkedRuns.{differ, a_sealed, except_request, a_and_b_sealed, one_on, difference_committed, meeter, one_in_a, one_in_both, splitter, second_first};
+ghost use Rattle.machine.specs.WorkedRuns.{counting, counter, three_fed, two_fed, two_merged, fed_in_two_epochs, to_worker_0, to_worker_1};
+ghost use Rattle.machine.specs.WorkedRuns.{both_absorbed, the_request, absorbed_and_sealed, first_notified, first_committed};
+ghost use Rattle.machine.specs.WorkedRuns.{differ, a_sealed, except_request, a_and_b_sealed, one_on, difference_committed};
+ghost use Rattle.machine.specs.WorkedRuns.{meeter, one_in_a, one_in_both, splitter, second_first};
 
 /// `input a/1; output a;` on one worker. The record 5 is fed; nothing is emitted yet, so what was emitted is not all that the query means. The
 /// message is claimed and committed, and so the record is emitted. The epoch has not passed then, since the input is open; it has once the input is

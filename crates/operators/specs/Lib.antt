@@ -1,3 +1,4 @@
 pub mod Fits
+pub mod Outcomes
 pub mod Aggregates
 pub mod Columns

@@ -1,16 +1,17 @@
 //! Records at which a condition holds.
 
-ghost use Rattle.std.specs.Prelude.{◌≡◌, ◌<◌, ◌++◌, ◌∷◌, [], if◌then◌else◌, length, slice_index_or, IfOk, OnOk};
+ghost use Rattle.std.specs.Prelude.{◌≡◌, ◌<◌, ◌++◌, length, slice_index_or, IfOk, OnOk};
 ghost use Rattle.expr_tree.specs.Plain.{plain_cond};
 ghost use Rattle.expr_tree.specs.Views.{cond_tree};
 ghost use Rattle.rows.specs.FlatRows.{arity_of};
 ghost use Rattle.rows.specs.Indexes.{AreDifferent};
 ghost use Rattle.rows.specs.Counts.{expanded, no_run, rows_of, runs};
 ghost use Rattle.semantics.specs.Kinds.{Kind};
-ghost use Rattle.semantics.specs.Meaning.{kept, holds as true_of};
+ghost use Rattle.semantics.specs.Meaning.{kept};
 ghost use Rattle.semantics.specs.Typing.{CondFits};
 ghost use Rattle.semantics.proofs.VertexLaws.{op_nothing, op_parts};
 ghost use Rattle.operators.specs.Fits.{CondFits-prop};
+ghost use Rattle.operators.specs.Outcomes.{kept_run};
 
 use crate::operator::Operator;
 use expr_tree::{Cond, holds};
@@ -61,7 +62,8 @@ impl Where {
         requires columns { arity_of batch.now ≡ self.now.arity }
         requires place { place < length (runs batch.now) }
         requires arity { rows.old.arity ≡ arity_of batch.now }
-        ensures rows { OnOk result (rows.new.runs ≡ rows.old.runs ++ (if true_of (plain_cond (cond_tree self.now.condition)) (slice_index_or (runs batch.now) place no_run).row then slice_index_or (runs batch.now) place no_run ∷ [] else [])) }
+        ensures rows { OnOk result (rows.new.runs ≡ rows.old.runs
+            ++ kept_run (plain_cond (cond_tree self.now.condition)) (slice_index_or (runs batch.now) place no_run)) }
         ensures arity { rows.new.arity ≡ rows.old.arity }
     {
         let row = batch.row(place);

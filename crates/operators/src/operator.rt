@@ -27,5 +27,6 @@ pub trait Operator {
     ghost nothing: { (v : Self) (t : Time) (out : ℕ) → op (kind_of v) t (λ p. []) out ≡ [] };
 
     // The results of parts with no route key in common add up.
-    ghost parts: { (v : Self) (t : Time) (ins : ℕ → List Record) (parts : ℕ → ℕ → List Record) (n out : ℕ) → IsSum (kind_of v) ins parts n → IsCut (kind_of v) parts n → op (kind_of v) t ins out ≈ end_to_end (λ w. op (kind_of v) t (parts w) out) n };
+    ghost parts: { (v : Self) (t : Time) (ins : ℕ → List Record) (parts : ℕ → ℕ → List Record) (n out : ℕ) →
+        IsSum (kind_of v) ins parts n → IsCut (kind_of v) parts n → op (kind_of v) t ins out ≈ end_to_end (λ w. op (kind_of v) t (parts w) out) n };
 }

@@ -2,8 +2,9 @@
 
 ghost use Rattle.std.specs.Prelude.{◌≡◌, ℕ, ◌≤◌, ◌<◌, ◌+◌, ◌++◌, ◌∷◌, [], length, map, slice_index_or, IfOk, IfErr, OnOk};
 ghost use Rattle.arrayvec.specs.ArrayVec.{array_vec_len};
-ghost use Rattle.std.specs.List.{AllByRecursion, AllByRecursion-prop};
+ghost use Rattle.std.specs.List.{AllByRecursion};
 ghost use Rattle.expr_tree.specs.Plain.{plain_scalar};
+ghost use Rattle.expr_tree.specs.PlainLists.{plain_scalars};
 ghost use Rattle.expr_tree.specs.Views.{scalar_tree};
 ghost use Rattle.rows.specs.FlatRows.{arity_of};
 ghost use Rattle.rows.specs.Counts.{AllFit, AreRuns, IsOver, expanded, no_run, records_in, runs};
@@ -14,7 +15,8 @@ ghost use Rattle.semantics.specs.Meaning.{selected, value};
 ghost use Rattle.semantics.specs.Typing.{ScalarFits};
 ghost use Rattle.semantics.proofs.VertexLaws.{op_nothing, op_parts};
 ghost use Rattle.operators.specs.Columns.{IsInRange, AllDetermined};
-ghost use Rattle.operators.specs.Fits.{ScalarFits-prop};
+ghost use Rattle.operators.specs.Fits.{all_fit-prop};
+ghost use Rattle.operators.specs.Outcomes.{selected_run};
 
 use crate::determined::all_determined;
 use crate::operator::Operator;
@@ -28,17 +30,17 @@ use std::alloc::Global;
 pub struct Select {
     pub arity: usize,
     pub scalars: Vec<Scalar<Global>>,
-    pub ghost fits: { AllByRecursion (ScalarFits arity) (map plain_scalar (map scalar_tree scalars.items)) } by { AllByRecursion-prop (ScalarFits arity) (ScalarFits-prop arity) (map plain_scalar (map scalar_tree scalars.items)) },
+    pub ghost fits: { AllByRecursion (ScalarFits arity) (plain_scalars scalars.items) } by { all_fit-prop arity (plain_scalars scalars.items) },
     pub ghost some: { 1 ≤ length scalars.items },
     pub ghost few: { length scalars.items ≤ 16 },
 }
 
 impl Operator for Select {
-    ghost kind_of = { λ v. Kind.select (map plain_scalar (map scalar_tree v.scalars.items)) };
+    ghost kind_of = { λ v. Kind.select (plain_scalars v.scalars.items) };
 
-    ghost nothing = { λ v. op_nothing (Kind.select (map plain_scalar (map scalar_tree v.scalars.items))) };
+    ghost nothing = { λ v. op_nothing (Kind.select (plain_scalars v.scalars.items)) };
 
-    ghost parts = { λ v. op_parts (Kind.select (map plain_scalar (map scalar_tree v.scalars.items))) };
+    ghost parts = { λ v. op_parts (Kind.select (plain_scalars v.scalars.items)) };
 
     fn in_ports(&self) -> u32 {
         1
@@ -55,9 +57,9 @@ impl Select {
     #[tactic(auto, using(rows::proofs::Runs::all_fit))]
     pub fn apply(&self, alloc: Global, batch: &Batch) -> Result<Option<Batch>, TallyError>
         requires { arity_of batch.now ≡ self.now.arity }
-        ensures records { IfOk result (λ made. records_in made ≈ selected (map plain_scalar (map scalar_tree self.now.scalars.items)) batch.now) }
-        ensures fits { IfOk result (λ made. AllFit (selected (map plain_scalar (map scalar_tree self.now.scalars.items)) batch.now)) }
-        ensures over { IfErr result (λ e. e ≡ Count → IsOver (selected (map plain_scalar (map scalar_tree self.now.scalars.items)) batch.now)) }
+        ensures records { IfOk result (λ made. records_in made ≈ selected (plain_scalars self.now.scalars.items) batch.now) }
+        ensures fits { IfOk result (λ made. AllFit (selected (plain_scalars self.now.scalars.items) batch.now)) }
+        ensures over { IfErr result (λ e. e ≡ Count → IsOver (selected (plain_scalars self.now.scalars.items) batch.now)) }
     {
         let made = select_all(alloc, &self.scalars, batch)?;
         if all_determined(&self.scalars, self.arity) {
@@ -74,11 +76,11 @@ fn select_all(
     scalars: &[Scalar<Global>],
     batch: &Batch,
 ) -> Result<CountedRows, RowsError>
-    requires columns { AllByRecursion (ScalarFits (arity_of batch.now)) (map plain_scalar (map scalar_tree scalars.now)) }
+    requires columns { AllByRecursion (ScalarFits (arity_of batch.now)) (plain_scalars scalars.now) }
     requires some { 1 ≤ length scalars.now }
     requires few { length scalars.now ≤ 16 }
-    ensures records { IfOk result (λ made. expanded made.runs ≡ selected (map plain_scalar (map scalar_tree scalars.now)) batch.now) }
-    ensures runs { IfOk result (λ made. AllDetermined (arity_of batch.now) (map plain_scalar (map scalar_tree scalars.now)) → AreRuns made.runs) }
+    ensures records { IfOk result (λ made. expanded made.runs ≡ selected (plain_scalars scalars.now) batch.now) }
+    ensures runs { IfOk result (λ made. AllDetermined (arity_of batch.now) (plain_scalars scalars.now) → AreRuns made.runs) }
 {
     let _ = batch.arity();
     let mut made = CountedRows::new(alloc, scalars.len());
@@ -96,11 +98,11 @@ fn push_selected(
     place: usize,
     made: &mut CountedRows,
 ) -> Result<(), RowsError>
-    requires columns { AllByRecursion (ScalarFits (arity_of batch.now)) (map plain_scalar (map scalar_tree scalars.now)) }
+    requires columns { AllByRecursion (ScalarFits (arity_of batch.now)) (plain_scalars scalars.now) }
     requires few { length scalars.now ≤ 16 }
     requires place { place < length (runs batch.now) }
     requires arity { made.old.arity ≡ length scalars.now }
-    ensures rows { OnOk result (made.new.runs ≡ made.old.runs ++ record { row = map (λ s. value s (slice_index_or (runs batch.now) place no_run).row) (map plain_scalar (map scalar_tree scalars.now)); count = (slice_index_or (runs batch.now) place no_run).count } ∷ []) }
+    ensures rows { OnOk result (made.new.runs ≡ made.old.runs ++ selected_run (plain_scalars scalars.now) (slice_index_or (runs batch.now) place no_run) ∷ []) }
     ensures arity { made.new.arity ≡ made.old.arity }
     ensures range { OnOk result (IsInRange (slice_index_or (runs batch.now) place no_run).row) }
 {
@@ -122,9 +124,9 @@ fn read_fields(item: &[i64])
 
 /// Appends the scalars' values for a record.
 fn push_values(fields: &mut ArrayVec<i64, 16>, scalars: &[Scalar<Global>], item: &[i64])
-    requires columns { AllByRecursion (ScalarFits (length item.now)) (map plain_scalar (map scalar_tree scalars.now)) }
+    requires columns { AllByRecursion (ScalarFits (length item.now)) (plain_scalars scalars.now) }
     requires room { array_vec_len fields.old + length scalars.now ≤ 16 }
-    ensures values { fields.new.items ≡ fields.old.items ++ map (λ s. value s item.now) (map plain_scalar (map scalar_tree scalars.now)) }
+    ensures values { fields.new.items ≡ fields.old.items ++ map (λ s. value s item.now) (plain_scalars scalars.now) }
 {
     if let [scalar, rest @ ..] = scalars {
         fields.push(scalar_value(scalar, item));

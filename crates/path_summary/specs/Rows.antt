@@ -1,5 +1,6 @@
 -- A row of the table while it is made: the entries from one vertex to each vertex.
-use Rattle.std.specs.Prelude.{◌≡◌, ℕ, ◌+◌, ◌^◌, ◌<◌, nat_lt, nat_eq, Bool, true, false, cond, ◌&&◌, ◌||◌, List, length, Option, Some, None, slice_get, slice_set, slice_index_or}
+use Rattle.std.specs.Prelude.{◌≡◌, ℕ, ◌+◌, ◌^◌, ◌<◌, nat_lt, nat_eq, Bool, true, false, cond, ◌&&◌}
+use Rattle.std.specs.Prelude.{◌||◌, List, length, Option, Some, None, slice_get, slice_set, slice_index_or}
 use Rattle.semantics.specs.Limits.{max_loops}
 use Rattle.semantics.specs.Summary.{Summary, then_action}
 use Rattle.semantics.specs.Time.{Action, last}

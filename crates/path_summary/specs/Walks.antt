@@ -55,7 +55,8 @@ pub record HasPassed (w : Links) (v bound edges : ℕ) (old row : List (Option S
   pub long : length row ≡ length w.depths
   pub of_walks : (x : ℕ) (f : Summary) → entry row x ≡ Some f → IsOfWalk w v bound x f
   pub kept : (x : ℕ) (f : Summary) → entry old x ≡ Some f → HasBelow row x f
-  pub done : (e : ℕ) (k : Link) (f : Summary) → e < edges → slice_get w.edges e ≡ Some k → entry old k.source ≡ Some f → HasBelow row k.target (then_action k.acts f)
+  pub done : (e : ℕ) (k : Link) (f : Summary) → e < edges → slice_get w.edges e ≡ Some k → entry old k.source ≡ Some f
+      → HasBelow row k.target (then_action k.acts f)
 
 -- It is the row of some vertex before the first pass.
 pub record IsOpened (w : Links) (row : List (Option Summary)) : Type 0 where

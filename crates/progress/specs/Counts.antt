@@ -26,11 +26,16 @@ IsPrecursor g q p = (q ≡ p → ⊥) × CouldResultIn g q p
 -- n of these are precursors of p
 abbrev pub IsPrecursorCount : Graph → List Pointstamp → Pointstamp → ℕ → Type 0
 IsPrecursorCount g [] p n = n ≡ 0
-IsPrecursorCount g (q ∷ qs) p n = (IsPrecursor g q p × ((m : ℕ) × (n ≡ suc m) × IsPrecursorCount g qs p m)) ⊎ ((IsPrecursor g q p → ⊥) × IsPrecursorCount g qs p n)
+IsPrecursorCount g (q ∷ qs) p n =
+    (IsPrecursor g q p × ((m : ℕ) × (n ≡ suc m) × IsPrecursorCount g qs p m)) ⊎ ((IsPrecursor g q p → ⊥) × IsPrecursorCount g qs p n)
 
 -- each has a location of the graph, and a time of its depth
 abbrev pub AreKnown : Graph → List Counted → Type 0
 AreKnown g counted = (i : ℕ) (c : Counted) → slice_get counted i ≡ Some c → IsTimeAt g c.pointstamp.location c.pointstamp.time
+
+-- each of which p is a precursor has a precursor count above 0
+abbrev pub AllHavePrecursor : Graph → Pointstamp → List Counted → Type 0
+AllHavePrecursor g p counted = (i : ℕ) (c : Counted) → slice_get counted i ≡ Some c → IsPrecursor g p c.pointstamp → 0 < c.precursors
 
 -- each is active and occurs once in the list, and its precursor count is exact
 pub record AreExact (g : Graph) (counted : List Counted) : Type 0 where
@@ -43,7 +48,8 @@ pub record AreExact (g : Graph) (counted : List Counted) : Type 0 where
 pub record CountsPrecursor (g : Graph) (p : Pointstamp) (old new : Counted) : Type 0 where
   pub pointstamp : new.pointstamp ≡ old.pointstamp
   pub occurrences : new.occurrences ≡ old.occurrences
-  pub precursors : (IsPrecursor g p old.pointstamp × (new.precursors ≡ suc old.precursors)) ⊎ ((IsPrecursor g p old.pointstamp → ⊥) × (new.precursors ≡ old.precursors))
+  pub precursors : (IsPrecursor g p old.pointstamp × (new.precursors ≡ suc old.precursors))
+      ⊎ ((IsPrecursor g p old.pointstamp → ⊥) × (new.precursors ≡ old.precursors))
 
 -- the same for each of them
 pub record AllCountPrecursor (g : Graph) (p : Pointstamp) (old new : List Counted) : Type 0 where

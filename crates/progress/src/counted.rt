@@ -5,7 +5,8 @@ ghost use Rattle.graph.specs.Shown.{shown_graph};
 ghost use Rattle.semantics.specs.Graph.{Graph as Definition};
 ghost use Rattle.semantics.specs.Could.{IsTimeAt, Pointstamp as Active};
 ghost use Rattle.progress.specs.Content.{IsBlocked, IsClear};
-ghost use Rattle.progress.specs.Counts.{AllCountPrecursor, AreExact, AreKnown, CountsPrecursor, IsPrecursor, IsPrecursorCount, OccursOnceMore, all_occurrences, occurrences_in, pointstamps};
+ghost use Rattle.progress.specs.Counts.{AllCountPrecursor, AllHavePrecursor, AreExact, AreKnown, CountsPrecursor, IsPrecursor};
+ghost use Rattle.progress.specs.Counts.{IsPrecursorCount, OccursOnceMore, all_occurrences, occurrences_in, pointstamps};
 ghost use Rattle.progress.specs.declared.counted.Counted.{Counted as Declared};
 
 use path_summary::{Paths, Pointstamp};
@@ -168,7 +169,7 @@ fn add_precursor(paths: &Paths, active: &mut Vec<Counted>, p: &Pointstamp)
 fn remove_precursor(paths: &Paths, active: &mut Vec<Counted>, p: &Pointstamp)
     requires known { IsTimeAt (shown_graph paths.now) p.now.location p.now.time }
     requires all { AreKnown (shown_graph paths.now) active.old.items }
-    requires counted { (i : ℕ) (c : Declared) → slice_get active.old.items i ≡ Some c → IsPrecursor (shown_graph paths.now) p.now c.pointstamp → 0 < c.precursors }
+    requires counted { AllHavePrecursor (shown_graph paths.now) p.now active.old.items }
     ensures counted { AllCountPrecursor (shown_graph paths.now) p.now active.new.items active.old.items }
     ensures capacity { vec_capacity active.new ≡ vec_capacity active.old }
 {

@@ -40,7 +40,8 @@ impl Model for CountTracker {
 
     ghost view = { λ t. record { graph = t.paths.value; active = t.active.items; spare = t.spare } };
 
-    ghost invariant = { λ t. (t.occurrences ≡ all_occurrences t.active.items) × (t.occurrences + t.spare ≤ vec_capacity t.active) × AreExact (shown_graph t.paths.value) t.active.items };
+    ghost invariant = { λ t. (t.occurrences ≡ all_occurrences t.active.items) × (t.occurrences + t.spare ≤ vec_capacity t.active)
+        × AreExact (shown_graph t.paths.value) t.active.items };
 }
 
 impl CountTracker {

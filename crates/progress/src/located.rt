@@ -1,6 +1,7 @@
 //! A tracker by location, which checks one time of each.
 
-ghost use Rattle.std.specs.Prelude.{◌≡◌, ◌+◌, ◌<◌, ◌≤◌, ◌↔◌, ◌∷◌, ◌++◌, ℕ, List, [], IsTrue, IfOk, IfSome, IfNone, OnOk, Some, None, true, false, length, map, slice_get, slice_index_or, slice_set, vec_capacity, vec_len};
+ghost use Rattle.std.specs.Prelude.{◌≡◌, ◌+◌, ◌<◌, ◌≤◌, ◌↔◌, ◌∷◌, ◌++◌, ℕ, List, [], IsTrue, IfOk, IfSome, IfNone, OnOk, Some};
+ghost use Rattle.std.specs.Prelude.{None, true, false, length, map, slice_get, slice_index_or, slice_set, vec_capacity, vec_len};
 ghost use Rattle.graph.specs.Locations.{location_of};
 ghost use Rattle.graph.specs.Shown.{shown_graph};
 ghost use Rattle.semantics.specs.Time.{Time as Instant};
@@ -53,7 +54,8 @@ impl Model for LocationTracker {
 
     ghost view = { λ t. record { graph = t.paths.value; edges = t.edges.items; vertices = t.vertices.items; spare = t.spare } };
 
-    ghost invariant = { λ t. (t.spare ≤ length t.rooms.items) × (vec_len t.listed + t.spare ≤ vec_capacity t.listed) × IsKept (shown_graph t.paths.value) t.edges.items t.vertices.items (map location_of t.listed.items) };
+    ghost invariant = { λ t. (t.spare ≤ length t.rooms.items) × (vec_len t.listed + t.spare ≤ vec_capacity t.listed)
+        × IsKept (shown_graph t.paths.value) t.edges.items t.vertices.items (map location_of t.listed.items) };
 }
 
 impl LocationTracker {
@@ -273,7 +275,8 @@ fn list(listed: &mut Vec<Location>, location: Location, fresh: bool)
 
 /// Removes a location from the list if nothing is active there any more.
 fn unlist(listed: &mut Vec<Location>, location: Location, empty: bool)
-    ensures still { (l : Place) → (empty ≡ true → l ≡ location_of location → ⊥) → Among (map location_of listed.old.items) l → Among (map location_of listed.new.items) l }
+    ensures still { (l : Place) → (empty ≡ true → l ≡ location_of location → ⊥) →
+        Among (map location_of listed.old.items) l → Among (map location_of listed.new.items) l }
     ensures fewer { vec_len listed.new ≤ vec_len listed.old }
     ensures room { vec_capacity listed.new ≡ vec_capacity listed.old }
 {
@@ -340,8 +343,10 @@ fn is_clear_at(
 ) -> bool
     requires to { IsTimeAt (shown_graph paths.now) p.now.location p.now.time }
     requires known { AllAt (shown_graph paths.now) (times_at edges.now vertices.now) }
-    ensures clear { result ≡ true → IsClearAt (shown_graph paths.now) (bag_at edges.now vertices.now (location_of location)) (location_of location) p.now other }
-    ensures blocked { result ≡ false → IsBlockedAt (shown_graph paths.now) (bag_at edges.now vertices.now (location_of location)) (location_of location) p.now other }
+    ensures clear { result ≡ true →
+        IsClearAt (shown_graph paths.now) (bag_at edges.now vertices.now (location_of location)) (location_of location) p.now other }
+    ensures blocked { result ≡ false →
+        IsBlockedAt (shown_graph paths.now) (bag_at edges.now vertices.now (location_of location)) (location_of location) p.now other }
 {
     match tree_at(edges, vertices, location) {
         Some(tree) => is_clear_in(paths, tree, location, p, other),

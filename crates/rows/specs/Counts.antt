@@ -68,7 +68,8 @@ pub record RunList : Type 0 where
 -- the runs of a batch, one or more, and its weight: how many records they are, or the greatest usize if they are more
 abbrev pub IsWeighedBatch : RunList → (weight : ℕ) → Type 0
 IsWeighedBatch rows weight =
-    (0 < length rows.runs) × AreRuns rows.runs × (arity_of (expanded rows.runs) ≡ rows.arity) × (weight ≡ min (length (expanded rows.runs)) 18446744073709551615)
+    (0 < length rows.runs) × AreRuns rows.runs × (arity_of (expanded rows.runs) ≡ rows.arity)
+    × (weight ≡ min (length (expanded rows.runs)) 18446744073709551615)
 
 -- no record stands there more often than a count may be
 abbrev pub AllFit : List Record → Type 0

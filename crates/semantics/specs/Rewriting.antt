@@ -53,7 +53,8 @@ pub data RelStep : Rel → Rel → Type 0 where
   -- where of where, with the inner condition first
   wheres : {r : Rel} {c d : Cond} → NormalRel (Rel.filter r c) → NormalCond d → RelStep (Rel.filter (Rel.filter r c) d) (Rel.filter r (Cond.conjunction c d))
   -- select of select, if no scalar is copied
-  selects : {r : Rel} {ss ts : List Scalar} → NormalRel (Rel.select r ss) → AllByRecursion NormalScalar ts → UsesOnce ts → RelStep (Rel.select (Rel.select r ss) ts) (Rel.select r (map (replaced ss) ts))
+  selects : {r : Rel} {ss ts : List Scalar} → NormalRel (Rel.select r ss) → AllByRecursion NormalScalar ts → UsesOnce ts
+      → RelStep (Rel.select (Rel.select r ss) ts) (Rel.select r (map (replaced ss) ts))
   -- distinct of a distinct, an except or an intersect
   distincts : {r : Rel} → NormalRel r → IsSet r → RelStep (Rel.distinct r) r
   -- a loop of no turns is its start
@@ -91,8 +92,10 @@ pub data OutputStep : Output → Output → Type 0 where
   value : {x : Name} {r r' : Rel} → RelStep r r' → OutputStep (record { name = x; value = r }) (record { name = x; value = r' })
 
 pub data ProgramStep : Program → Program → Type 0 where
-  lets : {inputs : List Input} {as' bs : List Let} {outs : List Output} → LetsStep outs as' bs → ProgramStep (record { inputs = inputs; lets = as'; outputs = outs }) (record { inputs = inputs; lets = bs; outputs = outs })
-  outputs : {inputs : List Input} {as' : List Let} {os os' : List Output} → OneOf OutputStep os os' → ProgramStep (record { inputs = inputs; lets = as'; outputs = os }) (record { inputs = inputs; lets = as'; outputs = os' })
+  lets : {inputs : List Input} {as' bs : List Let} {outs : List Output} → LetsStep outs as' bs
+      → ProgramStep (record { inputs = inputs; lets = as'; outputs = outs }) (record { inputs = inputs; lets = bs; outputs = outs })
+  outputs : {inputs : List Input} {as' : List Let} {os os' : List Output} → OneOf OutputStep os os'
+      → ProgramStep (record { inputs = inputs; lets = as'; outputs = os }) (record { inputs = inputs; lets = as'; outputs = os' })
 
 -- the same, by any number of steps
 abbrev pub RewritesTo : Program → Program → Type 0

@@ -8,7 +8,9 @@ ghost use Rattle.semantics.specs.Could.{at_vertex, CouldResultIn};
 ghost use Rattle.semantics.specs.Kinds.{Kind};
 ghost use Rattle.semantics.specs.Graph.{output_numbers};
 ghost use Rattle.semantics.specs.Lower.{lowered, port, new_vertex};
-ghost use Rattle.semantics.specs.Examples.{one_field, two_fields, three_fields, first_plus_1, twice, sums_by_key, reachability, no_turns, outer_name, loop_in_loop, two_turns, outer_name_in_loops, in_a_alone, in_a_and_b, except_in_loop, small_and_all, least_of_let, twice_out, a_and_b, one_and_two, turn};
+ghost use Rattle.semantics.specs.Examples.{one_field, two_fields, three_fields, first_plus_1, twice, sums_by_key, reachability};
+ghost use Rattle.semantics.specs.Examples.{no_turns, outer_name, loop_in_loop, two_turns, outer_name_in_loops, in_a_alone, in_a_and_b};
+ghost use Rattle.semantics.specs.Examples.{except_in_loop, small_and_all, least_of_let, twice_out, a_and_b, one_and_two, turn};
 
 /// The meanings of small programs. `a` concatenated with itself has each record twice as often; a sum wraps at 64 bits; the edges 1-2, 2-3 and 3-4
 /// give all pairs that are connected by up to four of them; a loop of no turns gives its start; a loop whose body is a name from outside gives what

@@ -2,7 +2,8 @@ ghost use Rattle.std.specs.Prelude.{◌≡◌, ◌⊎◌, ◌<◌, ◌+◌, ℕ,
 ghost use Rattle.semantics.specs.Time.{Time, at_epoch, is_before};
 ghost use Rattle.semantics.specs.Graph.{Graph, edge_count};
 ghost use Rattle.semantics.specs.Dataflow.{IsDataflow};
-ghost use Rattle.semantics.specs.Could.{Location, Pointstamp, at_vertex, IsTimeAt, PathStep, step_edge, step_from, step_to, step_time, IsPath, path_time, CouldResultIn};
+ghost use Rattle.semantics.specs.Could.{Location, Pointstamp, at_vertex, IsTimeAt, PathStep, step_edge};
+ghost use Rattle.semantics.specs.Could.{step_from, step_to, step_time, IsPath, path_time, CouldResultIn};
 ghost use Rattle.semantics.specs.Summary.{applied, summary_of};
 ghost use Rattle.semantics.specs.Rank.{rank};
 

@@ -43,6 +43,9 @@ egress_sends t a p batch out h e q = ≈-from (ap records_of e ∙ sym (at_zero 
 pub feedback_sends : (t : Time) (a : Absorbed) (p : ℕ) (batch : List Record) (out : Out) → p < 1 → out.first ≡ Some batch → SendsFor Kind.feedback t a p batch out
 feedback_sends t a p batch out h e q = ≈-from (ap records_of e ∙ sym (at_zero p batch h))
 
+-- a batch that is sent on, by kind
+pub ruleset same_sends = (concat_sends, ingress_sends, egress_sends, feedback_sends)
+
 pub gate_sends : (n : ℕ) (t : Time) (a : Absorbed) (batch : List Record) (out : Out) → records_of out.first ≡ cond (nat_lt (last t.counters) n) batch [] → records_of out.second ≡ cond (nat_eq (last t.counters) n) batch [] → SendsFor (Kind.gate n) t a 0 batch out
 gate_sends n t a batch out e f zero = ≈-from e
 gate_sends n t a batch out e f (suc q) = ≈-from f

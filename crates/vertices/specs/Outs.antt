@@ -26,7 +26,8 @@ sent (suc (suc ports)) out port = two out port
 
 -- what a shard of that kind would send, by out port, for records that come to a port at a time, where it had absorbed a
 abbrev pub Sends : Kind → Time → Absorbed → (port : ℕ) → List Record → (ℕ → List Record) → Type 0
-Sends kind t a port records would = SendsBy (role kind) (λ q ins. op kind t ins q) (λ p. a p t) (λ p. absorbed_by (role kind) a port t records p t) port records would
+Sends kind t a port records would =
+    SendsBy (role kind) (λ q ins. op kind t ins q) (λ p. a p t) (λ p. absorbed_by (role kind) a port t records p t) port records would
 
 -- what it sends
 abbrev pub SendsFor : Kind → Time → Absorbed → (port : ℕ) → List Record → Out → Type 0

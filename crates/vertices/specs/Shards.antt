@@ -10,7 +10,8 @@ use Rattle.vertices.specs.Joins.{IsSidesOf}
 use Rattle.vertices.specs.Piles.{IsPileThen}
 use Rattle.vertices.specs.States.{IsSetOf, AreSetsOf, AreSetsThen}
 use Rattle.vertices.specs.declared.shard.Shard.{Shard}
-use Rattle.vertices.specs.declared.shard.Shard.TheVariants.{Input, Output, Select, Where, Concat, Join, Group, Distinct, Except, Intersect, Ingress, Egress, Feedback, Gate, Hold}
+use Rattle.vertices.specs.declared.shard.Shard.TheVariants.{Input, Output, Select, Where, Concat, Join, Group, Distinct}
+use Rattle.vertices.specs.declared.shard.Shard.TheVariants.{Except, Intersect, Ingress, Egress, Feedback, Gate, Hold}
 
 -- the kind of its vertex
 abbrev pub shard_kind : Shard → semantics.Kind

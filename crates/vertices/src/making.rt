@@ -2,8 +2,9 @@
 
 ghost use Rattle.std.specs.Prelude.{◌≡◌, ◌≤◌, ◌<◌, ◌+◌, ℕ, length, map, IfErr, IfOk};
 ghost use Rattle.std.specs.List.{AllByRecursion};
-ghost use Rattle.expr_tree.specs.Plain.{plain_agg, plain_cond, plain_pair, plain_scalar};
-ghost use Rattle.expr_tree.specs.Views.{cond_tree, scalar_tree};
+ghost use Rattle.expr_tree.specs.Plain.{plain_agg, plain_cond, plain_pair};
+ghost use Rattle.expr_tree.specs.PlainLists.{plain_scalars};
+ghost use Rattle.expr_tree.specs.Views.{cond_tree};
 ghost use Rattle.graph.specs.Views.{kind_of};
 ghost use Rattle.semantics.specs.Kinds.{Kind as Equation, in_ports};
 ghost use Rattle.semantics.specs.PortArity.{PortsFit};
@@ -19,7 +20,7 @@ use crate::intersect::IntersectShard;
 use crate::join::JoinShard;
 use crate::join_plan::JoinPlan;
 use crate::shard::Shard;
-use expr_tree::{Agg, Column, Cond, NoMemory, Pair, Scalar, copy_cond, copy_scalar};
+use expr_tree::{Agg, Column, Cond, Pair, Scalar, copy_cond, copy_scalars};
 use graph::{Kind, Vertex};
 use operators::{
     Concat, Egress, Feedback, Gate, Group, Hold, Ingress, Input, Join, Output, Select, Where,
@@ -80,27 +81,19 @@ pub fn new_shard(
     }
 }
 
-fn new_select(alloc: Global, scalars: &[Scalar<Global>], arity: usize) -> Result<Shard, ShardFault>
-    requires fits { AllByRecursion (ScalarFits arity) (map plain_scalar (map scalar_tree scalars.now)) }
-    requires some { 1 ≤ length scalars.now }
-    requires few { length scalars.now ≤ 16 }
-    ensures fresh { (second : ℕ) → IfOk result (λ s. IsFreshShard (Equation.select (map plain_scalar (map scalar_tree scalars.now))) arity second s) }
+fn new_select(
+    alloc: Global,
+    scalars: &Vec<Scalar<Global>>,
+    arity: usize,
+) -> Result<Shard, ShardFault>
+    requires fits { AllByRecursion (ScalarFits arity) (plain_scalars scalars.now.items) }
+    requires some { 1 ≤ length scalars.now.items }
+    requires few { length scalars.now.items ≤ 16 }
+    ensures fresh { (second : ℕ) → IfOk result (λ s. IsFreshShard (Equation.select (plain_scalars scalars.now.items)) arity second s) }
     ensures never { IfErr result (λ e. e ≡ fault.NoMemory) }
 {
     let scalars = copy_scalars(alloc, scalars)?;
     Ok(Shard::Select(Select { arity, scalars }))
-}
-
-/// The same scalars, in order.
-fn copy_scalars(alloc: Global, scalars: &[Scalar<Global>]) -> Result<Vec<Scalar<Global>>, NoMemory>
-    ensures same { IfOk result (λ copy. map scalar_tree copy.items ≡ map scalar_tree scalars.now) }
-    ensures len { IfOk result (λ copy. length copy.items ≡ length scalars.now) }
-{
-    let mut copy = Vec::with_capacity(alloc, scalars.len())?;
-    for scalar in scalars {
-        copy.push(copy_scalar(alloc, scalar)?)?;
-    }
-    Ok(copy)
 }
 
 fn new_where(alloc: Global, condition: &Cond<Global>, arity: usize) -> Result<Shard, ShardFault>

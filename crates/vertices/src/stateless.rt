@@ -57,7 +57,7 @@ pub fn filter(
 }
 
 /// Sends the same batch on.
-#[tactic(auto, using(crate::proofs::Sending::concat_sends, crate::proofs::Sending::ingress_sends, crate::proofs::Sending::egress_sends, crate::proofs::Sending::feedback_sends))]
+#[tactic(auto, using(crate::proofs::Sending::same_sends))]
 pub fn forward(time: &Time, port: u32, batch: Batch, out: &mut Out)
     requires { port < 2 }
     ensures fits_sent { (q : ℕ) → AllFit (sent 1 out.new q) }

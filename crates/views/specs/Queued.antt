@@ -10,7 +10,8 @@ use Rattle.views.specs.declared.queue.Change.TheVariants.{Add, Remove, End}
 -- these adds and removes, merged into the first batch
 abbrev pub onto_first : (adds removes : Pointstamp → ℕ) → List Changes → List Changes
 onto_first adds removes [] = []
-onto_first adds removes (b ∷ batches) = record { sender = b.sender; adds = λ q. adds q + b.adds q; removes = λ q. removes q + b.removes q; applied = b.applied } ∷ batches
+onto_first adds removes (b ∷ batches) =
+    record { sender = b.sender; adds = λ q. adds q + b.adds q; removes = λ q. removes q + b.removes q; applied = b.applied } ∷ batches
 
 -- the batches; changes without an end don't make a batch yet
 abbrev pub batches_of : (sender : ℕ) → List Change → List Changes
