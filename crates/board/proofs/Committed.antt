@@ -3,13 +3,13 @@ use Rattle.std.proofs.Common.{◌≡◌, ◌≢◌, ◌⊎◌, inl, inr, ◌<◌
 use Rattle.std.proofs.lemmas.Bool.Decides.{eqb_tells}
 use Rattle.semantics.specs.Multiset.{Record, total}
 use Rattle.semantics.specs.Time.{at_epoch}
-use Rattle.semantics.specs.Kinds.{Kind, Role, role}
+use Rattle.semantics.specs.Kinds.{Role, role}
 use Rattle.semantics.specs.Graph.{Graph, vertex, target}
 use Rattle.semantics.specs.Could.{Pointstamp}
 use Rattle.semantics.specs.Dataflow.{IsDataflow}
 use Rattle.graph.specs.Shown.{shown_graph}
 use Rattle.machine.specs.World.{Message, Request, Event}
-use Rattle.machine.specs.Active.{one_if_same, message_pointstamp, request_pointstamp, event_pointstamp}
+use Rattle.machine.specs.Active.{one_if_same, message_pointstamp, event_pointstamp}
 use Rattle.machine.specs.Changes.{parcel_count}
 use Rattle.machine.specs.InTransit.{IsGoodEvent}
 use Rattle.machine.specs.Processing.{asked, event_vertex, event_time}
@@ -24,7 +24,7 @@ use Rattle.events.specs.Jobs.{Job, Pass}
 use Rattle.events.specs.Letters.{sent_to}
 use Rattle.events.specs.Outputs.{IsOutputOf, IsDoneFor}
 use Rattle.events.specs.declared.work.Output.{Output}
-use Rattle.board.specs.Desks.{letters_count}
+use Rattle.board.specs.Desks.{letters_count, requests_count}
 use Rattle.board.specs.Shown.{Shown, Side, Epochs, emitted_by, side_at, side_in, no_side, net, event_at}
 use Rattle.board.specs.Showing.{IsOwn, IsSideOf, AreSidesOf, EachShard, OnShard, known, known_shard}
 use Rattle.board.specs.Fitting.{FitsPlace, FitsVertex}
@@ -149,14 +149,14 @@ module _ (graph : Graph) (content : Pointstamp → ℕ) (s : Shown) (kept : IsKe
   asks_are = done.asks kept.world (was (net s) s (facts.net_of s) kept.world kept.shows p.worker there p.job out own)
 
   pub keeps_commit : (graph' : Graph) (content' : Pointstamp → ℕ) → graph' ≡ graph
-      → ((q : Pointstamp) → content' q + one_if_same q (event_pointstamp p.job.happening) ≡ letters_count q o.sent.items + total (λ n. one_if_same q (request_pointstamp n)) (requests_of o.asked) + content q)
+      → ((q : Pointstamp) → content' q + one_if_same q (event_pointstamp p.job.happening) ≡ letters_count q o.sent.items + requests_count q (requests_of o.asked) + content q)
       → IsKept graph' content' (after_commit s p.worker p.job o.shard.value o.sent.items o.emitted o.asked)
   keeps_commit graph' content' same counts =
       let both = goes_commit.step kept.world kept.shows in
       kept_more graph content s kept (Step.commit p.worker p.job.happening done.out) s.inputs
       (delivered (slice_set s.sides p.worker (settled (side_at s p.worker) (event_at (shown_graph s.graph) p.job.happening) o.shard.value o.asked)) o.sent.items)
       (with_emitted (event_at (shown_graph s.graph) p.job.happening) (event_time p.job.happening).epoch o.emitted s.emitted) s.stopped graph' content' refl (room_with (event_at (shown_graph s.graph) p.job.happening) (event_time p.job.happening).epoch o.emitted s.emitted) goes_commit.workers same sides_then fits_then kept.fed both.0 both.1
-      (λ q. order _ _ _ _ _ _ _ (counts q) (letters_are q) (ap (total (λ n. one_if_same q (request_pointstamp n))) asks_are))
+      (λ q. order _ _ _ _ _ _ _ (counts q) (letters_are q) (ap (requests_count q) asks_are))
     where
       order : (a r l n c l' n' : ℕ) → a + r ≡ l + n + c → l ≡ l' → n ≡ n' → a + r ≡ c + (l' + n')
       order a r l n c l' n' p q t = omega (arith, p, q, t)

@@ -1,7 +1,7 @@
 -- What a board shows after a commit.
 use Rattle.std.proofs.Common.{◌≡◌, ◌≢◌, ◌⊎◌, inl, inr, ◌<◌, ℕ, ◌==◌, Bool, true, false, cond, List, [], ◌++◌, length, refl, sym, ap, ◌∙◌, subst, arith, slice_set, slice_index_or, Option, None, length-set, append-nil}
 use Rattle.std.proofs.lemmas.Bool.Decides.{eqb_tells}
-use Rattle.semantics.specs.Multiset.{Record, ◌≈◌}
+use Rattle.semantics.specs.Multiset.{Record}
 use Rattle.semantics.proofs.MultisetSums.{append_same, ≈-from, ≈-refl, ≈-trans}
 use Rattle.semantics.specs.Time.{Time, same_time, at_epoch}
 use Rattle.semantics.specs.Kinds.{Role}
@@ -11,7 +11,6 @@ use Rattle.machine.specs.World.{World, Request, Event, Held}
 use Rattle.machine.specs.Processing.{event_vertex, event_time, absorbed_by, absorbed_after, asked}
 use Rattle.machine.specs.Sending.{mail_after, parcels}
 use Rattle.machine.specs.Step.{Step, Allowed, after_step, put}
-use Rattle.machine.proofs.Counting.{eqb_self}
 use Rattle.vertices.specs.Absorbed.{Absorbed}
 use Rattle.vertices.specs.Outs.{records_of}
 use Rattle.vertices.specs.Shards.{Shows as ShowsShard}

@@ -20,8 +20,8 @@ use Rattle.board.proofs.Boards.{commit_goes}
 use Rattle.board.proofs.Counts.{have_passed, most_same}
 use Rattle.board.proofs.Ended.{close_goes, seal_goes}
 use Rattle.board.proofs.Feeding.{feeds_goes}
-use Rattle.board.proofs.GivenOut.{hands_message, hands_message_kept, hands_request, hands_request_kept}
-use Rattle.board.proofs.GivenUp.{abandon_goes, abandon_kept}
+use Rattle.board.proofs.HandedOut.{hands_message, hands_message_kept, hands_request, hands_request_kept}
+use Rattle.board.proofs.Abandoning.{abandon_goes, abandon_kept}
 use Rattle.board.proofs.Merged.{merge_goes}
 
 open_rises : (xs : List InputShown) (i : ℕ) (x : InputShown) → (slice_index_or xs i no_input).open_epoch ≤ x.open_epoch → (j : ℕ) → (slice_index_or xs j no_input).open_epoch ≤ (slice_index_or (slice_set xs i x) j no_input).open_epoch

@@ -1,5 +1,5 @@
 -- What has passed stays passed, and the number of passed epochs after each call.
-use Rattle.std.proofs.Common.{◌≡◌, ◌⊎◌, inl, inr, ◌<◌, ◌≤◌, ℕ, List, length, refl, sym, ap, ◌∙◌, subst, arith, slice_index_or}
+use Rattle.std.proofs.Common.{◌≡◌, ◌⊎◌, inl, inr, ◌<◌, ◌≤◌, ℕ, List, length, refl, sym, ap, subst, arith, slice_index_or}
 use Rattle.semantics.specs.Graph.{Graph, input_count, output_number, output_numbers, vertex}
 use Rattle.semantics.specs.Could.{Pointstamp, CouldResultIn, NoneOf, at_vertex}
 use Rattle.semantics.specs.Dataflow.{IsDataflow}

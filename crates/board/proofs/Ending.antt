@@ -1,14 +1,13 @@
 -- From what the code of a commit knows to what it promises.
 use Rattle.std.proofs.Common.{◌≡◌, ◌<◌, ◌+◌, ℕ, List, length, refl, sym, ap, ◌∙◌, subst, arith, slice_set, slice_index_or, length-set}
 use Rattle.atomic_table.specs.Seated.{TableId}
-use Rattle.semantics.specs.Multiset.{total}
 use Rattle.semantics.specs.Graph.{Graph}
 use Rattle.semantics.specs.Could.{Pointstamp, Location, IsTimeAt}
 use Rattle.semantics.specs.Time.{Time}
 use Rattle.graph.specs.Locations.{IsIn}
 use Rattle.graph.specs.Shown.{shown_graph}
 use Rattle.machine.specs.World.{Event}
-use Rattle.machine.specs.Active.{one_if_same, request_pointstamp, event_pointstamp}
+use Rattle.machine.specs.Active.{event_pointstamp}
 use Rattle.machine.specs.Processing.{event_time}
 use Rattle.progress.specs.Content.{times_in}
 use Rattle.tokens.specs.declared.rule.Place.TheVariants.{Out}
@@ -17,7 +16,7 @@ use Rattle.events.specs.Jobs.{Job, Pass}
 use Rattle.events.specs.declared.letter.Letter.{Letter}
 use Rattle.events.specs.declared.work.Output.{Output}
 use Rattle.board.proofs.Deliveries.{delivered_length}
-use Rattle.board.specs.Desks.{Desk, sides_of, letters_count}
+use Rattle.board.specs.Desks.{Desk, sides_of, letters_count, requests_count}
 use Rattle.board.specs.Shown.{Shown, Side, side_at, side_in, event_at, location_vertex}
 use Rattle.board.specs.Steps.{delivered, settled, with_emitted, after_commit}
 use Rattle.board.specs.Commits.{IsOf}
@@ -61,10 +60,10 @@ state_then s t p o o' k v e xs graph inputs stopped sides emitted ex ek ev ee re
     λ i. record { graph = graph i; inputs = inputs i; sides = all i; emitted = out i; stopped = stopped i }
 
 pub added_then : (added : List Pointstamp) (o o' : Output) → record o' { emitted = o.emitted } ≡ o
-    → ((q : Pointstamp) → times_in added q ≡ letters_count q o'.sent.items + total (λ n. one_if_same q (request_pointstamp n)) (requests_of o'.asked))
-    → (q : Pointstamp) → times_in added q ≡ letters_count q o.sent.items + total (λ n. one_if_same q (request_pointstamp n)) (requests_of o.asked)
+    → ((q : Pointstamp) → times_in added q ≡ letters_count q o'.sent.items + requests_count q (requests_of o'.asked))
+    → (q : Pointstamp) → times_in added q ≡ letters_count q o.sent.items + requests_count q (requests_of o.asked)
 added_then added o o' rest counts q =
-    let P : Output → Type 0 = λ x. times_in added q ≡ letters_count q x.sent.items + total (λ n. one_if_same q (request_pointstamp n)) (requests_of x.asked) in
+    let P : Output → Type 0 = λ x. times_in added q ≡ letters_count q x.sent.items + requests_count q (requests_of x.asked) in
     subst P rest (counts q)
 
 pub out_there : (s : Shown) (p : Pass) (x : Side) (j : Job) → x ≡ side_at s p.worker → x.place ≡ Out j → j ≡ p.job → (side_at s p.worker).place ≡ Out p.job

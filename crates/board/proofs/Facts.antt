@@ -69,8 +69,8 @@ module _ (graph : Graph) (content : Pointstamp → ℕ) (s : Shown) (kept : IsKe
         by (Event.notification n) h = h.fits
 
     -- the graph has the location and the time of a request at the event's vertex and time
-    pub wish_located : IsTimeAt (shown_graph s.graph) (Location.vertex (event_at (shown_graph s.graph) j.happening)) (event_time j.happening)
-    wish_located = by j.happening own.vertex good
+    pub request_located : IsTimeAt (shown_graph s.graph) (Location.vertex (event_at (shown_graph s.graph) j.happening)) (event_time j.happening)
+    request_located = by j.happening own.vertex good
       where
         by : (e : Event) → event_at (shown_graph s.graph) e < length (shown_graph s.graph) → IsGoodEvent (shown_graph s.graph) e → IsTimeAt (shown_graph s.graph) (Location.vertex (event_at (shown_graph s.graph) e)) (event_time e)
         by (Event.arrival m) l h = (l, h.fits.1)
@@ -103,7 +103,7 @@ module _ (graph : Graph) (content : Pointstamp → ℕ) (s : Shown) (kept : IsKe
           let P : Request → Type 0 = λ x. IsTimeAt graph (Location.vertex x.vertex) x.time in
           let Q : Graph → Type 0 = λ x. IsTimeAt x (Location.vertex (event_at (shown_graph s.graph) (Event.arrival m))) m.time in
           subst P (sym same) (subst Q (sym kept.same) (let R : ℕ → Type 0 = λ x. IsTimeAt (shown_graph s.graph) (Location.vertex x) m.time in
-          subst R (sym v) (let S : _ → Type 0 = λ x. IsTimeAt (shown_graph s.graph) (Location.vertex (event_at (shown_graph s.graph) j.happening)) x in subst S (sym t) wish_located)))
+          subst R (sym v) (let S : _ → Type 0 = λ x. IsTimeAt (shown_graph s.graph) (Location.vertex (event_at (shown_graph s.graph) j.happening)) x in subst S (sym t) request_located)))
 
       pub asked_here : IfSome o.asked (λ r. IsTimeAt graph (Location.vertex r.vertex) r.time)
       asked_here =

@@ -1,6 +1,5 @@
 -- A scan through requests.
-use Rattle.std.proofs.Common.{◌≡◌, ◌≢◌, ◌⊎◌, inl, inr, ◌<◌, ◌+◌, ◌++◌, ℕ, zero, suc, ◌==◌, true, false, List, [], ◌∷◌, length, sym, ◌∙◌, ap, subst, arith, slice_get, slice_index_or, Some, Result, Ok, Err, OnOk, OnErr}
-use Rattle.std.proofs.lemmas.Bool.Decides.{eqb_tells}
+use Rattle.std.proofs.Common.{◌≡◌, ◌⊎◌, inl, inr, ◌<◌, ◌+◌, ◌++◌, ℕ, zero, suc, List, [], ◌∷◌, length, sym, ◌∙◌, ap, subst, arith, slice_get, slice_index_or, Some, Result, Ok, Err, OnOk, OnErr}
 use Rattle.machine.specs.World.{Request}
 use Rattle.machine.specs.Active.{request_pointstamp}
 use Rattle.semantics.specs.Dataflow.{IsDataflow}
@@ -8,20 +7,14 @@ use Rattle.semantics.proofs.CouldRises.{could_once, could_onward}
 use Rattle.semantics.specs.Graph.{Graph}
 use Rattle.semantics.specs.Could.{CouldResultIn, IsTimeAt, Location, Pointstamp}
 use Rattle.semantics.specs.Time.{IsAtMost}
+use Rattle.semantics.proofs.Cases.{below_or_last}
 use Rattle.board.specs.Deliverable.{IsBlocked, IsDeliverable, StandsBefore}
 use Rattle.board.proofs.Places.{get_index}
-
-pub below_next : (n m : ℕ) → n < m + 1 → (n < m) ⊎ (n ≡ m)
-below_next n m l = go (eqb_tells n m)
-  where
-    go : ((n == m) ≡ true) × (n ≡ m) ⊎ ((n == m) ≡ false) × (n ≢ m) → (n < m) ⊎ (n ≡ m)
-    go (inl (t, q)) = inr q
-    go (inr (t, q)) = inl (omega (arith, l, q))
 
 -- one more place is scanned
 pub blocked_next : (P : Request → Type 0) (rs : List Request) (place : ℕ) (r : Request) → slice_get rs place ≡ Some r → (P r → ⊥)
     → ((at : ℕ) (x : Request) → at < place → slice_get rs at ≡ Some x → P x → ⊥) → (at : ℕ) (x : Request) → at < place + 1 → slice_get rs at ≡ Some x → P x → ⊥
-blocked_next P rs place r got apart before at x l e h = go (below_next at place l)
+blocked_next P rs place r got apart before at x l e h = go (below_or_last at place l)
   where
     go : (at < place) ⊎ (at ≡ place) → ⊥
     go (inl b) = before at x b e h

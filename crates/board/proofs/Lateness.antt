@@ -1,6 +1,7 @@
 -- The numbers of waiting batches, by the views.
 use Rattle.std.proofs.Common.{◌≡◌, ◌≢◌, ◌⊎◌, inl, inr, ◌<◌, ◌≤◌, ◌+◌, ℕ, zero, suc, ◌==◌, Bool, true, false, cond, nat_lt, List, [], ◌∷◌, ◌++◌, length, refl, sym, ap, ◌∙◌, subst, arith, slice_index_or}
 use Rattle.std.proofs.lemmas.Bool.Decides.{eqb_tells}
+use Rattle.std.proofs.lemmas.Bool.{cases_lt}
 use Rattle.semantics.specs.Could.{Pointstamp}
 use Rattle.semantics.specs.Multiset.{total}
 use Rattle.machine.specs.Views.{Changes}
@@ -32,9 +33,6 @@ one_longer : {A : Type 0} (xs : List A) (x : A) → length (xs ++ (x ∷ [])) �
 one_longer [] x = refl
 one_longer (y ∷ xs) x = let e = one_longer xs x in omega (arith, e)
 
-or_past : (a n : ℕ) → (a < n) ⊎ (n ≤ a)
-or_past a n = grind arith
-
 module _ (s : Shown) (n : ℕ) (waiting : Waiting) (passed : ℕ) where
   pub waits_at : (w k : ℕ) → w < n → k < suc n → waits_for (board_of s n waiting passed) w k ≡ length (waiting w k)
   waits_at w k lw lk =
@@ -44,14 +42,14 @@ module _ (s : Shown) (n : ℕ) (waiting : Waiting) (passed : ℕ) where
   no_worker w k l = ap (λ (xs : List ℕ). slice_index_or xs k 0) (past_first n (λ i. first_of (suc n) (λ j. length (waiting i j))) [] w l)
 
   pub no_sender : (w k : ℕ) → suc n ≤ k → waits_for (board_of s n waiting passed) w k ≡ 0
-  no_sender w k l = go (or_past w n)
+  no_sender w k l = go (cases_lt w n)
     where
       go : (w < n) ⊎ (n ≤ w) → waits_for (board_of s n waiting passed) w k ≡ 0
       go (inl lw) = ap (λ (xs : List ℕ). slice_index_or xs k 0) (at_first n (λ i. first_of (suc n) (λ j. length (waiting i j))) [] w lw) ∙ past_first (suc n) (λ j. length (waiting w j)) 0 k l
       go (inr lw) = no_worker w k lw
 
   pub up_to_date : (w : ℕ) → ((k : ℕ) → w < n → k < suc n → waiting w k ≡ []) → IsUpToDate (board_of s n waiting passed) w
-  up_to_date w none k = go (or_past w n) (or_past k (suc n))
+  up_to_date w none k = go (cases_lt w n) (cases_lt k (suc n))
     where
       go : (w < n) ⊎ (n ≤ w) → (k < suc n) ⊎ (suc n ≤ k) → waits_for (board_of s n waiting passed) w k ≡ 0
       go (inl lw) (inl lk) = waits_at w k lw lk ∙ ap length (none k lw lk)
@@ -65,7 +63,7 @@ module _ (s : Shown) (n : ℕ) (waiting : Waiting) (passed : ℕ) where
   -- compared with other views
   module _ (t : Shown) (waiting' : Waiting) (passed' : ℕ) where
     pub waits_same : (w k : ℕ) → (w < n → k < suc n → waiting' w k ≡ waiting w k) → waits_for (board_of t n waiting' passed') w k ≡ waits_for (board_of s n waiting passed) w k
-    waits_same w k same = go (or_past w n) (or_past k (suc n))
+    waits_same w k same = go (cases_lt w n) (cases_lt k (suc n))
       where
         here : w < n → k < suc n → waits_for (board_of t n waiting' passed') w k ≡ waits_for (board_of s n waiting passed) w k
         here lw lk =

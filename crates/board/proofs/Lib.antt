@@ -20,11 +20,11 @@ pub mod Ready
 pub mod Handing
 pub mod Worlds
 pub mod Together
-pub mod GivenOut
+pub mod HandedOut
 pub mod Frontiers
 pub mod Ended
 pub mod Feeding
-pub mod GivenUp
+pub mod Abandoning
 pub mod Counts
 pub mod Passing
 pub mod Kths

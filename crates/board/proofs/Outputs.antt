@@ -1,5 +1,5 @@
 -- The outputs of a graph, and what vertices have emitted at the opening.
-use Rattle.std.proofs.Common.{◌≡◌, ◌≤◌, ◌+◌, ℕ, zero, suc, Bool, true, false, cond, List, [], ◌∷◌, ◌++◌, length, refl, sym, ap, ◌∙◌, arith, length-append}
+use Rattle.std.proofs.Common.{◌≡◌, ◌≤◌, ◌+◌, ℕ, zero, suc, Bool, true, false, cond, List, [], ◌∷◌, ◌++◌, length, refl, ap, ◌∙◌, arith, length-append}
 use Rattle.semantics.specs.Graph.{Graph, Vertex, output_numbers, outputs_from}
 use Rattle.semantics.specs.Kinds.{is_output}
 use Rattle.board.specs.Shown.{Epochs, emitted_by}

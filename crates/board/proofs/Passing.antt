@@ -1,9 +1,9 @@
 -- The number of passed epochs.
-use Rattle.std.proofs.Common.{◌≡◌, ◌≢◌, ◌⊎◌, inl, inr, ◌<◌, ◌≤◌, ◌+◌, ℕ, zero, suc, ◌==◌, true, false, List, [], ◌∷◌, length, refl, sym, ap, subst, arith, slice_index_or}
+use Rattle.std.proofs.Common.{◌≡◌, ◌≢◌, ◌⊎◌, inl, inr, ◌<◌, ◌≤◌, ◌+◌, ℕ, zero, suc, ◌==◌, true, false, List, [], ◌∷◌, length, refl, sym, subst, arith, slice_index_or}
 use Rattle.std.proofs.lemmas.Bool.Decides.{eqb_tells}
+use Rattle.std.proofs.lemmas.Bool.{cases_lt}
 use Rattle.semantics.specs.Graph.{Graph, output_number, output_numbers}
-use Rattle.semantics.specs.Could.{Pointstamp, CouldResultIn, IsTimeAt, Location, NoneOf, at_vertex}
-use Rattle.semantics.specs.Kinds.{Role, role}
+use Rattle.semantics.specs.Could.{Pointstamp, IsTimeAt, Location, at_vertex}
 use Rattle.semantics.proofs.OutputNumbers.{output_is_there}
 use Rattle.semantics.specs.Time.{at_epoch}
 use Rattle.graph.specs.Shown.{shown_graph}
@@ -25,9 +25,6 @@ passed_next P start n here before e l m = go (eqb_tells e n)
     go : ((e == n) ≡ true) × (e ≡ n) ⊎ ((e == n) ≡ false) × (e ≢ n) → P e
     go (inl (t, q)) = subst P (sym q) here
     go (inr (t, q)) = before e l (omega (arith, m, q))
-
-below_or : (a b : ℕ) → (a < b) ⊎ (b ≤ a)
-below_or a b = grind arith
 
 -- there is one greatest number of seals
 pub seals_one : (s : Shown) (m n : ℕ) → IsMostSeals s m → IsMostSeals s n → m ≡ n
@@ -56,7 +53,7 @@ most_seals s = let r = of s.inputs in (r.0, record { most = r.1; some = r.2 })
 
     of : (xs : List InputShown) → (m : ℕ) × Most xs m × Some xs m
     of [] = (0, (λ i l. absurd (omega (arith, l))), inl refl)
-    of (x ∷ xs) = let r = of xs in go r.0 r.1 r.2 (below_or r.0 x.open_epoch)
+    of (x ∷ xs) = let r = of xs in go r.0 r.1 r.2 (cases_lt r.0 x.open_epoch)
       where
         go : (m : ℕ) → Most xs m → Some xs m → (m < x.open_epoch) ⊎ (x.open_epoch ≤ m) → (k : ℕ) × Most (x ∷ xs) k × Some (x ∷ xs) k
         go m most some (inl l) = (x.open_epoch, most_here, inr (0, omega arith, refl))
@@ -107,7 +104,7 @@ module _ (graph : Graph) (content : Pointstamp → ℕ) (s : Shown) (kept : IsKe
     -- A number below which each epoch has passed can be raised over further epochs that have passed.
     pub have_further : (start : ℕ) → HavePassed s start → (n : ℕ) → n ≤ seals → ((e : ℕ) → start ≤ e → e < n → NoneLeftAtAll graph (λ q. 0 < content q) s e) → HavePassed s n
     have_further start before n within passed w is =
-        (sealed_most w is n within, (passed_below (shown_graph s.graph) (length s.sides) w n).1 (λ k e l b. at k e l b (below_or e start)))
+        (sealed_most w is n within, (passed_below (shown_graph s.graph) (length s.sides) w n).1 (λ k e l b. at k e l b (cases_lt e start)))
       where
         at : (k e : ℕ) → k < length (output_numbers (shown_graph s.graph)) → e < n → (e < start) ⊎ (start ≤ e) → Passed (net s) w (output_number (shown_graph s.graph) k) e
         at k e l b (inl early) = (passed_below (shown_graph s.graph) (length s.sides) w start).0 (before w is).1 k e l early
@@ -118,7 +115,7 @@ module _ (graph : Graph) (content : Pointstamp → ℕ) (s : Shown) (kept : IsKe
     counts n have within first w is = record {
       sealed = (have w is).0;
       passed = (have w is).1;
-      greatest = λ m to all. least m (at_most_seals w is m to) all (below_or n m);
+      greatest = λ m to all. least m (at_most_seals w is m to) all (cases_lt n m);
     }
       where
         least : (m : ℕ) → m ≤ seals → PassedBelow (net s) w m → (n < m) ⊎ (m ≤ n) → m ≤ n

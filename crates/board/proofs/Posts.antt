@@ -1,13 +1,13 @@
 -- What each step posts may be posted, and what is active then.
 use Rattle.std.proofs.Common.{◌≡◌, ◌≢◌, ◌⊎◌, inl, inr, ◌<◌, ◌≤◌, ◌+◌, ◌-◌, ℕ, Bool, false, cond, nat_lt, List, [], ◌∷◌, length, refl, sym, ap, ◌∙◌, subst, arith, slice_set, length-set}
-use Rattle.semantics.specs.Multiset.{Record, total}
+use Rattle.semantics.specs.Multiset.{Record}
 use Rattle.semantics.specs.Graph.{Graph, input_count}
 use Rattle.semantics.specs.Could.{CouldResultIn, Pointstamp, at_vertex}
 use Rattle.semantics.specs.Time.{at_epoch}
 use Rattle.semantics.specs.PortArity.{HaveFields}
 use Rattle.graph.specs.Shown.{shown_graph}
 use Rattle.machine.specs.World.{World}
-use Rattle.machine.specs.Active.{active_count, one_if_same, request_pointstamp}
+use Rattle.machine.specs.Active.{active_count, one_if_same}
 use Rattle.machine.proofs.Active.{one_tells}
 use Rattle.machine.specs.Changes.{step_adds, step_removes, step_sender}
 use Rattle.machine.specs.Engine.{network}
@@ -33,6 +33,7 @@ use Rattle.board.proofs.Facts.{run_on}
 use Rattle.board.proofs.Feeding as feeding
 use Rattle.board.proofs.Lateness.{board_of, counts_alike, posted_some, posts}
 use Rattle.board.proofs.Merged as merging
+use Rattle.board.specs.Desks.{requests_count}
 
 -- the changes of an allowed step may be posted
 abbrev pub MayLaw : Type 0
@@ -85,7 +86,7 @@ module _ (law : MayLaw) (graph graph' : Graph) (viewers : ℕ) (before middle : 
         let d = committed.done graph before s kept p of x.out x.output x.is in
         let go = committed.goes_commit graph before s kept p of x.out x.output x.is in
         may_post (Step.commit p.worker p.job.happening d.out) (go.step kept.world kept.shows).0 p.worker (λ i. p.worker) added (place ∷ [])
-        (λ q. sums _ _ _ _ _ (x.added_are q) (committed.letters_are graph before s kept p of x.out x.output x.is q) (ap (total (λ n. one_if_same q (request_pointstamp n))) (committed.asks_are graph before s kept p of x.out x.output x.is)))
+        (λ q. sums _ _ _ _ _ (x.added_are q) (committed.letters_are graph before s kept p of x.out x.output x.is q) (ap (requests_count q) (committed.asks_are graph before s kept p of x.out x.output x.is)))
         (λ q. no_more _ _ (ap (one_if_same q) x.place_is))
       where
         sums : (a l n l' n' : ℕ) → a ≡ l + n → l ≡ l' → n ≡ n' → a ≡ l' + n'

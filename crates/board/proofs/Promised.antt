@@ -1,5 +1,5 @@
 -- What a board promises, from the run that it keeps.
-use Rattle.std.proofs.Common.{◌≡◌, ◌≤◌, ◌<◌, ℕ, List, length, sym, ap, ◌∙◌, subst, arith}
+use Rattle.std.proofs.Common.{◌≡◌, ℕ, List, length, sym, ap, ◌∙◌, subst, arith}
 use Rattle.semantics.specs.Multiset.{Record, IsPartOf, ◌≈◌}
 use Rattle.semantics.proofs.MultisetSums.{≈-from, ≈-sym, ≈-trans}
 use Rattle.semantics.specs.Query.{Program}
@@ -7,7 +7,7 @@ use Rattle.semantics.specs.Meaning.{program_meaning}
 use Rattle.semantics.specs.Graph.{Graph, output_number}
 use Rattle.semantics.specs.Could.{Pointstamp}
 use Rattle.graph.specs.Shown.{shown_graph}
-use Rattle.machine.specs.World.{World, opening}
+use Rattle.machine.specs.World.{opening}
 use Rattle.machine.specs.Frontier.{Passed}
 use Rattle.machine.specs.Engine.{engine, network}
 use Rattle.machine.specs.Headline.{IsRunOf, meant, output_of}
@@ -15,7 +15,6 @@ use Rattle.machine.specs.Run.{Run}
 use Rattle.machine.proofs.Headline.{emitted_part, emitted_whole}
 use Rattle.machine.proofs.PassedEpochs.{drained_passed}
 use Rattle.board.specs.Shown.{Shown, held_of}
-use Rattle.board.specs.Showing.{Shows}
 use Rattle.board.specs.Kept.{IsKept}
 use Rattle.board.specs.Promises.{RunsProgram, HasPassed, IsDrained, KeepsPromise, emitted_at, meant_of}
 

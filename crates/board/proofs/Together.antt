@@ -1,14 +1,15 @@
 -- Messages of a mailbox that are taken out, and merged or put back.
-use Rattle.std.proofs.Common.{◌≡◌, ◌<◌, ◌≤◌, ◌+◌, ◌-◌, ◌⊎◌, inl, inr, ℕ, zero, suc, Bool, true, false, MatchBool, List, [], ◌∷◌, ◌++◌, length, take, drop, refl, sym, ap, ◌∙◌, subst, arith, slice_get, slice_index_or, remove, Some, None}
+use Rattle.std.proofs.Common.{◌≡◌, ◌<◌, ◌≤◌, ◌+◌, ◌-◌, ◌⊎◌, inl, inr, ℕ, zero, suc, Bool, true, false, MatchBool, List, [], ◌∷◌, ◌++◌, length, drop, refl, sym, ap, ◌∙◌, subst, arith, slice_get, slice_index_or, remove, Some}
 use Rattle.std.specs.List.{insert}
 use Rattle.std.proofs.lemmas.List.Edits.{length-remove}
+use Rattle.std.proofs.lemmas.Option.{same_Some}
 use Rattle.semantics.specs.Could.{Pointstamp}
+use Rattle.semantics.proofs.Cases.{below_or_last}
 use Rattle.machine.specs.Active.{message_pointstamp}
 use Rattle.machine.specs.World.{Message}
 use Rattle.machine.specs.Step.{merged}
 use Rattle.events.specs.Merging.{MayMerge}
 use Rattle.board.specs.Merging.{AreAlike, AreMerged}
-use Rattle.board.proofs.Frontiers.{below_next}
 use Rattle.board.proofs.Places.{get_index}
 
 abbrev list_of_none : (X : Type 0) → List X
@@ -18,19 +19,16 @@ none_there : {X : Type 0} (i : ℕ) (x : X) → slice_get (list_of_none X) i ≡
 none_there zero x e = absurd (cc)
 none_there (suc i) x e = absurd (cc)
 
-one_value : {X : Type 0} (y x : X) → Some y ≡ Some x → y ≡ x
-one_value y x e = cc
-
 -- putting back what was taken out restores the list
 put_back : {X : Type 0} (xs : List X) (i : ℕ) (x : X) → slice_get xs i ≡ Some x → insert (remove xs i) i x ≡ xs
 put_back [] i x e = absurd (none_there i x e)
-put_back (y ∷ xs) zero x e = ap (λ z. z ∷ xs) (sym (one_value y x e))
+put_back (y ∷ xs) zero x e = ap (λ z. z ∷ xs) (sym (same_Some y x e))
 put_back (y ∷ xs) (suc i) x e = ap (λ zs. y ∷ zs) (put_back xs i x e)
 
 -- the first stays first when one behind it is taken out
 first_stays : {X : Type 0} (xs : List X) (at : ℕ) (d x : X) → slice_get xs 0 ≡ Some x → slice_index_or (remove xs (suc at)) 0 d ≡ x
 first_stays [] at d x e = absurd (none_there 0 x e)
-first_stays (y ∷ xs) at d x e = one_value y x e
+first_stays (y ∷ xs) at d x e = same_Some y x e
 
 -- taking out both
 both_out : {X : Type 0} (xs : List X) (at : ℕ) (x : X) → slice_get xs 0 ≡ Some x → remove (remove xs (suc at)) 0 ≡ remove (drop 1 xs) at
@@ -40,7 +38,7 @@ both_out (y ∷ xs) at x e = refl
 -- putting the second back behind the first
 both_back : {X : Type 0} (xs : List X) (at : ℕ) (x y : X) → slice_get xs 0 ≡ Some x → slice_get xs (suc at) ≡ Some y → insert (x ∷ remove (remove xs (suc at)) 0) (suc at) y ≡ xs
 both_back [] at x y e f = absurd (none_there 0 x e)
-both_back (z ∷ xs) at x y e f = let i : x ≡ z = sym (one_value z x e) in (λ j. i j ∷ put_back xs at y f j)
+both_back (z ∷ xs) at x y e f = let i : x ≡ z = sym (same_Some z x e) in (λ j. i j ∷ put_back xs at y f j)
 
 next_of : (at : ℕ) → at + 1 ≡ suc at
 next_of at = omega arith
@@ -83,8 +81,8 @@ pub are_alike : (ms : List Message) (at : ℕ) (first second : Message) (r : Boo
     → (r ≡ true → MayMerge first second) → (MayMerge first second → r ≡ true) → MatchBool r (AreAlike ms at) (AreAlike ms at → ⊥)
 are_alike ms at first second true got other may only = record { first = first; second = second; got = got; other = other; may = may refl }
 are_alike ms at first second false got other may only = λ a.
-    let f : a.first ≡ first = one_value a.first first (sym a.got ∙ got) in
-    let s : a.second ≡ second = one_value a.second second (sym a.other ∙ other) in
+    let f : a.first ≡ first = same_Some a.first first (sym a.got ∙ got) in
+    let s : a.second ≡ second = same_Some a.second second (sym a.other ∙ other) in
     let m : MayMerge first second = subst (λ x. MayMerge x second) f (subst (λ x. MayMerge a.first x) s a.may) in
     let e : false ≡ true = only m in
     absurd (cc)
@@ -103,7 +101,7 @@ still_there ms at a left mail first left_is mail_is =
 
 -- one more place that was compared
 pub none_more : (P : ℕ → Type 0) (from k : ℕ) → ((at : ℕ) → from ≤ at → at < k → P at → ⊥) → (P k → ⊥) → (at : ℕ) → from ≤ at → at < k + 1 → P at → ⊥
-none_more P from k before now at l m h = go (below_next at k m)
+none_more P from k before now at l m h = go (below_or_last at k m)
   where
     go : (at < k) ⊎ (at ≡ k) → ⊥
     go (inl b) = before at l b h

@@ -87,8 +87,12 @@ impl<V: Views> Model for Board<V> {
 
     ghost Value = { BoardShown };
 
-    ghost coded = { Prim.hlevel (codes, shard_row.the_row.coded,
-        (scalar.the_row heap.the_row allocates.ghosts).coded, (condition.the_row heap.the_row allocates.ghosts).coded) };
+    ghost coded = { Prim.hlevel (
+      codes,
+      shard_row.the_row.coded,
+      (scalar.the_row heap.the_row allocates.ghosts).coded,
+      (condition.the_row heap.the_row allocates.ghosts).coded,
+    ) };
 
     ghost view = { λ b. record { shown = b.state; waits = counts_of (V.workers b.views) (V.waiting b.views); passed = b.passed } };
 

@@ -1,6 +1,6 @@
 //! Batches by epoch.
 
-ghost use Rattle.std.specs.Prelude.{◌≡◌, ◌++◌, ◌∷◌, [], ℕ, List, ℤ, ◌+◌, ◌<◌, ◌≤◌, length, slice_index_or, vec_len, vec_capacity, IfErr, OnOk, OnErr};
+ghost use Rattle.std.specs.Prelude.{◌≡◌, ◌++◌, ◌∷◌, [], List, ℤ, ◌+◌, ◌<◌, ◌≤◌, slice_index_or, vec_len, vec_capacity, IfErr, OnOk, OnErr};
 ghost use Rattle.board.specs.Steps.{more_at};
 
 use rows::Batch;

@@ -1,6 +1,6 @@
 //! A snapshot of an epoch, to be kept while the board goes on.
 
-ghost use Rattle.std.specs.Prelude.{◌≡◌, ℕ, [], map, slice_index_or, IfOk};
+ghost use Rattle.std.specs.Prelude.{◌≡◌, [], map, slice_index_or, IfOk};
 ghost use Rattle.board.specs.Looks.{IsPromised, fed_by, output_in};
 
 use crate::epochs::Batches;

@@ -1,6 +1,6 @@
 //! Makes the parts of a new board.
 
-ghost use Rattle.std.specs.Prelude.{◌≡◌, ◌<◌, ◌≤◌, [], ℕ, length, slice_index_or, IfOk, None};
+ghost use Rattle.std.specs.Prelude.{◌≡◌, ◌<◌, ℕ, length, slice_index_or, IfOk};
 ghost use Rattle.graph.specs.Shown.{shown_graph};
 ghost use Rattle.board.specs.Desks.{sides_of};
 ghost use Rattle.board.specs.Fresh.{HasFreshSides, HasShards, IsFreshSide, IsFreshSlot};

@@ -1,10 +1,8 @@
 //! Counts the epochs that have passed.
 
 ghost use Rattle.std.specs.Prelude.{◌≡◌, ◌<◌, ◌≤◌, ◌↔◌, ℕ, IsTrue, length};
-ghost use Rattle.semantics.specs.Could.{IsTimeAt, Location as Where, at_vertex};
-ghost use Rattle.semantics.specs.Graph.{output_number};
+ghost use Rattle.semantics.specs.Could.{at_vertex};
 ghost use Rattle.semantics.specs.Time.{at_epoch};
-ghost use Rattle.graph.specs.Shown.{shown_graph};
 ghost use Rattle.views.specs.Waiting.{IsSeenBy};
 ghost use Rattle.board.specs.Kept.{IsKept};
 ghost use Rattle.board.specs.Promises.{IsOutputPlace};
@@ -54,8 +52,8 @@ pub fn is_over<V: Views>(views: &V, state: &State, epoch: u32) -> bool
     requires some { 0 < V.workers views.now }
     requires outputs { AreOutputsIn (V.graph views.now) state.now }
     ensures there { IsTrue result → NoneLeftAtAll (V.graph views.now) (λ q. 0 < V.content views.now q) state.now epoch }
-    ensures seen {
-        NoneLeftAtAll (V.graph views.now) (IsSeenBy (V.content views.now) (V.waiting views.now) (V.workers views.now) 0) state.now epoch → IsTrue result }
+    ensures seen { NoneLeftAtAll (V.graph views.now) (IsSeenBy (V.content views.now) (V.waiting views.now) (V.workers views.now) 0) state.now epoch →
+        IsTrue result }
 {
     for output in 0..state.output_count() {
         if !views.none_before(0, &output_place(state.output(output), epoch)) {

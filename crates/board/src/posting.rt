@@ -21,7 +21,7 @@ pub fn post<V: Views>(views: &mut V, sender: u32, added: &[Pointstamp], removed:
     ensures content { (q : Active) → V.content views.new q + times_in removed.now q ≡ V.content views.old q + times_in added.now q }
     ensures waiting { (worker s : ℕ) → worker < V.workers views.old → V.waiting views.new worker s ≡
         cond (nat_lt 0 (length added.now + length removed.now))
-            (after_post V.late (V.waiting views.old) (batch sender added.now removed.now) worker s) (V.waiting views.old worker s) }
+        (after_post V.late (V.waiting views.old) (batch sender added.now removed.now) worker s) (V.waiting views.old worker s) }
     ensures room { V.room views.old ≤ V.room views.new + (length added.now + length removed.now) }
 {
     if added.len() + removed.len() > 0 {
@@ -45,7 +45,7 @@ pub fn post_noted<V: Views>(
     ensures content { (q : Active) → V.content views.new q + times_in removed.now q ≡ V.content views.old q + times_in added.now.items q }
     ensures waiting { (worker s : ℕ) → worker < V.workers views.old → V.waiting views.new worker s ≡
         cond (nat_lt 0 (length added.now.items + length removed.now))
-            (after_post V.late (V.waiting views.old) (batch sender added.now.items removed.now) worker s) (V.waiting views.old worker s) }
+        (after_post V.late (V.waiting views.old) (batch sender added.now.items removed.now) worker s) (V.waiting views.old worker s) }
     ensures room { V.room views.old ≤ V.room views.new + (length added.now.items + length removed.now) }
 {
     post(views, sender, added, removed);

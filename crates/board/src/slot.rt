@@ -24,8 +24,12 @@ impl Model for Slot {
 
     ghost Value = { Option kind.Shard };
 
-    ghost coded = { Prim.hlevel (codes, shard_row.the_row.coded,
-        (scalar.the_row heap.the_row allocates.ghosts).coded, (condition.the_row heap.the_row allocates.ghosts).coded) };
+    ghost coded = { Prim.hlevel (
+      codes,
+      shard_row.the_row.coded,
+      (scalar.the_row heap.the_row allocates.ghosts).coded,
+      (condition.the_row heap.the_row allocates.ghosts).coded,
+    ) };
 
     ghost view = { λ s. option_map (λ b. b.value) s.shard };
 }

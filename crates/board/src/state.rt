@@ -1,8 +1,8 @@
 //! What a board holds besides its views. A method that is refused leaves it showing the same as before.
 
 ghost use Rattle.std.specs.Prelude.{◌≡◌, ◌≢◌, ◌+◌, ◌<◌, ◌≤◌, ℕ, [], length, map, slice_index_or, None, MatchBool, OnOk, OnErr, IfOk, IfErr, IfSome, IfNone};
-ghost use Rattle.semantics.specs.Could.{Location as Where, Pointstamp as Active};
-ghost use Rattle.semantics.specs.Graph.{edge_count, input_count, output_number, output_numbers, target, Graph as Definition};
+ghost use Rattle.semantics.specs.Could.{Pointstamp as Active};
+ghost use Rattle.semantics.specs.Graph.{input_count, output_number, output_numbers, target, Graph as Definition};
 ghost use Rattle.tokens.specs.declared.rule.Place.TheVariants.{Home, Out};
 ghost use Rattle.board.specs.Claims.{HandsMessage, HandsRequest, MergesMail};
 ghost use Rattle.graph.specs.Locations.{IsIn, location_of};
@@ -62,11 +62,20 @@ impl Model for State {
 
     ghost Value = { Shown };
 
-    ghost coded = { Prim.hlevel (codes, shard_row.the_row.coded,
-        (scalar.the_row heap.the_row allocates.ghosts).coded, (condition.the_row heap.the_row allocates.ghosts).coded) };
+    ghost coded = { Prim.hlevel (
+      codes,
+      shard_row.the_row.coded,
+      (scalar.the_row heap.the_row allocates.ghosts).coded,
+      (condition.the_row heap.the_row allocates.ghosts).coded,
+    ) };
 
     ghost view = { λ s. record {
-        graph = s.wiring.value.graph; inputs = s.inputs.items; sides = sides_of s.workers.items; emitted = s.emitted; stopped = s.stopped } };
+      graph = s.wiring.value.graph;
+      inputs = s.inputs.items;
+      sides = sides_of s.workers.items;
+      emitted = s.emitted;
+      stopped = s.stopped;
+    } };
 
     ghost invariant = { λ s. s.wiring.value.workers ≡ length s.workers.items };
 }

@@ -1,8 +1,8 @@
 //! A worker's part of the board.
 
-ghost use Rattle.std.specs.Prelude.{◌≡◌, ◌≢◌, ◌<◌, ◌≤◌, ◌+◌, ◌++◌, ◌∷◌, ◌↔◌, ℕ, [], length, remove, slice_get};
-ghost use Rattle.std.specs.Prelude.{slice_index_or, Some, None, IsTrue, IfNone, IfOk, IfSome, OnOk, OnErr, MatchBool};
-ghost use Rattle.machine.specs.World.{Event as Happens, Message as Mail, Request as Wish};
+ghost use Rattle.std.specs.Prelude.{◌≡◌, ◌≢◌, ◌<◌, ◌≤◌, ◌+◌, ℕ, [], length, remove, slice_get};
+ghost use Rattle.std.specs.Prelude.{slice_index_or, Some, None, IfNone, IfOk, IfSome, OnOk, MatchBool};
+ghost use Rattle.machine.specs.World.{Event as Happens, Message as Mail, Request as RequestShown};
 ghost use Rattle.tokens.specs.declared.rule.Place.TheVariants.{Home, Out, Lost};
 ghost use Rattle.vertices.specs.declared.shard.Shard as shard;
 ghost use Rattle.board.specs.Desks.{IsIdle, is_out};
@@ -44,14 +44,25 @@ impl Model for Worker {
 
     ghost Value = { Desk };
 
-    ghost coded = { Prim.hlevel (codes, shard_row.the_row.coded,
-        (scalar.the_row heap.the_row allocates.ghosts).coded, (condition.the_row heap.the_row allocates.ghosts).coded) };
+    ghost coded = { Prim.hlevel (
+      codes,
+      shard_row.the_row.coded,
+      (scalar.the_row heap.the_row allocates.ghosts).coded,
+      (condition.the_row heap.the_row allocates.ghosts).coded,
+    ) };
 
     ghost view = { λ w. record {
-        side = record {
-            wired = wired_of (λ x. x.value) w.tie.place w.wiring; table = w.tie.table;
-            mail = w.mailbox.messages; requests = w.requests.messages; place = w.tie.place; shards = w.shards.items };
-        mail_room = w.mailbox.room; request_room = w.requests.room } };
+      side = record {
+        wired = wired_of (λ x. x.value) w.tie.place w.wiring;
+        table = w.tie.table;
+        mail = w.mailbox.messages;
+        requests = w.requests.messages;
+        place = w.tie.place;
+        shards = w.shards.items;
+      };
+      mail_room = w.mailbox.room;
+      request_room = w.requests.room;
+    } };
 
     ghost invariant = { λ w. IsHome w.tie.place w.wiring w.lost };
 }
@@ -194,7 +205,7 @@ impl Worker {
         requires shard { (x : shard.Shard) × (slice_index_or self.old.side.shards vertex None ≡ Some x) }
         ensures stub { result.1 ≡ record { table = self.old.side.table; job = result.0 } }
         ensures wired { result.0.wired ≡ self.old.side.wired }
-        ensures request { (r : Wish) × (slice_get self.old.side.requests place ≡ Some r) × (result.0.happening ≡ Happens.notification r) }
+        ensures request { (r : RequestShown) × (slice_get self.old.side.requests place ≡ Some r) × (result.0.happening ≡ Happens.notification r) }
         ensures shard { slice_index_or self.old.side.shards vertex None ≡ Some result.0.before }
         ensures state { self.new.side ≡ out_with (record self.old.side { requests = remove self.old.side.requests place }) vertex result.0 }
     {

@@ -1,7 +1,7 @@
 -- A commit of a message keeps the facts that hold in every reached world.
 use Rattle.std.proofs.Common.{◌≡◌, ◌≢◌, ◌≤◌, ◌<◌, ℕ, zero, suc, ◌+◌, Bool, true, false, cond, eqb, List, [], ◌∷◌, ◌++◌, ◌⊎◌, inl, inr, refl, sym, ap, ◌∙◌, subst, ap₂, arith, append-nil}
 use Rattle.std.proofs.lemmas.Bool.Decides.{eqb_tells}
-use Rattle.semantics.specs.Multiset.{total, Record, count, end_to_end, ◌≈◌}
+use Rattle.semantics.specs.Multiset.{total, Record, count, end_to_end, ◌≈◌, one_if}
 use Rattle.semantics.specs.Could.{at_vertex}
 use Rattle.semantics.specs.Time.{Time, same_time, at_epoch}
 use Rattle.semantics.proofs.MultisetSums.{≈-from, total-append}
@@ -17,7 +17,7 @@ use Rattle.machine.proofs.Kept.{done_at, each}
 use Rattle.semantics.specs.Shard.{only_at}
 use Rattle.machine.proofs.Commits.{once, way_after, vertex_after}
 use Rattle.machine.proofs.Counting.{eqb_self, below_one, below_changed, count-append, count_either}
-use Rattle.machine.proofs.Kept.{done_at, History, carried, held_records, under_way, wished, held_wish, wishes, some, bit, made, Due, Kept, GoodMessage, GoodRequest, GoodHeld}
+use Rattle.machine.proofs.Kept.{done_at, History, carried, held_records, under_way, one_if_at, held_notifications, open_requests, some, made, Due, Kept, GoodMessage, GoodRequest, GoodHeld}
 use Rattle.machine.proofs.Ports.{end_same, some_append, some_of_port}
 use Rattle.machine.proofs.Laws.{IsNetwork, IsOutput, AtHome, times_in}
 use Rattle.machine.proofs.NetFlow.{HasFlows}
@@ -32,7 +32,7 @@ abbrev pub done_after : History → ℕ → Message → ℕ → ℕ → Time →
 done_after h k0 m k e t = h.done k e t ++ cond (eqb k k0) (cond (eqb m.edge e) (cond (same_time m.time t) m.records []) []) []
 
 abbrev pub history_done : History → ℕ → Message → History
-history_done h k0 m = record { done = done_after h k0 m; told = h.told }
+history_done h k0 m = record { done = done_after h k0 m; notified = h.notified }
 
 pub record DoneHere (h : History) (k0 : ℕ) (m : Message) (k e : ℕ) (t : Time) : Type 0 where
   pub worker : k ≡ k0
@@ -127,10 +127,10 @@ module _ (g : Network) (law : IsNetwork g) (w : World) (h : History) (keeps : Ke
   port_of v p lp e = ap g.in_port e ∙ law.port_into v p lp
 
   -- no worker was notified that nothing more comes
-  untold : g.role (g.target m.edge) ≡ Role.notified → (k : ℕ) → k < g.workers → h.told k (g.target m.edge) m.time ≡ false
-  untold s k lk = go (h.told k (g.target m.edge) m.time) refl
+  not_notified : g.role (g.target m.edge) ≡ Role.notified → (k : ℕ) → k < g.workers → h.notified k (g.target m.edge) m.time ≡ false
+  not_notified s k lk = go (h.notified k (g.target m.edge) m.time) refl
     where
-      go : (b : Bool) → h.told k (g.target m.edge) m.time ≡ b → h.told k (g.target m.edge) m.time ≡ false
+      go : (b : Bool) → h.notified k (g.target m.edge) m.time ≡ b → h.notified k (g.target m.edge) m.time ≡ false
       go false e = e
       go true e = absurd (edge_not_vertex m.edge (g.target m.edge) m.time m.time (keeps.settled k (g.target m.edge) m.time lk s (inl e) (message_pointstamp m) (IsActive.of_held k0 false (Event.arrival m) ok.0 ok.1) (law.could_enter m.edge m.time good_message.0 good_message.3)))
 
@@ -153,7 +153,7 @@ module _ (g : Network) (law : IsNetwork g) (w : World) (h : History) (keeps : Ke
       go (inl x) (inr (inr a)) = absurd (a (sym x.time))
 
   rest : (k v q : ℕ) (t : Time) (r : Record) → ((k ≢ k0) ⊎ ((v ≢ g.target m.edge) ⊎ (t ≢ m.time))) → made g (history_done h k0 m) v q t r k ≡ made g h v q t r k
-  rest k v q t r ne = ap (λ n. cond (h.told k v t) n 0) ((law.op_same v q t (λ p. done_after h k0 m k (g.edge_into v p) t) (λ p. h.done k (g.edge_into v p) t) (λ p lp. ≈-from (done_other k v p t ne lp))).counts r)
+  rest k v q t r ne = ap (λ n. cond (h.notified k v t) n 0) ((law.op_same v q t (λ p. done_after h k0 m k (g.edge_into v p) t) (λ p. h.done k (g.edge_into v p) t) (λ p lp. ≈-from (done_other k v p t ne lp))).counts r)
 
   -- what the workers have processed
   done_sum : (e : ℕ) (t : Time) (r : Record) → sum_below g.workers (λ k. count r (done_after h k0 m k e t)) ≡ sum_below g.workers (λ k. count r (h.done k e t)) + carried e t r m
@@ -191,14 +191,14 @@ module _ (g : Network) (law : IsNetwork g) (w : World) (h : History) (keeps : Ke
       go (inl (a, b)) = ap (λ f. f k v p t) b ∙ both (absorbed_tells w k0 (g.target m.edge) (g.in_port m.edge) m.time m.records k v p t) (done_tells h k0 m k (g.edge_into v p) t)
       go (inr (a, b)) = ap (λ f. f k v p t) b ∙ plain a (done_tells h k0 m k (g.edge_into v p) t)
 
-  told_same : (q : ℕ) (r : Record) → h.told k0 (g.target m.edge) m.time ≡ true → made g h (g.target m.edge) q m.time r k0 ≡ count r (g.op (g.target m.edge) q m.time (ins g (h.done k0) (g.target m.edge) m.time))
-  told_same q r e = ap (λ b. cond b (count r (g.op (g.target m.edge) q m.time (ins g (h.done k0) (g.target m.edge) m.time))) 0) e
+  notified_same : (q : ℕ) (r : Record) → h.notified k0 (g.target m.edge) m.time ≡ true → made g h (g.target m.edge) q m.time r k0 ≡ count r (g.op (g.target m.edge) q m.time (ins g (h.done k0) (g.target m.edge) m.time))
+  notified_same q r e = ap (λ b. cond b (count r (g.op (g.target m.edge) q m.time (ins g (h.done k0) (g.target m.edge) m.time))) 0) e
 
-  told_more : (q : ℕ) (r : Record) → h.told k0 (g.target m.edge) m.time ≡ true → made g (history_done h k0 m) (g.target m.edge) q m.time r k0 ≡ count r (g.op (g.target m.edge) q m.time (ins g (done_after h k0 m k0) (g.target m.edge) m.time))
-  told_more q r e = ap (λ b. cond b (count r (g.op (g.target m.edge) q m.time (ins g (done_after h k0 m k0) (g.target m.edge) m.time))) 0) e
+  notified_more : (q : ℕ) (r : Record) → h.notified k0 (g.target m.edge) m.time ≡ true → made g (history_done h k0 m) (g.target m.edge) q m.time r k0 ≡ count r (g.op (g.target m.edge) q m.time (ins g (done_after h k0 m k0) (g.target m.edge) m.time))
+  notified_more q r e = ap (λ b. cond b (count r (g.op (g.target m.edge) q m.time (ins g (done_after h k0 m k0) (g.target m.edge) m.time))) 0) e
 
-  always : g.role (g.target m.edge) ≢ Role.notified → h.told k0 (g.target m.edge) m.time ≡ true
-  always s = keeps.always_told k0 (g.target m.edge) m.time s
+  always : g.role (g.target m.edge) ≢ Role.notified → h.notified k0 (g.target m.edge) m.time ≡ true
+  always s = keeps.always_notified k0 (g.target m.edge) m.time s
 
   -- at a port: what was there, plus the message
   done_split : (p : ℕ) → p < g.ports (g.target m.edge) → (done_after h k0 m k0 (g.edge_into (g.target m.edge) p) m.time) ≈ (([] ++ h.done k0 (g.edge_into (g.target m.edge) p) m.time) ++ only_at (g.in_port m.edge) m.records p)
@@ -217,9 +217,9 @@ module _ (g : Network) (law : IsNetwork g) (w : World) (h : History) (keeps : Ke
   gain_stateless : g.role (g.target m.edge) ≡ Role.stateless → MakesBy Role.stateless g w k0 m out → (q : ℕ) (r : Record) → made g (history_done h k0 m) (g.target m.edge) q m.time r k0 ≡ made g h (g.target m.edge) q m.time r k0 + count r (out q)
   unfolding two_parts
   gain_stateless s makes q r =
-      let told : h.told k0 (g.target m.edge) m.time ≡ true = always (λ e. let x : Role.stateless ≡ Role.notified = sym s ∙ e in cc) in
-      let a = told_same q r told in
-      let b = told_more q r told in
+      let notified : h.notified k0 (g.target m.edge) m.time ≡ true = always (λ e. let x : Role.stateless ≡ Role.notified = sym s ∙ e in cc) in
+      let a = notified_same q r notified in
+      let b = notified_more q r notified in
       let c = (makes q).counts r in
       let d : count r (g.op (g.target m.edge) q m.time (λ p. end_to_end (λ k. two_parts k p) 2)) ≡ (0 + count r (g.op (g.target m.edge) q m.time (two_parts 0))) + count r (g.op (g.target m.edge) q m.time (two_parts 1)) =
       law.op_stateless (g.target m.edge) q m.time two_parts 2 s r in
@@ -229,9 +229,9 @@ module _ (g : Network) (law : IsNetwork g) (w : World) (h : History) (keeps : Ke
 
   gain_stateful : g.role (g.target m.edge) ≡ Role.stateful → MakesBy Role.stateful g w k0 m out → (q : ℕ) (r : Record) → made g (history_done h k0 m) (g.target m.edge) q m.time r k0 ≡ made g h (g.target m.edge) q m.time r k0 + count r (out q)
   gain_stateful s makes q r =
-      let told : h.told k0 (g.target m.edge) m.time ≡ true = always (λ e. let x : Role.stateful ≡ Role.notified = sym s ∙ e in cc) in
-      let a = told_same q r told in
-      let b = told_more q r told in
+      let notified : h.notified k0 (g.target m.edge) m.time ≡ true = always (λ e. let x : Role.stateful ≡ Role.notified = sym s ∙ e in cc) in
+      let a = notified_same q r notified in
+      let b = notified_more q r notified in
       let before : List Record = g.op (g.target m.edge) q m.time (λ p. w.absorbed k0 (g.target m.edge) p m.time) in
       let c : count r (out q ++ before) ≡ count r (g.op (g.target m.edge) q m.time (λ p. absorbed_after g w k0 (Event.arrival m) k0 (g.target m.edge) p m.time)) = (makes q).counts r in
       let d : count r (out q ++ before) ≡ count r (out q) + count r before = count-append r (out q) before in
@@ -243,7 +243,7 @@ module _ (g : Network) (law : IsNetwork g) (w : World) (h : History) (keeps : Ke
 
   gain_grouping : g.role (g.target m.edge) ≡ Role.notified → MakesBy Role.notified g w k0 m out → (q : ℕ) (r : Record) → made g (history_done h k0 m) (g.target m.edge) q m.time r k0 ≡ made g h (g.target m.edge) q m.time r k0 + count r (out q)
   gain_grouping s makes q r =
-      let u = untold s k0 ok.0 in
+      let u = not_notified s k0 ok.0 in
       let a : made g h (g.target m.edge) q m.time r k0 ≡ 0 = ap (λ b. cond b (count r (g.op (g.target m.edge) q m.time (ins g (h.done k0) (g.target m.edge) m.time))) 0) u in
       let b : made g (history_done h k0 m) (g.target m.edge) q m.time r k0 ≡ 0 = ap (λ b. cond b (count r (g.op (g.target m.edge) q m.time (ins g (done_after h k0 m k0) (g.target m.edge) m.time))) 0) u in
       let c : count r (out q) ≡ 0 = ap (count r) (makes q) in
@@ -312,27 +312,27 @@ module _ (g : Network) (law : IsNetwork g) (w : World) (h : History) (keeps : Ke
       go (inr x) = absurd (x.other refl (sym edge_here ∙ ap (λ z. g.edge_into z (g.in_port m.edge)) a) b)
 
   -- what is asked for matches what was processed
-  wish : (v : ℕ) (t : Time) → g.role v ≡ Role.notified → total (wished v t) (asked g w k0 (Event.arrival m)) + some (done_at g h k0 v t) ≡ some (done_at g (history_done h k0 m) k0 v t)
-  wish v t s = go (notified_asked (g.role (g.target m.edge)) (g.target m.edge) m.time at_any) (eqb_tells (g.target m.edge) v) (same_time_tells m.time t)
+  asked_matches : (v : ℕ) (t : Time) → g.role v ≡ Role.notified → total (one_if_at v t) (asked g w k0 (Event.arrival m)) + some (done_at g h k0 v t) ≡ some (done_at g (history_done h k0 m) k0 v t)
+  asked_matches v t s = go (notified_asked (g.role (g.target m.edge)) (g.target m.edge) m.time at_any) (eqb_tells (g.target m.edge) v) (same_time_tells m.time t)
     where
-      first_in : (xs : List Record) → g.target m.edge ≡ v → m.time ≡ t → total (wished v t) (asked_first (g.target m.edge) m.time xs) + some xs ≡ 1
+      first_in : (xs : List Record) → g.target m.edge ≡ v → m.time ≡ t → total (one_if_at v t) (asked_first (g.target m.edge) m.time xs) + some xs ≡ 1
       first_in [] a b = rw (a, b, eqb_self v, same_time_self t) refl
       first_in (x ∷ xs) a b = omega arith
 
-      first_out : (xs : List Record) → ((g.target m.edge ≡ v) → m.time ≡ t → ⊥) → total (wished v t) (asked_first (g.target m.edge) m.time xs) ≡ 0
+      first_out : (xs : List Record) → ((g.target m.edge ≡ v) → m.time ≡ t → ⊥) → total (one_if_at v t) (asked_first (g.target m.edge) m.time xs) ≡ 0
       first_out (x ∷ xs) never = refl
       first_out [] never = at (eqb_tells (g.target m.edge) v) (same_time_tells m.time t)
         where
-          at : ((eqb (g.target m.edge) v ≡ true) × (g.target m.edge ≡ v)) ⊎ ((eqb (g.target m.edge) v ≡ false) × (g.target m.edge ≢ v)) → ((same_time m.time t ≡ true) × (m.time ≡ t)) ⊎ ((same_time m.time t ≡ false) × (m.time ≢ t)) → total (wished v t) (asked_first (g.target m.edge) m.time []) ≡ 0
+          at : ((eqb (g.target m.edge) v ≡ true) × (g.target m.edge ≡ v)) ⊎ ((eqb (g.target m.edge) v ≡ false) × (g.target m.edge ≢ v)) → ((same_time m.time t ≡ true) × (m.time ≡ t)) ⊎ ((same_time m.time t ≡ false) × (m.time ≢ t)) → total (one_if_at v t) (asked_first (g.target m.edge) m.time []) ≡ 0
           at (inl (a, b)) (inl (c, d)) = absurd (never b d)
           at (inl (a, b)) (inr (c, d)) = rw (a, c) refl
           at (inr (a, b)) z = rw a refl
 
-      nothing : (g.target m.edge ≡ v → m.time ≡ t → ⊥) → ((g.role (g.target m.edge) ≡ Role.notified) × (asked g w k0 (Event.arrival m) ≡ asked_first (g.target m.edge) m.time at_any)) ⊎ ((g.role (g.target m.edge) ≢ Role.notified) × (asked g w k0 (Event.arrival m) ≡ [])) → total (wished v t) (asked g w k0 (Event.arrival m)) ≡ 0
-      nothing never (inl (a, b)) = ap (λ z. total (wished v t) z) b ∙ first_out at_any never
-      nothing never (inr (a, b)) = ap (λ z. total (wished v t) z) b
+      nothing : (g.target m.edge ≡ v → m.time ≡ t → ⊥) → ((g.role (g.target m.edge) ≡ Role.notified) × (asked g w k0 (Event.arrival m) ≡ asked_first (g.target m.edge) m.time at_any)) ⊎ ((g.role (g.target m.edge) ≢ Role.notified) × (asked g w k0 (Event.arrival m) ≡ [])) → total (one_if_at v t) (asked g w k0 (Event.arrival m)) ≡ 0
+      nothing never (inl (a, b)) = ap (λ z. total (one_if_at v t) z) b ∙ first_out at_any never
+      nothing never (inr (a, b)) = ap (λ z. total (one_if_at v t) z) b
 
-      same : (g.target m.edge ≡ v → m.time ≡ t → ⊥) → ((g.role (g.target m.edge) ≡ Role.notified) × (asked g w k0 (Event.arrival m) ≡ asked_first (g.target m.edge) m.time at_any)) ⊎ ((g.role (g.target m.edge) ≢ Role.notified) × (asked g w k0 (Event.arrival m) ≡ [])) → total (wished v t) (asked g w k0 (Event.arrival m)) + some (done_at g h k0 v t) ≡ some (done_at g (history_done h k0 m) k0 v t)
+      same : (g.target m.edge ≡ v → m.time ≡ t → ⊥) → ((g.role (g.target m.edge) ≡ Role.notified) × (asked g w k0 (Event.arrival m) ≡ asked_first (g.target m.edge) m.time at_any)) ⊎ ((g.role (g.target m.edge) ≢ Role.notified) × (asked g w k0 (Event.arrival m) ≡ [])) → total (one_if_at v t) (asked g w k0 (Event.arrival m)) + some (done_at g h k0 v t) ≡ some (done_at g (history_done h k0 m) k0 v t)
       same never x =
           let a = nothing never x in
           let b : some (done_at g (history_done h k0 m) k0 v t) ≡ some (done_at g h k0 v t) = ap some (done_same k0 v t (λ e. never)) in
@@ -340,13 +340,13 @@ module _ (g : Network) (law : IsNetwork g) (w : World) (h : History) (keeps : Ke
 
       go : ((g.role (g.target m.edge) ≡ Role.notified) × (asked g w k0 (Event.arrival m) ≡ asked_first (g.target m.edge) m.time at_any)) ⊎ ((g.role (g.target m.edge) ≢ Role.notified) × (asked g w k0 (Event.arrival m) ≡ []))
           → ((eqb (g.target m.edge) v ≡ true) × (g.target m.edge ≡ v)) ⊎ ((eqb (g.target m.edge) v ≡ false) × (g.target m.edge ≢ v)) → ((same_time m.time t ≡ true) × (m.time ≡ t)) ⊎ ((same_time m.time t ≡ false) × (m.time ≢ t))
-          → total (wished v t) (asked g w k0 (Event.arrival m)) + some (done_at g h k0 v t) ≡ some (done_at g (history_done h k0 m) k0 v t)
+          → total (one_if_at v t) (asked g w k0 (Event.arrival m)) + some (done_at g h k0 v t) ≡ some (done_at g (history_done h k0 m) k0 v t)
       go x (inr (c, d)) z = same (λ e f. d e) x
       go x (inl (c, d)) (inr (i, j)) = same (λ e f. j f) x
       go (inr (a, b)) (inl (c, d)) (inl (i, j)) = absurd (a (ap g.role d ∙ s))
       go (inl (a, b)) (inl (c, d)) (inl (i, j)) =
           let u : at_any ≡ done_at g h k0 v t = any_is a ∙ ap₂ (λ x y. done_at g h k0 x y) d j in
-          let n : total (wished v t) (asked g w k0 (Event.arrival m)) ≡ total (wished v t) (asked_first (g.target m.edge) m.time (done_at g h k0 v t)) = ap (λ z. total (wished v t) z) (b ∙ ap (asked_first (g.target m.edge) m.time) u) in
+          let n : total (one_if_at v t) (asked g w k0 (Event.arrival m)) ≡ total (one_if_at v t) (asked_first (g.target m.edge) m.time (done_at g h k0 v t)) = ap (λ z. total (one_if_at v t) z) (b ∙ ap (asked_first (g.target m.edge) m.time) u) in
           let f = first_in (done_at g h k0 v t) d j in
           let y = done_some v t d j in
           omega arith
@@ -374,7 +374,7 @@ module _ (g : Network) (law : IsNetwork g) (w : World) (h : History) (keeps : Ke
         from_input = λ e t le s. record { counts = λ r. sent_elsewhere g law w h keeps (g.target m.edge) (g.act (g.target m.edge) m.time) out e t r (λ x. law.no_input_target m.edge good_message.0 (sym (ap g.role x) ∙ s)) ∙ (keeps.from_input e t le s).counts r };
         from_vertex = λ e u r le fits s. vertex_after g law w h keeps k0 (Event.arrival m) out ok (history_done h k0 m) counted_once rest gain e u r le fits s;
         notifications = λ k v t lk s. notifications k v t lk s (put_tells w.held k0 Held.nothing k) (put_tells w.requests k0 (w.requests k0 ++ asked g w k0 (Event.arrival m)) k);
-        always_told = keeps.always_told;
+        always_notified = keeps.always_notified;
         settled = λ k v t lk s due. settled_after g law w h keeps (Step.commit k0 (Event.arrival m) out) ok k v t lk s (was_due k v t due (put_tells w.held k0 Held.nothing k));
         at_home = λ k e t lk le s. home k e t lk le s (done_tells h k0 m k e t);
         good_mail = λ k lk. each-append (GoodMessage g k) (w.mail k) _ (keeps.good_mail k lk) (each_more (Parcel g (g.target m.edge) (g.act (g.target m.edge) m.time) k) (GoodMessage g k) _ (λ m p. p.good) (parcels_good g law k0 (g.target m.edge) (g.act (g.target m.edge) m.time) out k g.edges (fits_sent g law (g.target m.edge) m.time here) (omega arith)));
@@ -386,14 +386,14 @@ module _ (g : Network) (law : IsNetwork g) (w : World) (h : History) (keeps : Ke
     where
       notifications : (k v : ℕ) (t : Time) → k < g.workers → g.role v ≡ Role.notified → ((k ≡ k0) × (put w.held k0 Held.nothing k ≡ Held.nothing)) ⊎ ((k ≢ k0) × (put w.held k0 Held.nothing k ≡ w.held k))
           → ((k ≡ k0) × (put w.requests k0 (w.requests k0 ++ asked g w k0 (Event.arrival m)) k ≡ w.requests k0 ++ asked g w k0 (Event.arrival m))) ⊎ ((k ≢ k0) × (put w.requests k0 (w.requests k0 ++ asked g w k0 (Event.arrival m)) k ≡ w.requests k))
-          → wishes (after_step g w (Step.commit k0 (Event.arrival m) out)) v t k + bit (h.told k v t) ≡ some (done_at g (history_done h k0 m) k v t)
+          → open_requests (after_step g w (Step.commit k0 (Event.arrival m) out)) v t k + one_if (h.notified k v t) ≡ some (done_at g (history_done h k0 m) k v t)
       notifications k v t lk s (inl (a, b)) (inl (c, d)) =
           let i = keeps.notifications k v t lk s in
-          let j : held_wish v t (w.held k) ≡ 0 = ap (held_wish v t) (ap w.held a ∙ ok.1) in
-          let l : held_wish v t (put w.held k0 Held.nothing k) ≡ 0 = ap (held_wish v t) b in
-          let n : total (wished v t) (put w.requests k0 (w.requests k0 ++ asked g w k0 (Event.arrival m)) k) ≡ total (wished v t) (w.requests k0) + total (wished v t) (asked g w k0 (Event.arrival m)) = ap (λ z. total (wished v t) z) d ∙ total-append (wished v t) (w.requests k0) (asked g w k0 (Event.arrival m)) in
-          let q : total (wished v t) (w.requests k) ≡ total (wished v t) (w.requests k0) = ap (λ z. total (wished v t) (w.requests z)) a in
-          let f = wish v t s in
+          let j : held_notifications v t (w.held k) ≡ 0 = ap (held_notifications v t) (ap w.held a ∙ ok.1) in
+          let l : held_notifications v t (put w.held k0 Held.nothing k) ≡ 0 = ap (held_notifications v t) b in
+          let n : total (one_if_at v t) (put w.requests k0 (w.requests k0 ++ asked g w k0 (Event.arrival m)) k) ≡ total (one_if_at v t) (w.requests k0) + total (one_if_at v t) (asked g w k0 (Event.arrival m)) = ap (λ z. total (one_if_at v t) z) d ∙ total-append (one_if_at v t) (w.requests k0) (asked g w k0 (Event.arrival m)) in
+          let q : total (one_if_at v t) (w.requests k) ≡ total (one_if_at v t) (w.requests k0) = ap (λ z. total (one_if_at v t) (w.requests z)) a in
+          let f = asked_matches v t s in
           let y : some (done_at g (history_done h k0 m) k v t) ≡ some (done_at g (history_done h k0 m) k0 v t) = ap (λ z. some (done_at g (history_done h k0 m) z v t)) a in
           let z : some (done_at g h k v t) ≡ some (done_at g h k0 v t) = ap (λ z. some (done_at g h z v t)) a in
           omega arith
@@ -401,15 +401,15 @@ module _ (g : Network) (law : IsNetwork g) (w : World) (h : History) (keeps : Ke
       notifications k v t lk s (inr (a, b)) (inl (c, d)) = absurd (a c)
       notifications k v t lk s (inr (a, b)) (inr (c, d)) =
           let i = keeps.notifications k v t lk s in
-          let l : held_wish v t (put w.held k0 Held.nothing k) ≡ held_wish v t (w.held k) = ap (held_wish v t) b in
-          let n : total (wished v t) (put w.requests k0 (w.requests k0 ++ asked g w k0 (Event.arrival m)) k) ≡ total (wished v t) (w.requests k) = ap (λ z. total (wished v t) z) d in
+          let l : held_notifications v t (put w.held k0 Held.nothing k) ≡ held_notifications v t (w.held k) = ap (held_notifications v t) b in
+          let n : total (one_if_at v t) (put w.requests k0 (w.requests k0 ++ asked g w k0 (Event.arrival m)) k) ≡ total (one_if_at v t) (w.requests k) = ap (λ z. total (one_if_at v t) z) d in
           let y : some (done_at g (history_done h k0 m) k v t) ≡ some (done_at g h k v t) = ap some (done_same k v t (λ e _ _. a e)) in
           omega arith
 
       was_due : (k v : ℕ) (t : Time) → Due (after_step g w (Step.commit k0 (Event.arrival m) out)) (history_done h k0 m) k v t → ((k ≡ k0) × (put w.held k0 Held.nothing k ≡ Held.nothing)) ⊎ ((k ≢ k0) × (put w.held k0 Held.nothing k ≡ w.held k)) → Due w h k v t
-      was_due k v t (inl told) z = inl told
-      was_due k v t (inr wish) (inl (x, y)) = absurd (let a : held_wish v t (put w.held k0 Held.nothing k) ≡ 0 = ap (held_wish v t) y in omega arith)
-      was_due k v t (inr wish) (inr (x, y)) = let a : held_wish v t (put w.held k0 Held.nothing k) ≡ held_wish v t (w.held k) = ap (held_wish v t) y in inr (omega arith)
+      was_due k v t (inl notified) z = inl notified
+      was_due k v t (inr due) (inl (x, y)) = absurd (let a : held_notifications v t (put w.held k0 Held.nothing k) ≡ 0 = ap (held_notifications v t) y in omega arith)
+      was_due k v t (inr due) (inr (x, y)) = let a : held_notifications v t (put w.held k0 Held.nothing k) ≡ held_notifications v t (w.held k) = ap (held_notifications v t) y in inr (omega arith)
 
       home : (k e : ℕ) (t : Time) → k < g.workers → e < g.edges → (g.role (g.target e) ≡ Role.stateful) ⊎ (g.role (g.target e) ≡ Role.notified) → DoneHere h k0 m k e t ⊎ DoneElsewhere h k0 m k e t → AtHome g k e (done_after h k0 m k e t)
       home k e t lk le s (inr x) = subst (AtHome g k e) (sym x.is) (keeps.at_home k e t lk le s)

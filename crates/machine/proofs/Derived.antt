@@ -2,7 +2,7 @@
 use Rattle.std.proofs.Common.{◌≡◌, ◌≢◌, ◌≤◌, ◌<◌, ℕ, ◌+◌, Bool, true, false, eqb, List, [], ◌∷◌, ◌⊎◌, inl, inr, refl, sym, ap, ◌∙◌, subst, arith, slice_get, Some}
 use Rattle.std.proofs.lemmas.Bool.Decides.{eqb_tells}
 use mathlib.Core.WellFounded.{Acc}
-use Rattle.semantics.specs.Multiset.{total, Record, count, ◌≈◌, IsPartOf, end_to_end}
+use Rattle.semantics.specs.Multiset.{total, Record, count, ◌≈◌, IsPartOf, end_to_end, one_if}
 use Rattle.semantics.specs.Could.{Pointstamp, on_edge, at_vertex}
 use Rattle.semantics.specs.Time.{Time, same_time, at_epoch}
 use Rattle.semantics.specs.Kinds.{Role}
@@ -12,7 +12,7 @@ use Rattle.machine.specs.Active.{sum_below, IsActive, message_pointstamp, reques
 use Rattle.machine.specs.Frontier.{NoneBefore}
 use Rattle.machine.proofs.NetFlow.{ins}
 use Rattle.machine.proofs.Counting.{below_same, below_more, below_zero, counted-end_to_end}
-use Rattle.machine.proofs.Kept.{done_at, History, carried, carried_by, held_records, under_way, wished, wished_by, held_wish, wishes, some, bit, made, Due, Kept, Headline}
+use Rattle.machine.proofs.Kept.{done_at, History, carried, carried_by, held_records, under_way, one_if_at, one_if_notifies, held_notifications, open_requests, some, made, Due, Kept, Headline}
 use Rattle.machine.proofs.Ports.{each_empty}
 use Rattle.machine.proofs.Laws.{Lower, times_in, IsNetwork, IsOutput, all_parts, CutByKey}
 use Rattle.machine.proofs.NetFlow.{IsNetFlow}
@@ -28,10 +28,10 @@ carried_place e t r m = go (eqb_tells m.edge e) (same_time_tells m.time t)
     go (inl (a, b)) (inr (c, d)) = inl (rw (a, c) refl)
     go (inr (a, b)) s = inl (rw a refl)
 
-pub wished_place : (v : ℕ) (t : Time) (n : Request) → (wished v t n ≡ 0) ⊎ (request_pointstamp n ≡ at_vertex v t)
-wished_place v t n = go (eqb_tells n.vertex v) (same_time_tells n.time t)
+pub request_place : (v : ℕ) (t : Time) (n : Request) → (one_if_at v t n ≡ 0) ⊎ (request_pointstamp n ≡ at_vertex v t)
+request_place v t n = go (eqb_tells n.vertex v) (same_time_tells n.time t)
   where
-    go : ((eqb n.vertex v ≡ true) × (n.vertex ≡ v)) ⊎ ((eqb n.vertex v ≡ false) × (n.vertex ≢ v)) → ((same_time n.time t ≡ true) × (n.time ≡ t)) ⊎ ((same_time n.time t ≡ false) × (n.time ≢ t)) → (wished v t n ≡ 0) ⊎ (request_pointstamp n ≡ at_vertex v t)
+    go : ((eqb n.vertex v ≡ true) × (n.vertex ≡ v)) ⊎ ((eqb n.vertex v ≡ false) × (n.vertex ≢ v)) → ((same_time n.time t ≡ true) × (n.time ≡ t)) ⊎ ((same_time n.time t ≡ false) × (n.time ≢ t)) → (one_if_at v t n ≡ 0) ⊎ (request_pointstamp n ≡ at_vertex v t)
     go (inl (a, b)) (inl (c, d)) = inr (λ i. at_vertex (b i) (d i))
     go (inl (a, b)) (inr (c, d)) = inl (rw (a, c) refl)
     go (inr (a, b)) s = inl (rw a refl)
@@ -67,25 +67,25 @@ module _ (g : Network) (law : IsNetwork g) (w : World) where
           omega arith
 
   -- no notification of a vertex and time is waited for if no active pointstamp could result there
-  pub nothing_wished : (v : ℕ) (t : Time) → ((p : Pointstamp) → IsActive g w p → p ≡ at_vertex v t → ⊥) → (k : ℕ) → k < g.workers → wishes w v t k ≡ 0
-  nothing_wished v t not_here k l =
-      let a : total (wished v t) (w.requests k) ≡ 0 = total_zero (w.requests k) (wished v t) (λ at n s. request at n s (wished_place v t n)) in
-      let b : held_wish v t (w.held k) ≡ 0 = hand (w.held k) refl in
+  pub nothing_open : (v : ℕ) (t : Time) → ((p : Pointstamp) → IsActive g w p → p ≡ at_vertex v t → ⊥) → (k : ℕ) → k < g.workers → open_requests w v t k ≡ 0
+  nothing_open v t not_here k l =
+      let a : total (one_if_at v t) (w.requests k) ≡ 0 = total_zero (w.requests k) (one_if_at v t) (λ at n s. request at n s (request_place v t n)) in
+      let b : held_notifications v t (w.held k) ≡ 0 = hand (w.held k) refl in
       omega arith
     where
-      request : (at : ℕ) (n : Request) → slice_get (w.requests k) at ≡ Some n → (wished v t n ≡ 0) ⊎ (request_pointstamp n ≡ at_vertex v t) → wished v t n ≡ 0
+      request : (at : ℕ) (n : Request) → slice_get (w.requests k) at ≡ Some n → (one_if_at v t n ≡ 0) ⊎ (request_pointstamp n ≡ at_vertex v t) → one_if_at v t n ≡ 0
       request at n s (inl z) = z
       request at n s (inr p) = absurd (not_here (request_pointstamp n) (IsActive.of_request k at n l s) p)
 
-      event : (up : Bool) (x : Event) → w.held k ≡ Held.holding up x → wished_by v t x ≡ 0
+      event : (up : Bool) (x : Event) → w.held k ≡ Held.holding up x → one_if_notifies v t x ≡ 0
       event up (Event.arrival m) s = refl
-      event up (Event.notification n) s = held (wished_place v t n)
+      event up (Event.notification n) s = held (request_place v t n)
         where
-          held : (wished v t n ≡ 0) ⊎ (request_pointstamp n ≡ at_vertex v t) → wished v t n ≡ 0
+          held : (one_if_at v t n ≡ 0) ⊎ (request_pointstamp n ≡ at_vertex v t) → one_if_at v t n ≡ 0
           held (inl z) = z
           held (inr p) = absurd (not_here (request_pointstamp n) (IsActive.of_held k up (Event.notification n) l s) p)
 
-      hand : (x : Held) → w.held k ≡ x → held_wish v t x ≡ 0
+      hand : (x : Held) → w.held k ≡ x → held_notifications v t x ≡ 0
       hand Held.nothing s = refl
       hand (Held.holding up x) s = event up x s
 
@@ -104,27 +104,27 @@ module _ (g : Network) (law : IsNetwork g) (w : World) (h : History) (keeps : Ke
 
   -- at most that, in any case
   pub made_le : (v q : ℕ) (t : Time) (r : Record) (k : ℕ) → made g h v q t r k ≤ count r (g.op v q t (ins g (h.done k) v t))
-  made_le v q t r k = go (h.told k v t) refl
+  made_le v q t r k = go (h.notified k v t) refl
     where
-      go : (b : Bool) → h.told k v t ≡ b → made g h v q t r k ≤ count r (g.op v q t (ins g (h.done k) v t))
+      go : (b : Bool) → h.notified k v t ≡ b → made g h v q t r k ≤ count r (g.op v q t (ins g (h.done k) v t))
       go true e = rw e (omega arith)
       go false e = rw e (omega arith)
 
   -- a part that waits for no notification has made everything that `op` gives for it
-  pub made_all : (v q : ℕ) (t : Time) (r : Record) (k : ℕ) → k < g.workers → (g.role v ≡ Role.notified → wishes w v t k ≡ 0) → made g h v q t r k ≡ count r (g.op v q t (ins g (h.done k) v t))
-  made_all v q t r k l none = go (h.told k v t) refl (is_notified_role (g.role v))
+  pub made_all : (v q : ℕ) (t : Time) (r : Record) (k : ℕ) → k < g.workers → (g.role v ≡ Role.notified → open_requests w v t k ≡ 0) → made g h v q t r k ≡ count r (g.op v q t (ins g (h.done k) v t))
+  made_all v q t r k l none = go (h.notified k v t) refl (is_notified_role (g.role v))
     where
       empty : (xs : List Record) → some xs ≡ 0 → xs ≡ []
       empty [] e = refl
       empty (x ∷ xs) e = absurd cc
 
-      go : (b : Bool) → h.told k v t ≡ b → (g.role v ≡ Role.notified) ⊎ (g.role v ≢ Role.notified) → made g h v q t r k ≡ count r (g.op v q t (ins g (h.done k) v t))
+      go : (b : Bool) → h.notified k v t ≡ b → (g.role v ≡ Role.notified) ⊎ (g.role v ≢ Role.notified) → made g h v q t r k ≡ count r (g.op v q t (ins g (h.done k) v t))
       go true e s = rw e refl
-      go false e (inr s) = absurd (let x : h.told k v t ≡ true = keeps.always_told k v t s in let y : true ≡ false = sym x ∙ e in cc)
+      go false e (inr s) = absurd (let x : h.notified k v t ≡ true = keeps.always_notified k v t s in let y : true ≡ false = sym x ∙ e in cc)
       go false e (inl s) =
-          let n : wishes w v t k + bit (h.told k v t) ≡ some (done_at g h k v t) = keeps.notifications k v t l s in
-          let z : wishes w v t k ≡ 0 = none s in
-          let y : bit (h.told k v t) ≡ 0 = ap bit e in
+          let n : open_requests w v t k + one_if (h.notified k v t) ≡ some (done_at g h k v t) = keeps.notifications k v t l s in
+          let z : open_requests w v t k ≡ 0 = none s in
+          let y : one_if (h.notified k v t) ≡ 0 = ap one_if e in
           let d : done_at g h k v t ≡ [] = empty (done_at g h k v t) (omega arith) in
           let o : g.op v q t (ins g (h.done k) v t) ≡ [] = law.op_nothing v q t (ins g (h.done k) v t) (λ p lp. each_empty (λ x. h.done k (g.edge_into v x) t) (g.ports v) d p lp) in
           rw e (sym (ap (count r) o))
@@ -165,7 +165,7 @@ module _ (g : Network) (law : IsNetwork g) (w : World) (h : History) (keeps : Ke
             let ft : g.IsPointstamp (at_vertex (g.source e) t) = law.fits_back e t u l fits in_list in
             let nv : NoneBefore g w (at_vertex (g.source e) t) = none_through e t u l ft a none in
             let m : sum_below g.workers (made g h (g.source e) (g.out_port e) t r) ≡ sum_below g.workers (λ k. count r (g.op (g.source e) (g.out_port e) t (ins g (h.done k) (g.source e) t))) =
-            below_same g.workers _ _ (λ k lk. made_all (g.source e) (g.out_port e) t r k lk (λ _. nothing_wished g law w (g.source e) t (λ q active c. nv q active (subst (λ (x : Pointstamp). g.Could x (at_vertex (g.source e) t)) (sym c) (law.could_self (at_vertex (g.source e) t) ft))) k lk)) in
+            below_same g.workers _ _ (λ k lk. made_all (g.source e) (g.out_port e) t r k lk (λ _. nothing_open g law w (g.source e) t (λ q active c. nv q active (subst (λ (x : Pointstamp). g.Could x (at_vertex (g.source e) t)) (sym c) (law.could_self (at_vertex (g.source e) t) ft))) k lk)) in
             m ∙ vertex_whole (g.source e) (g.out_port e) t r s (law.no_output_source e l) (λ p' lp s'.
             let ne : NoneBefore g w (on_edge (g.edge_into (g.source e) p') t) = none_before_edge (g.source e) p' t lp ft nv in
             let fe : g.IsPointstamp (on_edge (g.edge_into (g.source e) p') t) = law.fits_into (g.source e) p' t lp ft in
@@ -183,8 +183,8 @@ module _ (g : Network) (law : IsNetwork g) (w : World) (h : History) (keeps : Ke
     PartBelow p v = (p' : ℕ) (t' : Time) → Lower g (on_edge (g.edge_into v p') t') p → g.edge_into v p' < g.edges → g.IsPointstamp (on_edge (g.edge_into v p') t') → IsPartOf (w.sent (g.edge_into v p') t') (flow (g.edge_into v p') t')
 
     -- a group that has had its notification at some worker has everything that it will ever get
-    pub none_before_told : (v : ℕ) (t : Time) (k : ℕ) → k < g.workers → g.IsPointstamp (at_vertex v t) → g.role v ≡ Role.notified → Due w h k v t → (p : ℕ) → p < g.ports v → NoneBefore g w (on_edge (g.edge_into v p) t)
-    none_before_told v t k lk fits s due p lp q active c =
+    pub none_before_notified : (v : ℕ) (t : Time) (k : ℕ) → k < g.workers → g.IsPointstamp (at_vertex v t) → g.role v ≡ Role.notified → Due w h k v t → (p : ℕ) → p < g.ports v → NoneBefore g w (on_edge (g.edge_into v p) t)
+    none_before_notified v t k lk fits s due p lp q active c =
         let le : g.edge_into v p < g.edges = law.into_is_edge v p lp in
         let enter : g.Could (on_edge (g.edge_into v p) t) (at_vertex v t) = subst (λ (x : ℕ). g.Could (on_edge (g.edge_into v p) t) (at_vertex x t)) (law.target_into v p lp) (law.could_enter (g.edge_into v p) t le (law.fits_into v p t lp fits)) in
         let is : q ≡ at_vertex v t = keeps.settled k v t lk s due q active (law.could_on q (on_edge (g.edge_into v p) t) (at_vertex v t) c enter) in
@@ -212,17 +212,17 @@ module _ (g : Network) (law : IsNetwork g) (w : World) (h : History) (keeps : Ke
             })).within r in
             omega arith
 
-        grouping : (r : Record) → g.role (g.source e) ≢ Role.input → g.role (g.source e) ≡ Role.notified → (t : Time) → g.IsPointstamp (at_vertex (g.source e) t) → ((k : ℕ) × (k < g.workers) × (h.told k (g.source e) t ≡ true)) ⊎ ((k : ℕ) → k < g.workers → h.told k (g.source e) t ≡ false) → sum_below g.workers (made g h (g.source e) (g.out_port e) t r) ≤ count r (g.op (g.source e) (g.out_port e) t (ins g flow (g.source e) t))
+        grouping : (r : Record) → g.role (g.source e) ≢ Role.input → g.role (g.source e) ≡ Role.notified → (t : Time) → g.IsPointstamp (at_vertex (g.source e) t) → ((k : ℕ) × (k < g.workers) × (h.notified k (g.source e) t ≡ true)) ⊎ ((k : ℕ) → k < g.workers → h.notified k (g.source e) t ≡ false) → sum_below g.workers (made g h (g.source e) (g.out_port e) t r) ≤ count r (g.op (g.source e) (g.out_port e) t (ins g flow (g.source e) t))
         grouping r s sg t ft (inr nobody) =
             let z : sum_below g.workers (made g h (g.source e) (g.out_port e) t r) ≡ 0 = below_zero g.workers _ (λ k lk. rw (nobody k lk) refl) in
             omega arith
-        grouping r s sg t ft (inl (k, lk, told)) =
+        grouping r s sg t ft (inl (k, lk, notified)) =
             let m : sum_below g.workers (made g h (g.source e) (g.out_port e) t r) ≤ sum_below g.workers (λ k. count r (g.op (g.source e) (g.out_port e) t (ins g (h.done k) (g.source e) t))) =
             below_more g.workers _ _ (λ k' lk'. made_le (g.source e) (g.out_port e) t r k') in
             let v : sum_below g.workers (λ k. count r (g.op (g.source e) (g.out_port e) t (ins g (h.done k) (g.source e) t))) ≡ count r (g.op (g.source e) (g.out_port e) t (ins g flow (g.source e) t)) =
             vertex_whole (g.source e) (g.out_port e) t r s (law.no_output_source e l) (λ p' lp s'.
             let le : g.edge_into (g.source e) p' < g.edges = law.into_is_edge (g.source e) p' lp in
-            let ne : NoneBefore g w (on_edge (g.edge_into (g.source e) p') t) = none_before_told (g.source e) t k lk ft sg (inl told) p' lp in
+            let ne : NoneBefore g w (on_edge (g.edge_into (g.source e) p') t) = none_before_notified (g.source e) t k lk ft sg (inl notified) p' lp in
             let fe : g.IsPointstamp (on_edge (g.edge_into (g.source e) p') t) = law.fits_into (g.source e) p' t lp ft in
             processed (g.edge_into (g.source e) p') t le fe ne (whole (g.edge_into (g.source e) p') t le fe ne) s') in
             omega arith
@@ -237,7 +237,7 @@ module _ (g : Network) (law : IsNetwork g) (w : World) (h : History) (keeps : Ke
             omega arith
           where
             at : (t : Time) → g.IsPointstamp (at_vertex (g.source e) t) → g.act (g.source e) t ≡ u → (g.role (g.source e) ≡ Role.notified) ⊎ (g.role (g.source e) ≢ Role.notified) → sum_below g.workers (made g h (g.source e) (g.out_port e) t r) ≤ count r (g.op (g.source e) (g.out_port e) t (ins g flow (g.source e) t))
-            at t ft a (inl sg) = grouping r s sg t ft (some_below g.workers (λ k. h.told k (g.source e) t))
+            at t ft a (inl sg) = grouping r s sg t ft (some_below g.workers (λ k. h.notified k (g.source e) t))
             at t ft a (inr sg) = monotone r s sg ih t ft a
 
     pub headline : Headline g w flow

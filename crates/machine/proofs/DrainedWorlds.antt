@@ -24,7 +24,7 @@ module _ (g : Network) (law : IsNetwork g) (w : World) where
       record {
         closed = λ i l. shut i l (w.closed i) refl;
         mail = λ k l. boxes k l (w.mail k) refl;
-        requests = λ k l. wishes k l (w.requests k) refl;
+        requests = λ k l. no_requests k l (w.requests k) refl;
         held = λ k l. hands k l (w.held k) refl;
       }
     where
@@ -36,9 +36,9 @@ module _ (g : Network) (law : IsNetwork g) (w : World) where
       boxes k l [] e = e
       boxes k l (m ∷ ms) e = absurd (none (message_pointstamp m) (IsActive.of_mail k zero m l (ap (λ xs. slice_get xs zero) e)))
 
-      wishes : (k : ℕ) → k < g.workers → (xs : List Request) → w.requests k ≡ xs → w.requests k ≡ []
-      wishes k l [] e = e
-      wishes k l (n ∷ ns) e = absurd (none (request_pointstamp n) (IsActive.of_request k zero n l (ap (λ xs. slice_get xs zero) e)))
+      no_requests : (k : ℕ) → k < g.workers → (xs : List Request) → w.requests k ≡ xs → w.requests k ≡ []
+      no_requests k l [] e = e
+      no_requests k l (n ∷ ns) e = absurd (none (request_pointstamp n) (IsActive.of_request k zero n l (ap (λ xs. slice_get xs zero) e)))
 
       hands : (k : ℕ) → k < g.workers → (x : Held) → w.held k ≡ x → w.held k ≡ Held.nothing
       hands k l Held.nothing e = e

@@ -1,6 +1,6 @@
 -- What is in mailboxes, in requests and held by workers fits the graph.
-use Rattle.std.proofs.Common.{◌≡◌, ◌≢◌, ◌⊎◌, inl, inr, ◌≤◌, ◌<◌, ℕ, List, [], ◌∷◌, Some, refl, arith, ap, subst, slice_get, length, true, false, Bool}
-use Rattle.semantics.specs.Multiset.{Record, count, same, one_if}
+use Rattle.std.proofs.Common.{◌≡◌, ◌≤◌, ◌<◌, ℕ, List, [], ◌∷◌, Some, refl, arith, ap, subst, slice_get, length, true, Bool}
+use Rattle.semantics.specs.Multiset.{Record, count}
 use Rattle.semantics.specs.Time.{last, turn_count}
 use Rattle.semantics.specs.Kinds.{ends_turn}
 use Rattle.semantics.specs.Graph.{Graph, vertex, target, in_port}
@@ -13,25 +13,14 @@ use Rattle.machine.specs.Headline.{IsRunOn}
 use Rattle.machine.specs.InTransit.{IsGoodMessage, IsGoodRequest, IsGoodEvent}
 use Rattle.semantics.proofs.OneFlow.{one_flow}
 use Rattle.semantics.proofs.RankRises.{rises_from_nested}
-use Rattle.machine.proofs.Counting.{below_one, total_one, eqb_self, same_tells}
+use Rattle.machine.proofs.Counting.{below_one, total_one, eqb_self}
 use Rattle.machine.proofs.Engine.{place_at}
 use Rattle.machine.proofs.Kept.{History, Kept, GoodMessage, GoodRequest, GoodEvent, GoodHeld, carried, held_records, under_way, some}
 use Rattle.machine.proofs.Places.{same_time_self}
 use Rattle.machine.proofs.Runs.{keep_reached}
 use Rattle.machine.proofs.Sending.{each_at}
 use Rattle.machine.proofs.Tracking.{laws, have_flows, kept}
-
-self : (r : Record) → same r r ≡ true
-self r = by (same_tells r r)
-  where
-    by : ((same r r ≡ true) × (r ≡ r)) ⊎ ((same r r ≡ false) × (r ≢ r)) → same r r ≡ true
-    by (inl x) = x.0
-    by (inr x) = absurd (x.1 refl)
-
--- a list that isn't empty has a record
-head : (records : List Record) → 0 < some records → (r : Record) × (0 < count r records)
-head [] x = absurd (omega arith)
-head (r ∷ records) x = (r, (let b : one_if (same r r) ≡ 1 = ap one_if (self r) in omega arith))
+use Rattle.machine.proofs.Notifications.{some_row}
 
 not_empty : (records : List Record) → 0 < some records → 0 < length records
 not_empty [] x = absurd (omega arith)
@@ -52,7 +41,7 @@ module _ (g : Graph) (workers : ℕ) (steps : List Step) (w : World) (is : IsRun
 
   within : (k : ℕ) (m : Message) → GoodMessage (network g workers) k m → ((r : Record) → count r m.records ≤ count r (w.sent m.edge m.time)) → ends_turn (vertex g (target g m.edge)).kind ≡ true → last m.time.counters < turn_count
   within k m good sent ends = go (last m.time.counters) turn_count (λ over.
-      let x = head m.records good.1 in
+      let x = some_row m.records good.1 in
       let a = sent x.0 in
       let part = (kept g workers steps w is one.flow one.is_only.is_flow).part m.edge m.time good.0 good.3 in
       let none = is.flows.quiet.quiet w.fed one.flow one.is_only.is_flow (target g m.edge) (in_port g m.edge) m.time (place_at g is.flows workers is.some m.edge m.time good.0 good.3) ends over in

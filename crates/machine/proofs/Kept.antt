@@ -1,6 +1,6 @@
 -- The facts that hold in every reached world.
-use Rattle.std.specs.Prelude.{◌≡◌, ◌≢◌, ◌<◌, ℕ, ◌+◌, Bool, true, false, cond, ◌==◌, List, [], ◌∷◌, ◌⊎◌}
-use Rattle.semantics.specs.Multiset.{end_to_end, total, Record, count, ◌≈◌, IsPartOf}
+use Rattle.std.specs.Prelude.{◌≡◌, ◌≢◌, ◌<◌, ℕ, ◌+◌, Bool, true, cond, ◌==◌, List, [], ◌∷◌, ◌⊎◌}
+use Rattle.semantics.specs.Multiset.{end_to_end, total, Record, count, ◌≈◌, IsPartOf, one_if}
 use Rattle.semantics.specs.Time.{Time, same_time, at_epoch}
 use Rattle.semantics.specs.Could.{on_edge, at_vertex}
 use Rattle.machine.specs.Network.{Network}
@@ -20,7 +20,7 @@ each P (x ∷ xs) = P x × each P xs
 -- What the world doesn't record: what each worker has processed, by edge and time, and which of its notifications it has processed.
 pub record History : Type 0 where
   pub done : ℕ → ℕ → Time → List Record
-  pub told : ℕ → ℕ → Time → Bool
+  pub notified : ℕ → ℕ → Time → Bool
 
 -- how often a record is in a message, if the message is on this edge at this time
 abbrev pub carried : ℕ → Time → Record → Message → ℕ
@@ -39,32 +39,31 @@ abbrev pub under_way : World → ℕ → Time → Record → ℕ → ℕ
 under_way w e t r k = total (carried e t r) (w.mail k) + held_records e t r (w.held k)
 
 -- 1 for a request or notification of this vertex and time
-abbrev pub wished : ℕ → Time → Request → ℕ
-wished v t n = cond (n.vertex == v) (cond (same_time n.time t) 1 0) 0
+abbrev pub one_if_at : ℕ → Time → Request → ℕ
+one_if_at v t n = cond (n.vertex == v) (cond (same_time n.time t) 1 0) 0
 
-abbrev pub wished_by : ℕ → Time → Event → ℕ
-wished_by v t (Event.arrival m) = 0
-wished_by v t (Event.notification n) = wished v t n
+-- by an event: 1 for the notification of this vertex and time
+abbrev pub one_if_notifies : ℕ → Time → Event → ℕ
+one_if_notifies v t (Event.arrival m) = 0
+one_if_notifies v t (Event.notification n) = one_if_at v t n
 
-abbrev pub held_wish : ℕ → Time → Held → ℕ
-held_wish v t Held.nothing = 0
-held_wish v t (Held.holding up event) = wished_by v t event
+-- by what a worker holds
+abbrev pub held_notifications : ℕ → Time → Held → ℕ
+held_notifications v t Held.nothing = 0
+held_notifications v t (Held.holding up event) = one_if_notifies v t event
 
-abbrev pub wishes : World → ℕ → Time → ℕ → ℕ
-wishes w v t k = total (wished v t) (w.requests k) + held_wish v t (w.held k)
+-- a worker's requests of this vertex and time, and the notification that it holds
+abbrev pub open_requests : World → ℕ → Time → ℕ → ℕ
+open_requests w v t k = total (one_if_at v t) (w.requests k) + held_notifications v t (w.held k)
 
 -- 1 if the list isn't empty
 abbrev pub some : List Record → ℕ
 some [] = 0
 some (r ∷ records) = 1
 
-abbrev pub bit : Bool → ℕ
-bit true = 1
-bit false = 0
-
 -- what a worker's part of a vertex has made at a time
 abbrev pub made : Network → History → ℕ → ℕ → Time → Record → ℕ → ℕ
-made g h v q t r k = cond (h.told k v t) (count r (g.op v q t (ins g (h.done k) v t))) 0
+made g h v q t r k = cond (h.notified k v t) (count r (g.op v q t (ins g (h.done k) v t))) 0
 
 abbrev pub GoodMessage : Network → ℕ → Message → Type 0
 GoodMessage g k m = (m.edge < g.edges) × (0 < some m.records) × (g.role (g.target m.edge) ≡ Role.stateful ⊎ g.role (g.target m.edge) ≡ Role.notified → AtHome g k m.edge m.records) × g.IsPointstamp (message_pointstamp m)
@@ -86,7 +85,7 @@ done_at g h k v t = end_to_end (λ p. h.done k (g.edge_into v p) t) (g.ports v)
 
 -- the worker's notification was processed, or the worker holds it
 abbrev pub Due : World → History → ℕ → ℕ → Time → Type 0
-Due w h k v t = h.told k v t ≡ true ⊎ 0 < held_wish v t (w.held k)
+Due w h k v t = h.notified k v t ≡ true ⊎ 0 < held_notifications v t (w.held k)
 
 pub record Kept (g : Network) (w : World) (h : History) : Type 0 where
   -- what was sent on an edge was processed, or is under way
@@ -97,8 +96,8 @@ pub record Kept (g : Network) (w : World) (h : History) : Type 0 where
   pub from_vertex : (e : ℕ) (u : Time) (r : Record) → e < g.edges → g.IsPointstamp (on_edge e u) → g.role (g.source e) ≢ Role.input →
       count r (w.sent e u) ≡ total (λ t. sum_below g.workers (made g h (g.source e) (g.out_port e) t r)) (g.times_before (g.source e) u)
   -- a group waits for its notification exactly if it absorbed something and had no notification yet; no other vertex is ever notified
-  pub notifications : (k v : ℕ) (t : Time) → k < g.workers → g.role v ≡ Role.notified → wishes w v t k + bit (h.told k v t) ≡ some (done_at g h k v t)
-  pub always_told : (k v : ℕ) (t : Time) → g.role v ≢ Role.notified → h.told k v t ≡ true
+  pub notifications : (k v : ℕ) (t : Time) → k < g.workers → g.role v ≡ Role.notified → open_requests w v t k + one_if (h.notified k v t) ≡ some (done_at g h k v t)
+  pub always_notified : (k v : ℕ) (t : Time) → g.role v ≢ Role.notified → h.notified k v t ≡ true
   -- nothing more comes to a group that has had its notification
   pub settled : (k v : ℕ) (t : Time) → k < g.workers → g.role v ≡ Role.notified → Due w h k v t → NoOtherBefore g w (at_vertex v t)
   pub at_home : (k e : ℕ) (t : Time) → k < g.workers → e < g.edges → g.role (g.target e) ≡ Role.stateful ⊎ g.role (g.target e) ≡ Role.notified → AtHome g k e (h.done k e t)

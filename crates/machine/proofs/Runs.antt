@@ -1,6 +1,6 @@
 -- Whole runs.
 use Rattle.std.proofs.Common.{◌≡◌, ◌≢◌, ◌<◌, ℕ, ◌+◌, Bool, true, false, cond, List, [], ◌∷◌, ◌++◌, ◌⊎◌, inl, inr, refl, sym, ap, ◌∙◌, subst, arith}
-use Rattle.semantics.specs.Multiset.{total, Record, count}
+use Rattle.semantics.specs.Multiset.{total, Record, count, one_if}
 use Rattle.semantics.specs.Time.{Time, same_counters}
 use Rattle.semantics.specs.Kinds.{Role}
 use Rattle.machine.specs.Network.{Network}
@@ -11,11 +11,11 @@ use Rattle.machine.specs.Run.{Run, Reached}
 use Rattle.machine.proofs.Arrivals.{history_done, keep_arrival}
 use Rattle.machine.proofs.Counting.{below_zero}
 use Rattle.machine.proofs.Derived.{headline}
-use Rattle.machine.proofs.Kept.{some, History, under_way, bit, made, Kept}
+use Rattle.machine.proofs.Kept.{some, History, under_way, made, Kept}
 use Rattle.machine.proofs.Ports.{end_empty}
 use Rattle.machine.proofs.Laws.{IsNetwork}
 use Rattle.machine.proofs.NetFlow.{HasFlows}
-use Rattle.machine.proofs.Notifications.{history_told, keep_notification}
+use Rattle.machine.proofs.Notifications.{history_notified, keep_notification}
 use Rattle.machine.proofs.Steps.{keep_feed, keep_seal, keep_close, keep_claim_message, keep_claim_request, keep_merge, keep_abandon}
 use Rattle.machine.proofs.RunTheorems.{EveryRunKeeps}
 
@@ -39,7 +39,7 @@ unfolding not_notified_role
 is_untold k e = ap not_notified_role e
 
 abbrev pub start : Network → History
-start g = record { done = λ k e t. []; told = λ k v t. not_notified_role (g.role v) }
+start g = record { done = λ k e t. []; notified = λ k v t. not_notified_role (g.role v) }
 
 made_nothing : (g : Network) → IsNetwork g → (v q : ℕ) (t : Time) (r : Record) (k : ℕ) → made g (start g) v q t r k ≡ 0
 made_nothing g law v q t r k = ap (λ n. cond (not_notified_role (g.role v)) n 0) (ap (count r) (law.op_nothing v q t (λ p. []) (λ p lp. refl))) ∙ both (not_notified_role (g.role v))
@@ -61,8 +61,8 @@ keep_opening g law =
           omega arith;
       from_input = λ e t le s. record { counts = λ r. nothing (same_counters t.counters []) r };
       from_vertex = λ e u r le fits s. sym (total_nothing (g.times_before (g.source e) u) _ (λ t. below_zero g.workers _ (λ k lk. made_nothing g law (g.source e) (g.out_port e) t r k)));
-      notifications = λ k v t lk s. ap (λ b. 0 + bit b) (is_untold (g.role v) s) ∙ sym (ap some (end_empty (g.ports v)));
-      always_told = λ k v t s. is_told (g.role v) s;
+      notifications = λ k v t lk s. ap (λ b. 0 + one_if b) (is_untold (g.role v) s) ∙ sym (ap some (end_empty (g.ports v)));
+      always_notified = λ k v t s. is_told (g.role v) s;
       settled = λ k v t lk s due. absurd (not_due v s due);
       at_home = λ k e t lk le s r l. absurd (omega arith);
       good_mail = λ k lk. tt;
@@ -88,7 +88,7 @@ keep_step g law flows w h keeps (Step.claim_message k at m) ok = (h, keep_claim_
 keep_step g law flows w h keeps (Step.claim_request k at n) ok = (h, keep_claim_request g law w h keeps k at n ok)
 keep_step g law flows w h keeps (Step.merge k at m n) ok = (h, keep_merge g law w h keeps k at m n ok)
 keep_step g law flows w h keeps (Step.commit k (Event.arrival m) out) ok = (history_done h k m, keep_arrival g law w h keeps flows k m out ok)
-keep_step g law flows w h keeps (Step.commit k (Event.notification n) out) ok = (history_told h k n, keep_notification g law w h keeps flows k n out ok)
+keep_step g law flows w h keeps (Step.commit k (Event.notification n) out) ok = (history_notified h k n, keep_notification g law w h keeps flows k n out ok)
 keep_step g law flows w h keeps (Step.abandon k event) ok = (h, keep_abandon g law w h keeps k event ok)
 
 keep_run : (g : Network) → IsNetwork g → HasFlows g → (steps : List Step) (w w' : World) (h : History) → Kept g w h → Run g w steps w' → (h' : History) × Kept g w' h'

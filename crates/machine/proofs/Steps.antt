@@ -1,7 +1,7 @@
 -- Each step except a commit keeps the facts that hold in every reached world.
 use Rattle.std.proofs.Common.{◌≡◌, ◌≢◌, ◌<◌, ℕ, suc, ◌+◌, Bool, true, false, cond, ◌&&◌, eqb, List, [], ◌∷◌, ◌++◌, ◌⊎◌, inl, inr, sym, ap, ◌∙◌, subst, ap₂, arith, slice_get, remove}
 use Rattle.std.proofs.lemmas.Bool.Decides.{eqb_tells}
-use Rattle.semantics.specs.Multiset.{total, Record, count}
+use Rattle.semantics.specs.Multiset.{total, Record, count, one_if}
 use Rattle.semantics.specs.Could.{Pointstamp, at_vertex}
 use Rattle.semantics.specs.Time.{Time, same_counters, same_time, at_epoch}
 use Rattle.semantics.specs.Kinds.{Role}
@@ -14,8 +14,8 @@ use Rattle.machine.specs.Step.{Step, Allowed, after_step, merged, put}
 use Rattle.machine.proofs.Kept.{each}
 use Rattle.semantics.proofs.MultisetSums.{total-append}
 use Rattle.machine.proofs.Counting.{below_same, below_add, total-remove, count-append}
-use Rattle.machine.proofs.Derived.{wished_place}
-use Rattle.machine.proofs.Kept.{History, carried, held_records, under_way, wished, held_wish, wishes, some, bit, Due, Kept, GoodMessage, GoodRequest, GoodEvent, GoodHeld}
+use Rattle.machine.proofs.Derived.{request_place}
+use Rattle.machine.proofs.Kept.{History, carried, held_records, under_way, one_if_at, held_notifications, open_requests, some, Due, Kept, GoodMessage, GoodRequest, GoodEvent, GoodHeld}
 use Rattle.machine.proofs.Laws.{IsNetwork}
 use Rattle.machine.proofs.Merges.{mail_merged, total_merged, each_merged, carried_merged, good_merged}
 use Rattle.machine.proofs.NetFlow.{fed_at}
@@ -54,7 +54,7 @@ module _ (g : Network) (law : IsNetwork g) (w : World) (h : History) (keeps : Ke
         from_input = keeps.from_input;
         from_vertex = keeps.from_vertex;
         notifications = keeps.notifications;
-        always_told = keeps.always_told;
+        always_notified = keeps.always_notified;
         settled = settled_after (Step.seal i) ok;
         at_home = keeps.at_home;
         good_mail = keeps.good_mail;
@@ -71,7 +71,7 @@ module _ (g : Network) (law : IsNetwork g) (w : World) (h : History) (keeps : Ke
         from_input = keeps.from_input;
         from_vertex = keeps.from_vertex;
         notifications = keeps.notifications;
-        always_told = keeps.always_told;
+        always_notified = keeps.always_notified;
         settled = settled_after (Step.close i) ok;
         at_home = keeps.at_home;
         good_mail = keeps.good_mail;
@@ -88,8 +88,8 @@ module _ (g : Network) (law : IsNetwork g) (w : World) (h : History) (keeps : Ke
         balance = λ e t r le. keeps.balance e t r le ∙ ap (λ n. sum_below g.workers (λ k. count r (h.done k e t)) + n) (below_same g.workers _ _ (λ k lk. sym (way e t r k)));
         from_input = keeps.from_input;
         from_vertex = keeps.from_vertex;
-        notifications = λ k v t lk s. ap (λ n. total (wished v t) (w.requests k) + n + bit (h.told k v t)) (wish v t k) ∙ keeps.notifications k v t lk s;
-        always_told = keeps.always_told;
+        notifications = λ k v t lk s. ap (λ n. total (one_if_at v t) (w.requests k) + n + one_if (h.notified k v t)) (held_same v t k) ∙ keeps.notifications k v t lk s;
+        always_notified = keeps.always_notified;
         settled = λ k v t lk s due. settled_after (Step.abandon k0 event) ok k v t lk s (was_due k v t due);
         at_home = keeps.at_home;
         good_mail = keeps.good_mail;
@@ -106,16 +106,16 @@ module _ (g : Network) (law : IsNetwork g) (w : World) (h : History) (keeps : Ke
           go (inl (x, y)) = ap (λ z. total (carried e t r) (w.mail k) + held_records e t r z) y ∙ sym (ap (λ z. total (carried e t r) (w.mail k) + held_records e t r z) (ap w.held x ∙ ok.1))
           go (inr (x, y)) = ap (λ z. total (carried e t r) (w.mail k) + held_records e t r z) y
 
-      wish : (v : ℕ) (t : Time) (k : ℕ) → held_wish v t (put w.held k0 (Held.holding true event) k) ≡ held_wish v t (w.held k)
-      wish v t k = go (put_tells w.held k0 (Held.holding true event) k)
+      held_same : (v : ℕ) (t : Time) (k : ℕ) → held_notifications v t (put w.held k0 (Held.holding true event) k) ≡ held_notifications v t (w.held k)
+      held_same v t k = go (put_tells w.held k0 (Held.holding true event) k)
         where
-          go : ((k ≡ k0) × (put w.held k0 (Held.holding true event) k ≡ Held.holding true event)) ⊎ ((k ≢ k0) × (put w.held k0 (Held.holding true event) k ≡ w.held k)) → held_wish v t (put w.held k0 (Held.holding true event) k) ≡ held_wish v t (w.held k)
-          go (inl (x, y)) = ap (held_wish v t) y ∙ sym (ap (held_wish v t) (ap w.held x ∙ ok.1))
-          go (inr (x, y)) = ap (held_wish v t) y
+          go : ((k ≡ k0) × (put w.held k0 (Held.holding true event) k ≡ Held.holding true event)) ⊎ ((k ≢ k0) × (put w.held k0 (Held.holding true event) k ≡ w.held k)) → held_notifications v t (put w.held k0 (Held.holding true event) k) ≡ held_notifications v t (w.held k)
+          go (inl (x, y)) = ap (held_notifications v t) y ∙ sym (ap (held_notifications v t) (ap w.held x ∙ ok.1))
+          go (inr (x, y)) = ap (held_notifications v t) y
 
       was_due : (k v : ℕ) (t : Time) → Due (after_step g w (Step.abandon k0 event)) h k v t → Due w h k v t
       was_due k v t (inl x) = inl x
-      was_due k v t (inr x) = let y = wish v t k in inr (omega arith)
+      was_due k v t (inr x) = let y = held_same v t k in inr (omega arith)
 
       good : (k : ℕ) → k < g.workers → GoodHeld g k (put w.held k0 (Held.holding true event) k)
       good k lk = go (put_tells w.held k0 (Held.holding true event) k)
@@ -130,8 +130,8 @@ module _ (g : Network) (law : IsNetwork g) (w : World) (h : History) (keeps : Ke
         balance = λ e t r le. keeps.balance e t r le ∙ ap (λ n. sum_below g.workers (λ k. count r (h.done k e t)) + n) (below_same g.workers _ _ (λ k lk. sym (way e t r k (put_tells w.mail k0 (remove (w.mail k0) at) k) (put_tells w.held k0 (Held.holding false (Event.arrival m)) k))));
         from_input = keeps.from_input;
         from_vertex = keeps.from_vertex;
-        notifications = λ k v t lk s. ap (λ n. total (wished v t) (w.requests k) + n + bit (h.told k v t)) (wish v t k (put_tells w.held k0 (Held.holding false (Event.arrival m)) k)) ∙ keeps.notifications k v t lk s;
-        always_told = keeps.always_told;
+        notifications = λ k v t lk s. ap (λ n. total (one_if_at v t) (w.requests k) + n + one_if (h.notified k v t)) (held_same v t k (put_tells w.held k0 (Held.holding false (Event.arrival m)) k)) ∙ keeps.notifications k v t lk s;
+        always_notified = keeps.always_notified;
         settled = λ k v t lk s due. settled_after (Step.claim_message k0 at m) ok k v t lk s (was_due k v t due);
         at_home = keeps.at_home;
         good_mail = λ k lk. mails k lk (put_tells w.mail k0 (remove (w.mail k0) at) k);
@@ -153,13 +153,13 @@ module _ (g : Network) (law : IsNetwork g) (w : World) (h : History) (keeps : Ke
       way e t r k (inr (x, y)) (inl (x', y')) = absurd (x x')
       way e t r k (inr (x, y)) (inr (x', y')) = ap₂ (λ ms z. total (carried e t r) ms + held_records e t r z) y y'
 
-      wish : (v : ℕ) (t : Time) (k : ℕ) → ((k ≡ k0) × (put w.held k0 (Held.holding false (Event.arrival m)) k ≡ Held.holding false (Event.arrival m))) ⊎ ((k ≢ k0) × (put w.held k0 (Held.holding false (Event.arrival m)) k ≡ w.held k)) → held_wish v t (put w.held k0 (Held.holding false (Event.arrival m)) k) ≡ held_wish v t (w.held k)
-      wish v t k (inl (x, y)) = ap (held_wish v t) y ∙ sym (ap (held_wish v t) (ap w.held x ∙ ok.0.1))
-      wish v t k (inr (x, y)) = ap (held_wish v t) y
+      held_same : (v : ℕ) (t : Time) (k : ℕ) → ((k ≡ k0) × (put w.held k0 (Held.holding false (Event.arrival m)) k ≡ Held.holding false (Event.arrival m))) ⊎ ((k ≢ k0) × (put w.held k0 (Held.holding false (Event.arrival m)) k ≡ w.held k)) → held_notifications v t (put w.held k0 (Held.holding false (Event.arrival m)) k) ≡ held_notifications v t (w.held k)
+      held_same v t k (inl (x, y)) = ap (held_notifications v t) y ∙ sym (ap (held_notifications v t) (ap w.held x ∙ ok.0.1))
+      held_same v t k (inr (x, y)) = ap (held_notifications v t) y
 
       was_due : (k v : ℕ) (t : Time) → Due (after_step g w (Step.claim_message k0 at m)) h k v t → Due w h k v t
       was_due k v t (inl x) = inl x
-      was_due k v t (inr x) = let y = wish v t k (put_tells w.held k0 (Held.holding false (Event.arrival m)) k) in inr (omega arith)
+      was_due k v t (inr x) = let y = held_same v t k (put_tells w.held k0 (Held.holding false (Event.arrival m)) k) in inr (omega arith)
 
       mails : (k : ℕ) → k < g.workers → ((k ≡ k0) × (put w.mail k0 (remove (w.mail k0) at) k ≡ remove (w.mail k0) at)) ⊎ ((k ≢ k0) × (put w.mail k0 (remove (w.mail k0) at) k ≡ w.mail k)) → each (GoodMessage g k) (put w.mail k0 (remove (w.mail k0) at) k)
       mails k lk (inl (x, y)) = subst (each (GoodMessage g k)) (ap (λ j. remove (w.mail j) at) x ∙ sym y) (each-remove (GoodMessage g k) (w.mail k) at (keeps.good_mail k lk))
@@ -179,7 +179,7 @@ module _ (g : Network) (law : IsNetwork g) (w : World) (h : History) (keeps : Ke
         from_input = keeps.from_input;
         from_vertex = keeps.from_vertex;
         notifications = keeps.notifications;
-        always_told = keeps.always_told;
+        always_notified = keeps.always_notified;
         settled = settled_after (Step.merge k0 at m n) ok;
         at_home = keeps.at_home;
         good_mail = λ k lk. mails k lk (put_tells w.mail k0 (mail_merged (w.mail k0) at m n) k);
@@ -213,8 +213,8 @@ module _ (g : Network) (law : IsNetwork g) (w : World) (h : History) (keeps : Ke
         balance = λ e t r le. keeps.balance e t r le ∙ ap (λ n. sum_below g.workers (λ k. count r (h.done k e t)) + n) (below_same g.workers _ _ (λ k lk. sym (way e t r k (put_tells w.held k0 (Held.holding false (Event.notification n)) k))));
         from_input = keeps.from_input;
         from_vertex = keeps.from_vertex;
-        notifications = λ k v t lk s. ap (λ n. n + bit (h.told k v t)) (wish v t k (put_tells w.requests k0 (remove (w.requests k0) at) k) (put_tells w.held k0 (Held.holding false (Event.notification n)) k)) ∙ keeps.notifications k v t lk s;
-        always_told = keeps.always_told;
+        notifications = λ k v t lk s. ap (λ n. n + one_if (h.notified k v t)) (requests_same v t k (put_tells w.requests k0 (remove (w.requests k0) at) k) (put_tells w.held k0 (Held.holding false (Event.notification n)) k)) ∙ keeps.notifications k v t lk s;
+        always_notified = keeps.always_notified;
         settled = λ k v t lk s due. settled k v t lk s due (put_tells w.held k0 (Held.holding false (Event.notification n)) k);
         at_home = keeps.at_home;
         good_mail = keeps.good_mail;
@@ -228,29 +228,29 @@ module _ (g : Network) (law : IsNetwork g) (w : World) (h : History) (keeps : Ke
       way e t r k (inl (x, y)) = ap (λ z. total (carried e t r) (w.mail k) + held_records e t r z) y ∙ sym (ap (λ z. total (carried e t r) (w.mail k) + held_records e t r z) (ap w.held x ∙ ok.0.1))
       way e t r k (inr (x, y)) = ap (λ z. total (carried e t r) (w.mail k) + held_records e t r z) y
 
-      wish : (v : ℕ) (t : Time) (k : ℕ) → ((k ≡ k0) × (put w.requests k0 (remove (w.requests k0) at) k ≡ remove (w.requests k0) at)) ⊎ ((k ≢ k0) × (put w.requests k0 (remove (w.requests k0) at) k ≡ w.requests k)) → ((k ≡ k0) × (put w.held k0 (Held.holding false (Event.notification n)) k ≡ Held.holding false (Event.notification n))) ⊎ ((k ≢ k0) × (put w.held k0 (Held.holding false (Event.notification n)) k ≡ w.held k)) → wishes (after_step g w (Step.claim_request k0 at n)) v t k ≡ wishes w v t k
-      wish v t k (inl (x, y)) (inl (x', y')) =
-          let a : total (wished v t) (put w.requests k0 (remove (w.requests k0) at) k) ≡ total (wished v t) (remove (w.requests k0) at) = ap (λ ms. total (wished v t) ms) y in
-          let b : total (wished v t) (remove (w.requests k0) at) + wished v t n ≡ total (wished v t) (w.requests k0) = total-remove (wished v t) (w.requests k0) at n ok.1 in
-          let c : total (wished v t) (w.requests k) ≡ total (wished v t) (w.requests k0) = ap (λ j. total (wished v t) (w.requests j)) x in
-          let d : held_wish v t (put w.held k0 (Held.holding false (Event.notification n)) k) ≡ wished v t n = ap (held_wish v t) y' in
-          let f : held_wish v t (w.held k) ≡ 0 = ap (held_wish v t) (ap w.held x ∙ ok.0.1) in
+      requests_same : (v : ℕ) (t : Time) (k : ℕ) → ((k ≡ k0) × (put w.requests k0 (remove (w.requests k0) at) k ≡ remove (w.requests k0) at)) ⊎ ((k ≢ k0) × (put w.requests k0 (remove (w.requests k0) at) k ≡ w.requests k)) → ((k ≡ k0) × (put w.held k0 (Held.holding false (Event.notification n)) k ≡ Held.holding false (Event.notification n))) ⊎ ((k ≢ k0) × (put w.held k0 (Held.holding false (Event.notification n)) k ≡ w.held k)) → open_requests (after_step g w (Step.claim_request k0 at n)) v t k ≡ open_requests w v t k
+      requests_same v t k (inl (x, y)) (inl (x', y')) =
+          let a : total (one_if_at v t) (put w.requests k0 (remove (w.requests k0) at) k) ≡ total (one_if_at v t) (remove (w.requests k0) at) = ap (λ ms. total (one_if_at v t) ms) y in
+          let b : total (one_if_at v t) (remove (w.requests k0) at) + one_if_at v t n ≡ total (one_if_at v t) (w.requests k0) = total-remove (one_if_at v t) (w.requests k0) at n ok.1 in
+          let c : total (one_if_at v t) (w.requests k) ≡ total (one_if_at v t) (w.requests k0) = ap (λ j. total (one_if_at v t) (w.requests j)) x in
+          let d : held_notifications v t (put w.held k0 (Held.holding false (Event.notification n)) k) ≡ one_if_at v t n = ap (held_notifications v t) y' in
+          let f : held_notifications v t (w.held k) ≡ 0 = ap (held_notifications v t) (ap w.held x ∙ ok.0.1) in
           omega arith
-      wish v t k (inl (x, y)) (inr (x', y')) = absurd (x' x)
-      wish v t k (inr (x, y)) (inl (x', y')) = absurd (x x')
-      wish v t k (inr (x, y)) (inr (x', y')) = ap₂ (λ ms z. total (wished v t) ms + held_wish v t z) y y'
+      requests_same v t k (inl (x, y)) (inr (x', y')) = absurd (x' x)
+      requests_same v t k (inr (x, y)) (inl (x', y')) = absurd (x x')
+      requests_same v t k (inr (x, y)) (inr (x', y')) = ap₂ (λ ms z. total (one_if_at v t) ms + held_notifications v t z) y y'
 
-      newly : (v : ℕ) (t : Time) → 0 < wished v t n → (wished v t n ≡ 0) ⊎ (request_pointstamp n ≡ at_vertex v t) → NoOtherBefore g w (at_vertex v t)
+      newly : (v : ℕ) (t : Time) → 0 < one_if_at v t n → (one_if_at v t n ≡ 0) ⊎ (request_pointstamp n ≡ at_vertex v t) → NoOtherBefore g w (at_vertex v t)
       newly v t some (inl z) = absurd (omega arith)
       newly v t some (inr p) = subst (λ (x : Pointstamp). NoOtherBefore g w x) p ok.2
 
       settled : (k v : ℕ) (t : Time) → k < g.workers → g.role v ≡ Role.notified → Due (after_step g w (Step.claim_request k0 at n)) h k v t → ((k ≡ k0) × (put w.held k0 (Held.holding false (Event.notification n)) k ≡ Held.holding false (Event.notification n))) ⊎ ((k ≢ k0) × (put w.held k0 (Held.holding false (Event.notification n)) k ≡ w.held k)) → NoOtherBefore g (after_step g w (Step.claim_request k0 at n)) (at_vertex v t)
-      settled k v t lk s (inl told) z = settled_after (Step.claim_request k0 at n) ok k v t lk s (inl told)
-      settled k v t lk s (inr wish) (inl (x, y)) =
-          let a : held_wish v t (put w.held k0 (Held.holding false (Event.notification n)) k) ≡ wished v t n = ap (held_wish v t) y in
-          no_other_under g law w (after_step g w (Step.claim_request k0 at n)) (under_step g law w good_of (Step.claim_request k0 at n) ok) (at_vertex v t) (newly v t (omega arith) (wished_place v t n))
-      settled k v t lk s (inr wish) (inr (x, y)) =
-          let a : held_wish v t (put w.held k0 (Held.holding false (Event.notification n)) k) ≡ held_wish v t (w.held k) = ap (held_wish v t) y in
+      settled k v t lk s (inl notified) z = settled_after (Step.claim_request k0 at n) ok k v t lk s (inl notified)
+      settled k v t lk s (inr due) (inl (x, y)) =
+          let a : held_notifications v t (put w.held k0 (Held.holding false (Event.notification n)) k) ≡ one_if_at v t n = ap (held_notifications v t) y in
+          no_other_under g law w (after_step g w (Step.claim_request k0 at n)) (under_step g law w good_of (Step.claim_request k0 at n) ok) (at_vertex v t) (newly v t (omega arith) (request_place v t n))
+      settled k v t lk s (inr due) (inr (x, y)) =
+          let a : held_notifications v t (put w.held k0 (Held.holding false (Event.notification n)) k) ≡ held_notifications v t (w.held k) = ap (held_notifications v t) y in
           settled_after (Step.claim_request k0 at n) ok k v t lk s (inr (omega arith))
 
       requests : (k : ℕ) → k < g.workers → ((k ≡ k0) × (put w.requests k0 (remove (w.requests k0) at) k ≡ remove (w.requests k0) at)) ⊎ ((k ≢ k0) × (put w.requests k0 (remove (w.requests k0) at) k ≡ w.requests k)) → each (GoodRequest g) (put w.requests k0 (remove (w.requests k0) at) k)
@@ -289,7 +289,7 @@ module _ (g : Network) (law : IsNetwork g) (w : World) (h : History) (keeps : Ke
         from_input = λ e t le s. record { counts = λ r. input e t le s r (eqb_tells (g.source e) i) };
         from_vertex = λ e u r le fits s. sent_elsewhere i (at_epoch (w.open_epoch i)) (λ q. rows) e u r (λ x. s (ap g.role x ∙ ok.0.0)) ∙ keeps.from_vertex e u r le fits s;
         notifications = keeps.notifications;
-        always_told = keeps.always_told;
+        always_notified = keeps.always_notified;
         settled = settled_after (Step.feed i rows) ok;
         at_home = keeps.at_home;
         good_mail = λ k lk. each-append (GoodMessage g k) (w.mail k) _ (keeps.good_mail k lk) (each_more (Parcel g i (at_epoch (w.open_epoch i)) k) (GoodMessage g k) _ (λ m p. p.good) (parcels_good g law 0 i (at_epoch (w.open_epoch i)) (λ q. rows) k g.edges (fits_fed g law i (w.open_epoch i) ok.0.0) (omega arith)));

@@ -3,14 +3,12 @@ use Rattle.std.proofs.Common.{◌≡◌, ◌≤◌, ◌<◌, ℕ, zero, suc, Boo
 use mathlib.Core.WellFounded.{Acc}
 use Rattle.semantics.specs.Multiset.{total}
 use Rattle.semantics.specs.Could.{Pointstamp, NoneOf, NoOtherOf}
+use Rattle.semantics.proofs.CouldRises.{same_or_less}
 use Rattle.machine.specs.Network.{Network}
 use Rattle.machine.specs.Views.{Changes, when, all_adds, seen_adds, seen_removes, IsSeen, IsThere, NoneApplied, InOrder}
 use Rattle.machine.proofs.JustifiedLogs.{RemovedOrThere, Justified, IsLog}
 use Rattle.machine.proofs.Laws.{Lower, IsNetwork}
 use Rattle.machine.proofs.Rank.{could_back}
-
-less_or_same : (m n : ℕ) → m ≤ n → (m < n) ⊎ (m ≡ n)
-less_or_same m n l = grind arith
 
 pub when_le : (b : Bool) (n : ℕ) → when b n ≤ n
 when_le true n = omega arith
@@ -76,10 +74,10 @@ module _ (g : Network) (law : IsNetwork g) (first : Pointstamp → ℕ) (log : L
       step p c (inr t) (inr e) ih = (p, (let k = total_when log (λ b. b.removes p) in omega arith), c)
 
       go : (p : Pointstamp) × Lower g p q × g.Could p q × ((total (λ b. when b.applied (b.removes p)) log < total (λ b. b.removes p) log) ⊎ IsThere first log p) → ((p : Pointstamp) → Lower g p q → seen_adds first log p < all_adds first log p → (o : Pointstamp) × IsSeen first log o × g.Could o p) → (o : Pointstamp) × IsSeen first log o × g.Could o q
-      go (p, a, c, s) ih = step p c s (less_or_same (seen_adds first log p) (all_adds first log p) (let k = total_when log (λ b. b.adds p) in omega arith)) (ih p a)
+      go (p, a, c, s) ih = step p c s (same_or_less (seen_adds first log p) (all_adds first log p) (let k = total_when log (λ b. b.adds p) in omega arith)) (ih p a)
 
   pub seen_before : (q : Pointstamp) → g.IsPointstamp q → IsThere first log q → (p : Pointstamp) × IsSeen first log p × g.Could p q
-  seen_before q fits there = go (less_or_same (seen_adds first log q) (all_adds first log q) (let k = total_when log (λ b. b.adds q) in omega arith))
+  seen_before q fits there = go (same_or_less (seen_adds first log q) (all_adds first log q) (let k = total_when log (λ b. b.adds q) in omega arith))
     where
       go : (seen_adds first log q < all_adds first log q) ⊎ (seen_adds first log q ≡ all_adds first log q) → (p : Pointstamp) × IsSeen first log p × g.Could p q
       go (inl m) = seen_below q (law.founded q) m
@@ -96,7 +94,7 @@ module _ (g : Network) (law : IsNetwork g) (first : Pointstamp → ℕ) (log : L
 
   -- what a view lets through, it still does when more is applied
   pub view_stays : (more : List Changes) → ((q : Pointstamp) → seen_adds first more q ≤ all_adds first log q) → ((q : Pointstamp) → seen_removes log q ≤ seen_removes more q) → (p : Pointstamp) → NoneOf g.Could (IsSeen first log) p → NoneOf g.Could (IsSeen first more) p
-  view_stays more adds removes p none q seen c = go (less_or_same (seen_adds first log q) (all_adds first log q) (let k = total_when log (λ b. b.adds q) in omega arith))
+  view_stays more adds removes p none q seen c = go (same_or_less (seen_adds first log q) (all_adds first log q) (let k = total_when log (λ b. b.adds q) in omega arith))
     where
       go : (seen_adds first log q < all_adds first log q) ⊎ (seen_adds first log q ≡ all_adds first log q) → ⊥
       go (inl m) = let o = seen_below q (law.founded q) m in none o.0 o.1 (law.could_on o.0 q p o.2 c)

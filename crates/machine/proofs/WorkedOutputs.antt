@@ -8,7 +8,7 @@ use Rattle.semantics.specs.Typing.{WellTyped, HasArity}
 use Rattle.semantics.specs.Lower.{lowered, lower, lower_lets, lower_outputs}
 use Rattle.semantics.specs.Route.{route}
 use Rattle.semantics.specs.Examples.{one_field, in_a_alone, in_a_and_b, small_and_all}
-use Rattle.semantics.proofs.CouldRises.{at_most_refl}
+use Rattle.semantics.proofs.CouldRises.{at_most_refl, could_epoch}
 use Rattle.semantics.proofs.ExampleMeanings.{outputs_typed}
 use Rattle.semantics.proofs.MultisetSums.{≈-refl}
 use Rattle.machine.specs.World.{opening}
@@ -17,7 +17,7 @@ use Rattle.machine.specs.Frontier.{NoOtherBefore, Passed}
 use Rattle.machine.specs.Step.{Step, Allowed}
 use Rattle.machine.specs.Headline.{IsRunOf, output_of}
 use Rattle.machine.specs.WorkedRuns.{after_steps, differ, one_on, a_sealed, except_request, a_and_b_sealed, difference_committed, meeter, one_in_a, one_in_both, splitter, three_on, second_first}
-use Rattle.machine.proofs.WorkedRuns.{could_epoch, nothing_in, number}
+use Rattle.machine.proofs.WorkedRuns.{nothing_in, number}
 
 -- ---- except
 

@@ -1,43 +1,23 @@
 -- Small runs, by computation.
-use Rattle.std.proofs.Common.{◌≡◌, ◌≤◌, ℕ, zero, suc, true, false, List, [], ◌∷◌, pos, Some, refl, ap, ◌∙◌, arith, slice_get}
+use Rattle.std.proofs.Common.{◌≡◌, ℕ, zero, suc, true, false, List, [], ◌∷◌, pos, Some, refl, ap, ◌∙◌, arith, slice_get}
 use Rattle.std.specs.Int.{int_wrap}
 use Rattle.semantics.specs.Multiset.{◌≈◌}
-use Rattle.semantics.specs.Time.{Time, Action, after_action, at_epoch}
-use Rattle.semantics.specs.Kinds.{action}
-use Rattle.semantics.specs.Graph.{Graph, vertex, source, edge_source}
-use Rattle.semantics.specs.Could.{Pointstamp, Location, at_vertex, on_edge, PathStep, step_time, path_time, CouldResultIn}
+use Rattle.semantics.specs.Time.{Time, at_epoch}
+use Rattle.semantics.specs.Graph.{vertex, source}
+use Rattle.semantics.specs.Could.{Pointstamp, Location, at_vertex, on_edge, PathStep, CouldResultIn}
 use Rattle.semantics.specs.Meaning.{program_meaning, meaning, let_names}
 use Rattle.semantics.specs.Typing.{WellTyped, HasArity}
 use Rattle.semantics.specs.Lower.{lowered, lower, lower_lets, lower_outputs}
 use Rattle.semantics.specs.Route.{route}
 use Rattle.semantics.specs.Examples.{one_field, two_fields}
-use Rattle.semantics.proofs.CouldRises.{at_most_refl}
+use Rattle.semantics.proofs.CouldRises.{at_most_refl, could_epoch}
 use Rattle.semantics.proofs.MultisetSums.{≈-refl}
 use Rattle.machine.specs.World.{Message, Event, Held, opening}
 use Rattle.machine.specs.Active.{IsActive}
 use Rattle.machine.specs.Frontier.{NoOtherBefore, Passed}
 use Rattle.machine.specs.Step.{Step, Allowed}
 use Rattle.machine.specs.Headline.{IsRunOf, meant, output_of}
-use Rattle.machine.specs.WorkedRuns.{after_steps, message_on, copying, copier, the_five, one_fed, one_record, one_record_sealed, given_up, counting, counter, three_fed, two_fed, two_merged, fed_in_two_epochs, to_worker_0, to_worker_1, both_absorbed, the_request, absorbed_and_sealed, first_notified, first_committed}
-
--- ---- paths keep the epoch
-
-action_epoch : (a : Action) (t : Time) → (after_action a t).epoch ≡ t.epoch
-action_epoch Action.stay t = refl
-action_epoch Action.enter t = refl
-action_epoch Action.leave t = refl
-action_epoch Action.next t = refl
-
-step_epoch : (g : Graph) (s : PathStep) (t : Time) → (step_time g s t).epoch ≡ t.epoch
-step_epoch g (PathStep.enters e) t = refl
-step_epoch g (PathStep.leaves e) t = action_epoch (action (vertex g (edge_source g e).vertex).kind) t
-
-path_epoch : (g : Graph) (path : List PathStep) (t : Time) → (path_time g path t).epoch ≡ t.epoch
-path_epoch g [] t = refl
-path_epoch g (s ∷ path) t = path_epoch g path (step_time g s t) ∙ step_epoch g s t
-
-pub could_epoch : (g : Graph) (p q : Pointstamp) → CouldResultIn g p q → p.time.epoch ≤ q.time.epoch
-could_epoch g p q c = let e = path_epoch g c.path p.time in let l = c.in_time.epochs in omega arith
+use Rattle.machine.specs.WorkedRuns.{after_steps, message_on, copying, copier, the_five, one_fed, one_record, one_record_sealed, one_abandoned, counting, counter, three_fed, two_fed, two_merged, fed_in_two_epochs, to_worker_0, to_worker_1, both_absorbed, the_request, absorbed_and_sealed, first_notified, first_committed}
 
 pub nothing_in : {X : Type 0} (at : ℕ) (x : X) → (let none : List X = [] in slice_get none at) ≡ Some x → ⊥
 nothing_in at x e = cc
@@ -94,17 +74,17 @@ fed_less same = differs (same.counts (one_field (pos 5)))
 
 -- ---- an abandoned event
 
-pub given_up_run : IsRunOf copying 1 given_up (after_steps copier opening given_up)
+pub one_abandoned_run : IsRunOf copying 1 one_abandoned (after_steps copier opening one_abandoned)
 unfolding lowered lower lower_lets lower_outputs vertex source route
-given_up_run = record { arities = 1 ∷ []; typed = typed; some = omega arith; run = (((refl, refl, refl), omega arith), ((refl, refl, refl), (((omega arith, refl, refl), refl), ((omega arith, refl), refl)))) }
+one_abandoned_run = record { arities = 1 ∷ []; typed = typed; some = omega arith; run = (((refl, refl, refl), omega arith), ((refl, refl, refl), (((omega arith, refl, refl), refl), ((omega arith, refl), refl)))) }
 
 message_reaches_output : CouldResultIn (lowered copying) (on_edge 0 (at_epoch 0)) (at_vertex (output_of copying 0) (at_epoch 0))
 unfolding lowered lower lower_lets lower_outputs vertex source
 message_reaches_output = record { starts = (omega arith, refl); ends = (omega arith, refl); path = PathStep.enters 0 ∷ []; leads = (omega arith, refl, refl); in_time = at_most_refl (at_epoch 0) }
 
-pub given_up_open : Passed copier (after_steps copier opening given_up) (output_of copying 0) 0 → ⊥
+pub one_abandoned_open : Passed copier (after_steps copier opening one_abandoned) (output_of copying 0) 0 → ⊥
 unfolding lowered lower lower_lets lower_outputs vertex source route
-given_up_open passed = passed (on_edge 0 (at_epoch 0)) (IsActive.of_held 0 true (Event.arrival the_five) (omega arith) refl) message_reaches_output
+one_abandoned_open passed = passed (on_edge 0 (at_epoch 0)) (IsActive.of_held 0 true (Event.arrival the_five) (omega arith) refl) message_reaches_output
 
 -- ---- a batch of three records, a group on two workers
 

@@ -48,8 +48,8 @@ abbrev pub one_record_sealed : List Step
 one_record_sealed = one_record ++ Step.seal 0 ∷ []
 
 -- the record 5 is fed, the input is closed, and the event is claimed and abandoned
-abbrev pub given_up : List Step
-given_up = Step.feed 0 (one_field (pos 5) ∷ []) ∷ Step.close 0 ∷ Step.claim_message 0 0 the_five ∷ Step.abandon 0 (Event.arrival the_five) ∷ []
+abbrev pub one_abandoned : List Step
+one_abandoned = Step.feed 0 (one_field (pos 5) ∷ []) ∷ Step.close 0 ∷ Step.claim_message 0 0 the_five ∷ Step.abandon 0 (Event.arrival the_five) ∷ []
 
 -- ---- input a/1; output group(a; #0; count);
 

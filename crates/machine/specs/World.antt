@@ -22,7 +22,7 @@ pub data Event : Type 0 where
 -- what a worker holds: nothing, or an event, perhaps abandoned
 pub data Held : Type 0 where
   nothing : Held
-  holding : (given_up : Bool) → Event → Held
+  holding : (abandoned : Bool) → Event → Held
 
 pub record World : Type 0 where
   -- by input, which is the vertex of the same number

@@ -20,8 +20,8 @@ pub fn law_in_transit()
         IsRunOn g workers steps w → (worker at : ℕ) (n : Request) → worker < workers →
         slice_get (w.requests worker) at ≡ Some n → IsGoodRequest g n }
     ensures held { (g : Graph) (workers : ℕ) (steps : List Step) (w : World) →
-        IsRunOn g workers steps w → (worker : ℕ) (given_up : Bool) (event : Event) → worker < workers →
-        w.held worker ≡ Held.holding given_up event → IsGoodEvent g event }
+        IsRunOn g workers steps w → (worker : ℕ) (abandoned : Bool) (event : Event) → worker < workers →
+        w.held worker ≡ Held.holding abandoned event → IsGoodEvent g event }
 {}
 
 /// If each record that was fed has its input's arity, then each record under way, absorbed or emitted has its port's, and what a program's engine
@@ -33,8 +33,8 @@ pub fn law_arities()
         HaveFields (arity (edge_source g m.edge).vertex) m.records }
     ensures held { (g : Graph) (workers : ℕ) (steps : List Step) (w : World) →
         IsRunOn g workers steps w → (arity : ℕ → ℕ) → IsTyped g arity → FedFits g arity w →
-        (worker : ℕ) (given_up : Bool) (m : Message) → worker < workers →
-        w.held worker ≡ Held.holding given_up (Event.arrival m) →
+        (worker : ℕ) (abandoned : Bool) (m : Message) → worker < workers →
+        w.held worker ≡ Held.holding abandoned (Event.arrival m) →
         HaveFields (arity (edge_source g m.edge).vertex) m.records }
     ensures absorbed { (g : Graph) (workers : ℕ) (steps : List Step) (w : World) →
         IsRunOn g workers steps w → (arity : ℕ → ℕ) → IsTyped g arity → FedFits g arity w →

@@ -6,7 +6,7 @@ ghost use Rattle.machine.specs.World.{Message, opening};
 ghost use Rattle.machine.specs.Frontier.{Passed};
 ghost use Rattle.machine.specs.Step.{Step, Allowed};
 ghost use Rattle.machine.specs.Headline.{IsRunOf, meant, output_of};
-ghost use Rattle.machine.specs.WorkedRuns.{after_steps, message_on, copying, copier, one_fed, one_record, one_record_sealed, given_up};
+ghost use Rattle.machine.specs.WorkedRuns.{after_steps, message_on, copying, copier, one_fed, one_record, one_record_sealed, one_abandoned};
 ghost use Rattle.machine.specs.WorkedRuns.{counting, counter, three_fed, two_fed, two_merged, fed_in_two_epochs, to_worker_0, to_worker_1};
 ghost use Rattle.machine.specs.WorkedRuns.{both_absorbed, the_request, absorbed_and_sealed, first_notified, first_committed};
 ghost use Rattle.machine.specs.WorkedRuns.{differ, a_sealed, except_request, a_and_b_sealed, one_on, difference_committed};
@@ -27,9 +27,9 @@ pub fn law_one_record()
 {}
 
 /// An abandoned event keeps its epoch open, even if every input is closed and no message or request is left.
-pub fn law_given_up()
-    ensures run { IsRunOf copying 1 given_up (after_steps copier opening given_up) }
-    ensures is_open { Passed copier (after_steps copier opening given_up) (output_of copying 0) 0 → ⊥ }
+pub fn law_one_abandoned()
+    ensures run { IsRunOf copying 1 one_abandoned (after_steps copier opening one_abandoned) }
+    ensures is_open { Passed copier (after_steps copier opening one_abandoned) (output_of copying 0) 0 → ⊥ }
 {}
 
 /// Three records that are fed at once to a group on two workers make one message for each worker, with the records of its keys.

@@ -2,10 +2,11 @@
 use Rattle.std.proofs.Common.{◌≡◌, inl, inr, ℕ, zero, suc, ◌+◌, ◌-◌, ◌≤◌, ◌<◌, nat_lt, nat_eq, Bool, true, false, cond, ◌&&◌, ◌||◌, List, [], ◌∷◌, ◌++◌, length, refl, sym, ap, ap₂, subst, ◌∙◌, arith, append-nil, get_or, take, drop, append_assoc, length-append}
 use Rattle.std.proofs.lemmas.Bool.Decides.{nat_tests}
 use Rattle.std.proofs.Math.Seq.{take-length}
-use Rattle.semantics.specs.Time.{Action, is_before, front, front_from, last, last_from}
+use Rattle.semantics.specs.Time.{Action, is_before, front, last}
 use Rattle.semantics.specs.Summary.{Summary, raised, applied, left_by, turned_by, then_action}
 use Rattle.semantics.proofs.OneFlow.{lex_head, lex_tail}
 use Rattle.semantics.proofs.PathSummaries.{MayTake, then_applied}
+use Rattle.semantics.proofs.VertexFlows.{front-push, last_from-push}
 use Rattle.path_summary.specs.Order.{Later, in_order}
 use Rattle.path_summary.specs.Carried.{raised_at, kept, carried, counters_after, identity, Sits, Below}
 use Rattle.path_summary.specs.Rows.{is_below}
@@ -135,24 +136,12 @@ kept_some : (k j c : ℕ) (cs : List ℕ) → 0 < k → kept k j (c ∷ cs) ≡ 
 kept_some zero j c cs h = absurd (omega arith)
 kept_some (suc k) j c cs h = let e : suc k - 1 ≡ k = omega arith in ap (λ n. raised_at n j c ∷ kept n j cs) (sym e)
 
-front_from-append : (b : ℕ) (xs : List ℕ) (c : ℕ) → front_from b (xs ++ (c ∷ [])) ≡ b ∷ xs
-front_from-append b [] c = refl
-front_from-append b (x ∷ xs) c = ap (λ (l : List ℕ). b ∷ l) (front_from-append x xs c)
-
-front_push : (xs : List ℕ) (c : ℕ) → front (xs ++ (c ∷ [])) ≡ xs
-front_push [] c = refl
-front_push (x ∷ xs) c = front_from-append x xs c
-
-last_from-append : (b : ℕ) (xs : List ℕ) (c : ℕ) → last_from b (xs ++ (c ∷ [])) ≡ c
-last_from-append b [] c = refl
-last_from-append b (x ∷ xs) c = last_from-append x xs c
-
 -- what a pop leaves, and what it takes
 pub popped_front : (old new : List ℕ) (c : ℕ) → old ≡ new ++ (c ∷ []) → front old ≡ new
-popped_front old new c e = ap front e ∙ front_push new c
+popped_front old new c e = ap front e ∙ front-push new c
 
 pub popped_last : (old new : List ℕ) (c : ℕ) → old ≡ new ++ (c ∷ []) → last old ≡ c
-popped_last old new c e = ap last e ∙ last_from-append 0 new c
+popped_last old new c e = ap last e ∙ last_from-push 0 new c
 
 pub pushed_kept : (out out1 out2 cs : List ℕ) (k j v : ℕ) → 0 < k → 1 ≤ length cs → v ≡ raised_at (k - 1) j (get_or cs 0 0) → out1 ≡ out ++ (v ∷ []) → out2 ≡ out1 ++ kept (k - 1) j (take (length cs - 1) (drop 1 cs)) → out2 ≡ out ++ kept k j cs
 pushed_kept out out1 out2 [] k j v h l e f g = absurd (omega arith)

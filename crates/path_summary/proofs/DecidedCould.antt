@@ -1,25 +1,19 @@
 -- A table decides exactly what could result in what.
-use Rattle.std.proofs.Common.{◌≡◌, inl, inr, ℕ, ◌+◌, ◌≤◌, ◌<◌, List, [], ◌∷◌, ◌++◌, length, Option, Some, refl, sym, ap, subst, ◌∙◌, arith, length-append}
+use Rattle.std.proofs.Common.{◌≡◌, inl, inr, ℕ, ◌≤◌, ◌<◌, List, [], ◌∷◌, ◌++◌, length, Option, Some, refl, sym, ap, subst, ◌∙◌, arith}
 use Rattle.semantics.specs.Time.{Time, Action, IsAtMost, after_action}
 use Rattle.semantics.specs.Kinds.{action}
 use Rattle.semantics.specs.Graph.{Graph, vertex, edge_count, target, in_port, edge_source}
 use Rattle.semantics.specs.Could.{Location, Pointstamp, IsTimeAt, PathStep, step_edge, step_from, step_to, step_time, IsPath, path_time, CouldResultIn}
-use Rattle.semantics.specs.Dataflow.{Goes, IsDataflow}
+use Rattle.semantics.specs.Dataflow.{IsDataflow}
 use Rattle.semantics.specs.Summary.{Summary, then_action}
 use Rattle.semantics.proofs.EdgeNumbers.{entered}
 use Rattle.semantics.proofs.CouldRises.{at_most_refl, at_most_trans, path_fits, step_fits}
-use Rattle.semantics.proofs.PathSummaries.{MayTake}
+use Rattle.semantics.proofs.PathSummaries.{MayTake, may_take}
 use Rattle.path_summary.specs.Order.{Later}
 use Rattle.path_summary.specs.Carried.{carried, counters_after, Sits}
 use Rattle.path_summary.specs.Tables.{IsTable, home_of, Decided}
 use Rattle.path_summary.proofs.InOrder.{later_trans, later_after, after_is}
 use Rattle.path_summary.proofs.Carrying.{carried-identity, carried_then, length-carried}
-
-pub may_take : (loops : ℕ → List ℕ) (v w : ℕ) (a : Action) → Goes loops v w a → (f : Summary) → f.keep + length f.tail ≡ length (loops v) → MayTake a f
-may_take loops v w a (Goes.same_loop e h) f l = tt
-may_take loops v w a (Goes.into_loop e q h) f l = tt
-may_take loops v w a (Goes.out_of_loop q h) f l = omega (arith, l, ap length q, length-append (loops w) (v ∷ []))
-may_take loops v w a (Goes.round_loop e h) f l = omega (arith, l)
 
 module _ (g : Graph) (T : ℕ → ℕ → Option Summary) (table : IsTable g T) where
   acts : ℕ → Action

@@ -9,6 +9,7 @@ use Rattle.semantics.proofs.CouldRises.{at_most_after, at_most_trans}
 use Rattle.path_summary.specs.Order.{Later, in_order}
 use Rattle.semantics.specs.Summary.{Summary}
 use Rattle.std.specs.Bool.{Decides}
+use Rattle.std.proofs.lemmas.Option.{same_Some}
 use Rattle.path_summary.specs.Carried.{carried, counters_after}
 use Rattle.path_summary.specs.Tables.{Covers}
 
@@ -87,8 +88,5 @@ pub covers_in : (a : Action) (t u : Time) (f : Summary) (b : Bool) → t.epoch �
 covers_in a t u f b h e = (
   λ m. record { epochs = h; least = f; known = refl; counters = order_later (counters_after a (carried f t.counters)) u.counters (sym e ∙ m) },
   λ c. e ∙ later_order (counters_after a (carried f t.counters)) u.counters
-      (subst (λ (g : Summary). Later (counters_after a (carried g t.counters)) u.counters) (same c.least f (sym c.known)) c.counters),
+      (subst (λ (g : Summary). Later (counters_after a (carried g t.counters)) u.counters) (same_Some c.least f (sym c.known)) c.counters),
 )
-  where
-    same : (f h : Summary) → Some f ≡ Some h → f ≡ h
-    same f h e = cc

@@ -2,6 +2,7 @@
 use Rattle.std.proofs.Common.{◌≡◌, ◌⊎◌, inl, inr, ℕ, zero, suc, ◌-◌, ◌≤◌, ◌<◌, true, false, List, [], ◌∷◌, ◌++◌, length, Option, Some, None, slice_set, slice_index_or, refl, sym, ap, subst, ◌∙◌, arith}
 use Rattle.std.proofs.Math.ListN.{replicate}
 use Rattle.std.proofs.lemmas.List.{length-replicate}
+use Rattle.std.proofs.lemmas.Option.{same_Some}
 use Rattle.semantics.specs.Time.{Action}
 use Rattle.semantics.specs.Summary.{Summary, then_action}
 use Rattle.path_summary.specs.Carried.{identity}
@@ -14,9 +15,6 @@ use Rattle.path_summary.proofs.Carrying.{below_self}
 use Rattle.path_summary.proofs.CodesGrow.{decoded_still, decoded_some, entry_row, row_set, row_grown, code_in, nothing_at, code_set, codes_put, codes_none, none_there, grows_length}
 use Rattle.path_summary.proofs.Steps.{entry_at, length-put, got_none}
 use Rattle.path_summary.proofs.RowsMade.{entry_set}
-
-some_same : (f h : Summary) → Some f ≡ Some h → f ≡ h
-some_same f h e = cc
 
 -- ---- notes
 
@@ -156,7 +154,7 @@ stepped_not k old new codes from code to next a g w ef et ea ec l below =
   where
     go : (f : Summary) → Some f ≡ Some l.before → HasBelow (row_of new codes) k.target (then_action k.acts f)
     go f e =
-        let q : l.before ≡ f = sym (some_same f l.before e) in
+        let q : l.before ≡ f = sym (same_Some f l.before e) in
         let follows : Follows k.acts f l.after = subst (λ (x : Action). Follows x f l.after) ea (subst (λ (z : Summary). Follows a z l.after) q l.follows) in
         let b = below l.after l.there in
         record {
@@ -192,7 +190,7 @@ got_opened w some v known s n c l e = subst (HasGot w v 0 0) (sym (row_set s (re
 
     of_walks : (x : ℕ) (f : Summary) → (entry (row_of s (replicate n 0)) x ≡ Some f) ⊎ ((x ≡ v) × (decoded s c ≡ Some f)) → IsOfWalk w v 0 x f
     of_walks x f (inl a) = absurd (let b = none_there s n x in cc)
-    of_walks x f (inr a) = record { steps = 0; few = omega arith; walk = (a.0, some_same f (identity (slice_index_or w.depths v 0)) (sym a.1 ∙ e), refl) }
+    of_walks x f (inr a) = record { steps = 0; few = omega arith; walk = (a.0, same_Some f (identity (slice_index_or w.depths v 0)) (sym a.1 ∙ e), refl) }
 
     self : HasBelow (slice_set (row_of s (replicate n 0)) v (decoded s c)) v (identity (slice_index_or w.depths v 0))
     self = record {

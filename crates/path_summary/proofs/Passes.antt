@@ -6,13 +6,12 @@ use Rattle.std.proofs.Math.Bridge.{le_prop}
 use Rattle.std.proofs.Math.Logic.{∥∥₁_elim}
 use Rattle.semantics.specs.Time.{Action}
 use Rattle.semantics.specs.Summary.{Summary, then_action}
-use Rattle.semantics.proofs.PathSummaries.{MayTake}
+use Rattle.semantics.proofs.PathSummaries.{MayTake, may_take}
 use Rattle.path_summary.specs.Order.{in_order}
 use Rattle.path_summary.specs.Carried.{identity}
 use Rattle.path_summary.specs.Linking.{Link, Links}
 use Rattle.path_summary.specs.Rows.{is_below, entry, HasBelow, IsClosed}
 use Rattle.path_summary.specs.Walks.{AreNested, HaveLoops, Walk, every, size, IsOfWalk, HasGot}
-use Rattle.path_summary.proofs.DecidedCould.{may_take}
 use Rattle.path_summary.proofs.Standing.{Stands, stands_home, stands_over, order_trans, below_total, below_trans, below_after, start_below, rank_from, rank_over, rank_start, rank_self}
 
 -- ---- sets of vertices

@@ -1,11 +1,13 @@
 -- Rows of a table: what each step of making them keeps, and what the last tests show.
 use Rattle.std.proofs.Common.{◌≡◌, ◌⊎◌, inl, inr, ℕ, zero, suc, ◌+◌, ◌<◌, true, List, [], ◌∷◌, ◌++◌, length, Option, Some, slice_get, slice_set, slice_index_or, refl, sym, ap, subst, ◌∙◌, arith}
+use Rattle.std.proofs.lemmas.Option.{slice_get_within, same_Some}
 use Rattle.semantics.specs.Time.{Time, after_action}
 use Rattle.semantics.specs.Kinds.{action}
 use Rattle.semantics.specs.Graph.{Graph, vertex, edge_count, target, edge_source}
 use Rattle.semantics.specs.Could.{Location, PathStep, step_to, step_time, IsPath, path_time}
 use Rattle.semantics.specs.Summary.{Summary, then_action}
 use Rattle.semantics.proofs.PathSummaries.{MayTake}
+use Rattle.semantics.proofs.Cases.{item_there, below_or_last}
 use Rattle.path_summary.specs.Carried.{carried, identity, Sits}
 use Rattle.path_summary.specs.Linking.{Link, Links, link_in, Draws}
 use Rattle.path_summary.specs.Tables.{IsOfPath, Reaches}
@@ -28,9 +30,6 @@ entry_set (r ∷ row) (suc i) o (suc x) f h = go (entry_set row i o x f h)
     go (inl a) = inl a
     go (inr a) = inr (ap suc a.0, a.1)
 
-pub some_same : (f h : Summary) → Some f ≡ Some h → f ≡ h
-some_same f h e = cc
-
 -- ---- rows
 
 identity_path : (g : Graph) (v : ℕ) → IsOfPath g v v (identity (vertex g v).depth)
@@ -43,20 +42,9 @@ identity_path g v = record {
 
 -- ---- one edge further
 
-pub got_below : {X : Type 0} (xs : List X) (i : ℕ) (x : X) → slice_get xs i ≡ Some x → i < length xs
-got_below [] zero x h = absurd (let e = h in cc)
-got_below [] (suc i) x h = absurd (let e = h in cc)
-got_below (y ∷ xs) zero x h = omega arith
-got_below (y ∷ xs) (suc i) x h = let k = got_below xs i x h in omega arith
-
-got_some : {X : Type 0} (xs : List X) (i : ℕ) → i < length xs → (x : X) × (slice_get xs i ≡ Some x)
-got_some [] i h = absurd (omega arith)
-got_some (y ∷ xs) zero h = (y, refl)
-got_some (y ∷ xs) (suc i) h = got_some xs i (omega arith)
-
 pub link_at : (w : Links) (g : Graph) → Draws w g → (e : ℕ) → e < edge_count g → slice_get w.edges e ≡ Some (link_in g e)
 link_at w g draws e n =
-    let k = got_some w.edges e (omega (arith, draws.edges)) in
+    let k = item_there w.edges e (omega (arith, draws.edges)) in
     k.1 ∙ ap (λ (z : Link). Some z) (draws.edge e k.0 k.1 n)
 
 module _ (g : Graph) where
@@ -89,7 +77,7 @@ walk_path w some v known g draws l zero x f h =
 walk_path w some v known g draws l (suc n) x f h =
     let e = h.0 in
     let k = h.1 in
-    let m : e < edge_count g = omega (arith, got_below w.edges e k h.3, draws.edges) in
+    let m : e < edge_count g = omega (arith, slice_get_within w.edges e k h.3, draws.edges) in
     let i = draws.edge e k h.3 m in
     let may = may_by w some v known n e k h.2 h.3 (record { steps = n; few = omega arith; walk = h.4 }) in
     let o : IsOfPath g v (edge_source g e).vertex h.2 = subst (λ (y : ℕ). IsOfPath g v y h.2) (ap (λ (z : Link). z.source) i) (walk_path w some v known g draws l n k.source h.2 h.4) in
@@ -123,15 +111,7 @@ row_reached w v row g draws l r b =
 
 -- ---- the edges one by one
 
-pub got_at : {X : Type 0} (xs : List X) (i : ℕ) (x : X) → i < length xs → x ≡ slice_index_or xs i x → slice_get xs i ≡ Some x
-got_at [] i x h e = absurd (omega arith)
-got_at (y ∷ xs) zero x h e = ap (λ z. Some z) (sym e)
-got_at (y ∷ xs) (suc i) x h e = got_at xs i x (omega arith) e
-
 -- ---- depths and edges of a graph, one by one
-
-last_or : (a i : ℕ) → a < i + 1 → (a < i) ⊎ (a ≡ i)
-last_or a i l = grind arith
 
 depth_push : (ds : List ℕ) (d v : ℕ) → v < length ds → slice_index_or (ds ++ (d ∷ [])) v 0 ≡ slice_index_or ds v 0
 depth_push [] d v l = absurd (omega arith)
@@ -143,17 +123,14 @@ depth_last [] d = refl
 depth_last (x ∷ ds) d = depth_last ds d
 
 pub depths_more : (g : Graph) (ds : List ℕ) (n d : ℕ) → length ds ≡ n → ((v : ℕ) → v < n → slice_index_or ds v 0 ≡ (vertex g v).depth) → d ≡ (vertex g n).depth → (v : ℕ) → v < n + 1 → slice_index_or (ds ++ (d ∷ [])) v 0 ≡ (vertex g v).depth
-depths_more g ds n d l all e v m = go (last_or v n m)
+depths_more g ds n d l all e v m = go (below_or_last v n m)
   where
     go : (v < n) ⊎ (v ≡ n) → slice_index_or (ds ++ (d ∷ [])) v 0 ≡ (vertex g v).depth
     go (inl a) = depth_push ds d v (omega arith) ∙ all v a
     go (inr a) = ap (λ (i : ℕ). slice_index_or (ds ++ (d ∷ [])) i 0) (a ∙ sym l) ∙ depth_last ds d ∙ e ∙ ap (λ (i : ℕ). (vertex g i).depth) (sym a)
 
 link_push : (es : List Link) (x : Link) (e : ℕ) (k : Link) → slice_get (es ++ (x ∷ [])) e ≡ Some k → (slice_get es e ≡ Some k) ⊎ ((e ≡ length es) × (x ≡ k))
-link_push [] x zero k h = inr (refl, link_same x k h)
-  where
-    link_same : (a b : Link) → Some a ≡ Some b → a ≡ b
-    link_same a b e = cc
+link_push [] x zero k h = inr (refl, same_Some x k h)
 link_push [] x (suc e) k h = inl h
 link_push (y ∷ es) x zero k h = inl h
 link_push (y ∷ es) x (suc e) k h = go (link_push es x e k h)
@@ -170,4 +147,4 @@ links_more g es n x l all h e k q = go (link_push es x e k q)
     go (inr a) = sym a.1 ∙ h ∙ ap (link_in g) (sym l ∙ sym a.0)
 
 pub no_links : (g : Graph) (e : ℕ) (k : Link) → slice_get [] e ≡ Some k → k ≡ link_in g e
-no_links g e k h = absurd (let l = got_below [] e k h in omega arith)
+no_links g e k h = absurd (let l = slice_get_within [] e k h in omega arith)

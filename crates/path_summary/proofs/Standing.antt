@@ -2,6 +2,7 @@
 -- to which they take the first turns of all loops.
 use Rattle.std.proofs.Common.{◌≡◌, ◌⊎◌, inl, inr, ℕ, zero, suc, ◌+◌, ◌*◌, ◌-◌, ◌≤◌, ◌<◌, nat_lt, nat_eq, Bool, true, cond, ◌&&◌, ◌||◌, List, [], ◌∷◌, ◌++◌, length, slice_index_or, refl, sym, ap, subst, ◌∙◌, arith, length-append}
 use Rattle.std.proofs.lemmas.Bool.Decides.{nat_tests}
+use Rattle.std.proofs.lemmas.List.{get_or_past, get_or_default}
 use Rattle.semantics.specs.Dataflow.{Goes}
 use Rattle.semantics.specs.Time.{Time, Action, is_before, front, last}
 use Rattle.semantics.specs.Rank.{woven}
@@ -10,12 +11,12 @@ use Rattle.semantics.proofs.CouldRises.{rise_after}
 use Rattle.semantics.proofs.LexicographicOrder.{lex_not_self}
 use Rattle.semantics.proofs.OneFlow.{vertex_rank, edge_rank, edge_below, lex_trans}
 use Rattle.semantics.proofs.QuietEnds.{length-outer}
+use Rattle.semantics.proofs.PathSummaries.{may_take}
 use Rattle.path_summary.specs.Order.{Later, in_order}
 use Rattle.path_summary.specs.Carried.{kept, carried, counters_after, identity, Sits}
 use Rattle.path_summary.specs.Rows.{is_below}
 use Rattle.path_summary.proofs.InOrder.{order_cases, order_self, order_later, later_order, later_trans, later_after, after_is}
 use Rattle.path_summary.proofs.Carrying.{below_from, fewer_kept, carried_then, length-carried}
-use Rattle.path_summary.proofs.DecidedCould.{may_take}
 
 -- ---- places in lists
 
@@ -29,17 +30,6 @@ index_last [] y zero d e = refl
 index_last [] y (suc i) d e = absurd (omega arith)
 index_last (x ∷ xs) y zero d e = absurd (omega arith)
 index_last (x ∷ xs) y (suc i) d e = index_last xs y i d (omega arith)
-
-index_beyond : (xs : List ℕ) (i d : ℕ) → length xs ≤ i → slice_index_or xs i d ≡ d
-index_beyond [] zero d l = refl
-index_beyond [] (suc i) d l = refl
-index_beyond (x ∷ xs) zero d l = absurd (omega arith)
-index_beyond (x ∷ xs) (suc i) d l = index_beyond xs i d (omega arith)
-
-index_any : (xs : List ℕ) (i c d : ℕ) → i < length xs → slice_index_or xs i c ≡ slice_index_or xs i d
-index_any [] i c d l = absurd (omega arith)
-index_any (x ∷ xs) zero c d l = refl
-index_any (x ∷ xs) (suc i) c d l = index_any xs i c d (omega arith)
 
 -- a greater element is beyond the last
 index_rises : (xs : List ℕ) (i c d : ℕ) → c < d → slice_index_or xs i c ≤ slice_index_or xs i d
@@ -120,7 +110,7 @@ module _ (loops : ℕ → List ℕ) (v y w : ℕ) (f : Summary) (s : Stands loop
         past = λ z m.
             let a : slice_index_or (loops y) (f.keep - 1) 0 ≡ slice_index_or (loops v) (f.keep - 1) 0 = s.agree (f.keep - 1) (omega (arith, n)) in
             let b : slice_index_or (loops y) (f.keep - 1) 0 ≡ y = ap (λ (es : List ℕ). slice_index_or es (f.keep - 1) 0) q ∙ index_last (loops w) y (f.keep - 1) 0 (omega (arith, n)) in
-            let c : slice_index_or (loops w) (f.keep - 1) w ≡ w = index_beyond (loops w) (f.keep - 1) w (omega (arith, n)) in
+            let c : slice_index_or (loops w) (f.keep - 1) w ≡ w = get_or_past (loops w) (f.keep - 1) w (omega (arith, n)) in
             omega arith;
       }
   leave_on q l (c ∷ cs) t =
@@ -154,7 +144,7 @@ module _ (loops : ℕ → List ℕ) (v y w : ℕ) (f : Summary) (s : Stands loop
     still = s.still;
     past = λ z n.
         let a = s.past z n in
-        let b = index_any (loops y) f.keep y w (omega (arith, s.long, ap length t)) in
+        let b = get_or_default (loops y) f.keep y w (omega (arith, s.long, ap length t)) in
         let d : slice_index_or (loops w) f.keep w ≡ slice_index_or (loops y) f.keep w = ap (λ (es : List ℕ). slice_index_or es f.keep w) e in
         omega arith;
   }
@@ -173,7 +163,7 @@ fewer_adds loops v x f h s t l = go h.add refl
     go zero e =
         let a = t.past e (omega (arith, s.few)) in
         let b = s.agree h.keep l in
-        let c = index_any (loops x) h.keep x 0 (omega (arith, s.long)) in
+        let c = get_or_default (loops x) h.keep x 0 (omega (arith, s.long)) in
         absurd (omega arith)
     go (suc n) e = omega arith
 

@@ -2,13 +2,15 @@
 use Rattle.std.proofs.Common.{◌≡◌, ◌⊎◌, inl, inr, ℕ, zero, suc, ◌+◌, ◌≤◌, ◌<◌, Bool, true, false, List, [], ◌∷◌, length, Option, Some, slice_get, slice_set, slice_index_or, refl, sym, ap, subst, ◌∙◌, arith}
 use Rattle.std.proofs.Math.Bridge.{le_prop}
 use Rattle.std.proofs.Math.Logic.{∥∥₁_elim}
+use Rattle.std.proofs.lemmas.Option.{same_Some, slice_get_within}
 use Rattle.semantics.specs.Summary.{Summary, then_action}
+use Rattle.semantics.proofs.Cases.{below_or_last}
 use Rattle.path_summary.specs.Carried.{identity}
 use Rattle.path_summary.specs.Linking.{Link, Links}
 use Rattle.path_summary.specs.Rows.{is_below, entry, HasBelow, Follows, Stepped, IsClosed}
 use Rattle.path_summary.specs.Walks.{HaveLoops, Walk, size, IsOfWalk, HasGot, HasPassed}
 use Rattle.path_summary.proofs.Carrying.{below_self}
-use Rattle.path_summary.proofs.RowsMade.{entry_set, some_same, got_below}
+use Rattle.path_summary.proofs.RowsMade.{entry_set}
 use Rattle.path_summary.proofs.Passes.{has_by, passed, trans_by, total_by, after_by, walk_on, closed_by, walk_size}
 
 -- ---- entries
@@ -33,9 +35,6 @@ pub length-put : (row : List (Option Summary)) (i : ℕ) (o : Option Summary) �
 length-put [] i o = refl
 length-put (r ∷ row) zero o = refl
 length-put (r ∷ row) (suc i) o = ap suc (length-put row i o)
-
-last_or : (e i : ℕ) → e < i + 1 → (e < i) ⊎ (e ≡ i)
-last_or e i l = grind arith
 
 pub more_steps : (w : Links) (v b c x : ℕ) (f : Summary) → b ≤ c → IsOfWalk w v b x f → IsOfWalk w v c x f
 more_steps w v b c x f l o = record { steps = o.steps; few = let k = o.few in omega arith; walk = o.walk }
@@ -83,7 +82,7 @@ module _ (w : Links) (some : ∥ HaveLoops w ∥₁) (v : ℕ) (known : v < leng
       long = p.long;
       of_walks = λ x f q. more_steps w v c (suc c) x f (omega arith) (p.of_walks x f q);
       kept = p.kept;
-      done = λ i j f l h' q. go i j f h' q (last_or i e l);
+      done = λ i j f l h' q. go i j f h' q (below_or_last i e l);
     }
       where
         here : (f : Summary) → entry old k.source ≡ Some f → HasBelow row k.target (then_action k.acts f)
@@ -108,7 +107,7 @@ module _ (w : Links) (some : ∥ HaveLoops w ∥₁) (v : ℕ) (known : v < leng
       long = length-put row k.target (Some s) ∙ p.long;
       of_walks = λ x g q. walks x g (entry_set row k.target (Some s) x g q);
       kept = λ x g q. lift b x g (p.kept x g q) (of x g q);
-      done = λ i j g l h' q. go i j g h' q (last_or i e l);
+      done = λ i j g l h' q. go i j g h' q (below_or_last i e l);
     }
       where
         new : List (Option Summary)
@@ -119,7 +118,7 @@ module _ (w : Links) (some : ∥ HaveLoops w ∥₁) (v : ℕ) (known : v < leng
 
         walks : (x : ℕ) (g : Summary) → (entry row x ≡ Some g) ⊎ ((x ≡ k.target) × (Some s ≡ Some g)) → IsOfWalk w v (suc c) x g
         walks x g (inl a) = more_steps w v c (suc c) x g (omega arith) (p.of_walks x g a)
-        walks x g (inr a) = subst (λ (y : ℕ). IsOfWalk w v (suc c) y g) (sym a.0) (subst (IsOfWalk w v (suc c) k.target) (some_same s g a.1) of_s)
+        walks x g (inr a) = subst (λ (y : ℕ). IsOfWalk w v (suc c) y g) (sym a.0) (subst (IsOfWalk w v (suc c) k.target) (same_Some s g a.1) of_s)
 
         lift : (d x : ℕ) (g : Summary) → HasBelow row x g → IsOfWalk w v d x g → HasBelow (slice_set row k.target (Some s)) x g
         lift d x g a o = on (entry_or row k.target (Some s) x)
@@ -136,7 +135,7 @@ module _ (w : Links) (some : ∥ HaveLoops w ∥₁) (v : ℕ) (known : v < leng
         here : (g : Summary) → entry old k.source ≡ Some g → HasBelow (slice_set row k.target (Some s)) k.target (then_action k.acts g)
         here g q =
             let a = p.kept k.source g q in
-            let is : a.least ≡ f = some_same a.least f (sym a.known ∙ at) in
+            let is : a.least ≡ f = same_Some a.least f (sym a.known ∙ at) in
             let below : is_below f g ≡ true = subst (λ (z : Summary). is_below z g ≡ true) is a.below in
             record {
               least = s;
@@ -172,12 +171,12 @@ module _ (w : Links) (some : ∥ HaveLoops w ∥₁) (v : ℕ) (known : v < leng
         of_walks = p.of_walks;
         self = self;
         ahead = λ within l n x f walk. has_by w some v known new x f (λ loops.
-            passed w loops.loops loops.nested v known b c m old new got p.of_walks self (λ e k f h q. p.done e k f (got_below w.edges e k h) h q) within l n x f walk);
+            passed w loops.loops loops.nested v known b c m old new got p.of_walks self (λ e k f h q. p.done e k f (slice_get_within w.edges e k h) h q) within l n x f walk);
       }
 
   -- a pass that changed nothing
   pub pass_closed : (b c : ℕ) (old new : List (Option Summary)) → new ≡ old → HasPassed w v c (length w.edges) old new → IsClosed w new
-  pass_closed b c old new q p = closed_by w some v known c new p.of_walks (λ e k f h at. p.done e k f (got_below w.edges e k h) h (subst (λ (row : List (Option Summary)). entry row k.source ≡ Some f) q at))
+  pass_closed b c old new q p = closed_by w some v known c new p.of_walks (λ e k f h at. p.done e k f (slice_get_within w.edges e k h) h (subst (λ (row : List (Option Summary)). entry row k.source ≡ Some f) q at))
 
   -- before the first pass
   pub got_none : (row : List (Option Summary)) → length row ≡ length w.depths → AreOfWalks 0 row → HasBelow row v (identity (slice_index_or w.depths v 0)) → HasGot w v 0 0 row

@@ -1,10 +1,11 @@
 -- The whole table: each row is good, so the table is exact.
-use Rattle.std.proofs.Common.{◌≡◌, ◌⊎◌, inl, inr, ℕ, zero, suc, ◌+◌, ◌<◌, Bool, true, List, [], ◌∷◌, ◌++◌, length, Some, slice_get, slice_index_or, refl, sym, ap, ap₂, subst, ◌∙◌, arith, length-append}
+use Rattle.std.proofs.Common.{◌≡◌, ◌⊎◌, inl, inr, ℕ, zero, suc, ◌<◌, Bool, true, List, [], ◌∷◌, ◌++◌, length, Some, slice_get, slice_index_or, refl, sym, ap, ap₂, subst, ◌∙◌, arith, length-append}
 use Rattle.std.specs.Bool.{Decides}
 use Rattle.std.specs.Prelude.{IsTrue, ◌↔◌}
 use Rattle.std.proofs.Math.Bool.{Bool-set}
 use Rattle.std.proofs.Math.Bridge.{le_prop}
 use Rattle.std.proofs.Math.Logic.{∥∥₁_elim, ∥∥₁_map}
+use Rattle.std.proofs.lemmas.Option.{slice_get_within, same_Some}
 use Rattle.semantics.specs.Query.{Input, Program}
 use Rattle.semantics.specs.Typing.{WellTyped}
 use Rattle.semantics.specs.Lower.{lowered}
@@ -15,6 +16,7 @@ use Rattle.semantics.specs.Graph.{Graph, edge_count, edge_source, in_port, targe
 use Rattle.semantics.specs.Could.{Location, Pointstamp, IsTimeAt, CouldResultIn}
 use Rattle.semantics.specs.Dataflow.{IsDataflow, Goes}
 use Rattle.semantics.specs.Summary.{Summary}
+use Rattle.semantics.proofs.Cases.{below_or_last, is_true, true_is}
 use Rattle.path_summary.specs.Linking.{Link, Links, Draws, no_link, link_in, link_of, home_in}
 use Rattle.path_summary.specs.Tables.{IsTable, IsOfPath, home_of, Covers, Stays, Decided}
 use Rattle.path_summary.specs.Rows.{entry}
@@ -22,7 +24,7 @@ use Rattle.path_summary.specs.Codes.{row_of, Grows}
 use Rattle.path_summary.specs.Walks.{HaveLoops, IsGoodRow}
 use Rattle.path_summary.specs.Made.{entry_at, IsPacked, ArePacked, IsMade, DecidedIn}
 use Rattle.path_summary.proofs.DecidedCould.{decided_could, could_decided}
-use Rattle.path_summary.proofs.RowsMade.{got_below, link_at, row_closed, row_reached, walk_path}
+use Rattle.path_summary.proofs.RowsMade.{link_at, row_closed, row_reached, walk_path}
 use Rattle.path_summary.proofs.CodesGrow.{row_grown, codes_grown, entry_row}
 
 row_push : (rows : List (List ℕ)) (row : List ℕ) (v : ℕ) → v < length rows → slice_index_or (rows ++ (row ∷ [])) v [] ≡ slice_index_or rows v []
@@ -39,11 +41,8 @@ packed_more w old new codes v g p =
     record { good = subst (IsGoodRow w v) (sym (row_grown old new codes g p.known)) p.good; known = codes_grown old new codes g p.known }
 
 pub packed_push : (w : Links) (old new : List Summary) (rows : List (List ℕ)) (row : List ℕ) (n : ℕ) → length rows ≡ n → Grows old new → ArePacked w old rows → IsPacked w new row n → ArePacked w new (rows ++ (row ∷ []))
-packed_push w old new rows row n e g all p v l = go (last_or v (length rows) (omega (arith, length-append rows (row ∷ []))))
+packed_push w old new rows row n e g all p v l = go (below_or_last v (length rows) (omega (arith, length-append rows (row ∷ []))))
   where
-    last_or : (a i : ℕ) → a < i + 1 → (a < i) ⊎ (a ≡ i)
-    last_or a i l = grind arith
-
     go : (v < length rows) ⊎ (v ≡ length rows) → IsPacked w new (slice_index_or (rows ++ (row ∷ [])) v []) v
     go (inl a) = subst (λ (cs : List ℕ). IsPacked w new cs v) (sym (row_push rows row v a)) (packed_more w old new (slice_index_or rows v []) v g (all v a))
     go (inr a) =
@@ -70,7 +69,7 @@ links_nested g w draws d = record {
 }
   where
     known : (e : ℕ) (k : Link) → slice_get w.edges e ≡ Some k → e < edge_count g
-    known e k h = omega (arith, got_below w.edges e k h, draws.edges)
+    known e k h = omega (arith, slice_get_within w.edges e k h, draws.edges)
 
 made_table : (g : Graph) (w : Links) (summaries : List Summary) (rows : List (List ℕ)) → IsMade g w summaries rows → IsTable g (entry_at summaries rows)
 made_table g w summaries rows made =
@@ -98,12 +97,9 @@ made_table g w summaries rows made =
 link_is : (w : Links) (g : Graph) → Draws w g → (e : ℕ) → e < edge_count g → link_of w e ≡ link_in g e
 link_is w g draws e n = from w.edges e (link_in g e) (link_at w g draws e n)
   where
-    same : (a b : Link) → Some a ≡ Some b → a ≡ b
-    same a b e = cc
-
     from : (xs : List Link) (i : ℕ) (x : Link) → slice_get xs i ≡ Some x → slice_index_or xs i no_link ≡ x
-    from [] i x h = absurd (let k = got_below [] i x h in omega arith)
-    from (y ∷ xs) zero x h = same y x h
+    from [] i x h = absurd (let k = slice_get_within [] i x h in omega arith)
+    from (y ∷ xs) zero x h = same_Some y x h
     from (y ∷ xs) (suc i) x h = from xs i x h
 
 home_is : (w : Links) (g : Graph) → Draws w g → (l : Location) (t : Time) → IsTimeAt g l t → home_in w l ≡ home_of g l
@@ -121,15 +117,9 @@ decides_could g w summaries rows made p q f h b d =
     let T = entry_at summaries rows in
     let table = made_table g w summaries rows made in
     let same = decided_same g w summaries rows made.draws p q.location q.time f h in (
-      λ e. decided_could g T table p q f h (subst (λ (X : Type 0). X) same (d.0 (is_true b e))),
-      λ c. true_is b (∥∥₁_elim made.dataflow (Bool-set b true) (λ flow. d.1 (subst (λ (X : Type 0). X) (sym same) (could_decided g T table flow p q c)))),
+      λ e. decided_could g T table p q f h (subst (λ (X : Type 0). X) same (d.0 (true_is b e))),
+      λ c. is_true b (∥∥₁_elim made.dataflow (Bool-set b true) (λ flow. d.1 (subst (λ (X : Type 0). X) (sym same) (could_decided g T table flow p q c)))),
     )
-  where
-    is_true : (b : Bool) → IsTrue b → b ≡ true
-    is_true b t = grind arith
-
-    true_is : (b : Bool) → b ≡ true → IsTrue b
-    true_is b e = grind arith
 
 -- pointstamps with equal parts are equal
 pub same_pointstamp : (p q : Pointstamp) → p.time ≡ q.time → p.location ≡ q.location → p ≡ q

@@ -1,6 +1,6 @@
 //! A finished row of the table, stored in little memory.
 
-ghost use Rattle.std.specs.Prelude.{◌≡◌, ◌≤◌, ℕ, length, IfOk, slice_index_or};
+ghost use Rattle.std.specs.Prelude.{◌≡◌, ◌≤◌, ℕ, IfOk, slice_index_or};
 ghost use Rattle.path_summary.specs.Codes.{AreCodes};
 
 use crate::row::Row;

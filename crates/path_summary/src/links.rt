@@ -1,6 +1,6 @@
 //! The edges of a graph in the form that the making of a table needs: from vertex to vertex, with the action of the first.
 
-ghost use Rattle.std.specs.Prelude.{◌≡◌, ◌<◌, ◌≤◌, ◌∷◌, ◌++◌, [], ℕ, length, IfOk, slice_get, slice_index_or};
+ghost use Rattle.std.specs.Prelude.{◌≡◌, ◌<◌, ◌≤◌, ℕ, length, IfOk, slice_get, slice_index_or};
 ghost use Rattle.graph.specs.Shown.{shown_graph};
 ghost use Rattle.graph.specs.Locations.{location_of};
 ghost use Rattle.semantics.specs.Graph.{edge_count, edge_source, vertex};

@@ -1,14 +1,12 @@
 //! The table of a graph, and the answers that it gives.
 
-ghost use Rattle.std.specs.Prelude.{◌≡◌, ◌≤◌, ◌<◌, ◌++◌, ◌∷◌, [], ◌↔◌, List, ℕ, Option, Some, None};
-ghost use Rattle.std.specs.Prelude.{IsTrue, IfOk, IfSome, IfNone, false, length, slice_index_or};
+ghost use Rattle.std.specs.Prelude.{◌≡◌, ◌≤◌, ◌<◌, ◌↔◌, Some, None, IsTrue, IfOk, IfSome, IfNone, false, length};
 ghost use Rattle.std.specs.Bool.{Decides};
-ghost use Rattle.graph.specs.Locations.{location_of};
 ghost use Rattle.graph.specs.Shown.{shown_graph};
-ghost use Rattle.semantics.specs.Could.{CouldResultIn, IsTimeAt, Location as Place};
+ghost use Rattle.semantics.specs.Could.{CouldResultIn, IsTimeAt};
 ghost use Rattle.semantics.specs.Dataflow.{IsDataflow};
-ghost use Rattle.path_summary.specs.Linking.{Draws, IsKnown};
-ghost use Rattle.path_summary.specs.Made.{ArePacked, DecidedIn, IsPacked, code_at, entry_at};
+ghost use Rattle.path_summary.specs.Linking.{IsKnown};
+ghost use Rattle.path_summary.specs.Made.{ArePacked, DecidedIn, entry_at};
 ghost use Rattle.path_summary.specs.Tables.{Covers, Stays};
 ghost use Rattle.loop_context.specs.Actions.{action_of};
 ghost use Rattle.path_summary.specs.Walks.{HaveLoops};

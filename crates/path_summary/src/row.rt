@@ -2,7 +2,6 @@
 
 ghost use Rattle.std.specs.Prelude.{◌≡◌, ◌<◌, ◌≤◌, ◌*◌, ℕ, Some, suc, true, false, length, IfOk, slice_set, slice_index_or};
 ghost use Rattle.semantics.specs.Summary.{Summary as Definition};
-ghost use Rattle.path_summary.specs.Carried.{identity};
 ghost use Rattle.path_summary.specs.Codes.{AreCodes, Grows, row_of};
 ghost use Rattle.path_summary.specs.Made.{IsPacked};
 ghost use Rattle.path_summary.specs.Rows.{HasRoom, IsClosed, Stepped, entry};

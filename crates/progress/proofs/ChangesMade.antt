@@ -1,6 +1,7 @@
 -- Changes and questions, one after another.
 use Rattle.std.proofs.Common.{◌≡◌, ℕ, zero, suc, ◌+◌, ◌-◌, ◌≤◌, ◌<◌, Bool, List, [], ◌∷◌, ◌++◌, length, drop, Some, slice_get, refl, sym, ap, subst, arith, add-one, append_assoc}
 use Rattle.std.specs.Prelude.{IsTrue, ◌↔◌}
+use Rattle.std.proofs.lemmas.Option.{same_Some}
 use Rattle.semantics.specs.Graph.{Graph}
 use Rattle.semantics.specs.Could.{Pointstamp, NoOtherOf, CouldResultIn}
 use Rattle.machine.specs.Active.{one_if_same}
@@ -40,13 +41,10 @@ answered g old now all others given p b m is =
 pub here_drop : {X : Type 0} (xs : List X) (n : ℕ) (x : X) → slice_get xs n ≡ Some x → drop n xs ≡ x ∷ drop (n + 1) xs
 here_drop {X} xs n x h = rw (add-one n) (go xs n h)
   where
-    same_some : (a b : X) → Some a ≡ Some b → a ≡ b
-    same_some a b e = cc
-
     go : (xs : List X) (n : ℕ) → slice_get xs n ≡ Some x → drop n xs ≡ x ∷ drop (suc n) xs
     go [] zero h = absurd (let e = h in cc)
     go [] (suc n) h = absurd (let e = h in cc)
-    go (y ∷ xs) zero h = ap (λ (z : X). z ∷ xs) (same_some y x h)
+    go (y ∷ xs) zero h = ap (λ (z : X). z ∷ xs) (same_Some y x h)
     go (y ∷ xs) (suc n) h = go xs n h
 
 drop_all : (xs : List Change) (n : ℕ) → length xs ≤ n → drop n xs ≡ []

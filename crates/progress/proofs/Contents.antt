@@ -2,42 +2,31 @@
 use Rattle.std.proofs.Common.{◌≡◌, ◌≢◌, ◌⊎◌, inl, inr, ℕ, zero, suc, ◌+◌, ◌≤◌, ◌<◌, Bool, true, false, List, [], ◌∷◌, ◌++◌, length, Some, slice_get, slice_index_or, refl, sym, ap, subst, ◌∙◌, arith}
 use Rattle.std.specs.Prelude.{IsTrue, ◌↔◌, remove}
 use Rattle.std.proofs.lemmas.Bool.{true≢false}
+use Rattle.std.proofs.lemmas.Option.{slice_get_within, same_Some}
 use Rattle.semantics.specs.Graph.{Graph}
 use Rattle.semantics.specs.Could.{Pointstamp, IsTimeAt, CouldResultIn, NoOtherOf, NoneOf}
 use Rattle.semantics.proofs.MultisetSums.{total-append}
+use Rattle.semantics.proofs.Cases.{either_above_zero, below_or_last, is_true, true_is}
 use Rattle.machine.specs.Active.{one_if_same}
 use Rattle.machine.proofs.Active.{one_tells, one_self, one_is}
 use Rattle.progress.specs.Content.{times_in, AllAt, IsClear, IsBlocked}
-use Rattle.progress.proofs.Options.{is_true, true_is}
 
 pub got_at : {X : Type 0} (xs : List X) (i : ℕ) (x : X) → i < length xs → x ≡ slice_index_or xs i x → slice_get xs i ≡ Some x
 got_at [] i x h e = absurd (omega arith)
 got_at (y ∷ xs) zero x h e = ap (λ z. Some z) (sym e)
 got_at (y ∷ xs) (suc i) x h e = got_at xs i x (omega arith) e
 
-pub got_below : {X : Type 0} (xs : List X) (i : ℕ) (x : X) → slice_get xs i ≡ Some x → i < length xs
-got_below [] zero x h = absurd (let e = h in cc)
-got_below [] (suc i) x h = absurd (let e = h in cc)
-got_below (y ∷ xs) zero x h = omega arith
-got_below (y ∷ xs) (suc i) x h = let k = got_below xs i x h in omega arith
-
-same_some : (x y : Pointstamp) → Some x ≡ Some y → x ≡ y
-same_some x y e = cc
-
-either : (a b : ℕ) → 0 < a + b → (0 < a) ⊎ (0 < b)
-either a b h = grind arith
-
 -- an element of a list occurs
 pub times_got : (xs : List Pointstamp) (i : ℕ) (q : Pointstamp) → slice_get xs i ≡ Some q → 0 < times_in xs q
 times_got [] zero q h = absurd (let e = h in cc)
 times_got [] (suc i) q h = absurd (let e = h in cc)
-times_got (x ∷ xs) zero q h = let e : one_if_same q x ≡ 1 = ap (one_if_same q) (same_some x q h) ∙ one_self q in omega arith
+times_got (x ∷ xs) zero q h = let e : one_if_same q x ≡ 1 = ap (one_if_same q) (same_Some x q h) ∙ one_self q in omega arith
 times_got (x ∷ xs) (suc i) q h = let e = times_got xs i q h in omega arith
 
 -- what occurs is at some place of the list
 pub times_some : (xs : List Pointstamp) (q : Pointstamp) → 0 < times_in xs q → (i : ℕ) × (slice_get xs i ≡ Some q)
 times_some [] q h = absurd (omega arith)
-times_some (x ∷ xs) q h = go (either (one_if_same q x) (times_in xs q) h) (times_some xs q)
+times_some (x ∷ xs) q h = go (either_above_zero (one_if_same q x) (times_in xs q) h) (times_some xs q)
   where
     go : (0 < one_if_same q x) ⊎ (0 < times_in xs q) → (0 < times_in xs q → (i : ℕ) × (slice_get xs i ≡ Some q)) → (i : ℕ) × (slice_get (x ∷ xs) i ≡ Some q)
     go (inl a) ih = (zero, ap (λ (y : Pointstamp). Some y) (sym (one_is q x a)))
@@ -48,7 +37,7 @@ times_none p xs n l h = go (times_in xs p) refl
   where
     go : (k : ℕ) → times_in xs p ≡ k → times_in xs p ≡ 0
     go zero e = e
-    go (suc k) e = let s = times_some xs p (omega arith) in absurd (h s.0 p (let b = got_below xs s.0 p s.1 in omega arith) s.1 refl)
+    go (suc k) e = let s = times_some xs p (omega arith) in absurd (h s.0 p (let b = slice_get_within xs s.0 p s.1 in omega arith) s.1 refl)
 
 pub times-push : (q : Pointstamp) (xs : List Pointstamp) (p : Pointstamp) → times_in (xs ++ (p ∷ [])) q ≡ one_if_same q p + times_in xs q
 times-push q xs p = let e = total-append (one_if_same q) xs (p ∷ []) in omega arith
@@ -56,12 +45,12 @@ times-push q xs p = let e = total-append (one_if_same q) xs (p ∷ []) in omega 
 pub times-removed : (q : Pointstamp) (xs : List Pointstamp) (i : ℕ) (p : Pointstamp) → slice_get xs i ≡ Some p → times_in xs q ≡ one_if_same q p + times_in (remove xs i) q
 times-removed q [] zero p h = absurd (let e = h in cc)
 times-removed q [] (suc i) p h = absurd (let e = h in cc)
-times-removed q (x ∷ xs) zero p h = ap (λ (y : Pointstamp). one_if_same q y + times_in xs q) (same_some x p h)
+times-removed q (x ∷ xs) zero p h = ap (λ (y : Pointstamp). one_if_same q y + times_in xs q) (same_Some x p h)
 times-removed q (x ∷ xs) (suc i) p h = let e = times-removed q xs i p h in omega arith
 
 -- one more occurrence of a known pointstamp, or one fewer of one that occurred
 pub all_more : (g : Graph) (old new : Pointstamp → ℕ) (p : Pointstamp) → AllAt g old → IsTimeAt g p.location p.time → ((q : Pointstamp) → new q ≡ one_if_same q p + old q) → AllAt g new
-all_more g old new p all on e q h = go (either (one_if_same q p) (old q) (subst (λ k. 0 < k) (e q) h))
+all_more g old new p all on e q h = go (either_above_zero (one_if_same q p) (old q) (subst (λ k. 0 < k) (e q) h))
   where
     go : (0 < one_if_same q p) ⊎ (0 < old q) → IsTimeAt g q.location q.time
     go (inl a) = subst (λ (r : Pointstamp). IsTimeAt g r.location r.time) (sym (one_is q p a)) on
@@ -76,20 +65,17 @@ all_less g old new p all e q h = all q (let k = e q in omega arith)
 abbrev pub ClearTo : Graph → List Pointstamp → Pointstamp → Bool → ℕ → Type 0
 ClearTo g xs p other n = (i : ℕ) (q : Pointstamp) → i < n → slice_get xs i ≡ Some q → (other ≡ true → q ≡ p → ⊥) → CouldResultIn g q p → ⊥
 
-last_or : (a i : ℕ) → a < i + 1 → (a < i) ⊎ (a ≡ i)
-last_or a i l = grind arith
-
 pub clear_more : (g : Graph) (xs : List Pointstamp) (p x : Pointstamp) (other : Bool) (n : ℕ) → ClearTo g xs p other n → slice_get xs n ≡ Some x → ((other ≡ true → x ≡ p → ⊥) × CouldResultIn g x p → ⊥) → ClearTo g xs p other (n + 1)
-clear_more g xs p x other n before h d i q l k m c = go (last_or i n l)
+clear_more g xs p x other n before h d i q l k m c = go (below_or_last i n l)
   where
     go : (i < n) ⊎ (i ≡ n) → ⊥
     go (inl a) = before i q a k m c
     go (inr a) =
-        let e : q ≡ x = same_some q x (sym k ∙ ap (slice_get xs) a ∙ h) in
+        let e : q ≡ x = same_Some q x (sym k ∙ ap (slice_get xs) a ∙ h) in
         d (subst (λ (y : Pointstamp). (other ≡ true → y ≡ p → ⊥) × CouldResultIn g y p) e (m, c))
 
 pub all_clear : (g : Graph) (xs : List Pointstamp) (p : Pointstamp) (other : Bool) (n : ℕ) → length xs ≤ n → ClearTo g xs p other n → IsClear g (times_in xs) p other
-all_clear g xs p other n l clear q h m c = let s = times_some xs q h in clear s.0 q (let b = got_below xs s.0 q s.1 in omega arith) s.1 m c
+all_clear g xs p other n l clear q h m c = let s = times_some xs q h in clear s.0 q (let b = slice_get_within xs s.0 q s.1 in omega arith) s.1 m c
 
 -- ---- a pointstamp that is clear is in the frontier, or has none before it
 

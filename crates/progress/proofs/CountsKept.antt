@@ -2,32 +2,31 @@
 use Rattle.std.proofs.Common.{◌≡◌, ◌≢◌, ◌⊎◌, inl, inr, ℕ, zero, suc, ◌+◌, ◌*◌, ◌≤◌, ◌<◌, true, false, eqb, List, [], ◌∷◌, ◌++◌, length, take, Some, slice_get, slice_set, refl, sym, ap, subst, ◌∙◌, arith, add-one}
 use Rattle.std.specs.Prelude.{remove, IsTrue, ◌↔◌}
 use Rattle.std.proofs.lemmas.Bool.Decides.{eqb_tells}
+use Rattle.std.proofs.lemmas.Option.{slice_get_within, same_Some}
 use Rattle.semantics.proofs.MultisetSums.{total-append}
 use Rattle.semantics.specs.Graph.{Graph}
 use Rattle.semantics.specs.Could.{Pointstamp, IsTimeAt, CouldResultIn, NoOtherOf}
+use Rattle.semantics.proofs.Cases.{below_or_last, is_true}
 use Rattle.machine.specs.Active.{one_if_same}
 use Rattle.machine.proofs.Active.{one_tells, one_self}
 use Rattle.progress.specs.Content.{times_in, IsClear, IsBlocked}
 use Rattle.progress.specs.Counts.{occurrences_in, all_occurrences, pointstamps, IsPrecursor, IsPrecursorCount, AreKnown, AreExact, CountsPrecursor, AllCountPrecursor, OccursOnceMore}
 use Rattle.progress.specs.declared.counted.Counted.{Counted}
-use Rattle.progress.proofs.Contents.{got_below, times_got, times_some, times-push, times-removed}
-use Rattle.progress.proofs.Options.{is_true, not_true}
-
-pub same_some : {X : Type 0} (x y : X) → Some x ≡ Some y → x ≡ y
-same_some x y e = cc
+use Rattle.progress.proofs.Contents.{times_got, times_some, times-push, times-removed}
+use Rattle.progress.proofs.Options.{not_true}
 
 -- ---- lists of counts
 
 pub stamp_got : (xs : List Counted) (i : ℕ) (c : Counted) → slice_get xs i ≡ Some c → slice_get (pointstamps xs) i ≡ Some c.pointstamp
 stamp_got [] zero c h = absurd (let e = h in cc)
 stamp_got [] (suc i) c h = absurd (let e = h in cc)
-stamp_got (x ∷ xs) zero c h = ap (λ (y : Counted). Some y.pointstamp) (same_some x c h)
+stamp_got (x ∷ xs) zero c h = ap (λ (y : Counted). Some y.pointstamp) (same_Some x c h)
 stamp_got (x ∷ xs) (suc i) c h = stamp_got xs i c h
 
 pub got_stamp : (xs : List Counted) (i : ℕ) (p : Pointstamp) → slice_get (pointstamps xs) i ≡ Some p → (c : Counted) × (slice_get xs i ≡ Some c) × (c.pointstamp ≡ p)
 got_stamp [] zero p h = absurd (let e = h in cc)
 got_stamp [] (suc i) p h = absurd (let e = h in cc)
-got_stamp (x ∷ xs) zero p h = (x, refl, same_some x.pointstamp p h)
+got_stamp (x ∷ xs) zero p h = (x, refl, same_Some x.pointstamp p h)
 got_stamp (x ∷ xs) (suc i) p h = got_stamp xs i p h
 
 pub stamps_long : (xs : List Counted) → length (pointstamps xs) ≡ length xs
@@ -46,7 +45,7 @@ stamps_removed (x ∷ xs) (suc i) = ap (λ (l : List Pointstamp). x.pointstamp �
 
 pub stamps_set : (xs : List Counted) (i : ℕ) (c d : Counted) → slice_get xs i ≡ Some c → d.pointstamp ≡ c.pointstamp → pointstamps (slice_set xs i d) ≡ pointstamps xs
 stamps_set [] i c d h e = refl
-stamps_set (x ∷ xs) zero c d h e = ap (λ (p : Pointstamp). p ∷ pointstamps xs) (e ∙ ap (λ (y : Counted). y.pointstamp) (sym (same_some x c h)))
+stamps_set (x ∷ xs) zero c d h e = ap (λ (p : Pointstamp). p ∷ pointstamps xs) (e ∙ ap (λ (y : Counted). y.pointstamp) (sym (same_Some x c h)))
 stamps_set (x ∷ xs) (suc i) c d h e = ap (λ (l : List Pointstamp). x.pointstamp ∷ l) (stamps_set xs i c d h e)
 
 -- ---- precursor counts
@@ -65,7 +64,7 @@ pub count_drop : (g : Graph) (p q : Pointstamp) (xs : List Pointstamp) (i n : �
 count_drop g p q [] zero n e h b = absurd (let k = e in cc)
 count_drop g p q [] (suc i) n e h b = absurd (let k = e in cc)
 count_drop g p q (x ∷ xs) zero n e (inl a) b = a.1
-count_drop g p q (x ∷ xs) zero n e (inr a) b = absurd (a.0 (subst (λ (y : Pointstamp). IsPrecursor g y p) (same_some q x (sym e)) b))
+count_drop g p q (x ∷ xs) zero n e (inr a) b = absurd (a.0 (subst (λ (y : Pointstamp). IsPrecursor g y p) (same_Some q x (sym e)) b))
 count_drop g p q (x ∷ xs) (suc i) n e (inl a) b =
     let r = count_drop g p q xs i a.1.0 e a.1.2 b in
     (suc r.0, (a.1.1 ∙ ap suc r.1), inl (a.0, (r.0, refl, r.2)))
@@ -76,7 +75,7 @@ count_drop g p q (x ∷ xs) (suc i) n e (inr a) b =
 pub count_keep : (g : Graph) (p q : Pointstamp) (xs : List Pointstamp) (i n : ℕ) → slice_get xs i ≡ Some q → IsPrecursorCount g xs p n → (IsPrecursor g q p → ⊥) → IsPrecursorCount g (remove xs i) p n
 count_keep g p q [] zero n e h b = absurd (let k = e in cc)
 count_keep g p q [] (suc i) n e h b = absurd (let k = e in cc)
-count_keep g p q (x ∷ xs) zero n e (inl a) b = absurd (b (subst (λ (y : Pointstamp). IsPrecursor g y p) (same_some x q e) a.0))
+count_keep g p q (x ∷ xs) zero n e (inl a) b = absurd (b (subst (λ (y : Pointstamp). IsPrecursor g y p) (same_Some x q e) a.0))
 count_keep g p q (x ∷ xs) zero n e (inr a) b = a.1
 count_keep g p q (x ∷ xs) (suc i) n e (inl a) b = inl (a.0, (a.1.0, a.1.1, count_keep g p q xs i a.1.0 e a.1.2 b))
 count_keep g p q (x ∷ xs) (suc i) n e (inr a) b = inr (a.0, count_keep g p q xs i n e a.1 b)
@@ -100,7 +99,7 @@ count_few g p (x ∷ xs) n (inr a) = let r = count_few g p xs n a.1 in omega ari
 pub some_there : (xs : List Counted) (i : ℕ) (c : Counted) → slice_get xs i ≡ Some c → c.occurrences ≤ all_occurrences xs
 some_there [] zero c h = absurd (let e = h in cc)
 some_there [] (suc i) c h = absurd (let e = h in cc)
-some_there (x ∷ xs) zero c h = let e = ap (λ (y : Counted). y.occurrences) (same_some x c h) in omega arith
+some_there (x ∷ xs) zero c h = let e = ap (λ (y : Counted). y.occurrences) (same_Some x c h) in omega arith
 some_there (x ∷ xs) (suc i) c h = let e = some_there xs i c h in omega arith
 
 pub all_many : (xs : List Counted) → ((i : ℕ) (c : Counted) → slice_get xs i ≡ Some c → 0 < c.occurrences) → length xs ≤ all_occurrences xs
@@ -111,10 +110,10 @@ all_many (x ∷ xs) h = let a = h zero x refl in let e = all_many xs (λ i c g. 
 pub occurs_got : (xs : List Counted) (i : ℕ) (c : Counted) → slice_get xs i ≡ Some c → 0 < c.occurrences → 0 < occurrences_in xs c.pointstamp
 occurs_got [] zero c h l = absurd (let e = h in cc)
 occurs_got [] (suc i) c h l = absurd (let e = h in cc)
-occurs_got (x ∷ xs) zero c h l = subst (λ (y : Counted). 0 < occurrences_in (x ∷ xs) y.pointstamp) (same_some x c h) (go (one_if_same x.pointstamp x.pointstamp) (one_self x.pointstamp))
+occurs_got (x ∷ xs) zero c h l = subst (λ (y : Counted). 0 < occurrences_in (x ∷ xs) y.pointstamp) (same_Some x c h) (go (one_if_same x.pointstamp x.pointstamp) (one_self x.pointstamp))
   where
     m : 0 < x.occurrences
-    m = subst (λ (y : Counted). 0 < y.occurrences) (sym (same_some x c h)) l
+    m = subst (λ (y : Counted). 0 < y.occurrences) (sym (same_Some x c h)) l
 
     go : (k : ℕ) → k ≡ 1 → 0 < k * x.occurrences + occurrences_in xs x.pointstamp
     go k e = rw e (omega (arith, m))
@@ -135,7 +134,7 @@ occurs_some (x ∷ xs) q h = go (one_tells q x.pointstamp) (occurs_some xs q)
 pub occurs_set : (q : Pointstamp) (xs : List Counted) (i : ℕ) (c d : Counted) → slice_get xs i ≡ Some c → d.pointstamp ≡ c.pointstamp → d.occurrences ≡ suc c.occurrences → occurrences_in (slice_set xs i d) q ≡ one_if_same q c.pointstamp + occurrences_in xs q
 occurs_set q [] zero c d h e f = absurd (let k = h in cc)
 occurs_set q [] (suc i) c d h e f = absurd (let k = h in cc)
-occurs_set q (x ∷ xs) zero c d h e f = go (same_some x c h)
+occurs_set q (x ∷ xs) zero c d h e f = go (same_Some x c h)
   where
     more : (a n m r : ℕ) → m ≡ suc n → a * m + r ≡ a + (a * n + r)
     more a n m r e = rw e (grind arith)
@@ -147,7 +146,7 @@ occurs_set q (x ∷ xs) (suc i) c d h e f = let r = occurs_set q xs i c d h e f 
 pub all_set : (xs : List Counted) (i : ℕ) (c d : Counted) → slice_get xs i ≡ Some c → d.occurrences ≡ suc c.occurrences → all_occurrences (slice_set xs i d) ≡ suc (all_occurrences xs)
 all_set [] zero c d h f = absurd (let k = h in cc)
 all_set [] (suc i) c d h f = absurd (let k = h in cc)
-all_set (x ∷ xs) zero c d h f = let e = ap (λ (y : Counted). y.occurrences) (same_some x c h) in omega arith
+all_set (x ∷ xs) zero c d h f = let e = ap (λ (y : Counted). y.occurrences) (same_Some x c h) in omega arith
 all_set (x ∷ xs) (suc i) c d h f = let r = all_set xs i c d h f in omega arith
 
 pub occurs_none : (p : Pointstamp) (xs : List Counted) → times_in (pointstamps xs) p ≡ 0 → occurrences_in xs p ≡ 0
@@ -177,19 +176,16 @@ stamp_absent xs p all e = go (times_in (pointstamps xs) p) refl
 
 -- ---- scans
 
-last_or : (a i : ℕ) → a < i + 1 → (a < i) ⊎ (a ≡ i)
-last_or a i l = grind arith
-
 -- none of the first n is p
 abbrev pub NoneTo : List Pointstamp → Pointstamp → ℕ → Type 0
 NoneTo xs p n = (i : ℕ) (q : Pointstamp) → i < n → slice_get xs i ≡ Some q → q ≡ p → ⊥
 
 pub none_more : (xs : List Pointstamp) (p x : Pointstamp) (n : ℕ) → NoneTo xs p n → slice_get xs n ≡ Some x → (x ≡ p → ⊥) → NoneTo xs p (n + 1)
-none_more xs p x n before h d i q l k e = go (last_or i n l)
+none_more xs p x n before h d i q l k e = go (below_or_last i n l)
   where
     go : (i < n) ⊎ (i ≡ n) → ⊥
     go (inl a) = before i q a k e
-    go (inr a) = d (same_some x q (sym h ∙ ap (slice_get xs) (sym a) ∙ k) ∙ e)
+    go (inr a) = d (same_Some x q (sym h ∙ ap (slice_get xs) (sym a) ∙ k) ∙ e)
 
 pub take_more : (xs : List Pointstamp) (n : ℕ) (x : Pointstamp) → slice_get xs n ≡ Some x → take (n + 1) xs ≡ take n xs ++ (x ∷ [])
 take_more xs n x h = rw (add-one n) (go xs n h)
@@ -197,7 +193,7 @@ take_more xs n x h = rw (add-one n) (go xs n h)
     go : (xs : List Pointstamp) (n : ℕ) → slice_get xs n ≡ Some x → take (suc n) xs ≡ take n xs ++ (x ∷ [])
     go [] zero h = absurd (let e = h in cc)
     go [] (suc n) h = absurd (let e = h in cc)
-    go (y ∷ ys) zero h = ap (λ (z : Pointstamp). z ∷ []) (same_some y x h)
+    go (y ∷ ys) zero h = ap (λ (z : Pointstamp). z ∷ []) (same_Some y x h)
     go (y ∷ ys) (suc n) h = ap (λ (l : List Pointstamp). y ∷ l) (go ys n h)
 
 pub take_whole : (xs : List Pointstamp) (n : ℕ) → length xs ≤ n → take n xs ≡ xs
@@ -237,14 +233,14 @@ set_got : (xs : List Counted) (i j : ℕ) (c d e : Counted) → slice_get xs i �
 set_got xs i j c d e h k = go (eqb_tells j i)
   where
     go : ((eqb j i ≡ true) × (j ≡ i)) ⊎ ((eqb j i ≡ false) × (j ≢ i)) → ((j ≡ i) × (e ≡ d)) ⊎ ((j ≢ i) × (slice_get xs j ≡ Some e))
-    go (inl a) = inl (a.1, same_some e d (sym k ∙ ap (slice_get (slice_set xs i d)) a.1 ∙ set_here xs i d (got_below xs i c h)))
+    go (inl a) = inl (a.1, same_Some e d (sym k ∙ ap (slice_get (slice_set xs i d)) a.1 ∙ set_here xs i d (slice_get_within xs i c h)))
     go (inr a) = inr (a.1, sym (set_else xs i j d a.1) ∙ k)
 
 pub done_more : (R : Counted → Counted → Type 0) (old new : List Counted) (n : ℕ) (c d : Counted) → IsDoneTo R old new n → slice_get new n ≡ Some c → d.pointstamp ≡ c.pointstamp → R c d → IsDoneTo R old (slice_set new n d) (n + 1)
 done_more R old new n c d t h e r =
     record {
       stamps = stamps_set new n c d h e ∙ t.stamps;
-      done = λ i b f l k m. now i b f k (last_or i n l) (set_got new n i c d f h m);
+      done = λ i b f l k m. now i b f k (below_or_last i n l) (set_got new n i c d f h m);
       rest = λ i b l m. later i b l (set_got new n i c d b h m);
     }
   where
@@ -253,7 +249,7 @@ done_more R old new n c d t h e r =
     now i b f k (inl a) (inr m) = t.done i b f a k m.1
     now i b f k (inr a) (inr m) = absurd (m.0 a)
     now i b f k (inr a) (inl m) =
-        let was : b ≡ c = same_some b c (sym k ∙ ap (slice_get old) a ∙ t.rest n c (omega arith) h) in
+        let was : b ≡ c = same_Some b c (sym k ∙ ap (slice_get old) a ∙ t.rest n c (omega arith) h) in
         subst (λ (y : Counted). R y f) (sym was) (subst (R c) (sym m.1) r)
 
     later : (i : ℕ) (b : Counted) → n + 1 ≤ i → ((i ≡ n) × (b ≡ d)) ⊎ ((i ≢ n) × (slice_get new i ≡ Some b)) → slice_get old i ≡ Some b
@@ -261,10 +257,10 @@ done_more R old new n c d t h e r =
     later i b l (inr m) = t.rest i b (omega arith) m.1
 
 pub all_added : (g : Graph) (p : Pointstamp) (old new : List Counted) (n : ℕ) → length old ≤ n → IsDoneTo (CountsPrecursor g p) old new n → AllCountPrecursor g p old new
-all_added g p old new n l t = record { same = t.stamps; each = λ i c d h k. t.done i c d (let b = got_below old i c h in omega arith) h k }
+all_added g p old new n l t = record { same = t.stamps; each = λ i c d h k. t.done i c d (let b = slice_get_within old i c h in omega arith) h k }
 
 pub all_removed : (g : Graph) (p : Pointstamp) (old new : List Counted) (n : ℕ) → length old ≤ n → IsDoneTo (λ c d. CountsPrecursor g p d c) old new n → AllCountPrecursor g p new old
-all_removed g p old new n l t = record { same = sym t.stamps; each = λ i d c k h. t.done i c d (let b = got_below old i c h in omega arith) h k }
+all_removed g p old new n l t = record { same = sym t.stamps; each = λ i d c k h. t.done i c d (let b = slice_get_within old i c h in omega arith) h k }
 
 -- ---- what is exact stays so
 
@@ -306,7 +302,7 @@ pub facing : (xs ys : List Counted) (i : ℕ) (d : Counted) → pointstamps ys �
 facing xs ys i d e h = got_stamp xs i d.pointstamp (ap (λ (l : List Pointstamp). slice_get l i) (sym e) ∙ stamp_got ys i d h)
 
 got_push : (xs : List Counted) (i : ℕ) (c d : Counted) → slice_get (xs ++ (c ∷ [])) i ≡ Some d → (slice_get xs i ≡ Some d) ⊎ (d ≡ c)
-got_push [] zero c d h = inr (same_some d c (sym h))
+got_push [] zero c d h = inr (same_Some d c (sym h))
 got_push [] (suc zero) c d h = absurd (let e = h in cc)
 got_push [] (suc (suc i)) c d h = absurd (let e = h in cc)
 got_push (x ∷ xs) zero c d h = inl h
@@ -432,29 +428,29 @@ occurs_leaves g p xs ys i c h e o all =
     gone : (q : Pointstamp) (xs : List Counted) (i : ℕ) → slice_get xs i ≡ Some c → occurrences_in xs q ≡ one_if_same q p + occurrences_in (remove xs i) q
     gone q [] zero h = absurd (let k = h in cc)
     gone q [] (suc i) h = absurd (let k = h in cc)
-    gone q (x ∷ xs) zero h = rw (same_some x c h, e, o) (omega arith)
+    gone q (x ∷ xs) zero h = rw (same_Some x c h, e, o) (omega arith)
     gone q (x ∷ xs) (suc i) h = let r = gone q xs i h in omega arith
 
     one_less : (xs : List Counted) (i : ℕ) → slice_get xs i ≡ Some c → all_occurrences xs ≡ suc (all_occurrences (remove xs i))
     one_less [] zero h = absurd (let k = h in cc)
     one_less [] (suc i) h = absurd (let k = h in cc)
-    one_less (x ∷ xs) zero h = let k = ap (λ (y : Counted). y.occurrences) (same_some x c h) in omega arith
+    one_less (x ∷ xs) zero h = let k = ap (λ (y : Counted). y.occurrences) (same_Some x c h) in omega arith
     one_less (x ∷ xs) (suc i) h = let r = one_less xs i h in omega arith
 
 pub occurs_more : (p : Pointstamp) (xs : List Counted) (i : ℕ) (c d : Counted) → slice_get xs i ≡ Some c → slice_get (pointstamps xs) i ≡ Some p → d.pointstamp ≡ c.pointstamp → d.occurrences ≡ suc c.occurrences → OccursOnceMore p xs (slice_set xs i d)
 occurs_more p xs i c d h at e f =
-    let k : c.pointstamp ≡ p = same_some c.pointstamp p (sym (stamp_got xs i c h) ∙ at) in
+    let k : c.pointstamp ≡ p = same_Some c.pointstamp p (sym (stamp_got xs i c h) ∙ at) in
     record { content = λ q. subst (λ (r : Pointstamp). occurrences_in (slice_set xs i d) q ≡ one_if_same q r + occurrences_in xs q) k (occurs_set q xs i c d h e f); all = all_set xs i c d h f }
 
 set_back : (xs : List Counted) (i : ℕ) (c d : Counted) → slice_get xs i ≡ Some c → slice_set (slice_set xs i d) i c ≡ xs
 set_back [] i c d h = refl
-set_back (x ∷ xs) zero c d h = ap (λ (y : Counted). y ∷ xs) (sym (same_some x c h))
+set_back (x ∷ xs) zero c d h = ap (λ (y : Counted). y ∷ xs) (sym (same_Some x c h))
 set_back (x ∷ xs) (suc i) c d h = ap (λ (l : List Counted). x ∷ l) (set_back xs i c d h)
 
 pub occurs_less : (p : Pointstamp) (xs : List Counted) (i : ℕ) (c d : Counted) → slice_get xs i ≡ Some c → slice_get (pointstamps xs) i ≡ Some p → d.pointstamp ≡ c.pointstamp → c.occurrences ≡ suc d.occurrences → OccursOnceMore p (slice_set xs i d) xs
 occurs_less p xs i c d h at e f =
     subst (OccursOnceMore p (slice_set xs i d)) (set_back xs i c d h)
-    (occurs_more p (slice_set xs i d) i d c (set_here xs i d (got_below xs i c h)) (ap (λ (l : List Pointstamp). slice_get l i) (stamps_set xs i c d h e) ∙ at) (sym e) f)
+    (occurs_more p (slice_set xs i d) i d c (set_here xs i d (slice_get_within xs i c h)) (ap (λ (l : List Pointstamp). slice_get l i) (stamps_set xs i c d h e) ∙ at) (sym e) f)
 
 -- ---- the frontier
 
@@ -463,7 +459,7 @@ pub frontier_counted : (g : Graph) (p : Pointstamp) (xs : List Counted) (i : ℕ
 frontier_counted g p xs i c x h at = (λ z q a k. none z q a k (one_tells q p), λ free. back free c.precursors refl)
   where
     is : c.pointstamp ≡ p
-    is = same_some c.pointstamp p (sym (stamp_got xs i c h) ∙ at)
+    is = same_Some c.pointstamp p (sym (stamp_got xs i c h) ∙ at)
 
     number : IsPrecursorCount g (pointstamps xs) p c.precursors
     number = subst (λ (q : Pointstamp). IsPrecursorCount g (pointstamps xs) q c.precursors) is (x.precursors i c h)

@@ -6,7 +6,7 @@ use Rattle.semantics.specs.Kinds.{action}
 use Rattle.semantics.specs.Graph.{Graph, vertex, edge_source}
 use Rattle.semantics.specs.Could.{Location, Pointstamp, IsTimeAt, PathStep, path_time, CouldResultIn}
 use Rattle.semantics.specs.Dataflow.{IsDataflow}
-use Rattle.semantics.proofs.CouldRises.{at_most_trans, path_keeps}
+use Rattle.semantics.proofs.CouldRises.{at_most_trans, path_keeps, path_epoch}
 use Rattle.progress.specs.Times.{NoLater}
 use Rattle.progress.specs.Bag.{Bag, count, IsAsked, IsLeast, IsNoneAsked}
 use Rattle.progress.specs.Kept.{stamp, IsClearAt, IsBlockedAt}
@@ -27,9 +27,6 @@ path_moved g (PathStep.enters e ∷ path) n t = path_moved g path n t
 path_moved g (PathStep.leaves e ∷ path) n t =
     let a = action (vertex g (edge_source g e).vertex).kind in
     ap (path_time g path) (after_moved a n t) ∙ path_moved g path n (after_action a t)
-
-path_epoch : (g : Graph) (path : List PathStep) (t : Time) → (path_time g path t).epoch ≡ t.epoch
-path_epoch g path t = ap (λ (u : Time). u.epoch) (path_moved g path t.epoch t)
 
 fits_moved : (g : Graph) (l : Location) (n : ℕ) (t : Time) → IsTimeAt g l t → IsTimeAt g l (moved n t)
 fits_moved g (Location.edge e) n t f = f

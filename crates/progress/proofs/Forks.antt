@@ -8,14 +8,12 @@ use Rattle.progress.specs.Bag.{Bag, Held, held, if_same, count, top, with_times,
 use Rattle.progress.specs.Sifting.{IsSifted, Leads}
 use Rattle.progress.specs.declared.tree.Entry.{Entry}
 use Rattle.semantics.proofs.MultisetSums.{total-append}
+use Rattle.semantics.proofs.Cases.{either_above_zero}
 use Rattle.progress.proofs.Orders.{no_later_self, no_later_on, same_self, same_is, same_sum, split_epoch}
-
-either : (a b : ℕ) → 0 < a + b → (0 < a) ⊎ (0 < b)
-either a b h = grind arith
 
 -- what occurs was added, or occurred before
 pub was_or_came : (old new : Bag) (t u : Time) (n : ℕ) → Adds old new t n → 0 < count new u → (u ≡ t) ⊎ (0 < count old u)
-was_or_came old new t u n h l = go (either (if_same u t n) (count old u) (subst (λ k. 0 < k) (h u) l))
+was_or_came old new t u n h l = go (either_above_zero (if_same u t n) (count old u) (subst (λ k. 0 < k) (h u) l))
   where
     go : (0 < if_same u t n) ⊎ (0 < count old u) → (u ≡ t) ⊎ (0 < count old u)
     go (inl a) = inl (same_is u t n a)
@@ -37,7 +35,7 @@ module _ (L : Bag) (t : Time) (n s : ℕ) (R : Bag) where
     right : 0 < count R u → Stands u
 
   pub stands : (u : Time) → 0 < count (with_times L t n R) u → Stands u
-  stands u h = go (either (if_same u t n) (count L u + count R u) (subst (λ k. 0 < k) (count-with L t n R u) h))
+  stands u h = go (either_above_zero (if_same u t n) (count L u + count R u) (subst (λ k. 0 < k) (count-with L t n R u) h))
     where
       below : (0 < count L u) ⊎ (0 < count R u) → Stands u
       below (inl a) = Stands.left a
@@ -45,7 +43,7 @@ module _ (L : Bag) (t : Time) (n s : ℕ) (R : Bag) where
 
       go : (0 < if_same u t n) ⊎ (0 < count L u + count R u) → Stands u
       go (inl a) = Stands.here (same_is u t n a)
-      go (inr a) = below (either (count L u) (count R u) a)
+      go (inr a) = below (either_above_zero (count L u) (count R u) a)
 
   -- its own time occurs, and comes first
   pub fork_there : 0 < n → 0 < count (with_times L t n R) t

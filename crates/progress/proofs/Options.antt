@@ -1,5 +1,5 @@
 -- Implications inside options, and facts about truth values.
-use Rattle.std.proofs.Common.{◌≡◌, Option, Some, None, Bool, true, false, arith}
+use Rattle.std.proofs.Common.{◌≡◌, Option, Some, None, Bool, false, arith}
 use Rattle.std.specs.Prelude.{IsTrue, IfSome, IfNone}
 
 pub none_map : {X : Type 0} (r : Option X) (P Q : Type 0) → (P → Q) → IfNone r P → IfNone r Q
@@ -9,12 +9,6 @@ none_map (Some x) P Q f h = h
 pub some_map : {X : Type 0} (r : Option X) (P Q : X → Type 0) → ((x : X) → P x → Q x) → IfSome r P → IfSome r Q
 some_map None P Q f h = h
 some_map (Some x) P Q f h = f x h
-
-pub is_true : (b : Bool) → b ≡ true → IsTrue b
-is_true b e = grind arith
-
-pub true_is : (b : Bool) → IsTrue b → b ≡ true
-true_is b e = grind arith
 
 pub not_true : (b : Bool) → b ≡ false → IsTrue b → ⊥
 not_true b e t = grind arith

@@ -2,9 +2,11 @@
 use Rattle.std.proofs.Common.{◌≡◌, ◌≢◌, ◌⊎◌, inl, inr, ℕ, zero, suc, ◌+◌, ◌≤◌, ◌<◌, Bool, true, false, cond, eqb, List, [], ◌∷◌, ◌++◌, length, Some, slice_get, slice_set, slice_index_or, refl, sym, ap, subst, ◌∙◌, arith}
 use Rattle.std.specs.Prelude.{map, remove}
 use Rattle.std.proofs.lemmas.Bool.Decides.{eqb_tells}
+use Rattle.std.proofs.lemmas.Option.{same_Some}
 use Rattle.semantics.specs.Graph.{Graph, edge_count}
 use Rattle.semantics.specs.Time.{Time, same_time}
 use Rattle.semantics.specs.Could.{Location, Pointstamp, IsTimeAt}
+use Rattle.semantics.proofs.Cases.{either_above_zero, below_or_last}
 use Rattle.machine.specs.Active.{one_if_same, same_location}
 use Rattle.graph.specs.Locations.{location_of}
 use Rattle.graph.specs.declared.location.Location.{Location as Declared}
@@ -138,9 +140,6 @@ among_removed xs i m l h d a = go xs i a.0 h a.1
 
 -- ---- what is kept
 
-either : (a b : ℕ) → 0 < a + b → (0 < a) ⊎ (0 < b)
-either a b h = grind arith
-
 pub kept_in : (g : Graph) (es vs : List Bag) (p : Pointstamp) → length es ≡ edge_count g → length vs ≡ length g → IsTimeAt g p.location p.time → IsIn (length es) (length vs) p.location
 kept_in g es vs p a b f = go p.location f
   where
@@ -154,7 +153,7 @@ kept_added g es vs es' vs' ls ls' p fresh k f a m n listed some still = record {
   edges_long = m ∙ k.edges_long;
   vertices_long = n ∙ k.vertices_long;
   known = all_more g (times_at es vs) (times_at es' vs') p k.known f a;
-  where_active = λ q h. go q (either (one_if_same q p) (times_at es vs q) (subst (λ i. 0 < i) (a q) h));
+  where_active = λ q h. go q (either_above_zero (one_if_same q p) (times_at es vs q) (subst (λ i. 0 < i) (a q) h));
 }
   where
     there : (b : Bool) → fresh ≡ b → Among ls' p.location
@@ -182,20 +181,14 @@ kept_taken g es vs es' vs' ls ls' p empty k a m n none still = record {
 abbrev pub ClearAmong : Graph → (es vs : List Bag) → List Location → Pointstamp → Bool → ℕ → Type 0
 ClearAmong g es vs ls p other n = (i : ℕ) (l : Location) → i < n → slice_get ls i ≡ Some l → IsClearAt g (bag_at es vs l) l p other
 
-last_or : (a i : ℕ) → a < i + 1 → (a < i) ⊎ (a ≡ i)
-last_or a i l = grind arith
-
 pub get_mapped : (xs : List Declared) (i : ℕ) (x : Declared) → slice_get xs i ≡ Some x → slice_get (map location_of xs) i ≡ Some (location_of x)
 get_mapped [] zero x h = absurd (let e = h in cc)
 get_mapped [] (suc i) x h = absurd (let e = h in cc)
-get_mapped (y ∷ xs) zero x h = ap (λ (z : Declared). Some (location_of z)) (same_declared y x h)
-  where
-    same_declared : (a b : Declared) → Some a ≡ Some b → a ≡ b
-    same_declared a b e = cc
+get_mapped (y ∷ xs) zero x h = ap (λ (z : Declared). Some (location_of z)) (same_Some y x h)
 get_mapped (y ∷ xs) (suc i) x h = get_mapped xs i x h
 
 pub clear_more_at : (g : Graph) (es vs : List Bag) (xs : List Declared) (x : Location) (p : Pointstamp) (other : Bool) (n : ℕ) → ClearAmong g es vs (map location_of xs) p other n → slice_get (map location_of xs) n ≡ Some x → IsClearAt g (bag_at es vs x) x p other → ClearAmong g es vs (map location_of xs) p other (n + 1)
-clear_more_at g es vs xs x p other n before h c i l m k = go (last_or i n m)
+clear_more_at g es vs xs x p other n before h c i l m k = go (below_or_last i n m)
   where
     go : (i < n) ⊎ (i ≡ n) → IsClearAt g (bag_at es vs l) l p other
     go (inl a) = before i l a k

@@ -1,6 +1,6 @@
 //! Runs a list of changes and questions on any tracker.
 
-ghost use Rattle.std.specs.Prelude.{◌≡◌, ◌+◌, ◌<◌, ◌≤◌, ◌++◌, ℕ, IfOk, OnErr, OnOk, length, vec_capacity, vec_len};
+ghost use Rattle.std.specs.Prelude.{◌≡◌, ◌+◌, ◌≤◌, IfOk, OnErr, OnOk, length, vec_capacity, vec_len};
 ghost use Rattle.semantics.specs.Could.{CouldResultIn, Pointstamp as Active};
 ghost use Rattle.progress.specs.Asked.{AreAnswers, ArePossible, content_after};
 

@@ -1,8 +1,7 @@
 //! A tracker that keeps precursor counts.
 
-ghost use Rattle.std.specs.Prelude.{◌≡◌, ◌+◌, ◌<◌, ◌≤◌, ◌↔◌, ℕ, [], IsTrue, OnOk, vec_capacity, vec_len};
+ghost use Rattle.std.specs.Prelude.{◌≡◌, ◌+◌, ◌≤◌, [], vec_capacity};
 ghost use Rattle.graph.specs.Shown.{shown_graph};
-ghost use Rattle.semantics.specs.Could.{CouldResultIn, IsTimeAt};
 ghost use Rattle.progress.specs.Counts.{AreExact, all_occurrences, occurrences_in};
 
 use crate::counted::{Counted, is_clear, place_of, put, take};

@@ -1,12 +1,12 @@
 //! A tracker by location, which checks one time of each.
 
-ghost use Rattle.std.specs.Prelude.{◌≡◌, ◌+◌, ◌<◌, ◌≤◌, ◌↔◌, ◌∷◌, ◌++◌, ℕ, List, [], IsTrue, IfOk, IfSome, IfNone, OnOk, Some};
-ghost use Rattle.std.specs.Prelude.{None, true, false, length, map, slice_get, slice_index_or, slice_set, vec_capacity, vec_len};
+ghost use Rattle.std.specs.Prelude.{◌≡◌, ◌+◌, ◌<◌, ◌≤◌, ◌↔◌, ℕ, [], IsTrue, IfOk, IfSome, IfNone, OnOk, Some};
+ghost use Rattle.std.specs.Prelude.{None, true, false, length, map, slice_get, slice_index_or, vec_capacity, vec_len};
 ghost use Rattle.graph.specs.Locations.{location_of};
 ghost use Rattle.graph.specs.Shown.{shown_graph};
 ghost use Rattle.semantics.specs.Time.{Time as Instant};
 ghost use Rattle.semantics.specs.Graph.{edge_count};
-ghost use Rattle.semantics.specs.Could.{CouldResultIn, IsTimeAt, Location as Place, Pointstamp as Active};
+ghost use Rattle.semantics.specs.Could.{IsTimeAt, Location as Place, Pointstamp as Active};
 ghost use Rattle.progress.specs.Bag.{Adds, IsNone, count};
 ghost use Rattle.progress.specs.Content.{AllAt, IsBlocked, IsClear, bag_at, times_at};
 ghost use Rattle.progress.specs.Kept.{AddsOne, Among, HasSome, IsBlockedAt, IsChangedAt, IsClearAt, IsIn, IsKept};

@@ -1,7 +1,6 @@
 //! A tracker that checks every active pointstamp.
 
-ghost use Rattle.std.specs.Prelude.{◌≡◌, ◌+◌, ◌<◌, ◌≤◌, ◌↔◌, ◌∷◌, ◌++◌, ℕ, List, [], IsTrue, IfSome, IfNone};
-ghost use Rattle.std.specs.Prelude.{Some, true, false, length, remove, slice_get, vec_capacity, vec_len};
+ghost use Rattle.std.specs.Prelude.{◌≡◌, ◌+◌, ◌<◌, ◌≤◌, ◌↔◌, [], IsTrue, IfSome, IfNone, Some, true, false, remove, slice_get, vec_capacity, vec_len};
 ghost use Rattle.graph.specs.Shown.{shown_graph};
 ghost use Rattle.semantics.specs.Could.{CouldResultIn, IsTimeAt};
 ghost use Rattle.progress.specs.Content.{AllAt, IsBlocked, IsClear, times_in};

@@ -51,7 +51,7 @@ stands_there [] k h = absurd (omega (arith, h))
 stands_there (x ∷ rows) zero h = let z = ap one_if (same-refl x) in omega (arith, z)
 stands_there (x ∷ rows) (suc k) h = let z = stands_there rows k (omega (arith, h)) in omega (arith, z)
 
--- rows that stand at one place at most
+-- rows that lie at one place at most
 pub once_where_different : (rows : List Record) → AreDifferent rows → (r : Record) → count r rows ≤ 1
 once_where_different [] d r = omega arith
 once_where_different (x ∷ rows) d r = go (same x r) refl (once_where_different rows (λ j k l m e. (let z : suc j ≡ suc k = d (suc j) (suc k) (omega (arith, l)) (omega (arith, m)) e in omega (arith, z))) r)

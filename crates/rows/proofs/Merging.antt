@@ -32,7 +32,7 @@ first_part r (c ∷ cs) (suc k) h =
     let b = count_expanded r c (take k cs) in
     omega (arith, i, a, b)
 
--- one that would stand there too often
+-- one that would occur too often
 pub over_in : (old now : List Record) (cs : List Run) (k : ℕ) (row : Record) (n : ℕ) → k < length cs → row ≡ (slice_index_or cs k no_run).row → n ≡ (slice_index_or cs k no_run).count →
     now ≈ (old ++ expanded (take k cs)) → most < count row now + n → IsOver (old ++ expanded cs)
 over_in old now cs k row n h e f i over =

@@ -17,7 +17,7 @@ owner_of owners r = slice_index_or owners (bucket (mixed r) (length owners)) 0
 abbrev pub owns : List Record → List ℕ → Record → Bool
 owns rows owners r = same (slice_index_or ([] ∷ rows) (owner_of owners r) []) r
 
--- of the first n rows, the first of a bucket stands there once, and the others are in doubt
+-- of the first n rows, the first of a bucket occurs once, and the others are in doubt
 pub record AreOwned (rows : List Record) (n : ℕ) (owners : List ℕ) (doubtful : List Record) : Type 0 where
   pub places : (b : ℕ) → slice_index_or owners b 0 ≤ n
   pub owned : (r : Record) → 1 ≤ count r (take n rows) → 1 ≤ owner_of owners r

@@ -60,7 +60,7 @@ raised rs old new p n row h w e o = record {
       omega (arith, a, b, c, d, f, g);
 }
 
--- how often a row stands there whose place is known
+-- how often a row occurs whose place is known
 pub stands : (rs : List Record) (ns : List ℕ) (p : ℕ) (row : Record) → AreDifferent rs → p < length rs → slice_index_or rs p [] ≡ row → count row (expanded (with_counts rs ns)) ≡ slice_index_or ns p 1
 stands rs ns p row d h w =
     let at = run_at rs ns p h in

@@ -80,7 +80,7 @@ run_at (r ∷ rs) (n ∷ ns) zero h = refl
 run_at (r ∷ rs) [] (suc k) h = run_at rs [] k (omega (arith, h)) ∙ ap (λ m. record { row = slice_index_or rs k []; count = m }) (one_beyond k)
 run_at (r ∷ rs) (n ∷ ns) (suc k) h = run_at rs ns k (omega (arith, h))
 
--- a row more, that stands once
+-- one more row, which occurs once
 pub more_once : (rs : List Record) (ns : List ℕ) (r : Record) → length ns ≤ length rs → with_counts (rs ++ r ∷ []) ns ≡ with_counts rs ns ++ record { row = r; count = 1 } ∷ []
 more_once [] [] r h = refl
 more_once [] (n ∷ ns) r h = absurd (omega (arith, h))
@@ -94,7 +94,7 @@ more_often [] (m ∷ ns) r n h = absurd (omega (arith, h))
 more_often (x ∷ rs) [] r n h = absurd (omega (arith, h))
 more_often (x ∷ rs) (m ∷ ns) r n h = ap (λ l. record { row = x; count = m } ∷ l) (more_often rs ns r n (omega (arith, h)))
 
--- rows more, that stand once each
+-- more rows, which occur once each
 pub more_ones : (rs ss : List Record) (ns ms : List ℕ) → length ns ≤ length rs → length ms ≡ 0 → with_counts (rs ++ ss) ns ≡ with_counts rs ns ++ with_counts ss ms
 more_ones [] ss [] [] h e = refl
 more_ones [] ss (n ∷ ns) ms h e = absurd (omega (arith, h))
@@ -146,7 +146,7 @@ fitting_runs (r ∷ rs) [] h (suc k) = fitting_runs rs [] (λ j. h (suc j)) k
 fitting_runs (r ∷ rs) (n ∷ ns) h zero = h 0
 fitting_runs (r ∷ rs) (n ∷ ns) h (suc k) = fitting_runs rs ns (λ j. h (suc j)) k
 
--- ---- how often a record stands there
+-- ---- how often a record occurs
 
 pub count_repeated : (r : Record) (n : ℕ) (x : Record) → count r (repeated n x) ≡ cond (same x r) n 0
 count_repeated r n x = go (same x r) n refl
@@ -168,7 +168,7 @@ pub expanded_append : (cs ds : List Run) → expanded (cs ++ ds) ≡ expanded cs
 expanded_append [] ds = refl
 expanded_append (c ∷ cs) ds = ap (λ l. repeated c.count c.row ++ l) (expanded_append cs ds) ∙ sym (append_assoc (repeated c.count c.row) (expanded cs) (expanded ds))
 
--- a row that stands nowhere isn't counted
+-- a row that lies nowhere isn't counted
 none_there : (r : Record) (cs : List Run) → ((k : ℕ) → k < length cs → (slice_index_or cs k no_run).row ≡ r → ⊥) → count r (expanded cs) ≡ 0
 none_there r [] h = refl
 none_there r (c ∷ cs) h = go (same c.row r) refl (none_there r cs (λ k l e. h (suc k) (omega (arith, l)) e))
@@ -187,7 +187,7 @@ pub length_rows : (cs : List Run) → length (rows_of cs) ≡ length cs
 length_rows [] = refl
 length_rows (c ∷ cs) = ap suc (length_rows cs)
 
--- a row that stands at a place is counted there alone
+-- a row that lies at a place is counted there alone
 pub count_at : (cs : List Run) (k : ℕ) → AreDifferent (rows_of cs) → k < length cs → count (slice_index_or cs k no_run).row (expanded cs) ≡ (slice_index_or cs k no_run).count
 count_at [] k h l = absurd (omega (arith, l))
 count_at (c ∷ cs) zero h l =
@@ -202,7 +202,7 @@ count_at (c ∷ cs) (suc k) h l = go (same c.row (slice_index_or cs k no_run).ro
     go true e i = absurd (let z : 0 ≡ suc k = h 0 (suc k) (omega arith) (omega (arith, l, length_rows cs)) ((Decides-same c.row (slice_index_or cs k no_run).row).0 e ∙ sym (row_at cs k)) in omega (arith, z))
     go false e i = let z = count_expanded (slice_index_or cs k no_run).row c cs ∙ ap (λ b. cond b c.count 0 + count (slice_index_or cs k no_run).row (expanded cs)) e in omega (arith, z, i)
 
--- no record stands among runs more often than a count may be
+-- no record occurs among runs more often than a count may be
 pub all_fit : (cs : List Run) → AreRuns cs → AllFit (expanded cs)
 all_fit [] h r = omega arith
 all_fit (c ∷ cs) h r = go (same c.row r) refl (all_fit cs (other_runs c cs h) r)
@@ -259,7 +259,7 @@ batch_holds rows held e l d h each =
 pub tally_runs : (rs : List Record) (ns : List ℕ) → AreDifferent rs → AreCounts ns → AreRuns (with_counts rs ns)
 tally_runs rs ns d h = record { different = subst AreDifferent (sym (rows_are rs ns)) d; counts = fitting_runs rs ns h }
 
--- what is shown tells the rows with their counts
+-- what is shown determines the rows with their counts
 pub shown_alike : (c d : RunList) (a b : List Record) → expanded c.runs ≡ a → expanded d.runs ≡ b → AreRuns c.runs → AreRuns d.runs → arity_of (expanded c.runs) ≡ c.arity → arity_of (expanded d.runs) ≡ d.arity → a ≡ b → c ≡ d
 shown_alike c d a b e f g h i j s =
     let arity : c.arity ≡ d.arity = sym i ∙ ap arity_of (e ∙ s ∙ sym f) ∙ j in

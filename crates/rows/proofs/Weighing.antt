@@ -21,7 +21,7 @@ alone n = omega arith
 sum_first : (n : ℕ) (ns : List ℕ) → sum (n ∷ ns) ≡ n + sum ns
 sum_first n ns = sum_by-append (λ x. x) (n ∷ []) ns ∙ ap (λ m. m + sum ns) (alone n)
 
--- the rows that stand once, and the counts
+-- the rows that occur once, and the counts
 pub weight_of : (rs : List Record) (ns : List ℕ) → length ns ≤ length rs → length (expanded (with_counts rs ns)) + length ns ≡ length rs + sum ns
 weight_of [] [] h = refl
 weight_of [] (n ∷ ns) h = absurd (omega (arith, h))

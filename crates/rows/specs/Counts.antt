@@ -8,7 +8,7 @@ use Rattle.rows.specs.Indexes.{AreDifferent}
 abbrev pub most : ℕ
 most = 9223372036854775807
 
--- a row, so many times
+-- a row, that many times
 pub record Run : Type 0 where
   pub row : Record
   pub count : ℕ
@@ -33,7 +33,7 @@ abbrev pub runs : List Record → List Run
 runs [] = []
 runs (x ∷ xs) = before_runs x (runs xs)
 
--- what stands for a run beyond the last
+-- the run beyond the last
 abbrev pub no_run : Run
 no_run = record { row = []; count = 1 }
 
@@ -41,7 +41,7 @@ no_run = record { row = []; count = 1 }
 abbrev pub rows_of : List Run → List Record
 rows_of cs = map (λ (c : Run). c.row) cs
 
--- rows with counts; a row beyond the counts stands once
+-- rows with counts; a row beyond the counts occurs once
 abbrev pub with_counts : List Record → List ℕ → List Run
 with_counts [] ns = []
 with_counts (r ∷ rs) [] = record { row = r; count = 1 } ∷ with_counts rs []
@@ -71,11 +71,11 @@ IsWeighedBatch rows weight =
     (0 < length rows.runs) × AreRuns rows.runs × (arity_of (expanded rows.runs) ≡ rows.arity)
     × (weight ≡ min (length (expanded rows.runs)) 18446744073709551615)
 
--- no record stands there more often than a count may be
+-- no record occurs more often than a count may be
 abbrev pub AllFit : List Record → Type 0
 AllFit xs = (r : Record) → count r xs ≤ most
 
--- some record stands there more often
+-- some record occurs more often
 abbrev pub IsOver : List Record → Type 0
 IsOver xs = (r : Record) × (most < count r xs)
 
@@ -84,15 +84,15 @@ abbrev pub records_in : Option (List Record) → List Record
 records_in None = []
 records_in (Some b) = b
 
--- a row behind an item that stands n times
+-- a row behind an item that occurs n times
 abbrev pub behind : Record → ℕ → Run → Run
 behind item n c = record { row = item ++ c.row; count = n * c.count }
 
--- a row before an item that stands n times
+-- a row before an item that occurs n times
 abbrev pub in_front : Record → ℕ → Run → Run
 in_front item n c = record { row = c.row ++ item; count = n * c.count }
 
--- a row with something before and after it, which stands n times
+-- a row with something before and after it, which occurs n times
 abbrev pub around : Record → Record → ℕ → Run → Run
 around before after n c = record { row = (before ++ c.row) ++ after; count = n * c.count }
 
@@ -101,6 +101,6 @@ abbrev pub newest_runs : (Run → Bool) → (Run → Run) → List Run → ℕ �
 newest_runs p f cs zero = []
 newest_runs p f cs (suc k) = cond (p (slice_index_or cs k no_run)) (f (slice_index_or cs k no_run) ∷ newest_runs p f cs k) (newest_runs p f cs k)
 
--- a run that agrees with an item that stands n times, and with it stands too often
+-- a run that agrees with an item that occurs n times, and with it occurs too often
 abbrev pub MeetsOver : (Run → Bool) → ℕ → List Run → Type 0
 MeetsOver p n cs = (k : ℕ) × (k < length cs) × (p (slice_index_or cs k no_run) ≡ true) × (most < n * (slice_index_or cs k no_run).count)

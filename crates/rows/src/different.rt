@@ -13,14 +13,14 @@ use std::alloc::Global;
 /// So few rows are compared each with each, without a table.
 const FEW: usize = 8;
 
-/// For each row so many buckets, so that most rows are the first of theirs.
+/// The number of buckets for each row, so that most rows are the first of theirs.
 const BUCKETS: usize = 4;
 
-/// At most so many rows have places that the table can hold.
+/// The number of rows at most whose places the table can hold.
 const MOST: usize = u32::MAX as usize;
 
 /// Whether the rows are different. The first row of a bucket is its owner; one that comes later is compared with it, and where it is
-/// another row it is in doubt. Those in doubt, which are few, are looked up. `false` may be told of different rows, too.
+/// another row it is in doubt. Those in doubt, which are few, are looked up. Different rows may get `false`, too.
 pub(crate) fn are_different(alloc: Global, rows: &Rows) -> Result<bool, RowsError>
     ensures { IfOk result (λ d. IsTrue d → AreDifferent rows.now.rows) }
 {
@@ -89,7 +89,7 @@ fn few_are_different(rows: &Rows) -> bool
     true
 }
 
-/// Whether a row equal to that one stands before it.
+/// Whether a row before that one is equal to it.
 fn stands_before(rows: &Rows, place: usize) -> bool
     requires { place < length rows.now.rows }
     ensures { result ≡ any_below (λ k. same (slice_index_or rows.now.rows k []) (slice_index_or rows.now.rows place [])) place }

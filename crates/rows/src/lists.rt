@@ -81,7 +81,7 @@ impl Lists {
     }
 }
 
-/// Writes numbers over those that stand from a place on.
+/// Writes numbers over those from a place on.
 fn replace(values: &mut [i64], from: usize, list: &[i64])
     requires { from + length list.now ≤ length values.old }
     ensures value { values.new ≡ take from values.old ++ list.now ++ drop (from + length list.now) values.old }

@@ -84,7 +84,7 @@ keeps_order Action.next t u l (inr h) = go (shorter t.counters u.counters l h)
     go (inl x) = inr (lex_push (front t.counters) (front u.counters) (suc (last t.counters) ∷ []) (suc (last u.counters) ∷ []) (length_front_same t.counters u.counters l) x)
     go (inr x) = inr (subst (λ fs. is_before (front t.counters ++ (suc (last t.counters) ∷ [])) (fs ++ (suc (last u.counters) ∷ [])) ≡ true) x.0 (lex_end (front t.counters) (suc (last t.counters)) (suc (last u.counters)) (let y = x.1 in omega arith)))
 
-same_epoch : (a : Action) (t : Time) → (after_action a t).epoch ≡ t.epoch
+pub same_epoch : (a : Action) (t : Time) → (after_action a t).epoch ≡ t.epoch
 same_epoch Action.stay t = refl
 same_epoch Action.enter t = refl
 same_epoch Action.leave t = refl
@@ -164,7 +164,7 @@ woven_later (e ∷ es) (c ∷ cs) (d ∷ ds) p l m h = go (lex_cases c d cs ds h
     go (inl a) ih = lex_tail (2 * e + 1) (2 * e + 1) (c ∷ woven es cs p) (d ∷ woven es ds p) refl (lex_head c d (woven es cs p) (woven es ds p) a)
     go (inr a) ih = lex_tail (2 * e + 1) (2 * e + 1) (c ∷ woven es cs p) (d ∷ woven es ds p) refl (lex_tail c d (woven es cs p) (woven es ds p) a.0 (ih a.1))
 
-same_or_less : (m n : ℕ) → m ≤ n → (m < n) ⊎ (m ≡ n)
+pub same_or_less : (m n : ℕ) → m ≤ n → (m < n) ⊎ (m ≡ n)
 same_or_less m n l = grind arith
 
 pub later_rises : (es : List ℕ) (p : ℕ) (t u : Time) → length t.counters ≡ length es → length u.counters ≡ length es → IsAtMost t u → (t ≡ u) ⊎ (is_before (t.epoch ∷ woven es t.counters p) (u.epoch ∷ woven es u.counters p) ≡ true)
@@ -176,6 +176,18 @@ later_rises es p t u l m h = go (same_or_less t.epoch u.epoch h.epochs) h.counte
     go (inr a) (inr b) = inr (lex_tail t.epoch u.epoch (woven es t.counters p) (woven es u.counters p) a (woven_later es t.counters u.counters p l m b))
 
 -- ---- paths
+
+pub path_epoch : (g : Graph) (path : List PathStep) (t : Time) → (path_time g path t).epoch ≡ t.epoch
+path_epoch g [] t = refl
+path_epoch g (s ∷ path) t = path_epoch g path (step_time g s t) ∙ step_epoch s
+  where
+    step_epoch : (s : PathStep) → (step_time g s t).epoch ≡ t.epoch
+    step_epoch (PathStep.enters e) = refl
+    step_epoch (PathStep.leaves e) = same_epoch (action (vertex g (edge_source g e).vertex).kind) t
+
+-- what could result is in no earlier epoch
+pub could_epoch : (g : Graph) (p q : Pointstamp) → CouldResultIn g p q → p.time.epoch ≤ q.time.epoch
+could_epoch g p q c = omega (arith, path_epoch g c.path p.time, c.in_time.epochs)
 
 module _ (g : Graph) (loops : ℕ → List ℕ) (wired : IsWired g) (nested : IsNested g loops) where
   abbrev pub rank_at : Location → Time → List ℕ

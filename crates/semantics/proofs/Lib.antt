@@ -1,3 +1,4 @@
+pub mod Cases
 pub mod MultisetSums
 pub mod Permutations
 pub mod LeastAndGreatest

@@ -143,7 +143,7 @@ keeps_few Action.next f n l = go f.tail
     go [] = l
     go (c ∷ cs) = l
 
-may_take : (loops : ℕ → List ℕ) (v w : ℕ) (a : Action) → Goes loops v w a → (f : Summary) → f.keep + length f.tail ≡ length (loops v) → MayTake a f
+pub may_take : (loops : ℕ → List ℕ) (v w : ℕ) (a : Action) → Goes loops v w a → (f : Summary) → f.keep + length f.tail ≡ length (loops v) → MayTake a f
 may_take loops v w a (Goes.same_loop e h) f l = tt
 may_take loops v w a (Goes.into_loop e q h) f l = tt
 may_take loops v w a (Goes.out_of_loop q h) f l = omega (arith, l, ap length q, length-append (loops w) (v ∷ []))

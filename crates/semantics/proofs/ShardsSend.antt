@@ -44,7 +44,7 @@ pub common_gained : (t : Time) (before now : ℕ → List Record) → ((i : ℕ)
     → SendsBy (role Kind.intersect) (λ q ins. op Kind.intersect t ins q) before now port records out
     ↔ ((q : ℕ) (r : Record) → count r (out q) ≡ one_if (is_present r (now 0) && is_present r (now 1) && not (is_present r (before 0) && is_present r (before 1))))
 common_gained t before now h port records out = (
-  λ s q r. told (is_present r (now 0)) (is_present r (now 1)) (in_both_before r) (count r (out q)) (sum q r ((s q).counts r)) (less_before r),
+  λ s q r. after (is_present r (now 0)) (is_present r (now 1)) (in_both_before r) (count r (out q)) (sum q r ((s q).counts r)) (less_before r),
   λ c q. record { counts = λ r. let a = appended q r in let b = count-intersect (before 0) (before 1) r in let n = count-intersect (now 0) (now 1) r in let e = right (is_present r (now 0)) (is_present r (now 1)) (in_both_before r) (count r (out q)) (c q r) (less_before r) in omega arith },
 )
   where
@@ -64,13 +64,13 @@ common_gained t before now h port records out = (
         let l = (in_both_part (before 0) (now 0) (before 1) (now 1) (h 0 (omega arith)) (h 1 (omega arith))).within r in
         omega arith
 
-    told : (m n b : Bool) (c : ℕ) → c + one_if b ≡ one_if (m && n) → one_if b ≤ one_if (m && n) → c ≡ one_if (m && n && not b)
-    told true true true c e l = omega arith
-    told true true false c e l = omega arith
-    told true false true c e l = omega arith
-    told true false false c e l = omega arith
-    told false n true c e l = omega arith
-    told false n false c e l = omega arith
+    after : (m n b : Bool) (c : ℕ) → c + one_if b ≡ one_if (m && n) → one_if b ≤ one_if (m && n) → c ≡ one_if (m && n && not b)
+    after true true true c e l = omega arith
+    after true true false c e l = omega arith
+    after true false true c e l = omega arith
+    after true false false c e l = omega arith
+    after false n true c e l = omega arith
+    after false n false c e l = omega arith
 
     right : (m n b : Bool) (c : ℕ) → c ≡ one_if (m && n && not b) → one_if b ≤ one_if (m && n) → c + one_if b ≡ one_if (m && n)
     right true true true c e l = omega arith

@@ -10,7 +10,7 @@ use Rattle.semantics.proofs.MultisetSums.{≈-refl, ≈-trans, ≈-from, append_
 
 -- ---- the last counter
 
-last_from-push : (b : ℕ) (ts : List ℕ) (c : ℕ) → last_from b (ts ++ (c ∷ [])) ≡ c
+pub last_from-push : (b : ℕ) (ts : List ℕ) (c : ℕ) → last_from b (ts ++ (c ∷ [])) ≡ c
 last_from-push b [] c = refl
 last_from-push b (d ∷ ds) c = last_from-push d ds c
 
@@ -18,7 +18,7 @@ front_from-push : (b : ℕ) (ts : List ℕ) (c : ℕ) → front_from b (ts ++ (c
 front_from-push b [] c = refl
 front_from-push b (d ∷ ds) c = ap (λ l. b ∷ l) (front_from-push d ds c)
 
-front-push : (ts : List ℕ) (c : ℕ) → front (ts ++ (c ∷ [])) ≡ ts
+pub front-push : (ts : List ℕ) (c : ℕ) → front (ts ++ (c ∷ [])) ≡ ts
 front-push [] c = refl
 front-push (d ∷ ds) c = front_from-push d ds c
 

@@ -1,6 +1,6 @@
 ghost use Rattle.std.specs.Prelude.{◌≡◌, ◌++◌, ℕ, List, [], ◌∷◌, pos, negsuc};
 ghost use Rattle.semantics.specs.Multiset.{Record, ◌≈◌};
-ghost use Rattle.semantics.specs.Query.{Program, Scalar, Comparison, Cond, Agg};
+ghost use Rattle.semantics.specs.Query.{Scalar, Comparison, Cond, Agg};
 ghost use Rattle.semantics.specs.Meaning.{program_meaning};
 ghost use Rattle.semantics.specs.Typing.{WellTyped};
 ghost use Rattle.semantics.specs.Time.{at_epoch};

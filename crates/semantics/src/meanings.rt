@@ -1,5 +1,5 @@
-ghost use Rattle.std.specs.Prelude.{◌≡◌, ◌≤◌, ◌<◌, ◌+◌, ◌*◌, ◌++◌, ◌&&◌, not, cond, nat_lt, List, ℕ, map, filter, length, ◌∷◌, ◌≤ℤ◌};
-ghost use Rattle.semantics.specs.Multiset.{Record, same, one_if, count, total, ◌≈◌, IsPartOf, is_present, each_once};
+ghost use Rattle.std.specs.Prelude.{◌≡◌, ◌<◌, ◌+◌, ◌*◌, ◌++◌, ◌&&◌, not, cond, List, ℕ, map, filter, length, ◌∷◌, ◌≤ℤ◌};
+ghost use Rattle.semantics.specs.Multiset.{Record, same, one_if, count, total, ◌≈◌, is_present, each_once};
 ghost use Rattle.semantics.specs.Meaning.{field, value, holds, project, left_columns, right_columns, aggregate, selected};
 ghost use Rattle.semantics.specs.Meaning.{kept, paired, grouped, only_left, in_both, meaning, Names, program_meaning};
 ghost use Rattle.semantics.specs.Query.{Scalar, Cond, Agg, Pair, Rel, Name, Program};

@@ -1,5 +1,5 @@
-ghost use Rattle.std.specs.Prelude.{◌≡◌, ◌≤◌, ◌<◌, ◌+◌, ◌++◌, List, ℕ, IsPermutation};
-ghost use Rattle.semantics.specs.Multiset.{Record, count, total, ◌≈◌, IsPartOf, each_once, less};
+ghost use Rattle.std.specs.Prelude.{◌≡◌, ◌≤◌, ◌++◌, List, ℕ, IsPermutation};
+ghost use Rattle.semantics.specs.Multiset.{Record, total, ◌≈◌, IsPartOf, less};
 
 /// Whether multisets are equal, or part of one another, depends only on their counts.
 pub fn law_equal_multisets()

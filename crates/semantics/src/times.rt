@@ -1,4 +1,4 @@
-ghost use Rattle.std.specs.Prelude.{◌≡◌, ◌⊎◌, ◌<◌, ◌≤◌, ℕ, List, length};
+ghost use Rattle.std.specs.Prelude.{◌≡◌, length};
 ghost use Rattle.semantics.specs.Multiset.{IsAmong};
 ghost use Rattle.semantics.specs.Time.{Time, Action, after_action, times_before, IsTaken, IsAtMost};
 

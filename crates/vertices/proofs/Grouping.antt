@@ -1,4 +1,4 @@
--- Records taken into groups, one after the other, each as often as it stands there.
+-- Records taken into groups, one after the other, each as often as it occurs.
 use Rattle.std.proofs.Common.{◌≡◌, ℕ, zero, suc, ◌+◌, ◌<◌, ◌≤◌, nat_lt, nat_eq, ◌||◌, Bool, true, false, not, cond, List, [], ◌∷◌, ◌++◌, map, take, length, slice_index_or, slice_set, ℤ, pos, refl, sym, ap, subst, ◌∙◌, arith, append_assoc, append-nil, length-append, lt-ltb, ltb-true, ltb-false}
 use Rattle.std.proofs.lemmas.Bool.{true≢false}
 use Rattle.std.proofs.lemmas.Bool.Decides.{Decides-eqb}
@@ -78,7 +78,7 @@ map_repeated f [] zero x = refl
 map_repeated f [] (suc n) x = ap (λ l. f x ∷ l) (map_repeated f [] n x)
 map_repeated f (y ∷ xs) n x = ap (λ l. f y ∷ l) (map_repeated f xs n x)
 
--- a record is present, however often it stands there
+-- a record is present, however often it occurs
 many_present : (ys : List Record) (y : Record) (n : ℕ) → 1 ≤ n → each_once (ys ++ y ∷ []) ≈ each_once (ys ++ repeated n y)
 many_present ys y n h = record {
   counts = λ r. count-distinct r (ys ++ y ∷ []) ∙ ap (λ m. one_if (nat_lt 0 m)) (total-append (λ z. one_if (same z r)) ys (y ∷ [])) ∙ go r (same y r)
@@ -89,7 +89,7 @@ many_present ys y n h = record {
     go r true = ap one_if (lt-ltb 0 (count r ys + (1 + 0)) (omega arith) ∙ sym (lt-ltb 0 (count r ys + n) (omega (arith, h))))
     go r false = refl
 
--- the keys with that of a record that stands n times
+-- the keys with that of a record that occurs n times
 keys_more : (key : Record → Record) (keys more xs : List Record) (n : ℕ) (x : Record) (new : Bool) → 1 ≤ n → new ≡ not (list_any (λ r. same r (key x)) keys) → more ≡ cond new (keys ++ key x ∷ []) keys → keys ≈ each_once (map key xs) → more ≈ each_once (map key (xs ++ repeated n x))
 keys_more key keys more xs n x new m e f h =
     ≈-trans (admitted (key x) keys more (map key xs) new e f h) (≈-trans (many_present (map key xs) (key x) n m) (≈-from (ap each_once (sym (map_repeated key xs n x)))))
@@ -262,7 +262,7 @@ runs_more P xs cs k row n h e f p =
 
 -- ---- the records of groups are different
 
--- a row that begins with a key tells the key
+-- a row that begins with a key determines the key
 begins : (a d t : Record) → one_if (same (a ++ d) t) ≤ one_if (same a (take (length a) t))
 begins a d t = go (same (a ++ d) t) refl
   where

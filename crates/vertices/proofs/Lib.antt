@@ -8,6 +8,7 @@ pub mod Sending
 pub mod AtWork
 pub mod Meetings
 pub mod Grouping
+pub mod CopiedScalars
 pub mod Piles
 pub mod OneSide
 pub mod Gains

@@ -5,7 +5,7 @@ use Rattle.semantics.specs.Multiset.{Record, same, one_if, count, ◌≈◌, eac
 use Rattle.semantics.proofs.MultisetSums.{Decides-same, total-append}
 use Rattle.semantics.proofs.DistinctAndGroups.{count-distinct}
 
--- a record is found exactly where it stands
+-- a record is found exactly where it lies
 pub found_counts : (x : Record) (ys : List Record) → list_any (λ r. same r x) ys ≡ nat_lt 0 (count x ys)
 found_counts x [] = refl
 found_counts x (y ∷ ys) = go (same y x) (found_counts x ys)

@@ -5,7 +5,7 @@ use Rattle.vertices.specs.Absorbed.{Absorbed}
 use Rattle.vertices.specs.Shards.{Shows, TakesArity, shard_kind}
 use Rattle.vertices.specs.declared.shard.Shard.{Shard}
 
--- a shard of that role and of so many in ports, each of which takes records of that many fields; it shows some records
+-- a shard of that role and of that many in ports, each of which takes records of that many fields; it shows some records
 pub record IsAtWork (role : semantics.Role) (ports fields : ℕ) (shard : Shard) : Type 0 where
   pub role_is : semantics.role (shard_kind shard) ≡ role
   pub ports_are : semantics.in_ports (shard_kind shard) ≡ ports

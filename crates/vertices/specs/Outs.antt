@@ -18,7 +18,7 @@ abbrev pub two : Out → (port : ℕ) → List Record
 two out zero = records_of out.first
 two out (suc port) = records_of out.second
 
--- By the out ports of a kind, of which there are so many. The equation of a kind has, beyond its last out port, what it has there.
+-- The same for a kind of that many out ports: beyond its last out port, its equation has what it has at the last one.
 abbrev pub sent : (ports : ℕ) → Out → (port : ℕ) → List Record
 sent zero out port = records_of out.first
 sent (suc zero) out port = records_of out.first

@@ -8,7 +8,7 @@ use expr_tree::NoMemory as NoMemoryOfTrees;
 use rows::{RowsError, TallyError};
 use std::alloc::{AllocError, AllocFailed};
 
-/// Why a shard could not take an event. The shard is then spoiled, and fit only to be given up.
+/// Why a shard could not take an event. The shard is then spoiled, and can only be dropped.
 #[derive(Clone, Copy, Debug, PartialEq, Eq)]
 pub enum ShardFault {
     /// An allocator refused a growth.

@@ -67,7 +67,7 @@ impl GroupShard {
         })
     }
 
-    /// Takes in a batch of a time, and tells whether it is the first of that time, which asks for a notification. `Count` exactly where
+    /// Takes in a batch of a time, and says whether it is the first of that time, which asks for a notification. `Count` exactly where
     /// a record would then have come too often.
     pub fn on_records(&mut self, time: &Time, batch: &Batch) -> Result<bool, ShardFault>
         requires arity { arity_of batch.now ≡ self.old.arity }

@@ -34,7 +34,7 @@ impl Groups {
         })
     }
 
-    /// Takes a record that stands so many times into the group of its key. `key` and `values` are room to work in.
+    /// Takes a record that occurs that many times into the group of its key. `key` and `values` are room to work in.
     fn count_in(
         &mut self,
         operator: &Group,

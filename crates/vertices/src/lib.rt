@@ -1,7 +1,7 @@
 //! Shards: what one worker keeps of a vertex, and what it sends for what comes in.
 //!
 //! `new_shard` makes the shard of a vertex of a graph. `Shard::on_records` takes in a batch that comes to an in port at a time, and
-//! `Shard::on_notify` is told that nothing more comes at a time. What is sent, and whether a notification is asked for, goes into
+//! `Shard::on_notify` learns that nothing more comes at a time. What is sent, and whether a notification is asked for, goes into
 //! an `Out`. A join, a distinct, an except and an intersect keep a state for each exact time: the different records that came then,
 //! each with a count. A group keeps the batches, and so does a join until it searches them.
 //!
@@ -11,9 +11,9 @@
 //! records of the other port quick to find, each once, when it is next searched. A notification looks, once, at each different record that
 //! came at its time (an except's: to port 0). A group puts its batches together where over 9223372036854775807 records have come at a
 //! time. Want of memory aside, a call is refused exactly where a count of what the shard would then have absorbed, or of what the call
-//! would send, is above 9223372036854775807. After a refusal the shard is spoiled, and fit only to be given up.
+//! would send, is above 9223372036854775807. After a refusal the shard is spoiled, and can only be dropped.
 //!
-//! Below stand `operators`, `rows`, `loop_context`, `graph`, `expr_tree`, `record_core` and `semantics`; the board hands shards out with
+//! Built on `operators`, `rows`, `loop_context`, `graph`, `expr_tree`, `record_core` and `semantics`; the board hands shards out with
 //! their events.
 #![tactic(auto)]
 

@@ -81,6 +81,7 @@ pub fn new_shard(
     }
 }
 
+#[tactic(auto, using(crate::proofs::CopiedScalars::as_long))]
 fn new_select(
     alloc: Global,
     scalars: &Vec<Scalar<Global>>,

@@ -12,7 +12,7 @@ use std::alloc::Global;
 use std::marker::Model;
 
 /// Batches of records of one arity, shared with whoever else has them. While all their records together are few enough to be counted,
-/// none of them can stand there too often. Beyond that they are taken together, batch by batch.
+/// none of them can occur too often. Beyond that they are taken together, batch by batch.
 #[derive(Drop)]
 pub struct Pile {
     alloc: Global,
@@ -48,7 +48,7 @@ impl Pile {
         }
     }
 
-    /// Takes a batch in. `Count` exactly where a record would then stand there too often.
+    /// Takes a batch in. `Count` exactly where a record would then occur too often.
     pub(crate) fn add(&mut self, batch: &Batch) -> Result<(), TallyError>
         requires { arity_of batch.now ≡ self.old.arity }
         ensures records { OnOk result (self.new.records ≈ (self.old.records ++ batch.now)) }

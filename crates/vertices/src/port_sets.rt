@@ -33,7 +33,7 @@ fn absorb(tally: &mut Tally, batch: &Batch) -> Result<(), TallyError>
     Ok(())
 }
 
-/// Counts a record in, and sends it if it is new there and stands at the other port.
+/// Counts a record in, and sends it if it is new there and lies at the other port.
 fn meet(
     tally: &mut Tally,
     other: &Tally,
@@ -64,7 +64,7 @@ fn meet(
     Ok(())
 }
 
-/// Counts the records of a batch in, and sends those that are new there and stand at the other port, each once. `Count` exactly where
+/// Counts the records of a batch in, and sends those that are new there and lie at the other port, each once. `Count` exactly where
 /// one of them would then have come too often.
 fn meet_all(
     tally: &mut Tally,

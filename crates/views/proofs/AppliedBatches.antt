@@ -1,6 +1,7 @@
 -- A worker takes a sender's next batch.
 use Rattle.std.proofs.Common.{◌≡◌, ◌≢◌, ◌⊎◌, inl, inr, ℕ, suc, ◌<◌, Bool, true, false, eqb, List, [], ◌∷◌, length, Some, slice_get, slice_set, refl, sym, ap, subst, ◌∙◌, arith}
 use Rattle.std.proofs.lemmas.Bool.Decides.{eqb_tells}
+use Rattle.std.proofs.lemmas.Option.{same_Some, slice_get_within}
 use Rattle.semantics.specs.Graph.{Graph}
 use Rattle.semantics.specs.Could.{Pointstamp, CouldResultIn, NoneOf}
 use Rattle.semantics.specs.Dataflow.{IsDataflow}
@@ -11,11 +12,7 @@ use Rattle.views.specs.WorkerViews.{untaken_at, waiting_of, IsSender, AreViews}
 use Rattle.semantics.specs.Multiset.{total}
 use Rattle.views.proofs.SenderSums.{sum_same}
 use Rattle.views.proofs.Histories.{history_applied, none_stays}
-use Rattle.progress.proofs.Contents.{got_below}
 use Rattle.views.proofs.PostedBatches.{set_long, set_same, get_set_here, get_set_else, left_got, left_set_here, left_set_else}
-
-same_some : {X : Type 0} (x y : X) → Some x ≡ Some y → x ≡ y
-same_some x y e = cc
 
 module _ (g : Graph) (content : Pointstamp → ℕ) (workers : ℕ) (queues : List Queued) (spare s w : ℕ) (q q' : Queued)
     (h : AreViews g content workers queues spare) (got : slice_get queues s ≡ Some q) (there : w < workers)
@@ -26,7 +23,7 @@ module _ (g : Graph) (content : Pointstamp → ℕ) (workers : ℕ) (queues : Li
   queues' = slice_set queues s q'
 
   within : s < length queues
-  within = got_below queues s q got
+  within = slice_get_within queues s q got
 
   sends : s < suc workers
   sends = let a = within in let b = h.senders in omega arith
@@ -78,7 +75,7 @@ module _ (g : Graph) (content : Pointstamp → ℕ) (workers : ℕ) (queues : Li
     where
       go : ((eqb t s ≡ true) × (t ≡ s)) ⊎ ((eqb t s ≡ false) × (t ≢ s)) → IsSender g workers spare r
       go (inl y) =
-          let e : q' ≡ r = same_some q' r (sym (get_set_here queues s q' within) ∙ ap (slice_get queues') (sym y.1) ∙ gr) in
+          let e : q' ≡ r = same_Some q' r (sym (get_set_here queues s q' within) ∙ ap (slice_get queues') (sym y.1) ∙ gr) in
           let j = h.sender s q got in
           subst (IsSender g workers spare) e (record { taken = same_taken ∙ j.taken; known = subst (AllKnown g) (sym same_changes) j.known; free = let f = j.free in omega arith })
       go (inr y) = h.sender t r (sym (get_set_else queues s t q' y.1) ∙ gr)

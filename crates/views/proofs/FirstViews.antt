@@ -1,5 +1,7 @@
 -- Views for which nothing waits yet.
 use Rattle.std.proofs.Common.{◌≡◌, ℕ, zero, suc, ◌+◌, ◌≤◌, ◌<◌, List, [], ◌∷◌, ◌++◌, length, drop, Some, slice_get, slice_index_or, refl, sym, ap, subst, ◌∙◌, arith}
+use Rattle.std.proofs.lemmas.Option.{same_Some}
+use Rattle.std.proofs.Math.Seq.{drop-nil}
 use Rattle.semantics.specs.Multiset.{total}
 use Rattle.semantics.specs.Graph.{Graph}
 use Rattle.semantics.specs.Could.{Pointstamp, IsTimeAt}
@@ -8,26 +10,18 @@ use Rattle.views.specs.Waiting.{waiting_adds, waiting_removes}
 use Rattle.views.specs.Queued.{Queued, batches_of, AllKnown}
 use Rattle.views.specs.WorkerViews.{untaken_at, waiting_of, AreViews}
 use Rattle.views.proofs.SenderSums.{sum_none}
-use Rattle.views.specs.declared.queue.Change.{Change}
-
-same_some : {X : Type 0} (x y : X) → Some x ≡ Some y → x ≡ y
-same_some x y e = cc
 
 -- one more element at the end
 pub push_each : {X : Type 0} (P : X → Type 0) (xs : List X) (y : X) → ((i : ℕ) (x : X) → slice_get xs i ≡ Some x → P x) → P y → (i : ℕ) (x : X) → slice_get (xs ++ (y ∷ [])) i ≡ Some x → P x
-push_each P [] y h p zero x e = subst P (same_some y x e) p
+push_each P [] y h p zero x e = subst P (same_Some y x e) p
 push_each P [] y h p (suc zero) x e = absurd (let k = e in cc)
 push_each P [] y h p (suc (suc i)) x e = absurd (let k = e in cc)
 push_each P (z ∷ xs) y h p zero x e = h zero x e
 push_each P (z ∷ xs) y h p (suc i) x e = push_each P xs y (λ j. h (suc j)) p i x e
 
-drop_none : (n : ℕ) → drop {A = Change} n [] ≡ []
-drop_none zero = refl
-drop_none (suc n) = refl
-
 left_none : (qs : List Queued) → ((s : ℕ) (q : Queued) → slice_get qs s ≡ Some q → q.changes ≡ []) → (s w : ℕ) → untaken_at qs s w ≡ []
 left_none [] h s w = refl
-left_none (q ∷ qs) h zero w = ap (λ l. drop (slice_index_or q.taken w (length l)) l) (h zero q refl) ∙ drop_none (slice_index_or q.taken w 0)
+left_none (q ∷ qs) h zero w = ap (λ l. drop (slice_index_or q.taken w (length l)) l) (h zero q refl) ∙ drop-nil (slice_index_or q.taken w 0)
 left_none (q ∷ qs) h (suc s) w = left_none qs (λ t. h (suc t)) s w
 
 module _ (g : Graph) (content : Pointstamp → ℕ) (qs : List Queued) (n : ℕ) (some : 0 < n) (few : n ≤ 64)

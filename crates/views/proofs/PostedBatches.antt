@@ -1,20 +1,18 @@
 -- What posting does to the queues.
 use Rattle.std.proofs.Common.{◌≡◌, ◌≢◌, ◌⊎◌, inl, inr, ℕ, zero, suc, ◌+◌, ◌-◌, ◌≤◌, ◌<◌, ◌==◌, true, false, cond, eqb, List, [], ◌∷◌, ◌++◌, length, Some, slice_get, slice_set, refl, sym, ap, subst, ◌∙◌, arith}
 use Rattle.std.proofs.lemmas.Bool.Decides.{eqb_tells}
+use Rattle.std.proofs.lemmas.Option.{same_Some, slice_get_within}
 use Rattle.semantics.specs.Graph.{Graph, input_count}
 use Rattle.semantics.specs.Could.{Pointstamp, IsTimeAt, CouldResultIn}
+use Rattle.semantics.proofs.Cases.{either_above_zero}
 use Rattle.machine.specs.Posting.{MayPost}
 use Rattle.progress.specs.Content.{times_in}
 use Rattle.views.specs.Waiting.{batch}
 use Rattle.views.specs.Queued.{Queued, untaken, batches_of, AllKnown}
 use Rattle.views.specs.WorkerViews.{untaken_at, waiting_of, IsSender, AreViews}
-use Rattle.progress.proofs.Contents.{got_below}
 use Rattle.views.proofs.Histories.{history_posted}
 
 -- ---- lists
-
-same_some : {X : Type 0} (x y : X) → Some x ≡ Some y → x ≡ y
-same_some x y e = cc
 
 pub set_long : {X : Type 0} (xs : List X) (i : ℕ) (x : X) → length (slice_set xs i x) ≡ length xs
 set_long [] i x = refl
@@ -23,7 +21,7 @@ set_long (y ∷ xs) (suc i) x = ap suc (set_long xs i x)
 
 pub set_same : {X : Type 0} (xs : List X) (i : ℕ) (x : X) → slice_get xs i ≡ Some x → slice_set xs i x ≡ xs
 set_same [] i x h = refl
-set_same (y ∷ xs) zero x h = ap (λ z. z ∷ xs) (sym (same_some y x h))
+set_same (y ∷ xs) zero x h = ap (λ z. z ∷ xs) (sym (same_Some y x h))
 set_same (y ∷ xs) (suc i) x h = ap (λ l. y ∷ l) (set_same xs i x h)
 
 pub get_set_here : {X : Type 0} (xs : List X) (i : ℕ) (x : X) → i < length xs → slice_get (slice_set xs i x) i ≡ Some x
@@ -41,7 +39,7 @@ get_set_else (y ∷ xs) (suc i) (suc j) x h = get_set_else xs i j x (λ e. h (ap
 pub left_got : (queues : List Queued) (s w : ℕ) (q : Queued) → slice_get queues s ≡ Some q → untaken_at queues s w ≡ untaken q w
 left_got [] zero w q h = absurd (let e = h in cc)
 left_got [] (suc s) w q h = absurd (let e = h in cc)
-left_got (p ∷ queues) zero w q h = ap (λ (x : Queued). untaken x w) (same_some p q h)
+left_got (p ∷ queues) zero w q h = ap (λ (x : Queued). untaken x w) (same_Some p q h)
 left_got (p ∷ queues) (suc s) w q h = left_got queues s w q h
 
 pub left_set_here : (queues : List Queued) (s w : ℕ) (q : Queued) → s < length queues → untaken_at (slice_set queues s q) s w ≡ untaken q w
@@ -71,7 +69,7 @@ module _ (g : Graph) (content content' : Pointstamp → ℕ) (workers : ℕ) (qu
   queues' = slice_set queues s q'
 
   within : s < length queues
-  within = got_below queues s q got
+  within = slice_get_within queues s q got
 
   sends : s < suc workers
   sends = let a = within in let b = h.senders in omega arith
@@ -93,16 +91,13 @@ module _ (g : Graph) (content content' : Pointstamp → ℕ) (workers : ℕ) (qu
       go (inl x) = rw x.0 (subst (λ i. waiting_of queues' w i ≡ waiting_of queues w i ++ (batch s ps rs ∷ [])) (sym x.1) (waits_here w l))
       go (inr x) = rw x.0 (waits_else w t x.1)
 
-  either : (a b : ℕ) → 0 < a + b → (0 < a) ⊎ (0 < b)
-  either a b l = grind arith
-
   pub views_posted : AreViews g content' workers queues' (spare - (length ps + length rs))
   views_posted =
       record {
         some = h.some;
         few = h.few;
         senders = set_long queues s q' ∙ h.senders;
-        known = λ p l. go p (either (content p) (times_in ps p) (let c = changed p in omega arith));
+        known = λ p l. go p (either_above_zero (content p) (times_in ps p) (let c = changed p in omega arith));
         history = λ w l. history_posted g workers w content content' (waiting_of queues) (waiting_of queues') (batch s ps rs) (h.history w l) refl sends may changed (λ t. waits_after w t l);
         sender = λ t r gr. here t r gr (eqb_tells t s);
       }
@@ -113,7 +108,7 @@ module _ (g : Graph) (content content' : Pointstamp → ℕ) (workers : ℕ) (qu
 
       here : (t : ℕ) (r : Queued) → slice_get queues' t ≡ Some r → ((eqb t s ≡ true) × (t ≡ s)) ⊎ ((eqb t s ≡ false) × (t ≢ s)) → IsSender g workers (spare - (length ps + length rs)) r
       here t r gr (inl x) =
-          let e : q' ≡ r = same_some q' r (sym (get_set_here queues s q' within) ∙ ap (slice_get queues') (sym x.1) ∙ gr) in
+          let e : q' ≡ r = same_Some q' r (sym (get_set_here queues s q' within) ∙ ap (slice_get queues') (sym x.1) ∙ gr) in
           let k = h.sender s q got in
           subst (IsSender g workers (spare - (length ps + length rs))) e
           (record {

@@ -1,17 +1,18 @@
 -- Room is made, and what waits and what is seen stays.
 use Rattle.std.proofs.Common.{◌≡◌, ◌≢◌, ◌⊎◌, inl, inr, ℕ, zero, suc, ◌+◌, ◌*◌, ◌≤◌, ◌<◌, true, false, eqb, List, [], ◌∷◌, length, drop, Some, slice_get, slice_set, slice_index_or, refl, sym, ap, subst, ◌∙◌, arith, length-drop}
 use Rattle.std.proofs.lemmas.Bool.Decides.{eqb_tells}
+use Rattle.std.proofs.lemmas.Option.{same_Some, slice_get_within}
+use Rattle.std.proofs.lemmas.Bool.{cases_lt}
+use Rattle.std.proofs.lemmas.List.{get_or_default, get_or_past}
+use Rattle.std.proofs.Math.Seq.{drop-nil}
 use Rattle.semantics.specs.Graph.{Graph}
 use Rattle.semantics.specs.Could.{Pointstamp}
+use Rattle.semantics.proofs.Cases.{item_there, below_or_last}
 use Rattle.views.specs.Waiting.{Waiting, IsHistory}
 use Rattle.views.specs.Queued.{Queued, batches_of, AllKnown, IsSameQueue, IsQueue, IsOneOf, EndsFrom}
 use Rattle.views.specs.WorkerViews.{untaken_at, waiting_of, IsSender, AreViews, AreSameQueues}
 use Rattle.views.specs.declared.queue.Change.{Change}
-use Rattle.progress.proofs.Contents.{got_below}
 use Rattle.views.proofs.PostedBatches.{set_long, get_set_here, get_set_else, left_got}
-
-same_some : {X : Type 0} (x y : X) → Some x ≡ Some y → x ≡ y
-same_some x y e = cc
 
 same_queue : (q : Queued) → IsSameQueue q q
 same_queue q = record { left_same = λ w. refl; taken_long = refl; still_known = λ g k. k; free_kept = omega arith }
@@ -26,7 +27,7 @@ queue_on p q r a b =
     }
 
 pub queues_same : (qs : List Queued) → AreSameQueues qs qs
-queues_same qs = record { long = refl; each = λ s q q' a b. subst (IsSameQueue q) (same_some q q' (sym a ∙ b)) (same_queue q) }
+queues_same qs = record { long = refl; each = λ s q q' a b. subst (IsSameQueue q) (same_Some q q' (sym a ∙ b)) (same_queue q) }
 
 pub queues_set : (old qs : List Queued) (s : ℕ) (q q' : Queued) → AreSameQueues old qs → slice_get qs s ≡ Some q → IsSameQueue q q' → AreSameQueues old (slice_set qs s q')
 queues_set old qs s q q' h got same =
@@ -37,7 +38,7 @@ queues_set old qs s q q' h got same =
   where
     go : (t : ℕ) (p r : Queued) → slice_get old t ≡ Some p → slice_get (slice_set qs s q') t ≡ Some r → ((eqb t s ≡ true) × (t ≡ s)) ⊎ ((eqb t s ≡ false) × (t ≢ s)) → IsSameQueue p r
     go t p r a b (inl x) =
-        let e : q' ≡ r = same_some q' r (sym (get_set_here qs s q' (got_below qs s q got)) ∙ ap (slice_get (slice_set qs s q')) (sym x.1) ∙ b) in
+        let e : q' ≡ r = same_Some q' r (sym (get_set_here qs s q' (slice_get_within qs s q got)) ∙ ap (slice_get (slice_set qs s q')) (sym x.1) ∙ b) in
         subst (IsSameQueue p) e (queue_on p q q' (h.each t p q a (ap (slice_get qs) x.1 ∙ got)) same)
     go t p r a b (inr x) = h.each t p r a (sym (get_set_else qs s t q' x.1) ∙ b)
 
@@ -54,20 +55,12 @@ left_beyond [] s w h = refl
 left_beyond (q ∷ qs) zero w h = absurd (omega arith)
 left_beyond (q ∷ qs) (suc s) w h = left_beyond qs s w (omega arith)
 
-get_some : {X : Type 0} (xs : List X) (i : ℕ) → i < length xs → (x : X) × (slice_get xs i ≡ Some x)
-get_some [] i h = absurd (omega arith)
-get_some (x ∷ xs) zero h = (x, refl)
-get_some (x ∷ xs) (suc i) h = get_some xs i (omega arith)
-
-below_or_not : (a b : ℕ) → (a < b) ⊎ (b ≤ a)
-below_or_not a b = grind arith
-
 pub left_same : (old new : List Queued) → AreSameQueues old new → (s w : ℕ) → untaken_at new s w ≡ untaken_at old s w
-left_same old new h s w = go (below_or_not s (length new))
+left_same old new h s w = go (cases_lt s (length new))
   where
     go : (s < length new) ⊎ (length new ≤ s) → untaken_at new s w ≡ untaken_at old s w
     go (inl l) =
-        let n = get_some new s l in
+        let n = item_there new s l in
         let o = there_too old new s n.0 h.long n.1 in
         left_got new s w n.0 n.1 ∙ (h.each s o.0 n.0 o.1 n.1).left_same w ∙ sym (left_got old s w o.0 o.1)
     go (inr l) = left_beyond new s w l ∙ sym (left_beyond old s w (let e = h.long in omega arith))
@@ -100,25 +93,11 @@ drop_drop n zero xs = ap (λ k. drop k xs) (none_more n)
   where
     none_more : (k : ℕ) → k ≡ 0 + k
     none_more k = omega arith
-drop_drop n (suc m) [] = drop_none n ∙ sym (drop_none (suc m + n))
-  where
-    drop_none : (k : ℕ) → drop {A = Change} k [] ≡ []
-    drop_none zero = refl
-    drop_none (suc k) = refl
+drop_drop n (suc m) [] = drop-nil n ∙ sym (drop-nil (suc m + n))
 drop_drop n (suc m) (x ∷ xs) = drop_drop n m xs ∙ ap (λ k. drop k (x ∷ xs)) (one_more m n)
   where
     one_more : (a b : ℕ) → suc (a + b) ≡ suc a + b
     one_more a b = omega arith
-
-pub nth_same : (xs : List ℕ) (w d e : ℕ) → w < length xs → slice_index_or xs w d ≡ slice_index_or xs w e
-nth_same [] w d e h = absurd (omega arith)
-nth_same (x ∷ xs) zero d e h = refl
-nth_same (x ∷ xs) (suc w) d e h = nth_same xs w d e (omega arith)
-
-nth_beyond : (xs : List ℕ) (w d : ℕ) → length xs ≤ w → slice_index_or xs w d ≡ d
-nth_beyond [] w d h = refl
-nth_beyond (x ∷ xs) zero d h = absurd (omega arith)
-nth_beyond (x ∷ xs) (suc w) d h = nth_beyond xs w d (omega arith)
 
 drop_whole : (xs : List Change) → drop (length xs) xs ≡ []
 drop_whole [] = refl
@@ -126,23 +105,23 @@ drop_whole (x ∷ xs) = drop_whole xs
 
 module _ (xs : List Change) (ts ts' : List ℕ) (m : ℕ) (q : IsQueue xs ts) (long : length ts' ≡ length ts) (lowered : (w d : ℕ) → w < length ts → slice_index_or ts' w d + m ≡ slice_index_or ts w d) where
   pub left_lowered : (w : ℕ) → drop (slice_index_or ts' w (length (drop m xs))) (drop m xs) ≡ drop (slice_index_or ts w (length xs)) xs
-  left_lowered w = go (below_or_not w (length ts))
+  left_lowered w = go (cases_lt w (length ts))
     where
       go : (w < length ts) ⊎ (length ts ≤ w) → drop (slice_index_or ts' w (length (drop m xs))) (drop m xs) ≡ drop (slice_index_or ts w (length xs)) xs
       go (inl l) =
           let a = lowered w (length xs) l in
-          let b = nth_same ts' w (length (drop m xs)) (length xs) (let e = long in omega arith) in
+          let b = get_or_default ts' w (length (drop m xs)) (length xs) (let e = long in omega arith) in
           drop_drop (slice_index_or ts' w (length (drop m xs))) m xs ∙ ap (λ k. drop k xs) (omega arith)
       go (inr l) =
-          let a = nth_beyond ts w (length xs) l in
-          let b = nth_beyond ts' w (length (drop m xs)) (let e = long in omega arith) in
+          let a = get_or_past ts w (length xs) l in
+          let b = get_or_past ts' w (length (drop m xs)) (let e = long in omega arith) in
           ap (λ k. drop k (drop m xs)) b ∙ drop_whole (drop m xs) ∙ sym (ap (λ k. drop k xs) a ∙ drop_whole xs)
 
   below_length : (w : ℕ) → w < length ts' → m + slice_index_or ts' w (length (drop m xs)) ≤ length xs
   below_length w l =
       let k : w < length ts = (let e = long in omega arith) in
       let a = lowered w (length xs) k in
-      let b = nth_same ts' w (length (drop m xs)) (length xs) l in
+      let b = get_or_default ts' w (length (drop m xs)) (length xs) l in
       let c = q.within w k in
       omega arith
 
@@ -158,22 +137,19 @@ module _ (xs : List Change) (ts ts' : List ℕ) (m : ℕ) (q : IsQueue xs ts) (l
       → IsSameQueue (record { changes = xs; taken = ts; free = free }) (record { changes = drop m xs; taken = ts'; free = free' })
   same_lowered free free' f k = record { left_same = left_lowered; taken_long = long; still_known = k; free_kept = f }
 
-pub last_or : (a i : ℕ) → a < i + 1 → (a < i) ⊎ (a ≡ i)
-last_or a i l = grind arith
-
 pub free_set : (qs : List Queued) (s n : ℕ) (q' : Queued) → s < length qs → ((t : ℕ) (q : Queued) → t < s → slice_get qs t ≡ Some q → n ≤ q.free) → n ≤ q'.free → (t : ℕ) (q : Queued) → t < s + 1 → slice_get (slice_set qs s q') t ≡ Some q → n ≤ q.free
-free_set qs s n q' l h f t q m got = go (last_or t s m)
+free_set qs s n q' l h f t q m got = go (below_or_last t s m)
   where
     go : (t < s) ⊎ (t ≡ s) → n ≤ q.free
     go (inl x) = h t q x (sym (get_set_else qs s t q' (λ e. omega arith)) ∙ got)
     go (inr x) =
-        let e : q' ≡ q = same_some q' q (sym (get_set_here qs s q' l) ∙ ap (slice_get (slice_set qs s q')) (sym x) ∙ got) in
+        let e : q' ≡ q = same_Some q' q (sym (get_set_here qs s q' l) ∙ ap (slice_get (slice_set qs s q')) (sym x) ∙ got) in
         subst (λ (r : Queued). n ≤ r.free) e f
 
 -- the least place is that of some worker, or the end
 pub ends_at : (xs : List Change) (ts : List ℕ) (m n : ℕ) → IsQueue xs ts → n ≡ length xs → IsOneOf ts n m → EndsFrom false (drop m xs)
 ends_at xs ts m n q e (IsOneOf.end f) = subst (EndsFrom false) (sym (ap (λ k. drop k xs) (f ∙ e) ∙ drop_whole xs)) tt
-ends_at xs ts m n q e (IsOneOf.place w l f) = subst (λ k. EndsFrom false (drop k xs)) (sym (f ∙ nth_same ts w n (length xs) l)) (q.between w l)
+ends_at xs ts m n q e (IsOneOf.place w l f) = subst (λ k. EndsFrom false (drop k xs)) (sym (f ∙ get_or_default ts w n (length xs) l)) (q.between w l)
 
 pub more_free : (q : Queued) (xs : List Change) (ts : List ℕ) (free free' : ℕ) → IsSameQueue q (record { changes = xs; taken = ts; free = free }) → q.free ≤ free' → IsSameQueue q (record { changes = xs; taken = ts; free = free' })
 more_free q xs ts free free' s f = record { left_same = s.left_same; taken_long = s.taken_long; still_known = s.still_known; free_kept = f }

@@ -2,11 +2,12 @@
 use Rattle.std.proofs.Common.{◌≡◌, ◌≢◌, ◌⊎◌, inl, inr, ℕ, zero, suc, ◌+◌, ◌-◌, ◌<◌, Bool, true, false, List, [], ◌∷◌, length, refl, sym, ap, subst, arith}
 use Rattle.std.specs.Prelude.{IsTrue, MatchBool, not, ◌↔◌}
 use Rattle.std.proofs.lemmas.Bool.{true≢false}
-use Rattle.progress.proofs.Options.{is_true, not_true}
+use Rattle.progress.proofs.Options.{not_true}
 use Rattle.semantics.specs.Multiset.{total}
 use Rattle.semantics.specs.Graph.{Graph}
 use Rattle.semantics.specs.Could.{Pointstamp, CouldResultIn, NoneOf, NoOtherOf}
 use Rattle.semantics.specs.Dataflow.{IsDataflow}
+use Rattle.semantics.proofs.Cases.{is_true}
 use Rattle.machine.specs.Active.{one_if_same, sum_below}
 use Rattle.machine.specs.Views.{Changes}
 use Rattle.machine.proofs.Active.{one_tells, below_some}

@@ -8,6 +8,8 @@ use Rattle.machine.specs.Active.{one_if_same}
 use Rattle.machine.specs.Views.{Changes}
 use Rattle.machine.proofs.Active.{one_self}
 use Rattle.std.proofs.lemmas.Bool.Decides.{eqb_tells}
+use Rattle.std.proofs.lemmas.List.{get_or_default}
+use Rattle.std.proofs.Math.Seq.{drop-nil}
 use Rattle.progress.specs.Content.{times_in}
 use Rattle.progress.proofs.ChangesMade.{here_drop}
 use Rattle.views.specs.Waiting.{batch}
@@ -161,11 +163,6 @@ ends_posted false (Remove p ∷ xs) added removed e = ends_posted true xs added 
 
 -- ---- the workers' places
 
-nth_same : (xs : List ℕ) (w d e : ℕ) → w < length xs → slice_index_or xs w d ≡ slice_index_or xs w e
-nth_same [] w d e h = absurd (omega arith)
-nth_same (x ∷ xs) zero d e h = refl
-nth_same (x ∷ xs) (suc w) d e h = nth_same xs w d e (omega arith)
-
 drop_more : (n : ℕ) (xs ys : List Change) → n ≤ length xs → drop n (xs ++ ys) ≡ drop n xs ++ ys
 drop_more zero xs ys h = refl
 drop_more (suc n) [] ys h = absurd (omega arith)
@@ -175,14 +172,14 @@ drop_more (suc n) (x ∷ xs) ys h = drop_more n xs ys (omega arith)
 pub left_more : (xs ys : List Change) (taken : List ℕ) → IsQueue xs taken → (w : ℕ) → w < length taken
     → drop (slice_index_or taken w (length (xs ++ ys))) (xs ++ ys) ≡ drop (slice_index_or taken w (length xs)) xs ++ ys
 left_more xs ys taken q w h =
-    ap (λ n. drop n (xs ++ ys)) (nth_same taken w (length (xs ++ ys)) (length xs) h) ∙ drop_more (slice_index_or taken w (length xs)) xs ys (q.within w h)
+    ap (λ n. drop n (xs ++ ys)) (get_or_default taken w (length (xs ++ ys)) (length xs) h) ∙ drop_more (slice_index_or taken w (length xs)) xs ys (q.within w h)
 
 pub queue_posted : (xs : List Change) (taken : List ℕ) (added removed : List Pointstamp) → IsQueue xs taken → IsQueue (xs ++ as_changes added removed) taken
 queue_posted xs taken added removed q =
     record {
       ends = ends_posted false xs added removed q.ends;
       within = λ w h.
-          let a = nth_same taken w (length (xs ++ as_changes added removed)) (length xs) h in let b = q.within w h in let c = length-append xs (as_changes added removed) in omega arith;
+          let a = get_or_default taken w (length (xs ++ as_changes added removed)) (length xs) h in let b = q.within w h in let c = length-append xs (as_changes added removed) in omega arith;
       between = λ w h. subst (EndsFrom false) (sym (left_more xs (as_changes added removed) taken q w h)) (ends_posted false (drop (slice_index_or taken w (length xs)) xs) added removed (q.between w h));
     }
 
@@ -215,13 +212,9 @@ pub queue_none : (taken : List ℕ) → ((w : ℕ) → slice_index_or taken w 0 
 queue_none taken z =
     record {
       ends = tt;
-      within = λ w h. let a = z w in let b = nth_same taken w 0 0 h in omega arith;
-      between = λ w h. subst (EndsFrom false) (sym (drop_none (slice_index_or taken w 0))) tt;
+      within = λ w h. let a = z w in let b = get_or_default taken w 0 0 h in omega arith;
+      between = λ w h. subst (EndsFrom false) (sym (drop-nil (slice_index_or taken w 0))) tt;
     }
-  where
-    drop_none : (n : ℕ) → drop {A = Change} n [] ≡ []
-    drop_none zero = refl
-    drop_none (suc n) = refl
 
 -- a worker's place moves on
 set_here : (xs : List ℕ) (w n d : ℕ) → w < length xs → slice_index_or (slice_set xs w n) w d ≡ n
@@ -269,7 +262,7 @@ pub waits_tested : (xs : List Change) (taken : List ℕ) (w s place n : ℕ) →
 waits_tested xs taken w s place n q l is e = go (ltb place n) refl
   where
     at : slice_index_or taken w (length xs) ≡ place
-    at = nth_same taken w (length xs) place l ∙ sym is
+    at = get_or_default taken w (length xs) place l ∙ sym is
 
     go : (b : Bool) → ltb place n ≡ b → MatchBool b (batches_of s (drop (slice_index_or taken w (length xs)) xs) ≡ [] → ⊥) (batches_of s (drop (slice_index_or taken w (length xs)) xs) ≡ [])
     go true t = waiting_some s (slice_index_or taken w (length xs)) xs (let a = at in grind (arith, nat_tests)) (q.between w l)

@@ -1,6 +1,6 @@
 //! Batches in a list of changes, each with an end marker.
 
-ghost use Rattle.std.specs.Prelude.{◌≡◌, ◌+◌, ◌<◌, ◌≤◌, ◌∷◌, ◌++◌, ℕ, List, [], false, drop, length, map, slice_index_or, take, vec_capacity, vec_len};
+ghost use Rattle.std.specs.Prelude.{◌≡◌, ◌+◌, ◌<◌, ◌≤◌, ◌++◌, ℕ, false, drop, length, map, slice_index_or, vec_capacity, vec_len};
 ghost use Rattle.machine.specs.Active.{one_if_same};
 ghost use Rattle.views.specs.Queued.{EndsFrom, IsOneOf, IsTaken, adds_in, as_changes, batches_of, removes_in};
 ghost use Rattle.views.specs.declared.queue.Change.TheVariants.{Add, Remove};

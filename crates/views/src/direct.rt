@@ -1,11 +1,9 @@
 //! Views that are never late.
 
-ghost use Rattle.std.specs.Prelude.{◌≡◌, ◌+◌, ◌<◌, ◌≤◌, ◌↔◌, ℕ, List, [], IfOk, IsTrue, MatchBool, OnOk, false, length};
+ghost use Rattle.std.specs.Prelude.{◌≡◌, ◌<◌, ◌≤◌, [], IfOk, false};
 ghost use Rattle.graph.specs.Shown.{shown_graph};
-ghost use Rattle.semantics.specs.Could.{CouldResultIn, IsTimeAt, NoOtherOf, NoneOf, Pointstamp as Active};
-ghost use Rattle.progress.specs.Content.{times_in};
+ghost use Rattle.semantics.specs.Could.{Pointstamp as Active};
 ghost use Rattle.views.specs.Opening.{active_at_first};
-ghost use Rattle.views.specs.Waiting.{IsApplied, IsSeenBy, NoneWaits, SomeWait, Waiting, after_post, batch};
 
 use crate::opening::open_inputs;
 use crate::tracked::{add_all, remove_all};

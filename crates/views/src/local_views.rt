@@ -1,13 +1,12 @@
 //! Views that may be late: a worker doesn't see what waits for it.
 
-ghost use Rattle.std.specs.Prelude.{◌≡◌, ◌+◌, ◌-◌, ◌^◌, ◌<◌, ◌≤◌, ◌↔◌, ℕ, List, [], IfOk, IsTrue, MatchBool, OnOk, Some, length, min, slice_get, true};
+ghost use Rattle.std.specs.Prelude.{◌≡◌, ◌+◌, ◌-◌, ◌^◌, ◌<◌, ◌≤◌, ℕ, [], IfOk, MatchBool, OnOk, Some, length, min, slice_get, true};
 ghost use Rattle.graph.specs.Shown.{shown_graph};
-ghost use Rattle.semantics.specs.Could.{CouldResultIn, IsTimeAt, NoOtherOf, NoneOf, Pointstamp as Active};
+ghost use Rattle.semantics.specs.Could.{IsTimeAt, Pointstamp as Active};
 ghost use Rattle.machine.specs.Active.{sum_below};
 ghost use Rattle.progress.specs.Content.{times_in};
 ghost use Rattle.views.specs.Opening.{active_at_first};
 ghost use Rattle.views.specs.Queued.{Queued, batches_of};
-ghost use Rattle.views.specs.Waiting.{IsApplied, IsSeenBy, NoneWaits, SomeWait, Waiting, after_post, batch};
 ghost use Rattle.views.specs.WorkerViews.{AllFree, AllTaken, AreSameQueues, HasPlaces, WorkerViews, content_of, untaken_at, waiting_of};
 
 use crate::opening::open_inputs;

@@ -1,7 +1,6 @@
 //! The changes of one sender, and how far each worker has applied them.
 
-ghost use Rattle.std.specs.Prelude.{◌≡◌, ◌+◌, ◌<◌, ◌≤◌, ◌∷◌, ◌++◌, ℕ, List, [], IsTrue, IfOk, MatchBool};
-ghost use Rattle.std.specs.Prelude.{OnOk, true, false, drop, length, map, take, vec_capacity, vec_len};
+ghost use Rattle.std.specs.Prelude.{◌≡◌, ◌+◌, ◌<◌, ◌≤◌, ◌∷◌, ◌++◌, ℕ, [], IfOk, MatchBool, OnOk, true, false, length, take, vec_capacity, vec_len};
 ghost use Rattle.semantics.specs.Graph.{Graph as Definition};
 ghost use Rattle.semantics.specs.Could.{IsTimeAt, Pointstamp as Active};
 ghost use Rattle.progress.specs.Content.{times_in};

@@ -1,6 +1,6 @@
-use Rattle.std.proofs.Common.{◌≡◌, ◌≢◌, ◌⊎◌, inl, inr, ◌<◌, ◌≤◌, ℕ, true, false, ◌==◌, sym, ap, subst, arith}
+use Rattle.std.proofs.Common.{◌≡◌, ◌≢◌, ◌⊎◌, inl, inr, ℕ, true, false, ◌==◌, sym, subst, arith}
 use Rattle.std.proofs.lemmas.Bool.Decides.{eqb_tells}
-use Rattle.semantics.specs.Could.{CouldResultIn, NoneOf, Pointstamp}
+use Rattle.semantics.specs.Could.{CouldResultIn, NoneOf}
 use Rattle.views.specs.Waiting.{IsSeenBy, Waiting}
 use Rattle.board.proofs.Lateness.{none_still, sees_same}
 use Rattle.board.proofs.applying.apply_there.Goals as goal

@@ -1,12 +1,12 @@
 use Rattle.std.proofs.Common.{◌≡◌, ◌∙◌, ◌++◌, ◌∷◌, [], List, Option, ap, arith}
-use Rattle.semantics.specs.Multiset.{total}
 use Rattle.semantics.specs.Time.{Time}
 use Rattle.semantics.specs.Could.{Pointstamp, at_vertex}
-use Rattle.machine.specs.Active.{one_if_same, request_pointstamp}
+use Rattle.machine.specs.Active.{request_pointstamp}
 use Rattle.machine.specs.World.{Request}
 use Rattle.events.specs.Happenings.{requests_of}
 use Rattle.board.proofs.Noted.{times_more}
 use Rattle.board.proofs.delivery.note_request.Goals as goal
+use Rattle.board.specs.Desks.{requests_count}
 
 pub returns-in-Some-clause-added : goal.returns-in-Some-clause-added
 returns-in-Some-clause-added c q =
@@ -15,5 +15,5 @@ returns-in-Some-clause-added c q =
     let is : c.new.result ≡ request_pointstamp r = c.new.ensures ∙ ap (λ (t : Time). at_vertex c.request.inside.vertex.0 t) c.copied.ensures ∙ ap request_pointstamp c.request.view_is in
     let items : c.push_reserved.new.self.items ≡ ps ++ (request_pointstamp r ∷ []) = c.push_reserved.ensures.items ∙ ap (λ (p : Pointstamp). ps ++ (p ∷ [])) is in
     let more = times_more ps c.push_reserved.new.self.items (request_pointstamp r) q items in
-    let asked = ap (λ (a : Option Request). total (λ (n : Request). one_if_same q (request_pointstamp n)) (requests_of a)) c.in-Some.is in
+    let asked = ap (λ (a : Option Request). requests_count q (requests_of a)) c.in-Some.is in
     omega arith

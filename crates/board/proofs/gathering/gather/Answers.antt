@@ -1,5 +1,5 @@
-use Rattle.std.proofs.Common.{◌≡◌, ◌∙◌, ◌∷◌, ◌≤◌, arith}
-use Rattle.board.specs.Answers.{Gathers, Merges}
+use Rattle.std.proofs.Common.{◌∙◌, ◌∷◌, arith}
+use Rattle.board.specs.Answers.{Merges}
 use Rattle.board.proofs.gathering.gather.Goals as goal
 
 pub returns-in-None-clause-gathers : goal.returns-in-None-clause-gathers

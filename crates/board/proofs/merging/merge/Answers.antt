@@ -1,4 +1,4 @@
-use Rattle.std.proofs.Common.{◌≡◌, ◌+◌, ap, ◌∙◌, refl, arith}
+use Rattle.std.proofs.Common.{◌≡◌, ap, ◌∙◌, arith}
 use Rattle.semantics.specs.Could.{on_edge}
 use Rattle.semantics.specs.Time.{Time}
 use Rattle.machine.specs.Active.{message_pointstamp}

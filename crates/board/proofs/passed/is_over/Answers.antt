@@ -1,4 +1,4 @@
-use Rattle.std.proofs.Common.{◌≡◌, ◌<◌, ◌∙◌, ℕ, true, false, refl, sym, ap, subst, arith}
+use Rattle.std.proofs.Common.{◌≡◌, ◌<◌, ◌∙◌, ℕ, true, false, sym, ap, subst, arith}
 use Rattle.semantics.specs.Could.{CouldResultIn, IsTimeAt, NoneOf, Pointstamp, at_vertex}
 use Rattle.semantics.specs.Graph.{output_number}
 use Rattle.semantics.specs.Time.{at_epoch}

@@ -1,4 +1,4 @@
-use Rattle.std.proofs.Common.{◌≡◌, ◌<◌, ◌≤◌, ℕ, subst, sym, arith}
+use Rattle.std.proofs.Common.{◌≡◌, arith}
 use Rattle.board.specs.Shown.{Shown}
 use Rattle.board.proofs.Passing.{at_most_seals, have_further, outputs_there, seals_one}
 use Rattle.board.proofs.passed.passed_now.Goals as goal

@@ -1,9 +1,10 @@
 use Rattle.std.proofs.Common.{sym, arith, false}
 use Rattle.std.proofs.lemmas.Bool.{false≢true}
+use Rattle.semantics.proofs.Cases.{is_true}
 use Rattle.graph.specs.Shown.{shown_graph}
 use Rattle.progress.specs.Counts.{pointstamps}
 use Rattle.progress.proofs.Contents.{got_at, clear_more, all_clear}
-use Rattle.progress.proofs.Options.{is_true, not_true}
+use Rattle.progress.proofs.Options.{not_true}
 use Rattle.progress.proofs.CountsKept.{stamp_got, stamps_long, occurs_got, stamp_there}
 use Rattle.progress.proofs.counted.is_clear.Goals as goal
 

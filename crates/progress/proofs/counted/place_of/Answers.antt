@@ -1,8 +1,9 @@
 use Rattle.std.proofs.Common.{◌∙◌, ap, sym, arith, Some}
 use Rattle.semantics.specs.Could.{Pointstamp}
+use Rattle.semantics.proofs.Cases.{is_true}
 use Rattle.progress.specs.Counts.{pointstamps}
 use Rattle.progress.proofs.Contents.{got_at, times_none}
-use Rattle.progress.proofs.Options.{is_true, not_true}
+use Rattle.progress.proofs.Options.{not_true}
 use Rattle.progress.proofs.CountsKept.{none_more, occurs_none, stamp_got, stamps_long}
 use Rattle.progress.proofs.counted.place_of.Goals as goal
 

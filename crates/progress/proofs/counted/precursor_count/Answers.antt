@@ -1,9 +1,10 @@
 use Rattle.std.proofs.Common.{List, take, sym, subst, arith, add-one, refl}
 use Rattle.semantics.specs.Could.{Pointstamp}
+use Rattle.semantics.proofs.Cases.{is_true}
 use Rattle.graph.specs.Shown.{shown_graph}
 use Rattle.progress.specs.Counts.{IsPrecursorCount, pointstamps}
 use Rattle.progress.proofs.Contents.{got_at}
-use Rattle.progress.proofs.Options.{is_true, not_true}
+use Rattle.progress.proofs.Options.{not_true}
 use Rattle.progress.proofs.CountsKept.{count_push, count_skip, stamp_got, stamps_long, take_more, take_whole}
 use Rattle.progress.proofs.counted.precursor_count.Goals.{then-is_precursor, else-is_precursor}
 use Rattle.progress.proofs.counted.precursor_count.Goals as goal

@@ -1,9 +1,9 @@
 use Rattle.std.proofs.Common.{◌≡◌, ◌∙◌, sym, subst, arith, ap}
 use Rattle.semantics.specs.Could.{Pointstamp, CouldResultIn}
+use Rattle.semantics.proofs.Cases.{is_true, true_is}
 use Rattle.graph.specs.Locations.{location_of}
 use Rattle.graph.specs.Shown.{shown_graph}
 use Rattle.progress.specs.Kept.{stamp}
-use Rattle.progress.proofs.Options.{is_true, true_is}
 use Rattle.progress.proofs.Earlier.{clear_none, clear_least}
 use Rattle.progress.proofs.located.is_clear_in.Goals as goal
 

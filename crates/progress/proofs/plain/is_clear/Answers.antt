@@ -1,6 +1,7 @@
 use Rattle.std.proofs.Common.{arith}
+use Rattle.semantics.proofs.Cases.{is_true}
 use Rattle.graph.specs.Shown.{shown_graph}
-use Rattle.progress.proofs.Options.{is_true, not_true}
+use Rattle.progress.proofs.Options.{not_true}
 use Rattle.progress.proofs.Contents.{got_at, times_got, clear_more, all_clear}
 use Rattle.progress.proofs.plain.is_clear.Goals as goal
 

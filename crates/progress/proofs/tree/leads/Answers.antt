@@ -1,4 +1,5 @@
-use Rattle.progress.proofs.Options.{is_true, not_true}
+use Rattle.semantics.proofs.Cases.{is_true}
+use Rattle.progress.proofs.Options.{not_true}
 use Rattle.progress.proofs.Orders.{other_way}
 use Rattle.progress.proofs.Forks.{leads_by}
 use Rattle.progress.proofs.tree.leads.Goals as goal

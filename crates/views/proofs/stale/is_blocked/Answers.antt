@@ -1,5 +1,6 @@
 use Rattle.std.proofs.Common.{◌≡◌, ◌∙◌, ◌<◌, inl, inr, List, false, subst, sym, arith}
 use Rattle.semantics.specs.Could.{Pointstamp}
+use Rattle.semantics.proofs.Cases.{below_or_last}
 use Rattle.graph.specs.Shown.{shown_graph}
 use Rattle.progress.proofs.Contents.{got_at}
 use Rattle.views.specs.declared.queue.Change.{Change}
@@ -7,7 +8,6 @@ use Rattle.views.specs.Queued.{AllKnown, EndsFrom, removes_in}
 use Rattle.views.specs.WorkerViews.{untaken_at}
 use Rattle.views.specs.Stale.{LetsThrough, stale_count}
 use Rattle.views.proofs.PostedBatches.{left_got}
-use Rattle.views.proofs.ReservedRoom.{last_or}
 use Rattle.views.proofs.TakenBatches.{known_drop}
 use Rattle.views.proofs.StaleCounts.{all_passed}
 use Rattle.views.proofs.stale.is_blocked.Goals as goal
@@ -32,11 +32,11 @@ loop-s-preserved c =
     let e : untaken_at qs s w ≡ c.waiting-waiting.result.now = left_got qs s w q got ∙ sym c.waiting-waiting.ensures.waiting in
     let here : (r : Pointstamp) → 0 < removes_in (untaken_at qs s w) r → LetsThrough g (stale_count qs w) c.args.p.now c.args.other r = λ r l. c.if-is_blocked_by_one_of.ensures r (subst (λ (ys : List Change). 0 < removes_in ys r) e l) in
     record {
-      ends = λ t l. elim (last_or t s l) [
+      ends = λ t l. elim (below_or_last t s l) [
         | inl x ↦ c.loop-s.invariant.ends t x
         | inr x ↦ subst (λ i. EndsFrom false (untaken_at qs i w)) (sym x) (subst (EndsFrom false) (sym e) c.waiting-waiting.ensures.ends)
       ];
-      passed = λ t l. elim (last_or t s l) [
+      passed = λ t l. elim (below_or_last t s l) [
         | inl x ↦ c.loop-s.invariant.passed t x
         | inr x ↦ subst (λ i. (r : Pointstamp) → 0 < removes_in (untaken_at qs i w) r → LetsThrough g (stale_count qs w) c.args.p.now c.args.other r) (sym x) here
       ];

@@ -9,7 +9,7 @@ use Rattle.board.specs.Shown.{Shown, side_at, tables}
 use Rattle.board.specs.Steps.{after_abandon}
 use Rattle.board.proofs.Facts.{own_side}
 use Rattle.board.proofs.Counted.{keeps_abandon}
-use Rattle.board.proofs.GivenUp.{abandon_goes, abandon_tables}
+use Rattle.board.proofs.Abandoning.{abandon_goes, abandon_tables}
 use Rattle.board.specs.Lateness.{BoardShown}
 use Rattle.board.proofs.board.Board.abandon.Goals as goal
 

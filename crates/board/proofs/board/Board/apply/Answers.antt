@@ -1,12 +1,9 @@
-use Rattle.std.proofs.Common.{◌≡◌, ◌≢◌, ◌⊎◌, inl, inr, ◌<◌, ◌≤◌, ◌+◌, ℕ, suc, true, false, [], length, refl, sym, ap, ◌∙◌, subst, arith}
-use Rattle.semantics.specs.Could.{Pointstamp}
-use Rattle.semantics.specs.Graph.{Graph}
-use Rattle.board.specs.Kept.{IsKept}
-use Rattle.board.specs.Lateness.{Applies, AppliesOne, BoardShown, IsUpToDate, waits_for}
+use Rattle.std.proofs.Common.{◌≡◌, ◌<◌, ◌≤◌, ℕ, suc, true, false, refl, sym, ◌∙◌, subst, arith}
+use Rattle.board.specs.Lateness.{BoardShown, waits_for}
 use Rattle.board.specs.Shown.{Shown}
 use Rattle.views.specs.Waiting.{IsApplied}
 use Rattle.board.proofs.Counted.{keeps_same, kept_same}
-use Rattle.board.proofs.Lateness.{applied_none, applied_nothing, applied_one, applied_some, counts_same, board_of, no_sender, no_worker, caught_fewer, caught_prompt, up_to_date, waits_same}
+use Rattle.board.proofs.Lateness.{applied_none, applied_nothing, applied_one, applied_some, counts_same, board_of, no_sender, no_worker, waits_same}
 use Rattle.board.proofs.board.Board.apply.Goals as goal
 
 pub invariant_of-self : goal.invariant_of-self

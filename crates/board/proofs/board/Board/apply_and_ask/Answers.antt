@@ -1,13 +1,10 @@
-use Rattle.std.proofs.Common.{◌≡◌, ◌<◌, ◌≤◌, ◌+◌, ◌∙◌, ℕ, IsTrue, sym, subst, arith}
+use Rattle.std.proofs.Common.{ℕ, sym, subst, arith}
 use Rattle.semantics.specs.Could.{CouldResultIn, NoneOf, Pointstamp, at_vertex}
 use Rattle.semantics.specs.Graph.{Graph, output_number}
 use Rattle.semantics.specs.Time.{at_epoch}
 use Rattle.graph.specs.Shown.{shown_graph}
-use Rattle.board.specs.Kept.{IsKept}
 use Rattle.board.specs.Lateness.{BoardShown}
-use Rattle.board.specs.Promises.{HasPassed, IsOutputPlace}
-use Rattle.board.specs.Seals.{NoneLeft}
-use Rattle.board.specs.Shown.{Shown}
+use Rattle.board.specs.Promises.{IsOutputPlace}
 use Rattle.views.specs.Waiting.{IsSeenBy}
 use Rattle.board.proofs.Counted.{kept_same}
 use Rattle.board.proofs.Passing.{has_passed, outputs_there}

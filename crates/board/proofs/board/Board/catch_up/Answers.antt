@@ -1,11 +1,8 @@
-use Rattle.std.proofs.Common.{◌≡◌, ◌≢◌, ◌⊎◌, inl, inr, ◌<◌, ◌≤◌, ◌+◌, ℕ, suc, true, false, [], length, refl, sym, ap, ◌∙◌, subst, arith}
-use Rattle.semantics.specs.Could.{Pointstamp}
-use Rattle.semantics.specs.Graph.{Graph}
-use Rattle.board.specs.Kept.{IsKept}
-use Rattle.board.specs.Lateness.{Applies, AppliesOne, BoardShown, IsUpToDate, waits_for}
+use Rattle.std.proofs.Common.{◌≡◌, ◌<◌, ◌≤◌, ◌+◌, ℕ, suc, true, false, [], refl, sym, ◌∙◌, subst, arith}
+use Rattle.board.specs.Lateness.{Applies, BoardShown, IsUpToDate}
 use Rattle.board.specs.Shown.{Shown}
 use Rattle.board.proofs.Counted.{kept_same}
-use Rattle.board.proofs.Lateness.{applied_none, applied_one, board_of, no_sender, no_worker, caught_fewer, caught_prompt, up_to_date, waits_same}
+use Rattle.board.proofs.Lateness.{board_of, no_worker, caught_fewer, caught_prompt, up_to_date, waits_same}
 use Rattle.board.proofs.board.Board.catch_up.Goals as goal
 
 pub passed_now-self-inside-requires-clause-kept : goal.passed_now-self-inside-requires-clause-kept

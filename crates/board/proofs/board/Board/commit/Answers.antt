@@ -1,27 +1,19 @@
-use Rattle.std.proofs.Common.{◌≡◌, ◌<◌, ◌≤◌, ◌+◌, ℕ, suc, true, false, [], ◌∷◌, List, None, length, refl, sym, ap, ◌∙◌, subst, arith, slice_set, length-set}
-use Rattle.std.specs.List.{All}
+use Rattle.std.proofs.Common.{◌≡◌, ◌+◌, ℕ, [], ◌∷◌, List, length, sym, ap, ◌∙◌, subst, arith}
 use Rattle.semantics.specs.Multiset.{Record}
-use Rattle.semantics.specs.Could.{CouldResultIn, Pointstamp, at_vertex}
-use Rattle.semantics.specs.Graph.{Graph, input_count}
-use Rattle.semantics.specs.Time.{at_epoch}
-use Rattle.graph.specs.Shown.{GraphValue, shown_graph}
-use Rattle.machine.specs.Active.{one_if_same}
+use Rattle.semantics.specs.Could.{CouldResultIn}
+use Rattle.semantics.specs.Graph.{input_count}
 use Rattle.machine.specs.Posting.{MayPost}
 use Rattle.machine.specs.Step.{Step}
-use Rattle.rows.specs.FlatRows.{arity_of}
-use Rattle.views.specs.Waiting.{Waiting, batch}
-use Rattle.board.specs.Answers.{Holds, feed_refusal, input_refusal}
-use Rattle.board.specs.Commits.{Feeds, FeedsBy, IsOf, Settles, SettlesBy}
-use Rattle.board.specs.Kept.{Goes, IsKept, open_count}
-use Rattle.board.specs.Lateness.{BoardShown, Posts, PostsSome}
-use Rattle.board.specs.Shown.{Shown, InputShown, input_at, tables}
-use Rattle.board.specs.Steps.{after_close, after_seal}
-use Rattle.board.proofs.Boards.{commit_goes, commit_tables, feed_tables, kept_commit}
-use Rattle.board.proofs.Counted.{as_open, closed_passed, committed_passed, fed_passed, few_open, keeps_same, one_closed, sealed_passed}
-use Rattle.board.proofs.Ended.{close_goes, open_tells, seal_goes}
-use Rattle.board.proofs.Feeding.{accepted, feeds_goes, feeds_kept}
+use Rattle.views.specs.Waiting.{batch}
+use Rattle.board.specs.Answers.{Holds}
+use Rattle.board.specs.Commits.{IsOf, Settles, SettlesBy}
+use Rattle.board.specs.Kept.{Goes}
+use Rattle.board.specs.Lateness.{BoardShown, Posts}
+use Rattle.board.specs.Shown.{Shown, tables}
+use Rattle.board.proofs.Boards.{commit_goes, commit_tables, kept_commit}
+use Rattle.board.proofs.Counted.{committed_passed, few_open, keeps_same}
 use Rattle.board.proofs.Lateness.{board_of, counts_same, posted_prompt, posted_some, posts}
-use Rattle.board.proofs.Posts.{close_posted, feeds_from, may_close, may_commit, may_feed, may_seal, fed_inputs, fed_workers, posts_fed, seal_posted, settled_inputs, settled_workers, settles_from}
+use Rattle.board.proofs.Posts.{may_commit, settled_inputs, settled_workers, settles_from}
 use Rattle.events.specs.Jobs.{Pass}
 use Rattle.board.proofs.Facts.{own_side}
 use Rattle.board.proofs.board.Board.commit.Goals as goal

@@ -1,7 +1,6 @@
-use Rattle.std.proofs.Common.{◌≡◌, ◌⊎◌, inl, inr, ◌<◌, ◌≤◌, ◌+◌, ℕ, suc, false, length, refl, sym, ap, ◌∙◌, subst, arith}
-use Rattle.board.specs.Lateness.{AreUpToDate, BoardShown, waits_for}
-use Rattle.board.specs.Shown.{Shown}
-use Rattle.board.proofs.Lateness.{board_of, no_sender, no_worker, up_to_date}
+use Rattle.std.proofs.Common.{subst}
+use Rattle.board.specs.Lateness.{AreUpToDate}
+use Rattle.board.proofs.Lateness.{up_to_date}
 use Rattle.board.proofs.board.Board.law_prompt.Goals as goal
 
 pub returns : goal.returns

@@ -1,7 +1,7 @@
-use Rattle.std.proofs.Common.{◌≡◌, ◌⊎◌, inl, inr, ◌<◌, ◌≤◌, ◌+◌, ℕ, suc, false, length, refl, sym, ap, ◌∙◌, subst, arith}
-use Rattle.board.specs.Lateness.{AreUpToDate, BoardShown, waits_for}
+use Rattle.std.proofs.Common.{◌≡◌, ◌⊎◌, inl, inr, ◌<◌, ◌≤◌, ℕ, length, subst, arith}
+use Rattle.board.specs.Lateness.{BoardShown, waits_for}
 use Rattle.board.specs.Shown.{Shown}
-use Rattle.board.proofs.Lateness.{board_of, no_sender, no_worker, up_to_date}
+use Rattle.board.proofs.Lateness.{board_of, no_sender, no_worker}
 use Rattle.board.proofs.board.Board.law_waits.Goals as goal
 
 pub returns : goal.returns

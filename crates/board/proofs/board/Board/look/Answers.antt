@@ -4,7 +4,6 @@ use Rattle.events.specs.Wired.{Wired}
 use Rattle.board.specs.Lateness.{BoardShown}
 use Rattle.board.specs.Looks.{AreOutputLooks, IsLookAt, LookShown}
 use Rattle.board.specs.Promises.{KeepsPromise, RunsProgram}
-use Rattle.board.specs.Shown.{Shown}
 use Rattle.board.proofs.Lateness.{board_of}
 use Rattle.board.proofs.Looked.{fed_at, promised}
 use Rattle.board.proofs.board.Board.look.Goals as goal

@@ -1,7 +1,7 @@
-use Rattle.std.proofs.Common.{ap, ◌≡◌, [], subst, slice_index_or}
+use Rattle.std.proofs.Common.{◌≡◌, [], subst, slice_index_or}
 use Rattle.semantics.specs.Graph.{output_number}
 use Rattle.graph.specs.Shown.{shown_graph}
-use Rattle.board.specs.Shown.{Shown, emitted_by}
+use Rattle.board.specs.Shown.{emitted_by}
 use Rattle.board.proofs.Looked.{looks_more}
 use Rattle.board.specs.Lateness.{BoardShown}
 use Rattle.board.proofs.board.Board.look_at_outputs.Goals as goal

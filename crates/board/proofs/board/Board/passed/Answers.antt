@@ -1,4 +1,4 @@
-use Rattle.std.proofs.Common.{◌≡◌, ◌<◌, ℕ, IsTrue, sym, subst, arith}
+use Rattle.std.proofs.Common.{IsTrue, sym, subst, arith}
 use Rattle.board.specs.Lateness.{BoardShown, IsUpToDate}
 use Rattle.board.specs.Promises.{HasPassed, IsOutputPlace}
 use Rattle.board.proofs.Lateness.{none_waits}

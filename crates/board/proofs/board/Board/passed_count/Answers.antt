@@ -1,14 +1,9 @@
-use Rattle.std.proofs.Common.{◌≡◌, ◌↔◌, ◌<◌, ◌≤◌, ◌∙◌, ℕ, suc, [], IsTrue, length, ap, sym, subst, arith}
-use Rattle.semantics.specs.Could.{CouldResultIn, IsTimeAt, NoneOf, Pointstamp, at_vertex}
-use Rattle.semantics.specs.Graph.{output_number}
-use Rattle.semantics.specs.Time.{at_epoch}
-use Rattle.graph.specs.Shown.{shown_graph}
+use Rattle.std.proofs.Common.{◌≤◌, ℕ, ap, subst, arith}
 use Rattle.views.specs.Waiting.{IsSeenBy}
 use Rattle.board.specs.Lateness.{BoardShown, IsUpToDate}
-use Rattle.board.specs.Promises.{CountsPassed, HasPassed, IsOutputPlace}
-use Rattle.board.specs.Shown.{Shown}
-use Rattle.board.proofs.Lateness.{board_of, none_waits}
-use Rattle.board.proofs.Passing.{has_passed, has_passed_back, known_most, known_passed, outputs_there, seen_counts}
+use Rattle.board.specs.Promises.{CountsPassed}
+use Rattle.board.proofs.Lateness.{none_waits}
+use Rattle.board.proofs.Passing.{known_most, seen_counts}
 use Rattle.board.proofs.board.Board.passed_count.Goals as goal
 
 pub returns-clause-value : goal.returns-clause-value

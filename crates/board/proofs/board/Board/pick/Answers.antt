@@ -1,5 +1,4 @@
-use Rattle.std.proofs.Common.{◌≡◌, ◌<◌, ◌+◌, ◌-◌, ℕ, suc, true, false, [], List, length, refl, sym, ap, ◌∙◌, subst, arith, slice_get, None, Some}
-use Rattle.semantics.specs.Dataflow.{IsDataflow}
+use Rattle.std.proofs.Common.{◌≡◌, ◌<◌, ◌+◌, ◌-◌, ℕ, false, List, length, sym, ap, ◌∙◌, subst, arith, slice_get, None, Some}
 use Rattle.semantics.specs.Graph.{Graph}
 use Rattle.semantics.specs.Could.{CouldResultIn, IsTimeAt, Location, NoOtherOf}
 use Rattle.machine.specs.Active.{request_pointstamp}
@@ -8,17 +7,15 @@ use Rattle.machine.specs.Step.{Step}
 use Rattle.machine.specs.World.{Request}
 use Rattle.tokens.specs.declared.rule.Place.TheVariants.{Home}
 use Rattle.views.specs.Waiting.{IsSeenBy}
-use Rattle.board.specs.Answers.{Hands, HasChoice, HasNoChoice}
+use Rattle.board.specs.Answers.{Hands}
 use Rattle.board.specs.Claims.{HandsRequest}
 use Rattle.board.specs.Deliverable.{IsDeliverable}
 use Rattle.board.specs.Lateness.{BoardShown, IsUpToDate}
 use Rattle.board.specs.Picks.{IsChoice, LacksChoice}
-use Rattle.board.specs.Promises.{IsDrained}
 use Rattle.board.specs.Shown.{Shown, side_at, tables}
-use Rattle.board.proofs.Choosing.{choice_message, choice_request}
 use Rattle.board.proofs.Counted.{keeps_message, keeps_request}
-use Rattle.board.proofs.GivenOut.{hands_message, hands_message_tables, hands_request, hands_request_tables, no_choice, request_taken}
-use Rattle.board.proofs.Kths.{kth_same, kth_there}
+use Rattle.board.proofs.HandedOut.{hands_message_tables, hands_request, hands_request_tables, request_taken}
+use Rattle.board.proofs.Kths.{kth_same}
 use Rattle.board.proofs.Lateness.{board_of, none_waits}
 use Rattle.board.proofs.Picking.{chosen_request, lacks, picks_message}
 use Rattle.board.proofs.Places.{get_index}

@@ -1,27 +1,18 @@
-use Rattle.std.proofs.Common.{◌≡◌, ◌<◌, ◌≤◌, ◌+◌, ℕ, suc, true, false, [], ◌∷◌, List, None, length, refl, sym, ap, ◌∙◌, subst, arith, slice_set, length-set}
-use Rattle.std.specs.List.{All}
-use Rattle.semantics.specs.Multiset.{Record}
-use Rattle.semantics.specs.Could.{Pointstamp, at_vertex}
-use Rattle.semantics.specs.Graph.{Graph, input_count}
+use Rattle.std.proofs.Common.{◌≡◌, ◌+◌, ℕ, [], ◌∷◌, length, refl, sym, ap, ◌∙◌, subst, arith, length-set}
+use Rattle.semantics.specs.Could.{at_vertex}
+use Rattle.semantics.specs.Graph.{input_count}
 use Rattle.semantics.specs.Time.{at_epoch}
 use Rattle.graph.specs.Shown.{GraphValue, shown_graph}
-use Rattle.machine.specs.Active.{one_if_same}
-use Rattle.machine.specs.Posting.{MayPost}
 use Rattle.machine.specs.Step.{Step}
-use Rattle.rows.specs.FlatRows.{arity_of}
-use Rattle.views.specs.Waiting.{Waiting, batch}
-use Rattle.board.specs.Answers.{Holds, feed_refusal, input_refusal}
-use Rattle.board.specs.Commits.{Feeds, FeedsBy, IsOf, Settles, SettlesBy}
-use Rattle.board.specs.Kept.{Goes, IsKept, open_count}
-use Rattle.board.specs.Lateness.{BoardShown, Posts, PostsSome}
-use Rattle.board.specs.Shown.{Shown, InputShown, input_at, tables}
-use Rattle.board.specs.Steps.{after_close, after_seal}
-use Rattle.board.proofs.Boards.{commit_goes, commit_tables, feed_tables, kept_commit}
-use Rattle.board.proofs.Counted.{as_open, closed_passed, committed_passed, fed_passed, few_open, keeps_same, one_closed, sealed_passed}
-use Rattle.board.proofs.Ended.{close_goes, open_tells, seal_goes}
-use Rattle.board.proofs.Feeding.{accepted, feeds_goes, feeds_kept}
+use Rattle.views.specs.Waiting.{batch}
+use Rattle.board.specs.Answers.{input_refusal}
+use Rattle.board.specs.Kept.{Goes, IsKept}
+use Rattle.board.specs.Lateness.{BoardShown, Posts}
+use Rattle.board.specs.Shown.{Shown, input_at}
+use Rattle.board.proofs.Counted.{few_open, keeps_same, sealed_passed}
+use Rattle.board.proofs.Ended.{open_tells, seal_goes}
 use Rattle.board.proofs.Lateness.{board_of, counts_same, posted_prompt, posted_some, posts}
-use Rattle.board.proofs.Posts.{close_posted, feeds_from, may_close, may_commit, may_feed, may_seal, fed_inputs, fed_workers, posts_fed, seal_posted, settled_inputs, settled_workers, settles_from}
+use Rattle.board.proofs.Posts.{may_seal, seal_posted}
 use Rattle.board.proofs.board.Board.seal.Goals as goal
 
 pub post-requires-clause-sender : goal.post-requires-clause-sender

@@ -1,5 +1,5 @@
-use Rattle.std.proofs.Common.{◌≡◌, ◌-◌, ◌^◌, ℕ, min, ap, ◌∙◌}
-use Rattle.board.specs.Lateness.{BoardShown, all_waits}
+use Rattle.std.proofs.Common.{◌-◌, ◌^◌, ℕ, min, ap, ◌∙◌}
+use Rattle.board.specs.Lateness.{all_waits}
 use Rattle.board.proofs.Lateness.{all_wait}
 use Rattle.board.proofs.board.Board.waiting_changes.Goals as goal
 

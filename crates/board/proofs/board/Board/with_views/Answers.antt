@@ -1,7 +1,6 @@
-use Rattle.std.proofs.Common.{◌≡◌, ◌<◌, ◌+◌, ℕ, length, sym, ap, ◌∙◌, subst, arith}
-use Rattle.semantics.specs.Could.{IsTimeAt, Location, at_vertex}
+use Rattle.std.proofs.Common.{◌≡◌, ◌+◌, ℕ, length, sym, ap, ◌∙◌, subst, arith}
 use Rattle.semantics.specs.Dataflow.{IsDataflow}
-use Rattle.semantics.specs.Graph.{Graph, input_count}
+use Rattle.semantics.specs.Graph.{input_count}
 use Rattle.semantics.specs.PortArity.{IsTyped}
 use Rattle.graph.specs.Shown.{GraphValue, shown_graph}
 use Rattle.views.specs.Opening.{active_at_first}

@@ -1,4 +1,4 @@
-use Rattle.std.proofs.Common.{◌≡◌, [], ℕ, sym, subst, arith}
+use Rattle.std.proofs.Common.{sym, subst, arith}
 use Rattle.board.proofs.Outputs.{AreSilent, silent_more, silent_new}
 use Rattle.board.proofs.emitted.Emitted.new.Goals as goal
 

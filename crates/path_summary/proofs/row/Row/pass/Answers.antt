@@ -1,10 +1,10 @@
 use Rattle.std.proofs.Common.{◌≡◌, ◌+◌, ◌*◌, ◌<◌, ◌∙◌, suc, subst, sym, ap, arith, refl, List, Some, length, slice_get}
 use Rattle.std.proofs.lemmas.Bool.{true≢false}
+use Rattle.std.proofs.lemmas.Option.{slice_get_read}
 use Rattle.path_summary.specs.Linking.{Link}
 use Rattle.path_summary.specs.Codes.{row_of}
 use Rattle.path_summary.specs.Walks.{HasPassed}
 use Rattle.path_summary.proofs.CodesGrow.{grows_none, grows_on, row_grown}
-use Rattle.path_summary.proofs.RowsMade.{got_at}
 use Rattle.path_summary.proofs.Steps.{pass_begins, stepped_on, pass_ends, pass_closed, got_more}
 use Rattle.path_summary.proofs.Numbers.{room_by}
 use Rattle.path_summary.proofs.row.Row.pass.Goals.{then-branch, else-branch}
@@ -25,7 +25,7 @@ step-requires-clause-room c = λ f q.
     let w = c.args.links.now in
     let way = c.requires.way in
     let i = c.loop-link.link-index in
-    let here : slice_get w.edges i ≡ Some c.link-item.result = subst (λ (xs : List Link). slice_get xs i ≡ Some c.link-item.result) c.edges-link-items.ensures (got_at c.edges-link-items.result.now i c.link-item.result (let l = c.loop-link-test.true in omega arith) c.link-item.is) in
+    let here : slice_get w.edges i ≡ Some c.link-item.result = subst (λ (xs : List Link). slice_get xs i ≡ Some c.link-item.result) c.edges-link-items.ensures (slice_get_read c.edges-link-items.result.now (length c.edges-link-items.result.now) i c.link-item.result refl (let l = c.loop-link-test.true in omega arith) c.link-item.is) in
     let p = c.loop-link.invariant.passed way.vertex (8192 * way.passes) way.known way.got.long way.got.of_walks in
     let few : 8192 * way.passes + i < 1000000000 = let l = c.loop-link-test.true in omega (arith, way.few, c.requires.edges, ap length c.edges-link-items.ensures) in
     room_by w c.requires.loops way.vertex way.known (8192 * way.passes + i) i c.link-item.result f few here (p.of_walks c.link-item.result.source f q)
@@ -35,7 +35,7 @@ loop-link-preserved c =
     let w = c.args.links.now in
     let i = c.loop-link.link-index in
     let old = row_of c.args.summaries.now c.args.self.now in
-    let here : slice_get w.edges i ≡ Some c.link-item.result = subst (λ (xs : List Link). slice_get xs i ≡ Some c.link-item.result) c.edges-link-items.ensures (got_at c.edges-link-items.result.now i c.link-item.result (let l = c.loop-link-test.true in omega arith) c.link-item.is) in
+    let here : slice_get w.edges i ≡ Some c.link-item.result = subst (λ (xs : List Link). slice_get xs i ≡ Some c.link-item.result) c.edges-link-items.ensures (slice_get_read c.edges-link-items.result.now (length c.edges-link-items.result.now) i c.link-item.result refl (let l = c.loop-link-test.true in omega arith) c.link-item.is) in
     record {
       grows = grows_on c.args.summaries.now c.loop-link.summaries c.step.new.summaries c.loop-link.invariant.grows c.step.ensures.grows;
       codes = c.in_ok-step.ensures.codes;

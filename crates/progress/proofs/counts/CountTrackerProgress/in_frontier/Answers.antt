@@ -1,10 +1,11 @@
 use Rattle.std.proofs.Common.{◌<◌, eqb, subst, arith}
 use Rattle.std.specs.Prelude.{IsTrue, ◌↔◌}
+use Rattle.std.proofs.lemmas.Option.{slice_get_within}
 use Rattle.semantics.specs.Could.{CouldResultIn, NoOtherOf}
 use Rattle.graph.specs.Shown.{shown_graph}
 use Rattle.progress.specs.Counts.{occurrences_in, pointstamps}
 use Rattle.progress.specs.ShownCounts.{ShownCounts}
-use Rattle.progress.proofs.Contents.{frontier_by, got_at, got_below}
+use Rattle.progress.proofs.Contents.{frontier_by, got_at}
 use Rattle.progress.proofs.CountsKept.{clear_others, blocked_by_other, frontier_counted, is_zero, stamps_long}
 use Rattle.progress.proofs.counts.CountTrackerProgress.in_frontier.Goals as goal
 
@@ -16,7 +17,7 @@ returns-in-Some c =
     let p = c.args.p.now in
     let x = c.index.result.now in
     let at = rw c.deref.ensures.value at c.in-Some.ensures.some in
-    let here = got_at xs c.in-Some.place x (let b = got_below (pointstamps xs) c.in-Some.place p at in let l = stamps_long xs in omega arith) c.index.ensures in
+    let here = got_at xs c.in-Some.place x (let b = slice_get_within (pointstamps xs) c.in-Some.place p at in let l = stamps_long xs in omega arith) c.index.ensures in
     let f = frontier_counted g p xs c.in-Some.place x c.self.invariant.2 here at in
     subst (λ (t : ShownCounts). IsTrue (eqb x.precursors 0) ↔ NoOtherOf (CouldResultIn (shown_graph t.graph)) (λ q. 0 < occurrences_in t.active q) p) c.self.view_is
     (λ t. f.0 ((is_zero x.precursors).0 t), λ no_other. (is_zero x.precursors).1 (f.1 no_other))

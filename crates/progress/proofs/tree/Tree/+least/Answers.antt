@@ -1,7 +1,8 @@
 use Rattle.std.proofs.Common.{◌≡◌, ◌∙◌, sym, ap, subst, arith}
+use Rattle.semantics.proofs.Cases.{is_true}
 use Rattle.progress.specs.Bag.{Bag, with_times, IsFork, IsAsked, IsLeast, IsNoneAsked}
 use Rattle.progress.specs.Bags.{bag_of, IsNode}
-use Rattle.progress.proofs.Options.{none_map, some_map, is_true, not_true}
+use Rattle.progress.proofs.Options.{none_map, some_map, not_true}
 use Rattle.progress.proofs.Orders.{other_way}
 use Rattle.progress.proofs.Forks.{least_here, least_left, least_right, least_both_left, least_both_right, none_asked, right_late}
 use Rattle.progress.proofs.tree.Tree.+least.Goals as goal

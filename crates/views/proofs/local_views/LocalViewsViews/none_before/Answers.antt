@@ -3,12 +3,12 @@ use Rattle.std.specs.Prelude.{IsTrue, MatchBool, not, ◌↔◌}
 use Rattle.semantics.specs.Graph.{Graph}
 use Rattle.semantics.specs.Could.{CouldResultIn, IsTimeAt, NoneOf}
 use Rattle.semantics.specs.Dataflow.{IsDataflow}
+use Rattle.semantics.proofs.Cases.{is_true}
 use Rattle.graph.specs.Shown.{shown_graph}
 use Rattle.progress.specs.Content.{IsBlocked, IsClear}
 use Rattle.views.specs.Waiting.{IsSeenBy}
 use Rattle.views.specs.WorkerViews.{HasPlaces, WorkerViews, AreViews, content_of, waiting_of}
 use Rattle.views.specs.Stale.{AreKnown, stale_count}
-use Rattle.progress.proofs.Options.{is_true}
 use Rattle.views.proofs.StaleCounts.{seen_none, none_refused}
 use Rattle.views.proofs.local_views.LocalViewsViews.none_before.Goals as goal
 
