@@ -3,7 +3,9 @@
 ghost use Rattle.std.specs.Prelude.{◌≡◌, map, option_map, IfErr, IfOk, IfSome, IsErrOf, codes, false};
 ghost use Rattle.clap.specs.Words.{app_of, first_of, found_of, new_app, rows_of, rule_of};
 ghost use Rattle.clap.specs.declared.builder.Command.TheViews.{out-Command as fields_of};
-ghost use Rattle.command_line.specs.Line.{AreAskedFor, AsksTwice, Asks, Holds, HoldsAt, IsAskedHeap, IsAskedInput, IsFlag, check_app, explain_app, flag_rule, follow_app, format_app, graph_app, line_app, option_rule, optional_rule, replay_app, run_app, word_rule};
+ghost use Rattle.command_line.specs.Line.{AreAskedFor, AsksTwice, Asks, Holds, HoldsAt, IsAskedHeap, IsAskedInput, IsFlag};
+ghost use Rattle.command_line.specs.Line.{check_app, explain_app, flag_rule, follow_app, format_app, graph_app, line_app, option_rule};
+ghost use Rattle.command_line.specs.Line.{optional_rule, replay_app, run_app, word_rule};
 ghost use Rattle.command_line.specs.Faults.{IsOfWords};
 ghost use Rattle.command_line.specs.declared.line_fault.LineFault.TheVariants as fault;
 

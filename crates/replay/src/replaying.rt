@@ -10,7 +10,7 @@ ghost use Rattle.replay.specs.Waits.{State};
 
 use crate::answer::{push_answer, push_refusal};
 use crate::feeding::{close, feed, seal};
-use crate::hand::{empty_hand, give_up};
+use crate::hand::{empty_hand, abandon_hand};
 use crate::refusal::Refusal;
 use crate::working::{apply, commit, deliver, take};
 use board::Board;
@@ -110,6 +110,6 @@ pub fn replay<V: Views>(
     let mut board = board;
     let mut hand = empty_hand(alloc, board.workers())?;
     let answer = replay_lines(alloc, &mut board, hand.as_mut_slice(), inputs, lines);
-    give_up(&mut board, hand);
+    abandon_hand(&mut board, hand);
     answer
 }
