@@ -30,7 +30,8 @@ const SCHEDULE: &str = "The file with the schedule; - is standard input";
 
 /// The last lines of the help: how errors are explained, the statuses, and where the language is described.
 const LAST_LINES: &str =
-    "An error is one line; with --explain more lines show its place and what is wrong there\nExit status: 0 done, 2 command line, 3 query, 4 input or schedule, 5 memory, count or threads, 6 file\nThe language: LANGUAGE.md";
+    "An error is one line; with --explain more lines show its place and what is wrong there\n\
+    Exit status: 0 done, 2 command line, 3 query, 4 input or schedule, 5 memory, count or threads, 6 file\nThe language: LANGUAGE.md";
 
 /// A word that has to be given, with its line of help.
 fn word_arg<'a>(alloc: Global, id: &'a str, about: &'a str) -> Arg<'a>

@@ -12,7 +12,8 @@ use Rattle.collector.specs.OutputText.{IsTextFrom}
 use Rattle.collector.specs.Written.{AppendsFront}
 use Rattle.console.specs.Compiled.{IsCompiled}
 use Rattle.diagnostics.specs.declared.fault.Fault.{Fault}
-use Rattle.diagnostics.specs.declared.fault.Fault.TheVariants.{Query, TooManyVertices, Input, Schedule, NoMemory, Count, NoWorker, Incomplete, ReadQuery, ReadInput, Write}
+use Rattle.diagnostics.specs.declared.fault.Fault.TheVariants.{Query, TooManyVertices, Input, Schedule, NoMemory, Count}
+use Rattle.diagnostics.specs.declared.fault.Fault.TheVariants.{NoWorker, Incomplete, ReadQuery, ReadInput, Write}
 
 -- the text has, for each epoch of so many and each output, the multiset that the program means there on the records of its inputs
 pub record IsAnswer (p : Program) (count : ℕ) (records : ℕ → ℕ → List Record) (text : List ℕ) : Type 0 where

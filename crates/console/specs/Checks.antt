@@ -12,7 +12,8 @@ use Rattle.collector.specs.Written.{AppendsFront}
 use Rattle.record_core.specs.declared.span.Refusal.TheVariants.{At}
 use Rattle.console.specs.Queries.{IsRefusal}
 use Rattle.diagnostics.specs.declared.fault.Fault.{Fault}
-use Rattle.diagnostics.specs.declared.fault.Fault.TheVariants.{Query, TooManyVertices, Input as InputFault, Schedule, NoMemory, Count, NoWorker, Incomplete, ReadQuery, ReadInput, Write}
+use Rattle.diagnostics.specs.declared.fault.Fault.TheVariants.{Query, TooManyVertices, Input as InputFault, Schedule, NoMemory}
+use Rattle.diagnostics.specs.declared.fault.Fault.TheVariants.{Count, NoWorker, Incomplete, ReadQuery, ReadInput, Write}
 
 -- `input NAME/ARITY`
 abbrev pub input_line : Input → List ℕ

@@ -10,7 +10,8 @@ use Rattle.writer.specs.Sources.{ReadsAs}
 use Rattle.lexer.specs.Tokens.{max_length}
 use Rattle.collector.specs.Written.{AppendsFront}
 use Rattle.diagnostics.specs.declared.fault.Fault.{Fault}
-use Rattle.diagnostics.specs.declared.fault.Fault.TheVariants.{Query, TooManyVertices, Input, Schedule, NoMemory, Count, NoWorker, Incomplete, ReadQuery, ReadInput, Write}
+use Rattle.diagnostics.specs.declared.fault.Fault.TheVariants.{Query, TooManyVertices, Input, Schedule, NoMemory, Count}
+use Rattle.diagnostics.specs.declared.fault.Fault.TheVariants.{NoWorker, Incomplete, ReadQuery, ReadInput, Write}
 
 -- The query text reads as a program, and the text is its canonical text. Where that is no longer than a query may be, it reads as the
 -- same program, spans aside.

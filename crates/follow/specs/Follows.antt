@@ -37,7 +37,8 @@ pub data IsReport (g : GraphValue) (records : (epoch input : ℕ) → List Recor
   reports_nothing : IsReport g records 0 [] []
   reports_more : (done : ℕ) (entries more : List Entry) (text : List ℕ) → IsReport g records done entries text → AreAt (length (shown_names g)) more
       → IsReport g records done (entries ++ more) (text ++ flat_map (entry_line (shown_names g) done) more)
-  reports_whole : (done : ℕ) (entries : List Entry) (text : List ℕ) → IsReport g records done entries text → IsWhole g (records done) entries → IsReport g records (done + 1) [] (text ++ complete_line done)
+  reports_whole : (done : ℕ) (entries : List Entry) (text : List ℕ) → IsReport g records done entries text
+      → IsWhole g (records done) entries → IsReport g records (done + 1) [] (text ++ complete_line done)
 
 -- the records that lines say of an input in an epoch
 abbrev pub said_records : List Item → (epoch input : ℕ) → List Record
@@ -71,7 +72,8 @@ pub record IsFaulty (inputs : List Input) (bytes : List ℕ) (left : Option (Lis
   pub last : code ≡ 43 → IsAtEnd left
 
 -- how far the bytes were read: to the end, to a faulty line, to the last whole line before the reader failed, or unspecified
-abbrev pub Reaches : List Input → (bytes : List ℕ) → (left : Option (List ℕ)) → (lines : List (List ℕ)) → List Item → (rest : List (List ℕ)) → (done : ℕ) → List Entry → Result (Unit {0}) Ending → Type 0
+abbrev pub Reaches : List Input → (bytes : List ℕ) → (left : Option (List ℕ)) → (lines : List (List ℕ)) → List Item
+    → (rest : List (List ℕ)) → (done : ℕ) → List Entry → Result (Unit {0}) Ending → Type 0
 Reaches inputs bytes left lines items rest done entries (Ok _) = IsAllReported inputs bytes left items done entries
 Reaches inputs bytes left lines items rest done entries (Err (ending.Input code line)) = IsFaulty inputs bytes left lines code line
 Reaches inputs bytes left lines items rest done entries (Err ending.Read) = (piece : List ℕ) × (rest ≡ piece ∷ [])

@@ -107,7 +107,8 @@ reported_count t k = slice_index_or t.reported.items k 0
 
 -- All epochs before the base and the next `done` are complete; the entries are the first batches that were emitted for the epoch after those, `count`
 -- at each output.
-pub record HasReported (s : Shown) (base done : ℕ) (count : (output : ℕ) → ℕ) (records : (epoch input : ℕ) → List Record) (entries : List Entry) (text : List ℕ) : Type 0 where
+pub record HasReported (s : Shown) (base done : ℕ) (count : (output : ℕ) → ℕ) (records : (epoch input : ℕ) → List Record)
+    (entries : List Entry) (text : List ℕ) : Type 0 where
   pub reported : IsReport s.graph records (base + done) entries text
   pub within : (k : ℕ) → count k ≤ length (batches_of s k done)
   pub first : (k : ℕ) → records_of k entries ≡ joined (take (count k) (batches_of s k done))

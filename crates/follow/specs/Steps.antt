@@ -113,7 +113,9 @@ pub record HasTakenLines (base : ℕ) (s t : Shown) (y : Intake) (inputs : List 
 
 -- the same, whatever was taken before
 abbrev pub TakesLines : (base : ℕ) → (s t : Shown) → (x y : Intake) → List Input → (text rest : List ℕ) → Taken → Type 0
-TakesLines base s t x y inputs text rest how = (bytes : List ℕ) (lines : List (List ℕ)) (items : List Item) → HasTaken s base x inputs bytes text lines items → HasTakenLines base s t y inputs bytes rest how items
+TakesLines base s t x y inputs text rest how =
+    (bytes : List ℕ) (lines : List (List ℕ)) (items : List Item) → HasTaken s base x inputs bytes text lines items
+    → HasTakenLines base s t y inputs bytes rest how items
 
 -- ---- what is written
 
@@ -147,7 +149,8 @@ pub record ReportsOutput (s : Shown) (base : ℕ) (t u : Reporting) (output : �
   pub lines : new ≡ old ++ flat_map (row_line (base + t.done) label) (joined (drop (reported_count t output) (batches_of s output t.done)))
 
 -- more entries were written: at the first n outputs, all that was emitted
-pub record HasReportedMore (s : Shown) (base done n : ℕ) (u : Reporting) (records : (epoch input : ℕ) → List Record) (entries : List Entry) (text old new : List ℕ) : Type 0 where
+pub record HasReportedMore (s : Shown) (base done n : ℕ) (u : Reporting) (records : (epoch input : ℕ) → List Record)
+    (entries : List Entry) (text old new : List ℕ) : Type 0 where
   pub more : List Entry
   pub lines : List ℕ
   pub reported : HasReported s base done (reported_count u) records (entries ++ more) (text ++ lines)
@@ -157,7 +160,8 @@ pub record HasReportedMore (s : Shown) (base done n : ℕ) (u : Reporting) (reco
 -- the same, whatever was written before
 pub record ReportsOutputs (s : Shown) (base n : ℕ) (t u : Reporting) (old new : List ℕ) : Type 0 where
   pub done : u.done ≡ t.done
-  pub more : (records : (epoch input : ℕ) → List Record) (entries : List Entry) (text : List ℕ) → HasReported s base t.done (reported_count t) records entries text → HasReportedMore s base t.done n u records entries text old new
+  pub more : (records : (epoch input : ℕ) → List Record) (entries : List Entry) (text : List ℕ)
+      → HasReported s base t.done (reported_count t) records entries text → HasReportedMore s base t.done n u records entries text old new
 
 -- the same at every output
 abbrev pub ReportsOpen : Shown → (base : ℕ) → (t u : Reporting) → (old new : List ℕ) → Type 0
@@ -181,7 +185,8 @@ pub record CanReport (s : Shown) (base : ℕ) (t : Reporting) (items : List Item
 
 abbrev pub Reports : Shown → (base : ℕ) → (t u : Reporting) → (begun sealed : ℕ) → (old new : List ℕ) → Type 0
 Reports s base t u begun sealed old new =
-    (items : List Item) (entries : List Entry) (text : List ℕ) → IsAllFed s base items → sealed ≤ begun → CanReport s base t items begun sealed entries text → HasAnswered s base u items begun sealed text old new
+    (items : List Item) (entries : List Entry) (text : List ℕ) → IsAllFed s base items → sealed ≤ begun
+    → CanReport s base t items begun sealed entries text → HasAnswered s base u items begun sealed text old new
 
 -- ---- answers
 
@@ -194,7 +199,8 @@ pub record IsOpenAnswer (base : ℕ) (t : Shown) (x y : Intake) (v : Reporting) 
 
 abbrev pub AnswersOpen : (base : ℕ) → (s t : Shown) → (x y : Intake) → (u v : Reporting) → (out : List ℕ) → Type 0
 AnswersOpen base s t x y u v out =
-    (items : List Item) (entries : List Entry) (text : List ℕ) → IsFed s base x items → CanReport s base u items x.begun (x.begun - 1) entries text → IsOpenAnswer base t x y v items text out s
+    (items : List Item) (entries : List Entry) (text : List ℕ) → IsFed s base x items
+    → CanReport s base u items x.begun (x.begun - 1) entries text → IsOpenAnswer base t x y v items text out s
 
 -- at the end of the input every epoch is complete
 pub record IsLastAnswer (base : ℕ) (t : Shown) (x : Intake) (v : Reporting) (items : List Item) (text out : List ℕ) (s : Shown) : Type 0 where
@@ -203,25 +209,30 @@ pub record IsLastAnswer (base : ℕ) (t : Shown) (x : Intake) (v : Reporting) (i
   pub reported : HasAnswered t base v items x.begun x.begun text [] out
 
 abbrev pub AnswersLast : (base : ℕ) → (s t : Shown) → (x : Intake) → (u v : Reporting) → (out : List ℕ) → Type 0
-AnswersLast base s t x u v out = (items : List Item) (entries : List Entry) (text : List ℕ) → IsFed s base x items → CanReport s base u items x.begun x.begun entries text → IsLastAnswer base t x v items text out s
+AnswersLast base s t x u v out =
+    (items : List Item) (entries : List Entry) (text : List ℕ) → IsFed s base x items
+    → CanReport s base u items x.begun x.begun entries text → IsLastAnswer base t x v items text out s
 
 -- ---- the whole
 
 -- how far lines were taken and answered, or how following ended there
 abbrev pub HasFollowedLines : GraphValue → (bytes : List ℕ) → (left start new : Option (List ℕ)) → Shown → Position → Result Taken Ending → Type 0
 HasFollowedLines g bytes left start new s p (Ok how) =
-    (w : IsWritten g s p.base p.intake p.reporting bytes p.pending.items start new) × Stops (shown_inputs g) bytes p.pending.items (length w.known.lines) w.known.items how
+    (w : IsWritten g s p.base p.intake p.reporting bytes p.pending.items start new)
+    × Stops (shown_inputs g) bytes p.pending.items (length w.known.lines) w.known.items how
 HasFollowedLines g bytes left start new s p (Err e) = Follows g bytes left start new (Err e)
 
 -- the same, whatever was taken before
 abbrev pub FollowsLines : List Input → (s t : Shown) → (p q : Position) → (old new : Option (List ℕ)) → Result Taken Ending → Type 0
 FollowsLines inputs s t p q old new result =
-    (g : GraphValue) (bytes : List ℕ) (left start : Option (List ℕ)) → inputs ≡ shown_inputs g → IsWritten g s p.base p.intake p.reporting bytes p.pending.items start old → HasFollowedLines g bytes left start new t q result
+    (g : GraphValue) (bytes : List ℕ) (left start : Option (List ℕ)) → inputs ≡ shown_inputs g
+    → IsWritten g s p.base p.intake p.reporting bytes p.pending.items start old → HasFollowedLines g bytes left start new t q result
 
 -- when an epoch has just begun, a new board may replace the old one
 abbrev pub Renews : GraphValue → (s t : Shown) → (p q : Position) → Type 0
 Renews g s t p q =
-    (bytes : List ℕ) (start now : Option (List ℕ)) (w : IsWritten g s p.base p.intake p.reporting bytes p.pending.items start now) → EndsInEpoch w.known.items → IsWritten g t q.base q.intake q.reporting bytes q.pending.items start now
+    (bytes : List ℕ) (start now : Option (List ℕ)) (w : IsWritten g s p.base p.intake p.reporting bytes p.pending.items start now)
+    → EndsInEpoch w.known.items → IsWritten g t q.base q.intake q.reporting bytes q.pending.items start now
 
 -- following goes on, or ends
 abbrev pub GoesOn : GraphValue → (bytes : List ℕ) → (left start new : Option (List ℕ)) → Shown → Position → Result (Unit {0}) Ending → Type 0
@@ -229,12 +240,17 @@ GoesOn g bytes left start new s p (Ok _) = IsPositionAfter g s p bytes start new
 GoesOn g bytes left start new s p (Err e) = Follows g bytes left start new (Err e)
 
 -- the same after a piece, from any position
-abbrev pub FollowsPiece : GraphValue → List Input → (s t : Shown) → (p q : Position) → (piece : List ℕ) → (old new : Option (List ℕ)) → Result (Unit {0}) Ending → Type 0
-FollowsPiece g inputs s t p q piece old new result = (bytes : List ℕ) (left start : Option (List ℕ)) → inputs ≡ shown_inputs g → IsPositionAfter g s p bytes start old → GoesOn g (bytes ++ piece) left start new t q result
+abbrev pub FollowsPiece : GraphValue → List Input → (s t : Shown) → (p q : Position) → (piece : List ℕ)
+    → (old new : Option (List ℕ)) → Result (Unit {0}) Ending → Type 0
+FollowsPiece g inputs s t p q piece old new result =
+    (bytes : List ℕ) (left start : Option (List ℕ)) → inputs ≡ shown_inputs g → IsPositionAfter g s p bytes start old
+    → GoesOn g (bytes ++ piece) left start new t q result
 
 -- following ends when nothing is left
 abbrev pub FollowsEnd : Shown → Position → (old new : Option (List ℕ)) → Result (Unit {0}) Ending → Type 0
-FollowsEnd s p old new result = (g : GraphValue) (bytes : List ℕ) (left start : Option (List ℕ)) → IsAtEnd left → IsPositionAfter g s p bytes start old → Follows g bytes left start new result
+FollowsEnd s p old new result =
+    (g : GraphValue) (bytes : List ℕ) (left start : Option (List ℕ)) → IsAtEnd left
+    → IsPositionAfter g s p bytes start old → Follows g bytes left start new result
 
 -- the whole input is followed, from its start
 abbrev pub FollowsAll : GraphValue → List Input → Shown → Position → (unread left old new : Option (List ℕ)) → Result (Unit {0}) Ending → Type 0

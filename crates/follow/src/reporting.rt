@@ -128,7 +128,16 @@ fn report_output<V: Views>(
         return Err(Halt::Incomplete);
     }
     let reported = reporting.reported[place];
-    match push_output(board, base, reporting.done, output, plain, name, reported, out) {
+    match push_output(
+        board,
+        base,
+        reporting.done,
+        output,
+        plain,
+        name,
+        reported,
+        out,
+    ) {
         Ok(count) => {
             reporting.reported[place] = count;
             Ok(())

@@ -51,19 +51,24 @@ fn refusals(rt: HostRuntime) {
         (b"input a/1; let b = a; output a = b; output b = a;", None),
         // b to q are 16 names, and r is one more
         (
-            b"input a/1;output b=a;output c=a;output d=a;output e=a;output f=a;output g=a;output h=a;output i=a;output j=a;output k=a;output l=a;output m=a;output n=a;output o=a;output p=a;output q=a;",
+            b"input a/1;output b=a;output c=a;output d=a;output e=a;output f=a;output g=a;output h=a;output i=a;output j=a;output k=a;output l=a;\
+            output m=a;output n=a;output o=a;output p=a;output q=a;",
             None,
         ),
         (
-            b"input a/1;output b=a;output c=a;output d=a;output e=a;output f=a;output g=a;output h=a;output i=a;output j=a;output k=a;output l=a;output m=a;output n=a;output o=a;output p=a;output q=a;output r=a;",
+            b"input a/1;output b=a;output c=a;output d=a;output e=a;output f=a;output g=a;output h=a;output i=a;output j=a;output k=a;output l=a;\
+            output m=a;output n=a;output o=a;output p=a;output q=a;output r=a;",
             told(23, 186, 192),
         ),
         (
-            b"input a/1;output iterate(1;b=a;iterate(1;c=a;iterate(1;d=a;iterate(1;e=a;iterate(1;f=a;iterate(1;g=a;iterate(1;h=a;iterate(1;i=a;iterate(1;j=a;iterate(1;k=a;iterate(1;l=a;iterate(1;m=a;iterate(1;n=a;iterate(1;o=a;iterate(1;p=a;iterate(1;q=a;a))))))))))))))));",
+            b"input a/1;output iterate(1;b=a;iterate(1;c=a;iterate(1;d=a;iterate(1;e=a;iterate(1;f=a;iterate(1;g=a;iterate(1;h=a;iterate(1;i=a;\
+            iterate(1;j=a;iterate(1;k=a;iterate(1;l=a;iterate(1;m=a;iterate(1;n=a;iterate(1;o=a;iterate(1;p=a;iterate(1;q=a;a))))))))))))))));",
             None,
         ),
         (
-            b"input a/1;output iterate(1;b=a;iterate(1;c=a;iterate(1;d=a;iterate(1;e=a;iterate(1;f=a;iterate(1;g=a;iterate(1;h=a;iterate(1;i=a;iterate(1;j=a;iterate(1;k=a;iterate(1;l=a;iterate(1;m=a;iterate(1;n=a;iterate(1;o=a;iterate(1;p=a;iterate(1;q=a;iterate(1;r=a;a)))))))))))))))));",
+            b"input a/1;output iterate(1;b=a;iterate(1;c=a;iterate(1;d=a;iterate(1;e=a;iterate(1;f=a;iterate(1;g=a;iterate(1;h=a;iterate(1;i=a;\
+            iterate(1;j=a;iterate(1;k=a;iterate(1;l=a;iterate(1;m=a;iterate(1;n=a;iterate(1;o=a;iterate(1;p=a;iterate(1;q=a;iterate(1;\
+            r=a;a)))))))))))))))));",
             told(18, 241, 257),
         ),
     ];

@@ -48,7 +48,8 @@ pub data RefusesInput (s : Setting) (w : World) (name : List ℕ) : (code : ℕ)
 -- of a feed: the same, then the fields make no record of the input
 pub data RefusesFeed (s : Setting) (w : World) (name : List ℕ) (fields : List ℤ) : (code : ℕ) → Type 0 where
   feed_input : (code : ℕ) → RefusesInput s w name code → RefusesFeed s w name fields code
-  misfit : (i arity : ℕ) → w.stopped ≡ false → IsInput s.inputs name i arity → w.closed i ≡ false → (MakeRecord arity fields → ⊥) → RefusesFeed s w name fields 33
+  misfit : (i arity : ℕ) → w.stopped ≡ false → IsInput s.inputs name i arity → w.closed i ≡ false
+      → (MakeRecord arity fields → ⊥) → RefusesFeed s w name fields 33
 
 -- of a seal: the same, then the open epoch is the last one
 pub data RefusesSeal (s : Setting) (w : World) (name : List ℕ) : (code : ℕ) → Type 0 where
@@ -70,7 +71,8 @@ pub record Takes (s : Setting) (x : State) (worker choice : ℕ) (taken : Step) 
 pub data RefusesPick (s : Setting) (x : State) (worker choice : ℕ) : (code : ℕ) → Type 0 where
   pick_stopped : x.world.stopped ≡ true → RefusesPick s x worker choice 37
   holds_event : x.world.stopped ≡ false → worker < s.workers → (x.world.held worker ≡ Held.nothing → ⊥) → RefusesPick s x worker choice 35
-  no_choice : x.world.stopped ≡ false → (worker < s.workers → x.world.held worker ≡ Held.nothing) → (SeesAllOf s x worker → (taken : Step) → Takes s x worker choice taken → ⊥) → RefusesPick s x worker choice 34
+  no_choice : x.world.stopped ≡ false → (worker < s.workers → x.world.held worker ≡ Held.nothing)
+      → (SeesAllOf s x worker → (taken : Step) → Takes s x worker choice taken → ⊥) → RefusesPick s x worker choice 34
 
 -- the worker doesn't exist, or holds no event, or one that was abandoned
 abbrev pub HasNothingHeld : Setting → World → (worker : ℕ) → Type 0
@@ -118,7 +120,8 @@ pub record PrintsOutput (s : Setting) (x : State) (epoch output : ℕ) (label te
 abbrev pub PrintsFrom : Setting → State → (epoch : ℕ) → (names : List Name) → (output : ℕ) → (text : List ℕ) → Type 0
 PrintsFrom s x epoch [] output text = text ≡ []
 PrintsFrom s x epoch (name ∷ names) output text =
-    (first rest : List ℕ) × PrintsOutput s x epoch output (label_of (is_plain s.outputs) name) first × PrintsFrom s x epoch names (output + 1) rest × (text ≡ first ++ rest)
+    (first rest : List ℕ) × PrintsOutput s x epoch output (label_of (is_plain s.outputs) name) first
+    × PrintsFrom s x epoch names (output + 1) rest × (text ≡ first ++ rest)
 
 -- the same for all outputs
 abbrev pub PrintsAnswer : Setting → State → (epoch : ℕ) → (text : List ℕ) → Type 0
@@ -153,27 +156,38 @@ HasNothingWaiting s x worker sender = worker < s.workers → sender ≤ s.worker
 -- From the state x the command prints this text and leaves this state: the one after the engine's step that it names; or x itself; or the one after
 -- the event that it took is abandoned and the engine stopped; or one with one batch fewer waiting.
 pub data Does (s : Setting) (x : State) : Command → State → (text : List ℕ) → Type 0 where
-  does_feed : (name : List ℕ) (fields : List ℤ) (i : ℕ) (waits : Waits) → IsInput s.inputs name i (length fields) → IsRecord fields → Allowed (net_of s) x.world (Step.feed i (fields ∷ []))
-      → FeedPosts s x (record { world = after_step (net_of s) x.world (Step.feed i (fields ∷ [])); waits = waits }) → Does s x (Command.feed name fields) (record { world = after_step (net_of s) x.world (Step.feed i (fields ∷ [])); waits = waits }) []
-  feed_refused : (name : List ℕ) (fields : List ℤ) (code : ℕ) → RefusesFeed s x.world name fields code → Does s x (Command.feed name fields) x (refusal_line code)
-  does_seal : (name : List ℕ) (i arity : ℕ) → IsInput s.inputs name i arity → Allowed (net_of s) x.world (Step.seal i) → Does s x (Command.seal name) (after_posting s x (Step.seal i) s.workers) []
+  does_feed : (name : List ℕ) (fields : List ℤ) (i : ℕ) (waits : Waits) → IsInput s.inputs name i (length fields)
+      → IsRecord fields → Allowed (net_of s) x.world (Step.feed i (fields ∷ []))
+      → FeedPosts s x (record { world = after_step (net_of s) x.world (Step.feed i (fields ∷ [])); waits = waits })
+      → Does s x (Command.feed name fields) (record { world = after_step (net_of s) x.world (Step.feed i (fields ∷ [])); waits = waits }) []
+  feed_refused : (name : List ℕ) (fields : List ℤ) (code : ℕ) → RefusesFeed s x.world name fields code
+      → Does s x (Command.feed name fields) x (refusal_line code)
+  does_seal : (name : List ℕ) (i arity : ℕ) → IsInput s.inputs name i arity → Allowed (net_of s) x.world (Step.seal i)
+      → Does s x (Command.seal name) (after_posting s x (Step.seal i) s.workers) []
   seal_refused : (name : List ℕ) (code : ℕ) → RefusesSeal s x.world name code → Does s x (Command.seal name) x (refusal_line code)
-  does_close : (name : List ℕ) (i arity : ℕ) → IsInput s.inputs name i arity → Allowed (net_of s) x.world (Step.close i) → Does s x (Command.close name) (after_posting s x (Step.close i) s.workers) []
+  does_close : (name : List ℕ) (i arity : ℕ) → IsInput s.inputs name i arity → Allowed (net_of s) x.world (Step.close i)
+      → Does s x (Command.close name) (after_posting s x (Step.close i) s.workers) []
   close_refused : (name : List ℕ) (code : ℕ) → RefusesInput s x.world name code → Does s x (Command.close name) x (refusal_line code)
   does_take : (worker choice : ℕ) (taken : Step) → Takes s x worker choice taken → Does s x (Command.take worker choice) (after_taking s x taken) []
   take_refused : (worker choice code : ℕ) → RefusesPick s x worker choice code → Does s x (Command.take worker choice) x (refusal_line code)
-  take_abandons : (worker choice : ℕ) (taken : Step) (event : Event) → Abandons s x worker choice taken event → Does s x (Command.take worker choice) (after_abandoning s x taken worker event) (refusal_line 39)
-  does_commit : (worker : ℕ) (event : Event) (out : ℕ → List Record) → Allowed (net_of s) x.world (Step.commit worker event out) → Does s x (Command.commit worker) (after_posting s x (Step.commit worker event out) worker) []
+  take_abandons : (worker choice : ℕ) (taken : Step) (event : Event) → Abandons s x worker choice taken event
+      → Does s x (Command.take worker choice) (after_abandoning s x taken worker event) (refusal_line 39)
+  does_commit : (worker : ℕ) (event : Event) (out : ℕ → List Record) → Allowed (net_of s) x.world (Step.commit worker event out)
+      → Does s x (Command.commit worker) (after_posting s x (Step.commit worker event out) worker) []
   commit_refused : (worker : ℕ) → HasNothingHeld s x.world worker → Does s x (Command.commit worker) x (refusal_line 36)
-  does_deliver : (worker choice : ℕ) (taken : Step) (event : Event) (out : ℕ → List Record) → Takes s x worker choice taken → Allowed (net_of s) (after_step (net_of s) x.world taken) (Step.commit worker event out)
+  does_deliver : (worker choice : ℕ) (taken : Step) (event : Event) (out : ℕ → List Record) → Takes s x worker choice taken
+      → Allowed (net_of s) (after_step (net_of s) x.world taken) (Step.commit worker event out)
       → Does s x (Command.deliver worker choice) (after_posting s (after_taking s x taken) (Step.commit worker event out) worker) []
   deliver_refused : (worker choice code : ℕ) → RefusesPick s x worker choice code → Does s x (Command.deliver worker choice) x (refusal_line code)
-  deliver_abandons : (worker choice : ℕ) (taken : Step) (event : Event) → Abandons s x worker choice taken event → Does s x (Command.deliver worker choice) (after_abandoning s x taken worker event) (refusal_line 39)
+  deliver_abandons : (worker choice : ℕ) (taken : Step) (event : Event) → Abandons s x worker choice taken event
+      → Does s x (Command.deliver worker choice) (after_abandoning s x taken worker event) (refusal_line 39)
   does_print : (epoch : ℕ) (text : List ℕ) → PrintsAnswer s x epoch text → Does s x (Command.print epoch) x text
-  does_apply : (worker sender rest : ℕ) → worker < s.workers → sender ≤ s.workers → x.waits worker sender ≡ suc rest → Does s x (Command.apply worker sender) (record { world = x.world; waits = waiting_now x.waits worker sender rest }) []
+  does_apply : (worker sender rest : ℕ) → worker < s.workers → sender ≤ s.workers → x.waits worker sender ≡ suc rest
+      → Does s x (Command.apply worker sender) (record { world = x.world; waits = waiting_now x.waits worker sender rest }) []
   apply_refused : (worker sender : ℕ) → HasNothingWaiting s x worker sender → Does s x (Command.apply worker sender) x (refusal_line 40)
 
 -- the commands lead from the state x, one after another, and print this text
 pub data Replays (s : Setting) (x : State) : List Command → State → (text : List ℕ) → Type 0 where
   replays_nothing : Replays s x [] x []
-  replays_more : (commands : List Command) (command : Command) (y z : State) (before text : List ℕ) → Replays s x commands y before → Does s y command z text → Replays s x (commands ++ command ∷ []) z (before ++ text)
+  replays_more : (commands : List Command) (command : Command) (y z : State) (before text : List ℕ) → Replays s x commands y before
+      → Does s y command z text → Replays s x (commands ++ command ∷ []) z (before ++ text)

@@ -34,7 +34,10 @@ pub fn law_graph_inputs(graph: &Graph)
 }
 
 /// The inputs of a graph, as the readers of texts need them.
-fn inputs_of<'a>(alloc: Global, inputs: &'a [DeclaredInput]) -> Result<Vec<Declared<'a>>, AllocError>
+fn inputs_of<'a>(
+    alloc: Global,
+    inputs: &'a [DeclaredInput],
+) -> Result<Vec<Declared<'a>>, AllocError>
     ensures { IfOk result (λ v. map plain v.items ≡ map input_of inputs.entry.now) }
 {
     let mut declared = Vec::with_capacity(alloc, inputs.len())?;
