@@ -97,7 +97,8 @@ fn push_output<V: Views>(
     out: &mut Vec<u8>,
 ) -> Result<usize, Halt>
     requires { IsOutputPlace board.now.shown output }
-    ensures { IfOk result (λ n. ReportsBatches (batches_of board.now.shown output done) (label_of plain name.now) (base + done) reported out.old.items out.new.items n) }
+    ensures { IfOk result (λ n. ReportsBatches (batches_of board.now.shown output done) (label_of plain name.now) (base + done) reported
+        out.old.items out.new.items n) }
 {
     let Some(epoch) = base.checked_add(done) else {
         return Err(Halt::Incomplete);
