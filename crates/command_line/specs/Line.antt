@@ -95,12 +95,12 @@ abbrev pub is_dot : GraphForm → Bool
 is_dot Lines = false
 is_dot Dot = true
 
--- so many workers are asked for: one where no word tells it
+-- this many workers are asked for: one if no word says how many
 abbrev pub AreAskedFor : Option Text → (workers : ℕ) → Type 0
 AreAskedFor None workers = workers ≡ 1
 AreAskedFor (Some word) workers = Spells word workers
 
--- a heap of that size is asked for; none where no word tells it
+-- a heap of that size is asked for; none if no word says its size
 abbrev pub IsAskedHeap : Option Text → Option HeapSize → Type 0
 IsAskedHeap None None = Unit {0}
 IsAskedHeap (Some word) (Some heap) = Spells word heap.bytes

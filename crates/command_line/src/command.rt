@@ -247,7 +247,7 @@ fn flag_of<'a>(found: &ArgMatches<'a>, id: &str) -> bool
     found.get_flag(id)
 }
 
-/// The options of a run on so many workers.
+/// The options of a run on that many workers.
 fn run_options<'a>(found: &ArgMatches<'a>, workers: Workers) -> Option<Options<'a>>
     requires { AreAskedFor (first_of (codes "workers") (rows_of (found_of found.now))) workers.count }
     ensures { IfSome result (HoldsAt (codes "run") (rows_of (found_of found.now))) }
@@ -293,7 +293,7 @@ fn followed_input<'a>(found: &ArgMatches<'a>) -> &'a str
     }
 }
 
-/// The options of following on so many workers.
+/// The options of following on that many workers.
 fn follow_options<'a>(found: &ArgMatches<'a>, workers: Workers) -> Option<Options<'a>>
     requires { AreAskedFor (first_of (codes "workers") (rows_of (found_of found.now))) workers.count }
     ensures { IfSome result (HoldsAt (codes "follow") (rows_of (found_of found.now))) }
@@ -337,7 +337,7 @@ fn graph_options<'a>(found: &ArgMatches<'a>, heap: Option<HeapSize>) -> Option<O
     })
 }
 
-/// The number of workers: one where no word tells it. A word that tells none is handed back.
+/// The number of workers: one if no word says it. A word that is no such number is given back.
 fn workers_of<'a>(found: &ArgMatches<'a>) -> Result<Workers, &'a str>
     ensures { IfOk result (λ w. AreAskedFor (first_of (codes "workers") (rows_of (found_of found.now))) w.count) }
 {
@@ -350,7 +350,7 @@ fn workers_of<'a>(found: &ArgMatches<'a>) -> Result<Workers, &'a str>
     }
 }
 
-/// The size of the heap: none where no word tells it. A word that tells none is handed back.
+/// The size of the heap: none if no word says it. A word that is no such number is given back.
 fn heap_of<'a>(found: &ArgMatches<'a>) -> Result<Option<HeapSize>, &'a str>
     ensures { IfOk result (IsAskedHeap (first_of (codes "heap") (rows_of (found_of found.now)))) }
 {
@@ -363,7 +363,7 @@ fn heap_of<'a>(found: &ArgMatches<'a>) -> Result<Option<HeapSize>, &'a str>
     }
 }
 
-/// The options of a replay on so many workers.
+/// The options of a replay on that many workers.
 fn replay_options<'a>(found: &ArgMatches<'a>, workers: Workers) -> Option<Options<'a>>
     requires { AreAskedFor (first_of (codes "workers") (rows_of (found_of found.now))) workers.count }
     ensures { IfSome result (HoldsAt (codes "replay") (rows_of (found_of found.now))) }

@@ -1,4 +1,4 @@
-//! The examples of the table of refusals, and what is told of faults that no short text brings.
+//! The examples of the table of refusals, and what is reported of faults that no short text brings.
 
 use collector::Watched;
 use console::{Fault, Texts, ViewKind, Watcher, Workers, check_query, replay_schedule, run};
@@ -71,7 +71,7 @@ fn replayed(rt: &HostRuntime, kind: ViewKind, schedule: &str) -> Result<String, 
     Ok(String::from_utf8(text)?)
 }
 
-/// The code that an example of the table is told with. A schedule prints it once and nothing else.
+/// The code that an example of the table is refused with. A schedule prints it once and nothing else.
 fn example_code(
     rt: &HostRuntime,
     threads: &(impl Threads + Wait + Sync),

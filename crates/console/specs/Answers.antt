@@ -15,7 +15,7 @@ use Rattle.diagnostics.specs.declared.fault.Fault.{Fault}
 use Rattle.diagnostics.specs.declared.fault.Fault.TheVariants.{Query, TooManyVertices, Input, Schedule, NoMemory, Count}
 use Rattle.diagnostics.specs.declared.fault.Fault.TheVariants.{NoWorker, Incomplete, ReadQuery, ReadInput, Write}
 
--- the text has, for each epoch of so many and each output, the multiset that the program means there on the records of its inputs
+-- the text has, for each of that many epochs and each output, the multiset that the program means there on the records of its inputs
 pub record IsAnswer (p : Program) (count : ℕ) (records : ℕ → ℕ → List Record) (text : List ℕ) : Type 0 where
   pub emitted : (output epoch : ℕ) → List Record
   pub meant : (output epoch : ℕ) → output < length p.outputs → epoch < count → emitted output epoch ≈ program_meaning p output (records epoch)

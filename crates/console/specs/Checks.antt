@@ -19,7 +19,7 @@ use Rattle.diagnostics.specs.declared.fault.Fault.TheVariants.{Count, NoWorker, 
 abbrev pub input_line : Input → List ℕ
 input_line i = codes "input " ++ (i.name ++ (codes "/" ++ (decimal i.arity ++ codes "\n")))
 
--- what tells an output before its arity: nothing where it is named `out`, and else `NAME/`
+-- what is written of an output before its arity: nothing where it is named `out`, and else `NAME/`
 abbrev pub output_label : List ℕ → List ℕ
 output_label name = if bytes_eq name (codes "out") then [] else name ++ codes "/"
 
@@ -41,7 +41,7 @@ arities_text inputs outputs arities = flat_map input_line inputs ++ output_lines
 abbrev pub check_text : Program → (arities : List ℕ) → List ℕ
 check_text p arities = arities_text p.inputs p.outputs arities
 
--- the query text reads as a well-typed program, and the text tells its inputs and its arities
+-- the query text reads as a well-typed program, and the text lists its inputs and its arities
 pub record IsChecked (query text : List ℕ) : Type 0 where
   pub tree : ProgramTree
   pub arities : List ℕ

@@ -44,7 +44,7 @@ IsUncompiled text (compile.Query code span) = IsRefusal text (At code span)
 IsUncompiled text compile.TooManyVertices = IsTooLarge text
 IsUncompiled text compile.NoMemory = Unit {0}
 
--- the same, as it is told
+-- the same, as it is reported
 abbrev pub IsQueryFault : List ℕ → Fault → Type 0
 IsQueryFault text (Query code start end) = IsRefusal text (At code (record { start = start; end = end }))
 IsQueryFault text TooManyVertices = IsTooLarge text

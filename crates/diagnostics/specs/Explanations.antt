@@ -7,7 +7,7 @@ use Rattle.diagnostics.specs.declared.fault.Fault.{Fault}
 use Rattle.diagnostics.specs.declared.fault.Fault.TheVariants.{Query, TooManyVertices, Input, Schedule, NoMemory, Count}
 use Rattle.diagnostics.specs.declared.fault.Fault.TheVariants.{NoWorker, Incomplete, ReadQuery, ReadInput, Write}
 
--- what the place covers, where one is told
+-- what the place covers, where there is one
 abbrev pub place_text : List ℕ → List ℕ
 place_text [] = []
 place_text (b ∷ bs) = codes " (the place covers " ++ ((b ∷ bs) ++ codes ")")

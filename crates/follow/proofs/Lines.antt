@@ -55,7 +55,7 @@ takes_more base s t u x y z v inputs text rest after line item takes cut says mo
       grows = grows_on s t u r.grows (moves.fed base r.later r.taken.fed).1;
     }
 
--- the same if the line begins an epoch, and no more are taken
+-- the same if the line begins an epoch, and it is the last to be taken
 pub took_epoch : (base : ℕ) (s t u : Shown) (x y z v : Intake) (inputs : List Input) (text rest after line : List ℕ) (item : Item) → Takes base s t x y inputs text rest → split_on 10 rest ≡ line ∷ split_on 10 after → Says inputs (base + y.begun) line item → TakesItem t u y z item → Counts z v → item ≡ Item.epoch
     → TakesLines base s u x v inputs text after taken.Epoch
 took_epoch base s t u x y z v inputs text rest after line item takes cut says moves counts is = λ bytes lines items h.

@@ -96,7 +96,7 @@ pub record Continues (items later : List Item) : Type 0 where
 abbrev pub EndsInEpoch : List Item → Type 0
 EndsInEpoch items = (before : List Item) × (items ≡ before ++ Item.epoch ∷ [])
 
--- why no more lines were taken: the rest is part of a line, the next line has a fault of that code, or an epoch has begun
+-- why taking lines stopped: the rest is part of a line, the next line has a fault of that code, or an epoch has begun
 abbrev pub Stops : List Input → (bytes rest : List ℕ) → (lines : ℕ) → List Item → Taken → Type 0
 Stops inputs bytes rest n items taken.Whole = split_on 10 rest ≡ rest ∷ []
 Stops inputs bytes rest n items (taken.Fault code) = IsRefused inputs bytes (At code (n + 1)) × (code ≡ 43 → ⊥)

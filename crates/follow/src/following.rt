@@ -158,7 +158,7 @@ fn follow_piece<R: Threads + Sync, W: Write>(
     Err(Ending::Incomplete)
 }
 
-/// Ends following once the reader has no more bytes.
+/// Ends following at the reader's end.
 fn follow_end<V: Views, R: Threads + Sync, W: Write>(
     rt: &R,
     alloc: Global,

@@ -1,4 +1,4 @@
-//! Writes out what was emitted.
+//! Reports what was emitted: the lines of records, and of epochs that are complete.
 
 ghost use Rattle.std.specs.Prelude.{◌≡◌, ◌<◌, ℕ, ◌+◌, ◌++◌, IfOk, IsTrue, OnOk, map};
 ghost use Rattle.board.specs.Promises.{HasPassed, IsOutputPlace};
@@ -17,7 +17,8 @@ use record_core::Name;
 use std::alloc::Global;
 use views::Views;
 
-/// The number of the board's epochs that are complete, and for each output the number of batches of the next epoch that were written.
+/// How far the answer is reported: the number of the board's epochs that are complete, and for each output the number of batches of the next
+/// epoch that were written.
 #[derive(Drop)]
 pub struct Reporting {
     pub done: u32,
@@ -36,7 +37,7 @@ impl Reporting {
         Ok(Reporting { done: 0, reported })
     }
 
-    /// Whether nothing was written of the first epoch that isn't complete.
+    /// Whether the report is between two epochs: nothing was written of the first one that isn't complete.
     pub fn is_between_epochs(&self) -> bool
         ensures { IsTrue result → (k : ℕ) → reported_count self.now k ≡ 0 }
     {

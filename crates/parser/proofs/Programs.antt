@@ -36,7 +36,7 @@ no_outputs text ts us vs is ls k m i l n p h d =
 pub program_at : (text : List ℕ) (ts us vs : List Token) (p : ProgramTree) (k n : ℕ) → Inputs text ts p.inputs us → Lets text us p.lets k vs → Outputs text vs p.outputs n → ReadsProgram text ts p (max k n)
 program_at text ts us vs p k n i l o = record { us = us; vs = vs; lets_height = k; outputs_height = n; inputs = i; lets = l; outputs = o; is = refl }
 
--- a fault in the program of a text's tokens, as it is told
+-- a fault in the program of a text's tokens, as a refusal
 pub told : (text : List ℕ) (ts : List Token) (f : Fault) (e : Refusal) → Lexes text ts → Denies f (NoProgram text ts) 64 → Tells f e → Refuses text e
 told text ts (fault.Unexpected s) (At code span) l d t = inr (ts, l, inl (t, d))
 told text ts (fault.TooHigh s) (At code span) l d t = inr (ts, l, inr (t.0, d))

@@ -35,7 +35,7 @@ Binds text ts l h us =
 abbrev pub BeginsNamed : List ℕ → List Token → Span → List Token → Type 0
 BeginsNamed text ts x us = (p : Span) × IsNameAt text x × (ts ≡ token kind.Name x ∷ mark_at mark.Equal p ∷ us)
 
--- what names an output whose keyword stands at s: NAME "=", or nothing
+-- what names an output whose keyword is at s: NAME "=", or nothing
 abbrev pub NamesOutput : List ℕ → (s : Span) → List Token → Span → List ℕ → List Token → Type 0
 NamesOutput text s ts x n us =
     (BeginsNamed text ts x us × (n ≡ piece text x)) ⊎ (((y : Span) (vs : List Token) → BeginsNamed text ts y vs → ⊥) × (x ≡ s) × (n ≡ default_name) × (us ≡ ts))

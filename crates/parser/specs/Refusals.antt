@@ -24,7 +24,7 @@ abbrev pub Refuses : List ℕ → Refusal → Type 0
 Refuses text NoMemory = Unit {0}
 Refuses text (At code span) = lexis.Refuses text (At code span) ⊎ ((ts : List Token) × Lexes text ts × IsUngrammatical text ts code)
 
--- how a fault is told
+-- the refusal for a fault
 abbrev pub Tells : Fault → Refusal → Type 0
 Tells (fault.Unexpected s) (At code span) = code ≡ 4
 Tells (fault.TooHigh s) (At code span) = (code ≡ 5) × (span ≡ s)

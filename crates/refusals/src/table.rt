@@ -6,12 +6,12 @@ ghost use Rattle.std.specs.List.{find};
 /// What a refusal means. Texts are UTF-8; a sentence of `text` is a line.
 #[derive(Clone, Copy, Debug, PartialEq, Eq)]
 pub struct Explanation {
-    /// The number by which it is told: 1 to 23 of queries, 31 to 40 of a schedule's steps, 41 to 47 of the lines of inputs, of which 43, 44
-    /// and 46 are told of a schedule's lines too.
+    /// Its number: 1 to 23 of queries, 31 to 40 of a schedule's steps, 41 to 47 of the lines of inputs, of which 43, 44 and 46 are of a
+    /// schedule's lines too.
     pub code: u8,
     /// What is wrong, in a phrase.
     pub summary: &'static str,
-    /// What the place covers that is told in the query. Empty where no place is told: of inputs and schedules the line is.
+    /// What the place in the query covers. Empty where a refusal names a line: those of inputs and schedules do.
     pub place: &'static str,
     /// What it means and what helps, in one to three lines.
     pub text: &'static str,

@@ -29,7 +29,7 @@ one_fault p f g h k = let a = sym (program_fault_told h) ∙ program_fault_told 
 pub same_arities : (p : ProgramTree) (ms ns : List ℕ) → WellTyped (plain_program p) ms → WellTyped (plain_program p) ns → ms ≡ ns
 same_arities p ms ns h k = let a = sym (program_typed_told p ms h) ∙ program_typed_told p ns k in cc
 
--- a refusal that the checks say is told of the program
+-- the checks refuse the program as they say
 pub says_told : (p : ProgramTree) (e : Refusal) → Says e (program_verdict p) → Told p e
 says_told p (At c s) h = program_told_fault p (fault c s) h
 says_told p NoMemory h = tt

@@ -1,4 +1,4 @@
--- A relation has a first fault exactly where the checks tell it.
+-- A relation has a first fault exactly where the checks report it.
 use Rattle.std.proofs.Common.{◌≡◌, ℕ, suc, ◌+◌, cond, nat_lt, nat_le, nat_eq, ◌∷◌, length, flat_map, Ok, Err, ap, subst}
 use Rattle.std.proofs.lemmas.Bool.{ltb-true, lt-ltb, leb-true, le-leb, leb-false, ltb-false}
 use Rattle.expr_tree.specs.Trees.{RelTree}
@@ -12,7 +12,7 @@ use Rattle.typing.specs.Verdict.{chain, within, unless_taken, known, sized, verd
 use Rattle.typing.proofs.Chains.{chain_is_err, within_is_err, unless_is_err, test_is_err, known_is_err, sized_is_err, arity_false, differ_false, above_false, least_false, false_differ}
 use Rattle.typing.proofs.Decided.{typed_told, told_typed}
 
--- a first fault is told
+-- a first fault is reported
 pub fault_told : {r : RelTree} {scope : Scope} {d : ℕ} {f : Fault} → FaultIn r scope d f → verdict r scope d ≡ Err f
 fault_told (FaultIn.unknown {s = s} h) = ap (λ o. known o s) h
 fault_told (FaultIn.select_part p) = rw (fault_told p)
@@ -42,7 +42,7 @@ fault_told (FaultIn.iterate_arity {n = n} {x = x} {r = r} {b = b} {scope = scope
 at_fault : (r : RelTree) (scope : Scope) (d : ℕ) (f g : Fault) → g ≡ f → FaultIn r scope d g → FaultIn r scope d f
 at_fault r scope d f g e h = subst (FaultIn r scope d) e h
 
--- a fault that is told is the first
+-- a fault that is reported is the first
 pub told_fault : (r : RelTree) (scope : Scope) (d : ℕ) (f : Fault) → verdict r scope d ≡ Err f → FaultIn r scope d f
 told_fault (RelTree.named s x) scope d f h = let k = known_is_err (lookup scope x) s f h in at_fault (RelTree.named s x) scope d f (fault UNKNOWN_NAME s) k.1 (FaultIn.unknown k.0)
 told_fault (RelTree.select s r ts) scope d f h =

@@ -1,4 +1,4 @@
--- A program is well typed exactly where the checks say so, and has a first fault exactly where they tell it.
+-- A program is well typed exactly where the checks say so, and has a first fault exactly where they report it.
 use Rattle.std.proofs.Common.{◌≡◌, ℕ, ◌+◌, ◌<◌, ◌≤◌, cond, nat_lt, List, [], ◌∷◌, ◌++◌, length, map, append_assoc, append-nil, ap, ◌∙◌, None, Result, Ok, Err, refl, sym, subst, arith}
 use Rattle.std.proofs.lemmas.Bool.{ltb-true, lt-ltb, ltb-false}
 use Rattle.std.proofs.lemmas.List.{length-map}

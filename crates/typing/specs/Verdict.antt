@@ -42,7 +42,7 @@ is_arity n = nat_lt 0 n && nat_le n max_fields
 abbrev pub sized : Span → ℕ → Result ℕ Fault
 sized s n = cond (is_arity n) (Ok n) (Err (fault BAD_ARITY s))
 
--- what follows once a loop in d others has no more turns than it may have, and isn't too deep
+-- what follows once a loop in d others hasn't too many turns, and isn't too deep
 abbrev pub within_limits : {X : Type 0} → (turns : ℕ) → Span → (d : ℕ) → Span → Result X Fault → Result X Fault
 within_limits n t d s v = cond (nat_le n max_turns) (cond (nat_lt d max_loops) v (Err (fault TOO_DEEP s))) (Err (fault TOO_MANY_TURNS t))
 
@@ -101,7 +101,7 @@ outputs_verdict scope os before = chain (each (output_verdict scope) os before) 
 abbrev pub program_verdict : ProgramTree → Result (List ℕ) Fault
 program_verdict p = chain (each input_verdict p.inputs []) (λ s. chain (each let_verdict p.lets s) (λ t. outputs_verdict t p.outputs []))
 
--- the refusal tells what the checks say, or that there was no memory
+-- the refusal is what the checks say, or says that there was no memory
 abbrev pub Says : {X : Type 0} → Refusal → Result X Fault → Type 0
 Says (At c s) v = v ≡ Err (fault c s)
 Says NoMemory v = Unit {0}

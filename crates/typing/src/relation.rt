@@ -60,7 +60,7 @@ fn form_arity(names: &mut Names, span: Span, fields: usize, more: usize) -> Resu
     }
 }
 
-/// Whether a loop may have so many turns.
+/// Whether a loop may have that many turns.
 fn may_turn(turns: u64) -> bool
     ensures { result ≡ nat_le turns max_turns }
 {

@@ -50,7 +50,7 @@ formed {k = k} ps s =
       said = rw (z.2, z.4) at c.first;
     }
 
--- what stands before a mark and after it
+-- what comes before a mark and after it
 pub record Halves (text : List ℕ) (m : Mark) (a b : List Piece) (ts us : List Token) : Type 0 where
   pub place : Span
   pub vs : List Token

@@ -15,7 +15,7 @@ kind_of (Word.column n) = kind.Column n
 kind_of (Word.mark m) = kind.Mark m
 kind_of (Word.keyword k) = kind.Keyword k
 
--- the word stands there in the text
+-- the word is there in the text
 abbrev pub Stands : List ℕ → Span → List ℕ → Type 0
 Stands text s w = (s.end ≤ length text) × (piece text s ≡ w)
 
