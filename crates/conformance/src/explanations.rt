@@ -125,8 +125,8 @@ fn holds(
 #[test]
 fn examples_of_the_table(rt: HostRuntime) -> Result<(), Fail> {
     for code in 0..=255 {
-        let is_told = matches!(code, 1..=6 | 11..=21 | 23 | 31..=47);
-        assert_eq!(rt; explanation_of(code).is_some(), is_told);
+        let is_known = matches!(code, 1..=6 | 11..=21 | 23 | 31..=47);
+        assert_eq!(rt; explanation_of(code).is_some(), is_known);
     }
     assert!(rt; explained("").is_none());
     for rows in [

@@ -175,8 +175,10 @@ fn is_refused<R: Threads + Wait + Sync>(
     taken: &[u8],
 ) -> bool {
     let shelf = Shelf { query: 9, other: 9 };
-    let (status, written, told) = ended(rt, alloc, words, shelf, writer);
-    status == 6 && written.as_slice() == taken && told.as_slice() == b"cannot write\n".as_slice()
+    let (status, written, reported) = ended(rt, alloc, words, shelf, writer);
+    status == 6
+        && written.as_slice() == taken
+        && reported.as_slice() == b"cannot write\n".as_slice()
 }
 
 /// Whether a line that can read all is answered by this text, or by a beginning of it where any write is refused, and by the bytes held
@@ -208,8 +210,8 @@ fn is_written<R: Threads + Wait + Sync>(
     }
     let shelf = Shelf { query: 9, other: 9 };
     let writer = room_for(alloc, text.len());
-    let (status, written, told) = ended(rt, alloc, words, shelf, writer);
-    status == 0 && written.as_slice() == text && told.is_empty()
+    let (status, written, reported) = ended(rt, alloc, words, shelf, writer);
+    status == 0 && written.as_slice() == text && reported.is_empty()
 }
 
 /// Commands that write once all is read: the words, how many reads the other text than the query takes, what is reported where one of them is
@@ -256,18 +258,18 @@ fn commands_that_fail(rt: HostRuntime) -> Result<(), Fail> {
         for query in 0..8 {
             let shelf = Shelf { query, other: 9 };
             let writer = room_for(rt.alloc(), 99);
-            let (status, written, told) = ended(&rt, rt.alloc(), words, shelf, writer);
+            let (status, written, reported) = ended(&rt, rt.alloc(), words, shelf, writer);
             assert_eq!(rt; status, 6);
             assert_eq!(rt; written.len(), 0);
-            assert_eq!(rt; told.as_slice(), b"cannot read q\n".as_slice());
+            assert_eq!(rt; reported.as_slice(), b"cannot read q\n".as_slice());
         }
         for other in 0..reads {
             let shelf = Shelf { query: 9, other };
             let writer = room_for(rt.alloc(), 99);
-            let (status, written, told) = ended(&rt, rt.alloc(), words, shelf, writer);
+            let (status, written, reported) = ended(&rt, rt.alloc(), words, shelf, writer);
             assert_eq!(rt; status, 6);
             assert_eq!(rt; written.len(), 0);
-            assert_eq!(rt; told.as_slice(), line.as_bytes());
+            assert_eq!(rt; reported.as_slice(), line.as_bytes());
         }
         let text = text.as_bytes();
         assert!(rt; is_written(&rt, rt.alloc(), words, text, text));
@@ -283,18 +285,18 @@ fn follow_that_fails(rt: HostRuntime) -> Result<(), Fail> {
     for query in 0..8 {
         let shelf = Shelf { query, other: 9 };
         let writer = room_for(rt.alloc(), 99);
-        let (status, written, told) = ended(&rt, rt.alloc(), FOLLOW, shelf, writer);
+        let (status, written, reported) = ended(&rt, rt.alloc(), FOLLOW, shelf, writer);
         assert_eq!(rt; status, 6);
         assert_eq!(rt; written.len(), 0);
-        assert_eq!(rt; told.as_slice(), b"cannot read q\n".as_slice());
+        assert_eq!(rt; reported.as_slice(), b"cannot read q\n".as_slice());
     }
     for (other, known) in ["", "", "", "", "0 1\n"].iter().enumerate() {
         let shelf = Shelf { query: 9, other };
         let writer = room_for(rt.alloc(), 99);
-        let (status, written, told) = ended(&rt, rt.alloc(), FOLLOW, shelf, writer);
+        let (status, written, reported) = ended(&rt, rt.alloc(), FOLLOW, shelf, writer);
         assert_eq!(rt; status, 6);
         assert_eq!(rt; written.as_slice(), known.as_bytes());
-        assert_eq!(rt; told.as_slice(), b"cannot read i\n".as_slice());
+        assert_eq!(rt; reported.as_slice(), b"cannot read i\n".as_slice());
     }
     assert!(rt; is_written(&rt, rt.alloc(), FOLLOW, b"0 1\ncomplete 0\n", b""));
     Ok(())

@@ -15,8 +15,8 @@ use Rattle.console.specs.InputChecks.{IsCheckedInput, IsInputCheckFault}
 
 module _ (query input : List ℕ) (tree : ProgramTree) (ns : List ℕ) (inputs : List Input) (read : Reads query tree) (typed : WellTyped (plain_program tree) ns) (same : inputs ≡ (plain_program tree).inputs) where
   pub both_checked : (text : List ℕ) (count : ℕ) (records : ℕ → ℕ → List Record) → text ≡ arities_text (plain_program tree).inputs (plain_program tree).outputs ns → IsInputText inputs input count records → IsCheckedInput query input text
-  both_checked text count records told epochs = record {
-    checked = record { tree = tree; arities = ns; read = read; typed = typed; told = told };
+  both_checked text count records is_text epochs = record {
+    checked = record { tree = tree; arities = ns; read = read; typed = typed; is_text = is_text };
     count = count;
     records = records;
     epochs = subst (λ is. IsInputText is input count records) same epochs;

@@ -47,7 +47,7 @@ pub record IsChecked (query text : List ℕ) : Type 0 where
   pub arities : List ℕ
   pub read : grammar.Reads query tree
   pub typed : WellTyped (plain_program tree) arities
-  pub told : text ≡ check_text (plain_program tree) arities
+  pub is_text : text ≡ check_text (plain_program tree) arities
 
 -- why a query text isn't checked: it is refused, or there was no memory
 abbrev pub IsCheckFault : List ℕ → Fault → Type 0

@@ -18,7 +18,7 @@ use Rattle.diagnostics.specs.declared.fault.Fault.TheVariants.{NoWorker, Incompl
 pub record IsCanonical (query text : List ℕ) : Type 0 where
   pub tree : ProgramTree
   pub read : grammar.Reads query tree
-  pub told : text ≡ program_text tree
+  pub is_text : text ≡ program_text tree
   pub back : length text ≤ max_length → ReadsAs text tree
 
 -- why a query text has no canonical form: it is no program, or there was no memory

@@ -275,7 +275,7 @@ fn write_fault<E: Write>(
 }
 
 /// Reports how a command has ended. Gives the status, which says it also where the writer of errors fails, here and below.
-fn tell<E: Write>(
+fn report<E: Write>(
     alloc: Global,
     asked: &Options,
     done: &Result<(), Fault>,
@@ -294,7 +294,7 @@ fn tell<E: Write>(
 }
 
 /// Reports which numbers refusals have, where none has the one that is to be explained.
-fn tell_numbers<E: Write>(asked: &Options, err: &mut E) -> u8
+fn report_numbers<E: Write>(asked: &Options, err: &mut E) -> u8
     ensures { result ≡ 2 }
 {
     if let Options::Explain { code } = asked {
@@ -408,8 +408,8 @@ fn obey<'a, R: Threads + Wait + Sync, S: Sources<'a>, W: Write, E: Write, O: Wri
 {
     let mut texts = Texts::new(alloc);
     match answer_asked(rt, alloc, sources, asked, &mut texts, out, err, watcher) {
-        Some(done) => tell(alloc, &asked, &done, &texts, err),
-        None => tell_numbers(&asked, err),
+        Some(done) => report(alloc, &asked, &done, &texts, err),
+        None => report_numbers(&asked, err),
     }
 }
 
@@ -426,15 +426,15 @@ pub fn refuse<E: Write>(fault: &LineFault, err: &mut E) -> u8
 
 /// What is reported of words that are refused, with escapes for what in them might disturb a terminal.
 fn refusal_text(alloc: Global, fault: &LineFault) -> io::Result<Vec<u8>> {
-    let told = format!(in alloc; "{fault}")?;
+    let text_of_fault = format!(in alloc; "{fault}")?;
     let mut text = Vec::new(alloc);
     if let LineFault::Line(_) = fault {
-        for line in told.lines() {
+        for line in text_of_fault.lines() {
             let line = Plain(line);
             writeln!(text, "{line}")?;
         }
     } else {
-        let line = Plain(told.as_str());
+        let line = Plain(text_of_fault.as_str());
         writeln!(text, "{line}")?;
     }
     Ok(text)

@@ -12,7 +12,7 @@ mod explanations;
 mod lines;
 mod sessions;
 
-use crate::explanations::{has_table, rows, tells};
+use crate::explanations::{has_table, is_explained, rows};
 use crate::lines::printed;
 use crate::sessions::{Session, sessions};
 use refusals::{Explanation, explanation_of};
@@ -23,7 +23,7 @@ use std::thread::Threads;
 use std::{env, fs, io};
 
 /// Reports a session that prints something else.
-fn tell(rt: &HostRuntime, path: &str, session: &Session, answered: &[u8]) -> io::Result<()> {
+fn report(rt: &HostRuntime, path: &str, session: &Session, answered: &[u8]) -> io::Result<()> {
     let (line, typed) = (session.line, session.typed);
     println!(rt; "{path}:{line}: `{typed}` prints")?;
     for text in String::from_utf8_lossy(rt.alloc(), answered)?.lines() {
@@ -43,7 +43,7 @@ fn replays(
     for session in sessions {
         let answered = printed(rt, threads, session.typed)?;
         if answered.as_slice() != session.printed.as_bytes() {
-            tell(rt, path, session, answered.as_slice())?;
+            report(rt, path, session, answered.as_slice())?;
             is_right = false;
         }
     }
@@ -69,13 +69,13 @@ fn explains(
     explanations: &[&'static Explanation],
 ) -> io::Result<bool> {
     let rows = rows(rt.alloc(), text)?;
-    let (told, all) = (rows.len(), explanations.len());
-    let mut is_right = told == all;
+    let (listed, all) = (rows.len(), explanations.len());
+    let mut is_right = listed == all;
     if !is_right {
-        println!(rt; "{path}: the table has {told} refusals, and there are {all}")?;
+        println!(rt; "{path}: the table has {listed} refusals, and there are {all}")?;
     }
     for (row, explanation) in rows.iter().zip(explanations) {
-        if !tells(row, explanation) {
+        if !is_explained(row, explanation) {
             let line = row.line;
             let (code, summary, place) = (explanation.code, explanation.summary, explanation.place);
             println!(rt; "{path}:{line}: this row should be")?;

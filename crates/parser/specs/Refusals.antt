@@ -25,8 +25,8 @@ Refuses text NoMemory = Unit {0}
 Refuses text (At code span) = lexis.Refuses text (At code span) ⊎ ((ts : List Token) × Lexes text ts × IsUngrammatical text ts code)
 
 -- the refusal for a fault
-abbrev pub Tells : Fault → Refusal → Type 0
-Tells (fault.Unexpected s) (At code span) = code ≡ 4
-Tells (fault.TooHigh s) (At code span) = (code ≡ 5) × (span ≡ s)
-Tells fault.NoMemory NoMemory = Unit {0}
-Tells f e = ⊥
+abbrev pub IsRefusalFor : Fault → Refusal → Type 0
+IsRefusalFor (fault.Unexpected s) (At code span) = code ≡ 4
+IsRefusalFor (fault.TooHigh s) (At code span) = (code ≡ 5) × (span ≡ s)
+IsRefusalFor fault.NoMemory NoMemory = Unit {0}
+IsRefusalFor f e = ⊥

@@ -7,7 +7,7 @@ ghost use Rattle.expr_tree.specs.Views.{program_tree};
 ghost use Rattle.grammar.specs.Programs.{ReadsProgram};
 ghost use Rattle.grammar.specs.Texts.{Reads};
 ghost use Rattle.parser.specs.Faults.{Denies};
-ghost use Rattle.parser.specs.Refusals.{NoProgram, Refuses, Tells};
+ghost use Rattle.parser.specs.Refusals.{NoProgram, Refuses, IsRefusalFor};
 
 use crate::fault::Fault;
 use crate::item::{parse_inputs, parse_lets};
@@ -38,7 +38,7 @@ fn parse_program<A: Allocator + Copy>(
 
 /// The refusal for a fault in a text of that length.
 fn refusal(fault: Fault, length: u32) -> Refusal
-    ensures { Tells fault result }
+    ensures { IsRefusalFor fault result }
 {
     let end = Span {
         start: length,

@@ -114,6 +114,6 @@ pub data FirstFault : ProgramTree → Fault → Type 0 where
       → RestFault p.lets p.outputs (after_inputs [] (map plain_input p.inputs)) f → FirstFault p f
 
 -- a numbered refusal is the first fault of the program; want of memory says nothing of it
-abbrev pub Told : ProgramTree → Refusal → Type 0
-Told p (At code span) = FirstFault p (fault code span)
-Told p NoMemory = Unit {0}
+abbrev pub HasFirstFault : ProgramTree → Refusal → Type 0
+HasFirstFault p (At code span) = FirstFault p (fault code span)
+HasFirstFault p NoMemory = Unit {0}

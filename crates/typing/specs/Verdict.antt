@@ -107,6 +107,6 @@ Says (At c s) v = v ≡ Err (fault c s)
 Says NoMemory v = Unit {0}
 
 -- the answer is what the checks say
-abbrev pub Tells : {X : Type 0} → Result X Refusal → Result X Fault → Type 0
-Tells (Ok n) v = v ≡ Ok n
-Tells (Err e) v = Says e v
+abbrev pub IsVerdict : {X : Type 0} → Result X Refusal → Result X Fault → Type 0
+IsVerdict (Ok n) v = v ≡ Ok n
+IsVerdict (Err e) v = Says e v
