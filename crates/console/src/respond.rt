@@ -1,6 +1,6 @@
 //! What a graph makes of epochs, computed and written.
 
-ghost use Rattle.std.specs.Prelude.{◌≡◌, ◌<◌, ◌≤◌, true, IsErrOf};
+ghost use Rattle.std.specs.Prelude.{◌≡◌, ◌<◌, true, IsErrOf};
 ghost use Rattle.collector.specs.Watching.{has_failed, inner_of};
 ghost use Rattle.console.specs.Answers.{RespondsBy};
 ghost use Rattle.execution.specs.Fed.{IsWorkedOff};

@@ -1,6 +1,6 @@
 //! Replaces the board between epochs, so that memory holds some epochs and not all.
 
-ghost use Rattle.std.specs.Prelude.{◌≡◌, IfOk, OnOk};
+ghost use Rattle.std.specs.Prelude.{IfOk, OnOk};
 ghost use Rattle.machine.specs.World.{opening};
 ghost use Rattle.board.specs.Promises.{IsOpening};
 ghost use Rattle.board.specs.Showing.{Shows};
