@@ -1,9 +1,8 @@
 -- Rows in batches, in which equal records are stored once.
-use Rattle.std.proofs.Common.{◌≡◌, ◌<◌, ◌+◌, ◌∙◌, ℕ, zero, suc, ℤ, Option, Some, None, List, [], ◌∷◌, ◌++◌, length, map, get_or, refl, sym, ap, subst, arith}
+use Rattle.std.proofs.Common.{◌≡◌, ◌+◌, ◌∙◌, ℕ, zero, suc, List, [], ◌∷◌, ◌++◌, length, map, get_or, refl, sym, ap, subst, arith}
 use Rattle.std.proofs.lemmas.List.{append-nil, length-append, map_push}
 use Rattle.semantics.specs.Multiset.{◌≈◌}
-use Rattle.semantics.proofs.MultisetSums.{append_same, ≈-from, ≈-refl, ≈-sym, ≈-trans}
-use Rattle.rows.specs.Counts.{records_in}
+use Rattle.semantics.proofs.MultisetSums.{append_same, ≈-from, ≈-refl, ≈-trans}
 use Rattle.rows.specs.FlatRows.{RowList, joined}
 use Rattle.rows.proofs.Joined.{joined_behind}
 use Rattle.collector.specs.Piles.{AreAlike, piled}

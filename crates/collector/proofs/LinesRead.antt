@@ -1,5 +1,5 @@
 -- The lines of an input text, read one after another.
-use Rattle.std.proofs.Common.{◌≡◌, ◌<◌, ◌≤◌, ◌+◌, ◌∙◌, ℕ, ℤ, List, [], ◌∷◌, ◌++◌, length, Bool, true, false, cond, refl, sym, ap, subst, arith, append_assoc, inl, inr, get_or}
+use Rattle.std.proofs.Common.{◌≡◌, ◌<◌, ◌≤◌, ◌+◌, ◌∙◌, ℕ, ℤ, List, [], ◌∷◌, ◌++◌, length, Bool, true, false, cond, refl, sym, ap, subst, arith, append_assoc, inl, inr}
 use Rattle.std.specs.Prelude.{◌==◌, ◌&&◌}
 use Rattle.std.proofs.lemmas.Bool.Decides.{eqb_tells}
 use Rattle.std.proofs.lemmas.List.{length-append, nil_from_length}
@@ -8,8 +8,7 @@ use Rattle.std.proofs.lemmas.List.Splits.{length-slice_split}
 use Rattle.semantics.specs.Query.{Input}
 use Rattle.collector.specs.Pieces.{split_on}
 use Rattle.collector.specs.Lines.{Item, Says, IsFault, code_of}
-use Rattle.collector.specs.InputText.{begun_after, epochs_after, records_in, LinesSay, IsInputText, IsReadFrom, IsRefused}
-use Rattle.collector.specs.Held.{epoch_count, records_at}
+use Rattle.collector.specs.InputText.{begun_after, epochs_after, records_in, LinesSay, IsReadFrom, IsRefused}
 use Rattle.collector.specs.Drafts.{draft_count, draft_records, IsKept}
 use Rattle.collector.specs.Growth.{IsEven, HasNone, Takes, CanTake}
 use Rattle.collector.specs.declared.draft.Draft.{Draft}

@@ -26,7 +26,8 @@ pub record Begins (e f : Draft) : Type 0 where
 pub record Gains (e f : Draft) (input : ℕ) (row : List ℤ) : Type 0 where
   pub count : draft_count f ≡ draft_count e
   pub inputs : length f.tracks.items ≡ length e.tracks.items
-  pub records : (epoch i : ℕ) → draft_records f epoch i ≡ (if (i == input) && (epoch + 1 == draft_count e) then draft_records e epoch i ++ row ∷ [] else draft_records e epoch i)
+  pub records : (epoch i : ℕ)
+      → draft_records f epoch i ≡ (if (i == input) && (epoch + 1 == draft_count e) then draft_records e epoch i ++ row ∷ [] else draft_records e epoch i)
   pub even : IsEven f
 
 -- the epochs can take what a line says

@@ -24,7 +24,8 @@ epochs_after epochs (item ∷ items) = epochs_after (begun_after epochs item) it
 abbrev pub records_in : ℕ → ℕ → ℕ → List Item → List (List ℤ)
 records_in epoch input begun [] = []
 records_in epoch input begun (Item.epoch ∷ items) = records_in epoch input (begun + 1) items
-records_in epoch input begun (Item.row i zs ∷ items) = if (input == i) && (epoch + 1 == begun) then zs ∷ records_in epoch input begun items else records_in epoch input begun items
+records_in epoch input begun (Item.row i zs ∷ items) =
+    if (input == i) && (epoch + 1 == begun) then zs ∷ records_in epoch input begun items else records_in epoch input begun items
 
 -- the lines say these items, one each
 abbrev pub LinesSay : List Input → ℕ → List (List ℕ) → List Item → Type 0
@@ -44,11 +45,15 @@ pub record IsInputText (inputs : List Input) (text : List ℕ) (count : ℕ) (re
 
 -- the text is these epochs: each has for each input the text's records, in some order
 abbrev pub IsReadFrom : List Input → (text : List ℕ) → Epochs → Type 0
-IsReadFrom inputs text e = (records : ℕ → ℕ → List (List ℤ)) × IsInputText inputs text (epoch_count e) records × ((epoch input : ℕ) → records_at e epoch input ≈ records epoch input)
+IsReadFrom inputs text e =
+    (records : ℕ → ℕ → List (List ℤ)) × IsInputText inputs text (epoch_count e) records × ((epoch input : ℕ) → records_at e epoch input ≈ records epoch input)
 
 -- A refusal names the first faulty line, counted from 1: the lines before it say items; and it has a fault, or it is the last line and has no line
 -- feed.
 abbrev pub IsRefused : List Input → List ℕ → InputRefusal → Type 0
 IsRefused inputs text NoMemory = Unit {0}
-IsRefused inputs text (At code number) = (before : List (List ℕ)) × (items : List Item) × LinesSay inputs 0 before items × (number ≡ length before + 1) × (line : List ℕ) × (rest : List (List ℕ)) × (split_on 10 text ≡ before ++ line ∷ rest)
-    × (((code ≡ 43) × (0 < length line) × (rest ≡ [])) ⊎ ((fault : Fault) × (code ≡ code_of fault) × (0 < length rest) × IsFault inputs (epochs_after 0 items) line fault))
+IsRefused inputs text (At code number) =
+    (before : List (List ℕ)) × (items : List Item) × LinesSay inputs 0 before items × (number ≡ length before + 1)
+    × (line : List ℕ) × (rest : List (List ℕ)) × (split_on 10 text ≡ before ++ line ∷ rest)
+    × (((code ≡ 43) × (0 < length line) × (rest ≡ []))
+    ⊎ ((fault : Fault) × (code ≡ code_of fault) × (0 < length rest) × IsFault inputs (epochs_after 0 items) line fault))

@@ -57,7 +57,8 @@ MakeRecord arity zs = (length zs ≡ arity) × IsRecord zs
 -- what a line says after that many epochs have begun
 abbrev pub Says : List Input → ℕ → List ℕ → Item → Type 0
 Says inputs epochs line Item.epoch = (line ≡ codes "epoch") × (epochs < max_epochs)
-Says inputs epochs line (Item.row i zs) = (name : List ℕ) × (rest : List (List ℕ)) × HasWords line name rest × (0 < epochs) × IsInput inputs name i (length zs) × IsRecord zs × AreNumbers rest zs
+Says inputs epochs line (Item.row i zs) =
+    (name : List ℕ) × (rest : List (List ℕ)) × HasWords line name rest × (0 < epochs) × IsInput inputs name i (length zs) × IsRecord zs × AreNumbers rest zs
 
 -- The fault of a line, the first in this order: one epoch too many; or a line that isn't well formed, a record before the first epoch, an unknown
 -- input, a word that isn't a number, a wrong number of fields.
@@ -66,8 +67,12 @@ IsFault inputs epochs line TooManyEpochs = (line ≡ codes "epoch") × (max_epoc
 IsFault inputs epochs line Malformed = (line ≢ codes "epoch") × ((name : List ℕ) (rest : List (List ℕ)) → HasWords line name rest → ⊥)
 IsFault inputs epochs line NoEpoch = (name : List ℕ) × (rest : List (List ℕ)) × HasWords line name rest × (epochs ≡ 0)
 IsFault inputs epochs line Unknown = (name : List ℕ) × (rest : List (List ℕ)) × HasWords line name rest × (0 < epochs) × IsAbsent inputs name
-IsFault inputs epochs line BadNumber = (name : List ℕ) × (rest : List (List ℕ)) × HasWords line name rest × (0 < epochs) × (i : ℕ) × (arity : ℕ) × IsInput inputs name i arity × ((zs : List ℤ) → AreNumbers rest zs → ⊥)
-IsFault inputs epochs line WrongFields = (name : List ℕ) × (rest : List (List ℕ)) × HasWords line name rest × (0 < epochs) × (i : ℕ) × (arity : ℕ) × IsInput inputs name i arity × (zs : List ℤ) × AreNumbers rest zs × (MakeRecord arity zs → ⊥)
+IsFault inputs epochs line BadNumber =
+    (name : List ℕ) × (rest : List (List ℕ)) × HasWords line name rest × (0 < epochs) × (i : ℕ) × (arity : ℕ)
+    × IsInput inputs name i arity × ((zs : List ℤ) → AreNumbers rest zs → ⊥)
+IsFault inputs epochs line WrongFields =
+    (name : List ℕ) × (rest : List (List ℕ)) × HasWords line name rest × (0 < epochs) × (i : ℕ) × (arity : ℕ)
+    × IsInput inputs name i arity × (zs : List ℤ) × AreNumbers rest zs × (MakeRecord arity zs → ⊥)
 
 -- the code of a fault
 abbrev pub code_of : Fault → ℕ

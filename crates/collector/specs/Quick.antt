@@ -29,7 +29,9 @@ pub record IsRowAt (inputs : List Input) (text : List ℕ) (fields : List ℤ) (
 
 -- what the first line of a text says, and the text after it; or its fault, or that it has no line feed
 abbrev pub NextEnds : List Input → ℕ → List ℕ → List ℤ → Result (Line × Bor (List ℕ)) Stop → Type 0
-NextEnds inputs epochs text fields (Ok r) = (line : List ℕ) × (split_on 10 text ≡ line ∷ split_on 10 r.1.now) × (length r.1.now < length text) × Says inputs epochs line (item_of r.0 fields)
+NextEnds inputs epochs text fields (Ok r) =
+    (line : List ℕ) × (split_on 10 text ≡ line ∷ split_on 10 r.1.now) × (length r.1.now < length text) × Says inputs epochs line (item_of r.0 fields)
 NextEnds inputs epochs text fields (Err stop.NoMemory) = Unit {0}
-NextEnds inputs epochs text fields (Err (stop.Fault fault)) = (line : List ℕ) × (after : List ℕ) × (split_on 10 text ≡ line ∷ split_on 10 after) × IsFault inputs epochs line fault
+NextEnds inputs epochs text fields (Err (stop.Fault fault)) =
+    (line : List ℕ) × (after : List ℕ) × (split_on 10 text ≡ line ∷ split_on 10 after) × IsFault inputs epochs line fault
 NextEnds inputs epochs text fields (Err stop.NoLineFeed) = split_on 10 text ≡ text ∷ []

@@ -32,7 +32,8 @@ RowEnds inputs name rest fields (Ok input) = IsInput inputs name input (length f
 RowEnds inputs name rest fields (Err error.NoMemory) = Unit {0}
 RowEnds inputs name rest fields (Err (error.Fault Unknown)) = IsAbsent inputs name
 RowEnds inputs name rest fields (Err (error.Fault BadNumber)) = (i : ℕ) × (arity : ℕ) × IsInput inputs name i arity × ((zs : List ℤ) → AreNumbers rest zs → ⊥)
-RowEnds inputs name rest fields (Err (error.Fault WrongFields)) = (i : ℕ) × (arity : ℕ) × IsInput inputs name i arity × (zs : List ℤ) × AreNumbers rest zs × (MakeRecord arity zs → ⊥)
+RowEnds inputs name rest fields (Err (error.Fault WrongFields)) =
+    (i : ℕ) × (arity : ℕ) × IsInput inputs name i arity × (zs : List ℤ) × AreNumbers rest zs × (MakeRecord arity zs → ⊥)
 RowEnds inputs name rest fields (Err (error.Fault Malformed)) = ⊥
 RowEnds inputs name rest fields (Err (error.Fault NoEpoch)) = ⊥
 RowEnds inputs name rest fields (Err (error.Fault TooManyEpochs)) = ⊥

@@ -1,6 +1,6 @@
 //! The epochs of an input text while it is read.
 
-ghost use Rattle.std.specs.Prelude.{◌≡◌, ◌<◌, ◌+◌, ℕ, ◌^◌, ◌-◌, OnOk, IfOk, length, slice_index_or, ◌==◌, ◌&&◌, if◌then◌else◌};
+ghost use Rattle.std.specs.Prelude.{◌≡◌, ◌<◌, ◌+◌, ◌^◌, ◌-◌, OnOk, IfOk, length};
 ghost use Rattle.record_core.specs.Records.{IsRecord};
 ghost use Rattle.collector.specs.Drafts.{draft_count, IsKept};
 ghost use Rattle.collector.specs.Growth.{HasNone, IsEven, Begins, Gains};

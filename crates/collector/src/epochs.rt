@@ -1,6 +1,6 @@
 //! The epochs of an input text.
 
-ghost use Rattle.std.specs.Prelude.{◌≡◌, IfOk, length};
+ghost use Rattle.std.specs.Prelude.{◌≡◌};
 ghost use Rattle.rows.specs.FlatRows.{joined};
 ghost use Rattle.collector.specs.Held.{epoch_count, records_at};
 

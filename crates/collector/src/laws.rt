@@ -9,9 +9,12 @@ ghost use Rattle.collector.specs.OutputText.{IsTextFrom};
 
 /// For the inputs of a query, a text either has one number of epochs with their records, or is refused with one code and line.
 pub fn law_one_reading()
-    ensures epochs { (inputs : List Input) (text : List ℕ) (m n : ℕ) (r s : ℕ → ℕ → List Record) → IsInputText inputs text m r → IsInputText inputs text n s → (m ≡ n) × ((epoch input : ℕ) → r epoch input ≡ s epoch input) }
-    ensures apart { (inputs : List Input) (text : List ℕ) (m : ℕ) (r : ℕ → ℕ → List Record) (code line : ℕ) → IsInputText inputs text m r → IsRefused inputs text (At code line) → ⊥ }
-    ensures refusal { (inputs : List Input) (text : List ℕ) (code line other place : ℕ) → IsRefused inputs text (At code line) → IsRefused inputs text (At other place) → (code ≡ other) × (line ≡ place) }
+    ensures epochs { (inputs : List Input) (text : List ℕ) (m n : ℕ) (r s : ℕ → ℕ → List Record) →
+        IsInputText inputs text m r → IsInputText inputs text n s → (m ≡ n) × ((epoch input : ℕ) → r epoch input ≡ s epoch input) }
+    ensures apart { (inputs : List Input) (text : List ℕ) (m : ℕ) (r : ℕ → ℕ → List Record) (code line : ℕ) →
+        IsInputText inputs text m r → IsRefused inputs text (At code line) → ⊥ }
+    ensures refusal { (inputs : List Input) (text : List ℕ) (code line other place : ℕ) →
+        IsRefused inputs text (At code line) → IsRefused inputs text (At other place) → (code ≡ other) × (line ≡ place) }
 {}
 
 /// Epochs with the same multisets at each output have one output text.

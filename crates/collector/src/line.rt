@@ -1,13 +1,11 @@
 //! Reads one line of an input text.
 
-ghost use Rattle.std.specs.Prelude.{◌≡◌, ◌≢◌, ◌<◌, ◌≤◌, ◌↔◌, ℕ, ℤ, List, [], ◌∷◌, ◌++◌, codes, length, map, true, false, IsTrue, IfSome, IfNone, IfOk, IfErr};
-ghost use Rattle.std.specs.Fmt.{signed_decimal};
+ghost use Rattle.std.specs.Prelude.{◌≡◌, ◌<◌, ◌↔◌, ℤ, List, [], ◌∷◌, codes, map, true, false, IsTrue, IfSome, IfNone, IfOk};
 ghost use Rattle.std.specs.List.{AllByRecursion, list_all};
 ghost use Rattle.record_core.specs.Names.{begins_name, is_name_byte};
-ghost use Rattle.record_core.specs.Records.{IsRecord};
 ghost use Rattle.collector.specs.Pieces.{split_on};
-ghost use Rattle.collector.specs.Lines.{AreNumbers, HasWords, IsAbsent, IsFault, IsFilled, IsInput, IsWord, MakeRecord, Says};
-ghost use Rattle.collector.specs.Said.{item_of, plain, words_of, LineEnds, RowEnds};
+ghost use Rattle.collector.specs.Lines.{AreNumbers, IsAbsent, IsFilled, IsInput, IsWord, MakeRecord};
+ghost use Rattle.collector.specs.Said.{plain, words_of, LineEnds, RowEnds};
 
 use crate::refusal::Fault;
 use crate::splitting::{around, find};

@@ -2,10 +2,10 @@
 //!
 //! A record that is read here is read correctly. Anything else, wrong or only spelled at more length, is left to the reader of lines.
 
-ghost use Rattle.std.specs.Prelude.{◌≡◌, ◌<◌, ◌≤◌, ◌^◌, ◌++◌, ◌∷◌, ℕ, List, length, take, drop, map, decimal, FitsSigned, IsTrue, ◌↔◌, IfOk, IfSome, IfNone};
+ghost use Rattle.std.specs.Prelude.{◌≡◌, ◌<◌, ◌≤◌, ◌^◌, ◌++◌, ◌∷◌, ℕ, List, length, take, map, decimal, FitsSigned, IsTrue, ◌↔◌, IfOk, IfSome, IfNone};
 ghost use Rattle.std.specs.Fmt.{signed_decimal};
 ghost use Rattle.std.specs.Int.{w64};
-ghost use Rattle.std.specs.List.{AllByRecursion, flat_map};
+ghost use Rattle.std.specs.List.{flat_map};
 ghost use Rattle.collector.specs.OutputText.{spaced};
 ghost use Rattle.collector.specs.Said.{plain};
 ghost use Rattle.collector.specs.Quick.{IsRowAt, Fit};

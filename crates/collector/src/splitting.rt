@@ -1,7 +1,6 @@
 //! Splits bytes at a byte.
 
-ghost use Rattle.std.specs.Prelude.{◌≡◌, ◌≢◌, ◌<◌, ℕ, map, length, slice_index, take, drop, ◌+◌, ◌++◌, ◌∷◌, [], IfSome, IfNone, IfOk};
-ghost use Rattle.collector.specs.Pieces.{split_on};
+ghost use Rattle.std.specs.Prelude.{◌≡◌, ◌≢◌, ◌<◌, ℕ, length, slice_index, take, drop, ◌+◌, IfSome, IfNone};
 
 use std::alloc::{AllocError, Global};
 

@@ -56,7 +56,8 @@ impl Track {
         requires some { 0 < length self.old }
         requires record { IsRecord row.now }
         ensures len { OnOk result (length self.new ≡ length self.old) }
-        ensures at { OnOk result ((k : ℕ) → slice_index_or self.new k [] ≡ (if k + 1 == length self.old then slice_index_or self.old k [] ++ row.now ∷ [] else slice_index_or self.old k [])) }
+        ensures at { OnOk result ((k : ℕ) → slice_index_or self.new k [] ≡
+            (if k + 1 == length self.old then slice_index_or self.old k [] ++ row.now ∷ [] else slice_index_or self.old k [])) }
     {
         make_room(alloc, &mut self.epochs, &mut self.last, row.len())?;
         self.last.push(row)?;
@@ -115,7 +116,8 @@ fn make_room(
     requires some { 1 ≤ arity }
     requires fits { arity ≤ 16 }
     ensures arity { OnOk result (last.new.arity ≡ arity) }
-    ensures same { OnOk result (with_open (map (λ v. piled v.items) epochs.new.items) last.new.rows ≡ with_open (map (λ v. piled v.items) epochs.old.items) last.old.rows) }
+    ensures same { OnOk result (with_open (map (λ v. piled v.items) epochs.new.items) last.new.rows ≡
+        with_open (map (λ v. piled v.items) epochs.old.items) last.old.rows) }
 {
     let full = last.len() >= BATCH;
     if !full && last.arity() == arity {

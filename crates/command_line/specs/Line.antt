@@ -28,7 +28,8 @@ option_rule id = record (new_rule id) { long = Some id; value_names = 1 }
 -- `check QUERY` or `check QUERY INPUT`, with or without `--heap BYTES` and `--explain`
 abbrev pub check_app : App
 check_app =
-    with_rule (with_rule (with_rule (with_rule (new_app (codes "check")) (option_rule (codes "heap"))) (flag_rule (codes "explain"))) (word_rule (codes "QUERY")))
+    with_rule
+    (with_rule (with_rule (with_rule (new_app (codes "check")) (option_rule (codes "heap"))) (flag_rule (codes "explain"))) (word_rule (codes "QUERY")))
     (optional_rule (codes "INPUT"))
 
 -- `graph QUERY`, with or without `--dot`, `--heap BYTES` and `--explain`
@@ -46,21 +47,26 @@ abbrev pub run_app : App
 run_app =
     with_rule
     (with_rule
-    (with_rule (with_rule (with_rule (with_rule (new_app (codes "run")) (option_rule (codes "workers"))) (flag_rule (codes "watch"))) (flag_rule (codes "stats"))) (flag_rule (codes "explain")))
+    (with_rule
+    (with_rule (with_rule (with_rule (new_app (codes "run")) (option_rule (codes "workers"))) (flag_rule (codes "watch"))) (flag_rule (codes "stats")))
+    (flag_rule (codes "explain")))
     (word_rule (codes "QUERY")))
     (word_rule (codes "INPUT"))
 
 -- `follow QUERY` or `follow QUERY INPUT`, with or without `--workers N` and `--explain`
 abbrev pub follow_app : App
 follow_app =
-    with_rule (with_rule (with_rule (with_rule (new_app (codes "follow")) (option_rule (codes "workers"))) (flag_rule (codes "explain"))) (word_rule (codes "QUERY")))
+    with_rule
+    (with_rule (with_rule (with_rule (new_app (codes "follow")) (option_rule (codes "workers"))) (flag_rule (codes "explain"))) (word_rule (codes "QUERY")))
     (optional_rule (codes "INPUT"))
 
 -- `replay QUERY SCHEDULE`, with or without `--workers N`, `--views` and `--explain`
 abbrev pub replay_app : App
 replay_app =
     with_rule
-    (with_rule (with_rule (with_rule (with_rule (new_app (codes "replay")) (option_rule (codes "workers"))) (flag_rule (codes "views"))) (flag_rule (codes "explain"))) (word_rule (codes "QUERY")))
+    (with_rule
+    (with_rule (with_rule (with_rule (new_app (codes "replay")) (option_rule (codes "workers"))) (flag_rule (codes "views"))) (flag_rule (codes "explain")))
+    (word_rule (codes "QUERY")))
     (word_rule (codes "SCHEDULE"))
 
 -- `explain CODE`
@@ -73,25 +79,28 @@ line_app =
     let top : App = record { top = record (new_app (codes "loom")).top { subcommand_required = true }; subs = [] } in
     with_subcommand
     (with_subcommand
-    (with_subcommand (with_subcommand (with_subcommand (with_subcommand (with_subcommand top run_app.top) follow_app.top) check_app.top) graph_app.top) format_app.top)
+    (with_subcommand
+    (with_subcommand (with_subcommand (with_subcommand (with_subcommand top run_app.top) follow_app.top) check_app.top) graph_app.top)
+    format_app.top)
     replay_app.top)
     explain_app.top
 
 -- the flag is what the matches hold of it
 abbrev pub IsFlag : Text → List Row → Bool → Type 0
-IsFlag id rows flag = (one_of id rows ≡ Some (codes "true") → flag ≡ true) × (one_of id rows ≡ Some (codes "false") → flag ≡ false) × (one_of id rows ≡ None → flag ≡ false)
+IsFlag id rows flag =
+    (one_of id rows ≡ Some (codes "true") → flag ≡ true) × (one_of id rows ≡ Some (codes "false") → flag ≡ false) × (one_of id rows ≡ None → flag ≡ false)
 
 -- a graph is drawn where the flag is given
 abbrev pub is_dot : GraphForm → Bool
 is_dot Lines = false
 is_dot Dot = true
 
--- so many workers are asked for: one where no word tells it
+-- this many workers are asked for: one if no word says how many
 abbrev pub AreAskedFor : Option Text → (workers : ℕ) → Type 0
 AreAskedFor None workers = workers ≡ 1
 AreAskedFor (Some word) workers = Spells word workers
 
--- a heap of that size is asked for; none where no word tells it
+-- a heap of that size is asked for; none if no word says its size
 abbrev pub IsAskedHeap : Option Text → Option HeapSize → Type 0
 IsAskedHeap None None = Unit {0}
 IsAskedHeap (Some word) (Some heap) = Spells word heap.bytes
@@ -106,20 +115,25 @@ IsAskedInput (Some word) input = input ≡ word
 -- the options are what the matches of a command hold
 abbrev pub HoldsAt : Text → List Row → Options → Type 0
 HoldsAt name rows (Run query input workers watch stats explain) =
-    (name ≡ codes "run") × (first_of (codes "QUERY") rows ≡ Some query.now) × (first_of (codes "INPUT") rows ≡ Some input.now) × AreAskedFor (first_of (codes "workers") rows) workers.count
+    (name ≡ codes "run") × (first_of (codes "QUERY") rows ≡ Some query.now) × (first_of (codes "INPUT") rows ≡ Some input.now)
+    × AreAskedFor (first_of (codes "workers") rows) workers.count
     × IsFlag (codes "watch") rows watch × IsFlag (codes "stats") rows stats × IsFlag (codes "explain") rows explain
 HoldsAt name rows (Follow query input workers explain) =
-    (name ≡ codes "follow") × (first_of (codes "QUERY") rows ≡ Some query.now) × IsAskedInput (first_of (codes "INPUT") rows) input.now × AreAskedFor (first_of (codes "workers") rows) workers.count
+    (name ≡ codes "follow") × (first_of (codes "QUERY") rows ≡ Some query.now) × IsAskedInput (first_of (codes "INPUT") rows) input.now
+    × AreAskedFor (first_of (codes "workers") rows) workers.count
     × IsFlag (codes "explain") rows explain
 HoldsAt name rows (Check query input heap explain) =
-    (name ≡ codes "check") × (first_of (codes "QUERY") rows ≡ Some query.now) × (option_map (λ s. s.now) input ≡ first_of (codes "INPUT") rows) × IsAskedHeap (first_of (codes "heap") rows) heap
+    (name ≡ codes "check") × (first_of (codes "QUERY") rows ≡ Some query.now) × (option_map (λ s. s.now) input ≡ first_of (codes "INPUT") rows)
+    × IsAskedHeap (first_of (codes "heap") rows) heap
     × IsFlag (codes "explain") rows explain
 HoldsAt name rows (Graph query form heap explain) =
-    (name ≡ codes "graph") × (first_of (codes "QUERY") rows ≡ Some query.now) × IsFlag (codes "dot") rows (is_dot form) × IsAskedHeap (first_of (codes "heap") rows) heap
+    (name ≡ codes "graph") × (first_of (codes "QUERY") rows ≡ Some query.now) × IsFlag (codes "dot") rows (is_dot form)
+    × IsAskedHeap (first_of (codes "heap") rows) heap
     × IsFlag (codes "explain") rows explain
 HoldsAt name rows (Format query explain) = (name ≡ codes "format") × (first_of (codes "QUERY") rows ≡ Some query.now) × IsFlag (codes "explain") rows explain
 HoldsAt name rows (Replay query schedule workers views explain) =
-    (name ≡ codes "replay") × (first_of (codes "QUERY") rows ≡ Some query.now) × (first_of (codes "SCHEDULE") rows ≡ Some schedule.now) × AreAskedFor (first_of (codes "workers") rows) workers.count
+    (name ≡ codes "replay") × (first_of (codes "QUERY") rows ≡ Some query.now) × (first_of (codes "SCHEDULE") rows ≡ Some schedule.now)
+    × AreAskedFor (first_of (codes "workers") rows) workers.count
     × IsFlag (codes "views") rows views × IsFlag (codes "explain") rows explain
 HoldsAt name rows (Explain code) = (name ≡ codes "explain") × (first_of (codes "CODE") rows ≡ Some code.now)
 

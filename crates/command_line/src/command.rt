@@ -3,7 +3,9 @@
 ghost use Rattle.std.specs.Prelude.{◌≡◌, map, option_map, IfErr, IfOk, IfSome, IsErrOf, codes, false};
 ghost use Rattle.clap.specs.Words.{app_of, first_of, found_of, new_app, rows_of, rule_of};
 ghost use Rattle.clap.specs.declared.builder.Command.TheViews.{out-Command as fields_of};
-ghost use Rattle.command_line.specs.Line.{AreAskedFor, AsksTwice, Asks, Holds, HoldsAt, IsAskedHeap, IsAskedInput, IsFlag, check_app, explain_app, flag_rule, follow_app, format_app, graph_app, line_app, option_rule, optional_rule, replay_app, run_app, word_rule};
+ghost use Rattle.command_line.specs.Line.{AreAskedFor, AsksTwice, Asks, Holds, HoldsAt, IsAskedHeap, IsAskedInput, IsFlag};
+ghost use Rattle.command_line.specs.Line.{check_app, explain_app, flag_rule, follow_app, format_app, graph_app, line_app, option_rule};
+ghost use Rattle.command_line.specs.Line.{optional_rule, replay_app, run_app, word_rule};
 ghost use Rattle.command_line.specs.Faults.{IsOfWords};
 ghost use Rattle.command_line.specs.declared.line_fault.LineFault.TheVariants as fault;
 
@@ -28,7 +30,8 @@ const SCHEDULE: &str = "The file with the schedule; - is standard input";
 
 /// The last lines of the help: how errors are explained, the statuses, and where the language is described.
 const LAST_LINES: &str =
-    "An error is one line; with --explain more lines show its place and what is wrong there\nExit status: 0 done, 2 command line, 3 query, 4 input or schedule, 5 memory, count or threads, 6 file\nThe language: LANGUAGE.md";
+    "An error is one line; with --explain more lines show its place and what is wrong there\n\
+    Exit status: 0 done, 2 command line, 3 query, 4 input or schedule, 5 memory, count or threads, 6 file\nThe language: LANGUAGE.md";
 
 /// A word that has to be given, with its line of help.
 fn word_arg<'a>(alloc: Global, id: &'a str, about: &'a str) -> Arg<'a>
@@ -244,7 +247,7 @@ fn flag_of<'a>(found: &ArgMatches<'a>, id: &str) -> bool
     found.get_flag(id)
 }
 
-/// The options of a run on so many workers.
+/// The options of a run on that many workers.
 fn run_options<'a>(found: &ArgMatches<'a>, workers: Workers) -> Option<Options<'a>>
     requires { AreAskedFor (first_of (codes "workers") (rows_of (found_of found.now))) workers.count }
     ensures { IfSome result (HoldsAt (codes "run") (rows_of (found_of found.now))) }
@@ -290,7 +293,7 @@ fn followed_input<'a>(found: &ArgMatches<'a>) -> &'a str
     }
 }
 
-/// The options of following on so many workers.
+/// The options of following on that many workers.
 fn follow_options<'a>(found: &ArgMatches<'a>, workers: Workers) -> Option<Options<'a>>
     requires { AreAskedFor (first_of (codes "workers") (rows_of (found_of found.now))) workers.count }
     ensures { IfSome result (HoldsAt (codes "follow") (rows_of (found_of found.now))) }
@@ -334,7 +337,7 @@ fn graph_options<'a>(found: &ArgMatches<'a>, heap: Option<HeapSize>) -> Option<O
     })
 }
 
-/// The number of workers: one where no word tells it. A word that tells none is handed back.
+/// The number of workers: one if no word says it. A word that is no such number is given back.
 fn workers_of<'a>(found: &ArgMatches<'a>) -> Result<Workers, &'a str>
     ensures { IfOk result (λ w. AreAskedFor (first_of (codes "workers") (rows_of (found_of found.now))) w.count) }
 {
@@ -347,7 +350,7 @@ fn workers_of<'a>(found: &ArgMatches<'a>) -> Result<Workers, &'a str>
     }
 }
 
-/// The size of the heap: none where no word tells it. A word that tells none is handed back.
+/// The size of the heap: none if no word says it. A word that is no such number is given back.
 fn heap_of<'a>(found: &ArgMatches<'a>) -> Result<Option<HeapSize>, &'a str>
     ensures { IfOk result (IsAskedHeap (first_of (codes "heap") (rows_of (found_of found.now)))) }
 {
@@ -360,7 +363,7 @@ fn heap_of<'a>(found: &ArgMatches<'a>) -> Result<Option<HeapSize>, &'a str>
     }
 }
 
-/// The options of a replay on so many workers.
+/// The options of a replay on that many workers.
 fn replay_options<'a>(found: &ArgMatches<'a>, workers: Workers) -> Option<Options<'a>>
     requires { AreAskedFor (first_of (codes "workers") (rows_of (found_of found.now))) workers.count }
     ensures { IfSome result (HoldsAt (codes "replay") (rows_of (found_of found.now))) }

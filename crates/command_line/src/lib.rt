@@ -1,7 +1,8 @@
 //! The command line: its words, what they ask for, and why they are refused.
 //!
 //! `options` reads the words. The contract for the layer above: the options are what the matches of the words hold, by clap's own
-//! definition of what matches, and of two texts at most one is standard input. Nothing of Loom stands below, only `clap` and `thiserror`; the console does what the options ask for.
+//! definition of what matches, and of two texts at most one is standard input. Of Loom it uses no crate, only `clap` and `thiserror`; the console
+//! does what the options ask for.
 #![tactic(auto)]
 
 mod command;

@@ -6,7 +6,7 @@ use crate::worker_count::Workers;
 /// What the words of the line ask for. Paths are kept as they were given.
 #[derive(Clone, Copy, Debug, PartialEq, Eq)]
 pub enum Options<'a> {
-    /// `loom run QUERY INPUT`, on one worker or `--workers N`; with `--watch` it tells how many epochs have passed, with `--stats` what
+    /// `loom run QUERY INPUT`, on one worker or `--workers N`; with `--watch` it says how many epochs have passed, with `--stats` what
     /// each vertex did; and a fault explained with `--explain`
     Run {
         query: &'a str,

@@ -1,4 +1,4 @@
-//! The examples of the table of refusals, and what is told of faults that no short text brings.
+//! The examples of the table of refusals, and what is reported of faults that no short text brings.
 
 use collector::Watched;
 use console::{Fault, Texts, ViewKind, Watcher, Workers, check_query, replay_schedule, run};
@@ -71,7 +71,7 @@ fn replayed(rt: &HostRuntime, kind: ViewKind, schedule: &str) -> Result<String, 
     Ok(String::from_utf8(text)?)
 }
 
-/// The code that an example of the table is told with. A schedule prints it once and nothing else.
+/// The code that an example of the table is refused with. A schedule prints it once and nothing else.
 fn example_code(
     rt: &HostRuntime,
     threads: &(impl Threads + Wait + Sync),
@@ -125,8 +125,8 @@ fn holds(
 #[test]
 fn examples_of_the_table(rt: HostRuntime) -> Result<(), Fail> {
     for code in 0..=255 {
-        let is_told = matches!(code, 1..=6 | 11..=21 | 23 | 31..=47);
-        assert_eq!(rt; explanation_of(code).is_some(), is_told);
+        let is_known = matches!(code, 1..=6 | 11..=21 | 23 | 31..=47);
+        assert_eq!(rt; explanation_of(code).is_some(), is_known);
     }
     assert!(rt; explained("").is_none());
     for rows in [

@@ -54,7 +54,7 @@ fn lines(rt: HostRuntime) -> Result<(), Fail> {
     Ok(())
 }
 
-/// A reader that gives a text, at most three bytes at a time, and fails after so many reads.
+/// A reader that gives a text, at most three bytes at a time, and fails after that many reads.
 #[derive(Drop)]
 struct Slow<'a> {
     text: &'a [u8],
@@ -106,7 +106,7 @@ impl Write for Full {
     }
 }
 
-/// The query `q`, the input `i` and the schedule `s`, whose readers fail after so many reads: the query's, and the others'.
+/// The query `q`, the input `i` and the schedule `s`, whose readers fail after that many reads: the query's, and the others'.
 #[derive(Clone, Copy)]
 struct Shelf {
     query: usize,
@@ -134,7 +134,7 @@ impl<'a> Sources<'a> for Shelf {
     }
 }
 
-/// A writer with room for so many bytes, which fails beyond that.
+/// A writer with room for that many bytes, which fails beyond that.
 fn room_for(alloc: Global, room: usize) -> Full {
     Full {
         room,
@@ -144,7 +144,7 @@ fn room_for(alloc: Global, room: usize) -> Full {
     }
 }
 
-/// How a line ends over these texts: its status, what was written, and what was told.
+/// How a line ends over these texts: its status, what was written, and what was reported.
 fn ended<'a, R: Threads + Wait + Sync>(
     rt: &R,
     alloc: Global,
@@ -175,8 +175,10 @@ fn is_refused<R: Threads + Wait + Sync>(
     taken: &[u8],
 ) -> bool {
     let shelf = Shelf { query: 9, other: 9 };
-    let (status, written, told) = ended(rt, alloc, words, shelf, writer);
-    status == 6 && written.as_slice() == taken && told.as_slice() == b"cannot write\n".as_slice()
+    let (status, written, reported) = ended(rt, alloc, words, shelf, writer);
+    status == 6
+        && written.as_slice() == taken
+        && reported.as_slice() == b"cannot write\n".as_slice()
 }
 
 /// Whether a line that can read all is answered by this text, or by a beginning of it where any write is refused, and by the bytes held
@@ -208,11 +210,11 @@ fn is_written<R: Threads + Wait + Sync>(
     }
     let shelf = Shelf { query: 9, other: 9 };
     let writer = room_for(alloc, text.len());
-    let (status, written, told) = ended(rt, alloc, words, shelf, writer);
-    status == 0 && written.as_slice() == text && told.is_empty()
+    let (status, written, reported) = ended(rt, alloc, words, shelf, writer);
+    status == 0 && written.as_slice() == text && reported.is_empty()
 }
 
-/// Commands that write once all is read: the words, how many reads the other text than the query takes, what is told where one of them is
+/// Commands that write once all is read: the words, how many reads the other text than the query takes, what is reported where one of them is
 /// refused, and the answer.
 const COMMANDS: [(&[&str], usize, &str, &str); 7] = [
     (
@@ -256,18 +258,18 @@ fn commands_that_fail(rt: HostRuntime) -> Result<(), Fail> {
         for query in 0..8 {
             let shelf = Shelf { query, other: 9 };
             let writer = room_for(rt.alloc(), 99);
-            let (status, written, told) = ended(&rt, rt.alloc(), words, shelf, writer);
+            let (status, written, reported) = ended(&rt, rt.alloc(), words, shelf, writer);
             assert_eq!(rt; status, 6);
             assert_eq!(rt; written.len(), 0);
-            assert_eq!(rt; told.as_slice(), b"cannot read q\n".as_slice());
+            assert_eq!(rt; reported.as_slice(), b"cannot read q\n".as_slice());
         }
         for other in 0..reads {
             let shelf = Shelf { query: 9, other };
             let writer = room_for(rt.alloc(), 99);
-            let (status, written, told) = ended(&rt, rt.alloc(), words, shelf, writer);
+            let (status, written, reported) = ended(&rt, rt.alloc(), words, shelf, writer);
             assert_eq!(rt; status, 6);
             assert_eq!(rt; written.len(), 0);
-            assert_eq!(rt; told.as_slice(), line.as_bytes());
+            assert_eq!(rt; reported.as_slice(), line.as_bytes());
         }
         let text = text.as_bytes();
         assert!(rt; is_written(&rt, rt.alloc(), words, text, text));
@@ -277,30 +279,30 @@ fn commands_that_fail(rt: HostRuntime) -> Result<(), Fail> {
 
 const FOLLOW: &[&str] = &["loom", "follow", "q", "i"];
 
-/// What `follow` has told before a read is refused stays: the record's line, once the line feed behind it came with the fourth read.
+/// What `follow` has written before a read is refused stays: the record's line, once the line feed behind it came with the fourth read.
 #[test]
 fn follow_that_fails(rt: HostRuntime) -> Result<(), Fail> {
     for query in 0..8 {
         let shelf = Shelf { query, other: 9 };
         let writer = room_for(rt.alloc(), 99);
-        let (status, written, told) = ended(&rt, rt.alloc(), FOLLOW, shelf, writer);
+        let (status, written, reported) = ended(&rt, rt.alloc(), FOLLOW, shelf, writer);
         assert_eq!(rt; status, 6);
         assert_eq!(rt; written.len(), 0);
-        assert_eq!(rt; told.as_slice(), b"cannot read q\n".as_slice());
+        assert_eq!(rt; reported.as_slice(), b"cannot read q\n".as_slice());
     }
     for (other, known) in ["", "", "", "", "0 1\n"].iter().enumerate() {
         let shelf = Shelf { query: 9, other };
         let writer = room_for(rt.alloc(), 99);
-        let (status, written, told) = ended(&rt, rt.alloc(), FOLLOW, shelf, writer);
+        let (status, written, reported) = ended(&rt, rt.alloc(), FOLLOW, shelf, writer);
         assert_eq!(rt; status, 6);
         assert_eq!(rt; written.as_slice(), known.as_bytes());
-        assert_eq!(rt; told.as_slice(), b"cannot read i\n".as_slice());
+        assert_eq!(rt; reported.as_slice(), b"cannot read i\n".as_slice());
     }
     assert!(rt; is_written(&rt, rt.alloc(), FOLLOW, b"0 1\ncomplete 0\n", b""));
     Ok(())
 }
 
-/// A line ends with its fault's status, also where the fault can't be told.
+/// A line ends with its fault's status, also where the fault can't be reported.
 #[test]
 fn lines_that_fail(rt: HostRuntime) -> Result<(), Fail> {
     let words = ["loom", "run", "q", "i"];

@@ -12,14 +12,19 @@ const LOOP: &str =
     "input e/2; output iterate(3; x = e; distinct(concat(x, select(join(x, e; #1 = #0); #0, #3))));";
 
 const LOOP_GRAPH: &str =
-    "0 input 0 <-\n1 ingress 0 <- 0.0\n2 concat 1 <- 1.0 12.0\n3 gate(3) 1 <- 2.0\n4 ingress 0 <- 0.0\n5 concat 1 <- 4.0 7.0\n6 hold(3) 1 <- 5.0\n7 feedback 1 <- 6.1\n8 join 1 <- 3.0 6.0\n9 select 1 <- 8.0\n10 concat 1 <- 3.0 9.0\n11 distinct 1 <- 10.0\n12 feedback 1 <- 11.0\n13 egress 1 <- 3.1\n14 output 0 <- 13.0\n";
+    "0 input 0 <-\n1 ingress 0 <- 0.0\n2 concat 1 <- 1.0 12.0\n3 gate(3) 1 <- 2.0\n4 ingress 0 <- 0.0\n5 concat 1 <- 4.0 7.0\n6 hold(3) 1 <- 5.0\n\
+    7 feedback 1 <- 6.1\n8 join 1 <- 3.0 6.0\n9 select 1 <- 8.0\n10 concat 1 <- 3.0 9.0\n11 distinct 1 <- 10.0\n12 feedback 1 <- 11.0\n\
+    13 egress 1 <- 3.1\n14 output 0 <- 13.0\n";
 
 /// Each form of relation, scalar and condition.
 const FORMS: &str =
-    "input a/2; input b/1; let s = select(where(a; #0 < 5 and not [#1 = -2]); #0, #1 * 2 + 1); output iterate(2; x = s; distinct(concat(x, group(join(x, b; #1 = #0); #0; sum #1))));";
+    "input a/2; input b/1; let s = select(where(a; #0 < 5 and not [#1 = -2]); #0, #1 * 2 + 1); output iterate(2; x = s; \
+    distinct(concat(x, group(join(x, b; #1 = #0); #0; sum #1))));";
 
 const FORMS_GRAPH: &str =
-    "0 input 0 <-\n1 input 0 <-\n2 where 0 <- 0.0\n3 select 0 <- 2.0\n4 ingress 0 <- 3.0\n5 concat 1 <- 4.0 15.0\n6 gate(2) 1 <- 5.0\n7 ingress 0 <- 1.0\n8 concat 1 <- 7.0 10.0\n9 hold(2) 1 <- 8.0\n10 feedback 1 <- 9.1\n11 join 1 <- 6.0 9.0\n12 group 1 <- 11.0\n13 concat 1 <- 6.0 12.0\n14 distinct 1 <- 13.0\n15 feedback 1 <- 14.0\n16 egress 1 <- 6.1\n17 output 0 <- 16.0\n";
+    "0 input 0 <-\n1 input 0 <-\n2 where 0 <- 0.0\n3 select 0 <- 2.0\n4 ingress 0 <- 3.0\n5 concat 1 <- 4.0 15.0\n6 gate(2) 1 <- 5.0\n\
+    7 ingress 0 <- 1.0\n8 concat 1 <- 7.0 10.0\n9 hold(2) 1 <- 8.0\n10 feedback 1 <- 9.1\n11 join 1 <- 6.0 9.0\n12 group 1 <- 11.0\n\
+    13 concat 1 <- 6.0 12.0\n14 distinct 1 <- 13.0\n15 feedback 1 <- 14.0\n16 egress 1 <- 6.1\n17 output 0 <- 16.0\n";
 
 /// What a check answers of a query whose tree lies there: its status, and the output or the fault's line.
 fn checked<A: Allocator + Copy>(

@@ -1,4 +1,4 @@
-//! Runs on several workers, and what is told of them while they work.
+//! Runs on several workers, and what is reported of them while they work.
 
 use collector::Watched;
 use console::{Telling, Texts, Watcher, Workers, run};
@@ -22,7 +22,7 @@ impl Write for Broken {
     }
 }
 
-/// What two workers answer to an input of records of one field, which go through as they are. What each vertex did is told to `err`.
+/// What two workers answer to an input of records of one field, which go through as they are. What each vertex did is written to `err`.
 fn copied<O: Write + Send, E: Write>(
     rt: &HostRuntime,
     threads: &(impl Threads + Wait + Sync),
@@ -52,14 +52,14 @@ fn copied<O: Write + Send, E: Write>(
     Ok(out.into_inner())
 }
 
-/// A watcher that keeps what it is told.
+/// A watcher that keeps what it is shown.
 fn keeping(rt: &HostRuntime, telling: Telling) -> Option<Watcher<Vec<u8>>> {
     let writer = Vec::new(rt.alloc());
     Some(Watcher { writer, telling })
 }
 
 /// The numbers of lines `passed M`; None where a line is another one.
-fn told_in(rt: &HostRuntime, text: &[u8]) -> Result<Option<Vec<u64>>, Fail> {
+fn passed_numbers(rt: &HostRuntime, text: &[u8]) -> Result<Option<Vec<u64>>, Fail> {
     let mut numbers = Vec::new(rt.alloc());
     for line in String::from_utf8_lossy(rt.alloc(), text)?.lines() {
         let Some(number) = line
@@ -80,8 +80,8 @@ fn three_epochs_pass(rt: HostRuntime) -> Result<(), Fail> {
     let mut err = Vec::new(rt.alloc());
     let text = copied(&rt, &rt, b"epoch\nepoch\nepoch\n", &mut watcher, &mut err)?;
     assert_eq!(rt; text.as_slice(), b"epoch 0\nepoch 1\nepoch 2\n".as_slice());
-    let told = watcher.ok_or("no watcher")?.writer;
-    let numbers = told_in(&rt, told.as_slice())?.ok_or("no such line")?;
+    let shown = watcher.ok_or("no watcher")?.writer;
+    let numbers = passed_numbers(&rt, shown.as_slice())?.ok_or("no such line")?;
     assert_eq!(rt; numbers.last(), Some(&3));
     assert!(rt; numbers.is_sorted());
     Ok(())
@@ -94,13 +94,13 @@ fn one_line_rises(rt: HostRuntime) -> Result<(), Fail> {
     let mut watcher = keeping(&rt, Telling::InPlace);
     let text = copied(&rt, &rt, b"epoch\na 7\n", &mut watcher, &mut err)?;
     assert_eq!(rt; text.as_slice(), b"epoch 0\n7\n".as_slice());
-    let told = watcher.ok_or("no watcher")?.writer;
-    assert_eq!(rt; told.as_slice(), b"\rpassed 1\n".as_slice());
+    let shown = watcher.ok_or("no watcher")?.writer;
+    assert_eq!(rt; shown.as_slice(), b"\rpassed 1\n".as_slice());
     let mut watcher = keeping(&rt, Telling::InPlace);
     copied(&rt, &rt, b"epoch\nepoch\nepoch\n", &mut watcher, &mut err)?;
-    let told = watcher.ok_or("no watcher")?.writer;
-    assert!(rt; told.ends_with(b"\rpassed 3\n"));
-    assert_eq!(rt; told.iter().filter(|byte| **byte == b'\n').count(), 1);
+    let shown = watcher.ok_or("no watcher")?.writer;
+    assert!(rt; shown.ends_with(b"\rpassed 3\n"));
+    assert_eq!(rt; shown.iter().filter(|byte| **byte == b'\n').count(), 1);
     Ok(())
 }
 
@@ -120,9 +120,9 @@ fn no_epoch_passes(rt: HostRuntime) -> Result<(), Fail> {
     let text = copied(&rt, &rt, b"", &mut watcher, &mut err)?;
     assert_eq!(rt; text.len(), 0);
     assert_eq!(rt; watcher.ok_or("no watcher")?.writer.len(), 0);
-    let told =
+    let shown =
         b"0 input events 0 in 0 sent 0\n1 output events 0 in 0 sent 0\nmessages 0\nepochs 0\n";
-    assert_eq!(rt; err.as_slice(), told.as_slice());
+    assert_eq!(rt; err.as_slice(), shown.as_slice());
     Ok(())
 }
 
@@ -144,7 +144,7 @@ fn many_small_epochs(rt: HostRuntime) -> Result<(), Fail> {
 }
 
 #[test]
-fn told_to_nobody(rt: HostRuntime) -> Result<(), Fail> {
+fn shown_to_nobody(rt: HostRuntime) -> Result<(), Fail> {
     for telling in [Telling::Lines, Telling::InPlace] {
         let mut watcher = Some(Watcher {
             writer: Broken,

@@ -42,7 +42,7 @@ runs query s c = record { arities = c.reads.arities; typed = rewrites_typed c.no
 pub is_answer : (s : Shown) (epochs : Epochs) (names : List Name) (records : (output epoch : ℕ) → List Record) (text : List ℕ) → IsWorkedOff s.graph s epochs → names ≡ shown_names s.graph → EmittedBelow s (epoch_count epochs) records
     → ((p : Program) → RunsProgram p s → KeepsPromise p s) → (IsDrained s → (k e : ℕ) → HasPassed s k e) → IsTextFrom names records 0 (epoch_count epochs) text
     → (query : List ℕ) (c : IsCompiled query (shown_graph s.graph) (shown_inputs s.graph) (shown_names s.graph)) → IsAnswer c.program (epoch_count epochs) (records_at epochs) text
-is_answer s epochs names records text done named below headline passed told query c = record {
+is_answer s epochs names records text done named below headline passed is_text query c = record {
   emitted = records;
   meant = λ k epoch there lt.
       let same : length c.rewritten.outputs ≡ length c.program.outputs = same_many c.rewritten c.program (rewrites_names c.normal.reached) in
@@ -50,5 +50,5 @@ is_answer s epochs names records text done named below headline passed told quer
       let all : emitted_at s k epoch ≈ program_meaning c.rewritten k (λ i. fed_at s i epoch) = (headline c.rewritten (runs query s c) k epoch (omega (arith, there, same))).whole (passed done.drained k epoch) in
       let meant : emitted_at s k epoch ≈ program_meaning c.program k (records_at epochs epoch) = subst (λ rs. emitted_at s k epoch ≈ rs) (meant_of_text query s epochs k epoch c done.fed lt) all in
       subst (λ rs. rs ≈ program_meaning c.program k (records_at epochs epoch)) (sym (below k epoch (omega (arith, there, same, many)) lt)) meant;
-  told = subst (λ ns. IsTextFrom ns records 0 (epoch_count epochs) text) (named ∙ c.named_outputs) told;
+  is_text = subst (λ ns. IsTextFrom ns records 0 (epoch_count epochs) text) (named ∙ c.named_outputs) is_text;
 }

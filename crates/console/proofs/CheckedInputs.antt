@@ -1,5 +1,5 @@
 -- A query and an input that are checked together.
-use Rattle.std.proofs.Common.{◌≡◌, ℕ, List, refl, sym, subst}
+use Rattle.std.proofs.Common.{◌≡◌, ℕ, List, refl, subst}
 use Rattle.semantics.specs.Multiset.{Record}
 use Rattle.semantics.specs.Query.{Input}
 use Rattle.semantics.specs.Typing.{WellTyped}
@@ -15,8 +15,8 @@ use Rattle.console.specs.InputChecks.{IsCheckedInput, IsInputCheckFault}
 
 module _ (query input : List ℕ) (tree : ProgramTree) (ns : List ℕ) (inputs : List Input) (read : Reads query tree) (typed : WellTyped (plain_program tree) ns) (same : inputs ≡ (plain_program tree).inputs) where
   pub both_checked : (text : List ℕ) (count : ℕ) (records : ℕ → ℕ → List Record) → text ≡ arities_text (plain_program tree).inputs (plain_program tree).outputs ns → IsInputText inputs input count records → IsCheckedInput query input text
-  both_checked text count records told epochs = record {
-    checked = record { tree = tree; arities = ns; read = read; typed = typed; told = told };
+  both_checked text count records is_text epochs = record {
+    checked = record { tree = tree; arities = ns; read = read; typed = typed; is_text = is_text };
     count = count;
     records = records;
     epochs = subst (λ is. IsInputText is input count records) same epochs;

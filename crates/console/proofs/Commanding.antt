@@ -23,7 +23,7 @@ pub refused : (texts : Known) (words : List Text) (old : Option (List ℕ)) (fau
 refused texts words old fault status e = inl (refl, elim (two_or_five fault) [ inl two ↦ inl (e ∙ two) | inr five ↦ inr (e ∙ five) ])
 
 pub ended : (texts : Known) (options : Options) (old new : Option (List ℕ)) (result : Result (Unit {0}) Fault) (status : ℕ) → EndsOn texts options old new result → status ≡ status_after result → Obeys texts options old new status
-ended texts options old new result status e t = inr (record { result = result; ends = e; told = t })
+ended texts options old new result status e t = inr (record { result = result; ends = e; reported = t })
 
 pub obeyed : (texts : Known) (words : List Text) (options : Options) (old new : Option (List ℕ)) (status : ℕ) → Asks words options → Obeys texts options old new status → Answers texts words old new status
 obeyed texts words options old new status h (inl down) = inl down

@@ -20,7 +20,7 @@ module _ (back : (xs ys : List Record) → xs ≈ ys → ys ≈ xs) (onward : (x
       let epochs = one_input b.program.inputs input a.count b.count a.records b.records (subst (λ (p : Program). IsInputText p.inputs input a.count a.records) program a.epochs) b.epochs in
       let r = a.answer.emitted in
       let s = b.answer.emitted in
-      let first : IsTextFrom (output_names b.program) r 0 b.count t = subst (λ n. IsTextFrom (output_names b.program) r 0 n t) epochs.0 (subst (λ p. IsTextFrom (output_names p) r 0 a.count t) program a.answer.told) in
+      let first : IsTextFrom (output_names b.program) r 0 b.count t = subst (λ n. IsTextFrom (output_names b.program) r 0 n t) epochs.0 (subst (λ p. IsTextFrom (output_names p) r 0 a.count t) program a.answer.is_text) in
       one_text (output_names b.program) r s b.count t u (λ k epoch there lt.
       let here : epoch < a.count = (let count = epochs.0 in omega (arith, lt, count)) in
       let place : k < length b.program.outputs = (let n = length-map b.program.outputs (λ (o : Output). o.name) in omega (arith, there, n)) in
@@ -28,4 +28,4 @@ module _ (back : (xs ys : List Record) → xs ≈ ys → ys ≈ xs) (onward : (x
       let meant : program_meaning a.program k (a.records epoch) ≡ program_meaning b.program k (b.records epoch) =
       meant_alike a.program k (a.records epoch) (b.records epoch) (λ i below. epochs.1 epoch i) ∙ ap (λ p. program_meaning p k (b.records epoch)) program in
       onward (r k epoch) (program_meaning b.program k (b.records epoch)) (s k epoch) (subst (λ m. r k epoch ≈ m) meant (a.answer.meant k epoch first_place here)) (back (s k epoch) (program_meaning b.program k (b.records epoch)) (b.answer.meant k epoch place lt)))
-      first b.answer.told
+      first b.answer.is_text

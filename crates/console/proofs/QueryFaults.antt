@@ -5,7 +5,7 @@ use Rattle.record_core.specs.declared.span.Refusal.TheVariants.{At, NoMemory}
 use Rattle.expr_tree.specs.Trees.{ProgramTree}
 use Rattle.grammar.specs.Texts.{Reads}
 use Rattle.parser.specs.Refusals as parser
-use Rattle.typing.specs.FirstFault.{Told}
+use Rattle.typing.specs.FirstFault.{HasFirstFault}
 use Rattle.console.specs.Checks.{IsCheckFault}
 use Rattle.console.specs.Compiled.{IsUncompiled}
 use Rattle.console.specs.Faults.{compile_fault_of, fault_of}
@@ -13,9 +13,9 @@ use Rattle.console.specs.Formats.{IsFormatFault}
 use Rattle.console.specs.InputChecks.{IsInputCheckFault}
 use Rattle.console.specs.Queries.{IsRefusal}
 
-pub ill_typed : (text : List ℕ) (tree : ProgramTree) (e : Refusal) → Reads text tree → Told tree e → IsRefusal text e
-ill_typed text tree (At code span) read told = inr (tree, read, told)
-ill_typed text tree NoMemory read told = tt
+pub ill_typed : (text : List ℕ) (tree : ProgramTree) (e : Refusal) → Reads text tree → HasFirstFault tree e → IsRefusal text e
+ill_typed text tree (At code span) read first = inr (tree, read, first)
+ill_typed text tree NoMemory read first = tt
 
 pub graph_refused : (text : List ℕ) (e : Refusal) → IsRefusal text e → IsUncompiled text (compile_fault_of e)
 graph_refused text (At code span) h = h

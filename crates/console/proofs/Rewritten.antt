@@ -1,4 +1,4 @@
--- What is lowered stands for what was read.
+-- What is lowered means what was read.
 use Rattle.std.proofs.Common.{◌≡◌, ◌<◌, ℕ, List, length, refl, sym, ap, subst, ◌∙◌, arith}
 use Rattle.std.proofs.lemmas.List.{length-map}
 use Rattle.expr_tree.specs.Plain.{plain_program}

@@ -19,7 +19,7 @@ answer_alike : (p : Program) (count : ℕ) (r s : ℕ → ℕ → List Record) (
 answer_alike p count r s text same a = record {
   emitted = a.emitted;
   meant = λ k epoch there lt. ≈-trans (a.meant k epoch there lt) (program_same p k (r epoch) (s epoch) (same epoch));
-  told = a.told;
+  is_text = a.is_text;
 }
 
 -- an answer to records is one to them in another order

@@ -12,13 +12,14 @@ use Rattle.collector.specs.OutputText.{IsTextFrom}
 use Rattle.collector.specs.Written.{AppendsFront}
 use Rattle.console.specs.Compiled.{IsCompiled}
 use Rattle.diagnostics.specs.declared.fault.Fault.{Fault}
-use Rattle.diagnostics.specs.declared.fault.Fault.TheVariants.{Query, TooManyVertices, Input, Schedule, NoMemory, Count, NoWorker, Incomplete, ReadQuery, ReadInput, Write}
+use Rattle.diagnostics.specs.declared.fault.Fault.TheVariants.{Query, TooManyVertices, Input, Schedule, NoMemory, Count}
+use Rattle.diagnostics.specs.declared.fault.Fault.TheVariants.{NoWorker, Incomplete, ReadQuery, ReadInput, Write}
 
--- the text has, for each epoch of so many and each output, the multiset that the program means there on the records of its inputs
+-- the text has, for each of that many epochs and each output, the multiset that the program means there on the records of its inputs
 pub record IsAnswer (p : Program) (count : ℕ) (records : ℕ → ℕ → List Record) (text : List ℕ) : Type 0 where
   pub emitted : (output epoch : ℕ) → List Record
   pub meant : (output epoch : ℕ) → output < length p.outputs → epoch < count → emitted output epoch ≈ program_meaning p output (records epoch)
-  pub told : IsTextFrom (output_names p) emitted 0 count text
+  pub is_text : IsTextFrom (output_names p) emitted 0 count text
 
 -- the answer is written whole at Ok, a beginning of it where the writer failed, and else nothing
 abbrev pub Responds : Program → ℕ → (ℕ → ℕ → List Record) → Option (List ℕ) → Option (List ℕ) → Result (Unit {0}) Fault → Type 0

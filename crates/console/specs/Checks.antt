@@ -12,13 +12,14 @@ use Rattle.collector.specs.Written.{AppendsFront}
 use Rattle.record_core.specs.declared.span.Refusal.TheVariants.{At}
 use Rattle.console.specs.Queries.{IsRefusal}
 use Rattle.diagnostics.specs.declared.fault.Fault.{Fault}
-use Rattle.diagnostics.specs.declared.fault.Fault.TheVariants.{Query, TooManyVertices, Input as InputFault, Schedule, NoMemory, Count, NoWorker, Incomplete, ReadQuery, ReadInput, Write}
+use Rattle.diagnostics.specs.declared.fault.Fault.TheVariants.{Query, TooManyVertices, Input as InputFault, Schedule, NoMemory}
+use Rattle.diagnostics.specs.declared.fault.Fault.TheVariants.{Count, NoWorker, Incomplete, ReadQuery, ReadInput, Write}
 
 -- `input NAME/ARITY`
 abbrev pub input_line : Input → List ℕ
 input_line i = codes "input " ++ (i.name ++ (codes "/" ++ (decimal i.arity ++ codes "\n")))
 
--- what tells an output before its arity: nothing where it is named `out`, and else `NAME/`
+-- what is written of an output before its arity: nothing where it is named `out`, and else `NAME/`
 abbrev pub output_label : List ℕ → List ℕ
 output_label name = if bytes_eq name (codes "out") then [] else name ++ codes "/"
 
@@ -40,13 +41,13 @@ arities_text inputs outputs arities = flat_map input_line inputs ++ output_lines
 abbrev pub check_text : Program → (arities : List ℕ) → List ℕ
 check_text p arities = arities_text p.inputs p.outputs arities
 
--- the query text reads as a well-typed program, and the text tells its inputs and its arities
+-- the query text reads as a well-typed program, and the text lists its inputs and its arities
 pub record IsChecked (query text : List ℕ) : Type 0 where
   pub tree : ProgramTree
   pub arities : List ℕ
   pub read : grammar.Reads query tree
   pub typed : WellTyped (plain_program tree) arities
-  pub told : text ≡ check_text (plain_program tree) arities
+  pub is_text : text ≡ check_text (plain_program tree) arities
 
 -- why a query text isn't checked: it is refused, or there was no memory
 abbrev pub IsCheckFault : List ℕ → Fault → Type 0

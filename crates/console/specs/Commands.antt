@@ -74,7 +74,7 @@ status_after (Err fault) = status_of fault
 pub record HasEnded (texts : Known) (options : Options) (old new : Option (List ℕ)) (status : ℕ) : Type 0 where
   pub result : Result (Unit {0}) Fault
   pub ends : EndsOn texts options old new result
-  pub told : status ≡ status_after result
+  pub reported : status ≡ status_after result
 
 -- nothing is written: the line is refused, or no refusal has the number that is to be explained, or there was no memory to read the line
 abbrev pub IsTurnedDown : Option (List ℕ) → Option (List ℕ) → ℕ → Type 0

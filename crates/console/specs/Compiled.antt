@@ -10,7 +10,8 @@ use Rattle.console.specs.Queries.{IsQuery, IsRefusal, output_names}
 use Rattle.console.specs.declared.fault.CompileFault.{CompileFault}
 use Rattle.console.specs.declared.fault.CompileFault.TheVariants as compile
 use Rattle.diagnostics.specs.declared.fault.Fault.{Fault}
-use Rattle.diagnostics.specs.declared.fault.Fault.TheVariants.{Query, TooManyVertices, Input as InputFault, Schedule, NoMemory, Count, NoWorker, Incomplete, ReadQuery, ReadInput, Write}
+use Rattle.diagnostics.specs.declared.fault.Fault.TheVariants.{Query, TooManyVertices, Input as InputFault, Schedule, NoMemory}
+use Rattle.diagnostics.specs.declared.fault.Fault.TheVariants.{Count, NoWorker, Incomplete, ReadQuery, ReadInput, Write}
 
 -- The text is a well-typed program with these inputs and outputs of these names. The graph is the one that the definition makes of the
 -- normal form that the program rewrites to.
@@ -43,7 +44,7 @@ IsUncompiled text (compile.Query code span) = IsRefusal text (At code span)
 IsUncompiled text compile.TooManyVertices = IsTooLarge text
 IsUncompiled text compile.NoMemory = Unit {0}
 
--- the same, as it is told
+-- the same, as it is reported
 abbrev pub IsQueryFault : List ℕ → Fault → Type 0
 IsQueryFault text (Query code start end) = IsRefusal text (At code (record { start = start; end = end }))
 IsQueryFault text TooManyVertices = IsTooLarge text

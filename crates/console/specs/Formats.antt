@@ -10,14 +10,15 @@ use Rattle.writer.specs.Sources.{ReadsAs}
 use Rattle.lexer.specs.Tokens.{max_length}
 use Rattle.collector.specs.Written.{AppendsFront}
 use Rattle.diagnostics.specs.declared.fault.Fault.{Fault}
-use Rattle.diagnostics.specs.declared.fault.Fault.TheVariants.{Query, TooManyVertices, Input, Schedule, NoMemory, Count, NoWorker, Incomplete, ReadQuery, ReadInput, Write}
+use Rattle.diagnostics.specs.declared.fault.Fault.TheVariants.{Query, TooManyVertices, Input, Schedule, NoMemory, Count}
+use Rattle.diagnostics.specs.declared.fault.Fault.TheVariants.{NoWorker, Incomplete, ReadQuery, ReadInput, Write}
 
 -- The query text reads as a program, and the text is its canonical text. Where that is no longer than a query may be, it reads as the
 -- same program, spans aside.
 pub record IsCanonical (query text : List ℕ) : Type 0 where
   pub tree : ProgramTree
   pub read : grammar.Reads query tree
-  pub told : text ≡ program_text tree
+  pub is_text : text ≡ program_text tree
   pub back : length text ≤ max_length → ReadsAs text tree
 
 -- why a query text has no canonical form: it is no program, or there was no memory

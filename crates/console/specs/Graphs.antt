@@ -9,7 +9,8 @@ use Rattle.console.specs.Compiled.{IsCompiled, IsQueryFault}
 use Rattle.command_line.specs.declared.line_options.GraphForm.{GraphForm}
 use Rattle.command_line.specs.declared.line_options.GraphForm.TheVariants.{Lines, Dot}
 use Rattle.diagnostics.specs.declared.fault.Fault.{Fault}
-use Rattle.diagnostics.specs.declared.fault.Fault.TheVariants.{Query, TooManyVertices, Input, Schedule, NoMemory, Count, NoWorker, Incomplete, ReadQuery, ReadInput, Write}
+use Rattle.diagnostics.specs.declared.fault.Fault.TheVariants.{Query, TooManyVertices, Input, Schedule, NoMemory, Count}
+use Rattle.diagnostics.specs.declared.fault.Fault.TheVariants.{NoWorker, Incomplete, ReadQuery, ReadInput, Write}
 
 -- the text is that of a graph in this form; what Graphviz draws is left open
 abbrev pub IsTextIn : GraphForm → (outputs : List Name) → Graph → List ℕ → Type 0

@@ -10,9 +10,10 @@ use Rattle.console.specs.Checks.{IsChecked}
 use Rattle.console.specs.Queries.{IsRefusal}
 use Rattle.console.specs.Runs.{IsInputFault}
 use Rattle.diagnostics.specs.declared.fault.Fault.{Fault}
-use Rattle.diagnostics.specs.declared.fault.Fault.TheVariants.{Query, TooManyVertices, Input, Schedule, NoMemory, Count, NoWorker, Incomplete, ReadQuery, ReadInput, Write}
+use Rattle.diagnostics.specs.declared.fault.Fault.TheVariants.{Query, TooManyVertices, Input, Schedule, NoMemory, Count}
+use Rattle.diagnostics.specs.declared.fault.Fault.TheVariants.{NoWorker, Incomplete, ReadQuery, ReadInput, Write}
 
--- the text tells the inputs and the arities of the query, and the input text is one of some epochs for those inputs
+-- the text lists the inputs and the arities of the query, and the input text is one of some epochs for those inputs
 pub record IsCheckedInput (query input text : List ℕ) : Type 0 where
   pub checked : IsChecked query text
   pub count : ℕ

@@ -9,7 +9,7 @@ use Rattle.expr_tree.specs.Trees.{ProgramTree}
 use Rattle.expr_tree.specs.Plain.{plain_program}
 use Rattle.grammar.specs.Texts as grammar
 use Rattle.parser.specs.Refusals as parser
-use Rattle.typing.specs.FirstFault.{Told}
+use Rattle.typing.specs.FirstFault.{HasFirstFault}
 use Rattle.typing.specs.Shown.{typed_program}
 use Rattle.typing.specs.declared.typed.Typed.{Typed}
 
@@ -31,7 +31,7 @@ IsTypedQuery text t = grammar.Reads text (typed_program t)
 
 -- the text reads as a tree that this is the first fault of
 abbrev pub IsIllTyped : List ℕ → ℕ → ℕ → ℕ → Type 0
-IsIllTyped text code start end = (tree : ProgramTree) × grammar.Reads text tree × Told tree (At code (record { start = start; end = end }))
+IsIllTyped text code start end = (tree : ProgramTree) × grammar.Reads text tree × HasFirstFault tree (At code (record { start = start; end = end }))
 
 -- why a query text is refused: it is no program, or the first fault of the program that it is
 abbrev pub IsRefusal : List ℕ → Refusal → Type 0

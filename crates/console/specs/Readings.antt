@@ -13,7 +13,7 @@ use Rattle.console.specs.InputChecks.{CheckInputEnds}
 use Rattle.console.specs.Replayed.{ReplayEnds}
 use Rattle.console.specs.Runs.{Ends, IsUnreadInput, IsUnreadQuery}
 
--- what is read of a query: one byte more than it may have is enough to tell that it is too long
+-- what is read of a query: one byte more than it may have is enough to show that it is too long
 abbrev pub read_part : List ℕ → List ℕ
 read_part text = take (suc max_length) text
 

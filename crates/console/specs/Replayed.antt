@@ -12,9 +12,10 @@ use Rattle.replay.specs.Replays.{Replays}
 use Rattle.replay.specs.Waits.{State, at_first}
 use Rattle.console.specs.Compiled.{IsCompiled, IsQueryFault, IsTaken}
 use Rattle.diagnostics.specs.declared.fault.Fault.{Fault}
-use Rattle.diagnostics.specs.declared.fault.Fault.TheVariants.{Query, TooManyVertices, Input, Schedule, NoMemory, Count, NoWorker, Incomplete, ReadQuery, ReadInput, Write}
+use Rattle.diagnostics.specs.declared.fault.Fault.TheVariants.{Query, TooManyVertices, Input, Schedule, NoMemory, Count}
+use Rattle.diagnostics.specs.declared.fault.Fault.TheVariants.{NoWorker, Incomplete, ReadQuery, ReadInput, Write}
 
--- over the graph of the query, so many workers with views of that kind lead the schedule's commands from the opening world on, and the text
+-- over the graph of the query, that many workers with views of that kind lead the schedule's commands from the opening world on, and the text
 -- is what they print
 pub record IsReplay (query : List ℕ) (workers : ℕ) (kind : ViewKind) (schedule text : List ℕ) : Type 0 where
   pub graph : Graph

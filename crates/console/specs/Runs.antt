@@ -10,7 +10,8 @@ use Rattle.console.specs.Answers.{IsAnswer}
 use Rattle.console.specs.Compiled.{IsQueryFault}
 use Rattle.console.specs.Queries.{IsQuery}
 use Rattle.diagnostics.specs.declared.fault.Fault.{Fault}
-use Rattle.diagnostics.specs.declared.fault.Fault.TheVariants.{Query, TooManyVertices, Input, Schedule, NoMemory, Count, NoWorker, Incomplete, ReadQuery, ReadInput, Write}
+use Rattle.diagnostics.specs.declared.fault.Fault.TheVariants.{Query, TooManyVertices, Input, Schedule, NoMemory, Count}
+use Rattle.diagnostics.specs.declared.fault.Fault.TheVariants.{NoWorker, Incomplete, ReadQuery, ReadInput, Write}
 
 -- the text is the answer of the query to the input
 pub record IsRun (query input text : List ℕ) : Type 0 where

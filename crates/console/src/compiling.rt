@@ -1,6 +1,6 @@
 //! From a query text to its graph.
 
-ghost use Rattle.std.specs.Prelude.{◌≡◌, ◌≤◌, length, IfOk, IfErr};
+ghost use Rattle.std.specs.Prelude.{◌≤◌, length, IfOk, IfErr};
 ghost use Rattle.expr_tree.specs.Plain.{plain_program};
 ghost use Rattle.semantics.specs.Rewriting.{IsNormalForm};
 ghost use Rattle.semantics.specs.Typing.{WellTyped};

@@ -11,7 +11,7 @@ fn opened(rt: &HostRuntime, path: &str) -> io::Result<File> {
     File::open(rt, path)?.try_clone()
 }
 
-/// A file by its path. It is opened by its first read, so that what is read before it is told before it, where neither can be.
+/// A file by its path. It is opened by its first read, so that of two files that can't be read the first is reported.
 #[derive(Drop)]
 pub struct LateFile<'a> {
     rt: &'a HostRuntime,

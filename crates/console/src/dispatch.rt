@@ -71,7 +71,7 @@ fn run_named<
     done
 }
 
-/// Follows an input with so many workers.
+/// Follows an input with that many workers.
 fn follow_named<'a, R: Threads + Sync, S: Sources<'a>, W: Write>(
     rt: &R,
     alloc: Global,
@@ -274,8 +274,8 @@ fn write_fault<E: Write>(
     err.write_all(text.as_slice())
 }
 
-/// Tells how a command has ended. Gives the status, which says it also where the writer of errors fails, here and below.
-fn tell<E: Write>(
+/// Reports how a command has ended. Gives the status, which says it also where the writer of errors fails, here and below.
+fn report<E: Write>(
     alloc: Global,
     asked: &Options,
     done: &Result<(), Fault>,
@@ -293,8 +293,8 @@ fn tell<E: Write>(
     }
 }
 
-/// Tells which numbers refusals have, where none has the one that is to be explained.
-fn tell_numbers<E: Write>(asked: &Options, err: &mut E) -> u8
+/// Reports which numbers refusals have, where none has the one that is to be explained.
+fn report_numbers<E: Write>(asked: &Options, err: &mut E) -> u8
     ensures { result ≡ 2 }
 {
     if let Options::Explain { code } = asked {
@@ -393,7 +393,7 @@ fn answer_asked<
     }
 }
 
-/// Does what the options ask for, and tells a fault. Gives the status.
+/// Does what the options ask for, and reports a fault. Gives the status.
 #[tactic(auto, using(crate::proofs::Commanding::ended))]
 fn obey<'a, R: Threads + Wait + Sync, S: Sources<'a>, W: Write, E: Write, O: Write + Send + Drop>(
     rt: &R,
@@ -408,12 +408,12 @@ fn obey<'a, R: Threads + Wait + Sync, S: Sources<'a>, W: Write, E: Write, O: Wri
 {
     let mut texts = Texts::new(alloc);
     match answer_asked(rt, alloc, sources, asked, &mut texts, out, err, watcher) {
-        Some(done) => tell(alloc, &asked, &done, &texts, err),
-        None => tell_numbers(&asked, err),
+        Some(done) => report(alloc, &asked, &done, &texts, err),
+        None => report_numbers(&asked, err),
     }
 }
 
-/// Tells why a line is refused, and gives the status.
+/// Reports why a line is refused, and gives the status.
 pub fn refuse<E: Write>(fault: &LineFault, err: &mut E) -> u8
     ensures { result ≡ line_status_of fault.now }
 {
@@ -424,23 +424,23 @@ pub fn refuse<E: Write>(fault: &LineFault, err: &mut E) -> u8
     fault.status()
 }
 
-/// What is told of words that are refused, with escapes for what in them might disturb a terminal.
+/// What is reported of words that are refused, with escapes for what in them might disturb a terminal.
 fn refusal_text(alloc: Global, fault: &LineFault) -> io::Result<Vec<u8>> {
-    let told = format!(in alloc; "{fault}")?;
+    let text_of_fault = format!(in alloc; "{fault}")?;
     let mut text = Vec::new(alloc);
     if let LineFault::Line(_) = fault {
-        for line in told.lines() {
+        for line in text_of_fault.lines() {
             let line = Plain(line);
             writeln!(text, "{line}")?;
         }
     } else {
-        let line = Plain(told.as_str());
+        let line = Plain(text_of_fault.as_str());
         writeln!(text, "{line}")?;
     }
     Ok(text)
 }
 
-/// Tells why words are refused, by one write, and gives the status.
+/// Reports why words are refused, by one write, and gives the status.
 fn refuse_words<E: Write>(alloc: Global, fault: &LineFault, err: &mut E) -> u8
     ensures { result ≡ line_status_of fault.now }
 {
@@ -451,8 +451,8 @@ fn refuse_words<E: Write>(alloc: Global, fault: &LineFault, err: &mut E) -> u8
     fault.status()
 }
 
-/// Answers a command line, whose first word is the program's own: does what it asks for over the texts that it names, and tells a fault.
-/// Gives the status. What `--watch` tells goes to the watcher, which is let go where a run isn't to be watched.
+/// Answers a command line, whose first word is the program's own: does what it asks for over the texts that it names, and reports a fault.
+/// Gives the status. What `--watch` reports goes to the watcher, which is let go where a run isn't to be watched.
 #[tactic(auto, using(crate::proofs::Commanding::obeyed, crate::proofs::Commanding::refused))]
 pub fn answer<
     'a,

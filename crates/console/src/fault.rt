@@ -14,7 +14,7 @@ use schedule::ScheduleRefusal;
 /// Why a query text has no graph.
 #[derive(Clone, Copy, Debug, PartialEq, Eq)]
 pub enum CompileFault {
-    /// The query's first fault: its code, and the bytes where it stands.
+    /// The query's first fault: its code, and the bytes where it is.
     Query { code: u8, span: Span },
     /// The graph would have more than 4096 vertices.
     TooManyVertices,

@@ -50,12 +50,12 @@ fn follow_text<R: Threads + Sync, I: Read, W: Write>(
     }
 }
 
-/// Reads a query, then its input as it comes, and writes the answer line by line while it does, with so many workers. Its promise holds if it
+/// Reads a query, then its input as it comes, and writes the answer line by line while it does, with that many workers. Its promise holds if it
 /// ends.
 ///
 /// A line `E f1 f2 ..` is a record of epoch E's answer, with its output's name after E unless the only output is `out`, and a line
-/// `complete E` says that all of them stand above. Epochs come in order. After a fault what was written stays true of the lines before
-/// it: the faults are those of a run, and the query is told before the input is opened. The query is left in `texts`, and of the input
+/// `complete E` says that all of them have come. Epochs come in order. After a fault what was written stays true of the lines before
+/// it: the faults are those of a run, and a fault of the query is reported before the input is opened. The query is left in `texts`, and of the input
 /// what was read from a faulty line on.
 pub fn follow_query<R: Threads + Sync, Q: Read, I: Read, W: Write>(
     rt: &R,

@@ -1,6 +1,6 @@
 //! What a graph makes of epochs, computed and written.
 
-ghost use Rattle.std.specs.Prelude.{◌≡◌, ◌<◌, ◌≤◌, true, IsErrOf};
+ghost use Rattle.std.specs.Prelude.{◌≡◌, ◌<◌, true, IsErrOf};
 ghost use Rattle.collector.specs.Watching.{has_failed, inner_of};
 ghost use Rattle.console.specs.Answers.{RespondsBy};
 ghost use Rattle.execution.specs.Fed.{IsWorkedOff};
@@ -149,7 +149,7 @@ fn respond_by<R: Threads + Wait + Sync, G: Gate + Sync, W: Write, O: Write + Sen
     }
 }
 
-/// The same, counted; and then tells what was counted, where the answer was written whole. Where that can't be told, nothing else changes.
+/// The same, counted; and then reports what was counted, where the answer was written whole. Where that can't be written, nothing else changes.
 fn respond_counted<R: Threads + Wait + Sync, W: Write, O: Write + Send, E: Write>(
     rt: &R,
     alloc: Global,
@@ -184,7 +184,7 @@ fn respond_counted<R: Threads + Wait + Sync, W: Write, O: Write + Send, E: Write
 }
 
 /// Has the workers work the epochs off over the graph, and writes what was emitted: whatever text the graph was compiled from, what that
-/// means on the epochs. The watcher is told how many epochs have passed. With `stats` a line for each vertex on `err` says then what it did.
+/// means on the epochs. The watcher is shown how many epochs have passed. With `stats` a line for each vertex on `err` says then what it did.
 pub fn respond<R: Threads + Wait + Sync, W: Write, O: Write + Send, E: Write>(
     rt: &R,
     alloc: Global,

@@ -29,7 +29,7 @@ use std::io::{Read, Write};
 use std::sync::Wait;
 use std::thread::Threads;
 
-/// The longest query text, in bytes, and one byte more: enough to tell that a text is too long.
+/// The longest query text, in bytes, and one byte more: enough to show that a text is too long.
 const QUERY_LIMIT: usize = MAX_LENGTH + 1;
 
 /// Reads a query text, and no byte past the limit.
@@ -85,7 +85,7 @@ pub fn graph_of_text(alloc: Global, query: &[u8]) -> Result<Graph, Fault>
     }
 }
 
-/// The epochs that an input text tells, for the inputs of a graph.
+/// The epochs of an input text, for the inputs of a graph.
 fn epochs_of_text(alloc: Global, graph: &Graph, input: &[u8]) -> Result<Epochs, InputRefusal>
     ensures read { IfOk result (λ e. IsReadFrom (shown_inputs graph.now) input.now e) }
     ensures refused { IfErr result (IsRefused (shown_inputs graph.now) input.now) }
@@ -124,7 +124,7 @@ fn answer<R: Threads + Wait + Sync, W: Write, O: Write + Send, E: Write>(
     )
 }
 
-/// Reads a query and its input, and writes the answer, which so many workers compute. Its promise holds if it ends.
+/// Reads a query and its input, and writes the answer, which that many workers compute. Its promise holds if it ends.
 ///
 /// Faults are reported in this order: the query can't be read, the input can't be read, the query is refused, the input is refused, a count
 /// is too large, the writer failed. Lack of memory may come at any point, but a count that was too large at any worker is reported before

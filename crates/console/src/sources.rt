@@ -6,7 +6,7 @@ use std::io::Read;
 
 /// Opens the texts that a command line names.
 pub trait Sources<'a> {
-    /// A text, as it is read. One that isn't there fails at its first read, so faults are told in the order of reading.
+    /// A text, as it is read. One that isn't there fails at its first read, so faults are reported in the order of reading.
     type Reader: Read + Drop;
 
     // the bytes of the text of each name, where they are known

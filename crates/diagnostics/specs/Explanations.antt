@@ -4,9 +4,10 @@ use Rattle.std.specs.Io.KnownBytes.{Appends}
 use Rattle.collector.specs.Written.{AppendsFront}
 use Rattle.refusals.specs.declared.table.Explanation.{Explanation}
 use Rattle.diagnostics.specs.declared.fault.Fault.{Fault}
-use Rattle.diagnostics.specs.declared.fault.Fault.TheVariants.{Query, TooManyVertices, Input, Schedule, NoMemory, Count, NoWorker, Incomplete, ReadQuery, ReadInput, Write}
+use Rattle.diagnostics.specs.declared.fault.Fault.TheVariants.{Query, TooManyVertices, Input, Schedule, NoMemory, Count}
+use Rattle.diagnostics.specs.declared.fault.Fault.TheVariants.{NoWorker, Incomplete, ReadQuery, ReadInput, Write}
 
--- what the place covers, where one is told
+-- what the place covers, where there is one
 abbrev pub place_text : List ℕ → List ℕ
 place_text [] = []
 place_text (b ∷ bs) = codes " (the place covers " ++ ((b ∷ bs) ++ codes ")")
@@ -32,7 +33,9 @@ examples_text code (b ∷ bs) right = codes "\n" ++ (example_text (codes "wrong:
 
 -- the number, what is wrong and where; what it means; the examples
 abbrev pub explanation_text : Explanation → List ℕ
-explanation_text e = decimal e.code ++ (codes ": " ++ (e.summary.now ++ (place_text e.place.now ++ (codes "\n\n" ++ (e.text.now ++ (codes "\n" ++ examples_text e.code e.wrong.now e.right.now))))))
+explanation_text e =
+    decimal e.code ++ (codes ": " ++ (e.summary.now ++ (place_text e.place.now
+    ++ (codes "\n\n" ++ (e.text.now ++ (codes "\n" ++ examples_text e.code e.wrong.now e.right.now))))))
 
 -- the text is written whole at Ok, a beginning of it where the writer failed, and else nothing
 abbrev pub ExplanationEnds : Explanation → Option (List ℕ) → Option (List ℕ) → Result (Unit {0}) Fault → Type 0

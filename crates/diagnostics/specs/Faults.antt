@@ -1,7 +1,8 @@
 -- The statuses of faults.
 use Rattle.std.specs.Prelude.{ℕ}
 use Rattle.diagnostics.specs.declared.fault.Fault.{Fault}
-use Rattle.diagnostics.specs.declared.fault.Fault.TheVariants.{Query, TooManyVertices, Input, Schedule, NoMemory, Count, NoWorker, Incomplete, ReadQuery, ReadInput, Write}
+use Rattle.diagnostics.specs.declared.fault.Fault.TheVariants.{Query, TooManyVertices, Input, Schedule, NoMemory, Count}
+use Rattle.diagnostics.specs.declared.fault.Fault.TheVariants.{NoWorker, Incomplete, ReadQuery, ReadInput, Write}
 
 -- 3 of the query, 4 of the input or the schedule, 5 of memory and threads, 6 of files
 abbrev pub status_of : Fault → ℕ

@@ -3,7 +3,7 @@
 /// The most brackets that can be open.
 const HEIGHT: usize = 64;
 
-/// The forms, by the words that stand before their brackets.
+/// The forms, by the words before their brackets.
 pub const FORMS: [&[u8]; 9] = [
     b"select",
     b"where",
@@ -21,13 +21,13 @@ pub const FORMS: [&[u8]; 9] = [
 pub struct OpenBracket<'a> {
     /// The word right before it.
     pub name: &'a [u8],
-    /// What stands before it.
+    /// What comes before it.
     pub before: &'a [u8],
     /// How many `;` have come since, inside no other round bracket.
     pub semicolons: usize,
 }
 
-/// The word at the end of a text, and what stands before it; empty where the text ends in a sign or a space.
+/// The word at the end of a text, and what comes before it; empty where the text ends in a sign or a space.
 pub fn split_word(text: &[u8]) -> (&[u8], &[u8]) {
     let length = text
         .iter()

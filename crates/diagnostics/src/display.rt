@@ -125,7 +125,7 @@ impl fmt::Display for Fields {
     }
 }
 
-/// The columns of a relation with so many fields: `#0`, `#0 and #1`, `#0 to #2`.
+/// The columns of a relation with that many fields: `#0`, `#0 and #1`, `#0 to #2`.
 #[derive(Clone, Copy)]
 pub struct Columns(pub u64);
 
@@ -156,7 +156,7 @@ impl fmt::Display for Meant {
     }
 }
 
-/// What stands before the part of that index in a list of so many parts, whose last one comes after that word.
+/// What comes before the part of that index in a list of that many parts, whose last one comes after that word.
 pub fn separator(index: usize, count: usize, last: &'static str) -> &'static str {
     if index == 0 {
         ""

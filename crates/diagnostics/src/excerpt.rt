@@ -1,4 +1,4 @@
-//! A line of a text, shown with its number, and what stands at a place in it marked.
+//! A line of a text, shown with its number, and what is at a place in it marked.
 
 ghost use Rattle.std.specs.Prelude.{◌<◌, ◌≤◌, length, IfSome};
 
@@ -21,14 +21,14 @@ struct Line<'a> {
     place: usize,
 }
 
-/// Where the first line feed stands.
+/// The place of the first line feed.
 fn feed(text: &[u8]) -> Option<usize>
     ensures { IfSome result (λ n. n < length text.now) }
 {
     text.iter().position(|byte| *byte == b'\n')
 }
 
-/// Where the first line feed stands, and the text after it.
+/// The place of the first line feed, and the text after it.
 fn next_line(text: &[u8]) -> Option<(usize, &[u8])>
     ensures { IfSome result (λ p. (p.0 < length text.now) × (length p.1.now < length text.now)) }
 {
@@ -48,7 +48,7 @@ fn first_line(text: &[u8]) -> &[u8] {
     }
 }
 
-/// The line in which a place stands. A line feed stands at the end of its line.
+/// The line of a place. A line feed is the end of its line.
 fn line_at(text: &[u8], place: usize) -> Line<'_> {
     let mut number: u64 = 1;
     let mut rest = text;
@@ -117,7 +117,7 @@ fn digits(number: u64) -> u32 {
     }
 }
 
-/// Writes what stands below a line's number, and the spaces and tabs that bring the carets below the place.
+/// Writes what comes below a line's number, and the spaces and tabs that bring the carets below the place.
 fn write_margin<W: Write>(line: &Line<'_>, from: usize, writer: &mut W) -> io::Result<()>
     requires { from ≤ length line.now.bytes.now }
 {
@@ -138,7 +138,7 @@ fn write_margin<W: Write>(line: &Line<'_>, from: usize, writer: &mut W) -> io::R
     Ok(())
 }
 
-/// Writes carets below so many bytes from the place on, as far as the line is shown; at least one.
+/// Writes carets below that many bytes from the place on, as far as the line is shown; at least one.
 fn write_carets<W: Write>(line: &Line<'_>, count: usize, writer: &mut W) -> io::Result<()> {
     let from = skipped(line.bytes.len(), line.place);
     write_margin(line, from, writer)?;

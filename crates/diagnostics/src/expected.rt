@@ -1,4 +1,4 @@
-//! What can stand at a place of a query: each kind of word is tried there.
+//! What can come at a place of a query: each kind of word is tried there.
 
 use crate::display::separator;
 use bumpalo::Bump;
@@ -53,7 +53,7 @@ const WORDS: [&str; 38] = [
     "not",
 ];
 
-/// Words that have a name together, where all of them can stand.
+/// Words that have a name together, where all of them can come.
 struct Kind {
     words: &'static [&'static str],
     name: &'static str,
@@ -98,7 +98,7 @@ static KINDS: [Kind; 6] = [
     },
 ];
 
-/// What can stand at a place.
+/// What can come at a place.
 #[derive(Clone, Copy)]
 enum Expected {
     /// A kind of words, by its name.
@@ -151,7 +151,7 @@ fn without(
     Ok(left)
 }
 
-/// What a word is that can stand alone.
+/// What a word is that can come alone.
 fn alone(word: &'static str) -> Expected {
     match word.as_bytes() {
         b"a" => Expected::Kind("a name"),
@@ -161,7 +161,7 @@ fn alone(word: &'static str) -> Expected {
     }
 }
 
-/// What can stand behind a beginning of a query.
+/// What can come after a beginning of a query.
 fn possible(alloc: Global, before: &[u8]) -> Result<Vec<Expected>, AllocError> {
     let mut words = Vec::new(alloc);
     for word in WORDS {
@@ -185,7 +185,7 @@ fn possible(alloc: Global, before: &[u8]) -> Result<Vec<Expected>, AllocError> {
     Ok(found)
 }
 
-/// Writes what can stand behind a beginning of a query, as `, expected x, y or z`. Nothing where that is too long, or no memory is left.
+/// Writes what can come after a beginning of a query, as `, expected x, y or z`. Nothing where that is too long, or no memory is left.
 pub fn write_expected<W: Write>(alloc: Global, before: &[u8], writer: &mut W) -> io::Result<()> {
     if before.len() > LENGTH {
         return Ok(());

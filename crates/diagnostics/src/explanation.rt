@@ -22,7 +22,7 @@ pub fn explained(word: &str) -> Option<&'static Explanation>
     explanation_of(code)
 }
 
-/// Appends what the place covers, in brackets, where one is told.
+/// Appends what the place covers, in brackets, where there is one.
 fn push_place(text: &mut Vec<u8>, place: &[u8]) -> Result<(), AllocError>
     ensures { OnOk result (text.new.items ≡ text.old.items ++ place_text place.now) }
 {

@@ -34,7 +34,7 @@ fn of_byte(before: &[u8], byte: u8, behind: &[u8]) -> Option<&'static str> {
     }
 }
 
-/// The hint for a `#` behind which no number stands.
+/// The hint for a `#` with no number after it.
 pub fn of_hash(before: &[u8]) -> &'static str {
     match before.trim_ascii_end() {
         [] => "there are no comments",
@@ -53,7 +53,7 @@ fn is_comparison(word: &[u8]) -> bool {
     matches!(word, b"=" | b"!=" | b"<" | b"<=" | b">" | b">=")
 }
 
-/// The hint for a sign that can't stand there, by what is before and after it.
+/// The hint for a sign that can't come there, by what is before and after it.
 fn of_sign(before: &[u8], word: &[u8], behind: &[u8]) -> Option<&'static str> {
     let is_open = last_open(before).is_some();
     match (before, word, behind) {
@@ -85,7 +85,7 @@ fn like_item(word: &[u8]) -> Option<&'static str> {
     }
 }
 
-/// The hint for a word that can't stand there, by the words before it.
+/// The hint for a word that can't come there, by the words before it.
 fn of_item(before: &[u8], word: &[u8]) -> Option<&'static str> {
     let (front, last) = split_word(before);
     match (before, last, word) {
@@ -165,7 +165,7 @@ fn wants_operand(before: &[u8]) -> bool {
     )
 }
 
-/// Whether columns come after so many `;` in a bracket: that of a form, or one round numbers.
+/// Whether columns come after that many `;` in a bracket: that of a form, or one round numbers.
 fn has_operands(bracket: OpenBracket<'_>) -> bool {
     match bracket.name {
         b"select" | b"where" | b"group" | b"join" => bracket.semicolons > 0,
@@ -173,7 +173,7 @@ fn has_operands(bracket: OpenBracket<'_>) -> bool {
     }
 }
 
-/// The hint for a part of a condition where none can stand, by the form round it.
+/// The hint for a part of a condition where none can come, by the form round it.
 fn of_condition(before: &[u8], bracket: OpenBracket<'_>, word: &[u8]) -> Option<&'static str> {
     let form = form_bracket(before)?;
     match form.name {
@@ -204,7 +204,7 @@ fn is_part(before: &[u8]) -> bool {
     !wants_operand(before) && !matches!(last_word(before), b"sum" | b"min" | b"max")
 }
 
-/// The hint for a name where a number or a column must stand, by what comes after it.
+/// The hint for a name where a number or a column must come, by what comes after it.
 fn of_name(behind: &[u8]) -> &'static str {
     match behind.trim_ascii_start() {
         [b'(', ..] => "there are no functions; numbers are computed by +, - and *",
@@ -270,7 +270,7 @@ fn of_end(text: &[u8]) -> Option<&'static str> {
 }
 
 /// What is most likely meant where a text was refused at a place: a few words, if they are known. The codes are 1, for a byte that begins
-/// no word, and 4, for a word that can't stand there, or for the end of the text.
+/// no word, and 4, for a word that can't come there, or for the end of the text.
 pub fn hint(text: &[u8], code: u8, span: Span) -> Option<&'static str> {
     let (start, end) = (span.start as usize, span.end as usize);
     let before = text.get(..start)?.trim_ascii_end();

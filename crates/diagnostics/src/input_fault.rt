@@ -128,7 +128,7 @@ fn write_bad_number<W: Write>(line: &[u8], writer: &mut W) -> io::Result<()> {
     writeln!(writer, "{bad} is not a valid number{meant}")
 }
 
-/// Writes what is wrong with a line of an input text, in one line: where no more is known, what the table says of the code.
+/// Writes what is wrong with a line of an input text, in one line: or where nothing else is known, what the table says of the code.
 pub fn write_input_fault<W: Write>(
     alloc: Global,
     query: &[u8],

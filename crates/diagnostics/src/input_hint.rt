@@ -3,7 +3,7 @@
 /// The line ends in two bytes.
 const CARRIAGE_RETURN: &str = "the line ends in CR LF; remove the CR, as by tr -d '\\r'";
 
-/// The hint for a word in which a sign stands between fields in place of a space.
+/// The hint for a word in which a sign is between fields in place of a space.
 fn of_separator(word: &[u8]) -> Option<&'static str> {
     if word.contains(&b'\t') {
         Some("fields are separated by one space, not by a tab")

@@ -4,9 +4,8 @@
 //! says what is wrong there with the names and the numbers involved; `explained` finds the table's row of a number, and
 //! `write_explanation` writes it. The contract for the layer above: a fault's status, and that the text of a row is written whole, or a
 //! beginning of it where the writer failed, or nothing. This crate uses the parser and typing, which read a query's text once more, the
-//! parser also to try which words can stand at a place; the table of refusals, and the collector's writer. Below these stand `grammar`, `expr_tree`,
-//! `decimal` and `record_core`. `Plain` and `Word` show what
-//! stands on a command line with escapes for what might disturb a terminal.
+//! parser also to try which words can come at a place; the table of refusals, and the collector's writer; and below these `grammar`,
+//! `expr_tree`, `decimal` and `record_core`. `Plain` and `Word` show what a command line has, with escapes for what might disturb a terminal.
 #![tactic(auto)]
 
 mod bracket;

@@ -10,7 +10,7 @@ use std::alloc::{Allocator, Global};
 use std::io;
 use std::io::Write;
 
-/// Whether two names differ in no more than two bytes side by side, and share two others at their ends.
+/// Whether two names differ in at most two bytes side by side, and share two others at their ends.
 pub fn is_like(left: &[u8], right: &[u8]) -> bool {
     let front = left
         .iter()
@@ -29,7 +29,7 @@ pub fn is_like(left: &[u8], right: &[u8]) -> bool {
     longer.saturating_sub(back) <= 2 && front.saturating_add(back) >= 2
 }
 
-/// Writes that a name is meant by a word, if it is a similar one before the word's place, or the same one behind it. Tells whether it is.
+/// Writes that a name is meant by a word, if it is a similar one before the word's place, or the same one behind it. Gives whether it is.
 fn write_meant<W: Write>(
     name: &[u8],
     place: Span,
@@ -107,7 +107,7 @@ pub fn write_unknown<W: Write>(
     writeln!(writer)
 }
 
-/// The word that stands before a bracket as the name of a form, though it is none.
+/// The word before a bracket as the name of a form, though it is none.
 pub fn called(before: &[u8]) -> Option<&[u8]> {
     let (front, word) = split_word(before);
     let (_, first) = split_word(front);

@@ -40,7 +40,7 @@ pub fn write_summary<W: Write>(code: u8, writer: &mut W) -> io::Result<()> {
     }
 }
 
-/// What stands before a place, without the spaces there.
+/// What comes before a place, without the spaces there.
 fn before(text: &[u8], span: Span) -> &[u8] {
     text.get(..span.start as usize)
         .unwrap_or(&[])
@@ -84,7 +84,7 @@ fn write_number<W: Write>(text: &[u8], span: Span, writer: &mut W) -> io::Result
     }
 }
 
-/// Writes that a word can't stand at its place, or that the text ends too early, and what is meant or what could stand there.
+/// Writes that a word can't come at its place, or that the text ends too early, and what is meant or what could come there.
 fn write_unexpected<W: Write>(
     alloc: Global,
     text: &[u8],
@@ -200,7 +200,7 @@ fn write_arities<W: Write>(
     }
 }
 
-/// Writes what is wrong at a place of a query text, in one line: where no more is known, what the table says of the code.
+/// Writes what is wrong at a place of a query text, in one line: or where nothing else is known, what the table says of the code.
 pub fn write_query_fault<W: Write>(
     alloc: Global,
     text: &[u8],

@@ -13,7 +13,8 @@ pub fn write_schedule_fault<W: Write>(code: u8, writer: &mut W) -> io::Result<()
         ),
         46 => writeln!(
             writer,
-            "a line is `f INPUT FIELD ..`, `s INPUT`, `x INPUT`, `t WORKER CHOICE`, `c WORKER`, `d WORKER CHOICE`, `p EPOCH` or, with `--views`, `v WORKER SENDER`"
+            "a line is `f INPUT FIELD ..`, `s INPUT`, `x INPUT`, `t WORKER CHOICE`, `c WORKER`, `d WORKER CHOICE`, `p EPOCH` \
+            or, with `--views`, `v WORKER SENDER`"
         ),
         _ => write_summary(code, writer),
     }

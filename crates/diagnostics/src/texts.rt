@@ -6,7 +6,7 @@ use std::alloc::Global;
 use std::io::ErrorKind;
 
 /// The query text, and the input text or the schedule, each empty until it is read. A text that couldn't be read to its end is not kept.
-/// Of an input that is followed, what stands from its faulty line on is kept.
+/// Of an input that is followed, the text from its faulty line on is kept.
 #[derive(Drop)]
 pub struct Texts {
     /// At most 1,048,577 bytes: one more than a query may have.

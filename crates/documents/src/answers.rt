@@ -120,7 +120,7 @@ fn is_steady(
 }
 
 /// What the program prints that is called with these words: standard output, and then standard error. A run that asks for no number of
-/// workers, and tells nothing of them, is repeated with several of them; where that prints something else, a line says so in place of what
+/// workers, and prints nothing of them, is repeated with several of them; where that prints something else, a line says so in place of what
 /// is printed.
 pub fn shown_of(
     rt: &HostRuntime,

@@ -6,7 +6,7 @@ use std::alloc::{AllocError, Global};
 /// A row of the table.
 #[derive(Clone, Copy, Debug)]
 pub struct Row<'a> {
-    /// The line where it stands, from 1.
+    /// Its line, from 1.
     pub line: usize,
     pub code: &'a str,
     pub summary: &'a str,
@@ -52,7 +52,7 @@ pub fn rows<'a>(alloc: Global, text: &'a str) -> Result<Vec<Row<'a>>, AllocError
 }
 
 /// Whether the row says what the explanation says.
-pub fn tells(row: &Row, explanation: &Explanation) -> bool {
+pub fn is_explained(row: &Row, explanation: &Explanation) -> bool {
     matches!(row.code.parse::<u8>(), Ok(code) if code == explanation.code)
         && row.summary == explanation.summary
         && row.place == explanation.place

@@ -1,8 +1,8 @@
-//! The program `documents`: replays the sessions that documents show, and compares what is printed with what stands there.
+//! The program `documents`: replays the sessions that documents show, and compares what is printed with what is there.
 //!
 //! Its words are Markdown files. In each of them a line `$ ./loom ..` of a code block is answered by the calls that the program `loom`
 //! makes, and a line `$ cat ..` by the file. It prints a line for each document that is right, each place where one is wrong, and ends
-//! with status 1 if any is. The documents and the files that they name stand in its folder `data`, where the gate runs it: what the user
+//! with status 1 if any is. The documents and the files that they name are in its folder `data`, where the gate runs it: what the user
 //! reads, `worked/` with answers that were worked by hand, and `wrong.md`, which is wrong on purpose so that the replay is tried too. So the
 //! status that is wanted is 1.
 #![tactic(auto)]
@@ -12,7 +12,7 @@ mod explanations;
 mod lines;
 mod sessions;
 
-use crate::explanations::{has_table, rows, tells};
+use crate::explanations::{has_table, is_explained, rows};
 use crate::lines::printed;
 use crate::sessions::{Session, sessions};
 use refusals::{Explanation, explanation_of};
@@ -22,8 +22,8 @@ use std::sync::Wait;
 use std::thread::Threads;
 use std::{env, fs, io};
 
-/// Tells a session that prints something else.
-fn tell(rt: &HostRuntime, path: &str, session: &Session, answered: &[u8]) -> io::Result<()> {
+/// Reports a session that prints something else.
+fn report(rt: &HostRuntime, path: &str, session: &Session, answered: &[u8]) -> io::Result<()> {
     let (line, typed) = (session.line, session.typed);
     println!(rt; "{path}:{line}: `{typed}` prints")?;
     for text in String::from_utf8_lossy(rt.alloc(), answered)?.lines() {
@@ -32,7 +32,7 @@ fn tell(rt: &HostRuntime, path: &str, session: &Session, answered: &[u8]) -> io:
     Ok(())
 }
 
-/// Whether each session prints what stands under it; those that don't are told.
+/// Whether each session prints what is under it; reports those that don't.
 fn replays(
     rt: &HostRuntime,
     threads: &(impl Threads + Wait + Sync),
@@ -43,7 +43,7 @@ fn replays(
     for session in sessions {
         let answered = printed(rt, threads, session.typed)?;
         if answered.as_slice() != session.printed.as_bytes() {
-            tell(rt, path, session, answered.as_slice())?;
+            report(rt, path, session, answered.as_slice())?;
             is_right = false;
         }
     }
@@ -61,7 +61,7 @@ fn all_explanations(alloc: Global) -> Result<Vec<&'static Explanation>, AllocErr
     Ok(all)
 }
 
-/// Whether a document's table of refusals is that of these explanations; the rows that aren't are told.
+/// Whether a document's table of refusals is that of these explanations; reports the rows that aren't.
 fn explains(
     rt: &HostRuntime,
     path: &str,
@@ -69,13 +69,13 @@ fn explains(
     explanations: &[&'static Explanation],
 ) -> io::Result<bool> {
     let rows = rows(rt.alloc(), text)?;
-    let (told, all) = (rows.len(), explanations.len());
-    let mut is_right = told == all;
+    let (listed, all) = (rows.len(), explanations.len());
+    let mut is_right = listed == all;
     if !is_right {
-        println!(rt; "{path}: the table has {told} refusals, and there are {all}")?;
+        println!(rt; "{path}: the table has {listed} refusals, and there are {all}")?;
     }
     for (row, explanation) in rows.iter().zip(explanations) {
-        if !tells(row, explanation) {
+        if !is_explained(row, explanation) {
             let line = row.line;
             let (code, summary, place) = (explanation.code, explanation.summary, explanation.place);
             println!(rt; "{path}:{line}: this row should be")?;

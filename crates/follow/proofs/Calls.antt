@@ -14,13 +14,13 @@ use Rattle.collector.specs.Lines.{Item}
 use Rattle.collector.specs.OutputText.{is_plain, label_of}
 use Rattle.follow.specs.Entries.{Entry}
 use Rattle.follow.specs.Follows.{said_records}
-use Rattle.follow.specs.Scenes.{Grows, IsLive, Works, told_count}
-use Rattle.follow.specs.Steps.{CanTell, Ends, Goes, SentAll, Tells, ToldSo}
+use Rattle.follow.specs.Scenes.{Grows, IsLive, Works, reported_count}
+use Rattle.follow.specs.Steps.{CanReport, AnswersLast, AnswersOpen, FeedsPortion, Reports, HasAnswered}
 use Rattle.follow.specs.declared.intake.Intake.{Intake}
-use Rattle.follow.specs.declared.telling.Telling.{Telling}
+use Rattle.follow.specs.declared.reporting.Reporting.{Reporting}
 use Rattle.follow.proofs.Fed.{all_fed, all_worked, worked}
 use Rattle.follow.proofs.Moved.{grows_on, works_on}
-use Rattle.follow.proofs.Told.{told_later}
+use Rattle.follow.proofs.Reported.{report_later}
 
 pub on_ok : {T E A B : Type 0} (r : Result T E) → (A → B) → OnOk r A → OnOk r B
 on_ok (Ok t) f h = f h
@@ -59,41 +59,41 @@ label_at g outputs k x is_alone names lt is same =
     ap (λ b. label_of b (name_of_output x)) (same ∙ ap is_plain names) ∙ ap (label_of (is_plain (shown_names g))) name
 
 -- what was written, after more work
-can_later : (s t : Shown) (base : ℕ) (u : Telling) (items : List Item) (begun begun2 sealed sealed2 : ℕ) (entries : List Entry) (text : List ℕ) → Grows s t → begun2 ≡ begun → sealed2 ≡ sealed → CanTell s base u items begun sealed entries text → CanTell t base u items begun2 sealed2 entries text
+can_later : (s t : Shown) (base : ℕ) (u : Reporting) (items : List Item) (begun begun2 sealed sealed2 : ℕ) (entries : List Entry) (text : List ℕ) → Grows s t → begun2 ≡ begun → sealed2 ≡ sealed → CanReport s base u items begun sealed entries text → CanReport t base u items begun2 sealed2 entries text
 can_later s t base u items begun begun2 sealed sealed2 entries text grows b c can = record {
-  told = told_later s t base u.done (told_count u) (said_records items) (said_records items) entries text can.told grows (λ e i lt. refl);
+  reported = report_later s t base u.done (reported_count u) (said_records items) (said_records items) entries text can.reported grows (λ e i lt. refl);
   order = omega (arith, can.order, c);
   none = λ e. can.none (e ∙ b);
 }
 
-told_at : (s : Shown) (base : ℕ) (u : Telling) (items : List Item) (begun begun2 sealed sealed2 : ℕ) (text old new : List ℕ) → begun2 ≡ begun → sealed2 ≡ sealed → ToldSo s base u items begun2 sealed2 text old new → ToldSo s base u items begun sealed text old new
-told_at s base u items begun begun2 sealed sealed2 text old new b c told = subst (λ n. ToldSo s base u items n sealed text old new) b (subst (λ n. ToldSo s base u items begun2 n text old new) c told)
+reported_at : (s : Shown) (base : ℕ) (u : Reporting) (items : List Item) (begun begun2 sealed sealed2 : ℕ) (text old new : List ℕ) → begun2 ≡ begun → sealed2 ≡ sealed → HasAnswered s base u items begun2 sealed2 text old new → HasAnswered s base u items begun sealed text old new
+reported_at s base u items begun begun2 sealed sealed2 text old new b c reported = subst (λ n. HasAnswered s base u items n sealed text old new) b (subst (λ n. HasAnswered s base u items begun2 n text old new) c reported)
 
-pub goes_by : (base : ℕ) (s t w : Shown) (x y : Intake) (u v : Telling) (sealed : ℕ) (start out : List ℕ) → SentAll s t x y → (IsLive t → Works t w) → sealed ≡ y.begun - 1 → start ≡ [] → Tells w base u v y.begun sealed start out → Goes base s w x y u v out
-goes_by base s t w x y u v sealed start out sent works at none tells = λ items entries text f can.
+pub goes_by : (base : ℕ) (s t w : Shown) (x y : Intake) (u v : Reporting) (sealed : ℕ) (start out : List ℕ) → FeedsPortion s t x y → (IsLive t → Works t w) → sealed ≡ y.begun - 1 → start ≡ [] → Reports w base u v y.begun sealed start out → AnswersOpen base s w x y u v out
+goes_by base s t w x y u v sealed start out sent works at none reports = λ items entries text f can.
     let g = sent.fed base items f in
     let worked_off = works g.0.live in
     let grows = grows_on s t w g.1 worked_off.grows in
     let c : sealed ≡ x.begun - 1 = at ∙ ap (λ n. n - 1) sent.holds.begun in
-    let told = tells items entries text (all_worked t w base items (all_fed t y base items g.0 sent.none) worked_off) (omega (arith, at)) (can_later s w base u items x.begun y.begun (x.begun - 1) sealed entries text grows sent.holds.begun c can) in
+    let reported = reports items entries text (all_worked t w base items (all_fed t y base items g.0 sent.none) worked_off) (omega (arith, at)) (can_later s w base u items x.begun y.begun (x.begun - 1) sealed entries text grows sent.holds.begun c can) in
     record {
       graph = grows.graph;
       holds = sent.holds;
       fed = worked t w y base items g.0 worked_off;
-      told = told_at w base v items x.begun y.begun (x.begun - 1) sealed text [] out sent.holds.begun c (subst (λ xs. ToldSo w base v items y.begun sealed text xs out) none told);
+      reported = reported_at w base v items x.begun y.begun (x.begun - 1) sealed text [] out sent.holds.begun c (subst (λ xs. HasAnswered w base v items y.begun sealed text xs out) none reported);
     }
 
-pub ends_by : (base : ℕ) (s t r w : Shown) (x y : Intake) (u v : Telling) (start out : List ℕ) → SentAll s t x y → (IsLive t → Works t r) → (IsLive r → Works r w) → start ≡ [] → v.done ≡ y.begun → Tells w base u v y.begun y.begun start out → Ends base s w x u v out
-ends_by base s t r w x y u v start out sent closed works none complete tells = λ items entries text f can.
+pub ends_by : (base : ℕ) (s t r w : Shown) (x y : Intake) (u v : Reporting) (start out : List ℕ) → FeedsPortion s t x y → (IsLive t → Works t r) → (IsLive r → Works r w) → start ≡ [] → v.done ≡ y.begun → Reports w base u v y.begun y.begun start out → AnswersLast base s w x u v out
+ends_by base s t r w x y u v start out sent closed works none complete reports = λ items entries text f can.
     let g = sent.fed base items f in
     let a = closed g.0.live in
     let worked_off = works_on t r w a (works a.grows.live) in
     let grows = grows_on s t w g.1 worked_off.grows in
-    let told = tells items entries text (all_worked t w base items (all_fed t y base items g.0 sent.none) worked_off) (omega arith) (can_later s w base u items x.begun y.begun x.begun y.begun entries text grows sent.holds.begun sent.holds.begun can) in
+    let reported = reports items entries text (all_worked t w base items (all_fed t y base items g.0 sent.none) worked_off) (omega arith) (can_later s w base u items x.begun y.begun x.begun y.begun entries text grows sent.holds.begun sent.holds.begun can) in
     record {
       graph = grows.graph;
       complete = complete ∙ sent.holds.begun;
-      told = told_at w base v items x.begun y.begun x.begun y.begun text [] out sent.holds.begun sent.holds.begun (subst (λ xs. ToldSo w base v items y.begun y.begun text xs out) none told);
+      reported = reported_at w base v items x.begun y.begun x.begun y.begun text [] out sent.holds.begun sent.holds.begun (subst (λ xs. HasAnswered w base v items y.begun y.begun text xs out) none reported);
     }
 
 pub ok_items : {T E : Type 0} (r : Result T E) (b : Bool) (new xs ys : List ℕ) → b ≡ is_err r → b ≡ false → new ≡ (if is_ok r then xs else ys) → new ≡ xs

@@ -15,7 +15,7 @@ use Rattle.collector.proofs.LinesRead.{epoch_push, epochs_push, row_push}
 use Rattle.follow.specs.Follows.{said_records}
 use Rattle.std.specs.Prelude.{slice_index_or}
 use Rattle.follow.specs.Scenes.{Feeds, Grows, IsAllFed, IsFed, IsLive, Seals, Works, fed_at, missing, no_rows, open_at, waiting}
-use Rattle.follow.specs.Steps.{Counts, Empties, Gathers, Holds, Moves, Sent, SentAll}
+use Rattle.follow.specs.Steps.{Counts, Empties, Gathers, Holds, TakesItem, FeedsRows, FeedsPortion}
 use Rattle.follow.specs.declared.intake.Intake.{Intake}
 use Rattle.follow.proofs.Moved.{grows_not, grows_on}
 
@@ -176,7 +176,7 @@ pub all_worked : (s t : Shown) (base : ℕ) (items : List Item) → IsAllFed s b
 all_worked s t base items f w = record { live = w.grows.live; fed = λ i e. ≈-trans (≈-from (w.fed i e)) (f.fed i e) }
 
 -- an item of the next epoch, with or without a seal of the one before
-pub begun_sealed : (s t u : Shown) (x y z : Intake) (n : ℕ) → SentAll s t x y → (IsLive t → Seals t u n) → n ≡ length y.portion.items → (y.begun ≡ 0 → ⊥) → z.begun ≡ y.begun + 1 → z.line ≡ y.line → z.portion.items ≡ y.portion.items → Moves s u x z Item.epoch
+pub begun_sealed : (s t u : Shown) (x y z : Intake) (n : ℕ) → FeedsPortion s t x y → (IsLive t → Seals t u n) → n ≡ length y.portion.items → (y.begun ≡ 0 → ⊥) → z.begun ≡ y.begun + 1 → z.line ≡ y.line → z.portion.items ≡ y.portion.items → TakesItem s u x z Item.epoch
 begun_sealed s t u x y z n sent sealed all some begun line same = record {
   line = line ∙ sent.holds.line;
   fed = λ base items f.
@@ -185,7 +185,7 @@ begun_sealed s t u x y z n sent sealed all some begun line same = record {
       (begun_at t u y z base items g.0 sent.none seals.grows seals.fed begun same (λ i lt. seals.sealed i (omega (arith, lt, all)) ∙ ap (λ (n : ℕ). n + 1) (g.0.opened i lt) ∙ (let e : y.begun - 1 + 1 ≡ y.begun = omega (arith, some) in e)), grows_on s t u g.1 seals.grows);
 }
 
-pub begun_first : (s t : Shown) (x y z : Intake) → SentAll s t x y → y.begun ≡ 0 → z.begun ≡ y.begun + 1 → z.line ≡ y.line → z.portion.items ≡ y.portion.items → Moves s t x z Item.epoch
+pub begun_first : (s t : Shown) (x y z : Intake) → FeedsPortion s t x y → y.begun ≡ 0 → z.begun ≡ y.begun + 1 → z.line ≡ y.line → z.portion.items ≡ y.portion.items → TakesItem s t x z Item.epoch
 begun_first s t x y z sent none begun line same = record {
   line = line ∙ sent.holds.line;
   fed = λ base items f.
@@ -193,7 +193,7 @@ begun_first s t x y z sent none begun line same = record {
       (begun_at t t y z base items g.0 sent.none (grows_not t g.0.live) (λ i e. refl) begun same (λ i lt. g.0.opened i lt ∙ (let e : y.begun - 1 ≡ y.begun = omega (arith, none) in e)), g.1);
 }
 
-pub gathers_moves : (s : Shown) (x y : Intake) (i : ℕ) (z : Record) → Gathers x y i z → Moves s s x y (Item.row i z)
+pub gathers_moves : (s : Shown) (x y : Intake) (i : ℕ) (z : Record) → Gathers x y i z → TakesItem s s x y (Item.row i z)
 gathers_moves s x y i z g = record { line = g.holds.line; fed = λ base items f. (gathered s x y base items i z f g, grows_not s f.live) }
 
 -- ---- what waits at each input is fed, one after another
@@ -201,14 +201,14 @@ gathers_moves s x y i z g = record { line = g.holds.line; fed = λ base items f.
 pub holds_on : (x y z : Intake) → Holds x y → Holds y z → Holds x z
 holds_on x y z p q = record { begun = q.begun ∙ p.begun; line = q.line ∙ p.line; inputs = q.inputs ∙ p.inputs }
 
-pub sent_one : (s t : Shown) (x y : Intake) (i : ℕ) (batch rows : List Record) → batch ≈ rows → Empties x y i rows → i < length x.portion.items → (IsLive s → Feeds s t i batch) → Sent s t x y i
+pub sent_one : (s t : Shown) (x y : Intake) (i : ℕ) (batch rows : List Record) → batch ≈ rows → Empties x y i rows → i < length x.portion.items → (IsLive s → Feeds s t i batch) → FeedsRows s t x y i
 sent_one s t x y i batch rows same g lt feeds = record {
   holds = g.holds;
   waits = g.waits;
   fed = λ base items f. let d = feeds f.live in (fed_one s t x y base items i batch rows same f g lt d, d.grows);
 }
 
-pub sent_none : (s : Shown) (x y : Intake) (i : ℕ) (rows : List Record) → Empties x y i rows → rows ≡ [] → Sent s s x y i
+pub sent_none : (s : Shown) (x y : Intake) (i : ℕ) (rows : List Record) → Empties x y i rows → rows ≡ [] → FeedsRows s s x y i
 sent_none s x y i rows g none = record {
   holds = g.holds;
   waits = g.waits;
@@ -228,7 +228,7 @@ none_sent s x = record {
   fed = λ base items f. (f, grows_not s f.live);
 }
 
-pub more_sent : (s t u : Shown) (x y z : Intake) (n : ℕ) → SentSome s t x y n → Sent t u y z n → SentSome s u x z (n + 1)
+pub more_sent : (s t u : Shown) (x y z : Intake) (n : ℕ) → SentSome s t x y n → FeedsRows t u y z n → SentSome s u x z (n + 1)
 more_sent s t u x y z n p q = record {
   holds = holds_on x y z p.holds q.holds;
   none = λ i lt. q.waits i ∙ elim (eqb_tells i n) [
@@ -238,7 +238,7 @@ more_sent s t u x y z n p q = record {
   fed = λ base items f. let a = p.fed base items f in let b = q.fed base items a.0 in (b.0, grows_on s t u a.1 b.1);
 }
 
-pub all_sent : (s t : Shown) (x y : Intake) (n : ℕ) → SentSome s t x y n → length x.portion.items ≤ n → SentAll s t x y
+pub all_sent : (s t : Shown) (x y : Intake) (n : ℕ) → SentSome s t x y n → length x.portion.items ≤ n → FeedsPortion s t x y
 all_sent s t x y n p le = record {
   holds = p.holds;
   none = λ i. elim (cases_lt i n) [

@@ -6,7 +6,7 @@ pub mod Fed
 pub mod Items
 pub mod Lines
 pub mod Moved
+pub mod Positions
 pub mod Renewed
-pub mod Stood
-pub mod Told
+pub mod Reported
 pub mod Waiting

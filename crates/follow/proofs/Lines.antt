@@ -11,7 +11,7 @@ use Rattle.collector.specs.declared.refusal.Fault.{Fault}
 use Rattle.collector.specs.declared.refusal.Fault.TheVariants.{Malformed, TooManyEpochs, NoEpoch, Unknown, BadNumber, WrongFields}
 use Rattle.collector.proofs.LinesRead.{filled, say_push}
 use Rattle.follow.specs.Scenes.{Grows, HasTaken}
-use Rattle.follow.specs.Steps.{Continues, Counts, Moves, TakesLines}
+use Rattle.follow.specs.Steps.{Continues, Counts, TakesItem, TakesLines}
 use Rattle.follow.specs.declared.intake.Intake.{Intake}
 use Rattle.follow.specs.declared.taken.Taken.TheVariants as taken
 use Rattle.follow.proofs.Fed.{counted_fed}
@@ -34,7 +34,7 @@ pub takes_none : (base : ℕ) (s : Shown) (x : Intake) (inputs : List Input) (te
 takes_none base s x inputs text = λ bytes lines items h. record { lines = lines; later = items; taken = h; continues = continues_here items; grows = grows_not s h.fed.live }
 
 -- one more line
-taken_more : (base : ℕ) (s t u : Shown) (y z v : Intake) (inputs : List Input) (bytes rest after line : List ℕ) (items : List Item) (item : Item) (r : TakenSo base s t y inputs bytes rest items) → split_on 10 rest ≡ line ∷ split_on 10 after → Says inputs (base + y.begun) line item → Moves t u y z item → Counts z v
+taken_more : (base : ℕ) (s t u : Shown) (y z v : Intake) (inputs : List Input) (bytes rest after line : List ℕ) (items : List Item) (item : Item) (r : TakenSo base s t y inputs bytes rest items) → split_on 10 rest ≡ line ∷ split_on 10 after → Says inputs (base + y.begun) line item → TakesItem t u y z item → Counts z v
     → HasTaken u base v inputs bytes after (r.lines ++ line ∷ []) (r.later ++ item ∷ [])
 taken_more base s t u y z v inputs bytes rest after line items item r cut says moves counts = record {
   fed = counted_fed u z v base (r.later ++ item ∷ []) counts (moves.fed base r.later r.taken.fed).0;
@@ -43,7 +43,7 @@ taken_more base s t u y z v inputs bytes rest after line items item r cut says m
   counted = counts.line ∙ ap (λ (n : ℕ). n + 1) (moves.line ∙ r.taken.counted) ∙ sym (length-append r.lines (line ∷ []));
 }
 
-pub takes_more : (base : ℕ) (s t u : Shown) (x y z v : Intake) (inputs : List Input) (text rest after line : List ℕ) (item : Item) → Takes base s t x y inputs text rest → split_on 10 rest ≡ line ∷ split_on 10 after → Says inputs (base + y.begun) line item → Moves t u y z item → Counts z v
+pub takes_more : (base : ℕ) (s t u : Shown) (x y z v : Intake) (inputs : List Input) (text rest after line : List ℕ) (item : Item) → Takes base s t x y inputs text rest → split_on 10 rest ≡ line ∷ split_on 10 after → Says inputs (base + y.begun) line item → TakesItem t u y z item → Counts z v
     → Takes base s u x v inputs text after
 takes_more base s t u x y z v inputs text rest after line item takes cut says moves counts = λ bytes lines items h.
     let r = takes bytes lines items h in
@@ -55,8 +55,8 @@ takes_more base s t u x y z v inputs text rest after line item takes cut says mo
       grows = grows_on s t u r.grows (moves.fed base r.later r.taken.fed).1;
     }
 
--- the same if the line begins an epoch, and no more are taken
-pub took_epoch : (base : ℕ) (s t u : Shown) (x y z v : Intake) (inputs : List Input) (text rest after line : List ℕ) (item : Item) → Takes base s t x y inputs text rest → split_on 10 rest ≡ line ∷ split_on 10 after → Says inputs (base + y.begun) line item → Moves t u y z item → Counts z v → item ≡ Item.epoch
+-- the same if the line begins an epoch, and it is the last to be taken
+pub took_epoch : (base : ℕ) (s t u : Shown) (x y z v : Intake) (inputs : List Input) (text rest after line : List ℕ) (item : Item) → Takes base s t x y inputs text rest → split_on 10 rest ≡ line ∷ split_on 10 after → Says inputs (base + y.begun) line item → TakesItem t u y z item → Counts z v → item ≡ Item.epoch
     → TakesLines base s u x v inputs text after taken.Epoch
 took_epoch base s t u x y z v inputs text rest after line item takes cut says moves counts is = λ bytes lines items h.
     let r = takes bytes lines items h in

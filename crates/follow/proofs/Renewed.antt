@@ -15,13 +15,13 @@ use Rattle.collector.specs.Lines.{Item}
 use Rattle.collector.specs.InputText.{epochs_after, records_in}
 use Rattle.collector.proofs.LinesRead.{epoch_push, epochs_push}
 use Rattle.follow.specs.Entries.{Entry, records_of}
-use Rattle.follow.specs.Follows.{IsTold, said_records}
-use Rattle.follow.specs.Scenes.{IsWritten, batches_of, missing, no_rows, told_count, waiting}
+use Rattle.follow.specs.Follows.{IsReport, said_records}
+use Rattle.follow.specs.Scenes.{IsWritten, batches_of, missing, no_rows, reported_count, waiting}
 use Rattle.follow.specs.Steps.{EndsInEpoch}
 use Rattle.follow.specs.declared.intake.Intake.{Intake}
-use Rattle.follow.specs.declared.telling.Telling.{Telling}
+use Rattle.follow.specs.declared.reporting.Reporting.{Reporting}
 use Rattle.follow.proofs.Fed.{nothing_waits}
-use Rattle.follow.proofs.Told.{part_nothing}
+use Rattle.follow.proofs.Reported.{part_nothing}
 
 -- ---- epochs of which nothing was said
 
@@ -61,9 +61,9 @@ no_entries (entry ∷ entries) none =
     let one : entry.1 ∷ records_of entry.0 entries ≡ [] = ap (λ t. cond t (entry.1 ∷ records_of entry.0 entries) (records_of entry.0 entries)) (sym own) ∙ none entry.0 in
     absurd cc
 
-pub renewed : (g : GraphValue) (workers : ℕ) (s t : Shown) (base last base2 : ℕ) (x y : Intake) (u v : Telling) (bytes pending : List ℕ) (start now : Option (List ℕ)) → IsOpening g workers t → Shows t opening → y.begun ≡ 1 → y.line ≡ x.line → y.portion.items ≡ x.portion.items → v.done ≡ 0 → ((k : ℕ) → told_count u k ≡ 0)
-    → ((k : ℕ) → told_count v k ≡ 0) → u.done ≡ last → x.begun ≡ last + 1 → base2 ≡ base + last → (w : IsWritten g s base x u bytes pending start now) → EndsInEpoch w.known.items → IsWritten g t base2 y v bytes pending start now
-renewed g workers s t base last base2 x y u v bytes pending start now opens shows one line portion zero untold fresh done begun moved w ends =
+pub renewed : (g : GraphValue) (workers : ℕ) (s t : Shown) (base last base2 : ℕ) (x y : Intake) (u v : Reporting) (bytes pending : List ℕ) (start now : Option (List ℕ)) → IsOpening g workers t → Shows t opening → y.begun ≡ 1 → y.line ≡ x.line → y.portion.items ≡ x.portion.items → v.done ≡ 0 → ((k : ℕ) → reported_count u k ≡ 0)
+    → ((k : ℕ) → reported_count v k ≡ 0) → u.done ≡ last → x.begun ≡ last + 1 → base2 ≡ base + last → (w : IsWritten g s base x u bytes pending start now) → EndsInEpoch w.known.items → IsWritten g t base2 y v bytes pending start now
+renewed g workers s t base last base2 x y u v bytes pending start now opens shows one line portion zero fresh_last fresh done begun moved w ends =
     let k = w.known in
     record {
       known = record {
@@ -86,9 +86,9 @@ renewed g workers s t base last base2 x y u v bytes pending start now opens show
           said = k.taken.said;
           counted = line ∙ k.taken.counted;
         };
-        told = record {
-          told = subst (λ (h : GraphValue). IsTold h (said_records k.items) (base2 + v.done) [] k.text) (k.graph ∙ sym opens.graph)
-              (subst (λ (n : ℕ). IsTold s.graph (said_records k.items) n [] k.text) number (subst (λ (es : List Entry). IsTold s.graph (said_records k.items) (base + u.done) es k.text) nothing k.told.told));
+        reported = record {
+          reported = subst (λ (h : GraphValue). IsReport h (said_records k.items) (base2 + v.done) [] k.text) (k.graph ∙ sym opens.graph)
+              (subst (λ (n : ℕ). IsReport s.graph (said_records k.items) n [] k.text) number (subst (λ (es : List Entry). IsReport s.graph (said_records k.items) (base + u.done) es k.text) nothing k.reported.reported));
           within = λ j. omega (arith, fresh j);
           first = λ j. ap (λ (n : ℕ). joined (take n (batches_of t j v.done))) (sym (fresh j));
         };
@@ -104,7 +104,7 @@ renewed g workers s t base last base2 x y u v bytes pending start now opens show
     number = omega (arith, done, moved, zero)
 
     nothing : w.known.entries ≡ []
-    nothing = no_entries w.known.entries (λ j. w.known.told.first j ∙ ap (λ (n : ℕ). joined (take n (batches_of s j u.done))) (untold j))
+    nothing = no_entries w.known.entries (λ j. w.known.reported.first j ∙ ap (λ (n : ℕ). joined (take n (batches_of s j u.done))) (fresh_last j))
 
     waits_same : (i : ℕ) → waiting y i ≡ waiting x i
     waits_same i = ap (λ xs. (slice_index_or xs i no_rows).rows) portion

@@ -33,11 +33,12 @@ IsPart g records entries = (p : Program) (k : ℕ) → IsGraphOf g p → k < len
 
 -- The text has the epochs in order. The first `done` are complete: for each, all lines of its answer, and then the line that says so. Of the next one
 -- it has these entries.
-pub data IsTold (g : GraphValue) (records : (epoch input : ℕ) → List Record) : (done : ℕ) → List Entry → (text : List ℕ) → Type 0 where
-  tells_nothing : IsTold g records 0 [] []
-  tells_more : (done : ℕ) (entries more : List Entry) (text : List ℕ) → IsTold g records done entries text → AreAt (length (shown_names g)) more
-      → IsTold g records done (entries ++ more) (text ++ flat_map (entry_line (shown_names g) done) more)
-  tells_whole : (done : ℕ) (entries : List Entry) (text : List ℕ) → IsTold g records done entries text → IsWhole g (records done) entries → IsTold g records (done + 1) [] (text ++ complete_line done)
+pub data IsReport (g : GraphValue) (records : (epoch input : ℕ) → List Record) : (done : ℕ) → List Entry → (text : List ℕ) → Type 0 where
+  reports_nothing : IsReport g records 0 [] []
+  reports_more : (done : ℕ) (entries more : List Entry) (text : List ℕ) → IsReport g records done entries text → AreAt (length (shown_names g)) more
+      → IsReport g records done (entries ++ more) (text ++ flat_map (entry_line (shown_names g) done) more)
+  reports_whole : (done : ℕ) (entries : List Entry) (text : List ℕ) → IsReport g records done entries text
+      → IsWhole g (records done) entries → IsReport g records (done + 1) [] (text ++ complete_line done)
 
 -- the records that lines say of an input in an epoch
 abbrev pub said_records : List Item → (epoch input : ℕ) → List Record
@@ -45,7 +46,7 @@ said_records items epoch input = records_in epoch input 0 items
 
 -- what is written after the lines so far: the answers of the complete epochs are whole, and that of the next is part of what is meant
 pub record IsAnswer (g : GraphValue) (items : List Item) (done : ℕ) (entries : List Entry) (text : List ℕ) : Type 0 where
-  pub told : IsTold g (said_records items) done entries text
+  pub reported : IsReport g (said_records items) done entries text
   pub part : IsPart g (said_records items done) entries
 
 -- the bytes begin with these lines, which say these items; the rest is not read as lines
@@ -58,7 +59,7 @@ abbrev pub IsSealed : (begun done : ℕ) → (left : Option (List ℕ)) → Type
 IsSealed begun done left = (done ≤ begun - 1) ⊎ ((done ≤ begun) × IsAtEnd left)
 
 -- the input is read to its end, and every epoch of it is complete
-pub record IsAllTold (inputs : List Input) (bytes : List ℕ) (left : Option (List ℕ)) (items : List Item) (done : ℕ) (entries : List Entry) : Type 0 where
+pub record IsAllReported (inputs : List Input) (bytes : List ℕ) (left : Option (List ℕ)) (items : List Item) (done : ℕ) (entries : List Entry) : Type 0 where
   pub whole : IsInputText inputs bytes (epochs_after 0 items) (said_records items)
   pub ended : IsAtEnd left
   pub complete : done ≡ epochs_after 0 items
@@ -71,8 +72,9 @@ pub record IsFaulty (inputs : List Input) (bytes : List ℕ) (left : Option (Lis
   pub last : code ≡ 43 → IsAtEnd left
 
 -- how far the bytes were read: to the end, to a faulty line, to the last whole line before the reader failed, or unspecified
-abbrev pub Reaches : List Input → (bytes : List ℕ) → (left : Option (List ℕ)) → (lines : List (List ℕ)) → List Item → (rest : List (List ℕ)) → (done : ℕ) → List Entry → Result (Unit {0}) Ending → Type 0
-Reaches inputs bytes left lines items rest done entries (Ok _) = IsAllTold inputs bytes left items done entries
+abbrev pub Reaches : List Input → (bytes : List ℕ) → (left : Option (List ℕ)) → (lines : List (List ℕ)) → List Item
+    → (rest : List (List ℕ)) → (done : ℕ) → List Entry → Result (Unit {0}) Ending → Type 0
+Reaches inputs bytes left lines items rest done entries (Ok _) = IsAllReported inputs bytes left items done entries
 Reaches inputs bytes left lines items rest done entries (Err (ending.Input code line)) = IsFaulty inputs bytes left lines code line
 Reaches inputs bytes left lines items rest done entries (Err ending.Read) = (piece : List ℕ) × (rest ≡ piece ∷ [])
 Reaches inputs bytes left lines items rest done entries (Err ending.Write) = Unit {0}

@@ -14,10 +14,10 @@ use Rattle.collector.specs.Pieces.{split_on}
 use Rattle.collector.specs.Lines.{Item}
 use Rattle.collector.specs.InputText.{LinesSay, epochs_after}
 use Rattle.follow.specs.Entries.{Entry, records_of}
-use Rattle.follow.specs.Follows.{IsPart, IsTold, said_records}
+use Rattle.follow.specs.Follows.{IsPart, IsReport, said_records}
 use Rattle.follow.specs.declared.intake.Intake.{Intake}
 use Rattle.follow.specs.declared.position.Position.{Position}
-use Rattle.follow.specs.declared.telling.Telling.{Telling}
+use Rattle.follow.specs.declared.reporting.Reporting.{Reporting}
 
 -- ---- the board
 
@@ -102,36 +102,37 @@ pub record HasTaken (s : Shown) (base : ℕ) (x : Intake) (inputs : List Input) 
 -- ---- what was written
 
 -- how many batches of an output were written for the first incomplete epoch
-abbrev pub told_count : Telling → (output : ℕ) → ℕ
-told_count t k = slice_index_or t.told.items k 0
+abbrev pub reported_count : Reporting → (output : ℕ) → ℕ
+reported_count t k = slice_index_or t.reported.items k 0
 
 -- All epochs before the base and the next `done` are complete; the entries are the first batches that were emitted for the epoch after those, `count`
 -- at each output.
-pub record HasTold (s : Shown) (base done : ℕ) (count : (output : ℕ) → ℕ) (records : (epoch input : ℕ) → List Record) (entries : List Entry) (text : List ℕ) : Type 0 where
-  pub told : IsTold s.graph records (base + done) entries text
+pub record HasReported (s : Shown) (base done : ℕ) (count : (output : ℕ) → ℕ) (records : (epoch input : ℕ) → List Record)
+    (entries : List Entry) (text : List ℕ) : Type 0 where
+  pub reported : IsReport s.graph records (base + done) entries text
   pub within : (k : ℕ) → count k ≤ length (batches_of s k done)
   pub first : (k : ℕ) → records_of k entries ≡ joined (take (count k) (batches_of s k done))
 
 -- these lines of the bytes were taken, and the answer to them is written as far as the board has worked
-pub record IsKnown (g : GraphValue) (s : Shown) (base : ℕ) (x : Intake) (t : Telling) (bytes pending : List ℕ) : Type 0 where
+pub record IsKnown (g : GraphValue) (s : Shown) (base : ℕ) (x : Intake) (t : Reporting) (bytes pending : List ℕ) : Type 0 where
   pub lines : List (List ℕ)
   pub items : List Item
   pub entries : List Entry
   pub text : List ℕ
   pub graph : s.graph ≡ g
   pub taken : HasTaken s base x (shown_inputs g) bytes pending lines items
-  pub told : HasTold s base t.done (told_count t) (said_records items) entries text
+  pub reported : HasReported s base t.done (reported_count t) (said_records items) entries text
   pub part : IsPart g (said_records items (base + t.done)) entries
   pub start : x.begun ≡ 0 → base ≡ 0
   pub sealed : t.done ≤ x.begun - 1
   pub none : t.done ≡ x.begun → entries ≡ []
 
 -- the answer to the lines that were taken is written
-pub record IsWritten (g : GraphValue) (s : Shown) (base : ℕ) (x : Intake) (t : Telling) (bytes pending : List ℕ) (old new : Option (List ℕ)) : Type 0 where
+pub record IsWritten (g : GraphValue) (s : Shown) (base : ℕ) (x : Intake) (t : Reporting) (bytes pending : List ℕ) (old new : Option (List ℕ)) : Type 0 where
   pub known : IsKnown g s base x t bytes pending
   pub written : Appends old new known.text
 
 -- the same for a position, where what is pending is part of a line
-pub record Stands (g : GraphValue) (s : Shown) (p : Position) (bytes : List ℕ) (old new : Option (List ℕ)) : Type 0 where
-  pub stood : IsWritten g s p.base p.intake p.telling bytes p.pending.items old new
+pub record IsPositionAfter (g : GraphValue) (s : Shown) (p : Position) (bytes : List ℕ) (old new : Option (List ℕ)) : Type 0 where
+  pub written : IsWritten g s p.base p.intake p.reporting bytes p.pending.items old new
   pub unended : split_on 10 p.pending.items ≡ p.pending.items ∷ []

@@ -14,7 +14,7 @@ use Rattle.collector.specs.declared.refusal.InputRefusal.TheVariants.{At}
 use Rattle.follow.specs.Entries.{Entry, records_of, row_line}
 use Rattle.std.specs.Io.KnownBytes.{IsAtEnd}
 use Rattle.follow.specs.Follows.{Follows, FollowsInput, IsPart, said_records}
-use Rattle.follow.specs.Scenes.{Grows, HasTaken, HasTold, IsAllFed, IsFed, IsWritten, Stands, batches_of, fed_at, open_at, told_count, waiting}
+use Rattle.follow.specs.Scenes.{Grows, HasTaken, HasReported, IsAllFed, IsFed, IsWritten, IsPositionAfter, batches_of, fed_at, open_at, reported_count, waiting}
 use Rattle.follow.specs.declared.ending.Ending.{Ending}
 use Rattle.follow.specs.declared.ending.Ending.TheVariants as ending
 use Rattle.follow.specs.declared.ending.Halt.{Halt}
@@ -23,7 +23,7 @@ use Rattle.follow.specs.declared.intake.Intake.{Intake}
 use Rattle.follow.specs.declared.position.Position.{Position}
 use Rattle.follow.specs.declared.taken.Taken.{Taken}
 use Rattle.follow.specs.declared.taken.Taken.TheVariants as taken
-use Rattle.follow.specs.declared.telling.Telling.{Telling}
+use Rattle.follow.specs.declared.reporting.Reporting.{Reporting}
 
 -- how following ends if the work stops
 abbrev pub ending_of : Halt → Ending
@@ -71,19 +71,19 @@ pub record Empties (x y : Intake) (input : ℕ) (rows : List Record) : Type 0 wh
   pub waits : (i : ℕ) → waiting y i ≡ cond (i == input) [] (waiting x i)
 
 -- what waited at an input was fed
-pub record Sent (s t : Shown) (x y : Intake) (input : ℕ) : Type 0 where
+pub record FeedsRows (s t : Shown) (x y : Intake) (input : ℕ) : Type 0 where
   pub holds : Holds x y
   pub waits : (i : ℕ) → waiting y i ≡ cond (i == input) [] (waiting x i)
   pub fed : (base : ℕ) (items : List Item) → IsFed s base x items → IsFed t base y items × Grows s t
 
 -- all that waited was fed
-pub record SentAll (s t : Shown) (x y : Intake) : Type 0 where
+pub record FeedsPortion (s t : Shown) (x y : Intake) : Type 0 where
   pub holds : Holds x y
   pub none : (i : ℕ) → waiting y i ≡ []
   pub fed : (base : ℕ) (items : List Item) → IsFed s base x items → IsFed t base y items × Grows s t
 
 -- an item was taken
-pub record Moves (s t : Shown) (x y : Intake) (item : Item) : Type 0 where
+pub record TakesItem (s t : Shown) (x y : Intake) (item : Item) : Type 0 where
   pub line : y.line ≡ x.line
   pub fed : (base : ℕ) (items : List Item) → IsFed s base x items → IsFed t base y (items ++ item ∷ []) × Grows s t
 
@@ -96,14 +96,14 @@ pub record Continues (items later : List Item) : Type 0 where
 abbrev pub EndsInEpoch : List Item → Type 0
 EndsInEpoch items = (before : List Item) × (items ≡ before ++ Item.epoch ∷ [])
 
--- why no more lines were taken: the rest is part of a line, the next line has a fault of that code, or an epoch has begun
+-- why taking lines stopped: the rest is part of a line, the next line has a fault of that code, or an epoch has begun
 abbrev pub Stops : List Input → (bytes rest : List ℕ) → (lines : ℕ) → List Item → Taken → Type 0
 Stops inputs bytes rest n items taken.Whole = split_on 10 rest ≡ rest ∷ []
 Stops inputs bytes rest n items (taken.Fault code) = IsRefused inputs bytes (At code (n + 1)) × (code ≡ 43 → ⊥)
 Stops inputs bytes rest n items taken.Epoch = EndsInEpoch items
 
 -- lines were taken, and these bytes are left
-pub record Took (base : ℕ) (s t : Shown) (y : Intake) (inputs : List Input) (bytes rest : List ℕ) (how : Taken) (items : List Item) : Type 0 where
+pub record HasTakenLines (base : ℕ) (s t : Shown) (y : Intake) (inputs : List Input) (bytes rest : List ℕ) (how : Taken) (items : List Item) : Type 0 where
   pub lines : List (List ℕ)
   pub later : List Item
   pub reached : HasTaken t base y inputs bytes rest lines later
@@ -113,129 +113,145 @@ pub record Took (base : ℕ) (s t : Shown) (y : Intake) (inputs : List Input) (b
 
 -- the same, whatever was taken before
 abbrev pub TakesLines : (base : ℕ) → (s t : Shown) → (x y : Intake) → List Input → (text rest : List ℕ) → Taken → Type 0
-TakesLines base s t x y inputs text rest how = (bytes : List ℕ) (lines : List (List ℕ)) (items : List Item) → HasTaken s base x inputs bytes text lines items → Took base s t y inputs bytes rest how items
+TakesLines base s t x y inputs text rest how =
+    (bytes : List ℕ) (lines : List (List ℕ)) (items : List Item) → HasTaken s base x inputs bytes text lines items
+    → HasTakenLines base s t y inputs bytes rest how items
 
 -- ---- what is written
 
 -- nothing was written
-pub record IsFresh (t : Telling) : Type 0 where
+pub record IsFresh (t : Reporting) : Type 0 where
   pub done : t.done ≡ 0
-  pub none : (k : ℕ) → told_count t k ≡ 0
+  pub none : (k : ℕ) → reported_count t k ≡ 0
 
 -- nothing was taken or written
 pub record IsFirst (p : Position) : Type 0 where
   pub base : p.base ≡ 0
   pub new : IsNew p.intake
-  pub fresh : IsFresh p.telling
+  pub fresh : IsFresh p.reporting
   pub none : p.pending.items ≡ []
 
 -- one more epoch is complete
-pub record Nexts (t u : Telling) : Type 0 where
+pub record Completes (t u : Reporting) : Type 0 where
   pub done : u.done ≡ t.done + 1
-  pub none : (k : ℕ) → told_count u k ≡ 0
+  pub none : (k : ℕ) → reported_count u k ≡ 0
 
 -- the lines of the batches after the first ones are appended
-pub record TellsHere (batches : List (List Record)) (label : List ℕ) (epoch told : ℕ) (old new : List ℕ) (count : ℕ) : Type 0 where
-  pub lines : new ≡ old ++ flat_map (row_line epoch label) (joined (drop told batches))
+pub record ReportsBatches (batches : List (List Record)) (label : List ℕ) (epoch reported : ℕ) (old new : List ℕ) (count : ℕ) : Type 0 where
+  pub lines : new ≡ old ++ flat_map (row_line epoch label) (joined (drop reported batches))
   pub counted : count ≡ length batches
 
 -- all that was emitted at an output for the first incomplete epoch is written
-pub record TellsOne (s : Shown) (base : ℕ) (t u : Telling) (output : ℕ) (label : List ℕ) (old new : List ℕ) : Type 0 where
+pub record ReportsOutput (s : Shown) (base : ℕ) (t u : Reporting) (output : ℕ) (label : List ℕ) (old new : List ℕ) : Type 0 where
   pub done : u.done ≡ t.done
-  pub here : told_count u output ≡ length (batches_of s output t.done)
-  pub others : (k : ℕ) → k ≢ output → told_count u k ≡ told_count t k
-  pub lines : new ≡ old ++ flat_map (row_line (base + t.done) label) (joined (drop (told_count t output) (batches_of s output t.done)))
+  pub here : reported_count u output ≡ length (batches_of s output t.done)
+  pub others : (k : ℕ) → k ≢ output → reported_count u k ≡ reported_count t k
+  pub lines : new ≡ old ++ flat_map (row_line (base + t.done) label) (joined (drop (reported_count t output) (batches_of s output t.done)))
 
 -- more entries were written: at the first n outputs, all that was emitted
-pub record ToldMore (s : Shown) (base done n : ℕ) (u : Telling) (records : (epoch input : ℕ) → List Record) (entries : List Entry) (text old new : List ℕ) : Type 0 where
+pub record HasReportedMore (s : Shown) (base done n : ℕ) (u : Reporting) (records : (epoch input : ℕ) → List Record)
+    (entries : List Entry) (text old new : List ℕ) : Type 0 where
   pub more : List Entry
   pub lines : List ℕ
-  pub told : HasTold s base done (told_count u) records (entries ++ more) (text ++ lines)
+  pub reported : HasReported s base done (reported_count u) records (entries ++ more) (text ++ lines)
   pub appended : new ≡ old ++ lines
   pub all : (k : ℕ) → k < n → IsOutputPlace s k → records_of k (entries ++ more) ≡ emitted_at s k done
 
 -- the same, whatever was written before
-pub record TellsTo (s : Shown) (base n : ℕ) (t u : Telling) (old new : List ℕ) : Type 0 where
+pub record ReportsOutputs (s : Shown) (base n : ℕ) (t u : Reporting) (old new : List ℕ) : Type 0 where
   pub done : u.done ≡ t.done
-  pub more : (records : (epoch input : ℕ) → List Record) (entries : List Entry) (text : List ℕ) → HasTold s base t.done (told_count t) records entries text → ToldMore s base t.done n u records entries text old new
+  pub more : (records : (epoch input : ℕ) → List Record) (entries : List Entry) (text : List ℕ)
+      → HasReported s base t.done (reported_count t) records entries text → HasReportedMore s base t.done n u records entries text old new
 
 -- the same at every output
-abbrev pub TellsOpen : Shown → (base : ℕ) → (t u : Telling) → (old new : List ℕ) → Type 0
-TellsOpen s base t u old new = (n : ℕ) × ((k : ℕ) → IsOutputPlace s k → k < n) × TellsTo s base n t u old new
+abbrev pub ReportsOpen : Shown → (base : ℕ) → (t u : Reporting) → (old new : List ℕ) → Type 0
+ReportsOpen s base t u old new = (n : ℕ) × ((k : ℕ) → IsOutputPlace s k → k < n) × ReportsOutputs s base n t u old new
 
 -- what was written is an answer to the items, and a whole one for epochs below `sealed`
-pub record ToldSo (s : Shown) (base : ℕ) (u : Telling) (items : List Item) (begun sealed : ℕ) (text old new : List ℕ) : Type 0 where
+pub record HasAnswered (s : Shown) (base : ℕ) (u : Reporting) (items : List Item) (begun sealed : ℕ) (text old new : List ℕ) : Type 0 where
   pub entries : List Entry
   pub lines : List ℕ
-  pub told : HasTold s base u.done (told_count u) (said_records items) entries (text ++ lines)
+  pub reported : HasReported s base u.done (reported_count u) (said_records items) entries (text ++ lines)
   pub appended : new ≡ old ++ lines
   pub part : IsPart s.graph (said_records items (base + u.done)) entries
   pub order : u.done ≤ sealed
   pub none : u.done ≡ begun → entries ≡ []
 
 -- what must be known of what was written before
-pub record CanTell (s : Shown) (base : ℕ) (t : Telling) (items : List Item) (begun sealed : ℕ) (entries : List Entry) (text : List ℕ) : Type 0 where
-  pub told : HasTold s base t.done (told_count t) (said_records items) entries text
+pub record CanReport (s : Shown) (base : ℕ) (t : Reporting) (items : List Item) (begun sealed : ℕ) (entries : List Entry) (text : List ℕ) : Type 0 where
+  pub reported : HasReported s base t.done (reported_count t) (said_records items) entries text
   pub order : t.done ≤ sealed
   pub none : t.done ≡ begun → entries ≡ []
 
-abbrev pub Tells : Shown → (base : ℕ) → (t u : Telling) → (begun sealed : ℕ) → (old new : List ℕ) → Type 0
-Tells s base t u begun sealed old new =
-    (items : List Item) (entries : List Entry) (text : List ℕ) → IsAllFed s base items → sealed ≤ begun → CanTell s base t items begun sealed entries text → ToldSo s base u items begun sealed text old new
+abbrev pub Reports : Shown → (base : ℕ) → (t u : Reporting) → (begun sealed : ℕ) → (old new : List ℕ) → Type 0
+Reports s base t u begun sealed old new =
+    (items : List Item) (entries : List Entry) (text : List ℕ) → IsAllFed s base items → sealed ≤ begun
+    → CanReport s base t items begun sealed entries text → HasAnswered s base u items begun sealed text old new
 
 -- ---- answers
 
 -- what waited was fed and worked off, and this is to be written; the epochs before the last one may be complete
-pub record Gone (base : ℕ) (t : Shown) (x y : Intake) (v : Telling) (items : List Item) (text out : List ℕ) (s : Shown) : Type 0 where
+pub record IsOpenAnswer (base : ℕ) (t : Shown) (x y : Intake) (v : Reporting) (items : List Item) (text out : List ℕ) (s : Shown) : Type 0 where
   pub graph : t.graph ≡ s.graph
   pub holds : Holds x y
   pub fed : IsFed t base y items
-  pub told : ToldSo t base v items x.begun (x.begun - 1) text [] out
+  pub reported : HasAnswered t base v items x.begun (x.begun - 1) text [] out
 
-abbrev pub Goes : (base : ℕ) → (s t : Shown) → (x y : Intake) → (u v : Telling) → (out : List ℕ) → Type 0
-Goes base s t x y u v out =
-    (items : List Item) (entries : List Entry) (text : List ℕ) → IsFed s base x items → CanTell s base u items x.begun (x.begun - 1) entries text → Gone base t x y v items text out s
+abbrev pub AnswersOpen : (base : ℕ) → (s t : Shown) → (x y : Intake) → (u v : Reporting) → (out : List ℕ) → Type 0
+AnswersOpen base s t x y u v out =
+    (items : List Item) (entries : List Entry) (text : List ℕ) → IsFed s base x items
+    → CanReport s base u items x.begun (x.begun - 1) entries text → IsOpenAnswer base t x y v items text out s
 
 -- at the end of the input every epoch is complete
-pub record Ended (base : ℕ) (t : Shown) (x : Intake) (v : Telling) (items : List Item) (text out : List ℕ) (s : Shown) : Type 0 where
+pub record IsLastAnswer (base : ℕ) (t : Shown) (x : Intake) (v : Reporting) (items : List Item) (text out : List ℕ) (s : Shown) : Type 0 where
   pub graph : t.graph ≡ s.graph
   pub complete : v.done ≡ x.begun
-  pub told : ToldSo t base v items x.begun x.begun text [] out
+  pub reported : HasAnswered t base v items x.begun x.begun text [] out
 
-abbrev pub Ends : (base : ℕ) → (s t : Shown) → (x : Intake) → (u v : Telling) → (out : List ℕ) → Type 0
-Ends base s t x u v out = (items : List Item) (entries : List Entry) (text : List ℕ) → IsFed s base x items → CanTell s base u items x.begun x.begun entries text → Ended base t x v items text out s
+abbrev pub AnswersLast : (base : ℕ) → (s t : Shown) → (x : Intake) → (u v : Reporting) → (out : List ℕ) → Type 0
+AnswersLast base s t x u v out =
+    (items : List Item) (entries : List Entry) (text : List ℕ) → IsFed s base x items
+    → CanReport s base u items x.begun x.begun entries text → IsLastAnswer base t x v items text out s
 
 -- ---- the whole
 
 -- how far lines were taken and answered, or how following ended there
-abbrev pub TookLines : GraphValue → (bytes : List ℕ) → (left start new : Option (List ℕ)) → Shown → Position → Result Taken Ending → Type 0
-TookLines g bytes left start new s p (Ok how) =
-    (w : IsWritten g s p.base p.intake p.telling bytes p.pending.items start new) × Stops (shown_inputs g) bytes p.pending.items (length w.known.lines) w.known.items how
-TookLines g bytes left start new s p (Err e) = Follows g bytes left start new (Err e)
+abbrev pub HasFollowedLines : GraphValue → (bytes : List ℕ) → (left start new : Option (List ℕ)) → Shown → Position → Result Taken Ending → Type 0
+HasFollowedLines g bytes left start new s p (Ok how) =
+    (w : IsWritten g s p.base p.intake p.reporting bytes p.pending.items start new)
+    × Stops (shown_inputs g) bytes p.pending.items (length w.known.lines) w.known.items how
+HasFollowedLines g bytes left start new s p (Err e) = Follows g bytes left start new (Err e)
 
 -- the same, whatever was taken before
 abbrev pub FollowsLines : List Input → (s t : Shown) → (p q : Position) → (old new : Option (List ℕ)) → Result Taken Ending → Type 0
 FollowsLines inputs s t p q old new result =
-    (g : GraphValue) (bytes : List ℕ) (left start : Option (List ℕ)) → inputs ≡ shown_inputs g → IsWritten g s p.base p.intake p.telling bytes p.pending.items start old → TookLines g bytes left start new t q result
+    (g : GraphValue) (bytes : List ℕ) (left start : Option (List ℕ)) → inputs ≡ shown_inputs g
+    → IsWritten g s p.base p.intake p.reporting bytes p.pending.items start old → HasFollowedLines g bytes left start new t q result
 
 -- when an epoch has just begun, a new board may replace the old one
 abbrev pub Renews : GraphValue → (s t : Shown) → (p q : Position) → Type 0
 Renews g s t p q =
-    (bytes : List ℕ) (start now : Option (List ℕ)) (w : IsWritten g s p.base p.intake p.telling bytes p.pending.items start now) → EndsInEpoch w.known.items → IsWritten g t q.base q.intake q.telling bytes q.pending.items start now
+    (bytes : List ℕ) (start now : Option (List ℕ)) (w : IsWritten g s p.base p.intake p.reporting bytes p.pending.items start now)
+    → EndsInEpoch w.known.items → IsWritten g t q.base q.intake q.reporting bytes q.pending.items start now
 
 -- following goes on, or ends
 abbrev pub GoesOn : GraphValue → (bytes : List ℕ) → (left start new : Option (List ℕ)) → Shown → Position → Result (Unit {0}) Ending → Type 0
-GoesOn g bytes left start new s p (Ok _) = Stands g s p bytes start new
+GoesOn g bytes left start new s p (Ok _) = IsPositionAfter g s p bytes start new
 GoesOn g bytes left start new s p (Err e) = Follows g bytes left start new (Err e)
 
 -- the same after a piece, from any position
-abbrev pub FollowsPiece : GraphValue → List Input → (s t : Shown) → (p q : Position) → (piece : List ℕ) → (old new : Option (List ℕ)) → Result (Unit {0}) Ending → Type 0
-FollowsPiece g inputs s t p q piece old new result = (bytes : List ℕ) (left start : Option (List ℕ)) → inputs ≡ shown_inputs g → Stands g s p bytes start old → GoesOn g (bytes ++ piece) left start new t q result
+abbrev pub FollowsPiece : GraphValue → List Input → (s t : Shown) → (p q : Position) → (piece : List ℕ)
+    → (old new : Option (List ℕ)) → Result (Unit {0}) Ending → Type 0
+FollowsPiece g inputs s t p q piece old new result =
+    (bytes : List ℕ) (left start : Option (List ℕ)) → inputs ≡ shown_inputs g → IsPositionAfter g s p bytes start old
+    → GoesOn g (bytes ++ piece) left start new t q result
 
 -- following ends when nothing is left
 abbrev pub FollowsEnd : Shown → Position → (old new : Option (List ℕ)) → Result (Unit {0}) Ending → Type 0
-FollowsEnd s p old new result = (g : GraphValue) (bytes : List ℕ) (left start : Option (List ℕ)) → IsAtEnd left → Stands g s p bytes start old → Follows g bytes left start new result
+FollowsEnd s p old new result =
+    (g : GraphValue) (bytes : List ℕ) (left start : Option (List ℕ)) → IsAtEnd left
+    → IsPositionAfter g s p bytes start old → Follows g bytes left start new result
 
 -- the whole input is followed, from its start
 abbrev pub FollowsAll : GraphValue → List Input → Shown → Position → (unread left old new : Option (List ℕ)) → Result (Unit {0}) Ending → Type 0
-FollowsAll g inputs s p unread left old new result = inputs ≡ shown_inputs g → Stands g s p [] old old → FollowsInput g unread left old new result
+FollowsAll g inputs s p unread left old new result = inputs ≡ shown_inputs g → IsPositionAfter g s p [] old old → FollowsInput g unread left old new result

@@ -1,12 +1,12 @@
 //! Computes and writes out the answer to the lines that were taken.
 
 ghost use Rattle.std.specs.Prelude.{IfOk};
-ghost use Rattle.follow.specs.Steps.{Ends, Goes};
+ghost use Rattle.follow.specs.Steps.{AnswersLast, AnswersOpen};
 
 use crate::crew::{Crew, HEAVY, work_off};
 use crate::ending::Halt;
 use crate::intake::{Intake, feed_portion};
-use crate::telling::{Telling, tell};
+use crate::reporting::{Reporting, report};
 use crate::working::close_inputs;
 use board::Board;
 use std::alloc::Global;
@@ -23,15 +23,15 @@ pub fn answer_open<V: Views, R: Threads + Sync>(
     board: &mut Board<V>,
     base: u32,
     intake: &mut Intake,
-    telling: &mut Telling,
+    reporting: &mut Reporting,
 ) -> Result<Vec<u8>, Halt>
-    ensures { IfOk result (λ out. Goes base board.old.shown board.new.shown intake.old intake.new telling.old telling.new out.items) }
+    ensures { IfOk result (λ out. AnswersOpen base board.old.shown board.new.shown intake.old intake.new reporting.old reporting.new out.items) }
 {
     feed_portion(alloc, board, intake)?;
     work_off(rt, alloc, crew, records, board)?;
     let mut out = Vec::new(alloc);
     let sealed = intake.begun.saturating_sub(1);
-    tell(board, base, telling, intake.begun, sealed, &mut out)?;
+    report(board, base, reporting, intake.begun, sealed, &mut out)?;
     Ok(out)
 }
 
@@ -43,16 +43,16 @@ pub fn answer_last<V: Views, R: Threads + Sync>(
     board: &mut Board<V>,
     base: u32,
     intake: &mut Intake,
-    telling: &mut Telling,
+    reporting: &mut Reporting,
 ) -> Result<Vec<u8>, Halt>
-    ensures { IfOk result (λ out. Ends base board.old.shown board.new.shown intake.old telling.old telling.new out.items) }
+    ensures { IfOk result (λ out. AnswersLast base board.old.shown board.new.shown intake.old reporting.old reporting.new out.items) }
 {
     feed_portion(alloc, board, intake)?;
     close_inputs(board, intake.portion.len())?;
     work_off(rt, alloc, crew, HEAVY, board)?;
     let mut out = Vec::new(alloc);
-    tell(board, base, telling, intake.begun, intake.begun, &mut out)?;
-    if telling.done != intake.begun {
+    report(board, base, reporting, intake.begun, intake.begun, &mut out)?;
+    if reporting.done != intake.begun {
         return Err(Halt::Incomplete);
     }
     Ok(out)

@@ -65,7 +65,7 @@ impl Pace {
 }
 
 /// The number of records of a computed event's largest message; the event is given back.
-fn weighed(done: Done) -> (u64, Done)
+fn weigh(done: Done) -> (u64, Done)
     ensures { result.1 ≡ done }
 {
     let worker = done.worker();
@@ -83,7 +83,7 @@ fn end<V: Views>(board: &mut Board<V>, done: Done) -> Result<u64, Halt>
     ensures tables { tables board.new.shown ≡ tables board.old.shown }
     ensures works { OnOk result (IsLive board.old.shown → Works board.old.shown board.new.shown) }
 {
-    let (records, done) = weighed(done);
+    let (records, done) = weigh(done);
     match board.commit(done) {
         Ok(()) => Ok(records),
         Err(CommitRefusal::NoMemory(done)) => {
@@ -109,7 +109,7 @@ fn process<V: Views>(alloc: Global, board: &mut Board<V>, work: Work) -> Result<
 }
 
 /// Why an event that was not computed ends the work.
-fn halted(fault: Option<ComputeFault>) -> Halt {
+fn halt_of(fault: Option<ComputeFault>) -> Halt {
     match fault {
         Some(fault) => Halt::from(fault),
         None => Halt::NoMemory,
@@ -130,7 +130,7 @@ fn settle<V: Views>(board: &mut Board<V>, slot: Slot) -> Result<u64, Halt>
     match held {
         Some(work) => {
             board.abandon(work);
-            Err(halted(fault))
+            Err(halt_of(fault))
         }
         None => ended,
     }
@@ -208,7 +208,7 @@ fn both<A: Copy, B: Copy>(first: Result<A, Halt>, second: Result<B, Halt>) -> Re
 }
 
 /// Adds one event's result; a fault if either has one.
-fn joined(pace: Result<Pace, Halt>, sent: Result<u64, Halt>) -> Result<Pace, Halt>
+fn add_result(pace: Result<Pace, Halt>, sent: Result<u64, Halt>) -> Result<Pace, Halt>
     ensures { IfOk result (λ p. (is_ok pace ≡ true) × (is_ok sent ≡ true)) }
 {
     let (pace, records) = both(pace, sent)?;
@@ -223,7 +223,7 @@ fn settle_each<V: Views>(board: &mut Board<V>, mut slots: Vec<Slot>) -> Result<P
 {
     let mut pace = Ok(Pace::Idle);
     while let Some(slot) = slots.pop() {
-        pace = joined(pace, settle(board, slot));
+        pace = add_result(pace, settle(board, slot));
     }
     slots.destroy_empty();
     pace

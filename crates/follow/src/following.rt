@@ -33,7 +33,7 @@ use views::{Direct, Views};
 const NO_LINE_FEED: u8 = 43;
 
 /// The ending at the line after those that were taken, which has a fault of that code.
-fn faulty(intake: &Intake, code: u8) -> Ending
+fn ending_at_fault(intake: &Intake, code: u8) -> Ending
     ensures { (result ≡ ending.Input code (intake.now.line + 1)) ⊎ (result ≡ ending.Incomplete) }
 {
     match intake.line.checked_add(1) {
@@ -52,7 +52,8 @@ fn take_text<V: Views>(
     intake: &mut Intake,
     pending: &mut Vec<u8>,
 ) -> Result<Taken, Halt>
-    ensures { IfOk result (λ taken. TakesLines base board.old.shown board.new.shown intake.old intake.new (map plain inputs.now) pending.old.items pending.new.items taken) }
+    ensures { IfOk result (λ taken. TakesLines base board.old.shown board.new.shown intake.old intake.new
+        (map plain inputs.now) pending.old.items pending.new.items taken) }
 {
     let text = replace(pending, Vec::new(alloc));
     match take_lines(alloc, board, inputs, base, until, intake, text.as_slice()) {
@@ -81,7 +82,8 @@ fn follow_lines<V: Views, R: Threads + Sync, W: Write>(
     position: &mut Position,
     writer: &mut Watched<W>,
 ) -> Result<Taken, Ending>
-    ensures follows { FollowsLines (map plain inputs.now) board.old.shown board.new.shown position.old position.new (W.contents (inner_of writer.old)) (W.contents (inner_of writer.new)) result }
+    ensures follows { FollowsLines (map plain inputs.now) board.old.shown board.new.shown position.old position.new
+        (W.contents (inner_of writer.old)) (W.contents (inner_of writer.new)) result }
     ensures writer { IsErrOf result ending.Write → has_failed writer.new ≡ true }
     ensures reader { IsErrOf result ending.Read → ⊥ }
 {
@@ -108,7 +110,7 @@ fn follow_lines<V: Views, R: Threads + Sync, W: Write>(
         board,
         base,
         &mut position.intake,
-        &mut position.telling,
+        &mut position.reporting,
     ) {
         Ok(out) => out,
         Err(halt) => return Err(halt.ending()),
@@ -131,7 +133,8 @@ fn follow_piece<R: Threads + Sync, W: Write>(
     piece: &[u8],
     writer: &mut Watched<W>,
 ) -> Result<(), Ending>
-    ensures follows { FollowsPiece graph.now.value (map plain inputs.now) board.old.shown board.new.shown position.old position.new piece.now (W.contents (inner_of writer.old)) (W.contents (inner_of writer.new)) result }
+    ensures follows { FollowsPiece graph.now.value (map plain inputs.now) board.old.shown board.new.shown position.old position.new piece.now
+        (W.contents (inner_of writer.old)) (W.contents (inner_of writer.new)) result }
     ensures writer { IsErrOf result ending.Write → has_failed writer.new ≡ true }
     ensures reader { IsErrOf result ending.Read → ⊥ }
 {
@@ -144,7 +147,7 @@ fn follow_piece<R: Threads + Sync, W: Write>(
     for _turn in 0..u64::MAX {
         match follow_lines(rt, alloc, crew, inputs, board, position, writer) {
             Ok(Taken::Whole) => return Ok(()),
-            Ok(Taken::Fault(code)) => return Err(faulty(&position.intake, code)),
+            Ok(Taken::Fault(code)) => return Err(ending_at_fault(&position.intake, code)),
             Ok(Taken::Epoch) => match renew(alloc, graph, crew, board, position) {
                 Ok(()) => {}
                 Err(halt) => return Err(halt.ending()),
@@ -155,7 +158,7 @@ fn follow_piece<R: Threads + Sync, W: Write>(
     Err(Ending::Incomplete)
 }
 
-/// Ends following once the reader has no more bytes.
+/// Ends following at the reader's end.
 fn follow_end<V: Views, R: Threads + Sync, W: Write>(
     rt: &R,
     alloc: Global,
@@ -169,7 +172,7 @@ fn follow_end<V: Views, R: Threads + Sync, W: Write>(
     ensures reader { IsErrOf result ending.Read → ⊥ }
 {
     if !position.pending.is_empty() {
-        return Err(faulty(&position.intake, NO_LINE_FEED));
+        return Err(ending_at_fault(&position.intake, NO_LINE_FEED));
     }
     let base = position.base;
     let out = match answer_last(
@@ -179,7 +182,7 @@ fn follow_end<V: Views, R: Threads + Sync, W: Write>(
         board,
         base,
         &mut position.intake,
-        &mut position.telling,
+        &mut position.reporting,
     ) {
         Ok(out) => out,
         Err(halt) => return Err(halt.ending()),
@@ -202,7 +205,8 @@ fn follow_pieces<T: Threads + Sync, R: Read, W: Write>(
     reader: &mut Watched<R>,
     writer: &mut Watched<W>,
 ) -> Result<(), Ending>
-    ensures follows { FollowsAll graph.now.value (map plain inputs.now) board.old.shown position.old (R.remaining (inner_of reader.old)) (R.remaining (inner_of reader.new)) (W.contents (inner_of writer.old)) (W.contents (inner_of writer.new)) result }
+    ensures follows { FollowsAll graph.now.value (map plain inputs.now) board.old.shown position.old
+        (R.remaining (inner_of reader.old)) (R.remaining (inner_of reader.new)) (W.contents (inner_of writer.old)) (W.contents (inner_of writer.new)) result }
     ensures reader { IsErrOf result ending.Read → has_failed reader.new ≡ true }
     ensures writer { IsErrOf result ending.Write → has_failed writer.new ≡ true }
 {
@@ -233,7 +237,7 @@ fn follow_pieces<T: Threads + Sync, R: Read, W: Write>(
 }
 
 /// The inputs of a graph, as the reader of lines needs them.
-fn declared<'a>(alloc: Global, inputs: &'a [DeclaredInput]) -> Result<Vec<Declared<'a>>, Halt>
+fn inputs_of<'a>(alloc: Global, inputs: &'a [DeclaredInput]) -> Result<Vec<Declared<'a>>, Halt>
     ensures { IfOk result (λ v. map plain v.items ≡ map input_of inputs.entry.now) }
 {
     let mut declared = Vec::with_capacity(alloc, inputs.len())?;
@@ -247,7 +251,7 @@ fn declared<'a>(alloc: Global, inputs: &'a [DeclaredInput]) -> Result<Vec<Declar
 }
 
 /// A new board over the graph, and the graph itself.
-fn opened(
+fn open_board(
     alloc: Global,
     crew: Crew,
     graph: Graph,
@@ -274,13 +278,14 @@ fn follow_graph<T: Threads + Sync, R: Read, W: Write>(
 ) -> Result<Result<(), Ending>, Halt>
     requires opening { IsOpening graph.now.value crew.count board.old.shown }
     requires shows { Shows board.old.shown opening }
-    ensures follows { IfOk result (λ r. FollowsInput graph.now.value (R.remaining (inner_of reader.old)) (R.remaining (inner_of reader.new)) (W.contents (inner_of writer.old)) (W.contents (inner_of writer.new)) r) }
+    ensures follows { IfOk result (λ r. FollowsInput graph.now.value
+        (R.remaining (inner_of reader.old)) (R.remaining (inner_of reader.new)) (W.contents (inner_of writer.old)) (W.contents (inner_of writer.new)) r) }
     ensures reader { IfOk result (λ r. IsErrOf r ending.Read → has_failed reader.new ≡ true) }
     ensures writer { IfOk result (λ r. IsErrOf r ending.Write → has_failed writer.new ≡ true) }
     ensures unread { OnErr result (reader.new ≡ reader.old) }
     ensures unwritten { OnErr result (writer.new ≡ writer.old) }
 {
-    let inputs = declared(alloc, graph.inputs())?;
+    let inputs = inputs_of(alloc, graph.inputs())?;
     let listed = inputs.as_slice();
     let mut position = Position::new(alloc, listed, board.output_count(), LINES)?;
     let ended = follow_pieces(
@@ -313,11 +318,12 @@ pub fn follow<T: Threads + Sync, R: Read, W: Write>(
     rest: &mut Vec<u8>,
     writer: &mut Watched<W>,
 ) -> Result<(), Ending>
-    ensures follows { FollowsInput graph (R.remaining (inner_of reader.old)) (R.remaining (inner_of reader.new)) (W.contents (inner_of writer.old)) (W.contents (inner_of writer.new)) result }
+    ensures follows { FollowsInput graph
+        (R.remaining (inner_of reader.old)) (R.remaining (inner_of reader.new)) (W.contents (inner_of writer.old)) (W.contents (inner_of writer.new)) result }
     ensures reader { IsErrOf result ending.Read → has_failed reader.new ≡ true }
     ensures writer { IsErrOf result ending.Write → has_failed writer.new ≡ true }
 {
-    let (graph, mut board) = match opened(alloc, crew, graph) {
+    let (graph, mut board) = match open_board(alloc, crew, graph) {
         Ok(pair) => pair,
         Err(halt) => return Err(halt.ending()),
     };

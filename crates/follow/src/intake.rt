@@ -3,7 +3,7 @@
 ghost use Rattle.std.specs.Prelude.{◌≡◌, ◌<◌, ℤ, [], List, length, map, IfOk, IsTrue, OnOk};
 ghost use Rattle.collector.specs.Lines.{Item};
 ghost use Rattle.collector.specs.Said.{item_of, plain};
-ghost use Rattle.follow.specs.Steps.{Counts, Empties, Gathers, IsNew, Moves, Sent, SentAll, TakesLines};
+ghost use Rattle.follow.specs.Steps.{Counts, Empties, Gathers, IsNew, TakesItem, FeedsRows, FeedsPortion, TakesLines};
 
 use crate::ending::Halt;
 use crate::taken::Taken;
@@ -94,7 +94,7 @@ fn feed_rows<V: Views>(
     input: usize,
 ) -> Result<(), Halt>
     requires { input < length intake.old.portion.items }
-    ensures { OnOk result (Sent board.old.shown board.new.shown intake.old intake.new input) }
+    ensures { OnOk result (FeedsRows board.old.shown board.new.shown intake.old intake.new input) }
 {
     let rows = take_rows(alloc, intake, input);
     let Ok(number) = u32::try_from(input) else {
@@ -115,7 +115,7 @@ pub fn feed_portion<V: Views>(
     board: &mut Board<V>,
     intake: &mut Intake,
 ) -> Result<(), Halt>
-    ensures { OnOk result (SentAll board.old.shown board.new.shown intake.old intake.new) }
+    ensures { OnOk result (FeedsPortion board.old.shown board.new.shown intake.old intake.new) }
 {
     for input in 0..intake.portion.len() {
         feed_rows(alloc, board, intake, input)?;
@@ -125,7 +125,7 @@ pub fn feed_portion<V: Views>(
 
 /// Begins the next epoch: feeds what waits, and seals the epoch before it at each input.
 fn begin<V: Views>(alloc: Global, board: &mut Board<V>, intake: &mut Intake) -> Result<(), Halt>
-    ensures { OnOk result (Moves board.old.shown board.new.shown intake.old intake.new Item.epoch) }
+    ensures { OnOk result (TakesItem board.old.shown board.new.shown intake.old intake.new Item.epoch) }
 {
     feed_portion(alloc, board, intake)?;
     if intake.begun == 0 {
@@ -148,7 +148,7 @@ fn take_item<V: Views>(
     said: Line,
     fields: &[i64],
 ) -> Result<(), Halt>
-    ensures { OnOk result (Moves board.old.shown board.new.shown intake.old intake.new (item_of said fields.now)) }
+    ensures { OnOk result (TakesItem board.old.shown board.new.shown intake.old intake.new (item_of said fields.now)) }
 {
     match said {
         Line::Epoch => begin(alloc, board, intake),

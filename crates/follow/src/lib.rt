@@ -20,9 +20,9 @@ mod following;
 mod intake;
 mod position;
 mod renewing;
+mod reporting;
 mod slot;
 mod taken;
-mod telling;
 mod texts;
 mod working;
 

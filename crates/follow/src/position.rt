@@ -5,7 +5,7 @@ ghost use Rattle.follow.specs.Steps.{IsFirst};
 
 use crate::ending::Halt;
 use crate::intake::Intake;
-use crate::telling::Telling;
+use crate::reporting::Reporting;
 use collector::Declared;
 use std::alloc::Global;
 
@@ -17,7 +17,7 @@ pub struct Position {
     /// From this line on, the next epoch gets a new board.
     pub until: u64,
     pub intake: Intake,
-    pub telling: Telling,
+    pub reporting: Reporting,
     /// The bytes after the last line that was taken.
     pub pending: Vec<u8>,
 }
@@ -36,7 +36,7 @@ impl Position {
             base: 0,
             until,
             intake: Intake::new(alloc, inputs)?,
-            telling: Telling::new(alloc, outputs)?,
+            reporting: Reporting::new(alloc, outputs)?,
             pending: Vec::new(alloc),
         })
     }

@@ -1,6 +1,6 @@
 //! Replaces the board between epochs, so that memory holds some epochs and not all.
 
-ghost use Rattle.std.specs.Prelude.{◌≡◌, IfOk, OnOk};
+ghost use Rattle.std.specs.Prelude.{IfOk, OnOk};
 ghost use Rattle.machine.specs.World.{opening};
 ghost use Rattle.board.specs.Promises.{IsOpening};
 ghost use Rattle.board.specs.Showing.{Shows};
@@ -47,7 +47,7 @@ pub fn renew(
     let Some(last) = position.intake.begun.checked_sub(1) else {
         return Ok(());
     };
-    if position.telling.done != last || !position.telling.is_untold() {
+    if position.reporting.done != last || !position.reporting.is_between_epochs() {
         return Ok(());
     }
     let Some(base) = position.base.checked_add(last) else {
@@ -56,6 +56,6 @@ pub fn renew(
     *board = new_board(alloc, graph, crew)?;
     position.base = base;
     position.intake.begun = 1;
-    position.telling.done = 0;
+    position.reporting.done = 0;
     Ok(())
 }

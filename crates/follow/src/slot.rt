@@ -2,7 +2,6 @@
 
 ghost use Rattle.std.specs.Prelude.{List};
 ghost use Rattle.atomic_table.specs.Seated.{TableId};
-ghost use Rattle.events.specs.Jobs.{Pass};
 ghost use Rattle.follow.specs.Slots.{IsNamed, IsSlotOf};
 
 use events::{ComputeFault, Done, Work};

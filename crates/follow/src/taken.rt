@@ -1,6 +1,6 @@
-//! Why no more lines were taken.
+//! Why taking lines stopped.
 
-/// The reason why taking lines stopped.
+/// Why taking lines stopped.
 #[derive(Clone, Copy, Debug, PartialEq, Eq)]
 pub enum Taken {
     /// Every whole line was taken; part of the next line may be left.

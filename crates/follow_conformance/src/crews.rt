@@ -5,14 +5,14 @@ use collector::Watched;
 use std::io::Write;
 use std::test::Fail;
 
-/// So many people each buy and read.
+/// That many people each buy and read.
 const PEOPLE: usize = 6000;
 
 /// The bytes of the lines `0 N` for each of them: three and the digits of N, of which 10 numbers have one, 90 two, 900 three, 5000 four.
-const TOLD: usize = 3 * PEOPLE + 10 + 2 * 90 + 3 * 900 + 4 * 5000;
+const LINE_BYTES: usize = 3 * PEOPLE + 10 + 2 * 90 + 3 * 900 + 4 * 5000;
 
-/// Whether the lines `0 N` tell each number below so many once.
-fn are_told_once(lines: &[u8], seen: &mut [bool]) -> bool {
+/// Whether the lines `0 N` have each number below `count` once.
+fn each_is_there_once(lines: &[u8], seen: &mut [bool]) -> bool {
     let mut number = 0usize;
     for byte in lines {
         match *byte {
@@ -47,9 +47,9 @@ fn many_records(rt: HostRuntime) -> Result<(), Fail> {
         let ended = ended_by(&rt, rt.alloc(), workers, graph, &mut reader, &mut out);
         assert!(rt; matches!(ended, Ok(())));
         let written = out.into_inner();
-        let (lines, rest) = written.as_slice().split_at(TOLD.min(written.len()));
+        let (lines, rest) = written.as_slice().split_at(LINE_BYTES.min(written.len()));
         let mut seen = [false; PEOPLE];
-        assert!(rt; are_told_once(lines, &mut seen));
+        assert!(rt; each_is_there_once(lines, &mut seen));
         assert_eq!(rt; rest, b"complete 0\n1 5\ncomplete 1\n".as_slice());
     }
     Ok(())

@@ -9,7 +9,7 @@ use std::io::{ErrorKind, Read, Write};
 use std::test::Fail;
 use std::thread::Threads;
 
-/// The lines of an input, each with what is told once it has been read.
+/// The lines of an input, each with what is written once it has been read.
 const LINES: [(&str, &str); 8] = [
     ("epoch\n", ""),
     ("buyer 7\n", "0 7\n"),
@@ -24,7 +24,7 @@ const LINES: [(&str, &str); 8] = [
 /// What the end of the input adds.
 const LAST: &str = "complete 2\n";
 
-/// A writer that takes at most so many bytes at a time. After so many writes, or so many flushes, one of them fails, or it takes nothing;
+/// A writer that takes at most that many bytes at a time. After that many writes, or that many flushes, one of them fails, or it takes nothing;
 /// those after it go well again.
 #[derive(Drop)]
 struct Failing {
@@ -71,33 +71,33 @@ fn sound(alloc: Global) -> Failing {
 /// The input.
 fn input(alloc: Global) -> Result<Vec<u8>, AllocError> {
     let mut text = Vec::new(alloc);
-    for (line, _told) in LINES {
+    for (line, _answer) in LINES {
         text.extend_from_slice(line.as_bytes())?;
     }
     Ok(text)
 }
 
-/// What is told of the lines that end in the first so many bytes of the input.
-fn told(alloc: Global, bytes: usize) -> Result<Vec<u8>, AllocError> {
+/// What is written of the lines that end in the first bytes of the input.
+fn answer_to(alloc: Global, bytes: usize) -> Result<Vec<u8>, AllocError> {
     let mut text = Vec::new(alloc);
     let mut end = 0usize;
-    for (line, told) in LINES {
+    for (line, answer) in LINES {
         end = end.saturating_add(line.len());
         if end <= bytes {
-            text.extend_from_slice(told.as_bytes())?;
+            text.extend_from_slice(answer.as_bytes())?;
         }
     }
     Ok(text)
 }
 
-/// What is told of the whole input.
+/// What is written of the whole input.
 fn whole(alloc: Global) -> Result<Vec<u8>, AllocError> {
-    let mut text = told(alloc, usize::MAX)?;
+    let mut text = answer_to(alloc, usize::MAX)?;
     text.extend_from_slice(LAST.as_bytes())?;
     Ok(text)
 }
 
-/// How following ends, and what is written, where the reader gives at most so many bytes at a time and fails after so many reads.
+/// How following ends, and what is written, where the reader gives at most that many bytes at a time and fails after that many reads.
 fn followed(
     threads: &(impl Threads + Sync),
     alloc: Global,
@@ -147,7 +147,7 @@ fn each_write_fails(rt: HostRuntime) -> Result<(), Fail> {
 // The whole input comes at once: a text of all lines, and one of its end.
 #[test]
 fn each_large_write_fails(rt: HostRuntime) -> Result<(), Fail> {
-    let lines = told(rt.alloc(), usize::MAX)?;
+    let lines = answer_to(rt.alloc(), usize::MAX)?;
     for fails in [false, true] {
         for (writes, wanted) in [b"".as_slice(), lines.as_slice()].iter().enumerate() {
             let writer = Failing {
@@ -164,12 +164,12 @@ fn each_large_write_fails(rt: HostRuntime) -> Result<(), Fail> {
     Ok(())
 }
 
-// What is told of each line is flushed, also where it is nothing, and so is what is told of the end.
+// What is written of each line is flushed, also where it is nothing, and so is what is written of the end.
 #[test]
 fn each_flush_fails(rt: HostRuntime) -> Result<(), Fail> {
     let whole = whole(rt.alloc())?;
     let mut end = 0usize;
-    for (flushes, (line, _told)) in LINES.iter().enumerate() {
+    for (flushes, (line, _answer)) in LINES.iter().enumerate() {
         end = end.saturating_add(line.len());
         let writer = Failing {
             flushes,
@@ -177,7 +177,7 @@ fn each_flush_fails(rt: HostRuntime) -> Result<(), Fail> {
         };
         let (ended, text) = followed(&rt, rt.alloc(), 1, usize::MAX, writer)?;
         assert_eq!(rt; ended, Err(Ending::Write));
-        assert_eq!(rt; text.as_slice(), told(rt.alloc(), end)?.as_slice());
+        assert_eq!(rt; text.as_slice(), answer_to(rt.alloc(), end)?.as_slice());
     }
     for (flushes, wanted) in [(8, Err(Ending::Write)), (9, Ok(()))] {
         let writer = Failing {
@@ -191,14 +191,14 @@ fn each_flush_fails(rt: HostRuntime) -> Result<(), Fail> {
     Ok(())
 }
 
-// After so many reads of one byte, the lines that end in these bytes have been told.
+// After that many reads of one byte, the lines that end in these bytes have been answered.
 #[test]
 fn each_read_fails(rt: HostRuntime) -> Result<(), Fail> {
     let bytes = input(rt.alloc())?.len();
     for reads in 0..bytes.saturating_add(1) {
         let (ended, text) = followed(&rt, rt.alloc(), 1, reads, sound(rt.alloc()))?;
         assert_eq!(rt; ended, Err(Ending::Read));
-        assert_eq!(rt; text.as_slice(), told(rt.alloc(), reads)?.as_slice());
+        assert_eq!(rt; text.as_slice(), answer_to(rt.alloc(), reads)?.as_slice());
     }
     let (ended, text) = followed(
         &rt,
@@ -222,7 +222,7 @@ fn each_large_read_fails(rt: HostRuntime) -> Result<(), Fail> {
             let given = reads.saturating_mul(most);
             if given < bytes.saturating_add(most) {
                 assert_eq!(rt; ended, Err(Ending::Read));
-                assert_eq!(rt; text.as_slice(), told(rt.alloc(), given)?.as_slice());
+                assert_eq!(rt; text.as_slice(), answer_to(rt.alloc(), given)?.as_slice());
             } else {
                 assert_eq!(rt; ended, Ok(()));
                 assert_eq!(rt; text.as_slice(), whole(rt.alloc())?.as_slice());

@@ -54,14 +54,21 @@ operand Disjunctions = Chain Conjunctions
 -- but the span of its node doesn't, except for those of `not [..]`
 pub data Reads : Part → List Token → CondTree → Span → ℕ → List Token → Type 0 where
   -- test = "not" "[" cond "]" | "[" cond "]" | scalar compare scalar
-  square : {s r e : Span} {t : CondTree} {h : ℕ} {ts us : List Token} → Reads (Chain Disjunctions) ts t e h (mark_at mark.CloseSquare r ∷ us) → Reads Square (mark_at mark.OpenSquare s ∷ ts) t (reaching s r) (suc h) us
-  negated : {s e : Span} {t : CondTree} {h : ℕ} {ts us : List Token} → Reads Square ts t e h us → Reads Single (keyword_at keyword.Not s ∷ ts) (CondTree.negate (reaching s e) t) (reaching s e) h us
+  square : {s r e : Span} {t : CondTree} {h : ℕ} {ts us : List Token} → Reads (Chain Disjunctions) ts t e h (mark_at mark.CloseSquare r ∷ us)
+      → Reads Square (mark_at mark.OpenSquare s ∷ ts) t (reaching s r) (suc h) us
+  negated : {s e : Span} {t : CondTree} {h : ℕ} {ts us : List Token} → Reads Square ts t e h us
+      → Reads Single (keyword_at keyword.Not s ∷ ts) (CondTree.negate (reaching s e) t) (reaching s e) h us
   bracketed : {e : Span} {t : CondTree} {h : ℕ} {ts us : List Token} → Reads Square ts t e h us → Reads Single ts t e h us
-  compared : {a b : ScalarTree} {o : Comparison} {x : Token} {e f : Span} {h k : ℕ} {ts us vs : List Token} → scalar.Reads (scalar.Chain Sums) ts a e h (x ∷ us) → compares x.kind ≡ Some o → scalar.Reads (scalar.Chain Sums) us b f k vs → Reads Single ts (CondTree.compare (reaching e f) o a b) (reaching e f) (suc (max h k)) vs
+  compared : {a b : ScalarTree} {o : Comparison} {x : Token} {e f : Span} {h k : ℕ} {ts us vs : List Token}
+      → scalar.Reads (scalar.Chain Sums) ts a e h (x ∷ us) → compares x.kind ≡ Some o → scalar.Reads (scalar.Chain Sums) us b f k vs
+      → Reads Single ts (CondTree.compare (reaching e f) o a b) (reaching e f) (suc (max h k)) vs
   -- conj = test { "and" test }, cond = conj { "or" conj }; repeated connectives group to the left
-  chain : {l : ConnectiveLevel} {a t : CondTree} {e f : Span} {h n : ℕ} {ts us vs : List Token} → Reads (operand l) ts a e h us → Reads (Rest l a e h) us t f n vs → Reads (Chain l) ts t f n vs
+  chain : {l : ConnectiveLevel} {a t : CondTree} {e f : Span} {h n : ℕ} {ts us vs : List Token} → Reads (operand l) ts a e h us
+      → Reads (Rest l a e h) us t f n vs → Reads (Chain l) ts t f n vs
   stop : {l : ConnectiveLevel} {a : CondTree} {e : Span} {h : ℕ} {us : List Token} → NoConnective l us → Reads (Rest l a e h) us a e h us
-  more : {l : ConnectiveLevel} {o : Connective} {a b t : CondTree} {x : Token} {e f g : Span} {h k n : ℕ} {us vs ws : List Token} → connective l x.kind ≡ Some o → Reads (operand l) us b f k vs → Reads (Rest l (CondTree.logical (reaching e f) o a b) (reaching e f) (suc (max h k))) vs t g n ws → Reads (Rest l a e h) (x ∷ us) t g n ws
+  more : {l : ConnectiveLevel} {o : Connective} {a b t : CondTree} {x : Token} {e f g : Span} {h k n : ℕ} {us vs ws : List Token}
+      → connective l x.kind ≡ Some o → Reads (operand l) us b f k vs
+      → Reads (Rest l (CondTree.logical (reaching e f) o a b) (reaching e f) (suc (max h k))) vs t g n ws → Reads (Rest l a e h) (x ∷ us) t g n ws
 
 -- cond
 abbrev pub ConditionAt : List Token → CondTree → ℕ → List Token → Type 0

@@ -9,7 +9,8 @@ use Rattle.grammar.specs.Tokens.{mark_at, NoMark}
 -- x { "," x }: the phrases, the greatest of their heights, and the tokens left
 pub data Listed {X : Type 0} (P : List Token → X → ℕ → List Token → Type 0) : List Token → List X → ℕ → List Token → Type 0 where
   one : {x : X} {h : ℕ} {ts us : List Token} → P ts x h us → NoMark mark.Comma us → Listed P ts (x ∷ []) h us
-  more : {x : X} {xs : List X} {s : Span} {h k : ℕ} {ts us vs : List Token} → P ts x h (mark_at mark.Comma s ∷ us) → Listed P us xs k vs → Listed P ts (x ∷ xs) (max h k) vs
+  more : {x : X} {xs : List X} {s : Span} {h k : ℕ} {ts us vs : List Token} → P ts x h (mark_at mark.Comma s ∷ us)
+      → Listed P us xs k vs → Listed P ts (x ∷ xs) (max h k) vs
 
 -- a phrase, then that mark
 abbrev pub Ended : {X : Type 0} → (List Token → X → ℕ → List Token → Type 0) → Mark → List Token → X → ℕ → List Token → Type 0

@@ -61,16 +61,33 @@ pub data Reads (text : List ℕ) : List Token → RelTree → ℕ → List Token
   -- rel = NAME
   named : {s : Span} {ts : List Token} → IsNameAt text s → Reads text (token kind.Name s ∷ ts) (RelTree.named s (piece text s)) 1 ts
   -- | "select" "(" rel ";" scalar { "," scalar } ")"
-  select : {s o p q : Span} {r : RelTree} {xs : List ScalarTree} {h k : ℕ} {ts us vs : List Token} → Reads text ts r h (mark_at mark.Semicolon p ∷ us) → Listed ScalarAt us xs k (mark_at mark.CloseRound q ∷ vs) → Reads text (keyword_at keyword.Select s ∷ mark_at mark.OpenRound o ∷ ts) (RelTree.select (reaching s q) r xs) (suc (max h k)) vs
+  select : {s o p q : Span} {r : RelTree} {xs : List ScalarTree} {h k : ℕ} {ts us vs : List Token} → Reads text ts r h (mark_at mark.Semicolon p ∷ us)
+      → Listed ScalarAt us xs k (mark_at mark.CloseRound q ∷ vs)
+      → Reads text (keyword_at keyword.Select s ∷ mark_at mark.OpenRound o ∷ ts) (RelTree.select (reaching s q) r xs) (suc (max h k)) vs
   -- | "where" "(" rel ";" cond ")"
-  filter : {s o p q : Span} {r : RelTree} {c : CondTree} {h k : ℕ} {ts us vs : List Token} → Reads text ts r h (mark_at mark.Semicolon p ∷ us) → ConditionAt us c k (mark_at mark.CloseRound q ∷ vs) → Reads text (keyword_at keyword.Where s ∷ mark_at mark.OpenRound o ∷ ts) (RelTree.filter (reaching s q) r c) (suc (max h k)) vs
+  filter : {s o p q : Span} {r : RelTree} {c : CondTree} {h k : ℕ} {ts us vs : List Token} → Reads text ts r h (mark_at mark.Semicolon p ∷ us)
+      → ConditionAt us c k (mark_at mark.CloseRound q ∷ vs)
+      → Reads text (keyword_at keyword.Where s ∷ mark_at mark.OpenRound o ∷ ts) (RelTree.filter (reaching s q) r c) (suc (max h k)) vs
   -- | ( "concat" | "except" | "intersect" ) "(" rel "," rel ")"
-  set_operation : {w : SetOperator} {x : Keyword} {s o p q : Span} {a b : RelTree} {h k : ℕ} {ts us vs : List Token} → x ≡ operator_keyword w → Reads text ts a h (mark_at mark.Comma p ∷ us) → Reads text us b k (mark_at mark.CloseRound q ∷ vs) → Reads text (keyword_at x s ∷ mark_at mark.OpenRound o ∷ ts) (RelTree.set_operation (reaching s q) w a b) (suc (max h k)) vs
+  set_operation : {w : SetOperator} {x : Keyword} {s o p q : Span} {a b : RelTree} {h k : ℕ} {ts us vs : List Token} → x ≡ operator_keyword w
+      → Reads text ts a h (mark_at mark.Comma p ∷ us) → Reads text us b k (mark_at mark.CloseRound q ∷ vs)
+      → Reads text (keyword_at x s ∷ mark_at mark.OpenRound o ∷ ts) (RelTree.set_operation (reaching s q) w a b) (suc (max h k)) vs
   -- | "join" "(" rel "," rel ";" pair { "," pair } ")"
-  join : {s o p i q : Span} {a b : RelTree} {xs : List Pair} {h k n : ℕ} {ts us vs ws : List Token} → Reads text ts a h (mark_at mark.Comma p ∷ us) → Reads text us b k (mark_at mark.Semicolon i ∷ vs) → Listed PairAt vs xs n (mark_at mark.CloseRound q ∷ ws) → Reads text (keyword_at keyword.Join s ∷ mark_at mark.OpenRound o ∷ ts) (RelTree.join (reaching s q) a b xs) (suc (max (max h k) n)) ws
+  join : {s o p i q : Span} {a b : RelTree} {xs : List Pair} {h k n : ℕ} {ts us vs ws : List Token} → Reads text ts a h (mark_at mark.Comma p ∷ us)
+      → Reads text us b k (mark_at mark.Semicolon i ∷ vs) → Listed PairAt vs xs n (mark_at mark.CloseRound q ∷ ws)
+      → Reads text (keyword_at keyword.Join s ∷ mark_at mark.OpenRound o ∷ ts) (RelTree.join (reaching s q) a b xs) (suc (max (max h k) n)) ws
   -- | "group" "(" rel ";" COLUMN { "," COLUMN } ";" agg { "," agg } ")"
-  group : {s o p i q : Span} {r : RelTree} {ks : List Column} {xs : List Agg} {h k n : ℕ} {ts us vs ws : List Token} → Reads text ts r h (mark_at mark.Semicolon p ∷ us) → Listed ColumnAt us ks k (mark_at mark.Semicolon i ∷ vs) → Listed AggAt vs xs n (mark_at mark.CloseRound q ∷ ws) → Reads text (keyword_at keyword.Group s ∷ mark_at mark.OpenRound o ∷ ts) (RelTree.group (reaching s q) r ks xs) (suc (max (max h k) n)) ws
+  group : {s o p i q : Span} {r : RelTree} {ks : List Column} {xs : List Agg} {h k n : ℕ} {ts us vs ws : List Token}
+      → Reads text ts r h (mark_at mark.Semicolon p ∷ us) → Listed ColumnAt us ks k (mark_at mark.Semicolon i ∷ vs)
+      → Listed AggAt vs xs n (mark_at mark.CloseRound q ∷ ws)
+      → Reads text (keyword_at keyword.Group s ∷ mark_at mark.OpenRound o ∷ ts) (RelTree.group (reaching s q) r ks xs) (suc (max (max h k) n)) ws
   -- | "distinct" "(" rel ")"
-  distinct : {s o q : Span} {r : RelTree} {h : ℕ} {ts us : List Token} → Reads text ts r h (mark_at mark.CloseRound q ∷ us) → Reads text (keyword_at keyword.Distinct s ∷ mark_at mark.OpenRound o ∷ ts) (RelTree.distinct (reaching s q) r) (suc h) us
+  distinct : {s o q : Span} {r : RelTree} {h : ℕ} {ts us : List Token} → Reads text ts r h (mark_at mark.CloseRound q ∷ us)
+      → Reads text (keyword_at keyword.Distinct s ∷ mark_at mark.OpenRound o ∷ ts) (RelTree.distinct (reaching s q) r) (suc h) us
   -- | "iterate" "(" NUMBER ";" NAME "=" rel ";" rel ")"
-  iterate : {s o d p x i j q : Span} {n h k : ℕ} {r b : RelTree} {ts us vs : List Token} → n < 2 ^ 63 → IsNameAt text x → Reads text ts r h (mark_at mark.Semicolon j ∷ us) → Reads text us b k (mark_at mark.CloseRound q ∷ vs) → Reads text (keyword_at keyword.Iterate s ∷ mark_at mark.OpenRound o ∷ token (kind.Number n) d ∷ mark_at mark.Semicolon p ∷ token kind.Name x ∷ mark_at mark.Equal i ∷ ts) (RelTree.iterate (reaching s q) d n x (piece text x) r b) (suc (max h k)) vs
+  iterate : {s o d p x i j q : Span} {n h k : ℕ} {r b : RelTree} {ts us vs : List Token} → n < 2 ^ 63 → IsNameAt text x
+      → Reads text ts r h (mark_at mark.Semicolon j ∷ us) → Reads text us b k (mark_at mark.CloseRound q ∷ vs)
+      → Reads text
+      (keyword_at keyword.Iterate s ∷ mark_at mark.OpenRound o ∷ token (kind.Number n) d ∷ mark_at mark.Semicolon p
+      ∷ token kind.Name x ∷ mark_at mark.Equal i ∷ ts)
+      (RelTree.iterate (reaching s q) d n x (piece text x) r b) (suc (max h k)) vs

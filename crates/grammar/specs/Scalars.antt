@@ -42,14 +42,19 @@ pub data Reads : Part → List Token → ScalarTree → Span → ℕ → List To
   -- atom = NUMBER | COLUMN | "(" scalar ")"
   number : {s : Span} {n : ℕ} {ts : List Token} → n < 2 ^ 63 → Reads Atom (token (kind.Number n) s ∷ ts) (ScalarTree.literal s (pos n)) s 1 ts
   column : {s : Span} {n : ℕ} {ts : List Token} → Reads Atom (token (kind.Column n) s ∷ ts) (ScalarTree.column s n) s 1 ts
-  bracket : {s r e : Span} {t : ScalarTree} {h : ℕ} {ts us : List Token} → Reads (Chain Sums) ts t e h (mark_at mark.CloseRound r ∷ us) → Reads Atom (mark_at mark.OpenRound s ∷ ts) t (reaching s r) (suc h) us
+  bracket : {s r e : Span} {t : ScalarTree} {h : ℕ} {ts us : List Token} → Reads (Chain Sums) ts t e h (mark_at mark.CloseRound r ∷ us)
+      → Reads Atom (mark_at mark.OpenRound s ∷ ts) t (reaching s r) (suc h) us
   -- unary = "-" atom | atom
-  minus : {s e : Span} {t : ScalarTree} {h : ℕ} {ts us : List Token} → Reads Atom ts t e h us → Reads Unary (mark_at mark.Minus s ∷ ts) (ScalarTree.negate (reaching s e) t) (reaching s e) (suc h) us
+  minus : {s e : Span} {t : ScalarTree} {h : ℕ} {ts us : List Token} → Reads Atom ts t e h us
+      → Reads Unary (mark_at mark.Minus s ∷ ts) (ScalarTree.negate (reaching s e) t) (reaching s e) (suc h) us
   plain : {e : Span} {t : ScalarTree} {h : ℕ} {ts us : List Token} → Reads Atom ts t e h us → Reads Unary ts t e h us
   -- product = unary { "*" unary }, scalar = product { ("+" | "-") product }; repeated operators group to the left
-  chain : {l : OperatorLevel} {a t : ScalarTree} {e f : Span} {h n : ℕ} {ts us vs : List Token} → Reads (operand l) ts a e h us → Reads (Rest l a e h) us t f n vs → Reads (Chain l) ts t f n vs
+  chain : {l : OperatorLevel} {a t : ScalarTree} {e f : Span} {h n : ℕ} {ts us vs : List Token} → Reads (operand l) ts a e h us
+      → Reads (Rest l a e h) us t f n vs → Reads (Chain l) ts t f n vs
   stop : {l : OperatorLevel} {a : ScalarTree} {e : Span} {h : ℕ} {us : List Token} → NoOperator l us → Reads (Rest l a e h) us a e h us
-  more : {l : OperatorLevel} {o : Operator} {a b t : ScalarTree} {x : Token} {e f g : Span} {h k n : ℕ} {us vs ws : List Token} → operator l x.kind ≡ Some o → Reads (operand l) us b f k vs → Reads (Rest l (ScalarTree.binary (reaching e f) o a b) (reaching e f) (suc (max h k))) vs t g n ws → Reads (Rest l a e h) (x ∷ us) t g n ws
+  more : {l : OperatorLevel} {o : Operator} {a b t : ScalarTree} {x : Token} {e f g : Span} {h k n : ℕ} {us vs ws : List Token} → operator l x.kind ≡ Some o
+      → Reads (operand l) us b f k vs → Reads (Rest l (ScalarTree.binary (reaching e f) o a b) (reaching e f) (suc (max h k))) vs t g n ws
+      → Reads (Rest l a e h) (x ∷ us) t g n ws
 
 -- scalar
 abbrev pub ScalarAt : List Token → ScalarTree → ℕ → List Token → Type 0

@@ -33,11 +33,13 @@ fn canonical_texts(rt: HostRuntime) -> Result<(), Fail> {
         ),
         (
             b"input e/2;input f/1;let b=distinct(e);output iterate(3;x=concat(e,b);group(join(x,select(f;#0,-#0);#0=#1,#1=#0);#0,#1;count,sum#2,min#0,max#1));",
-            b"input e/2;\ninput f/1;\nlet b = distinct(e);\noutput iterate(3; x = concat(e, b); group(join(x, select(f; #0, -#0); #0 = #1, #1 = #0); #0, #1; count, sum #2, min #0, max #1));\n",
+            b"input e/2;\ninput f/1;\nlet b = distinct(e);\noutput iterate(3; x = concat(e, b); group(join(x, select(f; #0, -#0); #0 = #1, #1 = #0); \
+            #0, #1; count, sum #2, min #0, max #1));\n",
         ),
         (
             b"output select(a;(1+2)-3,1+(2-3),(1*2)*3,1*(2*3),(1+2)*3,1*(2-3),-(1+2),-(1*2),-(-1),-(#0),(-1)*2,1*(-2),1+(2*3),((1)));",
-            b"output select(a; 1 + 2 - 3, 1 + (2 - 3), 1 * 2 * 3, 1 * (2 * 3), (1 + 2) * 3, 1 * (2 - 3), -(1 + 2), -(1 * 2), -(-1), -#0, -1 * 2, 1 * -2, 1 + 2 * 3, 1);\n",
+            b"output select(a; 1 + 2 - 3, 1 + (2 - 3), 1 * 2 * 3, 1 * (2 * 3), (1 + 2) * 3, 1 * (2 - 3), -(1 + 2), -(1 * 2), -(-1), -#0, -1 * 2, \
+            1 * -2, 1 + 2 * 3, 1);\n",
         ),
         (
             b"output where(a;[#0=1 or#0!=2]and[#0<3 and[#0<=4 or#0>5]]or[[#0>=6]or#0=7]);",

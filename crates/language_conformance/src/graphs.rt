@@ -77,12 +77,17 @@ fn edges_by_number(rt: HostRuntime) -> Result<(), Fail> {
 fn labels_of_a_drawing(rt: HostRuntime) -> Result<(), Fail> {
     let alloc = rt.alloc();
     let query: &[u8] =
-        b"input a/2; input b/1; output joined = join(select(a; (#0 + 1) * #1, -(#0 - #1)), b; #0 = #0); output kept = where(a; not [#0 < 5 and #1 != -3] or #0 >= 2); output counted = group(a; #1, #0; count, sum #1);";
+        b"input a/2; input b/1; output joined = join(select(a; (#0 + 1) * #1, -(#0 - #1)), b; #0 = #0); output kept = where(a; \
+        not [#0 < 5 and #1 != -3] or #0 >= 2); output counted = group(a; #1, #0; count, sum #1);";
     let graph = graph_of(alloc, query)?;
     let mut text = Vec::new(alloc);
     graph_dot(alloc, &graph, &mut text)?;
     let expected: &[u8] =
-        b"digraph {\n0 [label=\"0 input(a)\"];\n1 [label=\"1 input(b)\"];\n2 [label=\"2 select((#0 + 1) * #1, -(#0 - #1))\"];\n3 [label=\"3 join(#0 = #0)\"];\n4 [label=\"4 output(joined)\"];\n5 [label=\"5 where(not [#0 < 5 and #1 != -3] or #0 >= 2)\"];\n6 [label=\"6 output(kept)\"];\n7 [label=\"7 group(#1, #0; count, sum #1)\"];\n8 [label=\"8 output(counted)\"];\n0 -> 2 [label=\"0\"];\n2 -> 3 [label=\"1 in 0\"];\n1 -> 3 [label=\"2 in 1\"];\n3 -> 4 [label=\"3\"];\n0 -> 5 [label=\"4\"];\n5 -> 6 [label=\"5\"];\n0 -> 7 [label=\"6\"];\n7 -> 8 [label=\"7\"];\n}\n";
+        b"digraph {\n0 [label=\"0 input(a)\"];\n1 [label=\"1 input(b)\"];\n2 [label=\"2 select((#0 + 1) * #1, -(#0 - #1))\"];\n\
+        3 [label=\"3 join(#0 = #0)\"];\n4 [label=\"4 output(joined)\"];\n5 [label=\"5 where(not [#0 < 5 and #1 != -3] or #0 >= 2)\"];\n\
+        6 [label=\"6 output(kept)\"];\n7 [label=\"7 group(#1, #0; count, sum #1)\"];\n8 [label=\"8 output(counted)\"];\n0 -> 2 [label=\"0\"];\n\
+        2 -> 3 [label=\"1 in 0\"];\n1 -> 3 [label=\"2 in 1\"];\n3 -> 4 [label=\"3\"];\n0 -> 5 [label=\"4\"];\n5 -> 6 [label=\"5\"];\n\
+        0 -> 7 [label=\"6\"];\n7 -> 8 [label=\"7\"];\n}\n";
     assert_eq!(rt; text.as_slice(), expected);
     Ok(())
 }
@@ -99,7 +104,10 @@ fn a_graph_drawn_and_compared(rt: HostRuntime) -> Result<(), Fail> {
     let mut text = Vec::new(alloc);
     graph_dot(alloc, &graph, &mut text)?;
     let expected: &[u8] =
-        b"digraph {\n0 [label=\"0 input(a)\"];\n1 [label=\"1 ingress\"];\nsubgraph cluster_2 { 2 [label=\"2 concat depth 1\"]; }\nsubgraph cluster_2 { 3 [label=\"3 gate(2) depth 1\"]; }\nsubgraph cluster_2 { 4 [label=\"4 feedback depth 1\"]; }\nsubgraph cluster_2 { 5 [label=\"5 egress depth 1\"]; }\n6 [label=\"6 output\"];\n0 -> 1 [label=\"0\"];\n1 -> 2 [label=\"1 in 0\"];\n4 -> 2 [label=\"2 in 1\"];\n2 -> 3 [label=\"3\"];\n3 -> 4 [label=\"4 out 0\"];\n3 -> 5 [label=\"5 out 1\"];\n5 -> 6 [label=\"6\"];\n}\n";
+        b"digraph {\n0 [label=\"0 input(a)\"];\n1 [label=\"1 ingress\"];\nsubgraph cluster_2 { 2 [label=\"2 concat depth 1\"]; }\n\
+        subgraph cluster_2 { 3 [label=\"3 gate(2) depth 1\"]; }\nsubgraph cluster_2 { 4 [label=\"4 feedback depth 1\"]; }\n\
+        subgraph cluster_2 { 5 [label=\"5 egress depth 1\"]; }\n6 [label=\"6 output\"];\n0 -> 1 [label=\"0\"];\n1 -> 2 [label=\"1 in 0\"];\n\
+        4 -> 2 [label=\"2 in 1\"];\n2 -> 3 [label=\"3\"];\n3 -> 4 [label=\"4 out 0\"];\n3 -> 5 [label=\"5 out 1\"];\n5 -> 6 [label=\"6\"];\n}\n";
     assert_eq!(rt; text.as_slice(), expected);
     assert!(rt; graph == graph_of(alloc, TWO_TURNS)?);
     assert!(rt; graph != graph_of(alloc, THREE_TURNS)?);

@@ -67,7 +67,7 @@ fn refusals(rt: HostRuntime) {
     }
 }
 
-/// `head`, then so many times `open`, `middle`, so many times `close`, `tail`.
+/// `head`, then `open` that many times, `middle`, `close` as many times, and `tail`.
 fn nested(
     alloc: Global,
     head: &[u8],
@@ -191,7 +191,7 @@ fn beginnings_of_a_loop(rt: HostRuntime) {
 }
 
 /// Whether the text is accepted, or refused with a code of the reader and a span inside the text.
-fn is_told(alloc: Global, text: &[u8]) -> bool {
+fn has_sound_answer(alloc: Global, text: &[u8]) -> bool {
     match parse(alloc, text) {
         Ok(_) => true,
         Err(Refusal::At { code, span }) => {
@@ -208,7 +208,10 @@ fn changes_of_one_byte(rt: HostRuntime) -> Result<(), Fail> {
         let kept = text[place];
         for byte in 0..=255u8 {
             text[place] = byte;
-            assert!(rt; is_told(rt.alloc(), text.as_slice()), "{place} {byte}");
+            assert!(rt;
+                has_sound_answer(rt.alloc(), text.as_slice()),
+                "{place} {byte}"
+            );
         }
         text[place] = kept;
     }

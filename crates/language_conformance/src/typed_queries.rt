@@ -20,7 +20,7 @@ fn refused_query(alloc: Global, text: &[u8]) -> Result<Option<Refusal>, Refusal>
     Ok(refused(alloc, parse(alloc, text)?))
 }
 
-fn told(code: u8, start: u32, end: u32) -> Option<Refusal> {
+fn refused_at(code: u8, start: u32, end: u32) -> Option<Refusal> {
     Some(Refusal::At {
         code,
         span: Span { start, end },
@@ -30,41 +30,52 @@ fn told(code: u8, start: u32, end: u32) -> Option<Refusal> {
 #[test]
 fn refusals(rt: HostRuntime) {
     let rows: [(&[u8], Option<Refusal>); 14] = [
-        (b"input a/2; output select(a; #2);", told(13, 28, 30)),
+        (b"input a/2; output select(a; #2);", refused_at(13, 28, 30)),
         (
             b"input a/1; input b/2; output except(a, b);",
-            told(14, 29, 41),
+            refused_at(14, 29, 41),
         ),
         (
             b"input a/1; input b/2; output intersect(a, b);",
-            told(14, 29, 44),
+            refused_at(14, 29, 44),
         ),
         (b"input a/1; output iterate(65535; x = a; x);", None),
         (
             b"input a/1; output iterate(65536; x = a; x);",
-            told(17, 26, 31),
+            refused_at(17, 26, 31),
         ),
-        (b"input a/1; output a; output out = a;", told(20, 28, 31)),
-        (b"input a/1; output a; output a;", told(20, 21, 27)),
-        (b"input a/1; output a; output b;", told(11, 28, 29)),
-        (b"input a/1; output b = a; output b;", told(11, 32, 33)),
+        (
+            b"input a/1; output a; output out = a;",
+            refused_at(20, 28, 31),
+        ),
+        (b"input a/1; output a; output a;", refused_at(20, 21, 27)),
+        (b"input a/1; output a; output b;", refused_at(11, 28, 29)),
+        (
+            b"input a/1; output b = a; output b;",
+            refused_at(11, 32, 33),
+        ),
         (b"input a/1; let b = a; output a = b; output b = a;", None),
         // b to q are 16 names, and r is one more
         (
-            b"input a/1;output b=a;output c=a;output d=a;output e=a;output f=a;output g=a;output h=a;output i=a;output j=a;output k=a;output l=a;output m=a;output n=a;output o=a;output p=a;output q=a;",
+            b"input a/1;output b=a;output c=a;output d=a;output e=a;output f=a;output g=a;output h=a;output i=a;output j=a;output k=a;output l=a;\
+            output m=a;output n=a;output o=a;output p=a;output q=a;",
             None,
         ),
         (
-            b"input a/1;output b=a;output c=a;output d=a;output e=a;output f=a;output g=a;output h=a;output i=a;output j=a;output k=a;output l=a;output m=a;output n=a;output o=a;output p=a;output q=a;output r=a;",
-            told(23, 186, 192),
+            b"input a/1;output b=a;output c=a;output d=a;output e=a;output f=a;output g=a;output h=a;output i=a;output j=a;output k=a;output l=a;\
+            output m=a;output n=a;output o=a;output p=a;output q=a;output r=a;",
+            refused_at(23, 186, 192),
         ),
         (
-            b"input a/1;output iterate(1;b=a;iterate(1;c=a;iterate(1;d=a;iterate(1;e=a;iterate(1;f=a;iterate(1;g=a;iterate(1;h=a;iterate(1;i=a;iterate(1;j=a;iterate(1;k=a;iterate(1;l=a;iterate(1;m=a;iterate(1;n=a;iterate(1;o=a;iterate(1;p=a;iterate(1;q=a;a))))))))))))))));",
+            b"input a/1;output iterate(1;b=a;iterate(1;c=a;iterate(1;d=a;iterate(1;e=a;iterate(1;f=a;iterate(1;g=a;iterate(1;h=a;iterate(1;i=a;\
+            iterate(1;j=a;iterate(1;k=a;iterate(1;l=a;iterate(1;m=a;iterate(1;n=a;iterate(1;o=a;iterate(1;p=a;iterate(1;q=a;a))))))))))))))));",
             None,
         ),
         (
-            b"input a/1;output iterate(1;b=a;iterate(1;c=a;iterate(1;d=a;iterate(1;e=a;iterate(1;f=a;iterate(1;g=a;iterate(1;h=a;iterate(1;i=a;iterate(1;j=a;iterate(1;k=a;iterate(1;l=a;iterate(1;m=a;iterate(1;n=a;iterate(1;o=a;iterate(1;p=a;iterate(1;q=a;iterate(1;r=a;a)))))))))))))))));",
-            told(18, 241, 257),
+            b"input a/1;output iterate(1;b=a;iterate(1;c=a;iterate(1;d=a;iterate(1;e=a;iterate(1;f=a;iterate(1;g=a;iterate(1;h=a;iterate(1;i=a;\
+            iterate(1;j=a;iterate(1;k=a;iterate(1;l=a;iterate(1;m=a;iterate(1;n=a;iterate(1;o=a;iterate(1;p=a;iterate(1;q=a;iterate(1;\
+            r=a;a)))))))))))))))));",
+            refused_at(18, 241, 257),
         ),
     ];
     for (text, want) in rows {
@@ -79,7 +90,7 @@ fn a_select_of_no_scalars(rt: HostRuntime) -> Result<(), Fail> {
     if let Rel::Select(_, _, scalars) = &mut *output.relation {
         scalars.clear();
     }
-    assert_eq!(rt; refused(rt.alloc(), program), told(16, 18, 31));
+    assert_eq!(rt; refused(rt.alloc(), program), refused_at(16, 18, 31));
     Ok(())
 }
 

@@ -265,24 +265,24 @@ faults_one text at (t ∷ ts) (v ∷ us) p q c s e d u f a x b y =
     let rest : LexesTo text t.span.end us q = subst (λ (z : Token). LexesTo text z.span.end us q) same b.1 in
     faults_one text t.span.end ts us p q c s e d u f a.1 x rest y
 
-abbrev told : ℕ → ℕ → ℕ → Refusal
-told code start end = At code (record { start = start; end = end })
+abbrev refusal_at : ℕ → ℕ → ℕ → Refusal
+refusal_at code start end = At code (record { start = start; end = end })
 
-same_told : (c s e d u f : ℕ) → d ≡ c → u ≡ s → f ≡ e → told d u f ≡ told c s e
-same_told c s e d u f code start end = ap (λ (i : ℕ). told i u f) code ∙ ap (λ (i : ℕ). told c i f) start ∙ ap (λ (i : ℕ). told c s i) end
+same_refusal : (c s e d u f : ℕ) → d ≡ c → u ≡ s → f ≡ e → refusal_at d u f ≡ refusal_at c s e
+same_refusal c s e d u f code start end = ap (λ (i : ℕ). refusal_at i u f) code ∙ ap (λ (i : ℕ). refusal_at c i f) start ∙ ap (λ (i : ℕ). refusal_at c s i) end
 
 pub refused_one : (text : List ℕ) (e f : Refusal) → (e ≡ NoMemory → ⊥) → (f ≡ NoMemory → ⊥) → Refuses text e → Refuses text f → f ≡ e
 refused_one text NoMemory f memory memory-2 p q = absurd (memory refl)
 refused_one text (At c s) NoMemory memory memory-2 p q = absurd (memory-2 refl)
 refused_one text (At c s) (At d u) memory memory-2 p q = elim p [
   | inl long ↦ elim q [
-    | inl also ↦ same_told c s.start s.end d u.start u.end (also.1 ∙ sym long.1) (also.2 ∙ sym long.2) (also.3 ∙ sym long.3)
+    | inl also ↦ same_refusal c s.start s.end d u.start u.end (also.1 ∙ sym long.1) (also.2 ∙ sym long.2) (also.3 ∙ sym long.3)
     | inr fault ↦ let l = long.0 in let short = fault.0 in absurd (omega arith)
   ]
   | inr fault ↦ elim q [
     | inl long ↦ let l = long.0 in let short = fault.0 in absurd (omega arith)
     | inr other ↦
         let same = faults_one text 0 fault.1 other.1 fault.2 other.2 c s.start s.end d u.start u.end fault.3 fault.4 other.3 other.4 in
-        same_told c s.start s.end d u.start u.end same.0 same.1 same.2
+        same_refusal c s.start s.end d u.start u.end same.0 same.1 same.2
   ]
 ]

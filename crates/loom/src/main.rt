@@ -18,7 +18,7 @@ fn words_given(rt: &HostRuntime) -> Result<Vec<String>, LineFault> {
     }
 }
 
-/// Standard error, which is told how far a run is that is watched: in one line, if it is a terminal.
+/// Standard error, which shows how far a watched run is: in one line, if it is a terminal.
 fn watcher_of(rt: &HostRuntime) -> Watcher<Stderr> {
     let writer = rt.stderr();
     let telling = if writer.is_terminal() {

@@ -3,10 +3,10 @@
 //! The contract for the layers above: `normalise` gives the normal form that the rules lead to, and a query has one alone. It has the same
 //! inputs, the same arities and the same meaning, is no larger, nothing is left to rewrite in it, and each let is reached. Nodes are rewritten
 //! from the leaves up and keep their boxes: memory is taken only to join two conditions, and for the lets that are kept and the names that
-//! they use. Each rule looks at a node and what is right below it, and each use of a rule takes a node away; only scalars that come to stand
-//! where a column stood are looked at again, where the select that they make meets a further one.
+//! they use. Each rule looks at a node and what is right below it, and each use of a rule takes a node away; only scalars that take
+//! the place of a column are looked at again, where the select that they make meets a further one.
 //!
-//! Below stand `typing`, whose typed queries are taken and given, `expr_tree`, `record_core`, and `semantics`, which says what the rules
+//! It uses `typing`, whose typed queries are taken and given, `expr_tree`, `record_core`, and `semantics`, which says what the rules
 //! are. Lowering takes a `Typed`, normalised or not.
 #![tactic(auto)]
 

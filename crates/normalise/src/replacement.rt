@@ -1,4 +1,4 @@
-//! Columns replaced by the scalars that they name. The scalars are moved, so each column may stand at one place only; what is made is
+//! Columns replaced by the scalars that they name. The scalars are moved, so each column may be used at one place only; what is made is
 //! folded on the way, and what was folded before isn't looked at again.
 
 ghost use Rattle.std.specs.Prelude.{◌∷◌, [], map};

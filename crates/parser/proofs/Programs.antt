@@ -17,7 +17,7 @@ use Rattle.parser.specs.declared.fault.Fault.{Fault}
 use Rattle.parser.specs.declared.fault.Fault.TheVariants as fault
 use Rattle.parser.specs.Faults.{Denies}
 use Rattle.parser.specs.Items.{NoInputs, NoOutputs}
-use Rattle.parser.specs.Refusals.{NoProgram, Refuses, Tells}
+use Rattle.parser.specs.Refusals.{NoProgram, Refuses, IsRefusalFor}
 
 pub no_inputs : (text : List ℕ) (ts : List Token) (m : ℕ) → NoInputs text ts → NoProgram text ts m
 no_inputs text ts m n p h d = absurd (n _ _ d.inputs)
@@ -36,12 +36,12 @@ no_outputs text ts us vs is ls k m i l n p h d =
 pub program_at : (text : List ℕ) (ts us vs : List Token) (p : ProgramTree) (k n : ℕ) → Inputs text ts p.inputs us → Lets text us p.lets k vs → Outputs text vs p.outputs n → ReadsProgram text ts p (max k n)
 program_at text ts us vs p k n i l o = record { us = us; vs = vs; lets_height = k; outputs_height = n; inputs = i; lets = l; outputs = o; is = refl }
 
--- a fault in the program of a text's tokens, as it is told
-pub told : (text : List ℕ) (ts : List Token) (f : Fault) (e : Refusal) → Lexes text ts → Denies f (NoProgram text ts) 64 → Tells f e → Refuses text e
-told text ts (fault.Unexpected s) (At code span) l d t = inr (ts, l, inl (t, d))
-told text ts (fault.TooHigh s) (At code span) l d t = inr (ts, l, inr (t.0, d))
-told text ts fault.NoMemory (At code span) l d t = absurd t
-told text ts f NoMemory l d t = tt
+-- a fault in the program of a text's tokens, as a refusal
+pub refuses : (text : List ℕ) (ts : List Token) (f : Fault) (e : Refusal) → Lexes text ts → Denies f (NoProgram text ts) 64 → IsRefusalFor f e → Refuses text e
+refuses text ts (fault.Unexpected s) (At code span) l d t = inr (ts, l, inl (t, d))
+refuses text ts (fault.TooHigh s) (At code span) l d t = inr (ts, l, inr (t.0, d))
+refuses text ts fault.NoMemory (At code span) l d t = absurd t
+refuses text ts f NoMemory l d t = tt
 
 -- a text that is refused by a number is no program
 no_text : (text : List ℕ) (ts : List Token) (p : ProgramTree) → Lexes text ts → NoProgram text ts 64 → Reads text p → ⊥

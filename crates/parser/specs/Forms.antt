@@ -59,7 +59,9 @@ NoForm (t ∷ ts) = IsNotForm t.kind
 
 -- the head of a loop, inside its bracket: NUMBER ";" NAME "="
 abbrev pub Heads : List ℕ → List Token → Span → ℕ → Span → List Token → Type 0
-Heads text ts d n x us = (p : Span) × (i : Span) × (n < 2 ^ 63) × IsNameAt text x × (ts ≡ token (kind.Number n) d ∷ mark_at mark.Semicolon p ∷ token kind.Name x ∷ mark_at mark.Equal i ∷ us)
+Heads text ts d n x us =
+    (p : Span) × (i : Span) × (n < 2 ^ 63) × IsNameAt text x
+    × (ts ≡ token (kind.Number n) d ∷ mark_at mark.Semicolon p ∷ token kind.Name x ∷ mark_at mark.Equal i ∷ us)
 
 -- no head of a loop comes next
 abbrev pub NoHead : List ℕ → List Token → Type 0

@@ -13,7 +13,9 @@ use Rattle.grammar.specs.Programs.{Inputs, Outputs, default_name}
 
 -- NAME "/" NUMBER ";"
 abbrev pub Declares : List ℕ → List Token → Input → List Token → Type 0
-Declares text ts i us = (p : Span) × (q : Span) × (i.arity < 2 ^ 63) × IsNameAt text i.name_span × (i.name ≡ piece text i.name_span) × (ts ≡ token kind.Name i.name_span ∷ mark_at mark.Slash p ∷ token (kind.Number i.arity) i.arity_span ∷ mark_at mark.Semicolon q ∷ us)
+Declares text ts i us =
+    (p : Span) × (q : Span) × (i.arity < 2 ^ 63) × IsNameAt text i.name_span × (i.name ≡ piece text i.name_span)
+    × (ts ≡ token kind.Name i.name_span ∷ mark_at mark.Slash p ∷ token (kind.Number i.arity) i.arity_span ∷ mark_at mark.Semicolon q ∷ us)
 
 -- no such declaration comes next
 abbrev pub NoDeclaration : List ℕ → List Token → Type 0
@@ -25,15 +27,18 @@ NoInputs text ts = (is : List Input) (us : List Token) → Inputs text ts is us 
 
 -- NAME "=" rel ";"
 abbrev pub Binds : List ℕ → List Token → LetTree → ℕ → List Token → Type 0
-Binds text ts l h us = (p : Span) × (q : Span) × (vs : List Token) × IsNameAt text l.name_span × (l.name ≡ piece text l.name_span) × (ts ≡ token kind.Name l.name_span ∷ mark_at mark.Equal p ∷ vs) × relation.Reads text vs l.relation h (mark_at mark.Semicolon q ∷ us)
+Binds text ts l h us =
+    (p : Span) × (q : Span) × (vs : List Token) × IsNameAt text l.name_span × (l.name ≡ piece text l.name_span)
+    × (ts ≡ token kind.Name l.name_span ∷ mark_at mark.Equal p ∷ vs) × relation.Reads text vs l.relation h (mark_at mark.Semicolon q ∷ us)
 
 -- NAME "="
 abbrev pub BeginsNamed : List ℕ → List Token → Span → List Token → Type 0
 BeginsNamed text ts x us = (p : Span) × IsNameAt text x × (ts ≡ token kind.Name x ∷ mark_at mark.Equal p ∷ us)
 
--- what names an output whose keyword stands at s: NAME "=", or nothing
+-- what names an output whose keyword is at s: NAME "=", or nothing
 abbrev pub NamesOutput : List ℕ → (s : Span) → List Token → Span → List ℕ → List Token → Type 0
-NamesOutput text s ts x n us = (BeginsNamed text ts x us × (n ≡ piece text x)) ⊎ (((y : Span) (vs : List Token) → BeginsNamed text ts y vs → ⊥) × (x ≡ s) × (n ≡ default_name) × (us ≡ ts))
+NamesOutput text s ts x n us =
+    (BeginsNamed text ts x us × (n ≡ piece text x)) ⊎ (((y : Span) (vs : List Token) → BeginsNamed text ts y vs → ⊥) × (x ≡ s) × (n ≡ default_name) × (us ≡ ts))
 
 -- the tokens are no outputs, or some are higher than that
 abbrev pub NoOutputs : List ℕ → List Token → ℕ → Type 0

@@ -24,9 +24,9 @@ abbrev pub Refuses : List ℕ → Refusal → Type 0
 Refuses text NoMemory = Unit {0}
 Refuses text (At code span) = lexis.Refuses text (At code span) ⊎ ((ts : List Token) × Lexes text ts × IsUngrammatical text ts code)
 
--- how a fault is told
-abbrev pub Tells : Fault → Refusal → Type 0
-Tells (fault.Unexpected s) (At code span) = code ≡ 4
-Tells (fault.TooHigh s) (At code span) = (code ≡ 5) × (span ≡ s)
-Tells fault.NoMemory NoMemory = Unit {0}
-Tells f e = ⊥
+-- the refusal for a fault
+abbrev pub IsRefusalFor : Fault → Refusal → Type 0
+IsRefusalFor (fault.Unexpected s) (At code span) = code ≡ 4
+IsRefusalFor (fault.TooHigh s) (At code span) = (code ≡ 5) × (span ≡ s)
+IsRefusalFor fault.NoMemory NoMemory = Unit {0}
+IsRefusalFor f e = ⊥

@@ -1,4 +1,4 @@
--- What doesn't stand at the front of the tokens.
+-- What isn't at the front of the tokens.
 use Rattle.std.specs.Prelude.{ℕ, ◌<◌, ◌^◌, List, [], ◌∷◌}
 use Rattle.record_core.specs.declared.span.Span.{Span}
 use Rattle.lexer.specs.declared.token.Token.{Token}

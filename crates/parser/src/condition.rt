@@ -78,7 +78,7 @@ fn after_comparison(tokens: &[Token]) -> Option<(Comparison, Token, &[Token])>
     Some((comparison, *first, rest))
 }
 
-/// A condition in square brackets; `head` is where it is told that it is too high: at the `not` before it, or at its bracket.
+/// A condition in square brackets; `head` is the place of the refusal if it is too high: the `not` before it, or its bracket.
 #[cycle(parse)]
 fn parse_square<'a, A: Allocator + Copy>(
     alloc: A,
@@ -162,7 +162,7 @@ fn parse_single<'a, A: Allocator + Copy>(
     parse_comparison(alloc, tokens, room)
 }
 
-/// What stands between the connectives of a level.
+/// What comes between the connectives of a level.
 #[cycle(parse)]
 fn parse_operand<'a, A: Allocator + Copy>(
     alloc: A,

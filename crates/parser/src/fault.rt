@@ -10,7 +10,7 @@ use std::alloc::{AllocError, AllocFailed};
 /// The greatest height of a phrase, and the most brackets that may be open at once.
 pub const MAX_HEIGHT: u32 = 64;
 
-/// Why no phrase was read, before it is told as a refusal.
+/// Why no phrase was read, before a refusal is made of it.
 #[derive(Clone, Copy, Debug, PartialEq, Eq)]
 pub enum Fault {
     /// The token at that place can't follow the tokens before it; `None` is the end of the text.

@@ -4,7 +4,7 @@
 //! class of phrases takes what a phrase needs from the front of the tokens. The trees lie in the caller's allocator.
 //!
 //! The contract for the layers above: `parse` is `Ok` only with a program that the text is (`Reads` of crate `grammar`, where no
-//! text is two programs), and a numbered refusal comes only at a text that is none, with the code that tells why. Below stand
+//! text is two programs), and a numbered refusal comes only at a text that is none, with the code that says why. It uses
 //! `lexer`, `grammar`, `expr_tree` and `record_core`; typing checks what is read here.
 #![tactic(auto)]
 

@@ -110,7 +110,7 @@ fn parse_pair(tokens: &[Token]) -> Result<(Pair, &[Token]), Fault>
     Ok((Pair { left, right }, rest))
 }
 
-/// The column of an aggregate whose keyword stands at `start`, and the span of the aggregate.
+/// The column of an aggregate whose keyword is at `start`, and the span of the aggregate.
 fn parse_aggregated(start: Span, tokens: &[Token]) -> Result<(Span, Column, &[Token]), Fault>
     ensures found { IfOk result (λ r. (r.0 ≡ reaching start r.1.span) × (tokens.now ≡ column_at r.1 ∷ r.2.now)) }
     ensures none { IfErr result (λ f. NoColumn tokens.now) }

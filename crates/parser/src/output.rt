@@ -25,7 +25,7 @@ fn name_out() -> Name
     }
 }
 
-/// What names an output whose keyword stands at that place: the place of the name, the name, and what follows.
+/// What names an output whose keyword is at that place: the place of the name, the name, and what follows.
 fn output_name<'a>(keyword: Span, text: &[u8], tokens: &'a [Token]) -> (Span, Name, &'a [Token])
     ensures found { NamesOutput text.now keyword tokens.now result.0 result.1 result.2.now }
     ensures shorter { length result.2.now ≤ length tokens.now }

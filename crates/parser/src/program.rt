@@ -7,7 +7,7 @@ ghost use Rattle.expr_tree.specs.Views.{program_tree};
 ghost use Rattle.grammar.specs.Programs.{ReadsProgram};
 ghost use Rattle.grammar.specs.Texts.{Reads};
 ghost use Rattle.parser.specs.Faults.{Denies};
-ghost use Rattle.parser.specs.Refusals.{NoProgram, Refuses, Tells};
+ghost use Rattle.parser.specs.Refusals.{NoProgram, Refuses, IsRefusalFor};
 
 use crate::fault::Fault;
 use crate::item::{parse_inputs, parse_lets};
@@ -36,9 +36,9 @@ fn parse_program<A: Allocator + Copy>(
     })
 }
 
-/// The refusal that a fault is told as, in a text of that length.
+/// The refusal for a fault in a text of that length.
 fn refusal(fault: Fault, length: u32) -> Refusal
-    ensures { Tells fault result }
+    ensures { IsRefusalFor fault result }
 {
     let end = Span {
         start: length,
@@ -57,16 +57,16 @@ fn refusal(fault: Fault, length: u32) -> Refusal
 /// The program that a text is, made in the caller's allocator; its tokens lie there too until the end.
 ///
 /// Refusals, the first that applies:
-/// - 6, 1, 2, 3: those of the tokens, as `lex` tells them; the text is lexed whole first.
+/// - 6, 1, 2, 3: those of the tokens, as `lex` refuses them; the text is lexed whole first.
 /// - 4: the first token that can't follow the tokens before it; at the end of the text, the empty span there.
-/// - 5: a bracket that would be the 65th open one, with its own span; or a phrase higher than 64, told when its last token has
-///   been read, with the span of its head: the keyword of a relation, the operator, connective or comparison, the `-`, the
+/// - 5: a bracket that would be the 65th open one, with its own span; or a phrase higher than 64, refused once its last token
+///   is read, with the span of its head: the keyword of a relation, the operator, connective or comparison, the `-`, the
 ///   `not`, or the opening bracket.
 /// - `NoMemory`: the allocator refused.
 pub fn parse<A: Allocator + Copy>(alloc: A, text: &[u8]) -> Result<Program<A>, Refusal>
     // The text is that program.
     ensures read { IfOk result (λ p. Reads text.now (program_tree p)) }
-    // A numbered refusal tells why the text is no program.
+    // A numbered refusal says why the text is no program.
     ensures refused { IfErr result (λ e. Refuses text.now e) }
     // A text that is refused, but for memory, is no program.
     ensures none { IfErr result (λ e. e ≢ Refusal.NoMemory → (p : ProgramTree) → ¬ (Reads text.now p)) }

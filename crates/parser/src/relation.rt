@@ -39,7 +39,7 @@ pub struct Opening {
     pub bracket: Span,
 }
 
-/// What stands before the relations of a loop: the number of turns and the variable.
+/// What comes before the relations of a loop: the number of turns and the variable.
 #[derive(Drop)]
 pub struct LoopHead {
     pub turns_span: Span,
@@ -66,7 +66,7 @@ fn form_at(keyword: Keyword) -> Option<Form>
     }
 }
 
-/// The form whose keyword stands at the front, the keyword's place, and what follows it.
+/// The form whose keyword is at the front, the keyword's place, and what follows it.
 fn after_form(tokens: &[Token]) -> Option<(Form, Span, &[Token])>
     ensures { MatchOption result (NoForm tokens.now) (λ r. tokens.now ≡ form_token r.0 r.1 ∷ r.2.now) }
 {

@@ -95,7 +95,7 @@ fn parse_unary<'a, A: Allocator + Copy>(
     Ok((scalar, extent, height + 1, rest))
 }
 
-/// What stands between the operators of a level.
+/// What comes between the operators of a level.
 #[cycle(parse)]
 fn parse_operand<'a, A: Allocator + Copy>(
     alloc: A,

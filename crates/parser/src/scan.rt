@@ -1,4 +1,4 @@
-//! What stands at the front of the tokens.
+//! What is at the front of the tokens.
 
 ghost use Rattle.std.specs.Prelude.{◌≡◌, ◌<◌, ◌^◌, ◌∷◌, MatchOption, SomeIff};
 ghost use Rattle.lexer.specs.declared.token.TokenKind.TheVariants as kind;

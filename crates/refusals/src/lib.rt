@@ -1,8 +1,8 @@
 //! What each refusal of a query, an input or a schedule means.
 //!
 //! One table, in three parts, is what `loom explain`, `--explain` and the refusals of LANGUAGE.md say. The contract for the layers
-//! above: `row_of` gives the first row of a code, and nothing exactly where no row has it. Nothing stands below; the crates that
-//! refuse keep their codes beside the checks that tell them.
+//! above: `row_of` gives the first row of a code, and nothing exactly where no row has it. It uses no other crate; the crates that
+//! refuse keep their codes beside the checks.
 #![tactic(auto)]
 
 mod table;

@@ -6,12 +6,12 @@ ghost use Rattle.std.specs.List.{find};
 /// What a refusal means. Texts are UTF-8; a sentence of `text` is a line.
 #[derive(Clone, Copy, Debug, PartialEq, Eq)]
 pub struct Explanation {
-    /// The number by which it is told: 1 to 23 of queries, 31 to 40 of a schedule's steps, 41 to 47 of the lines of inputs, of which 43, 44
-    /// and 46 are told of a schedule's lines too.
+    /// Its number: 1 to 23 of queries, 31 to 40 of a schedule's steps, 41 to 47 of the lines of inputs, of which 43, 44 and 46 are of a
+    /// schedule's lines too.
     pub code: u8,
     /// What is wrong, in a phrase.
     pub summary: &'static str,
-    /// What the place covers that is told in the query. Empty where no place is told: of inputs and schedules the line is.
+    /// What the place in the query covers. Empty where a refusal names a line: those of inputs and schedules do.
     pub place: &'static str,
     /// What it means and what helps, in one to three lines.
     pub text: &'static str,
@@ -31,7 +31,8 @@ pub static OF_QUERIES: [Explanation; 18] = [
         code: 1,
         summary: "an unexpected character, a `#` without a number, or a `!` without `=`",
         place: "the byte",
-        text: "A query is made of names, keywords, numbers, columns such as `#0`, and signs.\nThis byte begins none of them: a name has lower-case letters, digits and `_`, and there are no quotes and no comments.",
+        text: "A query is made of names, keywords, numbers, columns such as `#0`, and signs.\n\
+            This byte begins none of them: a name has lower-case letters, digits and `_`, and there are no quotes and no comments.",
         wrong: "input a/1; output where(a; #0 ! 5);",
         right: "input a/1; output where(a; #0 != 5);",
     },
@@ -39,7 +40,8 @@ pub static OF_QUERIES: [Explanation; 18] = [
         code: 2,
         summary: "a number with a leading zero, or above 9223372036854775807",
         place: "the digits, including a column's `#`",
-        text: "A number is `0`, or digits that don't begin with 0, and at most 9223372036854775807; a column's number too.\nIt has no sign: `-5` is the negation of 5.",
+        text: "A number is `0`, or digits that don't begin with 0, and at most 9223372036854775807; a column's number too.\n\
+            It has no sign: `-5` is the negation of 5.",
         wrong: "input a/1; output select(a; #0 + 007);",
         right: "input a/1; output select(a; #0 + 7);",
     },
@@ -47,7 +49,8 @@ pub static OF_QUERIES: [Explanation; 18] = [
         code: 3,
         summary: "a name over 32 bytes",
         place: "the name",
-        text: "A name is a letter `a` to `z`, then letters, digits and `_`, at most 32 bytes in all.\nA shorter name helps, everywhere where the long one stands.",
+        text: "A name is a letter `a` to `z`, then letters, digits and `_`, at most 32 bytes in all.\n\
+            A shorter name helps, everywhere where the long one stands.",
         wrong: "input a_name_that_is_longer_than_it_may_be/1; output a_name_that_is_longer_than_it_may_be;",
         right: "input a_name_that_is_short_enough/1; output a_name_that_is_short_enough;",
     },
@@ -55,7 +58,9 @@ pub static OF_QUERIES: [Explanation; 18] = [
         code: 4,
         summary: "an unexpected word, or the text ends too early",
         place: "the word, or the end of the text",
-        text: "No query that begins like this one continues with this word.\nOften a `;`, a `,` or a bracket is missing just before it, or a keyword stands where a name should.\nInputs come first, then lets, then one output or more.",
+        text: "No query that begins like this one continues with this word.\n\
+            Often a `;`, a `,` or a bracket is missing just before it, or a keyword stands where a name should.\n\
+            Inputs come first, then lets, then one output or more.",
         wrong: "input a/1 output a;",
         right: "input a/1; output a;",
     },
@@ -63,7 +68,9 @@ pub static OF_QUERIES: [Explanation; 18] = [
         code: 5,
         summary: "brackets or phrases more than 64 deep",
         place: "the bracket, or the word that the phrase is named for",
-        text: "Brackets nest at most 64 deep, and so do relations, scalars and conditions; in a row such as `#0 = 1 or #0 = 2 or ..` each operator counts.\nBrackets that change nothing can go, and a relation deep inside can be named by a `let`.",
+        text: "Brackets nest at most 64 deep, and so do relations, scalars and conditions; \
+            in a row such as `#0 = 1 or #0 = 2 or ..` each operator counts.\n\
+            Brackets that change nothing can go, and a relation deep inside can be named by a `let`.",
         wrong: "input a/1; output select(a; (((((((((((((((((((((((((((((((((((((((((((((((((((((((((((((((((#0))))))))))))))))))))))))))))))))))))))))))))))))))))))))))))))))));",
         right: "input a/1; output select(a; (#0));",
     },
@@ -79,7 +86,8 @@ pub static OF_QUERIES: [Explanation; 18] = [
         code: 11,
         summary: "a name that is not known here",
         place: "the name",
-        text: "A relation is called by the name of an input, of a `let` that stands before, or, in a loop's body, of the loop's variable.\nNothing of this name is known at this place: it may be misspelled, or named only further down, or be the variable of a loop that is over.",
+        text: "A relation is called by the name of an input, of a `let` that stands before, or, in a loop's body, of the loop's variable.\n\
+            Nothing of this name is known at this place: it may be misspelled, or named only further down, or be the variable of a loop that is over.",
         wrong: "input a/1; output b;",
         right: "input a/1; output a;",
     },
@@ -87,7 +95,8 @@ pub static OF_QUERIES: [Explanation; 18] = [
         code: 12,
         summary: "a name that is in scope already",
         place: "the name",
-        text: "An input, a `let` or a loop's variable takes a name that no other one has at this place.\nInputs and lets keep theirs to the end of the query, and a loop's variable to the end of the loop's body.",
+        text: "An input, a `let` or a loop's variable takes a name that no other one has at this place.\n\
+            Inputs and lets keep theirs to the end of the query, and a loop's variable to the end of the loop's body.",
         wrong: "input a/1; let a = distinct(a); output a;",
         right: "input a/1; let b = distinct(a); output b;",
     },
@@ -95,7 +104,8 @@ pub static OF_QUERIES: [Explanation; 18] = [
         code: 13,
         summary: "a column that the relation doesn't have",
         place: "the column",
-        text: "The fields of a relation are numbered from #0: a relation of 2 fields has the columns #0 and #1, and no other.\nIn a join's pair the left column is one of the first relation, and the right one of the second.",
+        text: "The fields of a relation are numbered from #0: a relation of 2 fields has the columns #0 and #1, and no other.\n\
+            In a join's pair the left column is one of the first relation, and the right one of the second.",
         wrong: "input a/2; output select(a; #2);",
         right: "input a/2; output select(a; #1);",
     },
@@ -103,7 +113,8 @@ pub static OF_QUERIES: [Explanation; 18] = [
         code: 14,
         summary: "`concat`, `except` or `intersect` of relations of different arities",
         place: "the whole form",
-        text: "These forms bring the records of two relations together, so both must have the same number of fields.\nA `select` brings one of them to the fields that the other has.",
+        text: "These forms bring the records of two relations together, so both must have the same number of fields.\n\
+            A `select` brings one of them to the fields that the other has.",
         wrong: "input a/1; input b/2; output concat(a, b);",
         right: "input a/1; input b/2; output concat(a, select(b; #0));",
     },
@@ -111,7 +122,8 @@ pub static OF_QUERIES: [Explanation; 18] = [
         code: 15,
         summary: "a loop's body with another arity than its start",
         place: "the body",
-        text: "A loop's variable is the start at first, and what the body gave at each later turn, so both must have the same number of fields.\nA `select` round the body brings it to the fields of the start.",
+        text: "A loop's variable is the start at first, and what the body gave at each later turn, so both must have the same number of fields.\n\
+            A `select` round the body brings it to the fields of the start.",
         wrong: "input a/2; output iterate(3; x = a; select(x; #0));",
         right: "input a/2; output iterate(3; x = a; select(x; #1, #0));",
     },
@@ -119,7 +131,8 @@ pub static OF_QUERIES: [Explanation; 18] = [
         code: 16,
         summary: "0 fields, or over 16",
         place: "the number, or the whole form",
-        text: "A record has 1 to 16 fields: those of an input, and those that a `select`, a `join` or a `group` makes.\nA join's records have the fields of both relations, a group's its keys and then its aggregates.",
+        text: "A record has 1 to 16 fields: those of an input, and those that a `select`, a `join` or a `group` makes.\n\
+            A join's records have the fields of both relations, a group's its keys and then its aggregates.",
         wrong: "input a/0; output a;",
         right: "input a/1; output a;",
     },
@@ -127,7 +140,8 @@ pub static OF_QUERIES: [Explanation; 18] = [
         code: 17,
         summary: "over 65535 turns",
         place: "the number",
-        text: "A loop takes 0 to 65535 turns.\nA loop in the body of another one takes its turns at each turn of the outer one, so two of them together can take more.",
+        text: "A loop takes 0 to 65535 turns.\n\
+            A loop in the body of another one takes its turns at each turn of the outer one, so two of them together can take more.",
         wrong: "input a/1; output iterate(65536; x = a; x);",
         right: "input a/1; output iterate(65535; x = a; x);",
     },
@@ -135,23 +149,31 @@ pub static OF_QUERIES: [Explanation; 18] = [
         code: 18,
         summary: "loops over 16 deep",
         place: "the whole form",
-        text: "A loop can stand in the bodies of at most 15 others.\nA loop that doesn't read the variables of those outside it can be named by a `let` before them.",
-        wrong: "input a/1; output iterate(1; b = a; iterate(1; c = a; iterate(1; d = a; iterate(1; e = a; iterate(1; f = a; iterate(1; g = a; iterate(1; h = a; iterate(1; i = a; iterate(1; j = a; iterate(1; k = a; iterate(1; l = a; iterate(1; m = a; iterate(1; n = a; iterate(1; o = a; iterate(1; p = a; iterate(1; q = a; iterate(1; r = a; r)))))))))))))))));",
-        right: "input a/1; output iterate(1; b = a; iterate(1; c = a; iterate(1; d = a; iterate(1; e = a; iterate(1; f = a; iterate(1; g = a; iterate(1; h = a; iterate(1; i = a; iterate(1; j = a; iterate(1; k = a; iterate(1; l = a; iterate(1; m = a; iterate(1; n = a; iterate(1; o = a; iterate(1; p = a; iterate(1; q = a; q))))))))))))))));",
+        text: "A loop can stand in the bodies of at most 15 others.\n\
+            A loop that doesn't read the variables of those outside it can be named by a `let` before them.",
+        wrong: "input a/1; output iterate(1; b = a; iterate(1; c = a; iterate(1; d = a; iterate(1; e = a; iterate(1; f = a; iterate(1; g = a; \
+            iterate(1; h = a; iterate(1; i = a; iterate(1; j = a; iterate(1; k = a; iterate(1; l = a; iterate(1; m = a; iterate(1; n = a; \
+            iterate(1; o = a; iterate(1; p = a; iterate(1; q = a; iterate(1; r = a; r)))))))))))))))));",
+        right: "input a/1; output iterate(1; b = a; iterate(1; c = a; iterate(1; d = a; iterate(1; e = a; iterate(1; f = a; iterate(1; g = a; \
+            iterate(1; h = a; iterate(1; i = a; iterate(1; j = a; iterate(1; k = a; iterate(1; l = a; iterate(1; m = a; iterate(1; n = a; \
+            iterate(1; o = a; iterate(1; p = a; iterate(1; q = a; q))))))))))))))));",
     },
     Explanation {
         code: 19,
         summary: "over 16 inputs",
         place: "the 17th input's name",
         text: "A query declares 1 to 16 inputs.\nInputs with the same number of fields can be one, with one more field that tells them apart.",
-        wrong: "input a/1; input b/1; input c/1; input d/1; input e/1; input f/1; input g/1; input h/1; input i/1; input j/1; input k/1; input l/1; input m/1; input n/1; input o/1; input p/1; input q/1; output a;",
-        right: "input a/1; input b/1; input c/1; input d/1; input e/1; input f/1; input g/1; input h/1; input i/1; input j/1; input k/1; input l/1; input m/1; input n/1; input o/1; input p/1; output a;",
+        wrong: "input a/1; input b/1; input c/1; input d/1; input e/1; input f/1; input g/1; input h/1; input i/1; input j/1; input k/1; input l/1; \
+            input m/1; input n/1; input o/1; input p/1; input q/1; output a;",
+        right: "input a/1; input b/1; input c/1; input d/1; input e/1; input f/1; input g/1; input h/1; input i/1; input j/1; input k/1; input l/1; \
+            input m/1; input n/1; input o/1; input p/1; output a;",
     },
     Explanation {
         code: 20,
         summary: "a name that an earlier output has",
         place: "the name, or the word `output` where no name is given",
-        text: "No two outputs have the same name, and an output without a name is called `out`.\nOutput names are separate from all others: an output may have the name of an input, a `let` or a loop's variable.",
+        text: "No two outputs have the same name, and an output without a name is called `out`.\n\
+            Output names are separate from all others: an output may have the name of an input, a `let` or a loop's variable.",
         wrong: "input a/1; output a; output distinct(a);",
         right: "input a/1; output a; output once = distinct(a);",
     },
@@ -159,7 +181,8 @@ pub static OF_QUERIES: [Explanation; 18] = [
         code: 21,
         summary: "a dataflow graph of over 4096 vertices",
         place: "",
-        text: "A query is compiled to a dataflow graph, which has a vertex for each relation form and several for each loop.\nA `let` is compiled once, however often its name is used, so a form that is written several times should be named by one.",
+        text: "A query is compiled to a dataflow graph, which has a vertex for each relation form and several for each loop.\n\
+            A `let` is compiled once, however often its name is used, so a form that is written several times should be named by one.",
         wrong: "",
         right: "",
     },
@@ -167,9 +190,12 @@ pub static OF_QUERIES: [Explanation; 18] = [
         code: 23,
         summary: "over 16 outputs",
         place: "the 17th output's word `output`",
-        text: "A query has 1 to 16 outputs.\nOutputs with the same number of fields can be one, the `concat` of them, with one more field that tells them apart.",
-        wrong: "input a/1; output a = a; output b = a; output c = a; output d = a; output e = a; output f = a; output g = a; output h = a; output i = a; output j = a; output k = a; output l = a; output m = a; output n = a; output o = a; output p = a; output q = a;",
-        right: "input a/1; output a = a; output b = a; output c = a; output d = a; output e = a; output f = a; output g = a; output h = a; output i = a; output j = a; output k = a; output l = a; output m = a; output n = a; output o = a; output p = a;",
+        text: "A query has 1 to 16 outputs.\n\
+            Outputs with the same number of fields can be one, the `concat` of them, with one more field that tells them apart.",
+        wrong: "input a/1; output a = a; output b = a; output c = a; output d = a; output e = a; output f = a; output g = a; output h = a; \
+            output i = a; output j = a; output k = a; output l = a; output m = a; output n = a; output o = a; output p = a; output q = a;",
+        right: "input a/1; output a = a; output b = a; output c = a; output d = a; output e = a; output f = a; output g = a; output h = a; \
+            output i = a; output j = a; output k = a; output l = a; output m = a; output n = a; output o = a; output p = a;",
     },
 ];
 
@@ -203,7 +229,9 @@ pub static OF_STEPS: [Explanation; 10] = [
         code: 34,
         summary: "a choice that the worker doesn't have, or no such worker",
         place: "",
-        text: "A worker's choices are counted from 0: its messages in the order in which they came, and then its notifications that may be delivered now; with `--views`, as the worker sees it.\nWorkers are counted from 0 too, and there is one unless `--workers` says otherwise.",
+        text: "A worker's choices are counted from 0: its messages in the order in which they came, \
+            and then its notifications that may be delivered now; with `--views`, as the worker sees it.\n\
+            Workers are counted from 0 too, and there is one unless `--workers` says otherwise.",
         wrong: "d 0 0\n",
         right: "f a 1 2\nd 0 0\n",
     },
@@ -227,7 +255,8 @@ pub static OF_STEPS: [Explanation; 10] = [
         code: 37,
         summary: "a step after the engine has stopped",
         place: "",
-        text: "A stopped engine takes no records, and hands no event out; what is held may still be given back.\nIn a schedule it stops where an event is given up for a count that is too large (39).",
+        text: "A stopped engine takes no records, and hands no event out; what is held may still be given back.\n\
+            In a schedule it stops where an event is given up for a count that is too large (39).",
         wrong: "",
         right: "",
     },
@@ -243,7 +272,10 @@ pub static OF_STEPS: [Explanation; 10] = [
         code: 39,
         summary: "a count that is too large: there would be over 9223372036854775807 equal records",
         place: "",
-        text: "Equal records are kept as one with a count, from 1 to 9223372036854775807: no more of them can be in what a vertex has taken in, or sends at once.\nThe event is given up, and the engine stops: a schedule goes on, while `run` and `follow` end with `count too large`.\nOften a `distinct` before a join, or in a loop's body, keeps the counts small.",
+        text: "Equal records are kept as one with a count, from 1 to 9223372036854775807: \
+            no more of them can be in what a vertex has taken in, or sends at once.\n\
+            The event is given up, and the engine stops: a schedule goes on, while `run` and `follow` end with `count too large`.\n\
+            Often a `distinct` before a join, or in a loop's body, keeps the counts small.",
         wrong: "",
         right: "",
     },
@@ -251,7 +283,9 @@ pub static OF_STEPS: [Explanation; 10] = [
         code: 40,
         summary: "no changes of that sender wait for that worker, or there is no such sender or worker",
         place: "",
-        text: "With `--views` a worker sees the changes that others post only once it has applied them: `v W S` lets worker W apply the next batch of sender S.\nSender S is worker S; the sender after the last worker is whoever feeds, seals and closes.",
+        text: "With `--views` a worker sees the changes that others post only once it has applied them: \
+            `v W S` lets worker W apply the next batch of sender S.\n\
+            Sender S is worker S; the sender after the last worker is whoever feeds, seals and closes.",
         wrong: "f a 1 2\nv 0 0\n",
         right: "f a 1 2\nv 0 1\n",
     },
@@ -279,7 +313,9 @@ pub static OF_LINES: [Explanation; 7] = [
         code: 43,
         summary: "the last line has no line feed",
         place: "",
-        text: "Each line of an input or a schedule ends with a line feed, the last one too: without it the text may have been cut off, and a number with it.\nThe wrong text here ends right after its last digit.",
+        text: "Each line of an input or a schedule ends with a line feed, the last one too: \
+            without it the text may have been cut off, and a number with it.\n\
+            The wrong text here ends right after its last digit.",
         wrong: "epoch\na 1 2",
         right: "epoch\na 1 2\n",
     },
@@ -287,7 +323,9 @@ pub static OF_LINES: [Explanation; 7] = [
         code: 44,
         summary: "a bad number",
         place: "",
-        text: "A field is a whole number in its plain spelling: `0`, or an optional `-` and digits that don't begin with 0.\nThe least is -9223372036854775808, the greatest 9223372036854775807.\nThe workers, choices, epochs and senders of a schedule are such numbers without a sign, from 0 to 4294967295.",
+        text: "A field is a whole number in its plain spelling: `0`, or an optional `-` and digits that don't begin with 0.\n\
+            The least is -9223372036854775808, the greatest 9223372036854775807.\n\
+            The workers, choices, epochs and senders of a schedule are such numbers without a sign, from 0 to 4294967295.",
         wrong: "epoch\na 01 2\n",
         right: "epoch\na 1 2\n",
     },
@@ -301,9 +339,13 @@ pub static OF_LINES: [Explanation; 7] = [
     },
     Explanation {
         code: 46,
-        summary: "a malformed line: an empty line, two spaces together, a space at either end, or a first word that is not a name; in a schedule, a line that is not a step",
+        summary: "a malformed line: an empty line, two spaces together, a space at either end, or a first word that is not a name; \
+            in a schedule, a line that is not a step",
         place: "",
-        text: "A line of an input is `epoch`, or an input's name and then each field after one space.\nA line of a schedule is `f INPUT FIELD ..`, `s INPUT`, `x INPUT`, `t WORKER CHOICE`, `c WORKER`, `d WORKER CHOICE`, `p EPOCH` or, with `--views`, `v WORKER SENDER`.\nThere are no empty lines, no other spaces, no tabs and no carriage returns.",
+        text: "A line of an input is `epoch`, or an input's name and then each field after one space.\n\
+            A line of a schedule is `f INPUT FIELD ..`, `s INPUT`, `x INPUT`, `t WORKER CHOICE`, `c WORKER`, `d WORKER CHOICE`, `p EPOCH` \
+            or, with `--views`, `v WORKER SENDER`.\n\
+            There are no empty lines, no other spaces, no tabs and no carriage returns.",
         wrong: "epoch\na 1  2\n",
         right: "epoch\na 1 2\n",
     },

@@ -72,12 +72,12 @@ hold_through w v n k hand h before after others = hold_same w v n hand same h
     ]
 
 -- one worker takes an event and abandons it without having it in hand
-pub hold_lost : (w v : World) (n k : ℕ) (hand : List (Option Pass)) (lost : Event) → HoldsAll w n hand → w.held k ≡ Held.nothing → v.held k ≡ Held.holding true lost → ((j : ℕ) → j ≢ k → v.held j ≡ w.held j) → HoldsAll v n hand
-hold_lost w v n k hand lost h before after others = record { there = there; held = back }
+pub hold_abandoned : (w v : World) (n k : ℕ) (hand : List (Option Pass)) (abandoned : Event) → HoldsAll w n hand → w.held k ≡ Held.nothing → v.held k ≡ Held.holding true abandoned → ((j : ℕ) → j ≢ k → v.held j ≡ w.held j) → HoldsAll v n hand
+hold_abandoned w v n k hand abandoned h before after others = record { there = there; held = back }
   where
     there : (j : ℕ) (event : Event) → j < n → v.held j ≡ Held.holding false event → (q : Pass) × (in_hand hand j ≡ Some q)
     there j event lt e = elim (eqb_tells j k) [
-      | inl same ↦ absurd (let f : Held.holding true lost ≡ Held.holding false event = sym (ap v.held same.1 ∙ after) ∙ e in cc)
+      | inl same ↦ absurd (let f : Held.holding true abandoned ≡ Held.holding false event = sym (ap v.held same.1 ∙ after) ∙ e in cc)
       | inr other ↦ h.there j event lt (sym (others j other.1) ∙ e)
     ]
 

@@ -63,28 +63,28 @@ input_count_is s inputs are e = record { all = omega (arith, are.count, ap lengt
 why : (late : Bool) (s : Shown) (name : List ℕ) (i arity : ℕ) → HasInputs s → IsNumbered (shown_inputs s.graph) name (i, arity) → (r : StepRefusal) (code : ℕ) → refusal_of r ≡ refusal.Step code → (w : World) → Shows s w
     → (b c d : Bool) → s.stopped ≡ b → nat_lt i (length s.inputs) ≡ c → (input_at s i).closed ≡ d
     → first (cond b (Some step.Stopped) None) (first (cond c None (Some step.UnknownInput)) (cond d (Some step.InputClosed) None)) ≡ Some r → RefusesInput (setting_of late s) w name code
-why late s name i arity size numbered r code told w shows true c d stopped there closed e =
-    let code_is : 37 ≡ code = (let f : Some step.Stopped ≡ Some r = e in let g : refusal.Step 37 ≡ refusal.Step code = ap refusal_of (let h : step.Stopped ≡ r = cc in h) ∙ told in cc) in
+why late s name i arity size numbered r code has_code w shows true c d stopped there closed e =
+    let code_is : 37 ≡ code = (let f : Some step.Stopped ≡ Some r = e in let g : refusal.Step 37 ≡ refusal.Step code = ap refusal_of (let h : step.Stopped ≡ r = cc in h) ∙ has_code in cc) in
     subst (RefusesInput (setting_of late s) w name) code_is (RefusesInput.is_stopped (shows.stopped ∙ stopped))
-why late s name i arity size numbered r code told w shows false false d stopped there closed e =
-    let code_is : 32 ≡ code = (let f : Some step.UnknownInput ≡ Some r = e in let g : refusal.Step 32 ≡ refusal.Step code = ap refusal_of (let h : step.UnknownInput ≡ r = cc in h) ∙ told in cc) in
+why late s name i arity size numbered r code has_code w shows false false d stopped there closed e =
+    let code_is : 32 ≡ code = (let f : Some step.UnknownInput ≡ Some r = e in let g : refusal.Step 32 ≡ refusal.Step code = ap refusal_of (let h : step.UnknownInput ≡ r = cc in h) ∙ has_code in cc) in
     subst (RefusesInput (setting_of late s) w name) code_is (RefusesInput.is_unknown (shows.stopped ∙ stopped) (absent numbered))
   where
     absent : IsNumbered (shown_inputs s.graph) name (i, arity) → IsAbsent (shown_inputs s.graph) name
     absent (inl is) = let within : i < length (shown_inputs s.graph) = slice_get_within (shown_inputs s.graph) i _ is.there in let less : i < length s.inputs = omega (arith, within, size.all) in absurd (grind (arith, nat_tests))
     absent (inr none) = none.0
-why late s name i arity size numbered r code told w shows false true true stopped there closed e =
-    let code_is : 31 ≡ code = (let f : Some step.InputClosed ≡ Some r = e in let g : refusal.Step 31 ≡ refusal.Step code = ap refusal_of (let h : step.InputClosed ≡ r = cc in h) ∙ told in cc) in
+why late s name i arity size numbered r code has_code w shows false true true stopped there closed e =
+    let code_is : 31 ≡ code = (let f : Some step.InputClosed ≡ Some r = e in let g : refusal.Step 31 ≡ refusal.Step code = ap refusal_of (let h : step.InputClosed ≡ r = cc in h) ∙ has_code in cc) in
     subst (RefusesInput (setting_of late s) w name) code_is (refuses numbered)
   where
     refuses : IsNumbered (shown_inputs s.graph) name (i, arity) → RefusesInput (setting_of late s) w name 31
     refuses (inl is) = RefusesInput.is_closed i arity (shows.stopped ∙ stopped) is (shows.closed i ∙ closed)
     refuses (inr none) = let at : i ≡ 4294967295 = none.1 in let few : length s.inputs ≤ 4096 = size.few in absurd (grind (arith, nat_tests))
-why late s name i arity size numbered r code told w shows false true false stopped there closed e = absurd (let f : None ≡ Some r = e in cc)
+why late s name i arity size numbered r code has_code w shows false true false stopped there closed e = absurd (let f : None ≡ Some r = e in cc)
 
 pub refused_input : (late : Bool) (s : Shown) (name : List ℕ) (i arity : ℕ) → HasInputs s → IsNumbered (shown_inputs s.graph) name (i, arity) → (r : StepRefusal) → input_refusal s i ≡ Some r → (code : ℕ) → refusal_of r ≡ refusal.Step code
     → (w : World) → Shows s w → RefusesInput (setting_of late s) w name code
-refused_input late s name i arity size numbered r e code told w shows = why late s name i arity size numbered r code told w shows s.stopped (nat_lt i (length s.inputs)) (input_at s i).closed refl refl refl e
+refused_input late s name i arity size numbered r e code has_code w shows = why late s name i arity size numbered r code has_code w shows s.stopped (nat_lt i (length s.inputs)) (input_at s i).closed refl refl refl e
 
 -- if no call on it is refused, it is an open input of an engine that runs
 pub record IsOpen (s : Shown) (name : List ℕ) (i arity : ℕ) : Type 0 where
@@ -151,19 +151,19 @@ unfit_leads late b c hand name fields i arity is none same =
 -- what a seal's refusals say, if none of the input's apply
 at_last_epoch : (late : Bool) (s : Shown) (name : List ℕ) (i arity : ℕ) → IsOpen s name i arity → (r : StepRefusal) (code : ℕ) → refusal_of r ≡ refusal.Step code → (w : World) → Shows s w → (b : Bool) → ((input_at s i).open_epoch == 4294967295) ≡ b
     → AnswersOr {T = Unit {0}} (cond b (Some step.LastEpoch) None) (Err r) → RefusesSeal (setting_of late s) w name code
-at_last_epoch late s name i arity is r code told w shows true at e =
-    let code_is : 38 ≡ code = (let g : refusal.Step 38 ≡ refusal.Step code = ap refusal_of (sym e) ∙ told in cc) in
+at_last_epoch late s name i arity is r code has_code w shows true at e =
+    let code_is : 38 ≡ code = (let g : refusal.Step 38 ≡ refusal.Step code = ap refusal_of (sym e) ∙ has_code in cc) in
     let full : (input_at s i).open_epoch ≡ 4294967295 = grind (arith, nat_tests) in
     subst (RefusesSeal (setting_of late s) w name) code_is (RefusesSeal.last_epoch i arity (shows.stopped ∙ is.runs) is.is (shows.closed i ∙ is.still_open) (shows.open_epoch i ∙ full))
-at_last_epoch late s name i arity is r code told w shows false at e = absurd (let g : refusal.NoMemory ≡ refusal.Step code = ap refusal_of (sym e) ∙ told in cc)
+at_last_epoch late s name i arity is r code has_code w shows false at e = absurd (let g : refusal.NoMemory ≡ refusal.Step code = ap refusal_of (sym e) ∙ has_code in cc)
 
 pub refused_seal : (late : Bool) (s : Shown) (name : List ℕ) (i arity : ℕ) → HasInputs s → IsNumbered (shown_inputs s.graph) name (i, arity) → (r : StepRefusal) → AnswersOr {T = Unit {0}} (seal_refusal s i) (Err r)
     → (code : ℕ) → refusal_of r ≡ refusal.Step code → (w : World) → Shows s w → RefusesSeal (setting_of late s) w name code
-refused_seal late s name i arity size numbered r e code told w shows = by_input (input_refusal s i) refl e
+refused_seal late s name i arity size numbered r e code has_code w shows = by_input (input_refusal s i) refl e
   where
     by_input : (o : Option StepRefusal) → input_refusal s i ≡ o → AnswersOr {T = Unit {0}} (first o (cond ((input_at s i).open_epoch == 4294967295) (Some step.LastEpoch) None)) (Err r) → RefusesSeal (setting_of late s) w name code
-    by_input (Some q) at e = RefusesSeal.seal_input code (refused_input late s name i arity size numbered r (at ∙ ap Some (sym e)) code told w shows)
-    by_input None at e = at_last_epoch late s name i arity (open_input s name i arity size numbered at) r code told w shows ((input_at s i).open_epoch == 4294967295) refl e
+    by_input (Some q) at e = RefusesSeal.seal_input code (refused_input late s name i arity size numbered r (at ∙ ap Some (sym e)) code has_code w shows)
+    by_input None at e = at_last_epoch late s name i arity (open_input s name i arity size numbered at) r code has_code w shows ((input_at s i).open_epoch == 4294967295) refl e
 
 -- a call that succeeded had no reason for a refusal
 pub taken_first : (o p : Option StepRefusal) → AnswersOr {T = Unit {0}} (first o p) (Ok tt) → o ≡ None

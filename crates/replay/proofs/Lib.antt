@@ -5,7 +5,7 @@ pub mod Passing
 pub mod Places
 pub mod Runs
 pub mod Taken
-pub mod Told
+pub mod Printed
 pub mod Opens
 pub mod GraphInputs
 pub mod OneRecord

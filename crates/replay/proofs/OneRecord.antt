@@ -1,6 +1,6 @@
 -- A multiset of one record is one list.
-use Rattle.std.proofs.Common.{◌≡◌, ◌+◌, ℕ, Bool, true, false, List, [], ◌∷◌, refl, sym, ap, ◌∙◌, arith}
-use Rattle.semantics.specs.Multiset.{Record, ◌≈◌, count, one_if, same}
+use Rattle.std.proofs.Common.{◌≡◌, Bool, true, false, List, [], ◌∷◌, refl, sym, ap, arith}
+use Rattle.semantics.specs.Multiset.{Record, ◌≈◌, one_if, same}
 use Rattle.semantics.proofs.MultisetSums.{Decides-same, count_here, same-refl, total-same}
 
 pub one_record : (records : List Record) (row : Record) → records ≈ row ∷ [] → records ≡ row ∷ []

@@ -6,11 +6,11 @@ use Rattle.board.specs.Shown.{Shown}
 use Rattle.board.specs.Lateness.{BoardShown}
 use Rattle.schedule.specs.Commands.{Command}
 use Rattle.replay.specs.Hands.{HoldsAll, IsHand}
-use Rattle.replay.specs.Replays.{Does, Replays, Setting, Tells}
+use Rattle.replay.specs.Replays.{Does, Replays, Setting, PrintsAnswer}
 use Rattle.replay.specs.declared.refusal.Refusal.{Refusal}
 use Rattle.replay.specs.declared.refusal.Refusal.TheVariants as refusal
 use Rattle.replay.proofs.Holding.{hand_stays}
-use Rattle.replay.specs.Steps.{Answers, Led, Leads, ShowsState, Stays, setting_of, setting_on}
+use Rattle.replay.specs.Steps.{Answers, LeadsFrom, Leads, ShowsState, Stays, setting_of, setting_on}
 use Rattle.replay.specs.Waits.{State, kind_of}
 
 pub setting_same : (late : Bool) (s t : Shown) → Stays s t → setting_of late t ≡ setting_of late s
@@ -34,16 +34,16 @@ more_replayed late b c d old hand new commands command before text r more = reco
   stays = record { graph = more.stays.graph ∙ r.stays.graph; workers = more.stays.workers ∙ r.stays.workers; tables = more.stays.tables ∙ r.stays.tables };
   led = λ x shows holds.
       let so_far = r.led x shows holds in
-      let led : Led late c d new command text so_far.0 = more.led so_far.0 so_far.1 (subst (λ (n : ℕ). HoldsAll so_far.0.world n hand) (sym r.stays.workers) so_far.2) in
+      let led : LeadsFrom late c d new command text so_far.0 = more.led so_far.0 so_far.1 (subst (λ (n : ℕ). HoldsAll so_far.0.world n hand) (sym r.stays.workers) so_far.2) in
       let does : Does (setting_of late b.shown) so_far.0 command led.after text = subst (λ (s : Setting). Does s so_far.0 command led.after text) (setting_same late b.shown c.shown r.stays) led.does in
       (led.after, led.shows, subst (λ (n : ℕ). HoldsAll led.after.world n new) r.stays.workers led.hand_after, Replays.replays_more commands command so_far.0 led.after before text so_far.3 does);
 }
 
 -- a question changes nothing
-pub told_leads : (late : Bool) (b : BoardShown) (hand : List (Option Pass)) (epoch : ℕ) (text : List ℕ) → ((x : State) → ShowsState b x → Tells (setting_of late b.shown) x epoch text) → Leads late b b hand hand (Command.print epoch) text
-told_leads late b hand epoch text tells = record {
+pub print_leads : (late : Bool) (b : BoardShown) (hand : List (Option Pass)) (epoch : ℕ) (text : List ℕ) → ((x : State) → ShowsState b x → PrintsAnswer (setting_of late b.shown) x epoch text) → Leads late b b hand hand (Command.print epoch) text
+print_leads late b hand epoch text prints = record {
   stays = record { graph = refl; workers = refl; tables = refl };
-  led = λ x shows holds. record { after = x; shows = shows; hand_after = holds; does = Does.does_print epoch text (tells x shows) };
+  led = λ x shows holds. record { after = x; shows = shows; hand_after = holds; does = Does.does_print epoch text (prints x shows) };
 }
 
 -- a call that involves no worker leaves what is in hand the board's

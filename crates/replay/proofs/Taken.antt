@@ -24,12 +24,12 @@ use Rattle.board.specs.declared.refusal.StepRefusal.TheVariants as step
 use Rattle.board.proofs.Choosing.{home_of}
 use Rattle.schedule.specs.Commands.{Command}
 use Rattle.replay.specs.Hands.{HoldsAll, IsHand, in_hand}
-use Rattle.replay.specs.Replays.{Does, GivesUp, RefusesPick, Takes, after_giving_up, refusal_line}
-use Rattle.replay.specs.Steps.{Answers, Ends, IsGivenUp, Led, Leads, ShowsState, Stays, refusal_of, setting_of}
+use Rattle.replay.specs.Replays.{Does, Abandons, RefusesPick, Takes, after_abandoning, refusal_line}
+use Rattle.replay.specs.Steps.{Answers, IsCommitted, IsAbandoned, LeadsFrom, Leads, ShowsState, Stays, refusal_of, setting_of}
 use Rattle.replay.specs.Waits.{State, kind_of, posted, waiting_now}
 use Rattle.replay.specs.declared.refusal.Refusal.{Refusal}
 use Rattle.replay.specs.declared.refusal.Refusal.TheVariants as refusal
-use Rattle.replay.proofs.Holding.{hand_stays, hold_taken, hold_ended, hold_lost, hold_through, put_other, claim_others, commit_others}
+use Rattle.replay.proofs.Holding.{hand_stays, hold_taken, hold_ended, hold_abandoned, hold_through, put_other, claim_others, commit_others}
 use Rattle.replay.proofs.Inputs.{refused_leads, stays_same}
 use Rattle.replay.proofs.Waiting.{IsWithin, KnowsWaits, shows_applied, shows_posted, shows_same, there_if_some, up_to_date}
 use Rattle.replay.proofs.Places.{held_out}
@@ -66,7 +66,7 @@ pub taken_leads : (late : Bool) (b c d : BoardShown) (hand new : List (Option Pa
     → Stays b.shown d.shown → new ≡ slice_set hand k (Some p) → Leads late b d hand new (Command.take k n) []
 taken_leads late b c d hand new k n p hands knows choice waits places same stays is = record { stays = stays; led = led }
   where
-    led : (x : State) → ShowsState b x → HoldsAll x.world (length b.shown.sides) hand → Led late b d new (Command.take k n) [] x
+    led : (x : State) → ShowsState b x → HoldsAll x.world (length b.shown.sides) hand → LeadsFrom late b d new (Command.take k n) [] x
     led x shows holds =
         let goes = hands.goes.step x.world shows.world in
         let free = claim_free (net b.shown) x.world k hands.taken hands.by goes.0 in
@@ -87,10 +87,10 @@ taken_leads late b c d hand new k n p hands knows choice waits places same stays
         }
 
 -- an event in hand was ended
-pub ended_leads : (late : Bool) (b c : BoardShown) (hand new : List (Option Pass)) (k : ℕ) (p : Pass) → in_hand hand k ≡ Some p → p.worker ≡ k → k < length hand → Ends late b p c → new ≡ slice_set hand k None → Leads late b c hand new (Command.commit k) []
+pub ended_leads : (late : Bool) (b c : BoardShown) (hand new : List (Option Pass)) (k : ℕ) (p : Pass) → in_hand hand k ≡ Some p → p.worker ≡ k → k < length hand → IsCommitted late b p c → new ≡ slice_set hand k None → Leads late b c hand new (Command.commit k) []
 ended_leads late b c hand new k p at own room ends is = record { stays = ends.stays; led = led }
   where
-    led : (x : State) → ShowsState b x → HoldsAll x.world (length b.shown.sides) hand → Led late b c new (Command.commit k) [] x
+    led : (x : State) → ShowsState b x → HoldsAll x.world (length b.shown.sides) hand → LeadsFrom late b c new (Command.commit k) [] x
     led x shows holds =
         let taken : Step = Step.commit p.worker p.job.happening ends.out in
         let goes = ends.goes.step x.world shows.world in
@@ -114,11 +114,11 @@ net_same : (s t : Shown) → t.graph ≡ s.graph → length t.sides ≡ length s
 net_same s t g n = ap (λ x. network (shown_graph x) (length t.sides)) g ∙ ap (λ (k : ℕ). network (shown_graph s.graph) k) n
 
 -- an event was taken and ended
-pub delivered_leads : (late : Bool) (b c d : BoardShown) (hand : List (Option Pass)) (k n : ℕ) (p : Pass) (hands : Hands b.shown k c.shown p) → KnowsWaits late b → (IsUpToDate b k → IsChoice b.shown k n hands.taken) → c.waits ≡ b.waits → Ends late c p d → Stays b.shown d.shown
+pub delivered_leads : (late : Bool) (b c d : BoardShown) (hand : List (Option Pass)) (k n : ℕ) (p : Pass) (hands : Hands b.shown k c.shown p) → KnowsWaits late b → (IsUpToDate b k → IsChoice b.shown k n hands.taken) → c.waits ≡ b.waits → IsCommitted late c p d → Stays b.shown d.shown
     → Leads late b d hand hand (Command.deliver k n) []
 delivered_leads late b c d hand k n p hands knows choice waits ends stays = record { stays = stays; led = led }
   where
-    led : (x : State) → ShowsState b x → HoldsAll x.world (length b.shown.sides) hand → Led late b d hand (Command.deliver k n) [] x
+    led : (x : State) → ShowsState b x → HoldsAll x.world (length b.shown.sides) hand → LeadsFrom late b d hand (Command.deliver k n) [] x
     led x shows holds =
         let goes = hands.goes.step x.world shows.world in
         let free = claim_free (net b.shown) x.world k hands.taken hands.by goes.0 in
@@ -139,54 +139,54 @@ delivered_leads late b c d hand k n p hands knows choice waits ends stays = reco
         }
 
 -- an event was taken and abandoned
-pub lost_leads : (late : Bool) (b c d : BoardShown) (hand : List (Option Pass)) (k n : ℕ) (p : Pass) (hands : Hands b.shown k c.shown p) → KnowsWaits late b → (IsUpToDate b k → IsChoice b.shown k n hands.taken) → c.waits ≡ b.waits → IsGivenUp c p d → Stays b.shown d.shown
-    → (command : Command) → ((x : State) → GivesUp (setting_of late b.shown) x k n hands.taken p.job.happening → Does (setting_of late b.shown) x command (after_giving_up (setting_of late b.shown) x hands.taken k p.job.happening) (refusal_line 39))
+pub abandoned_leads : (late : Bool) (b c d : BoardShown) (hand : List (Option Pass)) (k n : ℕ) (p : Pass) (hands : Hands b.shown k c.shown p) → KnowsWaits late b → (IsUpToDate b k → IsChoice b.shown k n hands.taken) → c.waits ≡ b.waits → IsAbandoned c p d → Stays b.shown d.shown
+    → (command : Command) → ((x : State) → Abandons (setting_of late b.shown) x k n hands.taken p.job.happening → Does (setting_of late b.shown) x command (after_abandoning (setting_of late b.shown) x hands.taken k p.job.happening) (refusal_line 39))
     → Leads late b d hand hand command (refusal_line 39)
-lost_leads late b c d hand k n p hands knows choice waits lost stays command does = record { stays = stays; led = led }
+abandoned_leads late b c d hand k n p hands knows choice waits abandoned stays command does = record { stays = stays; led = led }
   where
-    led : (x : State) → ShowsState b x → HoldsAll x.world (length b.shown.sides) hand → Led late b d hand command (refusal_line 39) x
+    led : (x : State) → ShowsState b x → HoldsAll x.world (length b.shown.sides) hand → LeadsFrom late b d hand command (refusal_line 39) x
     led x shows holds =
         let goes = hands.goes.step x.world shows.world in
         let free = claim_free (net b.shown) x.world k hands.taken hands.by goes.0 in
         let v = after_step (net b.shown) x.world hands.taken in
         let step_is : Step.abandon p.worker p.job.happening ≡ Step.abandon k p.job.happening = ap (λ (j : ℕ). Step.abandon j p.job.happening) hands.worker in
         let same = net_same b.shown c.shown hands.goes.graph hands.goes.workers in
-        let at_c = lost.goes.step v goes.1 in
+        let at_c = abandoned.goes.step v goes.1 in
         let allowed : Allowed (net b.shown) v (Step.abandon k p.job.happening) = subst (λ (y : Step). Allowed (net b.shown) v y) step_is (subst (λ (g : Network). Allowed g v (Step.abandon p.worker p.job.happening)) same at_c.0) in
         let u = after_step (net b.shown) v (Step.abandon k p.job.happening) in
         let shown : Shows d.shown u = subst (λ (y : Step). Shows d.shown (after_step (net b.shown) v y)) step_is (subst (λ (g : Network). Shows d.shown (after_step g v (Step.abandon p.worker p.job.happening))) same at_c.1) in
         let others : (j : ℕ) → j ≢ k → u.held j ≡ x.world.held j = λ j other. put_other v.held k (Held.holding true p.job.happening) j other ∙ claim_others (net b.shown) x.world k hands.taken hands.by j other in
         record {
           after = record { world = u; waits = x.waits };
-          shows = record { world = shown; waits = shows_same c d x.waits lost.goes.workers lost.waits (shows_same b c x.waits hands.goes.workers waits shows.waits) };
-          hand_after = hold_lost x.world u (length b.shown.sides) k hand p.job.happening holds free.1 (put_here v.held k (Held.holding true p.job.happening)) others;
+          shows = record { world = shown; waits = shows_same c d x.waits abandoned.goes.workers abandoned.waits (shows_same b c x.waits hands.goes.workers waits shows.waits) };
+          hand_after = hold_abandoned x.world u (length b.shown.sides) k hand p.job.happening holds free.1 (put_here v.held k (Held.holding true p.job.happening)) others;
           does = does x (record { takes = picks late b c.shown x k n p hands knows choice shows; allowed = allowed });
         }
 
 -- computing an event that was taken is refused: there is no memory, or a count would be too large
-pub lost_answers : (late : Bool) (b c d : BoardShown) (hand : List (Option Pass)) (k n : ℕ) (p : Pass) (e : Refusal) (hands : Hands b.shown k c.shown p) → KnowsWaits late b → (IsUpToDate b k → IsChoice b.shown k n hands.taken) → c.waits ≡ b.waits → IsGivenUp c p d → Stays b.shown d.shown
-    → (command : Command) → ((x : State) → GivesUp (setting_of late b.shown) x k n hands.taken p.job.happening → Does (setting_of late b.shown) x command (after_giving_up (setting_of late b.shown) x hands.taken k p.job.happening) (refusal_line 39))
+pub abandoned_answers : (late : Bool) (b c d : BoardShown) (hand : List (Option Pass)) (k n : ℕ) (p : Pass) (e : Refusal) (hands : Hands b.shown k c.shown p) → KnowsWaits late b → (IsUpToDate b k → IsChoice b.shown k n hands.taken) → c.waits ≡ b.waits → IsAbandoned c p d → Stays b.shown d.shown
+    → (command : Command) → ((x : State) → Abandons (setting_of late b.shown) x k n hands.taken p.job.happening → Does (setting_of late b.shown) x command (after_abandoning (setting_of late b.shown) x hands.taken k p.job.happening) (refusal_line 39))
     → (e ≡ refusal.NoMemory) ⊎ (e ≡ refusal.Step 39) → Answers late b d hand hand command {T = Unit {0}} (Err e)
-lost_answers late b c d hand k n p e hands knows choice waits lost stays command does (inl memory) = subst (λ (x : Refusal). Answers late b d hand hand command {T = Unit {0}} (Err x)) (sym memory) stays
-lost_answers late b c d hand k n p e hands knows choice waits lost stays command does (inr count) =
-    subst (λ (x : Refusal). Answers late b d hand hand command {T = Unit {0}} (Err x)) (sym count) (lost_leads late b c d hand k n p hands knows choice waits lost stays command does)
+abandoned_answers late b c d hand k n p e hands knows choice waits abandoned stays command does (inl memory) = subst (λ (x : Refusal). Answers late b d hand hand command {T = Unit {0}} (Err x)) (sym memory) stays
+abandoned_answers late b c d hand k n p e hands knows choice waits abandoned stays command does (inr count) =
+    subst (λ (x : Refusal). Answers late b d hand hand command {T = Unit {0}} (Err x)) (sym count) (abandoned_leads late b c d hand k n p hands knows choice waits abandoned stays command does)
 
 -- the code of a refused pick
 pub refused_pick : (late : Bool) (b : BoardShown) (k n : ℕ) (e : StepRefusal) → KnowsWaits late b → Refuses (IsUpToDate b k) b.shown k n e → (code : ℕ) → refusal_of e ≡ refusal.Step code → (x : State) → ShowsState b x → RefusesPick (setting_of late b.shown) x k n code
-refused_pick late b k n step.Stopped knows h code told x shows =
-    subst (RefusesPick (setting_of late b.shown) x k n) (let f : refusal.Step 37 ≡ refusal.Step code = told in let e : 37 ≡ code = cc in e) (RefusesPick.pick_stopped (shows.world.stopped ∙ h))
-refused_pick late b k n step.HoldsEvent knows h code told x shows =
-    subst (RefusesPick (setting_of late b.shown) x k n) (let f : refusal.Step 35 ≡ refusal.Step code = told in let e : 35 ≡ code = cc in e)
+refused_pick late b k n step.Stopped knows h code has_code x shows =
+    subst (RefusesPick (setting_of late b.shown) x k n) (let f : refusal.Step 37 ≡ refusal.Step code = has_code in let e : 37 ≡ code = cc in e) (RefusesPick.pick_stopped (shows.world.stopped ∙ h))
+refused_pick late b k n step.HoldsEvent knows h code has_code x shows =
+    subst (RefusesPick (setting_of late b.shown) x k n) (let f : refusal.Step 35 ≡ refusal.Step code = has_code in let e : 35 ≡ code = cc in e)
     (RefusesPick.holds_event (shows.world.stopped ∙ h.0) h.1 (λ free. h.2 (home_of (side_at b.shown k).place (sym (shows.world.held k h.1) ∙ free))))
-refused_pick late b k n step.NoSuchEvent knows h code told x shows =
-    subst (RefusesPick (setting_of late b.shown) x k n) (let f : refusal.Step 34 ≡ refusal.Step code = told in let e : 34 ≡ code = cc in e)
+refused_pick late b k n step.NoSuchEvent knows h code has_code x shows =
+    subst (RefusesPick (setting_of late b.shown) x k n) (let f : refusal.Step 34 ≡ refusal.Step code = has_code in let e : 34 ≡ code = cc in e)
     (RefusesPick.no_choice (shows.world.stopped ∙ h.0) (λ lt. shows.world.held k lt ∙ ap held_of (h.1 lt).0)
     (λ sees taken takes. (h.1 (claim_free (net b.shown) x.world k taken takes.claims takes.allowed).0).1 (up_to_date late b x k knows shows sees) x.world taken shows.world (takes.chosen sees)))
-refused_pick late b k n step.UnknownInput knows h code told x shows = absurd h
-refused_pick late b k n step.InputClosed knows h code told x shows = absurd h
-refused_pick late b k n step.WrongFieldCount knows h code told x shows = absurd h
-refused_pick late b k n step.LastEpoch knows h code told x shows = absurd h
-refused_pick late b k n step.NoMemory knows h code told x shows = absurd h
+refused_pick late b k n step.UnknownInput knows h code has_code x shows = absurd h
+refused_pick late b k n step.InputClosed knows h code has_code x shows = absurd h
+refused_pick late b k n step.WrongFieldCount knows h code has_code x shows = absurd h
+refused_pick late b k n step.LastEpoch knows h code has_code x shows = absurd h
+refused_pick late b k n step.NoMemory knows h code has_code x shows = absurd h
 
 -- ---- what stays
 
@@ -228,7 +228,7 @@ pub still_empty : (hand : List (Option Pass)) (k : ℕ) → in_hand hand k ≡ N
 still_empty hand k e = ap (λ x. slice_set hand k x) (sym e) ∙ set-get_or hand k None
 
 -- an event ends, or there is no memory
-pub end_answers : (late : Bool) (b c : BoardShown) (old new : List (Option Pass)) (command : Command) (r : Result (Unit {0}) Refusal) (p : Pass) (a : BoardShown) → OnOk r (Ends late a p c) → IfErr r (λ e. e ≡ refusal.NoMemory) → Stays b.shown c.shown → (Ends late a p c → Leads late b c old new command [])
+pub end_answers : (late : Bool) (b c : BoardShown) (old new : List (Option Pass)) (command : Command) (r : Result (Unit {0}) Refusal) (p : Pass) (a : BoardShown) → OnOk r (IsCommitted late a p c) → IfErr r (λ e. e ≡ refusal.NoMemory) → Stays b.shown c.shown → (IsCommitted late a p c → Leads late b c old new command [])
     → Answers late b c old new command r
 end_answers late b c old new command (Ok u) p a ends memory stays leads = leads ends
 end_answers late b c old new command (Err e) p a ends memory stays leads = subst (λ (x : Refusal). Answers late b c old new command {T = Unit {0}} (Err x)) (sym memory) stays

@@ -48,7 +48,8 @@ pub data RefusesInput (s : Setting) (w : World) (name : List ℕ) : (code : ℕ)
 -- of a feed: the same, then the fields make no record of the input
 pub data RefusesFeed (s : Setting) (w : World) (name : List ℕ) (fields : List ℤ) : (code : ℕ) → Type 0 where
   feed_input : (code : ℕ) → RefusesInput s w name code → RefusesFeed s w name fields code
-  misfit : (i arity : ℕ) → w.stopped ≡ false → IsInput s.inputs name i arity → w.closed i ≡ false → (MakeRecord arity fields → ⊥) → RefusesFeed s w name fields 33
+  misfit : (i arity : ℕ) → w.stopped ≡ false → IsInput s.inputs name i arity → w.closed i ≡ false
+      → (MakeRecord arity fields → ⊥) → RefusesFeed s w name fields 33
 
 -- of a seal: the same, then the open epoch is the last one
 pub data RefusesSeal (s : Setting) (w : World) (name : List ℕ) : (code : ℕ) → Type 0 where
@@ -70,7 +71,8 @@ pub record Takes (s : Setting) (x : State) (worker choice : ℕ) (taken : Step) 
 pub data RefusesPick (s : Setting) (x : State) (worker choice : ℕ) : (code : ℕ) → Type 0 where
   pick_stopped : x.world.stopped ≡ true → RefusesPick s x worker choice 37
   holds_event : x.world.stopped ≡ false → worker < s.workers → (x.world.held worker ≡ Held.nothing → ⊥) → RefusesPick s x worker choice 35
-  no_choice : x.world.stopped ≡ false → (worker < s.workers → x.world.held worker ≡ Held.nothing) → (SeesAllOf s x worker → (taken : Step) → Takes s x worker choice taken → ⊥) → RefusesPick s x worker choice 34
+  no_choice : x.world.stopped ≡ false → (worker < s.workers → x.world.held worker ≡ Held.nothing)
+      → (SeesAllOf s x worker → (taken : Step) → Takes s x worker choice taken → ⊥) → RefusesPick s x worker choice 34
 
 -- the worker doesn't exist, or holds no event, or one that was abandoned
 abbrev pub HasNothingHeld : Setting → World → (worker : ℕ) → Type 0
@@ -78,7 +80,7 @@ HasNothingHeld s w worker = (event : Event) → worker < s.workers → w.held wo
 
 -- The worker takes an event that it may take, and abandons it, which stops the engine: computing it was refused, since a count of what its shard
 -- would have absorbed, or of what it would send, would be above 9223372036854775807.
-pub record GivesUp (s : Setting) (x : State) (worker choice : ℕ) (taken : Step) (event : Event) : Type 0 where
+pub record Abandons (s : Setting) (x : State) (worker choice : ℕ) (taken : Step) (event : Event) : Type 0 where
   pub takes : Takes s x worker choice taken
   pub allowed : Allowed (net_of s) (after_step (net_of s) x.world taken) (Step.abandon worker event)
 
@@ -106,7 +108,7 @@ pub record KeepsPromise (s : Setting) (w : World) (output epoch : ℕ) (p : Prog
   pub whole : Passed (net_of s) w (output_number s.graph output) epoch → answer_of s w output epoch ≈ meant p w output epoch
 
 -- a line that says whether the epoch has passed at an output, and the answer there so far, one record a line, in order
-pub record TellsOutput (s : Setting) (x : State) (epoch output : ℕ) (label text : List ℕ) : Type 0 where
+pub record PrintsOutput (s : Setting) (x : State) (epoch output : ℕ) (label text : List ℕ) : Type 0 where
   pub word : List ℕ
   pub says : HasWord s x output epoch word
   pub rows : List Record
@@ -115,14 +117,15 @@ pub record TellsOutput (s : Setting) (x : State) (epoch output : ℕ) (label tex
   pub promise : (p : Program) → IsGraphOf s p → KeepsPromise s x.world output epoch p
 
 -- the same for each output of these names, from a place on
-abbrev pub TellsFrom : Setting → State → (epoch : ℕ) → (names : List Name) → (output : ℕ) → (text : List ℕ) → Type 0
-TellsFrom s x epoch [] output text = text ≡ []
-TellsFrom s x epoch (name ∷ names) output text =
-    (first rest : List ℕ) × TellsOutput s x epoch output (label_of (is_plain s.outputs) name) first × TellsFrom s x epoch names (output + 1) rest × (text ≡ first ++ rest)
+abbrev pub PrintsFrom : Setting → State → (epoch : ℕ) → (names : List Name) → (output : ℕ) → (text : List ℕ) → Type 0
+PrintsFrom s x epoch [] output text = text ≡ []
+PrintsFrom s x epoch (name ∷ names) output text =
+    (first rest : List ℕ) × PrintsOutput s x epoch output (label_of (is_plain s.outputs) name) first
+    × PrintsFrom s x epoch names (output + 1) rest × (text ≡ first ++ rest)
 
 -- the same for all outputs
-abbrev pub Tells : Setting → State → (epoch : ℕ) → (text : List ℕ) → Type 0
-Tells s x epoch text = TellsFrom s x epoch s.outputs 0 text
+abbrev pub PrintsAnswer : Setting → State → (epoch : ℕ) → (text : List ℕ) → Type 0
+PrintsAnswer s x epoch text = PrintsFrom s x epoch s.outputs 0 text
 
 -- ---- what a line does
 
@@ -143,8 +146,8 @@ abbrev pub after_taking : Setting → State → Step → State
 after_taking s x taken = record { world = after_step (net_of s) x.world taken; waits = x.waits }
 
 -- the state after an event was taken and abandoned
-abbrev pub after_giving_up : Setting → State → (taken : Step) → (worker : ℕ) → Event → State
-after_giving_up s x taken worker event = after_taking s (after_taking s x taken) (Step.abandon worker event)
+abbrev pub after_abandoning : Setting → State → (taken : Step) → (worker : ℕ) → Event → State
+after_abandoning s x taken worker event = after_taking s (after_taking s x taken) (Step.abandon worker event)
 
 -- no batch of the sender waits for the worker, or one of them doesn't exist
 abbrev pub HasNothingWaiting : Setting → State → (worker sender : ℕ) → Type 0
@@ -153,27 +156,38 @@ HasNothingWaiting s x worker sender = worker < s.workers → sender ≤ s.worker
 -- From the state x the command prints this text and leaves this state: the one after the engine's step that it names; or x itself; or the one after
 -- the event that it took is abandoned and the engine stopped; or one with one batch fewer waiting.
 pub data Does (s : Setting) (x : State) : Command → State → (text : List ℕ) → Type 0 where
-  does_feed : (name : List ℕ) (fields : List ℤ) (i : ℕ) (waits : Waits) → IsInput s.inputs name i (length fields) → IsRecord fields → Allowed (net_of s) x.world (Step.feed i (fields ∷ []))
-      → FeedPosts s x (record { world = after_step (net_of s) x.world (Step.feed i (fields ∷ [])); waits = waits }) → Does s x (Command.feed name fields) (record { world = after_step (net_of s) x.world (Step.feed i (fields ∷ [])); waits = waits }) []
-  feed_refused : (name : List ℕ) (fields : List ℤ) (code : ℕ) → RefusesFeed s x.world name fields code → Does s x (Command.feed name fields) x (refusal_line code)
-  does_seal : (name : List ℕ) (i arity : ℕ) → IsInput s.inputs name i arity → Allowed (net_of s) x.world (Step.seal i) → Does s x (Command.seal name) (after_posting s x (Step.seal i) s.workers) []
+  does_feed : (name : List ℕ) (fields : List ℤ) (i : ℕ) (waits : Waits) → IsInput s.inputs name i (length fields)
+      → IsRecord fields → Allowed (net_of s) x.world (Step.feed i (fields ∷ []))
+      → FeedPosts s x (record { world = after_step (net_of s) x.world (Step.feed i (fields ∷ [])); waits = waits })
+      → Does s x (Command.feed name fields) (record { world = after_step (net_of s) x.world (Step.feed i (fields ∷ [])); waits = waits }) []
+  feed_refused : (name : List ℕ) (fields : List ℤ) (code : ℕ) → RefusesFeed s x.world name fields code
+      → Does s x (Command.feed name fields) x (refusal_line code)
+  does_seal : (name : List ℕ) (i arity : ℕ) → IsInput s.inputs name i arity → Allowed (net_of s) x.world (Step.seal i)
+      → Does s x (Command.seal name) (after_posting s x (Step.seal i) s.workers) []
   seal_refused : (name : List ℕ) (code : ℕ) → RefusesSeal s x.world name code → Does s x (Command.seal name) x (refusal_line code)
-  does_close : (name : List ℕ) (i arity : ℕ) → IsInput s.inputs name i arity → Allowed (net_of s) x.world (Step.close i) → Does s x (Command.close name) (after_posting s x (Step.close i) s.workers) []
+  does_close : (name : List ℕ) (i arity : ℕ) → IsInput s.inputs name i arity → Allowed (net_of s) x.world (Step.close i)
+      → Does s x (Command.close name) (after_posting s x (Step.close i) s.workers) []
   close_refused : (name : List ℕ) (code : ℕ) → RefusesInput s x.world name code → Does s x (Command.close name) x (refusal_line code)
   does_take : (worker choice : ℕ) (taken : Step) → Takes s x worker choice taken → Does s x (Command.take worker choice) (after_taking s x taken) []
   take_refused : (worker choice code : ℕ) → RefusesPick s x worker choice code → Does s x (Command.take worker choice) x (refusal_line code)
-  take_over : (worker choice : ℕ) (taken : Step) (event : Event) → GivesUp s x worker choice taken event → Does s x (Command.take worker choice) (after_giving_up s x taken worker event) (refusal_line 39)
-  does_commit : (worker : ℕ) (event : Event) (out : ℕ → List Record) → Allowed (net_of s) x.world (Step.commit worker event out) → Does s x (Command.commit worker) (after_posting s x (Step.commit worker event out) worker) []
+  take_abandons : (worker choice : ℕ) (taken : Step) (event : Event) → Abandons s x worker choice taken event
+      → Does s x (Command.take worker choice) (after_abandoning s x taken worker event) (refusal_line 39)
+  does_commit : (worker : ℕ) (event : Event) (out : ℕ → List Record) → Allowed (net_of s) x.world (Step.commit worker event out)
+      → Does s x (Command.commit worker) (after_posting s x (Step.commit worker event out) worker) []
   commit_refused : (worker : ℕ) → HasNothingHeld s x.world worker → Does s x (Command.commit worker) x (refusal_line 36)
-  does_deliver : (worker choice : ℕ) (taken : Step) (event : Event) (out : ℕ → List Record) → Takes s x worker choice taken → Allowed (net_of s) (after_step (net_of s) x.world taken) (Step.commit worker event out)
+  does_deliver : (worker choice : ℕ) (taken : Step) (event : Event) (out : ℕ → List Record) → Takes s x worker choice taken
+      → Allowed (net_of s) (after_step (net_of s) x.world taken) (Step.commit worker event out)
       → Does s x (Command.deliver worker choice) (after_posting s (after_taking s x taken) (Step.commit worker event out) worker) []
   deliver_refused : (worker choice code : ℕ) → RefusesPick s x worker choice code → Does s x (Command.deliver worker choice) x (refusal_line code)
-  deliver_over : (worker choice : ℕ) (taken : Step) (event : Event) → GivesUp s x worker choice taken event → Does s x (Command.deliver worker choice) (after_giving_up s x taken worker event) (refusal_line 39)
-  does_print : (epoch : ℕ) (text : List ℕ) → Tells s x epoch text → Does s x (Command.print epoch) x text
-  does_apply : (worker sender rest : ℕ) → worker < s.workers → sender ≤ s.workers → x.waits worker sender ≡ suc rest → Does s x (Command.apply worker sender) (record { world = x.world; waits = waiting_now x.waits worker sender rest }) []
+  deliver_abandons : (worker choice : ℕ) (taken : Step) (event : Event) → Abandons s x worker choice taken event
+      → Does s x (Command.deliver worker choice) (after_abandoning s x taken worker event) (refusal_line 39)
+  does_print : (epoch : ℕ) (text : List ℕ) → PrintsAnswer s x epoch text → Does s x (Command.print epoch) x text
+  does_apply : (worker sender rest : ℕ) → worker < s.workers → sender ≤ s.workers → x.waits worker sender ≡ suc rest
+      → Does s x (Command.apply worker sender) (record { world = x.world; waits = waiting_now x.waits worker sender rest }) []
   apply_refused : (worker sender : ℕ) → HasNothingWaiting s x worker sender → Does s x (Command.apply worker sender) x (refusal_line 40)
 
 -- the commands lead from the state x, one after another, and print this text
 pub data Replays (s : Setting) (x : State) : List Command → State → (text : List ℕ) → Type 0 where
   replays_nothing : Replays s x [] x []
-  replays_more : (commands : List Command) (command : Command) (y z : State) (before text : List ℕ) → Replays s x commands y before → Does s y command z text → Replays s x (commands ++ command ∷ []) z (before ++ text)
+  replays_more : (commands : List Command) (command : Command) (y z : State) (before text : List ℕ) → Replays s x commands y before
+      → Does s y command z text → Replays s x (commands ++ command ∷ []) z (before ++ text)

@@ -29,13 +29,13 @@ word_of true = codes " passed"
 word_of false = codes " open"
 
 -- a code gives the refusal; lack of memory has none
-abbrev pub told_by : Option ℕ → Refusal
-told_by (Some code) = refusal.Step code
-told_by None = refusal.NoMemory
+abbrev pub refusal_by : Option ℕ → Refusal
+refusal_by (Some code) = refusal.Step code
+refusal_by None = refusal.NoMemory
 
 -- the refusal of a line for a refusal of the board
 abbrev pub refusal_of : StepRefusal → Refusal
-refusal_of r = told_by (refusal_code r)
+refusal_of r = refusal_by (refusal_code r)
 
 -- the setting of a graph's schedule
 abbrev pub setting_on : ViewKind → GraphValue → (workers : ℕ) → Setting
@@ -72,7 +72,7 @@ pub record Stays (s t : Shown) : Type 0 where
   pub tables : tables t ≡ tables s
 
 -- from the state x the command leads to a state that the board shows then, and in hand is exactly what its workers hold
-pub record Led (late : Bool) (b c : BoardShown) (hand : List (Option Pass)) (command : Command) (text : List ℕ) (x : State) : Type 0 where
+pub record LeadsFrom (late : Bool) (b c : BoardShown) (hand : List (Option Pass)) (command : Command) (text : List ℕ) (x : State) : Type 0 where
   pub after : State
   pub shows : ShowsState c after
   pub hand_after : HoldsAll after.world (length b.shown.sides) hand
@@ -81,7 +81,7 @@ pub record Led (late : Bool) (b c : BoardShown) (hand : List (Option Pass)) (com
 -- the same from any state that the board showed
 pub record Leads (late : Bool) (b c : BoardShown) (old new : List (Option Pass)) (command : Command) (text : List ℕ) : Type 0 where
   pub stays : Stays b.shown c.shown
-  pub led : (x : State) → ShowsState b x → HoldsAll x.world (length b.shown.sides) old → Led late b c new command text x
+  pub led : (x : State) → ShowsState b x → HoldsAll x.world (length b.shown.sides) old → LeadsFrom late b c new command text x
 
 -- the command is done, or refused with its line
 abbrev pub Answers : (late : Bool) → BoardShown → BoardShown → (old new : List (Option Pass)) → Command → {T : Type 0} → Result T Refusal → Type 0
@@ -101,7 +101,7 @@ IsStep (Command.print epoch) = ⊥
 IsStep (Command.apply worker sender) = Unit {0}
 
 -- the event was out on the board; a commit ended it and posted its changes
-pub record Ends (late : Bool) (b : BoardShown) (p : Pass) (c : BoardShown) : Type 0 where
+pub record IsCommitted (late : Bool) (b : BoardShown) (p : Pass) (c : BoardShown) : Type 0 where
   pub holds : Holds b.shown p
   pub out : ℕ → List Record
   pub goes : Goes b.shown (Step.commit p.worker p.job.happening out) c.shown
@@ -109,7 +109,7 @@ pub record Ends (late : Bool) (b : BoardShown) (p : Pass) (c : BoardShown) : Typ
   pub stays : Stays b.shown c.shown
 
 -- the event was out on the board; it was abandoned, which stopped the board and posted nothing
-pub record IsGivenUp (b : BoardShown) (p : Pass) (c : BoardShown) : Type 0 where
+pub record IsAbandoned (b : BoardShown) (p : Pass) (c : BoardShown) : Type 0 where
   pub holds : Holds b.shown p
   pub goes : Goes b.shown (Step.abandon p.worker p.job.happening) c.shown
   pub waits : c.waits ≡ b.waits

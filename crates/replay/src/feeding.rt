@@ -7,7 +7,7 @@ ghost use Rattle.events.specs.Jobs.{Pass};
 ghost use Rattle.schedule.specs.Commands.{Command};
 ghost use Rattle.replay.specs.Steps.{Answers, AreInputsOf, IsNumbered};
 
-use crate::refusal::{Refusal, refused};
+use crate::refusal::{Refusal, line_refusal};
 use board::{Board, StepRefusal};
 use collector::{Declared, find_input};
 use record_core::Record;
@@ -16,7 +16,7 @@ use std::alloc::{AllocError, Global};
 use views::Views;
 
 /// The number of an input and its arity. A name that no input has gets the greatest number.
-fn numbered(inputs: &[Declared<'_>], name: &[u8]) -> (u32, u64)
+fn input_number(inputs: &[Declared<'_>], name: &[u8]) -> (u32, u64)
     requires few { length inputs.now ≤ 4096 }
     ensures { IsNumbered (map plain inputs.now) name.now result }
 {
@@ -59,10 +59,10 @@ pub fn feed<V: Views>(
     requires inputs { AreInputsOf board.old.shown.graph (map plain inputs.now) }
     ensures { (hand : List (Option Pass)) → Answers V.late board.old board.new hand hand (Command.feed name.now fields.now) result }
 {
-    let (input, arity) = numbered(inputs, name);
+    let (input, arity) = input_number(inputs, name);
     board.law_inputs();
     if let Some(refusal) = board.input_refusal(input) {
-        return Err(refused(refusal));
+        return Err(line_refusal(refusal));
     }
     let Some(row) = record_of(fields, arity) else {
         return Err(Refusal::Step { code: 33 });
@@ -72,7 +72,7 @@ pub fn feed<V: Views>(
     };
     match board.feed(alloc, input, batch) {
         Ok(()) => Ok(()),
-        Err(refusal) => Err(refused(refusal)),
+        Err(refusal) => Err(line_refusal(refusal)),
     }
 }
 
@@ -85,11 +85,11 @@ pub fn seal<V: Views>(
     requires inputs { AreInputsOf board.old.shown.graph (map plain inputs.now) }
     ensures { (hand : List (Option Pass)) → Answers V.late board.old board.new hand hand (Command.seal name.now) result }
 {
-    let (input, _) = numbered(inputs, name);
+    let (input, _) = input_number(inputs, name);
     board.law_inputs();
     match board.seal(input) {
         Ok(()) => Ok(()),
-        Err(refusal) => Err(refused(refusal)),
+        Err(refusal) => Err(line_refusal(refusal)),
     }
 }
 
@@ -102,10 +102,10 @@ pub fn close<V: Views>(
     requires inputs { AreInputsOf board.old.shown.graph (map plain inputs.now) }
     ensures { (hand : List (Option Pass)) → Answers V.late board.old board.new hand hand (Command.close name.now) result }
 {
-    let (input, _) = numbered(inputs, name);
+    let (input, _) = input_number(inputs, name);
     board.law_inputs();
     match board.close(input) {
         Ok(()) => Ok(()),
-        Err(refusal) => Err(refused(refusal)),
+        Err(refusal) => Err(line_refusal(refusal)),
     }
 }

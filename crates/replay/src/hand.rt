@@ -23,7 +23,7 @@ pub fn empty_hand(alloc: Global, workers: u32) -> Result<Vec<Option<Done>>, Allo
 }
 
 /// Abandons everything in hand.
-pub fn give_up<V: Views>(board: &mut Board<V>, hand: Vec<Option<Done>>)
+pub fn abandon_hand<V: Views>(board: &mut Board<V>, hand: Vec<Option<Done>>)
     requires { (k : ℕ) (p : Pass) → in_hand hand.items k ≡ Some p → IsOf board.old.shown p }
 {
     let mut rest = hand;

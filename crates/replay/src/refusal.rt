@@ -24,7 +24,7 @@ pub const COUNT_TOO_LARGE: u8 = 39;
 pub const NOTHING_WAITS: u8 = 40;
 
 /// The refusal of a line for a refusal of the board.
-pub fn refused(refusal: StepRefusal) -> Refusal
+pub fn line_refusal(refusal: StepRefusal) -> Refusal
     ensures { result ≡ refusal_of refusal }
 {
     match refusal {

@@ -1,6 +1,7 @@
 //! Runs a schedule.
 
-ghost use Rattle.std.specs.Prelude.{◌≡◌, ◌++◌, ℕ, List, map, length, IfOk, OnOk};
+ghost use Rattle.std.specs.Prelude.{◌≡◌, map, length, IfOk, OnOk};
+ghost use Rattle.collector.specs.OutputText.{AppendsText};
 ghost use Rattle.collector.specs.Said.{plain};
 ghost use Rattle.schedule.specs.Said.{command_of};
 ghost use Rattle.replay.specs.Hands.{HoldsAll, HoldsNone, IsHand};
@@ -10,7 +11,7 @@ ghost use Rattle.replay.specs.Waits.{State};
 
 use crate::answer::{push_answer, push_refusal};
 use crate::feeding::{close, feed, seal};
-use crate::hand::{empty_hand, give_up};
+use crate::hand::{abandon_hand, empty_hand};
 use crate::refusal::Refusal;
 use crate::working::{apply, commit, deliver, take};
 use board::Board;
@@ -59,7 +60,7 @@ fn replay_line<V: Views>(
     requires hand { IsHand board.old.shown hand.old }
     ensures hand { IsHand board.new.shown hand.new }
     ensures graph { board.new.shown.graph ≡ board.old.shown.graph }
-    ensures line { OnOk result ((text : List ℕ) × (out.new.items ≡ out.old.items ++ text) × Leads V.late board.old board.new hand.old hand.new (command_of line.now) text) }
+    ensures line { OnOk result (AppendsText out.old.items out.new.items (Leads V.late board.old board.new hand.old hand.new (command_of line.now))) }
 {
     if let Line::Print { epoch } = line {
         push_answer(alloc, board, *epoch, out)?;
@@ -83,7 +84,8 @@ fn replay_lines<V: Views>(
     requires inputs { AreInputsOf board.old.shown.graph (map plain inputs.now) }
     requires hand { IsHand board.old.shown hand.old }
     ensures hand { IsHand board.new.shown hand.new }
-    ensures replays { IfOk result (λ text. (x : State) → ShowsState board.old x → HoldsAll x.world (length board.old.shown.sides) hand.old → (y : State) × Replays (setting_of V.late board.old.shown) x (map command_of lines.now) y text.items) }
+    ensures replays { IfOk result (λ text. (x : State) → ShowsState board.old x → HoldsAll x.world (length board.old.shown.sides) hand.old →
+        (y : State) × Replays (setting_of V.late board.old.shown) x (map command_of lines.now) y text.items) }
 {
     let mut out = Vec::new(alloc);
     for line in lines {
@@ -105,11 +107,12 @@ pub fn replay<V: Views>(
     lines: &[Line<'_>],
 ) -> Result<Vec<u8>, AllocError>
     requires inputs { AreInputsOf board.shown.graph (map plain inputs.now) }
-    ensures { IfOk result (λ text. (x : State) → ShowsState board x → HoldsNone x.world (length board.shown.sides) → (y : State) × Replays (setting_of V.late board.shown) x (map command_of lines.now) y text.items) }
+    ensures { IfOk result (λ text. (x : State) → ShowsState board x → HoldsNone x.world (length board.shown.sides) →
+        (y : State) × Replays (setting_of V.late board.shown) x (map command_of lines.now) y text.items) }
 {
     let mut board = board;
     let mut hand = empty_hand(alloc, board.workers())?;
     let answer = replay_lines(alloc, &mut board, hand.as_mut_slice(), inputs, lines);
-    give_up(&mut board, hand);
+    abandon_hand(&mut board, hand);
     answer
 }

@@ -34,7 +34,10 @@ pub fn law_graph_inputs(graph: &Graph)
 }
 
 /// The inputs of a graph, as the readers of texts need them.
-fn declared<'a>(alloc: Global, inputs: &'a [DeclaredInput]) -> Result<Vec<Declared<'a>>, AllocError>
+fn inputs_of<'a>(
+    alloc: Global,
+    inputs: &'a [DeclaredInput],
+) -> Result<Vec<Declared<'a>>, AllocError>
     ensures { IfOk result (λ v. map plain v.items ≡ map input_of inputs.entry.now) }
 {
     let mut declared = Vec::with_capacity(alloc, inputs.len())?;
@@ -87,7 +90,7 @@ pub fn replay_text(
     let graph = Arc::new(alloc, graph)?;
     law_graph_inputs(&graph);
     let shared = Arc::try_clone(&graph)?;
-    let inputs = declared(alloc, graph.inputs())?;
+    let inputs = inputs_of(alloc, graph.inputs())?;
     match kind {
         ViewKind::Shared => match Board::<Direct<LocationTracker>>::new(alloc, shared, workers) {
             Ok(board) => replay_new(alloc, board, inputs.as_slice(), lines.as_slice()),

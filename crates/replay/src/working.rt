@@ -5,22 +5,22 @@ ghost use Rattle.events.specs.Jobs.{Pass};
 ghost use Rattle.board.specs.Commits.{IsOf};
 ghost use Rattle.schedule.specs.Commands.{Command};
 ghost use Rattle.replay.specs.Hands.{IsHand, in_hand};
-ghost use Rattle.replay.specs.Steps.{Answers, Ends, IsGivenUp, Stays};
+ghost use Rattle.replay.specs.Steps.{Answers, IsCommitted, IsAbandoned, Stays};
 ghost use Rattle.replay.specs.declared.refusal.Refusal.TheVariants as refusal;
 
-use crate::refusal::{COUNT_TOO_LARGE, NOTHING_HELD, NOTHING_WAITS, Refusal, refused};
+use crate::refusal::{COUNT_TOO_LARGE, NOTHING_HELD, NOTHING_WAITS, Refusal, line_refusal};
 use board::{Board, CommitRefusal};
 use events::{ComputeFault, Done, Work};
 use std::alloc::Global;
 use views::Views;
 
 /// Computes an event that was taken. If that is refused, for lack of memory or a count that is too large, abandons the event, which stops the board.
-fn computed<V: Views>(alloc: Global, board: &mut Board<V>, work: Work) -> Result<Done, Refusal>
+fn compute<V: Views>(alloc: Global, board: &mut Board<V>, work: Work) -> Result<Done, Refusal>
     requires own { IsOf board.old.shown work.0 }
     ensures done { IfOk result (λ d. d ≡ work.0) }
     ensures kept { OnOk result (board.new ≡ board.old) }
     ensures stays { Stays board.old.shown board.new.shown }
-    ensures given_up { OnErr result (IsGivenUp board.old work.0 board.new) }
+    ensures abandoned { OnErr result (IsAbandoned board.old work.0 board.new) }
     ensures refused { IfErr result (λ e. (e ≡ refusal.NoMemory) ⊎ (e ≡ refusal.Step 39)) }
 {
     match work.compute(alloc) {
@@ -38,9 +38,9 @@ fn computed<V: Views>(alloc: Global, board: &mut Board<V>, work: Work) -> Result
 }
 
 /// Ends a computed event; without memory, abandons it, which stops the board.
-fn ended<V: Views>(board: &mut Board<V>, done: Done) -> Result<(), Refusal>
+fn end<V: Views>(board: &mut Board<V>, done: Done) -> Result<(), Refusal>
     requires own { IsOf board.old.shown done }
-    ensures ends { OnOk result (Ends V.late board.old done board.new) }
+    ensures ends { OnOk result (IsCommitted V.late board.old done board.new) }
     ensures stays { Stays board.old.shown board.new.shown }
     ensures memory { IfErr result (λ e. e ≡ refusal.NoMemory) }
 {
@@ -83,9 +83,9 @@ pub fn take<V: Views>(
     board.law_waits();
     let work = match board.pick(worker, choice as u64) {
         Ok(work) => work,
-        Err(refusal) => return Err(refused(refusal)),
+        Err(refusal) => return Err(line_refusal(refusal)),
     };
-    let done = match computed(alloc, board, work) {
+    let done = match compute(alloc, board, work) {
         Ok(done) => done,
         Err(refusal) => return Err(refusal),
     };
@@ -109,7 +109,7 @@ pub fn commit<V: Views>(
     }
     match hand[place].take() {
         None => Err(Refusal::Step { code: NOTHING_HELD }),
-        Some(done) => ended(board, done),
+        Some(done) => end(board, done),
     }
 }
 
@@ -126,13 +126,13 @@ pub fn deliver<V: Views>(
     board.law_waits();
     let work = match board.pick(worker, choice as u64) {
         Ok(work) => work,
-        Err(refusal) => return Err(refused(refusal)),
+        Err(refusal) => return Err(line_refusal(refusal)),
     };
-    let done = match computed(alloc, board, work) {
+    let done = match compute(alloc, board, work) {
         Ok(done) => done,
         Err(refusal) => return Err(refusal),
     };
-    ended(board, done)
+    end(board, done)
 }
 
 /// The worker applies the next batch of changes that the sender posted.

@@ -1,14 +1,12 @@
 -- The words after a verb's letter.
-use Rattle.std.proofs.Common.{◌≡◌, ◌≢◌, ◌<◌, ◌≤◌, ◌^◌, ◌∙◌, ℕ, ℤ, List, [], ◌∷◌, length, map, refl, sym, ap, subst, arith}
-use Rattle.std.specs.Prelude.{FitsSigned, decimal, Option, Some, None, ◌==◌}
+use Rattle.std.proofs.Common.{◌≡◌, ◌<◌, ◌^◌, ℕ, ℤ, List, [], ◌∷◌, length, map, refl, sym, ap, subst, arith}
+use Rattle.std.specs.Prelude.{FitsSigned, decimal, ◌==◌}
 use Rattle.std.specs.Int.{w64}
 use Rattle.std.specs.Fmt.{signed_decimal}
 use Rattle.std.specs.List.{AllByRecursion}
-use Rattle.std.specs.Borrow.{Bor}
 use Rattle.std.proofs.lemmas.List.Splits.{length-slice_split}
 use Rattle.collector.specs.Pieces.{split_on}
 use Rattle.collector.specs.Lines.{AreNumbers, IsFilled, IsWord}
-use Rattle.collector.specs.Said.{words_of}
 use Rattle.schedule.specs.ScheduleText.{AreCounts, AreFilled, HasBadField, HasName}
 
 -- a text has a first word

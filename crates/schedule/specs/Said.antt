@@ -1,5 +1,5 @@
 -- What the reader of a line answers.
-use Rattle.std.specs.Prelude.{◌≡◌, ◌∷◌, ℕ, List, [], decimal, map, Option, Some, None, Result, Ok, Err}
+use Rattle.std.specs.Prelude.{◌≡◌, ◌∷◌, ℕ, List, [], decimal, Option, Some, None, Result, Ok, Err}
 use Rattle.std.specs.Borrow.{Bor}
 use Rattle.collector.specs.Lines.{IsWord}
 use Rattle.schedule.specs.Commands.{Command, IsProper, arguments, verb_of}

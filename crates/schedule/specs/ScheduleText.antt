@@ -97,5 +97,7 @@ pub record IsScheduleText (kind : ViewKind) (text : List ℕ) (commands : List C
 -- feed.
 abbrev pub IsRefused : ViewKind → List ℕ → ScheduleRefusal → Type 0
 IsRefused kind text NoMemory = Unit {0}
-IsRefused kind text (At code number) = (before : List (List ℕ)) × (commands : List Command) × SayAll kind before commands × (number ≡ length before + 1) × (line : List ℕ) × (rest : List (List ℕ)) × (split_on 10 text ≡ before ++ line ∷ rest)
+IsRefused kind text (At code number) =
+    (before : List (List ℕ)) × (commands : List Command) × SayAll kind before commands × (number ≡ length before + 1)
+    × (line : List ℕ) × (rest : List (List ℕ)) × (split_on 10 text ≡ before ++ line ∷ rest)
     × (((code ≡ 43) × (0 < length line) × (rest ≡ [])) ⊎ ((fault : Fault) × (code ≡ code_of fault) × (0 < length rest) × IsFault kind line fault))

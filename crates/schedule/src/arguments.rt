@@ -1,7 +1,6 @@
 //! Reads the words after a verb's letter.
 
-ghost use Rattle.std.specs.Prelude.{◌≡◌, ◌≢◌, ◌<◌, ◌^◌, ℕ, List, [], ◌∷◌, decimal, IfSome, IfNone, IfOk, IfErr};
-ghost use Rattle.collector.specs.Lines.{IsFilled};
+ghost use Rattle.std.specs.Prelude.{◌≡◌, ◌≢◌, ◌<◌, ◌^◌, ℕ, List, [], ◌∷◌, decimal, IfSome, IfNone};
 ghost use Rattle.collector.specs.Said.{words_of};
 ghost use Rattle.schedule.specs.Said.{ArgumentsEnd, CountEnds, CountsEnd, NameEnds};
 ghost use Rattle.schedule.specs.declared.refusal.Fault.TheVariants.{BadNumber};

@@ -38,7 +38,7 @@ fn view_verb(kind: ViewKind) -> Option<Verb>
     }
 }
 
-/// The verb that a first word stands for; `None` if it isn't a verb's letter. The verb about views counts only if each worker has its own.
+/// The verb that a first word names; `None` if it isn't a verb's letter. The verb about views counts only if each worker has its own.
 pub fn verb_of(kind: ViewKind, word: &[u8]) -> Option<Verb>
     ensures found { IfSome result (λ verb. IsKnown kind verb × (word.now ≡ letter verb ∷ [])) }
     ensures none { IfNone result ((verb : Verb) → IsKnown kind verb → word.now ≢ letter verb ∷ []) }

@@ -9,30 +9,30 @@ use Rattle.semantics.specs.Typing.{WellTyped}
 use Rattle.record_core.specs.declared.span.Refusal.{Refusal}
 use Rattle.record_core.specs.declared.span.Refusal.TheVariants.{At, NoMemory}
 use Rattle.typing.specs.Fault.{Fault, fault}
-use Rattle.typing.specs.FirstFault.{FirstFault, Told}
+use Rattle.typing.specs.FirstFault.{FirstFault, HasFirstFault}
 use Rattle.typing.specs.Verdict.{program_verdict, Says}
-use Rattle.typing.proofs.Programs.{program_typed_told, program_told_typed, program_fault_told, program_told_fault}
+use Rattle.typing.proofs.Programs.{program_typed_checked, program_checked_typed, program_fault_checked, program_checked_fault}
 
 pub decided : (p : ProgramTree) → ((ns : List ℕ) × WellTyped (plain_program p) ns) ⊎ ((f : Fault) × FirstFault p f)
 decided p = go (program_verdict p) refl
   where
     go : (v : Result (List ℕ) Fault) → program_verdict p ≡ v → ((ns : List ℕ) × WellTyped (plain_program p) ns) ⊎ ((f : Fault) × FirstFault p f)
-    go (Ok ns) e = inl (ns, program_told_typed p ns e)
-    go (Err f) e = inr (f, program_told_fault p f e)
+    go (Ok ns) e = inl (ns, program_checked_typed p ns e)
+    go (Err f) e = inr (f, program_checked_fault p f e)
 
 pub apart : (p : ProgramTree) (ns : List ℕ) (f : Fault) → WellTyped (plain_program p) ns → FirstFault p f → ⊥
-apart p ns f h k = let a = sym (program_typed_told p ns h) ∙ program_fault_told k in cc
+apart p ns f h k = let a = sym (program_typed_checked p ns h) ∙ program_fault_checked k in cc
 
 pub one_fault : (p : ProgramTree) (f g : Fault) → FirstFault p f → FirstFault p g → f ≡ g
-one_fault p f g h k = let a = sym (program_fault_told h) ∙ program_fault_told k in cc
+one_fault p f g h k = let a = sym (program_fault_checked h) ∙ program_fault_checked k in cc
 
 pub same_arities : (p : ProgramTree) (ms ns : List ℕ) → WellTyped (plain_program p) ms → WellTyped (plain_program p) ns → ms ≡ ns
-same_arities p ms ns h k = let a = sym (program_typed_told p ms h) ∙ program_typed_told p ns k in cc
+same_arities p ms ns h k = let a = sym (program_typed_checked p ms h) ∙ program_typed_checked p ns k in cc
 
--- a refusal that the checks say is told of the program
-pub says_told : (p : ProgramTree) (e : Refusal) → Says e (program_verdict p) → Told p e
-says_told p (At c s) h = program_told_fault p (fault c s) h
-says_told p NoMemory h = tt
+-- the checks refuse the program as they say
+pub says_first_fault : (p : ProgramTree) (e : Refusal) → Says e (program_verdict p) → HasFirstFault p e
+says_first_fault p (At c s) h = program_checked_fault p (fault c s) h
+says_first_fault p NoMemory h = tt
 
 -- an outcome as a list: empty for a fault
 outcome : Result (List ℕ) Fault → List ℕ
@@ -51,6 +51,6 @@ outcome_of v ns e = ap outcome e
 -- what is known to be well typed is so by the checks
 pub well_typed : (p : ProgramTree) (ns : List ℕ) → ∥ WellTyped (plain_program p) ns ∥₁ → WellTyped (plain_program p) ns
 well_typed p ns h =
-    program_told_typed p ns
+    program_checked_typed p ns
     (outcome_ok (program_verdict p) ns
-    (∥∥₁_elim h (is_set ℕ_set (outcome (program_verdict p)) (0 ∷ ns)) (λ k. outcome_of (program_verdict p) ns (program_typed_told p ns k))))
+    (∥∥₁_elim h (is_set ℕ_set (outcome (program_verdict p)) (0 ∷ ns)) (λ k. outcome_of (program_verdict p) ns (program_typed_checked p ns k))))

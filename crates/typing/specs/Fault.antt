@@ -1,4 +1,4 @@
--- What a refusal tells.
+-- What a refusal says.
 use Rattle.std.specs.Prelude.{ℕ}
 use Rattle.record_core.specs.declared.span.Span.{Span}
 use Rattle.expr_tree.specs.Trees.{RelTree}

@@ -3,7 +3,7 @@
 //! `check` takes a program and gives it back typed, or whole with the first of its faults in the order of the checks: the
 //! inputs, the lets, the outputs, each relation from its parts to itself.
 //!
-//! The contract for the layers above: a `Typed` is well typed, with the arities that it shows. Below stand `expr_tree`, whose
+//! The contract for the layers above: a `Typed` is well typed, with the arities that it shows. It uses `expr_tree`, whose
 //! trees are checked, `semantics`, which says what is well typed, `record_core`, `arrayvec` and `indexmap`; the normaliser and
 //! lowering take a `Typed`.
 #![tactic(auto)]

@@ -2,7 +2,7 @@
 
 ghost use Rattle.std.specs.Prelude.{◌≡◌, [], map, Ok, IfOk, IfErr, OnOk};
 ghost use Rattle.expr_tree.specs.Views.{let_tree, output_tree, program_tree};
-ghost use Rattle.typing.specs.FirstFault.{Told};
+ghost use Rattle.typing.specs.FirstFault.{HasFirstFault};
 ghost use Rattle.typing.specs.Shown.{typed_program};
 ghost use Rattle.typing.specs.Verdict.{arities_of, input_verdict, let_verdict, output_verdict, outputs_verdict, each, program_verdict, Says};
 
@@ -149,7 +149,7 @@ pub fn check<A: Allocator>(
     program: Program<A>,
 ) -> Result<Typed<A>, (Program<A>, Refusal)>
     ensures typed { IfOk result (λ t. typed_program t ≡ program_tree program) }
-    ensures fault { IfErr result (λ e. Told (program_tree program) e.1) }
+    ensures fault { IfErr result (λ e. HasFirstFault (program_tree program) e.1) }
     ensures whole { IfErr result (λ e. e.0 ≡ program) }
 {
     match checked_arities(alloc, &program) {

@@ -8,7 +8,7 @@ ghost use Rattle.semantics.specs.Limits.{max_fields, max_loops, max_turns};
 ghost use Rattle.semantics.specs.Typing.{entry, lookup};
 ghost use Rattle.typing.specs.Fault.{Fault, fault, span_of};
 ghost use Rattle.typing.specs.declared.refusals.TheConstants.{NAME_TAKEN, NO_SUCH_COLUMN};
-ghost use Rattle.typing.specs.Verdict.{Says, Tells, sized, unless_taken, verdict, within_limits};
+ghost use Rattle.typing.specs.Verdict.{Says, IsVerdict, sized, unless_taken, verdict, within_limits};
 
 use crate::arities::Arities;
 use crate::columns::{in_aggs, in_cond, in_keys, in_pairs, in_scalars};
@@ -24,7 +24,7 @@ use std::alloc::Allocator;
 
 /// Refused where a column is beyond the fields of a relation, which has that many.
 fn within(names: &mut Names, beyond: Option<Span>, arity: u64) -> Result<(), Refusal>
-    ensures told { MatchOption beyond (result ≡ Ok tt) (λ span. result ≡ Err (At NO_SUCH_COLUMN span)) }
+    ensures verdict { MatchOption beyond (result ≡ Ok tt) (λ span. result ≡ Err (At NO_SUCH_COLUMN span)) }
     ensures names { names.new ≡ names.old }
 {
     match beyond {
@@ -47,7 +47,7 @@ fn side_of(pairs: &[Pair], beyond: Option<Span>, left: u64, right: u64) -> u64 {
 
 /// The arity of a form that has these two numbers of fields.
 fn form_arity(names: &mut Names, span: Span, fields: usize, more: usize) -> Result<u64, Refusal>
-    ensures told { Tells result (sized span (fields + more)) }
+    ensures verdict { IsVerdict result (sized span (fields + more)) }
     ensures small { IfOk result (λ n. n ≤ max_fields) }
     ensures names { names.new ≡ names.old }
 {
@@ -60,7 +60,7 @@ fn form_arity(names: &mut Names, span: Span, fields: usize, more: usize) -> Resu
     }
 }
 
-/// Whether a loop may have so many turns.
+/// Whether a loop may have that many turns.
 fn may_turn(turns: u64) -> bool
     ensures { result ≡ nat_le turns max_turns }
 {
@@ -139,7 +139,7 @@ pub(crate) fn arity_of<A: Allocator>(
     depth: u32,
 ) -> Result<u64, Refusal>
     requires { depth ≤ max_loops }
-    ensures told { Tells result (verdict (rel_tree relation.now) names.old depth) }
+    ensures verdict { IsVerdict result (verdict (rel_tree relation.now) names.old depth) }
     ensures small { IfOk result (λ n. n ≤ max_fields) }
     ensures names { OnOk result (names.new ≡ names.old) }
 {
@@ -194,7 +194,7 @@ fn select_arity<A: Allocator>(
     depth: u32,
 ) -> Result<u64, Refusal>
     requires { depth ≤ max_loops }
-    ensures told { Tells result (verdict (RelTree.select span (rel_tree of.now) (map scalar_tree scalars.now)) names.old depth) }
+    ensures verdict { IsVerdict result (verdict (RelTree.select span (rel_tree of.now) (map scalar_tree scalars.now)) names.old depth) }
     ensures small { IfOk result (λ n. n ≤ max_fields) }
     ensures names { OnOk result (names.new ≡ names.old) }
 {
@@ -214,7 +214,7 @@ fn group_arity<A: Allocator>(
     depth: u32,
 ) -> Result<u64, Refusal>
     requires { depth ≤ max_loops }
-    ensures told { Tells result (verdict (RelTree.group span (rel_tree of.now) keys.now aggs.now) names.old depth) }
+    ensures verdict { IsVerdict result (verdict (RelTree.group span (rel_tree of.now) keys.now aggs.now) names.old depth) }
     ensures small { IfOk result (λ n. n ≤ max_fields) }
     ensures names { OnOk result (names.new ≡ names.old) }
 {

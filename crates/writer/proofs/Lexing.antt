@@ -1,4 +1,4 @@
--- The bytes of pieces that stand apart have the tokens of their words.
+-- The bytes of pieces that are apart have the tokens of their words.
 use Rattle.std.proofs.Common.{◌≡◌, ℕ, suc, ◌<◌, ◌≤◌, ◌+◌, ◌-◌, List, [], ◌∷◌, ◌++◌, length, take, drop, true, refl, sym, ap, subst, ◌∙◌, arith}
 use Rattle.std.specs.List.{list_all}
 use Rattle.std.proofs.lemmas.Bool.{and_from}
@@ -13,7 +13,7 @@ use Rattle.lexer.proofs.Marks.{place}
 use Rattle.lexer.proofs.Spelled.{spelled_shape}
 use Rattle.grammar.specs.Tokens.{token}
 use Rattle.writer.specs.Pieces.{Piece, word, gap, spelling, text_of}
-use Rattle.writer.proofs.Says.{kind_of, Stands, Says}
+use Rattle.writer.proofs.Says.{kind_of, IsWordAt, Says}
 use Rattle.writer.proofs.Lexemes.{Ends, is_longest}
 use Rattle.writer.proofs.Apart.{Apart, ends}
 
@@ -34,8 +34,8 @@ within text at w r e some = omega (arith, ap length e, length-drop at text, leng
 here : (text : List ℕ) (at : ℕ) (w r : List ℕ) → drop at text ≡ w ++ r → take (at + length w - at) (drop at text) ≡ w
 here text at w r e = let n : at + length w - at ≡ length w = omega arith in rw (n, e) (take_at w r (length w) refl)
 
-stands : (text : List ℕ) (at : ℕ) (w r : List ℕ) → drop at text ≡ w ++ r → 0 < length w → Stands text (span_from at (length w)) w
-stands text at w r e some = (within text at w r e some, here text at w r e)
+word_at : (text : List ℕ) (at : ℕ) (w r : List ℕ) → drop at text ≡ w ++ r → 0 < length w → IsWordAt text (span_from at (length w)) w
+word_at text at w r e some = (within text at w r e some, here text at w r e)
 
 is_next : (text : List ℕ) (at : ℕ) (w r : List ℕ) (k : TokenKind) → drop at text ≡ w ++ r → Spells w k → Ends k r → IsNext text at (token k (span_from at (length w)))
 is_next text at w r k e s stop =
@@ -93,5 +93,5 @@ lexed text (word x ∷ ps) at e a =
       stop = c.stop;
       tokens = (is_next text at (spelling x) (text_of ps) (kind_of x) e a.0 (ends x ps a.1 a.2), c.tokens);
       rest = c.rest;
-      said = (span_from at (length (spelling x)), c.ts, refl, stands text at (spelling x) (text_of ps) e (some_bytes (spelling x) (kind_of x) a.0), c.said);
+      said = (span_from at (length (spelling x)), c.ts, refl, word_at text at (spelling x) (text_of ps) e (some_bytes (spelling x) (kind_of x) a.0), c.said);
     }

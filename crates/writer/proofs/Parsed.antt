@@ -71,7 +71,7 @@ pub record Scalar (r : ScalarRank) (t : ScalarTree) (h : ℕ) (us : List Token) 
   pub low : Low r t h
   pub rest : Small us
 
--- of the rest of a chain: what stands before it
+-- of the rest of a chain: what comes before it
 abbrev pub Given : scalar.Part → Type 0
 Given scalar.Atom = Unit {0}
 Given scalar.Unary = Unit {0}

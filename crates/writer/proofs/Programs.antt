@@ -151,7 +151,7 @@ outputs_back text (o ∷ p ∷ os) w ts s =
     let r = outputs_back text (p ∷ os) w.1 c.vs c.second in
     record { outputs = b.tree ∷ r.outputs; same = ap₂ (λ x xs. x ∷ xs) b.same r.same; reads = program.more b.reads r.reads }
 
--- no input stands where the named relations begin, and none of those where the outputs begin
+-- no input is where the named relations begin, and none of those is where the outputs begin
 after_inputs : (text : List ℕ) (ls : List LetTree) (os : List OutputTree) → Filled IsOutputSource os → (ts us : List Token) → Says text (flat_map let_pieces ls ++ flat_map output_pieces os) ts us → NoKeyword keyword.Input ts
 after_inputs text (l ∷ ls) os w ts us s = rw s.2 (λ e. cc)
 after_inputs text [] (o ∷ os) w ts us s = rw s.2 (λ e. cc)

@@ -18,7 +18,7 @@ use Rattle.writer.specs.Scalars.{scalar_pieces, scalar_height}
 use Rattle.writer.specs.Conditions.{cond_pieces}
 use Rattle.writer.specs.Relations.{column_pieces, pair_pieces, agg_pieces, rel_pieces, rel_height}
 use Rattle.writer.specs.Sources.{IsScalarSource, IsColumnSource, IsPairSource, IsAggSource, IsRelSource}
-use Rattle.writer.proofs.Says.{Says, Stands, cut}
+use Rattle.writer.proofs.Says.{Says, IsWordAt, cut}
 use Rattle.writer.proofs.Lists.{list_back, low_list, scalar_back, column_back, pair_back, agg_back}
 use Rattle.writer.proofs.Conditions as conditions
 
@@ -50,7 +50,7 @@ formed {k = k} ps s =
       said = rw (z.2, z.4) at c.first;
     }
 
--- what stands before a mark and after it
+-- what comes before a mark and after it
 pub record Halves (text : List ℕ) (m : Mark) (a b : List Piece) (ts us : List Token) : Type 0 where
   pub place : Span
   pub vs : List Token
@@ -63,7 +63,7 @@ halves {m = m} a b s =
     let z = c.second in
     record { place = z.0; vs = z.1; first = rw z.2 at c.first; second = z.4 }
 
-pub is_name_at : (text : List ℕ) (s : Span) (x : List ℕ) → IsName x → Stands text s x → IsNameAt text s
+pub is_name_at : (text : List ℕ) (s : Span) (x : List ℕ) → IsName x → IsWordAt text s x → IsNameAt text s
 is_name_at text s x n w = (w.0, rw w.1 n)
 
 -- the same, at tokens that are known by an equation

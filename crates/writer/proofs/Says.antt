@@ -15,15 +15,15 @@ kind_of (Word.column n) = kind.Column n
 kind_of (Word.mark m) = kind.Mark m
 kind_of (Word.keyword k) = kind.Keyword k
 
--- the word stands there in the text
-abbrev pub Stands : List ℕ → Span → List ℕ → Type 0
-Stands text s w = (s.end ≤ length text) × (piece text s ≡ w)
+-- the word is there in the text
+abbrev pub IsWordAt : List ℕ → Span → List ℕ → Type 0
+IsWordAt text s w = (s.end ≤ length text) × (piece text s ≡ w)
 
 -- the tokens begin with those of the pieces, and these are left
 abbrev pub Says : List ℕ → List Piece → List Token → List Token → Type 0
 Says text [] ts us = ts ≡ us
 Says text (gap b ∷ ps) ts us = Says text ps ts us
-Says text (word x ∷ ps) ts us = (s : Span) × (vs : List Token) × (ts ≡ token (kind_of x) s ∷ vs) × Stands text s (spelling x) × Says text ps vs us
+Says text (word x ∷ ps) ts us = (s : Span) × (vs : List Token) × (ts ≡ token (kind_of x) s ∷ vs) × IsWordAt text s (spelling x) × Says text ps vs us
 
 pub record Cut (text : List ℕ) (a b : List Piece) (ts us : List Token) : Type 0 where
   pub vs : List Token

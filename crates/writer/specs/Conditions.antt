@@ -51,13 +51,16 @@ sign_of comparison.AtLeast = sign.AtLeast
 -- the pieces of a condition; an operand is in brackets where it binds less tightly than its place asks
 abbrev pub cond_pieces : CondTree → List Piece
 cond_pieces (CondTree.compare s o a b) = scalar_pieces a ++ (spaced (sign_of o) ++ scalar_pieces b)
-cond_pieces (CondTree.logical s o a b) = in_square (is_below (cond_rank a) (rank_of o)) (cond_pieces a) ++ (space ∷ of_keyword (word_of o) ∷ space ∷ in_square (is_below (cond_rank b) (right_of o)) (cond_pieces b))
+cond_pieces (CondTree.logical s o a b) =
+    in_square (is_below (cond_rank a) (rank_of o)) (cond_pieces a)
+    ++ (space ∷ of_keyword (word_of o) ∷ space ∷ in_square (is_below (cond_rank b) (right_of o)) (cond_pieces b))
 cond_pieces (CondTree.negate s a) = of_keyword keyword.Not ∷ space ∷ in_square true (cond_pieces a)
 
 -- the height of that text
 abbrev pub cond_height : CondTree → ℕ
 cond_height (CondTree.compare s o a b) = suc (max (scalar_height a) (scalar_height b))
-cond_height (CondTree.logical s o a b) = suc (max (raised (is_below (cond_rank a) (rank_of o)) (cond_height a)) (raised (is_below (cond_rank b) (right_of o)) (cond_height b)))
+cond_height (CondTree.logical s o a b) =
+    suc (max (raised (is_below (cond_rank a) (rank_of o)) (cond_height a)) (raised (is_below (cond_rank b) (right_of o)) (cond_height b)))
 cond_height (CondTree.negate s a) = suc (cond_height a)
 
 -- the same of an operand, in brackets where it binds less tightly than least

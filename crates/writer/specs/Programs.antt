@@ -21,7 +21,7 @@ input_pieces i = of_keyword keyword.Input ∷ space ∷ word (Word.name i.name) 
 abbrev pub let_pieces : LetTree → List Piece
 let_pieces l = of_keyword keyword.Let ∷ space ∷ word (Word.name l.name) ∷ spaced sign.Equal ++ (rel_pieces l.relation ++ line_end)
 
--- what stands between `output` and the relation: NAME =, and nothing where the name is `out`
+-- what comes between `output` and the relation: NAME =, and nothing where the name is `out`
 abbrev pub naming : List ℕ → List Piece
 naming x = cond (bytes_eq x default_name) [] (word (Word.name x) ∷ spaced sign.Equal)
 

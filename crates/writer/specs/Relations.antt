@@ -47,7 +47,8 @@ rel_pieces (RelTree.set_operation s o a b) = form (operator_keyword o) (rel_piec
 rel_pieces (RelTree.join s a b ps) = form keyword.Join (rel_pieces a ++ (comma ++ (rel_pieces b ++ (semicolon ++ listed pair_pieces ps))))
 rel_pieces (RelTree.group s r ks gs) = form keyword.Group (rel_pieces r ++ (semicolon ++ (listed column_pieces ks ++ (semicolon ++ listed agg_pieces gs))))
 rel_pieces (RelTree.distinct s r) = form keyword.Distinct (rel_pieces r)
-rel_pieces (RelTree.iterate s t n u x r b) = form keyword.Iterate (word (Word.number n) ∷ semicolon ++ (word (Word.name x) ∷ spaced sign.Equal ++ (rel_pieces r ++ (semicolon ++ rel_pieces b))))
+rel_pieces (RelTree.iterate s t n u x r b) =
+    form keyword.Iterate (word (Word.number n) ∷ semicolon ++ (word (Word.name x) ∷ spaced sign.Equal ++ (rel_pieces r ++ (semicolon ++ rel_pieces b))))
 
 -- the greatest of their heights
 abbrev pub heights : {X : Type 0} → (X → ℕ) → List X → ℕ

@@ -52,7 +52,9 @@ literal (negsuc n) = of_mark sign.Minus ∷ word (Word.number (suc n)) ∷ []
 abbrev pub scalar_pieces : ScalarTree → List Piece
 scalar_pieces (ScalarTree.literal s z) = literal z
 scalar_pieces (ScalarTree.column s n) = word (Word.column n) ∷ []
-scalar_pieces (ScalarTree.binary s o a b) = in_round (is_below (scalar_rank a) (rank_of o)) (scalar_pieces a) ++ (spaced (sign_of o) ++ in_round (is_below (scalar_rank b) (right_of o)) (scalar_pieces b))
+scalar_pieces (ScalarTree.binary s o a b) =
+    in_round (is_below (scalar_rank a) (rank_of o)) (scalar_pieces a)
+    ++ (spaced (sign_of o) ++ in_round (is_below (scalar_rank b) (right_of o)) (scalar_pieces b))
 scalar_pieces (ScalarTree.negate s a) = of_mark sign.Minus ∷ in_round (is_below (scalar_rank a) Single) (scalar_pieces a)
 
 -- one more in brackets
@@ -64,7 +66,8 @@ raised false n = n
 abbrev pub scalar_height : ScalarTree → ℕ
 scalar_height (ScalarTree.literal s z) = 1
 scalar_height (ScalarTree.column s n) = 1
-scalar_height (ScalarTree.binary s o a b) = suc (max (raised (is_below (scalar_rank a) (rank_of o)) (scalar_height a)) (raised (is_below (scalar_rank b) (right_of o)) (scalar_height b)))
+scalar_height (ScalarTree.binary s o a b) =
+    suc (max (raised (is_below (scalar_rank a) (rank_of o)) (scalar_height a)) (raised (is_below (scalar_rank b) (right_of o)) (scalar_height b)))
 scalar_height (ScalarTree.negate s a) = suc (raised (is_below (scalar_rank a) Single) (scalar_height a))
 
 -- the same of an operand, in brackets where it binds less tightly than least

@@ -1,11 +1,11 @@
 //! From a program to its canonical text.
 //!
 //! A program has a text where it is a source: `is_source` decides that, and `write_program` appends the text, a line for each item.
-//! The text is defined as words and the gaps between them (`specs/`): brackets stand only where the tree asks for them.
+//! The text is defined as words and the gaps between them (`specs/`): brackets come only where the tree asks for them.
 //!
 //! The contract for the layers above: the text written reads as the program, spans aside, where it is no longer than a query text
 //! may be, and so `parse` gives that program again under any allocator, or is refused for memory (`read_back`). What is read is
-//! a source. Below stand `expr_tree` with the trees, `semantics`, `record_core`, `lexer` and `grammar` with what a text is,
+//! a source. It uses `expr_tree` with the trees, `semantics`, `record_core`, `lexer` and `grammar` with what a text is,
 //! `parser`, which reads it, and `itoa`.
 #![tactic(auto)]
 

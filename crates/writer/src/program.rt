@@ -94,7 +94,7 @@ fn write_outputs<A: Allocator>(out: &mut Vec<u8>, outputs: &[Output<A>]) -> Resu
     Ok(())
 }
 
-/// Appends a program's lines; after a refusal some of them may stand there.
+/// Appends a program's lines; after a refusal some of them may be there.
 fn write_items<A: Allocator>(out: &mut Vec<u8>, program: &Program<A>) -> Result<(), AllocError>
     ensures ok { OnOk result (out.new.items ≡ out.old.items ++ program_text (program_tree program.now)) }
     ensures err { OnErr result (Extends out.old.items out.new.items) }

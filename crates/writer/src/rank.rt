@@ -1,4 +1,4 @@
-//! How tightly operators and connectives bind, and so where brackets stand.
+//! How tightly operators and connectives bind, and so where brackets come.
 
 ghost use Rattle.std.specs.Prelude.{◌≡◌};
 ghost use Rattle.expr_tree.specs.Views.{cond_tree, scalar_tree};

@@ -12,7 +12,8 @@ ghost use Rattle.writer.specs.Conditions as conditions;
 ghost use Rattle.writer.specs.Conditions.{cond_height};
 ghost use Rattle.writer.specs.Relations.{heights, rel_height};
 ghost use Rattle.writer.specs.Programs.{lets_height, output_height};
-ghost use Rattle.writer.specs.Sources.{Each, Filled, IsAggSource, IsColumnSource, IsCondSource, IsInputSource, IsLetSource, IsLiteral, IsNumber, IsOutputSource, IsPairSource, IsRelSource, IsScalarSource, IsSource};
+ghost use Rattle.writer.specs.Sources.{Each, Filled, IsAggSource, IsColumnSource, IsCondSource, IsInputSource, IsLetSource, IsLiteral};
+ghost use Rattle.writer.specs.Sources.{IsNumber, IsOutputSource, IsPairSource, IsRelSource, IsScalarSource, IsSource};
 
 use crate::rank::{CondRank, ScalarRank};
 use expr_tree::{Agg, Column, Cond, Input, Let, Output, Pair, Program, Rel, Scalar};

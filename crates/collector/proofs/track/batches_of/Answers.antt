@@ -1,4 +1,4 @@
-use Rattle.std.proofs.Common.{◌≡◌, [], ℤ, List, subst}
+use Rattle.std.proofs.Common.{[], subst}
 use Rattle.semantics.specs.Multiset.{◌≈◌}
 use Rattle.rows.specs.Counts.{records_in}
 use Rattle.collector.proofs.Batched.{batch_put, none_put}

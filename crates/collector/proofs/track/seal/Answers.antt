@@ -1,4 +1,4 @@
-use Rattle.std.proofs.Common.{◌≡◌, ◌∙◌, ◌++◌, arith, sym, ap, []}
+use Rattle.std.proofs.Common.{◌≡◌, ◌∙◌, arith, sym, ap, []}
 use Rattle.collector.specs.Piles.{piled}
 use Rattle.collector.proofs.Piles.{piled_push, with_none, sealed}
 use Rattle.collector.proofs.track.seal.Goals as goal

@@ -1,5 +1,5 @@
 use Rattle.std.proofs.Common.{◌≡◌, map, refl, subst, sym}
-use Rattle.expr_tree.specs.Plain.{plain_input, plain_program}
+use Rattle.expr_tree.specs.Plain.{plain_program}
 use Rattle.expr_tree.specs.Views.{program_tree}
 use Rattle.grammar.specs.Texts.{Reads}
 use Rattle.collector.specs.Said.{plain}

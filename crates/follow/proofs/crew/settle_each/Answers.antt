@@ -16,5 +16,5 @@ loop-slot-preserved g c =
     let same : tables c.settle.new.board.shown ≡ tables c.args.board.now.shown = c.settle.ensures.tables ∙ before.0 in (
       same,
       All-front (IsSlotOf (tables c.args.board.now.shown)) c.pop.new.self.items (option_to_list c.pop.result) (subst (All (IsSlotOf (tables c.args.board.now.shown))) c.pop.ensures.items own),
-      on_both c.loop-slot.pace c.settle.result c.joined-pace.result c.joined-pace.ensures (λ first second live. let b = first live in works_on c.args.board.now.shown c.loop-slot.board.shown c.settle.new.board.shown b (second b.grows.live)) before.2 c.settle.ensures.works,
+      on_both c.loop-slot.pace c.settle.result c.add_result-pace.result c.add_result-pace.ensures (λ first second live. let b = first live in works_on c.args.board.now.shown c.loop-slot.board.shown c.settle.new.board.shown b (second b.grows.live)) before.2 c.settle.ensures.works,
     )

@@ -3,7 +3,7 @@ use Rattle.std.specs.Prelude.{Err}
 use Rattle.std.specs.Io.KnownBytes.{Consumes}
 use Rattle.collector.specs.Watching.{inner_of}
 use Rattle.follow.specs.Follows.{Follows}
-use Rattle.follow.proofs.Stood.{consumes_none, nothing_follows}
+use Rattle.follow.proofs.Positions.{consumes_none, nothing_follows}
 use Rattle.follow.proofs.following.follow.Goals as goal
 
 pub returns-in-Err-clause-follows : goal.returns-in-Err-clause-follows

@@ -3,8 +3,8 @@ use Rattle.graph.specs.Shown.{shown_inputs}
 use Rattle.collector.specs.Pieces.{split_on}
 use Rattle.collector.specs.Said.{plain}
 use Rattle.collector.specs.Watching.{inner_of}
-use Rattle.follow.specs.Scenes.{IsWritten, Stands}
-use Rattle.follow.proofs.Stood.{opened}
+use Rattle.follow.specs.Scenes.{IsWritten, IsPositionAfter}
+use Rattle.follow.proofs.Positions.{opened}
 use Rattle.follow.proofs.following.follow_graph.Goals as goal
 
 pub returns-clause-follows : goal.returns-clause-follows
@@ -14,9 +14,9 @@ returns-clause-follows g c =
     let first = c.in_ok-position.ensures in
     let start = g.W.Write.contents (inner_of c.args.writer.now) in
     let inputs : map plain c.as_slice-listed.result.now ≡ shown_inputs graph = ap (map plain) c.as_slice-listed.ensures.value ∙ c.in_ok-inputs.ensures ∙ c.inputs.ensures ∙ ap shown_inputs c.deref.ensures in
-    let at_first = opened graph c.args.board.now.shown p.base p.intake p.telling start c.requires.opening.graph c.requires.shows first.base first.new first.fresh in
-    let stands : Stands graph c.args.board.now.shown p [] start start = record {
-      stood = subst (λ (xs : List ℕ). IsWritten graph c.args.board.now.shown p.base p.intake p.telling [] xs start start) (sym first.none) at_first;
+    let at_first = opened graph c.args.board.now.shown p.base p.intake p.reporting start c.requires.opening.graph c.requires.shows first.base first.new first.fresh in
+    let stands : IsPositionAfter graph c.args.board.now.shown p [] start start = record {
+      written = subst (λ (xs : List ℕ). IsWritten graph c.args.board.now.shown p.base p.intake p.reporting [] xs start start) (sym first.none) at_first;
       unended = subst (λ (xs : List ℕ). split_on 10 xs ≡ xs ∷ []) (sym first.none) refl;
     } in
     c.follow_pieces-ended.ensures.follows inputs stands

@@ -10,15 +10,15 @@ use Rattle.follow.specs.Steps.{Stops}
 use Rattle.follow.specs.declared.ending.Halt.TheVariants as halt
 use Rattle.follow.proofs.Calls.{none_of, ok_items}
 use Rattle.follow.proofs.Cuts.{unended_both}
-use Rattle.follow.proofs.Stood.{faults, halted, more_pending}
+use Rattle.follow.proofs.Positions.{faults, halted, more_pending}
 use Rattle.follow.proofs.following.follow_piece.Goals as goal
 
 pub returns-then-is_err-clause-follows : goal.returns-then-is_err-clause-follows
 returns-then-is_err-clause-follows g c = λ bytes left start same st.
     let p = c.args.position.now in
     let now = g.W.Write.contents (inner_of c.args.writer.now) in
-    let w = more_pending c.args.graph.now.value c.args.board.now.shown p.base p.intake p.telling bytes p.pending.items c.args.piece.now start now st.stood in
-    halted c.args.graph.now.value c.args.board.now.shown p.base p.intake p.telling (bytes ++ c.args.piece.now) (p.pending.items ++ c.args.piece.now) left start now halt.NoMemory w
+    let w = more_pending c.args.graph.now.value c.args.board.now.shown p.base p.intake p.reporting bytes p.pending.items c.args.piece.now start now st.written in
+    halted c.args.graph.now.value c.args.board.now.shown p.base p.intake p.reporting (bytes ++ c.args.piece.now) (p.pending.items ++ c.args.piece.now) left start now halt.NoMemory w
 
 pub returns-then-is_none-clause-follows : goal.returns-then-is_none-clause-follows
 returns-then-is_none-clause-follows g c = λ bytes left start same st.
@@ -26,9 +26,9 @@ returns-then-is_none-clause-follows g c = λ bytes left start same st.
     let now = g.W.Write.contents (inner_of c.args.writer.now) in
     let text : c.extend_from_slice.new.self.items ≡ p.pending.items ++ c.args.piece.now = ok_items c.extend_from_slice.result c.is_err.result c.extend_from_slice.new.self.items (p.pending.items ++ c.args.piece.now) p.pending.items c.is_err.ensures.value c.if-is_err.false c.extend_from_slice.ensures.items in
     let none = split_none 10 c.args.piece.now (none_of c.find.result c.is_none.result c.is_none.ensures c.if-is_none.true c.find.ensures.none) in
-    let w = more_pending c.args.graph.now.value c.args.board.now.shown p.base p.intake p.telling bytes p.pending.items c.args.piece.now start now st.stood in
+    let w = more_pending c.args.graph.now.value c.args.board.now.shown p.base p.intake p.reporting bytes p.pending.items c.args.piece.now start now st.written in
     record {
-      stood = subst (λ (xs : List ℕ). IsWritten c.args.graph.now.value c.args.board.now.shown p.base p.intake p.telling (bytes ++ c.args.piece.now) xs start now) (sym text) w;
+      written = subst (λ (xs : List ℕ). IsWritten c.args.graph.now.value c.args.board.now.shown p.base p.intake p.reporting (bytes ++ c.args.piece.now) xs start now) (sym text) w;
       unended = subst (λ (xs : List ℕ). split_on 10 xs ≡ xs ∷ []) (sym text) (unended_both p.pending.items c.args.piece.now st.unended none);
     }
 
@@ -37,15 +37,15 @@ loop-turn-init g c = λ bytes start same st.
     let p = c.args.position.now in
     let now = g.W.Write.contents (inner_of c.args.writer.now) in
     let text : c.extend_from_slice.new.self.items ≡ p.pending.items ++ c.args.piece.now = ok_items c.extend_from_slice.result c.is_err.result c.extend_from_slice.new.self.items (p.pending.items ++ c.args.piece.now) p.pending.items c.is_err.ensures.value c.if-is_err.false c.extend_from_slice.ensures.items in
-    let w = more_pending c.args.graph.now.value c.args.board.now.shown p.base p.intake p.telling bytes p.pending.items c.args.piece.now start now st.stood in
-    subst (λ (xs : List ℕ). IsWritten c.args.graph.now.value c.args.board.now.shown p.base p.intake p.telling (bytes ++ c.args.piece.now) xs start now) (sym text) w
+    let w = more_pending c.args.graph.now.value c.args.board.now.shown p.base p.intake p.reporting bytes p.pending.items c.args.piece.now start now st.written in
+    subst (λ (xs : List ℕ). IsWritten c.args.graph.now.value c.args.board.now.shown p.base p.intake p.reporting (bytes ++ c.args.piece.now) xs start now) (sym text) w
 
 pub returns-in-Ok-Whole-clause-follows : goal.returns-in-Ok-Whole-clause-follows
 returns-in-Ok-Whole-clause-follows g c = λ bytes left start same st.
     let q = c.follow_lines.new.position in
     let all = bytes ++ c.args.piece.now in
     let r = c.in-Ok-Whole.ensures.follows c.args.graph.now.value all left start same (c.loop-turn.invariant bytes start same st) in
-    record { stood = r.0; unended = subst (λ k. Stops (shown_inputs c.args.graph.now.value) all q.pending.items (length r.0.known.lines) r.0.known.items k) c.in-Ok-Whole.field-0-is r.1 }
+    record { written = r.0; unended = subst (λ k. Stops (shown_inputs c.args.graph.now.value) all q.pending.items (length r.0.known.lines) r.0.known.items k) c.in-Ok-Whole.field-0-is r.1 }
 
 pub returns-in-Ok-Fault-clause-follows : goal.returns-in-Ok-Fault-clause-follows
 returns-in-Ok-Fault-clause-follows g c = λ bytes left start same st.
@@ -54,7 +54,7 @@ returns-in-Ok-Fault-clause-follows g c = λ bytes left start same st.
     let all = bytes ++ c.args.piece.now in
     let r = c.in-Ok-Fault.ensures.follows c.args.graph.now.value all left start same (c.loop-turn.invariant bytes start same st) in
     let stops = subst (λ k. Stops (shown_inputs c.args.graph.now.value) all q.pending.items (length r.0.known.lines) r.0.known.items k) c.in-Ok-Fault.field-0-is r.1 in
-    faults c.args.graph.now.value c.follow_lines.new.board.shown q.base q.intake q.telling all q.pending.items c.in-Ok-Fault.code left start new c.faulty.result r.0 stops c.faulty.ensures
+    faults c.args.graph.now.value c.follow_lines.new.board.shown q.base q.intake q.reporting all q.pending.items c.in-Ok-Fault.code left start new c.ending_at_fault.result r.0 stops c.ending_at_fault.ensures
 
 pub returns-in-Err-renew-clause-follows : goal.returns-in-Err-renew-clause-follows
 returns-in-Err-renew-clause-follows g c = λ bytes left start same st.
@@ -62,7 +62,7 @@ returns-in-Err-renew-clause-follows g c = λ bytes left start same st.
     let new = g.W.Write.contents (inner_of c.follow_lines.new.writer) in
     let all = bytes ++ c.args.piece.now in
     let r = c.in-Ok-Epoch.ensures.follows c.args.graph.now.value all left start same (c.loop-turn.invariant bytes start same st) in
-    subst (λ e. Follows c.args.graph.now.value all left start new (Err e)) (sym c.ending.ensures) (halted c.args.graph.now.value c.follow_lines.new.board.shown q.base q.intake q.telling all q.pending.items left start new c.in-Err-renew.halt r.0)
+    subst (λ e. Follows c.args.graph.now.value all left start new (Err e)) (sym c.ending.ensures) (halted c.args.graph.now.value c.follow_lines.new.board.shown q.base q.intake q.reporting all q.pending.items left start new c.in-Err-renew.halt r.0)
 
 pub returns-in-Err-clause-follows : goal.returns-in-Err-clause-follows
 returns-in-Err-clause-follows g c = λ bytes left start same st. c.in-Err.ensures.follows c.args.graph.now.value (bytes ++ c.args.piece.now) left start same (c.loop-turn.invariant bytes start same st)
@@ -80,4 +80,4 @@ pub returns-clause-follows : goal.returns-clause-follows
 returns-clause-follows g c = λ bytes left start same st.
     let q = c.loop-turn.position in
     let new = g.W.Write.contents (inner_of c.loop-turn.writer) in
-    halted c.args.graph.now.value c.loop-turn.board.shown q.base q.intake q.telling (bytes ++ c.args.piece.now) q.pending.items left start new halt.Incomplete (c.loop-turn.invariant bytes start same st)
+    halted c.args.graph.now.value c.loop-turn.board.shown q.base q.intake q.reporting (bytes ++ c.args.piece.now) q.pending.items left start new halt.Incomplete (c.loop-turn.invariant bytes start same st)

@@ -2,7 +2,7 @@ use Rattle.std.proofs.Common.{◌++◌, [], ℕ, subst, take, length, ◌<◌, r
 use Rattle.std.specs.Io.KnownBytes.{Consumes}
 use Rattle.collector.specs.Watching.{inner_of}
 use Rattle.follow.specs.declared.ending.Halt.TheVariants as halt
-use Rattle.follow.proofs.Stood.{consumes_end, consumes_keeps, consumes_none, consumes_then, halted, unread}
+use Rattle.follow.proofs.Positions.{consumes_end, consumes_keeps, consumes_none, consumes_then, halted, unread}
 use Rattle.follow.proofs.following.follow_pieces.Goals as goal
 
 pub loop-turn-init : goal.loop-turn-init
@@ -24,7 +24,7 @@ returns-in_default-clause-follows g c = λ same st.
     let left = g.R.Read.remaining (inner_of c.pull.new.self) in (
       b.0,
       consumes_keeps (g.R.Read.remaining (inner_of c.args.reader.now)) (g.R.Read.remaining (inner_of c.loop-turn.reader)) left b.0 b.1 c.in_default.ensures.bytes,
-      unread c.args.graph.now.value c.loop-turn.board.shown p.base p.intake p.telling b.0 p.pending.items left start (g.W.Write.contents (inner_of c.loop-turn.writer)) b.2.stood b.2.unended,
+      unread c.args.graph.now.value c.loop-turn.board.shown p.base p.intake p.reporting b.0 p.pending.items left start (g.W.Write.contents (inner_of c.loop-turn.writer)) b.2.written b.2.unended,
     )
 
 pub returns-then-count-eq0-clause-follows : goal.returns-then-count-eq0-clause-follows
@@ -52,4 +52,4 @@ returns-clause-follows g c = λ same st.
     let p = c.loop-turn.position in
     let start = g.W.Write.contents (inner_of c.args.writer.now) in
     let now = g.W.Write.contents (inner_of c.loop-turn.writer) in
-    (b.0, b.1, halted c.args.graph.now.value c.loop-turn.board.shown p.base p.intake p.telling b.0 p.pending.items (g.R.Read.remaining (inner_of c.loop-turn.reader)) start now halt.Incomplete b.2.stood)
+    (b.0, b.1, halted c.args.graph.now.value c.loop-turn.board.shown p.base p.intake p.reporting b.0 p.pending.items (g.R.Read.remaining (inner_of c.loop-turn.reader)) start now halt.Incomplete b.2.written)

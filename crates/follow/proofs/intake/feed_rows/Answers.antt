@@ -1,4 +1,4 @@
-use Rattle.std.proofs.Common.{◌≡◌, [], List, ℤ, subst}
+use Rattle.std.proofs.Common.{subst}
 use Rattle.semantics.specs.Multiset.{◌≈◌}
 use Rattle.rows.specs.Counts.{records_in}
 use Rattle.follow.specs.Scenes.{Feeds}

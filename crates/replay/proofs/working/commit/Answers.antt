@@ -22,7 +22,7 @@ returns-in-None-clause-answers g c =
 pub returns-in-Some-clause-hand : goal.returns-in-Some-clause-hand
 returns-in-Some-clause-hand g c =
     let room : c.args.worker < length c.args.hand.now = omega (arith, c.if-place-hand.false) in
-    subst (λ (x : Option Pass). IsHand c.ended.new.board.shown (slice_set c.args.hand.now c.args.worker x)) (sym c.take.ensures.after) (emptied_hand c.args.board.now.shown c.ended.new.board.shown c.args.hand.now c.args.worker c.requires.hand c.ended.ensures.stays room)
+    subst (λ (x : Option Pass). IsHand c.end.new.board.shown (slice_set c.args.hand.now c.args.worker x)) (sym c.take.ensures.after) (emptied_hand c.args.board.now.shown c.end.new.board.shown c.args.hand.now c.args.worker c.requires.hand c.end.ensures.stays room)
 
 pub returns-in-Some-clause-answers : goal.returns-in-Some-clause-answers
 returns-in-Some-clause-answers g c =
@@ -30,5 +30,5 @@ returns-in-Some-clause-answers g c =
     let at : in_hand c.args.hand.now c.args.worker ≡ Some c.in-Some.done = get_or_default c.args.hand.now c.args.worker None c.index-hand-place.result room ∙ sym c.take.ensures.value ∙ c.in-Some.is in
     let own = (c.requires.hand.own c.args.worker c.in-Some.done at).1 in
     let is = ap (λ (x : Option Pass). slice_set c.args.hand.now c.args.worker x) c.take.ensures.after in
-    end_answers g.V.Views.late c.args.board.now c.ended.new.board c.args.hand.now (slice_set c.args.hand.now c.args.worker c.take.new.self) (Command.commit c.args.worker) c.ended.result c.in-Some.done c.args.board.now c.ended.ensures.ends c.ended.ensures.memory c.ended.ensures.stays
-    (λ ends. ended_leads g.V.Views.late c.args.board.now c.ended.new.board c.args.hand.now (slice_set c.args.hand.now c.args.worker c.take.new.self) c.args.worker c.in-Some.done at own room ends is)
+    end_answers g.V.Views.late c.args.board.now c.end.new.board c.args.hand.now (slice_set c.args.hand.now c.args.worker c.take.new.self) (Command.commit c.args.worker) c.end.result c.in-Some.done c.args.board.now c.end.ensures.ends c.end.ensures.memory c.end.ensures.stays
+    (λ ends. ended_leads g.V.Views.late c.args.board.now c.end.new.board c.args.hand.now (slice_set c.args.hand.now c.args.worker c.take.new.self) c.args.worker c.in-Some.done at own room ends is)

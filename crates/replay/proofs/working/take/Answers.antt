@@ -7,31 +7,31 @@ use Rattle.replay.specs.Replays.{Does}
 use Rattle.replay.proofs.Holding.{hand_stays}
 use Rattle.replay.proofs.Inputs.{refused_answers}
 use Rattle.replay.proofs.Waiting.{board_same}
-use Rattle.replay.proofs.Taken.{kept_hand, lost_answers, picked_room, picked_stays, refused_pick, stays_on, taken_leads}
+use Rattle.replay.proofs.Taken.{kept_hand, abandoned_answers, picked_room, picked_stays, refused_pick, stays_on, taken_leads}
 use Rattle.replay.proofs.working.take.Goals as goal
 
 pub returns-in-Err-clause-answers : goal.returns-in-Err-clause-answers
 returns-in-Err-clause-answers g c =
     let b = c.args.board.now in
-    refused_answers g.V.Views.late b c.pick.new.self c.args.hand.now (Command.take c.args.worker c.args.choice) c.refused.result (board_same b c.pick.new.self c.in-Err.ensures.picks.1 c.in-Err.ensures.views.waits c.in-Err.ensures.views.passed)
-    (λ code told x shows holds. Does.take_refused c.args.worker c.args.choice code (refused_pick g.V.Views.late b c.args.worker c.args.choice c.in-Err.refusal (record { prompt = c.law_prompt.ensures; within = c.law_waits.ensures }) c.in-Err.ensures.picks.0 code (sym c.refused.ensures ∙ told) x shows))
+    refused_answers g.V.Views.late b c.pick.new.self c.args.hand.now (Command.take c.args.worker c.args.choice) c.line_refusal.result (board_same b c.pick.new.self c.in-Err.ensures.picks.1 c.in-Err.ensures.views.waits c.in-Err.ensures.views.passed)
+    (λ code has_code x shows holds. Does.take_refused c.args.worker c.args.choice code (refused_pick g.V.Views.late b c.args.worker c.args.choice c.in-Err.refusal (record { prompt = c.law_prompt.ensures; within = c.law_waits.ensures }) c.in-Err.ensures.picks.0 code (sym c.line_refusal.ensures ∙ has_code) x shows))
 
-pub returns-in-Err-computed-clause-hand : goal.returns-in-Err-computed-clause-hand
-returns-in-Err-computed-clause-hand g c =
+pub returns-in-Err-compute-clause-hand : goal.returns-in-Err-compute-clause-hand
+returns-in-Err-compute-clause-hand g c =
     let b = c.args.board.now.shown in
-    let stays = stays_on b c.pick.new.self.shown c.computed.new.board.shown (picked_stays b c.pick.new.self.shown c.args.worker c.in-Ok.work.0 c.in-Ok.ensures.picks.0 c.in-Ok.ensures.tables) c.computed.ensures.stays in
-    hand_stays b c.computed.new.board.shown c.args.hand.now c.requires.hand stays
+    let stays = stays_on b c.pick.new.self.shown c.compute.new.board.shown (picked_stays b c.pick.new.self.shown c.args.worker c.in-Ok.work.0 c.in-Ok.ensures.picks.0 c.in-Ok.ensures.tables) c.compute.ensures.stays in
+    hand_stays b c.compute.new.board.shown c.args.hand.now c.requires.hand stays
 
-pub returns-in-Err-computed-clause-answers : goal.returns-in-Err-computed-clause-answers
-returns-in-Err-computed-clause-answers g c =
+pub returns-in-Err-compute-clause-answers : goal.returns-in-Err-compute-clause-answers
+returns-in-Err-compute-clause-answers g c =
     let b = c.args.board.now in
     let t = c.pick.new.self in
-    let u = c.computed.new.board in
+    let u = c.compute.new.board in
     let p = c.in-Ok.work.0 in
     let hands = c.in-Ok.ensures.picks.0 in
-    let stays = stays_on b.shown t.shown u.shown (picked_stays b.shown t.shown c.args.worker p hands c.in-Ok.ensures.tables) c.computed.ensures.stays in
-    lost_answers g.V.Views.late b t u c.args.hand.now c.args.worker c.args.choice p c.in-Err-computed.refusal hands (record { prompt = c.law_prompt.ensures; within = c.law_waits.ensures }) c.in-Ok.ensures.picks.1 c.in-Ok.ensures.views.waits c.in-Err-computed.ensures.given_up stays
-    (Command.take c.args.worker c.args.choice) (λ x gives. Does.take_over c.args.worker c.args.choice hands.taken p.job.happening gives) c.in-Err-computed.ensures.refused
+    let stays = stays_on b.shown t.shown u.shown (picked_stays b.shown t.shown c.args.worker p hands c.in-Ok.ensures.tables) c.compute.ensures.stays in
+    abandoned_answers g.V.Views.late b t u c.args.hand.now c.args.worker c.args.choice p c.in-Err-compute.refusal hands (record { prompt = c.law_prompt.ensures; within = c.law_waits.ensures }) c.in-Ok.ensures.picks.1 c.in-Ok.ensures.views.waits c.in-Err-compute.ensures.abandoned stays
+    (Command.take c.args.worker c.args.choice) (λ x gives. Does.take_abandons c.args.worker c.args.choice hands.taken p.job.happening gives) c.in-Err-compute.ensures.refused
 
 pub returns-clause-hand : goal.returns-clause-hand
 returns-clause-hand g c =
@@ -41,9 +41,9 @@ returns-clause-hand g c =
     let p = c.in-Ok.work.0 in
     let hands = c.in-Ok.ensures.picks.0 in
     let picked = picked_stays s t c.args.worker p hands c.in-Ok.ensures.tables in
-    let later = stays_on t c.computed.new.board.shown u c.computed.ensures.stays c.keep.ensures.stays in
+    let later = stays_on t c.compute.new.board.shown u c.compute.ensures.stays c.keep.ensures.stays in
     let stays = stays_on s t u picked later in
-    let is = c.keep.ensures.hand ∙ ap (λ (x : Pass). slice_set c.args.hand.now c.args.worker (Some x)) c.in-Ok-computed.ensures.done in
+    let is = c.keep.ensures.hand ∙ ap (λ (x : Pass). slice_set c.args.hand.now c.args.worker (Some x)) c.in-Ok-compute.ensures.done in
     let of : IsOf u p = ap (λ ts. slice_get ts p.worker) later.tables ∙ hands.own in
     kept_hand s u c.args.hand.now c.keep.new.hand c.args.worker p c.requires.hand stays is of hands.worker (picked_room s t c.args.hand.now c.args.worker p hands c.requires.hand)
 
@@ -55,7 +55,7 @@ returns-clause-answers g c =
     let p = c.in-Ok.work.0 in
     let hands = c.in-Ok.ensures.picks.0 in
     let picked = picked_stays b.shown t.shown c.args.worker p hands c.in-Ok.ensures.tables in
-    let later = stays_on t.shown c.computed.new.board.shown u.shown c.computed.ensures.stays c.keep.ensures.stays in
-    let is = c.keep.ensures.hand ∙ ap (λ (x : Pass). slice_set c.args.hand.now c.args.worker (Some x)) c.in-Ok-computed.ensures.done in
+    let later = stays_on t.shown c.compute.new.board.shown u.shown c.compute.ensures.stays c.keep.ensures.stays in
+    let is = c.keep.ensures.hand ∙ ap (λ (x : Pass). slice_set c.args.hand.now c.args.worker (Some x)) c.in-Ok-compute.ensures.done in
     taken_leads g.V.Views.late b t u c.args.hand.now c.keep.new.hand c.args.worker c.args.choice p hands (record { prompt = c.law_prompt.ensures; within = c.law_waits.ensures }) c.in-Ok.ensures.picks.1 c.in-Ok.ensures.views.waits c.requires.hand.places
-    (λ e. c.keep.ensures.kept e ∙ c.in-Ok-computed.ensures.kept) (stays_on b.shown t.shown u.shown picked later) is
+    (λ e. c.keep.ensures.kept e ∙ c.in-Ok-compute.ensures.kept) (stays_on b.shown t.shown u.shown picked later) is

@@ -1,4 +1,4 @@
-use Rattle.std.proofs.Common.{◌≡◌, ◌∷◌, ◌∙◌, List, ℕ, Option, sym, ap}
+use Rattle.std.proofs.Common.{◌≡◌, ◌∷◌, ◌∙◌, List, ℕ, Option, ap}
 use Rattle.std.specs.Borrow.{Bor}
 use Rattle.collector.specs.Pieces.{split_on}
 use Rattle.collector.specs.Said.{words_of}

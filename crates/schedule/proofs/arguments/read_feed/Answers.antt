@@ -1,4 +1,4 @@
-use Rattle.std.proofs.Common.{◌≡◌, ◌∷◌, ◌∙◌, List, ℕ, true, refl, sym, ap, rules, map}
+use Rattle.std.proofs.Common.{◌≡◌, ◌∷◌, ◌∙◌, List, ℕ, refl, ap, map}
 use Rattle.std.specs.Fmt.{signed_decimal}
 use Rattle.collector.specs.Said.{words_of}
 use Rattle.collector.specs.Lines.{AreNumbers, IsWord}

@@ -1,11 +1,11 @@
-use Rattle.std.proofs.Common.{◌≡◌, ◌∙◌, ◌<◌, ◌∷◌, [], sym, subst, refl, arith, length, map, false, ap, ◌++◌}
+use Rattle.std.proofs.Common.{◌≡◌, ◌∙◌, ◌<◌, ◌∷◌, [], sym, refl, arith, length, map, false, ap, ◌++◌}
 use Rattle.std.specs.Prelude.{◌==◌}
 use Rattle.std.proofs.lemmas.List.{map_push}
 use Rattle.std.proofs.lemmas.Bool.Decides.{nat_tests}
 use Rattle.collector.proofs.Splits.{split_none, cut_at}
 use Rattle.schedule.specs.Said.{command_of}
-use Rattle.schedule.specs.ScheduleText.{Says, IsFault}
-use Rattle.schedule.proofs.LinesRead.{ReadSoFar, next_read, faulty, unended}
+use Rattle.schedule.specs.ScheduleText.{IsFault}
+use Rattle.schedule.proofs.LinesRead.{next_read, faulty, unended}
 use Rattle.schedule.proofs.reading.read_schedule.Goals as goal
 
 pub returns-in-Err-Fault-clause-refused : goal.returns-in-Err-Fault-clause-refused

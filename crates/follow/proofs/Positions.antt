@@ -1,0 +1,328 @@
+-- What is known of the whole, from one piece of the input to the next.
+use Rattle.std.proofs.Common.{◌≡◌, ◌<◌, ◌≤◌, ◌⊎◌, ◌+◌, ◌-◌, ◌∙◌, ℕ, suc, List, [], ◌∷◌, ◌++◌, length, take, refl, sym, ap, subst, arith, append_assoc, inl, inr, Option, Some, None}
+use Rattle.std.specs.Prelude.{Result, Ok, Err}
+use Rattle.std.specs.Io.KnownBytes.{Appends, Consumes, IsAtEnd, Keeps}
+use Rattle.std.proofs.lemmas.Bool.Decides.{eqb_tells}
+use Rattle.std.proofs.lemmas.List.{append-nil, length-append}
+use Rattle.semantics.proofs.MultisetSums.{≈-from}
+use Rattle.graph.specs.Shown.{GraphValue, shown_inputs}
+use Rattle.machine.specs.World.{opening}
+use Rattle.rows.specs.FlatRows.{joined}
+use Rattle.board.specs.Shown.{Shown}
+use Rattle.board.specs.Showing.{Shows}
+use Rattle.collector.specs.Pieces.{split_on}
+use Rattle.collector.specs.Lines.{Item}
+use Rattle.collector.specs.InputText.{IsRefused, epochs_after}
+use Rattle.collector.specs.Written.{AppendsFront}
+use Rattle.collector.specs.declared.refusal.InputRefusal.TheVariants.{At}
+use Rattle.collector.proofs.Writes.{Appends-then}
+use Rattle.follow.specs.Entries.{Entry}
+use Rattle.follow.specs.Follows.{Follows, IsAnswer, IsPart, IsReport, Reaches, Writes, said_records}
+use Rattle.follow.specs.Scenes.{Grows, HasReported, IsFed, IsKnown, IsWritten, batches_of, reported_count}
+use Rattle.follow.specs.Steps.{CanReport, Continues, IsLastAnswer, AnswersLast, AnswersOpen, IsFresh, IsNew, Stops, TakesLines, ending_of}
+use Rattle.follow.specs.declared.ending.Ending.{Ending}
+use Rattle.follow.specs.declared.ending.Ending.TheVariants as ending
+use Rattle.follow.specs.declared.ending.Halt.{Halt}
+use Rattle.follow.specs.declared.ending.Halt.TheVariants as halt
+use Rattle.follow.specs.declared.intake.Intake.{Intake}
+use Rattle.follow.specs.declared.taken.Taken.{Taken}
+use Rattle.follow.specs.declared.taken.Taken.TheVariants as taken
+use Rattle.follow.specs.declared.reporting.Reporting.{Reporting}
+use Rattle.follow.proofs.Cuts.{more_bytes}
+use Rattle.follow.proofs.Fed.{nothing_waits}
+use Rattle.follow.proofs.Reported.{part_nothing, report_later}
+
+appends_none : (old : Option (List ℕ)) → Appends old old []
+appends_none None = tt
+appends_none (Some xs) = sym (append-nil xs)
+
+take_past : (xs ys : List ℕ) (n : ℕ) → take (length xs + n) (xs ++ ys) ≡ xs ++ take n ys
+take_past [] ys n = let e : 0 + n ≡ n = omega arith in ap (λ (k : ℕ). take k ys) e
+take_past (x ∷ xs) ys n = let e : suc (length xs) + n ≡ suc (length xs + n) = omega arith in ap (λ (k : ℕ). take k (x ∷ xs ++ ys)) e ∙ ap (λ (zs : List ℕ). x ∷ zs) (take_past xs ys n)
+
+-- a beginning of more text, after what was written
+front_then : (a b c : Option (List ℕ)) (xs ys : List ℕ) → Appends a b xs → AppendsFront b c ys → AppendsFront a c (xs ++ ys)
+front_then a b c xs ys p q = (length xs + q.0, omega (arith, q.1, length-append xs ys), subst (Appends a c) (sym (take_past xs ys q.0)) (Appends-then a b c xs (take q.0 ys) p q.2))
+
+-- ---- at first
+
+pub opened : (g : GraphValue) (s : Shown) (base : ℕ) (x : Intake) (t : Reporting) (start : Option (List ℕ)) → s.graph ≡ g → Shows s opening → base ≡ 0 → IsNew x → IsFresh t → IsWritten g s base x t [] [] start start
+opened g s base x t start same shows zero new fresh = record {
+  known = record {
+    lines = [];
+    items = [];
+    entries = [];
+    text = [];
+    graph = same;
+    taken = record {
+      fed = record {
+        live = (opening, shows);
+        begun = omega (arith, zero, new.begun);
+        order = λ i e. [];
+        alike = λ i e. ≈-from (sym (shows.fed i e));
+        fed = λ i e. nothing_waits x i e (new.none i) refl;
+        opened = λ i lt. sym (shows.open_epoch i) ∙ (let z : 0 ≡ x.begun - 1 = omega (arith, new.begun) in z);
+        none = λ zero. new.none;
+      };
+      parts = refl;
+      said = tt;
+      counted = new.line;
+    };
+    reported = record {
+      reported = subst (λ (d : ℕ). IsReport s.graph (said_records []) d [] []) (let z : 0 ≡ base + t.done = omega (arith, zero, fresh.done) in z) IsReport.reports_nothing;
+      within = λ k. omega (arith, fresh.none k);
+      first = λ k. ap (λ (n : ℕ). joined (take n (batches_of s k t.done))) (sym (fresh.none k));
+    };
+    part = part_nothing g (said_records [] (base + t.done));
+    start = λ none. zero;
+    sealed = omega (arith, fresh.done);
+    none = λ e. refl;
+  };
+  written = appends_none start;
+}
+
+-- ---- an end
+
+base_within : (base begun done : ℕ) → (begun ≡ 0 → base ≡ 0) → done ≤ begun - 1 → base + done ≤ base + begun - 1
+base_within base begun done start le = elim (eqb_tells begun 0) [
+  | inl none ↦ omega (arith, start none.1, none.1, le)
+  | inr some ↦ omega (arith, some.1, le)
+]
+
+answers : (g : GraphValue) (s : Shown) (base : ℕ) (x : Intake) (t : Reporting) (bytes pending : List ℕ) (k : IsKnown g s base x t bytes pending) → IsAnswer g k.items (base + t.done) k.entries k.text
+answers g s base x t bytes pending k = record { reported = subst (λ (h : GraphValue). IsReport h (said_records k.items) (base + t.done) k.entries k.text) k.graph k.reported.reported; part = k.part }
+
+pub known_follows : (g : GraphValue) (s : Shown) (base : ℕ) (x : Intake) (t : Reporting) (bytes pending all : List ℕ) (left start now : Option (List ℕ)) (result : Result (Unit {0}) Ending) (rest : List (List ℕ)) (k : IsKnown g s base x t bytes pending) → split_on 10 all ≡ k.lines ++ rest
+    → Reaches (shown_inputs g) all left k.lines k.items rest (base + t.done) k.entries result → Writes start now k.text result → Follows g all left start now result
+known_follows g s base x t bytes pending all left start now result rest k parts reaches writes = record {
+  lines = k.lines;
+  items = k.items;
+  rest = rest;
+  done = base + t.done;
+  entries = k.entries;
+  text = k.text;
+  read = record { parts = parts; said = k.taken.said };
+  answer = answers g s base x t bytes pending k;
+  sealed = inl (let b = k.taken.fed.begun in let a = base_within base x.begun t.done k.start k.sealed in omega (arith, b, a));
+  reaches = reaches;
+  writes = writes;
+}
+
+-- the work stopped: nothing more was written
+pub halted : (g : GraphValue) (s : Shown) (base : ℕ) (x : Intake) (t : Reporting) (bytes pending : List ℕ) (left start now : Option (List ℕ)) (h : Halt) → IsWritten g s base x t bytes pending start now → Follows g bytes left start now (Err (ending_of h))
+halted g s base x t bytes pending left start now halt.NoMemory w = known_follows g s base x t bytes pending bytes left start now (Err ending.NoMemory) (split_on 10 pending) w.known w.known.taken.parts tt w.written
+halted g s base x t bytes pending left start now halt.Count w = known_follows g s base x t bytes pending bytes left start now (Err ending.Count) (split_on 10 pending) w.known w.known.taken.parts tt w.written
+halted g s base x t bytes pending left start now halt.Incomplete w = known_follows g s base x t bytes pending bytes left start now (Err ending.Incomplete) (split_on 10 pending) w.known w.known.taken.parts tt w.written
+
+-- the reader failed
+pub unread : (g : GraphValue) (s : Shown) (base : ℕ) (x : Intake) (t : Reporting) (bytes pending : List ℕ) (left start now : Option (List ℕ)) → IsWritten g s base x t bytes pending start now → split_on 10 pending ≡ pending ∷ [] → Follows g bytes left start now (Err ending.Read)
+unread g s base x t bytes pending left start now w unended =
+    known_follows g s base x t bytes pending bytes left start now (Err ending.Read) (pending ∷ []) w.known (w.known.taken.parts ∙ ap (λ (ps : List (List ℕ)). w.known.lines ++ ps) unended) (pending, refl) w.written
+
+-- ---- one more piece
+
+pub more_pending : (g : GraphValue) (s : Shown) (base : ℕ) (x : Intake) (t : Reporting) (bytes pending piece : List ℕ) (start now : Option (List ℕ)) → IsWritten g s base x t bytes pending start now → IsWritten g s base x t (bytes ++ piece) (pending ++ piece) start now
+more_pending g s base x t bytes pending piece start now w =
+    let k = w.known in
+    record {
+      known = record {
+        lines = k.lines;
+        items = k.items;
+        entries = k.entries;
+        text = k.text;
+        graph = k.graph;
+        taken = record { fed = k.taken.fed; parts = more_bytes bytes pending piece k.lines k.taken.parts; said = k.taken.said; counted = k.taken.counted };
+        reported = k.reported;
+        part = k.part;
+        start = k.start;
+        sealed = k.sealed;
+        none = k.none;
+      };
+      written = w.written;
+    }
+
+-- ---- lines that were taken and answered
+
+pub record Answered (g : GraphValue) (s : Shown) (base : ℕ) (x : Intake) (t : Reporting) (bytes pending before out : List ℕ) (how : Taken) : Type 0 where
+  pub known : IsKnown g s base x t bytes pending
+  pub text : known.text ≡ before ++ out
+  pub stops : Stops (shown_inputs g) bytes pending (length known.lines) known.items how
+
+can_report : (s t : Shown) (base : ℕ) (x y : Intake) (u : Reporting) (items later : List Item) (entries : List Entry) (text : List ℕ) → IsFed s base x items → IsFed t base y later → Continues items later → Grows s t → HasReported s base u.done (reported_count u) (said_records items) entries text → (x.begun ≡ 0 → base ≡ 0) → u.done ≤ x.begun - 1
+    → (u.done ≡ x.begun → entries ≡ []) → CanReport t base u later y.begun (y.begun - 1) entries text
+can_report s t base x y u items later entries text f g continues grows reported start order none =
+    let a = f.begun in
+    let b = g.begun in
+    let c = continues.begun in
+    let d = base_within base x.begun u.done start order in
+    record {
+      reported = report_later s t base u.done (reported_count u) (said_records items) (said_records later) entries text reported grows (λ e i lt. continues.ended e i (omega (arith, lt, d, a)));
+      order = omega (arith, a, b, c, order);
+      none = λ e. none (omega (arith, a, b, c, order, e));
+    }
+
+pub answered : (g : GraphValue) (s s2 s3 : Shown) (base : ℕ) (x x2 x3 : Intake) (t t3 : Reporting) (bytes pending rest out : List ℕ) (how : Taken) (start now : Option (List ℕ)) (w : IsWritten g s base x t bytes pending start now) → TakesLines base s s2 x x2 (shown_inputs g) pending rest how
+    → AnswersOpen base s2 s3 x2 x3 t t3 out → Answered g s3 base x3 t3 bytes rest w.known.text out how
+answered g s s2 s3 base x x2 x3 t t3 bytes pending rest out how start now w takes goes =
+    let k = w.known in
+    let took = takes bytes k.lines k.items k.taken in
+    let gone = goes took.later k.entries k.text took.reached.fed (can_report s s2 base x x2 t k.items took.later k.entries k.text k.taken.fed took.reached.fed took.continues took.grows k.reported k.start k.sealed k.none) in
+    let same : s3.graph ≡ g = gone.graph ∙ took.grows.graph ∙ k.graph in
+    let lines : gone.reported.lines ≡ out = sym gone.reported.appended in
+    record {
+      known = record {
+        lines = took.lines;
+        items = took.later;
+        entries = gone.reported.entries;
+        text = k.text ++ gone.reported.lines;
+        graph = same;
+        taken = record { fed = gone.fed; parts = took.reached.parts; said = took.reached.said; counted = gone.holds.line ∙ took.reached.counted };
+        reported = gone.reported.reported;
+        part = subst (λ (h : GraphValue). IsPart h (said_records took.later (base + t3.done)) gone.reported.entries) same gone.reported.part;
+        start = λ none. k.start (omega (arith, none, gone.holds.begun, took.reached.fed.begun, k.taken.fed.begun, took.continues.begun));
+        sealed = let b = gone.holds.begun in omega (arith, b, gone.reported.order);
+        none = λ e. gone.reported.none (e ∙ gone.holds.begun);
+      };
+      text = ap (λ (xs : List ℕ). k.text ++ xs) lines;
+      stops = took.stops;
+    }
+
+-- all is written
+pub answer_written : (g : GraphValue) (s : Shown) (base : ℕ) (x : Intake) (t : Reporting) (bytes pending before out : List ℕ) (how : Taken) (start now new : Option (List ℕ)) → Answered g s base x t bytes pending before out how → Appends start now before → Appends now new out
+    → (w : IsWritten g s base x t bytes pending start new) × Stops (shown_inputs g) bytes pending (length w.known.lines) w.known.items how
+answer_written g s base x t bytes pending before out how start now new a p q = (record { known = a.known; written = subst (Appends start new) (sym a.text) (Appends-then start now new before out p q) }, a.stops)
+
+-- the writer failed
+pub unwritten : (g : GraphValue) (s : Shown) (base : ℕ) (x : Intake) (t : Reporting) (bytes pending before out : List ℕ) (how : Taken) (left start now new : Option (List ℕ)) → Answered g s base x t bytes pending before out how → Appends start now before → AppendsFront now new out
+    → Follows g bytes left start new (Err ending.Write)
+unwritten g s base x t bytes pending before out how left start now new a p q =
+    known_follows g s base x t bytes pending bytes left start new (Err ending.Write) (split_on 10 pending) a.known a.known.taken.parts tt (subst (AppendsFront start new) (sym a.text) (front_then start now new before out p q))
+
+-- the next line has a fault
+pub faults : (g : GraphValue) (s : Shown) (base : ℕ) (x : Intake) (t : Reporting) (bytes pending : List ℕ) (code : ℕ) (left start now : Option (List ℕ)) (e : Ending) (w : IsWritten g s base x t bytes pending start now)
+    → Stops (shown_inputs g) bytes pending (length w.known.lines) w.known.items (taken.Fault code) → (e ≡ ending.Input code (x.line + 1)) ⊎ (e ≡ ending.Incomplete) → Follows g bytes left start now (Err e)
+faults g s base x t bytes pending code left start now e w stops (inl is) =
+    let line : x.line + 1 ≡ length w.known.lines + 1 = ap (λ (n : ℕ). n + 1) w.known.taken.counted in
+    subst (λ (y : Ending). Follows g bytes left start now (Err y)) (sym is)
+    (known_follows g s base x t bytes pending bytes left start now (Err (ending.Input code (x.line + 1))) (split_on 10 pending) w.known w.known.taken.parts (record {
+      refused = subst (λ (n : ℕ). IsRefused (shown_inputs g) bytes (At code n)) (sym line) stops.0;
+      next = line;
+      last = λ c. absurd (stops.1 c);
+    }) w.written)
+faults g s base x t bytes pending code left start now e w stops (inr is) = subst (λ (y : Ending). Follows g bytes left start now (Err y)) (sym is) (halted g s base x t bytes pending left start now halt.Incomplete w)
+
+-- ---- the end of the input
+
+-- a last line without line feed
+pub unended_last : (g : GraphValue) (s : Shown) (base : ℕ) (x : Intake) (t : Reporting) (bytes pending : List ℕ) (left start now : Option (List ℕ)) (e : Ending) → IsWritten g s base x t bytes pending start now → split_on 10 pending ≡ pending ∷ [] → IsAtEnd left → 0 < length pending
+    → (e ≡ ending.Input 43 (x.line + 1)) ⊎ (e ≡ ending.Incomplete) → Follows g bytes left start now (Err e)
+unended_last g s base x t bytes pending left start now e w unended end some (inl is) =
+    let k = w.known in
+    let line : x.line + 1 ≡ length k.lines + 1 = ap (λ (n : ℕ). n + 1) k.taken.counted in
+    let parts : split_on 10 bytes ≡ k.lines ++ pending ∷ [] = k.taken.parts ∙ ap (λ (ps : List (List ℕ)). k.lines ++ ps) unended in
+    subst (λ (y : Ending). Follows g bytes left start now (Err y)) (sym is)
+    (known_follows g s base x t bytes pending bytes left start now (Err (ending.Input 43 (x.line + 1))) (pending ∷ []) k parts (record {
+      refused = (k.lines, k.items, k.taken.said, line, pending, [], parts, inl (refl, some, refl));
+      next = line;
+      last = λ c. end;
+    }) w.written)
+unended_last g s base x t bytes pending left start now e w unended end some (inr is) =
+    subst (λ (y : Ending). Follows g bytes left start now (Err y)) (sym is) (halted g s base x t bytes pending left start now halt.Incomplete w)
+
+-- what is written at the end
+last_report : (g : GraphValue) (s s2 : Shown) (base : ℕ) (x : Intake) (t t2 : Reporting) (bytes pending out : List ℕ) (start now : Option (List ℕ)) (w : IsWritten g s base x t bytes pending start now) → AnswersLast base s s2 x t t2 out → IsLastAnswer base s2 x t2 w.known.items w.known.text out s
+last_report g s s2 base x t t2 bytes pending out start now w ends =
+    let k = w.known in
+    ends k.items k.entries k.text k.taken.fed (record { reported = k.reported; order = omega (arith, k.sealed); none = k.none })
+
+last_follows : (g : GraphValue) (s s2 : Shown) (base : ℕ) (x : Intake) (t t2 : Reporting) (bytes pending out : List ℕ) (left start now new : Option (List ℕ)) (result : Result (Unit {0}) Ending) (w : IsWritten g s base x t bytes pending start now) (e : IsLastAnswer base s2 x t2 w.known.items w.known.text out s) → split_on 10 pending ≡ pending ∷ [] → IsAtEnd left
+    → Reaches (shown_inputs g) bytes left w.known.lines w.known.items (pending ∷ []) (base + t2.done) e.reported.entries result → Writes start new (w.known.text ++ out) result → Follows g bytes left start new result
+last_follows g s s2 base x t t2 bytes pending out left start now new result w e unended end reaches writes =
+    let k = w.known in
+    let same : s2.graph ≡ g = e.graph ∙ k.graph in
+    let lines : k.text ++ e.reported.lines ≡ k.text ++ out = ap (λ (xs : List ℕ). k.text ++ xs) (sym e.reported.appended) in
+    record {
+      lines = k.lines;
+      items = k.items;
+      rest = pending ∷ [];
+      done = base + t2.done;
+      entries = e.reported.entries;
+      text = k.text ++ out;
+      read = record { parts = k.taken.parts ∙ ap (λ (ps : List (List ℕ)). k.lines ++ ps) unended; said = k.taken.said };
+      answer = record {
+        reported = subst (λ (h : GraphValue). IsReport h (said_records k.items) (base + t2.done) e.reported.entries (k.text ++ out)) same (subst (λ (xs : List ℕ). IsReport s2.graph (said_records k.items) (base + t2.done) e.reported.entries xs) lines e.reported.reported.reported);
+        part = subst (λ (h : GraphValue). IsPart h (said_records k.items (base + t2.done)) e.reported.entries) same e.reported.part;
+      };
+      sealed = inr ((let b = k.taken.fed.begun in omega (arith, b, e.complete)), end);
+      reaches = reaches;
+      writes = writes;
+    }
+
+pub all_reported : (g : GraphValue) (s s2 : Shown) (base : ℕ) (x : Intake) (t t2 : Reporting) (bytes pending out : List ℕ) (left start now new : Option (List ℕ)) → IsWritten g s base x t bytes pending start now → split_on 10 pending ≡ pending ∷ [] → AnswersLast base s s2 x t t2 out → IsAtEnd left → pending ≡ [] → Appends now new out → Follows g bytes left start new (Ok tt)
+all_reported g s s2 base x t t2 bytes pending out left start now new w unended ends end none written =
+    let k = w.known in
+    let e = last_report g s s2 base x t t2 bytes pending out start now w ends in
+    let complete : base + t2.done ≡ epochs_after 0 k.items = ap (λ (n : ℕ). base + n) e.complete ∙ k.taken.fed.begun in
+    last_follows g s s2 base x t t2 bytes pending out left start now new (Ok tt) w e unended end (record {
+      whole = record {
+        lines = k.lines;
+        items = k.items;
+        parts = k.taken.parts ∙ ap (λ (bs : List ℕ). k.lines ++ split_on 10 bs) none;
+        said = k.taken.said;
+        epochs = refl;
+        holds = λ epoch input. refl;
+      };
+      ended = end;
+      complete = complete;
+      none = e.reported.none e.complete;
+    }) (Appends-then start now new k.text out w.written written)
+
+pub last_unwritten : (g : GraphValue) (s s2 : Shown) (base : ℕ) (x : Intake) (t t2 : Reporting) (bytes pending out : List ℕ) (left start now new : Option (List ℕ)) → IsWritten g s base x t bytes pending start now → split_on 10 pending ≡ pending ∷ [] → AnswersLast base s s2 x t t2 out → IsAtEnd left → AppendsFront now new out → Follows g bytes left start new (Err ending.Write)
+last_unwritten g s s2 base x t t2 bytes pending out left start now new w unended ends end written =
+    let e = last_report g s s2 base x t t2 bytes pending out start now w ends in
+    last_follows g s s2 base x t t2 bytes pending out left start now new (Err ending.Write) w e unended end tt (front_then start now new w.known.text out w.written written)
+
+-- ---- what was read
+
+pub consumes_none : (a : Option (List ℕ)) → Consumes a a []
+consumes_none None = tt
+consumes_none (Some xs) = refl
+
+pub consumes_then : (a b c : Option (List ℕ)) (xs ys : List ℕ) → Consumes a b xs → Consumes b c ys → Consumes a c (xs ++ ys)
+consumes_then None b c xs ys p q = tt
+consumes_then (Some s) None c xs ys p q = absurd p
+consumes_then (Some s) (Some t) None xs ys p q = absurd q
+consumes_then (Some s) (Some t) (Some u) xs ys p q = p ∙ ap (λ (v : List ℕ). xs ++ v) q ∙ sym (append_assoc xs ys u)
+
+pub consumes_keeps : (a b c : Option (List ℕ)) (xs : List ℕ) → Consumes a b xs → Keeps b c → Consumes a c xs
+consumes_keeps None b c xs p q = tt
+consumes_keeps (Some s) None c xs p q = absurd p
+consumes_keeps (Some s) (Some t) None xs p q = absurd q
+consumes_keeps (Some s) (Some t) (Some u) xs p q = p ∙ ap (λ (v : List ℕ). xs ++ v) (sym q)
+
+-- nothing was done
+abbrev FollowsNothing : GraphValue → Option (List ℕ) → Option (List ℕ) → Result (Unit {0}) Ending → Type 0
+FollowsNothing g left start result = Follows g [] left start start result
+
+nothing_by : (g : GraphValue) (left start : Option (List ℕ)) (result : Result (Unit {0}) Ending) → Reaches (shown_inputs g) [] left [] [] ([] ∷ []) 0 [] result → Writes start start [] result → FollowsNothing g left start result
+nothing_by g left start result reaches writes = record {
+  lines = [];
+  items = [];
+  rest = [] ∷ [];
+  done = 0;
+  entries = [];
+  text = [];
+  read = record { parts = refl; said = tt };
+  answer = record { reported = IsReport.reports_nothing; part = part_nothing g (said_records [] 0) };
+  sealed = inl (omega arith);
+  reaches = reaches;
+  writes = writes;
+}
+
+pub nothing_follows : (g : GraphValue) (left start : Option (List ℕ)) (h : Halt) → Follows g [] left start start (Err (ending_of h))
+nothing_follows g left start halt.NoMemory = nothing_by g left start (Err ending.NoMemory) tt (appends_none start)
+nothing_follows g left start halt.Count = nothing_by g left start (Err ending.Count) tt (appends_none start)
+nothing_follows g left start halt.Incomplete = nothing_by g left start (Err ending.Incomplete) tt (appends_none start)
+
+pub consumes_end : (a b c : Option (List ℕ)) (xs : List ℕ) → Consumes a b xs → Consumes b c [] → Consumes a c xs
+consumes_end a b c xs p q = subst (Consumes a c) (append-nil xs) (consumes_then a b c xs [] p q)

@@ -1,5 +1,0 @@
-use Rattle.follow.proofs.Waiting.{AreZero}
-use Rattle.follow.proofs.telling.Telling.new.Given as goal
-
-abbrev pub invariant-loop-output : goal.invariant-loop-output
-invariant-loop-output l = AreZero l.told.items

@@ -1,0 +1,205 @@
+//! Reports what was emitted: the lines of records, and of epochs that are complete.
+
+ghost use Rattle.std.specs.Prelude.{◌≡◌, ◌<◌, ℕ, ◌+◌, ◌++◌, IfOk, IsTrue, OnOk, map};
+ghost use Rattle.board.specs.Promises.{HasPassed, IsOutputPlace};
+ghost use Rattle.collector.specs.OutputText.{is_plain, label_of};
+ghost use Rattle.graph.specs.Views.{name_of_output};
+ghost use Rattle.follow.specs.Entries.{complete_line};
+ghost use Rattle.follow.specs.Scenes.{batches_of, reported_count};
+ghost use Rattle.follow.specs.Steps.{IsFresh, Completes, Reports, ReportsBatches, ReportsOutput, ReportsOpen};
+
+use crate::batches::push_batches;
+use crate::ending::Halt;
+use crate::texts::push_complete;
+use board::Board;
+use graph::GraphOutput;
+use record_core::Name;
+use std::alloc::Global;
+use views::Views;
+
+/// How far the answer is reported: the number of the board's epochs that are complete, and for each output the number of batches of the next
+/// epoch that were written.
+#[derive(Drop)]
+pub struct Reporting {
+    pub done: u32,
+    pub reported: Vec<usize>,
+}
+
+impl Reporting {
+    /// Nothing written yet, for that many outputs.
+    pub fn new(alloc: Global, outputs: u32) -> Result<Reporting, Halt>
+        ensures { IfOk result IsFresh }
+    {
+        let mut reported = Vec::with_capacity(alloc, outputs as usize)?;
+        for _output in 0..outputs {
+            reported.push(0)?;
+        }
+        Ok(Reporting { done: 0, reported })
+    }
+
+    /// Whether the report is between two epochs: nothing was written of the first one that isn't complete.
+    pub fn is_between_epochs(&self) -> bool
+        ensures { IsTrue result → (k : ℕ) → reported_count self.now k ≡ 0 }
+    {
+        for place in 0..self.reported.len() {
+            if self.reported[place] != 0 {
+                return false;
+            }
+        }
+        true
+    }
+
+    /// Counts the epoch as complete; nothing was written of the next one.
+    fn complete(&mut self) -> Result<(), Halt>
+        ensures { OnOk result (Completes self.old self.new) }
+    {
+        let Some(done) = self.done.checked_add(1) else {
+            return Err(Halt::Incomplete);
+        };
+        for place in 0..self.reported.len() {
+            self.reported[place] = 0;
+        }
+        self.done = done;
+        Ok(())
+    }
+}
+
+/// Whether the only output is named `out`.
+fn are_plain(outputs: &[GraphOutput]) -> bool
+    ensures { result ≡ is_plain (map name_of_output outputs.now) }
+{
+    match outputs {
+        [only] => only.name.bytes() == b"out".as_slice(),
+        _ => false,
+    }
+}
+
+/// Whether an epoch has passed at every output.
+fn has_passed<V: Views>(board: &Board<V>, epoch: u32) -> bool
+    ensures { IsTrue result → (k : ℕ) → IsOutputPlace board.now.shown k → HasPassed board.now.shown k epoch }
+{
+    for output in 0..board.output_count() {
+        if !board.passed(output, epoch) {
+            return false;
+        }
+    }
+    true
+}
+
+/// Appends the lines of the batches that were emitted at an output for an epoch, without the first `reported`; gives the number of batches.
+fn push_output<V: Views>(
+    board: &Board<V>,
+    base: u32,
+    done: u32,
+    output: u32,
+    plain: bool,
+    name: &Name,
+    reported: usize,
+    out: &mut Vec<u8>,
+) -> Result<usize, Halt>
+    requires { IsOutputPlace board.now.shown output }
+    ensures { IfOk result (λ n. ReportsBatches (batches_of board.now.shown output done) (label_of plain name.now) (base + done) reported
+        out.old.items out.new.items n) }
+{
+    let Some(epoch) = base.checked_add(done) else {
+        return Err(Halt::Incomplete);
+    };
+    let batches = board.emitted(output, done);
+    if reported > batches.len() {
+        return Err(Halt::Incomplete);
+    }
+    push_batches(out, epoch, plain, name, &batches[reported..])?;
+    Ok(batches.len())
+}
+
+/// Appends the lines of what was emitted at an output for the first incomplete epoch and wasn't written yet.
+fn report_output<V: Views>(
+    board: &Board<V>,
+    base: u32,
+    reporting: &mut Reporting,
+    output: u32,
+    plain: bool,
+    name: &Name,
+    out: &mut Vec<u8>,
+) -> Result<(), Halt>
+    requires { IsOutputPlace board.now.shown output }
+    ensures { OnOk result (ReportsOutput board.now.shown base reporting.old reporting.new output (label_of plain name.now) out.old.items out.new.items) }
+{
+    let place = output as usize;
+    if place >= reporting.reported.len() {
+        return Err(Halt::Incomplete);
+    }
+    let reported = reporting.reported[place];
+    match push_output(
+        board,
+        base,
+        reporting.done,
+        output,
+        plain,
+        name,
+        reported,
+        out,
+    ) {
+        Ok(count) => {
+            reporting.reported[place] = count;
+            Ok(())
+        }
+        Err(halt) => Err(halt),
+    }
+}
+
+/// Appends the lines of what was emitted at each output for the first incomplete epoch and wasn't written yet.
+fn report_open<V: Views>(
+    board: &Board<V>,
+    base: u32,
+    reporting: &mut Reporting,
+    out: &mut Vec<u8>,
+) -> Result<(), Halt>
+    ensures { OnOk result (ReportsOpen board.now.shown base reporting.old reporting.new out.old.items out.new.items) }
+{
+    let outputs = board.graph().outputs();
+    let plain = are_plain(outputs);
+    for output in 0..board.output_count() {
+        let name = &outputs[output as usize].name;
+        report_output(board, base, reporting, output, plain, name, out)?;
+    }
+    Ok(())
+}
+
+/// Appends the line that says that an epoch of the board is complete.
+fn push_done(out: &mut Vec<u8>, base: u32, done: u32) -> Result<(), Halt>
+    ensures { OnOk result (out.new.items ≡ out.old.items ++ complete_line (base + done)) }
+{
+    let Some(epoch) = base.checked_add(done) else {
+        return Err(Halt::Incomplete);
+    };
+    push_complete(out, epoch)?;
+    Ok(())
+}
+
+/// Appends what can be written: the board's epochs in order, up to the first that isn't complete. An epoch below `sealed` is complete once it has
+/// passed. The board's epoch 0 is the input's epoch `base`.
+pub fn report<V: Views>(
+    board: &Board<V>,
+    base: u32,
+    reporting: &mut Reporting,
+    begun: u32,
+    sealed: u32,
+    out: &mut Vec<u8>,
+) -> Result<(), Halt>
+    ensures { OnOk result (Reports board.now.shown base reporting.old reporting.new begun sealed out.old.items out.new.items) }
+{
+    board.law_headline();
+    for epoch in reporting.done..begun {
+        report_open(board, base, reporting, out)?;
+        if epoch >= sealed {
+            return Ok(());
+        }
+        if !has_passed(board, epoch) {
+            return Ok(());
+        }
+        push_done(out, base, epoch)?;
+        reporting.complete()?;
+    }
+    Ok(())
+}
