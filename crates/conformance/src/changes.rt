@@ -16,7 +16,7 @@ fn checked(rt: &HostRuntime, query: &[u8]) -> (Result<(), Fault>, Vec<u8>) {
     (done, out.into_inner())
 }
 
-// A `#` without its number is no word; after all else that a cut leaves, the text ends too early or in a word that can't stand there.
+// A `#` without its number is no word; after all else that a cut leaves, the text ends too early or in a word that can't come there.
 #[test]
 fn beginnings(rt: HostRuntime) -> Result<(), Fail> {
     for cut in 0..REACH.len() {

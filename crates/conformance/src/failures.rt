@@ -54,7 +54,7 @@ fn lines(rt: HostRuntime) -> Result<(), Fail> {
     Ok(())
 }
 
-/// A reader that gives a text, at most three bytes at a time, and fails after so many reads.
+/// A reader that gives a text, at most three bytes at a time, and fails after that many reads.
 #[derive(Drop)]
 struct Slow<'a> {
     text: &'a [u8],
@@ -106,7 +106,7 @@ impl Write for Full {
     }
 }
 
-/// The query `q`, the input `i` and the schedule `s`, whose readers fail after so many reads: the query's, and the others'.
+/// The query `q`, the input `i` and the schedule `s`. Their readers fail after a number of reads: one for the query's, one for the others'.
 #[derive(Clone, Copy)]
 struct Shelf {
     query: usize,
@@ -134,7 +134,7 @@ impl<'a> Sources<'a> for Shelf {
     }
 }
 
-/// A writer with room for so many bytes, which fails beyond that.
+/// A writer with room for that many bytes, which fails beyond that.
 fn room_for(alloc: Global, room: usize) -> Full {
     Full {
         room,
@@ -144,7 +144,7 @@ fn room_for(alloc: Global, room: usize) -> Full {
     }
 }
 
-/// How a line ends over these texts: its status, what was written, and what was told.
+/// How a command line ends over these texts: its status, and what was written to standard output and to standard error.
 fn ended<'a, R: Threads + Wait + Sync>(
     rt: &R,
     alloc: Global,
@@ -212,7 +212,7 @@ fn is_written<R: Threads + Wait + Sync>(
     status == 0 && written.as_slice() == text && told.is_empty()
 }
 
-/// Commands that write once all is read: the words, how many reads the other text than the query takes, what is told where one of them is
+/// Commands that write once all is read: the words, how many reads the other text than the query takes, the line of the fault if one of them is
 /// refused, and the answer.
 const COMMANDS: [(&[&str], usize, &str, &str); 7] = [
     (
@@ -277,7 +277,7 @@ fn commands_that_fail(rt: HostRuntime) -> Result<(), Fail> {
 
 const FOLLOW: &[&str] = &["loom", "follow", "q", "i"];
 
-/// What `follow` has told before a read is refused stays: the record's line, once the line feed behind it came with the fourth read.
+/// What `follow` wrote before a read is refused stays: the record's line, once the line feed after it came with the fourth read.
 #[test]
 fn follow_that_fails(rt: HostRuntime) -> Result<(), Fail> {
     for query in 0..8 {
@@ -300,7 +300,7 @@ fn follow_that_fails(rt: HostRuntime) -> Result<(), Fail> {
     Ok(())
 }
 
-/// A line ends with its fault's status, also where the fault can't be told.
+/// A command line ends with its fault's status, even if the fault can't be written.
 #[test]
 fn lines_that_fail(rt: HostRuntime) -> Result<(), Fail> {
     let words = ["loom", "run", "q", "i"];

@@ -1,4 +1,4 @@
-//! Runs on several workers, and what is told of them while they work.
+//! Runs on several workers, and what is reported of them while they work.
 
 use collector::Watched;
 use console::{Telling, Texts, Watcher, Workers, run};
@@ -22,7 +22,7 @@ impl Write for Broken {
     }
 }
 
-/// What two workers answer to an input of records of one field, which go through as they are. What each vertex did is told to `err`.
+/// What two workers answer to an input of records of one field, which go through as they are. What each vertex did is written to `err`.
 fn copied<O: Write + Send, E: Write>(
     rt: &HostRuntime,
     threads: &(impl Threads + Wait + Sync),
@@ -52,7 +52,7 @@ fn copied<O: Write + Send, E: Write>(
     Ok(out.into_inner())
 }
 
-/// A watcher that keeps what it is told.
+/// A watcher that keeps what is written to it.
 fn keeping(rt: &HostRuntime, telling: Telling) -> Option<Watcher<Vec<u8>>> {
     let writer = Vec::new(rt.alloc());
     Some(Watcher { writer, telling })

@@ -5,7 +5,7 @@ use std::alloc::{AllocError, Global};
 /// A command of a session.
 #[derive(Debug, Drop)]
 pub struct Session<'a> {
-    /// The line where it stands, from 1.
+    /// The number of its line, from 1.
     pub line: usize,
     /// The command, without `$ `.
     pub typed: &'a str,
@@ -22,13 +22,13 @@ enum Line<'a> {
     Typed(&'a str),
     /// What a command prints.
     Printed(&'a str),
-    /// An empty line, which may stand in what is printed.
+    /// An empty line, which may be a part of what is printed.
     Empty,
     /// No line of a code block.
     Outside,
 }
 
-/// What a line is: within a code block it stands between fences or behind four spaces.
+/// What a line is. A line of a code block is between fences or begins with four spaces.
 fn line_of<'a>(line: &'a str, is_fenced: bool) -> Line<'a> {
     if line.is_empty() {
         return Line::Empty;
@@ -47,7 +47,7 @@ fn line_of<'a>(line: &'a str, is_fenced: bool) -> Line<'a> {
     }
 }
 
-/// Appends a line to what a session prints, behind the empty lines that stand before it.
+/// Appends a line to what a session prints, after the empty lines before it.
 fn add_line(session: &mut Session, empty: usize, text: &str) -> Result<(), AllocError> {
     for _ in 0..empty {
         session.printed.push_str("\n")?;

@@ -20,7 +20,7 @@ pub fn graph_of(alloc: Global, text: &str) -> Option<Graph> {
     lower(alloc, &typed).ok()
 }
 
-/// Follows an input with so many workers.
+/// Follows an input with that many workers.
 pub fn ended_by<R: Read, W: Write>(
     threads: &(impl Threads + Sync),
     alloc: Global,
@@ -44,7 +44,7 @@ pub fn ended_by<R: Read, W: Write>(
     )
 }
 
-/// A reader that gives a text, so many bytes at a time, and fails after so many reads.
+/// A reader that gives a text, at most `most` bytes at a time, and fails after `left` reads.
 #[derive(Drop)]
 pub struct Slow<'a> {
     pub text: &'a [u8],

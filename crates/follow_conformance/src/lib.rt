@@ -1,4 +1,4 @@
-//! What `follow` writes for inputs that come piece by piece, and when readers and writers fail. No other crate stands on it.
+//! What `follow` writes for inputs that come piece by piece, and when readers and writers fail. No other crate uses it.
 #![tactic(auto)]
 
 #[cfg(test)]

@@ -7,7 +7,7 @@ use std::alloc::AllocError;
 /// 9,000 epochs with one record each: 18,000 lines.
 const EPOCHS: usize = 9_000;
 
-/// So many bytes of a text, from one on.
+/// That many bytes of a text, from one on.
 fn part(text: &[u8], from: usize, count: usize) -> &[u8] {
     let (_, back) = text.split_at(from.min(text.len()));
     let (front, _) = back.split_at(count.min(back.len()));
