@@ -1,4 +1,4 @@
-//! A board over the graph of a query, fed and worked off by one thread, with no text read or written.
+//! A board over the graph of a query. One thread feeds it and does its work, with no text read or written.
 
 ghost use Rattle.std.specs.Prelude.{◌≡◌, ◌<◌, ◌≤◌};
 ghost use Rattle.board.specs.Commits.{IsOf};
@@ -27,7 +27,7 @@ pub const LOOP: &str =
 /// The most records of a batch.
 const BATCH: u64 = 16_384;
 
-/// What a board is fed, and by how many workers it is worked off.
+/// What a board is fed, and how many workers it has.
 #[derive(Clone, Copy)]
 pub struct Feed {
     pub workers: u32,
@@ -44,7 +44,7 @@ fn graph_of(alloc: Global, text: &str) -> Option<Arc<Graph, Global>> {
     Arc::new(alloc, lower(alloc, &typed).ok()?).ok()
 }
 
-/// The k-th number of a sequence without pattern.
+/// The k-th number of a pseudo-random sequence.
 fn scattered(k: u64) -> u64 {
     let mixed = k.wrapping_mul(0x9e37_79b9_7f4a_7c15);
     (mixed ^ (mixed >> 29)).wrapping_mul(0xbf58_476d_1ce4_e5b9) >> 33
@@ -64,7 +64,7 @@ fn batch(alloc: Global, from: u64, to: u64, keys: u64) -> Option<Batch>
     Batch::from_rows(alloc, rows).ok()?
 }
 
-/// Computes an event and commits it; where that is refused it is given up.
+/// Computes an event and commits it, or abandons it if that is refused.
 fn finish<V: Views>(alloc: Global, board: &mut Board<V>, work: Work) -> Option<()>
     requires { IsOf board.old.shown work.0 }
 {
@@ -104,8 +104,8 @@ fn work_off<V: Views>(alloc: Global, board: &mut Board<V>, workers: u32) -> Opti
     None
 }
 
-/// Feeds so many records an epoch to each input, each epoch worked off before the next. How many events that were; nothing without
-/// memory.
+/// Feeds the records of an epoch to each input, and does all work of the epoch before the next one. Returns the number of events, or nothing
+/// without memory.
 fn run_on<V: Views>(alloc: Global, mut board: Board<V>, feed: Feed) -> Option<u64> {
     let inputs = u32::try_from(board.graph().inputs().len()).ok()?;
     let keys = (feed.records / 2).max(1);

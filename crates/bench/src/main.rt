@@ -1,4 +1,4 @@
-//! Measures the engine's parts: prints what came of their work, and is timed from outside.
+//! Measures the engine's parts: prints the results of their work, and is timed from outside.
 //!
 //! Shards: `join N` joins N thousand records of two fields with as many others, each with 2 of them; `distinct N` takes N thousand
 //! records, 4,000 different; `group N` takes N thousand records of 12,500 keys and gives the count, sum, least and greatest of each
@@ -10,11 +10,11 @@
 //! Trackers: `open N ROUNDS` keeps N epochs open at an input. Each round adds the newest, asks of it and of the oldest whether it is
 //! in the frontier, and removes the oldest; it prints how many answers were yes. `scan` is the same by the tracker that asks each.
 //!
-//! The board, without texts: `board-chain WORKERS EPOCHS RECORDS` feeds so many records an epoch to a select and a where, and lets the
-//! workers take turns in one thread; `board-join` and `board-loop` are the same of a join and of a loop of 4 turns. Where the word `views`
-//! follows, each worker has a view of progress of its own. Each prints how many events there were.
+//! The board, without texts: `board-chain WORKERS EPOCHS RECORDS` feeds RECORDS records in each epoch to a select and a where, and
+//! lets the workers take turns in one thread; `board-join` and `board-loop` do the same with a join and with a loop of 4 turns. If the word
+//! `views` follows, each worker has a view of progress of its own. Each prints how many events there were.
 //!
-//! Without arguments it does each but `query` and `board-loop`, small.
+//! Without arguments it runs each but `query` and `board-loop`, with small numbers.
 #![tactic(auto)]
 
 ghost use Rattle.std.specs.Prelude.{◌≤◌};

@@ -31,13 +31,14 @@ const SECOND: Column = Column {
     index: 1,
 };
 
-/// The k-th number of a sequence without pattern.
+/// The k-th number of a pseudo-random sequence.
 fn scattered(k: u64) -> u64 {
     let mixed = k.wrapping_mul(0x9e37_79b9_7f4a_7c15);
     (mixed ^ (mixed >> 29)).wrapping_mul(0xbf58_476d_1ce4_e5b9) >> 33
 }
 
-/// The batch of a number: so many records of two fields, the first one of `keys` numbers and the second one of `values`.
+/// The batch of a number: at most 1,024 records of two fields, and all batches together have `records` of them. The first field is one of
+/// `keys` numbers, the second one of `values`.
 fn batch(
     alloc: Global,
     number: u64,
@@ -96,7 +97,7 @@ fn absorb(alloc: Global, shard: &mut Shard, port: u32, batch: Batch) -> Result<u
     Ok(sent(&mut out))
 }
 
-/// Gives a shard so many records at each of its ports. How many a distinct or a join sends for them.
+/// Gives a shard `records` records at each of its ports. Returns how many a distinct or a join sends for them.
 fn absorb_all(
     alloc: Global,
     shard: &mut Shard,

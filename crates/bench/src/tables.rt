@@ -42,7 +42,7 @@ pub fn wide(alloc: Global, unions: u32) -> Result<String, AllocError> {
     Ok(text)
 }
 
-/// A tree of so many unions, of which each has the half of the rest on each side.
+/// A tree of that many unions. Of the unions below it, each has half on each side.
 fn push_tree(text: &mut String, unions: u32) -> Result<(), AllocError> {
     if unions == 0 {
         return text.push_str("y8");
@@ -98,7 +98,7 @@ fn ask<P: Progress>(tracker: &P, oldest: u32, newest: u32) -> u64
         + u64::from(tracker.in_frontier(&at_input(newest)))
 }
 
-/// How many answers are yes in so many rounds.
+/// How many answers are yes in that many rounds.
 fn slide<P: Progress>(tracker: &mut P, epochs: u32, rounds: u32) -> Result<u64, NoMemory>
     requires known { IsTimeAt (P.graph tracker.old) (Place.vertex 0) (at_epoch 0) }
     requires few { epochs + rounds < 2 ^ 32 }

@@ -48,7 +48,7 @@ pub fn batch_of(alloc: Global, fields: &[i64]) -> Option<Batch>
     Batch::from_rows(alloc, rows).ok()?
 }
 
-/// What came of a turn.
+/// The result of a turn.
 #[derive(Clone, Copy, Debug, PartialEq, Eq)]
 pub enum Turn {
     Stopped,
@@ -60,7 +60,7 @@ pub enum Turn {
     Count,
 }
 
-/// Computes an event and commits it; where that is refused it is given up.
+/// Computes an event and commits it, or abandons it if that is refused.
 pub fn commit<V: Views>(alloc: Global, board: &mut Board<V>, work: Work) -> Turn
     requires { IsOf board.old.shown work.0 }
 {

@@ -60,7 +60,7 @@ fn refuses_at_inputs(rt: HostRuntime) -> Result<(), Fail> {
     Ok(())
 }
 
-// An event that is given up stays counted: its epoch never passes, and the board takes nothing more but commits.
+// An event that is abandoned stays counted: its epoch never passes, and from then on the board takes only commits.
 #[test]
 fn stops(rt: HostRuntime) -> Result<(), Fail> {
     let alloc = rt.alloc();
@@ -81,7 +81,7 @@ fn stops(rt: HostRuntime) -> Result<(), Fail> {
     Ok(())
 }
 
-// The only worker has seen the record and the close. Its event is given up, so it stays active in each view, and nothing that the worker
+// The only worker has seen the record and the close. Its event is abandoned, so it stays active in each view, and nothing that the worker
 // posted waits: the epoch never passes.
 #[test]
 fn stops_where_views_are_late(rt: HostRuntime) -> Result<(), Fail> {

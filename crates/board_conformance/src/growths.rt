@@ -1,4 +1,4 @@
-//! Calls that are refused for want of memory: the board is as before, and takes the same once more.
+//! Calls that are refused for lack of memory: the board is as before, and takes the same call again.
 
 ghost use Rattle.std.specs.Prelude.{◌≡◌, IfOk, IfSome};
 ghost use Rattle.graph.specs.Shown.{shown_graph};
@@ -73,7 +73,7 @@ impl Progress for Refusing {
     }
 }
 
-/// Views by two workers of a graph, which see one tracker that refuses a growth after so many.
+/// Views by two workers of a graph, which see one tracker that refuses a growth after that many.
 fn views_after(
     alloc: Global,
     graph: &Arc<Graph, Global>,
@@ -93,7 +93,7 @@ fn views_after(
     Direct::new(alloc, &paths, 2, refusing)
 }
 
-/// A board of two workers whose tracker refuses a growth after so many; nothing where the opening is refused.
+/// A board of two workers whose tracker refuses a growth after that many; nothing if the opening is refused.
 pub fn board_after(
     alloc: Global,
     graph: Arc<Graph, Global>,
@@ -110,9 +110,9 @@ pub fn board_after(
 /// Why a schedule ended early.
 #[derive(Clone, Copy, Debug, PartialEq, Eq)]
 enum Fault {
-    /// After a refusal the board wasn't as before, or it refused the same once more.
+    /// After a refusal the board wasn't as before, or it refused the same call again.
     Spoiled,
-    /// There was no memory to compute an event, which was given up.
+    /// There was no memory to compute an event, which was abandoned.
     GivenUp,
 }
 
@@ -136,7 +136,7 @@ fn shown<V: Views>(board: &Board<V>) -> (usize, usize, u64, bool, bool) {
     )
 }
 
-/// Commits an event once more after a refusal; without memory it is given up.
+/// Commits an event again after a refusal, or abandons it without memory.
 fn commit_again<V: Views>(board: &mut Board<V>, done: Done) -> bool
     requires { IsOf board.old.shown done }
 {
@@ -254,7 +254,7 @@ fn refused_on<V: Views>(alloc: Global, mut board: Board<V>) -> Option<u32> {
     }
 }
 
-/// How many calls were refused where the tracker refuses its growth after so many, if the answer is whole.
+/// How many calls were refused if the tracker refuses a growth after that many, where the answer is whole.
 fn refused_after(alloc: Global, granted: u32) -> Option<u32> {
     refused_on(
         alloc,
@@ -351,7 +351,7 @@ fn counted<V: Views>(alloc: Global, board: &mut Board<V>) -> Result<u32, Fault> 
     Ok(refused)
 }
 
-/// How many calls were refused where the tracker refuses its growth after so many, if each showed what it should.
+/// How many calls were refused if the tracker refuses a growth after that many, where each showed what it should.
 fn counted_after(alloc: Global, granted: u32) -> Option<u32> {
     let mut board = board_after(alloc, graph_of(alloc, KEYS)?, granted)?;
     counted(alloc, &mut board).ok()
@@ -366,7 +366,7 @@ fn counts_refused_by_the_tracker(rt: HostRuntime) {
     assert_eq!(rt; counted_after(rt.alloc(), 11), Some(0));
 }
 
-/// Whether the answer is whole, or an event was given up: then the board is stopped, and the event's epoch never passes.
+/// Whether the answer is whole, or an event was abandoned: then the board is stopped, and the event's epoch never passes.
 fn is_whole_or_stopped<V: Views>(alloc: Global, board: &mut Board<V>) -> Result<bool, AllocError> {
     match refused(alloc, board) {
         Ok(count) => {

@@ -1,4 +1,4 @@
-//! The board's calls: each once on its happy path, each refusal in its order, calls that are made once more after a refusal, and
+//! The board's calls: each once on its happy path, each refusal in its order, calls that are made again after a refusal, and
 //! schedules at random, after each call of which what was emitted is compared with what a plain evaluator makes of what was fed. Most tests
 //! are on boards whose workers see one tracker; those of late views say so.
 #![tactic(auto)]

@@ -61,7 +61,7 @@ fn printed_on<V: Views>(
     replay(alloc, board, inputs.as_slice(), lines).ok()
 }
 
-/// What the schedule prints where the tracker refuses a growth after so many; nothing where the opening or the replay is refused.
+/// What the schedule prints if the tracker refuses a growth after that many; nothing if the opening or the replay is refused.
 fn printed_after(alloc: Global, granted: u32) -> Option<Vec<u8>> {
     let lines = read_schedule(alloc, ViewKind::Shared, SCHEDULE.as_bytes()).ok()?;
     let graph = graph_of(alloc, COUNTED)?;

@@ -70,7 +70,7 @@ impl<V: Views> Views for Refusing<V> {
     }
 }
 
-/// A board with a view for each worker, which refuse a growth after so many; nothing where the opening is refused.
+/// A board with a view for each worker. The views refuse a growth after that many; nothing if the opening is refused.
 pub fn late_board_after(
     alloc: Global,
     graph: Arc<Graph, Global>,

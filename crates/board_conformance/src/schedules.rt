@@ -15,7 +15,7 @@ pub const REACH: &str =
 
 pub const EPOCHS: u32 = 3;
 
-/// Numbers without pattern.
+/// Pseudo-random numbers.
 #[derive(Drop)]
 pub struct Dice {
     state: u64,
@@ -124,7 +124,7 @@ fn is_worked_off<V: Views>(alloc: Global, board: &mut Board<V>) -> bool {
     false
 }
 
-/// Whether the promise holds after each of so many steps, and in the end the first worker sees that all is emitted.
+/// Whether the promise holds after each of that many steps, and in the end the first worker sees that all is emitted.
 fn runs<V: Views>(
     alloc: Global,
     board: &mut Board<V>,

@@ -20,7 +20,7 @@ struct Twins {
     sealed: u32,
 }
 
-/// What came up after any of the steps of a schedule.
+/// What was seen after any of the steps of a schedule.
 #[derive(Clone, Copy, Debug, PartialEq, Eq)]
 struct Seen {
     /// Changes waited on the board with late views.
@@ -112,7 +112,7 @@ fn agree(twins: &mut Twins) -> bool {
     twins.late.passed_count() == twins.prompt.passed_count()
 }
 
-/// Does so many steps, all the while noting what is seen; now and then, and in the end, all is applied for the first worker.
+/// Takes that many steps, and notes after each what is seen. Now and then, and in the end, all is applied for the first worker.
 fn runs(alloc: Global, twins: &mut Twins, seed: u64, steps: u32, seen: &mut Seen) -> bool {
     let mut dice = Dice::of(seed);
     for _step in 0..steps {

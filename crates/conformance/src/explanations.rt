@@ -1,4 +1,4 @@
-//! The examples of the table of refusals, and what is reported of faults that no short text brings.
+//! The examples of the table of refusals, and what is written of faults that no short text has.
 
 use collector::Watched;
 use console::{Fault, Texts, ViewKind, Watcher, Workers, check_query, replay_schedule, run};
@@ -11,7 +11,7 @@ use std::thread::Threads;
 /// The query over which the inputs and the schedules of the table are read.
 const QUERY: &str = "input a/2; output a;";
 
-/// The code of what came to no answer: 0 where it is answered.
+/// The code of a text that has no answer: 0 if it has one.
 fn code_of(done: Result<(), Fault>) -> u8 {
     match done {
         Ok(()) => 0,
@@ -21,7 +21,7 @@ fn code_of(done: Result<(), Fault>) -> u8 {
     }
 }
 
-/// What comes of a query that is checked.
+/// The result of a query that is checked.
 fn checked(rt: &HostRuntime, query: &str) -> u8 {
     let mut query = Watched::new(query.as_bytes());
     let mut texts = Texts::new(rt.alloc());
@@ -29,7 +29,7 @@ fn checked(rt: &HostRuntime, query: &str) -> u8 {
     code_of(check_query(rt.alloc(), rt.alloc(), &mut query, &mut texts, &mut out))
 }
 
-/// What comes of a query that is run over an input.
+/// The result of a query that is run over an input.
 fn ran(rt: &HostRuntime, threads: &(impl Threads + Wait + Sync), query: &str, input: &str) -> u8 {
     let mut query = Watched::new(query.as_bytes());
     let mut input = Watched::new(input.as_bytes());
@@ -71,7 +71,7 @@ fn replayed(rt: &HostRuntime, kind: ViewKind, schedule: &str) -> Result<String, 
     Ok(String::from_utf8(text)?)
 }
 
-/// The code that an example of the table is refused with. A schedule prints it once and nothing else.
+/// The code with which an example of the table is refused. A schedule prints it once and nothing else.
 fn example_code(
     rt: &HostRuntime,
     threads: &(impl Threads + Wait + Sync),

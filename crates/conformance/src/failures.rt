@@ -106,7 +106,7 @@ impl Write for Full {
     }
 }
 
-/// The query `q`, the input `i` and the schedule `s`, whose readers fail after that many reads: the query's, and the others'.
+/// The query `q`, the input `i` and the schedule `s`. Their readers fail after a number of reads: one for the query's, one for the others'.
 #[derive(Clone, Copy)]
 struct Shelf {
     query: usize,
@@ -144,7 +144,7 @@ fn room_for(alloc: Global, room: usize) -> Full {
     }
 }
 
-/// How a line ends over these texts: its status, what was written, and what was reported.
+/// How a command line ends over these texts: its status, and what was written to standard output and to standard error.
 fn ended<'a, R: Threads + Wait + Sync>(
     rt: &R,
     alloc: Global,
@@ -214,7 +214,7 @@ fn is_written<R: Threads + Wait + Sync>(
     status == 0 && written.as_slice() == text && reported.is_empty()
 }
 
-/// Commands that write once all is read: the words, how many reads the other text than the query takes, what is reported where one of them is
+/// Commands that write once all is read: the words, how many reads the other text than the query takes, the line of the fault if one of them is
 /// refused, and the answer.
 const COMMANDS: [(&[&str], usize, &str, &str); 7] = [
     (
@@ -279,7 +279,7 @@ fn commands_that_fail(rt: HostRuntime) -> Result<(), Fail> {
 
 const FOLLOW: &[&str] = &["loom", "follow", "q", "i"];
 
-/// What `follow` has written before a read is refused stays: the record's line, once the line feed behind it came with the fourth read.
+/// What `follow` wrote before a read is refused stays: the record's line, once the line feed after it came with the fourth read.
 #[test]
 fn follow_that_fails(rt: HostRuntime) -> Result<(), Fail> {
     for query in 0..8 {
@@ -302,7 +302,7 @@ fn follow_that_fails(rt: HostRuntime) -> Result<(), Fail> {
     Ok(())
 }
 
-/// A line ends with its fault's status, also where the fault can't be reported.
+/// A command line ends with its fault's status, even if the fault can't be written.
 #[test]
 fn lines_that_fail(rt: HostRuntime) -> Result<(), Fail> {
     let words = ["loom", "run", "q", "i"];

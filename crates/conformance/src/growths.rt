@@ -76,7 +76,7 @@ fn checked_in_heaps(rt: HostRuntime) -> Result<(), Fail> {
     Ok(())
 }
 
-/// What came of compiling a query, where memory was refused or not.
+/// The results of compiling a query, with memory refused or not.
 #[derive(Clone, Copy, Debug, PartialEq, Eq)]
 struct Compiled {
     was_refused: bool,

@@ -1,5 +1,5 @@
 //! What the program's calls and the collector's answer where no page can show it (docs/ARCHITECTURE.md): readers, writers and memory that fail,
-//! and texts of great size. No other crate uses it.
+//! and very large texts. No other crate uses it.
 #![tactic(auto)]
 
 #[cfg(test)]

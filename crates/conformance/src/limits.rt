@@ -51,7 +51,7 @@ fn at_most_4096_vertices(rt: HostRuntime) -> Result<(), Fail> {
     Ok(())
 }
 
-/// The graph's size is reported before the input's fault.
+/// The graph's size is refused before the input's fault.
 #[test]
 fn too_large_to_run(rt: HostRuntime) -> Result<(), Fail> {
     let text = chain(&rt, 4095)?;

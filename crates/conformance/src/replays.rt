@@ -6,7 +6,7 @@ use std::test::Fail;
 
 const QUERY: &str = "input a/1; output a;";
 
-/// What is printed of a schedule on that many workers with views of that kind.
+/// What a schedule prints with that many workers and views of that kind.
 fn printed_by(
     rt: &HostRuntime,
     kind: ViewKind,
@@ -34,7 +34,7 @@ fn printed_by(
     Ok(String::from_utf8(text)?)
 }
 
-/// What is printed of a schedule on that many workers who share one view.
+/// What a schedule prints with that many workers who share one view.
 fn printed(rt: &HostRuntime, workers: &str, schedule: &str) -> Result<String, Fail> {
     printed_by(rt, ViewKind::Shared, workers, schedule)
 }

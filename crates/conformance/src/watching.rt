@@ -52,7 +52,7 @@ fn copied<O: Write + Send, E: Write>(
     Ok(out.into_inner())
 }
 
-/// A watcher that keeps what it is shown.
+/// A watcher that keeps what is written to it.
 fn keeping(rt: &HostRuntime, telling: Telling) -> Option<Watcher<Vec<u8>>> {
     let writer = Vec::new(rt.alloc());
     Some(Watcher { writer, telling })

@@ -119,9 +119,8 @@ fn is_steady(
     Ok(true)
 }
 
-/// What the program prints that is called with these words: standard output, and then standard error. A run that asks for no number of
-/// workers, and prints nothing of them, is repeated with several of them; where that prints something else, a line says so in place of what
-/// is printed.
+/// What the program prints that is called with these words: standard output, and then standard error. A run without `--workers`,
+/// `--watch` and `--stats` is repeated with several workers; if that prints something else, a line says so in place of what is printed.
 pub fn shown_of(
     rt: &HostRuntime,
     threads: &(impl Threads + Wait + Sync),

@@ -6,7 +6,7 @@ use std::alloc::{AllocError, Global};
 /// A row of the table.
 #[derive(Clone, Copy, Debug)]
 pub struct Row<'a> {
-    /// Its line, from 1.
+    /// The number of its line, from 1.
     pub line: usize,
     pub code: &'a str,
     pub summary: &'a str,

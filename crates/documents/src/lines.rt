@@ -82,7 +82,7 @@ fn shown_of_pipe(
     }
 }
 
-/// What a line prints: that of its commands; nothing where `| diff - FILE` comes after them and the file holds just that.
+/// What a line prints: what its commands print, or nothing if `| diff - FILE` follows them and the file holds exactly that.
 pub fn printed(
     rt: &HostRuntime,
     threads: &(impl Threads + Wait + Sync),

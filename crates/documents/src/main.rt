@@ -1,10 +1,10 @@
-//! The program `documents`: replays the sessions that documents show, and compares what is printed with what is there.
+//! The program `documents`: replays the sessions that documents show, and compares what is printed with what they show.
 //!
 //! Its words are Markdown files. In each of them a line `$ ./loom ..` of a code block is answered by the calls that the program `loom`
 //! makes, and a line `$ cat ..` by the file. It prints a line for each document that is right, each place where one is wrong, and ends
-//! with status 1 if any is. The documents and the files that they name are in its folder `data`, where the gate runs it: what the user
-//! reads, `worked/` with answers that were worked by hand, and `wrong.md`, which is wrong on purpose so that the replay is tried too. So the
-//! status that is wanted is 1.
+//! with status 1 if any is. The documents and the files that they name are in its folder `data`, where the gate runs it. They are the
+//! pages for users, `worked/` with answers that were worked out by hand, and `wrong.md` with deliberate mistakes, which tests the replay itself.
+//! So the expected status is 1.
 #![tactic(auto)]
 
 mod answers;
@@ -22,7 +22,7 @@ use std::sync::Wait;
 use std::thread::Threads;
 use std::{env, fs, io};
 
-/// Reports a session that prints something else.
+/// Prints what a session printed instead of what its document shows.
 fn report(rt: &HostRuntime, path: &str, session: &Session, answered: &[u8]) -> io::Result<()> {
     let (line, typed) = (session.line, session.typed);
     println!(rt; "{path}:{line}: `{typed}` prints")?;
@@ -32,7 +32,7 @@ fn report(rt: &HostRuntime, path: &str, session: &Session, answered: &[u8]) -> i
     Ok(())
 }
 
-/// Whether each session prints what is under it; reports those that don't.
+/// Whether each session prints what its document shows. Those that don't are reported.
 fn replays(
     rt: &HostRuntime,
     threads: &(impl Threads + Wait + Sync),
@@ -61,7 +61,7 @@ fn all_explanations(alloc: Global) -> Result<Vec<&'static Explanation>, AllocErr
     Ok(all)
 }
 
-/// Whether a document's table of refusals is that of these explanations; reports the rows that aren't.
+/// Whether a document's table of refusals is that of these explanations. Rows that differ are reported.
 fn explains(
     rt: &HostRuntime,
     path: &str,

@@ -5,7 +5,7 @@ use std::alloc::{AllocError, Global};
 /// A command of a session.
 #[derive(Debug, Drop)]
 pub struct Session<'a> {
-    /// Its line, from 1.
+    /// The number of its line, from 1.
     pub line: usize,
     /// The command, without `$ `.
     pub typed: &'a str,
@@ -22,13 +22,13 @@ enum Line<'a> {
     Typed(&'a str),
     /// What a command prints.
     Printed(&'a str),
-    /// An empty line, which may be part of what is printed.
+    /// An empty line, which may be a part of what is printed.
     Empty,
     /// No line of a code block.
     Outside,
 }
 
-/// What a line is: within a code block it is between fences or after four spaces.
+/// What a line is. A line of a code block is between fences or begins with four spaces.
 fn line_of<'a>(line: &'a str, is_fenced: bool) -> Line<'a> {
     if line.is_empty() {
         return Line::Empty;

@@ -1,4 +1,4 @@
-//! Records that stand many times: what a shard sends for them, and where a count is too large.
+//! Records that occur many times: what a shard sends for them, and where a count is too large.
 
 ghost use Rattle.std.specs.Prelude.{◌≡◌, ◌≤◌, ◌<◌, IfOk, OnOk};
 ghost use Rattle.rows.specs.Counts.{most};
@@ -16,7 +16,7 @@ use std::process::Abort;
 use std::test::Fail;
 use vertices::{Out, Shard, ShardFault};
 
-/// The record 5, so many times.
+/// The record 5, that many times.
 fn fives(rt: &impl Abort, alloc: Global, count: u64) -> Result<Batch, ShardFault>
     requires some { 1 ≤ count }
     requires fits { count ≤ most }
@@ -41,7 +41,7 @@ fn counted(alloc: Global, out: &mut Out) -> Result<Vec<i64>, ShardFault> {
     Ok(fields)
 }
 
-/// What a distinct, an intersect or a join sends for 5 that comes so many times to a port in epoch 0.
+/// What a distinct, an intersect or a join sends for 5 that comes that many times to a port in epoch 0.
 #[tactic(auto, using(vertices::proofs::AtWork::still_at_work))]
 fn sends(
     rt: &impl Abort,
@@ -63,7 +63,7 @@ fn sends(
     counted(alloc, &mut out)
 }
 
-/// An except or a group takes 5 so many times, by its first port in epoch 0.
+/// An except or a group takes 5 that many times, by its first port in epoch 0.
 #[tactic(auto, using(vertices::proofs::AtWork::still_at_work))]
 fn takes(
     rt: &impl Abort,
@@ -123,7 +123,7 @@ fn group(alloc: Global) -> Result<Shard, ShardFault>
     shard_of(alloc, Kind::Group(columns, aggregates), 1)
 }
 
-/// What a join sends for 5 that comes so many times to port 0, and then so many times to port 1.
+/// What a join sends for 5 that comes `left` times to port 0, and then `right` times to port 1.
 fn joined(rt: &impl Abort, alloc: Global, left: u64, right: u64) -> Result<Vec<i64>, ShardFault>
     requires left { 1 ≤ left }
     requires left_fits { left ≤ most }
@@ -154,7 +154,7 @@ fn a_join_sends_as_many_as_can_be(rt: HostRuntime) -> Result<(), Fail> {
     Ok(())
 }
 
-/// Whether a shard takes 5 so many times more after 9223372036854775806 times.
+/// Whether a shard takes 5 another `more` times after 9223372036854775806 times.
 fn takes_more(
     rt: &impl Abort,
     alloc: Global,
@@ -189,7 +189,7 @@ fn absorbs_more(
     Ok(())
 }
 
-/// What a distinct, an intersect, a join, an except and a group answer to so many records more after 9223372036854775806.
+/// What a distinct, an intersect, a join, an except and a group answer to `more` records after 9223372036854775806 of them.
 fn each_takes_more(
     rt: &impl Abort,
     alloc: Global,
@@ -216,7 +216,7 @@ fn each_takes_in_as_many_as_can_be(rt: HostRuntime) -> Result<(), Fail> {
     Ok(())
 }
 
-/// The records 5 1 and 5 2, so many times each.
+/// The records 5 1 and 5 2, that many times each.
 fn two_fives(rt: &impl Abort, alloc: Global, ones: u64, twos: u64) -> Result<Batch, ShardFault>
     requires ones { 1 ≤ ones }
     requires ones_fit { ones ≤ most }
@@ -320,7 +320,7 @@ fn rows_that_are_fed_meet(rt: HostRuntime) -> Result<(), Fail> {
     Ok(())
 }
 
-/// The record 5 so many times and once more, put together: the different records, each followed by its count, and how many there are.
+/// The record 5 that many times and then once, put together: the different records, each followed by its count, and how many there are.
 fn together(rt: &impl Abort, alloc: Global, count: u64) -> Result<(Vec<i64>, usize), ShardFault>
     requires some { 1 ≤ count }
     requires fits { count ≤ most }

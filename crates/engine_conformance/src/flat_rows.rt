@@ -88,7 +88,7 @@ fn rows_are_compared(rt: HostRuntime) {
     assert_eq!(rt; compared(rt.alloc()), Ok([false, false, true, false]));
 }
 
-/// What a growth by more than there is says, one by 10, and how many rows are there after both of them.
+/// What a growth by more than there is memory for answers, what one by 10 answers, and how many rows there are after both.
 fn grown(alloc: Global) -> Result<(bool, bool, usize), RowsError> {
     let mut rows = Rows::new(alloc, 2);
     rows.push(&[1, 2])?;

@@ -1,4 +1,4 @@
-//! The parts of the engine, through their public calls, against answers that were worked by hand. No other crate stands on it.
+//! The parts of the engine, through their public calls, against answers that were worked out by hand. No other crate uses it.
 #![tactic(auto)]
 
 #[cfg(test)]

@@ -1,4 +1,4 @@
-//! Routes reckoned by hand, batches taken apart, and mailboxes.
+//! Routes worked out by hand, batches that are split, and mailboxes.
 
 use exchange::{MAX_WORKERS, Mailbox, Routing, route, split};
 use rows::{Batch, Rows, RowsError};
@@ -87,7 +87,7 @@ fn records_without_a_route_stay_with_the_sender(rt: HostRuntime) -> Result<(), F
     Ok(())
 }
 
-/// A mailbox: whether it was empty, the second and the first of four, the two others, and whether a growth by more than there is
+/// A mailbox: whether it was empty, the second and the first of four, the two others, and whether a growth by more than there is memory for
 /// was refused and left these two.
 fn taken(alloc: Global) -> Result<(bool, usize, [i64; 4], bool, usize), RowsError> {
     let mut mailbox = Mailbox::new(alloc);

@@ -120,7 +120,7 @@ fn group_finishes(alloc: Global, shard: &Shard, time: &Time) -> Result<Vec<i64>,
     sent(alloc, &mut out, 0)
 }
 
-/// What two batches are sent for, one after the other.
+/// What is sent for two batches, one after the other.
 type Both = (Vec<i64>, Vec<i64>);
 
 /// What a distinct sends for two batches, each at its epoch.

@@ -24,7 +24,7 @@ pub fn stamp(epoch: u32, counter: u32, vertex: u32) -> Option<Pointstamp> {
     Some(Pointstamp::new(time, Location::Vertex(VertexId(vertex))))
 }
 
-/// What is asked: of `q`, of `p`, of `q` once `p` is gone, and of `q` once it is gone itself but for one.
+/// The questions: about `q`, about `p`, about `q` once `p` is gone, and about `q` once only one of it is left.
 pub fn asked<P: Progress>(
     alloc: Global,
     tracker: &mut P,
@@ -120,7 +120,7 @@ fn nth(n: u32) -> Option<Pointstamp> {
     stamp(mixed % 5, mixed / 5 % 4, 2 + mixed / 20 % 3)
 }
 
-/// Toggles the n-th pointstamp, and tells whether both answer the same about a later one.
+/// Toggles the n-th pointstamp. Whether both then answer the same about a later one.
 fn turn(
     paths: &Paths,
     plain: &mut PlainTracker,
@@ -143,7 +143,7 @@ fn turn(
     Some(agree(plain, located, &later))
 }
 
-/// How many of so many answers differ, before each of which one pointstamp comes or goes.
+/// How many of that many answers differ. Before each of them one pointstamp comes or goes.
 fn differences(
     paths: &Paths,
     plain: &mut PlainTracker,

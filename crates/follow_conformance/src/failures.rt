@@ -24,8 +24,8 @@ const LINES: [(&str, &str); 8] = [
 /// What the end of the input adds.
 const LAST: &str = "complete 2\n";
 
-/// A writer that takes at most that many bytes at a time. After that many writes, or that many flushes, one of them fails, or it takes nothing;
-/// those after it go well again.
+/// A writer that takes at most `most` bytes at a time. After `writes` writes, or `flushes` flushes, one of them fails, or takes nothing; those
+/// after it succeed again.
 #[derive(Drop)]
 struct Failing {
     most: usize,
@@ -57,7 +57,7 @@ impl Write for Failing {
     }
 }
 
-/// A writer all of whose calls go well, and that takes a byte at a time.
+/// A writer whose calls all succeed, and that takes a byte at a time.
 fn sound(alloc: Global) -> Failing {
     Failing {
         most: 1,
@@ -77,7 +77,7 @@ fn input(alloc: Global) -> Result<Vec<u8>, AllocError> {
     Ok(text)
 }
 
-/// What is written of the lines that end in the first bytes of the input.
+/// What is written for the lines that end within that many bytes of the input.
 fn answer_to(alloc: Global, bytes: usize) -> Result<Vec<u8>, AllocError> {
     let mut text = Vec::new(alloc);
     let mut end = 0usize;
@@ -90,14 +90,14 @@ fn answer_to(alloc: Global, bytes: usize) -> Result<Vec<u8>, AllocError> {
     Ok(text)
 }
 
-/// What is written of the whole input.
+/// What is written for the whole input.
 fn whole(alloc: Global) -> Result<Vec<u8>, AllocError> {
     let mut text = answer_to(alloc, usize::MAX)?;
     text.extend_from_slice(LAST.as_bytes())?;
     Ok(text)
 }
 
-/// How following ends, and what is written, where the reader gives at most that many bytes at a time and fails after that many reads.
+/// How following ends, and what is written, if the reader gives at most `most` bytes at a time and fails after `reads` reads.
 fn followed(
     threads: &(impl Threads + Sync),
     alloc: Global,
@@ -164,7 +164,7 @@ fn each_large_write_fails(rt: HostRuntime) -> Result<(), Fail> {
     Ok(())
 }
 
-// What is written of each line is flushed, also where it is nothing, and so is what is written of the end.
+// What is written for each line is flushed, also where it is nothing, and so is what is written at the end.
 #[test]
 fn each_flush_fails(rt: HostRuntime) -> Result<(), Fail> {
     let whole = whole(rt.alloc())?;
@@ -191,7 +191,7 @@ fn each_flush_fails(rt: HostRuntime) -> Result<(), Fail> {
     Ok(())
 }
 
-// After that many reads of one byte, the lines that end in these bytes have been answered.
+// After that many reads of one byte, the answer to the lines that end in these bytes has been written.
 #[test]
 fn each_read_fails(rt: HostRuntime) -> Result<(), Fail> {
     let bytes = input(rt.alloc())?.len();

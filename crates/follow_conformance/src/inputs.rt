@@ -44,7 +44,7 @@ pub fn ended_by<R: Read, W: Write>(
     )
 }
 
-/// A reader that gives a text, that many bytes at a time, and fails after that many reads.
+/// A reader that gives a text, at most `most` bytes at a time, and fails after `left` reads.
 #[derive(Drop)]
 pub struct Slow<'a> {
     pub text: &'a [u8],

@@ -1,5 +1,5 @@
-//! The front end by its calls, from a text to tokens, trees, normal forms and graphs, against answers that were worked by hand.
-//! No other crate uses it.
+//! The front end by its calls, from a text to tokens, trees, normal forms and graphs, against answers that were worked out by
+//! hand. No other crate uses it.
 #![tactic(auto)]
 
 #[cfg(test)]

@@ -1,4 +1,4 @@
-//! Normal forms, from text to text, worked by hand.
+//! Normal forms, from text to text, worked out by hand.
 
 use bumpalo::Bump;
 use expr_tree::{Comparison, Cond, Operator, Program, Rel, Scalar, rel_size};

@@ -67,7 +67,7 @@ fn refusals(rt: HostRuntime) {
     }
 }
 
-/// `head`, then `open` that many times, `middle`, `close` as many times, and `tail`.
+/// `head`, then `open` that many times, `middle`, `close` that many times, `tail`.
 fn nested(
     alloc: Global,
     head: &[u8],

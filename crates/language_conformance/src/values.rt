@@ -1,4 +1,4 @@
-//! Values reckoned by hand, and places that children are taken from.
+//! Values worked out by hand, and places that children are taken from.
 
 use expr_tree::{
     Comparison, Cond, NoMemory, Operator, Rel, Scalar, cond_size, copy_cond, copy_rel, copy_scalar,

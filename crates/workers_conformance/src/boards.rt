@@ -47,7 +47,7 @@ pub fn batch_of(alloc: Global, field: i64) -> Option<Batch> {
     Batch::from_rows(alloc, rows).ok()?
 }
 
-/// How often the field stands in these batches.
+/// How often the field is in these batches.
 pub fn count_of(batches: &[Batch], field: i64) -> u64 {
     let mut count = 0u64;
     for batch in batches {

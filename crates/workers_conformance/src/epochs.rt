@@ -18,7 +18,7 @@ use workers::{Ended, Engine, Mark, Naming, NoGate, Publisher, Seat, finish};
 /// How often 1, 2 and 3 were emitted for an epoch.
 type Counts = [u64; 3];
 
-/// What a run of four epochs came to.
+/// The result of a run of four epochs.
 #[derive(Clone, Copy, Debug, PartialEq, Eq)]
 struct Outcome {
     is_fed: bool,

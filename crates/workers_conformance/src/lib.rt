@@ -1,4 +1,4 @@
-//! Many workers: what a call does behind the lock, that two workers compute at once, and that all end where memory is wanting.
+//! Many workers: what a call does behind the lock, that two workers compute at once, and that all end without memory.
 #![tactic(auto)]
 
 #[cfg(test)]

@@ -41,7 +41,7 @@ fn look_of<J: Naming, V: Views, R: Wait>(
     ))
 }
 
-/// 7 is fed, the input is sealed twice and closed, and a worker works it off.
+/// 7 is fed, the input is sealed twice and closed, and a worker does all work.
 fn one_record<J: Naming, V: Views, R: Wait>(
     rt: &R,
     alloc: Global,

@@ -15,19 +15,19 @@ use std::thread::Threads;
 use views::Views;
 use workers::{Ended, Engine, Mark, Naming, NoGate, finish};
 
-/// So many records are fed, each in a batch of its own.
+/// The number of records that are fed, each in a batch of its own.
 const FED: i64 = 20;
 
 /// Drops repeats, of which there are none, and takes memory for each event.
 const DISTINCT: &str = "input a/1; output distinct(a);";
 
-/// So many go to a worker each, so that nothing is put together.
+/// The number of records that are fed where each goes to a worker of its own, so that nothing is merged.
 const APART: i64 = 2;
 
-/// So often the views then grow before the first commit: at the opening, at each feed and at the seal.
+/// How often the views grow before the first commit: at the opening, at each feed and at the seal.
 const GRANTED: u32 = 4;
 
-/// What a run came to.
+/// The result of a run.
 #[derive(Clone, Copy, Debug, PartialEq, Eq)]
 struct Outcome {
     ended: [Ended; 2],
@@ -39,7 +39,7 @@ struct Outcome {
     is_whole: bool,
 }
 
-/// Feeds an epoch, and then lets two workers work it off, each in a thread.
+/// Feeds an epoch, and then lets two workers do its work, each in a thread.
 fn one_epoch<J: Naming + Send + Sync, V: Views + Send, R: Threads + Wait + Sync>(
     rt: &R,
     alloc: Global,
@@ -84,7 +84,7 @@ fn run_epoch<V: Views + Send, R: Threads + Wait + Sync>(
     one_epoch::<Brand, V, R>(rt, alloc, board, fed)
 }
 
-/// An event was given up: both workers have stopped, its record is missing, and its epoch hasn't passed.
+/// An event was abandoned: both workers have stopped, its record is missing, and its epoch hasn't passed.
 fn given_up() -> Outcome {
     Outcome {
         ended: [Ended::Stopped, Ended::Stopped],
@@ -139,7 +139,7 @@ fn new_run_with_local_views<R: Threads + Wait + Sync>(rt: &R, alloc: Global) -> 
 }
 
 // To be run with each allocation refused in turn: what is refused before the work can be done again, and an event whose computation or
-// commit is refused is given up.
+// commit is refused is abandoned.
 #[test]
 fn refused_by_the_heap(rt: HostRuntime) -> Result<(), Fail> {
     let alloc = rt.alloc();

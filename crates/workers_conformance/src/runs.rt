@@ -15,7 +15,7 @@ use std::thread::Threads;
 use views::Views;
 use workers::{Ended, Engine, Feed, Gate, Mark, Naming, NoGate, finish, work};
 
-/// What a run by two workers and two feeders came to.
+/// The result of a run by two workers and two feeders.
 #[derive(Clone, Copy, Debug, PartialEq, Eq)]
 struct Outcome {
     ended: [Ended; 2],
@@ -129,7 +129,7 @@ fn run_two<V: Views + Send, G: Gate + Sync, R: Threads + Wait + Sync>(
     two_by_two::<Brand, V, G, R>(rt, alloc, board, gate)
 }
 
-/// Both workers have worked everything off, and each number was emitted once.
+/// Both workers have found all work done, and each number was emitted once.
 fn all_once() -> Outcome {
     Outcome {
         ended: [Ended::Drained, Ended::Drained],

@@ -75,7 +75,7 @@ impl<V: Views> Views for Refusing<V> {
     }
 }
 
-/// Views by two workers of a graph, who see one tracker, which refuse a growth after so many.
+/// Views by two workers of a graph, who see one tracker. The views refuse a growth after that many.
 fn direct_after(
     alloc: Global,
     graph: &Arc<Graph, Global>,
@@ -95,7 +95,7 @@ fn direct_after(
     })
 }
 
-/// A board of two workers, who see one tracker, which refuses a growth after so many; nothing where the opening is refused.
+/// A board of two workers, who see one tracker, which refuses a growth after that many; nothing if the opening is refused.
 pub fn board_after(
     alloc: Global,
     graph: Arc<Graph, Global>,
