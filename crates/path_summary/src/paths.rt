@@ -1,6 +1,7 @@
 //! The table of a graph, and the answers that it gives.
 
-ghost use Rattle.std.specs.Prelude.{◌≡◌, ◌≤◌, ◌<◌, ◌++◌, ◌∷◌, [], ◌↔◌, List, ℕ, Option, Some, None, IsTrue, IfOk, IfSome, IfNone, false, length, slice_index_or};
+ghost use Rattle.std.specs.Prelude.{◌≡◌, ◌≤◌, ◌<◌, ◌++◌, ◌∷◌, [], ◌↔◌, List, ℕ, Option, Some, None, false, length, slice_index_or};
+ghost use Rattle.std.specs.Prelude.{IfNone, IfOk, IfSome, IsTrue};
 ghost use Rattle.std.specs.Bool.{Decides};
 ghost use Rattle.graph.specs.Locations.{location_of};
 ghost use Rattle.graph.specs.Shown.{shown_graph};
