@@ -1,5 +1,5 @@
 -- Epochs that come and go.
-use Rattle.std.proofs.Common.{◌≡◌, ◌≢◌, ◌⊎◌, inl, inr, ℕ, ◌+◌, ◌≤◌, ◌<◌, sym, ap, subst, arith}
+use Rattle.std.proofs.Common.{◌≡◌, ◌≢◌, ◌⊎◌, inl, inr, ℕ, ◌+◌, ◌<◌, sym, ap, subst, arith}
 use Rattle.semantics.specs.Could.{Pointstamp}
 use Rattle.machine.specs.Active.{one_if_same}
 use Rattle.machine.proofs.Active.{one_tells, one_self}

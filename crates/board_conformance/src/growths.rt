@@ -81,7 +81,8 @@ fn views_after(
 ) -> Result<Direct<Refusing>, NoMemory>
     ensures graph { IfOk result (λ d. shown_graph d.tracker.tracker.graph ≡ shown_graph graph.now.value) }
     ensures workers { IfOk result (λ d. d.workers ≡ 2) }
-    ensures first { IfOk result (λ d. (q : Active) → times_at d.tracker.tracker.edges d.tracker.tracker.vertices q ≡ active_at_first (shown_graph graph.now.value) q) }
+    ensures first { IfOk result (λ d. (q : Active) →
+        times_at d.tracker.tracker.edges d.tracker.tracker.vertices q ≡ active_at_first (shown_graph graph.now.value) q) }
 {
     let paths = Arc::new(alloc, Paths::of(alloc, graph)?)?;
     let tracker = LocationTracker::new(alloc, Arc::try_clone(&paths)?)?;

@@ -1,5 +1,5 @@
 -- The first input is active at epoch 0, where a graph has one.
-use Rattle.std.proofs.Common.{◌≡◌, ◌<◌, ◌+◌, ℕ, zero, suc, arith}
+use Rattle.std.proofs.Common.{◌<◌, ℕ, zero, suc, arith}
 use Rattle.semantics.specs.Graph.{Graph, input_count}
 use Rattle.semantics.specs.Could.{at_vertex}
 use Rattle.semantics.specs.Time.{at_epoch}

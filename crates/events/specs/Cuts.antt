@@ -1,12 +1,11 @@
 -- A batch that is cut into messages before it is fed.
 use Rattle.std.specs.Prelude.{◌≡◌, ◌<◌, ℕ, List, [], length}
-use Rattle.semantics.specs.Graph.{edge_count, vertex}
+use Rattle.semantics.specs.Graph.{vertex}
 use Rattle.semantics.specs.Kinds.{Kind}
 use Rattle.semantics.specs.Multiset.{Record}
 use Rattle.semantics.specs.Time.{Time, at_epoch}
-use Rattle.events.specs.Letters.{by_two, letters}
-use Rattle.events.specs.Routes.{edges_from}
-use Rattle.events.specs.Wired.{Wired, graph_in, network_of}
+use Rattle.events.specs.Letters.{letters_from}
+use Rattle.events.specs.Wired.{Wired, graph_in}
 use Rattle.events.specs.declared.letter.Letter.{Letter}
 
 -- a batch for an input, to be fed at an epoch
@@ -18,7 +17,7 @@ pub record Cut : Type 0 where
 
 -- its messages
 abbrev pub cut_letters : Cut → List Letter
-cut_letters c = letters (network_of c.wired) 0 (at_epoch c.epoch) (by_two c.batch []) (edges_from (graph_in c.wired) c.input (edge_count (graph_in c.wired)))
+cut_letters c = letters_from c.wired 0 c.input (at_epoch c.epoch) c.batch []
 
 -- the letter at another time
 abbrev pub at_time : Time → Letter → Letter

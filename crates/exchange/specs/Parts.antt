@@ -1,6 +1,6 @@
 -- A batch divided among workers.
 use Rattle.std.specs.Prelude.{◌≡◌, ◌<◌, ℕ, zero, suc, ◌==◌, List, [], ◌∷◌, ◌++◌, filter, length, slice_index_or, flat_map}
-use Rattle.rows.specs.Counts.{Run, RunList, expanded, rows_of}
+use Rattle.rows.specs.Counts.{Run, RunList, expanded, no_run, rows_of}
 use Rattle.rows.specs.Indexes.{AreDifferent}
 use Rattle.semantics.specs.Multiset.{Record}
 use Rattle.exchange.specs.declared.splitting.Parcel.{Parcel}
@@ -27,6 +27,10 @@ no_rows a = record { arity = a; runs = [] }
 pub record IsSpread (home : Record → ℕ) (a : ℕ) (all : List Run) (n : ℕ) (parts : List RunList) : Type 0 where
   pub each : length parts ≡ n
   pub at : (k : ℕ) → k < n → slice_index_or parts k (no_rows a) ≡ record { arity = a; runs = filter (λ c. home c.row == k) all }
+
+-- the rows of all these runs go to one worker
+abbrev pub AllGoTo : (home : Record → ℕ) → (all : List Run) → (worker : ℕ) → Type 0
+AllGoTo home all w = (k : ℕ) → k < length all → home (slice_index_or all k no_run).row ≡ w
 
 -- the rows of each part are all different
 abbrev pub AreAllDifferent : List RunList → Type 0

@@ -1,6 +1,7 @@
 //! Mailboxes for messages that wait.
 
-ghost use Rattle.std.specs.Prelude.{◌≡◌, ◌<◌, ◌≤◌, ◌+◌, ℕ, [], ◌++◌, ◌∷◌, IsTrue, ◌↔◌, OnOk, OnErr, IfErr, length, remove, slice_index_or, if◌then◌else◌, is_ok};
+ghost use Rattle.std.specs.Prelude.{◌≡◌, ◌<◌, ◌≤◌, ◌+◌, ◌↔◌, ℕ, [], ◌++◌, ◌∷◌, length, remove, slice_index_or};
+ghost use Rattle.std.specs.Prelude.{if◌then◌else◌, is_ok, IfErr, IsTrue, OnErr, OnOk};
 ghost use Rattle.std.specs.List.{insert};
 ghost use Rattle.exchange.specs.Mail.{Mail};
 

@@ -6,7 +6,7 @@ ghost use Rattle.rows.specs.FlatRows.{arity_of};
 ghost use Rattle.rows.specs.Indexes.{AreDifferent};
 ghost use Rattle.rows.specs.Counts.{AreRuns, expanded, no_run, rows_of, runs};
 ghost use Rattle.exchange.specs.Homes.{home_of};
-ghost use Rattle.exchange.specs.Parts.{AreAllDifferent, parcel, parcels, no_rows, IsSpread, gathered, from_all};
+ghost use Rattle.exchange.specs.Parts.{AllGoTo, AreAllDifferent, parcel, parcels, no_rows, IsSpread, gathered, from_all};
 
 use crate::routing::Routing;
 use rows::{Batch, CountedRows, RowsError};
@@ -55,7 +55,7 @@ fn common_home(batch: &Batch, routing: &Routing, workers: u32, sender: u32) -> O
     ensures runs { AreRuns (runs batch.now) }
     ensures all { expanded (runs batch.now) ≡ batch.now }
     ensures some { 0 < length (runs batch.now) }
-    ensures each { IfSome result (λ w. (k : ℕ) → k < length (runs batch.now) → home_of routing.now workers sender (slice_index_or (runs batch.now) k no_run).row ≡ w) }
+    ensures each { IfSome result (AllGoTo (home_of routing.now workers sender) (runs batch.now)) }
 {
     let count = batch.len();
     if workers == 1 {

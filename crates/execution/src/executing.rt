@@ -21,7 +21,7 @@ use std::thread::Threads;
 use views::Views;
 use workers::{Engine, Gate, Mark, Naming, Publisher, Report, Seat, finish};
 
-/// Works a new board off under a lock of its own. Ok only where it is drained.
+/// Runs a new board, under a lock of its own, until nothing is left to do. Ok only if it is drained.
 fn drive<
     J: Naming + Send + Sync,
     V: Views + Send,
@@ -67,8 +67,8 @@ fn drive<
     }
 }
 
-/// The same, whatever the board is.
-fn driven<V: Views + Send, R: Threads + Wait + Sync, G: Gate + Sync, W: Write + Send>(
+/// As `drive`, for any board.
+fn drive_any<V: Views + Send, R: Threads + Wait + Sync, G: Gate + Sync, W: Write + Send>(
     rt: &R,
     alloc: Global,
     board: Board<V>,
@@ -88,11 +88,11 @@ fn driven<V: Views + Send, R: Threads + Wait + Sync, G: Gate + Sync, W: Write + 
     )
 }
 
-/// Feeds the epochs to an engine over a new board, and works it off: each event is computed by the gate. Its promise holds if it ends.
-/// Where several threads are asked for, that many are started, or as many as the board has workers, before the first feed.
+/// Feeds the epochs to an engine over a new board, and runs it until nothing is left to do. The gate computes each event. Before the first feed
+/// `threads` threads are started, or one for each worker if that is more; a single one is the caller's.
 ///
-/// Ok only where nothing is left to do, and each input was fed, at each epoch, just what was read. A watcher that is given is told how
-/// many epochs have passed, as `passed M` with rising numbers; where its writer fails, nothing else changes.
+/// Ok only if nothing is left to do, and each input was fed, at each epoch, exactly what was read. A watcher writes how many epochs have passed, as
+/// `passed M` with rising numbers. If its writer fails, nothing else changes.
 pub fn execute<V: Views + Send, R: Threads + Wait + Sync, G: Gate + Sync, W: Write + Send>(
     rt: &R,
     alloc: Global,
@@ -115,7 +115,7 @@ pub fn execute<V: Views + Send, R: Threads + Wait + Sync, G: Gate + Sync, W: Wri
         workers: board.workers(),
         notice: &notice,
     };
-    let report = driven(rt, alloc, board, task, gate, watcher)?;
+    let report = drive_any(rt, alloc, board, task, gate, watcher)?;
     if is_fed(&report, inputs, epochs, epochs.count()) {
         Ok(report)
     } else {

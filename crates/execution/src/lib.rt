@@ -1,22 +1,23 @@
-//! Runs of a whole input: an engine of 1 to 64 workers is fed epoch by epoch, and worked off.
+//! Runs of a whole input: an engine of 1 to 64 workers is fed epoch by epoch, until nothing is left to do.
 //!
-//! With one worker the caller's thread feeds and works in turn, and no thread is started. With more, each worker has a thread of its
-//! own, the caller's thread feeds, and it sleeps while it is 256 epochs ahead of what has passed. Small epochs are fed many at once. Each
-//! event is computed by the caller's gate. Whoever wants to see how far the run is gives a watcher: one thread more tells it how many
-//! epochs have passed. The caller makes the board, and so says what the workers go by: one view of progress for all, or one each, which may
-//! be late.
+//! With one worker the caller's thread feeds and works in turn, and no thread is started. With more, each worker has a thread of its own. The
+//! caller's thread feeds, and sleeps while it is 256 epochs ahead of what has passed. Many small epochs are fed together. The caller's gate
+//! computes each event. A watcher shows how far the run is: one more thread writes to it how many epochs have passed. The caller makes the
+//! board, and so decides by which view of progress the workers go: one for all, or one for each, which may be late.
 //!
 //! | Call | What it does | Fails |
 //! |---|---|---|
-//! | `execute` | feeds the epochs to an engine over a new board, and works it off | `Unfinished`: no report; a count that is too large at any worker is reported before lack of memory |
+//! | `execute` | feeds the epochs to an engine over a new board, and runs it until nothing is left to do | `Unfinished`: no report |
 //! | `Parallelism::of` | how many threads and workers a run of the epochs has | never |
 //! | `ParallelSorter` | sorts and formats the records of an epoch, by several threads where there are many | memory |
 //! | `emitted` | what a report has emitted, by output and epoch | memory |
 //!
-//! The contract for `console` above: the report that `execute` gives is of the board's graph, it is drained, and what its inputs were fed is
-//! what was read. The report keeps the promise of its board, so what it has emitted at each output for each epoch is what the query means there.
-//! Nothing of it rests on what the threads did: the report is asked. Below are `workers`, `board`, `collector` and
-//! `sample_sort`, with what these use.
+//! If a count is too large at any worker, `execute` reports that before lack of memory.
+//!
+//! The contract for `console` above: the report that `execute` gives is of the board's graph, it is drained, and its inputs were fed what was
+//! read. The report keeps the promise of its board, so what was emitted at each output for each epoch is what the query means there. None of
+//! this depends on what the threads did: the report itself is checked. Below are `workers`, `board`, `collector` and `sample_sort`, with what
+//! these use.
 #![tactic(auto)]
 
 mod executing;

@@ -6,7 +6,7 @@ use collector::Epochs;
 /// The most epochs that are fed ahead of what has passed, so that only their messages wait, and not those of the whole input.
 pub const AHEAD: u32 = 256;
 
-/// The epochs to be fed to the inputs, the numbers of inputs, threads and workers, and where the workers note why they end.
+/// The epochs to feed, the numbers of inputs, threads and workers, and where the workers note why they end.
 #[derive(Clone, Copy)]
 pub struct Task<'a> {
     pub epochs: &'a Epochs,
@@ -17,7 +17,7 @@ pub struct Task<'a> {
 }
 
 impl Task<'_> {
-    /// Whether the thread that feeds works too, as the only one.
+    /// Whether the thread that feeds is also the only worker.
     pub fn is_alone(&self) -> bool {
         self.workers == 1
     }

@@ -11,7 +11,7 @@ const PEOPLE: usize = 6000;
 /// The bytes of the lines `0 N` for each of them: three and the digits of N, of which 10 numbers have one, 90 two, 900 three, 5000 four.
 const LINE_BYTES: usize = 3 * PEOPLE + 10 + 2 * 90 + 3 * 900 + 4 * 5000;
 
-/// Whether the lines `0 N` have each number below that one once.
+/// Whether the lines `0 N` have each number below `count` once.
 fn each_is_there_once(lines: &[u8], seen: &mut [bool]) -> bool {
     let mut number = 0usize;
     for byte in lines {

@@ -78,4 +78,7 @@ input_eq a b = nat_eq a.arity b.arity && same_name a.name b.name
 
 -- of what graphs in memory show
 abbrev pub graph_eq : GraphValue → GraphValue → Bool
-graph_eq g h = pointwise vertex_eq (shown_graph g) (shown_graph h) && (pointwise input_eq (shown_inputs g) (shown_inputs h) && (pointwise same_name (shown_names g) (shown_names h) && pointwise nat_eq (shown_arities g) (shown_arities h)))
+graph_eq g h =
+    pointwise vertex_eq (shown_graph g) (shown_graph h)
+    && (pointwise input_eq (shown_inputs g) (shown_inputs h)
+    && (pointwise same_name (shown_names g) (shown_names h) && pointwise nat_eq (shown_arities g) (shown_arities h)))

@@ -1,12 +1,15 @@
 -- The definition's graph that vertices in memory show.
-use Rattle.std.specs.Prelude.{ℕ, List, [], ◌∷◌, map}
+use Rattle.std.specs.Prelude.{ℕ, List, [], ◌∷◌, map, Option, Some, None}
 use Rattle.semantics.specs.Kinds as semantics
 use Rattle.semantics.specs.Graph as graph
 use Rattle.semantics.specs.Query as query
+use Rattle.semantics.specs.Meaning.{project, left_columns, right_columns}
+use Rattle.semantics.specs.Multiset.{Record}
 use Rattle.expr_tree.specs.Views.{scalar_tree, cond_tree}
 use Rattle.expr_tree.specs.Plain.{plain_scalar, plain_cond, plain_pair, plain_agg}
 use Rattle.graph.specs.declared.vertex.Kind.{Kind}
-use Rattle.graph.specs.declared.vertex.Kind.TheVariants.{Input, Output, Select, Where, Concat, Join, Group, Distinct, Except, Intersect, Ingress, Egress, Feedback, Gate, Hold}
+use Rattle.graph.specs.declared.vertex.Kind.TheVariants.{Input, Output, Select, Where, Concat, Join, Group, Distinct, Except, Intersect}
+use Rattle.graph.specs.declared.vertex.Kind.TheVariants.{Ingress, Egress, Feedback, Gate, Hold}
 use Rattle.graph.specs.declared.vertex.Port.{Port}
 use Rattle.graph.specs.declared.vertex.Sources.{Sources}
 use Rattle.graph.specs.declared.vertex.Sources.TheVariants.{Nothing, One, Two}
@@ -14,6 +17,8 @@ use Rattle.graph.specs.declared.vertex.Vertex.{Vertex}
 use Rattle.graph.specs.declared.vertex.VertexId.{VertexId}
 use Rattle.graph.specs.declared.kind.Role.{Role}
 use Rattle.graph.specs.declared.kind.Role.TheVariants as answers
+use Rattle.graph.specs.declared.kind.RouteKey.{RouteKey}
+use Rattle.graph.specs.declared.kind.RouteKey.TheVariants as keys
 use Rattle.graph.specs.declared.graph.DeclaredInput.{DeclaredInput}
 use Rattle.graph.specs.declared.graph.GraphOutput.{GraphOutput}
 
@@ -42,6 +47,14 @@ role_of answers.Stateless = semantics.Role.stateless
 role_of answers.Stateful = semantics.Role.stateful
 role_of answers.Notified = semantics.Role.notified
 role_of answers.Output = semantics.Role.output
+
+-- of a route key
+abbrev pub key_of : RouteKey → Option (Record → Record)
+key_of keys.Nothing = None
+key_of (keys.Left ps) = Some (project (left_columns (map plain_pair ps.now)))
+key_of (keys.Right ps) = Some (project (right_columns (map plain_pair ps.now)))
+key_of (keys.Columns ks) = Some (project (map (λ k. k.index) ks.now))
+key_of keys.Record = Some (λ r. r)
 
 -- of an out port
 abbrev pub port_of : Port → graph.Port

@@ -2,6 +2,7 @@
 
 ghost use Rattle.std.specs.Prelude.{◌≡◌, ◌≤◌, ◌<◌, ◌++◌, ◌∷◌, [], length, map, replicate, slice_index_or, slice_set, IfOk, OnOk};
 ghost use Rattle.graph.specs.Edges.{edge_list, edge_of, entering, grown, outs_of, IsOutTable, HaveSources};
+ghost use Rattle.graph.specs.Limits.{max_vertices};
 ghost use Rattle.graph.specs.Views.{graph_of, port_of, sources_of};
 
 use crate::vertex::{Port, Sources, Vertex, VertexId};
@@ -30,7 +31,7 @@ pub struct Outs {
 /// The edges of a graph, by number.
 #[tactic(auto, using(crate::proofs::EdgeTables::one_vertex_more))]
 pub fn edges_of(alloc: Global, vertices: &[Vertex]) -> Result<Vec<Edge>, NoMemory>
-    requires { length vertices.now ≤ 4096 }
+    requires { length vertices.now ≤ max_vertices }
     ensures { IfOk result (λ edges. map edge_of edges.items ≡ edge_list 0 (graph_of vertices.now)) }
 {
     let mut edges = Vec::new(alloc);

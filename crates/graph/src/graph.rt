@@ -7,6 +7,7 @@ ghost use Rattle.semantics.specs.Kinds.{is_input};
 ghost use Rattle.semantics.specs.PortArity.{IsTyped};
 ghost use Rattle.graph.specs.Edges.{edge_list, edge_number, edge_of, edges_out};
 ghost use Rattle.graph.specs.GraphLaws.{HasProgramArities, IsProgramGraph};
+ghost use Rattle.graph.specs.Limits.{max_vertices};
 ghost use Rattle.graph.specs.Shown.{shown_arities, shown_graph, shown_inputs, shown_names};
 ghost use Rattle.graph.specs.Views.{graph_of, input_of, name_of_output, number_of_output, port_of, vertex_of};
 
@@ -31,7 +32,7 @@ pub struct GraphOutput {
     pub vertex: VertexId,
 }
 
-/// The dataflow graph of a well-typed query, at most 4096 vertices. It owns all that it needs.
+/// The dataflow graph of a well-typed query, at most `MAX_VERTICES` vertices. It owns all that it needs.
 #[derive(Drop)]
 pub struct Graph {
     vertices: Vec<Vertex>,
@@ -51,6 +52,7 @@ impl Model for Graph {
     ghost use Rattle.expr_tree.specs.contracts.condition.Cond as condition;
     ghost use Rattle.graph.specs.Edges.{HasTables, edge_of, outs_of};
     ghost use Rattle.graph.specs.GraphLaws.{HasProgramArities, IsProgramGraph};
+    ghost use Rattle.graph.specs.Limits.{max_vertices};
     ghost use Rattle.semantics.specs.Dataflow.{IsDataflow};
     ghost use Rattle.semantics.specs.Graph.{output_numbers};
     ghost use Rattle.graph.specs.Shown.{GraphValue};
@@ -64,7 +66,7 @@ impl Model for Graph {
 
     ghost invariant = { λ g. ∥ IsProgramGraph (graph_of (vec_items g.vertices)) (map input_of (vec_items g.inputs)) ∥₁
         × HasTables (graph_of (vec_items g.vertices)) (map edge_of (vec_items g.edges)) (map outs_of (vec_items g.outs))
-        × (length (vec_items g.vertices) ≤ 4096)
+        × (length (vec_items g.vertices) ≤ max_vertices)
         × ∥ HasProgramArities (graph_of (vec_items g.vertices)) (map input_of (vec_items g.inputs)) (vec_items g.arities) ∥₁
         × IsDataflow (graph_of (vec_items g.vertices))
         × (map number_of_output (vec_items g.outputs) ≡ output_numbers (graph_of (vec_items g.vertices))) };
@@ -83,7 +85,7 @@ impl Graph {
         requires program { ∥ HasProgramArities (graph_of vertices.items) (map input_of inputs.items) arities.items ∥₁ }
         requires dataflow { IsDataflow (graph_of vertices.items) }
         requires outputs { map number_of_output outputs.items ≡ output_numbers (graph_of vertices.items) }
-        requires few { length vertices.items ≤ 4096 }
+        requires few { length vertices.items ≤ max_vertices }
         ensures graph { IfOk result (λ g. shown_graph g ≡ graph_of vertices.items) }
         ensures inputs { IfOk result (λ g. shown_inputs g ≡ map input_of inputs.items) }
         ensures names { IfOk result (λ g. shown_names g ≡ map name_of_output outputs.items) }
@@ -132,19 +134,19 @@ impl Graph {
         self.law_of_arities();
     }
 
-    /// The vertices by number: at most 4096.
+    /// The vertices by number: at most `MAX_VERTICES`.
     pub fn vertices(&self) -> &[Vertex]
         ensures value { graph_of result.now ≡ shown_graph self.now }
-        ensures few { length result.now ≤ 4096 }
+        ensures few { length result.now ≤ max_vertices }
     {
         &self.vertices
     }
 
-    /// The number of vertices: at most 4096.
+    /// The number of vertices: at most `MAX_VERTICES`.
     #[tactic(auto, using(crate::proofs::Numbers::length_graph_of))]
     pub fn vertex_count(&self) -> usize
         ensures value { result ≡ length (shown_graph self.now) }
-        ensures few { result ≤ 4096 }
+        ensures few { result ≤ max_vertices }
     {
         self.vertices().len()
     }
@@ -250,7 +252,7 @@ impl Graph {
     /// The number of inputs.
     pub fn input_count(&self) -> usize
         ensures value { result ≡ input_count (shown_graph self.now) }
-        ensures few { result ≤ 4096 }
+        ensures few { result ≤ max_vertices }
     {
         for number in 0..self.vertex_count() {
             if !self.is_input(VertexId(number as u32)) {

@@ -2,10 +2,11 @@
 
 ghost use Rattle.std.specs.Prelude.{◌≡◌};
 ghost use Rattle.loop_context.specs.Actions.{action_of};
-ghost use Rattle.semantics.specs.Kinds.{action, in_ports, is_input, is_output, out_ports, role};
-ghost use Rattle.graph.specs.Views.{kind_of, role_of};
+ghost use Rattle.semantics.specs.Kinds.{action, in_ports, is_input, is_output, out_ports, role, route_key};
+ghost use Rattle.graph.specs.Views.{key_of, kind_of, role_of};
 
 use crate::vertex::Kind;
+use expr_tree::{Column, Pair};
 use loop_context::Action;
 
 /// How a vertex answers what comes in: a stateless one at once, from the message alone; a stateful one at once, from all that it has
@@ -17,6 +18,21 @@ pub enum Role {
     Stateful,
     Notified,
     Output,
+}
+
+/// What records must have in common to go to one worker.
+#[derive(Clone, Copy)]
+pub enum RouteKey<'a> {
+    /// Nothing: the kind has no route key at this port.
+    Nothing,
+    /// The left columns of these pairs.
+    Left(&'a [Pair]),
+    /// The right columns of these pairs.
+    Right(&'a [Pair]),
+    /// These columns.
+    Columns(&'a [Column]),
+    /// All fields.
+    Record,
 }
 
 impl Kind {
@@ -82,6 +98,33 @@ impl Kind {
             | Kind::Intersect
             | Kind::Gate(_)
             | Kind::Hold(_) => Action::Stay,
+        }
+    }
+
+    /// The route key of a record that comes in at a port.
+    pub fn route_key(&self, in_port: u32) -> RouteKey<'_>
+        ensures { key_of result ≡ route_key (kind_of self.now) in_port }
+    {
+        match self {
+            Kind::Join(pairs) => {
+                if in_port == 0 {
+                    RouteKey::Left(pairs.as_slice())
+                } else {
+                    RouteKey::Right(pairs.as_slice())
+                }
+            }
+            Kind::Group(columns, _) => RouteKey::Columns(columns.as_slice()),
+            Kind::Distinct | Kind::Except | Kind::Intersect => RouteKey::Record,
+            Kind::Input
+            | Kind::Output
+            | Kind::Select(_)
+            | Kind::Where(_)
+            | Kind::Concat
+            | Kind::Ingress
+            | Kind::Egress
+            | Kind::Feedback
+            | Kind::Gate(_)
+            | Kind::Hold(_) => RouteKey::Nothing,
         }
     }
 

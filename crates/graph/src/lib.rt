@@ -7,7 +7,7 @@
 //! is proved of such graphs holds of it. It is a value: two that show the same are equal, wherever their parts lie.
 //!
 //! Below stand `expr_tree`, for scalars and conditions, `loop_context`, `record_core`, `semantics` and `itoa`. The compiler (`lowering`) makes
-//! graphs; path summaries, trackers, shards and the board stand on them, and see nothing of queries.
+//! graphs; path summaries, trackers, shards and the board use them, and see nothing of queries.
 #![tactic(auto)]
 
 mod dot;
@@ -23,7 +23,7 @@ mod vertex;
 pub use dot::graph_dot;
 pub use edges::{Edge, EdgeId};
 pub use graph::{DeclaredInput, Graph, GraphOutput};
-pub use kind::Role;
+pub use kind::{Role, RouteKey};
 pub use location::Location;
 pub use text::graph_text;
 pub use vertex::{Kind, MAX_VERTICES, Port, Sources, Vertex, VertexId, arity_at, two_sources};

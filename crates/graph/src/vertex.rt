@@ -49,7 +49,7 @@ pub enum Sources {
     Two(Port, Port),
 }
 
-/// A vertex. Its depth is the number of loops in whose bodies what comes to it stands.
+/// A vertex. Its depth is the number of loops around what comes to it.
 #[derive(Drop)]
 pub struct Vertex {
     pub kind: Kind,

@@ -40,6 +40,10 @@ fn a_way_into_a_loop_round_it_and_out(rt: HostRuntime) {
         (7, [1].as_slice(), 1)
     );
     assert_eq!(rt; second.leave(), outside);
+    assert_eq!(rt; outside.after(Action::Enter), first);
+    assert_eq!(rt; first.after(Action::Next), second);
+    assert_eq!(rt; second.after(Action::Leave), outside);
+    assert_eq!(rt; second.after(Action::Stay), second);
     assert_eq!(rt; second.copied(), second);
     assert!(rt; outside < first && first < second && second < Time::at_epoch(8));
 }

@@ -2,8 +2,11 @@
 
 ghost use Rattle.std.specs.Prelude.{◌≡◌, ◌⊎◌, ◌≤◌, ◌<◌, ◌↔◌, ◌^◌, ◌-◌, true, length, IsTrue, IsNone, IfSome, SomeIff};
 ghost use Rattle.semantics.specs.Limits.{max_loops};
-ghost use Rattle.semantics.specs.Time.{Action, IsAtMost, after_action, at_epoch, last, is_before};
+ghost use Rattle.semantics.specs.Time as semantics;
+ghost use Rattle.semantics.specs.Time.{IsAtMost, after_action, at_epoch, last, is_before};
+ghost use Rattle.loop_context.specs.Actions.{CanTake, action_of};
 
+use crate::action::Action;
 use arrayvec::ArrayVec;
 use std::marker::Model;
 
@@ -115,7 +118,7 @@ impl Time {
 
     /// The time on the way into a loop, at its first turn; `None` exactly if `MAX_LOOPS` loops are already around it.
     pub fn enter(&self) -> Option<Time>
-        ensures entered { IfSome result (λ t. t ≡ after_action Action.enter self.now) }
+        ensures entered { IfSome result (λ t. t ≡ after_action semantics.Action.enter self.now) }
         ensures deepest { IsNone result ↔ (length self.now.counters ≡ max_loops) }
     {
         let mut time = self.copied();
@@ -129,7 +132,7 @@ impl Time {
     #[tactic(auto, using(crate::proofs::Counters::front_append))]
     pub fn leave(&self) -> Time
         requires { 0 < length self.now.counters }
-        ensures { result ≡ after_action Action.leave self.now }
+        ensures { result ≡ after_action semantics.Action.leave self.now }
     {
         let mut time = self.copied();
         let _ = time.counters.pop();
@@ -140,13 +143,32 @@ impl Time {
     #[tactic(auto, using(crate::proofs::Counters::last_append, crate::proofs::Counters::front_append))]
     pub fn next(&self) -> Option<Time>
         requires { 0 < length self.now.counters }
-        ensures next { IfSome result (λ t. t ≡ after_action Action.next self.now) }
+        ensures next { IfSome result (λ t. t ≡ after_action semantics.Action.next self.now) }
         ensures greatest { IsNone result ↔ (last self.now.counters ≡ 2 ^ 32 - 1) }
     {
         let mut time = self.copied();
         let counter = time.counters.pop()?;
         time.counters.push(counter.checked_add(1)?);
         Some(time)
+    }
+
+    /// The time after an action.
+    pub fn after(&self, action: Action) -> Time
+        requires { CanTake (action_of action) self.now }
+        ensures { result ≡ after_action (action_of action) self.now }
+    {
+        match action {
+            Action::Stay => self.copied(),
+            Action::Enter => match self.enter() {
+                Some(time) => time,
+                None => unreachable!(),
+            },
+            Action::Leave => self.leave(),
+            Action::Next => match self.next() {
+                Some(time) => time,
+                None => unreachable!(),
+            },
+        }
     }
 }
 

@@ -6,6 +6,7 @@ use Rattle.semantics.specs.FreeNames.{carried}
 use Rattle.semantics.specs.Kinds as semantics
 use Rattle.semantics.specs.Graph as graph
 use Rattle.semantics.specs.Lower.{lower, Lowered, Ports, carry, new_vertex, port, then_one, then_two}
+use Rattle.graph.specs.Limits.{max_vertices}
 use Rattle.graph.specs.Views.{graph_of, port_of}
 use Rattle.lowering.specs.Faults.{IsTooMany, IsOver}
 use Rattle.lowering.specs.Loops.{inside_of}
@@ -22,7 +23,7 @@ one_ok (Ok p) m0 m1 m2 from l kind d i e q = one_made m0 m1 m2 from (port_of p) 
 one_ok (Err f) m0 m1 m2 from l kind d i e q = tt
 
 pub one_many : (r : Result Port LowerFault) (m0 m1 : List Vertex) (from : graph.Port) (l : Lowered) (kind : semantics.Kind) (d : ℕ) → IsLowered (graph_of m0) (graph_of m1) from l
-    → IfErr r (λ e. IsTooMany e → 4096 ≤ length m1) → IfErr r (λ e. IsOver e (length m0 + length (then_one (length m0) l kind d).made))
+    → IfErr r (λ e. IsTooMany e → max_vertices ≤ length m1) → IfErr r (λ e. IsOver e (length m0 + length (then_one (length m0) l kind d).made))
 one_many (Ok p) m0 m1 from l kind d i o = tt
 one_many (Err f) m0 m1 from l kind d i o = full_one f m0 m1 from l kind d i o
 
@@ -33,7 +34,7 @@ two_ok (Ok p) m0 m1 m2 m3 a b l s kind d i j e q = two_made m0 m1 m2 m3 a b (por
 two_ok (Err f) m0 m1 m2 m3 a b l s kind d i j e q = tt
 
 pub two_many : (r : Result Port LowerFault) (m0 m1 m2 : List Vertex) (a b : graph.Port) (l : Lowered) (s : ℕ → Lowered) (kind : semantics.Kind) (d : ℕ) → IsLowered (graph_of m0) (graph_of m1) a l → IsLowered (graph_of m1) (graph_of m2) b (s (length m1))
-    → IfErr r (λ e. IsTooMany e → 4096 ≤ length m2) → IfErr r (λ e. IsOver e (length m0 + length (then_two (length m0) l (s (length m0 + length l.made)) kind d).made))
+    → IfErr r (λ e. IsTooMany e → max_vertices ≤ length m2) → IfErr r (λ e. IsOver e (length m0 + length (then_two (length m0) l (s (length m0 + length l.made)) kind d).made))
 two_many (Ok p) m0 m1 m2 a b l s kind d i j o = tt
 two_many (Err f) m0 m1 m2 a b l s kind d i j o = full_two f m0 m1 m2 a b l s kind d i j o
 

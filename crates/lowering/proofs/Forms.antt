@@ -5,6 +5,7 @@ use Rattle.semantics.specs.Kinds as semantics
 use Rattle.semantics.specs.Graph as graph
 use Rattle.semantics.specs.Lower.{lower, Lowered, Ports, new_vertex, port, carry, looped, after_start, then_one, then_two}
 use Rattle.semantics.specs.FreeNames.{carried}
+use Rattle.graph.specs.Limits.{max_vertices}
 use Rattle.graph.specs.Views.{graph_of}
 use Rattle.lowering.specs.Faults.{IsTooMany, IsOver}
 use Rattle.lowering.specs.Loops.{inside_of}
@@ -88,13 +89,13 @@ loop_lowered n x r b ports inside d e m0 m1 m2 m3 m4 from back out con i o s q j
 pub is_over : (e : LowerFault) (n m : ℕ) → IsOver e n → n ≤ m → IsOver e m
 is_over e n m o h = record { over = λ t. (let a = o.over t in omega arith) }
 
-pub full_over : (e : LowerFault) (n m : ℕ) → (IsTooMany e → 4096 ≤ n) → n < m → IsOver e m
+pub full_over : (e : LowerFault) (n m : ℕ) → (IsTooMany e → max_vertices ≤ n) → n < m → IsOver e m
 full_over e n m o h = record { over = λ t. (let a = o t in omega arith) }
 
 pub over_one : (e : LowerFault) (k : ℕ) (l : Lowered) (kind : semantics.Kind) (d : ℕ) → IsOver e (k + length l.made) → IsOver e (k + length (then_one k l kind d).made)
 over_one e k l kind d o = is_over e _ _ o (omega (arith, length-append l.made (new_vertex kind d (l.gives ∷ []) ∷ [])))
 
-pub full_one : (e : LowerFault) (m0 m1 : List Vertex) (p : graph.Port) (l : Lowered) (kind : semantics.Kind) (d : ℕ) → IsLowered (graph_of m0) (graph_of m1) p l → (IsTooMany e → 4096 ≤ length m1) → IsOver e (length m0 + length (then_one (length m0) l kind d).made)
+pub full_one : (e : LowerFault) (m0 m1 : List Vertex) (p : graph.Port) (l : Lowered) (kind : semantics.Kind) (d : ℕ) → IsLowered (graph_of m0) (graph_of m1) p l → (IsTooMany e → max_vertices ≤ length m1) → IsOver e (length m0 + length (then_one (length m0) l kind d).made)
 full_one e m0 m1 p l kind d i o = full_over e (length m1) _ o (omega (arith, number_of m0 m1 l.made i.made, length-append l.made (new_vertex kind d (l.gives ∷ []) ∷ [])))
 
 -- how many vertices two relations and one more have
@@ -109,7 +110,7 @@ over_right e m0 m1 p l r kind d i o =
     let n = number_of m0 m1 l.made i.made in
     subst (λ k. IsOver e (length m0 + length (then_two (length m0) l (r k) kind d).made)) n (is_over e _ _ o (omega (arith, n, two_length (length m0) l (r (length m1)) kind d)))
 
-pub full_two : (e : LowerFault) (m0 m1 m2 : List Vertex) (p q : graph.Port) (l : Lowered) (r : ℕ → Lowered) (kind : semantics.Kind) (d : ℕ) → IsLowered (graph_of m0) (graph_of m1) p l → IsLowered (graph_of m1) (graph_of m2) q (r (length m1)) → (IsTooMany e → 4096 ≤ length m2) → IsOver e (length m0 + length (then_two (length m0) l (r (length m0 + length l.made)) kind d).made)
+pub full_two : (e : LowerFault) (m0 m1 m2 : List Vertex) (p q : graph.Port) (l : Lowered) (r : ℕ → Lowered) (kind : semantics.Kind) (d : ℕ) → IsLowered (graph_of m0) (graph_of m1) p l → IsLowered (graph_of m1) (graph_of m2) q (r (length m1)) → (IsTooMany e → max_vertices ≤ length m2) → IsOver e (length m0 + length (then_two (length m0) l (r (length m0 + length l.made)) kind d).made)
 full_two e m0 m1 m2 p q l r kind d i j o =
     let n = number_of m0 m1 l.made i.made in
     subst (λ k. IsOver e (length m0 + length (then_two (length m0) l (r k) kind d).made)) n (full_over e (length m2) _ o (omega (arith, n, number_of m1 m2 (r (length m1)).made j.made, two_length (length m0) l (r (length m1)) kind d)))

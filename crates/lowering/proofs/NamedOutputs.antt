@@ -7,6 +7,7 @@ use Rattle.semantics.specs.Graph as graph
 use Rattle.semantics.specs.Kinds as semantics
 use Rattle.semantics.specs.Lower.{lower, lower_outputs, new_vertex, Ports}
 use Rattle.semantics.specs.Query.{Output}
+use Rattle.graph.specs.Limits.{max_vertices}
 use Rattle.graph.specs.Views.{graph_of}
 use Rattle.lowering.specs.Faults.{IsOver, IsTooMany}
 use Rattle.lowering.specs.Steps.{IsLowered}
@@ -45,7 +46,7 @@ pub relation_over : (e : LowerFault) (k : ℕ) (os rest : List Output) (o : Outp
 relation_over e k os rest o ports n h =
     is_over e _ _ h (omega (arith, outputs_length k o rest ports, ap (λ l. length (lower_outputs l ports k)) n))
 
-pub output_over : (e : LowerFault) (m0 m1 : List Vertex) (os rest : List Output) (o : Output) (ports : Ports) (from : graph.Port) → os ≡ o ∷ rest → IsLowered (graph_of m0) (graph_of m1) from (lower o.value ports 0 (length m0)) → (IsTooMany e → 4096 ≤ length m1) → IsOver e (length m0 + length (lower_outputs os ports (length m0)))
+pub output_over : (e : LowerFault) (m0 m1 : List Vertex) (os rest : List Output) (o : Output) (ports : Ports) (from : graph.Port) → os ≡ o ∷ rest → IsLowered (graph_of m0) (graph_of m1) from (lower o.value ports 0 (length m0)) → (IsTooMany e → max_vertices ≤ length m1) → IsOver e (length m0 + length (lower_outputs os ports (length m0)))
 output_over e m0 m1 os rest o ports from n i h =
     full_over e (length m1) _ h (omega (arith, number_of m0 m1 _ i.made, outputs_length (length m0) o rest ports, ap (λ l. length (lower_outputs l ports (length m0))) n))
 

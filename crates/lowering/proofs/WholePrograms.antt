@@ -7,6 +7,7 @@ use Rattle.semantics.specs.Query.{Name, Program}
 use Rattle.semantics.specs.Kinds as semantics
 use Rattle.semantics.specs.Graph as graph
 use Rattle.semantics.specs.Lower.{lower_lets, lower_outputs, Ports, new_vertex, port, stands_for, input_vertices, input_ports, lets_of, outputs_of, lowered}
+use Rattle.graph.specs.Limits.{max_vertices}
 use Rattle.graph.specs.Views.{graph_of, port_of}
 use Rattle.lowering.specs.Faults.{IsTooMany, IsOver}
 use Rattle.lowering.specs.Steps.{AreLowered}
@@ -55,16 +56,16 @@ program_length p =
     let L = (lets_of p).made in
     omega (arith, length-append I (L ++ outputs_of p), length-append L (outputs_of p), length-map p.inputs (λ a. new_vertex semantics.Kind.input 0 []))
 
-pub over_inputs : (e : LowerFault) (p : Program) → IsOver e (0 + length (input_vertices p.inputs)) → IsTooMany e → 4096 < length (lowered p)
+pub over_inputs : (e : LowerFault) (p : Program) → IsOver e (0 + length (input_vertices p.inputs)) → IsTooMany e → max_vertices < length (lowered p)
 over_inputs e p o t = let a = o.over t in omega (arith, program_length p, length-map p.inputs (λ a. new_vertex semantics.Kind.input 0 []))
 
-pub over_lets : (e : LowerFault) (p : Program) (m1 : List Vertex) (s1 : Ports) → graph_of m1 ≡ input_vertices p.inputs → s1 ≡ input_ports p.inputs 0 → IsOver e (length m1 + length (lower_lets p.lets s1 (length m1)).made) → IsTooMany e → 4096 < length (lowered p)
+pub over_lets : (e : LowerFault) (p : Program) (m1 : List Vertex) (s1 : Ports) → graph_of m1 ≡ input_vertices p.inputs → s1 ≡ input_ports p.inputs 0 → IsOver e (length m1 + length (lower_lets p.lets s1 (length m1)).made) → IsTooMany e → max_vertices < length (lowered p)
 over_lets e p m1 s1 g s o t =
     let n = inputs_length p m1 g in
     let a = (subst (λ j. IsOver e (j + length (lower_lets p.lets (input_ports p.inputs 0) j).made)) n (subst (λ f. IsOver e (length m1 + length (lower_lets p.lets f (length m1)).made)) s o)).over t in
     omega (arith, program_length p)
 
-pub over_outputs : (e : LowerFault) (p : Program) (m1 m2 : List Vertex) (s1 s2 : Ports) → graph_of m1 ≡ input_vertices p.inputs → s1 ≡ input_ports p.inputs 0 → AreLowered (graph_of m1) (graph_of m2) s2 (lower_lets p.lets s1 (length m1)) → IsOver e (length m2 + length (lower_outputs p.outputs s2 (length m2))) → IsTooMany e → 4096 < length (lowered p)
+pub over_outputs : (e : LowerFault) (p : Program) (m1 m2 : List Vertex) (s1 s2 : Ports) → graph_of m1 ≡ input_vertices p.inputs → s1 ≡ input_ports p.inputs 0 → AreLowered (graph_of m1) (graph_of m2) s2 (lower_lets p.lets s1 (length m1)) → IsOver e (length m2 + length (lower_outputs p.outputs s2 (length m2))) → IsTooMany e → max_vertices < length (lowered p)
 over_outputs e p m1 m2 s1 s2 g s a o t =
     let l = lets_made p m1 m2 s1 s2 g s a in
     let n = after_lets p m1 m2 s2 g l in

@@ -13,5 +13,7 @@ use Rattle.semantics.specs.Meaning.{program_meaning}
 pub record Computes (g : Graph) (p : Program) : Type 0 where
   pub one_flow : (inputs : Inputs) → HasOneFlow g inputs
   pub outputs : length (output_numbers g) ≡ length p.outputs
-  pub meaning : (inputs : Inputs) (f : Flow) (output epoch : ℕ) → IsFlow g inputs f → output < length p.outputs → f (output_number g output) 0 (at_epoch epoch) ≈ program_meaning p output (λ i. inputs i epoch)
-  pub quiet : (inputs : Inputs) (f : Flow) (w i : ℕ) (u : Time) → IsFlow g inputs f → IsEdgeTime g w i u → ends_turn (vertex g w).kind ≡ true → turn_count ≤ last u.counters → f w i u ≈ []
+  pub meaning : (inputs : Inputs) (f : Flow) (output epoch : ℕ) → IsFlow g inputs f → output < length p.outputs →
+      f (output_number g output) 0 (at_epoch epoch) ≈ program_meaning p output (λ i. inputs i epoch)
+  pub quiet : (inputs : Inputs) (f : Flow) (w i : ℕ) (u : Time) → IsFlow g inputs f → IsEdgeTime g w i u →
+      ends_turn (vertex g w).kind ≡ true → turn_count ≤ last u.counters → f w i u ≈ []

@@ -7,6 +7,7 @@ ghost use Rattle.semantics.specs.Lower.{lowered};
 ghost use Rattle.semantics.specs.Typing.{WellTyped};
 ghost use Rattle.typing.specs.Shown.{typed_program};
 ghost use Rattle.graph.specs.Arities.{AreArities};
+ghost use Rattle.graph.specs.Limits.{max_vertices};
 ghost use Rattle.graph.specs.Shown.{shown_arities, shown_graph, shown_inputs, shown_names};
 ghost use Rattle.graph.specs.Views.{input_of};
 ghost use Rattle.lowering.specs.Computing.{Computes};
@@ -24,15 +25,15 @@ use typing::Typed;
 /// The graph of a well-typed query: exactly the one that the definition makes of it. It has the query's outputs. On any inputs it has
 /// exactly one flow, whose records at each output are at each epoch what the query means there, and which is empty over the limit of
 /// turns where a turn ends.
-/// `TooMany` comes exactly where it would have more than 4096 vertices.
+/// `TooMany` comes exactly where it would have more than `MAX_VERTICES` vertices.
 pub fn lower<A: Allocator>(alloc: Global, typed: &Typed<A>) -> Result<Graph, LowerFault>
     ensures graph { IfOk result (λ g. shown_graph g ≡ lowered (plain_program (typed_program typed.now))) }
     ensures inputs { IfOk result (λ g. shown_inputs g ≡ (plain_program (typed_program typed.now)).inputs) }
     ensures names { IfOk result (λ g. shown_names g ≡ map (λ o. o.name) (plain_program (typed_program typed.now)).outputs) }
     ensures flow { IfOk result (λ g. Computes (shown_graph g) (plain_program (typed_program typed.now))) }
     ensures arities { IfOk result (λ g. AreArities (shown_arities g) (plain_program (typed_program typed.now))) }
-    ensures few { IfOk result (λ g. length (shown_graph g) ≤ 4096) }
-    ensures many { IfErr result (λ e. IsTooMany e → 4096 < length (lowered (plain_program (typed_program typed.now)))) }
+    ensures few { IfOk result (λ g. length (shown_graph g) ≤ max_vertices) }
+    ensures many { IfErr result (λ e. IsTooMany e → max_vertices < length (lowered (plain_program (typed_program typed.now)))) }
 {
     lower_program(alloc, typed.program())
 }
@@ -45,8 +46,8 @@ fn lower_program<A: Allocator>(alloc: Global, program: &Program<A>) -> Result<Gr
     ensures names { IfOk result (λ g. shown_names g ≡ map (λ o. o.name) (plain_program (program_tree program.now)).outputs) }
     ensures flow { IfOk result (λ g. Computes (shown_graph g) (plain_program (program_tree program.now))) }
     ensures arities { IfOk result (λ g. AreArities (shown_arities g) (plain_program (program_tree program.now))) }
-    ensures few { IfOk result (λ g. length (shown_graph g) ≤ 4096) }
-    ensures many { IfErr result (λ e. IsTooMany e → 4096 < length (lowered (plain_program (program_tree program.now)))) }
+    ensures few { IfOk result (λ g. length (shown_graph g) ≤ max_vertices) }
+    ensures many { IfErr result (λ e. IsTooMany e → max_vertices < length (lowered (plain_program (program_tree program.now)))) }
 {
     semantics::graphs::law_program();
     let vertices = lower_vertices(alloc, program)?;

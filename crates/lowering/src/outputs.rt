@@ -5,6 +5,7 @@ ghost use Rattle.expr_tree.specs.Plain.{plain_output};
 ghost use Rattle.expr_tree.specs.Views.{output_tree};
 ghost use Rattle.semantics.specs.Graph.{output_numbers};
 ghost use Rattle.semantics.specs.Kinds.{is_output};
+ghost use Rattle.graph.specs.Limits.{max_vertices};
 ghost use Rattle.graph.specs.Views.{graph_of, kind_of, number_of_output, name_of_output, vertex_number};
 
 use expr_tree::{NoMemory, Output};
@@ -17,7 +18,7 @@ pub fn outputs_of<A: Allocator>(
     outputs: &[Output<A>],
     vertices: &[Vertex],
 ) -> Result<Vec<GraphOutput>, NoMemory>
-    requires few { length vertices.now ≤ 4096 }
+    requires few { length vertices.now ≤ max_vertices }
     requires same { length (output_numbers (graph_of vertices.now)) ≡ length outputs.now }
     ensures names { IfOk result (λ found. map name_of_output found.items ≡ map (λ o. o.name) (map plain_output (map output_tree outputs.now))) }
     ensures numbers { IfOk result (λ found. map number_of_output found.items ≡ output_numbers (graph_of vertices.now)) }
@@ -29,7 +30,7 @@ pub fn outputs_of<A: Allocator>(
 /// The output vertices, by number.
 #[tactic(auto, using(crate::proofs::OutputPlaces::one_vertex_more))]
 fn output_vertices(alloc: Global, vertices: &[Vertex]) -> Result<Vec<VertexId>, NoMemory>
-    requires { length vertices.now ≤ 4096 }
+    requires { length vertices.now ≤ max_vertices }
     ensures { IfOk result (λ numbers. map vertex_number numbers.items ≡ output_numbers (graph_of vertices.now)) }
 {
     let mut numbers = Vec::new(alloc);

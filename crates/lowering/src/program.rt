@@ -8,6 +8,7 @@ ghost use Rattle.semantics.specs.Lower.{input_ports, input_vertices, lowered};
 ghost use Rattle.lowering.specs.Faults.{IsOver, IsTooMany};
 ghost use Rattle.lowering.specs.Scopes.{ports_of};
 ghost use Rattle.lowering.specs.Steps.{AreLowered, AreNested, IsNested, OutputsNested, lowered_lets, lowered_outputs};
+ghost use Rattle.graph.specs.Limits.{max_vertices};
 ghost use Rattle.graph.specs.Views.{graph_of};
 
 use crate::fault::LowerFault;
@@ -25,8 +26,8 @@ pub fn lower_vertices<A: Allocator>(
 ) -> Result<Vec<Vertex>, LowerFault>
     requires { IsNested (plain_program (program_tree program.now)) }
     ensures ok { IfOk result (λ g. graph_of g.items ≡ lowered (plain_program (program_tree program.now))) }
-    ensures few { IfOk result (λ g. length g.items ≤ 4096) }
-    ensures many { IfErr result (λ e. IsTooMany e → 4096 < length (lowered (plain_program (program_tree program.now)))) }
+    ensures few { IfOk result (λ g. length g.items ≤ max_vertices) }
+    ensures many { IfErr result (λ e. IsTooMany e → max_vertices < length (lowered (plain_program (program_tree program.now)))) }
 {
     let mut scope = Scope::new(alloc);
     let mut made = Vec::new(alloc);

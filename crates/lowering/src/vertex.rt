@@ -2,6 +2,7 @@
 
 ghost use Rattle.std.specs.Prelude.{◌≡◌, ◌≤◌, ◌++◌, ◌∷◌, [], length, IfOk, IfErr, OnOk};
 ghost use Rattle.semantics.specs.Lower.{new_vertex, port};
+ghost use Rattle.graph.specs.Limits.{max_vertices};
 ghost use Rattle.graph.specs.Views.{graph_of, kind_of, port_of, sources_of};
 ghost use Rattle.lowering.specs.Faults.{IsTooMany};
 
@@ -17,8 +18,8 @@ pub fn add_vertex(
 ) -> Result<Port, LowerFault>
     ensures made { OnOk result (graph_of made.new.items ≡ graph_of made.old.items ++ (new_vertex (kind_of kind) depth (sources_of ins) ∷ [])) }
     ensures gives { IfOk result (λ p. port_of p ≡ port (length made.old.items) 0) }
-    ensures few { OnOk result (length made.new.items ≤ 4096) }
-    ensures many { IfErr result (λ e. IsTooMany e → 4096 ≤ length made.old.items) }
+    ensures few { OnOk result (length made.new.items ≤ max_vertices) }
+    ensures many { IfErr result (λ e. IsTooMany e → max_vertices ≤ length made.old.items) }
 {
     let number = made.len();
     if number >= MAX_VERTICES {

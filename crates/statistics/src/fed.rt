@@ -1,13 +1,11 @@
 //! Counts the records that will be fed, before the run.
 
-ghost use Rattle.std.specs.Prelude.{◌≡◌, ◌<◌, ◌≤◌};
-ghost use Rattle.graph.specs.Views.{vertex_of};
-ghost use Rattle.semantics.specs.Kinds.{is_input as is_input_kind};
+ghost use Rattle.std.specs.Prelude.{◌<◌, ◌≤◌};
 
 use crate::tally::Tally;
 use collector::Epochs;
 use events::{CutBatch, EventFault, Wiring};
-use graph::{Graph, Kind, Vertex, VertexId};
+use graph::{Graph, VertexId};
 use rows::Batch;
 use std::alloc::Global;
 use std::sync::Arc;
@@ -62,7 +60,7 @@ impl Tally {
     ) -> Result<(), EventFault> {
         let graph = wiring.graph();
         let id = VertexId(input);
-        if input as usize >= graph.vertex_count() || !is_input(graph.vertex(id)) {
+        if input as usize >= graph.vertex_count() || !graph.vertex(id).kind.is_input() {
             return Ok(());
         }
         let cut = CutBatch::of(alloc, wiring, input, batch.share()?)?;
@@ -73,10 +71,4 @@ impl Tally {
         }
         Ok(())
     }
-}
-
-fn is_input(vertex: &Vertex) -> bool
-    ensures { result ≡ is_input_kind (vertex_of vertex.now).kind }
-{
-    matches!(vertex.kind, Kind::Input)
 }

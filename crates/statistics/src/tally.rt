@@ -5,7 +5,7 @@ ghost use Rattle.std.specs.Prelude.{◌<◌, ◌≤◌};
 use crate::counter::Counter;
 use collector::Epochs;
 use events::{EventFault, Letter, Output};
-use graph::{EdgeId, Graph, Kind, Location, VertexId, graph_text};
+use graph::{EdgeId, Graph, Location, VertexId, graph_text};
 use std::alloc::{AllocError, Global};
 use std::sync::Arc;
 use std::sync::atomic::{AtomicU64, Ordering};
@@ -123,7 +123,7 @@ fn counters_of(
     let vertices = graph.vertices();
     let mut counters = Vec::with_capacity(alloc, vertices.len())?;
     for vertex in vertices {
-        let count = if is_input(&vertex.kind) { 1 } else { workers };
+        let count = if vertex.kind.is_input() { 1 } else { workers };
         counters.push(new_counters(alloc, count)?)?;
     }
     Ok(counters)
@@ -136,8 +136,4 @@ fn new_counters(alloc: Global, count: u32) -> Result<Vec<Counter>, AllocError> {
         counters.push(Counter::new())?;
     }
     Ok(counters)
-}
-
-fn is_input(kind: &Kind) -> bool {
-    matches!(kind, Kind::Input)
 }

@@ -7,7 +7,8 @@ use Rattle.graph.specs.Shown.{GraphValue, shown_graph}
 use Rattle.rows.specs.FlatRows.{arity_of}
 use Rattle.board.specs.Fitting.{arity_in}
 use Rattle.board.specs.declared.refusal.StepRefusal.{StepRefusal}
-use Rattle.board.specs.declared.refusal.StepRefusal.TheVariants.{Stopped, UnknownInput, InputClosed, WrongFieldCount, LastEpoch, HoldsEvent, NoSuchEvent, NoMemory}
+use Rattle.board.specs.declared.refusal.StepRefusal.TheVariants.{Stopped, UnknownInput, InputClosed, WrongFieldCount, LastEpoch}
+use Rattle.board.specs.declared.refusal.StepRefusal.TheVariants.{HoldsEvent, NoSuchEvent, NoMemory}
 
 -- the graph has this input
 abbrev pub HasInput : GraphValue → (input : ℕ) → Type 0

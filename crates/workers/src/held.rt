@@ -2,7 +2,8 @@
 
 ghost use Rattle.std.specs.Prelude.{◌≡◌, ◌<◌, ℕ, true, IfOk, MatchBool, OnErr, OnOk, length, max};
 ghost use Rattle.machine.specs.Step.{Step};
-ghost use Rattle.board.specs.Answers.{AnswersOnly, AnswersOr, Claims, Commits, Gathers, HasChoice, HasNoChoice, Holds, IfNothing, feed_refusal, input_refusal, seal_refusal};
+ghost use Rattle.board.specs.Answers.{AnswersOnly, AnswersOr, Claims, Commits, Gathers, HasChoice, HasNoChoice, Holds, IfNothing};
+ghost use Rattle.board.specs.Answers.{feed_refusal, input_refusal, seal_refusal};
 ghost use Rattle.board.specs.Kept.{Goes};
 ghost use Rattle.board.specs.Lateness.{Applies, IsAsLate, IsUpToDate};
 ghost use Rattle.board.specs.Looks.{IsLookAt, ShowsPassed};
@@ -58,7 +59,12 @@ impl<J: Naming, V: Views> Model for Held<J, V> {
 
     ghost Value = { HeldShown };
 
-    ghost coded = { Prim.hlevel (codes, shard_row.the_row.coded, (scalar.the_row heap.the_row allocates.ghosts).coded, (condition.the_row heap.the_row allocates.ghosts).coded) };
+    ghost coded = { Prim.hlevel (
+      codes,
+      shard_row.the_row.coded,
+      (scalar.the_row heap.the_row allocates.ghosts).coded,
+      (condition.the_row heap.the_row allocates.ghosts).coded,
+    ) };
 
     ghost view = { λ h. record { board = h.board; published = h.publisher.number } };
 

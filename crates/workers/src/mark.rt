@@ -69,7 +69,8 @@ impl Model for Publisher {
 
     ghost view = { λ s. record { table = s.seat.table_id; number = s.published } };
 
-    ghost invariant = { λ s. (s.seat.me ≡ (publisher s.published, [])) × (s.table.value.shared.table_id ≡ s.seat.table_id) × (s.table.value.shared.table_id.words ≡ 1) };
+    ghost invariant = { λ s. (s.seat.me ≡ (publisher s.published, [])) × (s.table.value.shared.table_id ≡ s.seat.table_id)
+        × (s.table.value.shared.table_id.words ≡ 1) };
 }
 
 impl Mark {

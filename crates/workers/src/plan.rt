@@ -1,15 +1,13 @@
 //! Cuts what is fed into messages, while another thread may hold the lock.
 
 ghost use Rattle.std.specs.Prelude.{◌≡◌, length, IfErr, IfOk};
-ghost use Rattle.graph.specs.Views.{vertex_of};
-ghost use Rattle.semantics.specs.Kinds.{is_input as is_input_kind};
 ghost use Rattle.workers.specs.Plans.{RefusesBatch};
 
 use crate::burden::Brought;
 use crate::held::Naming;
 use board::StepRefusal;
 use events::{CutBatch, Wiring};
-use graph::{Kind, Vertex, VertexId};
+use graph::VertexId;
 use rows::Batch;
 use std::alloc::Global;
 use std::collections::VecDeque;
@@ -138,7 +136,7 @@ impl<J: Naming> Plan<J> {
     {
         let graph = self.wiring.graph();
         let id = VertexId(input);
-        if input as usize >= graph.vertex_count() || !is_input(graph.vertex(id)) {
+        if input as usize >= graph.vertex_count() || !graph.vertex(id).kind.is_input() {
             return Err(StepRefusal::UnknownInput);
         }
         if batch.arity() as u64 != graph.arity(id) {
@@ -202,10 +200,4 @@ impl<J: Naming> Plan<J> {
             }),
         }
     }
-}
-
-fn is_input(vertex: &Vertex) -> bool
-    ensures { result ≡ is_input_kind (vertex_of vertex.now).kind }
-{
-    matches!(vertex.kind, Kind::Input)
 }

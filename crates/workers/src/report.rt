@@ -34,7 +34,12 @@ impl<V: Views> Model for Report<V> {
 
     ghost Value = { Shown };
 
-    ghost coded = { Prim.hlevel (codes, shard_row.the_row.coded, (scalar.the_row heap.the_row allocates.ghosts).coded, (condition.the_row heap.the_row allocates.ghosts).coded) };
+    ghost coded = { Prim.hlevel (
+      codes,
+      shard_row.the_row.coded,
+      (scalar.the_row heap.the_row allocates.ghosts).coded,
+      (condition.the_row heap.the_row allocates.ghosts).coded,
+    ) };
 
     ghost view = { λ r. r.board.shown };
 

@@ -88,7 +88,7 @@ fn go_on<J: Naming, V: Views, R: Wait, G: Gate>(
     unreachable!()
 }
 
-/// Computes an event and commits it, and has what the worker claims then. An event that was given up ends the worker.
+/// Computes an event, commits it, and gives what the worker claims then. If the event is abandoned, the worker ends.
 fn turn_over<J: Naming, V: Views, R: Wait, G: Gate>(
     rt: &R,
     alloc: Global,

@@ -83,7 +83,8 @@ fn direct_after(
 ) -> Result<Refusing<Direct<LocationTracker>>, NoMemory>
     ensures graph { IfOk result (λ r. shown_graph r.views.tracker.graph ≡ shown_graph graph.now.value) }
     ensures workers { IfOk result (λ r. r.views.workers ≡ 2) }
-    ensures first { IfOk result (λ r. (q : Active) → times_at r.views.tracker.edges r.views.tracker.vertices q ≡ active_at_first (shown_graph graph.now.value) q) }
+    ensures first { IfOk result (λ r. (q : Active) →
+        times_at r.views.tracker.edges r.views.tracker.vertices q ≡ active_at_first (shown_graph graph.now.value) q) }
 {
     let paths = Arc::new(alloc, Paths::of(alloc, graph)?)?;
     let tracker = LocationTracker::new(alloc, Arc::try_clone(&paths)?)?;

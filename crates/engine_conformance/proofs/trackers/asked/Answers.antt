@@ -1,4 +1,3 @@
-use Rattle.std.proofs.Common.{◌≡◌}
 use Rattle.engine_conformance.proofs.PossibleChanges.{possible_changes}
 use Rattle.engine_conformance.proofs.trackers.asked.Goals as goal
 

@@ -1,4 +1,4 @@
-use Rattle.std.proofs.Common.{◌≡◌, ◌≤◌, ℕ}
+use Rattle.std.proofs.Common.{◌≡◌, ◌≤◌}
 use Rattle.semantics.specs.Could.{Pointstamp}
 use Rattle.graph.specs.Shown.{shown_graph}
 use Rattle.progress.specs.Content.{times_at, times_in}

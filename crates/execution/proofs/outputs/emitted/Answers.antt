@@ -1,9 +1,8 @@
-use Rattle.std.proofs.Common.{◌≡◌, ◌∙◌, ap, length, map, subst, arith}
-use Rattle.std.proofs.lemmas.List.{length-map, take_all}
+use Rattle.std.proofs.Common.{ap, length, arith}
+use Rattle.std.proofs.lemmas.List.{length-map}
 use Rattle.semantics.specs.Graph.{output_numbers}
-use Rattle.graph.specs.Shown.{GraphValue, shown_graph, shown_names}
-use Rattle.graph.specs.Views.{name_of_output, number_of_output}
-use Rattle.execution.proofs.EmittedOutputs.{below_all, one_more}
+use Rattle.graph.specs.Shown.{GraphValue, shown_graph}
+use Rattle.graph.specs.Views.{number_of_output}
 use Rattle.execution.proofs.outputs.emitted.Goals as goal
 
 pub bounds-outputs-output : goal.bounds-outputs-output

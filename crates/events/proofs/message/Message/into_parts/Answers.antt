@@ -1,4 +1,4 @@
-use Rattle.std.proofs.Common.{◌≡◌, ◌<◌, ◌++◌, ◌∙◌, ℕ, Bool, true, false, length, ap, subst, sym, inl, inr}
+use Rattle.std.proofs.Common.{◌≡◌, ◌++◌, ◌∙◌, ℕ, Bool, true, false, length, ap, subst, sym, inl, inr}
 use Rattle.std.specs.Prelude.{◌==◌}
 use Rattle.rows.specs.Counts.{IsOver}
 use Rattle.rows.specs.FlatRows.{joined}

@@ -1,4 +1,4 @@
-use Rattle.std.proofs.Common.{◌≡◌, ◌<◌, ◌∙◌, ◌++◌, ◌∷◌, length, ap, sym, subst}
+use Rattle.std.proofs.Common.{◌<◌, ◌∙◌, ◌++◌, ◌∷◌, length, ap, sym, subst}
 use Rattle.machine.specs.World.{Message}
 use Rattle.rows.specs.FlatRows.{arity_of}
 use Rattle.events.proofs.Merging.{both_records, one_message}

@@ -1,8 +1,8 @@
-use Rattle.std.proofs.Common.{◌≡◌, ap, subst, refl, sym, ◌∙◌, []}
+use Rattle.std.proofs.Common.{subst, sym}
 use Rattle.board.specs.Answers.{Gathers}
 use Rattle.board.specs.Promises.{CountsPassed}
 use Rattle.board.specs.Shown.{Shown}
-use Rattle.workers.specs.Held.{HeldShown, IsHeld}
+use Rattle.workers.specs.Held.{HeldShown}
 use Rattle.workers.proofs.Publishing.{after_gathering, after_refusal}
 use Rattle.workers.proofs.held.Held.gather.Goals as goal
 
