@@ -2,7 +2,7 @@ pub mod InOrder
 pub mod Carrying
 pub mod Following
 pub mod DecidedCould
-pub mod Standing
+pub mod WalksAndLoops
 pub mod Passes
 pub mod Steps
 pub mod Numbers

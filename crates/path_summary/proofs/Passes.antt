@@ -12,7 +12,7 @@ use Rattle.path_summary.specs.Carried.{identity}
 use Rattle.path_summary.specs.Linking.{Link, Links}
 use Rattle.path_summary.specs.Rows.{is_below, entry, HasBelow, IsClosed}
 use Rattle.path_summary.specs.Walks.{AreNested, HaveLoops, Walk, every, size, IsOfWalk, HasGot}
-use Rattle.path_summary.proofs.Standing.{Stands, stands_home, stands_over, order_trans, below_total, below_trans, below_after, start_below, rank_from, rank_over, rank_start, rank_self}
+use Rattle.path_summary.proofs.WalksAndLoops.{Stands, stands_home, stands_over, order_trans, below_total, below_trans, below_after, start_below, rank_from, rank_over, rank_start, rank_self}
 
 -- ---- sets of vertices
 
