@@ -14,7 +14,7 @@ use Rattle.events.specs.Cuts.{Cut, IsCut, at_time, cut_letters}
 use Rattle.events.specs.Graphs.{IsKnown}
 use Rattle.events.specs.Letters.{AreParcels, by_two, letter_of, letters, letters_over}
 use Rattle.events.specs.Wired.{graph_in, network_of}
-use Rattle.events.proofs.Seams.{parcels_are}
+use Rattle.events.proofs.CommitOutputs.{parcels_are}
 
 -- ---- a loop that writes each element in turn
 
