@@ -10,5 +10,5 @@ pub mod NamedOutputs
 pub mod OutputPlaces
 pub mod WholePrograms
 pub mod Nesting
-pub mod Leads
+pub mod SourcesBefore
 pub mod VertexArities

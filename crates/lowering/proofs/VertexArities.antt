@@ -12,7 +12,7 @@ use Rattle.semantics.specs.PortArity.{IsTyped, PortsFit, program_arities}
 use Rattle.semantics.specs.Typing.{WellTyped}
 use Rattle.semantics.proofs.LoweredPrograms.{length-input_vertices}
 use Rattle.lowering.specs.Sent.{arity_in, sent}
-use Rattle.lowering.proofs.Leads.{AllBelow, FirstBelow, Leads, behind_inputs, leads_at, program_leads, some_input}
+use Rattle.lowering.proofs.SourcesBefore.{AllBelow, FirstBelow, Leads, behind_inputs, leads_at, program_leads, some_input}
 
 fits_sent : (kind : Kind) (n : ℕ) (ins : ℕ → ℕ) (out : ℕ) → is_input kind ≡ false → PortsFit kind ins out → out ≡ sent kind n (ins 0) (ins 1)
 fits_sent Kind.input n ins out e h = absurd (true≢false e)
