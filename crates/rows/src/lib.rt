@@ -15,11 +15,11 @@ mod builder;
 mod chains;
 mod columns;
 mod counted;
+mod counts_by_place;
 mod different;
 mod error;
 mod index;
 mod lists;
-mod raising;
 mod set;
 mod tally;
 
