@@ -10,8 +10,8 @@ use Rattle.collector.specs.Lines.{IsInput, Says, IsFault}
 use Rattle.collector.specs.Pieces.{split_on}
 use Rattle.collector.specs.Said.{item_of}
 use Rattle.collector.specs.declared.line.Line.{Line}
-use Rattle.collector.specs.declared.next.Stop.{Stop}
-use Rattle.collector.specs.declared.next.Stop.TheVariants as stop
+use Rattle.collector.specs.declared.first_line.Stop.{Stop}
+use Rattle.collector.specs.declared.first_line.Stop.TheVariants as stop
 use Rattle.collector.specs.OutputText.{spaced}
 
 -- each is a number of 64 bits

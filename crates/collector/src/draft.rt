@@ -6,7 +6,7 @@ ghost use Rattle.collector.specs.Drafts.{draft_count, IsKept};
 ghost use Rattle.collector.specs.Growth.{HasNone, IsEven, Begins, Gains};
 
 use crate::epochs::Epochs;
-use crate::track::Track;
+use crate::input_records::Track;
 use rows::RowsError;
 use std::alloc::Global;
 

@@ -4,7 +4,7 @@ ghost use Rattle.std.specs.Prelude.{◌≡◌};
 ghost use Rattle.rows.specs.FlatRows.{joined};
 ghost use Rattle.collector.specs.Held.{epoch_count, records_at};
 
-use crate::track::Kept;
+use crate::input_records::Kept;
 use rows::Batch;
 
 /// The epochs of a text: for each input, its records by epoch, in batches.

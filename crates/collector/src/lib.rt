@@ -9,9 +9,10 @@
 mod bytes;
 mod draft;
 mod epochs;
+mod first_line;
+mod input_records;
 mod laws;
 mod line;
-mod next;
 mod output;
 mod partition;
 mod quick;
@@ -20,15 +21,14 @@ mod refusal;
 mod sameness;
 mod sorter;
 mod splitting;
-mod track;
 mod watched;
 mod writing;
 
 pub use bytes::{ReadFault, read_all, read_at_most};
 pub use epochs::Epochs;
+pub use first_line::{Stop, next_line};
 pub use laws::{law_one_answer, law_one_reading};
 pub use line::{Declared, Line, find_input, first_word, is_word, read_fields, rest_is_filled};
-pub use next::{Stop, next_line};
 pub use output::{OutFault, OutputEpochs, push_partition, push_sorted, write_epochs};
 pub use partition::Partition;
 pub use reading::read_input;

@@ -7,8 +7,8 @@ ghost use Rattle.collector.specs.Said.{item_of, plain};
 
 use crate::draft::Draft;
 use crate::epochs::Epochs;
+use crate::first_line::{Stop, next_line};
 use crate::line::{Declared, Line};
-use crate::next::{Stop, next_line};
 use crate::refusal::InputRefusal;
 use rows::RowsError;
 use std::alloc::{AllocError, Global};

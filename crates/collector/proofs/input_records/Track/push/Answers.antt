@@ -1,7 +1,7 @@
 use Rattle.std.proofs.Common.{◌∙◌, sym, ap, map, length}
 use Rattle.collector.specs.Piles.{piled, with_open}
 use Rattle.collector.proofs.Piles.{opened_len, row_more}
-use Rattle.collector.proofs.track.Track.push.Goals as goal
+use Rattle.collector.proofs.input_records.Track.push.Goals as goal
 
 pub returns-clause-len : goal.returns-clause-len
 returns-clause-len c =

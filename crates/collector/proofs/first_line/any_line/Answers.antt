@@ -2,7 +2,7 @@ use Rattle.std.proofs.Common.{map}
 use Rattle.collector.specs.Said.{plain}
 use Rattle.collector.specs.Lines.{IsFault}
 use Rattle.collector.proofs.Splits.{split_none, cut_at}
-use Rattle.collector.proofs.next.any_line.Goals as goal
+use Rattle.collector.proofs.first_line.any_line.Goals as goal
 
 pub returns-in_default : goal.returns-in_default
 returns-in_default c = split_none 10 c.args.text.now c.in_default.ensures.none

@@ -2,7 +2,7 @@ use Rattle.std.proofs.Common.{◌∙◌, ap, map}
 use Rattle.rows.specs.FlatRows.{RowList}
 use Rattle.collector.specs.Piles.{piled, with_open}
 use Rattle.collector.proofs.Piles.{begun, Records}
-use Rattle.collector.proofs.track.Track.begin.Goals as goal
+use Rattle.collector.proofs.input_records.Track.begin.Goals as goal
 
 abbrev rows_of : RowList → Records
 rows_of r = r.rows

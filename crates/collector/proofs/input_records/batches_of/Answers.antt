@@ -2,7 +2,7 @@ use Rattle.std.proofs.Common.{[], subst}
 use Rattle.semantics.specs.Multiset.{◌≈◌}
 use Rattle.rows.specs.Counts.{records_in}
 use Rattle.collector.proofs.Batched.{batch_put, none_put}
-use Rattle.collector.proofs.track.batches_of.Goals as goal
+use Rattle.collector.proofs.input_records.batches_of.Goals as goal
 
 pub loop-rows-preserved-in-Continue-branch-4 : goal.loop-rows-preserved-in-Continue-branch-4
 loop-rows-preserved-in-Continue-branch-4 c =

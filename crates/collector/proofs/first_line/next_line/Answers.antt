@@ -2,7 +2,7 @@ use Rattle.std.proofs.Common.{map}
 use Rattle.collector.specs.Said.{plain}
 use Rattle.collector.specs.Quick.{IsRowAt}
 use Rattle.collector.proofs.QuickLines.{row_line}
-use Rattle.collector.proofs.next.next_line.Goals as goal
+use Rattle.collector.proofs.first_line.next_line.Goals as goal
 
 pub returns-in-Ok-Some : goal.returns-in-Ok-Some
 returns-in-Ok-Some c =

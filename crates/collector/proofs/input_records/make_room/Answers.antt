@@ -2,7 +2,7 @@ use Rattle.std.proofs.Common.{◌≡◌, ◌∙◌, ap, []}
 use Rattle.rows.specs.FlatRows.{RowList}
 use Rattle.collector.specs.Piles.{with_open}
 use Rattle.collector.proofs.Piles.{with_none, Records}
-use Rattle.collector.proofs.track.make_room.Goals as goal
+use Rattle.collector.proofs.input_records.make_room.Goals as goal
 
 abbrev rows_of : RowList → Records
 rows_of r = r.rows

@@ -1,7 +1,7 @@
 use Rattle.std.proofs.Common.{◌≡◌, ◌∙◌, arith, sym, ap, []}
 use Rattle.collector.specs.Piles.{piled}
 use Rattle.collector.proofs.Piles.{piled_push, with_none, sealed}
-use Rattle.collector.proofs.track.seal.Goals as goal
+use Rattle.collector.proofs.input_records.seal.Goals as goal
 
 pub returns-then-is_empty : goal.returns-then-is_empty
 returns-then-is_empty c =
