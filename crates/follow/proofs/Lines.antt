@@ -13,7 +13,7 @@ use Rattle.collector.proofs.LinesRead.{filled, say_push}
 use Rattle.follow.specs.Scenes.{Grows, HasTaken}
 use Rattle.follow.specs.Steps.{Continues, Counts, TakesItem, TakesLines}
 use Rattle.follow.specs.declared.intake.Intake.{Intake}
-use Rattle.follow.specs.declared.taken.Taken.TheVariants as taken
+use Rattle.follow.specs.declared.line_stop.Taken.TheVariants as taken
 use Rattle.follow.proofs.Fed.{counted_fed}
 use Rattle.follow.proofs.Items.{continues_here, continues_item, continues_on}
 use Rattle.follow.proofs.Moved.{grows_not, grows_on}

@@ -25,8 +25,8 @@ use Rattle.follow.specs.declared.ending.Ending.TheVariants as ending
 use Rattle.follow.specs.declared.ending.Halt.{Halt}
 use Rattle.follow.specs.declared.ending.Halt.TheVariants as halt
 use Rattle.follow.specs.declared.intake.Intake.{Intake}
-use Rattle.follow.specs.declared.taken.Taken.{Taken}
-use Rattle.follow.specs.declared.taken.Taken.TheVariants as taken
+use Rattle.follow.specs.declared.line_stop.Taken.{Taken}
+use Rattle.follow.specs.declared.line_stop.Taken.TheVariants as taken
 use Rattle.follow.specs.declared.reporting.Reporting.{Reporting}
 use Rattle.follow.proofs.Cuts.{more_bytes}
 use Rattle.follow.proofs.Fed.{nothing_waits}

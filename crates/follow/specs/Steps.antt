@@ -21,8 +21,8 @@ use Rattle.follow.specs.declared.ending.Halt.{Halt}
 use Rattle.follow.specs.declared.ending.Halt.TheVariants as halt
 use Rattle.follow.specs.declared.intake.Intake.{Intake}
 use Rattle.follow.specs.declared.position.Position.{Position}
-use Rattle.follow.specs.declared.taken.Taken.{Taken}
-use Rattle.follow.specs.declared.taken.Taken.TheVariants as taken
+use Rattle.follow.specs.declared.line_stop.Taken.{Taken}
+use Rattle.follow.specs.declared.line_stop.Taken.TheVariants as taken
 use Rattle.follow.specs.declared.reporting.Reporting.{Reporting}
 
 -- how following ends if the work stops

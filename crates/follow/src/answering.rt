@@ -3,11 +3,11 @@
 ghost use Rattle.std.specs.Prelude.{IfOk};
 ghost use Rattle.follow.specs.Steps.{AnswersLast, AnswersOpen};
 
+use crate::board_calls::close_inputs;
 use crate::crew::{Crew, HEAVY, work_off};
 use crate::ending::Halt;
 use crate::intake::{Intake, feed_portion};
 use crate::reporting::{Reporting, report};
-use crate::working::close_inputs;
 use board::Board;
 use std::alloc::Global;
 use std::thread::Threads;

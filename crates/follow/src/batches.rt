@@ -7,7 +7,7 @@ ghost use Rattle.rows.specs.FlatRows.{joined};
 ghost use Rattle.collector.specs.OutputText.{label_of};
 ghost use Rattle.follow.specs.Entries.{row_line};
 
-use crate::texts::push_row;
+use crate::line_texts::push_row;
 use record_core::Name;
 use rows::Batch;
 use std::alloc::AllocError;

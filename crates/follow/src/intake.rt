@@ -5,9 +5,9 @@ ghost use Rattle.collector.specs.Lines.{Item};
 ghost use Rattle.collector.specs.Said.{item_of, plain};
 ghost use Rattle.follow.specs.Steps.{Counts, Empties, Gathers, IsNew, TakesItem, FeedsRows, FeedsPortion, TakesLines};
 
+use crate::board_calls::{feed, seal_inputs};
 use crate::ending::Halt;
-use crate::taken::Taken;
-use crate::working::{feed, seal_inputs};
+use crate::line_stop::Taken;
 use board::Board;
 use collector::{Declared, Line, Stop, next_line};
 use record_core::MAX_FIELDS;

@@ -14,17 +14,17 @@
 
 mod answering;
 mod batches;
+mod board_calls;
 mod crew;
 mod ending;
 mod following;
 mod intake;
+mod line_stop;
+mod line_texts;
 mod position;
 mod renewing;
 mod reporting;
 mod slot;
-mod taken;
-mod texts;
-mod working;
 
 pub use crew::Crew;
 pub use ending::Ending;

@@ -10,7 +10,7 @@ ghost use Rattle.follow.specs.Steps.{IsFresh, Completes, Reports, ReportsBatches
 
 use crate::batches::push_batches;
 use crate::ending::Halt;
-use crate::texts::push_complete;
+use crate::line_texts::push_complete;
 use board::Board;
 use graph::GraphOutput;
 use record_core::Name;

@@ -1,5 +1,5 @@
 use Rattle.follow.proofs.Moved.{seals_more, seals_not}
-use Rattle.follow.proofs.working.seal_inputs.Goals as goal
+use Rattle.follow.proofs.board_calls.seal_inputs.Goals as goal
 
 pub loop-input-init : goal.loop-input-init
 loop-input-init g c = λ live. seals_not c.args.board.now.shown live

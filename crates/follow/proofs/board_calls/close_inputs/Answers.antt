@@ -1,5 +1,5 @@
 use Rattle.follow.proofs.Moved.{works_not, works_on}
-use Rattle.follow.proofs.working.close_inputs.Goals as goal
+use Rattle.follow.proofs.board_calls.close_inputs.Goals as goal
 
 pub loop-input-init : goal.loop-input-init
 loop-input-init g c = λ live. works_not c.args.board.now.shown live
