@@ -13,12 +13,12 @@
 #![tactic(auto)]
 
 mod answer;
-mod feeding;
 mod hand;
+mod input_lines;
 mod refusal;
 mod replaying;
-mod texts;
-mod working;
+mod schedule_answer;
+mod worker_lines;
 
 pub use replaying::replay;
-pub use texts::{law_graph_inputs, replay_text};
+pub use schedule_answer::{law_graph_inputs, replay_text};

@@ -10,10 +10,10 @@ ghost use Rattle.replay.specs.Steps.{Answers, AreInputsOf, IsStep, Leads, ShowsS
 ghost use Rattle.replay.specs.Waits.{State};
 
 use crate::answer::{push_answer, push_refusal};
-use crate::feeding::{close, feed, seal};
 use crate::hand::{abandon_hand, empty_hand};
+use crate::input_lines::{close, feed, seal};
 use crate::refusal::Refusal;
-use crate::working::{apply, commit, deliver, take};
+use crate::worker_lines::{apply, commit, deliver, take};
 use board::Board;
 use collector::Declared;
 use events::Done;

@@ -7,7 +7,7 @@ use Rattle.replay.specs.Replays.{refusal_line}
 use Rattle.replay.specs.Hands.{IsHand, in_hand}
 use Rattle.replay.specs.Steps.{Leads}
 use Rattle.replay.proofs.Taken.{emptied_hand, end_answers, ended_leads, nothing_held, past_hand, still_empty}
-use Rattle.replay.proofs.working.commit.Goals as goal
+use Rattle.replay.proofs.worker_lines.commit.Goals as goal
 
 pub returns-then-place-hand-clause-answers : goal.returns-then-place-hand-clause-answers
 returns-then-place-hand-clause-answers g c = nothing_held g.V.Views.late c.args.board.now c.args.board.now c.args.hand.now c.args.worker refl (past_hand c.args.hand.now c.args.worker c.if-place-hand.true)

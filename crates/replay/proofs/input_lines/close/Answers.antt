@@ -5,7 +5,7 @@ use Rattle.schedule.specs.Commands.{Command}
 use Rattle.replay.specs.Replays.{Does}
 use Rattle.replay.specs.Steps.{IsNumbered}
 use Rattle.replay.proofs.Inputs.{input_count_is, open_input, refused_answers, refused_input, refused_only, posting_leads, taken_only}
-use Rattle.replay.proofs.feeding.close.Goals as goal
+use Rattle.replay.proofs.input_lines.close.Goals as goal
 
 pub returns-in-Ok : goal.returns-in-Ok
 returns-in-Ok g c = λ hand.

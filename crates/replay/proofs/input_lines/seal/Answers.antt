@@ -5,7 +5,7 @@ use Rattle.schedule.specs.Commands.{Command}
 use Rattle.replay.specs.Replays.{Does}
 use Rattle.replay.specs.Steps.{IsNumbered}
 use Rattle.replay.proofs.Inputs.{input_count_is, open_input, refused_answers, refused_seal, posting_leads, taken_first}
-use Rattle.replay.proofs.feeding.seal.Goals as goal
+use Rattle.replay.proofs.input_lines.seal.Goals as goal
 
 pub returns-in-Ok : goal.returns-in-Ok
 returns-in-Ok g c = λ hand.

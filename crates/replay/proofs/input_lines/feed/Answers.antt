@@ -7,7 +7,7 @@ use Rattle.schedule.specs.Commands.{Command}
 use Rattle.replay.specs.Replays.{Does, RefusesFeed}
 use Rattle.replay.specs.Steps.{IsNumbered}
 use Rattle.replay.proofs.Inputs.{fed_leads, input_count_is, open_input, refused_answers, refused_input, unfit_leads}
-use Rattle.replay.proofs.feeding.feed.Goals as goal
+use Rattle.replay.proofs.input_lines.feed.Goals as goal
 
 pub returns-in-Some : goal.returns-in-Some
 returns-in-Some g c = λ hand.

@@ -1,7 +1,7 @@
 use Rattle.replay.proofs.GraphInputs.{are_inputs}
 use Rattle.std.proofs.Common.{◌≤◌, arith, length}
 use Rattle.graph.specs.Shown.{shown_graph}
-use Rattle.replay.proofs.texts.law_graph_inputs.Goals as goal
+use Rattle.replay.proofs.schedule_answer.law_graph_inputs.Goals as goal
 
 pub returns : goal.returns
 returns c =

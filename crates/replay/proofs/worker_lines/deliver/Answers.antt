@@ -7,7 +7,7 @@ use Rattle.replay.specs.Steps.{IsCommitted}
 use Rattle.replay.proofs.Inputs.{refused_answers}
 use Rattle.replay.proofs.Waiting.{board_same}
 use Rattle.replay.proofs.Taken.{delivered_leads, end_answers, abandoned_answers, picked_stays, refused_pick, stays_on}
-use Rattle.replay.proofs.working.deliver.Goals as goal
+use Rattle.replay.proofs.worker_lines.deliver.Goals as goal
 
 pub returns-in-Err : goal.returns-in-Err
 returns-in-Err g c = λ hand h.

@@ -8,7 +8,7 @@ use Rattle.replay.proofs.Holding.{hand_stays}
 use Rattle.replay.proofs.Inputs.{refused_answers}
 use Rattle.replay.proofs.Waiting.{board_same}
 use Rattle.replay.proofs.Taken.{kept_hand, abandoned_answers, picked_room, picked_stays, refused_pick, stays_on, taken_leads}
-use Rattle.replay.proofs.working.take.Goals as goal
+use Rattle.replay.proofs.worker_lines.take.Goals as goal
 
 pub returns-in-Err-clause-answers : goal.returns-in-Err-clause-answers
 returns-in-Err-clause-answers g c =
