@@ -20,12 +20,12 @@ mod input_fault;
 mod input_hint;
 mod names;
 mod query_fault;
+mod read_texts;
 mod reason;
 mod schedule_fault;
-mod texts;
 
 pub use display::{Plain, Word};
 pub use explain::explain_fault;
 pub use explanation::{explained, write_explanation};
 pub use fault::Fault;
-pub use texts::Texts;
+pub use read_texts::Texts;
