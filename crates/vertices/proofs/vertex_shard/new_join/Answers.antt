@@ -6,7 +6,7 @@ use Rattle.vertices.specs.ByTime.{AreStatesOf}
 use Rattle.vertices.specs.Joins.{IsSidesOf}
 use Rattle.vertices.specs.Shards.{by_port}
 use Rattle.vertices.specs.declared.join_plan.JoinPlan.{JoinPlan}
-use Rattle.vertices.proofs.making.new_join.Goals as goal
+use Rattle.vertices.proofs.vertex_shard.new_join.Goals as goal
 
 pub returns-clause-fresh : goal.returns-clause-fresh
 returns-clause-fresh c =

@@ -4,7 +4,7 @@ use Rattle.expr_tree.specs.Views.{scalar_tree, cond_tree}
 use Rattle.graph.specs.Views.{kind_of}
 use Rattle.semantics.specs.Kinds as semantics
 use Rattle.vertices.specs.Shards.{IsFreshShard}
-use Rattle.vertices.proofs.making.new_shard.Goals as goal
+use Rattle.vertices.proofs.vertex_shard.new_shard.Goals as goal
 
 pub returns-in_ok-shard-in-Select-clause-fresh : goal.returns-in_ok-shard-in-Select-clause-fresh
 returns-in_ok-shard-in-Select-clause-fresh c =
