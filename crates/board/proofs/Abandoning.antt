@@ -15,7 +15,7 @@ use Rattle.board.specs.Steps.{after_abandon}
 use Rattle.board.specs.Fitting.{FitsPlace}
 use Rattle.board.proofs.Emitting.{emits_same}
 use Rattle.board.specs.Kept.{IsKept, Goes}
-use Rattle.board.proofs.Boards.{same_names}
+use Rattle.board.proofs.BoardCalls.{same_names}
 use Rattle.board.proofs.Committed.{sides_put}
 use Rattle.board.proofs.Keeping.{kept_more}
 use Rattle.board.proofs.Places.{put_set_below, same_set}

@@ -16,7 +16,7 @@ use Rattle.views.specs.Waiting.{IsSeenBy, Waiting}
 use Rattle.board.specs.Seals.{HavePassed}
 use Rattle.board.specs.Shown.{InputShown, Shown, input_at, no_input, side_at}
 use Rattle.board.specs.Steps.{after_abandon, after_close, after_seal, more_at}
-use Rattle.board.proofs.Boards.{commit_goes}
+use Rattle.board.proofs.BoardCalls.{commit_goes}
 use Rattle.board.proofs.Counts.{have_passed, most_same}
 use Rattle.board.proofs.Ended.{close_goes, seal_goes}
 use Rattle.board.proofs.Feeding.{feeds_goes}

@@ -21,7 +21,7 @@ use Rattle.board.specs.Shown.{Shown, Side, side_at, side_in, event_at, location_
 use Rattle.board.specs.Steps.{delivered, settled, with_emitted, after_commit}
 use Rattle.board.specs.Commits.{IsOf}
 use Rattle.board.proofs.Facts.{own_side}
-use Rattle.board.proofs.Rooms.{sides_length, side_read}
+use Rattle.board.proofs.MailboxRoom.{sides_length, side_read}
 
 pub is_in : (g : Graph) (l : Location) (t : Time) → IsTimeAt g l t → IsIn g l
 is_in g (Location.edge e) t h = h.0

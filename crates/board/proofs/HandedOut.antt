@@ -18,7 +18,7 @@ use Rattle.board.specs.Kept.{IsKept, Goes}
 use Rattle.board.specs.Commits.{IsOf}
 use Rattle.board.specs.Claims.{IsTaken, HandsMessage, HandsRequest}
 use Rattle.board.specs.Answers.{Hands, Holds, HasNoChoice}
-use Rattle.board.proofs.Boards.{names, same_names}
+use Rattle.board.proofs.BoardCalls.{names, same_names}
 use Rattle.board.proofs.Claiming.{may_claim_message, shows_claim_message, may_claim_request, shows_claim_request}
 use Rattle.board.proofs.Committed.{sides_put}
 use Rattle.board.proofs.Keeping.{kept_more}

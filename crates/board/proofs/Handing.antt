@@ -7,7 +7,7 @@ use Rattle.board.specs.Desks.{Desk, sides_of}
 use Rattle.board.specs.Shown.{Shown, Side, side_at, side_in, event_at}
 use Rattle.board.specs.Steps.{out_with}
 use Rattle.board.specs.Claims.{IsTaken, HandsMessage, HandsRequest}
-use Rattle.board.proofs.Rooms.{sides_length, side_read, sides_change}
+use Rattle.board.proofs.MailboxRoom.{sides_length, side_read, sides_change}
 
 module _ (s : Shown) (ds : List Desk) (same : sides_of ds ≡ s.sides) (k : ℕ) (there : k < length s.sides) where
   pub desk_there : k < length ds

@@ -1,7 +1,7 @@
 pub mod Places
 pub mod Mails
 pub mod Deliveries
-pub mod Rooms
+pub mod MailboxRoom
 pub mod Merged
 pub mod Noted
 pub mod Emitting
@@ -15,11 +15,11 @@ pub mod EpochPlaces
 pub mod Ending
 pub mod Keeping
 pub mod Committed
-pub mod Boards
+pub mod BoardCalls
 pub mod Ready
 pub mod Handing
 pub mod Worlds
-pub mod Together
+pub mod MergedMail
 pub mod HandedOut
 pub mod Frontiers
 pub mod Ended
@@ -27,7 +27,7 @@ pub mod Feeding
 pub mod Abandoning
 pub mod Counts
 pub mod Passing
-pub mod Kths
+pub mod KthElements
 pub mod Picking
 pub mod Counted
 pub mod Posts

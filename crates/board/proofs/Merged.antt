@@ -18,14 +18,14 @@ use Rattle.board.specs.Merging.{AreMerged}
 use Rattle.board.specs.Showing.{EachShard, IsSideOf, OnShard, Shows, ShowsIn, known_shard}
 use Rattle.board.specs.Shown.{Shown, Side, held_of, net, no_side, side_at, side_in, tables}
 use Rattle.board.specs.Steps.{with_side}
-use Rattle.board.proofs.Boards.{same_names}
+use Rattle.board.proofs.BoardCalls.{same_names}
 use Rattle.board.proofs.Claiming.{may_claim}
 use Rattle.board.proofs.Committed.{sides_put}
 use Rattle.board.proofs.Emitting.{emits_same}
 use Rattle.board.proofs.Handing.{desk_there, read_at}
 use Rattle.board.proofs.Keeping.{kept_more}
 use Rattle.board.proofs.Places.{put_set_below, same_set}
-use Rattle.board.proofs.Rooms.{sides_same, sides_set}
+use Rattle.board.proofs.MailboxRoom.{sides_same, sides_set}
 use Rattle.board.proofs.Shards.{each_with}
 
 -- where there is no error

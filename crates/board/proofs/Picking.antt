@@ -15,7 +15,7 @@ use Rattle.board.specs.Kept.{IsKept}
 use Rattle.board.specs.Picks.{IsChoice, LacksChoice}
 use Rattle.board.specs.Shown.{Shown, net, side_at}
 use Rattle.board.proofs.HandedOut.{hands_message, hands_request, message_taken, request_taken}
-use Rattle.board.proofs.Kths.{kth_same, kth_there}
+use Rattle.board.proofs.KthElements.{kth_same, kth_there}
 use Rattle.board.proofs.Places.{get_index}
 use Rattle.board.proofs.Worlds.{no_other, no_other_back}
 

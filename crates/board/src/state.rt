@@ -24,7 +24,7 @@ use crate::emitted::Emitted;
 use crate::epochs::Batches;
 use crate::inputs::Input;
 use crate::look::{share_batches, share_fed};
-use crate::making::{new_inputs, new_workers};
+use crate::new_parts::{new_inputs, new_workers};
 use crate::refusal::StepRefusal;
 use crate::worker::Worker;
 use events::{CutBatch, Done, Event, Output, Request, Wiring, Work};

@@ -1,6 +1,6 @@
 use Rattle.views.specs.Waiting.{IsSeenBy}
 use Rattle.board.specs.Deliverable.{IsDeliverable}
-use Rattle.board.proofs.Kths.{Remains}
+use Rattle.board.proofs.KthElements.{Remains}
 use Rattle.board.proofs.choices.kth_deliverable.Given as goal
 
 abbrev pub invariant-loop-place : goal.invariant-loop-place

@@ -1,7 +1,7 @@
 use Rattle.std.proofs.Common.{List, ap, ◌∙◌}
 use Rattle.board.specs.Shown.{Side}
 use Rattle.board.specs.Steps.{delivered, settled}
-use Rattle.board.proofs.Rooms.{sides_change}
+use Rattle.board.proofs.MailboxRoom.{sides_change}
 use Rattle.board.proofs.delivery.finish.Goals as goal
 
 pub returns-clause-sides : goal.returns-clause-sides

@@ -1,5 +1,5 @@
 use Rattle.std.proofs.Common.{◌∙◌, arith}
-use Rattle.board.proofs.Rooms.{sides_same, as_many}
+use Rattle.board.proofs.MailboxRoom.{sides_same, as_many}
 use Rattle.board.proofs.delivery.prepare.Goals as goal
 
 pub returns-then-is_err-2-clause-sides : goal.returns-then-is_err-2-clause-sides

@@ -1,6 +1,6 @@
 use Rattle.board.specs.Shown.{Side}
 use Rattle.board.specs.Steps.{with_mail}
-use Rattle.board.proofs.Rooms.{sides_change}
+use Rattle.board.proofs.MailboxRoom.{sides_change}
 use Rattle.board.proofs.delivery.put_letter.Goals as goal
 
 pub returns-clause-sides : goal.returns-clause-sides

@@ -1,7 +1,7 @@
 use Rattle.std.proofs.Common.{◌≡◌, sym, ap, ◌∙◌, subst, arith, length, take, List}
 use Rattle.std.proofs.lemmas.List.{take_all}
 use Rattle.events.specs.declared.letter.Letter.{Letter}
-use Rattle.board.proofs.Rooms.{AllRoom, sides_same, as_many, letter_there, reserved_next, has_room}
+use Rattle.board.proofs.MailboxRoom.{AllRoom, sides_same, as_many, letter_there, reserved_next, has_room}
 use Rattle.board.proofs.delivery.reserve_letters.Goals as goal
 
 pub returns-in_err-reserve_mail-clause-sides : goal.returns-in_err-reserve_mail-clause-sides

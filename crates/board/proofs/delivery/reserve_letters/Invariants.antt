@@ -1,6 +1,6 @@
 use Rattle.std.proofs.Common.{◌≡◌, take}
 use Rattle.board.specs.Desks.{sides_of}
-use Rattle.board.proofs.Rooms.{AllRoom}
+use Rattle.board.proofs.MailboxRoom.{AllRoom}
 use Rattle.board.proofs.delivery.reserve_letters.Given as goal
 
 abbrev pub invariant-loop-i : goal.invariant-loop-i

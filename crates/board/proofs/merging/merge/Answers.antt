@@ -2,7 +2,7 @@ use Rattle.std.proofs.Common.{◌≡◌, ap, ◌∙◌, arith}
 use Rattle.semantics.specs.Could.{on_edge}
 use Rattle.semantics.specs.Time.{Time}
 use Rattle.machine.specs.Active.{message_pointstamp}
-use Rattle.board.proofs.Together.{are_back, are_merged, left_at, may_merge, still_there, there}
+use Rattle.board.proofs.MergedMail.{are_back, are_merged, left_at, may_merge, still_there, there}
 use Rattle.board.proofs.merging.merge.Goals as goal
 
 pub overflow_add-place : goal.overflow_add-place

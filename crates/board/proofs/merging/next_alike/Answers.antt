@@ -1,6 +1,6 @@
 use Rattle.std.proofs.Common.{arith}
 use Rattle.board.specs.Merging.{AreAlike}
-use Rattle.board.proofs.Together.{none_more}
+use Rattle.board.proofs.MergedMail.{none_more}
 use Rattle.board.proofs.merging.next_alike.Goals as goal
 
 pub loop-place-preserved : goal.loop-place-preserved

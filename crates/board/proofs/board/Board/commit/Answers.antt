@@ -10,7 +10,7 @@ use Rattle.board.specs.Commits.{IsOf, Settles, SettlesBy}
 use Rattle.board.specs.Kept.{Goes}
 use Rattle.board.specs.Lateness.{BoardShown, Posts}
 use Rattle.board.specs.Shown.{Shown, tables}
-use Rattle.board.proofs.Boards.{commit_goes, commit_tables, kept_commit}
+use Rattle.board.proofs.BoardCalls.{commit_goes, commit_tables, kept_commit}
 use Rattle.board.proofs.Counted.{committed_passed, few_open, keeps_same}
 use Rattle.board.proofs.Lateness.{board_of, counts_same, posted_prompt, posted_some, posts}
 use Rattle.board.proofs.Posts.{may_commit, settled_inputs, settled_workers, settles_from}

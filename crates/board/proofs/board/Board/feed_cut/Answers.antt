@@ -10,7 +10,7 @@ use Rattle.board.specs.Kept.{Goes}
 use Rattle.board.specs.Lateness.{BoardShown, PostsSome}
 use Rattle.board.specs.Shown.{Shown, tables}
 use Rattle.board.proofs.FedBatches.{each_record, some_records}
-use Rattle.board.proofs.Boards.{feed_tables}
+use Rattle.board.proofs.BoardCalls.{feed_tables}
 use Rattle.board.proofs.Counted.{fed_passed, few_open, keeps_same}
 use Rattle.board.proofs.Feeding.{accepted, feeds_goes, feeds_kept}
 use Rattle.board.proofs.Lateness.{board_of, counts_same, posted_prompt}

@@ -15,7 +15,7 @@ use Rattle.board.specs.Picks.{IsChoice, LacksChoice}
 use Rattle.board.specs.Shown.{Shown, side_at, tables}
 use Rattle.board.proofs.Counted.{keeps_message, keeps_request}
 use Rattle.board.proofs.HandedOut.{hands_message_tables, hands_request, hands_request_tables, request_taken}
-use Rattle.board.proofs.Kths.{kth_same}
+use Rattle.board.proofs.KthElements.{kth_same}
 use Rattle.board.proofs.Lateness.{board_of, none_waits}
 use Rattle.board.proofs.Picking.{chosen_request, lacks, picks_message}
 use Rattle.board.proofs.Places.{get_index}

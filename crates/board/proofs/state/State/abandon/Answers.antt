@@ -3,7 +3,7 @@ use Rattle.tokens.specs.declared.rule.Place.TheVariants.{Lost}
 use Rattle.board.specs.Desks.{Desk, sides_of}
 use Rattle.board.specs.Shown.{Shown, Side, side_at, side_in}
 use Rattle.board.proofs.Handing.{desk_there}
-use Rattle.board.proofs.Rooms.{sides_change}
+use Rattle.board.proofs.MailboxRoom.{sides_change}
 use Rattle.board.proofs.state.State.abandon.Goals as goal
 
 pub returns-clause-state : goal.returns-clause-state

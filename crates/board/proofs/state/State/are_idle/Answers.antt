@@ -1,7 +1,7 @@
 use Rattle.std.proofs.Common.{◌≡◌, ◌<◌, ◌∙◌, List, length, ap, sym, subst, arith}
 use Rattle.board.specs.Desks.{Desk, IsIdle, desk_in, sides_of}
 use Rattle.board.specs.Shown.{Shown, Side, side_at, side_in}
-use Rattle.board.proofs.Rooms.{side_read, sides_at, sides_length}
+use Rattle.board.proofs.MailboxRoom.{side_read, sides_at, sides_length}
 use Rattle.board.proofs.state.State.are_idle.Goals as goal
 
 pub returns-then-not-is_idle : goal.returns-then-not-is_idle

@@ -17,7 +17,7 @@ use Rattle.board.specs.Shown.{Shown, Side, side_at, side_in, event_at, location_
 use Rattle.board.specs.Steps.{with_emitted}
 use Rattle.board.proofs.Facts as facts
 use Rattle.board.proofs.Ending.{many_settled, out_there, is_in, event_vertex_is, event_time_is, worker_there, side_there, read_side, own_table, state_then, added_then}
-use Rattle.board.proofs.Rooms.{sides_same, sides_length, as_many}
+use Rattle.board.proofs.MailboxRoom.{sides_same, sides_length, as_many}
 use Rattle.board.proofs.state.State.commit.Goals as goal
 
 pub show-stub-requires : goal.show-stub-requires

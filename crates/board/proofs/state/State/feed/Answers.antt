@@ -11,7 +11,7 @@ use Rattle.board.specs.Desks.{sides_of}
 use Rattle.board.specs.Shown.{InputShown, Shown, input_at, no_input}
 use Rattle.board.specs.Steps.{delivered, more_at}
 use Rattle.board.proofs.Ending.{many_delivered}
-use Rattle.board.proofs.Rooms.{as_many}
+use Rattle.board.proofs.MailboxRoom.{as_many}
 use Rattle.board.proofs.state.State.feed.Goals as goal
 
 pub invariant_of-self-2 : goal.invariant_of-self-2

@@ -1,7 +1,7 @@
 use Rattle.std.proofs.Common.{◌∷◌, [], arith, length-append}
 use Rattle.board.specs.Shown.{no_input}
 use Rattle.board.proofs.Growing.{all_same_more, nothing_there}
-use Rattle.board.proofs.making.new_inputs.Goals as goal
+use Rattle.board.proofs.new_parts.new_inputs.Goals as goal
 
 pub loop-init : goal.loop-init
 loop-init c = rw c.in_ok-inputs.ensures.items (record { long = omega arith; unfed = nothing_there no_input })

@@ -1,6 +1,6 @@
 use Rattle.board.specs.Desks.{sides_of}
 use Rattle.board.proofs.Growing.{fresh_sides_more, no_sides, sides_more}
-use Rattle.board.proofs.making.new_workers.Goals as goal
+use Rattle.board.proofs.new_parts.new_workers.Goals as goal
 
 pub loop-init : goal.loop-init
 loop-init c = rw c.in_ok-workers.ensures.items (no_sides c.args.wiring.now.value)

@@ -1,5 +1,5 @@
 use Rattle.board.specs.Fresh.{HasShards}
-use Rattle.board.proofs.making.new_slots.Given as goal
+use Rattle.board.proofs.new_parts.new_slots.Given as goal
 
 abbrev pub invariant-loop-number : goal.invariant-loop-number
 invariant-loop-number l = HasShards l.graph l.number l.slots.items

@@ -1,5 +1,5 @@
 use Rattle.board.proofs.Growing.{no_shards, shards_more}
-use Rattle.board.proofs.making.new_slots.Goals as goal
+use Rattle.board.proofs.new_parts.new_slots.Goals as goal
 
 pub loop-number-init : goal.loop-number-init
 loop-number-init c = rw c.in_ok-slots.ensures.items (no_shards c.args.graph.now)
