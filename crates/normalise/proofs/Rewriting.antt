@@ -10,7 +10,7 @@ use Rattle.semantics.specs.Typing.{ScalarFits, Scope, entry, HasArity}
 use Rattle.semantics.specs.Normal.{NormalScalar, NormalCond, NormalRel, IsFilter, IsSelect, IsSet, UsesOnce, uses, uses_all, replaced}
 use Rattle.semantics.specs.Rewriting.{Steps, RelStep}
 use Rattle.semantics.proofs.StepsKeep.{steps_then, steps_within, steps_arity}
-use Rattle.typing.proofs.Decided.{set_arity}
+use Rattle.typing.proofs.DecidedArities.{set_arity}
 use Rattle.normalise.specs.Rewritten.{IsFolded, IsFoldedCond, IsReached, Reduced, IsRewritten}
 use Rattle.normalise.proofs.Folding.{scalars_steps}
 

@@ -10,7 +10,7 @@ use Rattle.typing.specs.Fault.{Fault, fault, span_of}
 use Rattle.typing.specs.FirstFault.{FaultIn}
 use Rattle.typing.specs.Verdict.{chain, within, unless_taken, known, sized, verdict}
 use Rattle.typing.proofs.Chains.{chain_is_err, within_is_err, unless_is_err, test_is_err, known_is_err, sized_is_err, arity_false, differ_false, above_false, least_false, false_differ}
-use Rattle.typing.proofs.Decided.{typed_checked, checked_typed}
+use Rattle.typing.proofs.DecidedArities.{typed_checked, checked_typed}
 
 -- a first fault is reported
 pub fault_checked : {r : RelTree} {scope : Scope} {d : ℕ} {f : Fault} → FaultIn r scope d f → verdict r scope d ≡ Err f

@@ -16,7 +16,7 @@ use Rattle.expr_tree.specs.Plain.{plain_operator, plain_scalar, plain_connective
 use Rattle.semantics.specs.Query.{Scalar, Cond, Pair}
 use Rattle.semantics.specs.Typing.{ScalarFits, CondFits, AggFits}
 use Rattle.typing.specs.Columns.{ColumnUse, scalar_columns, cond_columns, pair_columns, key_columns, agg_columns, first_beyond}
-use Rattle.typing.proofs.Beyond.{first_none}
+use Rattle.typing.proofs.ColumnsBeyond.{first_none}
 
 -- no column beyond
 abbrev NoneBeyond : List ColumnUse → Type 0

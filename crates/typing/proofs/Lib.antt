@@ -1,9 +1,9 @@
-pub mod Beyond
+pub mod ColumnsBeyond
 pub mod Fits
 pub mod Named
-pub mod Parts
+pub mod PartVerdicts
 pub mod Chains
-pub mod Decided
+pub mod DecidedArities
 pub mod Faults
 pub mod Programs
-pub mod Decisions
+pub mod DecidedPrograms

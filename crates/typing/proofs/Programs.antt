@@ -12,7 +12,7 @@ use Rattle.typing.specs.Fault.{Fault, fault}
 use Rattle.typing.specs.FirstFault.{InputFault, OutputFault, RestFault, FirstFault}
 use Rattle.typing.specs.Verdict.{chain, unless_taken, is_arity, verdict, input_verdict, let_verdict, output_verdict, each, arities_of, outputs_verdict, program_verdict}
 use Rattle.typing.proofs.Chains.{chain_is_ok, chain_is_err, unless_is_ok, unless_is_err, test_is_ok, test_is_err, arity_true, true_arity, arity_false, false_arity, least_false}
-use Rattle.typing.proofs.Decided.{typed_checked, checked_typed}
+use Rattle.typing.proofs.DecidedArities.{typed_checked, checked_typed}
 use Rattle.typing.proofs.Faults.{fault_checked, checked_fault}
 
 -- the inputs pass where they fit and are few

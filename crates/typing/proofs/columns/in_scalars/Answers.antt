@@ -1,7 +1,7 @@
 use Rattle.std.proofs.Common.{sym, ◌∙◌, arith}
 use Rattle.expr_tree.specs.Views.{scalar_tree}
 use Rattle.typing.specs.Columns.{scalar_columns}
-use Rattle.typing.proofs.Beyond.{next_some, next_none}
+use Rattle.typing.proofs.ColumnsBeyond.{next_some, next_none}
 use Rattle.typing.proofs.columns.in_scalars.Goals as goal
 
 pub returns-in-Some : goal.returns-in-Some

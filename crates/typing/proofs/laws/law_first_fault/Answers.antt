@@ -1,4 +1,4 @@
-use Rattle.typing.proofs.Decisions.{decided, apart, one_fault, same_arities}
+use Rattle.typing.proofs.DecidedPrograms.{decided, apart, one_fault, same_arities}
 use Rattle.typing.proofs.laws.law_first_fault.Goals as goal
 
 pub returns : goal.returns

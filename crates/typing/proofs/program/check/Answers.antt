@@ -1,6 +1,6 @@
 use Rattle.expr_tree.specs.Views.{program_tree}
 use Rattle.typing.proofs.Programs.{program_checked_typed}
-use Rattle.typing.proofs.Decisions.{says_first_fault}
+use Rattle.typing.proofs.DecidedPrograms.{says_first_fault}
 use Rattle.typing.proofs.program.check.Goals as goal
 
 pub new-requires : goal.new-requires

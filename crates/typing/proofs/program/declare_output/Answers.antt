@@ -1,5 +1,5 @@
 use Rattle.std.proofs.Common.{◌≡◌, length, ◌∙◌, ap, arith}
-use Rattle.typing.proofs.Parts.{length_arities}
+use Rattle.typing.proofs.PartVerdicts.{length_arities}
 use Rattle.typing.proofs.program.declare_output.Goals as goal
 
 pub push-requires : goal.push-requires

@@ -1,5 +1,5 @@
 use Rattle.expr_tree.specs.Views.{program_tree}
-use Rattle.typing.proofs.Decisions.{well_typed}
+use Rattle.typing.proofs.DecidedPrograms.{well_typed}
 use Rattle.typing.proofs.typed.Typed.program.Goals as goal
 
 pub returns-clause-typed : goal.returns-clause-typed
