@@ -25,7 +25,7 @@ use Rattle.writer.specs.Pieces.{of_mark, of_keyword, space, spaced, in_square}
 use Rattle.writer.specs.Scalars.{scalar_pieces, raised}
 use Rattle.writer.specs.Conditions.{is_below, cond_rank, sign_of, cond_pieces, cond_height}
 use Rattle.writer.specs.Sources.{IsScalarSource, IsCondSource}
-use Rattle.writer.proofs.Says.{Says, cut}
+use Rattle.writer.proofs.PieceTokens.{Says, cut}
 use Rattle.writer.proofs.Scalars as scalars
 
 abbrev pub Completes : ConnectiveLevel → List Token → CondTree → Span → ℕ → List Token → Type 0

@@ -13,9 +13,9 @@ use Rattle.lexer.proofs.Marks.{place}
 use Rattle.lexer.proofs.Spelled.{spelled_shape}
 use Rattle.grammar.specs.Tokens.{token}
 use Rattle.writer.specs.Pieces.{Piece, word, gap, spelling, text_of}
-use Rattle.writer.proofs.Says.{kind_of, IsWordAt, Says}
+use Rattle.writer.proofs.PieceTokens.{kind_of, IsWordAt, Says}
 use Rattle.writer.proofs.Lexemes.{Ends, is_longest}
-use Rattle.writer.proofs.Apart.{Apart, ends}
+use Rattle.writer.proofs.PiecesApart.{Apart, ends}
 
 some_bytes : (w : List ℕ) (k : TokenKind) → Spells w k → 0 < length w
 some_bytes (b ∷ bs) k s = omega arith

@@ -1,11 +1,11 @@
-pub mod Says
+pub mod PieceTokens
 pub mod Scalars
 pub mod Conditions
 pub mod Lists
 pub mod Relations
 pub mod Programs
 pub mod Lexemes
-pub mod Apart
+pub mod PiecesApart
 pub mod Lexing
 pub mod Spaced
 pub mod RoundTrip

@@ -19,7 +19,7 @@ use Rattle.writer.specs.Pieces.{Piece, comma, listed}
 use Rattle.writer.specs.Scalars.{scalar_pieces, scalar_height}
 use Rattle.writer.specs.Relations.{column_pieces, pair_pieces, agg_of, agg_pieces, heights}
 use Rattle.writer.specs.Sources.{Each, Filled, IsScalarSource, IsColumnSource, IsPairSource, IsAggSource}
-use Rattle.writer.proofs.Says.{Says, cut}
+use Rattle.writer.proofs.PieceTokens.{Says, cut}
 use Rattle.writer.proofs.Conditions.{Free}
 use Rattle.writer.proofs.Scalars as scalars
 

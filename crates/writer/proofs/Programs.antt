@@ -22,7 +22,7 @@ use Rattle.writer.specs.Pieces.{word, Word, spaced}
 use Rattle.writer.specs.Relations.{rel_pieces, heights, rel_height}
 use Rattle.writer.specs.Programs.{line_end, input_pieces, let_pieces, naming, output_pieces, program_pieces, lets_height, output_height, program_height}
 use Rattle.writer.specs.Sources.{Each, Filled, IsInputSource, IsLetSource, IsOutputSource, IsSource}
-use Rattle.writer.proofs.Says.{Says, cut}
+use Rattle.writer.proofs.PieceTokens.{Says, cut}
 use Rattle.writer.proofs.Relations.{rel_back, is_name_at}
 
 pub record InputsBack (text : List ℕ) (is : List Input) (ts us : List Token) : Type 0 where

@@ -18,7 +18,7 @@ use Rattle.writer.specs.Scalars.{scalar_pieces, scalar_height}
 use Rattle.writer.specs.Conditions.{cond_pieces}
 use Rattle.writer.specs.Relations.{column_pieces, pair_pieces, agg_pieces, rel_pieces, rel_height}
 use Rattle.writer.specs.Sources.{IsScalarSource, IsColumnSource, IsPairSource, IsAggSource, IsRelSource}
-use Rattle.writer.proofs.Says.{Says, IsWordAt, cut}
+use Rattle.writer.proofs.PieceTokens.{Says, IsWordAt, cut}
 use Rattle.writer.proofs.Lists.{list_back, low_list, scalar_back, column_back, pair_back, agg_back}
 use Rattle.writer.proofs.Conditions as conditions
 

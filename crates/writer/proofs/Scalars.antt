@@ -17,7 +17,7 @@ use Rattle.writer.specs.declared.rank.ScalarRank.TheVariants.{Sum, Product, Nega
 use Rattle.writer.specs.Pieces.{of_mark, spaced, in_round}
 use Rattle.writer.specs.Scalars.{is_below, rank_of, right_of, scalar_rank, sign_of, scalar_pieces, raised, scalar_height}
 use Rattle.writer.specs.Sources.{IsLiteral, IsScalarSource}
-use Rattle.writer.proofs.Says.{Says, cut}
+use Rattle.writer.proofs.PieceTokens.{Says, cut}
 
 -- what completes the rest of a chain completes the whole
 abbrev pub Completes : OperatorLevel → List Token → ScalarTree → Span → ℕ → List Token → Type 0

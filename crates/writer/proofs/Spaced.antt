@@ -23,7 +23,7 @@ use Rattle.writer.specs.Relations.{column_pieces, pair_pieces, agg_of, agg_piece
 use Rattle.writer.specs.Programs.{line_end, input_pieces, let_pieces, naming, output_pieces, program_pieces}
 use Rattle.writer.specs.Sources.{Each, Filled, IsLiteral, IsScalarSource, IsCondSource, IsColumnSource, IsPairSource, IsAggSource, IsRelSource, IsInputSource, IsLetSource, IsOutputSource, IsSource}
 use Rattle.writer.proofs.Checks.{filled_each}
-use Rattle.writer.proofs.Apart.{Apart, Soft, apart_append, opens, opens_append, no_equal_first}
+use Rattle.writer.proofs.PiecesApart.{Apart, Soft, apart_append, opens, opens_append, no_equal_first}
 
 -- a phrase: words apart, and no `=` first
 pub record Fine (ps : List Piece) : Type 0 where

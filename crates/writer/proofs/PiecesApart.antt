@@ -13,7 +13,7 @@ use Rattle.lexer.specs.Lexemes.{is_space, shape_of}
 use Rattle.lexer.specs.Tokens.{Spells}
 use Rattle.lexer.proofs.Spelled.{shape_of_kind, spelled_shape}
 use Rattle.writer.specs.Pieces.{Piece, word, gap, Word, spelling, text_of}
-use Rattle.writer.proofs.Says.{kind_of}
+use Rattle.writer.proofs.PieceTokens.{kind_of}
 use Rattle.writer.proofs.Lexemes.{Ends}
 
 -- a word that is no mark
