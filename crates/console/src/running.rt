@@ -14,7 +14,7 @@ ghost use Rattle.diagnostics.specs.declared.fault.Fault.TheVariants as fault;
 
 use crate::compiling::compile;
 use crate::fault::{graph_fault, input_fault};
-use crate::respond::respond;
+use crate::graph_answer::respond;
 use bumpalo::Bump;
 use collector::{
     Declared, Epochs, InputRefusal, ReadFault, Watched, read_all, read_at_most, read_input,

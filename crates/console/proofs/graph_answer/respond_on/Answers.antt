@@ -2,7 +2,7 @@ use Rattle.std.proofs.Common.{subst}
 use Rattle.graph.specs.Shown.{GraphValue}
 use Rattle.collector.specs.Watching.{inner_of}
 use Rattle.console.specs.Answers.{RespondsBy}
-use Rattle.console.proofs.respond.respond_on.Goals as goal
+use Rattle.console.proofs.graph_answer.respond_on.Goals as goal
 
 pub returns-in-Ok-clause-text : goal.returns-in-Ok-clause-text
 returns-in-Ok-clause-text g c =

@@ -5,7 +5,7 @@ use Rattle.graph.specs.Shown.{GraphValue}
 use Rattle.collector.specs.Watching.{inner_of}
 use Rattle.workers.proofs.Crossing.{direct_send}
 use Rattle.console.specs.Answers.{RespondsBy}
-use Rattle.console.proofs.respond.respond_alone.Goals as goal
+use Rattle.console.proofs.graph_answer.respond_alone.Goals as goal
 
 pub respond_on-requires-send-V : goal.respond_on-requires-send-V
 respond_on-requires-send-V g c κs = search (sendable, crosses, direct_send) depth 20

@@ -2,7 +2,7 @@ use Rattle.std.proofs.Common.{subst}
 use Rattle.graph.specs.Shown.{GraphValue}
 use Rattle.collector.specs.Watching.{inner_of}
 use Rattle.console.specs.Answers.{RespondsBy}
-use Rattle.console.proofs.respond.respond.Goals as goal
+use Rattle.console.proofs.graph_answer.respond.Goals as goal
 
 pub returns-then-stats-clause-text : goal.returns-then-stats-clause-text
 returns-then-stats-clause-text g c =

@@ -5,7 +5,7 @@ use Rattle.collector.specs.OutputText.{IsTextFrom}
 use Rattle.collector.specs.Held.{epoch_count}
 use Rattle.execution.specs.Fed.{EmittedBelow}
 use Rattle.console.proofs.Answering.{is_answer}
-use Rattle.console.proofs.respond.write_emitted.Goals as goal
+use Rattle.console.proofs.graph_answer.write_emitted.Goals as goal
 
 pub returns-in-Ok-write_epochs-clause-text : goal.returns-in-Ok-write_epochs-clause-text
 returns-in-Ok-write_epochs-clause-text g c = λ query compiled.
