@@ -183,7 +183,7 @@ pub record CanReport (s : Shown) (base : ℕ) (t : Reporting) (items : List Item
   pub order : t.done ≤ sealed
   pub none : t.done ≡ begun → entries ≡ []
 
--- the same, from any report that was written before
+-- from any report that was written before, such an answer is written
 abbrev pub Reports : Shown → (base : ℕ) → (t u : Reporting) → (begun sealed : ℕ) → (old new : List ℕ) → Type 0
 Reports s base t u begun sealed old new =
     (items : List Item) (entries : List Entry) (text : List ℕ) → IsAllFed s base items → sealed ≤ begun
