@@ -7,7 +7,7 @@ ghost use Rattle.rows.specs.FlatRows.{joined};
 ghost use Rattle.collector.specs.Piles.{AreAlike, piled, with_open};
 
 use rows::{Batch, Rows, RowsError};
-use std::alloc::{AllocError, Global};
+use std::alloc::Global;
 use std::marker::Model;
 use std::mem;
 

@@ -11,7 +11,7 @@ use crate::first_line::{Stop, next_line};
 use crate::line::{Declared, Line};
 use crate::refusal::InputRefusal;
 use rows::RowsError;
-use std::alloc::{AllocError, Global};
+use std::alloc::Global;
 
 /// The code for a last line without line feed.
 const NO_LINE_FEED: u8 = 43;

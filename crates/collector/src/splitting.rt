@@ -2,8 +2,6 @@
 
 ghost use Rattle.std.specs.Prelude.{◌≡◌, ◌≢◌, ◌<◌, ℕ, length, slice_index, take, drop, ◌+◌, IfSome, IfNone};
 
-use std::alloc::{AllocError, Global};
-
 /// The first place of a byte.
 pub fn find(bytes: &[u8], byte: u8) -> Option<usize>
     ensures found { IfSome result (λ i. (i < length bytes.now) × (slice_index bytes.now i ≡ byte) × ((k : ℕ) → k < i → slice_index bytes.now k ≢ byte)) }

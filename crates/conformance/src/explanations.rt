@@ -2,7 +2,7 @@
 
 use collector::Watched;
 use console::{Fault, Texts, ViewKind, Watcher, Workers, check_query, replay_schedule, run};
-use diagnostics::{explain_fault, explained};
+use diagnostics::{explain_fault, row_of_word};
 use refusals::{Explanation, OF_LINES, OF_QUERIES, OF_STEPS, explanation_of};
 use std::sync::Wait;
 use std::test::Fail;
@@ -128,7 +128,7 @@ fn examples_of_the_table(rt: HostRuntime) -> Result<(), Fail> {
         let is_known = matches!(code, 1..=6 | 11..=21 | 23 | 31..=47);
         assert_eq!(rt; explanation_of(code).is_some(), is_known);
     }
-    assert!(rt; explained("").is_none());
+    assert!(rt; row_of_word("").is_none());
     for rows in [
         OF_QUERIES.as_slice(),
         OF_STEPS.as_slice(),

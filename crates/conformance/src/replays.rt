@@ -1,7 +1,7 @@
 //! Schedules, done over a query.
 
 use collector::Watched;
-use console::{Fault, Texts, ViewKind, Workers, replay_schedule};
+use console::{Texts, ViewKind, Workers, replay_schedule};
 use std::test::Fail;
 
 const QUERY: &str = "input a/1; output a;";

@@ -79,6 +79,9 @@ written_of ending.NoMemory h = absurd cc
 written_of ending.Count h = absurd cc
 written_of ending.Incomplete h = absurd cc
 
+-- how following a text ends
+pub ruleset text_ends = (ends_well, ends_ill, refused_ends, not_query, not_read, not_written, query_of, read_of, written_of)
+
 -- the program that the graph was made of is the normal form of the text's
 module _ (query : List ℕ) (g : GraphValue) (records : ℕ → List Record) (entries : List Entry) (c : IsCompiled query (shown_graph g) (shown_inputs g) (shown_names g)) where
   graph_of : IsGraphOf g c.rewritten

@@ -101,7 +101,11 @@ pub fn arities_of<A: Allocator>(
 
 /// The text of a checked query.
 #[tactic(auto, using(crate::proofs::QueryFaults::check_refused))]
-fn checked<A: Allocator + Copy>(alloc: Global, arena: A, query: &[u8]) -> Result<Vec<u8>, Fault>
+fn checked_text<A: Allocator + Copy>(
+    alloc: Global,
+    arena: A,
+    query: &[u8],
+) -> Result<Vec<u8>, Fault>
     ensures text { IfOk result (λ t. IsChecked query.now t.items) }
     ensures fault { IfErr result (IsCheckFault query.now) }
 {
@@ -126,7 +130,7 @@ fn write_checked<A: Allocator + Copy, W: Write>(
     ensures writer { IsErrOf result fault.Write → has_failed writer.new ≡ true }
     ensures read { IfErr result IsAfterReading }
 {
-    let text = match checked(alloc, arena, query) {
+    let text = match checked_text(alloc, arena, query) {
         Ok(text) => text,
         Err(fault) => return Err(fault),
     };

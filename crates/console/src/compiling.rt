@@ -9,7 +9,7 @@ ghost use Rattle.graph.specs.Shown.{shown_graph, shown_inputs, shown_names};
 ghost use Rattle.console.specs.Compiled.{IsCompiled, IsUncompiled};
 ghost use Rattle.console.specs.Queries.{IsRefusal, IsTypedQuery};
 
-use crate::fault::{CompileFault, refused};
+use crate::fault::{CompileFault, compile_fault};
 use expr_tree::NoMemory;
 use graph::Graph;
 use lowering::{LowerFault, lower};
@@ -63,7 +63,7 @@ pub fn compile<A: Allocator + Copy>(
 {
     let typed = match typed_program(alloc, arena, text) {
         Ok(typed) => typed,
-        Err(refusal) => return Err(refused(refusal)),
+        Err(refusal) => return Err(compile_fault(refusal)),
     };
     let normal = match normal_form(typed) {
         Ok(normal) => normal,

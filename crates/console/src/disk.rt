@@ -7,7 +7,7 @@ use std::io::{Read, Stdin};
 
 /// Opens a file, by a descriptor above those of the standard streams. The first one is the lowest that is free: where standard input is
 /// closed it is that of standard input, and whoever reads that would read this file.
-fn opened(rt: &HostRuntime, path: &str) -> io::Result<File> {
+fn open_file(rt: &HostRuntime, path: &str) -> io::Result<File> {
     File::open(rt, path)?.try_clone()
 }
 
@@ -34,7 +34,7 @@ impl Read for LateFile<'_> {
         if let Some(file) = &mut self.file {
             return file.read(buf);
         }
-        let mut file = opened(self.rt, self.path)?;
+        let mut file = open_file(self.rt, self.path)?;
         let count = file.read(buf)?;
         self.file = Some(file);
         Ok(count)

@@ -16,7 +16,7 @@ use crate::sources::Sources;
 use bumpalo::Bump;
 use collector::Watched;
 use command_line::{GraphForm, HeapSize, LineFault, Options, Workers, options};
-use diagnostics::{Fault, Plain, Texts, Word, explain_fault, explained, write_explanation};
+use diagnostics::{Fault, Plain, Texts, Word, explain_fault, row_of_word, write_explanation};
 use execution::Watcher;
 use linked_list_allocator::LocalHeap;
 use refusals::NUMBERS;
@@ -330,7 +330,7 @@ fn answer_alone<'a, S: Sources<'a>, W: Write>(
             ..
         } => Some(graph_named(alloc, sources, heap, form, query, texts, out)),
         Options::Format { query, .. } => Some(format_named(alloc, sources, query, texts, out)),
-        Options::Explain { code } => match explained(code) {
+        Options::Explain { code } => match row_of_word(code) {
             Some(row) => Some(write_explanation(alloc, row, out)),
             None => None,
         },

@@ -62,7 +62,7 @@ pub fn query_fault(refusal: Refusal) -> Fault
 }
 
 /// Why a query that is refused has no graph.
-pub fn refused(refusal: Refusal) -> CompileFault
+pub fn compile_fault(refusal: Refusal) -> CompileFault
     ensures { result ≡ compile_fault_of refusal }
 {
     match refusal {

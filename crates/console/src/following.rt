@@ -17,7 +17,7 @@ use std::io::{Read, Write};
 use std::thread::Threads;
 
 /// Follows an input over the graph of a query text.
-#[tactic(auto, using(crate::proofs::FollowedText::ends_well, crate::proofs::FollowedText::ends_ill, crate::proofs::FollowedText::refused_ends, crate::proofs::FollowedText::not_query, crate::proofs::FollowedText::not_read, crate::proofs::FollowedText::not_written, crate::proofs::FollowedText::query_of, crate::proofs::FollowedText::read_of, crate::proofs::FollowedText::written_of))]
+#[tactic(auto, using(crate::proofs::FollowedText::text_ends))]
 fn follow_text<R: Threads + Sync, I: Read, W: Write>(
     rt: &R,
     alloc: Global,

@@ -20,7 +20,7 @@ use std::alloc::{Allocator, Global};
 use std::io::{Read, Write};
 
 /// The text of a query's graph.
-fn shown<A: Allocator + Copy>(
+fn text_of_graph<A: Allocator + Copy>(
     alloc: Global,
     arena: A,
     form: GraphForm,
@@ -56,7 +56,7 @@ fn write_shown<A: Allocator + Copy, W: Write>(
     ensures writer { IsErrOf result fault.Write → has_failed writer.new ≡ true }
     ensures read { IfErr result IsAfterReading }
 {
-    let text = match shown(alloc, arena, form, query) {
+    let text = match text_of_graph(alloc, arena, form, query) {
         Ok(text) => text,
         Err(fault) => return Err(fault),
     };

@@ -21,7 +21,7 @@ use std::alloc::{AllocError, Allocator, Global};
 use std::io::{Read, Write};
 
 /// The inputs of a program as the reader of texts takes them.
-fn declared<'a>(alloc: Global, inputs: &'a [Input]) -> Result<Vec<Declared<'a>>, AllocError>
+fn inputs_of<'a>(alloc: Global, inputs: &'a [Input]) -> Result<Vec<Declared<'a>>, AllocError>
     ensures { IfOk result (λ v. map plain v.items ≡ map plain_input inputs.entry.now) }
 {
     let mut declared = Vec::with_capacity(alloc, inputs.len())?;
@@ -36,7 +36,7 @@ fn declared<'a>(alloc: Global, inputs: &'a [Input]) -> Result<Vec<Declared<'a>>,
 
 /// The text of a checked query whose input is right too.
 #[tactic(auto, using(crate::proofs::QueryFaults::input_check_refused))]
-fn checked<A: Allocator + Copy>(
+fn checked_text<A: Allocator + Copy>(
     alloc: Global,
     arena: A,
     query: &[u8],
@@ -50,7 +50,7 @@ fn checked<A: Allocator + Copy>(
         Err(refusal) => return Err(query_fault(refusal)),
     };
     let program = typed.program();
-    let inputs = match declared(alloc, &program.inputs) {
+    let inputs = match inputs_of(alloc, &program.inputs) {
         Ok(inputs) => inputs,
         Err(_) => return Err(Fault::NoMemory),
     };
@@ -76,7 +76,7 @@ fn write_checked<A: Allocator + Copy, W: Write>(
     ensures writer { IsErrOf result fault.Write → has_failed writer.new ≡ true }
     ensures read { IfErr result IsAfterReading }
 {
-    let text = match checked(alloc, arena, query, input) {
+    let text = match checked_text(alloc, arena, query, input) {
         Ok(text) => text,
         Err(fault) => return Err(fault),
     };

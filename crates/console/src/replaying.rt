@@ -20,7 +20,7 @@ use std::alloc::Global;
 use std::io::{Read, Write};
 
 /// The text that a schedule's lines print, over the graph of a query text.
-fn replayed(
+fn text_of_replay(
     alloc: Global,
     workers: Workers,
     kind: ViewKind,
@@ -53,7 +53,7 @@ fn write_replayed<W: Write>(
     ensures writer { IsErrOf result fault.Write → has_failed writer.new ≡ true }
     ensures read { IfErr result IsAfterReading }
 {
-    let text = match replayed(alloc, workers, kind, query, schedule) {
+    let text = match text_of_replay(alloc, workers, kind, query, schedule) {
         Ok(text) => text,
         Err(fault) => return Err(fault),
     };

@@ -59,7 +59,10 @@ pub fn read_input_text<I: Read>(alloc: Global, input: &mut Watched<I>) -> Result
 }
 
 /// The inputs of a query as the reader of texts takes them.
-fn declared<'a>(alloc: Global, inputs: &'a [DeclaredInput]) -> Result<Vec<Declared<'a>>, AllocError>
+fn inputs_of<'a>(
+    alloc: Global,
+    inputs: &'a [DeclaredInput],
+) -> Result<Vec<Declared<'a>>, AllocError>
     ensures { IfOk result (λ v. map plain v.items ≡ map input_of inputs.entry.now) }
 {
     let mut declared = Vec::with_capacity(alloc, inputs.len())?;
@@ -90,7 +93,7 @@ fn epochs_of_text(alloc: Global, graph: &Graph, input: &[u8]) -> Result<Epochs, 
     ensures read { IfOk result (λ e. IsReadFrom (shown_inputs graph.now) input.now e) }
     ensures refused { IfErr result (IsRefused (shown_inputs graph.now) input.now) }
 {
-    let inputs = declared(alloc, graph.inputs())?;
+    let inputs = inputs_of(alloc, graph.inputs())?;
     read_input(alloc, input, inputs.as_slice())
 }
 

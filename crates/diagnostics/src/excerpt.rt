@@ -81,7 +81,7 @@ pub fn numbered_line(text: &[u8], first: u64, number: u64) -> &[u8] {
 }
 
 /// How many bytes at the front of a line are left out, so that the place is seen.
-fn skipped(length: usize, place: usize) -> usize
+fn skip_count(length: usize, place: usize) -> usize
     ensures { result ≤ length }
 {
     if length <= WIDTH {
@@ -94,7 +94,7 @@ fn skipped(length: usize, place: usize) -> usize
 /// Writes `  1 | ` and the line, of a long one the part round the place, with `..` where bytes are left out.
 fn write_line<W: Write>(line: &Line<'_>, writer: &mut W) -> io::Result<()> {
     let number = line.number;
-    let from = skipped(line.bytes.len(), line.place);
+    let from = skip_count(line.bytes.len(), line.place);
     let rest = &line.bytes[from..];
     let front = if from == 0 { "" } else { ".." };
     match rest.get(..WIDTH) {
@@ -140,7 +140,7 @@ fn write_margin<W: Write>(line: &Line<'_>, from: usize, writer: &mut W) -> io::R
 
 /// Writes carets below that many bytes from the place on, as far as the line is shown; at least one.
 fn write_carets<W: Write>(line: &Line<'_>, count: usize, writer: &mut W) -> io::Result<()> {
-    let from = skipped(line.bytes.len(), line.place);
+    let from = skip_count(line.bytes.len(), line.place);
     write_margin(line, from, writer)?;
     let end = line.bytes.len().min(from.saturating_add(WIDTH));
     let count = count.min(end.saturating_sub(line.place)).max(1);

@@ -162,7 +162,7 @@ fn alone(word: &'static str) -> Expected {
 }
 
 /// What can come after a beginning of a query.
-fn possible(alloc: Global, before: &[u8]) -> Result<Vec<Expected>, AllocError> {
+fn possible_words(alloc: Global, before: &[u8]) -> Result<Vec<Expected>, AllocError> {
     let mut words = Vec::new(alloc);
     for word in WORDS {
         if follows(alloc, before, word)? {
@@ -190,7 +190,7 @@ pub fn write_expected<W: Write>(alloc: Global, before: &[u8], writer: &mut W) ->
     if before.len() > LENGTH {
         return Ok(());
     }
-    let Ok(found) = possible(alloc, before) else {
+    let Ok(found) = possible_words(alloc, before) else {
         return Ok(());
     };
     let count = found.len();

@@ -14,7 +14,7 @@ use std::alloc::{AllocError, Global};
 use std::io::Write;
 
 /// What the table says of the number that a word spells. None where no row has that number.
-pub fn explained(word: &str) -> Option<&'static Explanation>
+pub fn row_of_word(word: &str) -> Option<&'static Explanation>
     ensures { IfSome result (λ row. word.now ≡ decimal row.now.code) }
 {
     let number = number(word.as_bytes())?;

@@ -108,7 +108,7 @@ pub fn write_unknown<W: Write>(
 }
 
 /// The word before a bracket as the name of a form, though it is none.
-pub fn called(before: &[u8]) -> Option<&[u8]> {
+pub fn form_name(before: &[u8]) -> Option<&[u8]> {
     let (front, word) = split_word(before);
     let (_, first) = split_word(front);
     let is_declared = matches!(first, b"input" | b"let");

@@ -3,7 +3,7 @@
 use crate::display::{Columns, Fields, Meant, Word};
 use crate::expected::write_expected;
 use crate::hint::{hint, of_hash};
-use crate::names::{called, write_no_form, write_unknown};
+use crate::names::{form_name, write_no_form, write_unknown};
 use bumpalo::Bump;
 use parser::parse;
 use record_core::Span;
@@ -14,7 +14,7 @@ use std::io::Write;
 use typing::{Arities, arities_at_fault};
 
 /// The bytes that a span covers, as far as the text goes.
-fn covered(text: &[u8], span: Span) -> &[u8] {
+fn span_bytes(text: &[u8], span: Span) -> &[u8] {
     let from = text.get(span.start as usize..).unwrap_or(&[]);
     let count = span.end.saturating_sub(span.start) as usize;
     from.get(..count).unwrap_or(from)
@@ -50,7 +50,7 @@ fn before(text: &[u8], span: Span) -> &[u8] {
 /// Writes what is wrong with a byte that begins no word.
 fn write_byte<W: Write>(text: &[u8], span: Span, writer: &mut W) -> io::Result<()> {
     let meant = Meant(hint(text, 1, span));
-    match covered(text, span) {
+    match span_bytes(text, span) {
         [b'#'] => {
             let hint = of_hash(before(text, span));
             writeln!(writer, "unexpected `#`: {hint}")
@@ -72,7 +72,7 @@ fn write_byte<W: Write>(text: &[u8], span: Span, writer: &mut W) -> io::Result<(
 
 /// Writes what is wrong with a number.
 fn write_number<W: Write>(text: &[u8], span: Span, writer: &mut W) -> io::Result<()> {
-    let word = covered(text, span);
+    let word = span_bytes(text, span);
     let shown = Word(word);
     match word {
         [b'0', ..] | [b'#', b'0', ..] => writeln!(writer, "{shown}: a number doesn't begin with 0"),
@@ -91,14 +91,14 @@ fn write_unexpected<W: Write>(
     span: Span,
     writer: &mut W,
 ) -> io::Result<()> {
-    let word = covered(text, span);
+    let word = span_bytes(text, span);
     let shown = Word(word);
     match word {
         [] => write!(writer, "the text ends too early")?,
         _ => write!(writer, "unexpected `{shown}`")?,
     }
     let before = before(text, span);
-    match (hint(text, 4, span), word, called(before)) {
+    match (hint(text, 4, span), word, form_name(before)) {
         (Some(hint), _, _) => writeln!(writer, ": {hint}"),
         (None, b"(", Some(name)) => {
             write!(writer, ": ")?;
@@ -119,7 +119,7 @@ fn write_reading<W: Write>(
     span: Span,
     writer: &mut W,
 ) -> io::Result<()> {
-    let word = covered(text, span);
+    let word = span_bytes(text, span);
     let length = word.len();
     let shown = Word(word);
     match code {
@@ -143,7 +143,7 @@ fn write_naming<W: Write>(
     span: Span,
     writer: &mut W,
 ) -> io::Result<()> {
-    let word = covered(text, span);
+    let word = span_bytes(text, span);
     let shown = Word(word);
     match code {
         11 => write_unknown(alloc, text, word, span, writer),
@@ -208,7 +208,7 @@ pub fn write_query_fault<W: Write>(
     span: Span,
     writer: &mut W,
 ) -> io::Result<()> {
-    let word = covered(text, span);
+    let word = span_bytes(text, span);
     match code {
         1..=6 => write_reading(alloc, text, code, span, writer),
         13..=16 => match arities(alloc, text) {

@@ -31,7 +31,7 @@ IsWhole g records entries = (p : Program) (k : ℕ) → IsGraphOf g p → k < le
 abbrev pub IsPart : GraphValue → (records : ℕ → List Record) → List Entry → Type 0
 IsPart g records entries = (p : Program) (k : ℕ) → IsGraphOf g p → k < length p.outputs → IsPartOf (records_of k entries) (program_meaning p k records)
 
--- The text has the epochs in order. The first `done` are complete: for each, all lines of its answer, and then the line that says so. Of the next one
+-- The text reports the epochs in order. The first `done` are complete: for each, all lines of its answer, and then the line that says so. Of the next one
 -- it has these entries.
 pub data IsReport (g : GraphValue) (records : (epoch input : ℕ) → List Record) : (done : ℕ) → List Entry → (text : List ℕ) → Type 0 where
   reports_nothing : IsReport g records 0 [] []

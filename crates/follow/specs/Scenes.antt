@@ -132,7 +132,7 @@ pub record IsWritten (g : GraphValue) (s : Shown) (base : ℕ) (x : Intake) (t :
   pub known : IsKnown g s base x t bytes pending
   pub written : Appends old new known.text
 
--- the same for a position, where what is pending is part of a line
+-- the position once these bytes were read: the answer to their lines is written, and what is pending is part of a line
 pub record IsPositionAfter (g : GraphValue) (s : Shown) (p : Position) (bytes : List ℕ) (old new : Option (List ℕ)) : Type 0 where
   pub written : IsWritten g s p.base p.intake p.reporting bytes p.pending.items old new
   pub unended : split_on 10 p.pending.items ≡ p.pending.items ∷ []

@@ -183,6 +183,7 @@ pub record CanReport (s : Shown) (base : ℕ) (t : Reporting) (items : List Item
   pub order : t.done ≤ sealed
   pub none : t.done ≡ begun → entries ≡ []
 
+-- from any report that was written before, such an answer is written
 abbrev pub Reports : Shown → (base : ℕ) → (t u : Reporting) → (begun sealed : ℕ) → (old new : List ℕ) → Type 0
 Reports s base t u begun sealed old new =
     (items : List Item) (entries : List Entry) (text : List ℕ) → IsAllFed s base items → sealed ≤ begun
@@ -197,6 +198,7 @@ pub record IsOpenAnswer (base : ℕ) (t : Shown) (x y : Intake) (v : Reporting) 
   pub fed : IsFed t base y items
   pub reported : HasAnswered t base v items x.begun (x.begun - 1) text [] out
 
+-- the same, whatever was taken and written before
 abbrev pub AnswersOpen : (base : ℕ) → (s t : Shown) → (x y : Intake) → (u v : Reporting) → (out : List ℕ) → Type 0
 AnswersOpen base s t x y u v out =
     (items : List Item) (entries : List Entry) (text : List ℕ) → IsFed s base x items
@@ -208,6 +210,7 @@ pub record IsLastAnswer (base : ℕ) (t : Shown) (x : Intake) (v : Reporting) (i
   pub complete : v.done ≡ x.begun
   pub reported : HasAnswered t base v items x.begun x.begun text [] out
 
+-- the same, whatever was taken and written before
 abbrev pub AnswersLast : (base : ℕ) → (s t : Shown) → (x : Intake) → (u v : Reporting) → (out : List ℕ) → Type 0
 AnswersLast base s t x u v out =
     (items : List Item) (entries : List Entry) (text : List ℕ) → IsFed s base x items

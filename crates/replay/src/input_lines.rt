@@ -8,7 +8,7 @@ ghost use Rattle.schedule.specs.Commands.{Command};
 ghost use Rattle.replay.specs.Steps.{Answers, AreInputsOf, IsNumbered};
 
 use crate::refusal::{Refusal, line_refusal};
-use board::{Board, StepRefusal};
+use board::Board;
 use collector::{Declared, find_input};
 use record_core::Record;
 use rows::Batch;

@@ -1,7 +1,7 @@
 use Rattle.std.proofs.Common.{refl, arith}
 use Rattle.graph.specs.Views.{input_of}
 use Rattle.collector.proofs.DeclaredInputs.{one_declared_more}
-use Rattle.console.proofs.running.declared.Goals as goal
+use Rattle.console.proofs.running.inputs_of.Goals as goal
 
 pub loop-input-preserved : goal.loop-input-preserved
 loop-input-preserved c =

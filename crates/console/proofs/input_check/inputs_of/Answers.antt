@@ -1,7 +1,7 @@
 use Rattle.std.proofs.Common.{refl, arith}
 use Rattle.expr_tree.specs.Plain.{plain_input}
 use Rattle.collector.proofs.DeclaredInputs.{one_declared_more}
-use Rattle.console.proofs.input_check.declared.Goals as goal
+use Rattle.console.proofs.input_check.inputs_of.Goals as goal
 
 pub loop-input-preserved : goal.loop-input-preserved
 loop-input-preserved c =
