@@ -10,7 +10,7 @@ use Rattle.collector.specs.Pieces.{split_on}
 use Rattle.collector.specs.Lines.{Item, Says, IsFault, code_of}
 use Rattle.collector.specs.InputText.{begun_after, epochs_after, records_in, LinesSay, IsReadFrom, IsRefused}
 use Rattle.collector.specs.Drafts.{draft_count, draft_records, IsKept}
-use Rattle.collector.specs.Growth.{IsEven, HasNone, Takes, CanTake}
+use Rattle.collector.specs.DraftGrowth.{IsEven, HasNone, Takes, CanTake}
 use Rattle.collector.specs.declared.draft.Draft.{Draft}
 use Rattle.collector.specs.declared.epochs.Epochs.{Epochs}
 use Rattle.collector.specs.declared.refusal.Fault.{Fault}

@@ -1,7 +1,7 @@
 -- What epochs hold while they are read.
 use Rattle.std.specs.Prelude.{◌≡◌, ℕ, ℤ, List, [], slice_index_or}
 use Rattle.semantics.specs.Multiset.{◌≈◌}
-use Rattle.collector.specs.Held.{records_at}
+use Rattle.collector.specs.ReadEpochs.{records_at}
 use Rattle.collector.specs.declared.draft.Draft.{Draft}
 use Rattle.collector.specs.declared.epochs.Epochs.{Epochs}
 

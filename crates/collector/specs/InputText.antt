@@ -2,7 +2,7 @@
 use Rattle.std.specs.Prelude.{◌≡◌, ◌<◌, ◌+◌, ℕ, ℤ, List, [], ◌∷◌, ◌++◌, length, ◌==◌, ◌&&◌, if◌then◌else◌, ◌⊎◌}
 use Rattle.semantics.specs.Query.{Input}
 use Rattle.semantics.specs.Multiset.{◌≈◌}
-use Rattle.collector.specs.Held.{epoch_count, records_at}
+use Rattle.collector.specs.ReadEpochs.{epoch_count, records_at}
 use Rattle.collector.specs.Pieces.{split_on}
 use Rattle.collector.specs.Lines.{Item, Says, IsFault, code_of}
 use Rattle.collector.specs.declared.epochs.Epochs.{Epochs}

@@ -3,11 +3,11 @@ pub mod Lines
 pub mod Said
 pub mod InputText
 pub mod Piles
-pub mod Held
+pub mod ReadEpochs
 pub mod Drafts
-pub mod Growth
+pub mod DraftGrowth
 pub mod Watching
-pub mod Written
+pub mod WrittenBytes
 pub mod Partitions
 pub mod OutputText
 pub mod Emitted

@@ -3,7 +3,7 @@
 ghost use Rattle.std.specs.Prelude.{◌≡◌, ◌<◌, ◌+◌, ◌^◌, ◌-◌, OnOk, IfOk, length};
 ghost use Rattle.record_core.specs.Records.{IsRecord};
 ghost use Rattle.collector.specs.Drafts.{draft_count, IsKept};
-ghost use Rattle.collector.specs.Growth.{HasNone, IsEven, Begins, Gains};
+ghost use Rattle.collector.specs.DraftGrowth.{HasNone, IsEven, Begins, Gains};
 
 use crate::epochs::Epochs;
 use crate::input_records::Track;

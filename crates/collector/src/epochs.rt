@@ -2,7 +2,7 @@
 
 ghost use Rattle.std.specs.Prelude.{◌≡◌};
 ghost use Rattle.rows.specs.FlatRows.{joined};
-ghost use Rattle.collector.specs.Held.{epoch_count, records_at};
+ghost use Rattle.collector.specs.ReadEpochs.{epoch_count, records_at};
 
 use crate::input_records::Kept;
 use rows::Batch;

@@ -1,7 +1,7 @@
 //! Reads the input text.
 
 ghost use Rattle.std.specs.Prelude.{map, IfOk, IfErr, OnOk};
-ghost use Rattle.collector.specs.Growth.{CanTake, IsEven, Takes};
+ghost use Rattle.collector.specs.DraftGrowth.{CanTake, IsEven, Takes};
 ghost use Rattle.collector.specs.InputText.{IsReadFrom, IsRefused};
 ghost use Rattle.collector.specs.Said.{item_of, plain};
 

@@ -3,7 +3,7 @@
 ghost use Rattle.std.specs.Prelude.{◌≡◌, true, OnOk, OnErr};
 ghost use Rattle.std.specs.Io.KnownBytes.{Appends};
 ghost use Rattle.collector.specs.Watching.{has_failed, inner_of};
-ghost use Rattle.collector.specs.Written.{AppendsFront};
+ghost use Rattle.collector.specs.WrittenBytes.{AppendsFront};
 
 use crate::watched::Watched;
 use std::io::Write;

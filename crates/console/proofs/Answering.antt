@@ -11,7 +11,7 @@ use Rattle.graph.specs.Shown.{shown_graph, shown_inputs, shown_names}
 use Rattle.board.specs.Shown.{Shown}
 use Rattle.board.specs.Promises.{HasPassed, IsDrained, KeepsPromise, RunsProgram, emitted_at}
 use Rattle.collector.specs.OutputText.{IsTextFrom}
-use Rattle.collector.specs.Held.{epoch_count, records_at}
+use Rattle.collector.specs.ReadEpochs.{epoch_count, records_at}
 use Rattle.collector.specs.declared.epochs.Epochs.{Epochs}
 use Rattle.console.specs.Compiled.{IsCompiled}
 use Rattle.execution.specs.Fed.{EmittedBelow, HoldsFed, IsWorkedOff, fed_at}

@@ -7,9 +7,9 @@ use Rattle.graph.specs.Shown.{GraphValue, shown_graph, shown_inputs, shown_names
 use Rattle.console.specs.Queries.{output_names}
 use Rattle.semantics.specs.Meaning.{program_meaning}
 use Rattle.collector.specs.declared.epochs.Epochs.{Epochs}
-use Rattle.collector.specs.Held.{epoch_count, records_at}
+use Rattle.collector.specs.ReadEpochs.{epoch_count, records_at}
 use Rattle.collector.specs.OutputText.{IsTextFrom}
-use Rattle.collector.specs.Written.{AppendsFront}
+use Rattle.collector.specs.WrittenBytes.{AppendsFront}
 use Rattle.console.specs.Compiled.{IsCompiled}
 use Rattle.diagnostics.specs.declared.fault.Fault.{Fault}
 use Rattle.diagnostics.specs.declared.fault.Fault.TheVariants.{Query, TooManyVertices, Input, Schedule, NoMemory, Count}

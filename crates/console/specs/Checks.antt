@@ -8,7 +8,7 @@ use Rattle.semantics.specs.Typing.{WellTyped}
 use Rattle.expr_tree.specs.Trees.{ProgramTree}
 use Rattle.expr_tree.specs.Plain.{plain_program}
 use Rattle.grammar.specs.Texts as grammar
-use Rattle.collector.specs.Written.{AppendsFront}
+use Rattle.collector.specs.WrittenBytes.{AppendsFront}
 use Rattle.record_core.specs.declared.span.Refusal.TheVariants.{At}
 use Rattle.console.specs.Queries.{IsRefusal}
 use Rattle.diagnostics.specs.declared.fault.Fault.{Fault}

@@ -8,7 +8,7 @@ use Rattle.parser.specs.Refusals as parser
 use Rattle.writer.specs.Programs.{program_text}
 use Rattle.writer.specs.Sources.{ReadsAs}
 use Rattle.lexer.specs.Tokens.{max_length}
-use Rattle.collector.specs.Written.{AppendsFront}
+use Rattle.collector.specs.WrittenBytes.{AppendsFront}
 use Rattle.diagnostics.specs.declared.fault.Fault.{Fault}
 use Rattle.diagnostics.specs.declared.fault.Fault.TheVariants.{Query, TooManyVertices, Input, Schedule, NoMemory, Count}
 use Rattle.diagnostics.specs.declared.fault.Fault.TheVariants.{NoWorker, Incomplete, ReadQuery, ReadInput, Write}

@@ -4,7 +4,7 @@ use Rattle.std.specs.Io.KnownBytes.{Appends}
 use Rattle.semantics.specs.Query.{Input as Declared, Name}
 use Rattle.semantics.specs.Graph.{Graph}
 use Rattle.graph.specs.Text.{graph_text}
-use Rattle.collector.specs.Written.{AppendsFront}
+use Rattle.collector.specs.WrittenBytes.{AppendsFront}
 use Rattle.console.specs.Compiled.{IsCompiled, IsQueryFault}
 use Rattle.command_line.specs.declared.line_options.GraphForm.{GraphForm}
 use Rattle.command_line.specs.declared.line_options.GraphForm.TheVariants.{Lines, Dot}

@@ -5,7 +5,7 @@ use Rattle.record_core.specs.declared.span.Refusal.TheVariants.{At}
 use Rattle.semantics.specs.Multiset.{Record}
 use Rattle.expr_tree.specs.Plain.{plain_program}
 use Rattle.collector.specs.InputText.{IsInputText}
-use Rattle.collector.specs.Written.{AppendsFront}
+use Rattle.collector.specs.WrittenBytes.{AppendsFront}
 use Rattle.console.specs.Checks.{IsChecked}
 use Rattle.console.specs.Queries.{IsRefusal}
 use Rattle.console.specs.Runs.{IsInputFault}

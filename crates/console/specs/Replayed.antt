@@ -3,7 +3,7 @@ use Rattle.std.specs.Prelude.{◌≡◌, ◌≤◌, ℕ, List, length, Option, R
 use Rattle.std.specs.Io.KnownBytes.{Appends}
 use Rattle.semantics.specs.Query.{Input as Declared, Name}
 use Rattle.semantics.specs.Graph.{Graph}
-use Rattle.collector.specs.Written.{AppendsFront}
+use Rattle.collector.specs.WrittenBytes.{AppendsFront}
 use Rattle.schedule.specs.Commands.{Command}
 use Rattle.schedule.specs.ScheduleText.{IsRefused, IsScheduleText}
 use Rattle.schedule.specs.declared.refusal.ScheduleRefusal.TheVariants.{At}

@@ -4,7 +4,7 @@ use Rattle.std.specs.Io.KnownBytes.{Appends}
 use Rattle.semantics.specs.Multiset.{Record}
 use Rattle.semantics.specs.Query.{Program}
 use Rattle.collector.specs.InputText.{IsInputText, IsRefused}
-use Rattle.collector.specs.Written.{AppendsFront}
+use Rattle.collector.specs.WrittenBytes.{AppendsFront}
 use Rattle.collector.specs.declared.refusal.InputRefusal.TheVariants.{At}
 use Rattle.console.specs.Answers.{IsAnswer}
 use Rattle.console.specs.Compiled.{IsQueryFault}

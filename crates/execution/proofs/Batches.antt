@@ -5,7 +5,7 @@ use Rattle.rows.specs.FlatRows.{joined}
 use Rattle.semantics.specs.Graph.{output_number}
 use Rattle.graph.specs.Shown.{shown_graph}
 use Rattle.board.specs.Shown as board
-use Rattle.collector.specs.Held.{records_at}
+use Rattle.collector.specs.ReadEpochs.{records_at}
 use Rattle.collector.specs.declared.epochs.Epochs.{Epochs}
 use Rattle.board.specs.Promises.{emitted_at}
 use Rattle.execution.specs.Fed.{fed_at}

@@ -3,7 +3,7 @@ use Rattle.std.proofs.Common.{◌≡◌, ℕ, length, arith}
 use Rattle.graph.specs.Shown.{GraphValue, shown_inputs}
 use Rattle.board.specs.Shown.{Shown}
 use Rattle.board.specs.Promises.{IsDrained}
-use Rattle.collector.specs.Held.{epoch_count}
+use Rattle.collector.specs.ReadEpochs.{epoch_count}
 use Rattle.collector.specs.declared.epochs.Epochs.{Epochs}
 use Rattle.execution.specs.Fed.{HoldsFed, IsWorkedOff}
 

@@ -4,7 +4,7 @@ use Rattle.semantics.specs.Multiset.{Record}
 use Rattle.graph.specs.Shown.{GraphValue, shown_inputs}
 use Rattle.board.specs.Shown as board
 use Rattle.board.specs.Promises.{IsDrained, IsOutputPlace, emitted_at}
-use Rattle.collector.specs.Held.{epoch_count, records_at}
+use Rattle.collector.specs.ReadEpochs.{epoch_count, records_at}
 use Rattle.collector.specs.declared.epochs.Epochs.{Epochs}
 
 -- what an input was fed at an epoch

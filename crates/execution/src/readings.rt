@@ -1,7 +1,7 @@
 //! Checks that a report was fed what was read.
 
 ghost use Rattle.std.specs.Prelude.{◌≡◌, ◌<◌, ℕ, IsTrue};
-ghost use Rattle.collector.specs.Held.{records_at};
+ghost use Rattle.collector.specs.ReadEpochs.{records_at};
 ghost use Rattle.execution.specs.Fed.{HoldsFed, fed_at};
 
 use collector::{Epochs, same_batches};

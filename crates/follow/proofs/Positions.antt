@@ -13,7 +13,7 @@ use Rattle.board.specs.Showing.{Shows}
 use Rattle.collector.specs.Pieces.{split_on}
 use Rattle.collector.specs.Lines.{Item}
 use Rattle.collector.specs.InputText.{IsRefused, epochs_after}
-use Rattle.collector.specs.Written.{AppendsFront}
+use Rattle.collector.specs.WrittenBytes.{AppendsFront}
 use Rattle.collector.specs.declared.refusal.InputRefusal.TheVariants.{At}
 use Rattle.collector.proofs.Writes.{Appends-then}
 use Rattle.follow.specs.Entries.{Entry}

@@ -11,7 +11,7 @@ use Rattle.graph.specs.Shown.{GraphValue, shown_graph, shown_inputs, shown_names
 use Rattle.collector.specs.Pieces.{split_on}
 use Rattle.collector.specs.Lines.{Item}
 use Rattle.collector.specs.InputText.{IsInputText, IsRefused, LinesSay, epochs_after, records_in}
-use Rattle.collector.specs.Written.{AppendsFront}
+use Rattle.collector.specs.WrittenBytes.{AppendsFront}
 use Rattle.collector.specs.declared.refusal.InputRefusal.TheVariants.{At}
 use Rattle.follow.specs.Entries.{AreAt, Entry, complete_line, entry_line, records_of}
 use Rattle.follow.specs.declared.ending.Ending.{Ending}

@@ -3,7 +3,7 @@
 ghost use Rattle.std.specs.Prelude.{◌≡◌, map, length, IfOk, OnOk};
 ghost use Rattle.collector.specs.OutputText.{AppendsText};
 ghost use Rattle.collector.specs.Said.{plain};
-ghost use Rattle.schedule.specs.Said.{command_of};
+ghost use Rattle.schedule.specs.LineReader.{command_of};
 ghost use Rattle.replay.specs.Hands.{HoldsAll, HoldsNone, IsHand};
 ghost use Rattle.replay.specs.Replays.{Replays};
 ghost use Rattle.replay.specs.Steps.{Answers, AreInputsOf, IsStep, Leads, ShowsState, setting_of};

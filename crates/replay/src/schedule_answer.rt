@@ -7,7 +7,7 @@ ghost use Rattle.collector.specs.Said.{plain};
 ghost use Rattle.machine.specs.World.{opening};
 ghost use Rattle.board.specs.Showing.{Shows};
 ghost use Rattle.board.specs.Lateness.{AreUpToDate};
-ghost use Rattle.schedule.specs.Said.{command_of};
+ghost use Rattle.schedule.specs.LineReader.{command_of};
 ghost use Rattle.schedule.specs.ScheduleText.{IsRefused};
 ghost use Rattle.schedule.specs.declared.refusal.ScheduleRefusal.TheVariants.{NoMemory};
 ghost use Rattle.replay.specs.Replays.{Replays};

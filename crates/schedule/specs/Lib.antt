@@ -1,3 +1,3 @@
 pub mod Commands
-pub mod Said
+pub mod LineReader
 pub mod ScheduleText

@@ -2,7 +2,7 @@
 
 ghost use Rattle.std.specs.Prelude.{◌≡◌, ◌≢◌, ◌<◌, ◌^◌, ℕ, List, [], ◌∷◌, decimal, IfSome, IfNone};
 ghost use Rattle.collector.specs.Said.{words_of};
-ghost use Rattle.schedule.specs.Said.{ArgumentsEnd, CountEnds, CountsEnd, NameEnds};
+ghost use Rattle.schedule.specs.LineReader.{ArgumentsEnd, CountEnds, CountsEnd, NameEnds};
 ghost use Rattle.schedule.specs.declared.refusal.Fault.TheVariants.{BadNumber};
 ghost use Rattle.schedule.specs.declared.verb.Verb.TheVariants as verb;
 

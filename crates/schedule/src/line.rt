@@ -1,7 +1,7 @@
 //! Reads one line of a schedule.
 
 ghost use Rattle.collector.specs.Said.{words_of};
-ghost use Rattle.schedule.specs.Said.{ArgumentsEnd, LineEnds};
+ghost use Rattle.schedule.specs.LineReader.{ArgumentsEnd, LineEnds};
 
 use crate::arguments::{one_count, one_name, read_feed, two_counts};
 use crate::refusal::Fault;

@@ -1,7 +1,7 @@
 //! Reads a schedule.
 
 ghost use Rattle.std.specs.Prelude.{map, IfOk, IfErr};
-ghost use Rattle.schedule.specs.Said.{command_of};
+ghost use Rattle.schedule.specs.LineReader.{command_of};
 ghost use Rattle.schedule.specs.ScheduleText.{IsRefused, IsScheduleText};
 
 use crate::line::{Line, LineError, read_line};

@@ -2,7 +2,7 @@ use Rattle.std.proofs.Common.{◌≡◌, subst}
 use Rattle.graph.specs.Shown.{shown_names}
 use Rattle.collector.specs.Emitted.{names_of, records_of}
 use Rattle.collector.specs.OutputText.{IsTextFrom}
-use Rattle.collector.specs.Held.{epoch_count}
+use Rattle.collector.specs.ReadEpochs.{epoch_count}
 use Rattle.execution.specs.Fed.{EmittedBelow}
 use Rattle.console.proofs.Answering.{is_answer}
 use Rattle.console.proofs.graph_answer.write_emitted.Goals as goal

@@ -1,5 +1,5 @@
 use Rattle.graph.specs.Shown.{shown_graph, shown_inputs, shown_names}
-use Rattle.collector.specs.Held.{epoch_count, records_at}
+use Rattle.collector.specs.ReadEpochs.{epoch_count, records_at}
 use Rattle.collector.specs.InputText.{IsReadFrom}
 use Rattle.console.proofs.RunEnds.{after_reading, responds_alike, run_ends}
 use Rattle.console.proofs.Heeding.{responds_heeds}

@@ -1,5 +1,5 @@
 use Rattle.std.proofs.Common.{◌≡◌, ◌<◌, ℕ}
-use Rattle.collector.specs.Held.{records_at}
+use Rattle.collector.specs.ReadEpochs.{records_at}
 use Rattle.execution.specs.Fed.{fed_at}
 use Rattle.execution.proofs.readings.is_fed_at.Given as goal
 

@@ -2,7 +2,7 @@ use Rattle.std.proofs.Common.{◌≡◌, ◌∙◌, List, ℕ, ap, arith, length
 use Rattle.std.specs.Prelude.{◌==◌, Err}
 use Rattle.std.specs.Io.KnownBytes.{Appends}
 use Rattle.collector.specs.Watching.{inner_of}
-use Rattle.collector.specs.Written.{AppendsFront}
+use Rattle.collector.specs.WrittenBytes.{AppendsFront}
 use Rattle.follow.specs.Follows.{Follows}
 use Rattle.collector.proofs.LinesRead.{no_rest}
 use Rattle.follow.proofs.Lines.{filled_rest}

@@ -2,7 +2,7 @@ use Rattle.std.proofs.Common.{List, ℕ, subst, sym}
 use Rattle.std.specs.Prelude.{Err}
 use Rattle.std.specs.Io.KnownBytes.{Appends}
 use Rattle.collector.specs.Watching.{inner_of}
-use Rattle.collector.specs.Written.{AppendsFront}
+use Rattle.collector.specs.WrittenBytes.{AppendsFront}
 use Rattle.follow.specs.Follows.{Follows}
 use Rattle.follow.specs.Steps.{TakesLines}
 use Rattle.follow.proofs.Positions.{answer_written, answered, halted, unwritten}

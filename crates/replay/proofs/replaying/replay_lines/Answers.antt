@@ -1,7 +1,7 @@
 use Rattle.std.proofs.Common.{◌≡◌, ◌∙◌, ◌++◌, ◌∷◌, [], ◌+◌, get_or, List, ℕ, take, map, sym, ap, subst}
 use Rattle.std.proofs.lemmas.List.{take_more, map_push}
 use Rattle.schedule.specs.Commands.{Command}
-use Rattle.schedule.specs.Said.{command_of}
+use Rattle.schedule.specs.LineReader.{command_of}
 use Rattle.collector.specs.Said.{plain}
 use Rattle.replay.specs.Steps.{AreInputsOf}
 use Rattle.replay.proofs.Runs.{Replayed, more_replayed, none_replayed}

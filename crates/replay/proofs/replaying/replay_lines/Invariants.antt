@@ -1,6 +1,6 @@
 use Rattle.std.proofs.Common.{map, take}
 use Rattle.collector.specs.Said.{plain}
-use Rattle.schedule.specs.Said.{command_of}
+use Rattle.schedule.specs.LineReader.{command_of}
 use Rattle.replay.specs.Hands.{IsHand}
 use Rattle.replay.specs.Steps.{AreInputsOf}
 use Rattle.replay.proofs.Runs.{Replayed}

@@ -1,5 +1,5 @@
 use Rattle.std.proofs.Common.{◌≡◌, ◌∙◌, List, ℤ, subst, sym, ap}
-use Rattle.schedule.specs.Said.{command_of}
+use Rattle.schedule.specs.LineReader.{command_of}
 use Rattle.schedule.specs.Commands.{Command}
 use Rattle.replay.specs.Steps.{Answers}
 use Rattle.replay.proofs.Runs.{answered_hand}

@@ -3,7 +3,7 @@ use Rattle.std.specs.Prelude.{◌==◌}
 use Rattle.std.proofs.lemmas.List.{map_push}
 use Rattle.std.proofs.lemmas.Bool.Decides.{nat_tests}
 use Rattle.collector.proofs.Splits.{split_none, cut_at}
-use Rattle.schedule.specs.Said.{command_of}
+use Rattle.schedule.specs.LineReader.{command_of}
 use Rattle.schedule.specs.ScheduleText.{IsFault}
 use Rattle.schedule.proofs.LinesRead.{next_read, faulty, unended}
 use Rattle.schedule.proofs.reading.read_schedule.Goals as goal

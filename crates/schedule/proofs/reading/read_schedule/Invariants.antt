@@ -1,5 +1,5 @@
 use Rattle.std.proofs.Common.{length, map}
-use Rattle.schedule.specs.Said.{command_of}
+use Rattle.schedule.specs.LineReader.{command_of}
 use Rattle.schedule.proofs.LinesRead.{ReadSoFar}
 use Rattle.schedule.proofs.reading.read_schedule.Given as goal
 
