@@ -7,7 +7,7 @@ use Rattle.rows.specs.Indexes.{AreDifferent}
 use Rattle.rows.specs.declared.error.TallyError.{TallyError}
 use Rattle.rows.specs.declared.error.TallyError.TheVariants as tally
 use Rattle.rows.proofs.Runs.{all_fit, are_runs}
-use Rattle.semantics.specs.Kinds.{Kind, in_ports, out_ports, role}
+use Rattle.semantics.specs.Kinds.{Kind, in_ports, role}
 use Rattle.semantics.specs.Meaning.{selected}
 use Rattle.semantics.specs.Multiset.{Record}
 use Rattle.semantics.specs.Query.{Scalar}
@@ -18,7 +18,6 @@ use Rattle.vertices.specs.Outs.{WouldSendOver, records_of, sent}
 use Rattle.vertices.specs.Shards.{shard_kind}
 use Rattle.vertices.specs.declared.fault.ShardFault.{ShardFault}
 use Rattle.vertices.specs.declared.fault.ShardFault.TheVariants.{Count, NoMemory}
-use Rattle.vertices.specs.declared.out.Out.{Out}
 use Rattle.vertices.specs.declared.shard.Shard.{Shard}
 
 -- ---- what fits
@@ -73,9 +72,6 @@ tally_over r t Q h q = IfErr-weaker r _ _ (λ e b c. q (b.1.0 c)) h
 
 abbrev pub KeptFits : Shard → Absorbed → (port : ℕ) → Time → List Record → Type 0
 KeptFits s a p t batch = AllFit (kept_by (role (shard_kind s)) a p t batch)
-
-abbrev pub SentFits : Shard → Out → Type 0
-SentFits s out = (q : ℕ) → AllFit (sent (out_ports (shard_kind s)) out q)
 
 -- ---- ports
 

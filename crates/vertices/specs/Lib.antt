@@ -7,4 +7,5 @@ pub mod Joins
 pub mod Groups
 pub mod Outs
 pub mod Shards
+pub mod TakesIn
 pub mod AtWork

@@ -1,12 +1,12 @@
 //! The shard of a vertex of any kind.
 
 ghost use Rattle.std.specs.Prelude.{◌≡◌, ◌<◌, ℕ, None, false, IfErr, OnOk};
-ghost use Rattle.rows.specs.Counts.{AllFit};
 ghost use Rattle.rows.specs.FlatRows.{arity_of};
-ghost use Rattle.semantics.specs.Kinds.{Role, in_ports, out_ports, role};
-ghost use Rattle.vertices.specs.Absorbed.{Absorbed, HasState, absorbed_by, kept_by};
-ghost use Rattle.vertices.specs.Outs.{GoesOver, SendsFor, SendsForNotification, WouldSendOver, asks_at, sent};
+ghost use Rattle.semantics.specs.Kinds.{Role, in_ports, role};
+ghost use Rattle.vertices.specs.Absorbed.{Absorbed, HasState};
+ghost use Rattle.vertices.specs.Outs.{SendsFor, SendsForNotification, WouldSendOver};
 ghost use Rattle.vertices.specs.Shards.{Shows, TakesArity, shard_kind};
+ghost use Rattle.vertices.specs.TakesIn.{Absorbs, AsksForBatch, IsTooMuch, KeptFit, SendsForBatch, SentFit};
 ghost use Rattle.vertices.specs.declared.fault.ShardFault.TheVariants.{Count, NoMemory};
 
 use crate::distinct::DistinctShard;
@@ -63,12 +63,12 @@ impl Shard {
         requires out { out.old ≡ record { first = None; second = None; asked = false } }
         ensures kind { OnOk result (shard_kind self.new ≡ shard_kind self.old) }
         ensures arity { OnOk result ((p n : ℕ) → TakesArity self.old p n → TakesArity self.new p n) }
-        ensures absorbed { OnOk result ((a : Absorbed) → Shows self.old a → Shows self.new (absorbed_by (role (shard_kind self.old)) a port time.now batch)) }
-        ensures sends { OnOk result ((a : Absorbed) → Shows self.old a → SendsFor (shard_kind self.old) time.now a port batch out.new) }
-        ensures asked { OnOk result ((a : Absorbed) → Shows self.old a → out.new.asked ≡ asks_at (shard_kind self.old) time.now a) }
-        ensures fits { OnOk result ((a : Absorbed) → Shows self.old a → AllFit (kept_by (role (shard_kind self.old)) a port time.now batch)) }
-        ensures fits_sent { OnOk result ((q : ℕ) → AllFit (sent (out_ports (shard_kind self.old)) out.new q)) }
-        ensures over { IfErr result (λ e. e ≡ Count → (a : Absorbed) → Shows self.old a → GoesOver (shard_kind self.old) time.now a port batch) }
+        ensures absorbed { OnOk result (Absorbs self.old self.new port time.now batch) }
+        ensures sends { OnOk result (SendsForBatch self.old port time.now batch out.new) }
+        ensures asked { OnOk result (AsksForBatch self.old time.now out.new) }
+        ensures fits { OnOk result (KeptFit self.old port time.now batch) }
+        ensures fits_sent { OnOk result (SentFit self.old out.new) }
+        ensures over { IfErr result (λ e. e ≡ Count → IsTooMuch self.old port time.now batch) }
     {
         if port == 0 {
             self.on_first(alloc, time, batch, out)?;
@@ -83,7 +83,7 @@ impl Shard {
         requires role { role (shard_kind self.now) ≡ Role.notified }
         requires whole { (a : Absorbed) × Shows self.now a }
         ensures sends { OnOk result ((a : Absorbed) → Shows self.now a → SendsForNotification (shard_kind self.now) time.now a out.new) }
-        ensures fits_sent { OnOk result ((q : ℕ) → AllFit (sent (out_ports (shard_kind self.now)) out.new q)) }
+        ensures fits_sent { OnOk result (SentFit self.now out.new) }
         ensures never { IfErr result (λ e. e ≡ NoMemory) }
         ensures asked { out.new.asked ≡ out.old.asked }
     {
@@ -126,12 +126,12 @@ impl Shard {
         requires out { out.old ≡ record { first = None; second = None; asked = false } }
         ensures kind { OnOk result (shard_kind self.new ≡ shard_kind self.old) }
         ensures arity { OnOk result ((p n : ℕ) → TakesArity self.old p n → TakesArity self.new p n) }
-        ensures absorbed { OnOk result ((a : Absorbed) → Shows self.old a → Shows self.new (absorbed_by (role (shard_kind self.old)) a 0 time.now batch)) }
-        ensures sends { OnOk result ((a : Absorbed) → Shows self.old a → SendsFor (shard_kind self.old) time.now a 0 batch out.new) }
-        ensures asked { OnOk result ((a : Absorbed) → Shows self.old a → out.new.asked ≡ asks_at (shard_kind self.old) time.now a) }
-        ensures fits { OnOk result ((a : Absorbed) → Shows self.old a → AllFit (kept_by (role (shard_kind self.old)) a 0 time.now batch)) }
-        ensures fits_sent { OnOk result ((q : ℕ) → AllFit (sent (out_ports (shard_kind self.old)) out.new q)) }
-        ensures over { IfErr result (λ e. e ≡ Count → (a : Absorbed) → Shows self.old a → GoesOver (shard_kind self.old) time.now a 0 batch) }
+        ensures absorbed { OnOk result (Absorbs self.old self.new 0 time.now batch) }
+        ensures sends { OnOk result (SendsForBatch self.old 0 time.now batch out.new) }
+        ensures asked { OnOk result (AsksForBatch self.old time.now out.new) }
+        ensures fits { OnOk result (KeptFit self.old 0 time.now batch) }
+        ensures fits_sent { OnOk result (SentFit self.old out.new) }
+        ensures over { IfErr result (λ e. e ≡ Count → IsTooMuch self.old 0 time.now batch) }
     {
         match self {
             Shard::Input(_) => unreachable!(),
@@ -169,12 +169,12 @@ impl Shard {
         requires out { out.old ≡ record { first = None; second = None; asked = false } }
         ensures kind { OnOk result (shard_kind self.new ≡ shard_kind self.old) }
         ensures arity { OnOk result ((p n : ℕ) → TakesArity self.old p n → TakesArity self.new p n) }
-        ensures absorbed { OnOk result ((a : Absorbed) → Shows self.old a → Shows self.new (absorbed_by (role (shard_kind self.old)) a 0 time.now batch)) }
-        ensures sends { OnOk result ((a : Absorbed) → Shows self.old a → SendsFor (shard_kind self.old) time.now a 0 batch out.new) }
-        ensures asked { OnOk result ((a : Absorbed) → Shows self.old a → out.new.asked ≡ asks_at (shard_kind self.old) time.now a) }
-        ensures fits { OnOk result ((a : Absorbed) → Shows self.old a → AllFit (kept_by (role (shard_kind self.old)) a 0 time.now batch)) }
-        ensures fits_sent { OnOk result ((q : ℕ) → AllFit (sent (out_ports (shard_kind self.old)) out.new q)) }
-        ensures over { IfErr result (λ e. e ≡ Count → (a : Absorbed) → Shows self.old a → GoesOver (shard_kind self.old) time.now a 0 batch) }
+        ensures absorbed { OnOk result (Absorbs self.old self.new 0 time.now batch) }
+        ensures sends { OnOk result (SendsForBatch self.old 0 time.now batch out.new) }
+        ensures asked { OnOk result (AsksForBatch self.old time.now out.new) }
+        ensures fits { OnOk result (KeptFit self.old 0 time.now batch) }
+        ensures fits_sent { OnOk result (SentFit self.old out.new) }
+        ensures over { IfErr result (λ e. e ≡ Count → IsTooMuch self.old 0 time.now batch) }
     {
         match self {
             Shard::Join(shard) => {
@@ -222,7 +222,7 @@ impl Shard {
         requires arity { TakesArity self.now 0 (arity_of batch) }
         requires out { out.old ≡ record { first = None; second = None; asked = false } }
         ensures sends { OnOk result ((a : Absorbed) → SendsFor (shard_kind self.now) time.now a 0 batch out.new) }
-        ensures fits_sent { OnOk result ((q : ℕ) → AllFit (sent (out_ports (shard_kind self.now)) out.new q)) }
+        ensures fits_sent { OnOk result (SentFit self.now out.new) }
         ensures over { IfErr result (λ e. e ≡ Count → (a : Absorbed) → WouldSendOver (shard_kind self.now) time.now a 0 batch) }
         ensures asked { out.new.asked ≡ out.old.asked }
     {
@@ -274,12 +274,12 @@ impl Shard {
         requires out { out.old ≡ record { first = None; second = None; asked = false } }
         ensures kind { OnOk result (shard_kind self.new ≡ shard_kind self.old) }
         ensures arity { OnOk result ((p n : ℕ) → TakesArity self.old p n → TakesArity self.new p n) }
-        ensures absorbed { OnOk result ((a : Absorbed) → Shows self.old a → Shows self.new (absorbed_by (role (shard_kind self.old)) a 1 time.now batch)) }
-        ensures sends { OnOk result ((a : Absorbed) → Shows self.old a → SendsFor (shard_kind self.old) time.now a 1 batch out.new) }
-        ensures asked { OnOk result ((a : Absorbed) → Shows self.old a → out.new.asked ≡ asks_at (shard_kind self.old) time.now a) }
-        ensures fits { OnOk result ((a : Absorbed) → Shows self.old a → AllFit (kept_by (role (shard_kind self.old)) a 1 time.now batch)) }
-        ensures fits_sent { OnOk result ((q : ℕ) → AllFit (sent (out_ports (shard_kind self.old)) out.new q)) }
-        ensures over { IfErr result (λ e. e ≡ Count → (a : Absorbed) → Shows self.old a → GoesOver (shard_kind self.old) time.now a 1 batch) }
+        ensures absorbed { OnOk result (Absorbs self.old self.new 1 time.now batch) }
+        ensures sends { OnOk result (SendsForBatch self.old 1 time.now batch out.new) }
+        ensures asked { OnOk result (AsksForBatch self.old time.now out.new) }
+        ensures fits { OnOk result (KeptFit self.old 1 time.now batch) }
+        ensures fits_sent { OnOk result (SentFit self.old out.new) }
+        ensures over { IfErr result (λ e. e ≡ Count → IsTooMuch self.old 1 time.now batch) }
     {
         match self {
             Shard::Concat(_) => {
