@@ -48,34 +48,8 @@ fn start_workers<
     Ok(())
 }
 
-/// Starts the workers, and feeds. However that goes, all inputs are closed at the end, so that the workers end too.
-fn feed_beside<
-    's,
-    E,
-    J: Naming + Send + Sync,
-    V: Views + Send,
-    R: Threads + Wait + Sync,
-    G: Gate + Sync,
->(
-    threads: &'s Scope<'s, E>,
-    rt: &'s R,
-    alloc: Global,
-    engine: &'s Engine<J, V>,
-    task: Task<'s>,
-    gate: &'s G,
-) -> Result<(), Unfinished> {
-    let mut done = start_workers(threads, rt, alloc, engine, task, gate);
-    if done.is_ok() {
-        done = feed_epochs(rt, alloc, engine, task, gate);
-    }
-    close_inputs(rt, engine, task.inputs);
-    if task.is_alone() {
-        task.notice.note(work(rt, alloc, engine, 0, gate));
-    }
-    done
-}
-
-/// Feeds the engine and works it off, and returns once all threads have ended.
+/// Starts the workers, feeds the engine, and returns once all threads have ended. However the feeding goes, all inputs are closed at the end, so that
+/// the workers end too.
 pub fn work_off<J: Naming + Send + Sync, V: Views + Send, R: Threads + Wait + Sync, G: Gate + Sync>(
     rt: &R,
     alloc: Global,
@@ -84,7 +58,15 @@ pub fn work_off<J: Naming + Send + Sync, V: Views + Send, R: Threads + Wait + Sy
     gate: &G,
 ) -> Result<(), Unfinished> {
     scope(scope_env(), rt, move |threads| {
-        feed_beside(threads, rt, alloc, engine, task, gate)
+        let mut done = start_workers(threads, rt, alloc, engine, task, gate);
+        if done.is_ok() {
+            done = feed_epochs(rt, alloc, engine, task, gate);
+        }
+        close_inputs(rt, engine, task.inputs);
+        if task.is_alone() {
+            task.notice.note(work(rt, alloc, engine, 0, gate));
+        }
+        done
     })
 }
 
