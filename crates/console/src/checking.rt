@@ -12,7 +12,7 @@ ghost use Rattle.diagnostics.specs.declared.fault.Fault.TheVariants as fault;
 
 use crate::compiling::typed_program;
 use crate::fault::query_fault;
-use crate::running::read_query;
+use crate::reading::read_query;
 use crate::writing::write_text;
 use collector::Watched;
 use diagnostics::{Fault, Texts};

@@ -7,7 +7,8 @@ ghost use Rattle.console.specs.Readings.{FollowsOver};
 ghost use Rattle.diagnostics.specs.declared.fault.Fault.TheVariants as fault;
 
 use crate::fault::follow_fault;
-use crate::running::{graph_of_text, read_query};
+use crate::reading::read_query;
+use crate::running::graph_of_text;
 use collector::Watched;
 use command_line::Workers;
 use diagnostics::{Fault, Texts};

@@ -68,58 +68,7 @@ fn respond_on<V: Views + Send, R: Threads + Wait + Sync, G: Gate + Sync, W: Writ
     }
 }
 
-/// The same for a single worker, who sees at once what is active, whatever the number of threads.
-fn respond_alone<R: Threads + Wait + Sync, G: Gate + Sync, W: Write, O: Write + Send>(
-    rt: &R,
-    alloc: Global,
-    threads: u32,
-    graph: Arc<Graph, Global>,
-    epochs: &Epochs,
-    gate: &G,
-    writer: &mut Watched<W>,
-    watcher: &mut Option<Watcher<O>>,
-) -> Result<(), Fault>
-    ensures text { RespondsBy graph.value epochs.now (W.contents (inner_of writer.old)) (W.contents (inner_of writer.new)) result }
-    ensures failed { IsErrOf result fault.Write → has_failed writer.new ≡ true }
-{
-    match Board::new(alloc, graph, 1) {
-        Ok(board) => respond_on(rt, alloc, board, threads, epochs, gate, writer, watcher),
-        Err(_) => Err(Fault::NoMemory),
-    }
-}
-
-/// The same for several workers, each with a view of its own.
-fn respond_together<R: Threads + Wait + Sync, G: Gate + Sync, W: Write, O: Write + Send>(
-    rt: &R,
-    alloc: Global,
-    parallelism: Parallelism,
-    graph: Arc<Graph, Global>,
-    epochs: &Epochs,
-    gate: &G,
-    writer: &mut Watched<W>,
-    watcher: &mut Option<Watcher<O>>,
-) -> Result<(), Fault>
-    ensures text { RespondsBy graph.value epochs.now (W.contents (inner_of writer.old)) (W.contents (inner_of writer.new)) result }
-    ensures failed { IsErrOf result fault.Write → has_failed writer.new ≡ true }
-{
-    match Board::with_local_views(alloc, graph, parallelism.workers()) {
-        Ok(board) => {
-            respond_on(
-                rt,
-                alloc,
-                board,
-                parallelism.threads(),
-                epochs,
-                gate,
-                writer,
-                watcher,
-            )
-        }
-        Err(_) => Err(Fault::NoMemory),
-    }
-}
-
-/// The same, whatever the number of workers.
+/// The same on a new board of the graph. A single worker sees at once what is active, and each of several has a view of its own.
 fn respond_by<R: Threads + Wait + Sync, G: Gate + Sync, W: Write, O: Write + Send>(
     rt: &R,
     alloc: Global,
@@ -133,19 +82,17 @@ fn respond_by<R: Threads + Wait + Sync, G: Gate + Sync, W: Write, O: Write + Sen
     ensures text { RespondsBy graph.value epochs.now (W.contents (inner_of writer.old)) (W.contents (inner_of writer.new)) result }
     ensures failed { IsErrOf result fault.Write → has_failed writer.new ≡ true }
 {
-    if parallelism.workers() == 1 {
-        respond_alone(
-            rt,
-            alloc,
-            parallelism.threads(),
-            graph,
-            epochs,
-            gate,
-            writer,
-            watcher,
-        )
+    let (workers, threads) = (parallelism.workers(), parallelism.threads());
+    if workers == 1 {
+        match Board::new(alloc, graph, 1) {
+            Ok(board) => respond_on(rt, alloc, board, threads, epochs, gate, writer, watcher),
+            Err(_) => Err(Fault::NoMemory),
+        }
     } else {
-        respond_together(rt, alloc, parallelism, graph, epochs, gate, writer, watcher)
+        match Board::with_local_views(alloc, graph, workers) {
+            Ok(board) => respond_on(rt, alloc, board, threads, epochs, gate, writer, watcher),
+            Err(_) => Err(Fault::NoMemory),
+        }
     }
 }
 

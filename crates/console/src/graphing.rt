@@ -10,7 +10,7 @@ ghost use Rattle.diagnostics.specs.declared.fault.Fault.TheVariants as fault;
 
 use crate::compiling::compile;
 use crate::fault::graph_fault;
-use crate::running::read_query;
+use crate::reading::read_query;
 use crate::writing::write_text;
 use collector::Watched;
 use command_line::GraphForm;

@@ -12,7 +12,7 @@ ghost use Rattle.diagnostics.specs.declared.fault.Fault.TheVariants as fault;
 use crate::checking::arities_of;
 use crate::compiling::typed_program;
 use crate::fault::{input_fault, query_fault};
-use crate::running::{read_input_text, read_query};
+use crate::reading::read_texts;
 use crate::writing::write_text;
 use collector::{Declared, Watched, read_input};
 use diagnostics::{Fault, Texts};
@@ -103,12 +103,8 @@ pub fn check_input<A: Allocator + Copy, Q: Read, I: Read, W: Write>(
     ensures kept_query { KeepsQuery (Q.remaining (inner_of query.old)) result texts.new.query.items }
     ensures kept_input { KeepsInput (I.remaining (inner_of input.old)) result texts.new.input.items }
 {
-    match read_query(alloc, query) {
-        Ok(text) => texts.query = text,
-        Err(fault) => return Err(fault),
-    }
-    match read_input_text(alloc, input) {
-        Ok(text) => texts.input = text,
+    match read_texts(alloc, query, input, texts) {
+        Ok(()) => {}
         Err(fault) => return Err(fault),
     }
     write_checked(alloc, arena, &texts.query, &texts.input, writer)

@@ -28,6 +28,7 @@ mod graph_answer;
 mod graphing;
 mod input_check;
 mod laws;
+mod reading;
 mod replaying;
 mod running;
 mod sources;

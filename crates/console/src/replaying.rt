@@ -9,7 +9,8 @@ ghost use Rattle.console.specs.Runs.{IsAfterReading};
 ghost use Rattle.diagnostics.specs.declared.fault.Fault.TheVariants as fault;
 
 use crate::fault::schedule_fault;
-use crate::running::{graph_of_text, read_input_text, read_query};
+use crate::reading::read_texts;
+use crate::running::graph_of_text;
 use crate::writing::write_text;
 use collector::Watched;
 use command_line::Workers;
@@ -85,12 +86,8 @@ pub fn replay_schedule<Q: Read, S: Read, W: Write>(
     ensures kept_query { KeepsQuery (Q.remaining (inner_of query.old)) result texts.new.query.items }
     ensures kept_schedule { KeepsInput (S.remaining (inner_of schedule.old)) result texts.new.input.items }
 {
-    match read_query(alloc, query) {
-        Ok(text) => texts.query = text,
-        Err(fault) => return Err(fault),
-    }
-    match read_input_text(alloc, schedule) {
-        Ok(text) => texts.input = text,
+    match read_texts(alloc, query, schedule, texts) {
+        Ok(()) => {}
         Err(fault) => return Err(fault),
     }
     write_replayed(alloc, workers, kind, &texts.query, &texts.input, writer)

@@ -1,6 +1,6 @@
 //! A run, from bytes to bytes.
 
-ghost use Rattle.std.specs.Prelude.{◌≡◌, ◌≤◌, length, true, map, IfOk, IfErr, IfSome, IsErrOf};
+ghost use Rattle.std.specs.Prelude.{◌≡◌, ◌≤◌, length, true, map, IfOk, IfErr, IsErrOf};
 ghost use Rattle.graph.specs.Shown.{shown_graph, shown_inputs, shown_names};
 ghost use Rattle.graph.specs.Views.{input_of};
 ghost use Rattle.collector.specs.InputText.{IsReadFrom, IsRefused};
@@ -8,55 +8,24 @@ ghost use Rattle.collector.specs.Said.{plain};
 ghost use Rattle.collector.specs.Watching.{has_failed, inner_of};
 ghost use Rattle.console.specs.Compiled.{IsCompiled, IsQueryFault};
 ghost use Rattle.console.specs.Heeded.{Heeds};
-ghost use Rattle.console.specs.Readings.{HeedsOver, KeepsInput, KeepsQuery, RunsOver, read_part};
-ghost use Rattle.console.specs.Runs.{Ends, IsAfterReading, IsUnreadInput, IsUnreadQuery};
+ghost use Rattle.console.specs.Readings.{HeedsOver, KeepsInput, KeepsQuery, RunsOver};
+ghost use Rattle.console.specs.Runs.{Ends, IsAfterReading};
 ghost use Rattle.diagnostics.specs.declared.fault.Fault.TheVariants as fault;
 
 use crate::compiling::compile;
 use crate::fault::{graph_fault, input_fault};
 use crate::graph_answer::respond;
+use crate::reading::read_texts;
 use bumpalo::Bump;
-use collector::{
-    Declared, Epochs, InputRefusal, ReadFault, Watched, read_all, read_at_most, read_input,
-};
+use collector::{Declared, Epochs, InputRefusal, Watched, read_input};
 use command_line::Workers;
 use diagnostics::{Fault, Texts};
 use execution::Watcher;
 use graph::{DeclaredInput, Graph};
-use lexer::MAX_LENGTH;
 use std::alloc::{AllocError, Global};
 use std::io::{Read, Write};
 use std::sync::Wait;
 use std::thread::Threads;
-
-/// The longest query text, in bytes, and one byte more: enough to show that a text is too long.
-const QUERY_LIMIT: usize = MAX_LENGTH + 1;
-
-/// Reads a query text, and no byte past the limit.
-pub fn read_query<Q: Read>(alloc: Global, query: &mut Watched<Q>) -> Result<Vec<u8>, Fault>
-    ensures bytes { IfOk result (λ v. IfSome (Q.remaining (inner_of query.old)) (λ q. v.items ≡ read_part q)) }
-    ensures failed { IsErrOf result fault.ReadQuery → has_failed query.new ≡ true }
-    ensures unread { IfErr result IsUnreadQuery }
-{
-    match read_at_most(alloc, QUERY_LIMIT, query) {
-        Ok(bytes) => Ok(bytes),
-        Err(ReadFault::Failed) => Err(Fault::ReadQuery),
-        Err(ReadFault::NoMemory) => Err(Fault::NoMemory),
-    }
-}
-
-/// Reads an input text, or a schedule.
-pub fn read_input_text<I: Read>(alloc: Global, input: &mut Watched<I>) -> Result<Vec<u8>, Fault>
-    ensures bytes { IfOk result (λ v. IfSome (I.remaining (inner_of input.old)) (λ i. v.items ≡ i)) }
-    ensures failed { IsErrOf result fault.ReadInput → has_failed input.new ≡ true }
-    ensures unread { IfErr result IsUnreadInput }
-{
-    match read_all(alloc, input) {
-        Ok(bytes) => Ok(bytes),
-        Err(ReadFault::Failed) => Err(Fault::ReadInput),
-        Err(ReadFault::NoMemory) => Err(Fault::NoMemory),
-    }
-}
 
 /// The inputs of a query as the reader of texts takes them.
 fn inputs_of<'a>(
@@ -156,12 +125,8 @@ pub fn run<R: Threads + Wait + Sync, Q: Read, I: Read, W: Write, O: Write + Send
     ensures kept_query { KeepsQuery (Q.remaining (inner_of query.old)) result texts.new.query.items }
     ensures kept_input { KeepsInput (I.remaining (inner_of input.old)) result texts.new.input.items }
 {
-    match read_query(alloc, query) {
-        Ok(text) => texts.query = text,
-        Err(fault) => return Err(fault),
-    }
-    match read_input_text(alloc, input) {
-        Ok(text) => texts.input = text,
+    match read_texts(alloc, query, input, texts) {
+        Ok(()) => {}
         Err(fault) => return Err(fault),
     }
     answer(
