@@ -50,7 +50,8 @@ pub record IsOwn (s : Shown) (x : Side) (j : Job) : Type 0 where
   pub wired : j.wired ≡ x.wired
   pub vertex : event_at (shown_graph s.graph) j.happening < length (shown_graph s.graph)
   pub away : slice_index_or x.shards (event_at (shown_graph s.graph) j.happening) None ≡ None
-  pub others : (v : ℕ) → v < length (shown_graph s.graph) → v ≢ event_at (shown_graph s.graph) j.happening → (y : Shard) × (slice_index_or x.shards v None ≡ Some y)
+  pub others : (v : ℕ) → v < length (shown_graph s.graph) → v ≢ event_at (shown_graph s.graph) j.happening
+      → (y : Shard) × (slice_index_or x.shards v None ≡ Some y)
 
 -- the worker is wired for this graph and that many workers and has a shard of each vertex, and any event that is out is its own
 pub record IsSideOf (s : Shown) (workers : ℕ) (x : Side) : Type 0 where
