@@ -1,9 +1,9 @@
 //! Writes what a schedule prints.
 
-ghost use Rattle.std.specs.Prelude.{◌≡◌, ◌++◌, OnOk, decimal, map};
+ghost use Rattle.std.specs.Prelude.{◌≡◌, ◌++◌, ℕ, List, OnOk, decimal, map};
 ghost use Rattle.board.specs.Promises.{IsOutputPlace};
 ghost use Rattle.graph.specs.Views.{name_of_output};
-ghost use Rattle.collector.specs.OutputText.{AppendsText, is_plain, label_of};
+ghost use Rattle.collector.specs.OutputText.{is_plain, label_of};
 ghost use Rattle.replay.specs.Replays.{PrintsAnswer, PrintsOutput, heading, refusal_line};
 ghost use Rattle.replay.specs.Steps.{ShowsState, setting_of, word_of};
 ghost use Rattle.replay.specs.Waits.{State};
@@ -87,7 +87,7 @@ fn push_output<V: Views>(
     out: &mut Vec<u8>,
 ) -> Result<(), AllocError>
     requires { IsOutputPlace board.now.shown output }
-    ensures { OnOk result (AppendsText out.old.items out.new.items (λ text. (x : State) → ShowsState board.now x →
+    ensures { OnOk result ((text : List ℕ) × (out.new.items ≡ out.old.items ++ text) × ((x : State) → ShowsState board.now x →
         PrintsOutput (setting_of V.late board.now.shown) x epoch output (label_of plain name.now) text)) }
 {
     board.law_headline();
@@ -105,7 +105,7 @@ pub fn push_answer<V: Views>(
     epoch: u32,
     out: &mut Vec<u8>,
 ) -> Result<(), AllocError>
-    ensures { OnOk result (AppendsText out.old.items out.new.items (λ text. (x : State) → ShowsState board.now x →
+    ensures { OnOk result ((text : List ℕ) × (out.new.items ≡ out.old.items ++ text) × ((x : State) → ShowsState board.now x →
         PrintsAnswer (setting_of V.late board.now.shown) x epoch text)) }
 {
     let outputs = board.graph().outputs();

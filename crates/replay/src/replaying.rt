@@ -1,7 +1,6 @@
 //! Runs a schedule.
 
-ghost use Rattle.std.specs.Prelude.{◌≡◌, map, length, IfOk, OnOk};
-ghost use Rattle.collector.specs.OutputText.{AppendsText};
+ghost use Rattle.std.specs.Prelude.{◌≡◌, ◌++◌, ℕ, List, map, length, IfOk, OnOk};
 ghost use Rattle.collector.specs.Said.{plain};
 ghost use Rattle.schedule.specs.LineReader.{command_of};
 ghost use Rattle.replay.specs.Hands.{HoldsAll, HoldsNone, IsHand};
@@ -60,7 +59,8 @@ fn replay_line<V: Views>(
     requires hand { IsHand board.old.shown hand.old }
     ensures hand { IsHand board.new.shown hand.new }
     ensures graph { board.new.shown.graph ≡ board.old.shown.graph }
-    ensures line { OnOk result (AppendsText out.old.items out.new.items (Leads V.late board.old board.new hand.old hand.new (command_of line.now))) }
+    ensures line { OnOk result ((text : List ℕ) × (out.new.items ≡ out.old.items ++ text) ×
+        Leads V.late board.old board.new hand.old hand.new (command_of line.now) text) }
 {
     if let Line::Print { epoch } = line {
         push_answer(alloc, board, *epoch, out)?;
