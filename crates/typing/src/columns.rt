@@ -1,5 +1,5 @@
 //! The first column that a relation hasn't, from left to right.
-#![tactic(auto, using(crate::proofs::Beyond::columns))]
+#![tactic(auto, using(crate::proofs::ColumnsBeyond::columns))]
 
 ghost use Rattle.std.specs.Prelude.{◌≡◌, map, flat_map, cond, nat_lt, Some, None};
 ghost use Rattle.expr_tree.specs.Views.{scalar_tree, cond_tree};
