@@ -1,6 +1,5 @@
 //! Counts how long each worker's view hasn't been brought up to date.
 
-
 use expr_tree::NoMemory;
 use std::alloc::Global;
 
