@@ -9,6 +9,7 @@ use Rattle.machine.specs.Active.{active_count}
 use Rattle.machine.specs.Step.{Step, Allowed, after_step}
 use Rattle.machine.specs.Run.{Run}
 use Rattle.machine.specs.Engine.{network}
+use Rattle.exchange.specs.Limits.{max_workers}
 use Rattle.board.specs.Shown.{EmitsBehind, InputShown, Shown, net}
 use Rattle.machine.specs.InTransit.{FedFits}
 use Rattle.semantics.specs.PortArity.{IsTyped}
@@ -25,7 +26,7 @@ open_count (x ∷ xs) = cond x.closed 0 1 + open_count xs
 pub record IsKept (graph : Graph) (content : Pointstamp → ℕ) (s : Shown) : Type 0 where
   pub flows : IsDataflow (shown_graph s.graph)
   pub some : 0 < length s.sides
-  pub few : length s.sides ≤ 64
+  pub few : length s.sides ≤ max_workers
   pub same : graph ≡ shown_graph s.graph
   pub inputs : length s.inputs ≡ input_count (shown_graph s.graph)
   pub room : length s.emitted ≡ length (shown_graph s.graph)

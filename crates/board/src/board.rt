@@ -10,6 +10,7 @@ ghost use Rattle.semantics.specs.Query.{Program};
 ghost use Rattle.semantics.specs.Time.{at_epoch};
 ghost use Rattle.machine.specs.Step.{Step};
 ghost use Rattle.machine.specs.World.{opening};
+ghost use Rattle.exchange.specs.Limits.{max_workers};
 ghost use Rattle.board.specs.Answers.{AnswersOnly, AnswersOr, Claims, Commits, Hands, HasChoice, HasNoChoice};
 ghost use Rattle.board.specs.Answers.{Holds, IfNothing, Merges, feed_refusal, input_refusal, seal_refusal};
 ghost use Rattle.board.specs.Kept.{Goes};
@@ -107,7 +108,7 @@ impl Board<Direct<LocationTracker>> {
         workers: u32,
     ) -> Result<Board<Direct<LocationTracker>>, NoMemory>
         requires some { 0 < workers }
-        requires few { workers ≤ 64 }
+        requires few { workers ≤ max_workers }
         ensures opening { IfOk result (λ b. IsOpening graph.value workers b.shown) }
         ensures shows { IfOk result (λ b. Shows b.shown opening) }
         ensures prompt { IfOk result (λ b. AreUpToDate b) }
@@ -128,7 +129,7 @@ impl Board<LocalViews> {
         workers: u32,
     ) -> Result<Board<LocalViews>, NoMemory>
         requires some { 0 < workers }
-        requires few { workers ≤ 64 }
+        requires few { workers ≤ max_workers }
         ensures opening { IfOk result (λ b. IsOpening graph.value workers b.shown) }
         ensures shows { IfOk result (λ b. Shows b.shown opening) }
         ensures prompt { IfOk result (λ b. AreUpToDate b) }
@@ -150,7 +151,7 @@ impl<V: Views> Board<V> {
         mut views: V,
     ) -> Result<Board<V>, NoMemory>
         requires some { 0 < workers }
-        requires few { workers ≤ 64 }
+        requires few { workers ≤ max_workers }
         requires same { V.graph views ≡ shown_graph graph.value }
         requires viewers { V.workers views ≡ workers }
         requires first { (q : Active) → V.content views q ≡ active_at_first (shown_graph graph.value) q }

@@ -2,6 +2,7 @@
 
 ghost use Rattle.std.specs.Prelude.{◌≡◌, ◌≢◌, ◌<◌, ◌≤◌, ◌+◌, ℕ, [], length, vec_capacity, OnOk};
 ghost use Rattle.semantics.specs.Could.{Pointstamp as Active};
+ghost use Rattle.graph.specs.Limits.{max_vertices};
 ghost use Rattle.progress.specs.Content.{times_in};
 ghost use Rattle.events.specs.Happenings.{requests_of};
 ghost use Rattle.board.specs.Desks.{AreWithin, HasRoom, desk_in, letters_count, requests_count, sides_of};
@@ -94,7 +95,7 @@ pub fn prepare_views<V: Views>(
     closing: u32,
 ) -> Result<(), AllocError>
     requires few { count ≤ 524289 }
-    requires closing { closing ≤ 4096 }
+    requires closing { closing ≤ max_vertices }
     ensures graph { V.graph views.new ≡ V.graph views.old }
     ensures workers { V.workers views.new ≡ V.workers views.old }
     ensures content { (q : Active) → V.content views.new q ≡ V.content views.old q }

@@ -52,6 +52,7 @@
 mod applying;
 mod board;
 mod choices;
+mod codes;
 mod delivery;
 mod emitted;
 mod epochs;
@@ -70,6 +71,7 @@ mod state;
 mod worker;
 
 pub use board::{Board, Claimed, CommitRefusal};
+pub use codes::WRONG_FIELD_COUNT;
 pub use gathering::gather;
 pub use look::{Look, OutputLook};
 pub use refusal::StepRefusal;

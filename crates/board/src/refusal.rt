@@ -3,6 +3,10 @@
 ghost use Rattle.std.specs.Prelude.{◌≡◌, ◌≢◌, Some};
 ghost use Rattle.board.specs.Codes.{refusal_code};
 
+use crate::codes::{
+    HOLDS_EVENT, INPUT_CLOSED, LAST_EPOCH, NO_SUCH_EVENT, STOPPED, UNKNOWN_INPUT, WRONG_FIELD_COUNT,
+};
+
 /// Why a call was refused. A refused call leaves the board unchanged.
 #[derive(Clone, Copy, Debug, PartialEq, Eq)]
 pub enum StepRefusal {
@@ -31,13 +35,13 @@ impl StepRefusal {
         ensures { refusal_code self ≡ Some result }
     {
         match self {
-            StepRefusal::InputClosed => 31,
-            StepRefusal::UnknownInput => 32,
-            StepRefusal::WrongFieldCount => 33,
-            StepRefusal::NoSuchEvent => 34,
-            StepRefusal::HoldsEvent => 35,
-            StepRefusal::Stopped => 37,
-            StepRefusal::LastEpoch => 38,
+            StepRefusal::InputClosed => INPUT_CLOSED,
+            StepRefusal::UnknownInput => UNKNOWN_INPUT,
+            StepRefusal::WrongFieldCount => WRONG_FIELD_COUNT,
+            StepRefusal::NoSuchEvent => NO_SUCH_EVENT,
+            StepRefusal::HoldsEvent => HOLDS_EVENT,
+            StepRefusal::Stopped => STOPPED,
+            StepRefusal::LastEpoch => LAST_EPOCH,
             StepRefusal::NoMemory => unreachable!(),
         }
     }

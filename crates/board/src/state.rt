@@ -3,10 +3,12 @@
 ghost use Rattle.std.specs.Prelude.{◌≡◌, ◌≢◌, ◌+◌, ◌<◌, ◌≤◌, ℕ, [], length, map, slice_index_or, None, MatchBool, OnOk, OnErr, IfOk, IfErr, IfSome, IfNone};
 ghost use Rattle.semantics.specs.Could.{Pointstamp as Active};
 ghost use Rattle.semantics.specs.Graph.{input_count, output_number, output_numbers, target, Graph as Definition};
+ghost use Rattle.exchange.specs.Limits.{max_workers};
 ghost use Rattle.tokens.specs.declared.rule.Place.TheVariants.{Home, Out};
 ghost use Rattle.board.specs.Claims.{HandsMessage, HandsRequest, MergesMail};
 ghost use Rattle.graph.specs.Locations.{IsIn, location_of};
 ghost use Rattle.graph.specs.Shown.{shown_graph};
+ghost use Rattle.graph.specs.Limits.{max_vertices};
 ghost use Rattle.board.specs.Answers.{input_refusal};
 ghost use Rattle.board.specs.Commits.{FeedsBy, IsOf, SettlesBy};
 ghost use Rattle.board.specs.Desks.{is_out};
@@ -84,7 +86,7 @@ impl State {
     /// A new state of a graph and that many workers, with nothing done yet.
     pub fn opening(alloc: Global, graph: Arc<Graph, Global>, count: u32) -> Result<State, NoMemory>
         requires some { 0 < count }
-        requires few { count ≤ 64 }
+        requires few { count ≤ max_workers }
         ensures { IfOk result (λ s. IsNew graph.value count s) }
     {
         let inputs = new_inputs(alloc, graph.input_count())?;
@@ -132,7 +134,7 @@ impl State {
     /// The number of outputs.
     pub fn output_count(&self) -> usize
         ensures value { result ≡ length (output_numbers (shown_graph self.now.graph)) }
-        ensures few { result ≤ 4096 }
+        ensures few { result ≤ max_vertices }
     {
         let graph = self.wiring.graph();
         let _few = graph.vertex_count();
@@ -380,7 +382,7 @@ impl State {
         requires there { worker < length self.old.sides }
         requires free { (side_at self.old worker).place ≡ Home }
         requires some { place < length (side_at self.old worker).mail }
-        requires few { worker < 64 }
+        requires few { worker < max_workers }
         requires kept { (graph : Definition) × (content : Active → ℕ) × IsKept graph content self.old }
         ensures hands { HandsMessage self.old self.new worker place result.0 }
         ensures whole { result.1 ≡ None }
@@ -396,7 +398,7 @@ impl State {
         requires there { worker < length self.old.sides }
         requires free { (side_at self.old worker).place ≡ Home }
         requires some { place < length (side_at self.old worker).requests }
-        requires few { worker < 64 }
+        requires few { worker < max_workers }
         requires kept { (graph : Definition) × (content : Active → ℕ) × IsKept graph content self.old }
         ensures hands { HandsRequest self.old self.new worker place result.0 }
         ensures whole { result.1 ≡ None }

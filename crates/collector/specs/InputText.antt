@@ -5,6 +5,7 @@ use Rattle.semantics.specs.Multiset.{◌≈◌}
 use Rattle.collector.specs.ReadEpochs.{epoch_count, records_at}
 use Rattle.collector.specs.Pieces.{split_on}
 use Rattle.collector.specs.Lines.{Item, Says, IsFault, code_of}
+use Rattle.collector.specs.declared.codes.TheConstants.{NO_LINE_FEED}
 use Rattle.collector.specs.declared.epochs.Epochs.{Epochs}
 use Rattle.collector.specs.declared.refusal.Fault.{Fault}
 use Rattle.collector.specs.declared.refusal.InputRefusal.{InputRefusal}
@@ -55,5 +56,5 @@ IsRefused inputs text NoMemory = Unit {0}
 IsRefused inputs text (At code number) =
     (before : List (List ℕ)) × (items : List Item) × LinesSay inputs 0 before items × (number ≡ length before + 1)
     × (line : List ℕ) × (rest : List (List ℕ)) × (split_on 10 text ≡ before ++ line ∷ rest)
-    × (((code ≡ 43) × (0 < length line) × (rest ≡ []))
+    × (((code ≡ NO_LINE_FEED) × (0 < length line) × (rest ≡ []))
     ⊎ ((fault : Fault) × (code ≡ code_of fault) × (0 < length rest) × IsFault inputs (epochs_after 0 items) line fault))

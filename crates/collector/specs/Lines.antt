@@ -7,6 +7,7 @@ use Rattle.record_core.specs.Names.{begins_name, is_name_byte}
 use Rattle.record_core.specs.Records.{IsRecord}
 use Rattle.semantics.specs.Query.{Input}
 use Rattle.collector.specs.Pieces.{split_on}
+use Rattle.collector.specs.declared.codes.TheConstants.{NO_EPOCH, UNKNOWN_INPUT, BAD_NUMBER, WRONG_FIELDS, MALFORMED, TOO_MANY_EPOCHS}
 use Rattle.collector.specs.declared.refusal.Fault.{Fault}
 use Rattle.collector.specs.declared.refusal.Fault.TheVariants.{Malformed, TooManyEpochs, NoEpoch, Unknown, BadNumber, WrongFields}
 
@@ -76,9 +77,9 @@ IsFault inputs epochs line WrongFields =
 
 -- the code of a fault
 abbrev pub code_of : Fault → ℕ
-code_of NoEpoch = 41
-code_of Unknown = 42
-code_of BadNumber = 44
-code_of WrongFields = 45
-code_of Malformed = 46
-code_of TooManyEpochs = 47
+code_of NoEpoch = NO_EPOCH
+code_of Unknown = UNKNOWN_INPUT
+code_of BadNumber = BAD_NUMBER
+code_of WrongFields = WRONG_FIELDS
+code_of Malformed = MALFORMED
+code_of TooManyEpochs = TOO_MANY_EPOCHS

@@ -24,7 +24,7 @@ impl Epochs {
 
     /// The records of an input in an epoch, in batches of at most 16,384; a batch stores equal records once, with a count. None if there is no such
     /// input or epoch.
-    pub fn batches(&self, epoch: u32, input: u32) -> &[Batch]
+    pub fn batches(&self, input: u32, epoch: u32) -> &[Batch]
         ensures { joined result.now ≡ records_at self.now epoch input }
     {
         match self.tracks.get(input as usize) {

@@ -7,6 +7,7 @@
 #![tactic(auto)]
 
 mod bytes;
+mod codes;
 mod draft;
 mod epochs;
 mod first_line;
@@ -25,6 +26,7 @@ mod watched;
 mod writing;
 
 pub use bytes::{ReadFault, read_all, read_at_most};
+pub use codes::{BAD_NUMBER, MALFORMED, NO_LINE_FEED};
 pub use epochs::Epochs;
 pub use first_line::{Stop, next_line};
 pub use laws::{law_one_answer, law_one_reading};

@@ -5,6 +5,7 @@ ghost use Rattle.collector.specs.DraftGrowth.{CanTake, IsEven, Takes};
 ghost use Rattle.collector.specs.InputText.{IsReadFrom, IsRefused};
 ghost use Rattle.collector.specs.Said.{item_of, plain};
 
+use crate::codes::NO_LINE_FEED;
 use crate::draft::Draft;
 use crate::epochs::Epochs;
 use crate::first_line::{Stop, next_line};
@@ -12,9 +13,6 @@ use crate::line::{Declared, Line};
 use crate::refusal::InputRefusal;
 use rows::RowsError;
 use std::alloc::Global;
-
-/// The code for a last line without line feed.
-const NO_LINE_FEED: u8 = 43;
 
 /// Adds what a line says to the draft. The fields of a record are in the buffer.
 fn take_line(alloc: Global, draft: &mut Draft, said: Line, fields: &[i64]) -> Result<(), RowsError>

@@ -4,6 +4,7 @@ ghost use Rattle.std.specs.Prelude.{◌≡◌};
 ghost use Rattle.collector.specs.Lines.{code_of};
 ghost use Rattle.collector.specs.declared.refusal.InputRefusal.TheVariants.{NoMemory};
 
+use crate::codes::{BAD_NUMBER, MALFORMED, NO_EPOCH, TOO_MANY_EPOCHS, UNKNOWN_INPUT, WRONG_FIELDS};
 use rows::RowsError;
 use std::alloc::{AllocError, AllocFailed};
 
@@ -30,17 +31,17 @@ impl Fault {
         ensures { result ≡ code_of self }
     {
         match self {
-            Fault::NoEpoch => 41,
-            Fault::Unknown => 42,
-            Fault::BadNumber => 44,
-            Fault::WrongFields => 45,
-            Fault::Malformed => 46,
-            Fault::TooManyEpochs => 47,
+            Fault::NoEpoch => NO_EPOCH,
+            Fault::Unknown => UNKNOWN_INPUT,
+            Fault::BadNumber => BAD_NUMBER,
+            Fault::WrongFields => WRONG_FIELDS,
+            Fault::Malformed => MALFORMED,
+            Fault::TooManyEpochs => TOO_MANY_EPOCHS,
         }
     }
 }
 
-/// The first faulty line of an input text, counted from 1, with the code of its fault (43 for a last line without line feed); or lack of memory.
+/// The first faulty line of an input text, counted from 1, with the code of its fault (`NO_LINE_FEED` for a last line without line feed); or lack of memory.
 #[derive(Clone, Copy, Debug, PartialEq, Eq)]
 pub enum InputRefusal {
     At { code: u8, line: u64 },

@@ -134,7 +134,7 @@ fn reads(rt: HostRuntime) -> Result<(), Fail> {
     let epochs = read(&rt, text.as_slice())?;
     assert_eq!(rt; epochs.count(), 2);
     assert_eq!(rt; epochs.batches(0, 0).len(), 0);
-    let all = epochs.batches(1, 0);
+    let all = epochs.batches(0, 1);
     assert_eq!(rt; all.len(), 1);
     let all = &all[0];
     assert_eq!(rt; (all.len(), all.weight()), (2, 3));
@@ -145,8 +145,8 @@ fn reads(rt: HostRuntime) -> Result<(), Fail> {
     let pairs = &pairs[0];
     assert_eq!(rt; pairs.len(), 1);
     assert_eq!(rt; pairs.row(0), [i64::MAX, i64::MIN].as_slice());
-    assert_eq!(rt; epochs.batches(2, 0).len(), 0);
     assert_eq!(rt; epochs.batches(0, 2).len(), 0);
+    assert_eq!(rt; epochs.batches(2, 0).len(), 0);
     let none = read(&rt, b"")?;
     assert_eq!(rt; none.count(), 0);
     Ok(())

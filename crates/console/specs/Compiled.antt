@@ -5,6 +5,7 @@ use Rattle.semantics.specs.Query.{Input, Name, Program}
 use Rattle.semantics.specs.Rewriting.{IsNormalForm}
 use Rattle.semantics.specs.Graph.{Graph}
 use Rattle.semantics.specs.Lower.{lowered}
+use Rattle.graph.specs.Limits.{max_vertices}
 use Rattle.lowering.specs.Computing.{Computes}
 use Rattle.console.specs.Queries.{IsQuery, IsRefusal, output_names}
 use Rattle.console.specs.declared.fault.CompileFault.{CompileFault}
@@ -26,17 +27,17 @@ pub record IsCompiled (text : List ℕ) (g : Graph) (inputs : List Input) (outpu
   pub named_outputs : outputs ≡ output_names program
   pub computes : Computes g program
 
--- the text is a well-typed program, and the graph of the normal form that it rewrites to has more than 4096 vertices
+-- the text is a well-typed program, and the graph of the normal form that it rewrites to has over `max_vertices` vertices
 pub record IsTooLarge (text : List ℕ) : Type 0 where
   pub program : Program
   pub reads : IsQuery text program
   pub rewritten : Program
   pub normal : IsNormalForm rewritten program
-  pub large : 4096 < length (lowered rewritten)
+  pub large : max_vertices < length (lowered rewritten)
 
--- the text is a query whose graph has at most 4096 vertices
+-- the text is a query whose graph has at most `max_vertices` vertices
 abbrev pub IsTaken : List ℕ → Type 0
-IsTaken text = (g : Graph) × (inputs : List Input) × (outputs : List Name) × IsCompiled text g inputs outputs × (length g ≤ 4096)
+IsTaken text = (g : Graph) × (inputs : List Input) × (outputs : List Name) × IsCompiled text g inputs outputs × (length g ≤ max_vertices)
 
 -- why a query text has no graph
 abbrev pub IsUncompiled : List ℕ → CompileFault → Type 0

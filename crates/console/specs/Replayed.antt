@@ -3,6 +3,7 @@ use Rattle.std.specs.Prelude.{◌≡◌, ◌≤◌, ℕ, List, length, Option, R
 use Rattle.std.specs.Io.KnownBytes.{Appends}
 use Rattle.semantics.specs.Query.{Input as Declared, Name}
 use Rattle.semantics.specs.Graph.{Graph}
+use Rattle.graph.specs.Limits.{max_vertices}
 use Rattle.collector.specs.WrittenBytes.{AppendsFront}
 use Rattle.schedule.specs.Commands.{Command}
 use Rattle.schedule.specs.ScheduleText.{IsRefused, IsScheduleText}
@@ -22,7 +23,7 @@ pub record IsReplay (query : List ℕ) (workers : ℕ) (kind : ViewKind) (schedu
   pub inputs : List Declared
   pub outputs : List Name
   pub compiled : IsCompiled query graph inputs outputs
-  pub few : length graph ≤ 4096
+  pub few : length graph ≤ max_vertices
   pub commands : List Command
   pub read : IsScheduleText kind schedule commands
   pub last : State

@@ -6,6 +6,7 @@ ghost use Rattle.semantics.specs.Rewriting.{IsNormalForm};
 ghost use Rattle.semantics.specs.Typing.{WellTyped};
 ghost use Rattle.typing.specs.Shown.{typed_program as shown_program, output_arities};
 ghost use Rattle.graph.specs.Shown.{shown_graph, shown_inputs, shown_names};
+ghost use Rattle.graph.specs.Limits.{max_vertices};
 ghost use Rattle.console.specs.Compiled.{IsCompiled, IsUncompiled};
 ghost use Rattle.console.specs.Queries.{IsRefusal, IsTypedQuery};
 
@@ -58,7 +59,7 @@ pub fn compile<A: Allocator + Copy>(
     text: &[u8],
 ) -> Result<Graph, CompileFault>
     ensures graph { IfOk result (λ g. IsCompiled text.now (shown_graph g) (shown_inputs g) (shown_names g)) }
-    ensures few { IfOk result (λ g. length (shown_graph g) ≤ 4096) }
+    ensures few { IfOk result (λ g. length (shown_graph g) ≤ max_vertices) }
     ensures fault { IfErr result (IsUncompiled text.now) }
 {
     let typed = match typed_program(alloc, arena, text) {

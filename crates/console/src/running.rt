@@ -3,6 +3,7 @@
 ghost use Rattle.std.specs.Prelude.{◌≡◌, ◌≤◌, length, true, map, IfOk, IfErr, IsErrOf};
 ghost use Rattle.graph.specs.Shown.{shown_graph, shown_inputs, shown_names};
 ghost use Rattle.graph.specs.Views.{input_of};
+ghost use Rattle.graph.specs.Limits.{max_vertices};
 ghost use Rattle.collector.specs.InputText.{IsReadFrom, IsRefused};
 ghost use Rattle.collector.specs.Said.{plain};
 ghost use Rattle.collector.specs.Watching.{has_failed, inner_of};
@@ -47,7 +48,7 @@ fn inputs_of<'a>(
 /// The graph of a query text; its tree is gone.
 pub fn graph_of_text(alloc: Global, query: &[u8]) -> Result<Graph, Fault>
     ensures graph { IfOk result (λ g. IsCompiled query.now (shown_graph g) (shown_inputs g) (shown_names g)) }
-    ensures few { IfOk result (λ g. length (shown_graph g) ≤ 4096) }
+    ensures few { IfOk result (λ g. length (shown_graph g) ≤ max_vertices) }
     ensures fault { IfErr result (IsQueryFault query.now) }
 {
     let arena = Bump::new(alloc);

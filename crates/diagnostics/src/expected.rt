@@ -2,7 +2,7 @@
 
 use crate::display::separator;
 use bumpalo::Bump;
-use parser::parse;
+use parser::{UNEXPECTED, parse};
 use record_core::Refusal;
 use std::alloc::{AllocError, Global};
 use std::io::Write;
@@ -125,7 +125,7 @@ fn follows(alloc: Global, before: &[u8], word: &str) -> Result<bool, AllocError>
         Ok(_) => Ok(true),
         Err(Refusal::NoMemory) => Err(AllocError),
         Err(Refusal::At { code, span }) => {
-            Ok(code != 4 || span.start as usize != before.len().saturating_add(1))
+            Ok(code != UNEXPECTED || span.start as usize != before.len().saturating_add(1))
         }
     }
 }

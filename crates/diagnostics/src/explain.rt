@@ -1,5 +1,6 @@
 //! Explains a fault by the texts in which it was found.
 
+use crate::codes::TOO_MANY_VERTICES;
 use crate::excerpt::{numbered_line, write_marked, write_numbered};
 use crate::fault::Fault;
 use crate::input_fault::write_input_fault;
@@ -32,7 +33,7 @@ pub fn explain_fault<W: Write>(
             write_marked(&texts.query, span, writer)?;
             write_query_fault(alloc, &texts.query, *code, span, writer)
         }
-        Fault::TooManyVertices => write_summary(21, writer),
+        Fault::TooManyVertices => write_summary(TOO_MANY_VERTICES, writer),
         Fault::Count => write_summary(39, writer),
         Fault::Input { code, line } => {
             let faulty = numbered_line(&texts.input, texts.input_from, *line);

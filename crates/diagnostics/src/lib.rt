@@ -9,6 +9,7 @@
 #![tactic(auto)]
 
 mod bracket;
+mod codes;
 mod display;
 mod excerpt;
 mod expected;

@@ -1,3 +1,4 @@
+pub mod Limits
 pub mod Hashes
 pub mod Homes
 pub mod Parts

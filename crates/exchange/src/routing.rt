@@ -5,6 +5,7 @@ ghost use Rattle.semantics.specs.Meaning.{field as column_of, project};
 ghost use Rattle.semantics.specs.Route.{route as route_of};
 ghost use Rattle.exchange.specs.Homes.{home_of};
 ghost use Rattle.exchange.specs.Hashes.{step};
+ghost use Rattle.exchange.specs.Limits.{max_workers};
 
 use rows::field;
 
@@ -26,7 +27,7 @@ pub enum Routing {
 #[tactic(auto, using(crate::proofs::Folds::route_folds))]
 pub fn route(key: &[i64], workers: u32) -> u32
     requires some { 0 < workers }
-    requires fits { workers ≤ 64 }
+    requires fits { workers ≤ max_workers }
     ensures value { result ≡ route_of key.now workers }
     ensures there { result < workers }
 {
@@ -63,7 +64,7 @@ fn hash_step(hash: u64, value: i64) -> u64
 #[tactic(auto, using(crate::proofs::Folds::route_projects))]
 fn route_columns(columns: &[u64], row: &[i64], workers: u32) -> u32
     requires some { 0 < workers }
-    requires fits { workers ≤ 64 }
+    requires fits { workers ≤ max_workers }
     ensures value { result ≡ route_of (project columns.now row.now) workers }
     ensures there { result < workers }
 {
@@ -73,7 +74,7 @@ fn route_columns(columns: &[u64], row: &[i64], workers: u32) -> u32
 impl Routing {
     /// The worker, out of 1 to 64, to which a record from `sender` goes. Takes no memory.
     pub fn home(&self, workers: u32, sender: u32, row: &[i64]) -> u32
-        requires fits { workers ≤ 64 }
+        requires fits { workers ≤ max_workers }
         requires sender { sender < workers }
         ensures value { result ≡ home_of self.now workers sender row.now }
         ensures there { result < workers }

@@ -7,6 +7,7 @@ ghost use Rattle.rows.specs.Indexes.{AreDifferent};
 ghost use Rattle.rows.specs.Counts.{AreRuns, expanded, no_run, rows_of, runs};
 ghost use Rattle.exchange.specs.Homes.{home_of};
 ghost use Rattle.exchange.specs.Parts.{AllGoTo, AreAllDifferent, parcel, parcels, no_rows, IsSpread, gathered, from_all};
+ghost use Rattle.exchange.specs.Limits.{max_workers};
 
 use crate::routing::Routing;
 use rows::{Batch, CountedRows, RowsError};
@@ -31,7 +32,7 @@ pub fn split(
     workers: u32,
     sender: u32,
 ) -> Result<Parcels, RowsError>
-    requires fits { workers ≤ 64 }
+    requires fits { workers ≤ max_workers }
     requires sender { sender < workers }
     ensures each { IfOk result (λ ps. ps.items ≡ parcels (home_of routing.now workers sender) batch workers) }
     ensures sum { IfOk result (λ ps. batch ≈ from_all ps.items) }
@@ -49,7 +50,7 @@ pub fn split(
 /// The worker to which all records go, if there is one.
 #[tactic(auto, using(crate::proofs::Gathering::home_there))]
 fn common_home(batch: &Batch, routing: &Routing, workers: u32, sender: u32) -> Option<u32>
-    requires fits { workers ≤ 64 }
+    requires fits { workers ≤ max_workers }
     requires sender { sender < workers }
     ensures there { IfSome result (λ w. w < workers) }
     ensures runs { AreRuns (runs batch.now) }
@@ -78,7 +79,7 @@ fn spread(
     workers: u32,
     sender: u32,
 ) -> Result<Vec<CountedRows>, RowsError>
-    requires fits { workers ≤ 64 }
+    requires fits { workers ≤ max_workers }
     requires sender { sender < workers }
     ensures { IfOk result (λ parts. IsSpread (home_of routing.now workers sender) (arity_of batch.now) (runs batch.now) workers parts.items) }
 {
@@ -107,7 +108,7 @@ fn empty_parts(alloc: Global, arity: usize, workers: u32) -> Result<Vec<CountedR
 /// The lists that have rows, as parcels for the workers from 0 on.
 #[tactic(auto, using(crate::proofs::Gathering::gathered_next))]
 fn gather(alloc: Global, parts: Vec<CountedRows>) -> Result<Parcels, RowsError>
-    requires few { length parts.items ≤ 64 }
+    requires few { length parts.items ≤ max_workers }
     requires different { AreAllDifferent parts.items }
     ensures { IfOk result (λ ps. ps.items ≡ gathered 0 parts.items) }
 {

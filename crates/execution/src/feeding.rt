@@ -101,7 +101,7 @@ fn feed_epoch<J: Naming, V: Views, R: Wait>(
             engine,
             portion,
             input,
-            task.epochs.batches(epoch, input),
+            task.epochs.batches(input, epoch),
         )?;
         portion.seal(input)?;
     }

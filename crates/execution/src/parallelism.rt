@@ -1,6 +1,7 @@
 //! How many workers share the records of a run.
 
 ghost use Rattle.std.specs.Prelude.{◌<◌, ◌≤◌, ◌≡◌};
+ghost use Rattle.exchange.specs.Limits.{max_workers};
 ghost use Rattle.collector.specs.ReadEpochs.{epoch_count};
 
 use collector::Epochs;
@@ -19,7 +20,7 @@ pub struct Parallelism {
     threads: u32,
     workers: u32,
     ghost some: { 0 < workers },
-    ghost few: { workers ≤ 64 },
+    ghost few: { workers ≤ max_workers },
 }
 
 /// How many records the epochs have in all, or at least `enough`. Equal records of a batch count once.
@@ -27,7 +28,7 @@ fn records_up_to(epochs: &Epochs, inputs: u32, enough: u64) -> u64 {
     let mut records: u64 = 0;
     for epoch in 0..epochs.count() {
         for input in 0..inputs {
-            for batch in epochs.batches(epoch, input) {
+            for batch in epochs.batches(input, epoch) {
                 records = records.saturating_add(batch.len() as u64);
             }
         }
@@ -46,7 +47,7 @@ impl Parallelism {
     /// which takes the lock. Where many epochs are small, that costs more than the workers save.
     pub fn of(asked: u32, graph: &Graph, epochs: &Epochs) -> Parallelism
         requires some { 0 < asked }
-        requires few { asked ≤ 64 }
+        requires few { asked ≤ max_workers }
         ensures threads { result.threads ≡ asked }
         ensures few { result.workers ≤ asked }
         ensures all { epoch_count epochs.now < 256 → result.workers ≡ asked }
@@ -79,7 +80,7 @@ impl Parallelism {
     pub fn workers(self) -> u32
         ensures value { result ≡ self.workers }
         ensures some { 0 < result }
-        ensures few { result ≤ 64 }
+        ensures few { result ≤ max_workers }
     {
         self.workers
     }

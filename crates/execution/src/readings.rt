@@ -12,7 +12,7 @@ use workers::Report;
 fn is_same<V: Views>(report: &Report<V>, input: u32, epochs: &Epochs, epoch: u32) -> bool
     ensures { IsTrue result → fed_at report.now input epoch ≡ records_at epochs.now epoch input }
 {
-    same_batches(report.fed(input, epoch), epochs.batches(epoch, input))
+    same_batches(report.fed(input, epoch), epochs.batches(input, epoch))
 }
 
 /// Whether all inputs were fed, at an epoch, exactly what was read.

@@ -13,6 +13,7 @@ use Rattle.collector.specs.Lines.{Item}
 use Rattle.collector.specs.InputText.{IsInputText, IsRefused, LinesSay, epochs_after, records_in}
 use Rattle.collector.specs.WrittenBytes.{AppendsFront}
 use Rattle.collector.specs.declared.refusal.InputRefusal.TheVariants.{At}
+use Rattle.collector.specs.declared.codes.TheConstants.{NO_LINE_FEED}
 use Rattle.follow.specs.Entries.{AreAt, Entry, complete_line, entry_line, records_of}
 use Rattle.follow.specs.declared.ending.Ending.{Ending}
 use Rattle.follow.specs.declared.ending.Ending.TheVariants as ending
@@ -69,7 +70,7 @@ pub record IsAllReported (inputs : List Input) (bytes : List ℕ) (left : Option
 pub record IsFaulty (inputs : List Input) (bytes : List ℕ) (left : Option (List ℕ)) (lines : List (List ℕ)) (code line : ℕ) : Type 0 where
   pub refused : IsRefused inputs bytes (At code line)
   pub next : line ≡ length lines + 1
-  pub last : code ≡ 43 → IsAtEnd left
+  pub last : code ≡ NO_LINE_FEED → IsAtEnd left
 
 -- how far the bytes were read: to the end, to a faulty line, to the last whole line before the reader failed, or unspecified
 abbrev pub Reaches : List Input → (bytes : List ℕ) → (left : Option (List ℕ)) → (lines : List (List ℕ)) → List Item

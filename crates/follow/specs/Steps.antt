@@ -11,6 +11,7 @@ use Rattle.collector.specs.Pieces.{split_on}
 use Rattle.collector.specs.Lines.{Item}
 use Rattle.collector.specs.InputText.{IsRefused, epochs_after, records_in}
 use Rattle.collector.specs.declared.refusal.InputRefusal.TheVariants.{At}
+use Rattle.collector.specs.declared.codes.TheConstants.{NO_LINE_FEED}
 use Rattle.follow.specs.Entries.{Entry, records_of, row_line}
 use Rattle.std.specs.Io.KnownBytes.{IsAtEnd}
 use Rattle.follow.specs.Follows.{Follows, FollowsInput, IsPart, said_records}
@@ -99,7 +100,7 @@ EndsInEpoch items = (before : List Item) × (items ≡ before ++ Item.epoch ∷ 
 -- why taking lines stopped: the rest is part of a line, the next line has a fault of that code, or an epoch has begun
 abbrev pub Stops : List Input → (bytes rest : List ℕ) → (lines : ℕ) → List Item → Taken → Type 0
 Stops inputs bytes rest n items taken.Whole = split_on 10 rest ≡ rest ∷ []
-Stops inputs bytes rest n items (taken.Fault code) = IsRefused inputs bytes (At code (n + 1)) × (code ≡ 43 → ⊥)
+Stops inputs bytes rest n items (taken.Fault code) = IsRefused inputs bytes (At code (n + 1)) × (code ≡ NO_LINE_FEED → ⊥)
 Stops inputs bytes rest n items taken.Epoch = EndsInEpoch items
 
 -- lines were taken, and these bytes are left

@@ -2,6 +2,7 @@
 
 ghost use Rattle.std.specs.Prelude.{◌≡◌, ◌<◌, ◌≤◌, All, IfOk, IfSome, List, Ok, Err, OnOk, is_ok, true};
 ghost use Rattle.atomic_table.specs.Seated.{TableId};
+ghost use Rattle.exchange.specs.Limits.{max_workers};
 ghost use Rattle.board.specs.Commits.{IsOf};
 ghost use Rattle.board.specs.Shown.{tables};
 ghost use Rattle.follow.specs.Scenes.{IsLive, Works};
@@ -24,14 +25,14 @@ pub const HEAVY: u64 = 1024;
 pub struct Crew {
     count: u32,
     ghost some: { 0 < count },
-    ghost few: { count ≤ 64 },
+    ghost few: { count ≤ max_workers },
 }
 
 impl Crew {
     /// A crew of that many workers.
     pub fn new(count: u32) -> Crew
         requires some { 0 < count }
-        requires few { count ≤ 64 }
+        requires few { count ≤ max_workers }
         ensures { result.count ≡ count }
     {
         Crew { count }
@@ -41,7 +42,7 @@ impl Crew {
     pub fn count(self) -> u32
         ensures value { result ≡ self.count }
         ensures some { 0 < result }
-        ensures few { result ≤ 64 }
+        ensures few { result ≤ max_workers }
     {
         self.count
     }

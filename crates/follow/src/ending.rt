@@ -13,7 +13,7 @@ use std::alloc::{AllocError, AllocFailed};
 /// Why following ended before the whole input was answered.
 #[derive(Clone, Copy, Debug, PartialEq, Eq)]
 pub enum Ending {
-    /// The first faulty line of the input, counted from 1, and the code of its fault; 43 is a last line without line feed.
+    /// The first faulty line of the input, counted from 1, and the code of its fault.
     Input { code: u8, line: u64 },
     /// The reader failed.
     Read,

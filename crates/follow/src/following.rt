@@ -19,7 +19,7 @@ use crate::line_stop::Taken;
 use crate::position::Position;
 use crate::renewing::{LINES, new_board, renew};
 use board::Board;
-use collector::{Declared, Watched, find, put};
+use collector::{Declared, NO_LINE_FEED, Watched, find, put};
 use graph::{DeclaredInput, Graph};
 use progress::LocationTracker;
 use std::alloc::Global;
@@ -28,9 +28,6 @@ use std::mem::replace;
 use std::sync::Arc;
 use std::thread::Threads;
 use views::{Direct, Views};
-
-/// The code of a last line without line feed.
-const NO_LINE_FEED: u8 = 43;
 
 /// The ending at the line after those that were taken, which has a fault of that code.
 fn ending_at_fault(intake: &Intake, code: u8) -> Ending

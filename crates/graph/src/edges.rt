@@ -2,7 +2,7 @@
 
 ghost use Rattle.std.specs.Prelude.{◌≡◌, ◌≤◌, ◌<◌, ◌++◌, ◌∷◌, [], length, map, replicate, slice_index_or, slice_set, IfOk, OnOk};
 ghost use Rattle.graph.specs.Edges.{edge_list, edge_of, entering, grown, outs_of, IsOutTable, HaveSources};
-ghost use Rattle.graph.specs.Limits.{max_vertices};
+ghost use Rattle.graph.specs.Limits.{max_vertices, max_edges};
 ghost use Rattle.graph.specs.Views.{graph_of, port_of, sources_of};
 
 use crate::vertex::{Port, Sources, Vertex, VertexId};
@@ -80,7 +80,7 @@ fn put_edge(
 #[tactic(auto, using(crate::proofs::EdgeTables::no_edge_yet))]
 pub fn outs_of_edges(alloc: Global, vertices: usize, edges: &[Edge]) -> Result<Vec<Outs>, NoMemory>
     requires sources { HaveSources vertices (map edge_of edges.now) }
-    requires few { length edges.now ≤ 8192 }
+    requires few { length edges.now ≤ max_edges }
     ensures { IfOk result (λ outs. IsOutTable vertices (map edge_of edges.now) (length edges.now) (map outs_of outs.items)) }
 {
     let mut outs = no_outs(alloc, vertices)?;

@@ -9,6 +9,7 @@ ghost use Rattle.lexer.specs.Tokens.{IsPlaced, Lexes, max_length};
 ghost use Rattle.lexer.specs.Faults.{Begins, Stops, Refuses, fault_code};
 
 use crate::lexeme::{Class, Shape, lexeme_len, run, shape_at};
+use crate::refusals::{BAD_NUMBER, NAME_TOO_LONG, NO_TOKEN, TEXT_TOO_LONG};
 use crate::spelling::kind_of;
 use crate::token::Token;
 use record_core::{Refusal, Span};
@@ -48,7 +49,7 @@ fn scan<A: Allocator>(alloc: A, text: &[u8]) -> Result<Vec<Token, A>, Refusal>
 {
     if text.len() > MAX_LENGTH {
         return Err(Refusal::At {
-            code: 6,
+            code: TEXT_TOO_LONG,
             span: span(MAX_LENGTH, MAX_LENGTH),
         });
     }
@@ -75,7 +76,7 @@ fn next_token(text: &[u8], at: usize) -> Result<Option<Token>, Refusal>
     let rest = &text[start..];
     let Some(len) = lexeme_len(rest) else {
         return Err(Refusal::At {
-            code: 1,
+            code: NO_TOKEN,
             span: span(start, start + 1),
         });
     };
@@ -97,9 +98,9 @@ fn bad_code(byte: u8) -> u8
     ensures { result ≡ fault_code (shape_of byte) }
 {
     match shape_at(byte) {
-        Shape::Word => 3,
-        Shape::Numeral | Shape::Reference => 2,
-        Shape::Sign => 1,
+        Shape::Word => NAME_TOO_LONG,
+        Shape::Numeral | Shape::Reference => BAD_NUMBER,
+        Shape::Sign => NO_TOKEN,
     }
 }
 

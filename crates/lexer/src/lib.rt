@@ -8,6 +8,7 @@
 mod lexeme;
 mod lexing;
 mod mark;
+mod refusals;
 mod spelling;
 mod token;
 

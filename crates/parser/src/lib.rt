@@ -14,8 +14,10 @@ mod item;
 mod list;
 mod output;
 mod program;
+mod refusals;
 mod relation;
 mod scalar;
 mod scan;
 
 pub use program::parse;
+pub use refusals::UNEXPECTED;

@@ -12,6 +12,7 @@ ghost use Rattle.parser.specs.Refusals.{NoProgram, Refuses, IsRefusalFor};
 use crate::fault::Fault;
 use crate::item::{parse_inputs, parse_lets};
 use crate::output::parse_outputs;
+use crate::refusals::{TOO_HIGH, UNEXPECTED};
 use expr_tree::Program;
 use lexer::{Token, lex};
 use record_core::{Refusal, Span};
@@ -46,10 +47,13 @@ fn refusal(fault: Fault, length: u32) -> Refusal
     };
     match fault {
         Fault::Unexpected(place) => Refusal::At {
-            code: 4,
+            code: UNEXPECTED,
             span: place.unwrap_or(end),
         },
-        Fault::TooHigh(span) => Refusal::At { code: 5, span },
+        Fault::TooHigh(span) => Refusal::At {
+            code: TOO_HIGH,
+            span,
+        },
         Fault::NoMemory => Refusal::NoMemory,
     }
 }

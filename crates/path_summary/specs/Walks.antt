@@ -3,6 +3,7 @@ use Rattle.std.specs.Prelude.{◌≡◌, ℕ, zero, suc, ◌*◌, ◌≤◌, ◌
 use Rattle.semantics.specs.Dataflow.{Goes}
 use Rattle.semantics.specs.Limits.{max_loops}
 use Rattle.semantics.specs.Summary.{Summary, then_action}
+use Rattle.graph.specs.Limits.{max_vertices, max_edges}
 use Rattle.path_summary.specs.Carried.{identity}
 use Rattle.path_summary.specs.Linking.{Link, Links}
 use Rattle.path_summary.specs.Rows.{entry, HasBelow, IsClosed}
@@ -64,13 +65,13 @@ pub record IsOpened (w : Links) (row : List (Option Summary)) : Type 0 where
   pub known : vertex < length w.depths
   pub got : HasGot w vertex 0 0 row
 
--- It is the row of some vertex after some passes, of which there are at most 4096, each over at most 8192 edges.
+-- It is the row of some vertex after some passes, of which there are at most `max_vertices`, each over at most `max_edges` edges.
 pub record IsUnderWay (w : Links) (row : List (Option Summary)) : Type 0 where
   pub vertex : ℕ
   pub known : vertex < length w.depths
   pub passes : ℕ
-  pub few : passes ≤ 4096
-  pub got : HasGot w vertex (8192 * passes) passes row
+  pub few : passes ≤ max_vertices
+  pub got : HasGot w vertex (max_edges * passes) passes row
 
 -- It is a whole row of the table.
 pub record IsGoodRow (w : Links) (v : ℕ) (row : List (Option Summary)) : Type 0 where

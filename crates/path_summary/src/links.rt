@@ -3,6 +3,7 @@
 ghost use Rattle.std.specs.Prelude.{◌≡◌, ◌<◌, ◌≤◌, ℕ, length, IfOk, slice_get, slice_index_or};
 ghost use Rattle.graph.specs.Shown.{shown_graph};
 ghost use Rattle.graph.specs.Locations.{location_of};
+ghost use Rattle.graph.specs.Limits.{max_vertices, max_edges};
 ghost use Rattle.semantics.specs.Graph.{edge_count, edge_source, vertex};
 ghost use Rattle.path_summary.specs.Linking as plain;
 ghost use Rattle.path_summary.specs.Walks.{HaveLoops};
@@ -70,8 +71,8 @@ impl Links {
     /// The depths and the edges of a graph.
     pub fn of(alloc: Global, graph: &Graph) -> Result<Links, NoMemory>
         ensures draws { IfOk result (λ w. plain.Draws w (shown_graph graph.now)) }
-        ensures few { IfOk result (λ w. length w.depths ≤ 4096) }
-        ensures edges { IfOk result (λ w. length w.edges ≤ 8192) }
+        ensures few { IfOk result (λ w. length w.depths ≤ max_vertices) }
+        ensures edges { IfOk result (λ w. length w.edges ≤ max_edges) }
         ensures loops { IfOk result (λ w. ∥ HaveLoops w ∥₁) }
     {
         semantics::graphs::law_program();
@@ -122,7 +123,7 @@ impl Links {
 /// The depths of the vertices.
 fn depths_of(alloc: Global, graph: &Graph) -> Result<Vec<u32>, NoMemory>
     ensures long { IfOk result (λ ds. length ds.items ≡ length (shown_graph graph.now)) }
-    ensures few { IfOk result (λ ds. length ds.items ≤ 4096) }
+    ensures few { IfOk result (λ ds. length ds.items ≤ max_vertices) }
     ensures each { IfOk result (λ ds. (v : ℕ) → v < length (shown_graph graph.now) → slice_index_or ds.items v 0 ≡ (vertex (shown_graph graph.now) v).depth) }
 {
     let mut depths = Vec::with_capacity(alloc, graph.vertex_count())?;
@@ -134,7 +135,7 @@ fn depths_of(alloc: Global, graph: &Graph) -> Result<Vec<u32>, NoMemory>
 
 /// The edges.
 fn edges_of(alloc: Global, graph: &Graph) -> Result<Vec<Link>, NoMemory>
-    requires few { edge_count (shown_graph graph.now) ≤ 8192 }
+    requires few { edge_count (shown_graph graph.now) ≤ max_edges }
     requires fed { (e : ℕ) → e < edge_count (shown_graph graph.now) → (edge_source (shown_graph graph.now) e).vertex < length (shown_graph graph.now) }
     ensures long { IfOk result (λ es. length es.items ≡ edge_count (shown_graph graph.now)) }
     ensures each { IfOk result (λ es. (e : ℕ) (k : plain.Link) → slice_get es.items e ≡ Some k → k ≡ plain.link_in (shown_graph graph.now) e) }

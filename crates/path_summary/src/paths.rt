@@ -3,6 +3,7 @@
 ghost use Rattle.std.specs.Prelude.{◌≡◌, ◌≤◌, ◌<◌, ◌↔◌, Some, None, IsTrue, IfOk, IfSome, IfNone, false, length};
 ghost use Rattle.std.specs.Bool.{Decides};
 ghost use Rattle.graph.specs.Shown.{shown_graph};
+ghost use Rattle.graph.specs.Limits.{max_vertices, max_edges};
 ghost use Rattle.semantics.specs.Could.{CouldResultIn, IsTimeAt};
 ghost use Rattle.semantics.specs.Dataflow.{IsDataflow};
 ghost use Rattle.path_summary.specs.Linking.{IsKnown};
@@ -120,8 +121,8 @@ fn is_time_at(graph: &Graph, p: &Pointstamp) -> bool
 
 /// The rows of all vertices.
 fn rows_of(alloc: Global, links: &Links, summaries: &mut Summaries) -> Result<Vec<Kept>, NoMemory>
-    requires few { length links.now.depths ≤ 4096 }
-    requires edges { length links.now.edges ≤ 8192 }
+    requires few { length links.now.depths ≤ max_vertices }
+    requires edges { length links.now.edges ≤ max_edges }
     requires loops { ∥ HaveLoops links.now ∥₁ }
     ensures packed { IfOk result (λ rows. ArePacked links.now summaries.new rows.items) }
     ensures long { IfOk result (λ rows. length rows.items ≡ length links.now.depths) }

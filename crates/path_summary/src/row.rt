@@ -2,6 +2,7 @@
 
 ghost use Rattle.std.specs.Prelude.{◌≡◌, ◌<◌, ◌≤◌, ◌*◌, ℕ, Some, suc, true, false, length, IfOk, slice_set, slice_index_or};
 ghost use Rattle.semantics.specs.Summary.{Summary as Definition};
+ghost use Rattle.graph.specs.Limits.{max_vertices, max_edges};
 ghost use Rattle.path_summary.specs.Codes.{AreCodes, Grows, row_of};
 ghost use Rattle.path_summary.specs.Made.{IsPacked};
 ghost use Rattle.path_summary.specs.Rows.{HasRoom, IsClosed, Stepped, entry};
@@ -38,8 +39,8 @@ impl Row {
         vertex: u32,
     ) -> Result<Row, NoMemory>
         requires vertex { vertex < length links.now.depths }
-        requires few { length links.now.depths ≤ 4096 }
-        requires edges { length links.now.edges ≤ 8192 }
+        requires few { length links.now.depths ≤ max_vertices }
+        requires edges { length links.now.edges ≤ max_edges }
         requires loops { ∥ HaveLoops links.now ∥₁ }
         ensures grows { Grows summaries.old summaries.new }
         ensures packed { IfOk result (λ r. IsPacked links.now summaries.new r vertex) }
@@ -130,13 +131,13 @@ impl Row {
     /// Extends the row over each edge once; true if that changed something.
     fn pass(&mut self, links: &Links, summaries: &mut Summaries) -> Result<bool, NoMemory>
         requires codes { AreCodes summaries.old self.old }
-        requires edges { length links.now.edges ≤ 8192 }
+        requires edges { length links.now.edges ≤ max_edges }
         requires loops { ∥ HaveLoops links.now ∥₁ }
         requires way { IsUnderWay links.now (row_of summaries.old self.old) }
         ensures grows { Grows summaries.old summaries.new }
         ensures codes { IfOk result (λ b. AreCodes summaries.new self.new) }
-        ensures got { IfOk result (λ b. (v m : ℕ) → v < length links.now.depths → HasGot links.now v (8192 * m) m (row_of summaries.old self.old) →
-            HasGot links.now v (8192 * suc m) (suc m) (row_of summaries.new self.new)) }
+        ensures got { IfOk result (λ b. (v m : ℕ) → v < length links.now.depths → HasGot links.now v (max_edges * m) m (row_of summaries.old self.old) →
+            HasGot links.now v (max_edges * suc m) (suc m) (row_of summaries.new self.new)) }
         ensures closed { IfOk result (λ b. b ≡ false → IsClosed links.now (row_of summaries.new self.new)) }
     {
         let mut changed = false;
@@ -151,8 +152,8 @@ impl Row {
     /// Makes passes until one changes nothing, at most as many as there are vertices. Then no edge leads below an entry.
     fn fill(&mut self, links: &Links, summaries: &mut Summaries) -> Result<(), NoMemory>
         requires codes { AreCodes summaries.old self.old }
-        requires few { length links.now.depths ≤ 4096 }
-        requires edges { length links.now.edges ≤ 8192 }
+        requires few { length links.now.depths ≤ max_vertices }
+        requires edges { length links.now.edges ≤ max_edges }
         requires loops { ∥ HaveLoops links.now ∥₁ }
         requires way { IsOpened links.now (row_of summaries.old self.old) }
         ensures grows { Grows summaries.old summaries.new }

@@ -4,6 +4,7 @@ use Rattle.semantics.specs.Multiset.{Record}
 use Rattle.semantics.specs.Query.{Input}
 use Rattle.semantics.specs.Graph.{input_count}
 use Rattle.graph.specs.Shown.{GraphValue, shown_graph, shown_inputs, shown_names, shown_arities}
+use Rattle.graph.specs.Limits.{max_vertices}
 use Rattle.machine.specs.Step.{Step}
 use Rattle.events.specs.Jobs.{Pass}
 use Rattle.board.specs.Shown.{Shown, tables}
@@ -58,7 +59,7 @@ pub record ShowsState (b : BoardShown) (x : State) : Type 0 where
 pub record AreInputsOf (g : GraphValue) (inputs : List Input) : Type 0 where
   pub same : inputs ≡ shown_inputs g
   pub count : length inputs ≤ input_count (shown_graph g)
-  pub few : input_count (shown_graph g) ≤ 4096
+  pub few : input_count (shown_graph g) ≤ max_vertices
   pub arities : (i : ℕ) (input : Input) → slice_get inputs i ≡ Some input → slice_index_or (shown_arities g) i 0 ≡ input.arity
 
 -- the first input of that name has this number and arity; a name that no input has gets the greatest number

@@ -1,6 +1,7 @@
 //! Lines of a schedule that name an input.
 
 ghost use Rattle.std.specs.Prelude.{◌≡◌, ◌<◌, length, map, ◌≤◌, ◌∷◌, [], List, Option, IfOk, IfSome, IfNone};
+ghost use Rattle.graph.specs.Limits.{max_vertices};
 ghost use Rattle.collector.specs.Said.{plain};
 ghost use Rattle.collector.specs.Lines.{MakeRecord};
 ghost use Rattle.events.specs.Jobs.{Pass};
@@ -8,7 +9,7 @@ ghost use Rattle.schedule.specs.Commands.{Command};
 ghost use Rattle.replay.specs.Steps.{Answers, AreInputsOf, IsNumbered};
 
 use crate::refusal::{Refusal, line_refusal};
-use board::Board;
+use board::{Board, WRONG_FIELD_COUNT};
 use collector::{Declared, find_input};
 use record_core::Record;
 use rows::Batch;
@@ -17,7 +18,7 @@ use views::Views;
 
 /// The number of an input and its arity. A name that no input has gets the greatest number.
 fn input_number(inputs: &[Declared<'_>], name: &[u8]) -> (u32, u64)
-    requires few { length inputs.now ≤ 4096 }
+    requires few { length inputs.now ≤ max_vertices }
     ensures { IsNumbered (map plain inputs.now) name.now result }
 {
     match find_input(inputs, name) {
@@ -65,7 +66,9 @@ pub fn feed<V: Views>(
         return Err(line_refusal(refusal));
     }
     let Some(row) = record_of(fields, arity) else {
-        return Err(Refusal::Step { code: 33 });
+        return Err(Refusal::Step {
+            code: WRONG_FIELD_COUNT,
+        });
     };
     let Ok(batch) = batch_of(alloc, row) else {
         return Err(Refusal::NoMemory);

@@ -3,6 +3,7 @@
 ghost use Rattle.std.specs.Prelude.{◌≡◌, ◌<◌, ◌≤◌, map, IfOk, IfErr};
 ghost use Rattle.graph.specs.Shown.{shown_inputs};
 ghost use Rattle.graph.specs.Views.{input_of};
+ghost use Rattle.exchange.specs.Limits.{max_workers};
 ghost use Rattle.collector.specs.Said.{plain};
 ghost use Rattle.machine.specs.World.{opening};
 ghost use Rattle.board.specs.Showing.{Shows};
@@ -79,7 +80,7 @@ pub fn replay_text(
     text: &[u8],
 ) -> Result<Vec<u8>, ScheduleRefusal>
     requires some { 0 < workers }
-    requires few { workers ≤ 64 }
+    requires few { workers ≤ max_workers }
     ensures answers { IfOk result (λ answer. AnswersText kind graph workers text.now answer.items) }
     ensures refused { IfErr result (IsRefused kind text.now) }
 {

@@ -1,6 +1,7 @@
 -- The text of a schedule: what its lines say, and its first faulty line.
 use Rattle.std.specs.Prelude.{◌≡◌, ◌<◌, ◌+◌, ◌^◌, ◌⊎◌, ℕ, ℤ, List, [], ◌∷◌, ◌++◌, length, decimal}
 use Rattle.std.specs.List.{AllByRecursion}
+use Rattle.collector.specs.declared.codes.TheConstants.{NO_LINE_FEED, BAD_NUMBER, MALFORMED}
 use Rattle.collector.specs.Pieces.{split_on}
 use Rattle.collector.specs.Lines.{AreNumbers, IsFilled, IsWord}
 use Rattle.schedule.specs.Commands.{Command, IsKnown, IsProper, arguments, letter, verb_of}
@@ -73,10 +74,10 @@ abbrev pub IsFault : ViewKind → List ℕ → Fault → Type 0
 IsFault kind line Malformed = (v : Verb) (words : List (List ℕ)) → HasWords kind line v words → IsFormed v words → ⊥
 IsFault kind line BadNumber = (v : Verb) × (words : List (List ℕ)) × HasWords kind line v words × IsFormed v words × HasBadNumber v words
 
--- the code of a fault
+-- the code of a fault, the same as in an input
 abbrev pub code_of : Fault → ℕ
-code_of BadNumber = 44
-code_of Malformed = 46
+code_of BadNumber = BAD_NUMBER
+code_of Malformed = MALFORMED
 
 -- ---- the text
 
@@ -100,4 +101,4 @@ IsRefused kind text NoMemory = Unit {0}
 IsRefused kind text (At code number) =
     (before : List (List ℕ)) × (commands : List Command) × SayAll kind before commands × (number ≡ length before + 1)
     × (line : List ℕ) × (rest : List (List ℕ)) × (split_on 10 text ≡ before ++ line ∷ rest)
-    × (((code ≡ 43) × (0 < length line) × (rest ≡ [])) ⊎ ((fault : Fault) × (code ≡ code_of fault) × (0 < length rest) × IsFault kind line fault))
+    × (((code ≡ NO_LINE_FEED) × (0 < length line) × (rest ≡ [])) ⊎ ((fault : Fault) × (code ≡ code_of fault) × (0 < length rest) × IsFault kind line fault))

@@ -7,11 +7,8 @@ ghost use Rattle.schedule.specs.ScheduleText.{IsRefused, IsScheduleText};
 use crate::line::{Line, LineError, read_line};
 use crate::refusal::ScheduleRefusal;
 use crate::verb::ViewKind;
-use collector::{around, find};
+use collector::{NO_LINE_FEED, around, find};
 use std::alloc::Global;
-
-/// The code of a last line without line feed.
-const NO_LINE_FEED: u8 = 43;
 
 /// Reads a whole schedule, in linear time. The lines borrow their names from the text. The kind of the workers' views decides whether it may have
 /// lines that apply changes.

@@ -4,6 +4,7 @@ ghost use Rattle.std.specs.Prelude.{◌≡◌};
 ghost use Rattle.schedule.specs.ScheduleText.{code_of};
 ghost use Rattle.schedule.specs.declared.refusal.ScheduleRefusal.TheVariants.{NoMemory};
 
+use collector::{BAD_NUMBER, MALFORMED};
 use std::alloc::{AllocError, AllocFailed};
 
 /// What is wrong with a line that has its line feed.
@@ -22,13 +23,13 @@ impl Fault {
         ensures { result ≡ code_of self }
     {
         match self {
-            Fault::BadNumber => 44,
-            Fault::Malformed => 46,
+            Fault::BadNumber => BAD_NUMBER,
+            Fault::Malformed => MALFORMED,
         }
     }
 }
 
-/// The first faulty line of a schedule, counted from 1, with the code of its fault (43 for a last line without line feed); or lack of memory.
+/// The first faulty line of a schedule, counted from 1, with the code of its fault (`NO_LINE_FEED` for a last line without line feed); or lack of memory.
 #[derive(Clone, Copy, Debug, PartialEq, Eq)]
 pub enum ScheduleRefusal {
     At { code: u8, line: u64 },

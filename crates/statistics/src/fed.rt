@@ -1,6 +1,7 @@
 //! Counts the records that will be fed, before the run.
 
 ghost use Rattle.std.specs.Prelude.{◌<◌, ◌≤◌};
+ghost use Rattle.exchange.specs.Limits.{max_workers};
 
 use crate::tally::Tally;
 use collector::Epochs;
@@ -20,7 +21,7 @@ impl Tally {
         epochs: &Epochs,
     ) -> Result<(), EventFault>
         requires some { 0 < workers }
-        requires few { workers ≤ 64 }
+        requires few { workers ≤ max_workers }
     {
         let inputs = graph.inputs().len();
         let wiring = Wiring::of(alloc, Arc::try_clone(graph)?, workers)?;
@@ -43,7 +44,7 @@ impl Tally {
             return Ok(());
         };
         for epoch in 0..epochs.count() {
-            for batch in epochs.batches(epoch, input) {
+            for batch in epochs.batches(input, epoch) {
                 self.count_batch(alloc, wiring, input, batch)?;
             }
         }

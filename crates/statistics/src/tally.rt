@@ -1,6 +1,7 @@
 //! The counters of a run.
 
 ghost use Rattle.std.specs.Prelude.{◌<◌, ◌≤◌};
+ghost use Rattle.exchange.specs.Limits.{max_workers};
 
 use crate::counter::Counter;
 use collector::Epochs;
@@ -32,7 +33,7 @@ impl Tally {
         epochs: &Epochs,
     ) -> Result<Tally, EventFault>
         requires some { 0 < workers }
-        requires few { workers ≤ 64 }
+        requires few { workers ≤ max_workers }
     {
         let tally = Tally::unfed(alloc, graph, workers, epochs.count())?;
         tally.count_fed(alloc, graph, workers, epochs)?;

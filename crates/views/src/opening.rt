@@ -2,6 +2,7 @@
 
 ghost use Rattle.std.specs.Prelude.{◌≡◌, ◌<◌, ◌≤◌, IfOk, length};
 ghost use Rattle.graph.specs.Shown.{shown_graph};
+ghost use Rattle.graph.specs.Limits.{max_vertices};
 ghost use Rattle.semantics.specs.Could.{IsTimeAt, Pointstamp as Active};
 ghost use Rattle.semantics.specs.Graph.{input_count};
 ghost use Rattle.progress.specs.Content.{times_in};
@@ -17,7 +18,7 @@ use std::alloc::Global;
 pub fn open_inputs(alloc: Global, paths: &Paths) -> Result<Vec<Pointstamp>, NoMemory>
     ensures content { IfOk result (λ ps. (q : Active) → times_in ps.items q ≡ active_at_first (shown_graph paths.now) q) }
     ensures known { IfOk result (λ ps. (q : Active) → 0 < times_in ps.items q → IsTimeAt (shown_graph paths.now) q.location q.time) }
-    ensures few { IfOk result (λ ps. length ps.items ≤ 4096) }
+    ensures few { IfOk result (λ ps. length ps.items ≤ max_vertices) }
 {
     let graph = paths.graph();
     graph.law_of_dataflow();

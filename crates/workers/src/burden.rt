@@ -4,6 +4,7 @@ ghost use Rattle.std.specs.Prelude.{◌≡◌};
 
 use crate::crew::Crew;
 use events::{Done, Letter};
+use exchange::MAX_WORKERS;
 
 /// A message of fewer rows takes less time to compute than to hand to another thread.
 const LARGE: u64 = 32;
@@ -58,7 +59,7 @@ impl Brought {
 pub struct Burdens {
     mailed: Crew,
     heavy: Crew,
-    rows: [u64; 64],
+    rows: [u64; MAX_WORKERS as usize],
 }
 
 impl Burdens {
@@ -67,7 +68,7 @@ impl Burdens {
         Burdens {
             mailed: Crew::nobody(),
             heavy: Crew::nobody(),
-            rows: [0; 64],
+            rows: [0; MAX_WORKERS as usize],
         }
     }
 
@@ -85,7 +86,7 @@ impl Burdens {
     pub fn note(&mut self, brought: Brought) {
         self.mailed = self.mailed.or(brought.receivers);
         if !brought.burdened.is_empty() {
-            for worker in 0..64 {
+            for worker in 0..MAX_WORKERS {
                 if brought.burdened.has(worker) {
                     self.set(worker, self.of(worker).saturating_add(brought.rows));
                 }

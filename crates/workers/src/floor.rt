@@ -23,6 +23,7 @@ use crate::held::{Held, Naming};
 use crate::plan::{CutFeed, Slice};
 use board::{Board, Claimed, CommitRefusal, StepRefusal};
 use events::{CutBatch, Done, Work};
+use exchange::MAX_WORKERS;
 use std::collections::VecDeque;
 use views::Views;
 
@@ -285,7 +286,7 @@ impl<J: Naming, V: Views> Floor<J, V> {
         ensures { GivesNamed J.names result }
     {
         let mut left = workers;
-        for _worker in 0..64 {
+        for _worker in 0..MAX_WORKERS {
             let Some(worker) = left.from(self.helped) else {
                 return Claimed::Idle;
             };
