@@ -1,4 +1,4 @@
-use Rattle.std.proofs.Common.{◌≡◌, ℕ, refl, arith}
+use Rattle.std.proofs.Common.{◌≡◌, refl, arith}
 use Rattle.machine.specs.Active.{sum_below, worker_count}
 use Rattle.machine.specs.World.{opening}
 use Rattle.machine.proofs.Counting.{below_zero}
