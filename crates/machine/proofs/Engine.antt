@@ -32,7 +32,7 @@ use Rattle.machine.proofs.Places.{same_time_tells, same_time_self}
 
 -- ---- roles
 
-pub role_input : (k : Kind) → role k ≡ Role.input → k ≡ Kind.input
+role_input : (k : Kind) → role k ≡ Role.input → k ≡ Kind.input
 role_input Kind.input e = refl
 role_input Kind.output e = absurd cc
 role_input Kind.concat e = absurd cc
