@@ -77,8 +77,9 @@ fn shard_of(alloc: Global, kind: Kind) -> Result<Shard, ShardFault>
 }
 
 /// How many records are sent by port 0.
-fn sent(out: &mut Out) -> usize {
-    match out.take(0) {
+fn sent(out: Out) -> usize {
+    let (first, _second) = out.into_batches();
+    match first {
         Some(batch) => batch.weight(),
         None => 0,
     }
@@ -94,7 +95,7 @@ fn absorb(alloc: Global, shard: &mut Shard, port: u32, batch: Batch) -> Result<u
 {
     let mut out = Out::new();
     shard.on_records(alloc, port, &Time::at_epoch(0), batch, &mut out)?;
-    Ok(sent(&mut out))
+    Ok(sent(out))
 }
 
 /// Gives a shard `records` records at each of its ports. Returns how many a distinct or a join sends for them.
@@ -175,7 +176,7 @@ pub fn group(alloc: Global, records: u64) -> Result<usize, ShardFault> {
     absorb_all(alloc, &mut shard, 1, records, 12_500, u64::MAX)?;
     let mut out = Out::new();
     shard.on_notify(alloc, &Time::at_epoch(0), &mut out)?;
-    Ok(sent(&mut out))
+    Ok(sent(out))
 }
 
 /// How many records are made.

@@ -5,11 +5,11 @@ use Rattle.semantics.specs.Multiset.{Record}
 use Rattle.semantics.specs.Graph.{Graph, vertex}
 use Rattle.semantics.specs.Could.{Pointstamp, Location, IsTimeAt, at_vertex}
 use Rattle.semantics.specs.Time.{at_epoch}
-use Rattle.semantics.specs.Kinds.{Role, role}
+use Rattle.semantics.specs.Kinds.{Kind, Role, role}
+use Rattle.semantics.proofs.InputNumbers.{input_is_there}
 use Rattle.graph.specs.Shown.{shown_graph}
 use Rattle.machine.specs.Active.{one_if_same, IsActive}
 use Rattle.machine.specs.Step.{Step}
-use Rattle.machine.proofs.Engine.{few_inputs, network_is, role_input}
 use Rattle.machine.proofs.Tracking.{active_counts}
 use Rattle.rows.specs.FlatRows.{arity_of}
 use Rattle.board.specs.Answers.{first, feed_refusal, input_refusal}
@@ -56,13 +56,14 @@ feed_tells s i batch e =
     same_number m n e = grind arith
 
 module _ (graph : Graph) (content : Pointstamp → ℕ) (s : Shown) (kept : IsKept graph content s) (i : ℕ) (takes : (s.stopped ≡ false) × (i < length s.inputs) × ((input_at s i).closed ≡ false)) where
-  pub role_is : (net s).role i ≡ Role.input
-  role_is = (network_is (shown_graph s.graph) kept.flows (length s.sides) kept.some).input_has_role i (let n = kept.inputs in omega (arith, takes.1, n))
+  pub there : (i < length (shown_graph s.graph)) × ((vertex (shown_graph s.graph) i).kind ≡ Kind.input)
+  there = input_is_there (shown_graph s.graph) i (let n = kept.inputs in omega (arith, takes.1, n))
 
-  pub input_located : (n : ℕ) → IsTimeAt (shown_graph s.graph) (Location.vertex i) (at_epoch n)
-  input_located n =
-      let l : i < length (shown_graph s.graph) = (let a = kept.inputs in let b = few_inputs (shown_graph s.graph) in omega (arith, takes.1, a, b)) in
-      (l, sym (kept.flows.shaped.flat i l (inl (role_input (vertex (shown_graph s.graph) i).kind role_is))))
+  pub role_is : (net s).role i ≡ Role.input
+  role_is = ap role there.1
+
+  input_located : (n : ℕ) → IsTimeAt (shown_graph s.graph) (Location.vertex i) (at_epoch n)
+  input_located n = (there.0, sym (kept.flows.shaped.flat i there.0 (inl there.1)))
 
   pub located_there : (n : ℕ) → IsTimeAt graph (Location.vertex i) (at_epoch n)
   located_there n = let P : Graph → Type 0 = λ g. IsTimeAt g (Location.vertex i) (at_epoch n) in subst P (sym kept.same) (input_located n)

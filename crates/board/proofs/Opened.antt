@@ -1,12 +1,11 @@
 -- A new board keeps what a board keeps, and is in the opening state.
 use Rattle.std.proofs.Common.{◌≡◌, ◌<◌, ◌≤◌, ℕ, [], length, sym, ◌∙◌, subst, arith, Option, Some, None, slice_index_or}
-use Rattle.semantics.specs.Graph.{Graph, input_count, vertex}
-use Rattle.semantics.specs.Could.{Pointstamp, at_vertex}
-use Rattle.semantics.specs.Time.{at_epoch}
+use Rattle.semantics.specs.Graph.{Graph}
+use Rattle.semantics.specs.Could.{Pointstamp}
 use Rattle.semantics.specs.Dataflow.{IsDataflow}
 use Rattle.semantics.specs.PortArity.{IsTyped}
 use Rattle.graph.specs.Shown.{GraphValue, shown_graph}
-use Rattle.machine.specs.Active.{one_if_same, sum_below}
+use Rattle.machine.specs.Active.{active_count}
 use Rattle.machine.specs.World.{opening}
 use Rattle.vertices.specs.Shards.{Shows as ShowsShard}
 use Rattle.vertices.specs.declared.shard.Shard.{Shard}
@@ -18,7 +17,7 @@ use Rattle.board.specs.Fitting.{FitsPlace, arity_in}
 use Rattle.board.specs.Fresh.{IsFreshSide, IsNew}
 use Rattle.board.specs.Kept.{IsKept}
 use Rattle.board.specs.Promises.{IsOpening}
-use Rattle.board.specs.Shown.{Shown, side_at}
+use Rattle.board.specs.Shown.{Shown, net, side_at}
 use Rattle.board.specs.Showing.{EachShard, IsSideOf, OnShard, Shows, known}
 use Rattle.board.proofs.Opening.{IsFresh, kept_opening, shows_opening}
 
@@ -72,7 +71,7 @@ module _ (s : Shown) (is : IsNew s.graph (length s.sides) s) where
   }
 
   kept_here : (graph : Graph) (content : Pointstamp → ℕ) → IsDataflow (shown_graph s.graph) → 0 < length s.sides → length s.sides ≤ 64 → graph ≡ shown_graph s.graph → IsTyped (shown_graph s.graph) (arity_in s.graph)
-      → ((q : Pointstamp) → content q ≡ sum_below (input_count (shown_graph s.graph)) (λ i. one_if_same q (at_vertex i (at_epoch 0)))) → IsKept graph content s
+      → ((q : Pointstamp) → content q ≡ active_count (net s) opening q) → IsKept graph content s
   kept_here graph content flows some few same typed counts = kept_opening graph content s fresh flows some few same is.inputs is.room typed (fits flows) side_of counts
 
 new_here : (g : GraphValue) (n : ℕ) (s : Shown) → IsNew g n s → IsNew s.graph (length s.sides) s
@@ -83,7 +82,7 @@ new_here g n s is =
 
 pub kept_new : (graph : Graph) (content : Pointstamp → ℕ) (g : GraphValue) (n : ℕ) (s : Shown) → IsNew g n s → 0 < n → n ≤ 64 → IsDataflow (shown_graph s.graph)
     → graph ≡ shown_graph s.graph → IsTyped (shown_graph s.graph) (arity_in s.graph)
-    → ((q : Pointstamp) → content q ≡ sum_below (input_count (shown_graph s.graph)) (λ i. one_if_same q (at_vertex i (at_epoch 0)))) → IsKept graph content s
+    → ((q : Pointstamp) → content q ≡ active_count (net s) opening q) → IsKept graph content s
 kept_new graph content g n s is some few flows same typed counts =
     let e = is.sides.long in kept_here s (new_here g n s is) graph content flows (omega (arith, some, e)) (omega (arith, few, e)) same typed counts
 

@@ -1,18 +1,16 @@
 -- The opening: a board to which nothing was fed keeps what a board keeps.
 use Rattle.std.proofs.Common.{◌≡◌, ◌<◌, ◌≤◌, ℕ, zero, suc, false, [], length, refl, sym, ap, ◌∙◌, arith}
 use Rattle.semantics.specs.Graph.{Graph, input_count}
-use Rattle.semantics.specs.Could.{Pointstamp, at_vertex}
-use Rattle.semantics.specs.Time.{at_epoch}
+use Rattle.semantics.specs.Could.{Pointstamp}
 use Rattle.semantics.specs.Dataflow.{IsDataflow}
 use Rattle.semantics.specs.PortArity.{IsTyped}
 use Rattle.graph.specs.Shown.{shown_graph}
 use Rattle.machine.specs.World.{opening}
-use Rattle.machine.specs.Active.{sum_below, one_if_same, worker_count}
-use Rattle.machine.proofs.Counting.{below_zero}
+use Rattle.machine.specs.Active.{active_count}
 use Rattle.vertices.specs.Shards.{Shows as ShowsShard}
 use Rattle.tokens.specs.declared.rule.Place.TheVariants.{Home}
 use Rattle.semantics.proofs.MultisetSums.{≈-from}
-use Rattle.board.specs.Shown.{Shown, InputShown, emitted_by, no_input, side_at, input_at, held_of, records_at}
+use Rattle.board.specs.Shown.{Shown, InputShown, emitted_by, net, no_input, side_at, input_at, held_of, records_at}
 use Rattle.board.specs.Showing.{Shows, IsSideOf, EachShard}
 use Rattle.board.specs.Fitting.{FitsPlace, arity_in}
 use Rattle.board.specs.Kept.{IsKept}
@@ -44,12 +42,11 @@ shows_opening s is = record {
   emitted = λ v e. ≈-from (sym (ap (λ es. records_at es e) (is.emitted v) ∙ nothing_at e));
 }
 
--- a tracker with each input at epoch 0, and nothing else
+-- a tracker with what is active before the first step
 pub kept_opening : (graph : Graph) (content : Pointstamp → ℕ) (s : Shown) → IsFresh s → IsDataflow (shown_graph s.graph) → 0 < length s.sides → length s.sides ≤ 64 → graph ≡ shown_graph s.graph
     → length s.inputs ≡ input_count (shown_graph s.graph) → length s.emitted ≡ length (shown_graph s.graph) → IsTyped (shown_graph s.graph) (arity_in s.graph) → EachShard s (FitsPlace s.graph)
     → ((k : ℕ) → k < length s.sides → IsSideOf s (length s.sides) (side_at s k))
-    → ((q : Pointstamp) → content q ≡ sum_below (input_count (shown_graph s.graph)) (λ i. one_if_same q (at_vertex i (at_epoch 0))))
-    → IsKept graph content s
+    → ((q : Pointstamp) → content q ≡ active_count (net s) opening q) → IsKept graph content s
 kept_opening graph content s is flows some few same inputs room typed fits sides counts = record {
   flows = flows;
   some = some;
@@ -65,6 +62,5 @@ kept_opening graph content s is flows some few same inputs room typed fits sides
   run = refl;
   shows = shows_opening s is;
   fed = λ v e l kind r present. absurd (omega (arith, present));
-  tracked = λ q. let z : sum_below (length s.sides) (worker_count opening q) ≡ 0 = below_zero (length s.sides) (worker_count opening q) (λ k l. refl) in
-      let c = counts q in omega (arith, z, c);
+  tracked = counts;
 }

@@ -1,12 +1,8 @@
 -- What is handed out is ready to be computed.
-use Rattle.std.proofs.Common.{◌≡◌, ◌<◌, ℕ, List, [], ◌∷◌, length, sym, ap, ◌∙◌, subst, arith, slice_get, slice_index_or, Option, Some, None}
-use Rattle.semantics.specs.Multiset.{Record}
+use Rattle.std.proofs.Common.{◌≡◌, ◌<◌, ℕ, length, sym, ap, ◌∙◌, subst, slice_get, slice_index_or, Option, Some, None}
 use Rattle.semantics.specs.Graph.{Graph, target, in_port}
 use Rattle.semantics.specs.Could.{Pointstamp}
-use Rattle.semantics.specs.PortArity.{HaveFields}
-use Rattle.semantics.proofs.MultisetSums.{count_here}
 use Rattle.semantics.proofs.EdgeNumbers.{entered}
-use Rattle.rows.specs.FlatRows.{arity_of}
 use Rattle.graph.specs.Shown.{shown_graph}
 use Rattle.machine.specs.World.{Message, Request, Event}
 use Rattle.machine.specs.InTransit.{IsGoodMessage, IsGoodRequest}
@@ -18,16 +14,13 @@ use Rattle.tokens.specs.declared.rule.Place.{Place}
 use Rattle.tokens.specs.declared.rule.Place.TheVariants.{Home}
 use Rattle.events.specs.Jobs.{Job, IsReady}
 use Rattle.events.specs.Wired.{Wired}
+use Rattle.events.proofs.Readiness.{arity_of_fields}
 use Rattle.board.specs.Shown.{Shown, side_at}
 use Rattle.board.specs.Showing.{OnShard, EachShard, ShowsIn, known}
 use Rattle.board.specs.Fitting.{FitsVertex, FitsPlace, arity_in}
 use Rattle.board.specs.Kept.{IsKept}
 use Rattle.board.proofs.Facts.{run_on}
 use Rattle.board.proofs.Shards.{at_home}
-
-of_first : (n : ℕ) (rs : List Record) → HaveFields n rs → 0 < length rs → arity_of rs ≡ n
-of_first n [] h l = absurd (omega (arith, l))
-of_first n (r ∷ rs) h l = h r (count_here r rs)
 
 module _ (graph : Graph) (content : Pointstamp → ℕ) (s : Shown) (kept : IsKept graph content s) (k : ℕ) (there : k < length s.sides) (free : (side_at s k).place ≡ Home) where
   -- the shard of a vertex is at home
@@ -65,7 +58,7 @@ module _ (graph : Graph) (content : Pointstamp → ℕ) (s : Shown) (kept : IsKe
         record {
           good = good_message;
           kind = fits.kind;
-          takes = subst A (sym (of_first _ m.records fields good_message.some)) takes;
+          takes = subst A (sym (arity_of_fields _ m.records good_message.some fields)) takes;
           whole = (_, shows);
         }
 

@@ -166,6 +166,7 @@ impl<V: Views> Board<V> {
         plan.law_of_dataflow();
         plan.law_of_ports();
         views.reserve(plan.input_count() as u32)?;
+        machine::pointstamps::law_active();
         law_of_waiting();
         Ok(Board {
             state,

@@ -42,7 +42,7 @@ fn except_takes(
     let batch = singles(rt, alloc, values)?;
     let mut out = Out::new();
     shard.on_records(alloc, port, &Time::at_epoch(0), batch, &mut out)?;
-    Ok((out.asked(), sent(alloc, &mut out, 0)?.len()))
+    Ok((out.asked(), sent(alloc, out)?.len()))
 }
 
 /// What an except sends at the notification of epoch 0.
@@ -51,7 +51,7 @@ fn except_finishes(alloc: Global, shard: &Shard) -> Result<Vec<i64>, ShardFault>
 {
     let mut out = Out::new();
     shard.on_notify(alloc, &Time::at_epoch(0), &mut out)?;
-    sent(alloc, &mut out, 0)
+    sent(alloc, out)
 }
 
 /// What an intersect sends for records that come to a port in epoch 0.
@@ -70,7 +70,7 @@ fn intersect_sends(
     let batch = singles(rt, alloc, values)?;
     let mut out = Out::new();
     shard.on_records(alloc, port, &Time::at_epoch(0), batch, &mut out)?;
-    sent(alloc, &mut out, 0)
+    sent(alloc, out)
 }
 
 /// What an except answers to a batch on its left and one on its right, and what it sends at the notification.

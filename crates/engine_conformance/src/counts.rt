@@ -30,9 +30,10 @@ fn fives(rt: &impl Abort, alloc: Global, count: u64) -> Result<Batch, ShardFault
 }
 
 /// The different records that are sent by port 0, each followed by its count.
-fn counted(alloc: Global, out: &mut Out) -> Result<Vec<i64>, ShardFault> {
+fn counted(alloc: Global, out: Out) -> Result<Vec<i64>, ShardFault> {
     let mut fields = Vec::new(alloc);
-    if let Some(batch) = out.take(0) {
+    let (first, _second) = out.into_batches();
+    if let Some(batch) = first {
         for place in 0..batch.len() {
             fields.extend_from_slice(batch.row(place))?;
             fields.push(batch.count(place) as i64)?;
@@ -60,7 +61,7 @@ fn sends(
     let batch = fives(rt, alloc, count)?;
     let mut out = Out::new();
     shard.on_records(alloc, port, &Time::at_epoch(0), batch, &mut out)?;
-    counted(alloc, &mut out)
+    counted(alloc, out)
 }
 
 /// An except or a group takes 5 that many times, by its first port in epoch 0.
@@ -244,7 +245,7 @@ fn selected(rt: &impl Abort, alloc: Global, ones: u64, twos: u64) -> Result<Vec<
     let batch = two_fives(rt, alloc, ones, twos)?;
     let mut out = Out::new();
     shard.on_records(alloc, 0, &Time::at_epoch(0), batch, &mut out)?;
-    counted(alloc, &mut out)
+    counted(alloc, out)
 }
 
 #[test]
@@ -272,7 +273,7 @@ fn grouped(rt: &impl Abort, alloc: Global, ones: u64, twos: u64) -> Result<Vec<i
     shard.on_records(alloc, 0, &time, batch, &mut out)?;
     let mut done = Out::new();
     shard.on_notify(alloc, &time, &mut done)?;
-    counted(alloc, &mut done)
+    counted(alloc, done)
 }
 
 /// 3 + 4294967296 records, of which the sum is 3 + 2 x 4294967296; and twice as many as can be counted, whose number wraps around:

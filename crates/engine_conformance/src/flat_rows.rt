@@ -6,7 +6,6 @@ ghost use Rattle.rows.specs.Counts.{most, rows_of};
 use record_core::Record;
 use rows::{
     Batch, CountedRows, Lists, RowIndex, RowSet, Rows, RowsError, Tally, TallyError, field,
-    project_into,
 };
 use std::alloc::Global;
 use std::process::Abort;
@@ -36,7 +35,7 @@ fn built(alloc: Global) -> Result<(Vec<i64>, usize), RowsError> {
     let mut rows = Rows::with_capacity(alloc, 3, 2)?;
     rows.push(&[1, -2, 3])?;
     rows.push_joined(&[4], &[5, i64::MIN])?;
-    rows.push_projected(&[2, 0, 9], &[7, 8, i64::MAX])?;
+    rows.push(&[i64::MAX, 7, 0])?;
     Ok((fields(alloc, &rows)?, rows.arity()))
 }
 
@@ -364,14 +363,9 @@ fn without_columns_all_rows_agree(rt: HostRuntime) -> Result<(), Fail> {
 }
 
 #[test]
-fn columns_that_are_not_there_are_0(rt: HostRuntime) -> Result<(), Fail> {
+fn columns_that_are_not_there_are_0(rt: HostRuntime) {
     assert_eq!(rt;
         (field(&[3, -4], 1), field(&[3, -4], 2), field(&[], u64::MAX)),
         (-4, 0, 0)
     );
-    let mut key = Vec::new(rt.alloc());
-    project_into(&[1, 1, 5], &[3, -4], &mut key)?;
-    project_into(&[0, 1], &[3, -4], &mut key)?;
-    assert_eq!(rt; key.as_slice(), [3, -4].as_slice());
-    Ok(())
 }

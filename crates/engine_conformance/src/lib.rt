@@ -10,8 +10,6 @@ mod counts;
 #[cfg(test)]
 mod flat_rows;
 #[cfg(test)]
-mod kinds;
-#[cfg(test)]
 mod late_views;
 #[cfg(test)]
 mod path_summaries;

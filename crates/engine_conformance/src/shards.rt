@@ -55,12 +55,16 @@ pub fn pairs(rt: &impl Abort, alloc: Global, values: &[(i64, i64)]) -> Result<Ba
     Ok(batch)
 }
 
-/// The fields of the records that are sent by a port, record by record, equal ones with their repeats one after the other.
-pub fn sent(alloc: Global, out: &mut Out, port: u32) -> Result<Vec<i64>, ShardFault>
-    requires { port < 2 }
-{
+/// The fields of the records that are sent by port 0, record by record, equal ones with their repeats one after the other.
+pub fn sent(alloc: Global, out: Out) -> Result<Vec<i64>, ShardFault> {
+    let (first, _second) = out.into_batches();
+    fields_sent(alloc, first)
+}
+
+/// The same of the records that are sent by one port.
+pub fn fields_sent(alloc: Global, batch: Option<Batch>) -> Result<Vec<i64>, ShardFault> {
     let mut fields = Vec::new(alloc);
-    if let Some(batch) = out.take(port) {
+    if let Some(batch) = batch {
         for place in 0..batch.len() {
             for _ in 0..batch.count(place) {
                 fields.extend_from_slice(batch.row(place))?;

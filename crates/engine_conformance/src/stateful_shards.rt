@@ -70,7 +70,7 @@ fn distinct_sends(
     let batch = singles(rt, alloc, values)?;
     let mut out = Out::new();
     shard.on_records(alloc, 0, time, batch, &mut out)?;
-    sent(alloc, &mut out, 0)
+    sent(alloc, out)
 }
 
 /// What a join sends for records of two fields that come to a port.
@@ -90,7 +90,7 @@ fn join_sends(
     let batch = pairs(rt, alloc, values)?;
     let mut out = Out::new();
     shard.on_records(alloc, port, time, batch, &mut out)?;
-    sent(alloc, &mut out, 0)
+    sent(alloc, out)
 }
 
 /// Whether a group asks to be notified when records of two fields come, and how many fields it sends then.
@@ -108,7 +108,7 @@ fn group_takes(
     let batch = pairs(rt, alloc, values)?;
     let mut out = Out::new();
     shard.on_records(alloc, 0, time, batch, &mut out)?;
-    Ok((out.asked(), sent(alloc, &mut out, 0)?.len()))
+    Ok((out.asked(), sent(alloc, out)?.len()))
 }
 
 /// What a group sends at the notification of a time.
@@ -117,7 +117,7 @@ fn group_finishes(alloc: Global, shard: &Shard, time: &Time) -> Result<Vec<i64>,
 {
     let mut out = Out::new();
     shard.on_notify(alloc, time, &mut out)?;
-    sent(alloc, &mut out, 0)
+    sent(alloc, out)
 }
 
 /// What is sent for two batches, one after the other.

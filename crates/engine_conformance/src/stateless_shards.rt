@@ -9,7 +9,7 @@ ghost use Rattle.semantics.specs.Typing.{IsArity};
 ghost use Rattle.vertices.specs.Absorbed.{Absorbed};
 ghost use Rattle.vertices.specs.Shards.{Shows, TakesArity, by_port, shard_kind};
 
-use crate::shards::{NOWHERE, pairs, sent, shard_of, singles};
+use crate::shards::{NOWHERE, fields_sent, pairs, shard_of, singles};
 use expr_tree::{Comparison, Cond, Scalar};
 use graph::Kind;
 use loop_context::Time;
@@ -42,8 +42,9 @@ fn taken(
     let mut out = Out::new();
     shard.on_records(alloc, port, time, batch, &mut out)?;
     let asked = out.asked();
-    let first = sent(alloc, &mut out, 0)?;
-    let second = sent(alloc, &mut out, 1)?;
+    let (first, second) = out.into_batches();
+    let first = fields_sent(alloc, first)?;
+    let second = fields_sent(alloc, second)?;
     Ok(Sent {
         first,
         second,

@@ -1,17 +1,17 @@
-//! Graphs, with the tables of their edges.
+//! Graphs, with the list of their edges.
 
 ghost use Rattle.std.specs.Prelude.{◌≡◌, ◌≤◌, ◌<◌, length, map, slice_index_or, IfOk};
 ghost use Rattle.semantics.specs.Dataflow.{IsDataflow};
 ghost use Rattle.semantics.specs.Graph.{edge_count, edge_source, in_port, input_count, output_numbers, source, target, vertex};
 ghost use Rattle.semantics.specs.Kinds.{is_input};
 ghost use Rattle.semantics.specs.PortArity.{IsTyped};
-ghost use Rattle.graph.specs.Edges.{edge_list, edge_number, edge_of, edges_out};
+ghost use Rattle.graph.specs.Edges.{edge_list, edge_of};
 ghost use Rattle.graph.specs.GraphLaws.{HasProgramArities, IsProgramGraph};
 ghost use Rattle.graph.specs.Limits.{max_vertices};
 ghost use Rattle.graph.specs.Shown.{shown_arities, shown_graph, shown_inputs, shown_names};
 ghost use Rattle.graph.specs.Views.{graph_of, input_of, name_of_output, number_of_output, port_of, vertex_of};
 
-use crate::edges::{Edge, EdgeId, Outs, edges_of, outs_of_edges};
+use crate::edges::{Edge, EdgeId, edges_of};
 use crate::vertex::{Port, Vertex, VertexId, arity_at, two_sources};
 use expr_tree::NoMemory;
 use record_core::Name;
@@ -40,7 +40,6 @@ pub struct Graph {
     outputs: Vec<GraphOutput>,
     arities: Vec<u64>,
     edges: Vec<Edge>,
-    outs: Vec<Outs>,
 }
 
 impl Model for Graph {
@@ -50,7 +49,7 @@ impl Model for Graph {
     ghost use Rattle.std.specs.contracts.impls.GlobalAllocator.TheImpl as allocates;
     ghost use Rattle.expr_tree.specs.contracts.scalar.Scalar as scalar;
     ghost use Rattle.expr_tree.specs.contracts.condition.Cond as condition;
-    ghost use Rattle.graph.specs.Edges.{HasTables, edge_of, outs_of};
+    ghost use Rattle.graph.specs.Edges.{edge_list, edge_of};
     ghost use Rattle.graph.specs.GraphLaws.{HasProgramArities, IsProgramGraph};
     ghost use Rattle.graph.specs.Limits.{max_vertices};
     ghost use Rattle.semantics.specs.Dataflow.{IsDataflow};
@@ -65,7 +64,7 @@ impl Model for Graph {
     ghost view = { λ g. record { vertices = vec_items g.vertices; inputs = vec_items g.inputs; outputs = vec_items g.outputs; arities = vec_items g.arities } };
 
     ghost invariant = { λ g. ∥ IsProgramGraph (graph_of (vec_items g.vertices)) (map input_of (vec_items g.inputs)) ∥₁
-        × HasTables (graph_of (vec_items g.vertices)) (map edge_of (vec_items g.edges)) (map outs_of (vec_items g.outs))
+        × (map edge_of (vec_items g.edges) ≡ edge_list 0 (graph_of (vec_items g.vertices)))
         × (length (vec_items g.vertices) ≤ max_vertices)
         × ∥ HasProgramArities (graph_of (vec_items g.vertices)) (map input_of (vec_items g.inputs)) (vec_items g.arities) ∥₁
         × IsDataflow (graph_of (vec_items g.vertices))
@@ -73,7 +72,7 @@ impl Model for Graph {
 }
 
 impl Graph {
-    /// A graph of these parts, which are those of a well-typed program's. It makes the tables of the edges, so it fails where memory
+    /// A graph of these parts, which are those of a well-typed program's. It makes the list of the edges, so it fails where memory
     /// is refused.
     pub fn new(
         alloc: Global,
@@ -92,14 +91,12 @@ impl Graph {
         ensures arities { IfOk result (λ g. shown_arities g ≡ arities.items) }
     {
         let edges = edges_of(alloc, &vertices)?;
-        let outs = outs_of_edges(alloc, vertices.len(), &edges)?;
         Ok(Graph {
             vertices,
             inputs,
             outputs,
             arities,
             edges,
-            outs,
         })
     }
 
@@ -216,22 +213,6 @@ impl Graph {
         let edges = self.edges();
         let number = id.0 as usize;
         edges[number]
-    }
-
-    /// The edges that begin at an out port of a vertex, in order. Nothing is searched.
-    pub fn out_edges(&self, port: Port) -> &[EdgeId]
-        requires vertex { port.vertex.0 < length (shown_graph self.now) }
-        requires out { port.out < 2 }
-        ensures { map edge_number result.now ≡ edges_out (shown_graph self.now) (port_of port) }
-    {
-        let table: &[Outs] = &self.outs;
-        let number = port.vertex.0 as usize;
-        let outs = &table[number];
-        if port.out == 0 {
-            &outs.first
-        } else {
-            &outs.second
-        }
     }
 
     /// The inputs in order. The first vertices are theirs.

@@ -1,6 +1,6 @@
 //! Graphs of query texts: their texts, edges, depths and drawings.
 
-use graph::{EdgeId, Graph, Location, Port, VertexId, graph_dot, graph_text};
+use graph::{EdgeId, Graph, Location, VertexId, graph_dot, graph_text};
 use lowering::lower;
 use parser::parse;
 use std::alloc::Global;
@@ -49,17 +49,6 @@ fn edges_by_number(rt: HostRuntime) -> Result<(), Fail> {
     if graph.vertex_count() != 12 || graph.edge_count() != 12 {
         Err("other numbers")?
     }
-    let hold = VertexId(7);
-    let first = Port {
-        vertex: hold,
-        out: 0,
-    };
-    let second = Port {
-        vertex: hold,
-        out: 1,
-    };
-    assert_eq!(rt; graph.out_edges(first), [EdgeId(9)].as_slice());
-    assert_eq!(rt; graph.out_edges(second), [EdgeId(8)].as_slice());
     let back = graph.edge(EdgeId(2));
     assert_eq!(rt;
         (back.source.vertex, back.target, back.in_port),

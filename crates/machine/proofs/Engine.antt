@@ -7,7 +7,7 @@ use Rattle.semantics.specs.Kinds.{route_key, Kind, action, ends_turn, in_ports, 
 use Rattle.semantics.specs.Op.{IsCut, op}
 use Rattle.semantics.specs.Dataflow.{Goes, IsDataflow}
 use Rattle.semantics.specs.Flow.{edge_flow, Inputs, Flow, sent_by, sent_or_fed, port_flow, IsEdgeTime, IsFlow}
-use Rattle.semantics.specs.Graph.{edge_count, target, in_port, edge_into, edge_source, Vertex, Graph, no_vertex, vertex, input_count}
+use Rattle.semantics.specs.Graph.{edge_count, target, in_port, edge_into, edge_source, Vertex, Graph, no_vertex, vertex}
 use Rattle.semantics.specs.Route.{route, home_by, home}
 use Rattle.semantics.specs.Time.{in_first_turn, Time, last, deeper, outer, Action, after_action, times_before, below, turn_count, same_counters, same_time, at_epoch}
 use Rattle.semantics.proofs.MultisetSums.{Decides-same, ≈-refl, ≈-trans, ≈-from, total-append, empty_from_same, count_here}
@@ -15,6 +15,7 @@ use Rattle.semantics.proofs.MonotoneVertices.{Grows, op_part}
 use Rattle.semantics.proofs.TimesBefore.{Among, Defined, times_before_all, Reached, times_before_only}
 use Rattle.semantics.proofs.CouldRises.{step_fits, at_most_refl, could_self, could_on, could_founded}
 use Rattle.semantics.proofs.EdgeNumbers.{entered, into}
+use Rattle.semantics.proofs.InputNumbers.{input_kind}
 use Rattle.semantics.proofs.OneFlow.{op_same, one_flow}
 use Rattle.semantics.proofs.VertexLaws.{op_nothing, op_cut}
 use Rattle.semantics.proofs.RoutedParts.{home_below}
@@ -31,7 +32,7 @@ use Rattle.machine.proofs.Places.{same_time_tells, same_time_self}
 
 -- ---- roles
 
-pub role_input : (k : Kind) → role k ≡ Role.input → k ≡ Kind.input
+role_input : (k : Kind) → role k ≡ Role.input → k ≡ Kind.input
 role_input Kind.input e = refl
 role_input Kind.output e = absurd cc
 role_input Kind.concat e = absurd cc
@@ -150,41 +151,6 @@ known_kind g v n = go (known_or_none g v)
     go : (v < length g) ⊎ (vertex g v ≡ no_vertex) → v < length g
     go (inl l) = l
     go (inr e) = absurd (n (ap (λ (x : Vertex). x.kind) e))
-
-is_input_kind : (k : Kind) → is_input k ≡ true → k ≡ Kind.input
-is_input_kind Kind.input e = refl
-is_input_kind Kind.output e = absurd cc
-is_input_kind Kind.concat e = absurd cc
-is_input_kind Kind.distinct e = absurd cc
-is_input_kind Kind.except e = absurd cc
-is_input_kind Kind.intersect e = absurd cc
-is_input_kind Kind.ingress e = absurd cc
-is_input_kind Kind.egress e = absurd cc
-is_input_kind Kind.feedback e = absurd cc
-is_input_kind (Kind.select ss) e = absurd cc
-is_input_kind (Kind.filter c) e = absurd cc
-is_input_kind (Kind.join ps) e = absurd cc
-is_input_kind (Kind.group ks as') e = absurd cc
-is_input_kind (Kind.gate n) e = absurd cc
-is_input_kind (Kind.hold n) e = absurd cc
-
-input_kind : (g : Graph) (i : ℕ) → i < input_count g → (vertex g i).kind ≡ Kind.input
-unfolding vertex
-input_kind [] i l = absurd (omega arith)
-input_kind (x ∷ g) i l = go (is_input x.kind) refl (λ j m. input_kind g j m) i l
-  where
-    go : (b : Bool) → is_input x.kind ≡ b → ((j : ℕ) → j < input_count g → (slice_index_or g j no_vertex).kind ≡ Kind.input) → (i : ℕ) → i < cond b (suc (input_count g)) 0 → (slice_index_or (x ∷ g) i no_vertex).kind ≡ Kind.input
-    go true e ih zero l = is_input_kind x.kind e
-    go true e ih (suc i) l = ih i (omega arith)
-    go false e ih i l = absurd (omega arith)
-
-pub few_inputs : (g : Graph) → input_count g ≤ length g
-few_inputs [] = omega arith
-few_inputs (x ∷ g) = go (is_input x.kind) (few_inputs g)
-  where
-    go : (b : Bool) → input_count g ≤ length g → cond b (suc (input_count g)) 0 ≤ suc (length g)
-    go true h = omega (arith, h)
-    go false h = omega arith
 
 goes_up : (loops : ℕ → List ℕ) (v w : ℕ) (a : Action) → Goes loops v w a → a ≡ Action.stay → v < w
 goes_up loops v w a (Goes.same_loop e h) s = h

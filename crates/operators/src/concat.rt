@@ -15,12 +15,4 @@ impl Operator for Concat {
     ghost nothing = { λ _. op_nothing Kind.concat };
 
     ghost parts = { λ _. op_parts Kind.concat };
-
-    fn in_ports(&self) -> u32 {
-        2
-    }
-
-    fn out_ports(&self) -> u32 {
-        1
-    }
 }

@@ -15,12 +15,4 @@ impl Operator for Distinct {
     ghost nothing = { λ _. op_nothing Kind.distinct };
 
     ghost parts = { λ _. op_parts Kind.distinct };
-
-    fn in_ports(&self) -> u32 {
-        1
-    }
-
-    fn out_ports(&self) -> u32 {
-        1
-    }
 }

@@ -15,12 +15,4 @@ impl Operator for Egress {
     ghost nothing = { λ _. op_nothing Kind.egress };
 
     ghost parts = { λ _. op_parts Kind.egress };
-
-    fn in_ports(&self) -> u32 {
-        1
-    }
-
-    fn out_ports(&self) -> u32 {
-        1
-    }
 }

@@ -15,12 +15,4 @@ impl Operator for Except {
     ghost nothing = { λ _. op_nothing Kind.except };
 
     ghost parts = { λ _. op_parts Kind.except };
-
-    fn in_ports(&self) -> u32 {
-        2
-    }
-
-    fn out_ports(&self) -> u32 {
-        1
-    }
 }

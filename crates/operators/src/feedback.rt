@@ -15,12 +15,4 @@ impl Operator for Feedback {
     ghost nothing = { λ _. op_nothing Kind.feedback };
 
     ghost parts = { λ _. op_parts Kind.feedback };
-
-    fn in_ports(&self) -> u32 {
-        1
-    }
-
-    fn out_ports(&self) -> u32 {
-        1
-    }
 }

@@ -32,14 +32,6 @@ impl Operator for Where {
     ghost nothing = { λ v. op_nothing (Kind.filter (plain_cond (cond_tree v.condition))) };
 
     ghost parts = { λ v. op_parts (Kind.filter (plain_cond (cond_tree v.condition))) };
-
-    fn in_ports(&self) -> u32 {
-        1
-    }
-
-    fn out_ports(&self) -> u32 {
-        1
-    }
 }
 
 impl Where {

@@ -30,14 +30,6 @@ impl Operator for Group {
     ghost nothing = { λ v. op_nothing (Kind.group (map (λ k. k.index) v.columns.items) (map plain_agg v.aggregates.items)) };
 
     ghost parts = { λ v. op_parts (Kind.group (map (λ k. k.index) v.columns.items) (map plain_agg v.aggregates.items)) };
-
-    fn in_ports(&self) -> u32 {
-        1
-    }
-
-    fn out_ports(&self) -> u32 {
-        1
-    }
 }
 
 /// At most 16 numbers, stored inline: a key, or a key's aggregates.

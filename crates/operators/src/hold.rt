@@ -18,12 +18,4 @@ impl Operator for Hold {
     ghost nothing = { λ v. op_nothing (Kind.hold v.turns) };
 
     ghost parts = { λ v. op_parts (Kind.hold v.turns) };
-
-    fn in_ports(&self) -> u32 {
-        1
-    }
-
-    fn out_ports(&self) -> u32 {
-        2
-    }
 }

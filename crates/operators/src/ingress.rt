@@ -15,12 +15,4 @@ impl Operator for Ingress {
     ghost nothing = { λ _. op_nothing Kind.ingress };
 
     ghost parts = { λ _. op_parts Kind.ingress };
-
-    fn in_ports(&self) -> u32 {
-        1
-    }
-
-    fn out_ports(&self) -> u32 {
-        1
-    }
 }

@@ -15,12 +15,4 @@ impl Operator for Input {
     ghost nothing = { λ _. op_nothing Kind.input };
 
     ghost parts = { λ _. op_parts Kind.input };
-
-    fn in_ports(&self) -> u32 {
-        0
-    }
-
-    fn out_ports(&self) -> u32 {
-        1
-    }
 }

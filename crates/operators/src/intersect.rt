@@ -15,12 +15,4 @@ impl Operator for Intersect {
     ghost nothing = { λ _. op_nothing Kind.intersect };
 
     ghost parts = { λ _. op_parts Kind.intersect };
-
-    fn in_ports(&self) -> u32 {
-        2
-    }
-
-    fn out_ports(&self) -> u32 {
-        1
-    }
 }

@@ -1,7 +1,7 @@
 //! The trait of all kinds of vertices.
 
 ghost use Rattle.std.specs.Prelude.{◌≡◌, ℕ, List, []};
-ghost use Rattle.semantics.specs.Kinds.{Kind, in_ports, out_ports};
+ghost use Rattle.semantics.specs.Kinds.{Kind};
 ghost use Rattle.semantics.specs.Multiset.{Record, ◌≈◌, end_to_end};
 ghost use Rattle.semantics.specs.Op.{op, IsCut, IsSum};
 ghost use Rattle.semantics.specs.Time.{Time};
@@ -14,14 +14,6 @@ ghost use Rattle.semantics.specs.Time.{Time};
 /// spread over workers by route key.
 pub trait Operator {
     ghost kind_of: { Self → Kind };
-
-    /// The number of in ports.
-    fn in_ports(&self) -> u32
-        ensures { result ≡ in_ports (kind_of self.now) };
-
-    /// The number of out ports.
-    fn out_ports(&self) -> u32
-        ensures { result ≡ out_ports (kind_of self.now) };
 
     // Nothing in gives nothing out.
     ghost nothing: { (v : Self) (t : Time) (out : ℕ) → op (kind_of v) t (λ p. []) out ≡ [] };

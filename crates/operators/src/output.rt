@@ -15,12 +15,4 @@ impl Operator for Output {
     ghost nothing = { λ _. op_nothing Kind.output };
 
     ghost parts = { λ _. op_parts Kind.output };
-
-    fn in_ports(&self) -> u32 {
-        1
-    }
-
-    fn out_ports(&self) -> u32 {
-        0
-    }
 }

@@ -41,14 +41,6 @@ impl Operator for Select {
     ghost nothing = { λ v. op_nothing (Kind.select (plain_scalars v.scalars.items)) };
 
     ghost parts = { λ v. op_parts (Kind.select (plain_scalars v.scalars.items)) };
-
-    fn in_ports(&self) -> u32 {
-        1
-    }
-
-    fn out_ports(&self) -> u32 {
-        1
-    }
 }
 
 impl Select {

@@ -4,6 +4,5 @@ pub mod Options
 pub mod Contents
 pub mod Earlier
 pub mod Places
-pub mod Found
 pub mod ChangesMade
 pub mod CountsKept

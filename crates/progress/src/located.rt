@@ -79,15 +79,6 @@ impl LocationTracker {
     }
 }
 
-impl LocationTracker {
-    /// Whether `p` is active. The cost is the height of its location's tree.
-    pub fn is_active(&self, p: &Pointstamp) -> bool
-        ensures { IsTrue result ↔ (0 < times_at self.now.edges self.now.vertices p.now) }
-    {
-        is_among(&self.edges, &self.vertices, p)
-    }
-}
-
 impl Progress for LocationTracker {
     ghost graph = { λ t. shown_graph t.graph };
 
@@ -189,16 +180,6 @@ fn is_empty_at(edges: &[Tree], vertices: &[Tree], location: Location) -> bool
     match tree_at(edges, vertices, location) {
         Some(tree) => tree.is_empty(),
         None => true,
-    }
-}
-
-/// Whether the tree of its location has `p`.
-fn is_among(edges: &[Tree], vertices: &[Tree], p: &Pointstamp) -> bool
-    ensures { IsTrue result ↔ (0 < times_at edges.now vertices.now p.now) }
-{
-    match tree_at(edges, vertices, p.location()) {
-        Some(tree) => tree.has(p.time()),
-        None => false,
     }
 }
 

@@ -286,24 +286,6 @@ impl Tree {
         }
     }
 
-    /// Whether the tree has this time.
-    pub fn has(&self, time: &Time) -> bool
-        ensures { IsTrue result ↔ (0 < count self.now time.now) }
-    {
-        match &self.node {
-            Node::Leaf => false,
-            Node::Fork(left, here, split, right) => {
-                if here.time == *time {
-                    true
-                } else if key(time) < *split {
-                    left.has(time)
-                } else {
-                    right.has(time)
-                }
-            }
-        }
-    }
-
     /// A time with the least counters, among those in no later epoch than `until` and, if `other`, different from it.
     pub fn least(&self, until: &Time, other: bool) -> Option<&Time>
         ensures none { IfNone result (IsNoneAsked self.now until.now other) }

@@ -4,12 +4,12 @@ use Rattle.std.specs.Prelude.{option_map, slice_get, slice_index_or}
 use Rattle.std.proofs.Math.Logic.{∥∥₁_elim}
 use Rattle.std.proofs.Math.Nat.{ℕ_set}
 use Rattle.std.proofs.Math.Bridge.{le_prop}
-use Rattle.machine.proofs.Engine.{few_inputs}
 use Rattle.std.proofs.lemmas.Option.{slice_get_within, get_or_from_slice_get, slice_get-map}
 use Rattle.semantics.specs.Query.{Input, Program}
 use Rattle.semantics.specs.Graph.{Graph, Vertex, input_count}
 use Rattle.semantics.specs.Lower.{lowered, input_vertices, lets_of, outputs_of}
 use Rattle.semantics.specs.PortArity.{program_arities}
+use Rattle.semantics.proofs.InputNumbers.{few_inputs}
 use Rattle.graph.specs.Shown.{GraphValue, shown_graph, shown_inputs, shown_arities}
 use Rattle.graph.specs.GraphLaws.{HasProgramArities}
 use Rattle.replay.specs.Steps.{AreInputsOf}

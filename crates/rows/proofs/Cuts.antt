@@ -1,10 +1,9 @@
 -- Numbers cut into rows.
-use Rattle.std.proofs.Common.{◌≡◌, ℕ, zero, suc, ◌+◌, ◌*◌, ◌-◌, ◌≤◌, ◌<◌, List, [], ◌∷◌, ◌++◌, length, take, drop, get_or, ℤ, refl, sym, ap, ap₂, ◌∙◌, arith, append_assoc, length-append}
+use Rattle.std.proofs.Common.{◌≡◌, ℕ, zero, suc, ◌+◌, ◌*◌, ◌-◌, ◌≤◌, ◌<◌, List, [], ◌∷◌, ◌++◌, length, take, drop, ℤ, refl, sym, ap, ap₂, ◌∙◌, arith, append_assoc, length-append}
 use Rattle.std.specs.Prelude.{slice_index_or, slice_set}
 use Rattle.std.proofs.Math.Numerals.{add-one}
-use Rattle.std.proofs.lemmas.List.{take-append-le, drop-append-le, length-drop, length-take-le, take-append-drop, map-append, take_more, take_all}
+use Rattle.std.proofs.lemmas.List.{take-append-le, drop-append-le, length-drop, length-take-le, take-append-drop, take_all}
 use Rattle.rows.specs.FlatRows.{RowList, cut, AllHave, arity_of}
-use Rattle.semantics.specs.Meaning.{field, project}
 
 pub length_cut : (n k : ℕ) (xs : List ℤ) → length (cut n k xs) ≡ k
 length_cut n zero xs = refl
@@ -150,13 +149,3 @@ cut_set n k i xs ys all h e f g =
     let whole : all ≡ p ++ (ys ++ s) = g ∙ append_assoc p ys (drop (i * n + length ys) xs) ∙ rest in
     (λ j. cut n (many j) (whole j)) ∙ cut_parts n i m p ys s front f
     ∙ sym (set_there (cut n i p) (cut n m s) q ys i (length_cut n i p)) ∙ ap (λ l. slice_set l i ys) (sym (cut_parts n i m p q s front piece) ∙ (λ j. cut n (sym many j) (sym parts j)))
-
-pub length_project : (cs : List ℕ) (r : List ℤ) → length (project cs r) ≡ length cs
-length_project [] r = refl
-length_project (c ∷ cs) r = ap suc (length_project cs r)
-
--- one column more of a row, put at the end
-pub project_more : (old now new : List ℤ) (cs : List ℕ) (row : List ℤ) (i : ℕ) (v : ℤ) → i < length cs → v ≡ field (get_or cs i 0) row → new ≡ now ++ v ∷ [] → now ≡ old ++ project (take i cs) row → new ≡ old ++ project (take (i + 1) cs) row
-project_more old now new cs row i v h e f g =
-    let more : project (take (i + 1) cs) row ≡ project (take i cs) row ++ field (get_or cs i 0) row ∷ [] = ap (λ l. project l row) (take_more cs i 0 h) ∙ map-append (λ c. field c row) (take i cs) (get_or cs i 0 ∷ []) in
-    f ∙ ap (λ l. l ++ v ∷ []) g ∙ append_assoc old (project (take i cs) row) (v ∷ []) ∙ ap (λ l. old ++ l) (ap (λ y. project (take i cs) row ++ y ∷ []) e ∙ sym more)

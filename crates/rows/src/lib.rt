@@ -25,7 +25,7 @@ mod tally;
 
 pub use batch::Batch;
 pub use builder::{MAX_ARITY, Rows};
-pub use columns::{field, project_into};
+pub use columns::field;
 pub use counted::{CountedRows, MAX_COUNT};
 pub use error::{RowsError, TallyError};
 pub use index::RowIndex;

@@ -32,6 +32,7 @@ pub mod LoweredRelations
 pub mod LoweredPrograms
 pub mod LoweredLoops
 pub mod QuietEnds
+pub mod InputNumbers
 pub mod OutputNumbers
 pub mod LoweredDataflow
 pub mod TypedPorts

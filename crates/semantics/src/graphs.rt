@@ -5,7 +5,7 @@ ghost use Rattle.semantics.specs.Meaning.{program_meaning};
 ghost use Rattle.semantics.specs.Typing.{WellTyped};
 ghost use Rattle.semantics.specs.Time.{Time, at_epoch, last, turn_count};
 ghost use Rattle.semantics.specs.Kinds.{Kind, ends_turn};
-ghost use Rattle.semantics.specs.Graph.{Graph, vertex, source, output_numbers, output_number};
+ghost use Rattle.semantics.specs.Graph.{Graph, vertex, source, edge_count, edge_into, in_port, input_count, output_numbers, output_number, target};
 ghost use Rattle.semantics.specs.PortArity.{HaveFields, IsTyped, program_arities};
 ghost use Rattle.semantics.specs.Flow.{Inputs, Flow, IsFlow, IsEdgeTime, HasOneFlow};
 ghost use Rattle.semantics.specs.Dataflow.{IsDataflow};
@@ -14,6 +14,20 @@ ghost use Rattle.semantics.specs.Lower.{lowered};
 /// A dataflow graph has exactly one flow on any inputs.
 pub fn law_one_flow()
     ensures { (g : Graph) → IsDataflow g → (inputs : Inputs) → HasOneFlow g inputs }
+{}
+
+/// A graph's edges by their numbers: each enters an in port of a vertex, and each in port is entered by the edge of one number.
+pub fn law_edges()
+    ensures entered { (g : Graph) (edge : ℕ) → edge < edge_count g →
+        (target g edge < length g) × (in_port g edge < length (vertex g (target g edge)).ins) × (edge_into g (target g edge) (in_port g edge) ≡ edge) }
+    ensures into { (g : Graph) (v port : ℕ) → port < length (vertex g v).ins →
+        (v < length g) × (edge_into g v port < edge_count g) × (target g (edge_into g v port) ≡ v) × (in_port g (edge_into g v port) ≡ port) }
+{}
+
+/// A graph's inputs by their places: each is an input vertex, of the same number, and a dataflow graph has no other input vertex.
+pub fn law_inputs()
+    ensures input { (g : Graph) (input : ℕ) → input < input_count g → (input < length g) × ((vertex g input).kind ≡ Kind.input) }
+    ensures all { (g : Graph) → IsDataflow g → (v : ℕ) → v < length g → (vertex g v).kind ≡ Kind.input → v < input_count g }
 {}
 
 /// A graph's outputs by their places: each is an output vertex, each output vertex has a place, and the numbers rise.

@@ -1,6 +1,6 @@
 //! What a shard sends and asks for.
 
-ghost use Rattle.std.specs.Prelude.{◌≡◌, ◌<◌, None, OnOk, IfErr, false};
+ghost use Rattle.std.specs.Prelude.{◌≡◌, None, OnOk, IfErr, false};
 ghost use Rattle.rows.specs.Counts.{AllFit, expanded, rows_of};
 ghost use Rattle.rows.specs.Indexes.{AreDifferent};
 ghost use Rattle.vertices.specs.declared.fault.ShardFault.TheVariants.{NoMemory};
@@ -31,20 +31,7 @@ impl Out {
         }
     }
 
-    /// Takes out what is sent by an out port, 0 or 1; `None` where nothing is.
-    pub fn take(&mut self, port: u32) -> Option<Batch>
-        requires { port < 2 }
-        ensures taken { records_of result ≡ two self.old port }
-        ensures asked { self.new.asked ≡ self.old.asked }
-    {
-        if port == 0 {
-            self.first.take()
-        } else {
-            self.second.take()
-        }
-    }
-
-    /// What is sent by out ports 0 and 1.
+    /// What is sent by out ports 0 and 1; `None` where nothing is.
     pub fn into_batches(self) -> (Option<Batch>, Option<Batch>)
         ensures first { records_of result.0 ≡ two self 0 }
         ensures second { records_of result.1 ≡ two self 1 }

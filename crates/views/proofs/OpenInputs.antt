@@ -1,21 +1,19 @@
 -- Each input may be active at epoch 0.
-use Rattle.std.proofs.Common.{◌≡◌, inl, ◌<◌, ◌≤◌, ◌+◌, ℕ, zero, suc, List, [], ◌∷◌, ◌++◌, length, refl, sym, subst, arith, add-one}
-use Rattle.semantics.specs.Graph.{Graph, vertex, input_count}
+use Rattle.std.proofs.Common.{◌≡◌, inl, ◌<◌, ◌≤◌, ◌+◌, ℕ, zero, suc, List, [], ◌∷◌, ◌++◌, refl, sym, subst, arith, add-one}
+use Rattle.semantics.specs.Graph.{Graph, input_count}
 use Rattle.semantics.specs.Could.{Location, Pointstamp, IsTimeAt, at_vertex}
 use Rattle.semantics.specs.Time.{at_epoch}
-use Rattle.semantics.specs.Kinds.{role}
 use Rattle.semantics.specs.Dataflow.{IsDataflow}
+use Rattle.semantics.proofs.InputNumbers.{input_is_there}
 use Rattle.machine.specs.Active.{one_if_same, sum_below}
 use Rattle.machine.proofs.Active.{one_is}
-use Rattle.machine.proofs.Engine.{few_inputs, network_is, role_input}
 use Rattle.progress.specs.Content.{times_in}
 use Rattle.progress.proofs.Contents.{times-push}
 
 pub input_opens : (g : Graph) → IsDataflow g → (i : ℕ) → i < input_count g → IsTimeAt g (Location.vertex i) (at_epoch 0)
 input_opens g flows i l =
-    let role = (network_is g flows 1 (omega arith)).input_has_role i l in
-    let there : i < length g = omega (arith, l, few_inputs g) in
-    (there, sym (flows.shaped.flat i there (inl (role_input (vertex g i).kind role))))
+    let there = input_is_there g i l in
+    (there.0, sym (flows.shaped.flat i there.0 (inl there.1)))
 
 -- the first n inputs
 abbrev pub AreOpened : List Pointstamp → ℕ → Type 0

@@ -38,7 +38,6 @@ use Rattle.graph.proofs.vertex.Sources.TheSendSync as sources
 use Rattle.graph.proofs.graph.DeclaredInput.TheSendSync as declared
 use Rattle.graph.proofs.graph.GraphOutput.TheSendSync as graph_outputs
 use Rattle.graph.proofs.edges.Edge.TheSendSync as edges
-use Rattle.graph.proofs.edges.Outs.TheSendSync as outs
 use Rattle.graph.proofs.location.Location.TheSendSync as locations
 use Rattle.events.proofs.wiring.Fanout.TheSendSync as fanouts
 use Rattle.events.proofs.happening.Happening.TheSendSync as happenings
@@ -93,10 +92,10 @@ vertex_send : IsSend vertex.the_row
 vertex_send = search (sendable, crosses, kind_field_send, sources.the_field_send) depth 20
 
 graph_sync : IsSync graph.the_row
-graph_sync = search (sendable, crosses, vertex_sync, declared.the_sync, graph_outputs.the_sync, edges.the_sync, outs.the_sync) depth 20
+graph_sync = search (sendable, crosses, vertex_sync, declared.the_sync, graph_outputs.the_sync, edges.the_sync) depth 20
 
 graph_send : IsSend graph.the_row
-graph_send = search (sendable, crosses, vertex_send, declared.the_send, graph_outputs.the_send, edges.the_send, outs.the_send) depth 20
+graph_send = search (sendable, crosses, vertex_send, declared.the_send, graph_outputs.the_send, edges.the_send) depth 20
 
 pub wiring_sync : IsSync wiring.the_row
 wiring_sync = search (sendable, crosses, graph_sync, graph_send, fanouts.the_sync) depth 20

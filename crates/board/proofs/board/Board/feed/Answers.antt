@@ -1,12 +1,10 @@
 use Rattle.std.proofs.Common.{ap, ◌≡◌, ◌<◌, ℕ, None, length, sym, ◌∙◌, subst}
 use Rattle.semantics.specs.Graph.{vertex}
 use Rattle.semantics.specs.Kinds.{Kind}
-use Rattle.graph.specs.Shown.{shown_graph}
 use Rattle.events.specs.Wired.{Wired, graph_in}
 use Rattle.board.specs.Answers.{feed_refusal}
 use Rattle.board.specs.Shown.{Shown}
-use Rattle.machine.proofs.Engine.{role_input}
-use Rattle.board.proofs.Ended.{feed_tells, open_tells, input_located, role_is}
+use Rattle.board.proofs.Ended.{feed_tells, open_tells, there}
 use Rattle.board.specs.Lateness.{BoardShown}
 use Rattle.board.proofs.board.Board.feed.Goals as goal
 
@@ -16,7 +14,7 @@ of-requires-clause-there g c =
     let i : ℕ = c.args.input in
     let none : feed_refusal s i c.args.batch ≡ None = subst (λ (z : Shown). feed_refusal z i c.args.batch ≡ None) (sym (ap (λ (b : BoardShown). b.shown) c.self.view_is)) (sym c.feed_refusal.ensures ∙ c.in_default.is) in
     let takes = open_tells s i (feed_tells s i c.args.batch none).0 in
-    subst (λ (w : Wired). i < length (graph_in w)) (sym c.wiring.ensures) (input_located (g.V.Views.graph c.self.inside.views) (g.V.Views.content c.self.inside.views) s c.self.invariant.kept i takes 0).0
+    subst (λ (w : Wired). i < length (graph_in w)) (sym c.wiring.ensures) (there (g.V.Views.graph c.self.inside.views) (g.V.Views.content c.self.inside.views) s c.self.invariant.kept i takes).0
 
 pub of-requires-clause-input : goal.of-requires-clause-input
 of-requires-clause-input g c =
@@ -24,5 +22,5 @@ of-requires-clause-input g c =
     let i : ℕ = c.args.input in
     let none : feed_refusal s i c.args.batch ≡ None = subst (λ (z : Shown). feed_refusal z i c.args.batch ≡ None) (sym (ap (λ (b : BoardShown). b.shown) c.self.view_is)) (sym c.feed_refusal.ensures ∙ c.in_default.is) in
     let takes = open_tells s i (feed_tells s i c.args.batch none).0 in
-    let is = role_input (vertex (shown_graph s.graph) i).kind (role_is (g.V.Views.graph c.self.inside.views) (g.V.Views.content c.self.inside.views) s c.self.invariant.kept i takes) in
+    let is = (there (g.V.Views.graph c.self.inside.views) (g.V.Views.content c.self.inside.views) s c.self.invariant.kept i takes).1 in
     subst (λ (w : Wired). (vertex (graph_in w) i).kind ≡ Kind.input) (sym c.wiring.ensures) is

@@ -28,7 +28,8 @@ invariant_of-result g c =
     record {
       kept = kept_new (g.V.Views.graph c.reserve.new.self) (g.V.Views.content c.reserve.new.self) c.args.graph.value c.args.workers s is c.requires.some c.requires.few
           (subst A c.graph-plan.ensures c.law_of_dataflow.ensures) same (subst B c.graph-plan.ensures c.law_of_ports.ensures)
-          (λ q. c.reserve.ensures.content q ∙ c.requires.first q ∙ ap (λ (x : GraphValue). active_at_first (shown_graph x) q) (sym is.graph));
+          (λ q. c.reserve.ensures.content q ∙ c.requires.first q ∙ ap (λ (x : GraphValue). active_at_first (shown_graph x) q) (sym is.graph)
+          ∙ sym (c.law_active.ensures.opening (shown_graph s.graph) (length s.sides) q));
       viewers_are = many;
       closes = (let r = c.in_ok-reserve.ensures.room in let o = few_open s.inputs in let k = is.inputs ∙ ap (λ (x : GraphValue). input_count (shown_graph x)) (sym is.graph) in omega (arith, r, o, k, count));
       prompt = λ late w k l m. c.reserve.ensures.waiting w k ∙ c.requires.none w k (let e = c.reserve.ensures.workers in let v = c.requires.viewers in omega (arith, l, e, v));
