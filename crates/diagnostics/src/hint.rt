@@ -6,6 +6,16 @@ use crate::bracket::{
 use crate::names::is_like;
 use record_core::{Keyword, Span};
 
+/// The hint for a `:`, by the item that it is in.
+fn of_colon(before: &[u8]) -> &'static str {
+    let (front, last) = split_word(before);
+    match (last_word(front), last) {
+        (b"input", _) => "an input is written input a/2;",
+        (b"output", _) | (_, b"output") => "an output is written output b = a;",
+        _ => "a let is written let b = a;",
+    }
+}
+
 /// The hint for a byte that begins no word, by what is before and after it.
 fn of_byte(before: &[u8], byte: u8, behind: &[u8]) -> Option<&'static str> {
     match (byte, behind) {
@@ -24,7 +34,7 @@ fn of_byte(before: &[u8], byte: u8, behind: &[u8]) -> Option<&'static str> {
         (b'^', _) => Some("a power is a product, as in #0 * #0"),
         (b'_', _) => Some("a number has only digits, and a name begins with a letter"),
         (b'~', _) => Some("unequal is written !="),
-        (b':', _) => Some("a let is written let b = a;"),
+        (b':', _) => Some(of_colon(before)),
         (b'{' | b'}', _) => Some("brackets are ( ) and [ ]"),
         (0xef, [0xbb, 0xbf, ..]) if before.is_empty() => Some(
             "the text begins with a byte order mark; remove it",
