@@ -16,7 +16,9 @@ use crate::sources::Sources;
 use bumpalo::Bump;
 use collector::Watched;
 use command_line::{GraphForm, HeapSize, LineFault, Options, Workers, options};
-use diagnostics::{Fault, Plain, Texts, Word, explain_fault, row_of_word, write_explanation};
+use diagnostics::{
+    Fault, Plain, Texts, Word, explain_fault, row_of_word, write_explanation, write_path_hint,
+};
 use execution::Watcher;
 use linked_list_allocator::LocalHeap;
 use refusals::NUMBERS;
@@ -270,6 +272,7 @@ fn write_fault<E: Write>(
     }
     if explain {
         let _ = explain_fault(alloc, fault, texts, &mut text);
+        let _ = write_path_hint(fault, query, &mut text);
     }
     err.write_all(text.as_slice())
 }

@@ -6,9 +6,50 @@ use crate::bracket::{
 use crate::names::is_like;
 use record_core::{Keyword, Span};
 
+/// The text is no query.
+const FILES: &str =
+    "the first file is the query, the second the input; a query begins with its inputs, as in input a/1;";
+
+/// Whether the rest of a text goes on with a sign right after the text's first word, as a CSV file does.
+fn is_separated(behind: &[u8]) -> bool {
+    let end = behind.iter().find(
+        |byte| !matches!(**byte, b'a'..=b'z' | b'A'..=b'Z' | b'0'..=b'9' | b'_'),
+    );
+    match end {
+        Some(byte) => matches!(*byte, b',' | b';' | b'|'),
+        None => false,
+    }
+}
+
+/// Whether a text begins with a word or a number that can't begin a query.
+fn is_other(text: &[u8]) -> bool {
+    let text = text.trim_ascii_start();
+    let length = text
+        .iter()
+        .take_while(|byte| matches!(**byte, b'a'..=b'z' | b'0'..=b'9' | b'_'))
+        .count();
+    match text.get(..length) {
+        None | Some([]) => false,
+        Some(word) => word != b"input".as_slice(),
+    }
+}
+
+/// The hint for a `:`, by the item that it is in.
+fn of_colon(before: &[u8]) -> &'static str {
+    let (front, last) = split_word(before);
+    match (last_word(front), last) {
+        (b"input", _) => "an input is written input a/2;",
+        (b"output", _) | (_, b"output") => "an output is written output b = a;",
+        _ => "a let is written let b = a;",
+    }
+}
+
 /// The hint for a byte that begins no word, by what is before and after it.
 fn of_byte(before: &[u8], byte: u8, behind: &[u8]) -> Option<&'static str> {
     match (byte, behind) {
+        (b'\'' | b'"', _) if before.is_empty() => Some(FILES),
+        (b'A'..=b'Z', _) if before.is_empty() && is_separated(behind) => Some(FILES),
+        _ if is_other(before) => Some(FILES),
         (b'A'..=b'Z', _) if before.is_empty() => Some(
             "a query begins with its inputs, in lower case, as in input a/1;",
         ),
@@ -24,7 +65,7 @@ fn of_byte(before: &[u8], byte: u8, behind: &[u8]) -> Option<&'static str> {
         (b'^', _) => Some("a power is a product, as in #0 * #0"),
         (b'_', _) => Some("a number has only digits, and a name begins with a letter"),
         (b'~', _) => Some("unequal is written !="),
-        (b':', _) => Some("a let is written let b = a;"),
+        (b':', _) => Some(of_colon(before)),
         (b'{' | b'}', _) => Some("brackets are ( ) and [ ]"),
         (0xef, [0xbb, 0xbf, ..]) if before.is_empty() => Some(
             "the text begins with a byte order mark; remove it",
@@ -279,6 +320,7 @@ pub fn hint(text: &[u8], code: u8, span: Span) -> Option<&'static str> {
     match (code, word) {
         (1, [byte]) => of_byte(before, *byte, behind),
         (4, []) => of_end(before),
+        (4, _) if before.is_empty() && is_separated(behind) => Some(FILES),
         (4, _) => of_sign(before, word, behind)
             .or(of_relation(before, word, behind))
             .or(of_item(before, word))

@@ -3,12 +3,16 @@
 /// The line ends in two bytes.
 const CARRIAGE_RETURN: &str = "the line ends in CR LF; remove the CR, as by tr -d '\\r'";
 
+/// A sign comes between fields.
+const SIGN: &str =
+    "fields are separated by one space, not by , ; or |; for CSV see \"From CSV, and back\" in LANGUAGE.md";
+
 /// The hint for a word in which a sign is between fields in place of a space.
 fn of_separator(word: &[u8]) -> Option<&'static str> {
     if word.contains(&b'\t') {
         Some("fields are separated by one space, not by a tab")
     } else if word.iter().any(|byte| matches!(*byte, b',' | b';' | b'|')) {
-        Some("fields are separated by one space, not by , ; or |")
+        Some(SIGN)
     } else {
         None
     }

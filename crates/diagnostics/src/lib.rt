@@ -30,3 +30,4 @@ pub use explain::explain_fault;
 pub use explanation::{row_of_word, write_explanation};
 pub use fault::Fault;
 pub use read_texts::Texts;
+pub use reason::write_path_hint;

@@ -1,5 +1,6 @@
 //! Why a text can't be read.
 
+use crate::fault::Fault;
 use std::io;
 use std::io::{ErrorKind, Write};
 
@@ -22,5 +23,16 @@ fn sentence(kind: ErrorKind) -> &'static str {
         ErrorKind::FilesystemLoop => "too many symbolic links",
         ErrorKind::WouldBlock => "there is nothing to read yet, and this stream doesn't wait",
         _ => "the system can't read it",
+    }
+}
+
+/// Writes how a query is given without a file, if a query couldn't be read and its path looks like a query.
+pub fn write_path_hint<W: Write>(fault: &Fault, query: &str, writer: &mut W) -> io::Result<()> {
+    match fault {
+        Fault::ReadQuery if query.as_bytes().contains(&b';') => writeln!(
+            writer,
+            "QUERY is a path; - reads a query's text, as in printf 'input a/1; output a;' | ./loom run - INPUT"
+        ),
+        _ => Ok(()),
     }
 }
