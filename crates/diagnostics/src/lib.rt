@@ -1,11 +1,12 @@
 //! Faults, and how they are reported: a line, the place in the text, what is wrong there, and what a refusal's number means.
 //!
 //! A `Fault` has a code, with the bytes or the line where it was found. `explain_fault` shows that place in the texts that were read, and
-//! says what is wrong there with the names and the numbers involved; `row_of_word` finds the table's row of a number, and
-//! `write_explanation` writes it. The contract for the layer above: a fault's status, and that the text of a row is written whole, or a
-//! beginning of it where the writer failed, or nothing. This crate uses the parser and typing, which read a query's text once more, the
-//! parser also to try which words can come at a place; the table of refusals, and the collector's writer; and below these `grammar`,
-//! `expr_tree`, `decimal` and `record_core`. `Plain` and `Word` show what a command line has, with escapes for what might disturb a terminal.
+//! says what is wrong there with the names and the numbers involved; `write_path_hint` helps where a query's text stands for its path;
+//! `row_of_word` finds the table's row of a number, and `write_explanation` writes it. The contract for the layer above: a fault's status,
+//! and that the text of a row is written whole, or a beginning of it where the writer failed, or nothing. This crate uses the parser and
+//! typing, which read a query's text once more, the parser also to try which words can come at a place; the table of refusals, and the
+//! collector's writer; and below these `grammar`, `expr_tree`, `decimal` and `record_core`. `Plain` and `Word` show what a command line has,
+//! with escapes for what might disturb a terminal.
 #![tactic(auto)]
 
 mod bracket;

@@ -2,7 +2,7 @@
 //!
 //! One table, in three parts, is what `loom explain`, `--explain` and the refusals of LANGUAGE.md say. The contract for the layers
 //! above: `row_of` gives the first row of a code, and nothing exactly where no row has it. It uses no other crate; the crates that
-//! refuse keep their codes beside the checks.
+//! refuse have their codes as constants of their own.
 #![tactic(auto)]
 
 mod table;
