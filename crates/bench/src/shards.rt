@@ -173,7 +173,21 @@ fn group_shard(alloc: Global) -> Result<Shard, ShardFault>
 /// How many groups there are.
 pub fn group(alloc: Global, records: u64) -> Result<usize, ShardFault> {
     let mut shard = group_shard(alloc)?;
-    absorb_all(alloc, &mut shard, 1, records, 12_500, u64::MAX)?;
+    absorb_then_notify(alloc, &mut shard, records)
+}
+
+/// Gives a shard `records` records at its port, and notifies it. Returns how many it then sends.
+fn absorb_then_notify(alloc: Global, shard: &mut Shard, records: u64) -> Result<usize, ShardFault>
+    requires work { IsAtWork Role.notified 1 2 shard.old }
+{
+    absorb_all(alloc, shard, 1, records, 12_500, u64::MAX)?;
+    notify(alloc, shard)
+}
+
+/// How many records a shard sends when it is notified at epoch 0.
+fn notify(alloc: Global, shard: &Shard) -> Result<usize, ShardFault>
+    requires work { IsAtWork Role.notified 1 2 shard.now }
+{
     let mut out = Out::new();
     shard.on_notify(alloc, &Time::at_epoch(0), &mut out)?;
     Ok(sent(out))

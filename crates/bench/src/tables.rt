@@ -5,13 +5,13 @@ ghost use Rattle.semantics.specs.Could.{IsTimeAt, Location as Place};
 ghost use Rattle.semantics.specs.Time.{at_epoch};
 ghost use Rattle.bench.specs.Open.{AreOpen, epoch_at};
 
-use expr_tree::NoMemory;
 use graph::{Location, VertexId};
 use loop_context::Time;
 use lowering::lower;
 use parser::parse;
 use path_summary::{Paths, Pointstamp};
 use progress::{LocationTracker, PlainTracker, Progress};
+use record_core::NoMemory;
 use std::alloc::{AllocError, Global};
 use std::sync::Arc;
 use typing::check;

@@ -24,7 +24,7 @@ use Rattle.events.specs.Jobs.{Job, Pass}
 use Rattle.events.specs.Letters.{sent_to}
 use Rattle.events.specs.Outputs.{IsOutputOf, IsDoneFor}
 use Rattle.events.specs.declared.work.Output.{Output}
-use Rattle.board.specs.Desks.{letters_count, requests_count}
+use Rattle.board.specs.WorkerShown.{letters_count, requests_count}
 use Rattle.board.specs.Shown.{Shown, Side, Epochs, emitted_by, side_at, side_in, no_side, net, event_at}
 use Rattle.board.specs.Showing.{IsOwn, IsSideOf, AreSidesOf, EachShard, OnShard, known, known_shard}
 use Rattle.board.specs.Fitting.{FitsPlace, FitsVertex}

@@ -1,17 +1,16 @@
 -- What a board shows after a commit.
-use Rattle.std.proofs.Common.{◌≡◌, ◌≢◌, ◌⊎◌, inl, inr, ◌<◌, ℕ, ◌==◌, Bool, true, false, cond, List, [], ◌++◌, length, refl, sym, ap, ◌∙◌, subst, arith, slice_set, slice_index_or, Option, None, length-set, append-nil}
-use Rattle.std.proofs.lemmas.Bool.Decides.{eqb_tells}
+use Rattle.std.proofs.Common.{◌≡◌, ◌≢◌, ◌⊎◌, inl, inr, ◌<◌, ℕ, ◌==◌, Bool, true, false, cond, List, [], ◌++◌, length, refl, sym, ap, ◌∙◌, subst, arith, slice_set, slice_index_or, Option, None, length-set}
 use Rattle.semantics.specs.Multiset.{Record}
 use Rattle.semantics.proofs.MultisetSums.{append_same, ≈-from, ≈-refl, ≈-trans}
 use Rattle.semantics.specs.Time.{Time, same_time, at_epoch}
-use Rattle.semantics.specs.Kinds.{Role}
+use Rattle.semantics.specs.Shard.{Absorbed}
 use Rattle.graph.specs.Shown.{shown_graph}
 use Rattle.machine.specs.Network.{Network}
 use Rattle.machine.specs.World.{World, Request, Event, Held}
-use Rattle.machine.specs.Processing.{event_vertex, event_time, absorbed_by, absorbed_after, asked}
+use Rattle.machine.specs.Processing.{event_vertex, event_time, asked}
 use Rattle.machine.specs.Sending.{mail_after, parcels}
 use Rattle.machine.specs.Step.{Step, Allowed, after_step, put}
-use Rattle.vertices.specs.Absorbed.{Absorbed}
+use Rattle.machine.proofs.Absorbing.{absorbed_elsewhere}
 use Rattle.vertices.specs.Outs.{records_of}
 use Rattle.vertices.specs.Shards.{Shows as ShowsShard}
 use Rattle.vertices.specs.declared.shard.Shard.{Shard}
@@ -29,34 +28,6 @@ use Rattle.board.proofs.Deliveries.{delivered_at, delivered_length, with_all}
 use Rattle.board.proofs.Emitting.{cond_same, records_with}
 use Rattle.board.proofs.Places.{put_set_below, same_set}
 use Rattle.board.proofs.Shards.{each_back}
-
--- ---- what is absorbed
-
-nothing_else : (w : World) (k v k' v' port : ℕ) (u : Time) (records : List Record) (p : ℕ) (t : Time) → (k' ≢ k) ⊎ (v' ≢ v)
-    → w.absorbed k' v' p t ++ cond (k' == k) (cond (v == v') (cond (port == p) (cond (same_time u t) records []) []) []) [] ≡ w.absorbed k' v' p t
-nothing_else w k v k' v' port u records p t (inl ne) = go (eqb_tells k' k)
-  where
-    go : ((k' == k) ≡ true) × (k' ≡ k) ⊎ ((k' == k) ≡ false) × (k' ≢ k) → w.absorbed k' v' p t ++ cond (k' == k) (cond (v == v') (cond (port == p) (cond (same_time u t) records []) []) []) [] ≡ w.absorbed k' v' p t
-    go (inl (e, q)) = absurd (ne q)
-    go (inr (e, q)) = rw e (append-nil (w.absorbed k' v' p t))
-nothing_else w k v k' v' port u records p t (inr ne) = go (eqb_tells v v')
-  where
-    go : ((v == v') ≡ true) × (v ≡ v') ⊎ ((v == v') ≡ false) × (v ≢ v') → w.absorbed k' v' p t ++ cond (k' == k) (cond (v == v') (cond (port == p) (cond (same_time u t) records []) []) []) [] ≡ w.absorbed k' v' p t
-    go (inl (e, q)) = absurd (ne (sym q))
-    go (inr (e, q)) = rw e (ap (λ l. w.absorbed k' v' p t ++ l) (cond_same (k' == k) []) ∙ append-nil (w.absorbed k' v' p t))
-
-absorbed_other : (r : Role) (w : World) (k v k' v' port : ℕ) (u : Time) (records : List Record) (p : ℕ) (t : Time) → (k' ≢ k) ⊎ (v' ≢ v)
-    → absorbed_by r w k v port u records k' v' p t ≡ w.absorbed k' v' p t
-absorbed_other Role.input w k v k' v' port u records p t ne = refl
-absorbed_other Role.stateless w k v k' v' port u records p t ne = refl
-absorbed_other Role.output w k v k' v' port u records p t ne = refl
-absorbed_other Role.stateful w k v k' v' port u records p t ne = nothing_else w k v k' v' port u records p t ne
-absorbed_other Role.notified w k v k' v' port u records p t ne = nothing_else w k v k' v' port u records p t ne
-
-module _ (g : Network) (w : World) (k : ℕ) where
-  pub then_other : (event : Event) (k' v' : ℕ) → (k' ≢ k) ⊎ (v' ≢ event_vertex g event) → absorbed_after g w k event k' v' ≡ w.absorbed k' v'
-  then_other (Event.arrival m) k' v' ne = λ i p t. absorbed_other (g.role (g.target m.edge)) w k (g.target m.edge) k' v' (g.in_port m.edge) m.time m.records p t ne i
-  then_other (Event.notification n) k' v' ne = refl
 
 -- ---- what is emitted
 
@@ -149,7 +120,7 @@ module _ (g : Network) (s : Shown) (of : IsNetOf g s) (w : World) (is : Shows s 
       let S : Side → Type 0 = λ z. OnShard (ShowsIn now i u) (known_shard z u) in
       subst S (sym (side_then i l))
       (each_back s k there (ShowsIn w) (ShowsIn now) v j shard y is.absorbed gone (omega (arith, own.vertex, shards_there)) own.others refl refl new
-      (λ a b z ne h. let R : Absorbed → Type 0 = λ x. ShowsShard z x in subst R (sym (then_other g w k j.happening a b (apart a b ne))) h) i u l lu)
+      (λ a b z ne h. let R : Absorbed → Type 0 = λ x. ShowsShard z x in subst R (sym (absorbed_elsewhere g w k j.happening a b (apart a b ne))) h) i u l lu)
     where
       apart : (a b : ℕ) → (a ≢ k) ⊎ (b ≢ v) → (a ≢ k) ⊎ (b ≢ event_vertex g j.happening)
       apart a b (inl ne) = inl ne

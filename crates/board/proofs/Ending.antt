@@ -16,7 +16,7 @@ use Rattle.events.specs.Jobs.{Job, Pass}
 use Rattle.events.specs.declared.letter.Letter.{Letter}
 use Rattle.events.specs.declared.work.Output.{Output}
 use Rattle.board.proofs.Deliveries.{delivered_length}
-use Rattle.board.specs.Desks.{Desk, sides_of, letters_count, requests_count}
+use Rattle.board.specs.WorkerShown.{WorkerShown, sides_of, letters_count, requests_count}
 use Rattle.board.specs.Shown.{Shown, Side, side_at, side_in, event_at, location_vertex}
 use Rattle.board.specs.Steps.{delivered, settled, with_emitted, after_commit}
 use Rattle.board.specs.Commits.{IsOf}
@@ -35,14 +35,14 @@ pub event_time_is : (e : Event) → (event_pointstamp e).time ≡ event_time e
 event_time_is (Event.arrival m) = refl
 event_time_is (Event.notification n) = refl
 
-module _ (s : Shown) (p : Pass) (own : IsOf s p) (ds : List Desk) (k : ℕ) (at : k ≡ p.worker) (same : sides_of ds ≡ s.sides) where
+module _ (s : Shown) (p : Pass) (own : IsOf s p) (ds : List WorkerShown) (k : ℕ) (at : k ≡ p.worker) (same : sides_of ds ≡ s.sides) where
   pub worker_there : k < length ds
   worker_there = let o = own_side s p own in let a = sides_length ds in let b = ap length same in omega (arith, o.0, at, a, b)
 
   pub side_there : side_in (sides_of ds) k ≡ side_at s p.worker
   side_there = λ i. side_in (same i) (at i)
 
-  pub read_side : (x : Desk) → x ≡ slice_index_or ds k x → x.side ≡ side_at s p.worker
+  pub read_side : (x : WorkerShown) → x ≡ slice_index_or ds k x → x.side ≡ side_at s p.worker
   read_side x e = sym (side_read ds k x worker_there e) ∙ side_there
 
   pub own_table : (t : TableId) → t ≡ p.table → t ≡ (side_in (sides_of ds) k).table
@@ -69,8 +69,8 @@ added_then added o o' rest counts q =
 pub out_there : (s : Shown) (p : Pass) (x : Side) (j : Job) → x ≡ side_at s p.worker → x.place ≡ Out j → j ≡ p.job → (side_at s p.worker).place ≡ Out p.job
 out_there s p x j e h q = sym (ap (λ (z : Side). z.place) e) ∙ h ∙ ap Out q
 
-pub many_delivered : (ds es : List Desk) (os : List Letter) → sides_of ds ≡ delivered (sides_of es) os → length ds ≡ length es
+pub many_delivered : (ds es : List WorkerShown) (os : List Letter) → sides_of ds ≡ delivered (sides_of es) os → length ds ≡ length es
 many_delivered ds es os e = sym (sides_length ds) ∙ ap length e ∙ delivered_length os (sides_of es) ∙ sides_length es
 
-pub many_settled : (ds es : List Desk) (k : ℕ) (y : Side) (os : List Letter) → sides_of ds ≡ delivered (slice_set (sides_of es) k y) os → length ds ≡ length es
+pub many_settled : (ds es : List WorkerShown) (k : ℕ) (y : Side) (os : List Letter) → sides_of ds ≡ delivered (slice_set (sides_of es) k y) os → length ds ≡ length es
 many_settled ds es k y os e = sym (sides_length ds) ∙ ap length e ∙ delivered_length os (slice_set (sides_of es) k y) ∙ length-set (sides_of es) k y ∙ sides_length es

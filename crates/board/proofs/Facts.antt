@@ -20,7 +20,7 @@ use Rattle.events.specs.Wired.{Wired, network_of}
 use Rattle.events.specs.declared.work.Output.{Output}
 use Rattle.board.specs.Shown.{Shown, Side, side_at, side_in, net, event_at, held_of}
 use Rattle.board.specs.Showing.{IsOwn}
-use Rattle.board.specs.Desks.{AreAtEdges, AreWithin}
+use Rattle.board.specs.WorkerShown.{AreAtEdges, AreWithin}
 use Rattle.board.specs.Kept.{IsKept}
 use Rattle.board.specs.Commits.{IsOf}
 use Rattle.board.proofs.Committing.{IsNetOf, was}

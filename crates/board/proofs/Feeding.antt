@@ -18,7 +18,7 @@ use Rattle.events.specs.Letters.{sent_to, AreParcels}
 use Rattle.events.specs.declared.letter.Letter.{Letter}
 use Rattle.rows.specs.FlatRows.{arity_of}
 use Rattle.board.specs.Answers.{feed_refusal}
-use Rattle.board.specs.Desks.{letters_count}
+use Rattle.board.specs.WorkerShown.{letters_count}
 use Rattle.board.specs.Shown.{Shown, InputShown, Side, input_at, no_input, side_at, side_in, net, records_at, held_of}
 use Rattle.board.specs.Showing.{Shows, ShowsIn, IsSideOf, AreSidesOf, EachShard, OnShard, known_shard}
 use Rattle.board.specs.Steps.{delivered, more_at, after_feed}

@@ -1,6 +1,6 @@
 -- Lists that grow at their end.
 use Rattle.std.proofs.Common.{◌≡◌, ℕ, zero, suc, ◌+◌, ◌<◌, List, [], ◌∷◌, ◌++◌, length, refl, ap, arith, length-append, slice_index_or, Option, None}
-use Rattle.board.specs.Desks.{Desk, sides_of}
+use Rattle.board.specs.WorkerShown.{WorkerShown, sides_of}
 use Rattle.board.specs.Fresh.{HasFreshSides, HasShards, IsFreshSide, IsFreshSlot}
 use Rattle.board.specs.Shown.{Side, no_side}
 use Rattle.events.specs.Wired.{Wired}
@@ -27,7 +27,7 @@ each_more d P [] x all here (suc k) l = absurd (omega (arith, l))
 each_more d P (y ∷ ys) x all here zero l = all zero (omega arith)
 each_more d P (y ∷ ys) x all here (suc k) l = each_more d (λ j z. P (suc j) z) ys x (λ j h. all (suc j) (omega (arith, h))) here k (omega (arith, l))
 
-pub sides_more : (ds : List Desk) (d : Desk) → sides_of (ds ++ (d ∷ [])) ≡ sides_of ds ++ (d.side ∷ [])
+pub sides_more : (ds : List WorkerShown) (d : WorkerShown) → sides_of (ds ++ (d ∷ [])) ≡ sides_of ds ++ (d.side ∷ [])
 sides_more [] d = refl
 sides_more (x ∷ ds) d = ap (λ l. x.side ∷ l) (sides_more ds d)
 

@@ -39,3 +39,4 @@ pub mod Growing
 pub mod Looked
 pub mod Choosing
 pub mod FedBatches
+pub mod RefusalNumbers

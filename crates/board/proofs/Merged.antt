@@ -11,7 +11,7 @@ use Rattle.tokens.specs.declared.rule.Place.TheVariants.{Home, Out}
 use Rattle.vertices.specs.declared.shard.Shard.{Shard}
 use Rattle.board.specs.Answers.{Merges}
 use Rattle.board.specs.Claims.{MergesMail}
-use Rattle.board.specs.Desks.{Desk, sides_of}
+use Rattle.board.specs.WorkerShown.{WorkerShown, sides_of}
 use Rattle.board.specs.Fitting.{FitsPlace}
 use Rattle.board.specs.Kept.{Goes, IsKept}
 use Rattle.board.specs.Merging.{AreMerged}
@@ -22,7 +22,7 @@ use Rattle.board.proofs.BoardCalls.{same_names}
 use Rattle.board.proofs.Claiming.{may_claim}
 use Rattle.board.proofs.Committed.{sides_put}
 use Rattle.board.proofs.Emitting.{emits_same}
-use Rattle.board.proofs.Handing.{desk_there, read_at}
+use Rattle.board.proofs.Handing.{worker_there, read_at}
 use Rattle.board.proofs.Keeping.{kept_more}
 use Rattle.board.proofs.Places.{put_set_below, same_set}
 use Rattle.board.proofs.MailboxRoom.{sides_same, sides_set}
@@ -34,7 +34,7 @@ granted (Ok x) e p = p
 granted (Err y) e p = absurd cc
 
 -- what the worker has done is a step of the board's state
-module _ (s : Shown) (ds : List Desk) (same : sides_of ds ≡ s.sides) (k : ℕ) (there : k < length s.sides) (y d : Desk) (read : y ≡ slice_index_or ds k y) (t : Shown)
+module _ (s : Shown) (ds : List WorkerShown) (same : sides_of ds ≡ s.sides) (k : ℕ) (there : k < length s.sides) (y d : WorkerShown) (read : y ≡ slice_index_or ds k y) (t : Shown)
     (graph : t.graph ≡ s.graph) (inputs : t.inputs ≡ s.inputs) (emitted : t.emitted ≡ s.emitted) (stopped : t.stopped ≡ s.stopped) (sides : t.sides ≡ sides_of (slice_set ds k d))
     (rest : d.side ≡ record y.side { mail = d.side.mail }) where
   state_then : t ≡ with_side s k (record (side_at s k) { mail = d.side.mail })
@@ -50,7 +50,7 @@ module _ (s : Shown) (ds : List Desk) (same : sides_of ds ≡ s.sides) (k : ℕ)
   merges_nothing : d.side.mail ≡ y.side.mail → t ≡ s
   merges_nothing e =
       let side : d.side ≡ y.side = rest ∙ ap (λ (ms : List Message). record y.side { mail = ms }) e in
-      let all : t.sides ≡ s.sides = sides ∙ sides_same ds k d y (desk_there s ds same k there) read side ∙ same in
+      let all : t.sides ≡ s.sides = sides ∙ sides_same ds k d y (worker_there s ds same k there) read side ∙ same in
       λ i. record { graph = graph i; inputs = inputs i; sides = all i; emitted = emitted i; stopped = stopped i }
 
   pub merges_none : (o : Option Pointstamp) → IfNone o (d.side.mail ≡ y.side.mail) → IfNone o (t ≡ s)

@@ -6,7 +6,7 @@ use Rattle.semantics.proofs.MultisetSums.{total-append}
 use Rattle.machine.specs.Active.{message_pointstamp, one_if_same}
 use Rattle.progress.specs.Content.{times_in}
 use Rattle.events.specs.declared.letter.Letter.{Letter}
-use Rattle.board.specs.Desks.{letters_count}
+use Rattle.board.specs.WorkerShown.{letters_count}
 
 -- one more pointstamp at the end
 pub times_more : (ps qs : List Pointstamp) (p q : Pointstamp) → qs ≡ ps ++ (p ∷ []) → times_in qs q ≡ one_if_same q p + times_in ps q

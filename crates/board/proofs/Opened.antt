@@ -11,6 +11,7 @@ use Rattle.vertices.specs.Shards.{Shows as ShowsShard}
 use Rattle.vertices.specs.declared.shard.Shard.{Shard}
 use Rattle.tokens.specs.declared.rule.Place.{Place}
 use Rattle.tokens.specs.declared.rule.Place.TheVariants.{Home, Out}
+use Rattle.semantics.specs.Limits.{max_workers}
 use Rattle.events.specs.Jobs.{Job}
 use Rattle.events.specs.Stations.{IsShardAt}
 use Rattle.board.specs.Fitting.{FitsPlace, arity_in}
@@ -70,7 +71,7 @@ module _ (s : Shown) (is : IsNew s.graph (length s.sides) s) where
     own = λ j e. absurd (let z : Home ≡ Out j = sym (side k l).idle.place ∙ e in cc);
   }
 
-  kept_here : (graph : Graph) (content : Pointstamp → ℕ) → IsDataflow (shown_graph s.graph) → 0 < length s.sides → length s.sides ≤ 64 → graph ≡ shown_graph s.graph → IsTyped (shown_graph s.graph) (arity_in s.graph)
+  kept_here : (graph : Graph) (content : Pointstamp → ℕ) → IsDataflow (shown_graph s.graph) → 0 < length s.sides → length s.sides ≤ max_workers → graph ≡ shown_graph s.graph → IsTyped (shown_graph s.graph) (arity_in s.graph)
       → ((q : Pointstamp) → content q ≡ active_count (net s) opening q) → IsKept graph content s
   kept_here graph content flows some few same typed counts = kept_opening graph content s fresh flows some few same is.inputs is.room typed (fits flows) side_of counts
 
@@ -80,7 +81,7 @@ new_here g n s is =
     let B : ℕ → Type 0 = λ m. IsNew s.graph m s in
     subst B (sym is.sides.long) (subst A (sym is.graph) is)
 
-pub kept_new : (graph : Graph) (content : Pointstamp → ℕ) (g : GraphValue) (n : ℕ) (s : Shown) → IsNew g n s → 0 < n → n ≤ 64 → IsDataflow (shown_graph s.graph)
+pub kept_new : (graph : Graph) (content : Pointstamp → ℕ) (g : GraphValue) (n : ℕ) (s : Shown) → IsNew g n s → 0 < n → n ≤ max_workers → IsDataflow (shown_graph s.graph)
     → graph ≡ shown_graph s.graph → IsTyped (shown_graph s.graph) (arity_in s.graph)
     → ((q : Pointstamp) → content q ≡ active_count (net s) opening q) → IsKept graph content s
 kept_new graph content g n s is some few flows same typed counts =

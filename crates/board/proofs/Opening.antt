@@ -5,6 +5,7 @@ use Rattle.semantics.specs.Could.{Pointstamp}
 use Rattle.semantics.specs.Dataflow.{IsDataflow}
 use Rattle.semantics.specs.PortArity.{IsTyped}
 use Rattle.graph.specs.Shown.{shown_graph}
+use Rattle.semantics.specs.Limits.{max_workers}
 use Rattle.machine.specs.World.{opening}
 use Rattle.machine.specs.Active.{active_count}
 use Rattle.vertices.specs.Shards.{Shows as ShowsShard}
@@ -43,7 +44,7 @@ shows_opening s is = record {
 }
 
 -- a tracker with what is active before the first step
-pub kept_opening : (graph : Graph) (content : Pointstamp → ℕ) (s : Shown) → IsFresh s → IsDataflow (shown_graph s.graph) → 0 < length s.sides → length s.sides ≤ 64 → graph ≡ shown_graph s.graph
+pub kept_opening : (graph : Graph) (content : Pointstamp → ℕ) (s : Shown) → IsFresh s → IsDataflow (shown_graph s.graph) → 0 < length s.sides → length s.sides ≤ max_workers → graph ≡ shown_graph s.graph
     → length s.inputs ≡ input_count (shown_graph s.graph) → length s.emitted ≡ length (shown_graph s.graph) → IsTyped (shown_graph s.graph) (arity_in s.graph) → EachShard s (FitsPlace s.graph)
     → ((k : ℕ) → k < length s.sides → IsSideOf s (length s.sides) (side_at s k))
     → ((q : Pointstamp) → content q ≡ active_count (net s) opening q) → IsKept graph content s

@@ -33,7 +33,7 @@ use Rattle.board.proofs.Facts.{run_on}
 use Rattle.board.proofs.Feeding as feeding
 use Rattle.board.proofs.Lateness.{board_of, counts_alike, posted_some, posts}
 use Rattle.board.proofs.Merged as merging
-use Rattle.board.specs.Desks.{requests_count}
+use Rattle.board.specs.WorkerShown.{requests_count}
 
 -- the changes of an allowed step may be posted
 abbrev pub MayLaw : Type 0

@@ -14,7 +14,7 @@ use Rattle.events.specs.Happenings.{requests_of}
 use Rattle.events.specs.Jobs.{Pass}
 use Rattle.events.specs.Outputs.{IsOutputOf}
 use Rattle.events.specs.declared.work.Output.{Output}
-use Rattle.board.specs.Desks.{letters_count, requests_count}
+use Rattle.board.specs.WorkerShown.{letters_count, requests_count}
 use Rattle.board.specs.Shown.{Shown, input_at, side_at, tables}
 use Rattle.board.specs.Steps.{after_commit, after_feed}
 

@@ -8,7 +8,7 @@ use Rattle.events.specs.Stations.{IsShardAt, arity_in}
 use Rattle.events.specs.Wired.{Wired, graph_in}
 use Rattle.board.specs.Shown.{Shown, Side, emitted_by, input_at, no_input, side_in}
 use Rattle.board.specs.Showing.{OnShard}
-use Rattle.board.specs.Desks.{IsIdle}
+use Rattle.board.specs.WorkerShown.{IsIdle}
 
 -- a shard of the vertex is at home, and has absorbed nothing
 abbrev pub IsFreshSlot : GraphValue → (vertex : ℕ) → Option Shard → Type 0

@@ -9,7 +9,7 @@ use Rattle.machine.specs.Active.{active_count}
 use Rattle.machine.specs.Step.{Step, Allowed, after_step}
 use Rattle.machine.specs.Run.{Run}
 use Rattle.machine.specs.Engine.{network}
-use Rattle.exchange.specs.Limits.{max_workers}
+use Rattle.semantics.specs.Limits.{max_workers}
 use Rattle.board.specs.Shown.{EmitsBehind, InputShown, Shown, net}
 use Rattle.machine.specs.InTransit.{FedFits}
 use Rattle.semantics.specs.PortArity.{IsTyped}

@@ -2,7 +2,7 @@ pub mod Shown
 pub mod Showing
 pub mod Steps
 pub mod Merging
-pub mod Desks
+pub mod WorkerShown
 pub mod Promises
 pub mod Seals
 pub mod Lateness

@@ -6,6 +6,10 @@ use Rattle.machine.specs.Step.{merged}
 use Rattle.machine.specs.World.{Message}
 use Rattle.events.specs.Merging.{MayMerge}
 
+-- the number of places behind the first message that are searched
+abbrev pub window : ℕ
+window = 16
+
 -- the message at this place behind the first may be merged into it
 pub record AreAlike (mail : List Message) (at : ℕ) : Type 0 where
   pub first : Message

@@ -11,7 +11,7 @@ use Rattle.machine.specs.World.{World}
 use Rattle.machine.specs.Frontier.{IsPassedCount, Passed}
 use Rattle.board.specs.Shown.{Shown, net, no_input, emitted_by, input_at, side_at, records_at}
 use Rattle.board.specs.Showing.{Shows}
-use Rattle.board.specs.Desks.{IsIdle}
+use Rattle.board.specs.WorkerShown.{IsIdle}
 
 -- the board runs the graph of this well-typed program
 pub record RunsProgram (p : Program) (s : Shown) : Type 0 where

@@ -10,14 +10,14 @@ ghost use Rattle.semantics.specs.Query.{Program};
 ghost use Rattle.semantics.specs.Time.{at_epoch};
 ghost use Rattle.machine.specs.Step.{Step};
 ghost use Rattle.machine.specs.World.{opening};
-ghost use Rattle.exchange.specs.Limits.{max_workers};
+ghost use Rattle.semantics.specs.Limits.{max_workers};
 ghost use Rattle.board.specs.Answers.{AnswersOnly, AnswersOr, Claims, Commits, Hands, HasChoice, HasNoChoice};
 ghost use Rattle.board.specs.Answers.{Holds, IfNothing, Merges, feed_refusal, input_refusal, seal_refusal};
 ghost use Rattle.board.specs.Kept.{Goes};
-ghost use Rattle.board.specs.Merging.{AreAlike};
+ghost use Rattle.board.specs.Merging.{AreAlike, window};
 ghost use Rattle.board.specs.Commits.{IsOf};
 ghost use Rattle.tokens.specs.declared.rule.Place.TheVariants.{Home};
-ghost use Rattle.board.specs.Desks.{is_out};
+ghost use Rattle.board.specs.WorkerShown.{is_out};
 ghost use Rattle.board.specs.Lateness.{Applies, AppliesOne, AreUpToDate, IsAsLate, IsUpToDate, Posts, PostsSome, all_waits, waits_for};
 ghost use Rattle.board.specs.Looks.{AreOutputLooks, IsLookAt};
 ghost use Rattle.board.specs.Picks.{Picks};
@@ -35,11 +35,11 @@ use crate::posting::{post, post_noted};
 use crate::refusal::StepRefusal;
 use crate::state::State;
 use events::{CutBatch, Done, Wiring, Work};
-use expr_tree::NoMemory;
 use graph::{Graph, Location, VertexId};
 use loop_context::Time;
 use path_summary::{Paths, Pointstamp};
 use progress::LocationTracker;
+use record_core::NoMemory;
 use rows::Batch;
 use std::alloc::Global;
 use std::marker::Model;
@@ -352,7 +352,7 @@ impl<V: Views> Board<V> {
         self.claim_rest(worker)
     }
 
-    /// Hands out the first message of a free worker.
+    /// Hands out a message of a free worker, if one waits.
     fn claim_mail(&mut self, worker: u32) -> Option<Work>
         requires there { worker < length self.old.shown.sides }
         requires free { (side_at self.old.shown worker).place ≡ Home }
@@ -363,10 +363,10 @@ impl<V: Views> Board<V> {
         ensures views { IsAsLate self.old self.new }
     {
         let number = worker as usize;
-        if self.state.mail_count(number) > 0 {
-            return Some(self.state.claim_message(number, 0));
+        match self.state.next_message(number) {
+            Some(place) => Some(self.state.claim_message(number, place)),
+            None => None,
         }
-        None
     }
 
     /// Hands out the first notification that may be delivered to a free worker that has no message and an up-to-date view.
@@ -510,7 +510,7 @@ impl<V: Views> Board<V> {
     /// same time, and as small. `None` if there is no such message or worker.
     pub fn next_alike(&self, worker: u32, from: usize) -> Option<usize>
         ensures found { IfSome result (λ at. (from ≤ at) × AreAlike (side_at self.now.shown worker).mail at) }
-        ensures none { IfNone result ((at : ℕ) → from ≤ at → at < 16 → AreAlike (side_at self.now.shown worker).mail at → ⊥) }
+        ensures none { IfNone result ((at : ℕ) → from ≤ at → at < window → AreAlike (side_at self.now.shown worker).mail at → ⊥) }
     {
         let number = worker as usize;
         if !self.state.has_worker(number) {

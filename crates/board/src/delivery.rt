@@ -5,7 +5,7 @@ ghost use Rattle.semantics.specs.Could.{Pointstamp as Active};
 ghost use Rattle.graph.specs.Limits.{max_vertices};
 ghost use Rattle.progress.specs.Content.{times_in};
 ghost use Rattle.events.specs.Happenings.{requests_of};
-ghost use Rattle.board.specs.Desks.{AreWithin, HasRoom, desk_in, letters_count, requests_count, sides_of};
+ghost use Rattle.board.specs.WorkerShown.{AreWithin, HasRoom, worker_in, letters_count, requests_count, sides_of};
 ghost use Rattle.board.specs.Shown.{side_in};
 ghost use Rattle.board.specs.Steps.{delivered, sides_after_commit, with_letter};
 
@@ -13,13 +13,13 @@ use crate::worker::Worker;
 use events::{Event, Letter, Output, Request};
 use graph::Location;
 use path_summary::Pointstamp;
-use rows::RowsError;
+use record_core::NoMemory;
 use std::alloc::AllocError;
 use tokens::tie::Stub;
 use views::Views;
 
 /// Reserves room in the mailboxes for these letters.
-pub fn reserve_letters(workers: &mut Vec<Worker>, letters: &[Letter]) -> Result<(), RowsError>
+pub fn reserve_letters(workers: &mut Vec<Worker>, letters: &[Letter]) -> Result<(), NoMemory>
     requires { AreWithin (length workers.old.items) letters.now }
     ensures sides { sides_of workers.new.items ≡ sides_of workers.old.items }
     ensures room { OnOk result (HasRoom workers.new.items letters.now) }
@@ -46,10 +46,10 @@ pub fn deliver(workers: &mut Vec<Worker>, letters: Vec<Letter>)
 /// Puts a letter into its mailbox. Takes no memory.
 fn put_letter(workers: &mut Vec<Worker>, letter: Letter)
     requires within { letter.to < length workers.old.items }
-    requires room { 0 < (desk_in workers.old.items letter.to).mail_room }
+    requires room { 0 < (worker_in workers.old.items letter.to).mail_room }
     ensures sides { sides_of workers.new.items ≡ with_letter (sides_of workers.old.items) letter }
-    ensures here { (desk_in workers.new.items letter.to).mail_room + 1 ≡ (desk_in workers.old.items letter.to).mail_room }
-    ensures others { (k : ℕ) → k ≢ letter.to → (desk_in workers.new.items k).mail_room ≡ (desk_in workers.old.items k).mail_room }
+    ensures here { (worker_in workers.new.items letter.to).mail_room + 1 ≡ (worker_in workers.old.items letter.to).mail_room }
+    ensures others { (k : ℕ) → k ≢ letter.to → (worker_in workers.new.items k).mail_room ≡ (worker_in workers.old.items k).mail_room }
 {
     let Letter { to, message } = letter;
     workers[to as usize].put(message);
@@ -125,7 +125,7 @@ pub fn prepare(
     requires within { AreWithin (length workers.old.items) letters.now }
     ensures sides { sides_of workers.new.items ≡ sides_of workers.old.items }
     ensures mail { OnOk result (HasRoom workers.new.items letters.now) }
-    ensures request { OnOk result (0 < (desk_in workers.new.items worker).request_room) }
+    ensures request { OnOk result (0 < (worker_in workers.new.items worker).request_room) }
 {
     if reserve_letters(workers, letters).is_err() {
         return Err(AllocError);
@@ -152,7 +152,7 @@ pub fn finish(
     requires vertex { vertex < length (side_in (sides_of workers.old.items) worker).shards }
     requires within { AreWithin (length workers.old.items) output.sent.items }
     requires mail { HasRoom workers.old.items output.sent.items }
-    requires request { 0 < (desk_in workers.old.items worker).request_room }
+    requires request { 0 < (worker_in workers.old.items worker).request_room }
     requires none { added.old.items ≡ [] }
     requires capacity { length output.sent.items + 1 ≤ vec_capacity added.old }
     ensures sides { sides_of workers.new.items ≡

@@ -5,7 +5,7 @@ ghost use Rattle.board.specs.Shown.{emitted_by};
 ghost use Rattle.board.specs.Steps.{with_emitted};
 
 use crate::epochs::Epochs;
-use expr_tree::NoMemory;
+use record_core::NoMemory;
 use rows::Batch;
 use std::alloc::Global;
 use std::marker::Model;

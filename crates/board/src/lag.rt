@@ -1,6 +1,6 @@
 //! Counts how long each worker's view hasn't been brought up to date.
 
-use expr_tree::NoMemory;
+use record_core::NoMemory;
 use std::alloc::Global;
 
 /// After this many posts, a worker that claims applies what waits for it, even if it sees an event.

@@ -31,7 +31,7 @@
 //! | `seal` | the owner of the input | the open epoch ends, the next is open | stopped, unknown, closed, last epoch, memory |
 //! | `close` | the owner of the input | no more records come | stopped, unknown, closed |
 //! | `merge`, `gather` | a worker | the records of one message, or of up to 64, join the first's | answers no: stopped, unknown, not free, memory, none alike |
-//! | `claim` | a worker | hands out the first event that the worker may process; one that sees none catches up first | answers stopped, busy, drained, idle |
+//! | `claim` | a worker | hands out an event that the worker may process, messages before notifications; one that sees none catches up first | answers stopped, busy, drained, idle |
 //! | `pick` | a replay | hands out the worker's event of that number | stopped, holding, no such event |
 //! | `commit` | the holder of the computed event | ends it: shard, messages, request and records go to their places | memory: the event comes back whole |
 //! | `abandon`, `abandon_done` | the holder of the event | drops the event, and the board stops | never |
@@ -63,6 +63,7 @@ mod lag;
 mod look;
 mod merging;
 mod new_parts;
+mod order;
 mod passed;
 mod posting;
 mod refusal;

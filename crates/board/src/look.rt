@@ -6,7 +6,7 @@ ghost use Rattle.board.specs.Looks.{IsPromised, fed_by, output_in};
 use crate::epochs::Batches;
 use crate::inputs::Input;
 use events::Wiring;
-use expr_tree::NoMemory;
+use record_core::NoMemory;
 use rows::Batch;
 use std::alloc::Global;
 use std::marker::Model;

@@ -2,7 +2,7 @@
 
 ghost use Rattle.std.specs.Prelude.{◌≡◌, ◌≤◌, ◌<◌, ℕ, IfNone, IfSome, MatchBool};
 ghost use Rattle.std.specs.Bool.{OnTrue};
-ghost use Rattle.board.specs.Merging.{AreAlike, AreMerged};
+ghost use Rattle.board.specs.Merging.{AreAlike, AreMerged, window};
 
 use events::Message;
 use exchange::Mailbox;
@@ -10,7 +10,7 @@ use graph::Location;
 use path_summary::Pointstamp;
 
 /// The number of places behind the first message that are searched, so that a claim's time is bounded.
-const WINDOW: usize = 16;
+pub const WINDOW: usize = 16;
 
 /// Merges the message at that place behind the first into the first, if they are alike and memory allows, and gives the pointstamp of the second.
 /// Otherwise nothing changes. Copies no record.
@@ -49,7 +49,7 @@ fn are_alike(mailbox: &Mailbox<Message>, place: usize) -> bool
 /// The first place, from `from` on and within the window, of a message that is like the first.
 pub fn next_alike(mailbox: &Mailbox<Message>, from: usize) -> Option<usize>
     ensures found { IfSome result (λ at. (from ≤ at) × AreAlike mailbox.now.messages at) }
-    ensures none { IfNone result ((at : ℕ) → from ≤ at → at < 16 → AreAlike mailbox.now.messages at → ⊥) }
+    ensures none { IfNone result ((at : ℕ) → from ≤ at → at < window → AreAlike mailbox.now.messages at → ⊥) }
 {
     for place in from..WINDOW {
         if are_alike(mailbox, place) {

@@ -2,7 +2,7 @@
 
 ghost use Rattle.std.specs.Prelude.{◌≡◌, ◌<◌, ℕ, length, slice_index_or, IfOk};
 ghost use Rattle.graph.specs.Shown.{shown_graph};
-ghost use Rattle.board.specs.Desks.{sides_of};
+ghost use Rattle.board.specs.WorkerShown.{sides_of};
 ghost use Rattle.board.specs.Fresh.{HasFreshSides, HasShards, IsFreshSide, IsFreshSlot};
 ghost use Rattle.board.specs.Shown.{no_input};
 
@@ -10,8 +10,8 @@ use crate::inputs::Input;
 use crate::slot::Slot;
 use crate::worker::Worker;
 use events::{Wiring, shard_at};
-use expr_tree::NoMemory;
 use graph::{Graph, VertexId};
+use record_core::NoMemory;
 use std::alloc::Global;
 use std::sync::Arc;
 

@@ -3,7 +3,7 @@
 ghost use Rattle.std.specs.Prelude.{◌≡◌, ◌≢◌, ◌+◌, ◌<◌, ◌≤◌, ℕ, [], length, map, slice_index_or, None, MatchBool, OnOk, OnErr, IfOk, IfErr, IfSome, IfNone};
 ghost use Rattle.semantics.specs.Could.{Pointstamp as Active};
 ghost use Rattle.semantics.specs.Graph.{input_count, output_number, output_numbers, target, Graph as Definition};
-ghost use Rattle.exchange.specs.Limits.{max_workers};
+ghost use Rattle.semantics.specs.Limits.{max_workers};
 ghost use Rattle.tokens.specs.declared.rule.Place.TheVariants.{Home, Out};
 ghost use Rattle.board.specs.Claims.{HandsMessage, HandsRequest, MergesMail};
 ghost use Rattle.graph.specs.Locations.{IsIn, location_of};
@@ -11,11 +11,11 @@ ghost use Rattle.graph.specs.Shown.{shown_graph};
 ghost use Rattle.graph.specs.Limits.{max_vertices};
 ghost use Rattle.board.specs.Answers.{input_refusal};
 ghost use Rattle.board.specs.Commits.{FeedsBy, IsOf, SettlesBy};
-ghost use Rattle.board.specs.Desks.{is_out};
+ghost use Rattle.board.specs.WorkerShown.{is_out};
 ghost use Rattle.board.specs.Fresh.{IsNew};
 ghost use Rattle.board.specs.Kept.{IsKept};
-ghost use Rattle.board.specs.Merging.{AreAlike};
-ghost use Rattle.board.specs.Desks.{AreClosed, AreIdle};
+ghost use Rattle.board.specs.Merging.{AreAlike, window};
+ghost use Rattle.board.specs.WorkerShown.{AreClosed, AreIdle};
 ghost use Rattle.board.specs.Promises.{IsDrained, IsOutputPlace};
 ghost use Rattle.board.specs.Seals.{IsMostSeals};
 ghost use Rattle.board.specs.Shown.{emitted_by, input_at, location_vertex, side_at};
@@ -27,13 +27,14 @@ use crate::epochs::Batches;
 use crate::inputs::Input;
 use crate::look::{share_batches, share_fed};
 use crate::new_parts::{new_inputs, new_workers};
+use crate::order::next_place;
 use crate::refusal::StepRefusal;
 use crate::worker::Worker;
 use events::{CutBatch, Done, Event, Output, Request, Wiring, Work};
 use exchange::Mailbox;
-use expr_tree::NoMemory;
 use graph::{Graph, Location, VertexId};
 use path_summary::Pointstamp;
+use record_core::NoMemory;
 use rows::Batch;
 use std::alloc::{AllocError, Global};
 use std::marker::Model;
@@ -60,7 +61,7 @@ impl Model for State {
     ghost use Rattle.expr_tree.specs.contracts.condition.Cond as condition;
     ghost use Rattle.std.specs.Prelude.{◌≡◌, length};
     ghost use Rattle.board.specs.Shown.{Shown};
-    ghost use Rattle.board.specs.Desks.{sides_of};
+    ghost use Rattle.board.specs.WorkerShown.{sides_of};
 
     ghost Value = { Shown };
 
@@ -301,6 +302,22 @@ impl State {
         Ok(emitted)
     }
 
+    /// The place of the message that the worker takes next; `None` if none waits. With one worker it is always the first: nothing comes in pieces.
+    pub fn next_message(&self, worker: usize) -> Option<usize>
+        requires { worker < length self.now.sides }
+        ensures there { IfSome result (λ at. at < length (side_at self.now worker).mail) }
+        ensures none { IfNone result (length (side_at self.now worker).mail ≡ 0) }
+    {
+        let mailbox = self.workers[worker].mailbox();
+        if mailbox.len() == 0 {
+            return None;
+        }
+        if self.workers.len() == 1 {
+            return Some(0);
+        }
+        Some(next_place(mailbox))
+    }
+
     /// How many messages wait for the worker.
     pub fn mail_count(&self, worker: usize) -> usize
         requires { worker < length self.now.sides }
@@ -313,7 +330,7 @@ impl State {
     pub fn next_alike(&self, worker: usize, from: usize) -> Option<usize>
         requires { worker < length self.now.sides }
         ensures found { IfSome result (λ at. (from ≤ at) × AreAlike (side_at self.now worker).mail at) }
-        ensures none { IfNone result ((at : ℕ) → from ≤ at → at < 16 → AreAlike (side_at self.now worker).mail at → ⊥) }
+        ensures none { IfNone result ((at : ℕ) → from ≤ at → at < window → AreAlike (side_at self.now worker).mail at → ⊥) }
     {
         self.workers[worker].next_alike(from)
     }

@@ -5,8 +5,8 @@ ghost use Rattle.std.specs.Prelude.{slice_index_or, Some, None, IfNone, IfOk, If
 ghost use Rattle.machine.specs.World.{Event as Happens, Message as Mail, Request as RequestShown};
 ghost use Rattle.tokens.specs.declared.rule.Place.TheVariants.{Home, Out, Lost};
 ghost use Rattle.vertices.specs.declared.shard.Shard as shard;
-ghost use Rattle.board.specs.Desks.{IsIdle, is_out};
-ghost use Rattle.board.specs.Merging.{AreAlike, AreMerged};
+ghost use Rattle.board.specs.WorkerShown.{IsIdle, is_out};
+ghost use Rattle.board.specs.Merging.{AreAlike, AreMerged, window};
 ghost use Rattle.board.specs.Steps.{out_with, settled, with_mail};
 
 use crate::merging::{merge, next_alike};
@@ -14,7 +14,7 @@ use crate::slot::Slot;
 use events::{Event, Happening, Message, Request, Wiring};
 use exchange::Mailbox;
 use path_summary::Pointstamp;
-use rows::RowsError;
+use record_core::NoMemory;
 use std::alloc::{AllocError, Global};
 use std::marker::Model;
 use std::sync::Arc;
@@ -40,9 +40,9 @@ impl Model for Worker {
     ghost use Rattle.std.specs.contracts.impls.GlobalAllocator.TheImpl as allocates;
     ghost use Rattle.expr_tree.specs.contracts.scalar.Scalar as scalar;
     ghost use Rattle.expr_tree.specs.contracts.condition.Cond as condition;
-    ghost use Rattle.board.specs.Desks.{Desk, wired_of, IsHome};
+    ghost use Rattle.board.specs.WorkerShown.{WorkerShown, wired_of, IsHome};
 
-    ghost Value = { Desk };
+    ghost Value = { WorkerShown };
 
     ghost coded = { Prim.hlevel (
       codes,
@@ -129,13 +129,13 @@ impl Worker {
     /// The first place, from `from` on and within the window, of a message that is like the first.
     pub fn next_alike(&self, from: usize) -> Option<usize>
         ensures found { IfSome result (λ at. (from ≤ at) × AreAlike self.now.side.mail at) }
-        ensures none { IfNone result ((at : ℕ) → from ≤ at → at < 16 → AreAlike self.now.side.mail at → ⊥) }
+        ensures none { IfNone result ((at : ℕ) → from ≤ at → at < window → AreAlike self.now.side.mail at → ⊥) }
     {
         next_alike(&self.mailbox, from)
     }
 
     /// Reserves room for that many more messages.
-    pub fn reserve_mail(&mut self, more: usize) -> Result<(), RowsError>
+    pub fn reserve_mail(&mut self, more: usize) -> Result<(), NoMemory>
         ensures side { self.new.side ≡ self.old.side }
         ensures kept { self.old.mail_room ≤ self.new.mail_room }
         ensures requests { self.new.request_room ≡ self.old.request_room }
@@ -145,7 +145,7 @@ impl Worker {
     }
 
     /// Reserves room for one more request.
-    pub fn reserve_request(&mut self) -> Result<(), RowsError>
+    pub fn reserve_request(&mut self) -> Result<(), NoMemory>
         ensures side { self.new.side ≡ self.old.side }
         ensures mail { self.new.mail_room ≡ self.old.mail_room }
         ensures room { OnOk result (1 ≤ self.new.request_room) }

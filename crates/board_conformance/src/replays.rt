@@ -1,15 +1,12 @@
 //! Schedules that are replayed while each growth of the board's tracker or views is refused in turn: the whole text is printed, or nothing.
 
-ghost use Rattle.std.specs.Prelude.{◌≡◌, ◌∷◌, [], map, IfSome};
-ghost use Rattle.graph.specs.Views.{input_of};
-ghost use Rattle.collector.specs.Said.{plain};
+ghost use Rattle.std.specs.Prelude.{◌≡◌};
 
 use crate::boards::graph_of;
 use crate::growths::board_after;
 use crate::scarce::late_board_after;
 use board::Board;
-use collector::Declared;
-use graph::{DeclaredInput, Graph};
+use graph::Graph;
 use replay::{law_graph_inputs, replay};
 use schedule::{Line, ViewKind, read_schedule};
 use std::alloc::Global;
@@ -34,19 +31,6 @@ const LATE_SCHEDULE: &str =
 
 const LATE_PRINTED: &str = "refused 34\nepoch 0 open\n5 1\nepoch 0 passed\n5 1\nrefused 40\n";
 
-/// The only input of a graph, as the reader of lines takes it.
-fn only_declared<'a>(inputs: &'a [DeclaredInput]) -> Option<Declared<'a>>
-    ensures { IfSome result (λ d. plain d ∷ [] ≡ map input_of inputs.entry.now) }
-{
-    match inputs {
-        [only] => Some(Declared {
-            name: &only.name,
-            arity: only.arity,
-        }),
-        _ => None,
-    }
-}
-
 /// What the lines print on a board; nothing where the replay is refused.
 fn printed_on<V: Views>(
     alloc: Global,
@@ -57,8 +41,7 @@ fn printed_on<V: Views>(
     requires { board.shown.graph ≡ graph.now }
 {
     law_graph_inputs(graph);
-    let inputs = [only_declared(graph.inputs())?];
-    replay(alloc, board, inputs.as_slice(), lines).ok()
+    replay(alloc, board, graph.inputs(), lines).ok()
 }
 
 /// What the schedule prints if the tracker refuses a growth after that many; nothing if the opening or the replay is refused.

@@ -3,9 +3,9 @@
 ghost use Rattle.std.specs.Prelude.{◌≡◌, ◌<◌, ◌≤◌, IfSome};
 
 use board::Board;
-use expr_tree::NoMemory;
 use graph::Graph;
 use path_summary::{Paths, Pointstamp};
+use record_core::NoMemory;
 use std::alloc::Global;
 use std::sync::Arc;
 use views::{LocalViews, Views};

@@ -1,5 +1,5 @@
 -- Rows in batches, in which equal records are stored once.
-use Rattle.std.proofs.Common.{◌≡◌, ◌+◌, ◌∙◌, ℕ, zero, suc, List, [], ◌∷◌, ◌++◌, length, map, get_or, refl, sym, ap, subst, arith}
+use Rattle.std.proofs.Common.{◌≡◌, ◌∙◌, ℕ, zero, suc, List, [], ◌∷◌, ◌++◌, length, map, get_or, refl, sym, ap, subst, arith}
 use Rattle.std.proofs.lemmas.List.{append-nil, length-append, map_push}
 use Rattle.semantics.specs.Multiset.{◌≈◌}
 use Rattle.semantics.proofs.MultisetSums.{append_same, ≈-from, ≈-refl, ≈-trans}

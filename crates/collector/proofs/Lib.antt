@@ -1,7 +1,6 @@
 pub mod Splits
 pub mod LinesRead
 pub mod InputNames
-pub mod DeclaredInputs
 pub mod Filled
 pub mod NumberLists
 pub mod Tracks
@@ -18,3 +17,4 @@ pub mod OneOrder
 pub mod Repeats
 pub mod Within
 pub mod Batched
+pub mod RefusalNumbers

@@ -7,10 +7,11 @@ use Rattle.std.specs.List.{flat_map}
 use Rattle.std.proofs.lemmas.List.{append-nil, length-append}
 use Rattle.std.proofs.lemmas.Grind.{flat_map-append}
 use Rattle.record_core.specs.Names.{IsName}
+use Rattle.record_core.specs.Inputs.{input_of}
+use Rattle.record_core.specs.declared.input.DeclaredInput.{DeclaredInput}
+use Rattle.semantics.specs.Limits.{max_fields}
 use Rattle.collector.specs.OutputText.{spaced}
 use Rattle.collector.specs.Quick.{Fit, IsRowAt}
-use Rattle.collector.specs.Said.{plain}
-use Rattle.collector.specs.declared.line.Declared.{Declared}
 use Rattle.collector.proofs.InputNames.{is_input}
 use Rattle.collector.specs.Lines.{IsInput}
 
@@ -44,26 +45,26 @@ pub fields_end : (text rest after : List ℕ) (fields : List ℤ) (k : ℕ) → 
 fields_end text rest after fields k h e = h.spelled ∙ ap (λ (t : List ℕ). flat_map spaced fields ++ t) e
 
 -- no earlier input has this name with a space at the head of the text
-abbrev pub NoneBefore : List ℕ → List Declared → ℕ → Type 0
-NoneBefore text inputs i = (k : ℕ) (d : Declared) → k < i → slice_get inputs k ≡ Some d → (rest : List ℕ) → text ≡ d.name.now ++ 32 ∷ rest → ⊥
+abbrev pub NoneBefore : List ℕ → List DeclaredInput → ℕ → Type 0
+NoneBefore text inputs i = (k : ℕ) (d : DeclaredInput) → k < i → slice_get inputs k ≡ Some d → (rest : List ℕ) → text ≡ d.name ++ 32 ∷ rest → ⊥
 
 spaced_first : (fields : List ℤ) (after : List ℕ) → 1 ≤ length fields → (tail : List ℕ) × (flat_map spaced fields ++ after ≡ 32 ∷ tail)
 spaced_first [] after some = absurd (omega (arith, some))
 spaced_first (z ∷ zs) after some = ((signed_decimal z ++ flat_map spaced zs) ++ after, refl)
 
-pub row_at : (inputs : List Declared) (text rest after : List ℕ) (fields : List ℤ) (i : ℕ) (d : Declared) → i < length inputs → d ≡ get_or inputs i d → IsName d.name.now → NoneBefore text inputs i → text ≡ d.name.now ++ rest → rest ≡ flat_map spaced fields ++ 10 ∷ after
-    → length fields ≡ d.arity → Fit fields → 1 ≤ d.arity → d.arity ≤ 16 → IsRowAt (map plain inputs) text fields i after
+pub row_at : (inputs : List DeclaredInput) (text rest after : List ℕ) (fields : List ℤ) (i : ℕ) (d : DeclaredInput) → i < length inputs → d ≡ get_or inputs i d → IsName d.name → NoneBefore text inputs i → text ≡ d.name ++ rest → rest ≡ flat_map spaced fields ++ 10 ∷ after
+    → length fields ≡ d.arity → Fit fields → 1 ≤ d.arity → d.arity ≤ max_fields → IsRowAt (map input_of inputs) text fields i after
 row_at inputs text rest after fields i d lt is named none head spelled size fits low high =
     let first = spaced_first fields (10 ∷ after) (omega (arith, size, low)) in
-    let whole : text ≡ d.name.now ++ (flat_map spaced fields ++ 10 ∷ after) = head ∙ ap (λ (t : List ℕ). d.name.now ++ t) spelled in
+    let whole : text ≡ d.name ++ (flat_map spaced fields ++ 10 ∷ after) = head ∙ ap (λ (t : List ℕ). d.name ++ t) spelled in
     record {
-      name = d.name.now;
+      name = d.name;
       named = named;
-      of = subst (λ n. IsInput-at n) (sym size) (is_input inputs d.name.now i d lt is refl (λ k e less at same. none k e less at first.0 (whole ∙ ap (λ (t : List ℕ). d.name.now ++ t) first.1 ∙ ap (λ (n : List ℕ). n ++ 32 ∷ first.0) (sym same))));
+      of = subst (λ n. IsInput-at n) (sym size) (is_input inputs d.name i d lt is refl (λ k e less at same. none k e less at first.0 (whole ∙ ap (λ (t : List ℕ). d.name ++ t) first.1 ∙ ap (λ (n : List ℕ). n ++ 32 ∷ first.0) (sym same))));
       shape = (omega (arith, size, low), omega (arith, size, high));
       fits = fits;
       spelled = whole;
     }
   where
     IsInput-at : ℕ → Type 0
-    IsInput-at n = IsInput (map plain inputs) d.name.now i n
+    IsInput-at n = IsInput (map input_of inputs) d.name i n

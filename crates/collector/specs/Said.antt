@@ -5,16 +5,11 @@ use Rattle.record_core.specs.Records.{IsRecord}
 use Rattle.semantics.specs.Query.{Input}
 use Rattle.collector.specs.Pieces.{split_on}
 use Rattle.collector.specs.Lines.{Item, Says, IsFault, IsInput, IsAbsent, AreNumbers, MakeRecord}
-use Rattle.collector.specs.declared.line.Declared.{Declared}
 use Rattle.collector.specs.declared.line.Line.{Line}
 use Rattle.collector.specs.declared.line.Line.TheVariants as line
 use Rattle.collector.specs.declared.line.LineError.{LineError}
 use Rattle.collector.specs.declared.line.LineError.TheVariants as error
 use Rattle.collector.specs.declared.refusal.Fault.TheVariants.{Malformed, TooManyEpochs, NoEpoch, Unknown, BadNumber, WrongFields}
-
--- an input, as the definitions have it
-abbrev pub plain : Declared → Input
-plain d = record { name = d.name.now; arity = d.arity }
 
 -- the words of the text after the first word, if there is any
 abbrev pub words_of : Option (Bor (List ℕ)) → List (List ℕ)

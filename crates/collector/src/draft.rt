@@ -7,7 +7,7 @@ ghost use Rattle.collector.specs.DraftGrowth.{HasNone, IsEven, Begins, Gains};
 
 use crate::epochs::Epochs;
 use crate::input_records::Track;
-use rows::RowsError;
+use record_core::NoMemory;
 use std::alloc::Global;
 
 /// The epochs read so far: for each input, a list of records by epoch.
@@ -19,7 +19,7 @@ pub struct Draft {
 
 impl Draft {
     /// A draft without epochs, for that many inputs.
-    pub fn new(alloc: Global, inputs: usize) -> Result<Draft, RowsError>
+    pub fn new(alloc: Global, inputs: usize) -> Result<Draft, NoMemory>
         ensures none { IfOk result HasNone }
         ensures inputs { IfOk result (λ e. length e.tracks.items ≡ inputs) }
     {
@@ -38,7 +38,7 @@ impl Draft {
     }
 
     /// Begins the next epoch, without records.
-    pub fn begin(&mut self, alloc: Global) -> Result<(), RowsError>
+    pub fn begin(&mut self, alloc: Global) -> Result<(), NoMemory>
         requires few { draft_count self.old < 2 ^ 32 - 1 }
         requires even { IsEven self.old }
         ensures { OnOk result (Begins self.old self.new) }
@@ -51,7 +51,7 @@ impl Draft {
     }
 
     /// Appends a record to the last epoch of an input.
-    pub fn push(&mut self, alloc: Global, input: usize, row: &[i64]) -> Result<(), RowsError>
+    pub fn push(&mut self, alloc: Global, input: usize, row: &[i64]) -> Result<(), NoMemory>
         requires some { 0 < draft_count self.old }
         requires within { input < length self.old.tracks.items }
         requires even { IsEven self.old }
@@ -62,7 +62,7 @@ impl Draft {
     }
 
     /// Turns the draft into epochs, once the whole text is read.
-    pub fn finish(self, alloc: Global) -> Result<Epochs, RowsError>
+    pub fn finish(self, alloc: Global) -> Result<Epochs, NoMemory>
         ensures { IfOk result (IsKept self) }
     {
         let Draft { count, tracks } = self;

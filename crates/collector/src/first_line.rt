@@ -1,13 +1,14 @@
 //! Reads the first line of a text.
 
 ghost use Rattle.std.specs.Prelude.{map};
+ghost use Rattle.record_core.specs.Inputs.{input_of};
 ghost use Rattle.collector.specs.Quick.{NextEnds};
-ghost use Rattle.collector.specs.Said.{plain};
 
-use crate::line::{Declared, Line, LineError, line_says};
+use crate::line::{Line, LineError, line_says};
 use crate::quick::quick_row;
 use crate::refusal::Fault;
 use crate::splitting::{around, find};
+use record_core::DeclaredInput;
 
 /// Why no line was read.
 #[derive(Clone, Copy, Debug, PartialEq, Eq)]
@@ -20,11 +21,11 @@ pub enum Stop {
 /// Reads the first line, in whatever spelling.
 fn any_line<'a>(
     text: &'a [u8],
-    inputs: &[Declared<'_>],
+    inputs: &[DeclaredInput],
     epochs: u32,
     fields: &mut Vec<i64>,
 ) -> Result<(Line, &'a [u8]), Stop>
-    ensures { NextEnds (map plain inputs.now) epochs text.entry.now fields.new.items result }
+    ensures { NextEnds (map input_of inputs.now) epochs text.entry.now fields.new.items result }
 {
     let Some(end) = find(text, b'\n') else {
         return Err(Stop::NoLineFeed);
@@ -40,11 +41,11 @@ fn any_line<'a>(
 /// Reads the first line after `epochs` epochs have begun: what it says, and the text after it.
 pub fn next_line<'a>(
     text: &'a [u8],
-    inputs: &[Declared<'_>],
+    inputs: &[DeclaredInput],
     epochs: u32,
     fields: &mut Vec<i64>,
 ) -> Result<(Line, &'a [u8]), Stop>
-    ensures { NextEnds (map plain inputs.now) epochs text.entry.now fields.new.items result }
+    ensures { NextEnds (map input_of inputs.now) epochs text.entry.now fields.new.items result }
 {
     if epochs > 0 {
         match quick_row(text, inputs, fields) {

@@ -2,11 +2,13 @@
 
 ghost use Rattle.std.specs.Prelude.{◌≡◌, ◌<◌, ◌≤◌, ◌+◌, ℕ, ℤ, List, ◌++◌, ◌∷◌, [], OnOk, IfOk, map, length, slice_index_or, ◌==◌, if◌then◌else◌};
 ghost use Rattle.record_core.specs.Records.{IsRecord};
+ghost use Rattle.semantics.specs.Limits.{max_fields};
 ghost use Rattle.semantics.specs.Multiset.{◌≈◌};
 ghost use Rattle.rows.specs.FlatRows.{joined};
 ghost use Rattle.collector.specs.Piles.{AreAlike, piled, with_open};
 
-use rows::{Batch, Rows, RowsError};
+use record_core::NoMemory;
+use rows::{Batch, Rows};
 use std::alloc::Global;
 use std::marker::Model;
 use std::mem;
@@ -42,7 +44,7 @@ impl Track {
     }
 
     /// Begins the next epoch, without records.
-    pub fn begin(&mut self, alloc: Global) -> Result<(), RowsError>
+    pub fn begin(&mut self, alloc: Global) -> Result<(), NoMemory>
         ensures { OnOk result (self.new ≡ self.old ++ [] ∷ []) }
     {
         let rows = mem::replace(&mut self.last, Rows::new(alloc, 1));
@@ -52,7 +54,7 @@ impl Track {
     }
 
     /// Appends a record to the last epoch.
-    pub fn push(&mut self, alloc: Global, row: &[i64]) -> Result<(), RowsError>
+    pub fn push(&mut self, alloc: Global, row: &[i64]) -> Result<(), NoMemory>
         requires some { 0 < length self.old }
         requires record { IsRecord row.now }
         ensures len { OnOk result (length self.new ≡ length self.old) }
@@ -65,7 +67,7 @@ impl Track {
     }
 
     /// Turns what was read into batches: equal records of one list of rows are stored once, with a count.
-    pub fn finish(self, alloc: Global) -> Result<Kept, RowsError>
+    pub fn finish(self, alloc: Global) -> Result<Kept, NoMemory>
         ensures { IfOk result (λ k. AreAlike k self) }
     {
         let Track { mut epochs, last } = self;
@@ -79,7 +81,7 @@ impl Track {
 }
 
 /// The rows of the lists as batches, one for each list that isn't empty.
-fn batches_of(alloc: Global, lists: Vec<Rows>) -> Result<Vec<Batch>, RowsError>
+fn batches_of(alloc: Global, lists: Vec<Rows>) -> Result<Vec<Batch>, NoMemory>
     ensures { IfOk result (λ batches. joined batches.items ≈ piled lists.items) }
 {
     let mut batches = Vec::with_capacity(alloc, lists.len())?;
@@ -92,7 +94,7 @@ fn batches_of(alloc: Global, lists: Vec<Rows>) -> Result<Vec<Batch>, RowsError>
 }
 
 /// Appends rows to the last epoch.
-fn seal(epochs: &mut Vec<Vec<Rows>>, rows: Rows) -> Result<(), RowsError>
+fn seal(epochs: &mut Vec<Vec<Rows>>, rows: Rows) -> Result<(), NoMemory>
     ensures { OnOk result (map (λ v. piled v.items) epochs.new.items ≡ with_open (map (λ v. piled v.items) epochs.old.items) rows.rows) }
 {
     let len = epochs.len();
@@ -112,9 +114,9 @@ fn make_room(
     epochs: &mut Vec<Vec<Rows>>,
     last: &mut Rows,
     arity: usize,
-) -> Result<(), RowsError>
+) -> Result<(), NoMemory>
     requires some { 1 ≤ arity }
-    requires fits { arity ≤ 16 }
+    requires fits { arity ≤ max_fields }
     ensures arity { OnOk result (last.new.arity ≡ arity) }
     ensures same { OnOk result (with_open (map (λ v. piled v.items) epochs.new.items) last.new.rows ≡
         with_open (map (λ v. piled v.items) epochs.old.items) last.old.rows) }
@@ -129,9 +131,9 @@ fn make_room(
 }
 
 /// An empty list of rows, with room for `BATCH` rows if `many`.
-fn fresh(alloc: Global, arity: usize, many: bool) -> Result<Rows, RowsError>
+fn fresh(alloc: Global, arity: usize, many: bool) -> Result<Rows, NoMemory>
     requires some { 1 ≤ arity }
-    requires fits { arity ≤ 16 }
+    requires fits { arity ≤ max_fields }
     ensures { IfOk result (λ r. r ≡ record { arity = arity; rows = [] }) }
 {
     if many {

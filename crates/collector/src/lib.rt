@@ -30,7 +30,7 @@ pub use codes::{BAD_NUMBER, MALFORMED, NO_LINE_FEED};
 pub use epochs::Epochs;
 pub use first_line::{Stop, next_line};
 pub use laws::{law_one_answer, law_one_reading};
-pub use line::{Declared, Line, find_input, first_word, is_word, read_fields, rest_is_filled};
+pub use line::{Line, find_input, first_word, is_word, read_fields, rest_is_filled};
 pub use output::{OutFault, OutputEpochs, push_partition, push_sorted, write_epochs};
 pub use partition::Partition;
 pub use reading::read_input;

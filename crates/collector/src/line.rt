@@ -3,22 +3,16 @@
 ghost use Rattle.std.specs.Prelude.{◌≡◌, ◌<◌, ◌↔◌, ℤ, List, [], ◌∷◌, codes, map, true, false, IsTrue, IfSome, IfNone, IfOk};
 ghost use Rattle.std.specs.List.{AllByRecursion, list_all};
 ghost use Rattle.record_core.specs.Names.{begins_name, is_name_byte};
+ghost use Rattle.record_core.specs.Inputs.{input_of};
 ghost use Rattle.collector.specs.Pieces.{split_on};
 ghost use Rattle.collector.specs.Lines.{AreNumbers, IsAbsent, IsFilled, IsInput, IsWord, MakeRecord};
-ghost use Rattle.collector.specs.Said.{plain, words_of, LineEnds, RowEnds};
+ghost use Rattle.collector.specs.Said.{words_of, LineEnds, RowEnds};
 
 use crate::refusal::Fault;
 use crate::splitting::{around, find};
 use decimal::signed_number;
-use record_core::{MAX_FIELDS, Name};
+use record_core::{DeclaredInput, MAX_FIELDS};
 use std::alloc::AllocError;
-
-/// An input that a text may have records for: its name, and the number of fields of its records.
-#[derive(Clone, Copy)]
-pub struct Declared<'a> {
-    pub name: &'a Name,
-    pub arity: u64,
-}
 
 /// What a line says. The fields of a record are in the reader's buffer.
 #[derive(Clone, Copy, Debug, PartialEq, Eq)]
@@ -115,9 +109,9 @@ fn is_same(word: &[u8], name: &[u8]) -> bool
 }
 
 /// The first input of that name: its number, and the number of fields of its records.
-pub fn find_input(inputs: &[Declared<'_>], name: &[u8]) -> Option<(usize, u64)>
-    ensures found { IfSome result (λ p. IsInput (map plain inputs.now) name.now p.0 p.1) }
-    ensures none { IfNone result (IsAbsent (map plain inputs.now) name.now) }
+pub fn find_input(inputs: &[DeclaredInput], name: &[u8]) -> Option<(usize, u64)>
+    ensures found { IfSome result (λ p. IsInput (map input_of inputs.now) name.now p.0 p.1) }
+    ensures none { IfNone result (IsAbsent (map input_of inputs.now) name.now) }
 {
     for (i, declared) in inputs.iter().enumerate() {
         if is_same(declared.name.bytes(), name) {
@@ -177,10 +171,10 @@ fn make_record(fields: &[i64], arity: u64) -> bool
 fn row_says(
     first: &[u8],
     rest: Option<&[u8]>,
-    inputs: &[Declared<'_>],
+    inputs: &[DeclaredInput],
     fields: &mut Vec<i64>,
 ) -> Result<usize, LineError>
-    ensures { RowEnds (map plain inputs.now) first.now (words_of rest.entry) fields.new.items result }
+    ensures { RowEnds (map input_of inputs.now) first.now (words_of rest.entry) fields.new.items result }
 {
     let Some((input, arity)) = find_input(inputs, first) else {
         return Err(LineError::Fault(Fault::Unknown));
@@ -201,11 +195,11 @@ fn row_says(
 /// What a line says after `epochs` epochs have begun. The fields of a record are put into the buffer.
 pub fn line_says(
     line: &[u8],
-    inputs: &[Declared<'_>],
+    inputs: &[DeclaredInput],
     epochs: u32,
     fields: &mut Vec<i64>,
 ) -> Result<Line, LineError>
-    ensures { LineEnds (map plain inputs.now) epochs line.now fields.new.items result }
+    ensures { LineEnds (map input_of inputs.now) epochs line.now fields.new.items result }
 {
     if is_epoch(line) {
         return if epochs < MAX_EPOCHS {

@@ -6,12 +6,11 @@ ghost use Rattle.std.specs.Prelude.{◌≡◌, ◌<◌, ◌≤◌, ◌^◌, ◌+
 ghost use Rattle.std.specs.Fmt.{signed_decimal};
 ghost use Rattle.std.specs.Int.{w64};
 ghost use Rattle.std.specs.List.{flat_map};
+ghost use Rattle.record_core.specs.Inputs.{input_of};
 ghost use Rattle.collector.specs.OutputText.{spaced};
-ghost use Rattle.collector.specs.Said.{plain};
 ghost use Rattle.collector.specs.Quick.{IsRowAt, Fit};
 
-use crate::line::Declared;
-use record_core::MAX_FIELDS;
+use record_core::{DeclaredInput, MAX_FIELDS};
 use std::alloc::AllocError;
 
 /// The largest number that can be multiplied by ten and increased by any digit without leaving `i64`.
@@ -114,10 +113,10 @@ fn after_name<'a>(text: &'a [u8], name: &[u8]) -> Option<&'a [u8]>
 /// Reads the record at the head of the text: the number of its input, and the text after its line.
 pub fn quick_row<'a>(
     text: &'a [u8],
-    inputs: &[Declared<'_>],
+    inputs: &[DeclaredInput],
     fields: &mut Vec<i64>,
 ) -> Result<Option<(usize, &'a [u8])>, AllocError>
-    ensures { IfOk result (λ o. IfSome o (λ r. IsRowAt (map plain inputs.now) text.entry.now fields.new.items r.0 r.1.now)) }
+    ensures { IfOk result (λ o. IfSome o (λ r. IsRowAt (map input_of inputs.now) text.entry.now fields.new.items r.0 r.1.now)) }
 {
     for (i, declared) in inputs.iter().enumerate() {
         if let Some(rest) = after_name(text, declared.name.bytes()) {

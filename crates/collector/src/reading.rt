@@ -1,21 +1,22 @@
 //! Reads the input text.
 
 ghost use Rattle.std.specs.Prelude.{map, IfOk, IfErr, OnOk};
+ghost use Rattle.record_core.specs.Inputs.{input_of};
 ghost use Rattle.collector.specs.DraftGrowth.{CanTake, IsEven, Takes};
 ghost use Rattle.collector.specs.InputText.{IsReadFrom, IsRefused};
-ghost use Rattle.collector.specs.Said.{item_of, plain};
+ghost use Rattle.collector.specs.Said.{item_of};
 
 use crate::codes::NO_LINE_FEED;
 use crate::draft::Draft;
 use crate::epochs::Epochs;
 use crate::first_line::{Stop, next_line};
-use crate::line::{Declared, Line};
+use crate::line::Line;
 use crate::refusal::InputRefusal;
-use rows::RowsError;
+use record_core::{DeclaredInput, NoMemory};
 use std::alloc::Global;
 
 /// Adds what a line says to the draft. The fields of a record are in the buffer.
-fn take_line(alloc: Global, draft: &mut Draft, said: Line, fields: &[i64]) -> Result<(), RowsError>
+fn take_line(alloc: Global, draft: &mut Draft, said: Line, fields: &[i64]) -> Result<(), NoMemory>
     requires even { IsEven draft.old }
     requires can { CanTake draft.old (item_of said fields.now) }
     ensures { OnOk result (Takes draft.old draft.new (item_of said fields.now)) }
@@ -33,10 +34,10 @@ fn take_line(alloc: Global, draft: &mut Draft, said: Line, fields: &[i64]) -> Re
 pub fn read_input(
     alloc: Global,
     text: &[u8],
-    inputs: &[Declared<'_>],
+    inputs: &[DeclaredInput],
 ) -> Result<Epochs, InputRefusal>
-    ensures read { IfOk result (λ e. IsReadFrom (map plain inputs.now) text.now e) }
-    ensures refused { IfErr result (IsRefused (map plain inputs.now) text.now) }
+    ensures read { IfOk result (λ e. IsReadFrom (map input_of inputs.now) text.now e) }
+    ensures refused { IfErr result (IsRefused (map input_of inputs.now) text.now) }
 {
     let mut draft = Draft::new(alloc, inputs.len())?;
     let mut fields = Vec::new(alloc);

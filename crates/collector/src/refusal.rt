@@ -5,7 +5,7 @@ ghost use Rattle.collector.specs.Lines.{code_of};
 ghost use Rattle.collector.specs.declared.refusal.InputRefusal.TheVariants.{NoMemory};
 
 use crate::codes::{BAD_NUMBER, MALFORMED, NO_EPOCH, TOO_MANY_EPOCHS, UNKNOWN_INPUT, WRONG_FIELDS};
-use rows::RowsError;
+use record_core::NoMemory;
 use std::alloc::{AllocError, AllocFailed};
 
 /// What is wrong with a line that has its line feed.
@@ -64,10 +64,10 @@ impl<T: Drop> From<AllocFailed<T>> for InputRefusal {
     }
 }
 
-impl From<RowsError> for InputRefusal {
+impl From<NoMemory> for InputRefusal {
     ghost from_gives = { λ _ e. e ≡ NoMemory };
 
-    fn from(_e: RowsError) -> InputRefusal {
+    fn from(_e: NoMemory) -> InputRefusal {
         InputRefusal::NoMemory
     }
 }

@@ -1,10 +1,10 @@
 //! Input texts read and output texts written, with readers and writers that fail.
 
 use collector::{
-    Alone, Declared, Epochs, InputRefusal, OutFault, OutputEpochs, ReadFault, Watched, read_all,
+    Alone, Epochs, InputRefusal, OutFault, OutputEpochs, ReadFault, Watched, read_all,
     read_at_most, read_input, write_epochs,
 };
-use record_core::Name;
+use record_core::{DeclaredInput, Name};
 use rows::{Batch, MAX_ARITY, Rows};
 use std::io;
 use std::io::{ErrorKind, Read, Write};
@@ -92,8 +92,8 @@ fn read(rt: &HostRuntime, text: &[u8]) -> Result<Epochs, InputRefusal> {
         return Err(InputRefusal::NoMemory);
     };
     let inputs = [
-        Declared { name: &a, arity: 1 },
-        Declared { name: &b, arity: 2 },
+        DeclaredInput { name: a, arity: 1 },
+        DeclaredInput { name: b, arity: 2 },
     ];
     read_input(rt.alloc(), text, inputs.as_slice())
 }

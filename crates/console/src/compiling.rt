@@ -11,12 +11,11 @@ ghost use Rattle.console.specs.Compiled.{IsCompiled, IsUncompiled};
 ghost use Rattle.console.specs.Queries.{IsRefusal, IsTypedQuery};
 
 use crate::fault::{CompileFault, compile_fault};
-use expr_tree::NoMemory;
 use graph::Graph;
 use lowering::{LowerFault, lower};
 use normalise::normalise;
 use parser::parse;
-use record_core::Refusal;
+use record_core::{NoMemory, Refusal};
 use std::alloc::{Allocator, Global};
 use typing::{Typed, check};
 

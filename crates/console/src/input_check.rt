@@ -1,8 +1,6 @@
 //! The check of a query together with an input.
 
-ghost use Rattle.std.specs.Prelude.{◌≡◌, true, map, IfErr, IfOk, IsErrOf};
-ghost use Rattle.expr_tree.specs.Plain.{plain_input};
-ghost use Rattle.collector.specs.Said.{plain};
+ghost use Rattle.std.specs.Prelude.{◌≡◌, true, IfErr, IfOk, IsErrOf};
 ghost use Rattle.collector.specs.Watching.{has_failed, inner_of};
 ghost use Rattle.console.specs.InputChecks.{CheckInputEnds, IsCheckedInput, IsInputCheckFault};
 ghost use Rattle.console.specs.Readings.{ChecksBothOver, KeepsInput, KeepsQuery};
@@ -14,25 +12,11 @@ use crate::compiling::typed_program;
 use crate::fault::{input_fault, query_fault};
 use crate::reading::read_texts;
 use crate::writing::write_text;
-use collector::{Declared, Watched, read_input};
+use collector::{Watched, read_input};
 use diagnostics::{Fault, Texts};
-use expr_tree::Input;
-use std::alloc::{AllocError, Allocator, Global};
+use lowering::declared_inputs;
+use std::alloc::{Allocator, Global};
 use std::io::{Read, Write};
-
-/// The inputs of a program as the reader of texts takes them.
-fn inputs_of<'a>(alloc: Global, inputs: &'a [Input]) -> Result<Vec<Declared<'a>>, AllocError>
-    ensures { IfOk result (λ v. map plain v.items ≡ map plain_input inputs.entry.now) }
-{
-    let mut declared = Vec::with_capacity(alloc, inputs.len())?;
-    for input in inputs {
-        declared.push(Declared {
-            name: &input.name,
-            arity: input.arity,
-        })?;
-    }
-    Ok(declared)
-}
 
 /// The text of a checked query whose input is right too.
 #[tactic(auto, using(crate::proofs::QueryFaults::input_check_refused))]
@@ -50,7 +34,7 @@ fn checked_text<A: Allocator + Copy>(
         Err(refusal) => return Err(query_fault(refusal)),
     };
     let program = typed.program();
-    let inputs = match inputs_of(alloc, &program.inputs) {
+    let inputs = match declared_inputs(alloc, &program.inputs) {
         Ok(inputs) => inputs,
         Err(_) => return Err(Fault::NoMemory),
     };

@@ -1,11 +1,9 @@
 //! A run, from bytes to bytes.
 
-ghost use Rattle.std.specs.Prelude.{◌≡◌, ◌≤◌, length, true, map, IfOk, IfErr, IsErrOf};
+ghost use Rattle.std.specs.Prelude.{◌≡◌, ◌≤◌, length, true, IfOk, IfErr, IsErrOf};
 ghost use Rattle.graph.specs.Shown.{shown_graph, shown_inputs, shown_names};
-ghost use Rattle.graph.specs.Views.{input_of};
 ghost use Rattle.graph.specs.Limits.{max_vertices};
 ghost use Rattle.collector.specs.InputText.{IsReadFrom, IsRefused};
-ghost use Rattle.collector.specs.Said.{plain};
 ghost use Rattle.collector.specs.Watching.{has_failed, inner_of};
 ghost use Rattle.console.specs.Compiled.{IsCompiled, IsQueryFault};
 ghost use Rattle.console.specs.Heeded.{Heeds};
@@ -18,32 +16,15 @@ use crate::fault::{graph_fault, input_fault};
 use crate::graph_answer::respond;
 use crate::reading::read_texts;
 use bumpalo::Bump;
-use collector::{Declared, Epochs, InputRefusal, Watched, read_input};
+use collector::{Epochs, InputRefusal, Watched, read_input};
 use command_line::Workers;
 use diagnostics::{Fault, Texts};
 use execution::Watcher;
-use graph::{DeclaredInput, Graph};
-use std::alloc::{AllocError, Global};
+use graph::Graph;
+use std::alloc::Global;
 use std::io::{Read, Write};
 use std::sync::Wait;
 use std::thread::Threads;
-
-/// The inputs of a query as the reader of texts takes them.
-fn inputs_of<'a>(
-    alloc: Global,
-    inputs: &'a [DeclaredInput],
-) -> Result<Vec<Declared<'a>>, AllocError>
-    ensures { IfOk result (λ v. map plain v.items ≡ map input_of inputs.entry.now) }
-{
-    let mut declared = Vec::with_capacity(alloc, inputs.len())?;
-    for input in inputs {
-        declared.push(Declared {
-            name: &input.name,
-            arity: input.arity,
-        })?;
-    }
-    Ok(declared)
-}
 
 /// The graph of a query text; its tree is gone.
 pub fn graph_of_text(alloc: Global, query: &[u8]) -> Result<Graph, Fault>
@@ -63,8 +44,7 @@ fn epochs_of_text(alloc: Global, graph: &Graph, input: &[u8]) -> Result<Epochs, 
     ensures read { IfOk result (λ e. IsReadFrom (shown_inputs graph.now) input.now e) }
     ensures refused { IfErr result (IsRefused (shown_inputs graph.now) input.now) }
 {
-    let inputs = inputs_of(alloc, graph.inputs())?;
-    read_input(alloc, input, inputs.as_slice())
+    read_input(alloc, input, graph.inputs())
 }
 
 /// Answers a query text over an input text.

@@ -132,8 +132,25 @@ fn joined(rt: &impl Abort, alloc: Global, left: u64, right: u64) -> Result<Vec<i
     requires right_fits { right ≤ most }
 {
     let mut shard = join(alloc)?;
-    sends(rt, alloc, &mut shard, 2, 0, left)?;
-    sends(rt, alloc, &mut shard, 2, 1, right)
+    sends_at_both(rt, alloc, &mut shard, left, right)
+}
+
+/// What a join sends for 5 that comes that many times to port 1, after it has come to port 0.
+fn sends_at_both(
+    rt: &impl Abort,
+    alloc: Global,
+    shard: &mut Shard,
+    left: u64,
+    right: u64,
+) -> Result<Vec<i64>, ShardFault>
+    requires left { 1 ≤ left }
+    requires left_fits { left ≤ most }
+    requires right { 1 ≤ right }
+    requires right_fits { right ≤ most }
+    requires work { IsAtWork Role.stateful 2 1 shard.old }
+{
+    sends(rt, alloc, shard, 2, 0, left)?;
+    sends(rt, alloc, shard, 2, 1, right)
 }
 
 #[test]
@@ -240,11 +257,30 @@ fn selected(rt: &impl Abort, alloc: Global, ones: u64, twos: u64) -> Result<Vec<
     requires twos { 1 ≤ twos }
     requires twos_fit { twos ≤ most }
 {
+    let mut shard = select(alloc)?;
+    let batch = two_fives(rt, alloc, ones, twos);
+    sends_for(alloc, &mut shard, batch)
+}
+
+/// A select of the first of two fields.
+fn select(alloc: Global) -> Result<Shard, ShardFault>
+    ensures { IfOk result (λ s. IsAtWork Role.stateless 1 2 s) }
+{
     let scalars = vec![in alloc; Scalar::Column(NOWHERE, 0)]?;
-    let mut shard = shard_of(alloc, Kind::Select(scalars), 2)?;
-    let batch = two_fives(rt, alloc, ones, twos)?;
+    shard_of(alloc, Kind::Select(scalars), 2)
+}
+
+/// What a select sends for a batch, if there is one.
+fn sends_for(
+    alloc: Global,
+    shard: &mut Shard,
+    batch: Result<Batch, ShardFault>,
+) -> Result<Vec<i64>, ShardFault>
+    requires batch { IfOk batch (λ b. arity_of b ≡ 2) }
+    requires work { IsAtWork Role.stateless 1 2 shard.old }
+{
     let mut out = Out::new();
-    shard.on_records(alloc, 0, &Time::at_epoch(0), batch, &mut out)?;
+    shard.on_records(alloc, 0, &Time::at_epoch(0), batch?, &mut out)?;
     counted(alloc, out)
 }
 
@@ -264,13 +300,32 @@ fn grouped(rt: &impl Abort, alloc: Global, ones: u64, twos: u64) -> Result<Vec<i
     requires twos { 1 ≤ twos }
     requires twos_fit { twos ≤ most }
 {
+    let mut shard = group_with_sum(alloc)?;
+    let batch = two_fives(rt, alloc, ones, twos);
+    groups_of(alloc, &mut shard, batch)
+}
+
+/// A group of records of two fields by the first: their number, and the sum of the second.
+fn group_with_sum(alloc: Global) -> Result<Shard, ShardFault>
+    ensures { IfOk result (λ s. IsAtWork Role.notified 1 2 s) }
+{
     let columns = vec![in alloc; FIRST]?;
     let aggregates = vec![in alloc; Agg::Count(NOWHERE), Agg::Sum(NOWHERE, SECOND)]?;
-    let mut shard = shard_of(alloc, Kind::Group(columns, aggregates), 2)?;
-    let batch = two_fives(rt, alloc, ones, twos)?;
+    shard_of(alloc, Kind::Group(columns, aggregates), 2)
+}
+
+/// What a group sends when it is notified after a batch, if there is one.
+fn groups_of(
+    alloc: Global,
+    shard: &mut Shard,
+    batch: Result<Batch, ShardFault>,
+) -> Result<Vec<i64>, ShardFault>
+    requires batch { IfOk batch (λ b. arity_of b ≡ 2) }
+    requires work { IsAtWork Role.notified 1 2 shard.old }
+{
     let mut out = Out::new();
     let time = Time::at_epoch(0);
-    shard.on_records(alloc, 0, &time, batch, &mut out)?;
+    shard.on_records(alloc, 0, &time, batch?, &mut out)?;
     let mut done = Out::new();
     shard.on_notify(alloc, &time, &mut done)?;
     counted(alloc, done)

@@ -3,16 +3,14 @@
 ghost use Rattle.std.specs.Prelude.{◌≡◌, ◌≤◌, length, OnOk};
 ghost use Rattle.rows.specs.Counts.{most, rows_of};
 
-use record_core::Record;
-use rows::{
-    Batch, CountedRows, Lists, RowIndex, RowSet, Rows, RowsError, Tally, TallyError, field,
-};
+use record_core::{NoMemory, Record};
+use rows::{Batch, CountedRows, Lists, RowIndex, RowSet, Rows, Tally, TallyError, field};
 use std::alloc::Global;
 use std::process::Abort;
 use std::test::Fail;
 
 /// The fields of the rows, row by row.
-fn fields(alloc: Global, rows: &Rows) -> Result<Vec<i64>, RowsError> {
+fn fields(alloc: Global, rows: &Rows) -> Result<Vec<i64>, NoMemory> {
     let mut fields = Vec::new(alloc);
     for place in 0..rows.len() {
         fields.extend_from_slice(rows.row(place))?;
@@ -31,7 +29,7 @@ fn counted_fields(alloc: Global, rows: &CountedRows) -> Result<Vec<i64>, TallyEr
 }
 
 /// Three rows, each put in by another call, and their number of fields.
-fn built(alloc: Global) -> Result<(Vec<i64>, usize), RowsError> {
+fn built(alloc: Global) -> Result<(Vec<i64>, usize), NoMemory> {
     let mut rows = Rows::with_capacity(alloc, 3, 2)?;
     rows.push(&[1, -2, 3])?;
     rows.push_joined(&[4], &[5, i64::MIN])?;
@@ -51,7 +49,7 @@ fn rows_are_built_in_order(rt: HostRuntime) -> Result<(), Fail> {
 }
 
 /// One row after another, and whether there was none before.
-fn put_together(alloc: Global) -> Result<(Vec<i64>, bool), RowsError> {
+fn put_together(alloc: Global) -> Result<(Vec<i64>, bool), NoMemory> {
     let mut rows = Rows::new(alloc, 2);
     let mut others = Rows::new(alloc, 2);
     let none = rows.is_empty();
@@ -70,7 +68,7 @@ fn rows_are_put_together(rt: HostRuntime) -> Result<(), Fail> {
 }
 
 /// Whether the row `3 4` is the same as none, as `4 3`, and as itself, and whether no rows of one and of two fields are the same.
-fn compared(alloc: Global) -> Result<[bool; 4], RowsError> {
+fn compared(alloc: Global) -> Result<[bool; 4], NoMemory> {
     let mut rows = Rows::new(alloc, 2);
     let mut others = Rows::new(alloc, 2);
     rows.push(&[3, 4])?;
@@ -88,10 +86,10 @@ fn rows_are_compared(rt: HostRuntime) {
 }
 
 /// What a growth by more than there is memory for answers, what one by 10 answers, and how many rows there are after both.
-fn grown(alloc: Global) -> Result<(bool, bool, usize), RowsError> {
+fn grown(alloc: Global) -> Result<(bool, bool, usize), NoMemory> {
     let mut rows = Rows::new(alloc, 2);
     rows.push(&[1, 2])?;
-    let refused = rows.reserve(usize::MAX) == Err(RowsError::NoMemory);
+    let refused = rows.reserve(usize::MAX) == Err(NoMemory);
     let granted = rows.reserve(10).is_ok();
     Ok((refused, granted, rows.len()))
 }
@@ -100,14 +98,14 @@ fn grown(alloc: Global) -> Result<(bool, bool, usize), RowsError> {
 fn a_growth_without_memory_changes_nothing(rt: HostRuntime) {
     assert_eq!(rt; grown(rt.alloc()), Ok((true, true, 1)));
     let refusal = Rows::with_capacity(rt.alloc(), 16, usize::MAX).err();
-    assert_eq!(rt; refusal, Some(RowsError::NoMemory));
+    assert_eq!(rt; refusal, Some(NoMemory));
 }
 
 /// A batch of two records: its sizes, its second row, and whether it shows its first record and is the same as what shares it.
 fn batch_of_two(
     rt: &impl Abort,
     alloc: Global,
-) -> Result<(usize, usize, i64, i64, bool), RowsError> {
+) -> Result<(usize, usize, i64, i64, bool), NoMemory> {
     let first = Record::new(&[5, 6]).expect(rt, "2 fields");
     let second = Record::new(&[5, -6]).expect(rt, "2 fields");
     let records = Vec::from_array(alloc, [first, second])?;
@@ -115,7 +113,7 @@ fn batch_of_two(
     let again = batch.share()?;
     let same = batch.record(0) == records[0] && batch.same(&again);
     if batch.len() < 2 {
-        return Err(RowsError::NoMemory);
+        return Err(NoMemory);
     }
     let row = batch.row(1);
     Ok((batch.len(), batch.arity(), row[0], row[1], same))
@@ -127,7 +125,7 @@ fn a_batch_shows_its_records(rt: HostRuntime) {
 }
 
 /// The row of a batch of one; nothing where there is no such batch, or one of no row.
-fn batch_of_one(alloc: Global) -> Result<Option<i64>, RowsError> {
+fn batch_of_one(alloc: Global) -> Result<Option<i64>, NoMemory> {
     if Batch::from_rows(alloc, Rows::new(alloc, 1))?.is_some() {
         return Ok(None);
     }
@@ -145,7 +143,7 @@ fn no_batch_is_empty(rt: HostRuntime) {
 }
 
 /// Whether each of three rows is new, and whether the first is there, and one that wasn't put in.
-fn kept(alloc: Global) -> Result<(bool, bool, bool, bool, bool), RowsError> {
+fn kept(alloc: Global) -> Result<(bool, bool, bool, bool, bool), NoMemory> {
     let mut set = RowSet::new(alloc, 2)?;
     let first = set.insert_new(&[1, 2])?;
     let second = set.insert_new(&[2, 1])?;
@@ -165,7 +163,7 @@ fn a_set_keeps_each_row_once(rt: HostRuntime) {
 }
 
 /// The places of three rows, the numbers of rows and of fields, and the first field of the second.
-fn places(alloc: Global) -> Result<([usize; 3], usize, usize, i64), RowsError> {
+fn places(alloc: Global) -> Result<([usize; 3], usize, usize, i64), NoMemory> {
     let mut set = RowSet::new(alloc, 2)?;
     let first = set.place(&[1, 2])?;
     let least = set.place(&[i64::MIN, i64::MAX])?;
@@ -184,7 +182,7 @@ fn a_set_tells_places(rt: HostRuntime) {
 }
 
 /// How many of 40 rows the set gains.
-fn fresh_of(set: &mut RowSet) -> Result<u32, RowsError>
+fn fresh_of(set: &mut RowSet) -> Result<u32, NoMemory>
     requires { set.old.arity ≡ 2 }
     ensures { set.new.arity ≡ 2 }
 {
@@ -198,7 +196,7 @@ fn fresh_of(set: &mut RowSet) -> Result<u32, RowsError>
 }
 
 /// How many rows are new in two rounds over the same 40, and the lengths and the arity of their set and of a fresh one.
-fn forty_twice(alloc: Global) -> Result<([u32; 2], [usize; 3]), RowsError> {
+fn forty_twice(alloc: Global) -> Result<([u32; 2], [usize; 3]), NoMemory> {
     let mut set = RowSet::new(alloc, 2)?;
     let first = fresh_of(&mut set)?;
     let second = fresh_of(&mut set)?;
@@ -262,7 +260,7 @@ fn an_index_of_many_rows_finds_them_newest_first(rt: HostRuntime) -> Result<(), 
 }
 
 /// Fields of two lists, of which the first was replaced.
-fn replaced(alloc: Global) -> Result<(usize, [i64; 2]), RowsError> {
+fn replaced(alloc: Global) -> Result<(usize, [i64; 2]), NoMemory> {
     let mut lists = Lists::new(alloc, 2);
     lists.push(&[1, 2])?;
     lists.push(&[3, 4])?;

@@ -7,11 +7,11 @@ ghost use Rattle.semantics.specs.Time.{at_epoch};
 ghost use Rattle.views.specs.Opening.{active_at_first};
 
 use crate::count_tracker::simple_paths;
-use expr_tree::NoMemory;
 use graph::{Location, VertexId};
 use loop_context::Time;
 use path_summary::{Paths, Pointstamp};
 use progress::CountTracker;
+use record_core::NoMemory;
 use std::alloc::Global;
 use std::sync::Arc;
 use views::{Direct, LocalViews, Views};

@@ -1,7 +1,8 @@
 //! Routes worked out by hand, batches that are split, and mailboxes.
 
 use exchange::{MAX_WORKERS, Mailbox, Routing, route, split};
-use rows::{Batch, Rows, RowsError};
+use record_core::NoMemory;
+use rows::{Batch, Rows};
 use std::alloc::Global;
 use std::test::Fail;
 
@@ -25,7 +26,7 @@ fn records_go_by_key_by_all_fields_or_stay(rt: HostRuntime) -> Result<(), Fail> 
 }
 
 /// Some records of one field: `first`, 2, and `last`.
-fn three(alloc: Global, first: i64, last: i64) -> Result<Option<Batch>, RowsError> {
+fn three(alloc: Global, first: i64, last: i64) -> Result<Option<Batch>, NoMemory> {
     let mut rows = Rows::with_capacity(alloc, 1, 3)?;
     rows.push(&[first])?;
     rows.push(&[2])?;
@@ -89,7 +90,7 @@ fn records_without_a_route_stay_with_the_sender(rt: HostRuntime) -> Result<(), F
 
 /// A mailbox: whether it was empty, the second and the first of four, the two others, and whether a growth by more than there is memory for
 /// was refused and left these two.
-fn taken(alloc: Global) -> Result<(bool, usize, [i64; 4], bool, usize), RowsError> {
+fn taken(alloc: Global) -> Result<(bool, usize, [i64; 4], bool, usize), NoMemory> {
     let mut mailbox = Mailbox::new(alloc);
     let none = mailbox.is_empty();
     mailbox.put(10)?;
@@ -101,7 +102,7 @@ fn taken(alloc: Global) -> Result<(bool, usize, [i64; 4], bool, usize), RowsErro
     let second = mailbox.take(1);
     let first = mailbox.take(0);
     let values = [second, first, *mailbox.get(0), *mailbox.get(1)];
-    let refused = mailbox.reserve(usize::MAX) == Err(RowsError::NoMemory);
+    let refused = mailbox.reserve(usize::MAX) == Err(NoMemory);
     Ok((none, all, values, refused, mailbox.len()))
 }
 

@@ -6,7 +6,7 @@ ghost use Rattle.rows.specs.FlatRows.{arity_of};
 ghost use Rattle.semantics.specs.Kinds.{in_ports};
 ghost use Rattle.semantics.specs.PortArity.{PortsFit};
 ghost use Rattle.semantics.specs.Typing.{IsArity};
-ghost use Rattle.vertices.specs.Absorbed.{Absorbed};
+ghost use Rattle.semantics.specs.Shard.{Absorbed};
 ghost use Rattle.vertices.specs.Shards.{Shows, TakesArity, by_port, shard_kind};
 
 use crate::shards::{NOWHERE, fields_sent, pairs, shard_of, singles};

@@ -6,11 +6,11 @@ ghost use Rattle.semantics.specs.Could.{IsTimeAt, Pointstamp as Active};
 ghost use Rattle.progress.specs.Content.{times_at, times_in};
 
 use crate::path_summaries::{SIMPLE, paths_of};
-use expr_tree::NoMemory;
 use graph::{Location, VertexId};
 use loop_context::Time;
 use path_summary::{Paths, Pointstamp};
 use progress::{Change, LocationTracker, PlainTracker, Progress, changes};
+use record_core::NoMemory;
 use std::alloc::Global;
 use std::sync::Arc;
 

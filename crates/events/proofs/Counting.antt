@@ -3,13 +3,13 @@ use Rattle.std.proofs.Common.{◌≡◌, ℕ, ◌+◌, List, [], ◌++◌, ◌�
 use Rattle.semantics.specs.Graph.{Graph, in_port}
 use Rattle.semantics.specs.Kinds.{Kind, Role, out_ports, role}
 use Rattle.semantics.specs.Multiset.{Record, ◌≈◌, count, same}
-use Rattle.semantics.specs.Shard.{SendsBy}
+use Rattle.semantics.specs.Shard.{Absorbed, SendsBy}
 use Rattle.semantics.specs.Time.{Time}
 use Rattle.semantics.proofs.MultisetSums.{≈-from, ≈-sym, ≈-trans}
 use Rattle.machine.specs.World.{Event, Message}
 use Rattle.machine.proofs.Counting.{count-append}
 use Rattle.rows.specs.Counts.{AllFit, IsOver}
-use Rattle.vertices.specs.Absorbed.{Absorbed, kept_by}
+use Rattle.vertices.specs.Kept.{kept_by}
 use Rattle.vertices.specs.Outs.{SendsFor, WouldSendOver, sent}
 use Rattle.vertices.specs.Shards.{shard_kind}
 use Rattle.vertices.specs.declared.out.Out.{Out}

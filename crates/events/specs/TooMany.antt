@@ -2,9 +2,10 @@
 use Rattle.std.specs.Prelude.{◌⊎◌}
 use Rattle.semantics.specs.Graph.{Graph, in_port}
 use Rattle.semantics.specs.Kinds.{role}
+use Rattle.semantics.specs.Shard.{Absorbed}
 use Rattle.machine.specs.World.{Event}
 use Rattle.rows.specs.Counts.{IsOver}
-use Rattle.vertices.specs.Absorbed.{Absorbed, kept_by}
+use Rattle.vertices.specs.Kept.{kept_by}
 use Rattle.vertices.specs.Outs.{WouldSendOver}
 use Rattle.vertices.specs.Shards.{Shows, shard_kind}
 use Rattle.vertices.specs.declared.shard.Shard.{Shard}

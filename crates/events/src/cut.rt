@@ -5,14 +5,14 @@ ghost use Rattle.semantics.specs.Graph.{vertex as vertex_in};
 ghost use Rattle.semantics.specs.Kinds.{Kind as Equation};
 ghost use Rattle.semantics.specs.Time.{at_epoch};
 ghost use Rattle.events.specs.Cuts.{at_time, cut_letters};
-ghost use Rattle.events.specs.Letters.{AreParcels};
+ghost use Rattle.events.specs.Letters.{AreParcels, most_letters};
 ghost use Rattle.events.specs.Wired.{graph_in, network_of};
 
-use crate::fault::EventFault;
 use crate::letter::Letter;
 use crate::sending::send;
 use crate::wiring::Wiring;
 use loop_context::Time;
+use record_core::NoMemory;
 use rows::Batch;
 use std::alloc::Global;
 use std::marker::Model;
@@ -53,7 +53,7 @@ impl CutBatch {
         wiring: &Arc<Wiring, Global>,
         input: u32,
         batch: Batch,
-    ) -> Result<CutBatch, EventFault>
+    ) -> Result<CutBatch, NoMemory>
         requires there { input < length (graph_in wiring.now.value) }
         requires input { (vertex_in (graph_in wiring.now.value) input).kind ≡ Equation.input }
         ensures { IfOk result (λ c. c ≡ record { wired = wiring.now.value; input = input; epoch = 0; batch = batch }) }
@@ -113,10 +113,10 @@ impl CutBatch {
         letters
     }
 
-    /// The messages are those of the batch, fed at its epoch, and there are at most 524,288. Nothing is done.
+    /// The messages are those of the batch, fed at its epoch, and there is at most one for each edge and worker. Nothing is done.
     pub fn law_of_letters(&self)
         ensures parcels { AreParcels (network_of self.now.wired) 0 self.now.input (at_epoch self.now.epoch) (λ q. self.now.batch) (cut_letters self.now) }
-        ensures few { length (cut_letters self.now) ≤ 524288 }
+        ensures few { length (cut_letters self.now) ≤ most_letters }
     {
         self.wiring.law_of_graph();
         self.wiring.law_of_size();

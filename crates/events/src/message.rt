@@ -5,9 +5,9 @@ ghost use Rattle.semantics.specs.Multiset.{◌≈◌};
 ghost use Rattle.rows.specs.FlatRows.{arity_of};
 ghost use Rattle.events.specs.Merging.{MayMerge};
 
-use crate::fault::EventFault;
 use graph::EdgeId;
 use loop_context::Time;
+use record_core::NoMemory;
 use rows::{Batch, TallyError};
 use std::alloc::Global;
 use std::marker::Model;
@@ -127,7 +127,7 @@ impl Message {
     }
 
     /// The edge, the time, and the records as one batch, in some order. Copies records only if there are several batches.
-    pub fn into_parts(self, alloc: Global) -> Result<(EdgeId, Time, Batch), EventFault>
+    pub fn into_parts(self, alloc: Global) -> Result<(EdgeId, Time, Batch), NoMemory>
         ensures edge { IfOk result (λ p. p.0.0 ≡ self.edge) }
         ensures time { IfOk result (λ p. p.1 ≡ self.time) }
         ensures records { IfOk result (λ p. p.2 ≈ self.records) }
@@ -146,7 +146,7 @@ impl Message {
         }
         match Batch::concat(alloc, &batch, &more) {
             Ok(joined) => Ok((edge, time, joined)),
-            Err(TallyError::NoMemory) => Err(EventFault::NoMemory),
+            Err(TallyError::NoMemory) => Err(NoMemory),
             Err(TallyError::Count) => unreachable!(),
         }
     }

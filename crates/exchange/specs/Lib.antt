@@ -1,4 +1,3 @@
-pub mod Limits
 pub mod Hashes
 pub mod Homes
 pub mod Parts

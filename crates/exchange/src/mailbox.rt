@@ -5,7 +5,7 @@ ghost use Rattle.std.specs.Prelude.{if◌then◌else◌, is_ok, IfErr, IsTrue, O
 ghost use Rattle.std.specs.List.{insert};
 ghost use Rattle.exchange.specs.Mail.{Mail};
 
-use rows::RowsError;
+use record_core::NoMemory;
 use std::alloc::{AllocFailed, Global};
 use std::collections::VecDeque;
 use std::marker::Model;
@@ -58,7 +58,7 @@ impl<T> Mailbox<T> {
     }
 
     /// Reserves room for that many more messages.
-    pub fn reserve(&mut self, more: usize) -> Result<(), RowsError>
+    pub fn reserve(&mut self, more: usize) -> Result<(), NoMemory>
         ensures messages { self.new.messages ≡ self.old.messages }
         ensures kept { self.old.room ≤ self.new.room }
         ensures room { OnOk result (more ≤ self.new.room) }

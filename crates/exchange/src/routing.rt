@@ -1,11 +1,11 @@
 //! Decides to which worker a record goes.
 
-ghost use Rattle.std.specs.Prelude.{◌≡◌, ◌<◌, ◌≤◌, ℕ, fold};
+ghost use Rattle.std.specs.Prelude.{◌≡◌, ◌<◌, ◌≤◌, ◌%◌, ℕ, fold};
 ghost use Rattle.semantics.specs.Meaning.{field as column_of, project};
 ghost use Rattle.semantics.specs.Route.{route as route_of};
 ghost use Rattle.exchange.specs.Homes.{home_of};
 ghost use Rattle.exchange.specs.Hashes.{step};
-ghost use Rattle.exchange.specs.Limits.{max_workers};
+ghost use Rattle.semantics.specs.Limits.{max_workers};
 
 use rows::field;
 
@@ -31,7 +31,25 @@ pub fn route(key: &[i64], workers: u32) -> u32
     ensures value { result ≡ route_of key.now workers }
     ensures there { result < workers }
 {
-    (hash_of_key(key) % workers as u64) as u32
+    remainder(hash_of_key(key), workers)
+}
+
+/// The remainder of a division by the number of workers. For the usual numbers no division is made: one takes as long as the whole hash.
+fn remainder(hash: u64, workers: u32) -> u32
+    requires some { 0 < workers }
+    requires fits { workers ≤ max_workers }
+    ensures { result ≡ hash % workers }
+{
+    let rest = match workers {
+        2 => hash % 2,
+        4 => hash % 4,
+        8 => hash % 8,
+        16 => hash % 16,
+        32 => hash % 32,
+        64 => hash % 64,
+        _ => hash % workers as u64,
+    };
+    rest as u32
 }
 
 fn hash_of_key(key: &[i64]) -> u64
@@ -68,7 +86,7 @@ fn route_columns(columns: &[u64], row: &[i64], workers: u32) -> u32
     ensures value { result ≡ route_of (project columns.now row.now) workers }
     ensures there { result < workers }
 {
-    (hash_of_columns(columns, row) % workers as u64) as u32
+    remainder(hash_of_columns(columns, row), workers)
 }
 
 impl Routing {

@@ -7,10 +7,11 @@ ghost use Rattle.rows.specs.Indexes.{AreDifferent};
 ghost use Rattle.rows.specs.Counts.{AreRuns, expanded, no_run, rows_of, runs};
 ghost use Rattle.exchange.specs.Homes.{home_of};
 ghost use Rattle.exchange.specs.Parts.{AllGoTo, AreAllDifferent, parcel, parcels, no_rows, IsSpread, gathered, from_all};
-ghost use Rattle.exchange.specs.Limits.{max_workers};
+ghost use Rattle.semantics.specs.Limits.{max_fields, max_workers};
 
 use crate::routing::Routing;
-use rows::{Batch, CountedRows, RowsError};
+use record_core::NoMemory;
+use rows::{Batch, CountedRows};
 use std::alloc::Global;
 
 /// The records of a batch that go to one worker, at least one, in their order.
@@ -31,7 +32,7 @@ pub fn split(
     routing: &Routing,
     workers: u32,
     sender: u32,
-) -> Result<Parcels, RowsError>
+) -> Result<Parcels, NoMemory>
     requires fits { workers ≤ max_workers }
     requires sender { sender < workers }
     ensures each { IfOk result (λ ps. ps.items ≡ parcels (home_of routing.now workers sender) batch workers) }
@@ -78,7 +79,7 @@ fn spread(
     routing: &Routing,
     workers: u32,
     sender: u32,
-) -> Result<Vec<CountedRows>, RowsError>
+) -> Result<Vec<CountedRows>, NoMemory>
     requires fits { workers ≤ max_workers }
     requires sender { sender < workers }
     ensures { IfOk result (λ parts. IsSpread (home_of routing.now workers sender) (arity_of batch.now) (runs batch.now) workers parts.items) }
@@ -92,9 +93,9 @@ fn spread(
     Ok(parts)
 }
 
-fn empty_parts(alloc: Global, arity: usize, workers: u32) -> Result<Vec<CountedRows>, RowsError>
+fn empty_parts(alloc: Global, arity: usize, workers: u32) -> Result<Vec<CountedRows>, NoMemory>
     requires some { 1 ≤ arity }
-    requires fits { arity ≤ 16 }
+    requires fits { arity ≤ max_fields }
     ensures len { IfOk result (λ parts. length parts.items ≡ workers) }
     ensures none { IfOk result (λ parts. (k : ℕ) → slice_index_or parts.items k (no_rows arity) ≡ no_rows arity) }
 {
@@ -107,7 +108,7 @@ fn empty_parts(alloc: Global, arity: usize, workers: u32) -> Result<Vec<CountedR
 
 /// The lists that have rows, as parcels for the workers from 0 on.
 #[tactic(auto, using(crate::proofs::Gathering::gathered_next))]
-fn gather(alloc: Global, parts: Vec<CountedRows>) -> Result<Parcels, RowsError>
+fn gather(alloc: Global, parts: Vec<CountedRows>) -> Result<Parcels, NoMemory>
     requires few { length parts.items ≤ max_workers }
     requires different { AreAllDifferent parts.items }
     ensures { IfOk result (λ ps. ps.items ≡ gathered 0 parts.items) }
@@ -127,7 +128,7 @@ fn put_parcel(
     worker: u32,
     part: CountedRows,
     parcels: &mut Parcels,
-) -> Result<(), RowsError>
+) -> Result<(), NoMemory>
     requires { AreDifferent (rows_of part.runs) }
     ensures { OnOk result (parcels.new.items ≡ parcels.old.items ++ parcel worker (expanded part.runs)) }
 {

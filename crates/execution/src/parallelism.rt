@@ -1,7 +1,7 @@
 //! How many workers share the records of a run.
 
 ghost use Rattle.std.specs.Prelude.{◌<◌, ◌≤◌, ◌≡◌};
-ghost use Rattle.exchange.specs.Limits.{max_workers};
+ghost use Rattle.semantics.specs.Limits.{max_workers};
 ghost use Rattle.collector.specs.ReadEpochs.{epoch_count};
 
 use collector::Epochs;

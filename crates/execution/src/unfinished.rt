@@ -1,8 +1,7 @@
 //! Why a run has no report.
 
 use board::StepRefusal;
-use expr_tree::NoMemory;
-use rows::RowsError;
+use record_core::NoMemory;
 use std::alloc::AllocError;
 
 /// Why there is no report.
@@ -31,12 +30,6 @@ impl From<StepRefusal> for Unfinished {
             | StepRefusal::HoldsEvent
             | StepRefusal::NoSuchEvent => Unfinished::Incomplete,
         }
-    }
-}
-
-impl From<RowsError> for Unfinished {
-    fn from(_error: RowsError) -> Unfinished {
-        Unfinished::NoMemory
     }
 }
 

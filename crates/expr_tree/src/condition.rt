@@ -6,9 +6,8 @@ ghost use Rattle.expr_tree.specs.Plain.{plain_cond};
 ghost use Rattle.expr_tree.specs.Trees.{CondTree};
 ghost use Rattle.expr_tree.specs.Views.{cond_tree};
 
-use crate::no_memory::NoMemory;
 use crate::scalar::{NOWHERE, Scalar};
-use record_core::Span;
+use record_core::{NoMemory, Span};
 use std::alloc::Allocator;
 use std::mem;
 

@@ -5,11 +5,10 @@ ghost use Rattle.expr_tree.specs.Trees.{RelTree};
 ghost use Rattle.expr_tree.specs.Views.{cond_tree, let_tree, output_tree, rel_tree, scalar_tree};
 
 use crate::condition::Cond;
-use crate::no_memory::NoMemory;
 use crate::program::{Input, Let, Output};
 use crate::relation::{Agg, Column, Pair, Rel, SetOperator};
 use crate::scalar::Scalar;
-use record_core::Span;
+use record_core::{NoMemory, Span};
 use std::alloc::Allocator;
 
 /// The same scalar, with the same spans, under the allocator `alloc`, which alone gives the memory.

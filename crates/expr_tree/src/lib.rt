@@ -13,7 +13,6 @@ mod condition;
 mod copy;
 mod depth;
 mod evaluation;
-mod no_memory;
 mod program;
 mod relation;
 mod sameness;
@@ -24,7 +23,6 @@ pub use condition::{Comparison, Cond, Connective};
 pub use copy::{copy_cond, copy_rel, copy_scalar, copy_scalars, copy_values};
 pub use depth::{cond_depth, rel_depth, scalar_depth};
 pub use evaluation::{eval_scalar, holds, negated, operate};
-pub use no_memory::NoMemory;
 pub use program::{Input, Let, Output, Program};
 pub use relation::{Agg, Column, Pair, Rel, SetOperator};
 pub use sameness::{

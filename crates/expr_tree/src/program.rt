@@ -7,10 +7,9 @@ ghost use Rattle.expr_tree.specs.Views.{program_tree};
 
 use crate::copy::{copy_inputs, copy_lets, copy_outputs};
 use crate::depth::rel_depth;
-use crate::no_memory::NoMemory;
 use crate::relation::Rel;
 use crate::size::rel_size;
-use record_core::{Name, Span};
+use record_core::{Name, NoMemory, Span};
 use std::alloc::Allocator;
 
 /// A declared input and the number of its records' fields.

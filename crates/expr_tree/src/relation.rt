@@ -7,9 +7,8 @@ ghost use Rattle.expr_tree.specs.Trees.{RelTree};
 ghost use Rattle.expr_tree.specs.Views.{cond_tree, rel_tree, scalar_tree};
 
 use crate::condition::Cond;
-use crate::no_memory::NoMemory;
 use crate::scalar::{NOWHERE, Scalar};
-use record_core::{Name, Span};
+use record_core::{Name, NoMemory, Span};
 use std::alloc::Allocator;
 use std::mem;
 

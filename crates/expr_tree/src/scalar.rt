@@ -6,8 +6,7 @@ ghost use Rattle.expr_tree.specs.Plain.{plain_scalar};
 ghost use Rattle.expr_tree.specs.Trees.{ScalarTree};
 ghost use Rattle.expr_tree.specs.Views.{scalar_tree};
 
-use crate::no_memory::NoMemory;
-use record_core::Span;
+use record_core::{NoMemory, Span};
 use std::alloc::Allocator;
 use std::mem;
 

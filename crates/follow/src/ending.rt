@@ -6,8 +6,7 @@ ghost use Rattle.follow.specs.declared.ending.Halt.TheVariants as halt;
 
 use board::StepRefusal;
 use events::ComputeFault;
-use expr_tree::NoMemory;
-use rows::RowsError;
+use record_core::NoMemory;
 use std::alloc::{AllocError, AllocFailed};
 
 /// Why following ended before the whole input was answered.
@@ -46,12 +45,6 @@ impl From<AllocError> for Halt {
 
 impl<T: Drop> From<AllocFailed<T>> for Halt {
     fn from(_error: AllocFailed<T>) -> Halt {
-        Halt::NoMemory
-    }
-}
-
-impl From<RowsError> for Halt {
-    fn from(_error: RowsError) -> Halt {
         Halt::NoMemory
     }
 }

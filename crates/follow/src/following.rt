@@ -1,11 +1,10 @@
 //! Follows an input from its first byte to its end.
 
 ghost use Rattle.std.specs.Prelude.{◌≡◌, ◌⊎◌, ◌+◌, map, true, IfOk, IsErrOf, OnErr};
-ghost use Rattle.graph.specs.Views.{input_of};
+ghost use Rattle.record_core.specs.Inputs.{input_of};
 ghost use Rattle.machine.specs.World.{opening};
 ghost use Rattle.board.specs.Promises.{IsOpening};
 ghost use Rattle.board.specs.Showing.{Shows};
-ghost use Rattle.collector.specs.Said.{plain};
 ghost use Rattle.collector.specs.Watching.{has_failed, inner_of};
 ghost use Rattle.follow.specs.Follows.{FollowsInput};
 ghost use Rattle.follow.specs.Steps.{FollowsAll, FollowsEnd, FollowsLines, FollowsPiece, TakesLines};
@@ -19,9 +18,10 @@ use crate::line_stop::Taken;
 use crate::position::Position;
 use crate::renewing::{LINES, new_board, renew};
 use board::Board;
-use collector::{Declared, NO_LINE_FEED, Watched, find, put};
-use graph::{DeclaredInput, Graph};
+use collector::{NO_LINE_FEED, Watched, find, put};
+use graph::Graph;
 use progress::LocationTracker;
+use record_core::DeclaredInput;
 use std::alloc::Global;
 use std::io::{Read, Write};
 use std::mem::replace;
@@ -43,14 +43,14 @@ fn ending_at_fault(intake: &Intake, code: u8) -> Ending
 fn take_text<V: Views>(
     alloc: Global,
     board: &mut Board<V>,
-    inputs: &[Declared<'_>],
+    inputs: &[DeclaredInput],
     base: u32,
     until: u64,
     intake: &mut Intake,
     pending: &mut Vec<u8>,
 ) -> Result<Taken, Halt>
     ensures { IfOk result (λ taken. TakesLines base board.old.shown board.new.shown intake.old intake.new
-        (map plain inputs.now) pending.old.items pending.new.items taken) }
+        (map input_of inputs.now) pending.old.items pending.new.items taken) }
 {
     let text = replace(pending, Vec::new(alloc));
     match take_lines(alloc, board, inputs, base, until, intake, text.as_slice()) {
@@ -74,12 +74,12 @@ fn follow_lines<V: Views, R: Threads + Sync, W: Write>(
     rt: &R,
     alloc: Global,
     crew: Crew,
-    inputs: &[Declared<'_>],
+    inputs: &[DeclaredInput],
     board: &mut Board<V>,
     position: &mut Position,
     writer: &mut Watched<W>,
 ) -> Result<Taken, Ending>
-    ensures follows { FollowsLines (map plain inputs.now) board.old.shown board.new.shown position.old position.new
+    ensures follows { FollowsLines (map input_of inputs.now) board.old.shown board.new.shown position.old position.new
         (W.contents (inner_of writer.old)) (W.contents (inner_of writer.new)) result }
     ensures writer { IsErrOf result ending.Write → has_failed writer.new ≡ true }
     ensures reader { IsErrOf result ending.Read → ⊥ }
@@ -124,13 +124,13 @@ fn follow_piece<R: Threads + Sync, W: Write>(
     alloc: Global,
     crew: Crew,
     graph: &Arc<Graph, Global>,
-    inputs: &[Declared<'_>],
+    inputs: &[DeclaredInput],
     board: &mut Board<Direct<LocationTracker>>,
     position: &mut Position,
     piece: &[u8],
     writer: &mut Watched<W>,
 ) -> Result<(), Ending>
-    ensures follows { FollowsPiece graph.now.value (map plain inputs.now) board.old.shown board.new.shown position.old position.new piece.now
+    ensures follows { FollowsPiece graph.now.value (map input_of inputs.now) board.old.shown board.new.shown position.old position.new piece.now
         (W.contents (inner_of writer.old)) (W.contents (inner_of writer.new)) result }
     ensures writer { IsErrOf result ending.Write → has_failed writer.new ≡ true }
     ensures reader { IsErrOf result ending.Read → ⊥ }
@@ -196,13 +196,13 @@ fn follow_pieces<T: Threads + Sync, R: Read, W: Write>(
     alloc: Global,
     crew: Crew,
     graph: &Arc<Graph, Global>,
-    inputs: &[Declared<'_>],
+    inputs: &[DeclaredInput],
     board: &mut Board<Direct<LocationTracker>>,
     position: &mut Position,
     reader: &mut Watched<R>,
     writer: &mut Watched<W>,
 ) -> Result<(), Ending>
-    ensures follows { FollowsAll graph.now.value (map plain inputs.now) board.old.shown position.old
+    ensures follows { FollowsAll graph.now.value (map input_of inputs.now) board.old.shown position.old
         (R.remaining (inner_of reader.old)) (R.remaining (inner_of reader.new)) (W.contents (inner_of writer.old)) (W.contents (inner_of writer.new)) result }
     ensures reader { IsErrOf result ending.Read → has_failed reader.new ≡ true }
     ensures writer { IsErrOf result ending.Write → has_failed writer.new ≡ true }
@@ -231,20 +231,6 @@ fn follow_pieces<T: Threads + Sync, R: Read, W: Write>(
         }
     }
     Err(Ending::Incomplete)
-}
-
-/// The inputs of a graph, as the reader of lines needs them.
-fn inputs_of<'a>(alloc: Global, inputs: &'a [DeclaredInput]) -> Result<Vec<Declared<'a>>, Halt>
-    ensures { IfOk result (λ v. map plain v.items ≡ map input_of inputs.entry.now) }
-{
-    let mut declared = Vec::with_capacity(alloc, inputs.len())?;
-    for input in inputs {
-        declared.push(Declared {
-            name: &input.name,
-            arity: input.arity,
-        })?;
-    }
-    Ok(declared)
 }
 
 /// A new board over the graph, and the graph itself.
@@ -282,15 +268,14 @@ fn follow_graph<T: Threads + Sync, R: Read, W: Write>(
     ensures unread { OnErr result (reader.new ≡ reader.old) }
     ensures unwritten { OnErr result (writer.new ≡ writer.old) }
 {
-    let inputs = inputs_of(alloc, graph.inputs())?;
-    let listed = inputs.as_slice();
-    let mut position = Position::new(alloc, listed, board.output_count(), LINES)?;
+    let inputs = graph.inputs();
+    let mut position = Position::new(alloc, inputs, board.output_count(), LINES)?;
     let ended = follow_pieces(
         rt,
         alloc,
         crew,
         graph,
-        listed,
+        inputs,
         board,
         &mut position,
         reader,

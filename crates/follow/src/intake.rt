@@ -1,16 +1,17 @@
 //! What was taken of the input.
 
 ghost use Rattle.std.specs.Prelude.{◌≡◌, ◌<◌, ℤ, [], List, length, map, IfOk, IsTrue, OnOk};
+ghost use Rattle.record_core.specs.Inputs.{input_of};
 ghost use Rattle.collector.specs.Lines.{Item};
-ghost use Rattle.collector.specs.Said.{item_of, plain};
+ghost use Rattle.collector.specs.Said.{item_of};
 ghost use Rattle.follow.specs.Steps.{Counts, Empties, Gathers, IsNew, TakesItem, FeedsRows, FeedsPortion, TakesLines};
 
 use crate::board_calls::{feed, seal_inputs};
 use crate::ending::Halt;
 use crate::line_stop::Taken;
 use board::Board;
-use collector::{Declared, Line, Stop, next_line};
-use record_core::MAX_FIELDS;
+use collector::{Line, Stop, next_line};
+use record_core::{DeclaredInput, MAX_FIELDS};
 use rows::{Batch, Rows};
 use std::alloc::Global;
 use std::mem::replace;
@@ -26,7 +27,7 @@ pub struct Intake {
 
 impl Intake {
     /// An intake that has taken nothing.
-    pub fn new(alloc: Global, inputs: &[Declared<'_>]) -> Result<Intake, Halt>
+    pub fn new(alloc: Global, inputs: &[DeclaredInput]) -> Result<Intake, Halt>
         ensures { IfOk result IsNew }
     {
         let mut portion = Vec::with_capacity(alloc, inputs.len())?;
@@ -171,13 +172,13 @@ fn begins_epoch(said: Line) -> bool
 pub fn take_lines<'a, V: Views>(
     alloc: Global,
     board: &mut Board<V>,
-    inputs: &[Declared<'_>],
+    inputs: &[DeclaredInput],
     base: u32,
     until: u64,
     intake: &mut Intake,
     text: &'a [u8],
 ) -> Result<(&'a [u8], Taken), Halt>
-    ensures { IfOk result (λ r. TakesLines base board.old.shown board.new.shown intake.old intake.new (map plain inputs.now) text.entry.now r.0.now r.1) }
+    ensures { IfOk result (λ r. TakesLines base board.old.shown board.new.shown intake.old intake.new (map input_of inputs.now) text.entry.now r.0.now r.1) }
 {
     let mut fields = Vec::new(alloc);
     let mut rest = text;

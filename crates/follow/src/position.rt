@@ -6,7 +6,7 @@ ghost use Rattle.follow.specs.Steps.{IsFirst};
 use crate::ending::Halt;
 use crate::intake::Intake;
 use crate::reporting::Reporting;
-use collector::Declared;
+use record_core::DeclaredInput;
 use std::alloc::Global;
 
 /// What was taken of the input, and what was written of the answer.
@@ -26,7 +26,7 @@ impl Position {
     /// The position at the beginning of an input. From line `until` on, the next epoch gets a new board.
     pub fn new(
         alloc: Global,
-        inputs: &[Declared<'_>],
+        inputs: &[DeclaredInput],
         outputs: u32,
         until: u64,
     ) -> Result<Position, Halt>

@@ -2,8 +2,9 @@
 use Rattle.std.specs.Prelude.{◌≡◌, ℕ, List, map}
 use Rattle.semantics.specs.Query.{Input, Name}
 use Rattle.semantics.specs.Graph.{Graph}
-use Rattle.graph.specs.Views.{graph_of, input_of, name_of_output}
-use Rattle.graph.specs.declared.graph.DeclaredInput.{DeclaredInput}
+use Rattle.graph.specs.Views.{graph_of, name_of_output}
+use Rattle.record_core.specs.Inputs.{input_of}
+use Rattle.record_core.specs.declared.input.DeclaredInput.{DeclaredInput}
 use Rattle.graph.specs.declared.graph.GraphOutput.{GraphOutput}
 use Rattle.graph.specs.declared.vertex.Vertex.{Vertex}
 

@@ -19,7 +19,6 @@ use Rattle.graph.specs.declared.kind.Role.{Role}
 use Rattle.graph.specs.declared.kind.Role.TheVariants as answers
 use Rattle.graph.specs.declared.kind.RouteKey.{RouteKey}
 use Rattle.graph.specs.declared.kind.RouteKey.TheVariants as keys
-use Rattle.graph.specs.declared.graph.DeclaredInput.{DeclaredInput}
 use Rattle.graph.specs.declared.graph.GraphOutput.{GraphOutput}
 
 -- of a kind
@@ -73,10 +72,6 @@ vertex_of v = record { kind = kind_of v.kind; depth = v.depth; ins = sources_of 
 -- of all vertices, by number
 abbrev pub graph_of : List Vertex → graph.Graph
 graph_of vs = map vertex_of vs
-
--- of an input
-abbrev pub input_of : DeclaredInput → query.Input
-input_of i = record { name = i.name; arity = i.arity }
 
 -- the number of a vertex
 abbrev pub vertex_number : VertexId → ℕ

@@ -7,7 +7,7 @@ use crate::graph::Graph;
 use crate::label::put_label;
 use crate::text::{name_of, put_number};
 use crate::vertex::{Kind, Vertex};
-use expr_tree::NoMemory;
+use record_core::NoMemory;
 use std::alloc::Global;
 
 /// Puts the graph at the end, as a text that Graphviz draws: a node for each vertex, with its number, its kind with its parameters, and

@@ -6,7 +6,7 @@ ghost use Rattle.graph.specs.Limits.{max_vertices};
 ghost use Rattle.graph.specs.Views.{graph_of, port_of, sources_of};
 
 use crate::vertex::{Port, Sources, Vertex, VertexId};
-use expr_tree::NoMemory;
+use record_core::NoMemory;
 use std::alloc::Global;
 
 /// An edge by its number, from 0.

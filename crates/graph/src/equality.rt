@@ -9,15 +9,17 @@ ghost use Rattle.expr_tree.specs.Views.{cond_tree};
 ghost use Rattle.semantics.specs.Meaning.{same_name};
 ghost use Rattle.graph.specs.Edges.{same_port};
 ghost use Rattle.graph.specs.Equality.{agg_eq, cond_eq, graph_eq, input_eq, kind_eq, pair_eq, scalar_eq, vertex_eq};
-ghost use Rattle.graph.specs.EqualityLaws.{graph_equiv, input_equiv, kind_equiv, vertex_equiv};
+ghost use Rattle.graph.specs.EqualityLaws.{graph_equiv, kind_equiv, vertex_equiv};
 ghost use Rattle.graph.specs.Shown.{ShowSame};
-ghost use Rattle.graph.specs.Views.{graph_of, input_of, kind_of, name_of_output, port_of, sources_of, vertex_of};
+ghost use Rattle.graph.specs.Views.{graph_of, kind_of, name_of_output, port_of, sources_of, vertex_of};
+ghost use Rattle.record_core.specs.Inputs.{input_of};
 
-use crate::graph::{DeclaredInput, Graph, GraphOutput};
+use crate::graph::{Graph, GraphOutput};
 use crate::vertex::{Kind, Port, Sources, Vertex};
 use expr_tree::{
     Agg, Column, Cond, Pair, Scalar, same_aggs, same_columns, same_cond, same_pairs, same_scalars,
 };
+use record_core::DeclaredInput;
 use std::alloc::Global;
 
 impl PartialEq for Graph {
@@ -36,20 +38,6 @@ impl PartialEq for Graph {
 
 impl Eq for Graph {
     ghost laws = { graph_equiv };
-}
-
-impl PartialEq for DeclaredInput {
-    ghost eq = { λ a b. input_eq (input_of a) (input_of b) };
-
-    ghost laws = { partial_equiv_from_equiv (on_equiv input_of input_equiv) };
-
-    fn eq(&self, other: &Self) -> bool {
-        self.arity == other.arity && self.name == other.name
-    }
-}
-
-impl Eq for DeclaredInput {
-    ghost laws = { on_equiv input_of input_equiv };
 }
 
 impl PartialEq for Vertex {
@@ -120,7 +108,13 @@ fn equal_vertices(left: &[Vertex], right: &[Vertex]) -> bool
 fn equal_inputs(left: &[DeclaredInput], right: &[DeclaredInput]) -> bool
     ensures { result ≡ pointwise input_eq (map input_of left.now) (map input_of right.now) }
 {
-    left == right
+    match (left, right) {
+        ([], []) => true,
+        ([x, xs @ ..], [y, ys @ ..]) => {
+            x.arity == y.arity && x.name == y.name && equal_inputs(xs, ys)
+        }
+        _ => false,
+    }
 }
 
 /// Whether the outputs have the same names, one by one.

@@ -9,21 +9,14 @@ ghost use Rattle.graph.specs.Edges.{edge_list, edge_of};
 ghost use Rattle.graph.specs.GraphLaws.{HasProgramArities, IsProgramGraph};
 ghost use Rattle.graph.specs.Limits.{max_vertices};
 ghost use Rattle.graph.specs.Shown.{shown_arities, shown_graph, shown_inputs, shown_names};
-ghost use Rattle.graph.specs.Views.{graph_of, input_of, name_of_output, number_of_output, port_of, vertex_of};
+ghost use Rattle.graph.specs.Views.{graph_of, name_of_output, number_of_output, port_of, vertex_of};
+ghost use Rattle.record_core.specs.Inputs.{input_of};
 
 use crate::edges::{Edge, EdgeId, edges_of};
 use crate::vertex::{Port, Vertex, VertexId, arity_at, two_sources};
-use expr_tree::NoMemory;
-use record_core::Name;
+use record_core::{DeclaredInput, Name, NoMemory};
 use std::alloc::Global;
 use std::marker::Model;
-
-/// An input of a query: its name, and the number of fields of its records, 1 to 16.
-#[derive(Drop)]
-pub struct DeclaredInput {
-    pub name: Name,
-    pub arity: u64,
-}
 
 /// An output of a query: its name, and the vertex where its records come out.
 #[derive(Drop)]
@@ -55,7 +48,8 @@ impl Model for Graph {
     ghost use Rattle.semantics.specs.Dataflow.{IsDataflow};
     ghost use Rattle.semantics.specs.Graph.{output_numbers};
     ghost use Rattle.graph.specs.Shown.{GraphValue};
-    ghost use Rattle.graph.specs.Views.{graph_of, input_of, number_of_output};
+    ghost use Rattle.graph.specs.Views.{graph_of, number_of_output};
+    ghost use Rattle.record_core.specs.Inputs.{input_of};
 
     ghost Value = { GraphValue };
 

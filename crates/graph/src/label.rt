@@ -3,8 +3,9 @@
 
 use crate::text::{put_kind, put_number};
 use crate::vertex::Kind;
-use expr_tree::{Agg, Column, Comparison, Cond, Connective, NoMemory, Operator, Pair, Scalar};
+use expr_tree::{Agg, Column, Comparison, Cond, Connective, Operator, Pair, Scalar};
 use itoa::Buffer;
+use record_core::NoMemory;
 use std::alloc::Global;
 
 /// Puts a kind at the end, with its scalars, condition, pairs, or keys and aggregates; of an input and an output with the name.

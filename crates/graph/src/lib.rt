@@ -22,7 +22,7 @@ mod vertex;
 
 pub use dot::graph_dot;
 pub use edges::{Edge, EdgeId};
-pub use graph::{DeclaredInput, Graph, GraphOutput};
+pub use graph::{Graph, GraphOutput};
 pub use kind::{Role, RouteKey};
 pub use location::Location;
 pub use text::graph_text;

@@ -7,8 +7,8 @@ ghost use Rattle.graph.specs.Views.{graph_of, kind_of, name_of_output, number_of
 
 use crate::graph::{Graph, GraphOutput};
 use crate::vertex::{Kind, Port, Sources, Vertex};
-use expr_tree::NoMemory;
 use itoa::Buffer;
+use record_core::NoMemory;
 use std::alloc::Global;
 
 /// Puts the text of a graph at the end: for each vertex in order its number, its kind, its depth, and after `<-` the out ports

@@ -1,10 +1,10 @@
 //! Values worked out by hand, and places that children are taken from.
 
 use expr_tree::{
-    Comparison, Cond, NoMemory, Operator, Rel, Scalar, cond_size, copy_cond, copy_rel, copy_scalar,
+    Comparison, Cond, Operator, Rel, Scalar, cond_size, copy_cond, copy_rel, copy_scalar,
     eval_scalar, holds, negated, operate, rel_size, same_cond, same_rel, same_scalar, scalar_size,
 };
-use record_core::{Name, Record, Refusal, Span};
+use record_core::{Name, NoMemory, Record, Refusal, Span};
 use std::alloc::Global;
 use std::test::Fail;
 

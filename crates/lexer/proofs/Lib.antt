@@ -3,3 +3,4 @@ pub mod Lexemes
 pub mod Spelled
 pub mod Nexts
 pub mod Unique
+pub mod RefusalNumbers

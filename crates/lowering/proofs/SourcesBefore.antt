@@ -3,7 +3,7 @@ use Rattle.std.proofs.Common.{◌≡◌, ℕ, zero, suc, ◌+◌, ◌<◌, ◌�
 use Rattle.std.specs.List.{AllByRecursion}
 use Rattle.semantics.specs.Query.{Name, Rel, Input, Let, Output, Program}
 use Rattle.semantics.specs.FreeNames.{carried}
-use Rattle.semantics.specs.Kinds.{Kind, is_input}
+use Rattle.semantics.specs.Kinds.{Kind}
 use Rattle.semantics.specs.Graph.{Graph, Port, Vertex, no_vertex}
 use Rattle.semantics.specs.Lower.{Lowered, LoweredLets, Ports, after_start, carried_ports, carry, input_ports, input_vertices, lets_of, looped, lower, lower_lets, lower_outputs, lowered, new_vertex, outputs_of, port, stands_for, then_one, then_two}
 use Rattle.semantics.specs.Meaning.{same_name}
@@ -18,9 +18,9 @@ abbrev pub FirstBelow : ℕ → List Port → Type 0
 FirstBelow n [] = Unit {0}
 FirstBelow n (p ∷ ps) = p.vertex < n
 
--- the vertex number n is no input, and all its sources come before it, or it is a concat and its first does
+-- all sources of the vertex number n come before it, or it is a concat and its first does
 abbrev pub Leads : ℕ → Vertex → Type 0
-Leads n v = (is_input v.kind ≡ false) × (AllBelow n v.ins ⊎ ((v.kind ≡ Kind.concat) × FirstBelow n v.ins))
+Leads n v = AllBelow n v.ins ⊎ ((v.kind ≡ Kind.concat) × FirstBelow n v.ins)
 
 -- so it is of each of these, numbered from n on
 abbrev pub AllLead : ℕ → Graph → Type 0
@@ -60,13 +60,13 @@ carried_below n ports d k m (y ∷ ys) b h =
 carry_leads : (n : ℕ) (ports : Ports) (d k : ℕ) (ys : List Name) → Below k ports → AllLead k (carry n ports d k ys)
 carry_leads n ports d k [] b = tt
 carry_leads n ports d k (y ∷ ys) b = (
-  (refl, inl (b y, tt)),
+  inl (b y, tt),
   (
-    (refl, inr (refl, omega arith)),
+    inr (refl, omega arith),
     (
-      (refl, inl (omega arith, tt)),
+      inl (omega arith, tt),
       (
-        (refl, inl (omega arith, tt)),
+        inl (omega arith, tt),
         carry_leads n ports d (suc (suc (suc (suc k)))) ys (below_more k (suc (suc (suc (suc k)))) ports (omega arith) b),
       ),
     ),
@@ -80,18 +80,18 @@ pub record LeadsOn (k : ℕ) (l : Lowered) : Type 0 where
   pub made : AllLead k l.made
   pub gives : l.gives.vertex < k + length l.made
 
-one_leads : (k : ℕ) (l : Lowered) (kind : Kind) (d : ℕ) → is_input kind ≡ false → LeadsOn k l → LeadsOn k (then_one k l kind d)
-one_leads k l kind d e a = record {
-  made = leads_append k l.made (new_vertex kind d (l.gives ∷ []) ∷ []) a.made ((e, inl (a.gives, tt)), tt);
+one_leads : (k : ℕ) (l : Lowered) (kind : Kind) (d : ℕ) → LeadsOn k l → LeadsOn k (then_one k l kind d)
+one_leads k l kind d a = record {
+  made = leads_append k l.made (new_vertex kind d (l.gives ∷ []) ∷ []) a.made (inl (a.gives, tt), tt);
   gives = omega (arith, length-append l.made (new_vertex kind d (l.gives ∷ []) ∷ []));
 }
 
-two_leads : (k : ℕ) (l r : Lowered) (kind : Kind) (d : ℕ) → is_input kind ≡ false → LeadsOn k l → LeadsOn (k + length l.made) r → LeadsOn k (then_two k l r kind d)
-two_leads k l r kind d e a b =
+two_leads : (k : ℕ) (l r : Lowered) (kind : Kind) (d : ℕ) → LeadsOn k l → LeadsOn (k + length l.made) r → LeadsOn k (then_two k l r kind d)
+two_leads k l r kind d a b =
     let v = new_vertex kind d (l.gives ∷ r.gives ∷ []) in
     record {
       made = leads_append k l.made (r.made ++ (v ∷ [])) a.made
-          (leads_append (k + length l.made) r.made (v ∷ []) b.made ((e, inl ((let g = a.gives in omega arith), (b.gives, tt))), tt));
+          (leads_append (k + length l.made) r.made (v ∷ []) b.made (inl ((let g = a.gives in omega arith), (b.gives, tt)), tt));
       gives = omega (arith, length-append l.made (r.made ++ (v ∷ [])), length-append r.made (v ∷ []));
     }
 
@@ -107,13 +107,13 @@ loop_leads n k S ports d ys B b a c =
     let loop = (looped n z S ports d ys B).made in
     record {
       made = leads_append k S.made loop a.made (
-        (refl, inl (a.gives, tt)),
+        inl (a.gives, tt),
         (
-          (refl, inr (refl, omega arith)),
+          inr (refl, omega arith),
           (
-            (refl, inl (omega arith, tt)),
+            inl (omega arith, tt),
             leads_append o C (B.made ++ ends) (carry_leads n ports d o ys (below_more k o ports (omega arith) b))
-                (leads_append (o + length C) B.made ends c.made ((refl, inl (c.gives, tt)), ((refl, inl (omega arith, tt)), tt))),
+                (leads_append (o + length C) B.made ends c.made (inl (c.gives, tt), (inl (omega arith, tt), tt))),
           ),
         ),
       );
@@ -123,22 +123,22 @@ loop_leads n k S ports d ys B b a c =
 pub rel_leads : (r : Rel) (ports : Ports) (d k : ℕ) → Below k ports → LeadsOn k (lower r ports d k)
 unfolding lower
 rel_leads (Rel.named x) ports d k b = record { made = tt; gives = (let a = b x in omega arith) }
-rel_leads (Rel.select r ss) ports d k b = one_leads k (lower r ports d k) (Kind.select ss) d refl (rel_leads r ports d k b)
-rel_leads (Rel.filter r c) ports d k b = one_leads k (lower r ports d k) (Kind.filter c) d refl (rel_leads r ports d k b)
+rel_leads (Rel.select r ss) ports d k b = one_leads k (lower r ports d k) (Kind.select ss) d (rel_leads r ports d k b)
+rel_leads (Rel.filter r c) ports d k b = one_leads k (lower r ports d k) (Kind.filter c) d (rel_leads r ports d k b)
 rel_leads (Rel.concat p q) ports d k b =
     let j = k + length (lower p ports d k).made in
-    two_leads k (lower p ports d k) (lower q ports d j) Kind.concat d refl (rel_leads p ports d k b) (rel_leads q ports d j (below_more k j ports (omega arith) b))
+    two_leads k (lower p ports d k) (lower q ports d j) Kind.concat d (rel_leads p ports d k b) (rel_leads q ports d j (below_more k j ports (omega arith) b))
 rel_leads (Rel.join p q ps) ports d k b =
     let j = k + length (lower p ports d k).made in
-    two_leads k (lower p ports d k) (lower q ports d j) (Kind.join ps) d refl (rel_leads p ports d k b) (rel_leads q ports d j (below_more k j ports (omega arith) b))
-rel_leads (Rel.group r ks gs) ports d k b = one_leads k (lower r ports d k) (Kind.group ks gs) d refl (rel_leads r ports d k b)
-rel_leads (Rel.distinct r) ports d k b = one_leads k (lower r ports d k) Kind.distinct d refl (rel_leads r ports d k b)
+    two_leads k (lower p ports d k) (lower q ports d j) (Kind.join ps) d (rel_leads p ports d k b) (rel_leads q ports d j (below_more k j ports (omega arith) b))
+rel_leads (Rel.group r ks gs) ports d k b = one_leads k (lower r ports d k) (Kind.group ks gs) d (rel_leads r ports d k b)
+rel_leads (Rel.distinct r) ports d k b = one_leads k (lower r ports d k) Kind.distinct d (rel_leads r ports d k b)
 rel_leads (Rel.except p q) ports d k b =
     let j = k + length (lower p ports d k).made in
-    two_leads k (lower p ports d k) (lower q ports d j) Kind.except d refl (rel_leads p ports d k b) (rel_leads q ports d j (below_more k j ports (omega arith) b))
+    two_leads k (lower p ports d k) (lower q ports d j) Kind.except d (rel_leads p ports d k b) (rel_leads q ports d j (below_more k j ports (omega arith) b))
 rel_leads (Rel.intersect p q) ports d k b =
     let j = k + length (lower p ports d k).made in
-    two_leads k (lower p ports d k) (lower q ports d j) Kind.intersect d refl (rel_leads p ports d k b) (rel_leads q ports d j (below_more k j ports (omega arith) b))
+    two_leads k (lower p ports d k) (lower q ports d j) Kind.intersect d (rel_leads p ports d k b) (rel_leads q ports d j (below_more k j ports (omega arith) b))
 rel_leads (Rel.iterate n x r body) ports d k b =
     let S = lower r ports d k in
     let z = k + length S.made in
@@ -220,7 +220,7 @@ outputs_lead (o ∷ os) ports k b =
     let j = k + length r.made in
     let first = rel_leads o.value ports 0 k b in
     leads_append k r.made (new_vertex Kind.output 0 (r.gives ∷ []) ∷ lower_outputs os ports (suc j)) first.made
-    ((refl, inl (first.gives, tt)), outputs_lead os ports (suc j) (below_more k (suc j) ports (omega arith) b))
+    (inl (first.gives, tt), outputs_lead os ports (suc j) (below_more k (suc j) ports (omega arith) b))
 
 -- the vertices of a program behind its inputs'
 abbrev pub behind_inputs : Program → Graph

@@ -8,9 +8,11 @@ ghost use Rattle.semantics.specs.Typing.{WellTyped};
 ghost use Rattle.graph.specs.Arities.{AreArities};
 ghost use Rattle.lowering.specs.Sent.{arity_in, sent};
 ghost use Rattle.graph.specs.Views.{graph_of, kind_of, sources_of};
+ghost use Rattle.semantics.specs.Limits.{max_fields};
 
-use expr_tree::{Input, NoMemory, Program};
+use expr_tree::{Input, Program};
 use graph::{Kind, Vertex, arity_at, two_sources};
+use record_core::NoMemory;
 use std::alloc::{Allocator, Global};
 
 /// For each vertex of a program's graph the number of fields of the records that it sends, or for the output of those that come to it.
@@ -23,6 +25,7 @@ pub fn arities_of<A: Allocator>(
     requires graph { graph_of vertices.now ≡ lowered (plain_program (program_tree program.now)) }
     ensures { IfOk result (λ a. AreArities a.items (plain_program (program_tree program.now))) }
 {
+    semantics::graphs::law_program();
     semantics::graphs::law_arities();
     let mut arities = Vec::with_capacity(alloc, vertices.len())?;
     for i in 0..vertices.len() {
@@ -44,7 +47,7 @@ fn declared_arity(inputs: &[Input], number: usize) -> u64
 
 /// The arity of what a vertex sends, from those of the vertices before it.
 fn sent_arity(vertex: &Vertex, declared: u64, arities: &[u64]) -> u64
-    requires { (v : ℕ) → slice_index_or arities.now v 0 ≤ 16 }
+    requires { (v : ℕ) → slice_index_or arities.now v 0 ≤ max_fields }
     ensures { result ≡ sent (kind_of vertex.now.kind) declared
         (arity_in arities.now (sources_of vertex.now.ins) 0) (arity_in arities.now (sources_of vertex.now.ins) 1) }
 {

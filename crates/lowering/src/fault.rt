@@ -3,7 +3,7 @@
 ghost use Rattle.std.specs.Prelude.{◌≡◌};
 ghost use Rattle.lowering.specs.declared.fault.LowerFault.TheVariants as fault;
 
-use expr_tree::NoMemory;
+use record_core::NoMemory;
 use std::alloc::{AllocError, AllocFailed};
 
 /// Why a query has no graph.

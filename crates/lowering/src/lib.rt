@@ -25,7 +25,7 @@ mod vertex;
 
 pub use fault::LowerFault;
 pub use graph::{
-    DeclaredInput, Edge, EdgeId, Graph, GraphOutput, Kind, Location, MAX_VERTICES, Port, Sources,
-    Vertex, VertexId, graph_dot, graph_text,
+    Edge, EdgeId, Graph, GraphOutput, Kind, Location, MAX_VERTICES, Port, Sources, Vertex,
+    VertexId, graph_dot, graph_text,
 };
-pub use lowered::lower;
+pub use lowered::{declared_inputs, lower};

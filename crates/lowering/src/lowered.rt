@@ -9,7 +9,7 @@ ghost use Rattle.typing.specs.Shown.{typed_program};
 ghost use Rattle.graph.specs.Arities.{AreArities};
 ghost use Rattle.graph.specs.Limits.{max_vertices};
 ghost use Rattle.graph.specs.Shown.{shown_arities, shown_graph, shown_inputs, shown_names};
-ghost use Rattle.graph.specs.Views.{input_of};
+ghost use Rattle.record_core.specs.Inputs.{input_of};
 ghost use Rattle.lowering.specs.Computing.{Computes};
 ghost use Rattle.lowering.specs.Faults.{IsTooMany};
 
@@ -17,8 +17,9 @@ use crate::arities::arities_of;
 use crate::fault::LowerFault;
 use crate::outputs::outputs_of;
 use crate::program::lower_vertices;
-use expr_tree::{Input, NoMemory, Program};
-use graph::{DeclaredInput, Graph};
+use expr_tree::{Input, Program};
+use graph::Graph;
+use record_core::{DeclaredInput, NoMemory};
 use std::alloc::{Allocator, Global};
 use typing::Typed;
 
@@ -51,7 +52,7 @@ fn lower_program<A: Allocator>(alloc: Global, program: &Program<A>) -> Result<Gr
 {
     semantics::graphs::law_program();
     let vertices = lower_vertices(alloc, program)?;
-    let inputs = copy_inputs(alloc, &program.inputs)?;
+    let inputs = declared_inputs(alloc, &program.inputs)?;
     let outputs = outputs_of(alloc, &program.outputs, &vertices)?;
     let arities = arities_of(alloc, program, &vertices)?;
     let made = Graph::new(alloc, vertices, inputs, outputs, arities)?;
@@ -59,7 +60,7 @@ fn lower_program<A: Allocator>(alloc: Global, program: &Program<A>) -> Result<Gr
 }
 
 /// The names and arities of the inputs, in order.
-fn copy_inputs<A: Allocator>(
+pub fn declared_inputs<A: Allocator>(
     alloc: Global,
     inputs: &Vec<Input, A>,
 ) -> Result<Vec<DeclaredInput>, NoMemory>

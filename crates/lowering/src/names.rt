@@ -6,9 +6,9 @@ ghost use Rattle.expr_tree.specs.Views.{rel_tree};
 ghost use Rattle.semantics.specs.FreeNames.{carried, free};
 ghost use Rattle.lowering.specs.Gathering.{gathered, has};
 
-use expr_tree::{NoMemory, Rel};
+use expr_tree::Rel;
 use indexmap::IndexSet;
-use record_core::Name;
+use record_core::{Name, NoMemory};
 use std::alloc::{Allocator, Global};
 
 /// The names that occur free in a loop's body, but for its variable, each once, by first occurrence.

@@ -8,8 +8,9 @@ ghost use Rattle.semantics.specs.Kinds.{is_output};
 ghost use Rattle.graph.specs.Limits.{max_vertices};
 ghost use Rattle.graph.specs.Views.{graph_of, kind_of, number_of_output, name_of_output, vertex_number};
 
-use expr_tree::{NoMemory, Output};
+use expr_tree::Output;
 use graph::{GraphOutput, Kind, Vertex, VertexId};
+use record_core::NoMemory;
 use std::alloc::{Allocator, Global};
 
 /// The outputs of a graph, in order, by the names of the program's.

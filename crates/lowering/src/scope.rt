@@ -4,10 +4,9 @@ ghost use Rattle.std.specs.Prelude.{◌≡◌, ◌-◌, ◌++◌, ◌∷◌, [],
 ghost use Rattle.lowering.specs.Scopes.{ports_of};
 ghost use Rattle.graph.specs.Views.{port_of};
 
-use expr_tree::NoMemory;
 use graph::{Port, VertexId};
 use indexmap::IndexMap;
-use record_core::Name;
+use record_core::{Name, NoMemory};
 use std::alloc::Global;
 use std::marker::Model;
 

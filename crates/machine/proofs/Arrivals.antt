@@ -10,11 +10,12 @@ use Rattle.machine.specs.Network.{Network}
 use Rattle.machine.specs.World.{Message, Event, Held, World}
 use Rattle.machine.specs.Active.{sum_below, IsActive, message_pointstamp}
 use Rattle.machine.specs.Sending.{parcels}
-use Rattle.machine.specs.Processing.{absorbed_by, absorbed_with, absorbed_after, emitted_by, emitted_after, asked, MakesBy}
-use Rattle.machine.specs.Step.{Step, Allowed, after_step, put}
+use Rattle.machine.specs.Processing.{absorbed_then, emitted_by, emitted_after, asked, MakesBy}
+use Rattle.machine.specs.Step.{Step, Allowed, absorbed_after, after_step, put}
 use Rattle.machine.proofs.NetFlow.{ins}
 use Rattle.machine.proofs.Kept.{done_at, each}
-use Rattle.semantics.specs.Shard.{only_at}
+use Rattle.semantics.specs.Shard.{Absorbed, absorbed_by, only_at, with_records}
+use Rattle.machine.proofs.Absorbing.{absorbed_there, shard_elsewhere, shard_same, with_shard}
 use Rattle.machine.proofs.Commits.{once, way_after, vertex_after}
 use Rattle.machine.proofs.Counting.{eqb_self, below_one, below_changed, count-append, count_either}
 use Rattle.machine.proofs.Kept.{done_at, History, carried, held_records, under_way, one_if_at, held_notifications, open_requests, some, made, Due, Kept, GoodMessage, GoodRequest, GoodHeld}
@@ -53,45 +54,57 @@ done_tells h k0 m k e t = go (eqb_tells k k0) (eqb_tells m.edge e) (same_time_te
     go (inl (a, b)) (inr (c, d)) s = inr (record { other = λ _ z _. d z; is = rw (a, c) (append-nil (h.done k e t)) })
     go (inr (a, b)) r s = inr (record { other = λ z _ _. b z; is = rw a (append-nil (h.done k e t)) })
 
-pub record AbsorbedHere (w : World) (k0 v0 p0 : ℕ) (t0 : Time) (records : List Record) (k v p : ℕ) (t : Time) : Type 0 where
-  pub worker : k ≡ k0
-  pub vertex : v0 ≡ v
-  pub port : p0 ≡ p
-  pub time : t0 ≡ t
-  pub is : absorbed_with w k0 v0 p0 t0 records k v p t ≡ w.absorbed k v p t ++ records
+-- these records at one port and time of one shard
+abbrev absorbed_with : World → (worker vertex port : ℕ) → Time → List Record → (worker vertex : ℕ) → Absorbed
+absorbed_with w k v p t records = with_shard w k v (with_records (w.absorbed k v) p t records)
 
-pub record AbsorbedElsewhere (w : World) (k0 v0 p0 : ℕ) (t0 : Time) (records : List Record) (k v p : ℕ) (t : Time) : Type 0 where
-  pub other : k ≡ k0 → v0 ≡ v → p0 ≡ p → t0 ≡ t → ⊥
-  pub is : absorbed_with w k0 v0 p0 t0 records k v p t ≡ w.absorbed k v p t
+record AbsorbedHere (w : World) (k0 v0 p0 : ℕ) (t0 : Time) (records : List Record) (k v p : ℕ) (t : Time) : Type 0 where
+  worker : k ≡ k0
+  vertex : v ≡ v0
+  port : p0 ≡ p
+  time : t0 ≡ t
+  is : absorbed_with w k0 v0 p0 t0 records k v p t ≡ w.absorbed k v p t ++ records
 
-pub absorbed_tells : (w : World) (k0 v0 p0 : ℕ) (t0 : Time) (records : List Record) (k v p : ℕ) (t : Time) → AbsorbedHere w k0 v0 p0 t0 records k v p t ⊎ AbsorbedElsewhere w k0 v0 p0 t0 records k v p t
-absorbed_tells w k0 v0 p0 t0 records k v p t = go (eqb_tells k k0) (eqb_tells v0 v) (eqb_tells p0 p) (same_time_tells t0 t)
+record AbsorbedElsewhere (w : World) (k0 v0 p0 : ℕ) (t0 : Time) (records : List Record) (k v p : ℕ) (t : Time) : Type 0 where
+  other : k ≡ k0 → v ≡ v0 → p0 ≡ p → t0 ≡ t → ⊥
+  is : absorbed_with w k0 v0 p0 t0 records k v p t ≡ w.absorbed k v p t
+
+absorbed_tells : (w : World) (k0 v0 p0 : ℕ) (t0 : Time) (records : List Record) (k v p : ℕ) (t : Time) → AbsorbedHere w k0 v0 p0 t0 records k v p t ⊎ AbsorbedElsewhere w k0 v0 p0 t0 records k v p t
+absorbed_tells w k0 v0 p0 t0 records k v p t = go (eqb_tells k k0) (eqb_tells v v0) (eqb_tells p0 p) (same_time_tells t0 t)
   where
-    go : ((eqb k k0 ≡ true) × (k ≡ k0)) ⊎ ((eqb k k0 ≡ false) × (k ≢ k0)) → ((eqb v0 v ≡ true) × (v0 ≡ v)) ⊎ ((eqb v0 v ≡ false) × (v0 ≢ v)) → ((eqb p0 p ≡ true) × (p0 ≡ p)) ⊎ ((eqb p0 p ≡ false) × (p0 ≢ p)) → ((same_time t0 t ≡ true) × (t0 ≡ t)) ⊎ ((same_time t0 t ≡ false) × (t0 ≢ t)) → AbsorbedHere w k0 v0 p0 t0 records k v p t ⊎ AbsorbedElsewhere w k0 v0 p0 t0 records k v p t
-    go (inl (a, b)) (inl (c, d)) (inl (i, j)) (inl (x, y)) = inl (record { worker = b; vertex = d; port = j; time = y; is = rw (a, c, i, x) refl })
-    go (inl (a, b)) (inl (c, d)) (inl (i, j)) (inr (x, y)) = inr (record { other = λ _ _ _ z. y z; is = rw (a, c, i, x) (append-nil (w.absorbed k v p t)) })
-    go (inl (a, b)) (inl (c, d)) (inr (i, j)) s = inr (record { other = λ _ _ z _. j z; is = rw (a, c, i) (append-nil (w.absorbed k v p t)) })
-    go (inl (a, b)) (inr (c, d)) r s = inr (record { other = λ _ z _ _. d z; is = rw (a, c) (append-nil (w.absorbed k v p t)) })
-    go (inr (a, b)) q r s = inr (record { other = λ z _ _ _. b z; is = rw a (append-nil (w.absorbed k v p t)) })
+    elsewhere : (k ≢ k0) ⊎ (v ≢ v0) → absorbed_with w k0 v0 p0 t0 records k v p t ≡ w.absorbed k v p t
+    elsewhere ne = ap (λ (a : Absorbed). a p t) (shard_elsewhere w k0 v0 (with_records (w.absorbed k0 v0) p0 t0 records) k v ne)
 
-keyed_absorbed : (role : Role) (w : World) (k0 v0 p0 : ℕ) (t0 : Time) (records : List Record) →
-    (((role ≡ Role.stateful) ⊎ (role ≡ Role.notified)) × (absorbed_by role w k0 v0 p0 t0 records ≡ absorbed_with w k0 v0 p0 t0 records))
-    ⊎ ((((role ≡ Role.stateful) ⊎ (role ≡ Role.notified)) → ⊥) × (absorbed_by role w k0 v0 p0 t0 records ≡ w.absorbed))
-keyed_absorbed Role.input w k0 v0 p0 t0 records = inr (λ s. neither s, refl)
+    there : k ≡ k0 → v ≡ v0 → absorbed_with w k0 v0 p0 t0 records k v p t ≡ w.absorbed k v p t ++ cond (eqb p0 p) (cond (same_time t0 t) records []) []
+    there a b = rw (a, b, eqb_self k0, eqb_self v0) refl
+
+    go : ((eqb k k0 ≡ true) × (k ≡ k0)) ⊎ ((eqb k k0 ≡ false) × (k ≢ k0)) → ((eqb v v0 ≡ true) × (v ≡ v0)) ⊎ ((eqb v v0 ≡ false) × (v ≢ v0)) → ((eqb p0 p ≡ true) × (p0 ≡ p)) ⊎ ((eqb p0 p ≡ false) × (p0 ≢ p)) → ((same_time t0 t ≡ true) × (t0 ≡ t)) ⊎ ((same_time t0 t ≡ false) × (t0 ≢ t)) → AbsorbedHere w k0 v0 p0 t0 records k v p t ⊎ AbsorbedElsewhere w k0 v0 p0 t0 records k v p t
+    go (inl (a, b)) (inl (c, d)) (inl (i, j)) (inl (x, y)) = inl (record { worker = b; vertex = d; port = j; time = y; is = there b d ∙ rw (i, x) refl })
+    go (inl (a, b)) (inl (c, d)) (inl (i, j)) (inr (x, y)) = inr (record { other = λ _ _ _ z. y z; is = there b d ∙ rw (i, x) (append-nil (w.absorbed k v p t)) })
+    go (inl (a, b)) (inl (c, d)) (inr (i, j)) s = inr (record { other = λ _ _ z _. j z; is = there b d ∙ rw i (append-nil (w.absorbed k v p t)) })
+    go (inl (a, b)) (inr (c, d)) r s = inr (record { other = λ _ z _ _. d z; is = elsewhere (inr d) })
+    go (inr (a, b)) q r s = inr (record { other = λ z _ _ _. b z; is = elsewhere (inl b) })
+
+abbrev Keyed : Role → Type 0
+Keyed role = (role ≡ Role.stateful) ⊎ (role ≡ Role.notified)
+
+keyed_absorbed : (role : Role) (a : Absorbed) (p : ℕ) (t : Time) (records : List Record) →
+    (Keyed role × (absorbed_by role a p t records ≡ with_records a p t records)) ⊎ ((Keyed role → ⊥) × (absorbed_by role a p t records ≡ a))
+keyed_absorbed Role.input a p t records = inr (λ s. neither s, refl)
   where
-    neither : ((Role.input ≡ Role.stateful) ⊎ (Role.input ≡ Role.notified)) → ⊥
+    neither : Keyed Role.input → ⊥
     neither (inl e) = absurd cc
     neither (inr e) = absurd cc
-keyed_absorbed Role.stateless w k0 v0 p0 t0 records = inr (λ s. neither s, refl)
+keyed_absorbed Role.stateless a p t records = inr (λ s. neither s, refl)
   where
-    neither : ((Role.stateless ≡ Role.stateful) ⊎ (Role.stateless ≡ Role.notified)) → ⊥
+    neither : Keyed Role.stateless → ⊥
     neither (inl e) = absurd cc
     neither (inr e) = absurd cc
-keyed_absorbed Role.stateful w k0 v0 p0 t0 records = inl (inl refl, refl)
-keyed_absorbed Role.notified w k0 v0 p0 t0 records = inl (inr refl, refl)
-keyed_absorbed Role.output w k0 v0 p0 t0 records = inr (λ s. neither s, refl)
+keyed_absorbed Role.stateful a p t records = inl (inl refl, refl)
+keyed_absorbed Role.notified a p t records = inl (inr refl, refl)
+keyed_absorbed Role.output a p t records = inr (λ s. neither s, refl)
   where
-    neither : ((Role.output ≡ Role.stateful) ⊎ (Role.output ≡ Role.notified)) → ⊥
+    neither : Keyed Role.output → ⊥
     neither (inl e) = absurd cc
     neither (inr e) = absurd cc
 
@@ -172,24 +185,31 @@ module _ (g : Network) (law : IsNetwork g) (w : World) (h : History) (keeps : Ke
       here true false = rw (eqb_self k0) (count-append r (h.done k0 e t) [])
       here false c = rw (eqb_self k0) (count-append r (h.done k0 e t) [])
 
-  shards_after : (k v p : ℕ) (t : Time) → k < g.workers → p < g.ports v → (g.role v ≡ Role.stateful) ⊎ (g.role v ≡ Role.notified) → absorbed_after g w k0 (Event.arrival m) k v p t ≡ done_after h k0 m k (g.edge_into v p) t
-  shards_after k v p t lk lp s = go (keyed_absorbed (g.role (g.target m.edge)) w k0 (g.target m.edge) (g.in_port m.edge) m.time m.records)
+  shards_after : (k v p : ℕ) (t : Time) → k < g.workers → p < g.ports v → Keyed (g.role v) → absorbed_after g w k0 (Event.arrival m) k v p t ≡ done_after h k0 m k (g.edge_into v p) t
+  shards_after k v p t lk lp s = go (keyed_absorbed (g.role (g.target m.edge)) (w.absorbed k0 (g.target m.edge)) (g.in_port m.edge) m.time m.records)
     where
       both : AbsorbedHere w k0 (g.target m.edge) (g.in_port m.edge) m.time m.records k v p t ⊎ AbsorbedElsewhere w k0 (g.target m.edge) (g.in_port m.edge) m.time m.records k v p t
           → DoneHere h k0 m k (g.edge_into v p) t ⊎ DoneElsewhere h k0 m k (g.edge_into v p) t → absorbed_with w k0 (g.target m.edge) (g.in_port m.edge) m.time m.records k v p t ≡ done_after h k0 m k (g.edge_into v p) t
       both (inl x) (inl y) = x.is ∙ ap (λ z. z ++ m.records) (keeps.shards k v p t lk lp s) ∙ sym y.is
-      both (inl x) (inr y) = absurd (y.other x.worker (sym edge_here ∙ ap₂ g.edge_into x.vertex x.port) x.time)
-      both (inr x) (inl y) = absurd (x.other y.worker (vertex_of v p lp y.edge) (port_of v p lp y.edge) y.time)
+      both (inl x) (inr y) = absurd (y.other x.worker (sym edge_here ∙ ap₂ g.edge_into (sym x.vertex) x.port) x.time)
+      both (inr x) (inl y) = absurd (x.other y.worker (sym (vertex_of v p lp y.edge)) (port_of v p lp y.edge) y.time)
       both (inr x) (inr y) = x.is ∙ keeps.shards k v p t lk lp s ∙ sym y.is
 
-      plain : (((g.role (g.target m.edge) ≡ Role.stateful) ⊎ (g.role (g.target m.edge) ≡ Role.notified)) → ⊥) → DoneHere h k0 m k (g.edge_into v p) t ⊎ DoneElsewhere h k0 m k (g.edge_into v p) t → w.absorbed k v p t ≡ done_after h k0 m k (g.edge_into v p) t
-      plain never (inl y) = absurd (never (subst (λ (x : ℕ). (g.role x ≡ Role.stateful) ⊎ (g.role x ≡ Role.notified)) (sym (vertex_of v p lp y.edge)) s))
+      plain : (Keyed (g.role (g.target m.edge)) → ⊥) → DoneHere h k0 m k (g.edge_into v p) t ⊎ DoneElsewhere h k0 m k (g.edge_into v p) t → w.absorbed k v p t ≡ done_after h k0 m k (g.edge_into v p) t
+      plain never (inl y) = absurd (never (subst (λ (x : ℕ). Keyed (g.role x)) (sym (vertex_of v p lp y.edge)) s))
       plain never (inr y) = keeps.shards k v p t lk lp s ∙ sym y.is
 
-      go : ((((g.role (g.target m.edge)) ≡ Role.stateful) ⊎ ((g.role (g.target m.edge)) ≡ Role.notified)) × (absorbed_by (g.role (g.target m.edge)) w k0 (g.target m.edge) (g.in_port m.edge) m.time m.records ≡ absorbed_with w k0 (g.target m.edge) (g.in_port m.edge) m.time m.records))
-          ⊎ (((((g.role (g.target m.edge)) ≡ Role.stateful) ⊎ ((g.role (g.target m.edge)) ≡ Role.notified)) → ⊥) × (absorbed_by (g.role (g.target m.edge)) w k0 (g.target m.edge) (g.in_port m.edge) m.time m.records ≡ w.absorbed)) → absorbed_after g w k0 (Event.arrival m) k v p t ≡ done_after h k0 m k (g.edge_into v p) t
-      go (inl (a, b)) = ap (λ f. f k v p t) b ∙ both (absorbed_tells w k0 (g.target m.edge) (g.in_port m.edge) m.time m.records k v p t) (done_tells h k0 m k (g.edge_into v p) t)
-      go (inr (a, b)) = ap (λ f. f k v p t) b ∙ plain a (done_tells h k0 m k (g.edge_into v p) t)
+      go : (Keyed (g.role (g.target m.edge)) × (absorbed_then g w k0 m ≡ with_records (w.absorbed k0 (g.target m.edge)) (g.in_port m.edge) m.time m.records)) ⊎ ((Keyed (g.role (g.target m.edge)) → ⊥) × (absorbed_then g w k0 m ≡ w.absorbed k0 (g.target m.edge)))
+          → absorbed_after g w k0 (Event.arrival m) k v p t ≡ done_after h k0 m k (g.edge_into v p) t
+      go (inl (a, b)) = ap (λ z. with_shard w k0 (g.target m.edge) z k v p t) b ∙ both (absorbed_tells w k0 (g.target m.edge) (g.in_port m.edge) m.time m.records k v p t) (done_tells h k0 m k (g.edge_into v p) t)
+      go (inr (a, b)) =
+          ap (λ z. with_shard w k0 (g.target m.edge) z k v p t) b
+          ∙ ap (λ (z : Absorbed). z p t) (shard_same w k0 (g.target m.edge) k v)
+          ∙ plain a (done_tells h k0 m k (g.edge_into v p) t)
+
+  -- the same of the shard that takes the message
+  shard_after : (p : ℕ) → p < g.ports (g.target m.edge) → Keyed (g.role (g.target m.edge)) → absorbed_then g w k0 m p m.time ≡ done_after h k0 m k0 (g.edge_into (g.target m.edge) p) m.time
+  shard_after p lp s = ap (λ (a : Absorbed). a p m.time) (sym (absorbed_there g w k0 m)) ∙ shards_after k0 (g.target m.edge) p m.time ok.0 lp s
 
   notified_same : (q : ℕ) (r : Record) → h.notified k0 (g.target m.edge) m.time ≡ true → made g h (g.target m.edge) q m.time r k0 ≡ count r (g.op (g.target m.edge) q m.time (ins g (h.done k0) (g.target m.edge) m.time))
   notified_same q r e = ap (λ b. cond b (count r (g.op (g.target m.edge) q m.time (ins g (h.done k0) (g.target m.edge) m.time))) 0) e
@@ -233,12 +253,12 @@ module _ (g : Network) (law : IsNetwork g) (w : World) (h : History) (keeps : Ke
       let a = notified_same q r notified in
       let b = notified_more q r notified in
       let before : List Record = g.op (g.target m.edge) q m.time (λ p. w.absorbed k0 (g.target m.edge) p m.time) in
-      let c : count r (out q ++ before) ≡ count r (g.op (g.target m.edge) q m.time (λ p. absorbed_after g w k0 (Event.arrival m) k0 (g.target m.edge) p m.time)) = (makes q).counts r in
+      let c : count r (out q ++ before) ≡ count r (g.op (g.target m.edge) q m.time (λ p. absorbed_then g w k0 m p m.time)) = (makes q).counts r in
       let d : count r (out q ++ before) ≡ count r (out q) + count r before = count-append r (out q) before in
       let e : count r before ≡ count r (g.op (g.target m.edge) q m.time (ins g (h.done k0) (g.target m.edge) m.time)) =
       (law.op_same (g.target m.edge) q m.time (λ p. w.absorbed k0 (g.target m.edge) p m.time) (ins g (h.done k0) (g.target m.edge) m.time) (λ p lp. ≈-from (keeps.shards k0 (g.target m.edge) p m.time ok.0 lp (inl s)))).counts r in
-      let f : count r (g.op (g.target m.edge) q m.time (λ p. absorbed_after g w k0 (Event.arrival m) k0 (g.target m.edge) p m.time)) ≡ count r (g.op (g.target m.edge) q m.time (ins g (done_after h k0 m k0) (g.target m.edge) m.time)) =
-      (law.op_same (g.target m.edge) q m.time (λ p. absorbed_after g w k0 (Event.arrival m) k0 (g.target m.edge) p m.time) (ins g (done_after h k0 m k0) (g.target m.edge) m.time) (λ p lp. ≈-from (shards_after k0 (g.target m.edge) p m.time ok.0 lp (inl s)))).counts r in
+      let f : count r (g.op (g.target m.edge) q m.time (λ p. absorbed_then g w k0 m p m.time)) ≡ count r (g.op (g.target m.edge) q m.time (ins g (done_after h k0 m k0) (g.target m.edge) m.time)) =
+      (law.op_same (g.target m.edge) q m.time (λ p. absorbed_then g w k0 m p m.time) (ins g (done_after h k0 m k0) (g.target m.edge) m.time) (λ p lp. ≈-from (shard_after p lp (inl s)))).counts r in
       omega arith
 
   gain_grouping : g.role (g.target m.edge) ≡ Role.notified → MakesBy Role.notified g w k0 m out → (q : ℕ) (r : Record) → made g (history_done h k0 m) (g.target m.edge) q m.time r k0 ≡ made g h (g.target m.edge) q m.time r k0 + count r (out q)

@@ -3,22 +3,22 @@ use Rattle.std.proofs.Common.{◌≡◌, ◌≢◌, ◌<◌, ℕ, List, [], fals
 use Rattle.semantics.specs.Multiset.{Record, less, IsPartOf, one_if, same}
 use Rattle.semantics.specs.Time.{Time, same_time}
 use Rattle.semantics.specs.Kinds.{Role}
-use Rattle.semantics.specs.Shard.{only_at}
+use Rattle.semantics.specs.Shard.{Absorbed, absorbed_by, only_at}
 use Rattle.machine.specs.Network.{Network}
 use Rattle.machine.specs.World.{World, Message, Event, Held}
-use Rattle.machine.specs.Processing.{absorbed_by, absorbed_after, Makes, MakesBy}
+use Rattle.machine.specs.Processing.{absorbed_then, Makes, MakesBy}
 use Rattle.machine.specs.Step.{Step, Allowed}
 use Rattle.semantics.proofs.MultisetSums.{less-append, ≈-refl, total-append}
 use Rattle.machine.proofs.Kept.{GoodEvent}
 use Rattle.machine.proofs.Laws.{IsNetwork}
 
 -- what is absorbed stays
-grows : (r : Role) (w : World) (k v p : ℕ) (t : Time) (records : List Record) (k' v' p' : ℕ) (t' : Time) → IsPartOf (w.absorbed k' v' p' t') (absorbed_by r w k v p t records k' v' p' t')
-grows Role.input w k v p t records k' v' p' t' = record { within = λ r. omega arith }
-grows Role.stateless w k v p t records k' v' p' t' = record { within = λ r. omega arith }
-grows Role.output w k v p t records k' v' p' t' = record { within = λ r. omega arith }
-grows Role.stateful w k v p t records k' v' p' t' = record { within = λ r. let a = total-append (λ x. one_if (same x r)) (w.absorbed k' v' p' t') (cond (k' == k) (cond (v == v') (cond (p == p') (cond (same_time t t') records []) []) []) []) in omega arith }
-grows Role.notified w k v p t records k' v' p' t' = record { within = λ r. let a = total-append (λ x. one_if (same x r)) (w.absorbed k' v' p' t') (cond (k' == k) (cond (v == v') (cond (p == p') (cond (same_time t t') records []) []) []) []) in omega arith }
+grows : (r : Role) (a : Absorbed) (p : ℕ) (t : Time) (records : List Record) (p' : ℕ) (t' : Time) → IsPartOf (a p' t') (absorbed_by r a p t records p' t')
+grows Role.input a p t records p' t' = record { within = λ r. omega arith }
+grows Role.stateless a p t records p' t' = record { within = λ r. omega arith }
+grows Role.output a p t records p' t' = record { within = λ r. omega arith }
+grows Role.stateful a p t records p' t' = record { within = λ r. let a = total-append (λ x. one_if (same x r)) (a p' t') (cond (p == p') (cond (same_time t t') records []) []) in omega arith }
+grows Role.notified a p t records p' t' = record { within = λ r. let a = total-append (λ x. one_if (same x r)) (a p' t') (cond (p == p') (cond (same_time t t') records []) []) in omega arith }
 
 module _ (g : Network) (law : IsNetwork g) (w : World) (k : ℕ) where
   makes_message : (m : Message) → m.edge < g.edges → (out : ℕ → List Record) × Makes g w k (Event.arrival m) out
@@ -28,7 +28,7 @@ module _ (g : Network) (law : IsNetwork g) (w : World) (k : ℕ) where
       before p = w.absorbed k (g.target m.edge) p m.time
 
       now : ℕ → List Record
-      now p = absorbed_after g w k (Event.arrival m) k (g.target m.edge) p m.time
+      now p = absorbed_then g w k m p m.time
 
       before_op : ℕ → List Record
       before_op q = g.op (g.target m.edge) q m.time before
@@ -37,7 +37,7 @@ module _ (g : Network) (law : IsNetwork g) (w : World) (k : ℕ) where
       after_op q = g.op (g.target m.edge) q m.time now
 
       part : (p : ℕ) → p < g.ports (g.target m.edge) → IsPartOf (before p) (now p)
-      part p l = grows (g.role (g.target m.edge)) w k (g.target m.edge) (g.in_port m.edge) m.time m.records k (g.target m.edge) p m.time
+      part p l = grows (g.role (g.target m.edge)) (w.absorbed k (g.target m.edge)) (g.in_port m.edge) m.time m.records p m.time
 
       go : (r : Role) → g.role (g.target m.edge) ≡ r → (out : ℕ → List Record) × MakesBy r g w k m out
       go Role.input e = absurd (law.no_input_target m.edge l e)

@@ -3,7 +3,7 @@ use Rattle.std.specs.Prelude.{ℕ, cond, ◌==◌, List, [], ◌∷◌, ◌++◌
 use Rattle.semantics.specs.Multiset.{Record, end_to_end}
 use Rattle.semantics.specs.Time.{Time, same_time, at_epoch}
 use Rattle.semantics.specs.Kinds.{Role}
-use Rattle.semantics.specs.Shard.{SendsBy, SendsAtNotification, asks}
+use Rattle.semantics.specs.Shard.{Absorbed, absorbed_by, SendsBy, SendsAtNotification, asks}
 use Rattle.machine.specs.Network.{Network}
 use Rattle.machine.specs.World.{Message, Request, Event, World}
 
@@ -19,23 +19,9 @@ event_time (Event.notification n) = n.time
 
 -- ---- what is absorbed
 
--- what was absorbed, plus these records by a worker at a vertex, port and time
-abbrev pub absorbed_with : World → (worker vertex port : ℕ) → Time → List Record → (worker vertex port : ℕ) → Time → List Record
-absorbed_with w k v p t records k' v' p' t' =
-    w.absorbed k' v' p' t' ++ cond (k' == k) (cond (v == v') (cond (p == p') (cond (same_time t t') records []) []) []) []
-
--- only stateful and notified vertices absorb
-abbrev pub absorbed_by : Role → World → (worker vertex port : ℕ) → Time → List Record → (worker vertex port : ℕ) → Time → List Record
-absorbed_by Role.input w k v p t records = w.absorbed
-absorbed_by Role.stateless w k v p t records = w.absorbed
-absorbed_by Role.stateful w k v p t records = absorbed_with w k v p t records
-absorbed_by Role.notified w k v p t records = absorbed_with w k v p t records
-absorbed_by Role.output w k v p t records = w.absorbed
-
--- only messages are absorbed
-abbrev pub absorbed_after : Network → World → (worker : ℕ) → Event → (worker vertex port : ℕ) → Time → List Record
-absorbed_after g w k (Event.arrival m) = absorbed_by (g.role (g.target m.edge)) w k (g.target m.edge) (g.in_port m.edge) m.time m.records
-absorbed_after g w k (Event.notification n) = w.absorbed
+-- what a worker's shard of a message's vertex has absorbed after it
+abbrev pub absorbed_then : Network → World → (worker : ℕ) → Message → Absorbed
+absorbed_then g w k m = absorbed_by (g.role (g.target m.edge)) (w.absorbed k (g.target m.edge)) (g.in_port m.edge) m.time m.records
 
 -- ---- what is asked for
 
@@ -74,7 +60,7 @@ emitted_after g w (Event.notification n) = w.emitted
 abbrev pub MakesBy : Role → Network → World → (worker : ℕ) → Message → (out : ℕ → List Record) → Type 0
 MakesBy role g w k m out =
     SendsBy role (λ q. g.op (g.target m.edge) q m.time) (λ p. w.absorbed k (g.target m.edge) p m.time)
-    (λ p. absorbed_after g w k (Event.arrival m) k (g.target m.edge) p m.time) (g.in_port m.edge) m.records out
+    (λ p. absorbed_then g w k m p m.time) (g.in_port m.edge) m.records out
 
 -- what is sent for an event
 abbrev pub Makes : Network → World → (worker : ℕ) → Event → (out : ℕ → List Record) → Type 0

@@ -4,12 +4,13 @@ use Rattle.std.specs.Prelude.{◌≡◌, ℕ, suc, ◌+◌, ◌<◌, true, false
 use Rattle.semantics.specs.Multiset.{Record}
 use Rattle.semantics.specs.Time.{at_epoch}
 use Rattle.semantics.specs.Kinds.{Role}
+use Rattle.semantics.specs.Shard.{Absorbed}
 use Rattle.machine.specs.Network.{Network}
 use Rattle.machine.specs.World.{Message, Request, Event, Held, World}
 use Rattle.machine.specs.Active.{request_pointstamp}
 use Rattle.machine.specs.Frontier.{NoOtherBefore}
 use Rattle.machine.specs.Sending.{mail_after, sent_after}
-use Rattle.machine.specs.Processing.{event_vertex, event_time, absorbed_after, asked, emitted_after, Makes}
+use Rattle.machine.specs.Processing.{event_vertex, event_time, absorbed_then, asked, emitted_after, Makes}
 
 pub data Step : Type 0 where
   -- records come to an input at its open epoch
@@ -61,6 +62,11 @@ put f k x j = cond (j == k) x (f j)
 -- what was fed, plus records at the input's open epoch
 abbrev pub fed_after : World → (input : ℕ) → List Record → (input epoch : ℕ) → List Record
 fed_after w i records = put w.fed i (put (w.fed i) (w.open_epoch i) (w.fed i (w.open_epoch i) ++ records))
+
+-- what was absorbed, after an event: a message is absorbed by its worker's shard of its vertex, and no other shard changes
+abbrev pub absorbed_after : Network → World → (worker : ℕ) → Event → (worker vertex : ℕ) → Absorbed
+absorbed_after g w k (Event.arrival m) = put w.absorbed k (put (w.absorbed k) (g.target m.edge) (absorbed_then g w k m))
+absorbed_after g w k (Event.notification n) = w.absorbed
 
 -- both messages merged
 abbrev pub merged : (first second : Message) → Message

@@ -2,6 +2,7 @@
 use Rattle.std.specs.Prelude.{ℕ, Bool, false, List, []}
 use Rattle.semantics.specs.Multiset.{Record}
 use Rattle.semantics.specs.Time.{Time}
+use Rattle.semantics.specs.Shard.{Absorbed}
 
 -- records on their way to a worker
 pub record Message : Type 0 where
@@ -33,8 +34,8 @@ pub record World : Type 0 where
   pub mail : (worker : ℕ) → List Message
   pub requests : (worker : ℕ) → List Request
   pub held : (worker : ℕ) → Held
-  -- what each worker's shard of a vertex with a state has absorbed, by port and time
-  pub absorbed : (worker vertex port : ℕ) → Time → List Record
+  -- what each worker's shard of a vertex has absorbed; only those of vertices with a state do
+  pub absorbed : (worker vertex : ℕ) → Absorbed
   -- by output vertex and epoch
   pub emitted : (output epoch : ℕ) → List Record
   -- whether an event was abandoned

@@ -9,8 +9,8 @@ ghost use Rattle.expr_tree.specs.PlainLists.{plain_outputs};
 ghost use Rattle.expr_tree.specs.Views.{rel_tree};
 ghost use Rattle.normalise.specs.Reached.{Adds};
 
-use expr_tree::{NoMemory, Output, Rel};
-use record_core::Name;
+use expr_tree::{Output, Rel};
+use record_core::{Name, NoMemory};
 use std::alloc::Allocator;
 use std::collections::HashSet;
 use std::hash::{BuildHasherDefault, FoldHasher};

@@ -16,7 +16,8 @@ ghost use Rattle.normalise.specs.Rewritten.{IsRewrittenOutput};
 
 use crate::names::{Names, add_free, add_free_in_outputs};
 use crate::relation::{rewritten, rewritten_in_box};
-use expr_tree::{Let, NoMemory, Output, Program};
+use expr_tree::{Let, Output, Program};
+use record_core::NoMemory;
 use std::alloc::Allocator;
 use typing::Typed;
 

@@ -12,8 +12,8 @@ ghost use Rattle.normalise.specs.Rewritten.{IsRewritten, Reduced};
 use crate::columns::use_once;
 use crate::replacement::replace_all;
 use crate::scalars::{fold_all, folded_cond};
-use expr_tree::{Cond, Connective, NoMemory, Rel, Scalar, SetOperator};
-use record_core::{Name, Span};
+use expr_tree::{Cond, Connective, Rel, Scalar, SetOperator};
+use record_core::{Name, NoMemory, Span};
 use std::alloc::Allocator;
 
 /// A `select` of a rewritten relation. Of a `select` it becomes one, where no scalar is copied, and is tried again on what that was of.

@@ -15,7 +15,8 @@ ghost use Rattle.operators.specs.Outcomes.{kept_run};
 
 use crate::operator::Operator;
 use expr_tree::{Cond, holds};
-use rows::{Batch, CountedRows, RowsError};
+use record_core::NoMemory;
+use rows::{Batch, CountedRows};
 use std::alloc::Global;
 
 /// The records at which the condition holds. Each of its columns is below `arity`.
@@ -37,7 +38,7 @@ impl Operator for Where {
 impl Where {
     /// The records of the batch at which the condition holds, in order.
     #[tactic(auto, using(crate::proofs::Steps::kept_more))]
-    pub fn apply(&self, alloc: Global, batch: &Batch) -> Result<CountedRows, RowsError>
+    pub fn apply(&self, alloc: Global, batch: &Batch) -> Result<CountedRows, NoMemory>
         requires { arity_of batch.now ≡ self.now.arity }
         ensures records { IfOk result (λ rows. expanded rows.runs ≡ kept (plain_cond (cond_tree self.now.condition)) batch.now) }
         ensures different { IfOk result (λ rows. AreDifferent (rows_of rows.runs)) }
@@ -50,7 +51,7 @@ impl Where {
     }
 
     /// Adds one record, if the condition holds.
-    fn offer(&self, batch: &Batch, place: usize, rows: &mut CountedRows) -> Result<(), RowsError>
+    fn offer(&self, batch: &Batch, place: usize, rows: &mut CountedRows) -> Result<(), NoMemory>
         requires columns { arity_of batch.now ≡ self.now.arity }
         requires place { place < length (runs batch.now) }
         requires arity { rows.old.arity ≡ arity_of batch.now }

@@ -7,6 +7,7 @@ ghost use Rattle.operators.specs.Aggregates.{begun, stored_key, weighed, weighed
 ghost use Rattle.semantics.specs.Meaning.{project};
 ghost use Rattle.semantics.specs.Kinds.{Kind};
 ghost use Rattle.semantics.proofs.VertexLaws.{op_nothing, op_parts};
+ghost use Rattle.semantics.specs.Limits.{max_fields};
 
 use crate::operator::Operator;
 use arrayvec::ArrayVec;
@@ -21,7 +22,7 @@ pub struct Group {
     pub columns: Vec<Column>,
     pub aggregates: Vec<Agg>,
     pub ghost some: { 1 ≤ length columns.items + length aggregates.items },
-    pub ghost few: { length columns.items + length aggregates.items ≤ 16 },
+    pub ghost few: { length columns.items + length aggregates.items ≤ max_fields },
 }
 
 impl Operator for Group {
@@ -40,12 +41,13 @@ pub struct Numbers {
 
 impl Model for Numbers {
     ghost use Rattle.std.specs.Prelude.{List, ℤ, ◌≤◌, length};
+    ghost use Rattle.semantics.specs.Limits.{max_fields};
 
     ghost Value = { List ℤ };
 
     ghost view = { λ n. n.items.items };
 
-    ghost invariant = { λ n. length n.items.items ≤ 16 };
+    ghost invariant = { λ n. length n.items.items ≤ max_fields };
 }
 
 impl Numbers {
@@ -71,7 +73,7 @@ impl Numbers {
     }
 
     fn push(&mut self, number: i64)
-        requires { length self.old + 1 ≤ 16 }
+        requires { length self.old + 1 ≤ max_fields }
         ensures { self.new ≡ self.old ++ number ∷ [] }
     {
         self.items.push(number);
@@ -109,7 +111,7 @@ impl Group {
 /// Appends what represents the key to an empty list.
 fn put_key(key: &mut Numbers, columns: &[Column], row: &[i64])
     requires none { key.old ≡ [] }
-    requires few { length columns.now ≤ 16 }
+    requires few { length columns.now ≤ max_fields }
     ensures { key.new ≡ stored_key (map (λ k. k.index) columns.now) row.now }
 {
     if let [_, ..] = columns {
@@ -121,7 +123,7 @@ fn put_key(key: &mut Numbers, columns: &[Column], row: &[i64])
 
 /// Appends the columns of a row.
 fn push_columns(key: &mut Numbers, columns: &[Column], row: &[i64])
-    requires { length key.old + length columns.now ≤ 16 }
+    requires { length key.old + length columns.now ≤ max_fields }
     ensures { key.new ≡ key.old ++ project (map (λ k. k.index) columns.now) row.now }
 {
     if let [first, rest @ ..] = columns {
@@ -132,7 +134,7 @@ fn push_columns(key: &mut Numbers, columns: &[Column], row: &[i64])
 
 /// Appends the aggregates of one record with this count.
 fn push_begun(values: &mut Numbers, aggregates: &[Agg], row: &[i64], count: u64)
-    requires room { length values.old + length aggregates.now ≤ 16 }
+    requires room { length values.old + length aggregates.now ≤ max_fields }
     requires count { count ≤ 9223372036854775807 }
     ensures { values.new ≡ values.old ++ map (λ a. begun a row.now count) (map plain_agg aggregates.now) }
 {
@@ -144,7 +146,7 @@ fn push_begun(values: &mut Numbers, aggregates: &[Agg], row: &[i64], count: u64)
 
 /// Appends the aggregates with a record of this count added.
 fn push_weighed(made: &mut Numbers, aggregates: &[Agg], values: &[i64], row: &[i64], count: u64)
-    requires room { length made.old + length aggregates.now ≤ 16 }
+    requires room { length made.old + length aggregates.now ≤ max_fields }
     requires count { count ≤ 9223372036854775807 }
     ensures { made.new ≡ made.old ++ weighed_all (map plain_agg aggregates.now) values.now row.now count }
 {

@@ -17,12 +17,14 @@ ghost use Rattle.semantics.proofs.VertexLaws.{op_nothing, op_parts};
 ghost use Rattle.operators.specs.Columns.{IsInRange, AllDetermined};
 ghost use Rattle.operators.specs.Fits.{all_fit-prop};
 ghost use Rattle.operators.specs.Outcomes.{selected_run};
+ghost use Rattle.semantics.specs.Limits.{max_fields};
 
 use crate::determined::all_determined;
 use crate::operator::Operator;
 use arrayvec::ArrayVec;
 use expr_tree::{Scalar, eval_scalar};
-use rows::{Batch, CountedRows, RowsError, TallyError};
+use record_core::NoMemory;
+use rows::{Batch, CountedRows, TallyError};
 use std::alloc::Global;
 
 /// For each record, the record of the scalars' values, 1 to 16 of them. Each of their columns is below `arity`.
@@ -32,7 +34,7 @@ pub struct Select {
     pub scalars: Vec<Scalar<Global>>,
     pub ghost fits: { AllByRecursion (ScalarFits arity) (plain_scalars scalars.items) } by { all_fit-prop arity (plain_scalars scalars.items) },
     pub ghost some: { 1 ≤ length scalars.items },
-    pub ghost few: { length scalars.items ≤ 16 },
+    pub ghost few: { length scalars.items ≤ max_fields },
 }
 
 impl Operator for Select {
@@ -67,10 +69,10 @@ fn select_all(
     alloc: Global,
     scalars: &[Scalar<Global>],
     batch: &Batch,
-) -> Result<CountedRows, RowsError>
+) -> Result<CountedRows, NoMemory>
     requires columns { AllByRecursion (ScalarFits (arity_of batch.now)) (plain_scalars scalars.now) }
     requires some { 1 ≤ length scalars.now }
-    requires few { length scalars.now ≤ 16 }
+    requires few { length scalars.now ≤ max_fields }
     ensures records { IfOk result (λ made. expanded made.runs ≡ selected (plain_scalars scalars.now) batch.now) }
     ensures runs { IfOk result (λ made. AllDetermined (arity_of batch.now) (plain_scalars scalars.now) → AreRuns made.runs) }
 {
@@ -89,9 +91,9 @@ fn push_selected(
     batch: &Batch,
     place: usize,
     made: &mut CountedRows,
-) -> Result<(), RowsError>
+) -> Result<(), NoMemory>
     requires columns { AllByRecursion (ScalarFits (arity_of batch.now)) (plain_scalars scalars.now) }
-    requires few { length scalars.now ≤ 16 }
+    requires few { length scalars.now ≤ max_fields }
     requires place { place < length (runs batch.now) }
     requires arity { made.old.arity ≡ length scalars.now }
     ensures rows { OnOk result (made.new.runs ≡ made.old.runs ++ selected_run (plain_scalars scalars.now) (slice_index_or (runs batch.now) place no_run) ∷ []) }
@@ -117,7 +119,7 @@ fn read_fields(item: &[i64])
 /// Appends the scalars' values for a record.
 fn push_values(fields: &mut ArrayVec<i64, 16>, scalars: &[Scalar<Global>], item: &[i64])
     requires columns { AllByRecursion (ScalarFits (length item.now)) (plain_scalars scalars.now) }
-    requires room { array_vec_len fields.old + length scalars.now ≤ 16 }
+    requires room { array_vec_len fields.old + length scalars.now ≤ max_fields }
     ensures values { fields.new.items ≡ fields.old.items ++ map (λ s. value s item.now) (plain_scalars scalars.now) }
 {
     if let [scalar, rest @ ..] = scalars {

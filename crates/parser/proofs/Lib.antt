@@ -6,3 +6,4 @@ pub mod Relations
 pub mod Items
 pub mod Outputs
 pub mod Programs
+pub mod RefusalNumbers

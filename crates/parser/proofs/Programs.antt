@@ -11,7 +11,7 @@ use Rattle.expr_tree.specs.declared.program.Input.{Input}
 use Rattle.expr_tree.specs.Trees.{LetTree, ProgramTree}
 use Rattle.grammar.specs.Phrases.{Unread}
 use Rattle.grammar.specs.Programs.{Inputs, Lets, Outputs, ReadsProgram}
-use Rattle.grammar.specs.Texts.{Reads}
+use Rattle.grammar.specs.Texts.{Reads, max_height}
 use Rattle.grammar.proofs.Programs.{one_inputs, one_lets}
 use Rattle.parser.specs.declared.fault.Fault.{Fault}
 use Rattle.parser.specs.declared.fault.Fault.TheVariants as fault
@@ -37,14 +37,14 @@ pub program_at : (text : List ℕ) (ts us vs : List Token) (p : ProgramTree) (k 
 program_at text ts us vs p k n i l o = record { us = us; vs = vs; lets_height = k; outputs_height = n; inputs = i; lets = l; outputs = o; is = refl }
 
 -- a fault in the program of a text's tokens, as a refusal
-pub refuses : (text : List ℕ) (ts : List Token) (f : Fault) (e : Refusal) → Lexes text ts → Denies f (NoProgram text ts) 64 → IsRefusalFor f e → Refuses text e
+pub refuses : (text : List ℕ) (ts : List Token) (f : Fault) (e : Refusal) → Lexes text ts → Denies f (NoProgram text ts) max_height → IsRefusalFor f e → Refuses text e
 refuses text ts (fault.Unexpected s) (At code span) l d t = inr (ts, l, inl (t, d))
 refuses text ts (fault.TooHigh s) (At code span) l d t = inr (ts, l, inr (t.0, d))
 refuses text ts fault.NoMemory (At code span) l d t = absurd t
 refuses text ts f NoMemory l d t = tt
 
 -- a text that is refused by a number is no program
-no_text : (text : List ℕ) (ts : List Token) (p : ProgramTree) → Lexes text ts → NoProgram text ts 64 → Reads text p → ⊥
+no_text : (text : List ℕ) (ts : List Token) (p : ProgramTree) → Lexes text ts → NoProgram text ts max_height → Reads text p → ⊥
 no_text text ts p l n d =
     let same : d.tokens ≡ ts = lexes_one text ts d.tokens l d.lexed in
     let w = n p d.height (rw same at d.program) in let k = d.low in omega arith
@@ -54,7 +54,7 @@ not_read text NoMemory p r n d = n refl
 not_read text (At code span) p r n d = elim r [
   | inl a ↦ refused_none text (At code span) d.tokens a n d.lexed
   | inr b ↦ elim b.2 [
-    | inl u ↦ no_text text b.0 p b.1 (u.1 64) d
+    | inl u ↦ no_text text b.0 p b.1 (u.1 max_height) d
     | inr u ↦ no_text text b.0 p b.1 u.1 d
   ]
 ]

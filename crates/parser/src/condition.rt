@@ -7,6 +7,7 @@ ghost use Rattle.expr_tree.specs.Trees.{CondTree};
 ghost use Rattle.expr_tree.specs.Views.{scalar_tree, cond_tree};
 ghost use Rattle.grammar.specs.Tokens.{NoMark, NoKeyword};
 ghost use Rattle.grammar.specs.Conditions.{Reads, Square, Single, Chain, connective, compares, operand, NoConnective};
+ghost use Rattle.grammar.specs.Texts.{max_height};
 ghost use Rattle.parser.specs.Faults.{Denies};
 ghost use Rattle.parser.specs.Conditions.{Unread, NoComparison};
 
@@ -86,9 +87,9 @@ fn parse_square<'a, A: Allocator + Copy>(
     tokens: &'a [Token],
     room: u32,
 ) -> Result<(Cond<A>, Span, u32, &'a [Token]), Fault>
-    requires { room ≤ 64 }
+    requires { room ≤ max_height }
     ensures found { IfOk result (λ r. Reads Square tokens.now (cond_tree r.0) r.1 r.2 r.3.now) }
-    ensures low { IfOk result (λ r. (1 ≤ r.2) × (r.2 ≤ 64)) }
+    ensures low { IfOk result (λ r. (1 ≤ r.2) × (r.2 ≤ max_height)) }
     ensures denied { IfErr result (λ f. Denies f (Unread Square tokens.now) room) }
     ensures shorter { IfOk result (λ r. length r.3.now < length tokens.now) }
 {
@@ -115,11 +116,11 @@ fn parse_comparison<'a, A: Allocator + Copy>(
     tokens: &'a [Token],
     room: u32,
 ) -> Result<(Cond<A>, Span, u32, &'a [Token]), Fault>
-    requires room { room ≤ 64 }
+    requires room { room ≤ max_height }
     requires no_not { NoKeyword keyword.Not tokens.now }
     requires no_square { NoMark mark.OpenSquare tokens.now }
     ensures found { IfOk result (λ r. Reads Single tokens.now (cond_tree r.0) r.1 r.2 r.3.now) }
-    ensures low { IfOk result (λ r. (1 ≤ r.2) × (r.2 ≤ 64)) }
+    ensures low { IfOk result (λ r. (1 ≤ r.2) × (r.2 ≤ max_height)) }
     ensures denied { IfErr result (λ f. Denies f (Unread Single tokens.now) room) }
     ensures shorter { IfOk result (λ r. length r.3.now < length tokens.now) }
 {
@@ -144,9 +145,9 @@ fn parse_single<'a, A: Allocator + Copy>(
     tokens: &'a [Token],
     room: u32,
 ) -> Result<(Cond<A>, Span, u32, &'a [Token]), Fault>
-    requires { room ≤ 64 }
+    requires { room ≤ max_height }
     ensures found { IfOk result (λ r. Reads Single tokens.now (cond_tree r.0) r.1 r.2 r.3.now) }
-    ensures low { IfOk result (λ r. (1 ≤ r.2) × (r.2 ≤ 64)) }
+    ensures low { IfOk result (λ r. (1 ≤ r.2) × (r.2 ≤ max_height)) }
     ensures denied { IfErr result (λ f. Denies f (Unread Single tokens.now) room) }
     ensures shorter { IfOk result (λ r. length r.3.now < length tokens.now) }
 {
@@ -170,9 +171,9 @@ fn parse_operand<'a, A: Allocator + Copy>(
     tokens: &'a [Token],
     room: u32,
 ) -> Result<(Cond<A>, Span, u32, &'a [Token]), Fault>
-    requires { room ≤ 64 }
+    requires { room ≤ max_height }
     ensures found { IfOk result (λ r. Reads (operand level) tokens.now (cond_tree r.0) r.1 r.2 r.3.now) }
-    ensures low { IfOk result (λ r. (1 ≤ r.2) × (r.2 ≤ 64)) }
+    ensures low { IfOk result (λ r. (1 ≤ r.2) × (r.2 ≤ max_height)) }
     ensures denied { IfErr result (λ f. Denies f (Unread (operand level) tokens.now) room) }
     ensures shorter { IfOk result (λ r. length r.3.now < length tokens.now) }
 {
@@ -192,9 +193,9 @@ pub fn parse_condition<'a, A: Allocator + Copy>(
     tokens: &'a [Token],
     room: u32,
 ) -> Result<(Cond<A>, Span, u32, &'a [Token]), Fault>
-    requires { room ≤ 64 }
+    requires { room ≤ max_height }
     ensures found { IfOk result (λ r. Reads (Chain level) tokens.now (cond_tree r.0) r.1 r.2 r.3.now) }
-    ensures low { IfOk result (λ r. (1 ≤ r.2) × (r.2 ≤ 64)) }
+    ensures low { IfOk result (λ r. (1 ≤ r.2) × (r.2 ≤ max_height)) }
     ensures denied { IfErr result (λ f. Denies f (Unread (Chain level) tokens.now) room) }
     ensures shorter { IfOk result (λ r. length r.3.now < length tokens.now) }
 {

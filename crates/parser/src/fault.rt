@@ -3,8 +3,7 @@
 ghost use Rattle.std.specs.Prelude.{◌≡◌};
 ghost use Rattle.parser.specs.declared.fault.Fault.TheVariants as fault;
 
-use expr_tree::NoMemory;
-use record_core::Span;
+use record_core::{NoMemory, Span};
 use std::alloc::{AllocError, AllocFailed};
 
 /// The greatest height of a phrase, and the most brackets that may be open at once.

@@ -4,6 +4,7 @@ ghost use Rattle.std.specs.Prelude.{ℕ, ◌<◌, ◌≤◌, length, map, IfOk, 
 ghost use Rattle.expr_tree.specs.Views.{let_tree};
 ghost use Rattle.grammar.specs.Phrases.{Unread};
 ghost use Rattle.grammar.specs.Programs.{Inputs, Lets};
+ghost use Rattle.grammar.specs.Texts.{max_height};
 ghost use Rattle.parser.specs.Faults.{Denies};
 ghost use Rattle.parser.specs.Items.{Declares, NoDeclaration, Binds, NoInputs};
 
@@ -68,8 +69,8 @@ fn parse_let<'a, A: Allocator + Copy>(
     tokens: &'a [Token],
 ) -> Result<(Let<A>, u32, &'a [Token]), Fault>
     ensures found { IfOk result (λ r. Binds text.now tokens.now (let_tree r.0) r.1 r.2.now) }
-    ensures low { IfOk result (λ r. r.1 ≤ 64) }
-    ensures denied { IfErr result (λ f. Denies f (Unread (Binds text.now) tokens.now) 64) }
+    ensures low { IfOk result (λ r. r.1 ≤ max_height) }
+    ensures denied { IfErr result (λ f. Denies f (Unread (Binds text.now) tokens.now) max_height) }
     ensures shorter { IfOk result (λ r. length r.2.now < length tokens.now) }
 {
     let Some((name_span, name, second)) = after_name(text, tokens) else {
@@ -100,8 +101,8 @@ pub fn parse_lets<'a, A: Allocator + Copy>(
     tokens: &'a [Token],
 ) -> Result<(Vec<Let<A>, A>, u32, &'a [Token]), Fault>
     ensures found { IfOk result (λ r. Lets text.now tokens.now (map let_tree r.0.items) r.1 r.2.now) }
-    ensures low { IfOk result (λ r. r.1 ≤ 64) }
-    ensures denied { IfErr result (λ f. Denies f (Unread (Lets text.now) tokens.now) 64) }
+    ensures low { IfOk result (λ r. r.1 ≤ max_height) }
+    ensures denied { IfErr result (λ f. Denies f (Unread (Lets text.now) tokens.now) max_height) }
 {
     let mut lets = Vec::new(alloc);
     let mut height = 1;

@@ -8,6 +8,7 @@ ghost use Rattle.grammar.specs.Phrases.{Listed, Ended, Unread};
 ghost use Rattle.grammar.specs.Scalars.{ScalarAt};
 ghost use Rattle.grammar.specs.Conditions.{ConditionAt};
 ghost use Rattle.grammar.specs.Relations.{column_at, ColumnAt, PairAt, AggAt};
+ghost use Rattle.grammar.specs.Texts.{max_height};
 ghost use Rattle.parser.specs.Faults.{Denies};
 ghost use Rattle.parser.specs.Scanning.{NoColumn};
 
@@ -27,9 +28,9 @@ fn parse_scalars<'a, A: Allocator + Copy>(
     tokens: &'a [Token],
     room: u32,
 ) -> Result<(Vec<Scalar<A>, A>, u32, &'a [Token]), Fault>
-    requires { room ≤ 64 }
+    requires { room ≤ max_height }
     ensures found { IfOk result (λ r. Listed ScalarAt tokens.now (map scalar_tree r.0.items) r.1 r.2.now) }
-    ensures low { IfOk result (λ r. r.1 ≤ 64) }
+    ensures low { IfOk result (λ r. r.1 ≤ max_height) }
     ensures denied { IfErr result (λ f. Denies f (Unread (Listed ScalarAt) tokens.now) room) }
     ensures shorter { IfOk result (λ r. length r.2.now < length tokens.now) }
 {
@@ -53,9 +54,9 @@ pub fn parse_last_scalars<'a, A: Allocator + Copy>(
     tokens: &'a [Token],
     room: u32,
 ) -> Result<(Vec<Scalar<A>, A>, u32, Span, &'a [Token]), Fault>
-    requires { room ≤ 64 }
+    requires { room ≤ max_height }
     ensures found { IfOk result (λ r. Listed ScalarAt tokens.now (map scalar_tree r.0.items) r.1 (mark_at mark.CloseRound r.2 ∷ r.3.now)) }
-    ensures low { IfOk result (λ r. r.1 ≤ 64) }
+    ensures low { IfOk result (λ r. r.1 ≤ max_height) }
     ensures denied { IfErr result (λ f. Denies f (Unread (Ended (Listed ScalarAt) mark.CloseRound) tokens.now) room) }
     ensures shorter { IfOk result (λ r. length r.3.now < length tokens.now) }
 {
@@ -72,9 +73,9 @@ pub fn parse_last_condition<'a, A: Allocator + Copy>(
     tokens: &'a [Token],
     room: u32,
 ) -> Result<(Cond<A>, u32, Span, &'a [Token]), Fault>
-    requires { room ≤ 64 }
+    requires { room ≤ max_height }
     ensures found { IfOk result (λ r. ConditionAt tokens.now (cond_tree r.0) r.1 (mark_at mark.CloseRound r.2 ∷ r.3.now)) }
-    ensures low { IfOk result (λ r. r.1 ≤ 64) }
+    ensures low { IfOk result (λ r. r.1 ≤ max_height) }
     ensures denied { IfErr result (λ f. Denies f (Unread (Ended ConditionAt mark.CloseRound) tokens.now) room) }
     ensures shorter { IfOk result (λ r. length r.3.now < length tokens.now) }
 {

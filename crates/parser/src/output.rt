@@ -4,6 +4,7 @@ ghost use Rattle.std.specs.Prelude.{◌≡◌, ◌<◌, ◌≤◌, length, map, 
 ghost use Rattle.expr_tree.specs.Views.{output_tree};
 ghost use Rattle.grammar.specs.Phrases.{Unread};
 ghost use Rattle.grammar.specs.Programs.{default_name, OutputAt, Outputs};
+ghost use Rattle.grammar.specs.Texts.{max_height};
 ghost use Rattle.parser.specs.Faults.{Denies};
 ghost use Rattle.parser.specs.Items.{NamesOutput, NoOutputs};
 
@@ -46,8 +47,8 @@ fn parse_output<'a, A: Allocator + Copy>(
     tokens: &'a [Token],
 ) -> Result<(Output<A>, u32, &'a [Token]), Fault>
     ensures found { IfOk result (λ r. OutputAt text.now tokens.now (output_tree r.0) r.1 r.2.now) }
-    ensures low { IfOk result (λ r. r.1 ≤ 64) }
-    ensures denied { IfErr result (λ f. Denies f (Unread (OutputAt text.now) tokens.now) 64) }
+    ensures low { IfOk result (λ r. r.1 ≤ max_height) }
+    ensures denied { IfErr result (λ f. Denies f (Unread (OutputAt text.now) tokens.now) max_height) }
     ensures shorter { IfOk result (λ r. length r.2.now < length tokens.now) }
 {
     let Some((keyword_span, after)) = after_keyword(Keyword::Output, tokens) else {
@@ -77,8 +78,8 @@ pub fn parse_outputs<A: Allocator + Copy>(
     tokens: &[Token],
 ) -> Result<(Vec<Output<A>, A>, u32), Fault>
     ensures found { IfOk result (λ r. Outputs text.now tokens.now (map output_tree r.0.items) r.1) }
-    ensures low { IfOk result (λ r. r.1 ≤ 64) }
-    ensures denied { IfErr result (λ f. Denies f (NoOutputs text.now tokens.now) 64) }
+    ensures low { IfOk result (λ r. r.1 ≤ max_height) }
+    ensures denied { IfErr result (λ f. Denies f (NoOutputs text.now tokens.now) max_height) }
 {
     let mut outputs = Vec::new(alloc);
     let mut height = 0;

@@ -5,7 +5,7 @@ ghost use Rattle.record_core.specs.declared.span.Refusal.{Refusal};
 ghost use Rattle.expr_tree.specs.Trees.{ProgramTree};
 ghost use Rattle.expr_tree.specs.Views.{program_tree};
 ghost use Rattle.grammar.specs.Programs.{ReadsProgram};
-ghost use Rattle.grammar.specs.Texts.{Reads};
+ghost use Rattle.grammar.specs.Texts.{Reads, max_height};
 ghost use Rattle.parser.specs.Faults.{Denies};
 ghost use Rattle.parser.specs.Refusals.{NoProgram, Refuses, IsRefusalFor};
 
@@ -24,8 +24,8 @@ fn parse_program<A: Allocator + Copy>(
     text: &[u8],
     tokens: &[Token],
 ) -> Result<Program<A>, Fault>
-    ensures found { IfOk result (λ p. (h : ℕ) × ReadsProgram text.now tokens.now (program_tree p) h × (h ≤ 64)) }
-    ensures denied { IfErr result (λ f. Denies f (NoProgram text.now tokens.now) 64) }
+    ensures found { IfOk result (λ p. (h : ℕ) × ReadsProgram text.now tokens.now (program_tree p) h × (h ≤ max_height)) }
+    ensures denied { IfErr result (λ f. Denies f (NoProgram text.now tokens.now) max_height) }
 {
     let (inputs, second) = parse_inputs(alloc, text, tokens)?;
     let (lets, _, third) = parse_lets(alloc, text, second)?;

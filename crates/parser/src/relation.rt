@@ -6,6 +6,7 @@ ghost use Rattle.expr_tree.specs.Views.{rel_tree};
 ghost use Rattle.grammar.specs.Tokens.{mark_at};
 ghost use Rattle.grammar.specs.Phrases.{Ended, Unread};
 ghost use Rattle.grammar.specs.Relations.{Reads, piece};
+ghost use Rattle.grammar.specs.Texts.{max_height};
 ghost use Rattle.parser.specs.declared.relation.Form.TheVariants as form;
 ghost use Rattle.parser.specs.Faults.{Denies};
 ghost use Rattle.parser.specs.Forms.{form_of, form_token, opened, NoForm, Heads, NoHead};
@@ -137,9 +138,9 @@ pub fn parse_rel_then<'a, A: Allocator + Copy>(
     tokens: &'a [Token],
     room: u32,
 ) -> Result<(Box<Rel<A>, A>, u32, Span, &'a [Token]), Fault>
-    requires { room ≤ 64 }
+    requires { room ≤ max_height }
     ensures found { IfOk result (λ r. Reads text.now tokens.now (rel_tree r.0.value) r.1 (mark_at mark r.2 ∷ r.3.now)) }
-    ensures low { IfOk result (λ r. (1 ≤ r.1) × (r.1 ≤ 64)) }
+    ensures low { IfOk result (λ r. (1 ≤ r.1) × (r.1 ≤ max_height)) }
     ensures denied { IfErr result (λ f. Denies f (Unread (Ended (Reads text.now) mark) tokens.now) room) }
     ensures shorter { IfOk result (λ r. length r.3.now < length tokens.now) }
 {
@@ -160,9 +161,9 @@ fn parse_select<'a, A: Allocator + Copy>(
     tokens: &'a [Token],
     room: u32,
 ) -> Result<(Rel<A>, u32, &'a [Token]), Fault>
-    requires { room < 64 }
+    requires { room < max_height }
     ensures found { IfOk result (λ r. Reads text.now (opened form.Select opening tokens.now) (rel_tree r.0) r.1 r.2.now) }
-    ensures low { IfOk result (λ r. (1 ≤ r.1) × (r.1 ≤ 64)) }
+    ensures low { IfOk result (λ r. (1 ≤ r.1) × (r.1 ≤ max_height)) }
     ensures denied { IfErr result (λ f. Denies f (Unread (Reads text.now) (opened form.Select opening tokens.now)) (room + 1)) }
     ensures shorter { IfOk result (λ r. length r.2.now < length tokens.now) }
 {
@@ -185,9 +186,9 @@ fn parse_where<'a, A: Allocator + Copy>(
     tokens: &'a [Token],
     room: u32,
 ) -> Result<(Rel<A>, u32, &'a [Token]), Fault>
-    requires { room < 64 }
+    requires { room < max_height }
     ensures found { IfOk result (λ r. Reads text.now (opened form.Where opening tokens.now) (rel_tree r.0) r.1 r.2.now) }
-    ensures low { IfOk result (λ r. (1 ≤ r.1) × (r.1 ≤ 64)) }
+    ensures low { IfOk result (λ r. (1 ≤ r.1) × (r.1 ≤ max_height)) }
     ensures denied { IfErr result (λ f. Denies f (Unread (Reads text.now) (opened form.Where opening tokens.now)) (room + 1)) }
     ensures shorter { IfOk result (λ r. length r.2.now < length tokens.now) }
 {
@@ -211,9 +212,9 @@ fn parse_set_operation<'a, A: Allocator + Copy>(
     tokens: &'a [Token],
     room: u32,
 ) -> Result<(Rel<A>, u32, &'a [Token]), Fault>
-    requires { room < 64 }
+    requires { room < max_height }
     ensures found { IfOk result (λ r. Reads text.now (opened (form.SetOperation operator) opening tokens.now) (rel_tree r.0) r.1 r.2.now) }
-    ensures low { IfOk result (λ r. (1 ≤ r.1) × (r.1 ≤ 64)) }
+    ensures low { IfOk result (λ r. (1 ≤ r.1) × (r.1 ≤ max_height)) }
     ensures denied { IfErr result (λ f. Denies f (Unread (Reads text.now) (opened (form.SetOperation operator) opening tokens.now)) (room + 1)) }
     ensures shorter { IfOk result (λ r. length r.2.now < length tokens.now) }
 {
@@ -240,9 +241,9 @@ fn parse_join<'a, A: Allocator + Copy>(
     tokens: &'a [Token],
     room: u32,
 ) -> Result<(Rel<A>, u32, &'a [Token]), Fault>
-    requires { room < 64 }
+    requires { room < max_height }
     ensures found { IfOk result (λ r. Reads text.now (opened form.Join opening tokens.now) (rel_tree r.0) r.1 r.2.now) }
-    ensures low { IfOk result (λ r. (1 ≤ r.1) × (r.1 ≤ 64)) }
+    ensures low { IfOk result (λ r. (1 ≤ r.1) × (r.1 ≤ max_height)) }
     ensures denied { IfErr result (λ f. Denies f (Unread (Reads text.now) (opened form.Join opening tokens.now)) (room + 1)) }
     ensures shorter { IfOk result (λ r. length r.2.now < length tokens.now) }
 {
@@ -266,9 +267,9 @@ fn parse_group<'a, A: Allocator + Copy>(
     tokens: &'a [Token],
     room: u32,
 ) -> Result<(Rel<A>, u32, &'a [Token]), Fault>
-    requires { room < 64 }
+    requires { room < max_height }
     ensures found { IfOk result (λ r. Reads text.now (opened form.Group opening tokens.now) (rel_tree r.0) r.1 r.2.now) }
-    ensures low { IfOk result (λ r. (1 ≤ r.1) × (r.1 ≤ 64)) }
+    ensures low { IfOk result (λ r. (1 ≤ r.1) × (r.1 ≤ max_height)) }
     ensures denied { IfErr result (λ f. Denies f (Unread (Reads text.now) (opened form.Group opening tokens.now)) (room + 1)) }
     ensures shorter { IfOk result (λ r. length r.2.now < length tokens.now) }
 {
@@ -291,9 +292,9 @@ fn parse_distinct<'a, A: Allocator + Copy>(
     tokens: &'a [Token],
     room: u32,
 ) -> Result<(Rel<A>, u32, &'a [Token]), Fault>
-    requires { room < 64 }
+    requires { room < max_height }
     ensures found { IfOk result (λ r. Reads text.now (opened form.Distinct opening tokens.now) (rel_tree r.0) r.1 r.2.now) }
-    ensures low { IfOk result (λ r. (1 ≤ r.1) × (r.1 ≤ 64)) }
+    ensures low { IfOk result (λ r. (1 ≤ r.1) × (r.1 ≤ max_height)) }
     ensures denied { IfErr result (λ f. Denies f (Unread (Reads text.now) (opened form.Distinct opening tokens.now)) (room + 1)) }
     ensures shorter { IfOk result (λ r. length r.2.now < length tokens.now) }
 {
@@ -320,9 +321,9 @@ fn parse_iterate<'a, A: Allocator + Copy>(
     tokens: &'a [Token],
     room: u32,
 ) -> Result<(Rel<A>, u32, &'a [Token]), Fault>
-    requires { room < 64 }
+    requires { room < max_height }
     ensures found { IfOk result (λ r. Reads text.now (opened form.Iterate opening tokens.now) (rel_tree r.0) r.1 r.2.now) }
-    ensures low { IfOk result (λ r. (1 ≤ r.1) × (r.1 ≤ 64)) }
+    ensures low { IfOk result (λ r. (1 ≤ r.1) × (r.1 ≤ max_height)) }
     ensures denied { IfErr result (λ f. Denies f (Unread (Reads text.now) (opened form.Iterate opening tokens.now)) (room + 1)) }
     ensures shorter { IfOk result (λ r. length r.2.now < length tokens.now) }
 {
@@ -345,9 +346,9 @@ fn parse_rel<'a, A: Allocator + Copy>(
     tokens: &'a [Token],
     room: u32,
 ) -> Result<(Rel<A>, u32, &'a [Token]), Fault>
-    requires { room ≤ 64 }
+    requires { room ≤ max_height }
     ensures found { IfOk result (λ r. Reads text.now tokens.now (rel_tree r.0) r.1 r.2.now) }
-    ensures low { IfOk result (λ r. (1 ≤ r.1) × (r.1 ≤ 64)) }
+    ensures low { IfOk result (λ r. (1 ≤ r.1) × (r.1 ≤ max_height)) }
     ensures denied { IfErr result (λ f. Denies f (Unread (Reads text.now) tokens.now) room) }
     ensures shorter { IfOk result (λ r. length r.2.now < length tokens.now) }
 {

@@ -3,6 +3,7 @@
 ghost use Rattle.std.specs.Prelude.{◌≡◌, ◌<◌, ◌≤◌, ◌∷◌, length, IfOk, IfErr, MatchOption, Some};
 ghost use Rattle.expr_tree.specs.Views.{scalar_tree};
 ghost use Rattle.grammar.specs.Scalars.{Reads, Atom, Unary, Chain, operator, operand, NoOperator};
+ghost use Rattle.grammar.specs.Texts.{max_height};
 ghost use Rattle.parser.specs.Faults.{Denies};
 ghost use Rattle.parser.specs.Scalars.{Unread};
 
@@ -42,9 +43,9 @@ fn parse_atom<'a, A: Allocator + Copy>(
     tokens: &'a [Token],
     room: u32,
 ) -> Result<(Scalar<A>, Span, u32, &'a [Token]), Fault>
-    requires { room ≤ 64 }
+    requires { room ≤ max_height }
     ensures found { IfOk result (λ r. Reads Atom tokens.now (scalar_tree r.0) r.1 r.2 r.3.now) }
-    ensures low { IfOk result (λ r. (1 ≤ r.2) × (r.2 ≤ 64)) }
+    ensures low { IfOk result (λ r. (1 ≤ r.2) × (r.2 ≤ max_height)) }
     ensures denied { IfErr result (λ f. Denies f (Unread Atom tokens.now) room) }
     ensures shorter { IfOk result (λ r. length r.3.now < length tokens.now) }
 {
@@ -77,9 +78,9 @@ fn parse_unary<'a, A: Allocator + Copy>(
     tokens: &'a [Token],
     room: u32,
 ) -> Result<(Scalar<A>, Span, u32, &'a [Token]), Fault>
-    requires { room ≤ 64 }
+    requires { room ≤ max_height }
     ensures found { IfOk result (λ r. Reads Unary tokens.now (scalar_tree r.0) r.1 r.2 r.3.now) }
-    ensures low { IfOk result (λ r. (1 ≤ r.2) × (r.2 ≤ 64)) }
+    ensures low { IfOk result (λ r. (1 ≤ r.2) × (r.2 ≤ max_height)) }
     ensures denied { IfErr result (λ f. Denies f (Unread Unary tokens.now) room) }
     ensures shorter { IfOk result (λ r. length r.3.now < length tokens.now) }
 {
@@ -103,9 +104,9 @@ fn parse_operand<'a, A: Allocator + Copy>(
     tokens: &'a [Token],
     room: u32,
 ) -> Result<(Scalar<A>, Span, u32, &'a [Token]), Fault>
-    requires { room ≤ 64 }
+    requires { room ≤ max_height }
     ensures found { IfOk result (λ r. Reads (operand level) tokens.now (scalar_tree r.0) r.1 r.2 r.3.now) }
-    ensures low { IfOk result (λ r. (1 ≤ r.2) × (r.2 ≤ 64)) }
+    ensures low { IfOk result (λ r. (1 ≤ r.2) × (r.2 ≤ max_height)) }
     ensures denied { IfErr result (λ f. Denies f (Unread (operand level) tokens.now) room) }
     ensures shorter { IfOk result (λ r. length r.3.now < length tokens.now) }
 {
@@ -123,9 +124,9 @@ pub fn parse_chain<'a, A: Allocator + Copy>(
     tokens: &'a [Token],
     room: u32,
 ) -> Result<(Scalar<A>, Span, u32, &'a [Token]), Fault>
-    requires { room ≤ 64 }
+    requires { room ≤ max_height }
     ensures found { IfOk result (λ r. Reads (Chain level) tokens.now (scalar_tree r.0) r.1 r.2 r.3.now) }
-    ensures low { IfOk result (λ r. (1 ≤ r.2) × (r.2 ≤ 64)) }
+    ensures low { IfOk result (λ r. (1 ≤ r.2) × (r.2 ≤ max_height)) }
     ensures denied { IfErr result (λ f. Denies f (Unread (Chain level) tokens.now) room) }
     ensures shorter { IfOk result (λ r. length r.3.now < length tokens.now) }
 {

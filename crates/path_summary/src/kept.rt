@@ -5,7 +5,7 @@ ghost use Rattle.path_summary.specs.Codes.{AreCodes};
 
 use crate::row::Row;
 use crate::summaries::Summaries;
-use expr_tree::NoMemory;
+use record_core::NoMemory;
 use std::alloc::Global;
 use std::marker::Model;
 

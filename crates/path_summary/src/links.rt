@@ -9,9 +9,9 @@ ghost use Rattle.path_summary.specs.Linking as plain;
 ghost use Rattle.path_summary.specs.Walks.{HaveLoops};
 ghost use Rattle.loop_context.specs.Actions.{action_of};
 
-use expr_tree::NoMemory;
 use graph::{EdgeId, Graph, Location, VertexId};
 use loop_context::Action;
+use record_core::NoMemory;
 use std::alloc::Global;
 use std::marker::Model;
 

@@ -11,8 +11,8 @@ ghost use Rattle.path_summary.specs.Walks.{HasGot, HaveLoops, IsGoodRow, IsOpene
 use crate::links::{Link, Links};
 use crate::summaries::Summaries;
 use crate::summary::Summary;
-use expr_tree::NoMemory;
 use loop_context::Action;
+use record_core::NoMemory;
 use std::alloc::Global;
 use std::marker::Model;
 

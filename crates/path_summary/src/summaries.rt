@@ -8,8 +8,8 @@ ghost use Rattle.path_summary.specs.Rows.{HasRoom, is_below};
 ghost use Rattle.loop_context.specs.Actions.{action_of};
 
 use crate::summary::Summary;
-use expr_tree::NoMemory;
 use loop_context::Action;
+use record_core::NoMemory;
 use std::alloc::Global;
 use std::marker::Model;
 

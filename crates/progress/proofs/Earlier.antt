@@ -8,7 +8,7 @@ use Rattle.semantics.specs.Could.{Location, Pointstamp, IsTimeAt, PathStep, path
 use Rattle.semantics.specs.Dataflow.{IsDataflow}
 use Rattle.semantics.proofs.CouldRises.{at_most_trans, path_keeps, path_epoch}
 use Rattle.progress.specs.Times.{NoLater}
-use Rattle.progress.specs.Bag.{Bag, count, IsAsked, IsLeast, IsNoneAsked}
+use Rattle.progress.specs.TimeCounts.{TimeCounts, count, IsAsked, IsLeast, IsNoneAsked}
 use Rattle.progress.specs.Kept.{stamp, IsClearAt, IsBlockedAt}
 
 -- the same counters in another epoch
@@ -53,7 +53,7 @@ in_time g l t q c = let e = path_epoch g c.path t in let k = c.in_time.epochs in
 same_stamp : (l : Location) (t : Time) (p : Pointstamp) → t ≡ p.time → l ≡ p.location → stamp l t ≡ p
 same_stamp l t p a b = λ i. record { time = a i; location = b i }
 
-module _ (g : Graph) (bag : Bag) (l : Location) (p : Pointstamp) (other excepting : Bool) (excepts : (excepting ≡ true → (other ≡ true) × (l ≡ p.location)) × ((other ≡ true) × (l ≡ p.location) → excepting ≡ true)) where
+module _ (g : Graph) (bag : TimeCounts) (l : Location) (p : Pointstamp) (other excepting : Bool) (excepts : (excepting ≡ true → (other ≡ true) × (l ≡ p.location)) × ((other ≡ true) × (l ≡ p.location) → excepting ≡ true)) where
   asked : (t : Time) → (other ≡ true → stamp l t ≡ p → ⊥) → CouldResultIn g (stamp l t) p → IsAsked p.time excepting t
   asked t d c = record { epochs = in_time g l t p c; differs = λ e q. let k = excepts.0 e in d k.0 (same_stamp l t p q k.1) }
 

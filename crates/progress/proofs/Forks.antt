@@ -4,7 +4,7 @@ use Rattle.semantics.specs.Time.{Time, same_time}
 use Rattle.std.proofs.lemmas.Bool.{true≢false}
 use Rattle.machine.proofs.Places.{same_time_tells}
 use Rattle.progress.specs.Times.{key_of, NoLater}
-use Rattle.progress.specs.Bag.{Bag, Held, held, if_same, count, top, with_times, IsFork, Adds, IsNone, IsFirst, IsAsked, IsLeast, IsNoneAsked}
+use Rattle.progress.specs.TimeCounts.{TimeCounts, CountedTime, counted_time, if_same, count, top, with_times, IsFork, Adds, IsNone, IsFirst, IsAsked, IsLeast, IsNoneAsked}
 use Rattle.progress.specs.Sifting.{IsSifted, Leads}
 use Rattle.progress.specs.declared.tree.Entry.{Entry}
 use Rattle.semantics.proofs.MultisetSums.{total-append}
@@ -12,7 +12,7 @@ use Rattle.semantics.proofs.Cases.{either_above_zero}
 use Rattle.progress.proofs.Orders.{no_later_self, no_later_on, same_self, same_is, same_sum, split_epoch}
 
 -- what occurs was added, or occurred before
-pub was_or_came : (old new : Bag) (t u : Time) (n : ℕ) → Adds old new t n → 0 < count new u → (u ≡ t) ⊎ (0 < count old u)
+pub was_or_came : (old new : TimeCounts) (t u : Time) (n : ℕ) → Adds old new t n → 0 < count new u → (u ≡ t) ⊎ (0 < count old u)
 was_or_came old new t u n h l = go (either_above_zero (if_same u t n) (count old u) (subst (λ k. 0 < k) (h u) l))
   where
     go : (0 < if_same u t n) ⊎ (0 < count old u) → (u ≡ t) ⊎ (0 < count old u)
@@ -20,14 +20,14 @@ was_or_came old new t u n h l = go (either_above_zero (if_same u t n) (count old
     go (inr b) = inr b
 
 -- what is left occurred before
-was_there : (old new : Bag) (t u : Time) (n : ℕ) → Adds new old t n → 0 < count new u → 0 < count old u
+was_there : (old new : TimeCounts) (t u : Time) (n : ℕ) → Adds new old t n → 0 < count new u → 0 < count old u
 was_there old new t u n h l = let e = h u in omega arith
 
 -- how often a time of a fork occurs
-pub count-with : (L : Bag) (t : Time) (n : ℕ) (R : Bag) (u : Time) → count (with_times L t n R) u ≡ if_same u t n + (count L u + count R u)
-count-with L t n R u = ap (λ k. if_same u t n + k) (total-append (λ (h : Held). if_same u h.0 h.1) L R)
+pub count-with : (L : TimeCounts) (t : Time) (n : ℕ) (R : TimeCounts) (u : Time) → count (with_times L t n R) u ≡ if_same u t n + (count L u + count R u)
+count-with L t n R u = ap (λ k. if_same u t n + k) (total-append (λ (h : CountedTime). if_same u h.0 h.1) L R)
 
-module _ (L : Bag) (t : Time) (n s : ℕ) (R : Bag) where
+module _ (L : TimeCounts) (t : Time) (n s : ℕ) (R : TimeCounts) where
   -- where a time of a fork is
   pub data Stands (u : Time) : Type 0 where
     here : u ≡ t → Stands u
@@ -65,7 +65,7 @@ module _ (L : Bag) (t : Time) (n s : ℕ) (R : Bag) where
   raised_adds m u = let e = same_sum u t n m in let w = count-with L t n R u in let x = count-with L t (n + m) R u in omega arith
 
   -- a new time on a side
-  pub side_first : (old entry new rest : Entry) (S S' : Bag) → IsSifted old entry new rest → Adds S S' rest.time rest.count → IsFirst old.time S → IsFirst new.time S'
+  pub side_first : (old entry new rest : Entry) (S S' : TimeCounts) → IsSifted old entry new rest → Adds S S' rest.time rest.count → IsFirst old.time S → IsFirst new.time S'
   side_first old entry new rest S S' (IsSifted.stays e q h) a f u l = go (was_or_came S S' rest.time u rest.count a l)
     where
       go : (u ≡ rest.time) ⊎ (0 < count S u) → NoLater new.time u
@@ -77,7 +77,7 @@ module _ (L : Bag) (t : Time) (n s : ℕ) (R : Bag) where
       go (inl x) = subst (λ (y : Entry). NoLater y.time u) (sym e) (subst (NoLater entry.time) (sym (x ∙ ap (λ (y : Entry). y.time) q)) h)
       go (inr x) = subst (λ (y : Entry). NoLater y.time u) (sym e) (no_later_on entry.time old.time u h (f u x))
 
-  other_first : (old entry new rest : Entry) (S : Bag) → IsSifted old entry new rest → IsFirst old.time S → IsFirst new.time S
+  other_first : (old entry new rest : Entry) (S : TimeCounts) → IsSifted old entry new rest → IsFirst old.time S → IsFirst new.time S
   other_first old entry new rest S (IsSifted.stays e q h) f u l = subst (λ (y : Entry). NoLater y.time u) (sym e) (f u l)
   other_first old entry new rest S (IsSifted.swaps e q h) f u l = subst (λ (y : Entry). NoLater y.time u) (sym e) (no_later_on entry.time old.time u h (f u l))
 
@@ -97,7 +97,7 @@ sifted_sum old entry new rest u (IsSifted.swaps e q h) =
 
 -- ---- an entry put in, on the left or on the right
 
-pub added_left : (L L' R : Bag) (s : ℕ) (old entry new rest : Entry) → IsFork L old.time old.count s R → 0 < entry.count → IsSifted old entry new rest → Adds L L' rest.time rest.count → key_of rest.time < s → IsFork L' new.time new.count s R
+pub added_left : (L L' R : TimeCounts) (s : ℕ) (old entry new rest : Entry) → IsFork L old.time old.count s R → 0 < entry.count → IsSifted old entry new rest → Adds L L' rest.time rest.count → key_of rest.time < s → IsFork L' new.time new.count s R
 added_left L L' R s old entry new rest f h i a k = record {
   some = some_stays L old.time old.count s R old entry new rest i f.some h;
   least_left = side_first L old.time old.count s R old entry new rest L L' i a f.least_left;
@@ -110,7 +110,7 @@ added_left L L' R s old entry new rest f h i a k = record {
     go u (inl x) = subst (λ (y : Time). key_of y < s) (sym x) k
     go u (inr x) = f.below u x
 
-pub added_right : (L R R' : Bag) (s : ℕ) (old entry new rest : Entry) → IsFork L old.time old.count s R → 0 < entry.count → IsSifted old entry new rest → Adds R R' rest.time rest.count → s ≤ key_of rest.time → IsFork L new.time new.count s R'
+pub added_right : (L R R' : TimeCounts) (s : ℕ) (old entry new rest : Entry) → IsFork L old.time old.count s R → 0 < entry.count → IsSifted old entry new rest → Adds R R' rest.time rest.count → s ≤ key_of rest.time → IsFork L new.time new.count s R'
 added_right L R R' s old entry new rest f h i a k = record {
   some = some_stays L old.time old.count s R old entry new rest i f.some h;
   least_left = other_first L old.time old.count s R old entry new rest L i f.least_left;
@@ -123,15 +123,15 @@ added_right L R R' s old entry new rest f h i a k = record {
     go u (inl x) = subst (λ (y : Time). s ≤ key_of y) (sym x) k
     go u (inr x) = f.above u x
 
-pub adds_left : (L L' R : Bag) (old entry new rest : Entry) → IsSifted old entry new rest → Adds L L' rest.time rest.count → Adds (with_times L old.time old.count R) (with_times L' new.time new.count R) entry.time entry.count
+pub adds_left : (L L' R : TimeCounts) (old entry new rest : Entry) → IsSifted old entry new rest → Adds L L' rest.time rest.count → Adds (with_times L old.time old.count R) (with_times L' new.time new.count R) entry.time entry.count
 adds_left L L' R old entry new rest i a u = let w = count-with L old.time old.count R u in let x = count-with L' new.time new.count R u in let e = a u in let k = sifted_sum old entry new rest u i in omega arith
 
-pub adds_right : (L R R' : Bag) (old entry new rest : Entry) → IsSifted old entry new rest → Adds R R' rest.time rest.count → Adds (with_times L old.time old.count R) (with_times L new.time new.count R') entry.time entry.count
+pub adds_right : (L R R' : TimeCounts) (old entry new rest : Entry) → IsSifted old entry new rest → Adds R R' rest.time rest.count → Adds (with_times L old.time old.count R) (with_times L new.time new.count R') entry.time entry.count
 adds_right L R R' old entry new rest i a u = let w = count-with L old.time old.count R u in let x = count-with L new.time new.count R' u in let e = a u in let k = sifted_sum old entry new rest u i in omega arith
 
 -- ---- an entry taken out
 
-pub pulled_left : (L L' R : Bag) (s : ℕ) (old next : Entry) → IsFork L old.time old.count s R → 0 < next.count → Adds L' L next.time next.count → IsFirst next.time L → IsFirst next.time R → IsFork L' next.time next.count s R
+pub pulled_left : (L L' R : TimeCounts) (s : ℕ) (old next : Entry) → IsFork L old.time old.count s R → 0 < next.count → Adds L' L next.time next.count → IsFirst next.time L → IsFirst next.time R → IsFork L' next.time next.count s R
 pulled_left L L' R s old next f h a first other = record {
   some = h;
   least_left = λ u l. first u (was_there L L' next.time u next.count a l);
@@ -140,7 +140,7 @@ pulled_left L L' R s old next f h a first other = record {
   above = f.above;
 }
 
-pub pulled_right : (L R R' : Bag) (s : ℕ) (old next : Entry) → IsFork L old.time old.count s R → 0 < next.count → Adds R' R next.time next.count → IsFirst next.time R → IsFirst next.time L → IsFork L next.time next.count s R'
+pub pulled_right : (L R R' : TimeCounts) (s : ℕ) (old next : Entry) → IsFork L old.time old.count s R → 0 < next.count → Adds R' R next.time next.count → IsFirst next.time R → IsFirst next.time L → IsFork L next.time next.count s R'
 pulled_right L R R' s old next f h a first other = record {
   some = h;
   least_left = other;
@@ -149,28 +149,28 @@ pulled_right L R R' s old next f h a first other = record {
   above = λ u l. f.above u (was_there R R' next.time u next.count a l);
 }
 
-pub taken_left : (L L' R : Bag) (old next : Entry) → Adds L' L next.time next.count → Adds (with_times L' next.time next.count R) (with_times L old.time old.count R) old.time old.count
+pub taken_left : (L L' R : TimeCounts) (old next : Entry) → Adds L' L next.time next.count → Adds (with_times L' next.time next.count R) (with_times L old.time old.count R) old.time old.count
 taken_left L L' R old next a u = let w = count-with L old.time old.count R u in let x = count-with L' next.time next.count R u in let e = a u in omega arith
 
-pub taken_right : (L R R' : Bag) (old next : Entry) → Adds R' R next.time next.count → Adds (with_times L next.time next.count R') (with_times L old.time old.count R) old.time old.count
+pub taken_right : (L R R' : TimeCounts) (old next : Entry) → Adds R' R next.time next.count → Adds (with_times L next.time next.count R') (with_times L old.time old.count R) old.time old.count
 taken_right L R R' old next a u = let w = count-with L old.time old.count R u in let x = count-with L next.time next.count R' u in let e = a u in omega arith
 
-pub taken_last : (L R : Bag) (old : Entry) → IsNone L → IsNone R → Adds [] (with_times L old.time old.count R) old.time old.count
+pub taken_last : (L R : TimeCounts) (old : Entry) → IsNone L → IsNone R → Adds [] (with_times L old.time old.count R) old.time old.count
 taken_last L R old l r u = let w = count-with L old.time old.count R u in let a = l u in let b = r u in omega arith
 
 -- the top is removed, if a side is empty
-pub lifted_right : (L : Bag) (t : Time) (n : ℕ) (R : Bag) → IsNone L → Adds R (with_times L t n R) t n
+pub lifted_right : (L : TimeCounts) (t : Time) (n : ℕ) (R : TimeCounts) → IsNone L → Adds R (with_times L t n R) t n
 lifted_right L t n R none u = let w = count-with L t n R u in let a = none u in omega arith
 
-pub lifted_left : (L : Bag) (t : Time) (n : ℕ) (R : Bag) → IsNone R → Adds L (with_times L t n R) t n
+pub lifted_left : (L : TimeCounts) (t : Time) (n : ℕ) (R : TimeCounts) → IsNone R → Adds L (with_times L t n R) t n
 lifted_left L t n R none u = let w = count-with L t n R u in let a = none u in omega arith
 
 -- ---- a time taken out once
 
-pub lowered_fork : (L R : Bag) (t : Time) (n s : ℕ) → IsFork L t n s R → 1 < n → IsFork L t (n - 1) s R
+pub lowered_fork : (L R : TimeCounts) (t : Time) (n s : ℕ) → IsFork L t n s R → 1 < n → IsFork L t (n - 1) s R
 lowered_fork L R t n s f h = record { some = omega arith; least_left = f.least_left; least_right = f.least_right; below = f.below; above = f.above }
 
-pub lowered_adds : (L R : Bag) (t : Time) (n : ℕ) → 0 < n → Adds (with_times L t (n - 1) R) (with_times L t n R) t 1
+pub lowered_adds : (L R : TimeCounts) (t : Time) (n : ℕ) → 0 < n → Adds (with_times L t (n - 1) R) (with_times L t n R) t 1
 lowered_adds L R t n h u =
     let q : n ≡ (n - 1) + 1 = omega arith in
     let e = ap (if_same u t) q ∙ same_sum u t (n - 1) 1 in
@@ -178,7 +178,7 @@ lowered_adds L R t n h u =
     let x = count-with L t (n - 1) R u in
     omega arith
 
-pub removed_left : (L L' R : Bag) (t u : Time) (n s : ℕ) → IsFork L t n s R → Adds L' L u 1 → IsFork L' t n s R
+pub removed_left : (L L' R : TimeCounts) (t u : Time) (n s : ℕ) → IsFork L t n s R → Adds L' L u 1 → IsFork L' t n s R
 removed_left L L' R t u n s f a = record {
   some = f.some;
   least_left = λ v l. f.least_left v (was_there L L' u v 1 a l);
@@ -187,7 +187,7 @@ removed_left L L' R t u n s f a = record {
   above = f.above;
 }
 
-pub removed_right : (L R R' : Bag) (t u : Time) (n s : ℕ) → IsFork L t n s R → Adds R' R u 1 → IsFork L t n s R'
+pub removed_right : (L R R' : TimeCounts) (t u : Time) (n s : ℕ) → IsFork L t n s R → Adds R' R u 1 → IsFork L t n s R'
 removed_right L R R' t u n s f a = record {
   some = f.some;
   least_left = f.least_left;
@@ -196,14 +196,14 @@ removed_right L R R' t u n s f a = record {
   above = λ v l. f.above v (was_there R R' u v 1 a l);
 }
 
-pub less_left : (L L' R : Bag) (t u : Time) (n : ℕ) → Adds L' L u 1 → Adds (with_times L' t n R) (with_times L t n R) u 1
+pub less_left : (L L' R : TimeCounts) (t u : Time) (n : ℕ) → Adds L' L u 1 → Adds (with_times L' t n R) (with_times L t n R) u 1
 less_left L L' R t u n a v = let w = count-with L t n R v in let x = count-with L' t n R v in let e = a v in omega arith
 
-pub less_right : (L R R' : Bag) (t u : Time) (n : ℕ) → Adds R' R u 1 → Adds (with_times L t n R') (with_times L t n R) u 1
+pub less_right : (L R R' : TimeCounts) (t u : Time) (n : ℕ) → Adds R' R u 1 → Adds (with_times L t n R') (with_times L t n R) u 1
 less_right L R R' t u n a v = let w = count-with L t n R v in let x = count-with L t n R' v in let e = a v in omega arith
 
 -- the side on which another time is
-pub on_left : (L R : Bag) (t u : Time) (n s : ℕ) → IsFork L t n s R → 0 < count (with_times L t n R) u → (u ≡ t → ⊥) → key_of u < s → 0 < count L u
+pub on_left : (L R : TimeCounts) (t u : Time) (n s : ℕ) → IsFork L t n s R → 0 < count (with_times L t n R) u → (u ≡ t → ⊥) → key_of u < s → 0 < count L u
 on_left L R t u n s f h d k = go (stands L t n s R u h)
   where
     go : Stands L t n s R u → 0 < count L u
@@ -211,7 +211,7 @@ on_left L R t u n s f h d k = go (stands L t n s R u h)
     go (Stands.left a) = a
     go (Stands.right a) = absurd (let m = f.above u a in omega arith)
 
-pub on_right : (L R : Bag) (t u : Time) (n s : ℕ) → IsFork L t n s R → 0 < count (with_times L t n R) u → (u ≡ t → ⊥) → s ≤ key_of u → 0 < count R u
+pub on_right : (L R : TimeCounts) (t u : Time) (n s : ℕ) → IsFork L t n s R → 0 < count (with_times L t n R) u → (u ≡ t → ⊥) → s ≤ key_of u → 0 < count R u
 on_right L R t u n s f h d k = go (stands L t n s R u h)
   where
     go : Stands L t n s R u → 0 < count R u
@@ -221,10 +221,10 @@ on_right L R t u n s f h d k = go (stands L t n s R u h)
 
 -- ---- the least of the times that count for a question
 
-pub least_here : (L R : Bag) (t : Time) (n s : ℕ) (until : Time) (other : Bool) → IsFork L t n s R → IsAsked until other t → IsLeast (with_times L t n R) until other t
+pub least_here : (L R : TimeCounts) (t : Time) (n s : ℕ) (until : Time) (other : Bool) → IsFork L t n s R → IsAsked until other t → IsLeast (with_times L t n R) until other t
 least_here L R t n s until other f a = record { there = fork_there L t n s R f.some; asked = a; least = λ u h k. fork_first L t n s R f u h }
 
-pub least_left : (L R : Bag) (t v : Time) (n s : ℕ) (until : Time) (other : Bool) → IsFork L t n s R → (IsAsked until other t → ⊥) → IsNoneAsked R until other → IsLeast L until other v → IsLeast (with_times L t n R) until other v
+pub least_left : (L R : TimeCounts) (t v : Time) (n s : ℕ) (until : Time) (other : Bool) → IsFork L t n s R → (IsAsked until other t → ⊥) → IsNoneAsked R until other → IsLeast L until other v → IsLeast (with_times L t n R) until other v
 least_left L R t v n s until other f d r l = record { there = let k = l.there in let w = count-with L t n R v in omega arith; asked = l.asked; least = λ u h k. go u k (stands L t n s R u h) }
   where
     go : (u : Time) → IsAsked until other u → Stands L t n s R u → NoLater v u
@@ -232,7 +232,7 @@ least_left L R t v n s until other f d r l = record { there = let k = l.there in
     go u k (Stands.left a) = l.least u a k
     go u k (Stands.right a) = absurd (r u a k)
 
-pub least_right : (L R : Bag) (t v : Time) (n s : ℕ) (until : Time) (other : Bool) → IsFork L t n s R → (IsAsked until other t → ⊥) → IsNoneAsked L until other → IsLeast R until other v → IsLeast (with_times L t n R) until other v
+pub least_right : (L R : TimeCounts) (t v : Time) (n s : ℕ) (until : Time) (other : Bool) → IsFork L t n s R → (IsAsked until other t → ⊥) → IsNoneAsked L until other → IsLeast R until other v → IsLeast (with_times L t n R) until other v
 least_right L R t v n s until other f d r l = record { there = let k = l.there in let w = count-with L t n R v in omega arith; asked = l.asked; least = λ u h k. go u k (stands L t n s R u h) }
   where
     go : (u : Time) → IsAsked until other u → Stands L t n s R u → NoLater v u
@@ -240,7 +240,7 @@ least_right L R t v n s until other f d r l = record { there = let k = l.there i
     go u k (Stands.left a) = absurd (r u a k)
     go u k (Stands.right a) = l.least u a k
 
-pub none_asked : (L R : Bag) (t : Time) (n s : ℕ) (until : Time) (other : Bool) → IsFork L t n s R → (IsAsked until other t → ⊥) → IsNoneAsked L until other → IsNoneAsked R until other → IsNoneAsked (with_times L t n R) until other
+pub none_asked : (L R : TimeCounts) (t : Time) (n s : ℕ) (until : Time) (other : Bool) → IsFork L t n s R → (IsAsked until other t → ⊥) → IsNoneAsked L until other → IsNoneAsked R until other → IsNoneAsked (with_times L t n R) until other
 none_asked L R t n s until other f d l r u h k = go (stands L t n s R u h)
   where
     go : Stands L t n s R u → ⊥
@@ -249,7 +249,7 @@ none_asked L R t n s until other f d l r u h k = go (stands L t n s R u h)
     go (Stands.right a) = r u a k
 
 -- the least of both sides
-pub least_both_left : (L R : Bag) (t v w : Time) (n s : ℕ) (until : Time) (other : Bool) → IsFork L t n s R → (IsAsked until other t → ⊥) → IsLeast L until other v → IsLeast R until other w → NoLater v w → IsLeast (with_times L t n R) until other v
+pub least_both_left : (L R : TimeCounts) (t v w : Time) (n s : ℕ) (until : Time) (other : Bool) → IsFork L t n s R → (IsAsked until other t → ⊥) → IsLeast L until other v → IsLeast R until other w → NoLater v w → IsLeast (with_times L t n R) until other v
 least_both_left L R t v w n s until other f d l r h = record { there = let k = l.there in let w = count-with L t n R v in omega arith; asked = l.asked; least = λ u m k. go u k (stands L t n s R u m) }
   where
     go : (u : Time) → IsAsked until other u → Stands L t n s R u → NoLater v u
@@ -257,7 +257,7 @@ least_both_left L R t v w n s until other f d l r h = record { there = let k = l
     go u k (Stands.left a) = l.least u a k
     go u k (Stands.right a) = no_later_on v w u h (r.least u a k)
 
-pub least_both_right : (L R : Bag) (t v w : Time) (n s : ℕ) (until : Time) (other : Bool) → IsFork L t n s R → (IsAsked until other t → ⊥) → IsLeast L until other v → IsLeast R until other w → NoLater w v → IsLeast (with_times L t n R) until other w
+pub least_both_right : (L R : TimeCounts) (t v w : Time) (n s : ℕ) (until : Time) (other : Bool) → IsFork L t n s R → (IsAsked until other t → ⊥) → IsLeast L until other v → IsLeast R until other w → NoLater w v → IsLeast (with_times L t n R) until other w
 least_both_right L R t v w n s until other f d l r h = record { there = let k = r.there in let w = count-with L t n R w in omega arith; asked = r.asked; least = λ u m k. go u k (stands L t n s R u m) }
   where
     go : (u : Time) → IsAsked until other u → Stands L t n s R u → NoLater w u
@@ -266,26 +266,26 @@ least_both_right L R t v w n s until other f d l r h = record { there = let k = 
     go u k (Stands.right a) = r.least u a k
 
 -- what is on the right of a split in a later epoch doesn't count
-pub right_late : (L R : Bag) (t : Time) (n s : ℕ) (until : Time) (other : Bool) → IsFork L t n s R → until.epoch < s / 4294967296 → IsNoneAsked R until other
+pub right_late : (L R : TimeCounts) (t : Time) (n s : ℕ) (until : Time) (other : Bool) → IsFork L t n s R → until.epoch < s / 4294967296 → IsNoneAsked R until other
 right_late L R t n s until other f h u l k = absurd (let e = split_epoch u s (f.above u l) in let m = k.epochs in omega arith)
 
 -- ---- tops
 
-time_or : Time → Option Held → Time
+time_or : Time → Option CountedTime → Time
 time_or t None = t
 time_or t (Some h) = h.0
 
-top_same : (t u : Time) (m n : ℕ) → Some (held t m) ≡ Some (held u n) → t ≡ u
+top_same : (t u : Time) (m n : ℕ) → Some (counted_time t m) ≡ Some (counted_time u n) → t ≡ u
 unfolding time_or
 top_same t u m n e = ap (time_or t) e
 
-pub leads_by : (a b : Bag) (x y : Time) (n : ℕ) → top a ≡ Some (held x n) → NoLater x y → IsFirst y b → Leads a b
+pub leads_by : (a b : TimeCounts) (x y : Time) (n : ℕ) → top a ≡ Some (counted_time x n) → NoLater x y → IsFirst y b → Leads a b
 leads_by a b x y n e h f = record {
   empty = λ q. absurd (never (sym q ∙ e));
   before = λ t m q u l. subst (λ z. NoLater z u) (sym (top_same t x m n (sym q ∙ e))) (no_later_on x y u h (f u l));
 }
   where
-    never : None ≡ Some (held x n) → ⊥
+    never : None ≡ Some (counted_time x n) → ⊥
     never q = cc
 
 pub eq_differs : (t u : Time) (b : Bool) → b ≡ same_time t u → b ≡ false → u ≡ t → ⊥

@@ -5,7 +5,7 @@ use Rattle.semantics.proofs.OneFlow.{lex_head, lex_tail}
 use Rattle.semantics.proofs.CouldRises.{at_most_trans}
 use Rattle.machine.proofs.Places.{same_time_tells}
 use Rattle.progress.specs.Times.{mixed_from, key_of, NoLater}
-use Rattle.progress.specs.Bag.{if_same}
+use Rattle.progress.specs.TimeCounts.{if_same}
 
 abbrev Later : List ℕ → List ℕ → Type 0
 Later cs ds = (cs ≡ ds) ⊎ (is_before cs ds ≡ true)

@@ -10,30 +10,30 @@ use Rattle.semantics.proofs.Cases.{either_above_zero, below_or_last}
 use Rattle.machine.specs.Active.{one_if_same, same_location}
 use Rattle.graph.specs.Locations.{location_of}
 use Rattle.graph.specs.declared.location.Location.{Location as Declared}
-use Rattle.progress.specs.Bag.{Bag, count, Adds, IsNone}
+use Rattle.progress.specs.TimeCounts.{TimeCounts, count, Adds, IsNone}
 use Rattle.progress.specs.Content.{IsClear, bag_at, times_at}
 use Rattle.machine.proofs.Active.{one_is}
 use Rattle.progress.proofs.Contents.{all_more, all_less}
 use Rattle.progress.specs.Kept.{Among, HasSome, stamp, IsKept, IsClearAt, AddsOne, IsIn, IsChangedAt}
 
-pub no_bag : (i : ℕ) → slice_index_or {A = Bag} [] i [] ≡ []
+pub no_bag : (i : ℕ) → slice_index_or {A = TimeCounts} [] i [] ≡ []
 no_bag zero = refl
 no_bag (suc i) = refl
 
-pub no_bag_more : (xs : List Bag) → ((i : ℕ) → slice_index_or xs i [] ≡ []) → (i : ℕ) → slice_index_or (xs ++ ([] ∷ [])) i [] ≡ []
+pub no_bag_more : (xs : List TimeCounts) → ((i : ℕ) → slice_index_or xs i [] ≡ []) → (i : ℕ) → slice_index_or (xs ++ ([] ∷ [])) i [] ≡ []
 no_bag_more [] h zero = refl
 no_bag_more [] h (suc i) = no_bag i
 no_bag_more (x ∷ xs) h zero = h zero
 no_bag_more (x ∷ xs) h (suc i) = no_bag_more xs (λ k. h (suc k)) i
 
-pub none_at : (es vs : List Bag) → ((i : ℕ) → slice_index_or es i [] ≡ []) → ((i : ℕ) → slice_index_or vs i [] ≡ []) → (q : Pointstamp) → times_at es vs q ≡ 0
+pub none_at : (es vs : List TimeCounts) → ((i : ℕ) → slice_index_or es i [] ≡ []) → ((i : ℕ) → slice_index_or vs i [] ≡ []) → (q : Pointstamp) → times_at es vs q ≡ 0
 none_at es vs a b q = go q.location
   where
     go : (l : Location) → count (bag_at es vs l) q.time ≡ 0
-    go (Location.edge e) = ap (λ (b : Bag). count b q.time) (a e)
-    go (Location.vertex v) = ap (λ (b : Bag). count b q.time) (b v)
+    go (Location.edge e) = ap (λ (b : TimeCounts). count b q.time) (a e)
+    go (Location.vertex v) = ap (λ (b : TimeCounts). count b q.time) (b v)
 
-pub kept_empty : (g : Graph) (es vs : List Bag) (ls : List Location) → length es ≡ edge_count g → length vs ≡ length g → ((i : ℕ) → slice_index_or es i [] ≡ []) → ((i : ℕ) → slice_index_or vs i [] ≡ []) → IsKept g es vs ls
+pub kept_empty : (g : Graph) (es vs : List TimeCounts) (ls : List Location) → length es ≡ edge_count g → length vs ≡ length g → ((i : ℕ) → slice_index_or es i [] ≡ []) → ((i : ℕ) → slice_index_or vs i [] ≡ []) → IsKept g es vs ls
 kept_empty g es vs ls a b c d = record {
   edges_long = a;
   vertices_long = b;
@@ -43,7 +43,7 @@ kept_empty g es vs ls a b c d = record {
 
 -- ---- one tree changes
 
-at_edge : (old new vs : List Bag) (e : ℕ) (t : Time) → IsChangedAt old new e → Adds (slice_index_or old e []) (slice_index_or new e []) t 1 → AddsOne (times_at old vs) (times_at new vs) (stamp (Location.edge e) t)
+at_edge : (old new vs : List TimeCounts) (e : ℕ) (t : Time) → IsChangedAt old new e → Adds (slice_index_or old e []) (slice_index_or new e []) t 1 → AddsOne (times_at old vs) (times_at new vs) (stamp (Location.edge e) t)
 at_edge old new vs e t c a q = go q.location
   where
     go : (l : Location) → count (bag_at new vs l) q.time ≡ cond (same_location l (Location.edge e)) (cond (same_time q.time t) 1 0) 0 + count (bag_at old vs l) q.time
@@ -52,9 +52,9 @@ at_edge old new vs e t c a q = go q.location
       where
         here : ((eqb d e ≡ true) × (d ≡ e)) ⊎ ((eqb d e ≡ false) × (d ≢ e)) → count (slice_index_or new d []) q.time ≡ cond (eqb d e) (cond (same_time q.time t) 1 0) 0 + count (slice_index_or old d []) q.time
         here (inl (x, y)) = rw x (subst (λ (i : ℕ). count (slice_index_or new i []) q.time ≡ cond (same_time q.time t) 1 0 + count (slice_index_or old i []) q.time) (sym y) (a q.time))
-        here (inr (x, y)) = rw x (let e = ap (λ (b : Bag). count b q.time) (c.others d y) in omega arith)
+        here (inr (x, y)) = rw x (let e = ap (λ (b : TimeCounts). count b q.time) (c.others d y) in omega arith)
 
-at_vertex : (es old new : List Bag) (v : ℕ) (t : Time) → IsChangedAt old new v → Adds (slice_index_or old v []) (slice_index_or new v []) t 1 → AddsOne (times_at es old) (times_at es new) (stamp (Location.vertex v) t)
+at_vertex : (es old new : List TimeCounts) (v : ℕ) (t : Time) → IsChangedAt old new v → Adds (slice_index_or old v []) (slice_index_or new v []) t 1 → AddsOne (times_at es old) (times_at es new) (stamp (Location.vertex v) t)
 at_vertex es old new v t c a q = go q.location
   where
     go : (l : Location) → count (bag_at es new l) q.time ≡ cond (same_location l (Location.vertex v)) (cond (same_time q.time t) 1 0) 0 + count (bag_at es old l) q.time
@@ -63,38 +63,38 @@ at_vertex es old new v t c a q = go q.location
       where
         here : ((eqb d v ≡ true) × (d ≡ v)) ⊎ ((eqb d v ≡ false) × (d ≢ v)) → count (slice_index_or new d []) q.time ≡ cond (eqb d v) (cond (same_time q.time t) 1 0) 0 + count (slice_index_or old d []) q.time
         here (inl (x, y)) = rw x (subst (λ (i : ℕ). count (slice_index_or new i []) q.time ≡ cond (same_time q.time t) 1 0 + count (slice_index_or old i []) q.time) (sym y) (a q.time))
-        here (inr (x, y)) = rw x (let e = ap (λ (b : Bag). count b q.time) (c.others d y) in omega arith)
+        here (inr (x, y)) = rw x (let e = ap (λ (b : TimeCounts). count b q.time) (c.others d y) in omega arith)
 
 -- an edge's pointstamp is added or removed
-pub edge_adds : (old new vs : List Bag) (e : ℕ) (p : Pointstamp) → Location.edge e ≡ p.location → IsChangedAt old new e → Adds (slice_index_or old e []) (slice_index_or new e []) p.time 1 → AddsOne (times_at old vs) (times_at new vs) p
+pub edge_adds : (old new vs : List TimeCounts) (e : ℕ) (p : Pointstamp) → Location.edge e ≡ p.location → IsChangedAt old new e → Adds (slice_index_or old e []) (slice_index_or new e []) p.time 1 → AddsOne (times_at old vs) (times_at new vs) p
 edge_adds old new vs e p q c a = subst (λ (l : Location). AddsOne (times_at old vs) (times_at new vs) (stamp l p.time)) q (at_edge old new vs e p.time c a)
 
-pub vertex_adds : (es old new : List Bag) (v : ℕ) (p : Pointstamp) → Location.vertex v ≡ p.location → IsChangedAt old new v → Adds (slice_index_or old v []) (slice_index_or new v []) p.time 1 → AddsOne (times_at es old) (times_at es new) p
+pub vertex_adds : (es old new : List TimeCounts) (v : ℕ) (p : Pointstamp) → Location.vertex v ≡ p.location → IsChangedAt old new v → Adds (slice_index_or old v []) (slice_index_or new v []) p.time 1 → AddsOne (times_at es old) (times_at es new) p
 vertex_adds es old new v p q c a = subst (λ (l : Location). AddsOne (times_at es old) (times_at es new) (stamp l p.time)) q (at_vertex es old new v p.time c a)
 
-pub edge_takes : (old new vs : List Bag) (e : ℕ) (p : Pointstamp) → Location.edge e ≡ p.location → IsChangedAt old new e → Adds (slice_index_or new e []) (slice_index_or old e []) p.time 1 → AddsOne (times_at new vs) (times_at old vs) p
+pub edge_takes : (old new vs : List TimeCounts) (e : ℕ) (p : Pointstamp) → Location.edge e ≡ p.location → IsChangedAt old new e → Adds (slice_index_or new e []) (slice_index_or old e []) p.time 1 → AddsOne (times_at new vs) (times_at old vs) p
 edge_takes old new vs e p q c a = edge_adds new old vs e p q (record { long = sym c.long; others = λ i n. sym (c.others i n) }) a
 
-pub vertex_takes : (es old new : List Bag) (v : ℕ) (p : Pointstamp) → Location.vertex v ≡ p.location → IsChangedAt old new v → Adds (slice_index_or new v []) (slice_index_or old v []) p.time 1 → AddsOne (times_at es new) (times_at es old) p
+pub vertex_takes : (es old new : List TimeCounts) (v : ℕ) (p : Pointstamp) → Location.vertex v ≡ p.location → IsChangedAt old new v → Adds (slice_index_or new v []) (slice_index_or old v []) p.time 1 → AddsOne (times_at es new) (times_at es old) p
 vertex_takes es old new v p q c a = vertex_adds es new old v p q (record { long = sym c.long; others = λ i n. sym (c.others i n) }) a
 
 -- one place is written
-pub changed_set : (old : List Bag) (n : ℕ) (b : Bag) → IsChangedAt old (slice_set old n b) n
+pub changed_set : (old : List TimeCounts) (n : ℕ) (b : TimeCounts) → IsChangedAt old (slice_set old n b) n
 changed_set old n b = record { long = long old n; others = others old n }
   where
-    long : (xs : List Bag) (n : ℕ) → length (slice_set xs n b) ≡ length xs
+    long : (xs : List TimeCounts) (n : ℕ) → length (slice_set xs n b) ≡ length xs
     long [] n = refl
     long (x ∷ xs) zero = refl
     long (x ∷ xs) (suc n) = ap suc (long xs n)
 
-    others : (xs : List Bag) (n i : ℕ) → (i ≡ n → ⊥) → slice_index_or (slice_set xs n b) i [] ≡ slice_index_or xs i []
+    others : (xs : List TimeCounts) (n i : ℕ) → (i ≡ n → ⊥) → slice_index_or (slice_set xs n b) i [] ≡ slice_index_or xs i []
     others [] n i h = refl
     others (x ∷ xs) zero zero h = absurd (h refl)
     others (x ∷ xs) zero (suc i) h = refl
     others (x ∷ xs) (suc n) zero h = refl
     others (x ∷ xs) (suc n) (suc i) h = others xs n i (λ e. h (ap suc e))
 
-pub got_set : (old : List Bag) (n : ℕ) (b : Bag) → n < length old → slice_index_or (slice_set old n b) n [] ≡ b
+pub got_set : (old : List TimeCounts) (n : ℕ) (b : TimeCounts) → n < length old → slice_index_or (slice_set old n b) n [] ≡ b
 got_set [] n b h = absurd (omega arith)
 got_set (x ∷ xs) zero b h = refl
 got_set (x ∷ xs) (suc n) b h = got_set xs n b (omega arith)
@@ -140,14 +140,14 @@ among_removed xs i m l h d a = go xs i a.0 h a.1
 
 -- ---- what is kept
 
-pub kept_in : (g : Graph) (es vs : List Bag) (p : Pointstamp) → length es ≡ edge_count g → length vs ≡ length g → IsTimeAt g p.location p.time → IsIn (length es) (length vs) p.location
+pub kept_in : (g : Graph) (es vs : List TimeCounts) (p : Pointstamp) → length es ≡ edge_count g → length vs ≡ length g → IsTimeAt g p.location p.time → IsIn (length es) (length vs) p.location
 kept_in g es vs p a b f = go p.location f
   where
     go : (l : Location) → IsTimeAt g l p.time → IsIn (length es) (length vs) l
     go (Location.edge e) f = let k = f.0 in omega arith
     go (Location.vertex v) f = let k = f.0 in omega arith
 
-pub kept_added : (g : Graph) (es vs es' vs' : List Bag) (ls ls' : List Location) (p : Pointstamp) (fresh : Bool) → IsKept g es vs ls → IsTimeAt g p.location p.time → AddsOne (times_at es vs) (times_at es' vs') p → length es' ≡ length es → length vs' ≡ length vs
+pub kept_added : (g : Graph) (es vs es' vs' : List TimeCounts) (ls ls' : List Location) (p : Pointstamp) (fresh : Bool) → IsKept g es vs ls → IsTimeAt g p.location p.time → AddsOne (times_at es vs) (times_at es' vs') p → length es' ≡ length es → length vs' ≡ length vs
     → (fresh ≡ true → Among ls' p.location) → (fresh ≡ false → HasSome (bag_at es vs p.location)) → ((l : Location) → Among ls l → Among ls' l) → IsKept g es' vs' ls'
 kept_added g es vs es' vs' ls ls' p fresh k f a m n listed some still = record {
   edges_long = m ∙ k.edges_long;
@@ -164,7 +164,7 @@ kept_added g es vs es' vs' ls ls' p fresh k f a m n listed some still = record {
     go q (inl x) = subst (λ (r : Pointstamp). Among ls' r.location) (sym (one_is q p x)) (there fresh refl)
     go q (inr x) = still q.location (k.where_active q x)
 
-pub kept_taken : (g : Graph) (es vs es' vs' : List Bag) (ls ls' : List Location) (p : Pointstamp) (empty : Bool) → IsKept g es vs ls → AddsOne (times_at es' vs') (times_at es vs) p → length es' ≡ length es → length vs' ≡ length vs
+pub kept_taken : (g : Graph) (es vs es' vs' : List TimeCounts) (ls ls' : List Location) (p : Pointstamp) (empty : Bool) → IsKept g es vs ls → AddsOne (times_at es' vs') (times_at es vs) p → length es' ≡ length es → length vs' ≡ length vs
     → (empty ≡ true → IsNone (bag_at es' vs' p.location)) → ((l : Location) → (empty ≡ true → l ≡ p.location → ⊥) → Among ls l → Among ls' l) → IsKept g es' vs' ls'
 kept_taken g es vs es' vs' ls ls' p empty k a m n none still = record {
   edges_long = m ∙ k.edges_long;
@@ -178,7 +178,7 @@ kept_taken g es vs es' vs' ls ls' p empty k a m n none still = record {
 
 -- ---- scans of the listed locations
 
-abbrev pub ClearAmong : Graph → (es vs : List Bag) → List Location → Pointstamp → Bool → ℕ → Type 0
+abbrev pub ClearAmong : Graph → (es vs : List TimeCounts) → List Location → Pointstamp → Bool → ℕ → Type 0
 ClearAmong g es vs ls p other n = (i : ℕ) (l : Location) → i < n → slice_get ls i ≡ Some l → IsClearAt g (bag_at es vs l) l p other
 
 pub get_mapped : (xs : List Declared) (i : ℕ) (x : Declared) → slice_get xs i ≡ Some x → slice_get (map location_of xs) i ≡ Some (location_of x)
@@ -187,7 +187,7 @@ get_mapped [] (suc i) x h = absurd (let e = h in cc)
 get_mapped (y ∷ xs) zero x h = ap (λ (z : Declared). Some (location_of z)) (same_Some y x h)
 get_mapped (y ∷ xs) (suc i) x h = get_mapped xs i x h
 
-pub clear_more_at : (g : Graph) (es vs : List Bag) (xs : List Declared) (x : Location) (p : Pointstamp) (other : Bool) (n : ℕ) → ClearAmong g es vs (map location_of xs) p other n → slice_get (map location_of xs) n ≡ Some x → IsClearAt g (bag_at es vs x) x p other → ClearAmong g es vs (map location_of xs) p other (n + 1)
+pub clear_more_at : (g : Graph) (es vs : List TimeCounts) (xs : List Declared) (x : Location) (p : Pointstamp) (other : Bool) (n : ℕ) → ClearAmong g es vs (map location_of xs) p other n → slice_get (map location_of xs) n ≡ Some x → IsClearAt g (bag_at es vs x) x p other → ClearAmong g es vs (map location_of xs) p other (n + 1)
 clear_more_at g es vs xs x p other n before h c i l m k = go (below_or_last i n m)
   where
     go : (i < n) ⊎ (i ≡ n) → IsClearAt g (bag_at es vs l) l p other
@@ -202,7 +202,7 @@ get_below [] (suc i) l h = absurd (let e = h in cc)
 get_below (y ∷ xs) zero l h = omega arith
 get_below (y ∷ xs) (suc i) l h = let k = get_below xs i l h in omega arith
 
-pub all_clear_at : (g : Graph) (es vs : List Bag) (xs : List Declared) (p : Pointstamp) (other : Bool) (n : ℕ) → IsKept g es vs (map location_of xs) → length xs ≤ n → ClearAmong g es vs (map location_of xs) p other n → IsClear g (times_at es vs) p other
+pub all_clear_at : (g : Graph) (es vs : List TimeCounts) (xs : List Declared) (p : Pointstamp) (other : Bool) (n : ℕ) → IsKept g es vs (map location_of xs) → length xs ≤ n → ClearAmong g es vs (map location_of xs) p other n → IsClear g (times_at es vs) p other
 all_clear_at g es vs xs p other n k l clear q h d c =
     let a = k.where_active q h in
     clear a.0 q.location (let b = get_below xs a.0 q.location a.1 in omega arith) a.1 q.time h d c

@@ -4,19 +4,19 @@ use Rattle.semantics.specs.Multiset.{total}
 use Rattle.semantics.specs.Graph.{Graph}
 use Rattle.semantics.specs.Could.{Location, Pointstamp, IsTimeAt, CouldResultIn}
 use Rattle.machine.specs.Active.{one_if_same}
-use Rattle.progress.specs.Bag.{Bag, count}
+use Rattle.progress.specs.TimeCounts.{TimeCounts, count}
 
 -- how often a pointstamp is in a list
 abbrev pub times_in : List Pointstamp → Pointstamp → ℕ
 times_in active q = total (one_if_same q) active
 
 -- the times at a location, by the lists for edges and for vertices
-abbrev pub bag_at : (edges vertices : List Bag) → Location → Bag
+abbrev pub bag_at : (edges vertices : List TimeCounts) → Location → TimeCounts
 bag_at edges vertices (Location.edge e) = slice_index_or edges e []
 bag_at edges vertices (Location.vertex v) = slice_index_or vertices v []
 
 -- how often a pointstamp is among these
-abbrev pub times_at : (edges vertices : List Bag) → Pointstamp → ℕ
+abbrev pub times_at : (edges vertices : List TimeCounts) → Pointstamp → ℕ
 times_at edges vertices q = count (bag_at edges vertices q.location) q.time
 
 -- each of these has a location of the graph, and a time of its depth

@@ -1,7 +1,7 @@
 pub mod Times
-pub mod Bag
-pub mod Bags
-pub mod Falls
+pub mod TimeCounts
+pub mod NodeCounts
+pub mod ForkSizes
 pub mod Sifting
 pub mod Content
 pub mod Shown

@@ -2,7 +2,7 @@
 use Rattle.std.specs.Prelude.{ℕ, List}
 use Rattle.semantics.specs.Could.{Pointstamp}
 use Rattle.graph.specs.Shown.{GraphValue}
-use Rattle.progress.specs.Bag.{Bag}
+use Rattle.progress.specs.TimeCounts.{TimeCounts}
 
 -- a tracker with a list of active pointstamps
 pub record Listed : Type 0 where
@@ -13,6 +13,6 @@ pub record Listed : Type 0 where
 -- a tracker with active times by location
 pub record Located : Type 0 where
   pub graph : GraphValue
-  pub edges : List Bag
-  pub vertices : List Bag
+  pub edges : List TimeCounts
+  pub vertices : List TimeCounts
   pub spare : ℕ

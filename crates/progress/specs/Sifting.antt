@@ -2,7 +2,7 @@
 use Rattle.std.specs.Prelude.{◌≡◌, ℕ, Option, Some, None}
 use Rattle.semantics.specs.Time.{Time}
 use Rattle.progress.specs.Times.{NoLater}
-use Rattle.progress.specs.Bag.{Bag, held, top, IsFirst, IsNone}
+use Rattle.progress.specs.TimeCounts.{TimeCounts, counted_time, top, IsFirst, IsNone}
 use Rattle.progress.specs.declared.tree.Entry.{Entry}
 use Rattle.progress.specs.declared.tree.Node.{Node}
 use Rattle.progress.specs.declared.tree.Node.TheVariants.{Leaf, Fork}
@@ -13,9 +13,9 @@ pub data IsSifted (old entry new rest : Entry) : Type 0 where
   swaps : new ≡ entry → rest ≡ old → NoLater entry.time old.time → IsSifted old entry new rest
 
 -- the top of the first comes before all of the second; the second is empty if the first is
-pub record Leads (first second : Bag) : Type 0 where
+pub record Leads (first second : TimeCounts) : Type 0 where
   pub empty : top first ≡ None → IsNone second
-  pub before : (t : Time) (n : ℕ) → top first ≡ Some (held t n) → IsFirst t second
+  pub before : (t : Time) (n : ℕ) → top first ≡ Some (counted_time t n) → IsFirst t second
 
 -- the entry of a fork
 abbrev pub entry_of : Node → Option Entry

@@ -6,7 +6,7 @@ ghost use Rattle.progress.specs.Asked.{AreAnswers, ArePossible, content_after};
 
 use crate::change::Change;
 use crate::progress::Progress;
-use expr_tree::NoMemory;
+use record_core::NoMemory;
 use std::alloc::Global;
 
 /// Makes the changes in order, and answers each question as `in_frontier` does, from what is active at that point. Reserves all room first, so that

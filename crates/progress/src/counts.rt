@@ -6,8 +6,8 @@ ghost use Rattle.progress.specs.Counts.{AreExact, all_occurrences, occurrences_i
 
 use crate::counted::{Counted, is_clear, place_of, put, take};
 use crate::progress::Progress;
-use expr_tree::NoMemory;
 use path_summary::{Paths, Pointstamp};
+use record_core::NoMemory;
 use std::alloc::Global;
 use std::marker::Model;
 use std::sync::Arc;

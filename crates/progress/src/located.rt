@@ -7,15 +7,15 @@ ghost use Rattle.graph.specs.Shown.{shown_graph};
 ghost use Rattle.semantics.specs.Time.{Time as Instant};
 ghost use Rattle.semantics.specs.Graph.{edge_count};
 ghost use Rattle.semantics.specs.Could.{IsTimeAt, Location as Place, Pointstamp as Active};
-ghost use Rattle.progress.specs.Bag.{Adds, IsNone, count};
+ghost use Rattle.progress.specs.TimeCounts.{Adds, IsNone, count};
 ghost use Rattle.progress.specs.Content.{AllAt, IsBlocked, IsClear, bag_at, times_at};
 ghost use Rattle.progress.specs.Kept.{AddsOne, Among, HasSome, IsBlockedAt, IsChangedAt, IsClearAt, IsIn, IsKept};
 
 use crate::progress::Progress;
 use crate::tree::{Entry, Range, Room, Tree};
-use expr_tree::NoMemory;
 use loop_context::Time;
 use path_summary::{Location, Paths, Pointstamp, same_location};
+use record_core::NoMemory;
 use std::alloc::Global;
 use std::marker::Model;
 use std::sync::Arc;

@@ -6,8 +6,8 @@ ghost use Rattle.semantics.specs.Could.{CouldResultIn, IsTimeAt};
 ghost use Rattle.progress.specs.Content.{AllAt, IsBlocked, IsClear, times_in};
 
 use crate::progress::Progress;
-use expr_tree::NoMemory;
 use path_summary::{Paths, Pointstamp};
+use record_core::NoMemory;
 use std::alloc::Global;
 use std::marker::Model;
 use std::sync::Arc;

@@ -5,8 +5,8 @@ ghost use Rattle.semantics.specs.Graph.{Graph as Definition};
 ghost use Rattle.semantics.specs.Could.{CouldResultIn, IsTimeAt, NoOtherOf, NoneOf, Pointstamp as Active};
 ghost use Rattle.machine.specs.Active.{one_if_same};
 
-use expr_tree::NoMemory;
 use path_summary::Pointstamp;
+use record_core::NoMemory;
 
 /// A multiset of active pointstamps of a graph, and room for more. Only `reserve` takes memory.
 pub trait Progress: Drop {

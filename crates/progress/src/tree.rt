@@ -3,8 +3,8 @@
 //! its entry. So the tree is at most about 90 deep, except for times of one key, and a question follows one path down.
 
 ghost use Rattle.std.specs.Prelude.{◌≡◌, ◌≤◌, ◌<◌, ◌+◌, ◌^◌, ◌↔◌, [], ℕ, Some, None, true, false, IsTrue, IfSome, IfNone, length};
-ghost use Rattle.progress.specs.Bag.{Adds, IsAsked, IsFirst, IsLeast, IsNone, IsNoneAsked, count, held, top, with_times};
-ghost use Rattle.progress.specs.Bags.{IsNode, bag_of};
+ghost use Rattle.progress.specs.TimeCounts.{Adds, IsAsked, IsFirst, IsLeast, IsNone, IsNoneAsked, count, counted_time, top, with_times};
+ghost use Rattle.progress.specs.NodeCounts.{IsNode, node_counts};
 ghost use Rattle.progress.specs.Kept.{HasSome};
 ghost use Rattle.progress.specs.Sifting.{IsSifted, Leads, entry_of};
 ghost use Rattle.progress.specs.Times.{key_of, mixed_from};
@@ -110,13 +110,13 @@ enum Node {
 }
 
 impl Model for Tree {
-    ghost use Rattle.progress.specs.Bag.{Bag};
+    ghost use Rattle.progress.specs.TimeCounts.{TimeCounts};
 
-    ghost Value = { Bag };
+    ghost Value = { TimeCounts };
 
-    ghost use Rattle.progress.specs.Bags.{IsNode, bag_of};
+    ghost use Rattle.progress.specs.NodeCounts.{IsNode, node_counts};
 
-    ghost view = { λ t. bag_of t.node };
+    ghost view = { λ t. node_counts t.node };
 
     ghost invariant = { λ t. IsNode t.node };
 
@@ -124,7 +124,7 @@ impl Model for Tree {
 
     ghost size = { length };
 
-    ghost use Rattle.progress.specs.Falls.{deep_entries};
+    ghost use Rattle.progress.specs.ForkSizes.{deep_entries};
 
     ghost size_decreases = { λ t h. deep_entries t.node };
 }
@@ -140,7 +140,7 @@ impl Tree {
     /// The time with the least counters.
     fn top(&self) -> Option<&Time>
         ensures none { IfNone result (IsNone self.now × (top self.now ≡ None)) }
-        ensures top { IfSome result (λ t. (n : ℕ) × (top self.now ≡ Some (held t.now n))) }
+        ensures top { IfSome result (λ t. (n : ℕ) × (top self.now ≡ Some (counted_time t.now n))) }
         ensures there { IfSome result (λ t. 0 < count self.now t.now) }
         ensures first { IfSome result (λ t. IsFirst t.now self.now) }
     {
@@ -195,7 +195,7 @@ impl Tree {
     /// Removes the top of a fork with an empty side: the other side moves up. Otherwise nothing changes.
     fn lift(&mut self, rooms: &mut Vec<Room>) -> Option<Entry>
         ensures none { IfNone result (self.new ≡ self.old) }
-        ensures top { IfSome result (λ e. top self.old ≡ Some (held e.time e.count)) }
+        ensures top { IfSome result (λ e. top self.old ≡ Some (counted_time e.time e.count)) }
         ensures taken { IfSome result (λ e. Adds self.new self.old e.time e.count) }
         ensures first { IfSome result (λ e. IsFirst e.time self.old) }
         ensures some { IfSome result (λ e. 0 < e.count) }
@@ -235,7 +235,7 @@ impl Tree {
     pub fn pull(&mut self, rooms: &mut Vec<Room>) -> Option<Entry>
         ensures none { IfNone result (IsNone self.old × (top self.old ≡ None)) }
         ensures still { IfNone result (IsNone self.new) }
-        ensures top { IfSome result (λ e. top self.old ≡ Some (held e.time e.count)) }
+        ensures top { IfSome result (λ e. top self.old ≡ Some (counted_time e.time e.count)) }
         ensures taken { IfSome result (λ e. Adds self.new self.old e.time e.count) }
         ensures first { IfSome result (λ e. IsFirst e.time self.old) }
         ensures some { IfSome result (λ e. 0 < e.count) }
@@ -333,7 +333,7 @@ fn keep(rooms: &mut Vec<Room>, left: Box<Tree>, right: Box<Tree>)
 fn single(room: Room, entry: Entry, split: u64) -> Node
     requires { 0 < entry.count }
     ensures node { IsNode result }
-    ensures times { bag_of result ≡ with_times [] entry.time entry.count [] }
+    ensures times { node_counts result ≡ with_times [] entry.time entry.count [] }
 {
     let Room {
         mut left,

@@ -4,10 +4,11 @@ use Rattle.std.specs.declared.cmp.Ordering.{Ordering}
 use Rattle.std.specs.Cmp.Lexicographic.{pointwise, slice_cmp}
 use Rattle.std.specs.Hash.{HashWrites, slice, i64}
 use Rattle.std.specs.Ordering.{int_cmp, int_eq}
+use Rattle.semantics.specs.Limits.{max_fields}
 
 -- 1 to 16 fields
 abbrev pub IsRecord : List ℤ → Type 0
-IsRecord fields = (1 ≤ length fields) × (length fields ≤ 16)
+IsRecord fields = (1 ≤ length fields) × (length fields ≤ max_fields)
 
 -- as many fields, each equal to the one at its place
 abbrev pub fields_eq : List ℤ → List ℤ → Bool

@@ -1,8 +1,8 @@
 //! Lines of a schedule that name an input.
 
 ghost use Rattle.std.specs.Prelude.{◌≡◌, ◌<◌, length, map, ◌≤◌, ◌∷◌, [], List, Option, IfOk, IfSome, IfNone};
+ghost use Rattle.record_core.specs.Inputs.{input_of};
 ghost use Rattle.graph.specs.Limits.{max_vertices};
-ghost use Rattle.collector.specs.Said.{plain};
 ghost use Rattle.collector.specs.Lines.{MakeRecord};
 ghost use Rattle.events.specs.Jobs.{Pass};
 ghost use Rattle.schedule.specs.Commands.{Command};
@@ -10,16 +10,16 @@ ghost use Rattle.replay.specs.Steps.{Answers, AreInputsOf, IsNumbered};
 
 use crate::refusal::{Refusal, line_refusal};
 use board::{Board, WRONG_FIELD_COUNT};
-use collector::{Declared, find_input};
-use record_core::Record;
+use collector::find_input;
+use record_core::{DeclaredInput, Record};
 use rows::Batch;
 use std::alloc::{AllocError, Global};
 use views::Views;
 
 /// The number of an input and its arity. A name that no input has gets the greatest number.
-fn input_number(inputs: &[Declared<'_>], name: &[u8]) -> (u32, u64)
+fn input_number(inputs: &[DeclaredInput], name: &[u8]) -> (u32, u64)
     requires few { length inputs.now ≤ max_vertices }
-    ensures { IsNumbered (map plain inputs.now) name.now result }
+    ensures { IsNumbered (map input_of inputs.now) name.now result }
 {
     match find_input(inputs, name) {
         Some((input, arity)) => (input as u32, arity),
@@ -53,11 +53,11 @@ fn record_of(fields: &[i64], arity: u64) -> Option<Record>
 pub fn feed<V: Views>(
     alloc: Global,
     board: &mut Board<V>,
-    inputs: &[Declared<'_>],
+    inputs: &[DeclaredInput],
     name: &[u8],
     fields: &[i64],
 ) -> Result<(), Refusal>
-    requires inputs { AreInputsOf board.old.shown.graph (map plain inputs.now) }
+    requires inputs { AreInputsOf board.old.shown.graph (map input_of inputs.now) }
     ensures { (hand : List (Option Pass)) → Answers V.late board.old board.new hand hand (Command.feed name.now fields.now) result }
 {
     let (input, arity) = input_number(inputs, name);
@@ -82,10 +82,10 @@ pub fn feed<V: Views>(
 /// Ends the open epoch of the input of that name.
 pub fn seal<V: Views>(
     board: &mut Board<V>,
-    inputs: &[Declared<'_>],
+    inputs: &[DeclaredInput],
     name: &[u8],
 ) -> Result<(), Refusal>
-    requires inputs { AreInputsOf board.old.shown.graph (map plain inputs.now) }
+    requires inputs { AreInputsOf board.old.shown.graph (map input_of inputs.now) }
     ensures { (hand : List (Option Pass)) → Answers V.late board.old board.new hand hand (Command.seal name.now) result }
 {
     let (input, _) = input_number(inputs, name);
@@ -99,10 +99,10 @@ pub fn seal<V: Views>(
 /// Closes the input of that name.
 pub fn close<V: Views>(
     board: &mut Board<V>,
-    inputs: &[Declared<'_>],
+    inputs: &[DeclaredInput],
     name: &[u8],
 ) -> Result<(), Refusal>
-    requires inputs { AreInputsOf board.old.shown.graph (map plain inputs.now) }
+    requires inputs { AreInputsOf board.old.shown.graph (map input_of inputs.now) }
     ensures { (hand : List (Option Pass)) → Answers V.late board.old board.new hand hand (Command.close name.now) result }
 {
     let (input, _) = input_number(inputs, name);

@@ -1,7 +1,7 @@
 //! Runs a schedule.
 
 ghost use Rattle.std.specs.Prelude.{◌≡◌, ◌++◌, ℕ, List, map, length, IfOk, OnOk};
-ghost use Rattle.collector.specs.Said.{plain};
+ghost use Rattle.record_core.specs.Inputs.{input_of};
 ghost use Rattle.schedule.specs.LineReader.{command_of};
 ghost use Rattle.replay.specs.Hands.{HoldsAll, HoldsNone, IsHand};
 ghost use Rattle.replay.specs.Replays.{Replays};
@@ -14,8 +14,8 @@ use crate::input_lines::{close, feed, seal};
 use crate::refusal::Refusal;
 use crate::worker_lines::{apply, commit, deliver, take};
 use board::Board;
-use collector::Declared;
 use events::Done;
+use record_core::DeclaredInput;
 use schedule::Line;
 use std::alloc::{AllocError, Global};
 use views::Views;
@@ -25,10 +25,10 @@ fn step<V: Views>(
     alloc: Global,
     board: &mut Board<V>,
     hand: &mut [Option<Done>],
-    inputs: &[Declared<'_>],
+    inputs: &[DeclaredInput],
     line: &Line<'_>,
 ) -> Result<(), Refusal>
-    requires inputs { AreInputsOf board.old.shown.graph (map plain inputs.now) }
+    requires inputs { AreInputsOf board.old.shown.graph (map input_of inputs.now) }
     requires hand { IsHand board.old.shown hand.old }
     requires step { IsStep (command_of line.now) }
     ensures hand { IsHand board.new.shown hand.new }
@@ -51,11 +51,11 @@ fn replay_line<V: Views>(
     alloc: Global,
     board: &mut Board<V>,
     hand: &mut [Option<Done>],
-    inputs: &[Declared<'_>],
+    inputs: &[DeclaredInput],
     line: &Line<'_>,
     out: &mut Vec<u8>,
 ) -> Result<(), AllocError>
-    requires inputs { AreInputsOf board.old.shown.graph (map plain inputs.now) }
+    requires inputs { AreInputsOf board.old.shown.graph (map input_of inputs.now) }
     requires hand { IsHand board.old.shown hand.old }
     ensures hand { IsHand board.new.shown hand.new }
     ensures graph { board.new.shown.graph ≡ board.old.shown.graph }
@@ -78,10 +78,10 @@ fn replay_lines<V: Views>(
     alloc: Global,
     board: &mut Board<V>,
     hand: &mut [Option<Done>],
-    inputs: &[Declared<'_>],
+    inputs: &[DeclaredInput],
     lines: &[Line<'_>],
 ) -> Result<Vec<u8>, AllocError>
-    requires inputs { AreInputsOf board.old.shown.graph (map plain inputs.now) }
+    requires inputs { AreInputsOf board.old.shown.graph (map input_of inputs.now) }
     requires hand { IsHand board.old.shown hand.old }
     ensures hand { IsHand board.new.shown hand.new }
     ensures replays { IfOk result (λ text. (x : State) → ShowsState board.old x → HoldsAll x.world (length board.old.shown.sides) hand.old →
@@ -103,10 +103,10 @@ fn replay_lines<V: Views>(
 pub fn replay<V: Views>(
     alloc: Global,
     board: Board<V>,
-    inputs: &[Declared<'_>],
+    inputs: &[DeclaredInput],
     lines: &[Line<'_>],
 ) -> Result<Vec<u8>, AllocError>
-    requires inputs { AreInputsOf board.shown.graph (map plain inputs.now) }
+    requires inputs { AreInputsOf board.shown.graph (map input_of inputs.now) }
     ensures { IfOk result (λ text. (x : State) → ShowsState board x → HoldsNone x.world (length board.shown.sides) →
         (y : State) × Replays (setting_of V.late board.shown) x (map command_of lines.now) y text.items) }
 {

@@ -2,9 +2,8 @@
 
 ghost use Rattle.std.specs.Prelude.{◌≡◌, ◌<◌, ◌≤◌, map, IfOk, IfErr};
 ghost use Rattle.graph.specs.Shown.{shown_inputs};
-ghost use Rattle.graph.specs.Views.{input_of};
-ghost use Rattle.exchange.specs.Limits.{max_workers};
-ghost use Rattle.collector.specs.Said.{plain};
+ghost use Rattle.record_core.specs.Inputs.{input_of};
+ghost use Rattle.semantics.specs.Limits.{max_workers};
 ghost use Rattle.machine.specs.World.{opening};
 ghost use Rattle.board.specs.Showing.{Shows};
 ghost use Rattle.board.specs.Lateness.{AreUpToDate};
@@ -17,11 +16,11 @@ ghost use Rattle.replay.specs.Waits.{State, at_first};
 
 use crate::replaying::replay;
 use board::Board;
-use collector::Declared;
-use graph::{DeclaredInput, Graph};
+use graph::Graph;
 use progress::LocationTracker;
+use record_core::DeclaredInput;
 use schedule::{Line, ScheduleRefusal, ViewKind, read_schedule};
-use std::alloc::{AllocError, Global};
+use std::alloc::Global;
 use std::sync::Arc;
 use views::{Direct, LocalViews, Views};
 
@@ -29,36 +28,20 @@ use views::{Direct, LocalViews, Views};
 pub fn law_graph_inputs(graph: &Graph)
     ensures { AreInputsOf graph.now (shown_inputs graph.now) }
 {
+    semantics::graphs::law_program();
     semantics::graphs::law_arities();
     graph.law_of_arities();
     let _ = graph.vertex_count();
-}
-
-/// The inputs of a graph, as the readers of texts need them.
-fn inputs_of<'a>(
-    alloc: Global,
-    inputs: &'a [DeclaredInput],
-) -> Result<Vec<Declared<'a>>, AllocError>
-    ensures { IfOk result (λ v. map plain v.items ≡ map input_of inputs.entry.now) }
-{
-    let mut declared = Vec::with_capacity(alloc, inputs.len())?;
-    for input in inputs {
-        declared.push(Declared {
-            name: &input.name,
-            arity: input.arity,
-        })?;
-    }
-    Ok(declared)
 }
 
 /// Does the lines on a new board.
 fn replay_new<V: Views>(
     alloc: Global,
     board: Board<V>,
-    inputs: &[Declared<'_>],
+    inputs: &[DeclaredInput],
     lines: &[Line<'_>],
 ) -> Result<Vec<u8>, ScheduleRefusal>
-    requires inputs { AreInputsOf board.shown.graph (map plain inputs.now) }
+    requires inputs { AreInputsOf board.shown.graph (map input_of inputs.now) }
     requires shows { Shows board.shown opening }
     requires prompt { AreUpToDate board }
     ensures answers { IfOk result (λ answer. (last : State) × Replays (setting_of V.late board.shown) at_first (map command_of lines.now) last answer.items) }
@@ -91,14 +74,14 @@ pub fn replay_text(
     let graph = Arc::new(alloc, graph)?;
     law_graph_inputs(&graph);
     let shared = Arc::try_clone(&graph)?;
-    let inputs = inputs_of(alloc, graph.inputs())?;
+    let inputs = graph.inputs();
     match kind {
         ViewKind::Shared => match Board::<Direct<LocationTracker>>::new(alloc, shared, workers) {
-            Ok(board) => replay_new(alloc, board, inputs.as_slice(), lines.as_slice()),
+            Ok(board) => replay_new(alloc, board, inputs, lines.as_slice()),
             Err(_) => Err(ScheduleRefusal::NoMemory),
         },
         ViewKind::Local => match Board::<LocalViews>::with_local_views(alloc, shared, workers) {
-            Ok(board) => replay_new(alloc, board, inputs.as_slice(), lines.as_slice()),
+            Ok(board) => replay_new(alloc, board, inputs, lines.as_slice()),
             Err(_) => Err(ScheduleRefusal::NoMemory),
         },
     }

@@ -5,10 +5,11 @@ ghost use Rattle.rows.specs.Counts.{AreCounts, most};
 ghost use Rattle.rows.specs.declared.error.TallyError.TheVariants.{Count};
 
 use crate::counted::MAX_COUNT;
-use crate::error::{RowsError, TallyError};
+use crate::error::TallyError;
+use record_core::NoMemory;
 
 /// Writes the counts that aren't written, up to that many.
-pub(crate) fn fill(counts: &mut Vec<u64>, len: usize) -> Result<(), RowsError>
+pub(crate) fn fill(counts: &mut Vec<u64>, len: usize) -> Result<(), NoMemory>
     ensures full { OnOk result (len ≤ length counts.new.items) }
     ensures short { (rows : ℕ) → len ≤ rows → length counts.old.items ≤ rows → length counts.new.items ≤ rows }
     ensures same { (k : ℕ) → slice_index_or counts.new.items k 1 ≡ slice_index_or counts.old.items k 1 }

@@ -7,7 +7,7 @@ ghost use Rattle.semantics.specs.Multiset.{same};
 use crate::builder::Rows;
 use crate::chains::{Chains, bucket_of};
 use crate::columns::{hash_row, is_same};
-use crate::error::RowsError;
+use record_core::NoMemory;
 use std::alloc::Global;
 
 /// So few rows are compared each with each, without a table.
@@ -21,7 +21,7 @@ const MOST: usize = u32::MAX as usize;
 
 /// Whether the rows are different. The first row of a bucket is its owner; one that comes later is compared with it, and where it is
 /// another row it is in doubt. Those in doubt, which are few, are looked up. Different rows may get `false`, too.
-pub(crate) fn are_different(alloc: Global, rows: &Rows) -> Result<bool, RowsError>
+pub(crate) fn are_different(alloc: Global, rows: &Rows) -> Result<bool, NoMemory>
     ensures { IfOk result (λ d. IsTrue d → AreDifferent rows.now.rows) }
 {
     if rows.len() <= FEW {
@@ -41,7 +41,7 @@ pub(crate) fn are_different(alloc: Global, rows: &Rows) -> Result<bool, RowsErro
 
 /// The rows that aren't the first of their bucket, and differ from it: where they are different, all rows are. Nothing where a row
 /// equals the first of its bucket.
-fn doubtful(alloc: Global, rows: &Rows) -> Result<Option<Rows>, RowsError>
+fn doubtful(alloc: Global, rows: &Rows) -> Result<Option<Rows>, NoMemory>
     requires { length rows.now.rows ≤ 4294967295 }
     ensures { IfOk result (λ doubtful. IfSome doubtful (λ d. AreDifferent d.rows → AreDifferent rows.now.rows)) }
 {
@@ -64,7 +64,7 @@ fn doubtful(alloc: Global, rows: &Rows) -> Result<Option<Rows>, RowsError>
 }
 
 /// Whether the rows are different, each looked up among those before it.
-fn chained_are_different(alloc: Global, rows: Rows) -> Result<bool, RowsError>
+fn chained_are_different(alloc: Global, rows: Rows) -> Result<bool, NoMemory>
     ensures { IfOk result (λ d. IsTrue d → AreDifferent rows.rows) }
 {
     let arity = rows.arity();

@@ -1,33 +1,10 @@
 //! Why a call is refused.
 
 ghost use Rattle.std.specs.Prelude.{◌≡◌};
-ghost use Rattle.rows.specs.declared.error.RowsError.TheVariants.{NoMemory};
-ghost use Rattle.rows.specs.declared.error.TallyError.TheVariants.{NoMemory as NoMemoryOfTallies};
+ghost use Rattle.rows.specs.declared.error.TallyError.TheVariants.{NoMemory};
 
+use record_core::NoMemory;
 use std::alloc::{AllocError, AllocFailed};
-
-/// Why a call on rows was refused.
-#[derive(Clone, Copy, Debug, PartialEq, Eq)]
-pub enum RowsError {
-    /// An allocator refused a growth.
-    NoMemory,
-}
-
-impl From<AllocError> for RowsError {
-    ghost from_gives = { λ _ e. e ≡ NoMemory };
-
-    fn from(_: AllocError) -> RowsError {
-        RowsError::NoMemory
-    }
-}
-
-impl<T: Drop> From<AllocFailed<T>> for RowsError {
-    ghost from_gives = { λ _ e. e ≡ NoMemory };
-
-    fn from(_: AllocFailed<T>) -> RowsError {
-        RowsError::NoMemory
-    }
-}
 
 /// Why rows could not be counted.
 #[derive(Clone, Copy, Debug, PartialEq, Eq)]
@@ -39,7 +16,7 @@ pub enum TallyError {
 }
 
 impl From<AllocError> for TallyError {
-    ghost from_gives = { λ _ e. e ≡ NoMemoryOfTallies };
+    ghost from_gives = { λ _ e. e ≡ NoMemory };
 
     fn from(_: AllocError) -> TallyError {
         TallyError::NoMemory
@@ -47,17 +24,17 @@ impl From<AllocError> for TallyError {
 }
 
 impl<T: Drop> From<AllocFailed<T>> for TallyError {
-    ghost from_gives = { λ _ e. e ≡ NoMemoryOfTallies };
+    ghost from_gives = { λ _ e. e ≡ NoMemory };
 
     fn from(_: AllocFailed<T>) -> TallyError {
         TallyError::NoMemory
     }
 }
 
-impl From<RowsError> for TallyError {
-    ghost from_gives = { λ _ e. e ≡ NoMemoryOfTallies };
+impl From<NoMemory> for TallyError {
+    ghost from_gives = { λ _ e. e ≡ NoMemory };
 
-    fn from(_: RowsError) -> TallyError {
+    fn from(_: NoMemory) -> TallyError {
         TallyError::NoMemory
     }
 }

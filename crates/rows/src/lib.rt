@@ -27,7 +27,7 @@ pub use batch::Batch;
 pub use builder::{MAX_ARITY, Rows};
 pub use columns::field;
 pub use counted::{CountedRows, MAX_COUNT};
-pub use error::{RowsError, TallyError};
+pub use error::TallyError;
 pub use index::RowIndex;
 pub use lists::Lists;
 pub use set::RowSet;

@@ -2,7 +2,7 @@
 
 ghost use Rattle.std.specs.Prelude.{◌≡◌, ◌≤◌, ◌<◌, ◌+◌, ◌^◌, [], ◌∷◌, ◌++◌, length, take, drop, slice_index_or, slice_set, if◌then◌else◌, is_ok};
 
-use crate::error::RowsError;
+use record_core::NoMemory;
 use std::alloc::Global;
 use std::marker::Model;
 
@@ -57,7 +57,7 @@ impl Lists {
 
     /// Puts a list at the end.
     #[tactic(auto, using(crate::proofs::Cuts::cut_push, crate::proofs::Cuts::length_cut))]
-    pub fn push(&mut self, list: &[i64]) -> Result<(), RowsError>
+    pub fn push(&mut self, list: &[i64]) -> Result<(), NoMemory>
         requires arity { length list.now ≡ self.old.arity }
         requires few { length self.old.rows + 1 < 2 ^ 64 }
         ensures lists { self.new.rows ≡ (if is_ok result then self.old.rows ++ list.now ∷ [] else self.old.rows) }

@@ -1,5 +1,5 @@
 -- The graph of a well-typed program is a dataflow graph.
-use Rattle.std.proofs.Common.{◌≤◌, ◌≡◌, ℕ, zero, suc, ◌+◌, ◌<◌, true, false, cond, List, [], ◌∷◌, ◌++◌, length, slice_index_or, refl, sym, ap, ◌∙◌, arith, inl, inr, ◌⊎◌}
+use Rattle.std.proofs.Common.{◌≤◌, ◌≡◌, ◌↔◌, ℕ, zero, suc, ◌+◌, ◌<◌, true, false, cond, List, [], ◌∷◌, ◌++◌, length, slice_index_or, refl, sym, ap, ◌∙◌, arith, inl, inr, ◌⊎◌}
 use Rattle.std.proofs.lemmas.Bool.{true≢false}
 use Rattle.std.specs.List.{AllByRecursion}
 use Rattle.semantics.specs.FreeNames.{carried}
@@ -12,6 +12,7 @@ use Rattle.semantics.proofs.MultisetSums.{≈-trans, ≈-from}
 use Rattle.semantics.specs.Dataflow.{IsShaped, IsDataflow}
 use Rattle.semantics.specs.Kinds.{Kind, ends_turn, is_input, is_output}
 use Rattle.semantics.specs.Graph.{Port, Vertex, Graph, no_vertex, vertex, input_count, outputs_from, output_numbers, output_number}
+use Rattle.semantics.proofs.InputNumbers.{input_kind}
 use Rattle.semantics.proofs.LoweredPrograms.{outputs_at, outputs_at_of, length-input_vertices, lowered_means}
 use Rattle.semantics.specs.Lower.{Ports, stands_for, port, new_vertex, carry, carried_ports, lower, input_vertices, input_ports, lower_lets, lets_of, lower_outputs, outputs_of, lowered}
 use Rattle.semantics.specs.Query.{Name, Rel, Input, Let, Output, Program}
@@ -96,17 +97,27 @@ lets_inner (a ∷ as') ports k =
     let r = lower a.value ports 0 k in
     all_append Inner r.made _ (lower_inner a.value ports 0 k) (lets_inner as' (stands_for a.name r.gives ports) (k + length r.made))
 
--- ---- inputs first
+-- ---- inputs
 
-no_input_here : (g : Graph) (v : ℕ) → AllByRecursion (λ x. is_input x.kind ≡ false) g → v < length g → (vertex g v).kind ≡ Kind.input → ⊥
-unfolding vertex
-no_input_here g v a l e = true≢false (sym (ap is_input e) ∙ all_vertex (λ x. is_input x.kind ≡ false) g v a l)
+abbrev NoInput : Vertex → Type 0
+NoInput x = is_input x.kind ≡ false
 
-inputs_first : (as' : List Input) (rest : List Vertex) (v : ℕ) → AllByRecursion (λ x. is_input x.kind ≡ false) rest → v < length (input_vertices as' ++ rest) → (vertex (input_vertices as' ++ rest) v).kind ≡ Kind.input → v < input_count (input_vertices as' ++ rest)
+never_input : (g : Graph) (v : ℕ) → AllByRecursion NoInput g → (vertex g v).kind ≡ Kind.input → ⊥
 unfolding vertex
-inputs_first [] rest v a l e = absurd (no_input_here rest v a l e)
-inputs_first (x ∷ as') rest zero a l e = omega arith
-inputs_first (x ∷ as') rest (suc v) a l e = let h = inputs_first as' rest v a (omega arith) e in omega arith
+never_input [] v a e = cc
+never_input (x ∷ g) zero a e = true≢false (sym (ap is_input e) ∙ a.0)
+never_input (x ∷ g) (suc v) a e = never_input g v a.1 e
+
+input_only : (as' : List Input) (rest : List Vertex) (v : ℕ) → AllByRecursion NoInput rest → (vertex (input_vertices as' ++ rest) v).kind ≡ Kind.input → v < length as'
+unfolding vertex
+input_only [] rest v a e = absurd (never_input rest v a e)
+input_only (x ∷ as') rest zero a e = omega arith
+input_only (x ∷ as') rest (suc v) a e = let h = input_only as' rest v a e in omega arith
+
+inputs_counted : (as' : List Input) (rest : List Vertex) → AllByRecursion NoInput rest → input_count (input_vertices as' ++ rest) ≡ length as'
+inputs_counted [] [] a = refl
+inputs_counted [] (x ∷ rest) a = ap (λ b. cond b (suc (input_count rest)) 0) a.0
+inputs_counted (x ∷ as') rest a = ap suc (inputs_counted as' rest a)
 
 -- ---- outputs
 
@@ -117,6 +128,23 @@ outputs_all P inner end [] ports k = tt
 outputs_all P inner end (o ∷ os) ports k =
     let r = lower o.value ports 0 k in
     all_append P r.made _ (all_more Inner P r.made inner (lower_inner o.value ports 0 k)) (end r.gives, outputs_all P inner end os ports (suc (k + length r.made)))
+
+-- the vertices behind the inputs
+no_input_behind : (p : Program) → AllByRecursion NoInput ((lets_of p).made ++ outputs_of p)
+no_input_behind p =
+    all_append NoInput (lets_of p).made (outputs_of p) (all_more Inner NoInput (lets_of p).made (λ x i. i.no_input) (lets_inner p.lets (input_ports p.inputs 0) (length p.inputs)))
+    (outputs_all NoInput (λ x i. i.no_input) (λ q. refl) p.outputs (lets_of p).ports (length p.inputs + length (lets_of p).made))
+
+-- there are as many inputs as the program has
+pub lowered_inputs : (p : Program) → input_count (lowered p) ≡ length p.inputs
+unfolding lowered
+lowered_inputs p = inputs_counted p.inputs ((lets_of p).made ++ outputs_of p) (no_input_behind p)
+
+-- their vertices are the first ones
+pub lowered_input : (p : Program) (v : ℕ) → (vertex (lowered p) v).kind ≡ Kind.input ↔ v < length p.inputs
+unfolding lowered
+lowered_input p v =
+    (λ e. input_only p.inputs ((lets_of p).made ++ outputs_of p) v (no_input_behind p) e, λ l. input_kind (lowered p) v (omega (arith, l, lowered_inputs p)))
 
 -- vertices without an output before others
 outputs_after : (xs ys : List Vertex) (k : ℕ) → AllByRecursion (λ x. is_output x.kind ≡ false) xs → outputs_from k (xs ++ ys) ≡ outputs_from (k + length xs) ys
@@ -176,8 +204,7 @@ pub lowered_shaped : (p : Program) → IsShaped (lowered p)
 unfolding lowered vertex
 lowered_shaped p =
     record {
-      inputs_first = λ v l e. inputs_first p.inputs (lets ++ outs) v
-          (all_append _ lets outs (all_more Inner _ lets (λ x i. i.no_input) in_lets) (outputs_all (λ x. is_input x.kind ≡ false) (λ x i. i.no_input) (λ q. refl) p.outputs (lets_of p).ports m)) l e;
+      inputs_first = λ v l e. let h = (lowered_input p v).0 e in omega (arith, h, lowered_inputs p);
       inside = λ v l. inside v l;
       flat = λ v l. flat v l;
     }

@@ -1,4 +1,4 @@
--- The limits of the language, each named once.
+-- The limits of the language and of a run, each named once.
 use Rattle.std.specs.Prelude.{ℕ}
 
 -- the most fields of a record; it has at least one
@@ -20,3 +20,7 @@ max_turns = 65535
 -- the most loops inside one another
 abbrev pub max_loops : ℕ
 max_loops = 16
+
+-- the most workers of a run
+abbrev pub max_workers : ℕ
+max_workers = 64

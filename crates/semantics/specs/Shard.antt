@@ -1,7 +1,28 @@
--- What one worker's shard of a vertex sends and asks for. (Naiad, SOSP 2013, section 2.2: messages and notifications.)
+-- What one worker's shard of a vertex absorbs, sends and asks for. (Naiad, SOSP 2013, section 2.2: messages and notifications.)
 use Rattle.std.specs.Prelude.{◌≡◌, ℕ, Bool, true, false, cond, ◌==◌, List, [], ◌∷◌, ◌++◌}
 use Rattle.semantics.specs.Multiset.{Record, ◌≈◌}
+use Rattle.semantics.specs.Time.{Time, same_time}
 use Rattle.semantics.specs.Kinds.{Role}
+
+-- ---- what is absorbed
+
+-- what a shard has absorbed, by in port and time
+abbrev pub Absorbed : Type 0
+Absorbed = (port : ℕ) → Time → List Record
+
+-- with these records at a port and time
+abbrev pub with_records : Absorbed → (port : ℕ) → Time → List Record → Absorbed
+with_records a p t records p' t' = a p' t' ++ cond (p == p') (cond (same_time t t') records []) []
+
+-- only stateful and notified vertices absorb
+abbrev pub absorbed_by : Role → Absorbed → (port : ℕ) → Time → List Record → Absorbed
+absorbed_by Role.input a p t records = a
+absorbed_by Role.stateless a p t records = a
+absorbed_by Role.stateful a p t records = with_records a p t records
+absorbed_by Role.notified a p t records = with_records a p t records
+absorbed_by Role.output a p t records = a
+
+-- ---- what is sent and asked for
 
 -- these records at one port, and none at the others
 abbrev pub only_at : ℕ → List Record → ℕ → List Record

@@ -1,4 +1,4 @@
-ghost use Rattle.std.specs.Prelude.{◌≡◌, ◌≤◌, ◌<◌, ℕ, List, [], true, length, map, slice_index_or};
+ghost use Rattle.std.specs.Prelude.{◌≡◌, ◌≤◌, ◌<◌, ◌↔◌, ℕ, List, [], true, length, map, slice_index_or};
 ghost use Rattle.semantics.specs.Multiset.{◌≈◌};
 ghost use Rattle.semantics.specs.Query.{Program};
 ghost use Rattle.semantics.specs.Meaning.{program_meaning};
@@ -39,12 +39,14 @@ pub fn law_outputs()
     ensures in_order { (g : Graph) (j k : ℕ) → j < k → k < length (output_numbers g) → output_number g j < output_number g k }
 {}
 
-/// The graph of a well-typed program is a dataflow graph, so it has exactly one flow. It has the program's outputs. At each epoch, its edge into each
-/// output vertex has what the program means at that output on that epoch's inputs. On an edge into a feedback or an egress a flow is empty at last
-/// counters over the limit of turns.
+/// The graph of a well-typed program is a dataflow graph, so it has exactly one flow. Any program's graph has the program's inputs, which are its first
+/// vertices, and the program's outputs. At each epoch, its edge into each output vertex has what the program means at that output on that epoch's
+/// inputs. On an edge into a feedback or an egress a flow is empty at last counters over the limit of turns.
 pub fn law_program()
     ensures dataflow { (p : Program) (ns : List ℕ) → WellTyped p ns → IsDataflow (lowered p) }
     ensures one_flow { (p : Program) (ns : List ℕ) (inputs : Inputs) → WellTyped p ns → HasOneFlow (lowered p) inputs }
+    ensures inputs { (p : Program) → input_count (lowered p) ≡ length p.inputs }
+    ensures input_vertices { (p : Program) (v : ℕ) → ((vertex (lowered p) v).kind ≡ Kind.input) ↔ (v < length p.inputs) }
     ensures outputs { (p : Program) → length (output_numbers (lowered p)) ≡ length p.outputs }
     ensures meaning { (p : Program) (ns : List ℕ) (inputs : Inputs) (f : Flow) (output epoch : ℕ) →
         WellTyped p ns → IsFlow (lowered p) inputs f → output < length p.outputs →

@@ -1,12 +1,13 @@
 //! Counts the records that will be fed, before the run.
 
 ghost use Rattle.std.specs.Prelude.{◌<◌, ◌≤◌};
-ghost use Rattle.exchange.specs.Limits.{max_workers};
+ghost use Rattle.semantics.specs.Limits.{max_workers};
 
 use crate::tally::Tally;
 use collector::Epochs;
-use events::{CutBatch, EventFault, Wiring};
+use events::{CutBatch, Wiring};
 use graph::{Graph, VertexId};
+use record_core::NoMemory;
 use rows::Batch;
 use std::alloc::Global;
 use std::sync::Arc;
@@ -19,7 +20,7 @@ impl Tally {
         graph: &Arc<Graph, Global>,
         workers: u32,
         epochs: &Epochs,
-    ) -> Result<(), EventFault>
+    ) -> Result<(), NoMemory>
         requires some { 0 < workers }
         requires few { workers ≤ max_workers }
     {
@@ -39,7 +40,7 @@ impl Tally {
         wiring: &Arc<Wiring, Global>,
         input: usize,
         epochs: &Epochs,
-    ) -> Result<(), EventFault> {
+    ) -> Result<(), NoMemory> {
         let Ok(input) = u32::try_from(input) else {
             return Ok(());
         };
@@ -58,7 +59,7 @@ impl Tally {
         wiring: &Arc<Wiring, Global>,
         input: u32,
         batch: &Batch,
-    ) -> Result<(), EventFault> {
+    ) -> Result<(), NoMemory> {
         let graph = wiring.graph();
         let id = VertexId(input);
         if input as usize >= graph.vertex_count() || !graph.vertex(id).kind.is_input() {

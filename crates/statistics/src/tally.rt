@@ -1,12 +1,13 @@
 //! The counters of a run.
 
 ghost use Rattle.std.specs.Prelude.{◌<◌, ◌≤◌};
-ghost use Rattle.exchange.specs.Limits.{max_workers};
+ghost use Rattle.semantics.specs.Limits.{max_workers};
 
 use crate::counter::Counter;
 use collector::Epochs;
-use events::{EventFault, Letter, Output};
+use events::{Letter, Output};
 use graph::{EdgeId, Graph, Location, VertexId, graph_text};
+use record_core::NoMemory;
 use std::alloc::{AllocError, Global};
 use std::sync::Arc;
 use std::sync::atomic::{AtomicU64, Ordering};
@@ -31,7 +32,7 @@ impl Tally {
         graph: &Arc<Graph, Global>,
         workers: u32,
         epochs: &Epochs,
-    ) -> Result<Tally, EventFault>
+    ) -> Result<Tally, NoMemory>
         requires some { 0 < workers }
         requires few { workers ≤ max_workers }
     {
@@ -41,10 +42,10 @@ impl Tally {
     }
 
     /// The counters with nothing counted.
-    fn unfed(alloc: Global, graph: &Graph, workers: u32, epochs: u32) -> Result<Tally, EventFault> {
+    fn unfed(alloc: Global, graph: &Graph, workers: u32, epochs: u32) -> Result<Tally, NoMemory> {
         let mut text = Vec::new(alloc);
         if graph_text(alloc, graph, &mut text).is_err() {
-            return Err(EventFault::NoMemory);
+            return Err(NoMemory);
         }
         let targets = targets_of(alloc, graph)?;
         let counters = counters_of(alloc, graph, workers)?;

@@ -7,3 +7,4 @@ pub mod DecidedArities
 pub mod Faults
 pub mod Programs
 pub mod DecidedPrograms
+pub mod RefusalNumbers

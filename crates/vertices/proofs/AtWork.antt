@@ -1,7 +1,7 @@
 -- Shards stay at work.
 use Rattle.std.proofs.Common.{◌≡◌, ℕ, zero, suc, [], refl, subst, ap, ◌∙◌}
 use Rattle.semantics.specs.Kinds as semantics
-use Rattle.vertices.specs.Absorbed.{Absorbed}
+use Rattle.semantics.specs.Shard.{Absorbed}
 use Rattle.vertices.specs.AtWork.{IsAtWork}
 use Rattle.vertices.specs.Shards.{IsFreshShard, Shows, TakesArity, by_port, shard_kind}
 use Rattle.vertices.specs.declared.shard.Shard.{Shard}

@@ -1,5 +1,5 @@
 -- What is kept and sent fits, or some of it is too often.
-use Rattle.std.proofs.Common.{◌≡◌, ℕ, zero, suc, ◌<◌, ◌≤◌, Bool, List, [], Some, None, subst, sym, arith, ◌∙◌, Result, ◌↔◌}
+use Rattle.std.proofs.Common.{◌≡◌, ℕ, zero, suc, ◌<◌, ◌≤◌, Bool, List, [], Some, None, subst, sym, ap, arith, ◌∙◌, Result, ◌↔◌}
 use Rattle.std.specs.Prelude.{Option, IfErr}
 use Rattle.std.proofs.lemmas.Result.{IfErr-weaker}
 use Rattle.rows.specs.Counts.{AllFit, AreRunCounts, AreRuns, IsOver, Run, expanded, rows_of, runs}
@@ -12,8 +12,9 @@ use Rattle.semantics.specs.Meaning.{selected}
 use Rattle.semantics.specs.Multiset.{Record}
 use Rattle.semantics.specs.Query.{Scalar}
 use Rattle.semantics.specs.Time.{Time}
+use Rattle.semantics.specs.Shard.{Absorbed}
 use Rattle.semantics.proofs.MultisetSums.{≈-refl}
-use Rattle.vertices.specs.Absorbed.{Absorbed, kept_by}
+use Rattle.vertices.specs.Kept.{kept_by}
 use Rattle.vertices.specs.Outs.{WouldSendOver, records_of, sent}
 use Rattle.vertices.specs.Shards.{shard_kind}
 use Rattle.vertices.specs.declared.fault.ShardFault.{ShardFault}
@@ -58,7 +59,7 @@ IsMemory Count = ⊥
 pub never_over : {T : Type 0} (r : Result T ShardFault) (Q : Type 0) → IfErr r (λ e. e ≡ NoMemory) → IfErr r (λ e. e ≡ Count → Q)
 never_over r Q h = IfErr-weaker r _ _ (λ e n c. absurd (subst IsMemory (sym n ∙ c) tt)) h
 
-pub passed_on : {T : Type 0} (r : Result T ShardFault) (f : ShardFault) (P : ShardFault → Type 0) → IfErr r (λ e. e ≡ f) → P f → IfErr r P
+pub passed_on : {T E : Type 0} (r : Result T E) (f : E) (P : E → Type 0) → IfErr r (λ e. e ≡ f) → P f → IfErr r P
 passed_on r f P h p = IfErr-weaker r _ _ (λ e i. subst P (sym i) p) h
 
 pub passed_never : {T : Type 0} (r : Result T ShardFault) (f : ShardFault) (Q : Type 0) → IfErr r (λ e. e ≡ f) → f ≡ NoMemory → IfErr r (λ e. e ≡ Count → Q)
@@ -92,6 +93,11 @@ few_ports Kind.feedback = omega arith
 few_ports (Kind.gate n) = omega arith
 few_ports (Kind.hold n) = omega arith
 
--- a port that isn't the first is the second
-pub second_port : (s : Shard) (p : ℕ) → p < in_ports (shard_kind s) → 0 < p → 1 ≡ p
-second_port s p h k = let two = few_ports (shard_kind s) in omega (arith, two, h, k)
+pub port_known : (s : Shard) (p : ℕ) → p < in_ports (shard_kind s) → p < 2
+port_known s p h = let two = few_ports (shard_kind s) in omega (arith, two, h)
+
+-- the port of a shard that has one
+pub at_first : (P : Shard → ℕ → Type 0) (s t : Shard) (p : ℕ) → s ≡ t → p < in_ports (shard_kind s) → in_ports (shard_kind t) ≡ 1 → P t 0 → P s p
+at_first P s t p e h one there =
+    let first : 0 ≡ p = (let same = ap (λ (u : Shard). in_ports (shard_kind u)) e in omega (arith, same, h, one)) in
+    subst (λ (u : Shard). P u p) (sym e) (subst (P t) first there)

@@ -7,6 +7,7 @@ pub mod Pairs
 pub mod Sending
 pub mod AtWork
 pub mod Meetings
+pub mod EitherSide
 pub mod Grouping
 pub mod CopiedScalars
 pub mod Piles

@@ -4,11 +4,11 @@ use Rattle.rows.specs.Counts.{IsOver}
 use Rattle.semantics.specs.Kinds.{Kind, Role, role}
 use Rattle.semantics.specs.Multiset.{Record, ◌≈◌}
 use Rattle.semantics.specs.Op.{op}
-use Rattle.semantics.specs.Shard.{SendsBy, only_at}
+use Rattle.semantics.specs.Shard.{Absorbed, SendsBy, absorbed_by, only_at, with_records}
 use Rattle.semantics.specs.Time.{Time, same_time}
 use Rattle.semantics.proofs.MultisetSums.{append_same, ≈-refl, ≈-trans}
 use Rattle.semantics.proofs.OneFlow.{cond_same, op_same}
-use Rattle.vertices.specs.Absorbed.{Absorbed, absorbed_by, kept_by, with_records}
+use Rattle.vertices.specs.Kept.{kept_by}
 use Rattle.vertices.specs.Outs.{Sends, WouldSendOver}
 use Rattle.vertices.specs.Shards.{Shows}
 use Rattle.vertices.specs.States.{AreSetsOf, AreSetsThen}

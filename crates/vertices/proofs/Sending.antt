@@ -1,17 +1,19 @@
 -- What is sent is what the kind's equation makes.
-use Rattle.std.proofs.Common.{◌≡◌, ℕ, zero, suc, ◌+◌, ◌<◌, ◌==◌, nat_lt, nat_eq, Bool, true, cond, ◌&&◌, List, [], ◌++◌, Some, refl, sym, ap, ◌∙◌, arith, append-nil}
+use Rattle.std.proofs.Common.{◌≡◌, ℕ, zero, suc, ◌+◌, ◌<◌, ◌==◌, nat_lt, nat_eq, Bool, true, cond, ◌&&◌, List, [], ◌++◌, map, Some, refl, sym, ap, ◌∙◌, arith, append-nil}
 use Rattle.std.proofs.lemmas.Bool.Decides.{Decides-eqb}
 use Rattle.std.specs.Cmp.Lexicographic.{pointwise_decides}
+use Rattle.expr_tree.specs.Plain.{plain_pair}
 use Rattle.semantics.specs.Kinds.{Kind}
 use Rattle.semantics.specs.Meaning.{selected, kept, paired, grouped, only_left, in_both}
 use Rattle.semantics.specs.Multiset.{Record, ◌≈◌, each_once}
 use Rattle.semantics.specs.Query.{Scalar, Cond, Pair, Agg}
-use Rattle.semantics.specs.Shard.{only_at, SendsAtNotification}
+use Rattle.semantics.specs.Shard.{Absorbed, SendsAtNotification, only_at}
 use Rattle.semantics.specs.Time.{Time, last, same_time, same_counters}
 use Rattle.semantics.specs.Op.{op}
 use Rattle.semantics.proofs.MultisetSums.{≈-trans, ≈-from}
-use Rattle.vertices.specs.Absorbed.{Absorbed}
+use Rattle.vertices.specs.Joins.{join_records, other_port}
 use Rattle.vertices.specs.Outs.{records_of, sent, SendsFor}
+use Rattle.vertices.specs.declared.join_plan.JoinPlan.{JoinPlan}
 use Rattle.vertices.specs.declared.out.Out.{Out}
 
 -- ---- without a state
@@ -69,11 +71,16 @@ there a p t batch = ap (λ b. a p t ++ cond b batch []) (same_time_refl t)
 pub distinct_sends : (t : Time) (a : Absorbed) (batch : List Record) (out : Out) → (records_of out.first ++ each_once (a 0 t)) ≈ each_once (a 0 t ++ batch) → SendsFor Kind.distinct t a 0 batch out
 distinct_sends t a batch out h q = ≈-trans h (≈-from (ap each_once (sym (there a 0 t batch))))
 
-pub left_sends : (ps : List Pair) (t : Time) (a : Absorbed) (batch : List Record) (out : Out) → (records_of out.first ++ paired ps (a 0 t) (a 1 t)) ≈ paired ps (a 0 t ++ batch) (a 1 t) → SendsFor (Kind.join ps) t a 0 batch out
+left_sends : (ps : List Pair) (t : Time) (a : Absorbed) (batch : List Record) (out : Out) → (records_of out.first ++ paired ps (a 0 t) (a 1 t)) ≈ paired ps (a 0 t ++ batch) (a 1 t) → SendsFor (Kind.join ps) t a 0 batch out
 left_sends ps t a batch out h q = ≈-trans h (≈-from (λ j. paired ps (sym (there a 0 t batch) j) (sym (append-nil (a 1 t)) j)))
 
-pub right_sends : (ps : List Pair) (t : Time) (a : Absorbed) (batch : List Record) (out : Out) → (records_of out.first ++ paired ps (a 0 t) (a 1 t)) ≈ paired ps (a 0 t) (a 1 t ++ batch) → SendsFor (Kind.join ps) t a 1 batch out
+right_sends : (ps : List Pair) (t : Time) (a : Absorbed) (batch : List Record) (out : Out) → (records_of out.first ++ paired ps (a 0 t) (a 1 t)) ≈ paired ps (a 0 t) (a 1 t ++ batch) → SendsFor (Kind.join ps) t a 1 batch out
 right_sends ps t a batch out h q = ≈-trans h (≈-from (λ j. paired ps (sym (append-nil (a 0 t)) j) (sym (there a 1 t batch) j)))
+
+pub join_sends : (plan : JoinPlan) (t : Time) (a : Absorbed) (p : ℕ) (batch : List Record) (out : Out) → p < 2 → (records_of out.first ++ join_records plan p (a p t) (a (other_port p) t)) ≈ join_records plan p (a p t ++ batch) (a (other_port p) t) → SendsFor (Kind.join (map plain_pair plan.operator.pairs.items)) t a p batch out
+join_sends plan t a zero batch out h e = left_sends (map plain_pair plan.operator.pairs.items) t a batch out e
+join_sends plan t a (suc zero) batch out h e = right_sends (map plain_pair plan.operator.pairs.items) t a batch out e
+join_sends plan t a (suc (suc p)) batch out h e = absurd (omega (arith, h))
 
 pub group_notified : (ks : List ℕ) (as' : List Agg) (t : Time) (a : Absorbed) (out : Out) → records_of out.first ≈ grouped ks as' (a 0 t) → SendsAtNotification (λ q ins. op (Kind.group ks as') t ins q) (λ p. a p t) (sent 1 out)
 group_notified ks as' t a out h q = h

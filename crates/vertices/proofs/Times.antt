@@ -4,10 +4,10 @@ use Rattle.std.proofs.lemmas.Bool.{true≢false}
 use mathlib.Core.Path.{fun_ext}
 use Rattle.std.specs.Cmp.Lexicographic.{pointwise, pointwise_decides}
 use Rattle.std.proofs.lemmas.Bool.Decides.{Decides-eqb}
-use Rattle.std.specs.HashMap.{HashMap, get}
+use Rattle.indexmap.specs.IndexMap.{IndexMap, get}
 use Rattle.semantics.specs.Multiset.{Record}
 use Rattle.semantics.specs.Time.{Time, same_time}
-use Rattle.vertices.specs.Absorbed.{Absorbed, with_records}
+use Rattle.semantics.specs.Shard.{Absorbed, with_records}
 use Rattle.vertices.specs.ByTime.{IsStateOf, AreStatesOf}
 
 both_true : (x y : Bool) → x && y ≡ true → (x ≡ true) × (y ≡ true)
@@ -21,7 +21,7 @@ one_time t u e =
     let b : t.counters ≡ u.counters = (pointwise_decides (λ x y. Decides-eqb x y) t.counters u.counters).0 both.1 in
     (λ j. record { epoch = a j; counters = b j })
 
-module _ {S H : Type 0} (m : HashMap Time S H) (time : Time) (P : S → (ℕ → List Record) → Type 0) (a : Absorbed) where
+module _ {S H : Type 0} (m : IndexMap Time S H) (time : Time) (P : S → (ℕ → List Record) → Type 0) (a : Absorbed) where
   -- what is found at a time
   pub state_there : (s : S) → get same_time m time ≡ Some s → AreStatesOf P m a → P s (λ p. a p time)
   state_there s e h = subst (λ o. IsStateOf P o (λ p. a p time)) e (h time)
@@ -37,7 +37,7 @@ module _ {S H : Type 0} (m : HashMap Time S H) (time : Time) (P : S → (ℕ →
   pub state_made : (s : S) → get same_time m time ≡ None → AreStatesOf P m a → P s (λ p. []) → P s (λ p. a p time)
   state_made s e h made = so_of_none (P s) e h made
 
-module _ {S H : Type 0} (m n : HashMap Time S H) (time : Time) (v : S) (e : (t : Time) → get same_time n t ≡ cond (same_time time t) (Some v) (get same_time m t)) where
+module _ {S H : Type 0} (m n : IndexMap Time S H) (time : Time) (v : S) (e : (t : Time) → get same_time n t ≡ cond (same_time time t) (Some v) (get same_time m t)) where
   -- the states of one time more
   pub states_more : (P : S → (ℕ → List Record) → Type 0) (a : Absorbed) (port : ℕ) (batch : List Record) → AreStatesOf P m a → P v (λ p. a p time ++ cond (port == p) batch []) → AreStatesOf P n (with_records a port time batch)
   states_more P a port batch h now t = subst (λ o. IsStateOf P o (λ p. with_records a port time batch p t)) (sym (e t)) (go (same_time time t) refl)

@@ -1,7 +1,7 @@
 -- A shard between two events.
 use Rattle.std.specs.Prelude.{◌≡◌, ℕ, ◌<◌}
 use Rattle.semantics.specs.Kinds as semantics
-use Rattle.vertices.specs.Absorbed.{Absorbed}
+use Rattle.semantics.specs.Shard.{Absorbed}
 use Rattle.vertices.specs.Shards.{Shows, TakesArity, shard_kind}
 use Rattle.vertices.specs.declared.shard.Shard.{Shard}
 

@@ -1,4 +1,4 @@
-pub mod Absorbed
+pub mod Kept
 pub mod ByTime
 pub mod States
 pub mod Piles

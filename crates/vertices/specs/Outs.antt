@@ -4,9 +4,9 @@ use Rattle.rows.specs.Counts.{IsOver, records_in}
 use Rattle.semantics.specs.Kinds.{Kind, role, in_ports, out_ports}
 use Rattle.semantics.specs.Multiset.{Record, end_to_end}
 use Rattle.semantics.specs.Op.{op}
-use Rattle.semantics.specs.Shard.{SendsAtNotification, SendsBy, asks}
+use Rattle.semantics.specs.Shard.{Absorbed, SendsAtNotification, SendsBy, absorbed_by, asks}
 use Rattle.semantics.specs.Time.{Time}
-use Rattle.vertices.specs.Absorbed.{Absorbed, absorbed_by, kept_by}
+use Rattle.vertices.specs.Kept.{kept_by}
 use Rattle.vertices.specs.declared.out.Out.{Out}
 
 -- the records of a batch, if there is one

@@ -1,12 +1,13 @@
 -- What a shard is, and what it shows.
-use Rattle.std.specs.Prelude.{◌≡◌, ◌<◌, ℕ, zero, suc, [], map}
+use Rattle.std.specs.Prelude.{◌≡◌, ◌<◌, ℕ, [], map}
 use Rattle.expr_tree.specs.Plain.{plain_scalar, plain_cond, plain_pair}
 use Rattle.expr_tree.specs.Views.{scalar_tree, cond_tree}
 use Rattle.semantics.specs.Kinds as semantics
-use Rattle.vertices.specs.Absorbed.{Absorbed}
+use Rattle.semantics.specs.Shard.{Absorbed}
 use Rattle.vertices.specs.ByTime.{AreStatesOf}
 use Rattle.vertices.specs.Groups.{columns_of, aggregates_of}
 use Rattle.vertices.specs.Joins.{IsSidesOf}
+pub use Rattle.vertices.specs.Kept.{by_port}
 use Rattle.vertices.specs.Piles.{IsPileThen}
 use Rattle.vertices.specs.States.{IsSetOf, AreSetsOf, AreSetsThen}
 use Rattle.vertices.specs.declared.shard.Shard.{Shard}
@@ -30,11 +31,6 @@ shard_kind (Egress s) = semantics.Kind.egress
 shard_kind (Feedback s) = semantics.Kind.feedback
 shard_kind (Gate s) = semantics.Kind.gate s.turns
 shard_kind (Hold s) = semantics.Kind.hold s.turns
-
--- a join takes records of that arity at a port
-abbrev pub by_port : (left right port : ℕ) → ℕ
-by_port left right zero = left
-by_port left right (suc port) = right
 
 -- records of that arity may come to that port
 abbrev pub TakesArity : Shard → (port arity : ℕ) → Type 0

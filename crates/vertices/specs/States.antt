@@ -4,7 +4,7 @@ use Rattle.std.specs.List.{list_any}
 use Rattle.rows.specs.Counts.{RunList, expanded, no_run, rows_of}
 use Rattle.semantics.specs.Meaning.{in_both}
 use Rattle.semantics.specs.Multiset.{Record, ◌≈◌, each_once, same}
-use Rattle.vertices.specs.Absorbed.{more_at}
+use Rattle.vertices.specs.Kept.{more_at}
 use Rattle.vertices.specs.declared.port_sets.PortSets.{PortSets}
 
 -- the records of that arity, counted

@@ -4,7 +4,8 @@ use Rattle.rows.specs.Counts.{AllFit}
 use Rattle.semantics.specs.Kinds.{out_ports, role}
 use Rattle.semantics.specs.Multiset.{Record}
 use Rattle.semantics.specs.Time.{Time}
-use Rattle.vertices.specs.Absorbed.{Absorbed, absorbed_by, kept_by}
+use Rattle.semantics.specs.Shard.{Absorbed, absorbed_by}
+use Rattle.vertices.specs.Kept.{kept_by}
 use Rattle.vertices.specs.Outs.{GoesOver, SendsFor, asks_at, sent}
 use Rattle.vertices.specs.Shards.{Shows, shard_kind}
 use Rattle.vertices.specs.declared.out.Out.{Out}

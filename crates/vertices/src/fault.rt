@@ -4,8 +4,8 @@ ghost use Rattle.std.specs.Prelude.{◌≡◌, ◌↔◌};
 ghost use Rattle.rows.specs.declared.error.TallyError.TheVariants.{Count as CountOfTallies, NoMemory as NoMemoryOfTallies};
 ghost use Rattle.vertices.specs.declared.fault.ShardFault.TheVariants.{Count, NoMemory};
 
-use expr_tree::NoMemory as NoMemoryOfTrees;
-use rows::{RowsError, TallyError};
+use record_core::NoMemory;
+use rows::TallyError;
 use std::alloc::{AllocError, AllocFailed};
 
 /// Why a shard could not take an event. The shard is then spoiled, and can only be dropped.
@@ -33,13 +33,11 @@ impl<T: Drop> From<AllocFailed<T>> for ShardFault {
     }
 }
 
-impl From<RowsError> for ShardFault {
+impl From<NoMemory> for ShardFault {
     ghost from_gives = { λ _ e. e ≡ NoMemory };
 
-    fn from(error: RowsError) -> ShardFault {
-        match error {
-            RowsError::NoMemory => ShardFault::NoMemory,
-        }
+    fn from(_: NoMemory) -> ShardFault {
+        ShardFault::NoMemory
     }
 }
 
@@ -51,13 +49,5 @@ impl From<TallyError> for ShardFault {
             TallyError::NoMemory => ShardFault::NoMemory,
             TallyError::Count => ShardFault::Count,
         }
-    }
-}
-
-impl From<NoMemoryOfTrees> for ShardFault {
-    ghost from_gives = { λ _ e. e ≡ NoMemory };
-
-    fn from(_: NoMemoryOfTrees) -> ShardFault {
-        ShardFault::NoMemory
     }
 }

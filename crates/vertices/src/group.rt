@@ -6,22 +6,23 @@ ghost use Rattle.rows.specs.FlatRows.{arity_of};
 ghost use Rattle.rows.specs.Indexes.{AreDifferent};
 ghost use Rattle.rows.specs.declared.error.TallyError.TheVariants.{Count as TallyCount};
 ghost use Rattle.semantics.specs.Kinds.{Role};
+ghost use Rattle.semantics.specs.Limits.{max_fields};
 ghost use Rattle.semantics.specs.Multiset.{◌≈◌};
-ghost use Rattle.semantics.specs.Shard.{asks};
-ghost use Rattle.vertices.specs.Absorbed.{Absorbed};
+ghost use Rattle.semantics.specs.Shard.{Absorbed, asks};
 ghost use Rattle.vertices.specs.ByTime.{Absorbs, AreStatesOf, ForAbsorbed};
 ghost use Rattle.vertices.specs.Groups.{AreGroupRecords, columns_of, group_records, key_arity};
 ghost use Rattle.vertices.specs.Piles.{IsPileThen};
-ghost use Rattle.vertices.specs.declared.fault.ShardFault.TheVariants.{Count, NoMemory};
+ghost use Rattle.vertices.specs.declared.fault.ShardFault.TheVariants as fault;
 
 use crate::fault::ShardFault;
 use crate::groups::{Groups, key_arity};
 use crate::pile::Pile;
+use indexmap::IndexMap;
 use loop_context::Time;
 use operators::Group;
-use rows::{Batch, RowSet, Rows, RowsError, TallyError};
+use record_core::NoMemory;
+use rows::{Batch, RowSet, Rows, TallyError};
 use std::alloc::Global;
-use std::collections::HashMap;
 
 /// For each time the records that came then. The groups are made of them once, at the notification.
 #[derive(Drop)]
@@ -30,7 +31,7 @@ pub struct GroupShard {
     pub(crate) operator: Group,
     pub(crate) arity: usize,
     no_keys: RowSet,
-    pub(crate) times: HashMap<Time, Pile>,
+    pub(crate) times: IndexMap<Time, Pile>,
     ghost no_key: { no_keys ≡ record { arity = key_arity (columns_of operator); rows = [] } },
 }
 
@@ -51,11 +52,11 @@ impl GroupShard {
     /// A shard that has absorbed nothing. The records that come to it have that arity.
     pub fn new(alloc: Global, operator: Group, arity: usize) -> Result<GroupShard, ShardFault>
         requires some { 1 ≤ arity }
-        requires fits { arity ≤ 16 }
+        requires fits { arity ≤ max_fields }
         ensures operator { IfOk result (λ s. s.operator ≡ operator) }
         ensures arity { IfOk result (λ s. s.arity ≡ arity) }
         ensures nothing { IfOk result (λ s. AreStatesOf (IsPileThen arity) s.times (λ p t. [])) }
-        ensures never { IfErr result (λ e. e ≡ NoMemory) }
+        ensures never { IfErr result (λ e. e ≡ fault.NoMemory) }
     {
         let no_keys = RowSet::new(alloc, key_arity(&operator.columns))?;
         Ok(GroupShard {
@@ -63,7 +64,7 @@ impl GroupShard {
             operator,
             arity,
             no_keys,
-            times: HashMap::new(alloc),
+            times: IndexMap::new(alloc),
         })
     }
 
@@ -77,7 +78,7 @@ impl GroupShard {
         ensures absorbed { OnOk result (Absorbs (IsPileThen self.old.arity) self.old.times self.new.times 0 time.now batch.now) }
         ensures asked { IfOk result (λ asked. ForAbsorbed (IsPileThen self.old.arity) self.old.times time.now (λ f. asked ≡ asks Role.notified (f 0))) }
         ensures fits { OnOk result (ForAbsorbed (IsPileThen self.old.arity) self.old.times time.now (λ f. AllFit (f 0 ++ batch.now))) }
-        ensures over { IfErr result (λ e. e ≡ Count → ForAbsorbed (IsPileThen self.old.arity) self.old.times time.now (λ f. IsOver (f 0 ++ batch.now))) }
+        ensures over { IfErr result (λ e. e ≡ fault.Count → ForAbsorbed (IsPileThen self.old.arity) self.old.times time.now (λ f. IsOver (f 0 ++ batch.now))) }
     {
         if let Some(pile) = self.times.get_mut(time) {
             if let Err(error) = absorb(pile, batch) {
@@ -97,7 +98,7 @@ impl GroupShard {
     pub fn on_notify(&self, alloc: Global, time: &Time) -> Result<Rows, ShardFault>
         ensures grouped { IfOk result (λ rows. ForAbsorbed (IsPileThen self.now.arity) self.now.times time.now (AreGroupRecords self.now.operator rows.rows)) }
         ensures different { IfOk result (λ rows. AreDifferent rows.rows) }
-        ensures never { IfErr result (λ e. e ≡ NoMemory) }
+        ensures never { IfErr result (λ e. e ≡ fault.NoMemory) }
     {
         match self.times.get(time) {
             Some(pile) => {
@@ -112,7 +113,7 @@ impl GroupShard {
     }
 
     /// A record for each group of the records, each of which is looked at once.
-    fn grouped(&self, alloc: Global, pile: &Pile) -> Result<Rows, RowsError>
+    fn grouped(&self, alloc: Global, pile: &Pile) -> Result<Rows, NoMemory>
         ensures grouped { IfOk result (λ rows. rows.rows ≈ group_records self.now.operator pile.now.records) }
         ensures different { IfOk result (λ rows. AreDifferent rows.rows) }
     {

@@ -3,12 +3,14 @@
 ghost use Rattle.std.specs.Prelude.{◌≡◌, ◌+◌, ◌<◌, ◌++◌, ◌∷◌, List, [], length, map, IfOk, OnOk, ◌≤◌};
 ghost use Rattle.rows.specs.Counts.{expanded, most, repeated};
 ghost use Rattle.rows.specs.Indexes.{AreDifferent};
+ghost use Rattle.semantics.specs.Limits.{max_fields};
 ghost use Rattle.semantics.specs.Multiset.{Record, ◌≈◌};
 ghost use Rattle.vertices.specs.Groups.{AreGroupsOf, columns_of, group_record, group_records, key_arity, shown_key};
 
 use expr_tree::Column;
 use operators::{Group, Numbers};
-use rows::{CountedRows, Lists, RowSet, Rows, RowsError};
+use record_core::NoMemory;
+use rows::{CountedRows, Lists, RowSet, Rows};
 use std::alloc::Global;
 
 /// The keys that are present, and for each, by its place, the aggregates of its records.
@@ -20,11 +22,7 @@ pub struct Groups {
 
 impl Groups {
     /// No group. `no_keys` is a set of keys without any.
-    pub(crate) fn new(
-        alloc: Global,
-        operator: &Group,
-        no_keys: &RowSet,
-    ) -> Result<Groups, RowsError>
+    pub(crate) fn new(alloc: Global, operator: &Group, no_keys: &RowSet) -> Result<Groups, NoMemory>
         requires { no_keys.now.arity ≡ key_arity (columns_of operator.now) }
         ensures { IfOk result (λ g. AreGroupsOf operator.now g []) }
     {
@@ -42,7 +40,7 @@ impl Groups {
         count: u64,
         key: &mut Numbers,
         values: &mut Numbers,
-    ) -> Result<(), RowsError>
+    ) -> Result<(), NoMemory>
         requires whole { (xs : List Record) × AreGroupsOf operator.now self.old xs }
         requires some { 1 ≤ count }
         requires fits { count ≤ most }
@@ -62,7 +60,7 @@ impl Groups {
     }
 
     /// Takes counted records into the groups of their keys.
-    pub(crate) fn absorb(&mut self, operator: &Group, rows: &CountedRows) -> Result<(), RowsError>
+    pub(crate) fn absorb(&mut self, operator: &Group, rows: &CountedRows) -> Result<(), NoMemory>
         requires { (xs : List Record) × AreGroupsOf operator.now self.old xs }
         ensures { OnOk result ((xs : List Record) → AreGroupsOf operator.now self.old xs → AreGroupsOf operator.now self.new (xs ++ expanded rows.now.runs)) }
     {
@@ -81,7 +79,7 @@ impl Groups {
     }
 
     /// A record for each group: its key, then its aggregates.
-    pub(crate) fn finished(&self, alloc: Global, operator: &Group) -> Result<Rows, RowsError>
+    pub(crate) fn finished(&self, alloc: Global, operator: &Group) -> Result<Rows, NoMemory>
         requires { (xs : List Record) × AreGroupsOf operator.now self.now xs }
         ensures grouped { IfOk result (λ rows. (xs : List Record) → AreGroupsOf operator.now self.now xs → rows.rows ≈ group_records operator.now xs) }
         ensures different { IfOk result (λ rows. AreDifferent rows.rows) }
@@ -95,7 +93,7 @@ impl Groups {
     }
 
     /// The record of one group.
-    fn finish(&self, operator: &Group, place: usize, rows: &mut Rows) -> Result<(), RowsError>
+    fn finish(&self, operator: &Group, place: usize, rows: &mut Rows) -> Result<(), NoMemory>
         requires whole { (xs : List Record) × AreGroupsOf operator.now self.now xs }
         requires place { place < length self.now.keys.rows }
         requires arity { rows.old.arity ≡ length operator.now.columns.items + length operator.now.aggregates.items }
@@ -110,10 +108,10 @@ impl Groups {
 
 /// How many numbers a stored key has: one at least.
 pub(crate) fn key_arity(columns: &[Column]) -> usize
-    requires { length columns.now ≤ 16 }
+    requires { length columns.now ≤ max_fields }
     ensures value { result ≡ key_arity (map (λ k. k.index) columns.now) }
     ensures some { 1 ≤ result }
-    ensures few { result ≤ 16 }
+    ensures few { result ≤ max_fields }
 {
     match columns {
         [] => 1,

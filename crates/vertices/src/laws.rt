@@ -3,7 +3,7 @@
 ghost use Rattle.std.specs.Prelude.{ℕ};
 ghost use Rattle.semantics.specs.Multiset.{◌≈◌};
 ghost use Rattle.semantics.specs.Time.{Time};
-ghost use Rattle.vertices.specs.Absorbed.{Absorbed};
+ghost use Rattle.semantics.specs.Shard.{Absorbed};
 ghost use Rattle.vertices.specs.Shards.{Shows};
 ghost use Rattle.vertices.specs.declared.shard.Shard.{Shard};
 

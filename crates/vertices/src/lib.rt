@@ -14,8 +14,8 @@
 //! exactly where a count of what the shard would then have absorbed, or of what the call would send, is above
 //! 9223372036854775807. After a refusal the shard is spoiled, and can only be dropped.
 //!
-//! Built on `operators`, `rows`, `loop_context`, `graph`, `expr_tree`, `record_core` and `semantics`; the board hands shards out with
-//! their events.
+//! Built on `operators`, `rows`, `loop_context`, `graph`, `expr_tree`, `record_core` and `semantics`, and on `indexmap`, which keeps the
+//! states by time; the board hands shards out with their events.
 #![tactic(auto)]
 
 mod counted_index;

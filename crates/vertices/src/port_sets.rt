@@ -5,10 +5,11 @@ ghost use Rattle.rows.specs.Counts.{AllFit, AreRuns, IsOver, expanded, most, rep
 ghost use Rattle.rows.specs.FlatRows.{arity_of};
 ghost use Rattle.rows.specs.declared.error.TallyError.TheVariants.{Count};
 ghost use Rattle.semantics.specs.Multiset.{Record, ◌≈◌, count as count_of};
-ghost use Rattle.vertices.specs.Absorbed.{more_at};
+ghost use Rattle.vertices.specs.Kept.{more_at};
 ghost use Rattle.vertices.specs.States.{AreSetsOf, IntersectGains, common_rows, is_right, only_left_at};
 
-use rows::{Batch, Rows, RowsError, Tally, TallyError};
+use record_core::NoMemory;
+use rows::{Batch, Rows, Tally, TallyError};
 use std::alloc::Global;
 
 /// For each of two ports the records that came there at one time, counted.
@@ -95,7 +96,7 @@ fn meet_all(
 
 impl PortSets {
     /// No records. `empty` has none.
-    pub(crate) fn new(empty: &Tally) -> Result<PortSets, RowsError>
+    pub(crate) fn new(empty: &Tally) -> Result<PortSets, NoMemory>
         requires { empty.now.runs ≡ [] }
         ensures { IfOk result (λ s. AreSetsOf empty.now.arity s (λ p. [])) }
     {
@@ -147,7 +148,7 @@ impl PortSets {
 
     /// The records of port 0 that aren't at port 1, each once.
     #[tactic(auto, using(crate::proofs::PortSets::alone_more, crate::proofs::PortSets::all_alone))]
-    pub(crate) fn only_left(&self, alloc: Global) -> Result<Rows, RowsError>
+    pub(crate) fn only_left(&self, alloc: Global) -> Result<Rows, NoMemory>
         ensures rows { IfOk result (λ rows. rows.rows ≡ filter (λ r. not (is_right self.now r)) (rows_of self.now.left.runs)) }
         ensures left { AreRuns self.now.left.runs }
         ensures right { AreRuns self.now.right.runs }
@@ -161,7 +162,7 @@ impl PortSets {
     }
 
     /// One record of port 0, if it isn't at port 1.
-    fn offer(&self, place: usize, rows: &mut Rows) -> Result<(), RowsError>
+    fn offer(&self, place: usize, rows: &mut Rows) -> Result<(), NoMemory>
         requires place { place < length self.now.left.runs }
         requires arity { rows.old.arity ≡ self.now.left.arity }
         ensures rows { OnOk result (rows.new.rows ≡ rows.old.rows ++ only_left_at self.now place) }

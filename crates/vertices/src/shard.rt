@@ -3,7 +3,8 @@
 ghost use Rattle.std.specs.Prelude.{◌≡◌, ◌<◌, ℕ, None, false, IfErr, OnOk};
 ghost use Rattle.rows.specs.FlatRows.{arity_of};
 ghost use Rattle.semantics.specs.Kinds.{Role, in_ports, role};
-ghost use Rattle.vertices.specs.Absorbed.{Absorbed, HasState};
+ghost use Rattle.semantics.specs.Shard.{Absorbed};
+ghost use Rattle.vertices.specs.Kept.{HasState};
 ghost use Rattle.vertices.specs.Outs.{SendsFor, SendsForNotification, WouldSendOver};
 ghost use Rattle.vertices.specs.Shards.{Shows, TakesArity, shard_kind};
 ghost use Rattle.vertices.specs.TakesIn.{Absorbs, AsksForBatch, IsTooMuch, KeptFit, SendsForBatch, SentFit};
@@ -16,9 +17,7 @@ use crate::group::GroupShard;
 use crate::intersect::IntersectShard;
 use crate::join::JoinShard;
 use crate::out::Out;
-use crate::stateful::{
-    distinct, except, except_notified, group, group_notified, intersect, join_left, join_right,
-};
+use crate::stateful::{distinct, except, except_notified, group, group_notified, intersect, join};
 use crate::stateless::{filter, forward, gate, hold, select};
 use loop_context::Time;
 use operators::{Concat, Egress, Feedback, Gate, Hold, Ingress, Input, Output, Select, Where};
@@ -70,12 +69,26 @@ impl Shard {
         ensures fits_sent { OnOk result (SentFit self.old out.new) }
         ensures over { IfErr result (λ e. e ≡ Count → IsTooMuch self.old port time.now batch) }
     {
-        if port == 0 {
-            self.on_first(alloc, time, batch, out)?;
-            return Ok(());
+        match self {
+            Shard::Input(_) => unreachable!(),
+            Shard::Output(_) => Ok(()),
+            Shard::Join(_)
+            | Shard::Group(_)
+            | Shard::Distinct(_)
+            | Shard::Except(_)
+            | Shard::Intersect(_) => self.absorb(alloc, port, time, &batch, out),
+            Shard::Select(_)
+            | Shard::Where(_)
+            | Shard::Concat(_)
+            | Shard::Ingress(_)
+            | Shard::Egress(_)
+            | Shard::Feedback(_)
+            | Shard::Gate(_)
+            | Shard::Hold(_) => {
+                self.send(alloc, port, time, batch, out)?;
+                Ok(())
+            }
         }
-        self.on_second(alloc, time, batch, out)?;
-        Ok(())
     }
 
     /// Sends what is due at the notification that was asked for at a time: nothing more comes at that time. It is never too often.
@@ -112,89 +125,48 @@ impl Shard {
         }
     }
 
-    /// A batch that comes to port 0.
-    fn on_first(
+    /// Takes a batch that comes to an in port into the state of its time, and sends what is gained by it.
+    fn absorb(
         &mut self,
         alloc: Global,
+        port: u32,
         time: &Time,
-        batch: Batch,
+        batch: &Batch,
         out: &mut Out,
     ) -> Result<(), ShardFault>
-        requires port { 0 < in_ports (shard_kind self.old) }
-        requires arity { TakesArity self.old 0 (arity_of batch) }
-        requires whole { (a : Absorbed) × Shows self.old a }
-        requires out { out.old ≡ record { first = None; second = None; asked = false } }
-        ensures kind { OnOk result (shard_kind self.new ≡ shard_kind self.old) }
-        ensures arity { OnOk result ((p n : ℕ) → TakesArity self.old p n → TakesArity self.new p n) }
-        ensures absorbed { OnOk result (Absorbs self.old self.new 0 time.now batch) }
-        ensures sends { OnOk result (SendsForBatch self.old 0 time.now batch out.new) }
-        ensures asked { OnOk result (AsksForBatch self.old time.now out.new) }
-        ensures fits { OnOk result (KeptFit self.old 0 time.now batch) }
-        ensures fits_sent { OnOk result (SentFit self.old out.new) }
-        ensures over { IfErr result (λ e. e ≡ Count → IsTooMuch self.old 0 time.now batch) }
-    {
-        match self {
-            Shard::Input(_) => unreachable!(),
-            Shard::Output(_) => Ok(()),
-            Shard::Join(_)
-            | Shard::Group(_)
-            | Shard::Distinct(_)
-            | Shard::Except(_)
-            | Shard::Intersect(_) => self.absorb_first(alloc, time, batch, out),
-            Shard::Select(_)
-            | Shard::Where(_)
-            | Shard::Concat(_)
-            | Shard::Ingress(_)
-            | Shard::Egress(_)
-            | Shard::Feedback(_)
-            | Shard::Gate(_)
-            | Shard::Hold(_) => {
-                self.send_first(alloc, time, batch, out)?;
-                Ok(())
-            }
-        }
-    }
-
-    /// Takes a batch that comes to port 0 into the state of its time, and sends what is gained by it.
-    fn absorb_first(
-        &mut self,
-        alloc: Global,
-        time: &Time,
-        batch: Batch,
-        out: &mut Out,
-    ) -> Result<(), ShardFault>
+        requires port { port < in_ports (shard_kind self.old) }
         requires state { HasState (role (shard_kind self.old)) }
-        requires arity { TakesArity self.old 0 (arity_of batch) }
+        requires arity { TakesArity self.old port (arity_of batch.now) }
         requires whole { (a : Absorbed) × Shows self.old a }
         requires out { out.old ≡ record { first = None; second = None; asked = false } }
         ensures kind { OnOk result (shard_kind self.new ≡ shard_kind self.old) }
         ensures arity { OnOk result ((p n : ℕ) → TakesArity self.old p n → TakesArity self.new p n) }
-        ensures absorbed { OnOk result (Absorbs self.old self.new 0 time.now batch) }
-        ensures sends { OnOk result (SendsForBatch self.old 0 time.now batch out.new) }
+        ensures absorbed { OnOk result (Absorbs self.old self.new port time.now batch.now) }
+        ensures sends { OnOk result (SendsForBatch self.old port time.now batch.now out.new) }
         ensures asked { OnOk result (AsksForBatch self.old time.now out.new) }
-        ensures fits { OnOk result (KeptFit self.old 0 time.now batch) }
+        ensures fits { OnOk result (KeptFit self.old port time.now batch.now) }
         ensures fits_sent { OnOk result (SentFit self.old out.new) }
-        ensures over { IfErr result (λ e. e ≡ Count → IsTooMuch self.old 0 time.now batch) }
+        ensures over { IfErr result (λ e. e ≡ Count → IsTooMuch self.old port time.now batch.now) }
     {
         match self {
             Shard::Join(shard) => {
-                join_left(shard, alloc, time, &batch, out)?;
+                join(shard, alloc, port, time, batch, out)?;
                 Ok(())
             }
             Shard::Group(shard) => {
-                group(shard, time, &batch, out)?;
+                group(shard, time, batch, out)?;
                 Ok(())
             }
             Shard::Distinct(shard) => {
-                distinct(shard, alloc, time, &batch, out)?;
+                distinct(shard, alloc, time, batch, out)?;
                 Ok(())
             }
             Shard::Except(shard) => {
-                except(shard, 0, time, &batch, out)?;
+                except(shard, port, time, batch, out)?;
                 Ok(())
             }
             Shard::Intersect(shard) => {
-                intersect(shard, alloc, 0, time, &batch, out)?;
+                intersect(shard, alloc, port, time, batch, out)?;
                 Ok(())
             }
             Shard::Input(_) => unreachable!(),
@@ -210,39 +182,41 @@ impl Shard {
         }
     }
 
-    /// Sends what a vertex without a state makes of a batch that comes to port 0.
-    fn send_first(
+    /// Sends what a vertex without a state makes of a batch that comes to an in port.
+    fn send(
         &self,
         alloc: Global,
+        port: u32,
         time: &Time,
         batch: Batch,
         out: &mut Out,
     ) -> Result<(), ShardFault>
+        requires port { port < in_ports (shard_kind self.now) }
         requires role { role (shard_kind self.now) ≡ Role.stateless }
-        requires arity { TakesArity self.now 0 (arity_of batch) }
+        requires arity { TakesArity self.now port (arity_of batch) }
         requires out { out.old ≡ record { first = None; second = None; asked = false } }
-        ensures sends { OnOk result ((a : Absorbed) → SendsFor (shard_kind self.now) time.now a 0 batch out.new) }
+        ensures sends { OnOk result ((a : Absorbed) → SendsFor (shard_kind self.now) time.now a port batch out.new) }
         ensures fits_sent { OnOk result (SentFit self.now out.new) }
-        ensures over { IfErr result (λ e. e ≡ Count → (a : Absorbed) → WouldSendOver (shard_kind self.now) time.now a 0 batch) }
+        ensures over { IfErr result (λ e. e ≡ Count → (a : Absorbed) → WouldSendOver (shard_kind self.now) time.now a port batch) }
         ensures asked { out.new.asked ≡ out.old.asked }
     {
         match self {
             Shard::Select(operator) => select(operator, alloc, time, &batch, out),
             Shard::Where(operator) => filter(operator, alloc, time, &batch, out),
             Shard::Concat(_) => {
-                forward(time, 0, batch, out);
+                forward(time, port, batch, out);
                 Ok(())
             }
             Shard::Ingress(_) => {
-                forward(time, 0, batch, out);
+                forward(time, port, batch, out);
                 Ok(())
             }
             Shard::Egress(_) => {
-                forward(time, 0, batch, out);
+                forward(time, port, batch, out);
                 Ok(())
             }
             Shard::Feedback(_) => {
-                forward(time, 0, batch, out);
+                forward(time, port, batch, out);
                 Ok(())
             }
             Shard::Gate(operator) => {
@@ -257,58 +231,6 @@ impl Shard {
             Shard::Distinct(_) => unreachable!(),
             Shard::Except(_) => unreachable!(),
             Shard::Intersect(_) => unreachable!(),
-        }
-    }
-
-    /// A batch that comes to port 1.
-    fn on_second(
-        &mut self,
-        alloc: Global,
-        time: &Time,
-        batch: Batch,
-        out: &mut Out,
-    ) -> Result<(), ShardFault>
-        requires port { 1 < in_ports (shard_kind self.old) }
-        requires arity { TakesArity self.old 1 (arity_of batch) }
-        requires whole { (a : Absorbed) × Shows self.old a }
-        requires out { out.old ≡ record { first = None; second = None; asked = false } }
-        ensures kind { OnOk result (shard_kind self.new ≡ shard_kind self.old) }
-        ensures arity { OnOk result ((p n : ℕ) → TakesArity self.old p n → TakesArity self.new p n) }
-        ensures absorbed { OnOk result (Absorbs self.old self.new 1 time.now batch) }
-        ensures sends { OnOk result (SendsForBatch self.old 1 time.now batch out.new) }
-        ensures asked { OnOk result (AsksForBatch self.old time.now out.new) }
-        ensures fits { OnOk result (KeptFit self.old 1 time.now batch) }
-        ensures fits_sent { OnOk result (SentFit self.old out.new) }
-        ensures over { IfErr result (λ e. e ≡ Count → IsTooMuch self.old 1 time.now batch) }
-    {
-        match self {
-            Shard::Concat(_) => {
-                forward(time, 1, batch, out);
-                Ok(())
-            }
-            Shard::Join(shard) => {
-                join_right(shard, alloc, time, &batch, out)?;
-                Ok(())
-            }
-            Shard::Except(shard) => {
-                except(shard, 1, time, &batch, out)?;
-                Ok(())
-            }
-            Shard::Intersect(shard) => {
-                intersect(shard, alloc, 1, time, &batch, out)?;
-                Ok(())
-            }
-            Shard::Input(_) => unreachable!(),
-            Shard::Output(_) => unreachable!(),
-            Shard::Select(_) => unreachable!(),
-            Shard::Where(_) => unreachable!(),
-            Shard::Group(_) => unreachable!(),
-            Shard::Distinct(_) => unreachable!(),
-            Shard::Ingress(_) => unreachable!(),
-            Shard::Egress(_) => unreachable!(),
-            Shard::Feedback(_) => unreachable!(),
-            Shard::Gate(_) => unreachable!(),
-            Shard::Hold(_) => unreachable!(),
         }
     }
 }

@@ -4,7 +4,7 @@ ghost use Rattle.std.specs.Prelude.{◌≡◌, ◌<◌, ℕ, None, false, OnOk, 
 ghost use Rattle.rows.specs.Counts.{AllFit};
 ghost use Rattle.rows.specs.FlatRows.{arity_of};
 ghost use Rattle.semantics.specs.Kinds.{Kind};
-ghost use Rattle.vertices.specs.Absorbed.{Absorbed};
+ghost use Rattle.semantics.specs.Shard.{Absorbed};
 ghost use Rattle.vertices.specs.Outs.{SendsFor, WouldSendOver, sent};
 ghost use Rattle.vertices.specs.Shards.{shard_kind};
 ghost use Rattle.vertices.specs.declared.fault.ShardFault.TheVariants.{Count, NoMemory};

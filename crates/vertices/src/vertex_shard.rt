@@ -7,6 +7,7 @@ ghost use Rattle.expr_tree.specs.PlainLists.{plain_scalars};
 ghost use Rattle.expr_tree.specs.Views.{cond_tree};
 ghost use Rattle.graph.specs.Views.{kind_of};
 ghost use Rattle.semantics.specs.Kinds.{Kind as Equation, in_ports};
+ghost use Rattle.semantics.specs.Limits.{max_fields};
 ghost use Rattle.semantics.specs.PortArity.{PortsFit};
 ghost use Rattle.semantics.specs.Typing.{CondFits, IsArity, ScalarFits};
 ghost use Rattle.vertices.specs.Shards.{IsFreshShard, by_port};
@@ -89,7 +90,7 @@ fn new_select(
 ) -> Result<Shard, ShardFault>
     requires fits { AllByRecursion (ScalarFits arity) (plain_scalars scalars.now.items) }
     requires some { 1 ≤ length scalars.now.items }
-    requires few { length scalars.now.items ≤ 16 }
+    requires few { length scalars.now.items ≤ max_fields }
     ensures fresh { (second : ℕ) → IfOk result (λ s. IsFreshShard (Equation.select (plain_scalars scalars.now.items)) arity second s) }
     ensures never { IfErr result (λ e. e ≡ fault.NoMemory) }
 {
@@ -109,7 +110,7 @@ fn new_where(alloc: Global, condition: &Cond<Global>, arity: usize) -> Result<Sh
 fn new_join(alloc: Global, pairs: &[Pair], left: usize, right: usize) -> Result<Shard, ShardFault>
     requires left { 1 ≤ left }
     requires right { 1 ≤ right }
-    requires fits { left + right ≤ 16 }
+    requires fits { left + right ≤ max_fields }
     ensures fresh { IfOk result (λ s. IsFreshShard (Equation.join (map plain_pair pairs.now)) left right s) }
     ensures never { IfErr result (λ e. e ≡ fault.NoMemory) }
 {
@@ -126,7 +127,7 @@ fn new_group(
 ) -> Result<Shard, ShardFault>
     requires arity { IsArity arity }
     requires some { 1 ≤ length columns.now + length aggregates.now }
-    requires few { length columns.now + length aggregates.now ≤ 16 }
+    requires few { length columns.now + length aggregates.now ≤ max_fields }
     ensures fresh { (n : ℕ) → IfOk result (λ s. IsFreshShard (Equation.group (map (λ k. k.index) columns.now) (map plain_agg aggregates.now)) arity n s) }
     ensures never { IfErr result (λ e. e ≡ fault.NoMemory) }
 {

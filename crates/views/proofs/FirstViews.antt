@@ -2,6 +2,7 @@
 use Rattle.std.proofs.Common.{◌≡◌, ℕ, zero, suc, ◌+◌, ◌≤◌, ◌<◌, List, [], ◌∷◌, ◌++◌, length, drop, Some, slice_get, slice_index_or, refl, sym, ap, subst, ◌∙◌, arith}
 use Rattle.std.proofs.lemmas.Option.{same_Some}
 use Rattle.std.proofs.Math.Seq.{drop-nil}
+use Rattle.semantics.specs.Limits.{max_workers}
 use Rattle.semantics.specs.Multiset.{total}
 use Rattle.semantics.specs.Graph.{Graph}
 use Rattle.semantics.specs.Could.{Pointstamp, IsTimeAt}
@@ -24,7 +25,7 @@ left_none [] h s w = refl
 left_none (q ∷ qs) h zero w = ap (λ l. drop (slice_index_or q.taken w (length l)) l) (h zero q refl) ∙ drop-nil (slice_index_or q.taken w 0)
 left_none (q ∷ qs) h (suc s) w = left_none qs (λ t. h (suc t)) s w
 
-module _ (g : Graph) (content : Pointstamp → ℕ) (qs : List Queued) (n : ℕ) (some : 0 < n) (few : n ≤ 64)
+module _ (g : Graph) (content : Pointstamp → ℕ) (qs : List Queued) (n : ℕ) (some : 0 < n) (few : n ≤ max_workers)
     (known : (q : Pointstamp) → 0 < content q → IsTimeAt g q.location q.time)
     (queues_long : length qs ≡ n + 1) (queues_each : (s : ℕ) (q : Queued) → slice_get qs s ≡ Some q → (q.changes ≡ []) × (length q.taken ≡ n)) where
   pub none_waits : (w s : ℕ) → waiting_of qs w s ≡ []

@@ -1,5 +1,6 @@
 -- Views that may be late: a tracker of what is active, and each sender's queue.
 use Rattle.std.specs.Prelude.{◌≡◌, ℕ, zero, suc, ◌*◌, ◌≤◌, ◌<◌, List, [], ◌∷◌, length, Some, slice_get}
+use Rattle.semantics.specs.Limits.{max_workers}
 use Rattle.semantics.specs.Graph.{Graph}
 use Rattle.semantics.specs.Could.{Pointstamp, IsTimeAt}
 use Rattle.progress.specs.Content.{times_at}
@@ -36,7 +37,7 @@ pub record IsSender (g : Graph) (workers spare : ℕ) (q : Queued) : Type 0 wher
 -- all queues fit: for each worker some history leads to what waits, and there is room for what may be posted
 pub record AreViews (g : Graph) (content : Pointstamp → ℕ) (workers : ℕ) (queues : List Queued) (spare : ℕ) : Type 0 where
   pub some : 0 < workers
-  pub few : workers ≤ 64
+  pub few : workers ≤ max_workers
   pub senders : length queues ≡ suc workers
   pub known : (q : Pointstamp) → 0 < content q → IsTimeAt g q.location q.time
   pub history : (w : ℕ) → w < workers → IsHistory g workers content (waiting_of queues) w

@@ -1,6 +1,7 @@
 //! Applies all that waits for a worker.
 
 ghost use Rattle.std.specs.Prelude.{◌≡◌, ◌+◌, ◌<◌, ◌≤◌, ℕ, []};
+ghost use Rattle.semantics.specs.Limits.{max_workers};
 ghost use Rattle.semantics.specs.Could.{CouldResultIn, NoneOf, Pointstamp as Active};
 ghost use Rattle.views.specs.Waiting.{IsSeenBy};
 
@@ -10,7 +11,7 @@ use crate::views::Views;
 pub fn catch_up<V: Views>(views: &mut V, worker: u32, workers: u32)
     requires worker { worker < workers }
     requires workers { workers ≡ V.workers views.old }
-    requires few { workers ≤ 64 }
+    requires few { workers ≤ max_workers }
     ensures graph { V.graph views.new ≡ V.graph views.old }
     ensures workers { V.workers views.new ≡ V.workers views.old }
     ensures content { (q : Active) → V.content views.new q ≡ V.content views.old q }

@@ -2,15 +2,16 @@
 
 ghost use Rattle.std.specs.Prelude.{◌≡◌, ◌<◌, ◌≤◌, [], IfOk, false};
 ghost use Rattle.graph.specs.Shown.{shown_graph};
+ghost use Rattle.semantics.specs.Limits.{max_workers};
 ghost use Rattle.semantics.specs.Could.{Pointstamp as Active};
 ghost use Rattle.views.specs.Opening.{active_at_first};
 
 use crate::opening::open_inputs;
 use crate::tracked::{add_all, remove_all};
 use crate::views::Views;
-use expr_tree::NoMemory;
 use path_summary::{Paths, Pointstamp};
 use progress::Progress;
+use record_core::NoMemory;
 use std::alloc::Global;
 
 /// All workers see one tracker, and nothing waits.
@@ -29,7 +30,7 @@ impl<P: Progress> Direct<P> {
         mut tracker: P,
     ) -> Result<Direct<P>, NoMemory>
         requires some { 0 < workers }
-        requires few { workers ≤ 64 }
+        requires few { workers ≤ max_workers }
         requires same { P.graph tracker ≡ shown_graph paths.now }
         requires none { (q : Active) → P.content tracker q ≡ 0 }
         ensures graph { IfOk result (λ d. P.graph d.tracker ≡ shown_graph paths.now) }

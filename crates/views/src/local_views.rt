@@ -2,6 +2,7 @@
 
 ghost use Rattle.std.specs.Prelude.{◌≡◌, ◌+◌, ◌-◌, ◌^◌, ◌<◌, ◌≤◌, ℕ, [], IfOk, MatchBool, OnOk, Some, length, min, slice_get, true};
 ghost use Rattle.graph.specs.Shown.{shown_graph};
+ghost use Rattle.semantics.specs.Limits.{max_workers};
 ghost use Rattle.semantics.specs.Could.{IsTimeAt, Pointstamp as Active};
 ghost use Rattle.machine.specs.Active.{sum_below};
 ghost use Rattle.progress.specs.Content.{times_in};
@@ -14,9 +15,9 @@ use crate::queue::Queue;
 use crate::stale::is_blocked;
 use crate::tracked::{add_all, remove_all};
 use crate::views::Views;
-use expr_tree::NoMemory;
 use path_summary::{Paths, Pointstamp};
 use progress::{LocationTracker, Progress};
+use record_core::NoMemory;
 use std::alloc::Global;
 use std::marker::Model;
 use std::sync::Arc;
@@ -63,7 +64,7 @@ impl LocalViews {
         workers: u32,
     ) -> Result<LocalViews, NoMemory>
         requires some { 0 < workers }
-        requires few { workers ≤ 64 }
+        requires few { workers ≤ max_workers }
         ensures graph { IfOk result (λ t. shown_graph t.tracker.graph ≡ shown_graph paths.value) }
         ensures workers { IfOk result (λ t. t.workers ≡ workers) }
         ensures content { IfOk result (λ t. (q : Active) → content_of t.tracker q ≡ active_at_first (shown_graph paths.value) q) }
@@ -81,7 +82,7 @@ impl LocalViews {
         first: &[Pointstamp],
     ) -> Result<LocalViews, NoMemory>
         requires some { 0 < workers }
-        requires few { workers ≤ 64 }
+        requires few { workers ≤ max_workers }
         requires fit { length first.now < 2 ^ 32 }
         requires known { (q : Active) → 0 < times_in first.now q → IsTimeAt (shown_graph paths.value) q.location q.time }
         ensures graph { IfOk result (λ t. shown_graph t.tracker.graph ≡ shown_graph paths.value) }
@@ -183,7 +184,7 @@ fn reserve_queues(queues: &mut Vec<Queue>, count: usize) -> Result<(), NoMemory>
 
 /// Makes a queue for each worker and for the feeder.
 fn first_queues(alloc: Global, workers: u32) -> Result<Vec<Queue>, NoMemory>
-    requires { workers ≤ 64 }
+    requires { workers ≤ max_workers }
     ensures long { IfOk result (λ qs. length qs.items ≡ workers + 1) }
     ensures each { IfOk result (λ qs. (s : ℕ) (q : Queued) → slice_get qs.items s ≡ Some q → (q.changes ≡ []) × (length q.taken ≡ workers)) }
 {
@@ -211,7 +212,7 @@ fn some_wait(queues: &[Queue], worker: u32) -> bool
 
 /// The number of batches that wait, over all the workers.
 fn all_wait(queues: &[Queue], workers: u32) -> u64
-    requires few { workers ≤ 64 }
+    requires few { workers ≤ max_workers }
     requires taken { AllTaken queues.now workers }
     ensures { result ≡ min (2 ^ 64 - 1) (sum_below workers (λ w. sum_below (length queues.now) (λ s. length (batches_of s (untaken_at queues.now s w))))) }
 {

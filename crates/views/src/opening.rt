@@ -8,10 +8,10 @@ ghost use Rattle.semantics.specs.Graph.{input_count};
 ghost use Rattle.progress.specs.Content.{times_in};
 ghost use Rattle.views.specs.Opening.{active_at_first};
 
-use expr_tree::NoMemory;
 use graph::{Location, VertexId};
 use loop_context::Time;
 use path_summary::{Paths, Pointstamp};
+use record_core::NoMemory;
 use std::alloc::Global;
 
 /// Each input of the graph at epoch 0.

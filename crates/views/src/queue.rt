@@ -6,8 +6,8 @@ ghost use Rattle.semantics.specs.Could.{IsTimeAt, Pointstamp as Active};
 ghost use Rattle.progress.specs.Content.{times_in};
 
 use crate::batches::{end_of_batch, ends, forget, least, lower, push_batch};
-use expr_tree::NoMemory;
 use path_summary::Pointstamp;
+use record_core::NoMemory;
 use std::alloc::Global;
 use std::marker::Model;
 

@@ -7,8 +7,8 @@ ghost use Rattle.machine.specs.Posting.{MayPost};
 ghost use Rattle.progress.specs.Content.{times_in};
 ghost use Rattle.views.specs.Waiting.{IsApplied, IsSeenBy, NoneWaits, SomeWait, Waiting, after_post, all_waiting, batch};
 
-use expr_tree::NoMemory;
 use path_summary::Pointstamp;
+use record_core::NoMemory;
 
 /// The active pointstamps of a graph, as each worker sees them (Naiad, section 3.3). A worker's view lacks the batches of changes that
 /// wait for it; the batches of one sender are applied in order. The senders are the workers, from 0, and then the feeder, whose number is

@@ -35,7 +35,7 @@ use Rattle.expr_tree.proofs.relation.Pair.TheSendSync as pairs
 use Rattle.expr_tree.proofs.relation.Column.TheSendSync as columns
 use Rattle.expr_tree.proofs.relation.Agg.TheSendSync as aggregates
 use Rattle.graph.proofs.vertex.Sources.TheSendSync as sources
-use Rattle.graph.proofs.graph.DeclaredInput.TheSendSync as declared
+use Rattle.record_core.proofs.input.DeclaredInput.TheSendSync as declared
 use Rattle.graph.proofs.graph.GraphOutput.TheSendSync as graph_outputs
 use Rattle.graph.proofs.edges.Edge.TheSendSync as edges
 use Rattle.graph.proofs.location.Location.TheSendSync as locations

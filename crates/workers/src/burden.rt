@@ -53,13 +53,13 @@ impl Brought {
     }
 }
 
-/// The workers that got a message since they last had nothing to do, and the rows of large messages that came to each. The rows are halved each time
-/// a worker has nothing to do, so they also show which workers' notifications are about many rows.
+/// What waits for each worker, and what came to it of late, by the rows of large messages. The first decides whether its mail is worth waking its
+/// thread; the second whether its notifications are, since they are about the rows that came before.
 #[derive(Drop)]
 pub struct Burdens {
     mailed: Crew,
-    heavy: Crew,
-    rows: [u64; MAX_WORKERS as usize],
+    waiting: Rows,
+    recent: Rows,
 }
 
 impl Burdens {
@@ -67,8 +67,8 @@ impl Burdens {
     pub fn new() -> Burdens {
         Burdens {
             mailed: Crew::nobody(),
-            heavy: Crew::nobody(),
-            rows: [0; MAX_WORKERS as usize],
+            waiting: Rows::none(),
+            recent: Rows::none(),
         }
     }
 
@@ -77,9 +77,14 @@ impl Burdens {
         self.mailed
     }
 
-    /// The workers whose events are worth waking a thread.
+    /// The workers whose mail is worth waking a thread.
+    pub fn loaded(&self) -> Crew {
+        self.mailed.both(self.waiting.many)
+    }
+
+    /// The workers without mail whose notifications are worth waking a thread.
     pub fn heavy(&self) -> Crew {
-        self.heavy
+        self.recent.many.but(self.mailed)
     }
 
     /// Notes what was brought.
@@ -88,15 +93,46 @@ impl Burdens {
         if !brought.burdened.is_empty() {
             for worker in 0..MAX_WORKERS {
                 if brought.burdened.has(worker) {
-                    self.set(worker, self.of(worker).saturating_add(brought.rows));
+                    self.waiting.add(worker, brought.rows);
+                    self.recent.add(worker, brought.rows);
                 }
             }
         }
     }
 
+    /// Notes that the worker's next event is taken. What it carries isn't asked: half of what waited is taken to go with it.
+    pub fn take(&mut self, worker: u32) {
+        self.waiting.halve(worker);
+    }
+
     /// Notes that the worker has nothing to do.
     pub fn lighten(&mut self, worker: u32) {
         self.mailed = self.mailed.without(worker);
+        self.waiting.set(worker, 0);
+        self.recent.halve(worker);
+    }
+}
+
+/// Rows by worker, and the workers that have many.
+#[derive(Drop)]
+struct Rows {
+    many: Crew,
+    rows: [u64; MAX_WORKERS as usize],
+}
+
+impl Rows {
+    fn none() -> Rows {
+        Rows {
+            many: Crew::nobody(),
+            rows: [0; MAX_WORKERS as usize],
+        }
+    }
+
+    fn add(&mut self, worker: u32, rows: u64) {
+        self.set(worker, self.of(worker).saturating_add(rows));
+    }
+
+    fn halve(&mut self, worker: u32) {
         let rows = self.of(worker);
         if rows != 0 {
             self.set(worker, rows / 2);
@@ -114,10 +150,10 @@ impl Burdens {
         if let Some(place) = self.rows.get_mut(worker as usize) {
             *place = rows;
         }
-        self.heavy = if rows >= HEAVY {
-            self.heavy.with(worker)
+        self.many = if rows >= HEAVY {
+            self.many.with(worker)
         } else {
-            self.heavy.without(worker)
+            self.many.without(worker)
         };
     }
 }

@@ -12,6 +12,15 @@ impl Crew {
         Crew { bits: 0 }
     }
 
+    /// The set of the first `count` workers.
+    pub fn of_first(count: u32) -> Crew {
+        let mut crew = Crew::nobody();
+        for worker in 0..count {
+            crew = crew.with(worker);
+        }
+        crew
+    }
+
     /// The set of one worker.
     fn of(worker: u32) -> Crew {
         Crew {

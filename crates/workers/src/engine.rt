@@ -13,7 +13,7 @@ use crate::mark::{Mark, Publisher, Seat};
 use crate::plan::{Feed, Plan};
 use board::{Board, Claimed, Look, StepRefusal};
 use events::{Done, Work};
-use expr_tree::NoMemory;
+use record_core::NoMemory;
 use rows::Batch;
 use std::alloc::Global;
 use std::collections::VecDeque;

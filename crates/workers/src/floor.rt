@@ -1,16 +1,16 @@
 //! What the threads share under the lock: the board, and which threads are asleep.
 //!
-//! Each worker has a thread. A thread that has nothing to do for its own worker computes what waits for workers whose threads are asleep, and falls
-//! asleep only when there is nothing of that kind either. So small events are computed by the threads that are up, and a sleeping thread is woken
-//! only when it is worth the cost:
+//! Each worker has a thread. A thread computes small events in turn, of its own worker and of those whose threads are away: asleep, or not started
+//! yet. It falls asleep only when there are none. The turn goes round so that what one worker sends in pieces meets the pieces that the others send;
+//! they are merged in the mailboxes before they are taken. A sleeping thread is woken only when it is worth the cost:
 //!
-//! - when many records have come to its worker, and it has something to do;
-//! - when no thread is up, or all that are up have heavy events of their own, and it has something to do;
+//! - when many records wait for its worker, or it has a notification and many came before;
+//! - when no thread is up, or all that are up have large events, and it has something to do;
 //! - when an input is closed, and it has something to do;
 //! - when the board is at its end.
 //!
 //! No wakeup is lost: whenever the lock is released, either some thread is up, or no sleeping thread has anything to do. A thread that is up looks
-//! after all the sleepers before it sleeps or leaves, in `claim`. When no thread is up, `due` asks for each sleeper. Both apply what waits for a
+//! after all that are away before it sleeps or leaves, in `claim`. When no thread is up, `due` asks for each sleeper. Both apply what waits for a
 //! worker before they conclude that it has nothing to do, so no event is missed because a worker's view is late.
 
 ghost use Rattle.std.specs.Prelude.{◌≡◌, length, IfErr, IfOk};
@@ -57,31 +57,37 @@ impl Wakes {
     }
 }
 
-/// A board with its publisher; the threads that are asleep; those that are up, that is, hold an event or were woken; the workers whose event another
-/// worker's thread computes; what has come to each worker; and the least number of epochs that a thread waits for.
+/// A board with its publisher; the threads that haven't started; those that are asleep; those that are up, that is, hold an event or were woken;
+/// those whose event is large; the workers whose event another worker's thread computes; what has come to each worker; and the least number of
+/// epochs that a thread waits for.
 #[derive(Drop)]
 pub struct Floor<J: Naming, V: Views> {
     pub held: Held<J, V>,
+    absent: Crew,
     asleep: Crew,
     up: Crew,
+    busy: Crew,
     lent: Crew,
     burdens: Burdens,
-    /// The worker that another worker's thread helped last, and the one that `due` asked for last.
-    helped: u32,
+    /// The worker whose turn it is to get an event, and the one that `due` asks for next.
+    turn: u32,
     asked: u32,
     awaited: u64,
 }
 
 impl<J: Naming, V: Views> Floor<J, V> {
-    /// All threads awake.
+    /// No thread has started yet.
     pub fn new(held: Held<J, V>) -> Floor<J, V> {
+        let absent = Crew::of_first(held.workers());
         Floor {
             held,
+            absent,
             asleep: Crew::nobody(),
             up: Crew::nobody(),
+            busy: Crew::nobody(),
             lent: Crew::nobody(),
             burdens: Burdens::new(),
-            helped: 0,
+            turn: 0,
             asked: 0,
             awaited: NONE,
         }
@@ -131,12 +137,14 @@ impl<J: Naming, V: Views> Floor<J, V> {
         (result, wakes)
     }
 
-    /// An event for a thread: one of its own worker, or else one of a sleeping worker.
+    /// An event for a thread: one of its own worker, or of a worker whose thread is away.
     pub fn claim(&mut self, thread: u32) -> Claimed
         ensures { GivesNamed J.names result }
     {
+        self.absent = self.absent.without(thread);
         self.asleep = self.asleep.without(thread);
         self.up = self.up.without(thread);
+        self.busy = self.busy.without(thread);
         let claimed = match self.claim_mailed(thread) {
             Claimed::Idle => self.claim_asked(thread),
             claimed => claimed,
@@ -207,11 +215,13 @@ impl<J: Naming, V: Views> Floor<J, V> {
     {
         let Floor {
             held,
+            absent: _,
             asleep: _,
             up: _,
+            busy: _,
             lent: _,
             burdens: _,
-            helped: _,
+            turn: _,
             asked: _,
             awaited: _,
         } = self;
@@ -235,72 +245,87 @@ impl<J: Naming, V: Views> Floor<J, V> {
         if self.lent.has(thread) && !self.held.is_stopped() {
             return Claimed::Idle;
         }
-        self.claim_of(thread)
+        self.claim_of(thread, thread)
     }
 
-    /// The board's `claim`, after the worker's messages that are alike are merged. Notes a worker that has nothing to do.
-    fn claim_of(&mut self, worker: u32) -> Claimed
+    /// The board's `claim` of a worker for a thread, after the worker's messages that are alike are merged. Notes a worker that has nothing to do.
+    fn claim_of(&mut self, thread: u32, worker: u32) -> Claimed
         ensures { GivesNamed J.names result }
     {
+        let large = self.burdens.loaded().or(self.burdens.heavy()).has(worker);
         self.held.gather(worker);
         let claimed = self.held.claim(worker);
-        if matches!(&claimed, Claimed::Idle) {
-            self.burdens.lighten(worker);
+        match &claimed {
+            Claimed::Work(_) => {
+                self.burdens.take(worker);
+                if large {
+                    self.busy = self.busy.with(thread);
+                }
+            }
+            Claimed::Idle => self.burdens.lighten(worker),
+            Claimed::Stopped | Claimed::Busy | Claimed::Drained => {}
         }
         claimed
     }
 
-    /// An event of a worker that has mail, as is known without asking the board: the thread's own worker, or else a sleeper whose mail isn't worth
-    /// waking its thread.
+    /// An event of a worker that has mail, as is known without asking the board: the thread's own worker if much waits for it, or else its own or one
+    /// whose thread is away, with mail that isn't worth waking the thread.
     fn claim_mailed(&mut self, thread: u32) -> Claimed
         ensures { GivesNamed J.names result }
     {
-        let own = if self.burdens.mailed().has(thread) {
+        let own = if self.burdens.loaded().has(thread) {
             self.claim_own(thread)
         } else {
             Claimed::Idle
         };
-        let light = self.burdens.mailed().but(self.burdens.heavy());
-        let sleepers = self.sleepers().both(light);
+        let light = self.burdens.mailed().but(self.burdens.loaded());
+        let workers = self.away().with(thread).but(self.lent).both(light);
         match own {
-            Claimed::Idle => self.claim_among(sleepers),
+            Claimed::Idle => self.claim_among(thread, workers),
             own => own,
         }
     }
 
-    /// An event of a worker without mail: a notification of the thread's own worker, or else of a sleeper. Finding one means looking at all the
-    /// requests that wait.
+    /// An event of a worker without mail: a notification of the thread's own worker, or else of one whose thread is away. Finding one means looking
+    /// at all the requests that wait.
     fn claim_asked(&mut self, thread: u32) -> Claimed
         ensures { GivesNamed J.names result }
     {
         let own = self.claim_own(thread);
-        let sleepers = self.sleepers().but(self.burdens.mailed());
+        let others = self.away().but(self.lent).but(self.burdens.mailed());
         match own {
-            Claimed::Idle => self.claim_among(sleepers),
+            Claimed::Idle => self.claim_among(thread, others),
             own => own,
         }
     }
 
-    /// An event of one of these sleeping workers.
-    fn claim_among(&mut self, workers: Crew) -> Claimed
+    /// An event of one of these workers, of which no other thread has an event: the one whose turn it is, or else the next that has one.
+    fn claim_among(&mut self, thread: u32, workers: Crew) -> Claimed
         ensures { GivesNamed J.names result }
     {
         let mut left = workers;
         for _worker in 0..MAX_WORKERS {
-            let Some(worker) = left.from(self.helped) else {
+            let Some(worker) = left.from(self.turn) else {
                 return Claimed::Idle;
             };
             left = left.without(worker);
-            match self.claim_of(worker) {
+            match self.claim_of(thread, worker) {
                 Claimed::Work(work) => {
-                    self.lent = self.lent.with(worker);
-                    self.helped = worker;
+                    if worker != thread {
+                        self.lent = self.lent.with(worker);
+                    }
+                    self.turn = worker.wrapping_add(1);
                     return Claimed::Work(work);
                 }
                 Claimed::Stopped | Claimed::Busy | Claimed::Drained | Claimed::Idle => {}
             }
         }
         Claimed::Idle
+    }
+
+    /// The workers whose threads compute nothing: they are asleep, or haven't started.
+    fn away(&self) -> Crew {
+        self.absent.or(self.asleep)
     }
 
     /// The sleeping workers whose event no other thread has.
@@ -341,17 +366,17 @@ impl<J: Naming, V: Views> Floor<J, V> {
             return self.asleep;
         }
         let sleepers = self.sleepers();
-        let heavy = sleepers.both(self.burdens.heavy());
-        let burdened = heavy.both(self.burdens.mailed());
-        if !burdened.is_empty() {
-            return burdened;
+        let loaded = sleepers.both(self.burdens.loaded());
+        if !loaded.is_empty() {
+            return loaded;
         }
         if self.up.is_empty() {
             return self.first_who_can_claim(sleepers);
         }
-        if self.up.but(self.burdens.heavy()).is_empty() {
+        if self.up.but(self.busy).is_empty() {
             return self.next_if_can_claim(sleepers);
         }
+        let heavy = sleepers.both(self.burdens.heavy());
         self.next_if_can_claim(heavy)
     }
 

@@ -15,7 +15,7 @@ ghost use Rattle.workers.specs.Names.{GivesNamed, IsNamed};
 use crate::mark::Publisher;
 use board::{Board, Claimed, CommitRefusal, Look, StepRefusal, gather};
 use events::{CutBatch, Done, Work};
-use expr_tree::NoMemory;
+use record_core::NoMemory;
 use std::alloc::Global;
 use std::marker::{Brand, Model, PhantomData};
 use views::Views;

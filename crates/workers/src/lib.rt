@@ -4,7 +4,7 @@
 //! takes the lock once for a commit and its next claim. A `Plan` cuts what is fed into messages without the lock, and many small batches
 //! can be fed under one lock.
 //!
-//! A thread that has nothing to do for its own worker computes what waits for workers whose threads sleep. A thread is woken only when it is
+//! A thread computes small events in turn, of its own worker and of those whose threads sleep or haven't started. A thread is woken only when it is
 //! worth the cost, after the lock is released: when many records wait for its worker, or no other thread is up. So small events don't wake
 //! threads, and large ones are computed in parallel (`floor.rt` has the rules, and why no wakeup is lost).
 //!

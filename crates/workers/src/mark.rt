@@ -4,7 +4,7 @@ ghost use Rattle.std.specs.Prelude.{◌≡◌, ◌≤◌, ◌<◌, ℕ, All, IfO
 
 use crate::rule::{Load, MarkRule, Observer, Raise, View};
 use atomic_table::Table;
-use expr_tree::NoMemory;
+use record_core::NoMemory;
 use std::alloc::Global;
 use std::marker::Model;
 use std::sync::Arc;

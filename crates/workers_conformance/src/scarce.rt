@@ -7,10 +7,10 @@ ghost use Rattle.progress.specs.Content.{times_at};
 ghost use Rattle.views.specs.Opening.{active_at_first};
 
 use board::Board;
-use expr_tree::NoMemory;
 use graph::Graph;
 use path_summary::{Paths, Pointstamp};
 use progress::LocationTracker;
+use record_core::NoMemory;
 use std::alloc::Global;
 use std::sync::Arc;
 use views::{Direct, LocalViews, Views};

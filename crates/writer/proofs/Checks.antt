@@ -3,6 +3,7 @@ use Rattle.std.proofs.Common.{◌≡◌, ◌≤◌, ◌<◌, ◌+◌, ◌↔◌,
 use Rattle.std.proofs.lemmas.List.{take_more, take_all}
 use Rattle.record_core.specs.Names.{IsName}
 use Rattle.expr_tree.specs.Trees.{LetTree}
+use Rattle.grammar.specs.Texts.{max_height}
 use Rattle.writer.specs.Relations.{heights, rel_height}
 use Rattle.writer.specs.Programs.{lets_height}
 use Rattle.writer.specs.Sources.{Each, Filled, IsLetSource}
@@ -72,13 +73,13 @@ filled_from view Q h room (x ∷ xs) a = fit_from view Q h room (x ∷ xs) a.0 a
 
 -- named relations, of which there may be none
 abbrev pub LetFits : {X : Type 0} → (X → LetTree) → X → Type 0
-LetFits view x = IsLetSource (view x) × (rel_height (view x).relation ≤ 64)
+LetFits view x = IsLetSource (view x) × (rel_height (view x).relation ≤ max_height)
 
-pub lets_to : {X : Type 0} (view : X → LetTree) (xs : List X) → Each (LetFits view) xs → Each IsLetSource (map view xs) × (lets_height (map view xs) ≤ 64)
+pub lets_to : {X : Type 0} (view : X → LetTree) (xs : List X) → Each (LetFits view) xs → Each IsLetSource (map view xs) × (lets_height (map view xs) ≤ max_height)
 lets_to view [] a = (tt, omega arith)
 lets_to view (x ∷ xs) a = let r = lets_to view xs a.1 in let i = r.1 in let j = a.0.1 in ((a.0.0, r.0), omega arith)
 
-pub lets_from : {X : Type 0} (view : X → LetTree) (xs : List X) → Each IsLetSource (map view xs) × (lets_height (map view xs) ≤ 64) → Each (LetFits view) xs
+pub lets_from : {X : Type 0} (view : X → LetTree) (xs : List X) → Each IsLetSource (map view xs) × (lets_height (map view xs) ≤ max_height) → Each (LetFits view) xs
 lets_from view [] a = tt
 lets_from view (x ∷ xs) a = let i = a.1 in ((a.0.0, omega arith), lets_from view xs (a.0.1, omega arith))
 

@@ -10,8 +10,8 @@ ghost use Rattle.writer.specs.Sources.{IsSource, ReadsAs};
 
 use crate::push::{push, push_number};
 use crate::relation::write_rel;
-use expr_tree::{Input, Let, NoMemory, Output, Program};
-use record_core::Name;
+use expr_tree::{Input, Let, Output, Program};
+use record_core::{Name, NoMemory};
 use std::alloc::{AllocError, Allocator};
 
 /// Appends an input's line.

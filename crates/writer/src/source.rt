@@ -6,6 +6,7 @@
 ghost use Rattle.std.specs.Prelude.{◌≤◌, ◌↔◌, IsTrue, map};
 ghost use Rattle.record_core.specs.Names.{IsName};
 ghost use Rattle.expr_tree.specs.Views.{cond_tree, let_tree, output_tree, program_tree, rel_tree, scalar_tree};
+ghost use Rattle.grammar.specs.Texts.{max_height};
 ghost use Rattle.writer.specs.Scalars as scalars;
 ghost use Rattle.writer.specs.Scalars.{scalar_height};
 ghost use Rattle.writer.specs.Conditions as conditions;
@@ -225,13 +226,13 @@ fn are_inputs(inputs: &[Input]) -> bool
 }
 
 fn let_fits<A: Allocator>(item: &Let<A>) -> bool
-    ensures { IsTrue result ↔ (IsLetSource (let_tree item.now) × (rel_height (let_tree item.now).relation ≤ 64)) }
+    ensures { IsTrue result ↔ (IsLetSource (let_tree item.now) × (rel_height (let_tree item.now).relation ≤ max_height)) }
 {
     is_name(&item.name) && rel_fits(&item.relation, MAX_HEIGHT)
 }
 
 fn lets_fit<A: Allocator>(lets: &[Let<A>]) -> bool
-    ensures { IsTrue result ↔ (Each IsLetSource (map let_tree lets.now) × (lets_height (map let_tree lets.now) ≤ 64)) }
+    ensures { IsTrue result ↔ (Each IsLetSource (map let_tree lets.now) × (lets_height (map let_tree lets.now) ≤ max_height)) }
 {
     for item in lets {
         if !let_fits(item) {
@@ -242,14 +243,14 @@ fn lets_fit<A: Allocator>(lets: &[Let<A>]) -> bool
 }
 
 fn output_fits<A: Allocator>(output: &Output<A>) -> bool
-    ensures { IsTrue result ↔ (IsOutputSource (output_tree output.now) × (output_height (output_tree output.now) ≤ 64)) }
+    ensures { IsTrue result ↔ (IsOutputSource (output_tree output.now) × (output_height (output_tree output.now) ≤ max_height)) }
 {
     is_name(&output.name) && rel_fits(&output.relation, MAX_HEIGHT)
 }
 
 /// Whether there are outputs, and each has a text of at most the greatest height.
 fn outputs_fit<A: Allocator>(outputs: &[Output<A>]) -> bool
-    ensures { IsTrue result ↔ (Filled IsOutputSource (map output_tree outputs.now) × (heights output_height (map output_tree outputs.now) ≤ 64)) }
+    ensures { IsTrue result ↔ (Filled IsOutputSource (map output_tree outputs.now) × (heights output_height (map output_tree outputs.now) ≤ max_height)) }
 {
     for output in outputs {
         if !output_fits(output) {

@@ -1,6 +1,6 @@
 use Rattle.std.proofs.Common.{◌≡◌, length}
 use Rattle.std.specs.Vec.Iter.{into_iter_items, into_iter_len}
-use Rattle.board.specs.Desks.{AreWithin, HasRoom, sides_of}
+use Rattle.board.specs.WorkerShown.{AreWithin, HasRoom, sides_of}
 use Rattle.board.specs.Steps.{delivered}
 use Rattle.board.proofs.delivery.deliver.Given as goal
 

@@ -1,7 +1,7 @@
 use Rattle.std.proofs.Common.{◌≡◌, ◌+◌, length, take, vec_capacity}
 use Rattle.semantics.specs.Could.{Pointstamp}
 use Rattle.progress.specs.Content.{times_in}
-use Rattle.board.specs.Desks.{letters_count}
+use Rattle.board.specs.WorkerShown.{letters_count}
 use Rattle.board.proofs.delivery.note_letters.Given as goal
 
 abbrev pub invariant-loop-letter : goal.invariant-loop-letter

@@ -6,7 +6,7 @@ use Rattle.machine.specs.World.{Request}
 use Rattle.events.specs.Happenings.{requests_of}
 use Rattle.board.proofs.Noted.{times_more}
 use Rattle.board.proofs.delivery.note_request.Goals as goal
-use Rattle.board.specs.Desks.{requests_count}
+use Rattle.board.specs.WorkerShown.{requests_count}
 
 pub returns-in-Some-clause-added : goal.returns-in-Some-clause-added
 returns-in-Some-clause-added c q =

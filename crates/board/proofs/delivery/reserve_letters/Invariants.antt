@@ -1,5 +1,5 @@
 use Rattle.std.proofs.Common.{◌≡◌, take}
-use Rattle.board.specs.Desks.{sides_of}
+use Rattle.board.specs.WorkerShown.{sides_of}
 use Rattle.board.proofs.MailboxRoom.{AllRoom}
 use Rattle.board.proofs.delivery.reserve_letters.Given as goal
 

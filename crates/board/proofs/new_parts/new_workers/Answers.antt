@@ -1,4 +1,4 @@
-use Rattle.board.specs.Desks.{sides_of}
+use Rattle.board.specs.WorkerShown.{sides_of}
 use Rattle.board.proofs.Growing.{fresh_sides_more, no_sides, sides_more}
 use Rattle.board.proofs.new_parts.new_workers.Goals as goal
 

@@ -1,4 +1,4 @@
-use Rattle.board.specs.Desks.{sides_of}
+use Rattle.board.specs.WorkerShown.{sides_of}
 use Rattle.board.specs.Fresh.{HasFreshSides}
 use Rattle.board.proofs.new_parts.new_workers.Given as goal
 

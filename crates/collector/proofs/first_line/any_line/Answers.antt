@@ -1,5 +1,5 @@
 use Rattle.std.proofs.Common.{map}
-use Rattle.collector.specs.Said.{plain}
+use Rattle.record_core.specs.Inputs.{input_of}
 use Rattle.collector.specs.Lines.{IsFault}
 use Rattle.collector.proofs.Splits.{split_none, cut_at}
 use Rattle.collector.proofs.first_line.any_line.Goals as goal
@@ -17,7 +17,7 @@ returns-in-Ok c = (
 
 pub returns-in-Err-Fault : goal.returns-in-Err-Fault
 returns-in-Err-Fault c =
-    let bad : IsFault (map plain c.args.inputs.now) c.args.epochs c.around.result.0.now c.in-Err-Fault.fault = rw c.in-Err-Fault.field-0-is at c.in-Err-Fault.ensures in
+    let bad : IsFault (map input_of c.args.inputs.now) c.args.epochs c.around.result.0.now c.in-Err-Fault.fault = rw c.in-Err-Fault.field-0-is at c.in-Err-Fault.ensures in
     rw c.in-Err-Fault.field-0-is (
       c.around.result.0.now,
       c.around.result.1.now,

@@ -1,12 +1,12 @@
 use Rattle.std.proofs.Common.{◌<◌, length, ◌≡◌, ◌∙◌, sym, ap, arith, inl, inr, false, true, get_or, List, ℕ}
 use Rattle.std.proofs.lemmas.Bool.{cases_lt}
 use Rattle.std.proofs.lemmas.Option.{get_or_from_slice_get, slice_get_within}
-use Rattle.collector.specs.declared.line.Declared.{Declared}
+use Rattle.record_core.specs.declared.input.DeclaredInput.{DeclaredInput}
 use Rattle.collector.proofs.InputNames.{is_input, is_absent}
 use Rattle.collector.proofs.line.find_input.Goals as goal
 
-abbrev bytes_of : Declared → List ℕ
-bytes_of d = d.name.now
+abbrev bytes_of : DeclaredInput → List ℕ
+bytes_of d = d.name
 
 pub returns-then-is_same-clause-found : goal.returns-then-is_same-clause-found
 returns-then-is_same-clause-found c = is_input c.args.inputs.now c.args.name.now c.loop-i.i c.index-inputs-i.result c.loop-i-test.true c.index-inputs-i.is (sym c.bytes.ensures.value ∙ c.is_same.ensures.0 c.if-is_same.true) c.loop-i.invariant

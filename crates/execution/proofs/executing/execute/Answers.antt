@@ -1,7 +1,7 @@
 use Rattle.std.proofs.Common.{◌≡◌, ◌∙◌, refl, sym, ap, length}
 use Rattle.std.proofs.lemmas.List.{length-map}
 use Rattle.graph.specs.Shown.{shown_inputs}
-use Rattle.graph.specs.Views.{input_of}
+use Rattle.record_core.specs.Inputs.{input_of}
 use Rattle.execution.proofs.WorkedOff.{is_worked_off}
 use Rattle.execution.proofs.executing.execute.Goals as goal
 

@@ -1,7 +1,7 @@
 use Rattle.std.proofs.Common.{◌≡◌, ◌∷◌, ◌∙◌, [], ap, map, refl, subst, sym, List, ℕ}
+use Rattle.record_core.specs.Inputs.{input_of}
 use Rattle.graph.specs.Shown.{shown_inputs}
 use Rattle.collector.specs.Pieces.{split_on}
-use Rattle.collector.specs.Said.{plain}
 use Rattle.collector.specs.Watching.{inner_of}
 use Rattle.follow.specs.Scenes.{IsWritten, IsPositionAfter}
 use Rattle.follow.proofs.Positions.{opened}
@@ -13,7 +13,7 @@ returns-clause-follows g c =
     let p = c.in_ok-position.position in
     let first = c.in_ok-position.ensures in
     let start = g.W.Write.contents (inner_of c.args.writer.now) in
-    let inputs : map plain c.as_slice-listed.result.now ≡ shown_inputs graph = ap (map plain) c.as_slice-listed.ensures.value ∙ c.in_ok-inputs.ensures ∙ c.inputs.ensures ∙ ap shown_inputs c.deref.ensures in
+    let inputs : map input_of c.inputs-inputs.result.now ≡ shown_inputs graph = c.inputs-inputs.ensures ∙ ap shown_inputs c.deref.ensures in
     let at_first = opened graph c.args.board.now.shown p.base p.intake p.reporting start c.requires.opening.graph c.requires.shows first.base first.new first.fresh in
     let stands : IsPositionAfter graph c.args.board.now.shown p [] start start = record {
       written = subst (λ (xs : List ℕ). IsWritten graph c.args.board.now.shown p.base p.intake p.reporting [] xs start start) (sym first.none) at_first;

@@ -1,11 +1,11 @@
 use Rattle.std.proofs.Common.{◌≡◌, ◌∙◌, ◌++◌, ℕ, List, ap, map, subst, sym}
-use Rattle.collector.specs.Said.{plain}
+use Rattle.record_core.specs.Inputs.{input_of}
 use Rattle.follow.specs.Steps.{TakesLines}
 use Rattle.follow.proofs.following.take_text.Goals as goal
 
 pub returns-in-Ok : goal.returns-in-Ok
 returns-in-Ok g c =
-    let inputs = map plain c.args.inputs.now in
+    let inputs = map input_of c.args.inputs.now in
     let text : c.as_slice.result.now ≡ c.args.pending.now.items = c.as_slice.ensures.value ∙ ap (λ v. v.items) c.replace-text.ensures.value in
     let none : c.replace-text.new.dest.items ++ c.in-Ok.rest.now ≡ c.in-Ok.rest.now = ap (λ (xs : List ℕ). xs ++ c.in-Ok.rest.now) (ap (λ v. v.items) c.replace-text.ensures.after ∙ c.new.ensures.items) in
     let rest : c.in-Ok.rest.now ≡ c.extend_from_slice.new.self.items = sym (c.in_ok-extend_from_slice-in-Ok.ensures.items ∙ none) in

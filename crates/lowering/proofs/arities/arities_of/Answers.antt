@@ -23,7 +23,7 @@ loop-i-preserved g c =
     c.declared_arity-declared.ensures ∙ ap (λ l. slice_index_or l i 0) (ap (λ l. map (λ a. a.arity) l) c.deref.ensures.value ∙ same_arities c.args.program.now.inputs.items) in
     let s : c.sent_arity.result ≡ sent (kind_of v.kind) c.declared_arity-declared.result (arity_in as' (sources_of v.ins) 0) (arity_in as' (sources_of v.ins) 1) = rw c.deref-in-loop-i.ensures.value at c.sent_arity.ensures in
     one_counted p as' c.push.new.self.items i c.sent_arity.result typed lt c.loop-i.invariant
-    (s ∙ one_arity p c.requires.typed.0 as' (vertex_of v) i c.declared_arity-declared.result c.requires.typed.1 typed (c.law_arities.ensures.inputs p) lt x d c.loop-i.invariant.1)
+    (s ∙ one_arity p c.requires.typed.0 as' (vertex_of v) i c.declared_arity-declared.result c.requires.typed.1 typed (c.law_arities.ensures.inputs p) (c.law_program.ensures.input_vertices p) lt x d c.loop-i.invariant.1)
     c.in_ok-push.ensures.items
 
 pub returns : goal.returns

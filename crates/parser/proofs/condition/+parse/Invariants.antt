@@ -1,5 +1,6 @@
 use Rattle.std.proofs.Common.{◌+◌, ◌*◌, ◌<◌, ◌≤◌, length}
 use Rattle.expr_tree.specs.Views.{cond_tree}
+use Rattle.grammar.specs.Texts.{max_height}
 use Rattle.parser.proofs.Conditions.{GoesOn, steps}
 use Rattle.parser.proofs.condition.+parse.Given as goal
 
@@ -20,7 +21,7 @@ invariant-parse_condition-loop-connective g l = record {
   on : GoesOn l.level l.tokens (cond_tree l.left) l.extent l.height l.rest;
   shorter : length l.rest < length l.tokens;
   low : 1 ≤ l.height;
-  most : l.height ≤ 64;
+  most : l.height ≤ max_height;
 }
 
 abbrev pub decreases-parse_condition-loop-connective : goal.decreases-parse_condition-loop-connective

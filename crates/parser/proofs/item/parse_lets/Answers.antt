@@ -3,6 +3,7 @@ use Rattle.std.proofs.lemmas.List.{map-append}
 use Rattle.expr_tree.specs.Views.{let_tree}
 use Rattle.grammar.specs.Phrases.{Unread}
 use Rattle.grammar.specs.Programs.{Lets}
+use Rattle.grammar.specs.Texts.{max_height}
 use Rattle.parser.specs.Items.{Binds}
 use Rattle.parser.proofs.Faults.{denied_with, passed_on}
 use Rattle.parser.proofs.Items.{lets_begin, lets_go_on, lets_end, lets_unread}
@@ -13,8 +14,8 @@ items-init g c = record { on = lets_begin _ _ let_tree c.new-lets.result.items c
 
 pub returns-in_err-next-clause-denied : goal.returns-in_err-next-clause-denied
 returns-in_err-next-clause-denied g c =
-    passed_on c.from_residual.result c.in_err-next.field-0.0 (Unread (Lets c.args.text.now) c.args.tokens.now) 64 (search rules)
-    (denied_with (Unread (Binds c.args.text.now) c.in-Some.after.now) (Unread (Lets c.args.text.now) c.args.tokens.now) c.in_err-next.field-0.0 64
+    passed_on c.from_residual.result c.in_err-next.field-0.0 (Unread (Lets c.args.text.now) c.args.tokens.now) max_height (search rules)
+    (denied_with (Unread (Binds c.args.text.now) c.in-Some.after.now) (Unread (Lets c.args.text.now) c.args.tokens.now) c.in_err-next.field-0.0 max_height
     (λ m u. lets_unread _ _ _ _ _ _ _ m c.items.invariant.on c.in-Some.ensures u) c.in_err-next.ensures.denied)
 
 pub items-preserved : goal.items-preserved

@@ -3,6 +3,7 @@ use Rattle.std.proofs.lemmas.List.{map-append}
 use Rattle.expr_tree.specs.Views.{output_tree}
 use Rattle.grammar.specs.Phrases.{Unread}
 use Rattle.grammar.specs.Programs.{OutputAt}
+use Rattle.grammar.specs.Texts.{max_height}
 use Rattle.parser.specs.Items.{NoOutputs}
 use Rattle.parser.proofs.Faults.{denied_with, passed_on}
 use Rattle.parser.proofs.Outputs.{outputs_begin, outputs_go_on, outputs_end, outputs_unread}
@@ -13,8 +14,8 @@ items-init g c = record { on = outputs_begin _ _ output_tree c.new-outputs.resul
 
 pub returns-in_err-next-clause-denied : goal.returns-in_err-next-clause-denied
 returns-in_err-next-clause-denied g c =
-    passed_on c.from_residual.result c.in_err-next.field-0.0 (NoOutputs c.args.text.now c.args.tokens.now) 64 (search rules)
-    (denied_with (Unread (OutputAt c.args.text.now) c.items.rest.now) (NoOutputs c.args.text.now c.args.tokens.now) c.in_err-next.field-0.0 64
+    passed_on c.from_residual.result c.in_err-next.field-0.0 (NoOutputs c.args.text.now c.args.tokens.now) max_height (search rules)
+    (denied_with (Unread (OutputAt c.args.text.now) c.items.rest.now) (NoOutputs c.args.text.now c.args.tokens.now) c.in_err-next.field-0.0 max_height
     (λ m u. outputs_unread _ _ _ _ _ m c.items.invariant.on u) c.in_err-next.ensures.denied)
 
 pub returns-then-is_empty-clause-found : goal.returns-then-is_empty-clause-found

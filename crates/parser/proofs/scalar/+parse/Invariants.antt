@@ -1,5 +1,6 @@
 use Rattle.std.proofs.Common.{◌+◌, ◌*◌, ◌<◌, ◌≤◌, length}
 use Rattle.expr_tree.specs.Views.{scalar_tree}
+use Rattle.grammar.specs.Texts.{max_height}
 use Rattle.parser.proofs.Scalars.{GoesOn, steps}
 use Rattle.parser.proofs.scalar.+parse.Given as goal
 
@@ -20,7 +21,7 @@ invariant-parse_chain-loop-operator g l = record {
   on : GoesOn l.level l.tokens (scalar_tree l.left) l.extent l.height l.rest;
   shorter : length l.rest < length l.tokens;
   low : 1 ≤ l.height;
-  most : l.height ≤ 64;
+  most : l.height ≤ max_height;
 }
 
 abbrev pub decreases-parse_chain-loop-operator : goal.decreases-parse_chain-loop-operator

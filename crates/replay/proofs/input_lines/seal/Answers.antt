@@ -1,6 +1,6 @@
 use Rattle.std.proofs.Common.{◌∙◌, map, refl, subst, sym}
+use Rattle.record_core.specs.Inputs.{input_of}
 use Rattle.machine.specs.Step.{Step}
-use Rattle.collector.specs.Said.{plain}
 use Rattle.schedule.specs.Commands.{Command}
 use Rattle.replay.specs.Replays.{Does}
 use Rattle.replay.specs.Steps.{IsNumbered}
@@ -11,7 +11,7 @@ pub returns-in-Ok : goal.returns-in-Ok
 returns-in-Ok g c = λ hand.
     let b = c.args.board.now in
     let s = b.shown in
-    let size = input_count_is s (map plain c.args.inputs.now) c.requires.inputs c.law_inputs.ensures in
+    let size = input_count_is s (map input_of c.args.inputs.now) c.requires.inputs c.law_inputs.ensures in
     let numbered = subst (λ inputs. IsNumbered inputs c.args.name.now c.input_number-input.result) c.requires.inputs.same c.input_number-input.ensures in
     let is = open_input s c.args.name.now c.input_number-input.result.0 c.input_number-input.result.1 size numbered (taken_first _ _ c.in-Ok.ensures.answers) in
     posting_leads g.V.Views.late b c.seal.new.self hand (Command.seal c.args.name.now) (Step.seal c.input_number-input.result.0) c.in-Ok.ensures.step c.in-Ok.ensures.tables (λ w k. refl) c.in-Ok.ensures.posts
@@ -21,7 +21,7 @@ pub returns-in-Err : goal.returns-in-Err
 returns-in-Err g c = λ hand.
     let b = c.args.board.now in
     let s = b.shown in
-    let size = input_count_is s (map plain c.args.inputs.now) c.requires.inputs c.law_inputs.ensures in
+    let size = input_count_is s (map input_of c.args.inputs.now) c.requires.inputs c.law_inputs.ensures in
     let numbered = subst (λ inputs. IsNumbered inputs c.args.name.now c.input_number-input.result) c.requires.inputs.same c.input_number-input.ensures in
     refused_answers g.V.Views.late b c.seal.new.self hand (Command.seal c.args.name.now) c.line_refusal.result c.in-Err.ensures.refused
     (λ code has_code x shows holds. Does.seal_refused c.args.name.now code (refused_seal g.V.Views.late s c.args.name.now c.input_number-input.result.0 c.input_number-input.result.1 size numbered c.in-Err.refusal c.in-Err.ensures.answers code (sym c.line_refusal.ensures ∙ has_code) x.world shows.world))

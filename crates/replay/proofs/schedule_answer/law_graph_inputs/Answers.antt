@@ -6,4 +6,4 @@ use Rattle.replay.proofs.schedule_answer.law_graph_inputs.Goals as goal
 pub returns : goal.returns
 returns c =
     let few : length (shown_graph c.args.graph.now) ≤ 4096 = omega (arith, c.vertex_count.ensures.value, c.vertex_count.ensures.few) in
-    are_inputs c.args.graph.now c.law_of_arities.ensures c.law_arities.ensures.inputs few
+    are_inputs c.args.graph.now c.law_of_arities.ensures c.law_arities.ensures.inputs c.law_program.ensures.inputs few

@@ -14,31 +14,29 @@ invariant_of-self g c =
     let there : k < length s.sides = subst (λ (b : BoardShown). k < length b.shown.sides) (sym c.self.view_is) c.requires.there in
     let free : (side_at s k).place ≡ Home = subst (λ (b : BoardShown). (side_at b.shown k).place ≡ Home) (sym c.self.view_is) c.requires.free in
     let runs : s.stopped ≡ false = subst (λ (b : BoardShown). b.shown.stopped ≡ false) (sym c.self.view_is) c.requires.runs in
-    keeps_message (g.V.Views.graph c.self.inside.views) (g.V.Views.workers c.self.inside.views) (g.V.Views.content c.self.inside.views) (g.V.Views.waiting c.self.inside.views) (g.V.Views.room c.self.inside.views) g.V.Views.late c.self.inside.passed s c.self.invariant c.claim_message.new.self k there free runs 0 c.claim_message.result.0 c.claim_message.ensures.hands
+    keeps_message (g.V.Views.graph c.self.inside.views) (g.V.Views.workers c.self.inside.views) (g.V.Views.content c.self.inside.views) (g.V.Views.waiting c.self.inside.views) (g.V.Views.room c.self.inside.views) g.V.Views.late c.self.inside.passed s c.self.invariant c.claim_message.new.self k there free runs c.in-Some.place c.claim_message.result.0 c.claim_message.ensures.hands
 
-pub returns-then-mail_count-gt0-clause-hands : goal.returns-then-mail_count-gt0-clause-hands
-returns-then-mail_count-gt0-clause-hands g c =
+pub returns-in-Some-clause-hands : goal.returns-in-Some-clause-hands
+returns-in-Some-clause-hands g c =
     let s : Shown = c.self.inside.state in
     let k : ℕ = c.args.worker in
     let there : k < length s.sides = subst (λ (b : BoardShown). k < length b.shown.sides) (sym c.self.view_is) c.requires.there in
     let free : (side_at s k).place ≡ Home = subst (λ (b : BoardShown). (side_at b.shown k).place ≡ Home) (sym c.self.view_is) c.requires.free in
     let runs : s.stopped ≡ false = subst (λ (b : BoardShown). b.shown.stopped ≡ false) (sym c.self.view_is) c.requires.runs in
     let P : BoardShown → Type 0 = λ z. Hands z.shown k c.claim_message.new.self c.claim_message.result.0 in
-    (subst P c.self.view_is (hands_message (g.V.Views.graph c.self.inside.views) (g.V.Views.content c.self.inside.views) s c.self.invariant.kept k there free runs c.claim_message.new.self 0 c.claim_message.result.0 c.claim_message.ensures.hands), c.claim_message.ensures.whole)
+    (subst P c.self.view_is (hands_message (g.V.Views.graph c.self.inside.views) (g.V.Views.content c.self.inside.views) s c.self.invariant.kept k there free runs c.claim_message.new.self c.in-Some.place c.claim_message.result.0 c.claim_message.ensures.hands), c.claim_message.ensures.whole)
 
-pub returns-then-mail_count-gt0-clause-tables : goal.returns-then-mail_count-gt0-clause-tables
-returns-then-mail_count-gt0-clause-tables g c =
+pub returns-in-Some-clause-tables : goal.returns-in-Some-clause-tables
+returns-in-Some-clause-tables g c =
     let s : Shown = c.self.inside.state in
     let k : ℕ = c.args.worker in
     let there : k < length s.sides = subst (λ (b : BoardShown). k < length b.shown.sides) (sym c.self.view_is) c.requires.there in
     let free : (side_at s k).place ≡ Home = subst (λ (b : BoardShown). (side_at b.shown k).place ≡ Home) (sym c.self.view_is) c.requires.free in
     let runs : s.stopped ≡ false = subst (λ (b : BoardShown). b.shown.stopped ≡ false) (sym c.self.view_is) c.requires.runs in
-    hands_message_tables (g.V.Views.graph c.self.inside.views) (g.V.Views.content c.self.inside.views) s c.self.invariant.kept k there free runs c.claim_message.new.self 0 c.claim_message.result.0 c.claim_message.ensures.hands ∙ ap tables (ap (λ (b : BoardShown). b.shown) c.self.view_is)
+    hands_message_tables (g.V.Views.graph c.self.inside.views) (g.V.Views.content c.self.inside.views) s c.self.invariant.kept k there free runs c.claim_message.new.self c.in-Some.place c.claim_message.result.0 c.claim_message.ensures.hands ∙ ap tables (ap (λ (b : BoardShown). b.shown) c.self.view_is)
 
-pub returns-then-mail_count-gt0-clause-views : goal.returns-then-mail_count-gt0-clause-views
-returns-then-mail_count-gt0-clause-views g c = record { waits = ap (λ (b : BoardShown). b.waits) c.self.view_is; passed = ap (λ (b : BoardShown). b.passed) c.self.view_is }
+pub returns-in-Some-clause-views : goal.returns-in-Some-clause-views
+returns-in-Some-clause-views g c = record { waits = ap (λ (b : BoardShown). b.waits) c.self.view_is; passed = ap (λ (b : BoardShown). b.passed) c.self.view_is }
 
-pub returns-clause-none : goal.returns-clause-none
-returns-clause-none g c =
-    let none : length (side_at c.self.inside.state c.args.worker).mail ≡ 0 = omega (arith, c.if-mail_count-gt0.false, c.mail_count.ensures) in
-    (refl, subst (λ (b : BoardShown). length (side_at b.shown c.args.worker).mail ≡ 0) c.self.view_is none)
+pub returns-in-None-clause-none : goal.returns-in-None-clause-none
+returns-in-None-clause-none g c = (refl, subst (λ (b : BoardShown). length (side_at b.shown c.args.worker).mail ≡ 0) c.self.view_is c.in-None.ensures.none)

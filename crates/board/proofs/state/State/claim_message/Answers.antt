@@ -5,7 +5,7 @@ use Rattle.machine.specs.World.{Message}
 use Rattle.tokens.specs.Tokens.{Ticket}
 use Rattle.events.specs.Jobs.{Job}
 use Rattle.events.specs.Wired.{Wired}
-use Rattle.board.specs.Desks.{Desk, sides_of}
+use Rattle.board.specs.WorkerShown.{WorkerShown, sides_of}
 use Rattle.board.specs.Shown.{Shown, Side, side_at, event_at}
 use Rattle.progress.proofs.Contents.{got_at}
 use Rattle.board.proofs.Handing.{read_at, hands_message}
@@ -15,7 +15,7 @@ use Rattle.board.proofs.state.State.claim_message.Goals as goal
 pub edge-requires : goal.edge-requires
 edge-requires c =
     let s : Shown = c.args.self.now in
-    let ds : List Desk = c.self.inside.workers.items in
+    let ds : List WorkerShown = c.self.inside.workers.items in
     let k : ℕ = c.args.worker in
     let same : sides_of ds ≡ s.sides = ap (λ (x : Shown). x.sides) c.self.view_is in
     let x : c.index.result.now.side ≡ side_at s k = read_at s ds same k c.requires.there c.index.result.now c.index.ensures in
@@ -33,7 +33,7 @@ edge-requires c =
 pub send_message-event-requires-clause-vertex : goal.send_message-event-requires-clause-vertex
 send_message-event-requires-clause-vertex c =
     let s : Shown = c.args.self.now in
-    let ds : List Desk = c.self.inside.workers.items in
+    let ds : List WorkerShown = c.self.inside.workers.items in
     let k : ℕ = c.args.worker in
     let same : sides_of ds ≡ s.sides = ap (λ (x : Shown). x.sides) c.self.view_is in
     let x : c.index.result.now.side ≡ side_at s k = read_at s ds same k c.requires.there c.index.result.now c.index.ensures in
@@ -52,7 +52,7 @@ send_message-event-requires-clause-vertex c =
 pub send_message-event-requires-clause-shard : goal.send_message-event-requires-clause-shard
 send_message-event-requires-clause-shard c =
     let s : Shown = c.args.self.now in
-    let ds : List Desk = c.self.inside.workers.items in
+    let ds : List WorkerShown = c.self.inside.workers.items in
     let k : ℕ = c.args.worker in
     let same : sides_of ds ≡ s.sides = ap (λ (x : Shown). x.sides) c.self.view_is in
     let x : c.index.result.now.side ≡ side_at s k = read_at s ds same k c.requires.there c.index.result.now c.index.ensures in
@@ -72,7 +72,7 @@ send_message-event-requires-clause-shard c =
 pub new-requires-clause-ready : goal.new-requires-clause-ready
 new-requires-clause-ready c =
     let s : Shown = c.args.self.now in
-    let ds : List Desk = c.self.inside.workers.items in
+    let ds : List WorkerShown = c.self.inside.workers.items in
     let k : ℕ = c.args.worker in
     let same : sides_of ds ≡ s.sides = ap (λ (x : Shown). x.sides) c.self.view_is in
     let x : c.index.result.now.side ≡ side_at s k = read_at s ds same k c.requires.there c.index.result.now c.index.ensures in
@@ -97,7 +97,7 @@ new-requires-clause-ready c =
 pub returns-clause-hands : goal.returns-clause-hands
 returns-clause-hands c =
     let s : Shown = c.args.self.now in
-    let ds : List Desk = c.self.inside.workers.items in
+    let ds : List WorkerShown = c.self.inside.workers.items in
     let k : ℕ = c.args.worker in
     let same : sides_of ds ≡ s.sides = ap (λ (x : Shown). x.sides) c.self.view_is in
     let x : c.index.result.now.side ≡ side_at s k = read_at s ds same k c.requires.there c.index.result.now c.index.ensures in

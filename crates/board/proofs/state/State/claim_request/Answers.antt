@@ -3,7 +3,7 @@ use Rattle.graph.specs.Shown.{shown_graph}
 use Rattle.machine.specs.World.{Request}
 use Rattle.tokens.specs.Tokens.{Ticket}
 use Rattle.events.specs.Jobs.{Job}
-use Rattle.board.specs.Desks.{Desk, sides_of}
+use Rattle.board.specs.WorkerShown.{WorkerShown, sides_of}
 use Rattle.board.specs.Shown.{Shown, Side, side_at, event_at}
 use Rattle.progress.proofs.Contents.{got_at}
 use Rattle.board.proofs.Handing.{read_at, hands_request}
@@ -13,7 +13,7 @@ use Rattle.board.proofs.state.State.claim_request.Goals as goal
 pub send_request-event-requires-clause-vertex : goal.send_request-event-requires-clause-vertex
 send_request-event-requires-clause-vertex c =
     let s : Shown = c.args.self.now in
-    let ds : List Desk = c.self.inside.workers.items in
+    let ds : List WorkerShown = c.self.inside.workers.items in
     let k : ℕ = c.args.worker in
     let same : sides_of ds ≡ s.sides = ap (λ (x : Shown). x.sides) c.self.view_is in
     let x : c.index.result.now.side ≡ side_at s k = read_at s ds same k c.requires.there c.index.result.now c.index.ensures in
@@ -30,7 +30,7 @@ send_request-event-requires-clause-vertex c =
 pub send_request-event-requires-clause-shard : goal.send_request-event-requires-clause-shard
 send_request-event-requires-clause-shard c =
     let s : Shown = c.args.self.now in
-    let ds : List Desk = c.self.inside.workers.items in
+    let ds : List WorkerShown = c.self.inside.workers.items in
     let k : ℕ = c.args.worker in
     let same : sides_of ds ≡ s.sides = ap (λ (x : Shown). x.sides) c.self.view_is in
     let x : c.index.result.now.side ≡ side_at s k = read_at s ds same k c.requires.there c.index.result.now c.index.ensures in
@@ -48,7 +48,7 @@ send_request-event-requires-clause-shard c =
 pub new-requires-clause-ready : goal.new-requires-clause-ready
 new-requires-clause-ready c =
     let s : Shown = c.args.self.now in
-    let ds : List Desk = c.self.inside.workers.items in
+    let ds : List WorkerShown = c.self.inside.workers.items in
     let k : ℕ = c.args.worker in
     let same : sides_of ds ≡ s.sides = ap (λ (x : Shown). x.sides) c.self.view_is in
     let x : c.index.result.now.side ≡ side_at s k = read_at s ds same k c.requires.there c.index.result.now c.index.ensures in
@@ -71,7 +71,7 @@ new-requires-clause-ready c =
 pub returns-clause-hands : goal.returns-clause-hands
 returns-clause-hands c =
     let s : Shown = c.args.self.now in
-    let ds : List Desk = c.self.inside.workers.items in
+    let ds : List WorkerShown = c.self.inside.workers.items in
     let k : ℕ = c.args.worker in
     let same : sides_of ds ≡ s.sides = ap (λ (x : Shown). x.sides) c.self.view_is in
     let x : c.index.result.now.side ≡ side_at s k = read_at s ds same k c.requires.there c.index.result.now c.index.ensures in

@@ -12,7 +12,7 @@ use Rattle.events.specs.Wired.{Wired}
 use Rattle.events.specs.Outputs.{IsOutputOf}
 use Rattle.events.specs.declared.letter.Letter.{Letter}
 use Rattle.events.specs.declared.work.Output.{Output}
-use Rattle.board.specs.Desks.{Desk, AreWithin, sides_of}
+use Rattle.board.specs.WorkerShown.{WorkerShown, AreWithin, sides_of}
 use Rattle.board.specs.Shown.{Shown, Side, side_at, side_in, event_at, location_vertex}
 use Rattle.board.specs.Steps.{with_emitted}
 use Rattle.board.proofs.Facts as facts
@@ -31,11 +31,11 @@ pub prepare-requires-clause-there : goal.prepare-requires-clause-there
 prepare-requires-clause-there g c =
     let s : Shown = c.args.self.now in
     let p : Pass = c.args.done in
-    let ds : List Desk = c.self.inside.workers.items in
+    let ds : List WorkerShown = c.self.inside.workers.items in
     let k : ℕ = c.worker-number.result in
     let same : sides_of ds ≡ s.sides = ap (λ (x : Shown). x.sides) c.self.view_is in
     let there : k < length ds = worker_there s p c.requires.own ds k c.worker-number.ensures same in
-    let shown : sides_of (slice_set ds k c.show-stub.new.self) ≡ sides_of ds = sides_same ds k c.show-stub.new.self c.index_mut.result.now there c.index_mut.ensures.value (ap (λ (x : Desk). x.side) c.show-stub.ensures.state) in
+    let shown : sides_of (slice_set ds k c.show-stub.new.self) ≡ sides_of ds = sides_same ds k c.show-stub.new.self c.index_mut.result.now there c.index_mut.ensures.value (ap (λ (x : WorkerShown). x.side) c.show-stub.ensures.state) in
     let many : length (slice_set ds k c.show-stub.new.self) ≡ length ds = as_many (slice_set ds k c.show-stub.new.self) ds shown in
     let many_sides : length ds ≡ length s.sides = sym (sides_length ds) ∙ ap length same in
     omega (arith, there, many)
@@ -44,11 +44,11 @@ pub prepare-requires-clause-within : goal.prepare-requires-clause-within
 prepare-requires-clause-within g c =
     let s : Shown = c.args.self.now in
     let p : Pass = c.args.done in
-    let ds : List Desk = c.self.inside.workers.items in
+    let ds : List WorkerShown = c.self.inside.workers.items in
     let k : ℕ = c.worker-number.result in
     let same : sides_of ds ≡ s.sides = ap (λ (x : Shown). x.sides) c.self.view_is in
     let there : k < length ds = worker_there s p c.requires.own ds k c.worker-number.ensures same in
-    let shown : sides_of (slice_set ds k c.show-stub.new.self) ≡ sides_of ds = sides_same ds k c.show-stub.new.self c.index_mut.result.now there c.index_mut.ensures.value (ap (λ (x : Desk). x.side) c.show-stub.ensures.state) in
+    let shown : sides_of (slice_set ds k c.show-stub.new.self) ≡ sides_of ds = sides_same ds k c.show-stub.new.self c.index_mut.result.now there c.index_mut.ensures.value (ap (λ (x : WorkerShown). x.side) c.show-stub.ensures.state) in
     let many : length (slice_set ds k c.show-stub.new.self) ≡ length ds = as_many (slice_set ds k c.show-stub.new.self) ds shown in
     let many_sides : length ds ≡ length s.sides = sym (sides_length ds) ∙ ap length same in
     let x : c.index_mut.result.now.side ≡ side_at s p.worker = read_side s p c.requires.own ds k c.worker-number.ensures same c.index_mut.result.now c.index_mut.ensures.value in
@@ -65,11 +65,11 @@ pub vertex_at-vertex-requires : goal.vertex_at-vertex-requires
 vertex_at-vertex-requires g c =
     let s : Shown = c.args.self.now in
     let p : Pass = c.args.done in
-    let ds : List Desk = c.self.inside.workers.items in
+    let ds : List WorkerShown = c.self.inside.workers.items in
     let k : ℕ = c.worker-number.result in
     let same : sides_of ds ≡ s.sides = ap (λ (x : Shown). x.sides) c.self.view_is in
     let there : k < length ds = worker_there s p c.requires.own ds k c.worker-number.ensures same in
-    let shown : sides_of (slice_set ds k c.show-stub.new.self) ≡ sides_of ds = sides_same ds k c.show-stub.new.self c.index_mut.result.now there c.index_mut.ensures.value (ap (λ (x : Desk). x.side) c.show-stub.ensures.state) in
+    let shown : sides_of (slice_set ds k c.show-stub.new.self) ≡ sides_of ds = sides_same ds k c.show-stub.new.self c.index_mut.result.now there c.index_mut.ensures.value (ap (λ (x : WorkerShown). x.side) c.show-stub.ensures.state) in
     let many : length (slice_set ds k c.show-stub.new.self) ≡ length ds = as_many (slice_set ds k c.show-stub.new.self) ds shown in
     let many_sides : length ds ≡ length s.sides = sym (sides_length ds) ∙ ap length same in
     let x : c.index_mut.result.now.side ≡ side_at s p.worker = read_side s p c.requires.own ds k c.worker-number.ensures same c.index_mut.result.now c.index_mut.ensures.value in
@@ -89,11 +89,11 @@ pub finish-requires-clause-table : goal.finish-requires-clause-table
 finish-requires-clause-table g c =
     let s : Shown = c.args.self.now in
     let p : Pass = c.args.done in
-    let ds : List Desk = c.self.inside.workers.items in
+    let ds : List WorkerShown = c.self.inside.workers.items in
     let k : ℕ = c.worker-number.result in
     let same : sides_of ds ≡ s.sides = ap (λ (x : Shown). x.sides) c.self.view_is in
     let there : k < length ds = worker_there s p c.requires.own ds k c.worker-number.ensures same in
-    let shown : sides_of (slice_set ds k c.show-stub.new.self) ≡ sides_of ds = sides_same ds k c.show-stub.new.self c.index_mut.result.now there c.index_mut.ensures.value (ap (λ (x : Desk). x.side) c.show-stub.ensures.state) in
+    let shown : sides_of (slice_set ds k c.show-stub.new.self) ≡ sides_of ds = sides_same ds k c.show-stub.new.self c.index_mut.result.now there c.index_mut.ensures.value (ap (λ (x : WorkerShown). x.side) c.show-stub.ensures.state) in
     let many : length (slice_set ds k c.show-stub.new.self) ≡ length ds = as_many (slice_set ds k c.show-stub.new.self) ds shown in
     let many_sides : length ds ≡ length s.sides = sym (sides_length ds) ∙ ap length same in
     let now : sides_of c.prepare.new.workers.items ≡ s.sides = c.prepare.ensures.sides ∙ shown ∙ same in
@@ -104,7 +104,7 @@ pub emit-requires : goal.emit-requires
 emit-requires g c =
     let s : Shown = c.args.self.now in
     let p : Pass = c.args.done in
-    let ds : List Desk = c.self.inside.workers.items in
+    let ds : List WorkerShown = c.self.inside.workers.items in
     let k : ℕ = c.worker-number.result in
     let same : sides_of ds ≡ s.sides = ap (λ (x : Shown). x.sides) c.self.view_is in
     let x : c.index_mut.result.now.side ≡ side_at s p.worker = read_side s p c.requires.own ds k c.worker-number.ensures same c.index_mut.result.now c.index_mut.ensures.value in
@@ -123,11 +123,11 @@ pub finish-requires-clause-vertex : goal.finish-requires-clause-vertex
 finish-requires-clause-vertex g c =
     let s : Shown = c.args.self.now in
     let p : Pass = c.args.done in
-    let ds : List Desk = c.self.inside.workers.items in
+    let ds : List WorkerShown = c.self.inside.workers.items in
     let k : ℕ = c.worker-number.result in
     let same : sides_of ds ≡ s.sides = ap (λ (x : Shown). x.sides) c.self.view_is in
     let there : k < length ds = worker_there s p c.requires.own ds k c.worker-number.ensures same in
-    let shown : sides_of (slice_set ds k c.show-stub.new.self) ≡ sides_of ds = sides_same ds k c.show-stub.new.self c.index_mut.result.now there c.index_mut.ensures.value (ap (λ (x : Desk). x.side) c.show-stub.ensures.state) in
+    let shown : sides_of (slice_set ds k c.show-stub.new.self) ≡ sides_of ds = sides_same ds k c.show-stub.new.self c.index_mut.result.now there c.index_mut.ensures.value (ap (λ (x : WorkerShown). x.side) c.show-stub.ensures.state) in
     let many : length (slice_set ds k c.show-stub.new.self) ≡ length ds = as_many (slice_set ds k c.show-stub.new.self) ds shown in
     let many_sides : length ds ≡ length s.sides = sym (sides_length ds) ∙ ap length same in
     let x : c.index_mut.result.now.side ≡ side_at s p.worker = read_side s p c.requires.own ds k c.worker-number.ensures same c.index_mut.result.now c.index_mut.ensures.value in
@@ -148,11 +148,11 @@ pub finish-requires-clause-within : goal.finish-requires-clause-within
 finish-requires-clause-within g c =
     let s : Shown = c.args.self.now in
     let p : Pass = c.args.done in
-    let ds : List Desk = c.self.inside.workers.items in
+    let ds : List WorkerShown = c.self.inside.workers.items in
     let k : ℕ = c.worker-number.result in
     let same : sides_of ds ≡ s.sides = ap (λ (x : Shown). x.sides) c.self.view_is in
     let there : k < length ds = worker_there s p c.requires.own ds k c.worker-number.ensures same in
-    let shown : sides_of (slice_set ds k c.show-stub.new.self) ≡ sides_of ds = sides_same ds k c.show-stub.new.self c.index_mut.result.now there c.index_mut.ensures.value (ap (λ (x : Desk). x.side) c.show-stub.ensures.state) in
+    let shown : sides_of (slice_set ds k c.show-stub.new.self) ≡ sides_of ds = sides_same ds k c.show-stub.new.self c.index_mut.result.now there c.index_mut.ensures.value (ap (λ (x : WorkerShown). x.side) c.show-stub.ensures.state) in
     let many : length (slice_set ds k c.show-stub.new.self) ≡ length ds = as_many (slice_set ds k c.show-stub.new.self) ds shown in
     let many_sides : length ds ≡ length s.sides = sym (sides_length ds) ∙ ap length same in
     let x : c.index_mut.result.now.side ≡ side_at s p.worker = read_side s p c.requires.own ds k c.worker-number.ensures same c.index_mut.result.now c.index_mut.ensures.value in
@@ -172,11 +172,11 @@ pub returns-in-Ok-clause-settles : goal.returns-in-Ok-clause-settles
 returns-in-Ok-clause-settles g c =
     let s : Shown = c.args.self.now in
     let p : Pass = c.args.done in
-    let ds : List Desk = c.self.inside.workers.items in
+    let ds : List WorkerShown = c.self.inside.workers.items in
     let k : ℕ = c.worker-number.result in
     let same : sides_of ds ≡ s.sides = ap (λ (x : Shown). x.sides) c.self.view_is in
     let there : k < length ds = worker_there s p c.requires.own ds k c.worker-number.ensures same in
-    let shown : sides_of (slice_set ds k c.show-stub.new.self) ≡ sides_of ds = sides_same ds k c.show-stub.new.self c.index_mut.result.now there c.index_mut.ensures.value (ap (λ (x : Desk). x.side) c.show-stub.ensures.state) in
+    let shown : sides_of (slice_set ds k c.show-stub.new.self) ≡ sides_of ds = sides_same ds k c.show-stub.new.self c.index_mut.result.now there c.index_mut.ensures.value (ap (λ (x : WorkerShown). x.side) c.show-stub.ensures.state) in
     let many : length (slice_set ds k c.show-stub.new.self) ≡ length ds = as_many (slice_set ds k c.show-stub.new.self) ds shown in
     let many_sides : length ds ≡ length s.sides = sym (sides_length ds) ∙ ap length same in
     let x : c.index_mut.result.now.side ≡ side_at s p.worker = read_side s p c.requires.own ds k c.worker-number.ensures same c.index_mut.result.now c.index_mut.ensures.value in

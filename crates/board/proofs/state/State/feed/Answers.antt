@@ -7,7 +7,7 @@ use Rattle.events.specs.Cuts.{Cut, cut_letters}
 use Rattle.events.specs.Letters.{AreParcels}
 use Rattle.events.specs.Wired.{Wired, network_of}
 use Rattle.events.specs.declared.letter.Letter.{Letter}
-use Rattle.board.specs.Desks.{sides_of}
+use Rattle.board.specs.WorkerShown.{sides_of}
 use Rattle.board.specs.Shown.{InputShown, Shown, input_at, no_input}
 use Rattle.board.specs.Steps.{delivered, more_at}
 use Rattle.board.proofs.Ending.{many_delivered}

@@ -1,5 +1,5 @@
 use Rattle.std.proofs.Common.{◌≡◌, ℕ, List, refl, ap, slice_set}
-use Rattle.board.specs.Desks.{Desk, sides_of}
+use Rattle.board.specs.WorkerShown.{WorkerShown, sides_of}
 use Rattle.board.specs.Shown.{Shown}
 use Rattle.board.proofs.Merged.{merges_none, merges_some}
 use Rattle.board.proofs.state.State.merge.Goals as goal
@@ -7,7 +7,7 @@ use Rattle.board.proofs.state.State.merge.Goals as goal
 pub returns-clause-merges : goal.returns-clause-merges
 returns-clause-merges c =
     let s : Shown = c.args.self.now in
-    let ds : List Desk = c.self.inside.workers.items in
+    let ds : List WorkerShown = c.self.inside.workers.items in
     let k : ℕ = c.args.worker in
     let same : sides_of ds ≡ s.sides = ap (λ (x : Shown). x.sides) c.self.view_is in
     let t : Shown = record { graph = c.self.inside.wiring.value.graph; inputs = c.self.inside.inputs.items; sides = sides_of (slice_set ds k c.merge.new.self); emitted = c.self.inside.emitted; stopped = c.self.inside.stopped } in
@@ -18,7 +18,7 @@ returns-clause-merges c =
 pub returns-clause-same : goal.returns-clause-same
 returns-clause-same c =
     let s : Shown = c.args.self.now in
-    let ds : List Desk = c.self.inside.workers.items in
+    let ds : List WorkerShown = c.self.inside.workers.items in
     let k : ℕ = c.args.worker in
     let same : sides_of ds ≡ s.sides = ap (λ (x : Shown). x.sides) c.self.view_is in
     let t : Shown = record { graph = c.self.inside.wiring.value.graph; inputs = c.self.inside.inputs.items; sides = sides_of (slice_set ds k c.merge.new.self); emitted = c.self.inside.emitted; stopped = c.self.inside.stopped } in

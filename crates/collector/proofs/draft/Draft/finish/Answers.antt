@@ -1,4 +1,4 @@
-use Rattle.std.proofs.Common.{◌∷◌, ◌++◌, [], ℤ, List, arith, get_or, length, subst, sym}
+use Rattle.std.proofs.Common.{◌∷◌, ◌++◌, [], ℤ, List, arith, get_or, subst, sym}
 use Rattle.std.proofs.lemmas.List.{length-append}
 use Rattle.collector.specs.Piles.{AreAlike}
 use Rattle.collector.proofs.Batched.{inputs_alike}

@@ -1,7 +1,8 @@
 use Rattle.std.proofs.Common.{vec_items, map, subst}
 use Rattle.graph.specs.GraphLaws.{IsProgramGraph}
 use Rattle.graph.specs.Shown.{shown_graph, shown_inputs}
-use Rattle.graph.specs.Views.{graph_of, input_of}
+use Rattle.graph.specs.Views.{graph_of}
+use Rattle.record_core.specs.Inputs.{input_of}
 use Rattle.graph.proofs.graph.Graph.law_of_program.Goals as goal
 
 pub returns : goal.returns

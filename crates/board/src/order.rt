@@ -1,0 +1,60 @@
+//! Chooses the message that a worker takes next.
+
+ghost use Rattle.std.specs.Prelude.{◌<◌, length};
+
+use crate::merging::WINDOW;
+use events::Message;
+use exchange::Mailbox;
+use std::cmp::Ordering;
+
+/// The place of the message to take next: the earliest of the first ones, so that what is sent in pieces is together before it is taken. If others
+/// are like it, it is left for when it is the first, since messages are merged into the first one only; the first is taken then. Any choice is right:
+/// the order decides only how many events there are.
+pub fn next_place(mailbox: &Mailbox<Message>) -> usize
+    requires { 0 < length mailbox.now.messages }
+    ensures { result < length mailbox.now.messages }
+{
+    let earliest = earliest(mailbox);
+    if is_alone(mailbox, earliest) {
+        earliest
+    } else {
+        0
+    }
+}
+
+/// The place of the earliest message, of the first one and those within the window behind it.
+fn earliest(mailbox: &Mailbox<Message>) -> usize
+    requires { 0 < length mailbox.now.messages }
+    ensures { result < length mailbox.now.messages }
+{
+    let mut earliest = 0;
+    for place in 1..mailbox.len().min(WINDOW + 1) {
+        if is_before(mailbox.get(place), mailbox.get(earliest)) {
+            earliest = place;
+        }
+    }
+    earliest
+}
+
+/// Whether no other message of those may be merged with the one at that place.
+fn is_alone(mailbox: &Mailbox<Message>, place: usize) -> bool
+    requires { place < length mailbox.now.messages }
+{
+    let message = mailbox.get(place);
+    for other in 0..mailbox.len().min(WINDOW + 1) {
+        if other != place && message.may_merge(mailbox.get(other)) {
+            return false;
+        }
+    }
+    true
+}
+
+/// Whether one message comes before the other: by its time, and then by its edge. Edges are numbered in the order of the vertices that they enter,
+/// so within a turn of a loop a vertex comes after those that send to it.
+fn is_before(one: &Message, other: &Message) -> bool {
+    match one.time().cmp(other.time()) {
+        Ordering::Less => true,
+        Ordering::Equal => one.edge().0 < other.edge().0,
+        Ordering::Greater => false,
+    }
+}

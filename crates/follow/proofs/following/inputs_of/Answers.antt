@@ -1,8 +1,0 @@
-use Rattle.std.proofs.Common.{refl, arith}
-use Rattle.graph.specs.Views.{input_of}
-use Rattle.collector.proofs.DeclaredInputs.{one_declared_more}
-use Rattle.follow.proofs.following.inputs_of.Goals as goal
-
-pub loop-input-preserved : goal.loop-input-preserved
-loop-input-preserved c =
-    one_declared_more input_of c.loop-input.declared.items c.push.new.self.items _ c.args.inputs.now c.loop-input.input-index c.input-item.result (omega arith) c.input-item.is refl c.loop-input.invariant c.in_ok-push.ensures.items

@@ -1,7 +1,0 @@
-use Rattle.std.proofs.Common.{◌≡◌, map, take}
-use Rattle.expr_tree.specs.Plain.{plain_input}
-use Rattle.graph.specs.Views.{input_of}
-use Rattle.lowering.proofs.lowered.copy_inputs.Given as goal
-
-abbrev pub invariant-loop-input : goal.invariant-loop-input
-invariant-loop-input g l = map input_of l.copy.items ≡ map plain_input (take l.input-index l.inputs.items)
