@@ -47,6 +47,15 @@ pub fn batch_of(alloc: Global, field: i64) -> Option<Batch> {
     Batch::from_rows(alloc, rows).ok()?
 }
 
+/// A batch of a record of one field for each of these numbers; nothing where there are none.
+pub fn batch_of_range(alloc: Global, from: i64, to: i64) -> Option<Batch> {
+    let mut rows = Rows::with_capacity(alloc, 1, 1).ok()?;
+    for field in from..to {
+        rows.push(&[field]).ok()?;
+    }
+    Batch::from_rows(alloc, rows).ok()?
+}
+
 /// How often the field is in these batches.
 pub fn count_of(batches: &[Batch], field: i64) -> u64 {
     let mut count = 0u64;

@@ -3,9 +3,12 @@
 ghost use Rattle.std.specs.Prelude.{◌≡◌, All};
 ghost use Rattle.board.specs.Shown.{tables};
 
-use crate::boards::{batch_of, copying, copying_with_local_views, count_of, emitted};
+use crate::boards::{
+    batch_of, batch_of_range, copying, copying_with_local_views, count_of, emitted,
+};
 use crate::flags::Meeting;
 use board::Board;
+use rows::Batch;
 use std::alloc::Global;
 use std::marker::Brand;
 use std::sync::Wait;
@@ -25,12 +28,13 @@ struct Outcome {
     once: u64,
 }
 
-/// Two workers are at work while two threads feed 0 to 99 and 100 to 199.
+/// Two workers are at work while two threads feed 0 to 99 and 100 to 199. A first batch may be fed before the threads start.
 fn two_by_two<J: Naming + Send + Sync, V: Views + Send, G: Gate + Sync, R: Threads + Wait + Sync>(
     rt: &R,
     alloc: Global,
     board: Board<V>,
     gate: &G,
+    first: Option<Batch>,
 ) -> Option<Outcome>
     requires names { tables board.shown ≡ J.names }
     requires graph { board.shown.graph ≡ J.graph }
@@ -38,6 +42,9 @@ fn two_by_two<J: Naming + Send + Sync, V: Views + Send, G: Gate + Sync, R: Threa
     let (mark, publisher, _seats) = Mark::new(alloc, 0).ok()?;
     let shared = Engine::<J, V>::new(alloc, board, publisher).ok()?;
     let engine = &shared;
+    if let Some(batch) = first {
+        engine.feed(rt, alloc, 0, batch).ok()?;
+    }
     let (ended, ()) = thread::join(
         rt,
         move || work_both(rt, alloc, engine, gate),
@@ -125,8 +132,9 @@ fn run_two<V: Views + Send, G: Gate + Sync, R: Threads + Wait + Sync>(
     alloc: Global,
     board: Board<V>,
     gate: &G,
+    first: Option<Batch>,
 ) -> Option<Outcome> {
-    two_by_two::<Brand, V, G, R>(rt, alloc, board, gate)
+    two_by_two::<Brand, V, G, R>(rt, alloc, board, gate, first)
 }
 
 /// Both workers have found all work done, and each number was emitted once.
@@ -143,7 +151,7 @@ fn all_once() -> Outcome {
 fn two_feeders(rt: HostRuntime) -> Result<(), Fail> {
     let alloc = rt.alloc();
     let board = copying(alloc, 2).ok_or("no board")?;
-    let outcome = run_two(&rt, alloc, board, &NoGate).ok_or("no report")?;
+    let outcome = run_two(&rt, alloc, board, &NoGate, None).ok_or("no report")?;
     assert_eq!(rt; outcome, all_once());
     Ok(())
 }
@@ -152,17 +160,19 @@ fn two_feeders(rt: HostRuntime) -> Result<(), Fail> {
 fn two_feeders_with_local_views(rt: HostRuntime) -> Result<(), Fail> {
     let alloc = rt.alloc();
     let board = copying_with_local_views(alloc, 2).ok_or("no board")?;
-    let outcome = run_two(&rt, alloc, board, &NoGate).ok_or("no report")?;
+    let outcome = run_two(&rt, alloc, board, &NoGate, None).ok_or("no report")?;
     assert_eq!(rt; outcome, all_once());
     Ok(())
 }
 
+/// Each worker's part of the first batch is large, so no other thread computes it.
 #[test]
 fn two_at_once(rt: HostRuntime) -> Result<(), Fail> {
     let alloc = rt.alloc();
     let board = copying(alloc, 2).ok_or("no board")?;
+    let large = batch_of_range(alloc, 1_000, 11_000).ok_or("no batch")?;
     let meeting = Meeting::new();
-    let outcome = run_two(&rt, alloc, board, &meeting).ok_or("no report")?;
+    let outcome = run_two(&rt, alloc, board, &meeting, Some(large)).ok_or("no report")?;
     assert_eq!(rt; outcome.once, 200);
     assert!(rt; meeting.have_met());
     Ok(())
