@@ -48,7 +48,7 @@ pub fn split(
     Ok(parcels)
 }
 
-/// The worker to which all records go, if there is one.
+/// The worker to which all records go, if there is one. Where records stay, none is looked at.
 #[tactic(auto, using(crate::proofs::Gathering::home_there))]
 fn common_home(batch: &Batch, routing: &Routing, workers: u32, sender: u32) -> Option<u32>
     requires fits { workers ≤ max_workers }
@@ -60,7 +60,7 @@ fn common_home(batch: &Batch, routing: &Routing, workers: u32, sender: u32) -> O
     ensures each { IfSome result (AllGoTo (home_of routing.now workers sender) (runs batch.now)) }
 {
     let count = batch.len();
-    if workers == 1 {
+    if workers == 1 || matches!(routing, Routing::Stay) {
         return Some(sender);
     }
     let worker = routing.home(workers, sender, batch.row(0));
@@ -84,7 +84,7 @@ fn spread(
     requires sender { sender < workers }
     ensures { IfOk result (λ parts. IsSpread (home_of routing.now workers sender) (arity_of batch.now) (runs batch.now) workers parts.items) }
 {
-    let mut parts = empty_parts(alloc, batch.arity(), workers)?;
+    let mut parts = empty_parts(alloc, batch.arity(), workers, share(batch.len(), workers))?;
     for k in 0..batch.len() {
         let row = batch.row(k);
         let worker = routing.home(workers, sender, row);
@@ -93,7 +93,22 @@ fn spread(
     Ok(parts)
 }
 
-fn empty_parts(alloc: Global, arity: usize, workers: u32) -> Result<Vec<CountedRows>, NoMemory>
+/// For how many of these rows each worker's part takes room at once: an equal share and a quarter more. It saves time alone, and no clause speaks of
+/// it.
+fn share(rows: usize, workers: u32) -> usize
+    requires { 0 < workers }
+{
+    let equal = rows / workers as usize;
+    equal.saturating_add(equal / 4)
+}
+
+/// A list for each worker, with room for that many rows.
+fn empty_parts(
+    alloc: Global,
+    arity: usize,
+    workers: u32,
+    rows: usize,
+) -> Result<Vec<CountedRows>, NoMemory>
     requires some { 1 ≤ arity }
     requires fits { arity ≤ max_fields }
     ensures len { IfOk result (λ parts. length parts.items ≡ workers) }
@@ -101,7 +116,7 @@ fn empty_parts(alloc: Global, arity: usize, workers: u32) -> Result<Vec<CountedR
 {
     let mut parts = Vec::with_capacity(alloc, workers as usize)?;
     for _worker in 0..workers {
-        parts.push(CountedRows::new(alloc, arity))?;
+        parts.push(CountedRows::with_capacity(alloc, arity, rows)?)?;
     }
     Ok(parts)
 }
