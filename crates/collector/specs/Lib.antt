@@ -7,6 +7,7 @@ pub mod ReadEpochs
 pub mod Drafts
 pub mod DraftGrowth
 pub mod Watching
+pub mod Recording
 pub mod WrittenBytes
 pub mod Partitions
 pub mod OutputText

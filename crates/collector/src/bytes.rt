@@ -1,7 +1,7 @@
 //! Reads all that a reader gives, or a limited number of bytes.
 
-ghost use Rattle.std.specs.Prelude.{◌≡◌, true, take, IfOk, IfSome, IsErrOf};
-ghost use Rattle.collector.specs.Watching.{has_failed, inner_of};
+ghost use Rattle.std.specs.Prelude.{◌≡◌, ◌⊎◌, true, length, take, IfOk, IfSome, IsErrOf, OnErr};
+ghost use Rattle.collector.specs.Watching.{Hands, HandsAll, HandsSome, has_ended, has_failed, inner_of};
 ghost use Rattle.collector.specs.declared.bytes.ReadFault.TheVariants.{Failed};
 
 use crate::watched::Watched;
@@ -19,6 +19,8 @@ pub enum ReadFault {
 /// Reads everything that the reader gives.
 pub fn read_all<R: Read>(alloc: Global, reader: &mut Watched<R>) -> Result<Vec<u8>, ReadFault>
     ensures bytes { IfOk result (λ v. IfSome (R.remaining (inner_of reader.old)) (λ xs. v.items ≡ xs)) }
+    ensures all { IfOk result (λ v. HandsAll reader.old reader.new v.items) }
+    ensures part { OnErr result (HandsSome reader.old reader.new) }
     ensures failed { IsErrOf result Failed → has_failed reader.new ≡ true }
 {
     let mut bytes = Vec::new(alloc);
@@ -43,6 +45,9 @@ pub fn read_at_most<R: Read>(
     reader: &mut Watched<R>,
 ) -> Result<Vec<u8>, ReadFault>
     ensures bytes { IfOk result (λ v. IfSome (R.remaining (inner_of reader.old)) (λ xs. v.items ≡ take limit xs)) }
+    ensures hands { IfOk result (λ v. Hands reader.old reader.new v.items) }
+    ensures whole { IfOk result (λ v. (has_ended reader.new ≡ true) ⊎ (length v.items ≡ limit)) }
+    ensures part { OnErr result (HandsSome reader.old reader.new) }
     ensures failed { IsErrOf result Failed → has_failed reader.new ≡ true }
 {
     let mut bytes = Vec::new(alloc);

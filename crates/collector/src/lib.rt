@@ -18,10 +18,12 @@ mod output;
 mod partition;
 mod quick;
 mod reading;
+mod recorded;
 mod refusal;
 mod sameness;
 mod sorter;
 mod splitting;
+mod trace;
 mod watched;
 mod writing;
 
@@ -34,9 +36,11 @@ pub use line::{Line, find_input, first_word, is_word, read_fields, rest_is_fille
 pub use output::{OutFault, OutputEpochs, push_partition, push_sorted, write_epochs};
 pub use partition::Partition;
 pub use reading::read_input;
+pub use recorded::Recorded;
 pub use refusal::{Fault, InputRefusal};
 pub use sameness::same_batches;
 pub use sorter::{Alone, Sorter};
 pub use splitting::{around, find};
+pub use trace::Trace;
 pub use watched::Watched;
 pub use writing::{Broken, put};

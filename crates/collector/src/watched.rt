@@ -1,21 +1,25 @@
-//! Readers and writers that remember whether they failed.
+//! Readers and writers that remember whether they failed, and what readers have handed over.
 //!
 //! A fault may say "cannot read" or "cannot write" only if the reader or the writer really failed. They fail only in `pull`, `push` and `settle`,
-//! which set a mark, so a caller that reports such a fault can prove it by the mark.
+//! which set a mark, so a caller that reports such a fault can prove it by the mark. Of a reader there is also, for proofs alone, what `pull` has
+//! handed over, and a mark that the last one said that this is all: so what was read can be named also of a reader whose bytes nobody knows.
 
-ghost use Rattle.std.specs.Prelude.{◌≡◌, ◌<◌, ◌≤◌, false, true, length, take, IfSome, IfNone, OnSome, OnOk, OnErr};
+ghost use Rattle.std.specs.Prelude.{◌≡◌, ◌<◌, ◌≤◌, ◌++◌, [], false, true, length, take, IfOk, IfSome, IfNone, OnSome, OnOk, OnErr};
 ghost use Rattle.std.specs.Io.{ReadsAtMost};
 ghost use Rattle.std.specs.Io.KnownBytes.{Appends, Keeps, ReadConsumes};
-ghost use Rattle.collector.specs.Watching.{has_failed, inner_of};
+ghost use Rattle.collector.specs.Watching.{handed, has_ended, has_failed, inner_of};
 
+use crate::trace::Trace;
 use std::io;
 use std::io::{ErrorKind, Read, Write};
 
-/// A reader or a writer, and whether a call on it failed.
+/// A reader or a writer, what `pull` handed over, and whether a call on it failed.
 #[derive(Drop)]
 pub struct Watched<T> {
     inner: T,
     failed: bool,
+    ended: bool,
+    trace: Trace,
     reason: Option<ErrorKind>,
 }
 
@@ -24,10 +28,14 @@ impl<T> Watched<T> {
     pub fn new(inner: T) -> Watched<T>
         ensures inner { inner_of result ≡ inner }
         ensures fresh { has_failed result ≡ false }
+        ensures none { handed result ≡ [] }
+        ensures going { has_ended result ≡ false }
     {
         Watched {
             inner,
             failed: false,
+            ended: false,
+            trace: Trace::new(),
             reason: None,
         }
     }
@@ -51,11 +59,18 @@ impl<R: Read> Watched<R> {
     pub fn pull(&mut self, piece: &mut [u8]) -> io::Result<usize>
         ensures bound { ReadsAtMost result piece.new }
         ensures bytes { ReadConsumes (R.remaining (inner_of self.old)) (R.remaining (inner_of self.new)) result piece.new }
+        ensures handed { IfOk result (λ n. handed self.new ≡ handed self.old ++ take n piece.new) }
+        ensures ended { IfOk result (λ n. n ≡ 0 → 0 < length piece.old → has_ended self.new ≡ true) }
+        ensures none { OnErr result (handed self.new ≡ handed self.old) }
         ensures ok { OnOk result (has_failed self.new ≡ has_failed self.old) }
         ensures err { OnErr result (has_failed self.new ≡ true) }
     {
         match self.inner.read(piece) {
-            Ok(count) => Ok(count),
+            Ok(count) => {
+                self.trace.add(&piece[..count]);
+                self.ended = count == 0 && !piece.is_empty();
+                Ok(count)
+            }
             Err(error) => {
                 self.failed = true;
                 self.reason = Some(error.kind());

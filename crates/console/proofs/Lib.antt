@@ -9,3 +9,4 @@ pub mod OneGraph
 pub mod Heeding
 pub mod OneAnswer
 pub mod Commanding
+pub mod HandedOver

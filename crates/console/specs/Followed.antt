@@ -1,11 +1,12 @@
 -- What following an input does.
-use Rattle.std.specs.Prelude.{◌≡◌, ◌<◌, ◌⊎◌, ℕ, List, length, Option, Result, Ok, Err}
+use Rattle.std.specs.Prelude.{◌≡◌, ◌<◌, ◌⊎◌, true, ℕ, List, length, Option, Result, Ok, Err}
+use Rattle.std.specs.Io.KnownBytes.{Consumes, IsAtEnd}
 use Rattle.semantics.specs.Multiset.{Record, IsPartOf, ◌≈◌}
 use Rattle.semantics.specs.Query.{Program}
 use Rattle.semantics.specs.Meaning.{program_meaning}
 use Rattle.graph.specs.Shown.{GraphValue, shown_graph, shown_inputs, shown_names}
 use Rattle.follow.specs.Entries.{Entry, records_of}
-use Rattle.follow.specs.Follows.{FollowsInput, IsPart, IsWhole}
+use Rattle.follow.specs.Follows.{FollowsInput, IsPart, IsWhole, Reading}
 use Rattle.follow.specs.declared.ending.Ending.{Ending}
 use Rattle.follow.specs.declared.ending.Ending.TheVariants as ending
 use Rattle.console.specs.Compiled.{IsCompiled, IsQueryFault}
@@ -33,27 +34,29 @@ IsWholeByText query g records entries = (c : IsGraphOfText query g) → IsWhole 
 abbrev pub IsPartByText : List ℕ → GraphValue → (records : ℕ → List Record) → List Entry → Type 0
 IsPartByText query g records entries = (c : IsGraphOfText query g) → IsPart g records entries → ArePart c.program records entries
 
--- Over the graph of the query, some bytes of the input were read, and what was written is an answer to the lines among them. `before` is
--- what there was of the input.
-pub record IsFollowed (query : List ℕ) (before old new : Option (List ℕ)) (result : Result (Unit {0}) Ending) : Type 0 where
+-- where the bytes of the input are known: those that were read are the next of them, and all where the reader ended
+abbrev pub IsReadOf : (input : Option (List ℕ)) → Reading
+IsReadOf input bytes ended = (left : Option (List ℕ)) × Consumes input left bytes × (ended ≡ true → IsAtEnd left)
+
+-- Over the graph of the query, some bytes of the input were read, and what was written is an answer to the lines among them.
+pub record IsFollowed (query : List ℕ) (read : Reading) (old new : Option (List ℕ)) (result : Result (Unit {0}) Ending) : Type 0 where
   pub graph : GraphValue
   pub compiled : IsGraphOfText query graph
-  pub left : Option (List ℕ)
-  pub follows : FollowsInput graph before left old new result
+  pub follows : FollowsInput graph read old new result
 
 -- The input is answered to its end at Ok. At a faulty line, or where the reader or the writer failed, what was written is an answer to
 -- what was read before; so it is where a count is too large. Nothing is written where the query can't be read or is refused. Lack of
 -- memory may come at any place.
-abbrev pub FollowEnds : List ℕ → (before : Option (List ℕ)) → Option (List ℕ) → Option (List ℕ) → Result (Unit {0}) Fault → Type 0
-FollowEnds query before old new (Ok u) = IsFollowed query before old new (Ok u)
-FollowEnds query before old new (Err (Input code line)) = IsFollowed query before old new (Err (ending.Input code line))
-FollowEnds query before old new (Err ReadInput) = IsFollowed query before old new (Err ending.Read)
-FollowEnds query before old new (Err Write) = IsFollowed query before old new (Err ending.Write)
-FollowEnds query before old new (Err NoMemory) = (new ≡ old) ⊎ IsFollowed query before old new (Err ending.NoMemory)
-FollowEnds query before old new (Err Count) = IsFollowed query before old new (Err ending.Count)
-FollowEnds query before old new (Err Incomplete) = IsFollowed query before old new (Err ending.Incomplete)
-FollowEnds query before old new (Err (Query code start end)) = (new ≡ old) × IsQueryFault query (Query code start end)
-FollowEnds query before old new (Err TooManyVertices) = (new ≡ old) × IsQueryFault query TooManyVertices
-FollowEnds query before old new (Err ReadQuery) = new ≡ old
-FollowEnds query before old new (Err (Schedule code line)) = ⊥
-FollowEnds query before old new (Err NoWorker) = ⊥
+abbrev pub FollowEnds : List ℕ → (read : Reading) → Option (List ℕ) → Option (List ℕ) → Result (Unit {0}) Fault → Type 0
+FollowEnds query read old new (Ok u) = IsFollowed query read old new (Ok u)
+FollowEnds query read old new (Err (Input code line)) = IsFollowed query read old new (Err (ending.Input code line))
+FollowEnds query read old new (Err ReadInput) = IsFollowed query read old new (Err ending.Read)
+FollowEnds query read old new (Err Write) = IsFollowed query read old new (Err ending.Write)
+FollowEnds query read old new (Err NoMemory) = (new ≡ old) ⊎ IsFollowed query read old new (Err ending.NoMemory)
+FollowEnds query read old new (Err Count) = IsFollowed query read old new (Err ending.Count)
+FollowEnds query read old new (Err Incomplete) = IsFollowed query read old new (Err ending.Incomplete)
+FollowEnds query read old new (Err (Query code start end)) = (new ≡ old) × IsQueryFault query (Query code start end)
+FollowEnds query read old new (Err TooManyVertices) = (new ≡ old) × IsQueryFault query TooManyVertices
+FollowEnds query read old new (Err ReadQuery) = new ≡ old
+FollowEnds query read old new (Err (Schedule code line)) = ⊥
+FollowEnds query read old new (Err NoWorker) = ⊥

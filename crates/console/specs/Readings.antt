@@ -1,11 +1,14 @@
 -- What is read of the texts, how the commands end on it where the bytes are known, and what is kept of it.
-use Rattle.std.specs.Prelude.{◌≡◌, ◌⊎◌, ℕ, suc, List, take, Option, Result, IfErr, IfSome}
+use Rattle.std.specs.Prelude.{◌≡◌, ◌⊎◌, ℕ, suc, true, List, length, take, Option, Result, IfErr, IfSome, MatchResult}
 use Rattle.lexer.specs.Tokens.{max_length}
+use Rattle.collector.specs.Watching.{Hands, HandsAll, HandsSome, has_ended}
+use Rattle.collector.specs.declared.watched.Watched.{Watched}
 use Rattle.command_line.specs.declared.line_options.GraphForm.{GraphForm}
 use Rattle.schedule.specs.declared.verb.ViewKind.{ViewKind}
 use Rattle.diagnostics.specs.declared.fault.Fault.{Fault}
+use Rattle.follow.specs.Follows.{HasRead}
 use Rattle.console.specs.Checks.{CheckEnds}
-use Rattle.console.specs.Followed.{FollowEnds}
+use Rattle.console.specs.Followed.{FollowEnds, IsReadOf}
 use Rattle.console.specs.Formats.{FormatEnds}
 use Rattle.console.specs.Graphs.{GraphEnds}
 use Rattle.console.specs.Heeded.{Heeds}
@@ -22,7 +25,7 @@ abbrev pub RunsOver : (query input : Option (List ℕ)) → Option (List ℕ) �
 RunsOver query input old new result = IfSome query (λ q. IfSome input (λ i. Ends (read_part q) i old new result))
 
 abbrev pub FollowsOver : (query input : Option (List ℕ)) → Option (List ℕ) → Option (List ℕ) → Result (Unit {0}) Fault → Type 0
-FollowsOver query input old new result = IfSome query (λ q. FollowEnds (read_part q) input old new result)
+FollowsOver query input old new result = IfSome query (λ q. FollowEnds (read_part q) (IsReadOf input) old new result)
 
 abbrev pub ChecksOver : (query : Option (List ℕ)) → Option (List ℕ) → Option (List ℕ) → Result (Unit {0}) Fault → Type 0
 ChecksOver query old new result = IfSome query (λ q. CheckEnds (read_part q) old new result)
@@ -50,3 +53,33 @@ KeepsQuery query result kept = IfSome query (λ q. IfErr result (λ e. IsUnreadQ
 -- after a fault that came once both texts were read, this is the other one
 abbrev pub KeepsInput : (input : Option (List ℕ)) → Result (Unit {0}) Fault → (kept : List ℕ) → Type 0
 KeepsInput input result kept = IfSome input (λ i. IfErr result (λ e. IsUnreadQuery e ⊎ (IsUnreadInput e ⊎ (kept ≡ i))))
+
+-- ---- Of any readers, whose bytes nobody need know: what they handed over.
+
+-- this was read of a query: all of it, or one byte more than it may have
+abbrev pub HandsQuery : {Q : Type 0} → (old new : Watched Q) → List ℕ → Type 0
+HandsQuery old new text = Hands old new text × ((has_ended new ≡ true) ⊎ (length text ≡ suc max_length))
+
+-- the two were read to their ends
+abbrev pub HandsBoth : {Q I : Type 0} → (q₀ q₁ : Watched Q) → (i₀ i₁ : Watched I) → (query input : List ℕ) → Type 0
+HandsBoth q₀ q₁ i₀ i₁ query input = HandsQuery q₀ q₁ query × HandsAll i₀ i₁ input
+
+-- a beginning of the query was read, or all of it and a beginning of the input; and the fault is of reading
+abbrev pub IsCutShort : {Q I : Type 0} → (q₀ q₁ : Watched Q) → (i₀ i₁ : Watched I) → (query input : List ℕ) → Result (Unit {0}) Fault → Type 0
+IsCutShort q₀ q₁ i₀ i₁ query input result = Hands q₀ q₁ query × Hands i₀ i₁ input × MatchResult result (λ _. ⊥) (λ e. IsUnreadQuery e ⊎ IsUnreadInput e)
+
+-- A run ends so on what its two readers handed over, which are the whole texts: of the query, that it is too long is enough. Where a reader
+-- failed, or memory ran out, they may be beginnings of the texts.
+pub record RunsOnHanded {Q I : Type 0} (q₀ q₁ : Watched Q) (i₀ i₁ : Watched I) (old new : Option (List ℕ)) (result : Result (Unit {0}) Fault) : Type 0 where
+  pub query : List ℕ
+  pub input : List ℕ
+  pub read : HandsBoth q₀ q₁ i₀ i₁ query input ⊎ IsCutShort q₀ q₁ i₀ i₁ query input result
+  pub ends : Ends query input old new result
+  pub heeds : Heeds query old new result
+
+-- Following ends so on what its two readers handed over: of the query the whole text, and of the input what its reader has handed over so far,
+-- which is all of it only once that has ended. Where the reader of the query failed, or memory ran out, nothing is written.
+pub record FollowsOnHanded {Q I : Type 0} (remaining : I → Option (List ℕ)) (q₀ q₁ : Watched Q) (i₀ i₁ : Watched I) (old new : Option (List ℕ)) (result : Result (Unit {0}) Fault) : Type 0 where
+  pub query : List ℕ
+  pub read : HandsQuery q₀ q₁ query ⊎ (Hands q₀ q₁ query × MatchResult result (λ _. ⊥) IsUnreadQuery)
+  pub ends : FollowEnds query (HasRead remaining i₀ i₁) old new result

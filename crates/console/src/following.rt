@@ -3,7 +3,8 @@
 ghost use Rattle.std.specs.Prelude.{◌≡◌, true, IsErrOf};
 ghost use Rattle.collector.specs.Watching.{has_failed, inner_of};
 ghost use Rattle.console.specs.Followed.{FollowEnds};
-ghost use Rattle.console.specs.Readings.{FollowsOver};
+ghost use Rattle.console.specs.Readings.{FollowsOnHanded, FollowsOver};
+ghost use Rattle.follow.specs.Follows.{HasRead};
 ghost use Rattle.diagnostics.specs.declared.fault.Fault.TheVariants as fault;
 
 use crate::fault::follow_fault;
@@ -28,7 +29,7 @@ fn follow_text<R: Threads + Sync, I: Read, W: Write>(
     rest: &mut Vec<u8>,
     writer: &mut Watched<W>,
 ) -> Result<(), Fault>
-    ensures ends { FollowEnds query.now (I.remaining (inner_of input.old)) (W.contents (inner_of writer.old)) (W.contents (inner_of writer.new)) result }
+    ensures ends { FollowEnds query.now (HasRead I.remaining input.old input.new) (W.contents (inner_of writer.old)) (W.contents (inner_of writer.new)) result }
     ensures query { IsErrOf result fault.ReadQuery → ⊥ }
     ensures input { IsErrOf result fault.ReadInput → has_failed input.new ≡ true }
     ensures writer { IsErrOf result fault.Write → has_failed writer.new ≡ true }
@@ -58,6 +59,7 @@ fn follow_text<R: Threads + Sync, I: Read, W: Write>(
 /// `complete E` says that all of them have come. Epochs come in order. After a fault what was written stays true of the lines before
 /// it: the faults are those of a run, and a fault of the query is reported before the input is opened. The query is left in `texts`, and of the input
 /// what was read from a faulty line on.
+#[tactic(auto, using(crate::proofs::FollowedText::ends_known, crate::proofs::FollowedText::follows_unread, crate::proofs::FollowedText::follows_read))]
 pub fn follow_query<R: Threads + Sync, Q: Read, I: Read, W: Write>(
     rt: &R,
     alloc: Global,
@@ -69,6 +71,7 @@ pub fn follow_query<R: Threads + Sync, Q: Read, I: Read, W: Write>(
 ) -> Result<(), Fault>
     ensures ends { FollowsOver (Q.remaining (inner_of query.old)) (I.remaining (inner_of input.old))
         (W.contents (inner_of writer.old)) (W.contents (inner_of writer.new)) result }
+    ensures handed { FollowsOnHanded I.remaining query.old query.new input.old input.new (W.contents (inner_of writer.old)) (W.contents (inner_of writer.new)) result }
     ensures query { IsErrOf result fault.ReadQuery → has_failed query.new ≡ true }
     ensures input { IsErrOf result fault.ReadInput → has_failed input.new ≡ true }
     ensures writer { IsErrOf result fault.Write → has_failed writer.new ≡ true }

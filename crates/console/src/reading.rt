@@ -1,8 +1,8 @@
 //! What a command reads of its texts.
 
-ghost use Rattle.std.specs.Prelude.{◌≡◌, ◌⊎◌, true, IfErr, IfOk, IfSome, IsErrOf, OnOk};
-ghost use Rattle.collector.specs.Watching.{has_failed, inner_of};
-ghost use Rattle.console.specs.Readings.{KeepsInput, KeepsQuery, read_part};
+ghost use Rattle.std.specs.Prelude.{◌≡◌, ◌⊎◌, true, IfErr, IfOk, IfSome, IsErrOf, OnErr, OnOk};
+ghost use Rattle.collector.specs.Watching.{HandsAll, HandsSome, has_failed, inner_of};
+ghost use Rattle.console.specs.Readings.{HandsBoth, HandsQuery, KeepsInput, KeepsQuery, read_part};
 ghost use Rattle.console.specs.Runs.{IsUnreadInput, IsUnreadQuery};
 ghost use Rattle.diagnostics.specs.declared.fault.Fault.TheVariants as fault;
 
@@ -20,6 +20,8 @@ pub fn read_query<Q: Read>(alloc: Global, query: &mut Watched<Q>) -> Result<Vec<
     ensures bytes { IfOk result (λ v. IfSome (Q.remaining (inner_of query.old)) (λ q. v.items ≡ read_part q)) }
     ensures failed { IsErrOf result fault.ReadQuery → has_failed query.new ≡ true }
     ensures unread { IfErr result IsUnreadQuery }
+    ensures hands { IfOk result (λ v. HandsQuery query.old query.new v.items) }
+    ensures part { OnErr result (HandsSome query.old query.new) }
 {
     match read_at_most(alloc, QUERY_LIMIT, query) {
         Ok(bytes) => Ok(bytes),
@@ -33,6 +35,8 @@ fn read_input_text<I: Read>(alloc: Global, input: &mut Watched<I>) -> Result<Vec
     ensures bytes { IfOk result (λ v. IfSome (I.remaining (inner_of input.old)) (λ i. v.items ≡ i)) }
     ensures failed { IsErrOf result fault.ReadInput → has_failed input.new ≡ true }
     ensures unread { IfErr result IsUnreadInput }
+    ensures hands { IfOk result (λ v. HandsAll input.old input.new v.items) }
+    ensures part { OnErr result (HandsSome input.old input.new) }
 {
     match read_all(alloc, input) {
         Ok(bytes) => Ok(bytes),
@@ -42,6 +46,7 @@ fn read_input_text<I: Read>(alloc: Global, input: &mut Watched<I>) -> Result<Vec
 }
 
 /// Reads a query, and then its input or its schedule. What was read is left in `texts`.
+#[tactic(auto, using(crate::proofs::HandedOver::hands_nothing, crate::proofs::HandedOver::hands_part))]
 pub fn read_texts<Q: Read, I: Read>(
     alloc: Global,
     query: &mut Watched<Q>,
@@ -55,6 +60,8 @@ pub fn read_texts<Q: Read, I: Read>(
     ensures unread { IfErr result (λ e. IsUnreadQuery e ⊎ IsUnreadInput e) }
     ensures kept_query { KeepsQuery (Q.remaining (inner_of query.old)) result texts.new.query.items }
     ensures kept_input { KeepsInput (I.remaining (inner_of input.old)) result texts.new.input.items }
+    ensures hands { OnOk result (HandsBoth query.old query.new input.old input.new texts.new.query.items texts.new.input.items) }
+    ensures part { OnErr result (HandsSome query.old query.new × HandsSome input.old input.new) }
 {
     match read_query(alloc, query) {
         Ok(text) => texts.query = text,

@@ -7,7 +7,7 @@ ghost use Rattle.collector.specs.InputText.{IsReadFrom, IsRefused};
 ghost use Rattle.collector.specs.Watching.{has_failed, inner_of};
 ghost use Rattle.console.specs.Compiled.{IsCompiled, IsQueryFault};
 ghost use Rattle.console.specs.Heeded.{Heeds};
-ghost use Rattle.console.specs.Readings.{HeedsOver, KeepsInput, KeepsQuery, RunsOver};
+ghost use Rattle.console.specs.Readings.{HeedsOver, KeepsInput, KeepsQuery, RunsOnHanded, RunsOver};
 ghost use Rattle.console.specs.Runs.{Ends, IsAfterReading};
 ghost use Rattle.diagnostics.specs.declared.fault.Fault.TheVariants as fault;
 
@@ -100,6 +100,7 @@ pub fn run<R: Threads + Wait + Sync, Q: Read, I: Read, W: Write, O: Write + Send
     ensures ends { RunsOver (Q.remaining (inner_of query.old)) (I.remaining (inner_of input.old))
         (W.contents (inner_of writer.old)) (W.contents (inner_of writer.new)) result }
     ensures heeds { HeedsOver (Q.remaining (inner_of query.old)) (W.contents (inner_of writer.old)) (W.contents (inner_of writer.new)) result }
+    ensures handed { RunsOnHanded query.old query.new input.old input.new (W.contents (inner_of writer.old)) (W.contents (inner_of writer.new)) result }
     ensures query { IsErrOf result fault.ReadQuery → has_failed query.new ≡ true }
     ensures input { IsErrOf result fault.ReadInput → has_failed input.new ≡ true }
     ensures writer { IsErrOf result fault.Write → has_failed writer.new ≡ true }

@@ -45,7 +45,7 @@ rel_depth-positive (Rel.group r ks as') = omega arith
 rel_depth-positive (Rel.distinct r) = omega arith
 rel_depth-positive (Rel.except p q) = omega arith
 rel_depth-positive (Rel.intersect p q) = omega arith
-rel_depth-positive (Rel.iterate n x r b) = omega arith
+rel_depth-positive (Rel.loop l n x r b) = omega arith
 
 -- aggregates are at most 1 deep
 pub aggs_depth-le : (gs : List Agg) → aggs_depth gs ≤ 1
@@ -61,4 +61,4 @@ rel_nodes (RelTree.set_operation s o a b) = rel_nodes a + rel_nodes b + 1
 rel_nodes (RelTree.join s a b ps) = rel_nodes a + rel_nodes b + 1
 rel_nodes (RelTree.group s r ks gs) = rel_nodes r + 1
 rel_nodes (RelTree.distinct s r) = rel_nodes r + 1
-rel_nodes (RelTree.iterate s t n u x r b) = rel_nodes r + rel_nodes b + 1
+rel_nodes (RelTree.loop s f t n u x r b) = rel_nodes r + rel_nodes b + 1

@@ -11,9 +11,11 @@ use Rattle.expr_tree.specs.declared.relation.Agg as declared_agg
 use Rattle.expr_tree.specs.declared.relation.Agg.TheVariants as agg
 use Rattle.expr_tree.specs.declared.relation.SetOperator.{SetOperator}
 use Rattle.expr_tree.specs.declared.relation.SetOperator.TheVariants as operation
+use Rattle.expr_tree.specs.declared.relation.LoopForm.{LoopForm}
+use Rattle.expr_tree.specs.declared.relation.LoopForm.TheVariants as form
 use Rattle.expr_tree.specs.declared.program.Input as declared_input
 use Rattle.expr_tree.specs.Trees.{ScalarTree, CondTree, RelTree, LetTree, OutputTree, ProgramTree}
-use Rattle.semantics.specs.Query.{Scalar, Comparison, Cond, Agg, Pair, Rel, Input, Let, Output, Program}
+use Rattle.semantics.specs.Query.{Scalar, Comparison, Cond, Agg, Pair, Loop, Rel, Input, Let, Output, Program}
 
 -- two scalars under an operator
 abbrev pub plain_operator : Operator → Scalar → Scalar → Scalar
@@ -65,6 +67,11 @@ plain_set_operation operation.Concat p q = Rel.concat p q
 plain_set_operation operation.Except p q = Rel.except p q
 plain_set_operation operation.Intersect p q = Rel.intersect p q
 
+-- the form of a loop
+abbrev pub plain_form : LoopForm → Loop
+plain_form form.Iterate = Loop.iterate
+plain_form form.Closure = Loop.closure
+
 -- of a relation
 abbrev pub plain_rel : RelTree → Rel
 plain_rel (RelTree.named s x) = Rel.named x
@@ -74,7 +81,7 @@ plain_rel (RelTree.set_operation s o p q) = plain_set_operation o (plain_rel p) 
 plain_rel (RelTree.join s p q xs) = Rel.join (plain_rel p) (plain_rel q) (map plain_pair xs)
 plain_rel (RelTree.group s r ks gs) = Rel.group (plain_rel r) (map (λ k. k.index) ks) (map plain_agg gs)
 plain_rel (RelTree.distinct s r) = Rel.distinct (plain_rel r)
-plain_rel (RelTree.iterate s t n u x r b) = Rel.iterate n x (plain_rel r) (plain_rel b)
+plain_rel (RelTree.loop s f t n u x r b) = Rel.loop (plain_form f) n x (plain_rel r) (plain_rel b)
 
 -- of an input
 abbrev pub plain_input : declared_input.Input → Input

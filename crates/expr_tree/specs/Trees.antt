@@ -8,6 +8,7 @@ use Rattle.expr_tree.specs.declared.relation.Column.{Column}
 use Rattle.expr_tree.specs.declared.relation.Pair.{Pair}
 use Rattle.expr_tree.specs.declared.relation.Agg.{Agg}
 use Rattle.expr_tree.specs.declared.relation.SetOperator.{SetOperator}
+use Rattle.expr_tree.specs.declared.relation.LoopForm.{LoopForm}
 use Rattle.expr_tree.specs.declared.program.Input.{Input}
 
 -- a scalar
@@ -23,7 +24,7 @@ pub data CondTree : Type 0 where
   logical : Span → Connective → CondTree → CondTree → CondTree
   negate : Span → CondTree → CondTree
 
--- a relation; of a loop: its span, the span and number of its turns, the span and name of its variable, its start, its body
+-- a relation; of a loop: its span and form, the span and number of its turns, the span and name of its variable, its start, its body
 pub data RelTree : Type 0 where
   named : Span → List ℕ → RelTree
   select : Span → RelTree → List ScalarTree → RelTree
@@ -32,7 +33,7 @@ pub data RelTree : Type 0 where
   join : Span → RelTree → RelTree → List Pair → RelTree
   group : Span → RelTree → List Column → List Agg → RelTree
   distinct : Span → RelTree → RelTree
-  iterate : Span → Span → ℕ → Span → List ℕ → RelTree → RelTree → RelTree
+  loop : Span → LoopForm → Span → ℕ → Span → List ℕ → RelTree → RelTree → RelTree
 
 -- a named relation, with the span of its name
 pub record LetTree : Type 0 where

@@ -33,7 +33,7 @@ rel_tree (rel.SetOperation' s o p a q b) = RelTree.set_operation s o (rel_tree a
 rel_tree (rel.Join' s p a q b ps) = RelTree.join s (rel_tree a) (rel_tree b) ps.items
 rel_tree (rel.Group' s p r ks gs) = RelTree.group s (rel_tree r) ks.items gs.items
 rel_tree (rel.Distinct' s p r) = RelTree.distinct s (rel_tree r)
-rel_tree (rel.Iterate' s t n u x p r q b) = RelTree.iterate s t n u x (rel_tree r) (rel_tree b)
+rel_tree (rel.Loop' s f t n u x p r q b) = RelTree.loop s f t n u x (rel_tree r) (rel_tree b)
 
 -- of a named relation
 abbrev pub let_tree : {A : Type 0} → Let A → LetTree

@@ -76,8 +76,9 @@ pub fn copy_rel<A: Allocator, B: Allocator + Copy>(
         Rel::Join(span, left, right, pairs) => copy_join(alloc, *span, left, right, pairs),
         Rel::Group(span, of, keys, aggregates) => copy_group(alloc, *span, of, keys, aggregates),
         Rel::Distinct(span, of) => Ok(Rel::Distinct(*span, copy_boxed(alloc, of)?)),
-        Rel::Iterate {
+        Rel::Loop {
             span,
+            form,
             turns_span,
             turns,
             name_span,
@@ -87,8 +88,9 @@ pub fn copy_rel<A: Allocator, B: Allocator + Copy>(
         } => {
             let start = copy_boxed(alloc, start)?;
             let body = copy_boxed(alloc, body)?;
-            Ok(Rel::Iterate {
+            Ok(Rel::Loop {
                 span: *span,
+                form: *form,
                 turns_span: *turns_span,
                 turns: *turns,
                 name_span: *name_span,

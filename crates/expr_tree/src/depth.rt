@@ -26,7 +26,7 @@ pub fn rel_depth<A: Allocator>(relation: &Rel<A>) -> u64
         // An aggregate is no deeper than the relation beside it.
         Rel::Group(_, of, _, _) => rel_depth(of).saturating_add(1),
         Rel::Distinct(_, of) => rel_depth(of).saturating_add(1),
-        Rel::Iterate { start, body, .. } => rel_depth(start).max(rel_depth(body)).saturating_add(1),
+        Rel::Loop { start, body, .. } => rel_depth(start).max(rel_depth(body)).saturating_add(1),
     }
 }
 

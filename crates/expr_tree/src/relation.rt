@@ -46,6 +46,15 @@ pub enum SetOperator {
     Intersect,
 }
 
+/// What a turn of a loop gets.
+#[derive(Clone, Copy, Debug, PartialEq, Eq)]
+pub enum LoopForm {
+    /// All that the turn before gave. The loop gives what its last turn gives.
+    Iterate,
+    /// The different records of it that no turn gave before. The loop gives those of all turns.
+    Closure,
+}
+
 /// A relation.
 #[derive(Drop)]
 pub enum Rel<A: Allocator> {
@@ -61,8 +70,9 @@ pub enum Rel<A: Allocator> {
     Group(Span, Box<Rel<A>, A>, Vec<Column, A>, Vec<Agg, A>),
     Distinct(Span, Box<Rel<A>, A>),
     /// The body, applied that many times beginning at the start.
-    Iterate {
+    Loop {
         span: Span,
+        form: LoopForm,
         turns_span: Span,
         turns: u64,
         name_span: Span,

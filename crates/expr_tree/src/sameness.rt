@@ -39,21 +39,23 @@ pub fn same_rel<A: Allocator, B: Allocator>(left: &Rel<A>, right: &Rel<B>) -> bo
         }
         (Rel::Distinct(_, p), Rel::Distinct(_, q)) => same_rel(p, q),
         (
-            Rel::Iterate {
+            Rel::Loop {
+                form: e,
                 turns: m,
                 name: x,
                 start: p,
                 body: b,
                 ..
             },
-            Rel::Iterate {
+            Rel::Loop {
+                form: f,
                 turns: n,
                 name: y,
                 start: q,
                 body: c,
                 ..
             },
-        ) => *m == *n && same_name(x, y) && same_rel(p, q) && same_rel(b, c),
+        ) => *e == *f && *m == *n && same_name(x, y) && same_rel(p, q) && same_rel(b, c),
         _ => false,
     }
 }

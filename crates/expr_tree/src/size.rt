@@ -34,7 +34,7 @@ pub fn rel_size<A: Allocator>(relation: &Rel<A>) -> u64
             .saturating_add(aggregates.len() as u64)
             .saturating_add(1),
         Rel::Distinct(_, of) => rel_size(of).saturating_add(1),
-        Rel::Iterate { start, body, .. } => rel_size(start)
+        Rel::Loop { start, body, .. } => rel_size(start)
             .saturating_add(rel_size(body))
             .saturating_add(1),
     }

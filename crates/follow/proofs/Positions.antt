@@ -1,6 +1,7 @@
 -- What is known of the whole, from one piece of the input to the next.
 use Rattle.std.proofs.Common.{◌≡◌, ◌<◌, ◌≤◌, ◌⊎◌, ◌+◌, ◌-◌, ◌∙◌, ℕ, suc, List, [], ◌∷◌, ◌++◌, length, take, refl, sym, ap, subst, arith, append_assoc, inl, inr, Option, Some, None}
-use Rattle.std.specs.Prelude.{Result, Ok, Err}
+use Rattle.std.specs.Prelude.{Bool, true, false, Result, Ok, Err}
+use Rattle.std.proofs.lemmas.Bool.{true≢false}
 use Rattle.std.specs.Io.KnownBytes.{Appends, Consumes, IsAtEnd, Keeps}
 use Rattle.std.proofs.lemmas.Bool.Decides.{eqb_tells}
 use Rattle.std.proofs.lemmas.List.{append-nil, length-append}
@@ -13,11 +14,13 @@ use Rattle.board.specs.Showing.{Shows}
 use Rattle.collector.specs.Pieces.{split_on}
 use Rattle.collector.specs.Lines.{Item}
 use Rattle.collector.specs.InputText.{IsRefused, epochs_after}
+use Rattle.collector.specs.Watching.{Hands, handed, has_ended, inner_of}
 use Rattle.collector.specs.WrittenBytes.{AppendsFront}
+use Rattle.collector.specs.declared.watched.Watched.{Watched}
 use Rattle.collector.specs.declared.refusal.InputRefusal.TheVariants.{At}
 use Rattle.collector.proofs.Writes.{Appends-then}
 use Rattle.follow.specs.Entries.{Entry}
-use Rattle.follow.specs.Follows.{Follows, IsAnswer, IsPart, IsReport, Reaches, Writes, said_records}
+use Rattle.follow.specs.Follows.{Follows, HasRead, IsAnswer, IsPart, IsReport, Reaches, Writes, said_records}
 use Rattle.follow.specs.Scenes.{Grows, HasReported, IsFed, IsKnown, IsWritten, batches_of, reported_count}
 use Rattle.follow.specs.Steps.{CanReport, Continues, IsLastAnswer, AnswersLast, AnswersOpen, IsFresh, IsNew, Stops, TakesLines, ending_of}
 use Rattle.follow.specs.declared.ending.Ending.{Ending}
@@ -92,9 +95,9 @@ base_within base begun done start le = elim (eqb_tells begun 0) [
 answers : (g : GraphValue) (s : Shown) (base : ℕ) (x : Intake) (t : Reporting) (bytes pending : List ℕ) (k : IsKnown g s base x t bytes pending) → IsAnswer g k.items (base + t.done) k.entries k.text
 answers g s base x t bytes pending k = record { reported = subst (λ (h : GraphValue). IsReport h (said_records k.items) (base + t.done) k.entries k.text) k.graph k.reported.reported; part = k.part }
 
-pub known_follows : (g : GraphValue) (s : Shown) (base : ℕ) (x : Intake) (t : Reporting) (bytes pending all : List ℕ) (left start now : Option (List ℕ)) (result : Result (Unit {0}) Ending) (rest : List (List ℕ)) (k : IsKnown g s base x t bytes pending) → split_on 10 all ≡ k.lines ++ rest
-    → Reaches (shown_inputs g) all left k.lines k.items rest (base + t.done) k.entries result → Writes start now k.text result → Follows g all left start now result
-known_follows g s base x t bytes pending all left start now result rest k parts reaches writes = record {
+pub known_follows : (g : GraphValue) (s : Shown) (base : ℕ) (x : Intake) (t : Reporting) (bytes pending all : List ℕ) (ended : Bool) (start now : Option (List ℕ)) (result : Result (Unit {0}) Ending) (rest : List (List ℕ)) (k : IsKnown g s base x t bytes pending) → split_on 10 all ≡ k.lines ++ rest
+    → Reaches (shown_inputs g) all ended k.lines k.items rest (base + t.done) k.entries result → Writes start now k.text result → Follows g all ended start now result
+known_follows g s base x t bytes pending all ended start now result rest k parts reaches writes = record {
   lines = k.lines;
   items = k.items;
   rest = rest;
@@ -109,15 +112,15 @@ known_follows g s base x t bytes pending all left start now result rest k parts 
 }
 
 -- the work stopped: nothing more was written
-pub halted : (g : GraphValue) (s : Shown) (base : ℕ) (x : Intake) (t : Reporting) (bytes pending : List ℕ) (left start now : Option (List ℕ)) (h : Halt) → IsWritten g s base x t bytes pending start now → Follows g bytes left start now (Err (ending_of h))
-halted g s base x t bytes pending left start now halt.NoMemory w = known_follows g s base x t bytes pending bytes left start now (Err ending.NoMemory) (split_on 10 pending) w.known w.known.taken.parts tt w.written
-halted g s base x t bytes pending left start now halt.Count w = known_follows g s base x t bytes pending bytes left start now (Err ending.Count) (split_on 10 pending) w.known w.known.taken.parts tt w.written
-halted g s base x t bytes pending left start now halt.Incomplete w = known_follows g s base x t bytes pending bytes left start now (Err ending.Incomplete) (split_on 10 pending) w.known w.known.taken.parts tt w.written
+pub halted : (g : GraphValue) (s : Shown) (base : ℕ) (x : Intake) (t : Reporting) (bytes pending : List ℕ) (ended : Bool) (start now : Option (List ℕ)) (h : Halt) → IsWritten g s base x t bytes pending start now → Follows g bytes ended start now (Err (ending_of h))
+halted g s base x t bytes pending ended start now halt.NoMemory w = known_follows g s base x t bytes pending bytes ended start now (Err ending.NoMemory) (split_on 10 pending) w.known w.known.taken.parts tt w.written
+halted g s base x t bytes pending ended start now halt.Count w = known_follows g s base x t bytes pending bytes ended start now (Err ending.Count) (split_on 10 pending) w.known w.known.taken.parts tt w.written
+halted g s base x t bytes pending ended start now halt.Incomplete w = known_follows g s base x t bytes pending bytes ended start now (Err ending.Incomplete) (split_on 10 pending) w.known w.known.taken.parts tt w.written
 
 -- the reader failed
-pub unread : (g : GraphValue) (s : Shown) (base : ℕ) (x : Intake) (t : Reporting) (bytes pending : List ℕ) (left start now : Option (List ℕ)) → IsWritten g s base x t bytes pending start now → split_on 10 pending ≡ pending ∷ [] → Follows g bytes left start now (Err ending.Read)
-unread g s base x t bytes pending left start now w unended =
-    known_follows g s base x t bytes pending bytes left start now (Err ending.Read) (pending ∷ []) w.known (w.known.taken.parts ∙ ap (λ (ps : List (List ℕ)). w.known.lines ++ ps) unended) (pending, refl) w.written
+pub unread : (g : GraphValue) (s : Shown) (base : ℕ) (x : Intake) (t : Reporting) (bytes pending : List ℕ) (ended : Bool) (start now : Option (List ℕ)) → IsWritten g s base x t bytes pending start now → split_on 10 pending ≡ pending ∷ [] → Follows g bytes ended start now (Err ending.Read)
+unread g s base x t bytes pending ended start now w unended =
+    known_follows g s base x t bytes pending bytes ended start now (Err ending.Read) (pending ∷ []) w.known (w.known.taken.parts ∙ ap (λ (ps : List (List ℕ)). w.known.lines ++ ps) unended) (pending, refl) w.written
 
 -- ---- one more piece
 
@@ -193,41 +196,41 @@ pub answer_written : (g : GraphValue) (s : Shown) (base : ℕ) (x : Intake) (t :
 answer_written g s base x t bytes pending before out how start now new a p q = (record { known = a.known; written = subst (Appends start new) (sym a.text) (Appends-then start now new before out p q) }, a.stops)
 
 -- the writer failed
-pub unwritten : (g : GraphValue) (s : Shown) (base : ℕ) (x : Intake) (t : Reporting) (bytes pending before out : List ℕ) (how : Taken) (left start now new : Option (List ℕ)) → Answered g s base x t bytes pending before out how → Appends start now before → AppendsFront now new out
-    → Follows g bytes left start new (Err ending.Write)
-unwritten g s base x t bytes pending before out how left start now new a p q =
-    known_follows g s base x t bytes pending bytes left start new (Err ending.Write) (split_on 10 pending) a.known a.known.taken.parts tt (subst (AppendsFront start new) (sym a.text) (front_then start now new before out p q))
+pub unwritten : (g : GraphValue) (s : Shown) (base : ℕ) (x : Intake) (t : Reporting) (bytes pending before out : List ℕ) (how : Taken) (ended : Bool) (start now new : Option (List ℕ)) → Answered g s base x t bytes pending before out how → Appends start now before → AppendsFront now new out
+    → Follows g bytes ended start new (Err ending.Write)
+unwritten g s base x t bytes pending before out how ended start now new a p q =
+    known_follows g s base x t bytes pending bytes ended start new (Err ending.Write) (split_on 10 pending) a.known a.known.taken.parts tt (subst (AppendsFront start new) (sym a.text) (front_then start now new before out p q))
 
 -- the next line has a fault
-pub faults : (g : GraphValue) (s : Shown) (base : ℕ) (x : Intake) (t : Reporting) (bytes pending : List ℕ) (code : ℕ) (left start now : Option (List ℕ)) (e : Ending) (w : IsWritten g s base x t bytes pending start now)
-    → Stops (shown_inputs g) bytes pending (length w.known.lines) w.known.items (taken.Fault code) → (e ≡ ending.Input code (x.line + 1)) ⊎ (e ≡ ending.Incomplete) → Follows g bytes left start now (Err e)
-faults g s base x t bytes pending code left start now e w stops (inl is) =
+pub faults : (g : GraphValue) (s : Shown) (base : ℕ) (x : Intake) (t : Reporting) (bytes pending : List ℕ) (code : ℕ) (ended : Bool) (start now : Option (List ℕ)) (e : Ending) (w : IsWritten g s base x t bytes pending start now)
+    → Stops (shown_inputs g) bytes pending (length w.known.lines) w.known.items (taken.Fault code) → (e ≡ ending.Input code (x.line + 1)) ⊎ (e ≡ ending.Incomplete) → Follows g bytes ended start now (Err e)
+faults g s base x t bytes pending code ended start now e w stops (inl is) =
     let line : x.line + 1 ≡ length w.known.lines + 1 = ap (λ (n : ℕ). n + 1) w.known.taken.counted in
-    subst (λ (y : Ending). Follows g bytes left start now (Err y)) (sym is)
-    (known_follows g s base x t bytes pending bytes left start now (Err (ending.Input code (x.line + 1))) (split_on 10 pending) w.known w.known.taken.parts (record {
+    subst (λ (y : Ending). Follows g bytes ended start now (Err y)) (sym is)
+    (known_follows g s base x t bytes pending bytes ended start now (Err (ending.Input code (x.line + 1))) (split_on 10 pending) w.known w.known.taken.parts (record {
       refused = subst (λ (n : ℕ). IsRefused (shown_inputs g) bytes (At code n)) (sym line) stops.0;
       next = line;
       last = λ c. absurd (stops.1 c);
     }) w.written)
-faults g s base x t bytes pending code left start now e w stops (inr is) = subst (λ (y : Ending). Follows g bytes left start now (Err y)) (sym is) (halted g s base x t bytes pending left start now halt.Incomplete w)
+faults g s base x t bytes pending code ended start now e w stops (inr is) = subst (λ (y : Ending). Follows g bytes ended start now (Err y)) (sym is) (halted g s base x t bytes pending ended start now halt.Incomplete w)
 
 -- ---- the end of the input
 
 -- a last line without line feed
-pub unended_last : (g : GraphValue) (s : Shown) (base : ℕ) (x : Intake) (t : Reporting) (bytes pending : List ℕ) (left start now : Option (List ℕ)) (e : Ending) → IsWritten g s base x t bytes pending start now → split_on 10 pending ≡ pending ∷ [] → IsAtEnd left → 0 < length pending
-    → (e ≡ ending.Input 43 (x.line + 1)) ⊎ (e ≡ ending.Incomplete) → Follows g bytes left start now (Err e)
-unended_last g s base x t bytes pending left start now e w unended end some (inl is) =
+pub unended_last : (g : GraphValue) (s : Shown) (base : ℕ) (x : Intake) (t : Reporting) (bytes pending : List ℕ) (ended : Bool) (start now : Option (List ℕ)) (e : Ending) → IsWritten g s base x t bytes pending start now → split_on 10 pending ≡ pending ∷ [] → ended ≡ true → 0 < length pending
+    → (e ≡ ending.Input 43 (x.line + 1)) ⊎ (e ≡ ending.Incomplete) → Follows g bytes ended start now (Err e)
+unended_last g s base x t bytes pending ended start now e w unended end some (inl is) =
     let k = w.known in
     let line : x.line + 1 ≡ length k.lines + 1 = ap (λ (n : ℕ). n + 1) k.taken.counted in
     let parts : split_on 10 bytes ≡ k.lines ++ pending ∷ [] = k.taken.parts ∙ ap (λ (ps : List (List ℕ)). k.lines ++ ps) unended in
-    subst (λ (y : Ending). Follows g bytes left start now (Err y)) (sym is)
-    (known_follows g s base x t bytes pending bytes left start now (Err (ending.Input 43 (x.line + 1))) (pending ∷ []) k parts (record {
+    subst (λ (y : Ending). Follows g bytes ended start now (Err y)) (sym is)
+    (known_follows g s base x t bytes pending bytes ended start now (Err (ending.Input 43 (x.line + 1))) (pending ∷ []) k parts (record {
       refused = (k.lines, k.items, k.taken.said, line, pending, [], parts, inl (refl, some, refl));
       next = line;
       last = λ c. end;
     }) w.written)
-unended_last g s base x t bytes pending left start now e w unended end some (inr is) =
-    subst (λ (y : Ending). Follows g bytes left start now (Err y)) (sym is) (halted g s base x t bytes pending left start now halt.Incomplete w)
+unended_last g s base x t bytes pending ended start now e w unended end some (inr is) =
+    subst (λ (y : Ending). Follows g bytes ended start now (Err y)) (sym is) (halted g s base x t bytes pending ended start now halt.Incomplete w)
 
 -- what is written at the end
 last_report : (g : GraphValue) (s s2 : Shown) (base : ℕ) (x : Intake) (t t2 : Reporting) (bytes pending out : List ℕ) (start now : Option (List ℕ)) (w : IsWritten g s base x t bytes pending start now) → AnswersLast base s s2 x t t2 out → IsLastAnswer base s2 x t2 w.known.items w.known.text out s
@@ -235,9 +238,9 @@ last_report g s s2 base x t t2 bytes pending out start now w ends =
     let k = w.known in
     ends k.items k.entries k.text k.taken.fed (record { reported = k.reported; order = omega (arith, k.sealed); none = k.none })
 
-last_follows : (g : GraphValue) (s s2 : Shown) (base : ℕ) (x : Intake) (t t2 : Reporting) (bytes pending out : List ℕ) (left start now new : Option (List ℕ)) (result : Result (Unit {0}) Ending) (w : IsWritten g s base x t bytes pending start now) (e : IsLastAnswer base s2 x t2 w.known.items w.known.text out s) → split_on 10 pending ≡ pending ∷ [] → IsAtEnd left
-    → Reaches (shown_inputs g) bytes left w.known.lines w.known.items (pending ∷ []) (base + t2.done) e.reported.entries result → Writes start new (w.known.text ++ out) result → Follows g bytes left start new result
-last_follows g s s2 base x t t2 bytes pending out left start now new result w e unended end reaches writes =
+last_follows : (g : GraphValue) (s s2 : Shown) (base : ℕ) (x : Intake) (t t2 : Reporting) (bytes pending out : List ℕ) (ended : Bool) (start now new : Option (List ℕ)) (result : Result (Unit {0}) Ending) (w : IsWritten g s base x t bytes pending start now) (e : IsLastAnswer base s2 x t2 w.known.items w.known.text out s) → split_on 10 pending ≡ pending ∷ [] → ended ≡ true → pending ≡ []
+    → Reaches (shown_inputs g) bytes ended w.known.lines w.known.items (pending ∷ []) (base + t2.done) e.reported.entries result → Writes start new (w.known.text ++ out) result → Follows g bytes ended start new result
+last_follows g s s2 base x t t2 bytes pending out ended start now new result w e unended end none reaches writes =
     let k = w.known in
     let same : s2.graph ≡ g = e.graph ∙ k.graph in
     let lines : k.text ++ e.reported.lines ≡ k.text ++ out = ap (λ (xs : List ℕ). k.text ++ xs) (sym e.reported.appended) in
@@ -253,17 +256,17 @@ last_follows g s s2 base x t t2 bytes pending out left start now new result w e 
         reported = subst (λ (h : GraphValue). IsReport h (said_records k.items) (base + t2.done) e.reported.entries (k.text ++ out)) same (subst (λ (xs : List ℕ). IsReport s2.graph (said_records k.items) (base + t2.done) e.reported.entries xs) lines e.reported.reported.reported);
         part = subst (λ (h : GraphValue). IsPart h (said_records k.items (base + t2.done)) e.reported.entries) same e.reported.part;
       };
-      sealed = inr ((let b = k.taken.fed.begun in omega (arith, b, e.complete)), end);
+      sealed = inr ((let b = k.taken.fed.begun in omega (arith, b, e.complete)), end, ap (λ (bs : List ℕ). bs ∷ []) none);
       reaches = reaches;
       writes = writes;
     }
 
-pub all_reported : (g : GraphValue) (s s2 : Shown) (base : ℕ) (x : Intake) (t t2 : Reporting) (bytes pending out : List ℕ) (left start now new : Option (List ℕ)) → IsWritten g s base x t bytes pending start now → split_on 10 pending ≡ pending ∷ [] → AnswersLast base s s2 x t t2 out → IsAtEnd left → pending ≡ [] → Appends now new out → Follows g bytes left start new (Ok tt)
-all_reported g s s2 base x t t2 bytes pending out left start now new w unended ends end none written =
+pub all_reported : (g : GraphValue) (s s2 : Shown) (base : ℕ) (x : Intake) (t t2 : Reporting) (bytes pending out : List ℕ) (ended : Bool) (start now new : Option (List ℕ)) → IsWritten g s base x t bytes pending start now → split_on 10 pending ≡ pending ∷ [] → AnswersLast base s s2 x t t2 out → ended ≡ true → pending ≡ [] → Appends now new out → Follows g bytes ended start new (Ok tt)
+all_reported g s s2 base x t t2 bytes pending out ended start now new w unended ends end none written =
     let k = w.known in
     let e = last_report g s s2 base x t t2 bytes pending out start now w ends in
     let complete : base + t2.done ≡ epochs_after 0 k.items = ap (λ (n : ℕ). base + n) e.complete ∙ k.taken.fed.begun in
-    last_follows g s s2 base x t t2 bytes pending out left start now new (Ok tt) w e unended end (record {
+    last_follows g s s2 base x t t2 bytes pending out ended start now new (Ok tt) w e unended end none (record {
       whole = record {
         lines = k.lines;
         items = k.items;
@@ -272,15 +275,15 @@ all_reported g s s2 base x t t2 bytes pending out left start now new w unended e
         epochs = refl;
         holds = λ epoch input. refl;
       };
-      ended = end;
+      all_read = end;
       complete = complete;
       none = e.reported.none e.complete;
     }) (Appends-then start now new k.text out w.written written)
 
-pub last_unwritten : (g : GraphValue) (s s2 : Shown) (base : ℕ) (x : Intake) (t t2 : Reporting) (bytes pending out : List ℕ) (left start now new : Option (List ℕ)) → IsWritten g s base x t bytes pending start now → split_on 10 pending ≡ pending ∷ [] → AnswersLast base s s2 x t t2 out → IsAtEnd left → AppendsFront now new out → Follows g bytes left start new (Err ending.Write)
-last_unwritten g s s2 base x t t2 bytes pending out left start now new w unended ends end written =
+pub last_unwritten : (g : GraphValue) (s s2 : Shown) (base : ℕ) (x : Intake) (t t2 : Reporting) (bytes pending out : List ℕ) (ended : Bool) (start now new : Option (List ℕ)) → IsWritten g s base x t bytes pending start now → split_on 10 pending ≡ pending ∷ [] → AnswersLast base s s2 x t t2 out → ended ≡ true → pending ≡ [] → AppendsFront now new out → Follows g bytes ended start new (Err ending.Write)
+last_unwritten g s s2 base x t t2 bytes pending out ended start now new w unended ends end none written =
     let e = last_report g s s2 base x t t2 bytes pending out start now w ends in
-    last_follows g s s2 base x t t2 bytes pending out left start now new (Err ending.Write) w e unended end tt (front_then start now new w.known.text out w.written written)
+    last_follows g s s2 base x t t2 bytes pending out ended start now new (Err ending.Write) w e unended end none tt (front_then start now new w.known.text out w.written written)
 
 -- ---- what was read
 
@@ -301,11 +304,11 @@ consumes_keeps (Some s) (Some t) None xs p q = absurd q
 consumes_keeps (Some s) (Some t) (Some u) xs p q = p ∙ ap (λ (v : List ℕ). xs ++ v) (sym q)
 
 -- nothing was done
-abbrev FollowsNothing : GraphValue → Option (List ℕ) → Option (List ℕ) → Result (Unit {0}) Ending → Type 0
-FollowsNothing g left start result = Follows g [] left start start result
+abbrev FollowsNothing : GraphValue → Bool → Option (List ℕ) → Result (Unit {0}) Ending → Type 0
+FollowsNothing g ended start result = Follows g [] ended start start result
 
-nothing_by : (g : GraphValue) (left start : Option (List ℕ)) (result : Result (Unit {0}) Ending) → Reaches (shown_inputs g) [] left [] [] ([] ∷ []) 0 [] result → Writes start start [] result → FollowsNothing g left start result
-nothing_by g left start result reaches writes = record {
+nothing_by : (g : GraphValue) (ended : Bool) (start : Option (List ℕ)) (result : Result (Unit {0}) Ending) → Reaches (shown_inputs g) [] ended [] [] ([] ∷ []) 0 [] result → Writes start start [] result → FollowsNothing g ended start result
+nothing_by g ended start result reaches writes = record {
   lines = [];
   items = [];
   rest = [] ∷ [];
@@ -319,10 +322,46 @@ nothing_by g left start result reaches writes = record {
   writes = writes;
 }
 
-pub nothing_follows : (g : GraphValue) (left start : Option (List ℕ)) (h : Halt) → Follows g [] left start start (Err (ending_of h))
-nothing_follows g left start halt.NoMemory = nothing_by g left start (Err ending.NoMemory) tt (appends_none start)
-nothing_follows g left start halt.Count = nothing_by g left start (Err ending.Count) tt (appends_none start)
-nothing_follows g left start halt.Incomplete = nothing_by g left start (Err ending.Incomplete) tt (appends_none start)
+pub nothing_follows : (g : GraphValue) (ended : Bool) (start : Option (List ℕ)) (h : Halt) → Follows g [] ended start start (Err (ending_of h))
+nothing_follows g ended start halt.NoMemory = nothing_by g ended start (Err ending.NoMemory) tt (appends_none start)
+nothing_follows g ended start halt.Count = nothing_by g ended start (Err ending.Count) tt (appends_none start)
+nothing_follows g ended start halt.Incomplete = nothing_by g ended start (Err ending.Incomplete) tt (appends_none start)
 
 pub consumes_end : (a b c : Option (List ℕ)) (xs : List ℕ) → Consumes a b xs → Consumes b c [] → Consumes a c xs
 consumes_end a b c xs p q = subst (Consumes a c) (append-nil xs) (consumes_then a b c xs [] p q)
+
+-- nothing was read
+pub read_none : {R : Type 0} (remaining : R → Option (List ℕ)) (r : Watched R) → HasRead remaining r r [] false
+read_none remaining r = record {
+  hands = sym (append-nil (handed r));
+  said = λ e. absurd (true≢false (sym e));
+  known = consumes_none (remaining (inner_of r));
+  last = λ e. absurd (true≢false (sym e));
+}
+
+-- one more piece
+pub read_more : {R : Type 0} (remaining : R → Option (List ℕ)) (a b c : Watched R) (bytes piece : List ℕ) → HasRead remaining a b bytes false → Hands b c piece → Consumes (remaining (inner_of b)) (remaining (inner_of c)) piece → HasRead remaining a c (bytes ++ piece) false
+read_more remaining a b c bytes piece h hands known = record {
+  hands = hands ∙ ap (λ (xs : List ℕ). xs ++ piece) h.hands ∙ append_assoc (handed a) bytes piece;
+  said = λ e. absurd (true≢false (sym e));
+  known = consumes_then (remaining (inner_of a)) (remaining (inner_of b)) (remaining (inner_of c)) bytes piece h.known known;
+  last = λ e. absurd (true≢false (sym e));
+}
+
+-- a read failed
+pub read_failed : {R : Type 0} (remaining : R → Option (List ℕ)) (a b c : Watched R) (bytes : List ℕ) → HasRead remaining a b bytes false → handed c ≡ handed b → Keeps (remaining (inner_of b)) (remaining (inner_of c)) → HasRead remaining a c bytes false
+read_failed remaining a b c bytes h same kept = record {
+  hands = same ∙ h.hands;
+  said = λ e. absurd (true≢false (sym e));
+  known = consumes_keeps (remaining (inner_of a)) (remaining (inner_of b)) (remaining (inner_of c)) bytes h.known kept;
+  last = λ e. absurd (true≢false (sym e));
+}
+
+-- the reader said that there are no more bytes
+pub read_all : {R : Type 0} (remaining : R → Option (List ℕ)) (a b c : Watched R) (bytes : List ℕ) → HasRead remaining a b bytes false → Hands b c [] → Consumes (remaining (inner_of b)) (remaining (inner_of c)) [] → has_ended c ≡ true → IsAtEnd (remaining (inner_of c)) → HasRead remaining a c bytes true
+read_all remaining a b c bytes h hands known said end = record {
+  hands = hands ∙ append-nil (handed b) ∙ h.hands;
+  said = λ _. said;
+  known = consumes_end (remaining (inner_of a)) (remaining (inner_of b)) (remaining (inner_of c)) bytes h.known known;
+  last = λ _. end;
+}

@@ -1,5 +1,5 @@
 -- Answers that are written while the input still comes.
-use Rattle.std.specs.Prelude.{◌≡◌, ◌<◌, ◌≤◌, ◌⊎◌, ℕ, ◌+◌, ◌-◌, List, [], ◌∷◌, ◌++◌, length, Option, Result, Ok, Err}
+use Rattle.std.specs.Prelude.{◌≡◌, ◌<◌, ◌≤◌, ◌⊎◌, ℕ, ◌+◌, ◌-◌, Bool, true, List, [], ◌∷◌, ◌++◌, length, Option, Result, Ok, Err}
 use Rattle.std.specs.Io.KnownBytes.{Appends, Consumes, IsAtEnd}
 use Rattle.std.specs.List.{flat_map}
 use Rattle.semantics.specs.Multiset.{Record, IsPartOf, ◌≈◌}
@@ -11,9 +11,11 @@ use Rattle.graph.specs.Shown.{GraphValue, shown_graph, shown_inputs, shown_names
 use Rattle.collector.specs.Pieces.{split_on}
 use Rattle.collector.specs.Lines.{Item}
 use Rattle.collector.specs.InputText.{IsInputText, IsRefused, LinesSay, epochs_after, records_in}
+use Rattle.collector.specs.Watching.{Hands, has_ended, inner_of}
 use Rattle.collector.specs.WrittenBytes.{AppendsFront}
 use Rattle.collector.specs.declared.refusal.InputRefusal.TheVariants.{At}
 use Rattle.collector.specs.declared.codes.TheConstants.{NO_LINE_FEED}
+use Rattle.collector.specs.declared.watched.Watched.{Watched}
 use Rattle.follow.specs.Entries.{AreAt, Entry, complete_line, entry_line, records_of}
 use Rattle.follow.specs.declared.ending.Ending.{Ending}
 use Rattle.follow.specs.declared.ending.Ending.TheVariants as ending
@@ -55,33 +57,34 @@ pub record IsRead (inputs : List Input) (bytes : List ℕ) (lines : List (List �
   pub parts : split_on 10 bytes ≡ lines ++ rest
   pub said : LinesSay inputs 0 lines items
 
--- only epochs that have ended are complete: those before the last one that began, or all once the input is at its end
-abbrev pub IsSealed : (begun done : ℕ) → (left : Option (List ℕ)) → Type 0
-IsSealed begun done left = (done ≤ begun - 1) ⊎ ((done ≤ begun) × IsAtEnd left)
+-- Only epochs that have ended are complete: those before the last one that began. The last one too, once the reader has ended and each line was
+-- taken, so that nothing comes after the last line feed.
+abbrev pub IsSealed : (begun done : ℕ) → (ended : Bool) → (rest : List (List ℕ)) → Type 0
+IsSealed begun done ended rest = (done ≤ begun - 1) ⊎ ((done ≤ begun) × (ended ≡ true) × (rest ≡ [] ∷ []))
 
 -- the input is read to its end, and every epoch of it is complete
-pub record IsAllReported (inputs : List Input) (bytes : List ℕ) (left : Option (List ℕ)) (items : List Item) (done : ℕ) (entries : List Entry) : Type 0 where
+pub record IsAllReported (inputs : List Input) (bytes : List ℕ) (ended : Bool) (items : List Item) (done : ℕ) (entries : List Entry) : Type 0 where
   pub whole : IsInputText inputs bytes (epochs_after 0 items) (said_records items)
-  pub ended : IsAtEnd left
+  pub all_read : ended ≡ true
   pub complete : done ≡ epochs_after 0 items
   pub none : entries ≡ []
 
 -- the line after those that were read is the first faulty one; a last line without line feed is faulty only at the end
-pub record IsFaulty (inputs : List Input) (bytes : List ℕ) (left : Option (List ℕ)) (lines : List (List ℕ)) (code line : ℕ) : Type 0 where
+pub record IsFaulty (inputs : List Input) (bytes : List ℕ) (ended : Bool) (lines : List (List ℕ)) (code line : ℕ) : Type 0 where
   pub refused : IsRefused inputs bytes (At code line)
   pub next : line ≡ length lines + 1
-  pub last : code ≡ NO_LINE_FEED → IsAtEnd left
+  pub last : code ≡ NO_LINE_FEED → ended ≡ true
 
 -- how far the bytes were read: to the end, to a faulty line, to the last whole line before the reader failed, or unspecified
-abbrev pub Reaches : List Input → (bytes : List ℕ) → (left : Option (List ℕ)) → (lines : List (List ℕ)) → List Item
+abbrev pub Reaches : List Input → (bytes : List ℕ) → (ended : Bool) → (lines : List (List ℕ)) → List Item
     → (rest : List (List ℕ)) → (done : ℕ) → List Entry → Result (Unit {0}) Ending → Type 0
-Reaches inputs bytes left lines items rest done entries (Ok _) = IsAllReported inputs bytes left items done entries
-Reaches inputs bytes left lines items rest done entries (Err (ending.Input code line)) = IsFaulty inputs bytes left lines code line
-Reaches inputs bytes left lines items rest done entries (Err ending.Read) = (piece : List ℕ) × (rest ≡ piece ∷ [])
-Reaches inputs bytes left lines items rest done entries (Err ending.Write) = Unit {0}
-Reaches inputs bytes left lines items rest done entries (Err ending.NoMemory) = Unit {0}
-Reaches inputs bytes left lines items rest done entries (Err ending.Count) = Unit {0}
-Reaches inputs bytes left lines items rest done entries (Err ending.Incomplete) = Unit {0}
+Reaches inputs bytes ended lines items rest done entries (Ok _) = IsAllReported inputs bytes ended items done entries
+Reaches inputs bytes ended lines items rest done entries (Err (ending.Input code line)) = IsFaulty inputs bytes ended lines code line
+Reaches inputs bytes ended lines items rest done entries (Err ending.Read) = (piece : List ℕ) × (rest ≡ piece ∷ [])
+Reaches inputs bytes ended lines items rest done entries (Err ending.Write) = Unit {0}
+Reaches inputs bytes ended lines items rest done entries (Err ending.NoMemory) = Unit {0}
+Reaches inputs bytes ended lines items rest done entries (Err ending.Count) = Unit {0}
+Reaches inputs bytes ended lines items rest done entries (Err ending.Incomplete) = Unit {0}
 
 -- the text was written; if the writer failed, a beginning of it
 abbrev pub Writes : (old new : Option (List ℕ)) → (text : List ℕ) → Result (Unit {0}) Ending → Type 0
@@ -93,8 +96,8 @@ Writes old new text (Err ending.NoMemory) = Appends old new text
 Writes old new text (Err ending.Count) = Appends old new text
 Writes old new text (Err ending.Incomplete) = Appends old new text
 
--- These bytes were read, and these are left; what was written is an answer to the lines that were read.
-pub record Follows (g : GraphValue) (bytes : List ℕ) (left old new : Option (List ℕ)) (result : Result (Unit {0}) Ending) : Type 0 where
+-- These bytes were read, and the reader may have said that these are all; what was written is an answer to the lines that were read.
+pub record Follows (g : GraphValue) (bytes : List ℕ) (ended : Bool) (old new : Option (List ℕ)) (result : Result (Unit {0}) Ending) : Type 0 where
   pub lines : List (List ℕ)
   pub items : List Item
   pub rest : List (List ℕ)
@@ -103,10 +106,22 @@ pub record Follows (g : GraphValue) (bytes : List ℕ) (left old new : Option (L
   pub text : List ℕ
   pub read : IsRead (shown_inputs g) bytes lines items rest
   pub answer : IsAnswer g items done entries text
-  pub sealed : IsSealed (epochs_after 0 items) done left
-  pub reaches : Reaches (shown_inputs g) bytes left lines items rest done entries result
+  pub sealed : IsSealed (epochs_after 0 items) done ended rest
+  pub reaches : Reaches (shown_inputs g) bytes ended lines items rest done entries result
   pub writes : Writes old new text result
 
+-- The reader handed over these bytes, and if it ended, it has said that there are no more. Where its bytes are known, these are the next of them,
+-- and all that were left.
+pub record HasRead {R : Type 0} (remaining : R → Option (List ℕ)) (before after : Watched R) (bytes : List ℕ) (ended : Bool) : Type 0 where
+  pub hands : Hands before after bytes
+  pub said : ended ≡ true → has_ended after ≡ true
+  pub known : Consumes (remaining (inner_of before)) (remaining (inner_of after)) bytes
+  pub last : ended ≡ true → IsAtEnd (remaining (inner_of after))
+
+-- what was read: some bytes, and whether they are all
+abbrev pub Reading : Type 1
+Reading = (bytes : List ℕ) → (ended : Bool) → Type 0
+
 -- some bytes were read, and following them ended like this
-abbrev pub FollowsInput : GraphValue → (unread left old new : Option (List ℕ)) → Result (Unit {0}) Ending → Type 0
-FollowsInput g unread left old new result = (bytes : List ℕ) × Consumes unread left bytes × Follows g bytes left old new result
+abbrev pub FollowsInput : GraphValue → Reading → (old new : Option (List ℕ)) → Result (Unit {0}) Ending → Type 0
+FollowsInput g read old new result = (bytes : List ℕ) × (ended : Bool) × read bytes ended × Follows g bytes ended old new result

@@ -1,5 +1,5 @@
 -- What the calls of following do.
-use Rattle.std.specs.Prelude.{◌≡◌, ◌≢◌, ◌<◌, ◌≤◌, ℕ, ◌+◌, ◌-◌, ◌==◌, cond, List, [], ◌∷◌, ◌++◌, length, drop, Option, Result, Ok, Err}
+use Rattle.std.specs.Prelude.{◌≡◌, ◌≢◌, ◌<◌, ◌≤◌, ℕ, ◌+◌, ◌-◌, ◌==◌, cond, Bool, true, List, [], ◌∷◌, ◌++◌, length, drop, Option, Result, Ok, Err}
 use Rattle.std.specs.List.{flat_map}
 use Rattle.semantics.specs.Multiset.{Record}
 use Rattle.semantics.specs.Query.{Input}
@@ -13,8 +13,7 @@ use Rattle.collector.specs.InputText.{IsRefused, epochs_after, records_in}
 use Rattle.collector.specs.declared.refusal.InputRefusal.TheVariants.{At}
 use Rattle.collector.specs.declared.codes.TheConstants.{NO_LINE_FEED}
 use Rattle.follow.specs.Entries.{Entry, records_of, row_line}
-use Rattle.std.specs.Io.KnownBytes.{IsAtEnd}
-use Rattle.follow.specs.Follows.{Follows, FollowsInput, IsPart, said_records}
+use Rattle.follow.specs.Follows.{Follows, FollowsInput, IsPart, Reading, said_records}
 use Rattle.follow.specs.Scenes.{Grows, HasTaken, HasReported, IsAllFed, IsFed, IsWritten, IsPositionAfter, batches_of, fed_at, open_at, reported_count, waiting}
 use Rattle.follow.specs.declared.ending.Ending.{Ending}
 use Rattle.follow.specs.declared.ending.Ending.TheVariants as ending
@@ -220,17 +219,17 @@ AnswersLast base s t x u v out =
 -- ---- the whole
 
 -- how far lines were taken and answered, or how following ended there
-abbrev pub HasFollowedLines : GraphValue → (bytes : List ℕ) → (left start new : Option (List ℕ)) → Shown → Position → Result Taken Ending → Type 0
-HasFollowedLines g bytes left start new s p (Ok how) =
+abbrev pub HasFollowedLines : GraphValue → (bytes : List ℕ) → (ended : Bool) → (start new : Option (List ℕ)) → Shown → Position → Result Taken Ending → Type 0
+HasFollowedLines g bytes ended start new s p (Ok how) =
     (w : IsWritten g s p.base p.intake p.reporting bytes p.pending.items start new)
     × Stops (shown_inputs g) bytes p.pending.items (length w.known.lines) w.known.items how
-HasFollowedLines g bytes left start new s p (Err e) = Follows g bytes left start new (Err e)
+HasFollowedLines g bytes ended start new s p (Err e) = Follows g bytes ended start new (Err e)
 
 -- the same, whatever was taken before
 abbrev pub FollowsLines : List Input → (s t : Shown) → (p q : Position) → (old new : Option (List ℕ)) → Result Taken Ending → Type 0
 FollowsLines inputs s t p q old new result =
-    (g : GraphValue) (bytes : List ℕ) (left start : Option (List ℕ)) → inputs ≡ shown_inputs g
-    → IsWritten g s p.base p.intake p.reporting bytes p.pending.items start old → HasFollowedLines g bytes left start new t q result
+    (g : GraphValue) (bytes : List ℕ) (ended : Bool) (start : Option (List ℕ)) → inputs ≡ shown_inputs g
+    → IsWritten g s p.base p.intake p.reporting bytes p.pending.items start old → HasFollowedLines g bytes ended start new t q result
 
 -- when an epoch has just begun, a new board may replace the old one
 abbrev pub Renews : GraphValue → (s t : Shown) → (p q : Position) → Type 0
@@ -239,23 +238,23 @@ Renews g s t p q =
     → EndsInEpoch w.known.items → IsWritten g t q.base q.intake q.reporting bytes q.pending.items start now
 
 -- following goes on, or ends
-abbrev pub GoesOn : GraphValue → (bytes : List ℕ) → (left start new : Option (List ℕ)) → Shown → Position → Result (Unit {0}) Ending → Type 0
-GoesOn g bytes left start new s p (Ok _) = IsPositionAfter g s p bytes start new
-GoesOn g bytes left start new s p (Err e) = Follows g bytes left start new (Err e)
+abbrev pub GoesOn : GraphValue → (bytes : List ℕ) → (ended : Bool) → (start new : Option (List ℕ)) → Shown → Position → Result (Unit {0}) Ending → Type 0
+GoesOn g bytes ended start new s p (Ok _) = IsPositionAfter g s p bytes start new
+GoesOn g bytes ended start new s p (Err e) = Follows g bytes ended start new (Err e)
 
 -- the same after a piece, from any position
 abbrev pub FollowsPiece : GraphValue → List Input → (s t : Shown) → (p q : Position) → (piece : List ℕ)
     → (old new : Option (List ℕ)) → Result (Unit {0}) Ending → Type 0
 FollowsPiece g inputs s t p q piece old new result =
-    (bytes : List ℕ) (left start : Option (List ℕ)) → inputs ≡ shown_inputs g → IsPositionAfter g s p bytes start old
-    → GoesOn g (bytes ++ piece) left start new t q result
+    (bytes : List ℕ) (ended : Bool) (start : Option (List ℕ)) → inputs ≡ shown_inputs g → IsPositionAfter g s p bytes start old
+    → GoesOn g (bytes ++ piece) ended start new t q result
 
--- following ends when nothing is left
+-- following ends when the reader has ended
 abbrev pub FollowsEnd : Shown → Position → (old new : Option (List ℕ)) → Result (Unit {0}) Ending → Type 0
 FollowsEnd s p old new result =
-    (g : GraphValue) (bytes : List ℕ) (left start : Option (List ℕ)) → IsAtEnd left
-    → IsPositionAfter g s p bytes start old → Follows g bytes left start new result
+    (g : GraphValue) (bytes : List ℕ) (ended : Bool) (start : Option (List ℕ)) → ended ≡ true
+    → IsPositionAfter g s p bytes start old → Follows g bytes ended start new result
 
 -- the whole input is followed, from its start
-abbrev pub FollowsAll : GraphValue → List Input → Shown → Position → (unread left old new : Option (List ℕ)) → Result (Unit {0}) Ending → Type 0
-FollowsAll g inputs s p unread left old new result = inputs ≡ shown_inputs g → IsPositionAfter g s p [] old old → FollowsInput g unread left old new result
+abbrev pub FollowsAll : GraphValue → List Input → Shown → Position → Reading → (old new : Option (List ℕ)) → Result (Unit {0}) Ending → Type 0
+FollowsAll g inputs s p read old new result = inputs ≡ shown_inputs g → IsPositionAfter g s p [] old old → FollowsInput g read old new result

@@ -6,7 +6,7 @@ ghost use Rattle.machine.specs.World.{opening};
 ghost use Rattle.board.specs.Promises.{IsOpening};
 ghost use Rattle.board.specs.Showing.{Shows};
 ghost use Rattle.collector.specs.Watching.{has_failed, inner_of};
-ghost use Rattle.follow.specs.Follows.{FollowsInput};
+ghost use Rattle.follow.specs.Follows.{FollowsInput, HasRead};
 ghost use Rattle.follow.specs.Steps.{FollowsAll, FollowsEnd, FollowsLines, FollowsPiece, TakesLines};
 ghost use Rattle.follow.specs.declared.ending.Ending.TheVariants as ending;
 
@@ -203,7 +203,7 @@ fn follow_pieces<T: Threads + Sync, R: Read, W: Write>(
     writer: &mut Watched<W>,
 ) -> Result<(), Ending>
     ensures follows { FollowsAll graph.now.value (map input_of inputs.now) board.old.shown position.old
-        (R.remaining (inner_of reader.old)) (R.remaining (inner_of reader.new)) (W.contents (inner_of writer.old)) (W.contents (inner_of writer.new)) result }
+        (HasRead R.remaining reader.old reader.new) (W.contents (inner_of writer.old)) (W.contents (inner_of writer.new)) result }
     ensures reader { IsErrOf result ending.Read → has_failed reader.new ≡ true }
     ensures writer { IsErrOf result ending.Write → has_failed writer.new ≡ true }
 {
@@ -262,7 +262,7 @@ fn follow_graph<T: Threads + Sync, R: Read, W: Write>(
     requires opening { IsOpening graph.now.value crew.count board.old.shown }
     requires shows { Shows board.old.shown opening }
     ensures follows { IfOk result (λ r. FollowsInput graph.now.value
-        (R.remaining (inner_of reader.old)) (R.remaining (inner_of reader.new)) (W.contents (inner_of writer.old)) (W.contents (inner_of writer.new)) r) }
+        (HasRead R.remaining reader.old reader.new) (W.contents (inner_of writer.old)) (W.contents (inner_of writer.new)) r) }
     ensures reader { IfOk result (λ r. IsErrOf r ending.Read → has_failed reader.new ≡ true) }
     ensures writer { IfOk result (λ r. IsErrOf r ending.Write → has_failed writer.new ≡ true) }
     ensures unread { OnErr result (reader.new ≡ reader.old) }
@@ -301,7 +301,7 @@ pub fn follow<T: Threads + Sync, R: Read, W: Write>(
     writer: &mut Watched<W>,
 ) -> Result<(), Ending>
     ensures follows { FollowsInput graph
-        (R.remaining (inner_of reader.old)) (R.remaining (inner_of reader.new)) (W.contents (inner_of writer.old)) (W.contents (inner_of writer.new)) result }
+        (HasRead R.remaining reader.old reader.new) (W.contents (inner_of writer.old)) (W.contents (inner_of writer.new)) result }
     ensures reader { IsErrOf result ending.Read → has_failed reader.new ≡ true }
     ensures writer { IsErrOf result ending.Write → has_failed writer.new ≡ true }
 {

@@ -9,7 +9,7 @@ use Rattle.lexer.specs.declared.token.Token.{Token}
 use Rattle.grammar.specs.Tokens.{reaching}
 use Rattle.grammar.specs.Phrases.{Agree, IsOne}
 use Rattle.grammar.specs.Scalars.{ScalarAt}
-use Rattle.grammar.specs.Relations.{Reads, named, select, filter, set_operation, join, group, distinct, iterate, operator_keyword, PairAt, ColumnAt, AggAt}
+use Rattle.grammar.specs.Relations.{Reads, named, select, filter, set_operation, join, group, distinct, iterate, closure, operator_keyword, PairAt, ColumnAt, AggAt}
 use Rattle.grammar.proofs.Tokens.{first_one, rest_one, some_one}
 use Rattle.grammar.proofs.Scalars.{one_scalar}
 use Rattle.grammar.proofs.Conditions.{one_condition}
@@ -35,7 +35,14 @@ pub no_operator : {k : Keyword} (w : SetOperator) → set_operator k ≡ None �
 no_operator w n e = let f : None ≡ Some w = sym n ∙ (ap set_operator e ∙ of_keyword w) in absurd cc
 
 pub one_reading : {text : List ℕ} {ts us vs : List Token} {x y : RelTree} {h k : ℕ} → Reads text ts x h us → Reads text ts y k vs → Agree x y h k us vs
-one_reading (named d) (named e) = record { value = refl; height = refl; left = refl }
+one_reading (named d f) (named e g) = record { value = refl; height = refl; left = refl }
+one_reading (named d f) (closure e c n i a b) = absurd (f c refl)
+one_reading (closure e c n i a b) (named d f) = absurd (f c refl)
+one_reading (closure {s = s} f c n i d r) (closure g a m j e t) =
+    let a = one_reading d e in
+    let b = one_reading r (rw (← rest_one a.left) at t) in
+    let q = ap (λ (t : Token). reaching s t.span) (first_one b.left) in
+    record { value = cc (a.value, b.value, q); height = cc (a.height, b.height); left = rest_one b.left }
 one_reading (select {s = s} d r) (select e t) =
     let a = one_reading d e in
     let b = one_list ScalarAt one_scalar _ _ _ _ _ _ _ r (rw (← rest_one a.left) at t) in

@@ -1,5 +1,5 @@
 -- The grammar of relations, as a relation between tokens and trees; `text` has the bytes of the names.
-use Rattle.std.specs.Prelude.{ℕ, suc, max, length, ◌<◌, ◌≤◌, ◌^◌, ◌-◌, ◌≡◌, List, ◌∷◌, take, drop}
+use Rattle.std.specs.Prelude.{ℕ, suc, max, length, ◌<◌, ◌≤◌, ◌^◌, ◌-◌, ◌≡◌, List, ◌∷◌, take, drop, codes}
 use Rattle.record_core.specs.declared.span.Span.{Span}
 use Rattle.record_core.specs.declared.keyword.Keyword.{Keyword}
 use Rattle.record_core.specs.declared.keyword.Keyword.TheVariants as keyword
@@ -13,8 +13,9 @@ use Rattle.expr_tree.specs.declared.relation.Column.{Column}
 use Rattle.expr_tree.specs.declared.relation.Pair.{Pair}
 use Rattle.expr_tree.specs.declared.relation.SetOperator.{SetOperator}
 use Rattle.expr_tree.specs.declared.relation.SetOperator.TheVariants.{Concat, Except, Intersect}
+use Rattle.expr_tree.specs.declared.relation.LoopForm.TheVariants.{Iterate, Closure}
 use Rattle.expr_tree.specs.Trees.{ScalarTree, CondTree, RelTree}
-use Rattle.grammar.specs.Tokens.{reaching, token, mark_at, keyword_at}
+use Rattle.grammar.specs.Tokens.{reaching, token, mark_at, keyword_at, NoMark}
 use Rattle.grammar.specs.Phrases.{Listed}
 use Rattle.grammar.specs.Scalars.{ScalarAt}
 use Rattle.grammar.specs.Conditions.{ConditionAt}
@@ -56,10 +57,14 @@ operator_keyword Concat = keyword.Concat
 operator_keyword Except = keyword.Except
 operator_keyword Intersect = keyword.Intersect
 
+-- the word of a closure: a name that is no keyword, and begins a closure only before a bracket
+abbrev pub closure_word : List ℕ
+closure_word = codes "closure"
+
 -- the tokens begin with a relation, which is this tree with this height, and these tokens are left
 pub data Reads (text : List ℕ) : List Token → RelTree → ℕ → List Token → Type 0 where
-  -- rel = NAME
-  named : {s : Span} {ts : List Token} → IsNameAt text s → Reads text (token kind.Name s ∷ ts) (RelTree.named s (piece text s)) 1 ts
+  -- rel = NAME, but for the word of a closure before "("
+  named : {s : Span} {ts : List Token} → IsNameAt text s → (piece text s ≡ closure_word → NoMark mark.OpenRound ts) → Reads text (token kind.Name s ∷ ts) (RelTree.named s (piece text s)) 1 ts
   -- | "select" "(" rel ";" scalar { "," scalar } ")"
   select : {s o p q : Span} {r : RelTree} {xs : List ScalarTree} {h k : ℕ} {ts us vs : List Token} → Reads text ts r h (mark_at mark.Semicolon p ∷ us)
       → Listed ScalarAt us xs k (mark_at mark.CloseRound q ∷ vs)
@@ -90,4 +95,11 @@ pub data Reads (text : List ℕ) : List Token → RelTree → ℕ → List Token
       → Reads text
       (keyword_at keyword.Iterate s ∷ mark_at mark.OpenRound o ∷ token (kind.Number n) d ∷ mark_at mark.Semicolon p
       ∷ token kind.Name x ∷ mark_at mark.Equal i ∷ ts)
-      (RelTree.iterate (reaching s q) d n x (piece text x) r b) (suc (max h k)) vs
+      (RelTree.loop (reaching s q) Iterate d n x (piece text x) r b) (suc (max h k)) vs
+  -- | "closure" "(" NUMBER ";" NAME "=" rel ";" rel ")"
+  closure : {s o d p x i j q : Span} {n h k : ℕ} {r b : RelTree} {ts us vs : List Token} → IsNameAt text s → piece text s ≡ closure_word → n < 2 ^ 63
+      → IsNameAt text x → Reads text ts r h (mark_at mark.Semicolon j ∷ us) → Reads text us b k (mark_at mark.CloseRound q ∷ vs)
+      → Reads text
+      (token kind.Name s ∷ mark_at mark.OpenRound o ∷ token (kind.Number n) d ∷ mark_at mark.Semicolon p
+      ∷ token kind.Name x ∷ mark_at mark.Equal i ∷ ts)
+      (RelTree.loop (reaching s q) Closure d n x (piece text x) r b) (suc (max h k)) vs

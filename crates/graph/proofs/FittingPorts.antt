@@ -60,6 +60,7 @@ one_fit Kind.ingress ins out = hlevel ℕ_set
 one_fit Kind.egress ins out = hlevel ℕ_set
 one_fit Kind.feedback ins out = hlevel ℕ_set
 one_fit (Kind.gate n) ins out = hlevel ℕ_set
+one_fit (Kind.unseen n) ins out = hlevel ℕ_set
 one_fit (Kind.hold n) ins out = hlevel ℕ_set
 
 one_typed : (g : Graph) (arity : ℕ → ℕ) → IsProp (IsTyped g arity)

@@ -65,6 +65,7 @@ kind_eq Kind.ingress Kind.ingress = true
 kind_eq Kind.egress Kind.egress = true
 kind_eq Kind.feedback Kind.feedback = true
 kind_eq (Kind.gate m) (Kind.gate n) = nat_eq m n
+kind_eq (Kind.unseen m) (Kind.unseen n) = nat_eq m n
 kind_eq (Kind.hold m) (Kind.hold n) = nat_eq m n
 kind_eq k l = false
 

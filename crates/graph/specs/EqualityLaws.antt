@@ -85,6 +85,7 @@ kind_decides Kind.ingress Kind.ingress = (λ e. refl, λ e. refl)
 kind_decides Kind.egress Kind.egress = (λ e. refl, λ e. refl)
 kind_decides Kind.feedback Kind.feedback = (λ e. refl, λ e. refl)
 kind_decides (Kind.gate m) (Kind.gate n) = Decides-like _ (λ e. ap Kind.gate e) (λ e. cc) (Decides-eqb m n)
+kind_decides (Kind.unseen m) (Kind.unseen n) = Decides-like _ (λ e. ap Kind.unseen e) (λ e. cc) (Decides-eqb m n)
 kind_decides (Kind.hold m) (Kind.hold n) = Decides-like _ (λ e. ap Kind.hold e) (λ e. cc) (Decides-eqb m n)
 kind_decides k l = (λ e. cc, λ e. cc)
 

@@ -25,6 +25,7 @@ kind_text Kind.ingress x = codes "ingress"
 kind_text Kind.egress x = codes "egress"
 kind_text Kind.feedback x = codes "feedback"
 kind_text (Kind.gate n) x = codes "gate(" ++ (decimal n ++ codes ")")
+kind_text (Kind.unseen n) x = codes "unseen(" ++ (decimal n ++ codes ")")
 kind_text (Kind.hold n) x = codes "hold(" ++ (decimal n ++ codes ")")
 
 -- a port, as VERTEX.PORT after a space

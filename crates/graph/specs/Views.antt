@@ -9,7 +9,7 @@ use Rattle.expr_tree.specs.Views.{scalar_tree, cond_tree}
 use Rattle.expr_tree.specs.Plain.{plain_scalar, plain_cond, plain_pair, plain_agg}
 use Rattle.graph.specs.declared.vertex.Kind.{Kind}
 use Rattle.graph.specs.declared.vertex.Kind.TheVariants.{Input, Output, Select, Where, Concat, Join, Group, Distinct, Except, Intersect}
-use Rattle.graph.specs.declared.vertex.Kind.TheVariants.{Ingress, Egress, Feedback, Gate, Hold}
+use Rattle.graph.specs.declared.vertex.Kind.TheVariants.{Ingress, Egress, Feedback, Gate, Unseen, Hold}
 use Rattle.graph.specs.declared.vertex.Port.{Port}
 use Rattle.graph.specs.declared.vertex.Sources.{Sources}
 use Rattle.graph.specs.declared.vertex.Sources.TheVariants.{Nothing, One, Two}
@@ -37,6 +37,7 @@ kind_of Ingress = semantics.Kind.ingress
 kind_of Egress = semantics.Kind.egress
 kind_of Feedback = semantics.Kind.feedback
 kind_of (Gate n) = semantics.Kind.gate n
+kind_of (Unseen n) = semantics.Kind.unseen n
 kind_of (Hold n) = semantics.Kind.hold n
 
 -- of a role

@@ -77,6 +77,7 @@ impl PartialEq for Kind {
             (Kind::Egress, Kind::Egress) => true,
             (Kind::Feedback, Kind::Feedback) => true,
             (Kind::Gate(m), Kind::Gate(n)) => *m == *n,
+            (Kind::Unseen(m), Kind::Unseen(n)) => *m == *n,
             (Kind::Hold(m), Kind::Hold(n)) => *m == *n,
             _ => false,
         }

@@ -2,7 +2,7 @@
 
 ghost use Rattle.std.specs.Prelude.{◌≡◌};
 ghost use Rattle.loop_context.specs.Actions.{action_of};
-ghost use Rattle.semantics.specs.Kinds.{action, in_ports, is_input, is_output, out_ports, role, route_key};
+ghost use Rattle.semantics.specs.Kinds.{action, in_ports, is_input, is_output, looks_back, out_ports, role, route_key};
 ghost use Rattle.graph.specs.Views.{key_of, kind_of, role_of};
 
 use crate::vertex::Kind;
@@ -52,6 +52,7 @@ impl Kind {
             | Kind::Egress
             | Kind::Feedback
             | Kind::Gate(_)
+            | Kind::Unseen(_)
             | Kind::Hold(_) => 1,
         }
     }
@@ -62,7 +63,7 @@ impl Kind {
     {
         match self {
             Kind::Output => 0,
-            Kind::Gate(_) | Kind::Hold(_) => 2,
+            Kind::Gate(_) | Kind::Unseen(_) | Kind::Hold(_) => 2,
             Kind::Input
             | Kind::Select(_)
             | Kind::Where(_)
@@ -97,6 +98,7 @@ impl Kind {
             | Kind::Except
             | Kind::Intersect
             | Kind::Gate(_)
+            | Kind::Unseen(_)
             | Kind::Hold(_) => Action::Stay,
         }
     }
@@ -114,7 +116,7 @@ impl Kind {
                 }
             }
             Kind::Group(columns, _) => RouteKey::Columns(columns.as_slice()),
-            Kind::Distinct | Kind::Except | Kind::Intersect => RouteKey::Record,
+            Kind::Distinct | Kind::Except | Kind::Intersect | Kind::Unseen(_) => RouteKey::Record,
             Kind::Input
             | Kind::Output
             | Kind::Select(_)
@@ -136,7 +138,7 @@ impl Kind {
             Kind::Input => Role::Input,
             Kind::Output => Role::Output,
             Kind::Join(_) | Kind::Distinct | Kind::Intersect => Role::Stateful,
-            Kind::Group(_, _) | Kind::Except => Role::Notified,
+            Kind::Group(_, _) | Kind::Except | Kind::Unseen(_) => Role::Notified,
             Kind::Select(_)
             | Kind::Where(_)
             | Kind::Concat
@@ -146,6 +148,13 @@ impl Kind {
             | Kind::Gate(_)
             | Kind::Hold(_) => Role::Stateless,
         }
+    }
+
+    /// Whether it also reads what came to it in the earlier turns of its loop.
+    pub fn looks_back(&self) -> bool
+        ensures { result ≡ looks_back (kind_of self.now) }
+    {
+        matches!(self, Kind::Unseen(_))
     }
 
     /// Whether it is an input.

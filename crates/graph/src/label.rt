@@ -42,6 +42,7 @@ pub fn put_label(text: &mut Vec<u8>, kind: &Kind, name: &[u8]) -> Result<(), NoM
         | Kind::Egress
         | Kind::Feedback
         | Kind::Gate(_)
+        | Kind::Unseen(_)
         | Kind::Hold(_) => return put_kind(text, kind, name),
     }
     text.extend_from_slice(b")")?;

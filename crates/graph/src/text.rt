@@ -87,12 +87,13 @@ fn put_rest(text: &mut Vec<u8>, depth: u32, ins: &Sources) -> Result<(), NoMemor
     Ok(())
 }
 
-/// A kind's name, with the number of turns of a gate and a hold, and the name of an output.
+/// A kind's name, with the number of turns of a gate, an unseen and a hold, and the name of an output.
 pub fn put_kind(text: &mut Vec<u8>, kind: &Kind, name: &[u8]) -> Result<(), NoMemory>
     ensures { OnOk result (text.new.items ≡ text.old.items ++ kind_text (kind_of kind.now) name.now) }
 {
     match kind {
         Kind::Gate(turns) => put_turns(text, b"gate(", *turns)?,
+        Kind::Unseen(turns) => put_turns(text, b"unseen(", *turns)?,
         Kind::Hold(turns) => put_turns(text, b"hold(", *turns)?,
         Kind::Input => text.extend_from_slice(b"input")?,
         Kind::Output => put_output(text, name)?,

@@ -14,7 +14,7 @@ pub const MAX_VERTICES: usize = 4096;
 #[derive(Clone, Copy, Debug, PartialEq, Eq)]
 pub struct VertexId(pub u32);
 
-/// What a vertex does with the records that come to it. `Gate` and `Hold` have the number of turns of their loop.
+/// What a vertex does with the records that come to it. `Gate`, `Unseen` and `Hold` have the number of turns of their loop.
 #[derive(Drop)]
 pub enum Kind {
     Input,
@@ -31,6 +31,7 @@ pub enum Kind {
     Egress,
     Feedback,
     Gate(u64),
+    Unseen(u64),
     Hold(u64),
 }
 

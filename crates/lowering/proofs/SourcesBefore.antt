@@ -1,7 +1,7 @@
 -- In the graph of a program each vertex stands after those that its arity comes from.
 use Rattle.std.proofs.Common.{◌≡◌, ℕ, zero, suc, ◌+◌, ◌<◌, ◌≤◌, Bool, true, false, cond, ◌⊎◌, inl, inr, List, [], ◌∷◌, ◌++◌, length, refl, ap, subst, ◌∙◌, arith, length-append, slice_index_or}
 use Rattle.std.specs.List.{AllByRecursion}
-use Rattle.semantics.specs.Query.{Name, Rel, Input, Let, Output, Program}
+use Rattle.semantics.specs.Query.{Loop, Name, Rel, Input, Let, Output, Program}
 use Rattle.semantics.specs.FreeNames.{carried}
 use Rattle.semantics.specs.Kinds.{Kind}
 use Rattle.semantics.specs.Graph.{Graph, Port, Vertex, no_vertex}
@@ -95,16 +95,16 @@ two_leads k l r kind d a b =
       gives = omega (arith, length-append l.made (r.made ++ (v ∷ [])), length-append r.made (v ∷ []));
     }
 
-loop_leads : (n k : ℕ) (S : Lowered) (ports : Ports) (d : ℕ) (ys : List Name) (B : Lowered) → Below k ports → LeadsOn k S
+loop_leads : (l : Loop) (n k : ℕ) (S : Lowered) (ports : Ports) (d : ℕ) (ys : List Name) (B : Lowered) → Below k ports → LeadsOn k S
     → LeadsOn (suc (suc (suc (k + length S.made))) + length (carry n ports d (suc (suc (suc (k + length S.made)))) ys)) B
-    → LeadsOn k (after_start S (looped n (k + length S.made) S ports d ys B))
-loop_leads n k S ports d ys B b a c =
+    → LeadsOn k (after_start S (looped l n (k + length S.made) S ports d ys B))
+loop_leads l n k S ports d ys B b a c =
     let z = k + length S.made in
     let o = suc (suc (suc z)) in
     let C = carry n ports d o ys in
     let last = o + length C + length B.made in
     let ends = new_vertex Kind.feedback (suc d) (B.gives ∷ []) ∷ new_vertex Kind.egress (suc d) (port (suc (suc z)) 1 ∷ []) ∷ [] in
-    let loop = (looped n z S ports d ys B).made in
+    let loop = (looped l n z S ports d ys B).made in
     record {
       made = leads_append k S.made loop a.made (
         inl (a.gives, tt),
@@ -139,7 +139,7 @@ rel_leads (Rel.except p q) ports d k b =
 rel_leads (Rel.intersect p q) ports d k b =
     let j = k + length (lower p ports d k).made in
     two_leads k (lower p ports d k) (lower q ports d j) Kind.intersect d (rel_leads p ports d k b) (rel_leads q ports d j (below_more k j ports (omega arith) b))
-rel_leads (Rel.iterate n x r body) ports d k b =
+rel_leads (Rel.loop l n x r body) ports d k b =
     let S = lower r ports d k in
     let z = k + length S.made in
     let o = suc (suc (suc z)) in
@@ -148,7 +148,7 @@ rel_leads (Rel.iterate n x r body) ports d k b =
     let inside = stands_for x (port (suc (suc z)) 0) (carried_ports ports o ys) in
     let within : Below m inside = stands_below x (port (suc (suc z)) 0) (carried_ports ports o ys) m (omega arith)
     (carried_below n ports d o m ys (below_more k o ports (omega arith) b) (omega arith)) in
-    loop_leads n k S ports d ys (lower body inside (suc d) m) b (rel_leads r ports d k b) (rel_leads body inside (suc d) m within)
+    loop_leads l n k S ports d ys (lower body inside (suc d) m) b (rel_leads r ports d k b) (rel_leads body inside (suc d) m within)
 
 -- ---- programs
 
@@ -186,7 +186,7 @@ no_leaf (Rel.group r ks gs) d n h = no_leaf r d h.0 h.1
 no_leaf (Rel.distinct r) d n h = no_leaf r d n h
 no_leaf (Rel.except p q) d n h = no_leaf p d n h.0
 no_leaf (Rel.intersect p q) d n h = no_leaf p d n h.0
-no_leaf (Rel.iterate k x r b) d n h = no_leaf r d n h.2
+no_leaf (Rel.loop l k x r b) d n h = no_leaf r d n h.2
 
 no_outputs : (os : List Output) (ns : List ℕ) → OutputsFit [] [] os ns → os ≡ []
 no_outputs [] ns h = refl

@@ -30,6 +30,7 @@ fits_sent Kind.ingress n ins out e h = h
 fits_sent Kind.egress n ins out e h = h
 fits_sent Kind.feedback n ins out e h = h
 fits_sent (Kind.gate t) n ins out e h = h
+fits_sent (Kind.unseen t) n ins out e h = h
 fits_sent (Kind.hold t) n ins out e h = h
 
 concat_sent : (kind : Kind) (n a b : ℕ) → kind ≡ Kind.concat → sent kind n a b ≡ a

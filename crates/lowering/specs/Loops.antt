@@ -1,19 +1,20 @@
 -- The vertices of a loop around those of its body, and what names stand for in it.
 use Rattle.std.specs.Prelude.{ℕ, suc, ◌-◌, List, [], ◌∷◌, ◌++◌, length, slice_set}
 use Rattle.expr_tree.specs.declared.relation.Rel as declared
-use Rattle.expr_tree.specs.Plain.{plain_rel}
+use Rattle.expr_tree.specs.declared.relation.LoopForm.{LoopForm}
+use Rattle.expr_tree.specs.Plain.{plain_form, plain_rel}
 use Rattle.expr_tree.specs.Views.{rel_tree}
 use Rattle.semantics.specs.FreeNames.{carried}
 use Rattle.semantics.specs.Graph.{Graph, Port, Vertex}
 use Rattle.semantics.specs.Kinds.{Kind}
-use Rattle.semantics.specs.Lower.{Ports, carried_ports, carry, new_vertex, port, stands_for}
-use Rattle.semantics.specs.Query.{Name, Rel}
+use Rattle.semantics.specs.Lower.{Ports, carried_ports, carry, gate_of, new_vertex, port, stands_for}
+use Rattle.semantics.specs.Query.{Loop, Name, Rel}
 use Rattle.graph.specs.Views.{graph_of}
 use Rattle.graph.specs.declared.vertex.Vertex as vertex
 
 -- a loop in memory
-abbrev pub plain_loop : {A B : Type 0} → (turns : ℕ) → (variable : Name) → (start : declared.Rel A) → (body : declared.Rel B) → Rel
-plain_loop n x start body = Rel.iterate n x (plain_rel (rel_tree start)) (plain_rel (rel_tree body))
+abbrev pub plain_loop : {A B : Type 0} → LoopForm → (turns : ℕ) → (variable : Name) → (start : declared.Rel A) → (body : declared.Rel B) → Rel
+plain_loop form n x start body = Rel.loop (plain_form form) n x (plain_rel (rel_tree start)) (plain_rel (rel_tree body))
 
 -- the names that a loop's body in memory takes from outside
 abbrev pub names_carried : {A : Type 0} → (variable : Name) → declared.Rel A → List Name
@@ -22,11 +23,11 @@ names_carried x body = carried x (plain_rel (rel_tree body))
 -- ---- before the body; k is the number of the loop's first vertex, d the depth outside
 
 -- ingress, concat, gate, and the vertices of the carried names ys; the concat has its first source twice, since the second isn't known yet
-abbrev pub loop_entry : (turns : ℕ) → (start : Port) → Ports → (d k : ℕ) → List Name → List Vertex
-loop_entry n start ports d k ys =
+abbrev pub loop_entry : Loop → (turns : ℕ) → (start : Port) → Ports → (d k : ℕ) → List Name → List Vertex
+loop_entry l n start ports d k ys =
     new_vertex Kind.ingress d (start ∷ [])
     ∷ new_vertex Kind.concat (suc d) (port k 0 ∷ port k 0 ∷ [])
-    ∷ new_vertex (Kind.gate n) (suc d) (port (suc k) 0 ∷ [])
+    ∷ new_vertex (gate_of l n) (suc d) (port (suc k) 0 ∷ [])
     ∷ carry n ports d (suc (suc (suc k))) ys
 
 -- ingress, concat, hold and feedback of one carried name, which stands for a port outside

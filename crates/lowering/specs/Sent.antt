@@ -20,6 +20,7 @@ sent Kind.ingress n a b = a
 sent Kind.egress n a b = a
 sent Kind.feedback n a b = a
 sent (Kind.gate t) n a b = a
+sent (Kind.unseen t) n a b = a
 sent (Kind.hold t) n a b = a
 
 -- the arity of the vertex that feeds an in port

@@ -69,6 +69,7 @@ fn sent_arity(vertex: &Vertex, declared: u64, arities: &[u64]) -> u64
         Kind::Egress => first,
         Kind::Feedback => first,
         Kind::Gate(_) => first,
+        Kind::Unseen(_) => first,
         Kind::Hold(_) => first,
     }
 }

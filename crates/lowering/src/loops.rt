@@ -3,26 +3,38 @@
 ghost use Rattle.std.specs.Prelude.{◌≡◌, ◌≤◌, ◌<◌, ◌++◌, ◌∷◌, [], suc, ◌+◌, length, slice_set, IfOk, IfErr, OnOk};
 ghost use Rattle.semantics.specs.Kinds as semantics;
 ghost use Rattle.semantics.specs.Limits.{max_loops};
-ghost use Rattle.semantics.specs.Lower.{carried_ports, carry, new_vertex, port};
+ghost use Rattle.expr_tree.specs.Plain.{plain_form};
+ghost use Rattle.semantics.specs.Lower.{carried_ports, carry, gate_of, new_vertex, port};
 ghost use Rattle.lowering.specs.Faults.{IsOver};
 ghost use Rattle.lowering.specs.Loops.{body_port, carry_one, inside_of, loop_entry, names_carried, with_loop_exit};
 ghost use Rattle.lowering.specs.Scopes.{Extends, ports_of};
-ghost use Rattle.graph.specs.Views.{graph_of, port_of};
+ghost use Rattle.graph.specs.Views.{graph_of, kind_of, port_of};
 
 use crate::fault::LowerFault;
 use crate::names::carried_names;
 use crate::scope::Scope;
 use crate::vertex::add_vertex;
-use expr_tree::Rel;
+use expr_tree::{LoopForm, Rel};
 use graph::{Kind, Port, Sources, Vertex, VertexId};
 use record_core::Name;
 use std::alloc::{Allocator, Global};
+
+/// The vertex that lets records into a turn of a loop, and out of the loop.
+fn gate_kind(form: LoopForm, turns: u64) -> Kind
+    ensures { kind_of result ≡ gate_of (plain_form form) turns }
+{
+    match form {
+        LoopForm::Iterate => Kind::Gate(turns),
+        LoopForm::Closure => Kind::Unseen(turns),
+    }
+}
 
 /// Makes the vertices of a loop that stand before its body: an ingress, a concat whose second source isn't known yet, and a gate
 /// for the variable, then the four of each carried name. In the scope the names then stand for what they mean inside the loop.
 /// Gives the gate's out port 0.
 pub fn open_loop<A: Allocator>(
     alloc: Global,
+    form: LoopForm,
     turns: u64,
     variable: &Name,
     body: &Rel<A>,
@@ -33,18 +45,19 @@ pub fn open_loop<A: Allocator>(
 ) -> Result<Port, LowerFault>
     requires { depth < max_loops }
     ensures made { OnOk result (graph_of made.new.items ≡ graph_of made.old.items
-        ++ loop_entry turns (port_of start) (ports_of scope.old) depth (length made.old.items) (names_carried variable.now body.now)) }
+        ++ loop_entry (plain_form form) turns (port_of start) (ports_of scope.old) depth (length made.old.items) (names_carried variable.now body.now)) }
     ensures gives { IfOk result (λ p. port_of p ≡ body_port (length made.old.items)) }
     ensures inside { OnOk result (ports_of scope.new ≡
         inside_of (ports_of scope.old) variable.now (length made.old.items) (names_carried variable.now body.now)) }
     ensures outside { OnOk result (Extends scope.old scope.new) }
     ensures many { IfErr result (λ e. IsOver e (length made.old.items
-        + length (loop_entry turns (port_of start) (ports_of scope.old) depth (length made.old.items) (names_carried variable.now body.now)))) }
+        + length (loop_entry (plain_form form) turns (port_of start) (ports_of scope.old) depth (length made.old.items) (names_carried variable.now body.now)))) }
 {
     let names = carried_names(alloc, variable, body)?;
     let first = add_vertex(made, Kind::Ingress, depth, Sources::One(start))?;
     let both = add_vertex(made, Kind::Concat, depth + 1, Sources::Two(first, first))?;
-    let gate = add_vertex(made, Kind::Gate(turns), depth + 1, Sources::One(both))?;
+    let kind = gate_kind(form, turns);
+    let gate = add_vertex(made, kind, depth + 1, Sources::One(both))?;
     carry_names(turns, &names, scope, depth, made)?;
     scope.bind(variable, gate)?;
     Ok(gate)

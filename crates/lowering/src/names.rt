@@ -55,7 +55,7 @@ fn gather<A: Allocator>(
         }
         Rel::Group(_, of, _, _) => gather(of, bound, names),
         Rel::Distinct(_, of) => gather(of, bound, names),
-        Rel::Iterate {
+        Rel::Loop {
             name,
             start,
             body,

@@ -16,7 +16,7 @@ use crate::form_vertices::{add_group, add_join, add_select, add_set_operation, a
 use crate::loops::{close_loop, open_loop};
 use crate::scope::Scope;
 use crate::vertex::add_vertex;
-use expr_tree::Rel;
+use expr_tree::{LoopForm, Rel};
 use graph::{Kind, Port, Sources, Vertex};
 use record_core::Name;
 use std::alloc::{Allocator, Global};
@@ -65,13 +65,14 @@ pub fn lower_rel<A: Allocator>(
             let from = lower_rel(alloc, of, scope, depth, made)?;
             add_vertex(made, Kind::Distinct, depth, Sources::One(from))
         }
-        Rel::Iterate {
+        Rel::Loop {
+            form,
             turns,
             name,
             start,
             body,
             ..
-        } => lower_loop(alloc, *turns, name, start, body, scope, depth, made),
+        } => lower_loop(alloc, *form, *turns, name, start, body, scope, depth, made),
     }
 }
 
@@ -79,6 +80,7 @@ pub fn lower_rel<A: Allocator>(
 #[cycle(lower)]
 fn lower_loop<A: Allocator>(
     alloc: Global,
+    form: LoopForm,
     turns: u64,
     variable: &Name,
     start: &Rel<A>,
@@ -87,16 +89,16 @@ fn lower_loop<A: Allocator>(
     depth: u32,
     made: &mut Vec<Vertex>,
 ) -> Result<Port, LowerFault>
-    requires nested { Nested depth (plain_loop turns variable.now start.now body.now) }
+    requires nested { Nested depth (plain_loop form turns variable.now start.now body.now) }
     ensures ok { IfOk result (λ p. IsLowered (graph_of made.old.items) (graph_of made.new.items) (port_of p)
-        (lower (plain_loop turns variable.now start.now body.now) (ports_of scope.old) depth (length made.old.items))) }
+        (lower (plain_loop form turns variable.now start.now body.now) (ports_of scope.old) depth (length made.old.items))) }
     ensures scope { OnOk result (scope.new ≡ scope.old) }
     ensures many { IfErr result (λ e. IsOver e (length made.old.items
-        + length (lower (plain_loop turns variable.now start.now body.now) (ports_of scope.old) depth (length made.old.items)).made)) }
+        + length (lower (plain_loop form turns variable.now start.now body.now) (ports_of scope.old) depth (length made.old.items)).made)) }
 {
     let outside = scope.len();
     let from = lower_rel(alloc, start, scope, depth, made)?;
-    let gate = open_loop(alloc, turns, variable, body, from, scope, depth, made)?;
+    let gate = open_loop(alloc, form, turns, variable, body, from, scope, depth, made)?;
     let last = lower_rel(alloc, body, scope, depth + 1, made)?;
     scope.leave(outside);
     close_loop(made, gate, last, depth)

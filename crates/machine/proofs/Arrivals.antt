@@ -1,7 +1,7 @@
 -- A commit of a message keeps the facts that hold in every reached world.
 use Rattle.std.proofs.Common.{◌≡◌, ◌≢◌, ◌≤◌, ◌<◌, ℕ, zero, suc, ◌+◌, Bool, true, false, cond, eqb, List, [], ◌∷◌, ◌++◌, ◌⊎◌, inl, inr, refl, sym, ap, ◌∙◌, subst, ap₂, arith, append-nil}
 use Rattle.std.proofs.lemmas.Bool.Decides.{eqb_tells}
-use Rattle.semantics.specs.Multiset.{total, Record, count, end_to_end, ◌≈◌, one_if}
+use Rattle.semantics.specs.Multiset.{total, Record, count, end_to_end, ◌≈◌, one_if, IsAmong}
 use Rattle.semantics.specs.Could.{at_vertex}
 use Rattle.semantics.specs.Time.{Time, same_time, at_epoch}
 use Rattle.semantics.proofs.MultisetSums.{≈-from, total-append}
@@ -20,7 +20,8 @@ use Rattle.machine.proofs.Commits.{once, way_after, vertex_after}
 use Rattle.machine.proofs.Counting.{eqb_self, below_one, below_changed, count-append, count_either}
 use Rattle.machine.proofs.Kept.{done_at, History, carried, held_records, under_way, one_if_at, held_notifications, open_requests, some, made, Due, Kept, GoodMessage, GoodRequest, GoodHeld}
 use Rattle.machine.proofs.Ports.{end_same, some_append, some_of_port}
-use Rattle.machine.proofs.Laws.{IsNetwork, IsOutput, AtHome, times_in}
+use Rattle.machine.proofs.Laws.{IsNetwork, IsRead, IsOutput, AtHome, times_in}
+use Rattle.machine.proofs.Rank.{op_now}
 use Rattle.machine.proofs.NetFlow.{HasFlows}
 use Rattle.machine.proofs.Notifications.{some_row}
 use Rattle.machine.proofs.Places.{same_time_tells, same_time_self, edge_not_vertex}
@@ -166,7 +167,25 @@ module _ (g : Network) (law : IsNetwork g) (w : World) (h : History) (keeps : Ke
       go (inl x) (inr (inr a)) = absurd (a (sym x.time))
 
   rest : (k v q : ℕ) (t : Time) (r : Record) → ((k ≢ k0) ⊎ ((v ≢ g.target m.edge) ⊎ (t ≢ m.time))) → made g (history_done h k0 m) v q t r k ≡ made g h v q t r k
-  rest k v q t r ne = ap (λ n. cond (h.notified k v t) n 0) ((law.op_same v q t (λ p. done_after h k0 m k (g.edge_into v p) t) (λ p. h.done k (g.edge_into v p) t) (λ p lp. ≈-from (done_other k v p t ne lp))).counts r)
+  rest k v q t r ne = go (h.notified k v t) refl
+    where
+      -- nothing more comes at a time that a notified vertex has read
+      settled_read : h.notified k v t ≡ true → k ≡ k0 → g.target m.edge ≡ v → IsAmong m.time (g.reads_back v t) → ⊥
+      settled_read e a b i =
+          let fits : g.IsPointstamp (at_vertex v m.time) = subst (λ (x : ℕ). g.IsPointstamp (at_vertex x m.time)) b here in
+          let enter : g.Could (message_pointstamp m) (at_vertex v m.time) = subst (λ (x : ℕ). g.Could (message_pointstamp m) (at_vertex x m.time)) b (law.could_enter m.edge m.time good_message.0 good_message.3) in
+          edge_not_vertex m.edge v m.time t
+          (keeps.settled k v t (subst (λ (x : ℕ). x < g.workers) (sym a) ok.0) (law.only_notified v t m.time i) (inl e) (message_pointstamp m) (IsActive.of_held k0 false (Event.arrival m) ok.0 ok.1)
+          (law.could_on (message_pointstamp m) (at_vertex v m.time) (at_vertex v t) enter (law.could_read v t m.time i fits)))
+
+      same_read : h.notified k v t ≡ true → (p : ℕ) (s : Time) → p < g.ports v → IsRead g v t s → DoneHere h k0 m k (g.edge_into v p) s ⊎ DoneElsewhere h k0 m k (g.edge_into v p) s → done_after h k0 m k (g.edge_into v p) s ≡ h.done k (g.edge_into v p) s
+      same_read e p s lp rd (inr x) = x.is
+      same_read e p s lp (inl i) (inl x) = subst (λ (u : Time). done_after h k0 m k (g.edge_into v p) u ≡ h.done k (g.edge_into v p) u) (sym i) (done_other k v p t ne lp)
+      same_read e p s lp (inr i) (inl x) = absurd (settled_read e x.worker (vertex_of v p lp x.edge) (subst (λ (u : Time). IsAmong u (g.reads_back v t)) (sym x.time) i))
+
+      go : (b : Bool) → h.notified k v t ≡ b → made g (history_done h k0 m) v q t r k ≡ made g h v q t r k
+      go true e = ap (λ n. cond (h.notified k v t) n 0) ((law.op_same v q t (λ p. done_after h k0 m k (g.edge_into v p)) (λ p. h.done k (g.edge_into v p)) (λ p s lp rd. ≈-from (same_read e p s lp rd (done_tells h k0 m k (g.edge_into v p) s)))).counts r)
+      go false e = rw e refl
 
   -- what the workers have processed
   done_sum : (e : ℕ) (t : Time) (r : Record) → sum_below g.workers (λ k. count r (done_after h k0 m k e t)) ≡ sum_below g.workers (λ k. count r (h.done k e t)) + carried e t r m
@@ -237,28 +256,35 @@ module _ (g : Network) (law : IsNetwork g) (w : World) (h : History) (keeps : Ke
   gain_stateless : g.role (g.target m.edge) ≡ Role.stateless → MakesBy Role.stateless g w k0 m out → (q : ℕ) (r : Record) → made g (history_done h k0 m) (g.target m.edge) q m.time r k0 ≡ made g h (g.target m.edge) q m.time r k0 + count r (out q)
   unfolding two_parts
   gain_stateless s makes q r =
-      let notified : h.notified k0 (g.target m.edge) m.time ≡ true = always (λ e. let x : Role.stateless ≡ Role.notified = sym s ∙ e in cc) in
+      let now : g.role (g.target m.edge) ≢ Role.notified = λ e. let x : Role.stateless ≡ Role.notified = sym s ∙ e in cc in
+      let notified : h.notified k0 (g.target m.edge) m.time ≡ true = always now in
+      let i : count r (g.op (g.target m.edge) q m.time (ins g (h.done k0) (g.target m.edge) m.time)) ≡ count r (g.op (g.target m.edge) q m.time (two_parts 0)) =
+      ap (λ z. count r (g.op (g.target m.edge) q m.time z)) (law.reads_now (g.target m.edge) (λ p. h.done k0 (g.edge_into (g.target m.edge) p)) m.time now) in
       let a = notified_same q r notified in
       let b = notified_more q r notified in
       let c = (makes q).counts r in
       let d : count r (g.op (g.target m.edge) q m.time (λ p. end_to_end (λ k. two_parts k p) 2)) ≡ (0 + count r (g.op (g.target m.edge) q m.time (two_parts 0))) + count r (g.op (g.target m.edge) q m.time (two_parts 1)) =
       law.op_stateless (g.target m.edge) q m.time two_parts 2 s r in
       let f : count r (g.op (g.target m.edge) q m.time (ins g (done_after h k0 m k0) (g.target m.edge) m.time)) ≡ count r (g.op (g.target m.edge) q m.time (λ p. end_to_end (λ k. two_parts k p) 2)) =
-      (law.op_same (g.target m.edge) q m.time (ins g (done_after h k0 m k0) (g.target m.edge) m.time) (λ p. end_to_end (λ k. two_parts k p) 2) done_split).counts r in
+      ap (λ z. count r (g.op (g.target m.edge) q m.time z)) (law.reads_now (g.target m.edge) (λ p. done_after h k0 m k0 (g.edge_into (g.target m.edge) p)) m.time now)
+      ∙ (op_now g law (g.target m.edge) q m.time (λ p. done_after h k0 m k0 (g.edge_into (g.target m.edge) p) m.time) (λ p. end_to_end (λ k. two_parts k p) 2) now done_split).counts r in
       omega arith
 
   gain_stateful : g.role (g.target m.edge) ≡ Role.stateful → MakesBy Role.stateful g w k0 m out → (q : ℕ) (r : Record) → made g (history_done h k0 m) (g.target m.edge) q m.time r k0 ≡ made g h (g.target m.edge) q m.time r k0 + count r (out q)
   gain_stateful s makes q r =
-      let notified : h.notified k0 (g.target m.edge) m.time ≡ true = always (λ e. let x : Role.stateful ≡ Role.notified = sym s ∙ e in cc) in
+      let now : g.role (g.target m.edge) ≢ Role.notified = λ e. let x : Role.stateful ≡ Role.notified = sym s ∙ e in cc in
+      let notified : h.notified k0 (g.target m.edge) m.time ≡ true = always now in
       let a = notified_same q r notified in
       let b = notified_more q r notified in
       let before : List Record = g.op (g.target m.edge) q m.time (λ p. w.absorbed k0 (g.target m.edge) p m.time) in
       let c : count r (out q ++ before) ≡ count r (g.op (g.target m.edge) q m.time (λ p. absorbed_then g w k0 m p m.time)) = (makes q).counts r in
       let d : count r (out q ++ before) ≡ count r (out q) + count r before = count-append r (out q) before in
       let e : count r before ≡ count r (g.op (g.target m.edge) q m.time (ins g (h.done k0) (g.target m.edge) m.time)) =
-      (law.op_same (g.target m.edge) q m.time (λ p. w.absorbed k0 (g.target m.edge) p m.time) (ins g (h.done k0) (g.target m.edge) m.time) (λ p lp. ≈-from (keeps.shards k0 (g.target m.edge) p m.time ok.0 lp (inl s)))).counts r in
+      (op_now g law (g.target m.edge) q m.time (λ p. w.absorbed k0 (g.target m.edge) p m.time) (λ p. h.done k0 (g.edge_into (g.target m.edge) p) m.time) now (λ p lp. ≈-from (keeps.shards k0 (g.target m.edge) p m.time ok.0 lp (inl s)))).counts r
+      ∙ sym (ap (λ z. count r (g.op (g.target m.edge) q m.time z)) (law.reads_now (g.target m.edge) (λ p. h.done k0 (g.edge_into (g.target m.edge) p)) m.time now)) in
       let f : count r (g.op (g.target m.edge) q m.time (λ p. absorbed_then g w k0 m p m.time)) ≡ count r (g.op (g.target m.edge) q m.time (ins g (done_after h k0 m k0) (g.target m.edge) m.time)) =
-      (law.op_same (g.target m.edge) q m.time (λ p. absorbed_then g w k0 m p m.time) (ins g (done_after h k0 m k0) (g.target m.edge) m.time) (λ p lp. ≈-from (shard_after p lp (inl s)))).counts r in
+      (op_now g law (g.target m.edge) q m.time (λ p. absorbed_then g w k0 m p m.time) (λ p. done_after h k0 m k0 (g.edge_into (g.target m.edge) p) m.time) now (λ p lp. ≈-from (shard_after p lp (inl s)))).counts r
+      ∙ sym (ap (λ z. count r (g.op (g.target m.edge) q m.time z)) (law.reads_now (g.target m.edge) (λ p. done_after h k0 m k0 (g.edge_into (g.target m.edge) p)) m.time now)) in
       omega arith
 
   gain_grouping : g.role (g.target m.edge) ≡ Role.notified → MakesBy Role.notified g w k0 m out → (q : ℕ) (r : Record) → made g (history_done h k0 m) (g.target m.edge) q m.time r k0 ≡ made g h (g.target m.edge) q m.time r k0 + count r (out q)

@@ -51,7 +51,7 @@ module _ (g : Network) (law : IsNetwork g) (w : World) (k : ℕ) where
 
   makes : (event : Event) → GoodEvent g k event → (out : ℕ → List Record) × Makes g w k event out
   makes (Event.arrival m) good = makes_message m good.0
-  makes (Event.notification n) good = ((λ q. g.op n.vertex q n.time (λ p. w.absorbed k n.vertex p n.time)), λ q. ≈-refl (g.op n.vertex q n.time (λ p. w.absorbed k n.vertex p n.time)))
+  makes (Event.notification n) good = ((λ q. g.op n.vertex q n.time (g.reads n.vertex (w.absorbed k n.vertex) n.time)), λ q. ≈-refl (g.op n.vertex q n.time (g.reads n.vertex (w.absorbed k n.vertex) n.time)))
 
   pub can_commit : (event : Event) → GoodEvent g k event → k < g.workers → w.held k ≡ Held.holding false event → (out : ℕ → List Record) × Allowed g w (Step.commit k event out)
   can_commit event good l there = let m = makes event good in (m.0, (l, there, m.1))

@@ -14,10 +14,10 @@ use Rattle.machine.proofs.NetFlow.{ins}
 use Rattle.machine.proofs.Counting.{below_same, below_more, below_zero, counted-end_to_end}
 use Rattle.machine.proofs.Kept.{done_at, History, carried, carried_by, held_records, under_way, one_if_at, one_if_notifies, held_notifications, open_requests, some, made, Due, Kept, Headline}
 use Rattle.machine.proofs.Ports.{each_empty}
-use Rattle.machine.proofs.Laws.{Lower, times_in, IsNetwork, IsOutput, all_parts, CutByKey}
+use Rattle.machine.proofs.Laws.{Lower, IsRead, times_in, IsNetwork, IsOutput, CutByKey}
 use Rattle.machine.proofs.NetFlow.{IsNetFlow}
 use Rattle.machine.proofs.Places.{same_time_tells, total_zero, total_times, total_times_more, is_input_role, is_notified_role, inner_kind, edge_not_vertex, some_below}
-use Rattle.machine.proofs.Rank.{could_back, lower}
+use Rattle.machine.proofs.Rank.{could_back, lower, read_fits, read_could, edge_could, lower_read}
 
 -- a message of this edge and time is there, or it carries nothing there
 pub carried_place : (e : ℕ) (t : Time) (r : Record) (m : Message) → (carried e t r m ≡ 0) ⊎ (message_pointstamp m ≡ on_edge e t)
@@ -90,17 +90,25 @@ module _ (g : Network) (law : IsNetwork g) (w : World) where
       hand (Held.holding up x) s = event up x s
 
 module _ (g : Network) (law : IsNetwork g) (w : World) (h : History) (keeps : Kept g w h) where
+  -- what all workers have processed
+  abbrev pub all_done : ℕ → Time → List Record
+  all_done e t = end_to_end (λ k. h.done k e t) g.workers
+
   -- what the workers' parts have made is `op` of their sum, if each part of a group that absorbed something has had its notification
   pub parts_make : (v q : ℕ) (t : Time) (r : Record) → g.role v ≢ Role.input → g.role v ≢ Role.output
-      → sum_below g.workers (λ k. count r (g.op v q t (ins g (h.done k) v t))) ≡ count r (g.op v q t (all_parts g (λ k p. h.done k (g.edge_into v p) t)))
+      → sum_below g.workers (λ k. count r (g.op v q t (ins g (h.done k) v t))) ≡ count r (g.op v q t (ins g all_done v t))
   parts_make v q t r a b = go (inner_kind (g.role v) a b)
     where
-      cut : (g.role v ≡ Role.stateful) ⊎ (g.role v ≡ Role.notified) → CutByKey g v (λ k p. h.done k (g.edge_into v p) t)
-      cut s k p lk lp = keeps.at_home k (g.edge_into v p) t lk (law.into_is_edge v p lp) (subst (λ (x : ℕ). (g.role x ≡ Role.stateful) ⊎ (g.role x ≡ Role.notified)) (sym (law.target_into v p lp)) s)
+      cut : (g.role v ≡ Role.stateful) ⊎ (g.role v ≡ Role.notified) → (s : Time) → CutByKey g v (λ k p. h.done k (g.edge_into v p) s)
+      cut s u k p lk lp = keeps.at_home k (g.edge_into v p) u lk (law.into_is_edge v p lp) (subst (λ (x : ℕ). (g.role x ≡ Role.stateful) ⊎ (g.role x ≡ Role.notified)) (sym (law.target_into v p lp)) s)
 
-      go : (g.role v ≡ Role.stateless) ⊎ ((g.role v ≡ Role.stateful) ⊎ (g.role v ≡ Role.notified)) → sum_below g.workers (λ k. count r (g.op v q t (ins g (h.done k) v t))) ≡ count r (g.op v q t (all_parts g (λ k p. h.done k (g.edge_into v p) t)))
-      go (inl s) = sym (law.op_stateless v q t (λ k p. h.done k (g.edge_into v p) t) g.workers s r)
-      go (inr s) = sym (law.op_cut v q t (λ k p. h.done k (g.edge_into v p) t) s (cut s) r)
+      go : (g.role v ≡ Role.stateless) ⊎ ((g.role v ≡ Role.stateful) ⊎ (g.role v ≡ Role.notified)) → sum_below g.workers (λ k. count r (g.op v q t (ins g (h.done k) v t))) ≡ count r (g.op v q t (ins g all_done v t))
+      go (inl s) =
+          let now : g.role v ≢ Role.notified = λ e. let z : Role.stateless ≡ Role.notified = sym s ∙ e in cc in
+          below_same g.workers _ _ (λ k lk. ap (λ x. count r (g.op v q t x)) (law.reads_now v (λ p. h.done k (g.edge_into v p)) t now))
+          ∙ sym (law.op_stateless v q t (λ k p. h.done k (g.edge_into v p) t) g.workers s r)
+          ∙ sym (ap (λ x. count r (g.op v q t x)) (law.reads_now v (λ p. all_done (g.edge_into v p)) t now))
+      go (inr s) = sym (law.op_cut v q t (λ k p. h.done k (g.edge_into v p)) s (cut s) r)
 
   -- at most that, in any case
   pub made_le : (v q : ℕ) (t : Time) (r : Record) (k : ℕ) → made g h v q t r k ≤ count r (g.op v q t (ins g (h.done k) v t))
@@ -126,7 +134,7 @@ module _ (g : Network) (law : IsNetwork g) (w : World) (h : History) (keeps : Ke
           let z : open_requests w v t k ≡ 0 = none s in
           let y : one_if (h.notified k v t) ≡ 0 = ap one_if e in
           let d : done_at g h k v t ≡ [] = empty (done_at g h k v t) (omega arith) in
-          let o : g.op v q t (ins g (h.done k) v t) ≡ [] = law.op_nothing v q t (ins g (h.done k) v t) (λ p lp. each_empty (λ x. h.done k (g.edge_into v x) t) (g.ports v) d p lp) in
+          let o : g.op v q t (ins g (h.done k) v t) ≡ [] = law.op_nothing v q t (λ p. h.done k (g.edge_into v p)) (λ p lp. each_empty (λ x. h.done k (g.edge_into v x) t) (g.ports v) d p lp) in
           rw e (sym (ap (count r) o))
 
   module _ (flow : ℕ → Time → List Record) (flows : IsNetFlow g w.fed flow) where
@@ -146,11 +154,11 @@ module _ (g : Network) (law : IsNetwork g) (w : World) (h : History) (keeps : Ke
 
     -- a vertex with all its in ports processed in full has made what the flow has
     pub vertex_whole : (v q : ℕ) (t : Time) (r : Record) → g.role v ≢ Role.input → g.role v ≢ Role.output
-        → ((p : ℕ) → p < g.ports v → (s : Record) → sum_below g.workers (λ k. count s (h.done k (g.edge_into v p) t)) ≡ count s (flow (g.edge_into v p) t))
+        → ((p : ℕ) (u : Time) → p < g.ports v → IsRead g v t u → (s : Record) → sum_below g.workers (λ k. count s (h.done k (g.edge_into v p) u)) ≡ count s (flow (g.edge_into v p) u))
         → sum_below g.workers (λ k. count r (g.op v q t (ins g (h.done k) v t))) ≡ count r (g.op v q t (ins g flow v t))
     vertex_whole v q t r a b all =
         parts_make v q t r a b
-        ∙ (law.op_same v q t (all_parts g (λ k p. h.done k (g.edge_into v p) t)) (ins g flow v t) (λ p lp. record { counts = λ s. counted-end_to_end (λ k. h.done k (g.edge_into v p) t) g.workers s ∙ all p lp s })).counts r
+        ∙ (law.op_same v q t (λ p. all_done (g.edge_into v p)) (λ p. flow (g.edge_into v p)) (λ p u lp rd. record { counts = λ s. counted-end_to_end (λ k. h.done k (g.edge_into v p) u) g.workers s ∙ all p u lp rd s })).counts r
 
     abbrev WholeBelow : Pointstamp → ℕ → Type 0
     WholeBelow p v = (p' : ℕ) (t' : Time) → Lower g (on_edge (g.edge_into v p') t') p → g.edge_into v p' < g.edges → g.IsPointstamp (on_edge (g.edge_into v p') t') → NoneBefore g w (on_edge (g.edge_into v p') t') → (w.sent (g.edge_into v p') t') ≈ (flow (g.edge_into v p') t')
@@ -166,11 +174,13 @@ module _ (g : Network) (law : IsNetwork g) (w : World) (h : History) (keeps : Ke
             let nv : NoneBefore g w (at_vertex (g.source e) t) = none_through e t u l ft a none in
             let m : sum_below g.workers (made g h (g.source e) (g.out_port e) t r) ≡ sum_below g.workers (λ k. count r (g.op (g.source e) (g.out_port e) t (ins g (h.done k) (g.source e) t))) =
             below_same g.workers _ _ (λ k lk. made_all (g.source e) (g.out_port e) t r k lk (λ _. nothing_open g law w (g.source e) t (λ q active c. nv q active (subst (λ (x : Pointstamp). g.Could x (at_vertex (g.source e) t)) (sym c) (law.could_self (at_vertex (g.source e) t) ft))) k lk)) in
-            m ∙ vertex_whole (g.source e) (g.out_port e) t r s (law.no_output_source e l) (λ p' lp s'.
-            let ne : NoneBefore g w (on_edge (g.edge_into (g.source e) p') t) = none_before_edge (g.source e) p' t lp ft nv in
-            let fe : g.IsPointstamp (on_edge (g.edge_into (g.source e) p') t) = law.fits_into (g.source e) p' t lp ft in
+            m ∙ vertex_whole (g.source e) (g.out_port e) t r s (law.no_output_source e l) (λ p' u' lp rd s'.
+            let fu : g.IsPointstamp (at_vertex (g.source e) u') = read_fits g law (g.source e) t u' rd ft in
+            let nu : NoneBefore g w (at_vertex (g.source e) u') = λ q active c. nv q active (law.could_on q (at_vertex (g.source e) u') (at_vertex (g.source e) t) c (read_could g law (g.source e) t u' rd ft)) in
+            let ne : NoneBefore g w (on_edge (g.edge_into (g.source e) p') u') = none_before_edge (g.source e) p' u' lp fu nu in
+            let fe : g.IsPointstamp (on_edge (g.edge_into (g.source e) p') u') = law.fits_into (g.source e) p' u' lp fu in
             let le : g.edge_into (g.source e) p' < g.edges = law.into_is_edge (g.source e) p' lp in
-            processed (g.edge_into (g.source e) p') t le fe ne (ih p' t (subst (λ (x : Pointstamp). Lower g (on_edge (g.edge_into (g.source e) p') t) x) (ap (on_edge e) a ∙ sym is) (lower g law p' e t l lp ft)) le fe ne) s')
+            processed (g.edge_into (g.source e) p') u' le fe ne (ih p' u' (subst (λ (x : Pointstamp). Lower g (on_edge (g.edge_into (g.source e) p') u') x) (ap (on_edge e) a ∙ sym is) (lower_read g law p' e t u' l lp rd ft)) le fe ne) s')
 
         go : (r : Record) → (g.role (g.source e) ≡ Role.input) ⊎ (g.role (g.source e) ≢ Role.input) → WholeBelow p (g.source e) → count r (w.sent e u) ≡ count r (flow e u)
         go r (inl s) ih = (keeps.from_input e u l s).counts r ∙ sym ((flows.from_input e u l fits s).counts r)
@@ -183,13 +193,12 @@ module _ (g : Network) (law : IsNetwork g) (w : World) (h : History) (keeps : Ke
     PartBelow p v = (p' : ℕ) (t' : Time) → Lower g (on_edge (g.edge_into v p') t') p → g.edge_into v p' < g.edges → g.IsPointstamp (on_edge (g.edge_into v p') t') → IsPartOf (w.sent (g.edge_into v p') t') (flow (g.edge_into v p') t')
 
     -- a group that has had its notification at some worker has everything that it will ever get
-    pub none_before_notified : (v : ℕ) (t : Time) (k : ℕ) → k < g.workers → g.IsPointstamp (at_vertex v t) → g.role v ≡ Role.notified → Due w h k v t → (p : ℕ) → p < g.ports v → NoneBefore g w (on_edge (g.edge_into v p) t)
-    none_before_notified v t k lk fits s due p lp q active c =
-        let le : g.edge_into v p < g.edges = law.into_is_edge v p lp in
-        let enter : g.Could (on_edge (g.edge_into v p) t) (at_vertex v t) = subst (λ (x : ℕ). g.Could (on_edge (g.edge_into v p) t) (at_vertex x t)) (law.target_into v p lp) (law.could_enter (g.edge_into v p) t le (law.fits_into v p t lp fits)) in
-        let is : q ≡ at_vertex v t = keeps.settled k v t lk s due q active (law.could_on q (on_edge (g.edge_into v p) t) (at_vertex v t) c enter) in
-        let back : g.Could (at_vertex v t) (on_edge (g.edge_into v p) t) = subst (λ (x : Pointstamp). g.Could x (on_edge (g.edge_into v p) t)) is c in
-        edge_not_vertex (g.edge_into v p) v t t (could_back g law (on_edge (g.edge_into v p) t) (at_vertex v t) enter back)
+    pub none_before_notified : (v : ℕ) (t : Time) (k : ℕ) → k < g.workers → g.IsPointstamp (at_vertex v t) → g.role v ≡ Role.notified → Due w h k v t → (p : ℕ) (u : Time) → p < g.ports v → IsRead g v t u → NoneBefore g w (on_edge (g.edge_into v p) u)
+    none_before_notified v t k lk fits s due p u lp rd q active c =
+        let enter : g.Could (on_edge (g.edge_into v p) u) (at_vertex v t) = edge_could g law v p t u lp rd fits in
+        let is : q ≡ at_vertex v t = keeps.settled k v t lk s due q active (law.could_on q (on_edge (g.edge_into v p) u) (at_vertex v t) c enter) in
+        let back : g.Could (at_vertex v t) (on_edge (g.edge_into v p) u) = subst (λ (x : Pointstamp). g.Could x (on_edge (g.edge_into v p) u)) is c in
+        edge_not_vertex (g.edge_into v p) v u t (could_back g law (on_edge (g.edge_into v p) u) (at_vertex v t) enter back)
 
     -- what was sent is part of the flow
     pub part_at : (p : Pointstamp) → Acc (Lower g) p → (e : ℕ) (t : Time) → p ≡ on_edge e t → e < g.edges → g.IsPointstamp (on_edge e t) → IsPartOf (w.sent e t) (flow e t)
@@ -199,10 +208,14 @@ module _ (g : Network) (law : IsNetwork g) (w : World) (h : History) (keeps : Ke
         monotone r s sg ih t ft a =
             let m : sum_below g.workers (made g h (g.source e) (g.out_port e) t r) ≤ sum_below g.workers (λ k. count r (g.op (g.source e) (g.out_port e) t (ins g (h.done k) (g.source e) t))) =
             below_more g.workers _ _ (λ k lk. made_le (g.source e) (g.out_port e) t r k) in
-            let j : sum_below g.workers (λ k. count r (g.op (g.source e) (g.out_port e) t (ins g (h.done k) (g.source e) t))) ≡ count r (g.op (g.source e) (g.out_port e) t (all_parts g (λ k p. h.done k (g.edge_into (g.source e) p) t))) =
+            let j : sum_below g.workers (λ k. count r (g.op (g.source e) (g.out_port e) t (ins g (h.done k) (g.source e) t))) ≡ count r (g.op (g.source e) (g.out_port e) t (ins g all_done (g.source e) t)) =
             parts_make (g.source e) (g.out_port e) t r s (law.no_output_source e l) in
-            let o : count r (g.op (g.source e) (g.out_port e) t (all_parts g (λ k p. h.done k (g.edge_into (g.source e) p) t))) ≤ count r (g.op (g.source e) (g.out_port e) t (ins g flow (g.source e) t)) =
-            (law.op_more (g.source e) (g.out_port e) t (all_parts g (λ k p. h.done k (g.edge_into (g.source e) p) t)) (ins g flow (g.source e) t) sg (λ p' lp. record {
+            let x : count r (g.op (g.source e) (g.out_port e) t (ins g all_done (g.source e) t)) ≡ count r (g.op (g.source e) (g.out_port e) t (λ p. all_done (g.edge_into (g.source e) p) t)) =
+            ap (λ z. count r (g.op (g.source e) (g.out_port e) t z)) (law.reads_now (g.source e) (λ p. all_done (g.edge_into (g.source e) p)) t sg) in
+            let y : count r (g.op (g.source e) (g.out_port e) t (ins g flow (g.source e) t)) ≡ count r (g.op (g.source e) (g.out_port e) t (λ p. flow (g.edge_into (g.source e) p) t)) =
+            ap (λ z. count r (g.op (g.source e) (g.out_port e) t z)) (law.reads_now (g.source e) (λ p. flow (g.edge_into (g.source e) p)) t sg) in
+            let o : count r (g.op (g.source e) (g.out_port e) t (λ p. all_done (g.edge_into (g.source e) p) t)) ≤ count r (g.op (g.source e) (g.out_port e) t (λ p. flow (g.edge_into (g.source e) p) t)) =
+            (law.op_more (g.source e) (g.out_port e) t (λ p. all_done (g.edge_into (g.source e) p) t) (λ p. flow (g.edge_into (g.source e) p) t) sg (λ p' lp. record {
               within = λ s'.
                   let le : g.edge_into (g.source e) p' < g.edges = law.into_is_edge (g.source e) p' lp in
                   let i : count s' (w.sent (g.edge_into (g.source e) p') t) ≤ count s' (flow (g.edge_into (g.source e) p') t) = (ih p' t (subst (λ (x : Pointstamp). Lower g (on_edge (g.edge_into (g.source e) p') t) x) (ap (on_edge e) a ∙ sym is) (lower g law p' e t l lp ft)) le (law.fits_into (g.source e) p' t lp ft)).within s' in
@@ -220,11 +233,11 @@ module _ (g : Network) (law : IsNetwork g) (w : World) (h : History) (keeps : Ke
             let m : sum_below g.workers (made g h (g.source e) (g.out_port e) t r) ≤ sum_below g.workers (λ k. count r (g.op (g.source e) (g.out_port e) t (ins g (h.done k) (g.source e) t))) =
             below_more g.workers _ _ (λ k' lk'. made_le (g.source e) (g.out_port e) t r k') in
             let v : sum_below g.workers (λ k. count r (g.op (g.source e) (g.out_port e) t (ins g (h.done k) (g.source e) t))) ≡ count r (g.op (g.source e) (g.out_port e) t (ins g flow (g.source e) t)) =
-            vertex_whole (g.source e) (g.out_port e) t r s (law.no_output_source e l) (λ p' lp s'.
+            vertex_whole (g.source e) (g.out_port e) t r s (law.no_output_source e l) (λ p' u' lp rd s'.
             let le : g.edge_into (g.source e) p' < g.edges = law.into_is_edge (g.source e) p' lp in
-            let ne : NoneBefore g w (on_edge (g.edge_into (g.source e) p') t) = none_before_notified (g.source e) t k lk ft sg (inl notified) p' lp in
-            let fe : g.IsPointstamp (on_edge (g.edge_into (g.source e) p') t) = law.fits_into (g.source e) p' t lp ft in
-            processed (g.edge_into (g.source e) p') t le fe ne (whole (g.edge_into (g.source e) p') t le fe ne) s') in
+            let ne : NoneBefore g w (on_edge (g.edge_into (g.source e) p') u') = none_before_notified (g.source e) t k lk ft sg (inl notified) p' u' lp rd in
+            let fe : g.IsPointstamp (on_edge (g.edge_into (g.source e) p') u') = law.fits_into (g.source e) p' u' lp (read_fits g law (g.source e) t u' rd ft) in
+            processed (g.edge_into (g.source e) p') u' le fe ne (whole (g.edge_into (g.source e) p') u' le fe ne) s') in
             omega arith
 
         go : (r : Record) → (g.role (g.source e) ≡ Role.input) ⊎ (g.role (g.source e) ≢ Role.input) → PartBelow p (g.source e) → count r (w.sent e u) ≤ count r (flow e u)

@@ -1,23 +1,24 @@
 -- The network of a dataflow graph keeps the laws of networks, and has flows.
 use Rattle.std.proofs.Common.{◌≡◌, ◌≢◌, ◌≤◌, ◌<◌, ℕ, zero, suc, ◌+◌, ◌-◌, nat_lt, Bool, true, false, cond, List, [], ◌∷◌, ◌++◌, ◌⊎◌, inl, inr, refl, sym, ap, ◌∙◌, subst, arith, map, flat_map, length, slice_index_or, Some, ltb-true, ltb-false}
 use Rattle.std.specs.List.{AllByRecursion}
-use Rattle.semantics.specs.Multiset.{Record, same, one_if, total, count, end_to_end, ◌≈◌, IsPartOf}
+use Rattle.semantics.specs.Multiset.{Record, same, one_if, total, count, end_to_end, ◌≈◌, IsPartOf, IsAmong}
 use Rattle.semantics.specs.Could.{IsTimeAt, PathStep, Location}
-use Rattle.semantics.specs.Kinds.{route_key, Kind, action, ends_turn, in_ports, out_ports, is_input, role, Role}
-use Rattle.semantics.specs.Op.{IsCut, op}
+use Rattle.semantics.specs.Kinds.{route_key, Kind, action, ends_turn, in_ports, out_ports, looks_back, is_input, role, Role}
+use Rattle.semantics.specs.Op.{IsCut, places, reads_back, reads_if, reads, op}
 use Rattle.semantics.specs.Dataflow.{Goes, IsDataflow}
 use Rattle.semantics.specs.Flow.{edge_flow, Inputs, Flow, sent_by, sent_or_fed, port_flow, IsEdgeTime, IsFlow}
 use Rattle.semantics.specs.Graph.{edge_count, target, in_port, edge_into, edge_source, Vertex, Graph, no_vertex, vertex}
 use Rattle.semantics.specs.Route.{route, home_by, home}
-use Rattle.semantics.specs.Time.{in_first_turn, Time, last, deeper, outer, Action, after_action, times_before, below, turn_count, same_counters, same_time, at_epoch}
+use Rattle.semantics.specs.Time.{in_first_turn, Time, last_from, front_from, front, earlier_turns, is_before, last, deeper, outer, Action, after_action, times_before, below, turn_count, same_counters, same_time, at_epoch}
 use Rattle.semantics.proofs.MultisetSums.{Decides-same, ≈-refl, ≈-trans, ≈-from, total-append, empty_from_same, count_here}
 use Rattle.semantics.proofs.MonotoneVertices.{Grows, op_part}
 use Rattle.semantics.proofs.TimesBefore.{Among, Defined, times_before_all, Reached, times_before_only}
 use Rattle.semantics.proofs.CouldRises.{step_fits, at_most_refl, could_self, could_on, could_founded}
 use Rattle.semantics.proofs.EdgeNumbers.{entered, into}
 use Rattle.semantics.proofs.InputNumbers.{input_kind}
-use Rattle.semantics.proofs.OneFlow.{op_same, one_flow}
-use Rattle.semantics.proofs.VertexLaws.{op_nothing, op_cut}
+use Rattle.semantics.proofs.OneFlow.{op_same, one_flow, lex_head, lex_tail, all_below, flat_same, reads_same}
+use Rattle.semantics.proofs.WhatIsRead.{read_from, op_of_nothing, op_of_parts}
+use Rattle.semantics.proofs.VertexLaws.{op_cut}
 use Rattle.semantics.proofs.RoutedParts.{home_below}
 use Rattle.semantics.proofs.RankRises.{StepRises, step_rises, rises_from_nested}
 use Rattle.semantics.proofs.VertexFlows.{last-deeper}
@@ -26,7 +27,7 @@ use Rattle.machine.specs.Active.{sum_below}
 use Rattle.machine.specs.Engine.{network}
 use Rattle.machine.proofs.NetFlow.{ins}
 use Rattle.machine.proofs.Counting.{count-append, counted-end_to_end, total_same}
-use Rattle.machine.proofs.Laws.{IsOutput, IsNetwork, times_in, all_parts, CutByKey}
+use Rattle.machine.proofs.Laws.{IsRead, IsOutput, IsNetwork, times_in, all_parts, CutByKey}
 use Rattle.machine.proofs.NetFlow.{IsNetFlow, HasFlows}
 use Rattle.machine.proofs.Places.{same_time_tells, same_time_self}
 
@@ -47,6 +48,7 @@ role_input (Kind.filter c) e = absurd cc
 role_input (Kind.join ps) e = absurd cc
 role_input (Kind.group ks as') e = absurd cc
 role_input (Kind.gate n) e = absurd cc
+role_input (Kind.unseen n) e = absurd cc
 role_input (Kind.hold n) e = absurd cc
 
 pub role_output : (k : Kind) → role k ≡ Role.output → k ≡ Kind.output
@@ -64,6 +66,7 @@ role_output (Kind.filter c) e = absurd cc
 role_output (Kind.join ps) e = absurd cc
 role_output (Kind.group ks as') e = absurd cc
 role_output (Kind.gate n) e = absurd cc
+role_output (Kind.unseen n) e = absurd cc
 role_output (Kind.hold n) e = absurd cc
 
 role_grows : (k : Kind) → role k ≢ Role.notified → Grows k
@@ -81,6 +84,7 @@ role_grows (Kind.select ss) n = tt
 role_grows (Kind.filter c) n = tt
 role_grows (Kind.join ps) n = tt
 role_grows (Kind.gate m) n = tt
+role_grows (Kind.unseen m) n = absurd (n refl)
 role_grows (Kind.hold m) n = tt
 
 abbrev HasKeys : Kind → Type 0
@@ -105,6 +109,7 @@ has_route_key (Kind.group ks as') h port = (_, refl)
 has_route_key Kind.distinct h port = (_, refl)
 has_route_key Kind.except h port = (_, refl)
 has_route_key Kind.intersect h port = (_, refl)
+has_route_key (Kind.unseen n) h port = (_, refl)
 has_route_key Kind.input h port = absurd (source_no_keys Kind.input refl h)
 has_route_key Kind.output h port = absurd (output_no_keys Kind.output refl h)
 has_route_key Kind.concat h port = absurd (neither Role.stateless refl h)
@@ -122,6 +127,7 @@ no_route_key (Kind.group ks as') h port key e = cc
 no_route_key Kind.distinct h port key e = cc
 no_route_key Kind.except h port key e = cc
 no_route_key Kind.intersect h port key e = cc
+no_route_key (Kind.unseen n) h port key e = cc
 no_route_key Kind.input h port key e = cc
 no_route_key Kind.output h port key e = cc
 no_route_key Kind.concat h port key e = cc
@@ -266,6 +272,7 @@ uncounted k t inside none = go k inside (λ d. let x = among_times t (times_befo
     go (Kind.join ps) i f = absurd (f tt)
     go (Kind.group ks as') i f = absurd (f tt)
     go (Kind.gate n) i f = absurd (f tt)
+    go (Kind.unseen n) i f = absurd (f tt)
     go (Kind.hold n) i f = absurd (f tt)
 
 -- ---- counts
@@ -286,6 +293,76 @@ keyed_record f k (x ∷ xs) h = go (same (f x) k) refl (keyed_record f k xs)
         let s : (r : Record) × (0 < count r xs) × (f r ≡ k) = ih (omega arith) in
         let l = s.1 in
         (s.0, omega arith, s.2)
+
+-- ---- what is read
+
+back_role : (k : Kind) → looks_back k ≡ true → role k ≡ Role.notified
+back_role Kind.input e = absurd cc
+back_role Kind.output e = absurd cc
+back_role Kind.concat e = absurd cc
+back_role Kind.distinct e = absurd cc
+back_role Kind.except e = absurd cc
+back_role Kind.intersect e = absurd cc
+back_role Kind.ingress e = absurd cc
+back_role Kind.egress e = absurd cc
+back_role Kind.feedback e = absurd cc
+back_role (Kind.select ss) e = absurd cc
+back_role (Kind.filter c) e = absurd cc
+back_role (Kind.join ps) e = absurd cc
+back_role (Kind.group ks as') e = absurd cc
+back_role (Kind.gate n) e = absurd cc
+back_role (Kind.hold n) e = absurd cc
+back_role (Kind.unseen n) e = refl
+
+-- what comes then
+abbrev at_time : (ℕ → Time → List Record) → Time → ℕ → List Record
+at_time a t p = a p t
+
+role_reads : (k : Kind) (a : ℕ → Time → List Record) (t : Time) → role k ≢ Role.notified → reads k a t ≡ at_time a t
+role_reads k a t s = go (looks_back k) refl
+  where
+    go : (b : Bool) → looks_back k ≡ b → reads_if b a t ≡ at_time a t
+    go false e = refl
+    go true e = absurd (s (back_role k e))
+
+-- a time that is read is the same but for an earlier turn, and only a notified vertex reads it
+back_is : (k : Kind) (t s : Time) → IsAmong s (reads_back k t) → (role k ≡ Role.notified) × IsAmong s (earlier_turns t)
+back_is k t s h = go (looks_back k) refl h
+  where
+    go : (b : Bool) → looks_back k ≡ b → IsAmong s (cond b (earlier_turns t) []) → (role k ≡ Role.notified) × IsAmong s (earlier_turns t)
+    go true e h = (back_role k e, h)
+    go false e h = absurd h
+
+earlier_before : (b : ℕ) (cs : List ℕ) (c : ℕ) → c < last_from b cs → is_before (front_from b cs ++ (c ∷ [])) (b ∷ cs) ≡ true
+earlier_before b [] c h = lex_head c b [] [] h
+earlier_before b (d ∷ ds) c h = lex_tail b b (front_from d ds ++ (c ∷ [])) (d ∷ ds) refl (earlier_before d ds c h)
+
+earlier_length : (b : ℕ) (cs : List ℕ) (c : ℕ) → length (front_from b cs ++ (c ∷ [])) ≡ suc (length cs)
+earlier_length b [] c = refl
+earlier_length b (d ∷ ds) c = ap suc (earlier_length d ds c)
+
+abbrev IsEarlier : Time → Time → Type 0
+IsEarlier t s = (length s.counters ≡ length t.counters) × (s.epoch ≡ t.epoch) × (is_before s.counters t.counters ≡ true)
+
+earlier_turn : (e : ℕ) (cs : List ℕ) (c : ℕ) → c < last cs → IsEarlier (record { epoch = e; counters = cs }) (record { epoch = e; counters = front cs ++ (c ∷ []) })
+earlier_turn e [] c h = absurd (omega arith)
+earlier_turn e (b ∷ cs) c h = (earlier_length b cs c, refl, earlier_before b cs c h)
+
+all_among : (ts : List Time) → AllByRecursion (λ t. IsAmong t ts) ts
+all_among [] = tt
+all_among (t ∷ ts) = (inl refl, more ts (all_among ts))
+  where
+    more : (us : List Time) → AllByRecursion (λ s. IsAmong s ts) us → AllByRecursion (λ s. IsAmong s (t ∷ ts)) us
+    more [] a = tt
+    more (u ∷ us) a = (inr a.0, more us a.1)
+
+among_every : (P : Time → Type 0) (t : Time) (ts : List Time) → AllByRecursion P ts → IsAmong t ts → P t
+among_every P t [] a h = absurd h
+among_every P t (x ∷ ts) a (inl e) = subst P e a.0
+among_every P t (x ∷ ts) a (inr h) = among_every P t ts a.1 h
+
+is_earlier : (t s : Time) → IsAmong s (earlier_turns t) → IsEarlier t s
+is_earlier t s h = among_every (IsEarlier t) s (earlier_turns t) (all_below (IsEarlier t) (outer t) (last t.counters) (λ c l. earlier_turn t.epoch t.counters c l)) h
 
 -- ---- the laws
 
@@ -345,13 +422,25 @@ module _ (g : Graph) (flows : IsDataflow g) (workers : ℕ) (some : 0 < workers)
       let s : (key : Record → Record) × (route_key (kind (target g e)) (in_port g e) ≡ Some key) = has_route_key (kind (target g e)) h (in_port g e) in
       home_keyed e k r s.0 s.1 ∙ sym (home_keyed e j r s.0 s.1)
 
-  -- op looks at the ports only
-  op_alike : (v q : ℕ) (t : Time) (a b : ℕ → List Record) → ((p : ℕ) → p < length (vertex g v).ins → a p ≈ b p) → op (kind v) t a q ≈ op (kind v) t b q
+  -- op looks at what is read only
+  op_alike : (v q : ℕ) (t : Time) (a b : ℕ → Time → List Record) → ((p : ℕ) (s : Time) → p < length (vertex g v).ins → IsRead net v t s → a p s ≈ b p s) → op (kind v) t (reads (kind v) a t) q ≈ op (kind v) t (reads (kind v) b t) q
   op_alike v q t a b h = go (known_or_none g v)
     where
-      go : (v < length g) ⊎ (vertex g v ≡ no_vertex) → op (kind v) t a q ≈ op (kind v) t b q
-      go (inl l) = op_same (kind v) t a b q (λ i m. h i (omega (arith, full v l, m)))
-      go (inr e) = subst (λ (x : Vertex). op x.kind t a q ≈ op x.kind t b q) (sym e) (≈-refl [])
+      ports : v < length g → (p : ℕ) → p < in_ports (kind v) → p < length (vertex g v).ins
+      ports l p m = omega (arith, full v l, m)
+
+      go : (v < length g) ⊎ (vertex g v ≡ no_vertex) → op (kind v) t (reads (kind v) a t) q ≈ op (kind v) t (reads (kind v) b t) q
+      go (inl l) = op_same (kind v) t _ _ q (reads_same (kind v) t a b
+          (λ p m. h p t (ports l p m) (inl refl))
+          (λ p m. flat_same (a p) (b p) (λ s. IsAmong s (reads_back (kind v) t)) (reads_back (kind v) t) (all_among (reads_back (kind v) t)) (λ s i. h p s (ports l p m) (inr i))))
+      go (inr e) = subst (λ (x : Vertex). op x.kind t (reads x.kind a t) q ≈ op x.kind t (reads x.kind b t) q) (sym e) (≈-refl [])
+
+  op_none : (v q : ℕ) (t : Time) (a : ℕ → Time → List Record) → ((p : ℕ) → p < length (vertex g v).ins → a p t ≡ []) → op (kind v) t (reads (kind v) a t) q ≡ []
+  op_none v q t a h = go (known_or_none g v)
+    where
+      go : (v < length g) ⊎ (vertex g v ≡ no_vertex) → op (kind v) t (reads (kind v) a t) q ≡ []
+      go (inl l) = op_of_nothing (kind v) t a q (λ p m. h p (omega (arith, full v l, m)))
+      go (inr e) = ap (λ (x : Vertex). op x.kind t (reads x.kind a t) q) e
 
   op_more : (v q : ℕ) (t : Time) (a b : ℕ → List Record) → role (kind v) ≢ Role.notified → ((p : ℕ) → p < length (vertex g v).ins → IsPartOf (a p) (b p)) → IsPartOf (op (kind v) t a q) (op (kind v) t b q)
   op_more v q t a b n h = go (known_or_none g v)
@@ -365,21 +454,23 @@ module _ (g : Graph) (flows : IsDataflow g) (workers : ℕ) (some : 0 < workers)
       let c : IsCut (kind v) part n = record { apart = λ i j li lj ne p p' lp lq f h e k. absurd (no_route_key (kind v) s p f e) } in
       (op_cut (kind v) t part n q c).counts r ∙ counted-end_to_end (λ k. op (kind v) t (part k) q) n r
 
-  op_keyed : (v q : ℕ) (t : Time) (part : ℕ → ℕ → List Record) → HasKeys (kind v) → CutByKey net v part → (r : Record) → count r (op (kind v) t (all_parts net part) q) ≡ sum_below workers (λ k. count r (op (kind v) t (part k) q))
+  op_keyed : (v q : ℕ) (t : Time) (part : ℕ → ℕ → Time → List Record) → HasKeys (kind v) → ((s : Time) → CutByKey net v (λ k p. part k p s)) → (r : Record) → count r (op (kind v) t (reads (kind v) (all_parts net part) t) q) ≡ sum_below workers (λ k. count r (op (kind v) t (reads (kind v) (part k) t) q))
   op_keyed v q t part h cut r =
-      (op_cut (kind v) t part workers q (record { apart = λ i j li lj ne p p' lp lq f f' e e'. record { never = λ k a b. ne (at i p f k li (ports p lp) e a ∙ sym (at j p' f' k lj (ports p' lq) e' b)) } })).counts r
-      ∙ counted-end_to_end (λ k. op (kind v) t (part k) q) workers r
+      (op_of_parts (kind v) t part workers q (record { apart = λ i j li lj ne p p' lp lq f f' e e'. record { never = λ k a b. ne (at i p f k li lp e a ∙ sym (at j p' f' k lj lq e' b)) } })).counts r
+      ∙ counted-end_to_end (λ k. op (kind v) t (reads (kind v) (part k) t) q) workers r
     where
       ports : (p : ℕ) → p < in_ports (kind v) → p < length (vertex g v).ins
       ports p l = omega (arith, full v (keyed_known v h), l)
 
       -- the worker of a key is the one that its records go to
-      at : (i p : ℕ) (f : Record → Record) (k : Record) → i < workers → p < length (vertex g v).ins → route_key (kind v) p ≡ Some f → 0 < count k (map f (part i p)) → i ≡ route k workers
+      at : (i p : ℕ) (f : Record → Record) (k : Record) → i < workers → p < places (kind v) → route_key (kind v) p ≡ Some f → 0 < count k (map f (reads (kind v) (part i) t p)) → i ≡ route k workers
       at i p f k li lp e c =
-          let s : (r : Record) × (0 < count r (part i p)) × (f r ≡ k) = keyed_record f k (part i p) c in
-          let w = into g v p lp in
-          let e' : route_key (kind (target g (edge_into g v p))) (in_port g (edge_into g v p)) ≡ Some f = ap (λ x. route_key (kind x) (in_port g (edge_into g v p))) w.vertex ∙ ap (route_key (kind v)) w.port ∙ e in
-          sym (cut i p li lp s.0 s.1 0) ∙ home_keyed (edge_into g v p) 0 s.0 f e' ∙ ap (λ z. route z workers) s.2
+          let s : (r : Record) × (0 < count r (reads (kind v) (part i) t p)) × (f r ≡ k) = keyed_record f k (reads (kind v) (part i) t p) c in
+          let x = read_from (kind v) (part i) t p s.0 lp s.1 in
+          let l : x.port < length (vertex g v).ins = ports x.port x.within in
+          let w = into g v x.port l in
+          let e' : route_key (kind (target g (edge_into g v x.port))) (in_port g (edge_into g v x.port)) ≡ Some f = ap (λ y. route_key (kind y) (in_port g (edge_into g v x.port))) w.vertex ∙ ap (route_key (kind v)) w.port ∙ x.key ∙ e in
+          sym (cut x.time i x.port li l s.0 x.there 0) ∙ home_keyed (edge_into g v x.port) 0 s.0 f e' ∙ ap (λ z. route z workers) s.2
 
   depth_home : (v : ℕ) → v < length g → length (flows.loops v) ≡ (vertex g v).depth
   depth_home v l = flows.nested.homes v l
@@ -431,7 +522,9 @@ module _ (g : Graph) (flows : IsDataflow g) (workers : ℕ) (some : 0 < workers)
         before_once = λ v t u. sources_once (action (kind v)) t u;
         before_acts = before_acts;
         op_same = op_alike;
-        op_nothing = λ v q t a h. empty_from_same _ (≈-trans (op_alike v q t a (λ p. []) (λ p l. ≈-from (h p l))) (≈-from (op_nothing (kind v) t q)));
+        only_notified = λ v t s h. (back_is (kind v) t s h).0;
+        reads_now = λ v a t s. role_reads (kind v) a t s;
+        op_nothing = op_none;
         op_stateless = op_stateless;
         op_cut = op_keyed;
         op_more = op_more;
@@ -439,6 +532,7 @@ module _ (g : Graph) (flows : IsDataflow g) (workers : ℕ) (some : 0 < workers)
         fits_into = λ v p t l f. let w = into g v p l in (w.edge, f.1 ∙ sym (ap (λ x. (vertex g x).depth) w.vertex));
         fits_leave = fits_leave;
         fits_back = fits_back;
+        fits_read = λ v t s h f. (f.0, (is_earlier t s (back_is (kind v) t s h).1).0 ∙ f.1);
         fits_input = fits_input;
         fits_output = λ v n is. (has_port v is.1, sym (flows.shaped.flat v (has_port v is.1) (inr (role_output (kind v) is.0))));
         could_self = λ p f. could_self g flows.loops flows.wired flows.nested p f;
@@ -446,6 +540,7 @@ module _ (g : Graph) (flows : IsDataflow g) (workers : ℕ) (some : 0 < workers)
         could_fits = λ p q a. a.ends;
         could_enter = λ e t l f. record { starts = f; ends = fits_enter e t l f; path = PathStep.enters e ∷ []; leads = (l, refl, refl); in_time = at_most_refl t };
         could_leave = λ e t l f. record { starts = f; ends = fits_leave e t l f; path = PathStep.leaves e ∷ []; leads = (l, refl, refl); in_time = at_most_refl _ };
+        could_read = λ v t s h f. let i = is_earlier t s (back_is (kind v) t s h).1 in record { starts = f; ends = (f.0, sym i.0 ∙ f.1); path = []; leads = refl; in_time = record { epochs = let e = i.1 in omega arith; counters = inr i.2 } };
         could_later = λ v n s. record { starts = fits_input v n s; ends = fits_input v (n + 1) s; path = []; leads = refl; in_time = record { epochs = omega arith; counters = inl refl } };
         founded = λ p. could_founded g flows.loops flows.wired flows.nested p;
       }
@@ -470,6 +565,7 @@ module _ (g : Graph) (flows : IsDataflow g) (workers : ℕ) (some : 0 < workers)
   not_input_sends inputs (Kind.join ps) f v out u n = refl
   not_input_sends inputs (Kind.group ks as') f v out u n = refl
   not_input_sends inputs (Kind.gate m) f v out u n = refl
+  not_input_sends inputs (Kind.unseen m) f v out u n = refl
   not_input_sends inputs (Kind.hold m) f v out u n = refl
 
   no_turns : (fed : Inputs) (i epoch : ℕ) (turns : List ℕ) → length turns ≡ 0 → fed i epoch ≡ cond (same_counters turns []) (fed i epoch) []
@@ -491,11 +587,11 @@ module _ (g : Graph) (flows : IsDataflow g) (workers : ℕ) (some : 0 < workers)
         from_vertex = λ e u l fits s r.
             (is.equations (target g e) (in_port g e) u (place_at e u l fits)).counts r
             ∙ ap (count r) (not_input_sends fed (kind (edge_source g e).vertex) f (edge_source g e).vertex (edge_source g e).out u s)
-            ∙ count-flat_map (λ t. op (kind (edge_source g e).vertex) t (λ i. f (edge_source g e).vertex i t) (edge_source g e).out) r (times_before (action (kind (edge_source g e).vertex)) u)
+            ∙ count-flat_map (λ t. op (kind (edge_source g e).vertex) t (reads (kind (edge_source g e).vertex) (f (edge_source g e).vertex) t) (edge_source g e).out) r (times_before (action (kind (edge_source g e).vertex)) u)
             ∙ total_same _ _ (times_before (action (kind (edge_source g e).vertex)) u) (λ t.
-            (op_alike (edge_source g e).vertex (edge_source g e).out t (λ i. f (edge_source g e).vertex i t) (ins net (edge_flow g f) (edge_source g e).vertex t) (λ p lp.
+            (op_alike (edge_source g e).vertex (edge_source g e).out t (f (edge_source g e).vertex) (λ p. edge_flow g f (edge_into g (edge_source g e).vertex p)) (λ p s' lp is'.
             let w = into g (edge_source g e).vertex p lp in
-            ≈-from (ap (λ x. f x p t) (sym w.vertex) ∙ ap (λ x. f (target g (edge_into g (edge_source g e).vertex p)) x t) (sym w.port)))).counts r);
+            ≈-from (ap (λ x. f x p s') (sym w.vertex) ∙ ap (λ x. f (target g (edge_into g (edge_source g e).vertex p)) x s') (sym w.port)))).counts r);
         within = λ e t l fits none.
             let k = (entered g e l).known in
             let x = uncounted (kind (target g e)) t (λ h. let d = flows.shaped.inside (target g e) k h in omega (arith, fits.1, d)) none in

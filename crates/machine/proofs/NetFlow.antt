@@ -7,9 +7,9 @@ use Rattle.semantics.specs.Kinds.{Role}
 use Rattle.machine.specs.Network.{Network}
 use Rattle.machine.proofs.Laws.{times_in}
 
--- what the in ports of a vertex have at a time, if the edges have these records
+-- what a vertex reads at a time, if the edges have these records
 abbrev pub ins : Network → (ℕ → Time → List Record) → ℕ → Time → ℕ → List Record
-ins g edges v t p = edges (g.edge_into v p) t
+ins g edges v t = g.reads v (λ p. edges (g.edge_into v p)) t
 
 -- what an input has at a time
 abbrev pub fed_at : (ℕ → ℕ → List Record) → ℕ → Time → List Record

@@ -107,9 +107,9 @@ module _ (g : Network) (law : IsNetwork g) (w : World) (h : History) (keeps : Ke
   gain q r ns =
       let a : made g (history_notified h k0 n) n.vertex q n.time r k0 ≡ count r (g.op n.vertex q n.time (ins g (h.done k0) n.vertex n.time)) = ap (λ b. cond b (count r (g.op n.vertex q n.time (ins g (h.done k0) n.vertex n.time))) 0) told_here in
       let b : made g h n.vertex q n.time r k0 ≡ 0 = ap (λ b. cond b (count r (g.op n.vertex q n.time (ins g (h.done k0) n.vertex n.time))) 0) not_notified in
-      let c : count r (out q) ≡ count r (g.op n.vertex q n.time (λ p. w.absorbed k0 n.vertex p n.time)) = (ok.2 q).counts r in
-      let d : count r (g.op n.vertex q n.time (λ p. w.absorbed k0 n.vertex p n.time)) ≡ count r (g.op n.vertex q n.time (ins g (h.done k0) n.vertex n.time)) =
-      (law.op_same n.vertex q n.time (λ p. w.absorbed k0 n.vertex p n.time) (ins g (h.done k0) n.vertex n.time) (λ p lp. ≈-from (keeps.shards k0 n.vertex p n.time ok.0 lp (inr group)))).counts r in
+      let c : count r (out q) ≡ count r (g.op n.vertex q n.time (g.reads n.vertex (w.absorbed k0 n.vertex) n.time)) = (ok.2 q).counts r in
+      let d : count r (g.op n.vertex q n.time (g.reads n.vertex (w.absorbed k0 n.vertex) n.time)) ≡ count r (g.op n.vertex q n.time (ins g (h.done k0) n.vertex n.time)) =
+      (law.op_same n.vertex q n.time (w.absorbed k0 n.vertex) (λ p. h.done k0 (g.edge_into n.vertex p)) (λ p s lp rd. ≈-from (keeps.shards k0 n.vertex p s ok.0 lp (inr group)))).counts r in
       omega arith
 
   pub keep_notification : Kept g (after_step g w (Step.commit k0 (Event.notification n) out)) (history_notified h k0 n)

@@ -42,7 +42,7 @@ abbrev pub start : Network → History
 start g = record { done = λ k e t. []; notified = λ k v t. not_notified_role (g.role v) }
 
 made_nothing : (g : Network) → IsNetwork g → (v q : ℕ) (t : Time) (r : Record) (k : ℕ) → made g (start g) v q t r k ≡ 0
-made_nothing g law v q t r k = ap (λ n. cond (not_notified_role (g.role v)) n 0) (ap (count r) (law.op_nothing v q t (λ p. []) (λ p lp. refl))) ∙ both (not_notified_role (g.role v))
+made_nothing g law v q t r k = ap (λ n. cond (not_notified_role (g.role v)) n 0) (ap (count r) (law.op_nothing v q t (λ p s. []) (λ p lp. refl))) ∙ both (not_notified_role (g.role v))
   where
     both : (b : Bool) → cond {A = ℕ} b 0 0 ≡ 0
     both true = refl

@@ -22,14 +22,17 @@ pub record Network : Type 1 where
   pub ports : (vertex : ℕ) → ℕ
   -- what a vertex does to the time of what it sends
   pub act : (vertex : ℕ) → Time → Time
-  -- what a vertex makes at a time, for an out port, from the records of its in ports
+  -- what the equation of a vertex reads at a time, by place, if `at` is what comes to the in ports
+  pub reads : (vertex : ℕ) → (at : (port : ℕ) → Time → List Record) → Time → (place : ℕ) → List Record
+  -- what a vertex makes at a time, for an out port, from what it reads
   pub op : (vertex out : ℕ) → Time → (ins : ℕ → List Record) → List Record
   -- the worker to which a record goes on an edge, from a worker
   pub home : (sender edge : ℕ) → Record → ℕ
   -- the first pointstamp could result in the second
   pub Could : Pointstamp → Pointstamp → Type 0
-  -- used by proofs only: the edge into an in port; the times that a vertex's action takes to this one; and that the location is in the graph and the
-  -- time has its depth
+  -- used by proofs only: the edge into an in port; the times that a vertex's action takes to this one; the other times of which a vertex reads what
+  -- came; and that the location is in the graph and the time has its depth
   pub edge_into : (vertex port : ℕ) → ℕ
   pub times_before : (vertex : ℕ) → Time → List Time
+  pub reads_back : (vertex : ℕ) → Time → List Time
   pub IsPointstamp : Pointstamp → Type 0

@@ -65,4 +65,4 @@ MakesBy role g w k m out =
 -- what is sent for an event
 abbrev pub Makes : Network → World → (worker : ℕ) → Event → (out : ℕ → List Record) → Type 0
 Makes g w k (Event.arrival m) out = MakesBy (g.role (g.target m.edge)) g w k m out
-Makes g w k (Event.notification n) out = SendsAtNotification (λ q. g.op n.vertex q n.time) (λ p. w.absorbed k n.vertex p n.time) out
+Makes g w k (Event.notification n) out = SendsAtNotification (λ q. g.op n.vertex q n.time) (g.reads n.vertex (w.absorbed k n.vertex) n.time) out

@@ -5,7 +5,7 @@ use Rattle.expr_tree.specs.declared.relation.SetOperator.{SetOperator}
 use Rattle.expr_tree.specs.declared.relation.SetOperator.TheVariants as operation
 use Rattle.expr_tree.specs.Plain.{plain_set_operation}
 use Rattle.semantics.specs.Limits.{max_fields}
-use Rattle.semantics.specs.Query.{Scalar, Cond, Agg, Name, Pair, Rel}
+use Rattle.semantics.specs.Query.{Loop, Scalar, Cond, Agg, Name, Pair, Rel}
 use Rattle.semantics.specs.Typing.{ScalarFits, Scope, entry, HasArity}
 use Rattle.semantics.specs.Normal.{NormalScalar, NormalCond, NormalRel, IsFilter, IsSelect, IsSet, UsesOnce, uses, uses_all, replaced}
 use Rattle.semantics.specs.Rewriting.{Steps, RelStep}
@@ -43,7 +43,7 @@ few_fields (Rel.group r ks as') scope d m i h = absurd i
 few_fields (Rel.distinct r) scope d m i h = absurd i
 few_fields (Rel.except p q) scope d m i h = absurd i
 few_fields (Rel.intersect p q) scope d m i h = absurd i
-few_fields (Rel.iterate n x r b) scope d m i h = absurd i
+few_fields (Rel.loop l n x r b) scope d m i h = absurd i
 
 pub normal_reduced : (r : Rel) (scope : Scope) (d n : ℕ) → HasArity r scope d n → Reduced r → NormalRel r
 unfolding HasArity
@@ -56,7 +56,7 @@ normal_reduced (Rel.group r ks as') scope d n h k = normal_reduced r scope d h.0
 normal_reduced (Rel.distinct r) scope d n h k = (normal_reduced r scope d n h k.0, k.1)
 normal_reduced (Rel.except p q) scope d n h k = (normal_reduced p scope d n h.0 k.0, normal_reduced q scope d n h.1 k.1)
 normal_reduced (Rel.intersect p q) scope d n h k = (normal_reduced p scope d n h.0 k.0, normal_reduced q scope d n h.1 k.1)
-normal_reduced (Rel.iterate t x r b) scope d n h k = (normal_reduced r scope d n h.2 k.0, normal_reduced b (entry x n ∷ scope) (suc d) n h.4 k.1, k.2)
+normal_reduced (Rel.loop l t x r b) scope d n h k = (normal_reduced r scope d n h.2 k.0, normal_reduced b (entry x n ∷ scope) (suc d) n h.4 k.1, k.2)
 
 -- ---- steps one after the other
 
@@ -117,12 +117,12 @@ pub reached_distinct : (p q : Rel) → IsReached p q → IsReached (Rel.distinct
 unfolding HasArity
 reached_distinct p q f = record { steps = λ scope d n t. steps_within Rel.distinct (λ r r' s. RelStep.distinct_of s) (f.steps scope d n t) }
 
-pub reached_iterate : (n : ℕ) (x : Name) (p q b c : Rel) → IsReached p q → IsReached b c → IsReached (Rel.iterate n x p b) (Rel.iterate n x q c)
+pub reached_loop : (l : Loop) (n : ℕ) (x : Name) (p q b c : Rel) → IsReached p q → IsReached b c → IsReached (Rel.loop l n x p b) (Rel.loop l n x q c)
 unfolding HasArity
-reached_iterate n x p q b c f g = record {
+reached_loop l n x p q b c f g = record {
   steps = λ scope d m t. steps_then
-      (steps_within (λ r. Rel.iterate n x r c) (λ r r' s. RelStep.loop_start s) (f.steps scope d m t.2))
-      (steps_within (λ r. Rel.iterate n x p r) (λ r r' s. RelStep.loop_body s) (g.steps (entry x m ∷ scope) (suc d) m t.4));
+      (steps_within (λ r. Rel.loop l n x r c) (λ r r' s. RelStep.loop_start s) (f.steps scope d m t.2))
+      (steps_within (λ r. Rel.loop l n x p r) (λ r r' s. RelStep.loop_body s) (g.steps (entry x m ∷ scope) (suc d) m t.4));
 }
 
 -- ---- what is rewritten of reached parts is rewritten
@@ -168,22 +168,22 @@ pub rewritten_distinct : (r : Rel) → (IsSet r → ⊥) → Reduced r → IsRew
 rewritten_distinct r n h = record { reached = reached_itself (Rel.distinct r); reduced = (h, n) }
 
 -- a loop of no turns is its start
-no_turns : (x : Name) (p q b : Rel) → IsRewritten p q → IsRewritten p (Rel.iterate 0 x q b)
+no_turns : (x : Name) (p q b : Rel) → IsRewritten p q → IsRewritten p (Rel.loop Loop.iterate 0 x q b)
 unfolding HasArity
 no_turns x p q b f = record {
   reached = record {
     steps = λ scope l m t. (let start = f.reached.steps scope l m t.2 in steps_then
-        (steps_within (λ r. Rel.iterate 0 x r b) (λ r r' s. RelStep.loop_start s) start)
+        (steps_within (λ r. Rel.loop Loop.iterate 0 x r b) (λ r r' s. RelStep.loop_start s) start)
         (Steps.next (RelStep.no_turns (normal_reduced p scope l m (steps_arity start scope l m t.2) f.reduced)) Steps.stay));
   };
   reduced = f.reduced;
 }
 
-pub rewritten_no_turns : (n : ℕ) (x : Name) (p q b : Rel) → n ≡ 0 → IsRewritten p q → IsRewritten p (Rel.iterate n x q b)
-rewritten_no_turns n x p q b e f = rw e (no_turns x p q b f)
+pub rewritten_no_turns : (l : Loop) (n : ℕ) (x : Name) (p q b : Rel) → l ≡ Loop.iterate → n ≡ 0 → IsRewritten p q → IsRewritten p (Rel.loop l n x q b)
+rewritten_no_turns l n x p q b e k f = rw (e, k) (no_turns x p q b f)
 
-pub rewritten_iterate : (n : ℕ) (x : Name) (p q b c : Rel) → (n ≡ 0 → ⊥) → IsRewritten p q → IsRewritten b c → IsRewritten (Rel.iterate n x p b) (Rel.iterate n x q c)
-rewritten_iterate n x p q b c k f g = record { reached = reached_iterate n x p q b c f.reached g.reached; reduced = (f.reduced, g.reduced, k) }
+pub rewritten_loop : (l : Loop) (n : ℕ) (x : Name) (p q b c : Rel) → (l ≡ Loop.iterate → n ≡ 0 → ⊥) → IsRewritten p q → IsRewritten b c → IsRewritten (Rel.loop l n x p b) (Rel.loop l n x q c)
+rewritten_loop l n x p q b c k f g = record { reached = reached_loop l n x p q b c f.reached g.reached; reduced = (f.reduced, g.reduced, k) }
 
 -- a select of a select that copies nothing becomes one
 selects : (r : Rel) (ss ts us : List Scalar) → Reduced (Rel.select r ss) → AllByRecursion NormalScalar ts → UsesOnce ts → AllZip IsFolded us (map (replaced ss) ts) → IsReached (Rel.select r us) (Rel.select (Rel.select r ss) ts)

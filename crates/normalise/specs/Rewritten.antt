@@ -1,7 +1,7 @@
 -- What a rewritten part of a query is reached by, and what is then true of it.
 use Rattle.std.specs.Prelude.{◌≡◌, ℕ, ◌<◌}
 use Rattle.std.specs.List.{AllByRecursion}
-use Rattle.semantics.specs.Query.{Scalar, Cond, Rel, Output}
+use Rattle.semantics.specs.Query.{Loop, Scalar, Cond, Rel, Output}
 use Rattle.semantics.specs.Typing.{Scope, HasArity}
 use Rattle.semantics.specs.Normal.{NormalScalar, NormalCond, IsFilter, IsSelect, IsSet, UsesOnce, uses_all}
 use Rattle.semantics.specs.Rewriting.{Steps, ScalarStep, CondStep, RelStep}
@@ -32,7 +32,7 @@ Reduced (Rel.group r ks as') = Reduced r
 Reduced (Rel.distinct r) = Reduced r × (IsSet r → ⊥)
 Reduced (Rel.except p q) = Reduced p × Reduced q
 Reduced (Rel.intersect p q) = Reduced p × Reduced q
-Reduced (Rel.iterate n x r b) = Reduced r × Reduced b × (n ≡ 0 → ⊥)
+Reduced (Rel.loop l n x r b) = Reduced r × Reduced b × (l ≡ Loop.iterate → n ≡ 0 → ⊥)
 
 -- a relation rewritten until no rule applies
 pub record IsRewritten (after before : Rel) : Type 0 where

@@ -42,7 +42,7 @@ pub(crate) fn add_free<A: Allocator + Copy>(
             add_free(names, left)?;
             add_free(names, right)
         }
-        Rel::Iterate {
+        Rel::Loop {
             name,
             start,
             body,

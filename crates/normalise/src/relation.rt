@@ -1,10 +1,10 @@
 //! Relations rewritten: the parts first, then the rules at each node, which find the parts done.
 
-ghost use Rattle.std.specs.Prelude.{IfOk, IsFalse, IsTrue};
+ghost use Rattle.std.specs.Prelude.{◌≡◌, ◌↔◌, IfOk, IsFalse, IsTrue};
 ghost use Rattle.std.specs.List.{AllByRecursion};
 ghost use Rattle.semantics.specs.Query as query;
 ghost use Rattle.semantics.specs.Normal.{IsSet, NormalCond, NormalScalar};
-ghost use Rattle.expr_tree.specs.Plain.{plain_cond, plain_rel};
+ghost use Rattle.expr_tree.specs.Plain.{plain_cond, plain_form, plain_rel};
 ghost use Rattle.expr_tree.specs.PlainLists.{plain_scalars};
 ghost use Rattle.expr_tree.specs.Views.{cond_tree, rel_tree};
 ghost use Rattle.normalise.specs.Rewritten.{IsRewritten, Reduced};
@@ -12,7 +12,7 @@ ghost use Rattle.normalise.specs.Rewritten.{IsRewritten, Reduced};
 use crate::columns::use_once;
 use crate::replacement::replace_all;
 use crate::scalars::{fold_all, folded_cond};
-use expr_tree::{Cond, Connective, Rel, Scalar, SetOperator};
+use expr_tree::{Cond, Connective, LoopForm, Rel, Scalar, SetOperator};
 use record_core::{Name, NoMemory, Span};
 use std::alloc::Allocator;
 
@@ -125,23 +125,37 @@ pub(crate) fn rewritten<A: Allocator + Copy>(alloc: A, relation: Rel<A>) -> Resu
             Ok(Rel::Group(span, of, keys, aggregates))
         }
         Rel::Distinct(span, of) => Ok(distinct_of(span, rewritten_in_box(alloc, of)?)),
-        Rel::Iterate {
+        Rel::Loop {
             span,
+            form,
             turns_span,
             turns,
             name_span,
             name,
             start,
             body,
-        } => rewritten_loop(alloc, span, turns_span, turns, name_span, name, start, body),
+        } => rewritten_loop(
+            alloc, span, form, turns_span, turns, name_span, name, start, body,
+        ),
     }
 }
 
-/// The loop rewritten: its start if it has no turns, and else its start and its body.
+/// Whether a loop is its start: a closure without turns isn't, since it has no record twice.
+fn is_start(form: LoopForm, turns: u64) -> bool
+    ensures { IsTrue result ↔ ((plain_form form ≡ query.Loop.iterate) × (turns ≡ 0)) }
+{
+    match form {
+        LoopForm::Iterate => turns == 0,
+        LoopForm::Closure => false,
+    }
+}
+
+/// The loop rewritten: its start if it has no turns and is no closure, and else its start and its body.
 #[cycle(rewrite)]
 fn rewritten_loop<A: Allocator + Copy>(
     alloc: A,
     span: Span,
+    form: LoopForm,
     turns_span: Span,
     turns: u64,
     name_span: Span,
@@ -150,15 +164,16 @@ fn rewritten_loop<A: Allocator + Copy>(
     body: Box<Rel<A>, A>,
 ) -> Result<Rel<A>, NoMemory>
     ensures { IfOk result (λ made. IsRewritten (plain_rel (rel_tree made))
-        (query.Rel.iterate turns name (plain_rel (rel_tree start.value)) (plain_rel (rel_tree body.value)))) }
+        (query.Rel.loop (plain_form form) turns name (plain_rel (rel_tree start.value)) (plain_rel (rel_tree body.value)))) }
 {
     let start = rewritten_in_box(alloc, start)?;
-    if turns == 0 {
+    if is_start(form, turns) {
         return Ok(Box::into_inner(start));
     }
     let body = rewritten_in_box(alloc, body)?;
-    Ok(Rel::Iterate {
+    Ok(Rel::Loop {
         span,
+        form,
         turns_span,
         turns,
         name_span,

@@ -22,6 +22,7 @@ mod join;
 mod operator;
 mod output;
 mod select;
+mod unseen;
 
 pub use concat::Concat;
 pub use distinct::Distinct;
@@ -39,3 +40,4 @@ pub use join::Join;
 pub use operator::Operator;
 pub use output::Output;
 pub use select::Select;
+pub use unseen::Unseen;

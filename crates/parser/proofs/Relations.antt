@@ -1,5 +1,5 @@
 -- The forms of relations, at tokens that are known by an equation.
-use Rattle.std.proofs.Common.{◌≡◌, ℕ, ◌+◌, ◌<◌, ◌≤◌, ◌^◌, suc, max, add-one, arith, ap, List, ◌∷◌, refl, sym, ◌∙◌}
+use Rattle.std.proofs.Common.{◌≡◌, ℕ, ◌+◌, ◌<◌, ◌≤◌, ◌^◌, suc, max, add-one, arith, ap, List, ◌∷◌, refl, sym, subst, ◌∙◌}
 use Rattle.record_core.specs.declared.span.Span.{Span}
 use Rattle.lexer.specs.declared.token.Token.{Token}
 use Rattle.lexer.specs.declared.token.TokenKind.TheVariants as kind
@@ -8,18 +8,20 @@ use Rattle.expr_tree.specs.Trees.{ScalarTree, CondTree, RelTree}
 use Rattle.expr_tree.specs.declared.relation.Agg.{Agg}
 use Rattle.expr_tree.specs.declared.relation.Column.{Column}
 use Rattle.expr_tree.specs.declared.relation.Pair.{Pair}
+use Rattle.expr_tree.specs.declared.relation.LoopForm.TheVariants.{Iterate, Closure}
 use Rattle.expr_tree.specs.declared.relation.SetOperator.{SetOperator}
 use Rattle.expr_tree.specs.declared.relation.SetOperator.TheVariants.{Concat, Except, Intersect}
 use Rattle.grammar.specs.Tokens.{reaching, token, mark_at, NoMark}
 use Rattle.grammar.specs.Phrases.{Listed, IsOne, Unread, Ended}
 use Rattle.grammar.specs.Scalars.{ScalarAt}
 use Rattle.grammar.specs.Conditions.{ConditionAt}
-use Rattle.grammar.specs.Relations.{Reads, named, select, filter, set_operation, join, group, iterate, distinct, ColumnAt, PairAt, AggAt, IsNameAt, piece}
+use Rattle.grammar.specs.Relations.{Reads, named, select, filter, set_operation, join, group, iterate, closure, distinct, ColumnAt, PairAt, AggAt, IsNameAt, closure_word, piece}
 use Rattle.grammar.proofs.Tokens.{first_one, rest_one}
 use Rattle.grammar.proofs.Relations.{no_operator}
 use Rattle.parser.specs.Scanning.{NoName, NoNumber}
-use Rattle.parser.specs.Forms.{keyword_of, form_token, opening, NoForm, Heads, NoHead}
+use Rattle.parser.specs.Forms.{keyword_of, form_token, opening, closing, IsClosureAt, NoClosure, NoForm, Heads, NoHead}
 use Rattle.parser.specs.declared.relation.Form.{Form}
+use Rattle.parser.specs.declared.relation.Opening.{Opening}
 use Rattle.parser.specs.declared.relation.Form.TheVariants as form
 
 -- two phrases inside a form
@@ -86,8 +88,16 @@ pub inside_where : {text : List ℕ} {s o : Span} {ts us : List Token} {q : RelT
 inside_where (filter {p = p} {q = q} {r = r} {c = c} {h = h} {k = k} {us = us} d e) = record { x = r; y = c; h = h; k = k; us = us; first = (p, d); second = (q, e); is = refl }
 inside_where (set_operation i d e) = absurd (no_operator _ refl i)
 
-pub named_at : (text : List ℕ) (ts us : List Token) (s : Span) (n : List ℕ) → ts ≡ token kind.Name s ∷ us → n ≡ piece text s → IsNameAt text s → Reads text ts (RelTree.named s n) 1 us
-named_at text ts us s n e h i = rw (e, h) (named i)
+pub named_at : (text : List ℕ) (ts us : List Token) (s : Span) (n : List ℕ) → ts ≡ token kind.Name s ∷ us → n ≡ piece text s → IsNameAt text s → NoClosure text ts → Reads text ts (RelTree.named s n) 1 us
+named_at text ts us s n e h i k = rw (e, h) (named i (k s us e i))
+
+pub no_name_no_closure : (text : List ℕ) (ts : List Token) → NoName text ts → NoClosure text ts
+no_name_no_closure text ts h s us e i w = absurd ((rw e at h) i)
+
+-- where another name comes next, or no bracket after it
+pub other_name : (text : List ℕ) (ts vs : List Token) (x : Span) → ts ≡ token kind.Name x ∷ vs → (piece text x ≡ closure_word → NoMark mark.OpenRound vs) → NoClosure text ts
+other_name text ts vs x e h s us f i w =
+    subst (NoMark mark.OpenRound) (rest_one (sym e ∙ f)) (h (subst (λ z. piece text z ≡ closure_word) (ap (λ (t : Token). t.span) (first_one (sym f ∙ e))) w))
 
 no_form_token : (f : Form) (s : Span) (ts : List Token) → NoForm (form_token f s ∷ ts) → ⊥
 no_form_token form.Select s ts e = absurd cc
@@ -101,7 +111,7 @@ no_form_token form.Distinct s ts e = absurd cc
 no_form_token form.Iterate s ts e = absurd cc
 
 pub no_rel : (text : List ℕ) (ts : List Token) (m : ℕ) → NoName text ts → NoForm ts → Unread (Reads text) ts m
-no_rel text ts m h k q n us (named d) = absurd (h d)
+no_rel text ts m h k q n us (named d w) = absurd (h d)
 no_rel text ts m h k q n us (select {s = s} {o = o} {ts = vs} d e) = absurd (no_form_token form.Select s (mark_at mark.OpenRound o ∷ vs) k)
 no_rel text ts m h k q n us (filter {s = s} {o = o} {ts = vs} d e) = absurd (no_form_token form.Where s (mark_at mark.OpenRound o ∷ vs) k)
 no_rel text ts m h k q n us (set_operation {w = w} {s = s} {o = o} {ts = vs} i d e) = absurd (no_form_token (form.SetOperation w) s (mark_at mark.OpenRound o ∷ vs) (rw i at k))
@@ -109,10 +119,11 @@ no_rel text ts m h k q n us (join {s = s} {o = o} {ts = vs} d e f) = absurd (no_
 no_rel text ts m h k q n us (group {s = s} {o = o} {ts = vs} d e f) = absurd (no_form_token form.Group s (mark_at mark.OpenRound o ∷ vs) k)
 no_rel text ts m h k q n us (distinct {s = s} {o = o} {ts = vs} d) = absurd (no_form_token form.Distinct s (mark_at mark.OpenRound o ∷ vs) k)
 no_rel text ts m h k q n us (iterate {s = s} {o = o} {d = d} {p = p} {x = x} {i = i} {n = z} {ts = vs} a b e f) = absurd (no_form_token form.Iterate s (mark_at mark.OpenRound o ∷ token (kind.Number z) d ∷ mark_at mark.Semicolon p ∷ token kind.Name x ∷ mark_at mark.Equal i ∷ vs) k)
+no_rel text ts m h k q n us (closure d w a b e f) = absurd (h d)
 
 -- a form's keyword wants its bracket
 not_bare : {text : List ℕ} {ts vs : List Token} {q : RelTree} {n : ℕ} (f : Form) (s : Span) (us : List Token) → Reads text ts q n vs → ts ≡ form_token f s ∷ us → NoMark mark.OpenRound us → ⊥
-not_bare f s us (named d) e k = let a : kind.Name ≡ kind.Keyword (keyword_of f) = ap (λ (t : Token). t.kind) (first_one e) in absurd cc
+not_bare f s us (named d w) e k = let a : kind.Name ≡ kind.Keyword (keyword_of f) = ap (λ (t : Token). t.kind) (first_one e) in absurd cc
 not_bare f s us (select d c) e k = (rw (← rest_one e) at k) refl
 not_bare f s us (filter d c) e k = (rw (← rest_one e) at k) refl
 not_bare f s us (set_operation i d c) e k = (rw (← rest_one e) at k) refl
@@ -120,13 +131,14 @@ not_bare f s us (join d c b) e k = (rw (← rest_one e) at k) refl
 not_bare f s us (group d c b) e k = (rw (← rest_one e) at k) refl
 not_bare f s us (distinct d) e k = (rw (← rest_one e) at k) refl
 not_bare f s us (iterate a b c d) e k = (rw (← rest_one e) at k) refl
+not_bare f s us (closure d w a b x y) e k = let z : kind.Name ≡ kind.Keyword (keyword_of f) = ap (λ (t : Token). t.kind) (first_one e) in absurd cc
 
 pub no_bracket : (text : List ℕ) (ts us : List Token) (f : Form) (s : Span) (m : ℕ) → ts ≡ form_token f s ∷ us → NoMark mark.OpenRound us → Unread (Reads text) ts m
 no_bracket text ts us f s m e k q n vs d = absurd (not_bare f s us d e k)
 
 -- every relation is higher than 0
 higher : {text : List ℕ} {ts us : List Token} {q : RelTree} {n : ℕ} → Reads text ts q n us → 0 < n
-higher (named d) = omega arith
+higher (named d w) = omega arith
 higher (select d e) = omega arith
 higher (filter d e) = omega arith
 higher (set_operation i d e) = omega arith
@@ -134,6 +146,7 @@ higher (join d e f) = omega arith
 higher (group d e f) = omega arith
 higher (distinct d) = omega arith
 higher (iterate a b e f) = omega arith
+higher (closure d w a b e f) = omega arith
 
 pub unread_open : (text : List ℕ) (ts : List Token) (m : ℕ) → m ≡ 0 → Unread (Reads text) ts m
 unread_open text ts m e q n us d = let w = higher d in omega arith
@@ -174,12 +187,25 @@ pub inside_iterate : {text : List ℕ} {s o : Span} {ts us : List Token} {q : Re
 inside_iterate (iterate {d = d} {p = p} {x = x} {i = i} {j = j} {q = q} {n = n} {h = h} {k = k} {r = r} {b = b} {ts = ts} {us = us} f g e c) = record { d = d; turns = n; x = x; vs = ts; head = (p, i, f, g, refl); two = record { x = r; y = b; h = h; k = k; us = us; first = (j, e); second = (q, c); is = refl } }
 inside_iterate (set_operation i d e) = absurd (no_operator _ refl i)
 
+pub inside_closure : {text : List ℕ} {o : Opening} {ts us : List Token} {q : RelTree} {n : ℕ} → piece text o.keyword ≡ closure_word → Reads text (closing o ts) q n us → Loop text ts n us
+inside_closure w (named d h) = absurd (h w refl)
+inside_closure w (closure {d = d} {p = p} {x = x} {i = i} {j = j} {q = q} {n = n} {h = h} {k = k} {r = r} {b = b} {ts = ts} {us = us} a v f g e c) = record { d = d; turns = n; x = x; vs = ts; head = (p, i, f, g, refl); two = record { x = r; y = b; h = h; k = k; us = us; first = (j, e); second = (q, c); is = refl } }
+
 -- a head is followed by one rest
 pub one_head : (text : List ℕ) (ts us vs : List Token) (d e : Span) (m n : ℕ) (x y : Span) → Heads text ts d m x us → Heads text ts e n y vs → us ≡ vs
 one_head text ts us vs d e m n x y h k = rest_one (rest_one (rest_one (rest_one (sym h.4 ∙ k.4))))
 
-pub iterate_at : (text : List ℕ) (ts vs us ws : List Token) (s o d x j q z : Span) (t : ℕ) (y : List ℕ) (a b l : RelTree) (h k n : ℕ) → Heads text ts d t x vs → y ≡ piece text x → Reads text vs a h (mark_at mark.Semicolon j ∷ us) → Reads text us b k (mark_at mark.CloseRound q ∷ ws) → z ≡ reaching s q → l ≡ RelTree.iterate z d t x y a b → n ≡ max h k + 1 → Reads text (opening form.Iterate s o ts) l n ws
+pub iterate_at : (text : List ℕ) (ts vs us ws : List Token) (s o d x j q z : Span) (t : ℕ) (y : List ℕ) (a b l : RelTree) (h k n : ℕ) → Heads text ts d t x vs → y ≡ piece text x → Reads text vs a h (mark_at mark.Semicolon j ∷ us) → Reads text us b k (mark_at mark.CloseRound q ∷ ws) → z ≡ reaching s q → l ≡ RelTree.loop z Iterate d t x y a b → n ≡ max h k + 1 → Reads text (opening form.Iterate s o ts) l n ws
 iterate_at text ts vs us ws s o d x j q z t y a b l h k n f g e c i m w = rw (f.4, m, i, w, g, add-one) (iterate f.2 f.3 e c)
+
+pub closure_at : (text : List ℕ) (ts vs us ws : List Token) (o : Opening) (d x j q z : Span) (t : ℕ) (y : List ℕ) (a b l : RelTree) (h k n : ℕ) → IsClosureAt text o.keyword → Heads text ts d t x vs → y ≡ piece text x → Reads text vs a h (mark_at mark.Semicolon j ∷ us) → Reads text us b k (mark_at mark.CloseRound q ∷ ws) → z ≡ reaching o.keyword q → l ≡ RelTree.loop z Closure d t x y a b → n ≡ max h k + 1 → Reads text (closing o ts) l n ws
+closure_at text ts vs us ws o d x j q z t y a b l h k n v f g e c i m w = rw (f.4, m, i, w, g, add-one) (closure v.0 v.1 f.2 f.3 e c)
+
+pub no_closure_loop : (text : List ℕ) (ts : List Token) (o : Opening) (m : ℕ) → IsClosureAt text o.keyword → NoHead text ts → Unread (Reads text) (closing o ts) m
+no_closure_loop text ts o m w h q n us d = let i = inside_closure w.1 d in absurd (h _ _ _ _ i.head)
+
+pub closure_two : (text : List ℕ) (ts vs us : List Token) (o : Opening) (d x : Span) (t n : ℕ) (q : RelTree) → IsClosureAt text o.keyword → Heads text ts d t x vs → Reads text (closing o ts) q n us → Two (Ended (Reads text) mark.Semicolon) (Ended (Reads text) mark.CloseRound) vs n us
+closure_two text ts vs us o d x t n q w h r = let i = inside_closure w.1 r in rw (one_head text ts vs i.vs d i.d t i.turns x i.x h i.head) i.two
 
 pub no_loop : (text : List ℕ) (ts : List Token) (s o : Span) (m : ℕ) → NoHead text ts → Unread (Reads text) (opening form.Iterate s o ts) m
 no_loop text ts s o m h q n us d = let i = inside_iterate d in absurd (h _ _ _ _ i.head)

@@ -8,8 +8,8 @@ use Rattle.lexer.specs.declared.token.TokenKind.{TokenKind}
 use Rattle.lexer.specs.declared.token.TokenKind.TheVariants as kind
 use Rattle.lexer.specs.declared.mark.Mark.TheVariants as mark
 use Rattle.expr_tree.specs.declared.relation.SetOperator.TheVariants.{Concat, Except, Intersect}
-use Rattle.grammar.specs.Tokens.{token, mark_at, keyword_at}
-use Rattle.grammar.specs.Relations.{operator_keyword, IsNameAt}
+use Rattle.grammar.specs.Tokens.{token, mark_at, keyword_at, NoMark}
+use Rattle.grammar.specs.Relations.{operator_keyword, closure_word, piece, IsNameAt}
 use Rattle.parser.specs.declared.relation.Form.{Form}
 use Rattle.parser.specs.declared.relation.Form.TheVariants as form
 use Rattle.parser.specs.declared.relation.Opening.{Opening}
@@ -66,3 +66,15 @@ Heads text ts d n x us =
 -- no head of a loop comes next
 abbrev pub NoHead : List ℕ → List Token → Type 0
 NoHead text ts = (d : Span) (n : ℕ) (x : Span) (us : List Token) → Heads text ts d n x us → ⊥
+
+-- the word of a closure is there
+abbrev pub IsClosureAt : List ℕ → Span → Type 0
+IsClosureAt text s = IsNameAt text s × (piece text s ≡ closure_word)
+
+-- that word, its bracket, and what follows
+abbrev pub closing : Opening → List Token → List Token
+closing o ts = token kind.Name o.keyword ∷ mark_at mark.OpenRound o.bracket ∷ ts
+
+-- if that word comes next, no bracket follows it
+abbrev pub NoClosure : List ℕ → List Token → Type 0
+NoClosure text ts = (s : Span) (us : List Token) → ts ≡ token kind.Name s ∷ us → IsNameAt text s → piece text s ≡ closure_word → NoMark mark.OpenRound us

@@ -1,22 +1,22 @@
 //! Relations from tokens.
 
-ghost use Rattle.std.specs.Prelude.{◌≡◌, ◌+◌, ◌<◌, ◌≤◌, ◌∷◌, length, IfOk, IfErr, MatchOption};
+ghost use Rattle.std.specs.Prelude.{◌≡◌, ◌↔◌, ◌+◌, ◌<◌, ◌≤◌, ◌∷◌, length, IfOk, IfErr, IsTrue, MatchOption};
 ghost use Rattle.expr_tree.specs.Trees.{RelTree};
 ghost use Rattle.expr_tree.specs.Views.{rel_tree};
 ghost use Rattle.grammar.specs.Tokens.{mark_at};
 ghost use Rattle.grammar.specs.Phrases.{Ended, Unread};
-ghost use Rattle.grammar.specs.Relations.{Reads, piece};
+ghost use Rattle.grammar.specs.Relations.{Reads, closure_word, piece};
 ghost use Rattle.grammar.specs.Texts.{max_height};
 ghost use Rattle.parser.specs.declared.relation.Form.TheVariants as form;
 ghost use Rattle.parser.specs.Faults.{Denies};
-ghost use Rattle.parser.specs.Forms.{form_of, form_token, opened, NoForm, Heads, NoHead};
+ghost use Rattle.parser.specs.Forms.{form_of, form_token, opened, closing, IsClosureAt, NoClosure, NoForm, Heads, NoHead};
 
 use crate::fault::{Fault, MAX_HEIGHT};
 use crate::list::{
     parse_columns, parse_last_aggs, parse_last_condition, parse_last_pairs, parse_last_scalars,
 };
 use crate::scan::{after_mark, after_name, after_number, front, spanning};
-use expr_tree::{Rel, SetOperator};
+use expr_tree::{LoopForm, Rel, SetOperator};
 use lexer::{Mark, Token, TokenKind};
 use record_core::{Keyword, Name, Span};
 use std::alloc::Allocator;
@@ -81,6 +81,25 @@ fn after_form(tokens: &[Token]) -> Option<(Form, Span, &[Token])>
     }
 }
 
+/// Whether a name is the word that a closure begins with.
+fn is_closure_word(name: &Name) -> bool
+    ensures { IsTrue result ↔ (name.now ≡ closure_word) }
+{
+    name.bytes() == b"closure".as_slice()
+}
+
+/// The word of a closure and its bracket, if they are at the front, and what follows them.
+fn after_closure<'a>(text: &[u8], tokens: &'a [Token]) -> Option<(Opening, &'a [Token])>
+    ensures { MatchOption result (NoClosure text.now tokens.now) (λ r. (tokens.now ≡ closing r.0 r.1.now) × IsClosureAt text.now r.0.keyword) }
+{
+    let (keyword, name, after) = after_name(text, tokens)?;
+    if !is_closure_word(&name) {
+        return None;
+    }
+    let (bracket, inner) = after_mark(Mark::OpenRound, after)?;
+    Some((Opening { keyword, bracket }, inner))
+}
+
 /// The head of a loop, inside its bracket.
 fn parse_loop_head<'a>(text: &[u8], tokens: &'a [Token]) -> Result<(LoopHead, &'a [Token]), Fault>
     ensures found { IfOk result (λ r. Heads text.now tokens.now r.0.turns_span r.0.turns r.0.name_span r.1.now) }
@@ -112,14 +131,16 @@ fn parse_loop_head<'a>(text: &[u8], tokens: &'a [Token]) -> Result<(LoopHead, &'
 /// A loop of these relations.
 fn iteration<A: Allocator>(
     span: Span,
+    form: LoopForm,
     head: LoopHead,
     start: Box<Rel<A>, A>,
     body: Box<Rel<A>, A>,
 ) -> Rel<A>
-    ensures { rel_tree result ≡ RelTree.iterate span head.turns_span head.turns head.name_span head.name (rel_tree start.value) (rel_tree body.value) }
+    ensures { rel_tree result ≡ RelTree.loop span form head.turns_span head.turns head.name_span head.name (rel_tree start.value) (rel_tree body.value) }
 {
-    Rel::Iterate {
+    Rel::Loop {
         span,
+        form,
         turns_span: head.turns_span,
         turns: head.turns,
         name_span: head.name_span,
@@ -335,7 +356,42 @@ fn parse_iterate<'a, A: Allocator + Copy>(
         return Err(Fault::TooHigh(opening.keyword));
     }
     let span = spanning(opening.keyword, end);
-    Ok((iteration(span, head, start, body), most + 1, rest))
+    Ok((
+        iteration(span, LoopForm::Iterate, head, start, body),
+        most + 1,
+        rest,
+    ))
+}
+
+/// What follows `closure (`.
+#[cycle(parse)]
+fn parse_closure<'a, A: Allocator + Copy>(
+    alloc: A,
+    opening: Opening,
+    text: &[u8],
+    tokens: &'a [Token],
+    room: u32,
+) -> Result<(Rel<A>, u32, &'a [Token]), Fault>
+    requires room { room < max_height }
+    requires word { IsClosureAt text.now opening.keyword }
+    ensures found { IfOk result (λ r. Reads text.now (closing opening tokens.now) (rel_tree r.0) r.1 r.2.now) }
+    ensures low { IfOk result (λ r. (1 ≤ r.1) × (r.1 ≤ max_height)) }
+    ensures denied { IfErr result (λ f. Denies f (Unread (Reads text.now) (closing opening tokens.now)) (room + 1)) }
+    ensures shorter { IfOk result (λ r. length r.2.now < length tokens.now) }
+{
+    let (head, first) = parse_loop_head(text, tokens)?;
+    let (start, height, _, inner) = parse_rel_then(alloc, Mark::Semicolon, text, first, room)?;
+    let (body, other, end, rest) = parse_rel_then(alloc, Mark::CloseRound, text, inner, room)?;
+    let most = height.max(other);
+    if most == MAX_HEIGHT {
+        return Err(Fault::TooHigh(opening.keyword));
+    }
+    let span = spanning(opening.keyword, end);
+    Ok((
+        iteration(span, LoopForm::Closure, head, start, body),
+        most + 1,
+        rest,
+    ))
 }
 
 /// A relation at the front.
@@ -352,6 +408,12 @@ fn parse_rel<'a, A: Allocator + Copy>(
     ensures denied { IfErr result (λ f. Denies f (Unread (Reads text.now) tokens.now) room) }
     ensures shorter { IfOk result (λ r. length r.2.now < length tokens.now) }
 {
+    if let Some((opening, inner)) = after_closure(text, tokens) {
+        if room == 0 {
+            return Err(Fault::TooHigh(opening.bracket));
+        }
+        return parse_closure(alloc, opening, text, inner, room - 1);
+    }
     if let Some((span, name, rest)) = after_name(text, tokens) {
         return Ok((Rel::Named(span, name), 1, rest));
     }

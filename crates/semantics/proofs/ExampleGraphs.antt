@@ -4,7 +4,7 @@ use Rattle.semantics.specs.Query.{Scalar, Comparison, Cond, Agg}
 use Rattle.semantics.specs.Kinds.{Kind}
 use Rattle.semantics.specs.Graph.{output_numbers}
 use Rattle.semantics.specs.Lower.{lower, lower_lets, lower_outputs, lowered, port, new_vertex}
-use Rattle.semantics.specs.Examples.{first_plus_1, two_turns, outer_name, outer_name_in_loops, in_a_alone, small_and_all, least_of_let}
+use Rattle.semantics.specs.Examples.{first_plus_1, connected, two_turns, outer_name, outer_name_in_loops, in_a_alone, small_and_all, least_of_let}
 
 pub graph_of_two_turns : lowered two_turns ≡
     new_vertex Kind.input 0 []
@@ -18,6 +18,24 @@ pub graph_of_two_turns : lowered two_turns ≡
     ∷ []
 unfolding lowered lower lower_lets lower_outputs
 graph_of_two_turns = refl
+
+pub graph_of_connected : lowered connected ≡
+    new_vertex Kind.input 0 []
+    ∷ new_vertex Kind.ingress 0 (port 0 0 ∷ [])
+    ∷ new_vertex Kind.concat 1 (port 1 0 ∷ port 10 0 ∷ [])
+    ∷ new_vertex (Kind.unseen 3) 1 (port 2 0 ∷ [])
+    ∷ new_vertex Kind.ingress 0 (port 0 0 ∷ [])
+    ∷ new_vertex Kind.concat 1 (port 4 0 ∷ port 7 0 ∷ [])
+    ∷ new_vertex (Kind.hold 3) 1 (port 5 0 ∷ [])
+    ∷ new_vertex Kind.feedback 1 (port 6 1 ∷ [])
+    ∷ new_vertex (Kind.join (record { left = 1; right = 0 } ∷ [])) 1 (port 3 0 ∷ port 6 0 ∷ [])
+    ∷ new_vertex (Kind.select (Scalar.column 0 ∷ Scalar.column 3 ∷ [])) 1 (port 8 0 ∷ [])
+    ∷ new_vertex Kind.feedback 1 (port 9 0 ∷ [])
+    ∷ new_vertex Kind.egress 1 (port 3 1 ∷ [])
+    ∷ new_vertex Kind.output 0 (port 11 0 ∷ [])
+    ∷ []
+unfolding lowered lower lower_lets lower_outputs
+graph_of_connected = refl
 
 pub graph_of_outer_name : lowered outer_name ≡
     new_vertex Kind.input 0 []

@@ -4,7 +4,7 @@ use Rattle.std.specs.Int.{int_wrap}
 use Rattle.semantics.specs.Multiset.{Record, ◌≈◌}
 use Rattle.semantics.specs.Meaning.{meaning, let_names, program_meaning}
 use Rattle.semantics.specs.Typing.{Scope, entry, HasArity, OutputsFit, WellTyped}
-use Rattle.semantics.specs.Examples.{name_a, one_field, two_fields, three_fields, twice, sums_by_key, reachability, no_turns, outer_name, loop_in_loop, outer_name_in_loops, in_a_alone, in_a_and_b, except_in_loop, small_and_all, least_of_let, twice_out, a_and_b, one_and_two}
+use Rattle.semantics.specs.Examples.{name_a, one_field, two_fields, three_fields, twice, sums_by_key, reachability, connected, no_turns, outer_name, loop_in_loop, outer_name_in_loops, in_a_alone, in_a_and_b, except_in_loop, small_and_all, least_of_let, twice_out, a_and_b, one_and_two}
 use Rattle.semantics.proofs.MultisetSums.{≈-trans, ≈-from}
 
 pub twice_means : (records : List Record) → program_meaning twice 0 (λ i. records) ≡ records ++ records
@@ -22,6 +22,14 @@ in_order = refl
 
 pub reaches : program_meaning reachability 0 (λ i. two_fields 1 2 ∷ two_fields 2 3 ∷ two_fields 3 4 ∷ []) ≈ (two_fields 1 2 ∷ two_fields 1 3 ∷ two_fields 1 4 ∷ two_fields 2 3 ∷ two_fields 2 4 ∷ two_fields 3 4 ∷ [])
 reaches = ≈-trans (≈-from in_order) (record { counts = λ r. omega arith })
+
+connected_order : program_meaning connected 0 (λ i. two_fields 1 2 ∷ two_fields 1 2 ∷ two_fields 2 1 ∷ two_fields 2 3 ∷ []) ≡ two_fields 1 2 ∷ two_fields 2 1 ∷ two_fields 2 3 ∷ two_fields 1 1 ∷ two_fields 1 3 ∷ two_fields 2 2 ∷ []
+unfolding program_meaning meaning let_names int_wrap
+connected_order = refl
+
+pub connects : program_meaning connected 0 (λ i. two_fields 1 2 ∷ two_fields 1 2 ∷ two_fields 2 1 ∷ two_fields 2 3 ∷ [])
+    ≈ (two_fields 1 1 ∷ two_fields 1 2 ∷ two_fields 1 3 ∷ two_fields 2 1 ∷ two_fields 2 2 ∷ two_fields 2 3 ∷ [])
+connects = ≈-trans (≈-from connected_order) (record { counts = λ r. omega arith })
 
 pub no_turn_means : program_meaning no_turns 0 (λ i. one_field (pos 5) ∷ []) ≡ one_field (pos 5) ∷ []
 unfolding program_meaning meaning let_names int_wrap
@@ -66,6 +74,25 @@ unfolding program_meaning meaning let_names
 no_more_means = refl
 
 -- ---- these programs are well typed
+
+pub connected_typed : WellTyped connected (2 ∷ [])
+unfolding HasArity
+connected_typed = record {
+  few = omega arith;
+  few_outputs = omega arith;
+  inputs = (refl, (omega arith, omega arith), tt);
+  rest = (
+    (
+      omega arith,
+      omega arith,
+      refl,
+      refl,
+      (4, (2, 2, refl, refl, ((omega arith, omega arith), tt), refl, (omega arith, omega arith)), (omega arith, (omega arith, tt)), refl, (omega arith, omega arith)),
+    ),
+    refl,
+    tt,
+  );
+}
 
 pub reachability_typed : WellTyped reachability (2 ∷ [])
 unfolding HasArity

@@ -3,7 +3,7 @@ use Rattle.std.proofs.Common.{◌≡◌, ℕ, zero, suc, ◌+◌, ◌*◌, ◌�
 use Rattle.std.specs.List.{AllByRecursion}
 use Rattle.semantics.specs.Multiset.{Record, same, one_if, count, each_once}
 use Rattle.semantics.specs.Query.{Scalar, Agg, Pair}
-use Rattle.semantics.specs.Meaning.{project, left_columns, right_columns, value, holds, paired, grouped, aggregate, with_key}
+use Rattle.semantics.specs.Meaning.{project, left_columns, right_columns, value, holds, paired, only_left, grouped, aggregate, with_key}
 use Rattle.semantics.specs.Time.{Time, last, times_before, is_before}
 use Rattle.semantics.specs.Kinds.{Kind, action, in_ports}
 use Rattle.semantics.specs.Graph.{Graph, vertex, source}
@@ -13,7 +13,7 @@ use Rattle.semantics.specs.Flow.{Inputs, Flow, IsFlow, IsEdgeTime, sent_by, sent
 use Rattle.semantics.specs.Dataflow.{IsDataflow, IsWired}
 use Rattle.semantics.proofs.MultisetSums.{Decides-same, count_here}
 use Rattle.semantics.proofs.RecursiveEquations.{by_rank}
-use Rattle.semantics.proofs.OneFlow.{EdgeTime, vertex_rank, edge_rank, longest_rank, lex_trans, edge_below, length-woven, Rises}
+use Rattle.semantics.proofs.OneFlow.{EdgeTime, vertex_rank, edge_rank, longest_rank, lex_trans, edge_below, length-woven, Rises, reads_now}
 use Rattle.semantics.proofs.RankRises.{rises_from_nested}
 
 -- each record of the list has n fields
@@ -91,6 +91,9 @@ each_grouped ks as' xs = go (each_once (map (project ks) xs)) (each_present (len
 
 -- ---- the equation of a vertex
 
+each_left : (n : ℕ) (xs ys : List Record) → Each n xs → Each n (only_left xs ys)
+each_left n xs ys h = each_present n _ (each_filter n _ xs h)
+
 each_op : (kind : Kind) (arity : ℕ → ℕ) (n : ℕ) → PortsFit kind arity n → (t : Time) (ins : ℕ → List Record) → ((i : ℕ) → i < in_ports kind → Each (arity i) (ins i)) → (out : ℕ) → Each n (op kind t ins out)
 each_op Kind.input arity n fit t ins h out = tt
 each_op Kind.output arity n fit t ins h out = tt
@@ -107,6 +110,8 @@ each_op Kind.egress arity n fit t ins h out = subst (λ m. Each m (ins 0)) (sym 
 each_op Kind.feedback arity n fit t ins h out = subst (λ m. Each m (ins 0)) (sym fit) (h 0 (omega arith))
 each_op (Kind.gate k) arity n fit t ins h zero = each_cond n (nat_lt (last t.counters) k) (ins 0) (subst (λ m. Each m (ins 0)) (sym fit) (h 0 (omega arith)))
 each_op (Kind.gate k) arity n fit t ins h (suc out) = each_cond n (nat_eq (last t.counters) k) (ins 0) (subst (λ m. Each m (ins 0)) (sym fit) (h 0 (omega arith)))
+each_op (Kind.unseen k) arity n fit t ins h zero = each_cond n (nat_lt (last t.counters) k) (only_left (ins 0) (ins 1)) (each_left n (ins 0) (ins 1) (subst (λ m. Each m (ins 0)) (sym fit) (h 0 (omega arith))))
+each_op (Kind.unseen k) arity n fit t ins h (suc out) = each_left n (ins 0) (ins 1) (subst (λ m. Each m (ins 0)) (sym fit) (h 0 (omega arith)))
 each_op (Kind.hold k) arity n fit t ins h zero = each_cond n (nat_lt (last t.counters) k) (ins 0) (subst (λ m. Each m (ins 0)) (sym fit) (h 0 (omega arith)))
 each_op (Kind.hold k) arity n fit t ins h (suc out) = each_cond n (nat_lt (last t.counters + 1) k) (ins 0) (subst (λ m. Each m (ins 0)) (sym fit) (h 0 (omega arith)))
 
@@ -135,6 +140,7 @@ each_sent inputs (Kind.filter c) f v out n u e k = k
 each_sent inputs (Kind.join ps) f v out n u e k = k
 each_sent inputs (Kind.group ks as') f v out n u e k = k
 each_sent inputs (Kind.gate m) f v out n u e k = k
+each_sent inputs (Kind.unseen m) f v out n u e k = k
 each_sent inputs (Kind.hold m) f v out n u e k = k
 
 module _ (g : Graph) (loops : ℕ → List ℕ) (wired : IsWired g) (rises : Rises g loops) (arity : ℕ → ℕ) (typed : IsTyped g arity) (inputs : Inputs) (given : (v epoch : ℕ) → v < length g → (vertex g v).kind ≡ Kind.input → HaveFields (arity v) (inputs v epoch)) (f : Flow) (flow : IsFlow g inputs f) where
@@ -151,9 +157,9 @@ module _ (g : Graph) (loops : ℕ → List ℕ) (wired : IsWired g) (rises : Ris
       (each_sent inputs x.kind f s.vertex s.out (arity s.vertex) p.time (λ e. each_from (arity s.vertex) (inputs s.vertex p.time.epoch) (given s.vertex p.time.epoch known e))
       (each_flat (arity s.vertex) _ _ (times_before (action x.kind) p.time) (rises.steps p.into p.port p.time v) (λ t a.
       each_op x.kind (λ i. arity (source g s.vertex i).vertex) (arity s.vertex) (typed.ports s.vertex known) t _ (λ i l.
-      each_from (arity (source g s.vertex i).vertex) (f s.vertex i t) (below (record { into = s.vertex; port = i; time = t })
+      subst (Each (arity (source g s.vertex i).vertex)) (sym (reads_now x.kind (f s.vertex) t i l)) (each_from (arity (source g s.vertex i).vertex) (f s.vertex i t) (below (record { into = s.vertex; port = i; time = t })
       (record { is_vertex = known; is_port = omega (arith, wired.full s.vertex known, l); has_depth = a.0 })
-      (lex_trans (edge_rank loops s.vertex t) (vertex_rank loops s.vertex t) (edge_rank loops p.into p.time) (edge_below loops s.vertex t) a.1))) s.out)))
+      (lex_trans (edge_rank loops s.vertex t) (vertex_rank loops s.vertex t) (edge_rank loops p.into p.time) (edge_below loops s.vertex t) a.1)))) s.out)))
       r (subst (λ n. 0 < n) ((flow.equations p.into p.port p.time v).counts r) k)
 
   pub flow_fields : (w i : ℕ) (u : Time) → IsEdgeTime g w i u → HaveFields (arity (source g w i).vertex) (f w i u)

@@ -21,7 +21,7 @@ Limited (Rel.group r ks as') = Limited r
 Limited (Rel.distinct r) = Limited r
 Limited (Rel.except p q) = Limited p × Limited q
 Limited (Rel.intersect p q) = Limited p × Limited q
-Limited (Rel.iterate n x r b) = (n < turn_count) × Limited r × Limited b
+Limited (Rel.loop l n x r b) = (n < turn_count) × Limited r × Limited b
 
 -- at most the allowed number of loops are inside one another, if d are already open
 abbrev pub Nested : ℕ → Rel → Type 0
@@ -34,7 +34,7 @@ Nested d (Rel.group r ks as') = Nested d r
 Nested d (Rel.distinct r) = Nested d r
 Nested d (Rel.except p q) = Nested d p × Nested d q
 Nested d (Rel.intersect p q) = Nested d p × Nested d q
-Nested d (Rel.iterate n x r b) = Nested d r × (suc d ≤ max_loops) × Nested (suc d) b
+Nested d (Rel.loop l n x r b) = Nested d r × (suc d ≤ max_loops) × Nested (suc d) b
 
 pub record FitsIn (xs : List Name) (r : Rel) : Type 0 where
   pub known : Known xs r

@@ -18,6 +18,7 @@ is_input_kind (Kind.filter c) e = absurd cc
 is_input_kind (Kind.join ps) e = absurd cc
 is_input_kind (Kind.group ks as') e = absurd cc
 is_input_kind (Kind.gate n) e = absurd cc
+is_input_kind (Kind.unseen n) e = absurd cc
 is_input_kind (Kind.hold n) e = absurd cc
 
 pub input_kind : (g : Graph) (i : ℕ) → i < input_count g → (vertex g i).kind ≡ Kind.input

@@ -19,10 +19,14 @@ pub mod EdgeNumbers
 pub mod RecursiveEquations
 pub mod OneFlow
 pub mod VertexLaws
+pub mod WhatIsRead
 pub mod RoutedParts
 pub mod MonotoneVertices
 pub mod ShardsSend
 pub mod VertexFlows
+pub mod TurnsOfLoops
+pub mod FoundByClosures
+pub mod Gates
 pub mod RankRises
 pub mod CouldRises
 pub mod PathSummaries

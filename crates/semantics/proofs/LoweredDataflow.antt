@@ -20,6 +20,7 @@ use Rattle.semantics.specs.Typing.{WellTyped}
 use Rattle.semantics.proofs.TypedPrograms.{typed_fits}
 use Rattle.semantics.proofs.QuietEnds.{lowered_quiet}
 use Rattle.semantics.proofs.FittingPrograms.{IsFitting}
+use Rattle.semantics.proofs.Gates.{gate_no_input, gate_no_output, gate_no_end}
 use Rattle.semantics.proofs.LoweredLoops.{program_loops, program_sound, wired_from_sound, nested_from_sound}
 
 all_append : (P : Vertex → Type 0) (xs ys : List Vertex) → AllByRecursion P xs → AllByRecursion P ys → AllByRecursion P (xs ++ ys)
@@ -69,7 +70,7 @@ lower_inner (Rel.concat p q) ports d k = two_inner (lower p ports d k).made (low
 lower_inner (Rel.except p q) ports d k = two_inner (lower p ports d k).made (lower q ports d (k + length (lower p ports d k).made)).made _ (lower_inner p ports d k) (lower_inner q ports d (k + length (lower p ports d k).made)) (plain_inner _ refl refl refl)
 lower_inner (Rel.intersect p q) ports d k = two_inner (lower p ports d k).made (lower q ports d (k + length (lower p ports d k).made)).made _ (lower_inner p ports d k) (lower_inner q ports d (k + length (lower p ports d k).made)) (plain_inner _ refl refl refl)
 lower_inner (Rel.join p q ps) ports d k = two_inner (lower p ports d k).made (lower q ports d (k + length (lower p ports d k).made)).made _ (lower_inner p ports d k) (lower_inner q ports d (k + length (lower p ports d k).made)) (plain_inner _ refl refl refl)
-lower_inner (Rel.iterate n x r b) ports d k =
+lower_inner (Rel.loop l n x r b) ports d k =
     let start = lower r ports d k in
     let loop = k + length start.made in
     let outside = suc (suc (suc loop)) in
@@ -82,7 +83,7 @@ lower_inner (Rel.iterate n x r b) ports d k =
       (
         plain_inner _ refl refl refl,
         (
-          plain_inner _ refl refl refl,
+          plain_inner _ (gate_no_input l n) (gate_no_output l n) (gate_no_end l n),
           all_append Inner cs _ (carry_inner n ports d outside ys)
               (all_append Inner body.made _ (lower_inner b inside (suc d) (outside + length cs))
               (record { no_input = refl; no_output = refl; inside = λ e. omega arith }, (record { no_input = refl; no_output = refl; inside = λ e. omega arith }, tt))),

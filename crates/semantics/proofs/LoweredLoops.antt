@@ -12,7 +12,7 @@ use Rattle.semantics.specs.Kinds.{Kind, action, in_ports, out_ports}
 use Rattle.semantics.specs.Graph.{Port, Vertex, Graph, no_vertex, vertex, source}
 use Rattle.semantics.specs.Lower.{Ports, stands_for, port, new_vertex, carry, carried_ports, Lowered, lower, looped, input_vertices, input_ports, lower_lets, lets_of, lower_outputs, outputs_of, lowered}
 use Rattle.semantics.specs.Meaning.{same_name}
-use Rattle.semantics.specs.Query.{Name, Rel, Input, Let, Output, Program}
+use Rattle.semantics.specs.Query.{Name, Loop, Rel, Input, Let, Output, Program}
 use Rattle.semantics.specs.Time.{Action}
 use Rattle.semantics.proofs.OneFlow.{one_flow}
 use Rattle.semantics.proofs.LoweredRelations.{Stands, stands_left, stands_right}
@@ -20,6 +20,7 @@ use Rattle.semantics.proofs.LoweredPrograms.{all_at, stands_whole, length-input_
 use Rattle.semantics.proofs.RankRises.{rises_from_nested}
 use Rattle.semantics.proofs.FittingPrograms.{Nested, LetsFit, AllFit, names_after, input_list, IsFitting}
 use Rattle.semantics.proofs.VertexFlows.{IsAt}
+use Rattle.semantics.proofs.Gates.{gate_ins, gate_outs, gate_stays}
 
 -- ---- vertices that are wired, and are in the loops given for them
 
@@ -74,7 +75,7 @@ homes (Rel.group r ks as') ports d k here = homes r ports d k here ++ (here ∷ 
 homes (Rel.distinct r) ports d k here = homes r ports d k here ++ (here ∷ [])
 homes (Rel.except p q) ports d k here = homes p ports d k here ++ (homes q ports d (k + length (lower p ports d k).made) here ++ (here ∷ []))
 homes (Rel.intersect p q) ports d k here = homes p ports d k here ++ (homes q ports d (k + length (lower p ports d k).made) here ++ (here ∷ []))
-homes (Rel.iterate n x r b) ports d k here =
+homes (Rel.loop l n x r b) ports d k here =
     let start = lower r ports d k in
     let loop = k + length start.made in
     let outside = suc (suc (suc loop)) in
@@ -110,7 +111,7 @@ length-homes (Rel.group r ks as') ports d k here = one_longer (homes r ports d k
 length-homes (Rel.distinct r) ports d k here = one_longer (homes r ports d k here) here (lower r ports d k).made _ (length-homes r ports d k here)
 length-homes (Rel.except p q) ports d k here = two_longer (homes p ports d k here) (homes q ports d (k + length (lower p ports d k).made) here) here (lower p ports d k).made (lower q ports d (k + length (lower p ports d k).made)).made _ (length-homes p ports d k here) (length-homes q ports d (k + length (lower p ports d k).made) here)
 length-homes (Rel.intersect p q) ports d k here = two_longer (homes p ports d k here) (homes q ports d (k + length (lower p ports d k).made) here) here (lower p ports d k).made (lower q ports d (k + length (lower p ports d k).made)).made _ (length-homes p ports d k here) (length-homes q ports d (k + length (lower p ports d k).made) here)
-length-homes (Rel.iterate n x r b) ports d k here =
+length-homes (Rel.loop l n x r b) ports d k here =
     let start = lower r ports d k in
     let loop = k + length start.made in
     let outside = suc (suc (suc loop)) in
@@ -245,9 +246,9 @@ module _ (g : Graph) (loops : ℕ → List ℕ) where
       go false q (inl e) f = absurd (true≢false (sym ((Decides-same_name x y).1 e) ∙ q))
       go false q (inr i) f = f i
 
-  loop_sound : (n : ℕ) (x : Name) (r b : Rel) → (d : ℕ) → SoundClaim d r → SoundClaim (suc d) b → (ports : Ports) (k : ℕ) (here : List ℕ) → suc d ≤ max_loops → Stands g k (lower (Rel.iterate n x r b) ports d k).made → Homed loops k (homes (Rel.iterate n x r b) ports d k here) → length here ≡ d → ((y : Name) → IsAmong y (free (Rel.iterate n x r b)) → Avail (ports y) here k) → AllSound g loops k (lower (Rel.iterate n x r b) ports d k).made × Avail (lower (Rel.iterate n x r b) ports d k).gives here (k + length (lower (Rel.iterate n x r b) ports d k).made)
+  loop_sound : (sort : Loop) (n : ℕ) (x : Name) (r b : Rel) → (d : ℕ) → SoundClaim d r → SoundClaim (suc d) b → (ports : Ports) (k : ℕ) (here : List ℕ) → suc d ≤ max_loops → Stands g k (lower (Rel.loop sort n x r b) ports d k).made → Homed loops k (homes (Rel.loop sort n x r b) ports d k here) → length here ≡ d → ((y : Name) → IsAmong y (free (Rel.loop sort n x r b)) → Avail (ports y) here k) → AllSound g loops k (lower (Rel.loop sort n x r b) ports d k).made × Avail (lower (Rel.loop sort n x r b) ports d k).gives here (k + length (lower (Rel.loop sort n x r b) ports d k).made)
   unfolding lower homes
-  loop_sound n x r b d start_claim body_claim ports k here m s h l avail = (all_sound, gives)
+  loop_sound sort n x r b d start_claim body_claim ports k here m s h l avail = (all_sound, gives)
     where
       start : Lowered
       start = lower r ports d k
@@ -283,7 +284,7 @@ module _ (g : Graph) (loops : ℕ → List ℕ) where
       ends = new_vertex Kind.feedback (suc d) (body.gives ∷ []) ∷ new_vertex Kind.egress (suc d) (port gate 1 ∷ []) ∷ []
 
       made : List Vertex
-      made = (looped n loop start ports d ys body).made
+      made = (looped sort n loop start ports d ys body).made
 
       deep : length in' ≡ suc d
       deep = omega (arith, length-append here (suc back ∷ []))
@@ -315,7 +316,7 @@ module _ (g : Graph) (loops : ℕ → List ℕ) where
       inside_avail y j = go (same_name x y) refl
         where
           go : (t : Bool) → same_name x y ≡ t → Avail (cond t (port gate 0) (carried_ports ports (suc gate) ys y)) in' first
-          go true q = avail_here gate 0 _ in' first in_loop.1.1.0 (omega arith) refl home_loop.1.1.0 (omega arith)
+          go true q = avail_here gate 0 _ in' first in_loop.1.1.0 (omega (arith, gate_outs sort n)) (gate_stays sort n) home_loop.1.1.0 (omega arith)
           go false q = held_avail n ports d (suc gate) first here in' ys (stands_left g (suc gate) cs (body.made ++ ends) in_loop.1.1.1) (homed_left loops (suc gate) (carry_homes here in' ys) _ home_loop.1.1.1) (le_refl first) y (among_firsts y (filter (other_than x) (free b)) (among_others x y (free b) q j))
 
       start_sound : AllSound g loops k start.made × Avail start.gives here loop
@@ -327,7 +328,7 @@ module _ (g : Graph) (loops : ℕ → List ℕ) where
       ends_sound : AllSound g loops back ends
       ends_sound = (
         record { full = refl; home = ap length home_back.0 ∙ deep; shallow = m; edges = (edge_from body.gives in' back back body_sound.1 home_back.0 (le_refl back) at_back.0.known, tt) },
-        (record { full = refl; home = ap length home_back.1.0 ∙ deep; shallow = m; edges = (edge_of gate 1 (suc back) _ Action.stay in_loop.1.1.0 (omega arith) refl (Goes.same_loop (home_back.1.0 ∙ sym home_loop.1.1.0) (omega arith)), tt) }, tt),
+        (record { full = refl; home = ap length home_back.1.0 ∙ deep; shallow = m; edges = (edge_of gate 1 (suc back) _ Action.stay in_loop.1.1.0 (omega (arith, gate_outs sort n)) (gate_stays sort n) (Goes.same_loop (home_back.1.0 ∙ sym home_loop.1.1.0) (omega arith)), tt) }, tt),
       )
 
       loop_all : AllSound g loops loop made
@@ -344,7 +345,7 @@ module _ (g : Graph) (loops : ℕ → List ℕ) where
             );
           },
           (
-            record { full = refl; home = ap length home_loop.1.1.0 ∙ deep; shallow = m; edges = (edge_of (suc loop) 0 gate _ Action.stay in_loop.1.0 (omega arith) refl (Goes.same_loop (home_loop.1.1.0 ∙ sym home_loop.1.0) (omega arith)), tt) },
+            record { full = gate_ins sort n; home = ap length home_loop.1.1.0 ∙ deep; shallow = m; edges = (edge_of (suc loop) 0 gate _ Action.stay in_loop.1.0 (omega arith) refl (Goes.same_loop (home_loop.1.1.0 ∙ sym home_loop.1.0) (omega arith)), tt) },
             all_sound-append g loops (suc gate) cs (body.made ++ ends)
                 (carry_sound n ports d (suc gate) (suc back) here ys (stands_left g (suc gate) cs (body.made ++ ends) in_loop.1.1.1) (homed_left loops (suc gate) (carry_homes here in' ys) _ home_loop.1.1.1) l m (omega arith) carried_avail)
                 (all_sound-append g loops first body.made ends body_sound.0 ends_sound),
@@ -401,8 +402,8 @@ module _ (g : Graph) (loops : ℕ → List ℕ) where
       two_sound ports d k here (Kind.join ps) a b (homes p ports d k here) (homes q ports d e here) (length-homes p ports d k here) (length-homes q ports d e here) refl refl refl l m s h
       (relation_sound p d t.0 ports k here (stands_left g k a.made _ s) (homed_left loops k (homes p ports d k here) _ h) l m (λ y j. avail y (among_left y (free p) (free q) j)))
       (relation_sound q d t.1 ports e here (stands_left g e b.made _ (stands_right g k a.made _ s)) (homed_left loops e (homes q ports d e here) _ (homed_right loops k (length a.made) (homes p ports d k here) _ (length-homes p ports d k here) h)) l m (λ y j. avail_later (ports y) here k e (omega arith) (avail y (among_right y (free p) (free q) j))))
-  relation_sound (Rel.iterate n x r b) d t ports k here s h l m avail =
-      loop_sound n x r b d (relation_sound r d t.0) (relation_sound b (suc d) t.2) ports k here t.1 s h l avail
+  relation_sound (Rel.loop sort n x r b) d t ports k here s h l m avail =
+      loop_sound sort n x r b d (relation_sound r d t.0) (relation_sound b (suc d) t.2) ports k here t.1 s h l avail
 
   -- ---- programs
 

@@ -1,5 +1,5 @@
 -- In any flow of the graph of a relation, the port that the relation gives has its meaning.
-use Rattle.std.proofs.Common.{◌≡◌, ℕ, zero, suc, ◌+◌, ◌≤◌, ◌<◌, nat_lt, nat_eq, Bool, true, false, cond, List, [], ◌∷◌, ◌++◌, map, filter, flat_map, length, refl, sym, ap, ap₂, subst, ◌∙◌, arith, append-nil, ltb-true, ltb-false, eqb-true, lt-ltb, le-ltb, ne_eqb, inl, inr, ◌⊎◌}
+use Rattle.std.proofs.Common.{◌≡◌, ℕ, zero, suc, ◌+◌, ◌-◌, ◌≤◌, ◌<◌, nat_lt, nat_eq, Bool, true, false, cond, List, [], ◌∷◌, ◌++◌, map, filter, flat_map, length, refl, sym, ap, ap₂, subst, ◌∙◌, arith, append-nil, ltb-true, ltb-false, eqb-true, lt-ltb, le-ltb, ne_eqb, inl, inr, ◌⊎◌}
 use Rattle.std.proofs.lemmas.Bool.{true≢false, eqb-false}
 use Rattle.std.proofs.lemmas.List.Concat.{flat_map-append}
 use mathlib.Core.Path.{fun_ext}
@@ -9,16 +9,17 @@ use Rattle.semantics.specs.Multiset.{IsAmong, Record, ◌≈◌, each_once}
 use Rattle.semantics.specs.Flow.{Inputs, Flow, IsFlow, port_flow}
 use Rattle.semantics.specs.Kinds.{Kind}
 use Rattle.semantics.specs.Graph.{Port, Vertex, Graph}
-use Rattle.semantics.specs.Lower.{Ports, stands_for, port, new_vertex, carry, carried_ports, Lowered, looped, lower}
-use Rattle.semantics.specs.Meaning.{selected, kept, paired, grouped, only_left, in_both, same_name, Names, bind, repeated, meaning, holds, value}
-use Rattle.semantics.specs.Query.{Name, Rel}
+use Rattle.semantics.specs.Lower.{Ports, stands_for, port, new_vertex, carry, carried_ports, Lowered, gate_of, looped, lower}
+use Rattle.semantics.specs.Meaning.{selected, kept, paired, grouped, only_left, in_both, same_name, Names, bind, repeated, Found, found_first, found_next, after_turns, meaning, holds, value}
+use Rattle.semantics.specs.Query.{Name, Loop, Rel}
 use Rattle.semantics.specs.Time.{Time, deeper, turn_count, below}
 use Rattle.semantics.proofs.MultisetSums.{≈-refl, ≈-trans, ≈-from, append_same, linear_same, map_linear, filter_linear}
 use Rattle.semantics.proofs.ExceptAndIntersect.{only_left_same, in_both_same}
 use Rattle.semantics.proofs.KeyedParts.{paired_same}
 use Rattle.semantics.proofs.DistinctAndGroups.{distinct_same, grouped_same}
 use Rattle.semantics.proofs.FittingPrograms.{Limited}
-use Rattle.semantics.proofs.VertexFlows.{IsAt, length-deeper, out_at, edge_at, out_ingress_first, out_ingress_later, out_feedback_first, out_feedback_later, out_two, out_gate_round, out_gate_done, out_hold_round, out_hold_next, out_egress}
+use Rattle.semantics.proofs.TurnsOfLoops.{flat_below_same, flat_until, let_in, comes, comes_in, latest_is, all_is}
+use Rattle.semantics.proofs.VertexFlows.{IsAt, length-deeper, out_at, edge_at, out_ingress_first, out_ingress_later, out_feedback_first, out_feedback_later, out_two, out_gate_round, out_gate_done, out_unseen_round, out_unseen_done, out_hold_round, out_hold_next, out_egress}
 
 -- ---- vertices in a row
 
@@ -44,10 +45,10 @@ module _ (g : Graph) (inputs : Inputs) (f : Flow) (flow : IsFlow g inputs f) whe
 
   -- ---- a loop's merge of an ingress and a feedback
 
-  record Merge (d a m b : ℕ) (p q : Port) : Type 0 where
-    enters : IsAt g a (new_vertex Kind.ingress d (p ∷ []))
-    merges : IsAt g m (new_vertex Kind.concat (suc d) (port a 0 ∷ port b 0 ∷ []))
-    returns : IsAt g b (new_vertex Kind.feedback (suc d) (q ∷ []))
+  pub record Merge (d a m b : ℕ) (p q : Port) : Type 0 where
+    pub enters : IsAt g a (new_vertex Kind.ingress d (p ∷ []))
+    pub merges : IsAt g m (new_vertex Kind.concat (suc d) (port a 0 ∷ port b 0 ∷ []))
+    pub returns : IsAt g b (new_vertex Kind.feedback (suc d) (q ∷ []))
 
   merge_first : (d a m b : ℕ) (p q : Port) (u : Time) → Merge d a m b p q → length u.counters ≡ d → out (port m 0) (deeper u 0) ≈ out p u
   merge_first d a m b p q u s l =
@@ -55,7 +56,7 @@ module _ (g : Graph) (inputs : Inputs) (f : Flow) (flow : IsFlow g inputs f) whe
       (≈-trans (append_same _ _ _ _ (out_ingress_first g inputs f flow a d p u s.enters l) (out_feedback_first g inputs f flow b (suc d) q u s.returns))
       (≈-from (append-nil (out p u))))
 
-  merge_later : (d a m b : ℕ) (p q : Port) (u : Time) (c : ℕ) → Merge d a m b p q → length u.counters ≡ d → out (port m 0) (deeper u (suc c)) ≈ out q (deeper u c)
+  pub merge_later : (d a m b : ℕ) (p q : Port) (u : Time) (c : ℕ) → Merge d a m b p q → length u.counters ≡ d → out (port m 0) (deeper u (suc c)) ≈ out q (deeper u c)
   merge_later d a m b p q u c s l =
       ≈-trans (out_two g inputs f flow m (suc d) (port a 0) (port b 0) (deeper u (suc c)) s.merges (length-deeper u (suc c) ∙ ap suc l))
       (append_same _ [] _ (out q (deeper u c)) (out_ingress_later g inputs f flow a d p u c s.enters) (out_feedback_later g inputs f flow b d q u c s.returns l))
@@ -124,6 +125,17 @@ module _ (g : Graph) (inputs : Inputs) (f : Flow) (flow : IsFlow g inputs f) whe
   turns_none step e zero = refl
   turns_none step e (suc n) = ap step (turns_none step e n) ∙ e
 
+  found_none : (step : List Record → List Record) → (step [] ≡ []) → (n : ℕ) → repeated (found_next step) n (found_first []) ≡ record { all = []; latest = [] }
+  found_none step e zero = refl
+  found_none step e (suc n) = ap (found_next step) (found_none step e n) ∙ ap (λ (xs : List Record). found_of xs) e
+    where
+      found_of : List Record → Found
+      found_of xs = record { all = [] ++ only_left xs []; latest = only_left xs [] }
+
+  loops_none : (l : Loop) (step : List Record → List Record) → (step [] ≡ []) → (n : ℕ) → after_turns l step n [] ≡ []
+  loops_none Loop.iterate step e n = turns_none step e n
+  loops_none Loop.closure step e n = ap (λ (s : Found). s.all) (found_none step e n)
+
   pub meaning_none : (r : Rel) (names : Names) → ((y : Name) → names y ≡ []) → meaning r names ≡ []
   unfolding meaning
   meaning_none (Rel.named x) names e = e x
@@ -135,21 +147,85 @@ module _ (g : Graph) (inputs : Inputs) (f : Flow) (flow : IsFlow g inputs f) whe
   meaning_none (Rel.distinct r) names e = ap each_once (meaning_none r names e)
   meaning_none (Rel.except p q) names e = ap₂ only_left (meaning_none p names e) (meaning_none q names e)
   meaning_none (Rel.intersect p q) names e = ap₂ in_both (meaning_none p names e) (meaning_none q names e)
-  meaning_none (Rel.iterate n x r b) names e =
-      ap (repeated (λ xs. meaning b (bind x xs names)) n) (meaning_none r names e)
-      ∙ turns_none (λ xs. meaning b (bind x xs names)) (meaning_none b (bind x [] names) (λ y. go y (same_name x y))) n
+  meaning_none (Rel.loop l n x r b) names e =
+      ap (after_turns l (λ xs. meaning b (bind x xs names)) n) (meaning_none r names e)
+      ∙ loops_none l (λ xs. meaning b (bind x xs names)) (meaning_none b (bind x [] names) (λ y. go y (same_name x y))) n
     where
       go : (y : Name) (t : Bool) → cond t [] (names y) ≡ []
       go y true = refl
       go y false = e y
 
-  -- a loop, from what holds of its start and its body
-  loop_claim : (n : ℕ) (x : Name) (r b : Rel) → n < turn_count → Claim r → Claim b → Claim (Rel.iterate n x r b)
-  unfolding lower meaning
-  loop_claim n x r b limit start_claim body_claim ports d k names u s l agree =
-      ≈-trans (out_egress g inputs f flow (suc back) d (port gate 1) u egress_at l)
-      (sum_one (λ c. out (port gate 1) (deeper u c)) n (value_at n) done turn_count limit)
+  -- what comes to a loop's gate from a port, at the turns up to n
+  abbrev Comes : Loop → (List Record → List Record) → List Record → (n : ℕ) → Port → Time → ℕ → Type 0
+  Comes l step start n p u c = out p (deeper u c) ≈ cond (nat_lt c (suc n)) (comes l step start c) []
+
+  comes_now : (l : Loop) (step : List Record → List Record) (start : List Record) (n : ℕ) (p : Port) (u : Time) (c : ℕ) → Comes l step start n p u c → c ≤ n → out p (deeper u c) ≈ comes l step start c
+  comes_now l step start n p u c h k = ≈-trans h (≈-from (ap (λ t. cond t (comes l step start c) []) (lt-ltb c (suc n) (omega arith))))
+
+  comes_never : (l : Loop) (step : List Record → List Record) (start : List Record) (n : ℕ) (p : Port) (u : Time) (c : ℕ) → Comes l step start n p u c → suc n ≤ c → out p (deeper u c) ≈ []
+  comes_never l step start n p u c h k = ≈-trans h (≈-from (ap (λ t. cond t (comes l step start c) []) (le-ltb c (suc n) k)))
+
+  -- what comes new to an unseen at a turn
+  new_at : (step : List Record → List Record) (start : List Record) (n : ℕ) (p : Port) (u : Time) (c : ℕ) → ((j : ℕ) → j ≤ c → Comes Loop.closure step start n p u j) → c ≤ n
+      → only_left (out p (deeper u c)) (flat_map (λ j. out p (deeper u j)) (below c)) ≈ let_in Loop.closure step start c
+  new_at step start n p u c h k =
+      ≈-trans (only_left_same _ _ _ _ (comes_now Loop.closure step start n p u c (h c (omega arith)) k)
+      (flat_below_same (λ j. out p (deeper u j)) (comes Loop.closure step start) c (λ j l. comes_now Loop.closure step start n p u j (h j (omega arith)) (omega arith))))
+      (latest_is step start c)
+
+  new_never : (step : List Record → List Record) (start : List Record) (n : ℕ) (p : Port) (u : Time) (c : ℕ) → Comes Loop.closure step start n p u c → suc n ≤ c → (ys : List Record) → only_left (out p (deeper u c)) ys ≈ []
+  new_never step start n p u c h k ys = only_left_same _ [] ys ys (comes_never Loop.closure step start n p u c h k) (≈-refl ys)
+
+  -- what a loop's gate lets into a turn
+  gate_in : (l : Loop) (step : List Record → List Record) (start : List Record) (w d n : ℕ) (p : Port) (u : Time) (c : ℕ) → IsAt g w (new_vertex (gate_of l n) (suc d) (p ∷ [])) → length u.counters ≡ d
+      → ((j : ℕ) → j ≤ c → Comes l step start n p u j) → out (port w 0) (deeper u c) ≈ cond (nat_lt c n) (let_in l step start c) []
+  gate_in Loop.iterate step start w d n p u c at l h = ≈-trans (out_gate_round g inputs f flow w d n p u c at l) (go (nat_lt c n) refl)
     where
+      go : (t : Bool) → nat_lt c n ≡ t → cond t (out p (deeper u c)) [] ≈ cond t (repeated step c start) []
+      go true q = let k = ltb-true c n q in ≈-trans (comes_now Loop.iterate step start n p u c (h c (omega arith)) (omega arith)) (≈-from (comes_in step start c))
+      go false q = ≈-refl []
+  gate_in Loop.closure step start w d n p u c at l h = ≈-trans (out_unseen_round g inputs f flow w d n p u c at l) (go (nat_lt c n) refl)
+    where
+      go : (t : Bool) → nat_lt c n ≡ t → cond t (only_left (out p (deeper u c)) (flat_map (λ j. out p (deeper u j)) (below c))) [] ≈ cond t (let_in Loop.closure step start c) []
+      go true q = let k = ltb-true c n q in new_at step start n p u c h (omega arith)
+      go false q = ≈-refl []
+
+  -- what it lets out of the loop, summed over the turns
+  gate_out : (l : Loop) (step : List Record → List Record) (start : List Record) (w d n : ℕ) (p : Port) (u : Time) → n < turn_count → IsAt g w (new_vertex (gate_of l n) (suc d) (p ∷ [])) → length u.counters ≡ d
+      → ((j : ℕ) → Comes l step start n p u j) → flat_map (λ c. out (port w 1) (deeper u c)) (below turn_count) ≈ after_turns l step n start
+  gate_out Loop.iterate step start w d n p u limit at l h = sum_one (λ c. out (port w 1) (deeper u c)) n (repeated step n start) done turn_count limit
+    where
+      done : (c : ℕ) → out (port w 1) (deeper u c) ≈ cond (nat_eq c n) (repeated step n start) []
+      done c = ≈-trans (out_gate_done g inputs f flow w d n p u c at l) (go (nat_eq c n) refl)
+        where
+          go : (t : Bool) → nat_eq c n ≡ t → cond t (out p (deeper u c)) [] ≈ cond t (repeated step n start) []
+          go true q =
+              let e : c ≡ n = eqb-true c n q in
+              subst (λ z. out p (deeper u c) ≈ repeated step z start) e
+              (≈-trans (comes_now Loop.iterate step start n p u c (h c) (omega arith)) (≈-from (comes_in step start c)))
+          go false q = ≈-refl []
+  gate_out Loop.closure step start w d n p u limit at l h =
+      ≈-trans (≈-from (ap (λ m. flat_map (λ c. out (port w 1) (deeper u c)) (below m)) more.1))
+      (≈-trans (flat_until (λ c. out (port w 1) (deeper u c)) (suc n) more.0 (λ c k. ≈-trans (out_unseen_done g inputs f flow w d n p u c at l) (new_never step start n p u c (h c) k _)))
+      (≈-trans (flat_below_same (λ c. out (port w 1) (deeper u c)) (let_in Loop.closure step start) (suc n) (λ c k. ≈-trans (out_unseen_done g inputs f flow w d n p u c at l) (new_at step start n p u c (λ j m. h j) (omega arith))))
+      (all_is step start n)))
+    where
+      more_than : (m : ℕ) → suc n ≤ m → (k : ℕ) × (m ≡ k + suc n)
+      more_than m q = (m - suc n, omega arith)
+
+      more : (k : ℕ) × (turn_count ≡ k + suc n)
+      more = more_than turn_count limit
+
+  -- a loop, from what holds of its start and its body
+  loop_claim : (sort : Loop) (n : ℕ) (x : Name) (r b : Rel) → n < turn_count → Claim r → Claim b → Claim (Rel.loop sort n x r b)
+  unfolding lower meaning
+  loop_claim sort n x r b limit start_claim body_claim ports d k names u s l agree =
+      ≈-trans (out_egress g inputs f flow (suc back) d (port gate 1) u egress_at l)
+      (gate_out sort step (meaning r names) gate d n (port (suc loop) 0) u limit in_loop.1.1.0 l (λ c. merged c c (omega arith)))
+    where
+      step : List Record → List Record
+      step xs = meaning b (bind x xs names)
+
       start : Lowered
       start = lower r ports d k
 
@@ -174,8 +250,8 @@ module _ (g : Graph) (inputs : Inputs) (f : Flow) (flow : IsFlow g inputs f) whe
       back : ℕ
       back = first + length body.made
 
-      in_loop : Stands g loop (looped n loop start ports d ys body).made
-      in_loop = stands_right g k start.made (looped n loop start ports d ys body).made s
+      in_loop : Stands g loop (looped sort n loop start ports d ys body).made
+      in_loop = stands_right g k start.made (looped sort n loop start ports d ys body).made s
 
       at_first : Stands g first (body.made ++ (new_vertex Kind.feedback (suc d) (body.gives ∷ []) ∷ new_vertex Kind.egress (suc d) (port gate 1 ∷ []) ∷ []))
       at_first = stands_right g (suc gate) (carry n ports d (suc gate) ys) _ in_loop.1.1.1
@@ -189,61 +265,64 @@ module _ (g : Graph) (inputs : Inputs) (f : Flow) (flow : IsFlow g inputs f) whe
       merge : Merge d loop (suc loop) back start.gives body.gives
       merge = record { enters = in_loop.0; merges = in_loop.1.0; returns = at_back.0 }
 
-      -- the c-th turn's records
+      -- what is let into the turn c, and what comes to it
       value_at : ℕ → List Record
-      value_at c = repeated (λ xs. meaning b (bind x xs names)) c (meaning r names)
+      value_at c = let_in sort step (meaning r names) c
 
       -- what the names mean within the turn c
       names_at : ℕ → Names
       names_at c y = cond (nat_lt c n) (bind x (value_at c) names y) []
 
-      -- what the body means at one turn gives the next turn
-      turn : (c : ℕ) (t : Bool) → nat_lt c n ≡ t → meaning b (names_at c) ≡ cond (nat_lt (suc c) (suc n)) (value_at (suc c)) []
+      -- what the body means at one turn comes to the next turn
+      turn : (c : ℕ) (t : Bool) → nat_lt c n ≡ t → meaning b (names_at c) ≡ cond (nat_lt (suc c) (suc n)) (step (value_at c)) []
       turn c true q =
           let k' = ltb-true c n q in
           ap (meaning b) (fun_ext (λ y. ap (λ t. cond t (bind x (value_at c) names y) []) q))
-          ∙ ap (λ t. cond t (value_at (suc c)) []) (sym (lt-ltb (suc c) (suc n) (omega arith)))
+          ∙ ap (λ t. cond t (step (value_at c)) []) (sym (lt-ltb (suc c) (suc n) (omega arith)))
       turn c false q =
           let k' = ltb-false c n q in
           meaning_none b (names_at c) (λ y. ap (λ t. cond t (bind x (value_at c) names y) []) q)
-          ∙ ap (λ t. cond t (value_at (suc c)) []) (sym (le-ltb (suc c) (suc n) (omega arith)))
+          ∙ ap (λ t. cond t (step (value_at c)) []) (sym (le-ltb (suc c) (suc n) (omega arith)))
+
+      Merged : ℕ → Type 0
+      Merged c = Comes sort step (meaning r names) n (port (suc loop) 0) u c
 
       -- the names agree in the body at each turn
-      agree_in : (c : ℕ) → out (port (suc loop) 0) (deeper u c) ≈ cond (nat_lt c (suc n)) (value_at c) [] → Agree (free b) inside (deeper u c) (names_at c)
+      agree_in : (c : ℕ) → ((j : ℕ) → j ≤ c → Merged j) → Agree (free b) inside (deeper u c) (names_at c)
       agree_in c m y h = go (same_name x y) refl
         where
-          gated : (t : Bool) → nat_lt c n ≡ t → cond t (out (port (suc loop) 0) (deeper u c)) [] ≈ cond t (value_at c) []
-          gated true q = let k' = ltb-true c n q in ≈-trans m (≈-from (ap (λ t. cond t (value_at c) []) (lt-ltb c (suc n) (omega arith))))
-          gated false q = ≈-refl []
-
           outside : (t : Bool) → out (ports y) u ≈ names y → cond t (out (ports y) u) [] ≈ cond t (names y) []
           outside true e = e
           outside false e = ≈-refl []
 
           go : (t : Bool) → same_name x y ≡ t → out (cond t (port gate 0) (carried_ports ports (suc gate) ys y)) (deeper u c) ≈ cond (nat_lt c n) (cond t (value_at c) (names y)) []
-          go true q = ≈-trans (out_gate_round g inputs f flow gate d n (port (suc loop) 0) u c in_loop.1.1.0 l) (gated (nat_lt c n) refl)
+          go true q = gate_in sort step (meaning r names) gate d n (port (suc loop) 0) u c in_loop.1.1.0 l m
           go false q =
               let other : IsAmong y (filter (other_than x) (free b)) = among_others x y (free b) q h in
               ≈-trans (held_port d n ports (suc gate) ys u y c (stands_left g (suc gate) (carry n ports d (suc gate) ys) _ in_loop.1.1.1) l (among_firsts y (filter (other_than x) (free b)) other))
               (outside (nat_lt c n) (agree y (among_right y (free r) (filter (other_than x) (free b)) other)))
 
-      merged : (c : ℕ) → out (port (suc loop) 0) (deeper u c) ≈ cond (nat_lt c (suc n)) (value_at c) []
-      merged zero = ≈-trans (merge_first d loop (suc loop) back start.gives body.gives u merge l)
+      merged_first : Merged 0
+      merged_first = ≈-trans (merge_first d loop (suc loop) back start.gives body.gives u merge l)
           (≈-trans (start_claim ports d k names u (stands_left g k start.made _ s) l (λ y h. agree y (among_left y (free r) _ h)))
-          (≈-from (ap (λ t. cond t (value_at 0) []) (sym (lt-ltb 0 (suc n) (omega arith))))))
-      merged (suc c) = ≈-trans (merge_later d loop (suc loop) back start.gives body.gives u c merge l)
-          (≈-trans (body_claim inside (suc d) first (names_at c) (deeper u c) (stands_left g first body.made _ at_first) (length-deeper u c ∙ ap suc l) (agree_in c (merged c)))
+          (≈-from (ap (λ t. cond t (meaning r names) []) (sym (lt-ltb 0 (suc n) (omega arith))))))
+
+      merged_next : (c : ℕ) → ((j : ℕ) → j ≤ c → Merged j) → Merged (suc c)
+      merged_next c m = ≈-trans (merge_later d loop (suc loop) back start.gives body.gives u c merge l)
+          (≈-trans (body_claim inside (suc d) first (names_at c) (deeper u c) (stands_left g first body.made _ at_first) (length-deeper u c ∙ ap suc l) (agree_in c m))
           (≈-from (turn c (nat_lt c n) refl)))
 
-      done : (c : ℕ) → out (port gate 1) (deeper u c) ≈ cond (nat_eq c n) (value_at n) []
-      done c = ≈-trans (out_gate_done g inputs f flow gate d n (port (suc loop) 0) u c in_loop.1.1.0 l) (go (nat_eq c n) refl)
+      merged : (c j : ℕ) → j ≤ c → Merged j
+      merged zero zero h = merged_first
+      merged zero (suc j) h = absurd (omega arith)
+      merged (suc c) j h = go (last_or_less j c h) (merged c)
         where
-          go : (t : Bool) → nat_eq c n ≡ t → cond t (out (port (suc loop) 0) (deeper u c)) [] ≈ cond t (value_at n) []
-          go true q =
-              let e : c ≡ n = eqb-true c n q in
-              subst (λ z. out (port (suc loop) 0) (deeper u c) ≈ value_at z) e
-              (≈-trans (merged c) (≈-from (ap (λ t. cond t (value_at c) []) (lt-ltb c (suc n) (omega arith)))))
-          go false q = ≈-refl []
+          last_or_less : (j c : ℕ) → j ≤ suc c → (j ≤ c) ⊎ (suc c ≡ j)
+          last_or_less j c h = grind arith
+
+          go : (j ≤ c) ⊎ (suc c ≡ j) → ((i : ℕ) → i ≤ c → Merged i) → Merged j
+          go (inl q) ih = ih j q
+          go (inr q) ih = subst Merged q (merged_next c ih)
 
   -- ---- every relation
 
@@ -314,5 +393,5 @@ module _ (g : Graph) (inputs : Inputs) (f : Flow) (flow : IsFlow g inputs f) whe
       two_claim in_both in_both_same (k + length a.made + length b.made) d Kind.intersect a.gives b.gives u (meaning p names) (meaning q names) at l (out_at g inputs f flow (k + length a.made + length b.made) 0 _ u at)
       (lower_means p m.0 ports d k names u (stands_left g k a.made _ s) l (λ y h. agree y (among_left y (free p) (free q) h)))
       (lower_means q m.1 ports d (k + length a.made) names u (stands_left g (k + length a.made) b.made _ (stands_right g k a.made _ s)) l (λ y h. agree y (among_right y (free p) (free q) h)))
-  lower_means (Rel.iterate n x r b) m ports d k names u s l agree =
-      loop_claim n x r b m.0 (lower_means r m.1) (lower_means b m.2) ports d k names u s l agree
+  lower_means (Rel.loop sort n x r b) m ports d k names u s l agree =
+      loop_claim sort n x r b m.0 (lower_means r m.1) (lower_means b m.2) ports d k names u s l agree

@@ -1,15 +1,16 @@
 -- A meaning depends only on the multisets that the names mean.
 use Rattle.std.proofs.Common.{ℕ, zero, suc, List, [], ◌∷◌, true, false, Bool, cond, map, slice_index_or}
 use Rattle.semantics.specs.Multiset.{Record, ◌≈◌}
-use Rattle.semantics.specs.Query.{Scalar, Cond, Name, Rel, Input, Let, Output, Program}
+use Rattle.semantics.specs.Query.{Scalar, Cond, Name, Loop, Rel, Input, Let, Output, Program}
 use Rattle.semantics.specs.Time.{at_epoch}
 use Rattle.semantics.specs.Kinds.{Kind}
 use Rattle.semantics.specs.Op.{op}
-use Rattle.semantics.specs.Meaning.{selected, kept, meaning, Names, bind, repeated, same_name, input_names, let_names, program_meaning}
+use Rattle.semantics.specs.Meaning.{selected, kept, only_left, meaning, Names, bind, repeated, found_first, found_next, after_turns, same_name, input_names, let_names, program_meaning}
 use Rattle.semantics.proofs.MultisetSums.{append_same, ≈-refl}
 use Rattle.semantics.proofs.ExceptAndIntersect.{only_left_same, in_both_same}
 use Rattle.semantics.proofs.KeyedParts.{paired_same}
 use Rattle.semantics.proofs.OneFlow.{op_same}
+use Rattle.semantics.proofs.DistinctAndGroups.{distinct_same}
 
 abbrev Alike : Names → Names → Type 0
 Alike a b = (x : Name) → a x ≈ b x
@@ -25,6 +26,20 @@ turns_same : (f g : List Record → List Record) → ((xs ys : List Record) → 
 turns_same f g h zero xs ys e = e
 turns_same f g h (suc n) xs ys e = h (repeated f n xs) (repeated g n ys) (turns_same f g h n xs ys e)
 
+found_same : (f g : List Record → List Record) → ((xs ys : List Record) → xs ≈ ys → f xs ≈ g ys) → (n : ℕ) (xs ys : List Record) → xs ≈ ys
+    → ((repeated (found_next f) n (found_first xs)).all ≈ (repeated (found_next g) n (found_first ys)).all) × ((repeated (found_next f) n (found_first xs)).latest ≈ (repeated (found_next g) n (found_first ys)).latest)
+found_same f g h zero xs ys e = (distinct_same xs ys e, distinct_same xs ys e)
+found_same f g h (suc n) xs ys e =
+    let s = repeated (found_next f) n (found_first xs) in
+    let t = repeated (found_next g) n (found_first ys) in
+    let ih = found_same f g h n xs ys e in
+    let new : only_left (f s.latest) s.all ≈ only_left (g t.latest) t.all = only_left_same (f s.latest) (g t.latest) s.all t.all (h s.latest t.latest ih.1) ih.0 in
+    (append_same s.all t.all (only_left (f s.latest) s.all) (only_left (g t.latest) t.all) ih.0 new, new)
+
+loops_same : (l : Loop) (f g : List Record → List Record) → ((xs ys : List Record) → xs ≈ ys → f xs ≈ g ys) → (n : ℕ) (xs ys : List Record) → xs ≈ ys → after_turns l f n xs ≈ after_turns l g n ys
+loops_same Loop.iterate f g h n xs ys e = turns_same f g h n xs ys e
+loops_same Loop.closure f g h n xs ys e = (found_same f g h n xs ys e).0
+
 by_op : (kind : Kind) (xs ys : List Record) → xs ≈ ys → op kind (at_epoch 0) (λ i. xs) 0 ≈ op kind (at_epoch 0) (λ i. ys) 0
 by_op kind xs ys e = op_same kind (at_epoch 0) (λ i. xs) (λ i. ys) 0 (λ i l. e)
 
@@ -39,8 +54,8 @@ meaning_same (Rel.group r ks as') a b h = by_op (Kind.group ks as') (meaning r a
 meaning_same (Rel.distinct r) a b h = by_op Kind.distinct (meaning r a) (meaning r b) (meaning_same r a b h)
 meaning_same (Rel.except p q) a b h = only_left_same (meaning p a) (meaning p b) (meaning q a) (meaning q b) (meaning_same p a b h) (meaning_same q a b h)
 meaning_same (Rel.intersect p q) a b h = in_both_same (meaning p a) (meaning p b) (meaning q a) (meaning q b) (meaning_same p a b h) (meaning_same q a b h)
-meaning_same (Rel.iterate n x r body) a b h =
-    turns_same (λ xs. meaning body (bind x xs a)) (λ xs. meaning body (bind x xs b)) (λ xs ys e. meaning_same body (bind x xs a) (bind x ys b) (bind_same x xs ys a b e h)) n (meaning r a) (meaning r b) (meaning_same r a b h)
+meaning_same (Rel.loop l n x r body) a b h =
+    loops_same l (λ xs. meaning body (bind x xs a)) (λ xs. meaning body (bind x xs b)) (λ xs ys e. meaning_same body (bind x xs a) (bind x ys b) (bind_same x xs ys a b e h)) n (meaning r a) (meaning r b) (meaning_same r a b h)
 
 input_same : (as' : List Input) (i : ℕ) (xs ys : ℕ → List Record) → ((i : ℕ) → xs i ≈ ys i) → Alike (input_names as' i xs) (input_names as' i ys)
 input_same [] i xs ys h x = ≈-refl []

@@ -1,4 +1,4 @@
--- More in gives more out, except at a group and an except.
+-- More in gives more out, except at a group, an except and an unseen.
 use Rattle.std.proofs.Common.{refl, ◌≡◌, ℕ, zero, suc, ◌+◌, ◌<◌, nat_lt, nat_eq, Bool, true, false, cond, List, [], map, arith}
 use Rattle.semantics.specs.Multiset.{Record, IsPartOf}
 use Rattle.semantics.specs.Kinds.{Role, role, Kind, in_ports}
@@ -13,6 +13,7 @@ use Rattle.semantics.proofs.DistinctAndGroups.{distinct_part}
 abbrev pub Grows : Kind → Type 0
 Grows (Kind.group ks as') = ⊥
 Grows Kind.except = ⊥
+Grows (Kind.unseen n) = ⊥
 Grows _ = Unit {0}
 
 part_refl : (xs : List Record) → IsPartOf xs xs
@@ -38,6 +39,7 @@ op_part (Kind.join ps) w t xs ys out h = paired_part ps (xs 0) (ys 0) (xs 1) (ys
 op_part (Kind.group ks as') w t xs ys out h = absurd w
 op_part (Kind.gate n) w t xs ys zero h = cond_part (nat_lt (last t.counters) n) (xs 0) (ys 0) (h 0 (omega arith))
 op_part (Kind.gate n) w t xs ys (suc out) h = cond_part (nat_eq (last t.counters) n) (xs 0) (ys 0) (h 0 (omega arith))
+op_part (Kind.unseen n) w t xs ys out h = absurd w
 op_part (Kind.hold n) w t xs ys zero h = cond_part (nat_lt (last t.counters) n) (xs 0) (ys 0) (h 0 (omega arith))
 op_part (Kind.hold n) w t xs ys (suc out) h = cond_part (nat_lt (last t.counters + 1) n) (xs 0) (ys 0) (h 0 (omega arith))
 
@@ -60,4 +62,5 @@ op_more kind n t xs ys out h = op_part kind (grows kind n) t xs ys out h
     grows Kind.egress n = tt
     grows Kind.feedback n = tt
     grows (Kind.gate m) n = tt
+    grows (Kind.unseen m) n = absurd (n refl)
     grows (Kind.hold m) n = tt

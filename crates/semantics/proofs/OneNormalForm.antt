@@ -8,7 +8,7 @@ use Rattle.semantics.specs.Multiset.{one_if, IsAmong}
 use Rattle.semantics.specs.Meaning.{same_name}
 use Rattle.semantics.specs.FreeNames.{free, free_in_outputs, other_than}
 use Rattle.semantics.proofs.NamesAmong.{Decides-same_name, among_left, among_right, among_others, from_others}
-use Rattle.semantics.specs.Query.{Scalar, Cond, Name, Rel, Input, Let, Output, Program}
+use Rattle.semantics.specs.Query.{Scalar, Cond, Name, Loop, Rel, Input, Let, Output, Program}
 use Rattle.semantics.specs.Normal.{IsLiteral, NormalScalar, NormalCond, NormalRel, IsFilter, IsSelect, IsSet, UsesOnce, uses_all, use_count, replaced, Reaches, AllReached, NormalProgram}
 use Rattle.semantics.specs.Rewriting.{Steps, OneOf, ScalarStep, CondStep, RelStep, LetsStep, OutputStep, ProgramStep, RewritesTo, IsNormalForm}
 
@@ -160,9 +160,10 @@ alone (Rel.except p q) = Rel.except p q
 alone (Rel.intersect p q) = Rel.intersect p q
 alone r = Rel.distinct r
 
-abbrev turned : ℕ → Name → Rel → Rel → Rel
-turned zero x r b = r
-turned (suc n) x r b = Rel.iterate (suc n) x r b
+abbrev turned : Loop → ℕ → Name → Rel → Rel → Rel
+turned Loop.iterate zero x r b = r
+turned Loop.iterate (suc n) x r b = Rel.loop Loop.iterate (suc n) x r b
+turned Loop.closure n x r b = Rel.loop Loop.closure n x r b
 
 abbrev norm : Rel → Rel
 norm (Rel.named x) = Rel.named x
@@ -174,7 +175,7 @@ norm (Rel.group r ks as') = Rel.group (norm r) ks as'
 norm (Rel.distinct r) = alone (norm r)
 norm (Rel.except p q) = Rel.except (norm p) (norm q)
 norm (Rel.intersect p q) = Rel.intersect (norm p) (norm q)
-norm (Rel.iterate n x r b) = turned n x (norm r) (norm b)
+norm (Rel.loop l n x r b) = turned l n x (norm r) (norm b)
 
 fused-kept : (r : Rel) (ss : List Scalar) → (IsSelect r → UsesOnce ss → ⊥) → fused r ss ≡ Rel.select r ss
 fused-kept (Rel.select r us) ss n = go (once (uses_all ss)) refl
@@ -190,7 +191,7 @@ fused-kept (Rel.group r ks as') ss n = refl
 fused-kept (Rel.distinct r) ss n = refl
 fused-kept (Rel.except p q) ss n = refl
 fused-kept (Rel.intersect p q) ss n = refl
-fused-kept (Rel.iterate k x r b) ss n = refl
+fused-kept (Rel.loop l k x r b) ss n = refl
 
 joined-kept : (r : Rel) (c : Cond) → (IsFilter r → ⊥) → joined r c ≡ Rel.filter r c
 joined-kept (Rel.filter r d) c n = absurd (n tt)
@@ -202,7 +203,7 @@ joined-kept (Rel.group r ks as') c n = refl
 joined-kept (Rel.distinct r) c n = refl
 joined-kept (Rel.except p q) c n = refl
 joined-kept (Rel.intersect p q) c n = refl
-joined-kept (Rel.iterate k x r b) c n = refl
+joined-kept (Rel.loop l k x r b) c n = refl
 
 alone-kept : (r : Rel) → (IsSet r → ⊥) → alone r ≡ Rel.distinct r
 alone-kept (Rel.distinct r) n = absurd (n tt)
@@ -214,7 +215,7 @@ alone-kept (Rel.filter r c) n = refl
 alone-kept (Rel.concat p q) n = refl
 alone-kept (Rel.join p q ps) n = refl
 alone-kept (Rel.group r ks as') n = refl
-alone-kept (Rel.iterate k x r b) n = refl
+alone-kept (Rel.loop l k x r b) n = refl
 
 alone-set : (r : Rel) → IsSet r → alone r ≡ r
 alone-set (Rel.distinct r) s = refl
@@ -226,11 +227,12 @@ alone-set (Rel.filter r c) s = absurd s
 alone-set (Rel.concat p q) s = absurd s
 alone-set (Rel.join p q ps) s = absurd s
 alone-set (Rel.group r ks as') s = absurd s
-alone-set (Rel.iterate k x r b) s = absurd s
+alone-set (Rel.loop l k x r b) s = absurd s
 
-turned-kept : (n : ℕ) (x : Name) (r b : Rel) → (n ≡ 0 → ⊥) → turned n x r b ≡ Rel.iterate n x r b
-turned-kept zero x r b h = absurd (h refl)
-turned-kept (suc n) x r b h = refl
+turned-kept : (l : Loop) (n : ℕ) (x : Name) (r b : Rel) → (l ≡ Loop.iterate → n ≡ 0 → ⊥) → turned l n x r b ≡ Rel.loop l n x r b
+turned-kept Loop.iterate zero x r b h = absurd (h refl refl)
+turned-kept Loop.iterate (suc n) x r b h = refl
+turned-kept Loop.closure n x r b h = refl
 
 pub norm-normal : (r : Rel) → NormalRel r → norm r ≡ r
 norm-normal (Rel.named x) n = refl
@@ -242,7 +244,7 @@ norm-normal (Rel.group r ks as') n = ap (λ u. Rel.group u ks as') (norm-normal 
 norm-normal (Rel.distinct r) n = ap alone (norm-normal r n.0) ∙ alone-kept r n.1
 norm-normal (Rel.except p q) n = ap₂ Rel.except (norm-normal p n.0) (norm-normal q n.1)
 norm-normal (Rel.intersect p q) n = ap₂ Rel.intersect (norm-normal p n.0) (norm-normal q n.1)
-norm-normal (Rel.iterate k x r b) n = ap₂ (turned k x) (norm-normal r n.0) (norm-normal b n.1) ∙ turned-kept k x r b n.2
+norm-normal (Rel.loop l k x r b) n = ap₂ (turned l k x) (norm-normal r n.0) (norm-normal b n.1) ∙ turned-kept l k x r b n.2
 
 pub norm-step : {p q : Rel} → RelStep p q → norm p ≡ norm q
 norm-step (RelStep.wheres {r = r} {c = c} {d = d} h k) =
@@ -267,8 +269,8 @@ norm-step (RelStep.except_left {q = q} d) = ap (λ u. Rel.except u (norm q)) (no
 norm-step (RelStep.except_right {p = p} d) = ap (Rel.except (norm p)) (norm-step d)
 norm-step (RelStep.intersect_left {q = q} d) = ap (λ u. Rel.intersect u (norm q)) (norm-step d)
 norm-step (RelStep.intersect_right {p = p} d) = ap (Rel.intersect (norm p)) (norm-step d)
-norm-step (RelStep.loop_start {n = n} {x = x} {b = b} d) = ap (λ u. turned n x u (norm b)) (norm-step d)
-norm-step (RelStep.loop_body {n = n} {x = x} {r = r} d) = ap (turned n x (norm r)) (norm-step d)
+norm-step (RelStep.loop_start {l = l} {n = n} {x = x} {b = b} d) = ap (λ u. turned l n x u (norm b)) (norm-step d)
+norm-step (RelStep.loop_body {l = l} {n = n} {x = x} {r = r} d) = ap (turned l n x (norm r)) (norm-step d)
 
 -- ---- no name is added
 
@@ -286,7 +288,7 @@ fused-free (Rel.group r ks as') ss = refl
 fused-free (Rel.distinct r) ss = refl
 fused-free (Rel.except p q) ss = refl
 fused-free (Rel.intersect p q) ss = refl
-fused-free (Rel.iterate k x r b) ss = refl
+fused-free (Rel.loop l k x r b) ss = refl
 
 joined-free : (r : Rel) (c : Cond) → free (joined r c) ≡ free r
 joined-free (Rel.filter r d) c = refl
@@ -298,7 +300,7 @@ joined-free (Rel.group r ks as') c = refl
 joined-free (Rel.distinct r) c = refl
 joined-free (Rel.except p q) c = refl
 joined-free (Rel.intersect p q) c = refl
-joined-free (Rel.iterate k x r b) c = refl
+joined-free (Rel.loop l k x r b) c = refl
 
 alone-free : (r : Rel) → free (alone r) ≡ free r
 alone-free (Rel.distinct r) = refl
@@ -310,7 +312,7 @@ alone-free (Rel.filter r c) = refl
 alone-free (Rel.concat p q) = refl
 alone-free (Rel.join p q ps) = refl
 alone-free (Rel.group r ks as') = refl
-alone-free (Rel.iterate k x r b) = refl
+alone-free (Rel.loop l k x r b) = refl
 
 is_other : (x y : Name) (ys : List Name) → IsAmong y (filter (other_than x) ys) → same_name x y ≡ false
 is_other x y [] s = absurd s
@@ -336,8 +338,11 @@ free-norm y (Rel.group r ks as') h = free-norm y r h
 free-norm y (Rel.distinct r) h = free-norm y r (subst (λ l. IsAmong y l) (alone-free (norm r)) h)
 free-norm y (Rel.except p q) h = among_both y (free (norm p)) (free (norm q)) (free p) (free q) (free-norm y p) (free-norm y q) h
 free-norm y (Rel.intersect p q) h = among_both y (free (norm p)) (free (norm q)) (free p) (free q) (free-norm y p) (free-norm y q) h
-free-norm y (Rel.iterate zero x r b) h = among_left y (free r) (filter (other_than x) (free b)) (free-norm y r h)
-free-norm y (Rel.iterate (suc n) x r b) h =
+free-norm y (Rel.loop Loop.iterate zero x r b) h = among_left y (free r) (filter (other_than x) (free b)) (free-norm y r h)
+free-norm y (Rel.loop Loop.iterate (suc n) x r b) h =
+    among_both y (free (norm r)) (filter (other_than x) (free (norm b))) (free r) (filter (other_than x) (free b)) (free-norm y r)
+    (λ k. among_others x y (free b) (is_other x y (free (norm b)) k) (free-norm y b (from_others x y (free (norm b)) k))) h
+free-norm y (Rel.loop Loop.closure n x r b) h =
     among_both y (free (norm r)) (filter (other_than x) (free (norm b))) (free r) (filter (other_than x) (free b)) (free-norm y r)
     (λ k. among_others x y (free b) (is_other x y (free (norm b)) k) (free-norm y b (from_others x y (free (norm b)) k))) h
 

@@ -19,6 +19,7 @@ is_output_kind Kind.ingress e = absurd (true≢false (sym e))
 is_output_kind Kind.egress e = absurd (true≢false (sym e))
 is_output_kind Kind.feedback e = absurd (true≢false (sym e))
 is_output_kind (Kind.gate n) e = absurd (true≢false (sym e))
+is_output_kind (Kind.unseen n) e = absurd (true≢false (sym e))
 is_output_kind (Kind.hold n) e = absurd (true≢false (sym e))
 
 -- n is the number of an output among vertices from number k on

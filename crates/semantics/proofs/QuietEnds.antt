@@ -1,5 +1,5 @@
 -- On an edge into a feedback or an egress a flow is empty at last counters over the limit of turns.
-use Rattle.std.proofs.Common.{◌≡◌, ℕ, zero, suc, ◌+◌, ◌≤◌, ◌<◌, nat_lt, Bool, true, false, cond, List, [], ◌∷◌, ◌++◌, filter, length, slice_index_or, refl, sym, ap, subst, ◌∙◌, arith, le-ltb, ne_eqb}
+use Rattle.std.proofs.Common.{◌≡◌, ℕ, zero, suc, ◌+◌, ◌≤◌, ◌<◌, nat_lt, Bool, true, false, cond, List, [], ◌∷◌, ◌++◌, filter, flat_map, length, slice_index_or, refl, sym, ap, subst, ◌∙◌, arith, le-ltb, ne_eqb}
 use Rattle.std.proofs.lemmas.Bool.{true≢false}
 use Rattle.std.specs.List.{AllByRecursion}
 use Rattle.semantics.proofs.NamesAmong.{among_others, among_firsts}
@@ -8,15 +8,17 @@ use Rattle.semantics.specs.Multiset.{IsAmong, Record, ◌≈◌}
 use Rattle.semantics.specs.Flow.{IsEdgeTime, Inputs, Flow, IsFlow, port_flow}
 use Rattle.semantics.specs.Kinds.{Kind, ends_turn}
 use Rattle.semantics.specs.Graph.{Port, Vertex, Graph, no_vertex, vertex, source}
-use Rattle.semantics.specs.Lower.{Ports, stands_for, port, new_vertex, carry, carried_ports, Lowered, lower, looped, input_vertices, input_ports, lower_lets, lets_of, lower_outputs, outputs_of, lowered}
-use Rattle.semantics.specs.Meaning.{same_name}
-use Rattle.semantics.specs.Query.{Name, Rel, Input, Let, Output, Program}
-use Rattle.semantics.specs.Time.{Time, last_from, front_from, last, front, deeper, outer, turn_count}
-use Rattle.semantics.proofs.MultisetSums.{≈-trans, ≈-from}
-use Rattle.semantics.proofs.LoweredRelations.{Stands, stands_left, stands_right, held_port, meaning_none, lower_means}
+use Rattle.semantics.specs.Lower.{Ports, stands_for, port, new_vertex, carry, carried_ports, Lowered, lower, gate_of, looped, input_vertices, input_ports, lower_lets, lets_of, lower_outputs, outputs_of, lowered}
+use Rattle.semantics.specs.Meaning.{only_left, same_name}
+use Rattle.semantics.specs.Query.{Name, Loop, Rel, Input, Let, Output, Program}
+use Rattle.semantics.specs.Time.{Time, last_from, front_from, last, front, deeper, outer, below, turn_count}
+use Rattle.semantics.proofs.MultisetSums.{≈-refl, ≈-trans, ≈-from}
+use Rattle.semantics.proofs.ExceptAndIntersect.{only_left_same}
+use Rattle.semantics.proofs.Gates.{gate_no_end}
+use Rattle.semantics.proofs.LoweredRelations.{Stands, stands_left, stands_right, Merge, merge_later, held_port, meaning_none, lower_means}
 use Rattle.semantics.proofs.LoweredPrograms.{length-input_vertices, all_at, stands_whole}
 use Rattle.semantics.proofs.FittingPrograms.{Limited, LetsFit, AllFit, IsFitting}
-use Rattle.semantics.proofs.VertexFlows.{length-deeper, out_gate_round, out_gate_done, out_hold_next}
+use Rattle.semantics.proofs.VertexFlows.{IsAt, length-deeper, out_gate_round, out_gate_done, out_unseen_round, out_unseen_done, out_hold_next}
 
 -- a time inside a loop is the time of a turn
 front_last : (c : ℕ) (cs : List ℕ) → front_from c cs ++ (last_from c cs ∷ []) ≡ c ∷ cs
@@ -79,22 +81,20 @@ module _ (g : Graph) (inputs : Inputs) (f : Flow) (flow : IsFlow g inputs f) whe
   abbrev QuietClaim : Rel → Type 0
   QuietClaim r = (ports : Ports) (d k : ℕ) → Stands g k (lower r ports d k).made → AllQuiet (lower r ports d k).made
 
-  loop_quiet : (n : ℕ) (x : Name) (r b : Rel) → n < turn_count → Limited b → QuietClaim r → QuietClaim b → QuietClaim (Rel.iterate n x r b)
+  loop_quiet : (sort : Loop) (n : ℕ) (x : Name) (r b : Rel) → n < turn_count → Limited b → QuietClaim r → QuietClaim b → QuietClaim (Rel.loop sort n x r b)
   unfolding lower
-  loop_quiet n x r b m limited start_claim body_claim ports d k s =
+  loop_quiet sort n x r b m limited start_claim body_claim ports d k s =
       all_quiet-append start.made made (start_claim ports d k (stands_left g k start.made made s)) (
         other_kind _ refl,
         (
           other_kind _ refl,
           (
-            other_kind _ refl,
+            other_kind _ (gate_no_end sort n),
             all_quiet-append cs (body.made ++ ends) (carry_quiet n ports d (suc gate) ys m (stands_left g (suc gate) cs (body.made ++ ends) in_loop.1.1.1))
                 (all_quiet-append body.made ends (body_claim inside (suc d) first stands_body) (
-                  quiet_turn Kind.feedback d body.gives (λ u c l t. ≈-trans
-                      (lower_means g inputs f flow b limited inside (suc d) first (λ y. []) (deeper u c) stands_body (length-deeper u c ∙ ap suc l) (inside_quiet u c l t))
-                      (≈-from (meaning_none g inputs f flow b (λ y. []) (λ y. refl)))),
+                  quiet_turn Kind.feedback d body.gives (λ u c l t. body_quiet u c l (omega arith)),
                   (
-                    quiet_turn Kind.egress d (port gate 1) (λ u c l t. ≈-trans (out_gate_done g inputs f flow gate d n (port (suc loop) 0) u c in_loop.1.1.0 l) (≈-from (ap (λ q. cond q (out (port (suc loop) 0) (deeper u c)) []) (ne_eqb c n (λ e. omega arith))))),
+                    quiet_turn Kind.egress d (port gate 1) (λ u c l t. gate_quiet sort in_loop.1.1.0 u c l (omega arith)),
                     tt,
                   ),
                 )),
@@ -129,24 +129,53 @@ module _ (g : Graph) (inputs : Inputs) (f : Flow) (flow : IsFlow g inputs f) whe
       ends : List Vertex
       ends = new_vertex Kind.feedback (suc d) (body.gives ∷ []) ∷ new_vertex Kind.egress (suc d) (port gate 1 ∷ []) ∷ []
 
+      back : ℕ
+      back = first + length body.made
+
       made : List Vertex
-      made = (looped n loop start ports d ys body).made
+      made = (looped sort n loop start ports d ys body).made
 
       in_loop : Stands g loop made
       in_loop = stands_right g k start.made made s
 
-      stands_body : Stands g first body.made
-      stands_body = stands_left g first body.made ends (stands_right g (suc gate) cs (body.made ++ ends) in_loop.1.1.1)
+      at_first : Stands g first (body.made ++ ends)
+      at_first = stands_right g (suc gate) cs (body.made ++ ends) in_loop.1.1.1
 
-      inside_quiet : (u : Time) (c : ℕ) → length u.counters ≡ d → turn_count ≤ c → (y : Name) → IsAmong y (free b) → out (inside y) (deeper u c) ≈ []
+      at_back : Stands g back ends
+      at_back = stands_right g first body.made ends at_first
+
+      stands_body : Stands g first body.made
+      stands_body = stands_left g first body.made ends at_first
+
+      inside_quiet : (u : Time) (c : ℕ) → length u.counters ≡ d → n ≤ c → (y : Name) → IsAmong y (free b) → out (inside y) (deeper u c) ≈ []
       inside_quiet u c l t y j = go (same_name x y) refl
         where
           over : nat_lt c n ≡ false
           over = le-ltb c n (omega arith)
 
+          -- the gate lets nothing in from turn n on
+          shut : (sort : Loop) → IsAt g gate (new_vertex (gate_of sort n) (suc d) (port (suc loop) 0 ∷ [])) → out (port gate 0) (deeper u c) ≈ []
+          shut Loop.iterate at = ≈-trans (out_gate_round g inputs f flow gate d n (port (suc loop) 0) u c at l) (≈-from (ap (λ q. cond q (out (port (suc loop) 0) (deeper u c)) []) over))
+          shut Loop.closure at = ≈-trans (out_unseen_round g inputs f flow gate d n (port (suc loop) 0) u c at l) (≈-from (ap (λ q. cond q (only_left (out (port (suc loop) 0) (deeper u c)) (flat_map (λ j. out (port (suc loop) 0) (deeper u j)) (below c))) []) over))
+
           go : (q : Bool) → same_name x y ≡ q → out (cond q (port gate 0) (carried_ports ports (suc gate) ys y)) (deeper u c) ≈ []
-          go true e = ≈-trans (out_gate_round g inputs f flow gate d n (port (suc loop) 0) u c in_loop.1.1.0 l) (≈-from (ap (λ q. cond q (out (port (suc loop) 0) (deeper u c)) []) over))
+          go true e = shut sort in_loop.1.1.0
           go false e = ≈-trans (held_port g inputs f flow d n ports (suc gate) ys u y c (stands_left g (suc gate) cs (body.made ++ ends) in_loop.1.1.1) l (among_firsts y (filter (other_than x) (free b)) (among_others x y (free b) e j))) (≈-from (ap (λ q. cond q (out (ports y) u) []) over))
+
+      body_quiet : (u : Time) (c : ℕ) → length u.counters ≡ d → n ≤ c → out body.gives (deeper u c) ≈ []
+      body_quiet u c l t = ≈-trans
+          (lower_means g inputs f flow b limited inside (suc d) first (λ y. []) (deeper u c) stands_body (length-deeper u c ∙ ap suc l) (inside_quiet u c l t))
+          (≈-from (meaning_none g inputs f flow b (λ y. []) (λ y. refl)))
+
+      merge : Merge g inputs f flow d loop (suc loop) back start.gives body.gives
+      merge = record { enters = in_loop.0; merges = in_loop.1.0; returns = at_back.0 }
+
+      -- nothing comes out of the gate after turn n
+      gate_quiet : (sort : Loop) → IsAt g gate (new_vertex (gate_of sort n) (suc d) (port (suc loop) 0 ∷ [])) → (u : Time) (c : ℕ) → length u.counters ≡ d → n < c → out (port gate 1) (deeper u c) ≈ []
+      gate_quiet Loop.iterate at u c l t = ≈-trans (out_gate_done g inputs f flow gate d n (port (suc loop) 0) u c at l) (≈-from (ap (λ q. cond q (out (port (suc loop) 0) (deeper u c)) []) (ne_eqb c n (λ e. omega arith))))
+      gate_quiet Loop.closure at u zero l t = absurd (omega arith)
+      gate_quiet Loop.closure at u (suc c) l t = ≈-trans (out_unseen_done g inputs f flow gate d n (port (suc loop) 0) u (suc c) at l)
+          (only_left_same _ [] _ _ (≈-trans (merge_later g inputs f flow d loop (suc loop) back start.gives body.gives u c merge l) (body_quiet u c l (omega arith))) (≈-refl (flat_map (λ j. out (port (suc loop) 0) (deeper u j)) (below (suc c)))))
 
   pub relation_quiet : (r : Rel) → Limited r → QuietClaim r
   unfolding lower
@@ -171,7 +200,7 @@ module _ (g : Graph) (inputs : Inputs) (f : Flow) (flow : IsFlow g inputs f) whe
       let a = lower p ports d k in
       let b = lower q ports d (k + length a.made) in
       all_quiet-append a.made _ (relation_quiet p m.0 ports d k (stands_left g k a.made _ s)) (one_quiet b.made _ (relation_quiet q m.1 ports d (k + length a.made) (stands_left g (k + length a.made) b.made _ (stands_right g k a.made _ s))) refl)
-  relation_quiet (Rel.iterate n x r b) m ports d k s = loop_quiet n x r b m.0 m.2 (relation_quiet r m.1) (relation_quiet b m.2) ports d k s
+  relation_quiet (Rel.loop sort n x r b) m ports d k s = loop_quiet sort n x r b m.0 m.2 (relation_quiet r m.1) (relation_quiet b m.2) ports d k s
 
   inputs_quiet : (as' : List Input) → AllQuiet (input_vertices as')
   inputs_quiet [] = tt

@@ -93,6 +93,7 @@ rises_from_nested g loops nested wired = record {
       subst (λ n. AllByRecursion (λ t. (length t.counters ≡ n) × (is_before (vertex_rank loops v t) (edge_rank loops w u) ≡ true)) (times_before (action (vertex g v).kind) u))
       (nested.homes v (wired.fed w i p.is_vertex p.is_port))
       (step_rises loops v w (action (vertex g v).kind) (nested.goes w i p.is_vertex p.is_port) u (p.has_depth ∙ sym (nested.homes w p.is_vertex)));
+  homes = nested.homes;
 }
 
 -- each dataflow graph has one flow

@@ -5,7 +5,7 @@ use Rattle.semantics.proofs.NamesAmong.{Decides-same_name, among_left, among_rig
 use Rattle.semantics.specs.Multiset.{IsAmong}
 use Rattle.semantics.specs.Meaning.{same_name}
 use Rattle.semantics.specs.FreeNames.{free, free_in_outputs}
-use Rattle.semantics.specs.Query.{Scalar, Cond, Name, Rel, Input, Let, Output}
+use Rattle.semantics.specs.Query.{Scalar, Cond, Name, Loop, Rel, Input, Let, Output}
 use Rattle.semantics.specs.Typing.{ScalarFits, Scope, lookup, entry, HasArity, after_inputs, OutputsFit, RestFits, WellTyped}
 use Rattle.semantics.specs.Normal.{replaced, Reaches, AllReached}
 
@@ -53,7 +53,7 @@ pub arity_distinct_intersect : (p q : Rel) (scope : Scope) (l n : ℕ) → HasAr
 unfolding HasArity
 arity_distinct_intersect p q scope l n t = t
 
-pub arity_no_turns : (x : Name) (r b : Rel) (scope : Scope) (l n : ℕ) → HasArity (Rel.iterate 0 x r b) scope l n → HasArity r scope l n
+pub arity_no_turns : (x : Name) (r b : Rel) (scope : Scope) (l n : ℕ) → HasArity (Rel.loop Loop.iterate 0 x r b) scope l n → HasArity r scope l n
 unfolding HasArity
 arity_no_turns x r b scope l n t = t.2
 
@@ -70,7 +70,7 @@ arity_free (Rel.group r ks as') scope scope' l n h none t = (t.0, arity_free r s
 arity_free (Rel.distinct r) scope scope' l n h none t = arity_free r scope scope' l n h none t
 arity_free (Rel.except p q) scope scope' l n h none t = (arity_free p scope scope' l n (λ y j. h y (among_left y (free p) (free q) j)) none t.0, arity_free q scope scope' l n (λ y j. h y (among_right y (free p) (free q) j)) none t.1)
 arity_free (Rel.intersect p q) scope scope' l n h none t = (arity_free p scope scope' l n (λ y j. h y (among_left y (free p) (free q) j)) none t.0, arity_free q scope scope' l n (λ y j. h y (among_right y (free p) (free q) j)) none t.1)
-arity_free (Rel.iterate k x r b) scope scope' l n h none t = (
+arity_free (Rel.loop kind k x r b) scope scope' l n h none t = (
   t.0,
   t.1,
   arity_free r scope scope' l n (λ y j. h y (among_left y (free r) _ j)) none t.2,

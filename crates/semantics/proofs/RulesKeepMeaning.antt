@@ -1,14 +1,15 @@
 -- The rules of the normaliser keep the meaning.
 use Rattle.std.proofs.Common.{inr, ◌≡◌, ℕ, zero, suc, nat_lt, Bool, true, false, cond, not, ◌&&◌, List, [], ◌∷◌, ◌++◌, map, filter, slice_index_or, refl, sym, ap, ap₂, subst, ◌∙◌, arith, inl, ℤ, pos, ◌+ℤ◌, ◌-ℤ◌, ◌*ℤ◌, neg_ℤ}
+use mathlib.Core.Path.{fun_ext}
 use Rattle.std.specs.Int.{int_wrap}
 use Rattle.std.proofs.lemmas.Int.{ints, int_wrap-add_left, int_wrap-add_right, int_wrap-sub_right, int_wrap-mul_left, int_wrap-mul_right}
 use mir.Syntax.{w64}
 use Rattle.semantics.proofs.NamesAmong.{Decides-same_name, among_left, among_right, among_others}
 use Rattle.semantics.specs.FreeNames.{free, free_in_outputs, other_than}
 use Rattle.semantics.specs.Multiset.{IsAmong, Record, one_if, count, is_present, each_once}
-use Rattle.semantics.specs.Meaning.{field, exact, value, holds, selected, kept, same_name, Names, bind, repeated, meaning, let_names, input_names, program_meaning, paired, grouped, only_left, in_both}
+use Rattle.semantics.specs.Meaning.{field, exact, value, holds, selected, kept, same_name, Names, bind, after_turns, meaning, let_names, input_names, program_meaning, paired, grouped, only_left, in_both}
 use Rattle.semantics.specs.Normal.{replaced, Reaches}
-use Rattle.semantics.specs.Query.{Scalar, Cond, Name, Rel, Input, Let, Output}
+use Rattle.semantics.specs.Query.{Scalar, Cond, Name, Loop, Rel, Input, Let, Output}
 use Rattle.semantics.proofs.DistinctAndGroups.{count-distinct}
 
 -- ---- scalars: the value of a sum depends on its parts' values
@@ -105,9 +106,8 @@ distinct_distinct (x ∷ xs) = go (nat_lt 0 (count x xs)) refl (distinct_distinc
 
 -- ---- a relation depends only on its free names
 
-pub turns-same : (f g : List Record → List Record) → ((xs : List Record) → f xs ≡ g xs) → (n : ℕ) (xs ys : List Record) → xs ≡ ys → repeated f n xs ≡ repeated g n ys
-turns-same f g h zero xs ys e = e
-turns-same f g h (suc n) xs ys e = h (repeated f n xs) ∙ ap g (turns-same f g h n xs ys e)
+pub turns-same : (l : Loop) (f g : List Record → List Record) → ((xs : List Record) → f xs ≡ g xs) → (n : ℕ) (xs ys : List Record) → xs ≡ ys → after_turns l f n xs ≡ after_turns l g n ys
+turns-same l f g h n xs ys e = ap₂ (λ k zs. after_turns l k n zs) (fun_ext h) e
 
 pub meaning-free : (r : Rel) (names names' : Names) → ((y : Name) → IsAmong y (free r) → names y ≡ names' y) → meaning r names ≡ meaning r names'
 unfolding meaning
@@ -120,8 +120,8 @@ meaning-free (Rel.group r ks as') names names' h = ap (grouped ks as') (meaning-
 meaning-free (Rel.distinct r) names names' h = ap each_once (meaning-free r names names' h)
 meaning-free (Rel.except p q) names names' h = ap₂ only_left (meaning-free p names names' (λ y j. h y (among_left y (free p) (free q) j))) (meaning-free q names names' (λ y j. h y (among_right y (free p) (free q) j)))
 meaning-free (Rel.intersect p q) names names' h = ap₂ in_both (meaning-free p names names' (λ y j. h y (among_left y (free p) (free q) j))) (meaning-free q names names' (λ y j. h y (among_right y (free p) (free q) j)))
-meaning-free (Rel.iterate n x r b) names names' h =
-    turns-same (λ xs. meaning b (bind x xs names)) (λ xs. meaning b (bind x xs names')) (λ xs. meaning-free b (bind x xs names) (bind x xs names') (λ y j. go xs y (same_name x y) refl j)) n (meaning r names) (meaning r names')
+meaning-free (Rel.loop l n x r b) names names' h =
+    turns-same l (λ xs. meaning b (bind x xs names)) (λ xs. meaning b (bind x xs names')) (λ xs. meaning-free b (bind x xs names) (bind x xs names') (λ y j. go xs y (same_name x y) refl j)) n (meaning r names) (meaning r names')
     (meaning-free r names names' (λ y j. h y (among_left y (free r) (filter (other_than x) (free b)) j)))
   where
     go : (xs : List Record) (y : Name) (t : Bool) → same_name x y ≡ t → IsAmong y (free b) → cond t xs (names y) ≡ cond t xs (names' y)
@@ -187,7 +187,7 @@ pub rule_distinct_intersect : (p q : Rel) (names : Names) → meaning (Rel.disti
 unfolding meaning
 rule_distinct_intersect p q names = distinct_distinct (filter (λ r. is_present r (meaning q names)) (meaning p names))
 
-pub rule_no_turns : (x : Name) (r b : Rel) (names : Names) → meaning (Rel.iterate 0 x r b) names ≡ meaning r names
+pub rule_no_turns : (x : Name) (r b : Rel) (names : Names) → meaning (Rel.loop Loop.iterate 0 x r b) names ≡ meaning r names
 unfolding meaning
 rule_no_turns x r b names = refl
 

@@ -5,7 +5,7 @@ use Rattle.std.specs.Int.{int_wrap}
 use mir.Syntax.{w64}
 use Rattle.semantics.specs.Multiset.{Record, each_once}
 use Rattle.semantics.specs.Query.{Scalar, Cond, Rel, Let, Output, Program}
-use Rattle.semantics.specs.Meaning.{value, holds, compares, selected, kept, paired, grouped, Names, bind, repeated, meaning, let_names, input_names, program_meaning, only_left, in_both}
+use Rattle.semantics.specs.Meaning.{value, holds, compares, selected, kept, paired, grouped, Names, bind, after_turns, meaning, let_names, input_names, program_meaning, only_left, in_both}
 use Rattle.semantics.specs.Size.{scalar_size, scalars_size, cond_size, rel_size, lets_size, outputs_size, program_size}
 use Rattle.semantics.specs.Typing.{ScalarFits, CondFits, Scope, entry, HasArity, after_inputs, OutputsFit, RestFits, WellTyped}
 use Rattle.semantics.specs.Normal.{NormalScalar, NormalCond, IsSet, NormalRel, NormalProgram, AllReached}
@@ -134,7 +134,7 @@ set_meaning (Rel.group r ks as') s names = absurd s
 set_meaning (Rel.distinct r) s names = rule_distinct r names
 set_meaning (Rel.except p q) s names = rule_distinct_except p q names
 set_meaning (Rel.intersect p q) s names = rule_distinct_intersect p q names
-set_meaning (Rel.iterate n x r b) s names = absurd s
+set_meaning (Rel.loop l n x r b) s names = absurd s
 
 pub rel_meaning : {p q : Rel} → RelStep p q → (names : Names) → meaning p names ≡ meaning q names
 unfolding meaning
@@ -156,9 +156,9 @@ rel_meaning (RelStep.except_left {q = q} d) names = ap (λ a. only_left a (meani
 rel_meaning (RelStep.except_right {p = p} d) names = ap (λ a. only_left (meaning p names) a) (rel_meaning d names)
 rel_meaning (RelStep.intersect_left {q = q} d) names = ap (λ a. in_both a (meaning q names)) (rel_meaning d names)
 rel_meaning (RelStep.intersect_right {p = p} d) names = ap (λ a. in_both (meaning p names) a) (rel_meaning d names)
-rel_meaning (RelStep.loop_start {n = n} {x = x} {b = b} d) names = ap (repeated (λ xs. meaning b (bind x xs names)) n) (rel_meaning d names)
-rel_meaning (RelStep.loop_body {n = n} {x = x} {r = r} {b = b} {b' = b'} d) names =
-    turns-same (λ xs. meaning b (bind x xs names)) (λ xs. meaning b' (bind x xs names)) (λ xs. rel_meaning d (bind x xs names)) n (meaning r names) (meaning r names) refl
+rel_meaning (RelStep.loop_start {l = l} {n = n} {x = x} {b = b} d) names = ap (after_turns l (λ xs. meaning b (bind x xs names)) n) (rel_meaning d names)
+rel_meaning (RelStep.loop_body {l = l} {n = n} {x = x} {r = r} {b = b} {b' = b'} d) names =
+    turns-same l (λ xs. meaning b (bind x xs names)) (λ xs. meaning b' (bind x xs names)) (λ xs. rel_meaning d (bind x xs names)) n (meaning r names) (meaning r names) refl
 
 pub rel_arity : {p q : Rel} → RelStep p q → (scope : Scope) (l n : ℕ) → HasArity p scope l n → HasArity q scope l n
 unfolding HasArity
@@ -337,7 +337,7 @@ pub rel_normal : {p q : Rel} → RelStep p q → NormalRel p → ⊥
 rel_normal (RelStep.wheres h k) n = n.2 tt
 rel_normal (RelStep.selects h k o) n = n.2 tt o
 rel_normal (RelStep.distincts h s) n = n.1 s
-rel_normal (RelStep.no_turns h) n = n.2 refl
+rel_normal (RelStep.no_turns h) n = n.2 refl refl
 rel_normal (RelStep.select_of d) n = rel_normal d n.0
 rel_normal (RelStep.select_scalar d) n = scalars_normal d n.1
 rel_normal (RelStep.where_of d) n = rel_normal d n.0

@@ -7,10 +7,10 @@ use Rattle.semantics.specs.Multiset.{IsAmong}
 use Rattle.semantics.specs.FreeNames.{other_than, free, carried}
 use Rattle.semantics.specs.Graph.{Port, Vertex, no_vertex, no_port, vertex, source, output_number}
 use Rattle.semantics.specs.Kinds.{Kind}
-use Rattle.semantics.specs.Lower.{Ports, stands_for, port, new_vertex, carry, carried_ports, Lowered, lower, looped, input_vertices, input_ports, lower_lets, lets_of, lower_outputs, outputs_of, lowered}
+use Rattle.semantics.specs.Lower.{Ports, stands_for, port, new_vertex, carry, carried_ports, Lowered, lower, gate_of, looped, input_vertices, input_ports, lower_lets, lets_of, lower_outputs, outputs_of, lowered}
 use Rattle.semantics.specs.Meaning.{same_name}
 use Rattle.semantics.specs.PortArity.{PortsFit, IsTyped, Arities, with_arity, rel_arity, carry_arities, made_arities, input_arities, let_arities, lets_made_arities, outputs_made_arities, program_arities}
-use Rattle.semantics.specs.Query.{Name, Pair, Rel, Input, Let, Output, Program}
+use Rattle.semantics.specs.Query.{Name, Pair, Loop, Rel, Input, Let, Output, Program}
 use Rattle.semantics.specs.Typing.{IsArity, ScalarFits, CondFits, AggFits, Scope, lookup, entry, HasArity, InputsFit, after_inputs, OutputsFit, RestFits, WellTyped}
 use Rattle.semantics.proofs.FittingPrograms.{LetsFit, AllFit, names_after, input_list, IsFitting}
 use Rattle.semantics.proofs.LoweredLoops.{one_longer, two_longer, loop_longer}
@@ -35,7 +35,7 @@ length-made_arities (Rel.group r ks as') of ports d k = one_longer (made_arities
 length-made_arities (Rel.distinct r) of ports d k = one_longer (made_arities r of) _ (lower r ports d k).made _ (length-made_arities r of ports d k)
 length-made_arities (Rel.except p q) of ports d k = two_longer (made_arities p of) (made_arities q of) _ (lower p ports d k).made (lower q ports d (k + length (lower p ports d k).made)).made _ (length-made_arities p of ports d k) (length-made_arities q of ports d (k + length (lower p ports d k).made))
 length-made_arities (Rel.intersect p q) of ports d k = two_longer (made_arities p of) (made_arities q of) _ (lower p ports d k).made (lower q ports d (k + length (lower p ports d k).made)).made _ (length-made_arities p of ports d k) (length-made_arities q of ports d (k + length (lower p ports d k).made))
-length-made_arities (Rel.iterate n x r b) of ports d k =
+length-made_arities (Rel.loop l n x r b) of ports d k =
     let start = lower r ports d k in
     let outside = suc (suc (suc (k + length start.made))) in
     let ys = carried x b in
@@ -69,7 +69,7 @@ rel_arity_typed (Rel.group r ks as') scope of d n t h = sym t.4
 rel_arity_typed (Rel.distinct r) scope of d n t h = rel_arity_typed r scope of d n t h
 rel_arity_typed (Rel.except p q) scope of d n t h = rel_arity_typed p scope of d n t.0 h
 rel_arity_typed (Rel.intersect p q) scope of d n t h = rel_arity_typed p scope of d n t.0 h
-rel_arity_typed (Rel.iterate k x r b) scope of d n t h = rel_arity_typed r scope of d n t.2 h
+rel_arity_typed (Rel.loop l k x r b) scope of d n t h = rel_arity_typed r scope of d n t.2 h
 
 module _ (arity : ℕ → ℕ) where
   -- the vertices from k on have these arities
@@ -168,9 +168,9 @@ module _ (arity : ℕ → ℕ) where
   abbrev Claim : Rel → Type 0
   Claim r = (scope : Scope) (of : Arities) (d n : ℕ) → HasArity r scope d n → Agrees scope of → (ports : Ports) (k : ℕ) → Listed k (made_arities r of) → ((y : Name) → IsAmong y (free r) → NameOf (ports y) (of y)) → Typed k (lower r ports d k) n
 
-  loop_typed : (m : ℕ) (x : Name) (r b : Rel) → Claim r → Claim b → Claim (Rel.iterate m x r b)
+  loop_typed : (l : Loop) (m : ℕ) (x : Name) (r b : Rel) → Claim r → Claim b → Claim (Rel.loop l m x r b)
   unfolding HasArity made_arities lower
-  loop_typed m x r b start_claim body_claim scope of d n t agrees ports k h names = record { all = all_typed-append k start.made made start_typed.all all; gives = at_end; fields = start_typed.fields }
+  loop_typed l m x r b start_claim body_claim scope of d n t agrees ports k h names = record { all = all_typed-append k start.made made start_typed.all all; gives = at_end; fields = start_typed.fields }
     where
       a : ℕ
       a = rel_arity r of
@@ -209,7 +209,7 @@ module _ (arity : ℕ → ℕ) where
       ends = new_vertex Kind.feedback (suc d) (body.gives ∷ []) ∷ new_vertex Kind.egress (suc d) (port gate 1 ∷ []) ∷ []
 
       made : List Vertex
-      made = (looped m loop start ports d ys body).made
+      made = (looped l m loop start ports d ys body).made
 
       after_body : List ℕ
       after_body = a ∷ a ∷ []
@@ -252,13 +252,17 @@ module _ (arity : ℕ → ℕ) where
       valid : (w : ℕ) → arity w ≡ a → IsArity (arity w)
       valid w e = subst IsArity (sym (e ∙ is)) start_typed.fields
 
+      gate_typed : (l : Loop) → TypedAs gate (new_vertex (gate_of l m) (suc d) (port (suc loop) 0 ∷ []))
+      gate_typed Loop.iterate = record { ports = at_gate ∙ sym from_loop.1.0; fields = valid gate at_gate }
+      gate_typed Loop.closure = record { ports = at_gate ∙ sym from_loop.1.0; fields = valid gate at_gate }
+
       all : AllTyped loop made
       all = (
         record { ports = from_loop.0 ∙ is ∙ sym start_typed.gives; fields = valid loop from_loop.0 },
         (
           record { ports = (from_loop.1.0 ∙ sym from_loop.0, from_loop.1.0 ∙ sym from_back.0); fields = valid (suc loop) from_loop.1.0 },
           (
-            record { ports = at_gate ∙ sym from_loop.1.0; fields = valid gate at_gate },
+            gate_typed l,
             all_typed-append (suc gate) cs (body.made ++ ends) (carry_typed m ports of d (suc gate) ys (listed_left (suc gate) (carry_arities of ys) _ from_loop.1.1.1) outer_names)
                 (all_typed-append first body.made ends body_typed.all (
                   record { ports = from_back.0 ∙ is ∙ sym body_typed.gives; fields = valid back from_back.0 },
@@ -319,7 +323,7 @@ module _ (arity : ℕ → ℕ) where
       let right = relation_typed q scope of d n t.1 agrees ports (k + length a.made) (listed_left (k + length a.made) (made_arities q of) _ (listed_right k (length a.made) (made_arities p of) _ (length-made_arities p of ports d k) h)) (λ y j. names y (among_right y (free p) (free q) j)) in
       two_typed k n n n a (lower q ports d (k + length a.made)) Kind.intersect d (made_arities p of) (made_arities q of) left right (length-made_arities p of ports d k) (length-made_arities q of ports d (k + length a.made)) (subst (λ z. Listed k (made_arities p of ++ (made_arities q of ++ (z ∷ [])))) e h)
       (λ ins x y. (sym x, sym y)) left.fields
-  relation_typed (Rel.iterate m x r b) scope of d n t agrees ports k h names = loop_typed m x r b (relation_typed r) (relation_typed b) scope of d n t agrees ports k h names
+  relation_typed (Rel.loop l m x r b) scope of d n t agrees ports k h names = loop_typed l m x r b (relation_typed r) (relation_typed b) scope of d n t agrees ports k h names
 
   -- ---- programs
 

@@ -60,7 +60,7 @@ typed_known (Rel.group r ks as') scope d n xs t c y h = typed_known r scope d t.
 typed_known (Rel.distinct r) scope d n xs t c y h = typed_known r scope d n xs t c y h
 typed_known (Rel.except p q) scope d n xs t c y h = both (free p) (free q) xs (typed_known p scope d n xs t.0 c) (typed_known q scope d n xs t.1 c) y h
 typed_known (Rel.intersect p q) scope d n xs t c y h = both (free p) (free q) xs (typed_known p scope d n xs t.0 c) (typed_known q scope d n xs t.1 c) y h
-typed_known (Rel.iterate k x r b) scope d n xs t c y h =
+typed_known (Rel.loop l k x r b) scope d n xs t c y h =
     both (free r) (filter (other_than x) (free b)) xs (typed_known r scope d n xs t.2 c)
     (λ y h. let a = from_others_apart x y (free b) h in inner y a.1 (typed_known b (entry x n ∷ scope) (suc d) n (x ∷ xs) t.4 (covers_more scope xs x n c) y a.0)) y h
   where
@@ -83,7 +83,7 @@ typed_limited (Rel.group r ks as') scope d n t = typed_limited r scope d t.0 t.1
 typed_limited (Rel.distinct r) scope d n t = typed_limited r scope d n t
 typed_limited (Rel.except p q) scope d n t = (typed_limited p scope d n t.0, typed_limited q scope d n t.1)
 typed_limited (Rel.intersect p q) scope d n t = (typed_limited p scope d n t.0, typed_limited q scope d n t.1)
-typed_limited (Rel.iterate k x r b) scope d n t = (at_most k t.0, typed_limited r scope d n t.2, typed_limited b (entry x n ∷ scope) (suc d) n t.4)
+typed_limited (Rel.loop l k x r b) scope d n t = (at_most k t.0, typed_limited r scope d n t.2, typed_limited b (entry x n ∷ scope) (suc d) n t.4)
 
 pub typed_nested : (r : Rel) (scope : Scope) (d n : ℕ) → HasArity r scope d n → Nested d r
 unfolding HasArity
@@ -96,7 +96,7 @@ typed_nested (Rel.group r ks as') scope d n t = typed_nested r scope d t.0 t.1
 typed_nested (Rel.distinct r) scope d n t = typed_nested r scope d n t
 typed_nested (Rel.except p q) scope d n t = (typed_nested p scope d n t.0, typed_nested q scope d n t.1)
 typed_nested (Rel.intersect p q) scope d n t = (typed_nested p scope d n t.0, typed_nested q scope d n t.1)
-typed_nested (Rel.iterate k x r b) scope d n t = (typed_nested r scope d n t.2, t.1, typed_nested b (entry x n ∷ scope) (suc d) n t.4)
+typed_nested (Rel.loop l k x r b) scope d n t = (typed_nested r scope d n t.2, t.1, typed_nested b (entry x n ∷ scope) (suc d) n t.4)
 
 fits_in : (r : Rel) (scope : Scope) (n : ℕ) (xs : List Name) → HasArity r scope 0 n → Covers scope xs → FitsIn xs r
 fits_in r scope n xs t c = record { known = typed_known r scope 0 n xs t c; limited = typed_limited r scope 0 n t; nested = typed_nested r scope 0 n t }

@@ -5,8 +5,10 @@ use Rattle.semantics.specs.Flow.{Inputs, Flow, IsFlow, sent_or_fed, port_flow}
 use Rattle.semantics.specs.Kinds.{Kind}
 use Rattle.semantics.specs.Graph.{Port, Vertex, Graph, no_port, vertex, source}
 use Rattle.semantics.specs.Lower.{port, new_vertex}
-use Rattle.semantics.specs.Time.{Time, last_from, front_from, last, front, deeper, outer, in_first_turn, turn_count, below}
+use Rattle.semantics.specs.Meaning.{only_left}
+use Rattle.semantics.specs.Time.{Time, earlier_turns, last_from, front_from, last, front, deeper, outer, in_first_turn, turn_count, below}
 use Rattle.semantics.proofs.MultisetSums.{≈-refl, ≈-trans, ≈-from, append_same}
+use Rattle.semantics.proofs.ExceptAndIntersect.{only_left_same}
 
 -- ---- the last counter
 
@@ -103,6 +105,26 @@ module _ (g : Graph) (inputs : Inputs) (f : Flow) (flow : IsFlow g inputs f) whe
   pub out_gate_done : (w d n : ℕ) (p : Port) (u : Time) (c : ℕ) → IsAt g w (new_vertex (Kind.gate n) (suc d) (p ∷ [])) → length u.counters ≡ d → out (port w 1) (deeper u c) ≈ cond (nat_eq c n) (out p (deeper u c)) []
   out_gate_done w d n p u c at l = ≈-trans (≈-from (out_at w 1 (new_vertex (Kind.gate n) (suc d) (p ∷ [])) (deeper u c) at ∙ ap (λ k. cond (nat_eq k n) (f w 0 (deeper u c)) [] ++ []) (last-deeper u c)))
       (cond_in (nat_eq c n) (f w 0 (deeper u c)) (out p (deeper u c)) (in_first w (Kind.gate n) (suc d) p (deeper u c) at (length-deeper u c ∙ ap suc l)))
+
+  -- at an unseen, depending on the counter and on what came at each smaller one
+  unseen_left : (w d n : ℕ) (p : Port) (u : Time) (c : ℕ) → IsAt g w (new_vertex (Kind.unseen n) (suc d) (p ∷ [])) → length u.counters ≡ d
+      → only_left (f w 0 (deeper u c)) (flat_map (f w 0) (earlier_turns (deeper u c))) ≈ only_left (out p (deeper u c)) (flat_map (λ j. out p (deeper u j)) (below c))
+  unseen_left w d n p u c at l = only_left_same _ _ _ _ (here c) (≈-trans (≈-from (ap₂ (λ a b. flat_map (f w 0) (map (deeper a) (below b))) (outer-deeper u c) (last-deeper u c))) (go (below c)))
+    where
+      here : (j : ℕ) → f w 0 (deeper u j) ≈ out p (deeper u j)
+      here j = in_first w (Kind.unseen n) (suc d) p (deeper u j) at (length-deeper u j ∙ ap suc l)
+
+      go : (cs : List ℕ) → flat_map (f w 0) (map (deeper u) cs) ≈ flat_map (λ j. out p (deeper u j)) cs
+      go [] = ≈-refl []
+      go (j ∷ cs) = append_same (f w 0 (deeper u j)) (out p (deeper u j)) (flat_map (f w 0) (map (deeper u) cs)) (flat_map (λ j. out p (deeper u j)) cs) (here j) (go cs)
+
+  pub out_unseen_round : (w d n : ℕ) (p : Port) (u : Time) (c : ℕ) → IsAt g w (new_vertex (Kind.unseen n) (suc d) (p ∷ [])) → length u.counters ≡ d → out (port w 0) (deeper u c) ≈ cond (nat_lt c n) (only_left (out p (deeper u c)) (flat_map (λ j. out p (deeper u j)) (below c))) []
+  out_unseen_round w d n p u c at l = ≈-trans (≈-from (out_at w 0 (new_vertex (Kind.unseen n) (suc d) (p ∷ [])) (deeper u c) at ∙ ap (λ k. cond (nat_lt k n) (only_left (f w 0 (deeper u c)) (flat_map (f w 0) (earlier_turns (deeper u c)))) [] ++ []) (last-deeper u c)))
+      (cond_in (nat_lt c n) _ _ (unseen_left w d n p u c at l))
+
+  pub out_unseen_done : (w d n : ℕ) (p : Port) (u : Time) (c : ℕ) → IsAt g w (new_vertex (Kind.unseen n) (suc d) (p ∷ [])) → length u.counters ≡ d → out (port w 1) (deeper u c) ≈ only_left (out p (deeper u c)) (flat_map (λ j. out p (deeper u j)) (below c))
+  out_unseen_done w d n p u c at l = ≈-trans (≈-from (out_at w 1 (new_vertex (Kind.unseen n) (suc d) (p ∷ [])) (deeper u c) at ∙ append-nil (only_left (f w 0 (deeper u c)) (flat_map (f w 0) (earlier_turns (deeper u c))))))
+      (unseen_left w d n p u c at l)
 
   pub out_hold_round : (w d n : ℕ) (p : Port) (u : Time) (c : ℕ) → IsAt g w (new_vertex (Kind.hold n) (suc d) (p ∷ [])) → length u.counters ≡ d → out (port w 0) (deeper u c) ≈ cond (nat_lt c n) (out p (deeper u c)) []
   out_hold_round w d n p u c at l = ≈-trans (≈-from (out_at w 0 (new_vertex (Kind.hold n) (suc d) (p ∷ [])) (deeper u c) at ∙ ap (λ k. cond (nat_lt k n) (f w 0 (deeper u c)) [] ++ []) (last-deeper u c)))

@@ -1,14 +1,14 @@
 -- The laws of the equation of a vertex: nothing in gives nothing out; the results of parts with no common route key add up.
 use Rattle.std.proofs.Common.{◌≡◌, ℕ, zero, suc, ◌+◌, ◌<◌, nat_lt, nat_eq, Bool, true, false, cond, List, [], ◌++◌, map, Some, refl, ◌∙◌, arith, inl, inr, ◌⊎◌}
 use Rattle.semantics.specs.Multiset.{Record, same, one_if, count, ◌≈◌, end_to_end}
-use Rattle.semantics.specs.Op.{HasNoCommonKey, IsCut, IsSum, op}
-use Rattle.semantics.specs.Kinds.{route_key, Kind, in_ports}
-use Rattle.semantics.specs.Meaning.{project, left_columns, right_columns, selected, kept, holds, value}
+use Rattle.semantics.specs.Op.{HasNoCommonKey, IsCut, IsSum, places, op}
+use Rattle.semantics.specs.Kinds.{route_key, Kind}
+use Rattle.semantics.specs.Meaning.{project, left_columns, right_columns, selected, kept, only_left, holds, value}
 use Rattle.semantics.specs.Time.{Time, last}
 use Rattle.semantics.proofs.MultisetSums.{≈-refl, ≈-trans, ≈-from, append_same, total-append, total-map, linear_sum, map_linear, filter_linear}
 use Rattle.semantics.proofs.ExceptAndIntersect.{only_left_cut, in_both_cut}
 use Rattle.semantics.proofs.KeyedParts.{paired_cut, distinct_cut, grouped_cut}
-use Rattle.semantics.proofs.OneFlow.{op_same}
+use Rattle.semantics.proofs.OneFlow.{cond_same, op_same}
 
 either : (b : Bool) → cond {A = List Record} b [] [] ≡ []
 either true = refl
@@ -30,15 +30,17 @@ op_nothing (Kind.join ps) t out = refl
 op_nothing (Kind.group ks as') t out = refl
 op_nothing (Kind.gate n) t zero = either (nat_lt (last t.counters) n)
 op_nothing (Kind.gate n) t (suc out) = either (nat_eq (last t.counters) n)
+op_nothing (Kind.unseen n) t zero = either (nat_lt (last t.counters) n)
+op_nothing (Kind.unseen n) t (suc out) = refl
 op_nothing (Kind.hold n) t zero = either (nat_lt (last t.counters) n)
 op_nothing (Kind.hold n) t (suc out) = either (nat_lt (last t.counters + 1) n)
 
 -- ---- two parts
 
 abbrev pub InTwo : Kind → (ℕ → List Record) → (ℕ → List Record) → Type 0
-InTwo kind xs ys = (p q : ℕ) → p < in_ports kind → q < in_ports kind → (f g : Record → Record) → route_key kind p ≡ Some f → route_key kind q ≡ Some g → HasNoCommonKey f g (xs p) (ys q) × HasNoCommonKey f g (ys p) (xs q)
+InTwo kind xs ys = (p q : ℕ) → p < places kind → q < places kind → (f g : Record → Record) → route_key kind p ≡ Some f → route_key kind q ≡ Some g → HasNoCommonKey f g (xs p) (ys q) × HasNoCommonKey f g (ys p) (xs q)
 
-crossed : (a b c d : List Record) → ((a ++ c) ++ (b ++ d)) ≈ ((a ++ b) ++ (c ++ d))
+pub crossed : (a b c d : List Record) → ((a ++ c) ++ (b ++ d)) ≈ ((a ++ b) ++ (c ++ d))
 crossed a b c d = record {
   counts = λ r.
       let f = λ (x : Record). one_if (same x r) in
@@ -48,6 +50,9 @@ crossed a b c d = record {
 cond_sum : (b : Bool) (xs ys : List Record) → cond b (xs ++ ys) [] ≈ (cond b xs [] ++ cond b ys [])
 cond_sum true xs ys = ≈-refl (xs ++ ys)
 cond_sum false xs ys = ≈-refl []
+
+unseen_two : (n : ℕ) (xs ys : ℕ → List Record) → InTwo (Kind.unseen n) xs ys → only_left (xs 0 ++ ys 0) (xs 1 ++ ys 1) ≈ (only_left (xs 0) (xs 1) ++ only_left (ys 0) (ys 1))
+unseen_two n xs ys h = only_left_cut (xs 0) (ys 0) (xs 1) (ys 1) (h 0 0 (omega arith) (omega arith) (λ r. r) (λ r. r) refl refl).0 (h 0 1 (omega arith) (omega arith) (λ r. r) (λ r. r) refl refl).0 (h 0 1 (omega arith) (omega arith) (λ r. r) (λ r. r) refl refl).1
 
 pub op_two : (kind : Kind) (t : Time) (xs ys : ℕ → List Record) (out : ℕ) → InTwo kind xs ys → op kind t (λ p. xs p ++ ys p) out ≈ (op kind t xs out ++ op kind t ys out)
 op_two Kind.input t xs ys out h = ≈-refl []
@@ -65,6 +70,8 @@ op_two (Kind.join ps) t xs ys out h = let a = h 0 1 (omega arith) (omega arith) 
 op_two (Kind.group ks as') t xs ys out h = grouped_cut ks as' (xs 0) (ys 0) (h 0 0 (omega arith) (omega arith) (project ks) (project ks) refl refl).0
 op_two (Kind.gate n) t xs ys zero h = cond_sum (nat_lt (last t.counters) n) (xs 0) (ys 0)
 op_two (Kind.gate n) t xs ys (suc out) h = cond_sum (nat_eq (last t.counters) n) (xs 0) (ys 0)
+op_two (Kind.unseen n) t xs ys zero h = ≈-trans (cond_same (nat_lt (last t.counters) n) _ _ (unseen_two n xs ys h)) (cond_sum (nat_lt (last t.counters) n) (only_left (xs 0) (xs 1)) (only_left (ys 0) (ys 1)))
+op_two (Kind.unseen n) t xs ys (suc out) h = unseen_two n xs ys h
 op_two (Kind.hold n) t xs ys zero h = cond_sum (nat_lt (last t.counters) n) (xs 0) (ys 0)
 op_two (Kind.hold n) t xs ys (suc out) h = cond_sum (nat_lt (last t.counters + 1) n) (xs 0) (ys 0)
 

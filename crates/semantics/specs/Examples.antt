@@ -2,7 +2,7 @@
 use Rattle.std.specs.Prelude.{ℕ, zero, suc, ℤ, List, [], ◌∷◌, pos}
 use Rattle.semantics.specs.Multiset.{Record}
 use Rattle.semantics.specs.Time.{Time}
-use Rattle.semantics.specs.Query.{Name, Scalar, Comparison, Cond, Agg, Rel, Input, Output, Program}
+use Rattle.semantics.specs.Query.{Name, Scalar, Comparison, Cond, Agg, Loop, Rel, Input, Output, Program}
 
 -- the names `a`, `b`, `e`, `x` and `y`
 abbrev pub name_a : Name
@@ -66,40 +66,48 @@ sums_by_key = query_on (input_of name_a 2) (Rel.group (Rel.named name_a) (0 ∷ 
 abbrev pub reachability : Program
 reachability =
     query_on (input_of name_e 2)
-    (Rel.iterate 3 name_x (Rel.named name_e)
+    (Rel.loop Loop.iterate 3 name_x (Rel.named name_e)
     (Rel.distinct
     (Rel.concat (Rel.named name_x)
     (Rel.select (Rel.join (Rel.named name_x) (Rel.named name_e) (record { left = 1; right = 0 } ∷ []))
     (Scalar.column 0 ∷ Scalar.column 3 ∷ [])))))
 
+-- input e/2; output closure(3; x = e; select(join(x, e; #1 = #0); #0, #3));
+abbrev pub connected : Program
+connected =
+    query_on (input_of name_e 2)
+    (Rel.loop Loop.closure 3 name_x (Rel.named name_e)
+    (Rel.select (Rel.join (Rel.named name_x) (Rel.named name_e) (record { left = 1; right = 0 } ∷ []))
+    (Scalar.column 0 ∷ Scalar.column 3 ∷ [])))
+
 -- input a/1; output iterate(0; x = a; where(x; #0 < 0));
 abbrev pub no_turns : Program
 no_turns =
     query_on (input_of name_a 1)
-    (Rel.iterate 0 name_x (Rel.named name_a)
+    (Rel.loop Loop.iterate 0 name_x (Rel.named name_a)
     (Rel.filter (Rel.named name_x) (Cond.compare Comparison.less (Scalar.column 0) (Scalar.literal (pos 0)))))
 
 -- input a/1; input b/1; output iterate(2; x = a; b);
 abbrev pub outer_name : Program
-outer_name = query_on_a_and_b (Rel.iterate 2 name_x (Rel.named name_a) (Rel.named name_b))
+outer_name = query_on_a_and_b (Rel.loop Loop.iterate 2 name_x (Rel.named name_a) (Rel.named name_b))
 
 -- input a/1; output iterate(2; x = a; iterate(3; y = x; select(y; #0 + 1)));
 abbrev pub loop_in_loop : Program
 loop_in_loop =
     query_on (input_of name_a 1)
-    (Rel.iterate 2 name_x (Rel.named name_a)
-    (Rel.iterate 3 name_y (Rel.named name_x) (Rel.select (Rel.named name_y) first_plus_1)))
+    (Rel.loop Loop.iterate 2 name_x (Rel.named name_a)
+    (Rel.loop Loop.iterate 3 name_y (Rel.named name_x) (Rel.select (Rel.named name_y) first_plus_1)))
 
 -- input a/1; output iterate(2; x = a; select(x; #0 + 1));
 abbrev pub two_turns : Program
-two_turns = query_on (input_of name_a 1) (Rel.iterate 2 name_x (Rel.named name_a) (Rel.select (Rel.named name_x) first_plus_1))
+two_turns = query_on (input_of name_a 1) (Rel.loop Loop.iterate 2 name_x (Rel.named name_a) (Rel.select (Rel.named name_x) first_plus_1))
 
 -- input a/1; input b/1; output iterate(2; x = a; iterate(1; y = x; concat(y, b)));
 abbrev pub outer_name_in_loops : Program
 outer_name_in_loops =
     query_on_a_and_b
-    (Rel.iterate 2 name_x (Rel.named name_a)
-    (Rel.iterate 1 name_y (Rel.named name_x) (Rel.concat (Rel.named name_y) (Rel.named name_b))))
+    (Rel.loop Loop.iterate 2 name_x (Rel.named name_a)
+    (Rel.loop Loop.iterate 1 name_y (Rel.named name_x) (Rel.concat (Rel.named name_y) (Rel.named name_b))))
 
 -- input a/1; input b/1; output except(a, b);
 abbrev pub in_a_alone : Program
@@ -111,7 +119,7 @@ in_a_and_b = query_on_a_and_b (Rel.intersect (Rel.named name_a) (Rel.named name_
 
 -- input a/1; input b/1; output iterate(2; x = a; except(b, x));
 abbrev pub except_in_loop : Program
-except_in_loop = query_on_a_and_b (Rel.iterate 2 name_x (Rel.named name_a) (Rel.except (Rel.named name_b) (Rel.named name_x)))
+except_in_loop = query_on_a_and_b (Rel.loop Loop.iterate 2 name_x (Rel.named name_a) (Rel.except (Rel.named name_b) (Rel.named name_x)))
 
 -- input a/1; output x = where(a; #0 < 5); output y = a;
 abbrev pub small_and_all : Program

@@ -4,7 +4,7 @@ use Rattle.semantics.specs.Multiset.{Record, ◌≈◌}
 use Rattle.semantics.specs.Time.{Time, times_before}
 use Rattle.semantics.specs.Kinds.{Kind, action}
 use Rattle.semantics.specs.Graph.{Port, Graph, vertex, source, target, in_port}
-use Rattle.semantics.specs.Op.{op}
+use Rattle.semantics.specs.Op.{reads, op}
 
 -- the records of each input at each epoch
 abbrev pub Inputs : Type 0
@@ -16,7 +16,7 @@ Flow = (vertex port : ℕ) → Time → List Record
 
 -- what a vertex of that kind sends from a port at u: the sum over the times that its action takes to u
 abbrev pub sent_by : Kind → Flow → ℕ → ℕ → Time → List Record
-sent_by kind f v out u = flat_map (λ t. op kind t (λ i. f v i t) out) (times_before (action kind) u)
+sent_by kind f v out u = flat_map (λ t. op kind t (reads kind (f v) t) out) (times_before (action kind) u)
 
 -- what a vertex sends: an input sends its records, any other vertex what its equation gives
 abbrev pub sent_or_fed : Inputs → Kind → Flow → ℕ → ℕ → Time → List Record

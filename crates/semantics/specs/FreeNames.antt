@@ -18,7 +18,7 @@ free (Rel.group r ks as') = free r
 free (Rel.distinct r) = free r
 free (Rel.except p q) = free p ++ free q
 free (Rel.intersect p q) = free p ++ free q
-free (Rel.iterate n x r b) = free r ++ filter (other_than x) (free b)
+free (Rel.loop l n x r b) = free r ++ filter (other_than x) (free b)
 
 -- the same for all outputs, in order
 abbrev pub free_in_outputs : List Output → List Name

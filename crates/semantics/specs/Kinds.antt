@@ -6,14 +6,15 @@ use Rattle.semantics.specs.Multiset.{Record}
 use Rattle.semantics.specs.Meaning.{project, left_columns, right_columns}
 use Rattle.semantics.specs.Time.{Action}
 
--- A gate has the number of turns of its loop, and so has a hold, which keeps a name from outside for each turn.
+-- A gate has the number of turns of its loop, and so has an unseen, which is the gate of a closure, and a hold, which keeps a name from outside for each
+-- turn.
 pub data Kind : Type 0 where
   input output concat distinct except intersect ingress egress feedback : Kind
   select : List Scalar → Kind
   filter : Cond → Kind
   join : List Pair → Kind
   group : List ℕ → List Agg → Kind
-  gate hold : ℕ → Kind
+  gate unseen hold : ℕ → Kind
 
 -- how many in ports a kind has
 abbrev pub in_ports : Kind → ℕ
@@ -31,6 +32,7 @@ in_ports Kind.ingress = 1
 in_ports Kind.egress = 1
 in_ports Kind.feedback = 1
 in_ports (Kind.gate n) = 1
+in_ports (Kind.unseen n) = 1
 in_ports (Kind.hold n) = 1
 
 -- how many out ports a kind has
@@ -49,6 +51,7 @@ out_ports Kind.ingress = 1
 out_ports Kind.egress = 1
 out_ports Kind.feedback = 1
 out_ports (Kind.gate n) = 2
+out_ports (Kind.unseen n) = 2
 out_ports (Kind.hold n) = 2
 
 -- what a kind does to the time of what it sends
@@ -67,6 +70,7 @@ action Kind.ingress = Action.enter
 action Kind.egress = Action.leave
 action Kind.feedback = Action.next
 action (Kind.gate n) = Action.stay
+action (Kind.unseen n) = Action.stay
 action (Kind.hold n) = Action.stay
 
 -- the route key of a record that comes in at a port, for the kinds that need records of equal keys on one worker
@@ -86,7 +90,27 @@ route_key Kind.ingress port = None
 route_key Kind.egress port = None
 route_key Kind.feedback port = None
 route_key (Kind.gate n) port = None
+route_key (Kind.unseen n) port = Some (λ r. r)
 route_key (Kind.hold n) port = None
+
+-- it also reads what came to it in the earlier turns of its loop
+abbrev pub looks_back : Kind → Bool
+looks_back Kind.input = false
+looks_back Kind.output = false
+looks_back (Kind.select ss) = false
+looks_back (Kind.filter c) = false
+looks_back Kind.concat = false
+looks_back (Kind.join ps) = false
+looks_back (Kind.group ks as') = false
+looks_back Kind.distinct = false
+looks_back Kind.except = false
+looks_back Kind.intersect = false
+looks_back Kind.ingress = false
+looks_back Kind.egress = false
+looks_back Kind.feedback = false
+looks_back (Kind.gate n) = false
+looks_back (Kind.unseen n) = true
+looks_back (Kind.hold n) = false
 
 -- a turn of a loop ends at this kind: what comes in leaves the loop, or goes to its next turn
 abbrev pub ends_turn : Kind → Bool
@@ -104,6 +128,7 @@ ends_turn Kind.ingress = false
 ends_turn Kind.egress = true
 ends_turn Kind.feedback = true
 ends_turn (Kind.gate n) = false
+ends_turn (Kind.unseen n) = false
 ends_turn (Kind.hold n) = false
 
 -- the kind is an input
@@ -122,6 +147,7 @@ is_input Kind.ingress = false
 is_input Kind.egress = false
 is_input Kind.feedback = false
 is_input (Kind.gate n) = false
+is_input (Kind.unseen n) = false
 is_input (Kind.hold n) = false
 
 -- the kind is an output
@@ -140,6 +166,7 @@ is_output Kind.ingress = false
 is_output Kind.egress = false
 is_output Kind.feedback = false
 is_output (Kind.gate n) = false
+is_output (Kind.unseen n) = false
 is_output (Kind.hold n) = false
 
 -- How a vertex answers what comes in. An input has no in port. A stateless vertex sends what its equation makes of each message. A stateful one
@@ -164,4 +191,5 @@ role Kind.ingress = Role.stateless
 role Kind.egress = Role.stateless
 role Kind.feedback = Role.stateless
 role (Kind.gate n) = Role.stateless
+role (Kind.unseen n) = Role.notified
 role (Kind.hold n) = Role.stateless

@@ -1,12 +1,12 @@
 -- The graph of a relation and of a program: vertices in the order in which they are made, and the port that a relation gives. A loop is an ingress, a
--- concat, a gate and an egress, with a feedback from its body; each name that its body takes from outside is carried from turn to turn beside it, by
+-- concat, a gate or, for a closure, an unseen, and an egress, with a feedback from its body; each name that its body takes from outside is carried from turn to turn beside it, by
 -- a hold.
 use Rattle.std.specs.Prelude.{ℕ, suc, ◌+◌, cond, List, [], ◌∷◌, ◌++◌, map, length}
 use Rattle.semantics.specs.Kinds.{Kind}
 use Rattle.semantics.specs.Graph.{Port, no_port, Vertex, Graph}
 use Rattle.semantics.specs.FreeNames.{carried}
 use Rattle.semantics.specs.Meaning.{same_name}
-use Rattle.semantics.specs.Query.{Name, Rel, Input, Let, Output, Program}
+use Rattle.semantics.specs.Query.{Name, Loop, Rel, Input, Let, Output, Program}
 
 -- ---- the vertices that a relation makes, and the port that it gives
 
@@ -58,15 +58,20 @@ then_two k p q kind d =
       gives = port (k + length p.made + length q.made) 0;
     }
 
+-- the vertex that lets records into a turn by one port, and out of the loop by the other
+abbrev pub gate_of : Loop → (turns : ℕ) → Kind
+gate_of Loop.iterate n = Kind.gate n
+gate_of Loop.closure n = Kind.unseen n
+
 -- a loop after its start r; k is the number of its first vertex, ys are the names that it carries, and b is its body
-abbrev pub looped : (turns k : ℕ) → Lowered → Ports → (d : ℕ) → List Name → Lowered → Lowered
-looped n k r ports d ys b =
+abbrev pub looped : Loop → (turns k : ℕ) → Lowered → Ports → (d : ℕ) → List Name → Lowered → Lowered
+looped l n k r ports d ys b =
     let first = suc (suc (suc k)) + length (carry n ports d (suc (suc (suc k))) ys) in
     let last = first + length b.made in
     record {
       made = new_vertex Kind.ingress d (r.gives ∷ [])
           ∷ new_vertex Kind.concat (suc d) (port k 0 ∷ port last 0 ∷ [])
-          ∷ new_vertex (Kind.gate n) (suc d) (port (suc k) 0 ∷ [])
+          ∷ new_vertex (gate_of l n) (suc d) (port (suc k) 0 ∷ [])
           ∷ (carry n ports d (suc (suc (suc k))) ys
           ++ (b.made
           ++ (new_vertex Kind.feedback (suc d) (b.gives ∷ [])
@@ -98,13 +103,13 @@ lower (Rel.except p q) ports d k =
 lower (Rel.intersect p q) ports d k =
     let l = lower p ports d k in
     then_two k l (lower q ports d (k + length l.made)) Kind.intersect d
-lower (Rel.iterate n x r b) ports d k =
+lower (Rel.loop l n x r b) ports d k =
     let start = lower r ports d k in
     let loop = k + length start.made in
     let outside = suc (suc (suc loop)) in
     let ys = carried x b in
     let inside = stands_for x (port (suc (suc loop)) 0) (carried_ports ports outside ys) in
-    after_start start (looped n loop start ports d ys (lower b inside (suc d) (outside + length (carry n ports d outside ys))))
+    after_start start (looped l n loop start ports d ys (lower b inside (suc d) (outside + length (carry n ports d outside ys))))
 
 -- ---- programs
 

@@ -8,7 +8,7 @@ use Rattle.std.specs.Int.RustNames.{int_lt, int_le}
 use Rattle.std.specs.Int.{int_wrap, int_min, int_max}
 use mir.Syntax.{w64}
 use Rattle.semantics.specs.Multiset.{Record, same, total, is_present, each_once}
-use Rattle.semantics.specs.Query.{Scalar, Comparison, Cond, Agg, Name, Pair, Rel, Input, Let, Output, Program}
+use Rattle.semantics.specs.Query.{Scalar, Comparison, Cond, Agg, Name, Pair, Loop, Rel, Input, Let, Output, Program}
 
 -- a field by its number
 abbrev pub field : ℕ → Record → ℤ
@@ -126,6 +126,24 @@ abbrev pub repeated : {A : Type 0} → (A → A) → ℕ → A → A
 repeated f zero a = a
 repeated f (suc n) a = f (repeated f n a)
 
+-- what a closure has found so far, and what of it the latest turn found
+pub record Found : Type 0 where
+  pub all : List Record
+  pub latest : List Record
+
+-- before the first turn
+abbrev pub found_first : List Record → Found
+found_first xs = record { all = each_once xs; latest = each_once xs }
+
+-- a turn finds what it makes of the latest records, without what was found before
+abbrev pub found_next : (List Record → List Record) → Found → Found
+found_next f s = record { all = s.all ++ only_left (f s.latest) s.all; latest = only_left (f s.latest) s.all }
+
+-- what a loop gives, by what one turn makes of a multiset
+abbrev pub after_turns : Loop → (List Record → List Record) → (turns : ℕ) → List Record → List Record
+after_turns Loop.iterate f n xs = repeated f n xs
+after_turns Loop.closure f n xs = (repeated (found_next f) n (found_first xs)).all
+
 -- what a relation means, given what the names mean
 unfoldable pub meaning : Rel → Names → List Record
 meaning (Rel.named x) names = names x
@@ -137,7 +155,7 @@ meaning (Rel.group r ks as') names = grouped ks as' (meaning r names)
 meaning (Rel.distinct r) names = each_once (meaning r names)
 meaning (Rel.except p q) names = only_left (meaning p names) (meaning q names)
 meaning (Rel.intersect p q) names = in_both (meaning p names) (meaning q names)
-meaning (Rel.iterate n x r b) names = repeated (λ xs. meaning b (bind x xs names)) n (meaning r names)
+meaning (Rel.loop l n x r b) names = after_turns l (λ xs. meaning b (bind x xs names)) n (meaning r names)
 
 -- ---- programs, for the multisets of one epoch
 

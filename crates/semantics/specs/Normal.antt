@@ -1,10 +1,10 @@
 -- The rules of the normaliser, and the trees to which none of them applies. Literals are folded. A `where` of a `where` becomes one, and so does a
--- `select` of a `select` if no scalar is copied. A `distinct` of a `distinct`, an `except` or an `intersect` becomes what it holds, and so does a
--- loop of no turns. A let that no output reaches is dropped.
+-- `select` of a `select` if no scalar is copied. A `distinct` of a `distinct`, an `except` or an `intersect` becomes what it holds, and so does an
+-- iterate of no turns. A let that no output reaches is dropped.
 use Rattle.std.specs.Prelude.{◌≡◌, ◌⊎◌, ℕ, ◌+◌, ◌≤◌, nat_eq, List, [], ◌∷◌, ◌++◌, slice_index_or, pos}
 use Rattle.std.specs.List.{AllByRecursion}
 use Rattle.semantics.specs.Multiset.{IsAmong, one_if}
-use Rattle.semantics.specs.Query.{Name, Scalar, Cond, Rel, Let, Output, Program}
+use Rattle.semantics.specs.Query.{Name, Scalar, Cond, Loop, Rel, Let, Output, Program}
 use Rattle.semantics.specs.FreeNames.{free, free_in_outputs}
 
 -- ---- select of select
@@ -91,7 +91,7 @@ IsFilter (Rel.group r ks as') = ⊥
 IsFilter (Rel.distinct r) = ⊥
 IsFilter (Rel.except p q) = ⊥
 IsFilter (Rel.intersect p q) = ⊥
-IsFilter (Rel.iterate n x r b) = ⊥
+IsFilter (Rel.loop l n x r b) = ⊥
 
 -- the relation is a `select`
 abbrev pub IsSelect : Rel → Type 0
@@ -104,7 +104,7 @@ IsSelect (Rel.group r ks as') = ⊥
 IsSelect (Rel.distinct r) = ⊥
 IsSelect (Rel.except p q) = ⊥
 IsSelect (Rel.intersect p q) = ⊥
-IsSelect (Rel.iterate n x r b) = ⊥
+IsSelect (Rel.loop l n x r b) = ⊥
 
 -- the form gives a set: a `distinct`, an `except` or an `intersect`, in which no record occurs twice
 abbrev pub IsSet : Rel → Type 0
@@ -117,7 +117,7 @@ IsSet (Rel.group r ks as') = ⊥
 IsSet (Rel.distinct r) = Unit {0}
 IsSet (Rel.except p q) = Unit {0}
 IsSet (Rel.intersect p q) = Unit {0}
-IsSet (Rel.iterate n x r b) = ⊥
+IsSet (Rel.loop l n x r b) = ⊥
 
 -- no rule on scalars and relations applies anywhere in it
 abbrev pub NormalRel : Rel → Type 0
@@ -130,7 +130,7 @@ NormalRel (Rel.group r ks as') = NormalRel r
 NormalRel (Rel.distinct r) = NormalRel r × (IsSet r → ⊥)
 NormalRel (Rel.except p q) = NormalRel p × NormalRel q
 NormalRel (Rel.intersect p q) = NormalRel p × NormalRel q
-NormalRel (Rel.iterate n x r b) = NormalRel r × NormalRel b × (n ≡ 0 → ⊥)
+NormalRel (Rel.loop l n x r b) = NormalRel r × NormalRel b × (l ≡ Loop.iterate → n ≡ 0 → ⊥)
 
 -- no rule applies anywhere in the program, and every let is reached
 pub record NormalProgram (p : Program) : Type 0 where

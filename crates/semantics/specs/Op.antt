@@ -1,12 +1,31 @@
 -- The equation of a vertex at one time: from a multiset for each in port to one for each out port. The vertices of a query's forms compute what the
--- forms mean; those of a loop depend on the last counter.
-use Rattle.std.specs.Prelude.{◌≡◌, ℕ, zero, suc, ◌+◌, ◌<◌, nat_lt, nat_eq, cond, List, [], ◌++◌, map, Some}
+-- forms mean; those of a loop depend on the last counter, and an unseen also on what came in earlier turns.
+use Rattle.std.specs.Prelude.{◌≡◌, ℕ, zero, suc, ◌+◌, ◌<◌, nat_lt, nat_eq, Bool, true, false, cond, List, [], ◌++◌, map, flat_map, Some}
 use Rattle.semantics.specs.Multiset.{Record, count, ◌≈◌, each_once, end_to_end}
 use Rattle.semantics.specs.Meaning.{selected, kept, paired, grouped, only_left, in_both}
-use Rattle.semantics.specs.Time.{Time, last}
-use Rattle.semantics.specs.Kinds.{Kind, in_ports, route_key}
+use Rattle.semantics.specs.Time.{Time, last, earlier_turns}
+use Rattle.semantics.specs.Kinds.{Kind, in_ports, route_key, looks_back}
 
--- what a vertex of that kind makes of the records at its in ports
+-- how many lists the equation of a kind reads: one for each in port and, if it looks back, one more
+abbrev pub places : Kind → ℕ
+places kind = cond (looks_back kind) (suc (in_ports kind)) (in_ports kind)
+
+-- the other times of which it reads what came
+abbrev pub reads_back : Kind → Time → List Time
+reads_back kind t = cond (looks_back kind) (earlier_turns t) []
+
+-- what is read at a time, if `at` is what comes to the in ports: what comes then, and behind port 0, if looking back, what came to it in the earlier
+-- turns
+abbrev pub reads_if : (back : Bool) → (at : (port : ℕ) → Time → List Record) → Time → (place : ℕ) → List Record
+reads_if false at t p = at p t
+reads_if true at t zero = at 0 t
+reads_if true at t (suc p) = flat_map (at 0) (earlier_turns t)
+
+-- what the equation of a kind reads
+abbrev pub reads : Kind → (at : (port : ℕ) → Time → List Record) → Time → (place : ℕ) → List Record
+reads kind at t p = reads_if (looks_back kind) at t p
+
+-- what a vertex of that kind makes of what it reads
 abbrev pub op : Kind → Time → (ins : ℕ → List Record) → (out : ℕ) → List Record
 op Kind.input t ins out = []
 op Kind.output t ins out = []
@@ -23,6 +42,8 @@ op Kind.egress t ins out = ins 0
 op Kind.feedback t ins out = ins 0
 op (Kind.gate n) t ins zero = cond (nat_lt (last t.counters) n) (ins 0) []
 op (Kind.gate n) t ins (suc out) = cond (nat_eq (last t.counters) n) (ins 0) []
+op (Kind.unseen n) t ins zero = cond (nat_lt (last t.counters) n) (only_left (ins 0) (ins 1)) []
+op (Kind.unseen n) t ins (suc out) = only_left (ins 0) (ins 1)
 op (Kind.hold n) t ins zero = cond (nat_lt (last t.counters) n) (ins 0) []
 op (Kind.hold n) t ins (suc out) = cond (nat_lt (last t.counters + 1) n) (ins 0) []
 
@@ -32,12 +53,12 @@ op (Kind.hold n) t ins (suc out) = cond (nat_lt (last t.counters + 1) n) (ins 0)
 pub record HasNoCommonKey (f g : Record → Record) (xs ys : List Record) : Type 0 where
   pub never : (k : Record) → 0 < count k (map f xs) → 0 < count k (map g ys) → ⊥
 
--- no route key is in two of the first n parts; `parts w` are the records of part w at each port
+-- no route key is in two of the first n parts; `parts w` are the records of part w at each place
 pub record IsCut (kind : Kind) (parts : ℕ → ℕ → List Record) (n : ℕ) : Type 0 where
-  pub apart : (v w : ℕ) → v < n → w < n → (v ≡ w → ⊥) → (i j : ℕ) → i < in_ports kind → j < in_ports kind →
+  pub apart : (v w : ℕ) → v < n → w < n → (v ≡ w → ⊥) → (i j : ℕ) → i < places kind → j < places kind →
       (f g : Record → Record) → route_key kind i ≡ Some f → route_key kind j ≡ Some g →
       HasNoCommonKey f g (parts v i) (parts w j)
 
--- the parts sum to what comes in
+-- the parts sum to what is read
 pub record IsSum (kind : Kind) (ins : ℕ → List Record) (parts : ℕ → ℕ → List Record) (n : ℕ) : Type 0 where
-  pub sums : (i : ℕ) → i < in_ports kind → ins i ≈ end_to_end (λ w. parts w i) n
+  pub sums : (i : ℕ) → i < places kind → ins i ≈ end_to_end (λ w. parts w i) n

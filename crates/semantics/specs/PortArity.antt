@@ -29,6 +29,7 @@ PortsFit Kind.ingress ins out = out ≡ ins 0
 PortsFit Kind.egress ins out = out ≡ ins 0
 PortsFit Kind.feedback ins out = out ≡ ins 0
 PortsFit (Kind.gate n) ins out = out ≡ ins 0
+PortsFit (Kind.unseen n) ins out = out ≡ ins 0
 PortsFit (Kind.hold n) ins out = out ≡ ins 0
 
 -- each vertex's ports fit; `arity v` is the arity of all out ports of v, and for an output vertex that of its in port
@@ -57,7 +58,7 @@ rel_arity (Rel.group r ks as') of = length ks + length as'
 rel_arity (Rel.distinct r) of = rel_arity r of
 rel_arity (Rel.except p q) of = rel_arity p of
 rel_arity (Rel.intersect p q) of = rel_arity p of
-rel_arity (Rel.iterate n x r b) of = rel_arity r of
+rel_arity (Rel.loop l n x r b) of = rel_arity r of
 
 -- for each carried name: ingress, concat, hold and feedback
 abbrev pub carry_arities : Arities → List Name → List ℕ
@@ -75,7 +76,7 @@ made_arities (Rel.group r ks as') of = made_arities r of ++ ((length ks + length
 made_arities (Rel.distinct r) of = made_arities r of ++ (rel_arity r of ∷ [])
 made_arities (Rel.except p q) of = made_arities p of ++ (made_arities q of ++ (rel_arity p of ∷ []))
 made_arities (Rel.intersect p q) of = made_arities p of ++ (made_arities q of ++ (rel_arity p of ∷ []))
-made_arities (Rel.iterate n x r b) of =
+made_arities (Rel.loop l n x r b) of =
     let a = rel_arity r of in
     made_arities r of ++ (a ∷ a ∷ a ∷ (carry_arities of (carried x b) ++ (made_arities b (with_arity x a of) ++ (a ∷ a ∷ []))))
 

@@ -1,5 +1,5 @@
 -- The trees of a query, without the places of the text. The forms are LINQ's Select, Where, Concat, Join, GroupBy, Distinct, Except and Intersect,
--- and a loop of a fixed number of turns.
+-- and two loops of a fixed number of turns.
 use Rattle.std.specs.Prelude.{ℕ, ℤ, List}
 
 -- what is computed from a record: a column, a number, or an operation on scalars
@@ -33,6 +33,11 @@ pub record Pair : Type 0 where
   pub left : ℕ
   pub right : ℕ
 
+-- What a turn of a loop gets: all that the turn before gave, or only the records of it that no turn gave before. The first gives the last turn's
+-- records, the second those of all turns. (SQL: WITH RECURSIVE .. UNION.)
+pub data Loop : Type 0 where
+  iterate closure : Loop
+
 -- Relations: a name; each form over the relations that it takes; and a loop with its turns, variable, start and body.
 pub data Rel : Type 0 where
   named : Name → Rel
@@ -43,7 +48,7 @@ pub data Rel : Type 0 where
   group : Rel → List ℕ → List Agg → Rel
   distinct : Rel → Rel
   except intersect : Rel → Rel → Rel
-  iterate : ℕ → Name → Rel → Rel → Rel
+  loop : Loop → ℕ → Name → Rel → Rel → Rel
 
 -- an input and its arity
 pub record Input : Type 0 where

@@ -4,7 +4,7 @@ use Rattle.std.specs.Prelude.{ℕ, List, ◌∷◌, map, ℤ, ◌+ℤ◌, ◌-�
 use Rattle.std.specs.List.{AllByRecursion}
 use Rattle.std.specs.Int.{int_wrap}
 use mir.Syntax.{w64}
-use Rattle.semantics.specs.Query.{Scalar, Comparison, Cond, Agg, Name, Pair, Rel, Input, Let, Output, Program}
+use Rattle.semantics.specs.Query.{Scalar, Comparison, Cond, Agg, Name, Pair, Loop, Rel, Input, Let, Output, Program}
 use Rattle.semantics.specs.Normal.{UsesOnce, replaced, Reaches, AllReached, NormalScalar, NormalCond, IsSet, NormalRel, NormalProgram}
 
 -- ---- sequences of steps
@@ -57,8 +57,8 @@ pub data RelStep : Rel → Rel → Type 0 where
       → RelStep (Rel.select (Rel.select r ss) ts) (Rel.select r (map (replaced ss) ts))
   -- distinct of a distinct, an except or an intersect
   distincts : {r : Rel} → NormalRel r → IsSet r → RelStep (Rel.distinct r) r
-  -- a loop of no turns is its start
-  no_turns : {x : Name} {r b : Rel} → NormalRel r → RelStep (Rel.iterate 0 x r b) r
+  -- an iterate of no turns is its start
+  no_turns : {x : Name} {r b : Rel} → NormalRel r → RelStep (Rel.loop Loop.iterate 0 x r b) r
   -- a step of a part
   select_of : {r r' : Rel} {ss : List Scalar} → RelStep r r' → RelStep (Rel.select r ss) (Rel.select r' ss)
   select_scalar : {r : Rel} {ss ss' : List Scalar} → OneOf ScalarStep ss ss' → RelStep (Rel.select r ss) (Rel.select r ss')
@@ -74,8 +74,8 @@ pub data RelStep : Rel → Rel → Type 0 where
   except_right : {p q q' : Rel} → RelStep q q' → RelStep (Rel.except p q) (Rel.except p q')
   intersect_left : {p p' q : Rel} → RelStep p p' → RelStep (Rel.intersect p q) (Rel.intersect p' q)
   intersect_right : {p q q' : Rel} → RelStep q q' → RelStep (Rel.intersect p q) (Rel.intersect p q')
-  loop_start : {n : ℕ} {x : Name} {r r' b : Rel} → RelStep r r' → RelStep (Rel.iterate n x r b) (Rel.iterate n x r' b)
-  loop_body : {n : ℕ} {x : Name} {r b b' : Rel} → RelStep b b' → RelStep (Rel.iterate n x r b) (Rel.iterate n x r b')
+  loop_start : {l : Loop} {n : ℕ} {x : Name} {r r' b : Rel} → RelStep r r' → RelStep (Rel.loop l n x r b) (Rel.loop l n x r' b)
+  loop_body : {l : Loop} {n : ℕ} {x : Name} {r b b' : Rel} → RelStep b b' → RelStep (Rel.loop l n x r b) (Rel.loop l n x r b')
 
 -- ---- one step of a program
 

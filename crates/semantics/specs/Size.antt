@@ -36,7 +36,7 @@ rel_size (Rel.group r ks as') = suc (rel_size r + length as')
 rel_size (Rel.distinct r) = suc (rel_size r)
 rel_size (Rel.except p q) = suc (rel_size p + rel_size q)
 rel_size (Rel.intersect p q) = suc (rel_size p + rel_size q)
-rel_size (Rel.iterate n x r b) = suc (rel_size r + rel_size b)
+rel_size (Rel.loop l n x r b) = suc (rel_size r + rel_size b)
 
 -- of lets together
 abbrev pub lets_size : List Let → ℕ
@@ -91,7 +91,7 @@ rel_depth (Rel.group r ks as') = suc (max (rel_depth r) (aggs_depth as'))
 rel_depth (Rel.distinct r) = suc (rel_depth r)
 rel_depth (Rel.except p q) = suc (max (rel_depth p) (rel_depth q))
 rel_depth (Rel.intersect p q) = suc (max (rel_depth p) (rel_depth q))
-rel_depth (Rel.iterate n x r b) = suc (max (rel_depth r) (rel_depth b))
+rel_depth (Rel.loop l n x r b) = suc (max (rel_depth r) (rel_depth b))
 
 -- of the deepest of lets
 abbrev pub lets_depth : List Let → ℕ

@@ -61,6 +61,10 @@ abbrev pub below : ℕ → List ℕ
 below zero = []
 below (suc n) = below n ++ (n ∷ [])
 
+-- the earlier turns of the innermost loop: the same time with each smaller last counter
+abbrev pub earlier_turns : Time → List Time
+earlier_turns t = map (deeper (outer t)) (below (last t.counters))
+
 -- the times that an action takes to u; for a leave, those whose last counter is at most the limit of turns
 abbrev pub times_before : Action → Time → List Time
 times_before Action.stay u = u ∷ []

@@ -67,7 +67,7 @@ HasArity (Rel.group r ks as') scope d n =
 HasArity (Rel.distinct r) scope d n = HasArity r scope d n
 HasArity (Rel.except p q) scope d n = HasArity p scope d n × HasArity q scope d n
 HasArity (Rel.intersect p q) scope d n = HasArity p scope d n × HasArity q scope d n
-HasArity (Rel.iterate k x r b) scope d n =
+HasArity (Rel.loop l k x r b) scope d n =
     (k ≤ max_turns) × (d < max_loops) × HasArity r scope d n × (lookup scope x ≡ None) × HasArity b (entry x n ∷ scope) (suc d) n
 
 -- inputs in order, each name new

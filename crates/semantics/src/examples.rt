@@ -9,11 +9,11 @@ ghost use Rattle.semantics.specs.Kinds.{Kind};
 ghost use Rattle.semantics.specs.Graph.{output_numbers};
 ghost use Rattle.semantics.specs.Lower.{lowered, port, new_vertex};
 ghost use Rattle.semantics.specs.Examples.{one_field, two_fields, three_fields, first_plus_1, twice, sums_by_key, reachability};
-ghost use Rattle.semantics.specs.Examples.{no_turns, outer_name, loop_in_loop, two_turns, outer_name_in_loops, in_a_alone, in_a_and_b};
+ghost use Rattle.semantics.specs.Examples.{connected, no_turns, outer_name, loop_in_loop, two_turns, outer_name_in_loops, in_a_alone, in_a_and_b};
 ghost use Rattle.semantics.specs.Examples.{except_in_loop, small_and_all, least_of_let, twice_out, a_and_b, one_and_two, turn};
 
 /// The meanings of small programs. `a` concatenated with itself has each record twice as often; a sum wraps at 64 bits; the edges 1-2, 2-3 and 3-4
-/// give all pairs that are connected by up to four of them; a loop of no turns gives its start; a loop whose body is a name from outside gives what
+/// give all pairs that are connected by up to four of them; a closure gives such pairs once, also where edges go round; a loop of no turns gives its start; a loop whose body is a name from outside gives what
 /// that name means; and two turns of three turns of `#0 + 1` add 6. An except of `a` and `b` has each record once that only `a` has, and an intersect
 /// each that both have. Each of two outputs means its own relation, and an output beyond the last means nothing. A relation that names a let means
 /// what the let's relation means.
@@ -23,6 +23,8 @@ pub fn law_meanings()
         ≡ three_fields (pos 1) (negsuc 9223372036854775807) (pos 2) ∷ [] }
     ensures reaches { program_meaning reachability 0 (λ i. two_fields 1 2 ∷ two_fields 2 3 ∷ two_fields 3 4 ∷ [])
         ≈ (two_fields 1 2 ∷ two_fields 1 3 ∷ two_fields 1 4 ∷ two_fields 2 3 ∷ two_fields 2 4 ∷ two_fields 3 4 ∷ []) }
+    ensures connects { program_meaning connected 0 (λ i. two_fields 1 2 ∷ two_fields 1 2 ∷ two_fields 2 1 ∷ two_fields 2 3 ∷ [])
+        ≈ (two_fields 1 1 ∷ two_fields 1 2 ∷ two_fields 1 3 ∷ two_fields 2 1 ∷ two_fields 2 2 ∷ two_fields 2 3 ∷ []) }
     ensures no_turns { program_meaning no_turns 0 (λ i. one_field (pos 5) ∷ []) ≡ one_field (pos 5) ∷ [] }
     ensures outer_name { (records : ℕ → List Record) → program_meaning outer_name 0 records ≡ records 1 }
     ensures loop_in_loop { program_meaning loop_in_loop 0 (λ i. one_field (pos 10) ∷ []) ≡ one_field (pos 16) ∷ [] }
@@ -39,12 +41,13 @@ pub fn law_meanings()
 /// Programs with loops are well typed, and so is one with two outputs; a program whose outputs have the same name isn't.
 pub fn law_well_typed()
     ensures reachability { WellTyped reachability (2 ∷ []) }
+    ensures connected { WellTyped connected (2 ∷ []) }
     ensures loops { WellTyped outer_name_in_loops (1 ∷ []) }
     ensures outputs { WellTyped small_and_all (1 ∷ 1 ∷ []) }
     ensures one_name { (ns : List ℕ) → WellTyped twice_out ns → ⊥ }
 {}
 
-/// The graphs of three programs with loops, of an except, of two outputs, and of a let with two outputs, vertex by vertex: a vertex is its kind, its
+/// The graphs of four programs with loops, of an except, of two outputs, and of a let with two outputs, vertex by vertex: a vertex is its kind, its
 /// depth and the ports that feed it. The vertices of the two outputs of `small_and_all` are 2 and 3.
 pub fn law_graphs()
     ensures two_turns { lowered two_turns ≡
@@ -56,6 +59,21 @@ pub fn law_graphs()
         ∷ new_vertex Kind.feedback 1 (port 4 0 ∷ [])
         ∷ new_vertex Kind.egress 1 (port 3 1 ∷ [])
         ∷ new_vertex Kind.output 0 (port 6 0 ∷ [])
+        ∷ [] }
+    ensures connected { lowered connected ≡
+        new_vertex Kind.input 0 []
+        ∷ new_vertex Kind.ingress 0 (port 0 0 ∷ [])
+        ∷ new_vertex Kind.concat 1 (port 1 0 ∷ port 10 0 ∷ [])
+        ∷ new_vertex (Kind.unseen 3) 1 (port 2 0 ∷ [])
+        ∷ new_vertex Kind.ingress 0 (port 0 0 ∷ [])
+        ∷ new_vertex Kind.concat 1 (port 4 0 ∷ port 7 0 ∷ [])
+        ∷ new_vertex (Kind.hold 3) 1 (port 5 0 ∷ [])
+        ∷ new_vertex Kind.feedback 1 (port 6 1 ∷ [])
+        ∷ new_vertex (Kind.join (record { left = 1; right = 0 } ∷ [])) 1 (port 3 0 ∷ port 6 0 ∷ [])
+        ∷ new_vertex (Kind.select (Scalar.column 0 ∷ Scalar.column 3 ∷ [])) 1 (port 8 0 ∷ [])
+        ∷ new_vertex Kind.feedback 1 (port 9 0 ∷ [])
+        ∷ new_vertex Kind.egress 1 (port 3 1 ∷ [])
+        ∷ new_vertex Kind.output 0 (port 11 0 ∷ [])
         ∷ [] }
     ensures outer_name { lowered outer_name ≡
         new_vertex Kind.input 0 []

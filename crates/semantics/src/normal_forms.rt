@@ -2,7 +2,7 @@ ghost use Rattle.std.specs.Prelude.{◌≡◌, ◌≤◌, ◌++◌, List, ℕ, �
 ghost use Rattle.std.specs.Int.{int_wrap};
 ghost use mir.Syntax.{w64};
 ghost use Rattle.semantics.specs.Multiset.{Record};
-ghost use Rattle.semantics.specs.Query.{Scalar, Cond, Name, Rel, Input, Let, Output, Program};
+ghost use Rattle.semantics.specs.Query.{Scalar, Cond, Name, Loop, Rel, Input, Let, Output, Program};
 ghost use Rattle.semantics.specs.Meaning.{value, Names, meaning, program_meaning};
 ghost use Rattle.semantics.specs.Size.{rel_size, program_size};
 ghost use Rattle.semantics.specs.Normal.{UsesOnce, replaced, Reaches, AllReached, NormalRel, NormalProgram};
@@ -44,7 +44,7 @@ pub fn law_rules()
         meaning (Rel.distinct (Rel.except p q)) names ≡ meaning (Rel.except p q) names }
     ensures distinct_of_intersect { (p q : Rel) (names : Names) →
         meaning (Rel.distinct (Rel.intersect p q)) names ≡ meaning (Rel.intersect p q) names }
-    ensures loop_of_no_turns { (x : Name) (r b : Rel) (names : Names) → meaning (Rel.iterate 0 x r b) names ≡ meaning r names }
+    ensures loop_of_no_turns { (x : Name) (r b : Rel) (names : Names) → meaning (Rel.loop Loop.iterate 0 x r b) names ≡ meaning r names }
 {}
 
 /// A let that no output reaches, directly or through later lets, may be dropped.
@@ -71,7 +71,7 @@ pub fn law_rules_keep_arity()
     ensures distinct_of_intersect { (p q : Rel) (scope : Scope) (loops n : ℕ) →
         HasArity (Rel.distinct (Rel.intersect p q)) scope loops n → HasArity (Rel.intersect p q) scope loops n }
     ensures loop_of_no_turns { (x : Name) (r b : Rel) (scope : Scope) (loops n : ℕ) →
-        HasArity (Rel.iterate 0 x r b) scope loops n → HasArity r scope loops n }
+        HasArity (Rel.loop Loop.iterate 0 x r b) scope loops n → HasArity r scope loops n }
 {}
 
 /// A program stays well typed without a let that no output reaches, if the lets after it are reached; so unreached lets are dropped from the last to

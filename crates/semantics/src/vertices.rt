@@ -2,7 +2,7 @@ ghost use Rattle.std.specs.Prelude.{◌≡◌, ◌<◌, ◌↔◌, ◌&&◌, not
 ghost use Rattle.semantics.specs.Multiset.{Record, one_if, count, is_present, ◌≈◌, IsPartOf, end_to_end, less};
 ghost use Rattle.semantics.specs.Time.{Time};
 ghost use Rattle.semantics.specs.Kinds.{Kind, in_ports, role, Role};
-ghost use Rattle.semantics.specs.Op.{op, IsSum, IsCut};
+ghost use Rattle.semantics.specs.Op.{places, op, IsSum, IsCut};
 ghost use Rattle.semantics.specs.Shard.{SendsBy, SendsAtNotification};
 ghost use Rattle.semantics.specs.PortArity.{HaveFields, PortsFit};
 
@@ -15,7 +15,7 @@ pub fn law_vertex()
         IsSum kind ins parts n → IsCut kind parts n →
         op kind t ins out ≈ end_to_end (λ w. op kind t (parts w) out) n }
     ensures equal { (kind : Kind) (t : Time) (xs ys : ℕ → List Record) (out : ℕ) →
-        ((i : ℕ) → i < in_ports kind → xs i ≈ ys i) → op kind t xs out ≈ op kind t ys out }
+        ((i : ℕ) → i < places kind → xs i ≈ ys i) → op kind t xs out ≈ op kind t ys out }
     ensures more { (kind : Kind) → (role kind ≡ Role.notified → ⊥) → (t : Time) (xs ys : ℕ → List Record) (out : ℕ) →
         ((i : ℕ) → i < in_ports kind → IsPartOf (xs i) (ys i)) → IsPartOf (op kind t xs out) (op kind t ys out) }
     ensures fields { (kind : Kind) (arity : ℕ → ℕ) (n : ℕ) → PortsFit kind arity n → (t : Time) (ins : ℕ → List Record) →

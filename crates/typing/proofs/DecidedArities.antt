@@ -39,7 +39,7 @@ typed_checked (RelTree.group s r ks gs) scope d n h =
     let e : n ≡ length ks + length gs = h.4 ∙ (λ i. length-map ks (λ k. k.index) i + length-map gs plain_agg i) in
     rw (typed_checked r scope d h.0 h.1, keys_fit h.0 ks h.2, aggs_fit h.0 gs h.3, arity_true (length ks + length gs) (subst IsArity e h.5)) (ap Ok (sym e))
 typed_checked (RelTree.distinct s r) scope d n h = typed_checked r scope d n h
-typed_checked (RelTree.iterate s t k u x r b) scope d n h =
+typed_checked (RelTree.loop s w t k u x r b) scope d n h =
     rw (le-leb k max_turns h.0, lt-ltb d max_loops h.1, typed_checked r scope d n h.2, h.3, typed_checked b (entry x n ∷ scope) (suc d) n h.4, eq-eqb n n refl)
 
 -- what passes has the arity
@@ -76,7 +76,7 @@ checked_typed (RelTree.group s r ks gs) scope d n h =
     let f = sized_is_ok s (length ks + length gs) n c.1 in
     (a.0, checked_typed r scope d a.0 a.1, keys_none a.0 ks b.0, aggs_none a.0 gs c.0, f.1 ∙ (λ i. sym (length-map ks (λ k. k.index)) i + sym (length-map gs plain_agg) i), subst IsArity (sym f.1) f.0)
 checked_typed (RelTree.distinct s r) scope d n h = checked_typed r scope d n h
-checked_typed (RelTree.iterate s t k u x r b) scope d n h =
+checked_typed (RelTree.loop s w t k u x r b) scope d n h =
     let turned = λ (m : ℕ) (j : ℕ). cond (nat_eq j m) (Ok m) (Err (fault BODY_DIFFERS (span_of b))) in
     let bound = λ (m : ℕ). unless_taken (lookup scope x) (fault NAME_TAKEN u) (chain (verdict b (entry x m ∷ scope) (suc d)) (turned m)) in
     let a = test_is_ok (nat_le k max_turns) (cond (nat_lt d max_loops) (chain (verdict r scope d) bound) (Err (fault TOO_DEEP s))) (fault TOO_MANY_TURNS t) n h in

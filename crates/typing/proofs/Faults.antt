@@ -32,12 +32,12 @@ fault_checked (FaultIn.group_key {r = r} {scope = scope} {d = d} m h e) = rw (ty
 fault_checked (FaultIn.group_column {r = r} {scope = scope} {d = d} m h e k) = rw (typed_checked r scope d m h, e, k)
 fault_checked (FaultIn.group_arity {r = r} {ks = ks} {gs = gs} {scope = scope} {d = d} m h e k i) = rw (typed_checked r scope d m h, e, k, arity_false (length ks + length gs) i)
 fault_checked (FaultIn.distinct_part p) = fault_checked p
-fault_checked (FaultIn.iterate_turns {n = n} h) = rw (above_false n max_turns h)
-fault_checked (FaultIn.iterate_depth {n = n} {d = d} h k) = rw (le-leb n max_turns h, least_false d max_loops k)
-fault_checked (FaultIn.iterate_start {n = n} {d = d} h k p) = rw (le-leb n max_turns h, lt-ltb d max_loops k, fault_checked p)
-fault_checked (FaultIn.iterate_variable {n = n} {r = r} {scope = scope} {d = d} m j h k i e) = rw (le-leb n max_turns h, lt-ltb d max_loops k, typed_checked r scope d m i, e)
-fault_checked (FaultIn.iterate_body {n = n} {r = r} {scope = scope} {d = d} m h k i e p) = rw (le-leb n max_turns h, lt-ltb d max_loops k, typed_checked r scope d m i, e, fault_checked p)
-fault_checked (FaultIn.iterate_arity {n = n} {x = x} {r = r} {b = b} {scope = scope} {d = d} m j h k i e a q) = rw (le-leb n max_turns h, lt-ltb d max_loops k, typed_checked r scope d m i, e, typed_checked b (entry x m ∷ scope) (suc d) j a, differ_false j m q)
+fault_checked (FaultIn.loop_turns {n = n} h) = rw (above_false n max_turns h)
+fault_checked (FaultIn.loop_depth {n = n} {d = d} h k) = rw (le-leb n max_turns h, least_false d max_loops k)
+fault_checked (FaultIn.loop_start {n = n} {d = d} h k p) = rw (le-leb n max_turns h, lt-ltb d max_loops k, fault_checked p)
+fault_checked (FaultIn.loop_variable {n = n} {r = r} {scope = scope} {d = d} m j h k i e) = rw (le-leb n max_turns h, lt-ltb d max_loops k, typed_checked r scope d m i, e)
+fault_checked (FaultIn.loop_body {n = n} {r = r} {scope = scope} {d = d} m h k i e p) = rw (le-leb n max_turns h, lt-ltb d max_loops k, typed_checked r scope d m i, e, fault_checked p)
+fault_checked (FaultIn.loop_arity {n = n} {x = x} {r = r} {b = b} {scope = scope} {d = d} m j h k i e a q) = rw (le-leb n max_turns h, lt-ltb d max_loops k, typed_checked r scope d m i, e, typed_checked b (entry x m ∷ scope) (suc d) j a, differ_false j m q)
 
 at_fault : (r : RelTree) (scope : Scope) (d : ℕ) (f g : Fault) → g ≡ f → FaultIn r scope d g → FaultIn r scope d f
 at_fault r scope d f g e h = subst (FaultIn r scope d) e h
@@ -92,21 +92,21 @@ checked_fault (RelTree.group s r ks gs) scope d f h =
     (λ at i j. subst G j (FaultIn.group_column m (checked_typed r scope d m e) a i))
     (λ i j. let c = sized_is_err s (length ks + length gs) f j in subst G c.1 (FaultIn.group_arity m (checked_typed r scope d m e) a i c.0))))
 checked_fault (RelTree.distinct s r) scope d f h = FaultIn.distinct_part (checked_fault r scope d f h)
-checked_fault (RelTree.iterate s t n u x r b) scope d f h =
-    let G = FaultIn (RelTree.iterate s t n u x r b) scope d in
+checked_fault (RelTree.loop s w t n u x r b) scope d f h =
+    let G = FaultIn (RelTree.loop s w t n u x r b) scope d in
     let last = λ (m k : ℕ). cond (nat_eq k m) (Ok m) (Err (fault BODY_DIFFERS (span_of b))) in
     let inner = λ (m : ℕ). chain (verdict b (entry x m ∷ scope) (suc d)) (last m) in
     let next = λ (m : ℕ). unless_taken (lookup scope x) (fault NAME_TAKEN u) (inner m) in
     test_is_err (nat_le n max_turns) (cond (nat_lt d max_loops) (chain (verdict r scope d) next) (Err (fault TOO_DEEP s))) (fault TOO_MANY_TURNS t) f (G f) h
-    (λ e k. subst G k (FaultIn.iterate_turns (leb-false n max_turns e)))
+    (λ e k. subst G k (FaultIn.loop_turns (leb-false n max_turns e)))
     (λ few k. test_is_err (nat_lt d max_loops) (chain (verdict r scope d) next) (fault TOO_DEEP s) f (G f) k
-    (λ e i. subst G i (FaultIn.iterate_depth (leb-true n max_turns few) (ltb-false d max_loops e)))
+    (λ e i. subst G i (FaultIn.loop_depth (leb-true n max_turns few) (ltb-false d max_loops e)))
     (λ shallow i. chain_is_err (verdict r scope d) next f (G f) i
-    (λ e. FaultIn.iterate_start (leb-true n max_turns few) (ltb-true d max_loops shallow) (checked_fault r scope d f e))
+    (λ e. FaultIn.loop_start (leb-true n max_turns few) (ltb-true d max_loops shallow) (checked_fault r scope d f e))
     (λ m e j. unless_is_err (lookup scope x) (fault NAME_TAKEN u) (inner m) f (G f) j
-    (λ k a c. subst G c (FaultIn.iterate_variable m k (leb-true n max_turns few) (ltb-true d max_loops shallow) (checked_typed r scope d m e) a))
+    (λ k a c. subst G c (FaultIn.loop_variable m k (leb-true n max_turns few) (ltb-true d max_loops shallow) (checked_typed r scope d m e) a))
     (λ free c. chain_is_err (verdict b (entry x m ∷ scope) (suc d)) (last m) f (G f) c
-    (λ a. FaultIn.iterate_body m (leb-true n max_turns few) (ltb-true d max_loops shallow) (checked_typed r scope d m e) free (checked_fault b (entry x m ∷ scope) (suc d) f a))
+    (λ a. FaultIn.loop_body m (leb-true n max_turns few) (ltb-true d max_loops shallow) (checked_typed r scope d m e) free (checked_fault b (entry x m ∷ scope) (suc d) f a))
     (λ k a c. test_is_err (nat_eq k m) (Ok m) (fault BODY_DIFFERS (span_of b)) f (G f) c
-    (λ no i. subst G i (FaultIn.iterate_arity m k (leb-true n max_turns few) (ltb-true d max_loops shallow) (checked_typed r scope d m e) free (checked_typed b (entry x m ∷ scope) (suc d) k a) (false_differ k m no)))
+    (λ no i. subst G i (FaultIn.loop_arity m k (leb-true n max_turns few) (ltb-true d max_loops shallow) (checked_typed r scope d m e) free (checked_typed b (entry x m ∷ scope) (suc d) k a) (false_differ k m no)))
     (λ yes i. absurd (cc)))))))

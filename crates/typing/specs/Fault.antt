@@ -21,4 +21,4 @@ span_of (RelTree.set_operation s o p q) = s
 span_of (RelTree.join s p q ps) = s
 span_of (RelTree.group s r ks gs) = s
 span_of (RelTree.distinct s r) = s
-span_of (RelTree.iterate s t n u x r b) = s
+span_of (RelTree.loop s w t n u x r b) = s

@@ -8,6 +8,7 @@ use Rattle.expr_tree.specs.declared.relation.Pair.{Pair}
 use Rattle.expr_tree.specs.declared.relation.Agg.{Agg}
 use Rattle.expr_tree.specs.declared.relation.SetOperator.{SetOperator}
 use Rattle.expr_tree.specs.declared.program.Input.{Input}
+use Rattle.expr_tree.specs.declared.relation.LoopForm.{LoopForm}
 use Rattle.expr_tree.specs.Trees.{ScalarTree, CondTree, RelTree, LetTree, OutputTree, ProgramTree}
 use Rattle.expr_tree.specs.Plain.{plain_rel, plain_input}
 use Rattle.semantics.specs.Limits.{max_inputs, max_outputs, max_turns, max_loops}
@@ -62,20 +63,20 @@ pub data FaultIn : RelTree → Scope → ℕ → Fault → Type 0 where
       → ¬ IsArity (length ks + length gs) → FaultIn (RelTree.group s r ks gs) scope d (fault BAD_ARITY s)
   -- distinct: its relation
   distinct_part : {s : Span} {r : RelTree} {scope : Scope} {d : ℕ} {f : Fault} → FaultIn r scope d f → FaultIn (RelTree.distinct s r) scope d f
-  -- iterate: the turns, the depth, the start, the variable, the body, the body's arity
-  iterate_turns : {s t u : Span} {n : ℕ} {x : List ℕ} {r b : RelTree} {scope : Scope} {d : ℕ} → max_turns < n
-      → FaultIn (RelTree.iterate s t n u x r b) scope d (fault TOO_MANY_TURNS t)
-  iterate_depth : {s t u : Span} {n : ℕ} {x : List ℕ} {r b : RelTree} {scope : Scope} {d : ℕ} → n ≤ max_turns
-      → max_loops ≤ d → FaultIn (RelTree.iterate s t n u x r b) scope d (fault TOO_DEEP s)
-  iterate_start : {s t u : Span} {n : ℕ} {x : List ℕ} {r b : RelTree} {scope : Scope} {d : ℕ} {f : Fault} → n ≤ max_turns
-      → d < max_loops → FaultIn r scope d f → FaultIn (RelTree.iterate s t n u x r b) scope d f
-  iterate_variable : {s t u : Span} {n : ℕ} {x : List ℕ} {r b : RelTree} {scope : Scope} {d : ℕ} (m k : ℕ) → n ≤ max_turns → d < max_loops
-      → HasArity (plain_rel r) scope d m → lookup scope x ≡ Some k → FaultIn (RelTree.iterate s t n u x r b) scope d (fault NAME_TAKEN u)
-  iterate_body : {s t u : Span} {n : ℕ} {x : List ℕ} {r b : RelTree} {scope : Scope} {d : ℕ} {f : Fault} (m : ℕ) → n ≤ max_turns → d < max_loops
-      → HasArity (plain_rel r) scope d m → lookup scope x ≡ None → FaultIn b (entry x m ∷ scope) (suc d) f → FaultIn (RelTree.iterate s t n u x r b) scope d f
-  iterate_arity : {s t u : Span} {n : ℕ} {x : List ℕ} {r b : RelTree} {scope : Scope} {d : ℕ} (m k : ℕ) → n ≤ max_turns → d < max_loops
+  -- a loop: the turns, the depth, the start, the variable, the body, the body's arity
+  loop_turns : {s t u : Span} {w : LoopForm} {n : ℕ} {x : List ℕ} {r b : RelTree} {scope : Scope} {d : ℕ} → max_turns < n
+      → FaultIn (RelTree.loop s w t n u x r b) scope d (fault TOO_MANY_TURNS t)
+  loop_depth : {s t u : Span} {w : LoopForm} {n : ℕ} {x : List ℕ} {r b : RelTree} {scope : Scope} {d : ℕ} → n ≤ max_turns
+      → max_loops ≤ d → FaultIn (RelTree.loop s w t n u x r b) scope d (fault TOO_DEEP s)
+  loop_start : {s t u : Span} {w : LoopForm} {n : ℕ} {x : List ℕ} {r b : RelTree} {scope : Scope} {d : ℕ} {f : Fault} → n ≤ max_turns
+      → d < max_loops → FaultIn r scope d f → FaultIn (RelTree.loop s w t n u x r b) scope d f
+  loop_variable : {s t u : Span} {w : LoopForm} {n : ℕ} {x : List ℕ} {r b : RelTree} {scope : Scope} {d : ℕ} (m k : ℕ) → n ≤ max_turns → d < max_loops
+      → HasArity (plain_rel r) scope d m → lookup scope x ≡ Some k → FaultIn (RelTree.loop s w t n u x r b) scope d (fault NAME_TAKEN u)
+  loop_body : {s t u : Span} {w : LoopForm} {n : ℕ} {x : List ℕ} {r b : RelTree} {scope : Scope} {d : ℕ} {f : Fault} (m : ℕ) → n ≤ max_turns → d < max_loops
+      → HasArity (plain_rel r) scope d m → lookup scope x ≡ None → FaultIn b (entry x m ∷ scope) (suc d) f → FaultIn (RelTree.loop s w t n u x r b) scope d f
+  loop_arity : {s t u : Span} {w : LoopForm} {n : ℕ} {x : List ℕ} {r b : RelTree} {scope : Scope} {d : ℕ} (m k : ℕ) → n ≤ max_turns → d < max_loops
       → HasArity (plain_rel r) scope d m → lookup scope x ≡ None → HasArity (plain_rel b) (entry x m ∷ scope) (suc d) k → k ≢ m
-      → FaultIn (RelTree.iterate s t n u x r b) scope d (fault BODY_DIFFERS (span_of b))
+      → FaultIn (RelTree.loop s w t n u x r b) scope d (fault BODY_DIFFERS (span_of b))
 
 -- the first fault of inputs that follow those in the scope: of each its name, its arity, its number
 pub data InputFault : List Input → Scope → Fault → Type 0 where

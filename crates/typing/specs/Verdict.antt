@@ -59,7 +59,7 @@ verdict (RelTree.group s r ks gs) scope d =
     chain (verdict r scope d)
     (λ m. within (first_beyond (flat_map (key_columns m) ks)) (within (first_beyond (flat_map (agg_columns m) gs)) (sized s (length ks + length gs))))
 verdict (RelTree.distinct s r) scope d = verdict r scope d
-verdict (RelTree.iterate s t n u x r b) scope d =
+verdict (RelTree.loop s w t n u x r b) scope d =
     within_limits n t d s
     (chain (verdict r scope d) (λ m. unless_taken (lookup scope x) (fault NAME_TAKEN u)
     (chain (verdict b (entry x m ∷ scope) (suc d)) (λ k. cond (nat_eq k m) (Ok m) (Err (fault BODY_DIFFERS (span_of b)))))))

@@ -79,7 +79,7 @@ fn place<A: Allocator>(relation: &Rel<A>) -> Span
         | Rel::Join(span, _, _, _)
         | Rel::Group(span, _, _, _)
         | Rel::Distinct(span, _) => *span,
-        Rel::Iterate { span, .. } => *span,
+        Rel::Loop { span, .. } => *span,
     }
 }
 
@@ -165,7 +165,7 @@ pub(crate) fn arity_of<A: Allocator>(
         }
         Rel::Group(span, of, keys, aggs) => group_arity(names, *span, of, keys, aggs, depth),
         Rel::Distinct(_, of) => arity_of(names, of, depth),
-        Rel::Iterate {
+        Rel::Loop {
             span,
             turns_span,
             turns,
@@ -173,6 +173,7 @@ pub(crate) fn arity_of<A: Allocator>(
             name,
             start,
             body,
+            ..
         } => {
             loop_limits(*turns, *turns_span, depth, *span)?;
             let arity = arity_of(names, start, depth)?;

@@ -1,5 +1,5 @@
 -- What is kept and sent fits, or some of it is too often.
-use Rattle.std.proofs.Common.{◌≡◌, ℕ, zero, suc, ◌<◌, ◌≤◌, Bool, List, [], Some, None, subst, sym, ap, arith, ◌∙◌, Result, ◌↔◌}
+use Rattle.std.proofs.Common.{◌≡◌, ℕ, zero, suc, ◌<◌, ◌≤◌, Bool, true, false, cond, List, [], Some, None, subst, sym, ap, arith, ◌∙◌, Result, ◌↔◌}
 use Rattle.std.specs.Prelude.{Option, IfErr}
 use Rattle.std.proofs.lemmas.Result.{IfErr-weaker}
 use Rattle.rows.specs.Counts.{AllFit, AreRunCounts, AreRuns, IsOver, Run, expanded, rows_of, runs}
@@ -38,6 +38,11 @@ batch_sent o batch h f e = subst (λ p. AllFit (records_of p)) (sym e) (batch_fi
 
 pub counted_sent : (o : Option (List Record)) (cs : List Run) → AreDifferent (rows_of cs) → AreRunCounts cs → records_of o ≡ expanded cs → AllFit (records_of o)
 counted_sent o cs d h e = subst AllFit (sym e) (all_fit cs (are_runs cs d h))
+
+-- all of what fits, or none of it
+pub all_or_none : (b : Bool) (o : Option (List Record)) (xs : List Record) → AllFit xs → records_of o ≡ cond b xs [] → AllFit (records_of o)
+all_or_none true o xs h e = subst AllFit (sym e) h
+all_or_none false o xs h e = subst AllFit (sym e) nothing_fits
 
 -- by two ports
 pub both_sent : (first second : Option (List Record)) (asked : Bool) → AllFit (records_of first) → AllFit (records_of second) → (q : ℕ) → AllFit (sent 2 (record { first = first; second = second; asked = asked }) q)
@@ -91,6 +96,7 @@ few_ports Kind.ingress = omega arith
 few_ports Kind.egress = omega arith
 few_ports Kind.feedback = omega arith
 few_ports (Kind.gate n) = omega arith
+few_ports (Kind.unseen n) = omega arith
 few_ports (Kind.hold n) = omega arith
 
 pub port_known : (s : Shard) (p : ℕ) → p < in_ports (shard_kind s) → p < 2

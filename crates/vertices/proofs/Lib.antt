@@ -2,6 +2,7 @@ pub mod Sets
 pub mod Counting
 pub mod Fitting
 pub mod PortSets
+pub mod Earlier
 pub mod Times
 pub mod Pairs
 pub mod Sending

@@ -6,7 +6,7 @@ use Rattle.semantics.specs.Multiset.{Record, ◌≈◌}
 use Rattle.semantics.specs.Op.{op}
 use Rattle.semantics.specs.Shard.{Absorbed, SendsBy, absorbed_by, only_at, with_records}
 use Rattle.semantics.specs.Time.{Time, same_time}
-use Rattle.semantics.proofs.MultisetSums.{append_same, ≈-refl, ≈-trans}
+use Rattle.semantics.proofs.MultisetSums.{append_same, ≈-refl, ≈-trans, ≈-sym, ≈-from, empty_from_same}
 use Rattle.semantics.proofs.OneFlow.{cond_same, op_same}
 use Rattle.vertices.specs.Kept.{kept_by}
 use Rattle.vertices.specs.Outs.{Sends, WouldSendOver}
@@ -14,7 +14,7 @@ use Rattle.vertices.specs.Shards.{Shows}
 use Rattle.vertices.specs.States.{AreSetsOf, AreSetsThen}
 use Rattle.vertices.specs.declared.port_sets.PortSets.{PortSets}
 use Rattle.vertices.specs.declared.shard.Shard.{Shard}
-use Rattle.vertices.specs.declared.shard.Shard.TheVariants.{Input, Output, Select, Where, Concat, Join, Group, Distinct, Except, Intersect, Ingress, Egress, Feedback, Gate, Hold}
+use Rattle.vertices.specs.declared.shard.Shard.TheVariants.{Input, Output, Select, Where, Concat, Join, Group, Distinct, Except, Intersect, Ingress, Egress, Feedback, Gate, Unseen, Hold}
 use Rattle.vertices.proofs.SameStates.{distinct_same_states, group_same_states, join_same_states, some_same, states_same}
 
 -- ---- what is shown
@@ -47,6 +47,7 @@ Shows_same (Ingress s) a b e h = tt
 Shows_same (Egress s) a b e h = tt
 Shows_same (Feedback s) a b e h = tt
 Shows_same (Gate s) a b e h = tt
+Shows_same (Unseen s) a b e h = (states_same (AreSetsThen s.came.arity) (sets_then_same s.came.arity) s.came.times a b e h.0, λ t. empty_from_same (b 1 t) (≈-trans (≈-sym (e 1 t)) (≈-from (h.1 t))))
 Shows_same (Hold s) a b e h = tt
 
 -- ---- what is absorbed

@@ -3,7 +3,7 @@ use Rattle.std.specs.Prelude.{ℕ, zero, suc, Bool, List, Option, ◌⊎◌}
 use Rattle.rows.specs.Counts.{IsOver, records_in}
 use Rattle.semantics.specs.Kinds.{Kind, role, in_ports, out_ports}
 use Rattle.semantics.specs.Multiset.{Record, end_to_end}
-use Rattle.semantics.specs.Op.{op}
+use Rattle.semantics.specs.Op.{op, reads}
 use Rattle.semantics.specs.Shard.{Absorbed, SendsAtNotification, SendsBy, absorbed_by, asks}
 use Rattle.semantics.specs.Time.{Time}
 use Rattle.vertices.specs.Kept.{kept_by}
@@ -43,7 +43,7 @@ GoesOver kind t a port records = IsOver (kept_by (role kind) a port t records) �
 
 -- what it sends at its notification of a time
 abbrev pub SendsForNotification : Kind → Time → Absorbed → Out → Type 0
-SendsForNotification kind t a out = SendsAtNotification (λ q ins. op kind t ins q) (λ p. a p t) (sent (out_ports kind) out)
+SendsForNotification kind t a out = SendsAtNotification (λ q ins. op kind t ins q) (reads kind a t) (sent (out_ports kind) out)
 
 -- whether it asks for a notification when records of a time come
 abbrev pub asks_at : Kind → Time → Absorbed → Bool

@@ -4,6 +4,7 @@ use Rattle.expr_tree.specs.Plain.{plain_scalar, plain_cond, plain_pair}
 use Rattle.expr_tree.specs.Views.{scalar_tree, cond_tree}
 use Rattle.semantics.specs.Kinds as semantics
 use Rattle.semantics.specs.Shard.{Absorbed}
+use Rattle.semantics.specs.Time.{Time}
 use Rattle.vertices.specs.ByTime.{AreStatesOf}
 use Rattle.vertices.specs.Groups.{columns_of, aggregates_of}
 use Rattle.vertices.specs.Joins.{IsSidesOf}
@@ -12,7 +13,7 @@ use Rattle.vertices.specs.Piles.{IsPileThen}
 use Rattle.vertices.specs.States.{IsSetOf, AreSetsOf, AreSetsThen}
 use Rattle.vertices.specs.declared.shard.Shard.{Shard}
 use Rattle.vertices.specs.declared.shard.Shard.TheVariants.{Input, Output, Select, Where, Concat, Join, Group, Distinct}
-use Rattle.vertices.specs.declared.shard.Shard.TheVariants.{Except, Intersect, Ingress, Egress, Feedback, Gate, Hold}
+use Rattle.vertices.specs.declared.shard.Shard.TheVariants.{Except, Intersect, Ingress, Egress, Feedback, Gate, Unseen, Hold}
 
 -- the kind of its vertex
 abbrev pub shard_kind : Shard → semantics.Kind
@@ -30,6 +31,7 @@ shard_kind (Ingress s) = semantics.Kind.ingress
 shard_kind (Egress s) = semantics.Kind.egress
 shard_kind (Feedback s) = semantics.Kind.feedback
 shard_kind (Gate s) = semantics.Kind.gate s.turns
+shard_kind (Unseen s) = semantics.Kind.unseen s.turns
 shard_kind (Hold s) = semantics.Kind.hold s.turns
 
 -- records of that arity may come to that port
@@ -48,6 +50,7 @@ TakesArity (Ingress s) port n = Unit {0}
 TakesArity (Egress s) port n = Unit {0}
 TakesArity (Feedback s) port n = Unit {0}
 TakesArity (Gate s) port n = Unit {0}
+TakesArity (Unseen s) port n = n ≡ s.came.arity
 TakesArity (Hold s) port n = Unit {0}
 
 -- The shard has absorbed these records, in some order. A shard without a state shows nothing of them; a spoiled one shows no list.
@@ -66,6 +69,7 @@ Shows (Ingress s) a = Unit {0}
 Shows (Egress s) a = Unit {0}
 Shows (Feedback s) a = Unit {0}
 Shows (Gate s) a = Unit {0}
+Shows (Unseen s) a = AreStatesOf (AreSetsThen s.came.arity) s.came.times a × ((t : Time) → a 1 t ≡ [])
 Shows (Hold s) a = Unit {0}
 
 -- a shard of that kind, whose in ports take records of these arities, and which has absorbed nothing

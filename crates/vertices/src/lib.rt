@@ -35,6 +35,7 @@ mod shard;
 mod sides;
 mod stateful;
 mod stateless;
+mod unseen;
 mod vertex_shard;
 
 pub use distinct::DistinctShard;

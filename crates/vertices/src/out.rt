@@ -1,6 +1,6 @@
 //! What a shard sends and asks for.
 
-ghost use Rattle.std.specs.Prelude.{◌≡◌, None, OnOk, IfErr, false};
+ghost use Rattle.std.specs.Prelude.{◌≡◌, None, OnOk, IfErr, false, cond, []};
 ghost use Rattle.rows.specs.Counts.{AllFit, expanded, rows_of};
 ghost use Rattle.rows.specs.Indexes.{AreDifferent};
 ghost use Rattle.vertices.specs.declared.fault.ShardFault.TheVariants.{NoMemory};
@@ -56,6 +56,33 @@ impl Out {
     {
         let _empty = rows.is_empty();
         self.first = Batch::from_counted(alloc, rows)?;
+        Ok(())
+    }
+
+    /// Sends rows by port 1, if there are some, and the same ones by port 0 if they go around. They are different.
+    pub(crate) fn send_new(
+        &mut self,
+        alloc: Global,
+        rows: CountedRows,
+        around: bool,
+    ) -> Result<(), ShardFault>
+        requires { AreDifferent (rows_of rows.runs) }
+        ensures first { OnOk result (records_of self.new.first ≡ cond around (expanded rows.runs) []) }
+        ensures second { OnOk result (records_of self.new.second ≡ expanded rows.runs) }
+        ensures fits_first { OnOk result (AllFit (records_of self.new.first)) }
+        ensures fits_second { OnOk result (AllFit (records_of self.new.second)) }
+        ensures never { IfErr result (λ e. e ≡ NoMemory) }
+        ensures asked { self.new.asked ≡ self.old.asked }
+    {
+        let _empty = rows.is_empty();
+        let batch = Batch::from_counted(alloc, rows)?;
+        self.first = None;
+        if around {
+            if let Some(batch) = &batch {
+                self.first = Some(batch.share()?);
+            }
+        }
+        self.second = batch;
         Ok(())
     }
 }

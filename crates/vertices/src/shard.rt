@@ -17,8 +17,12 @@ use crate::group::GroupShard;
 use crate::intersect::IntersectShard;
 use crate::join::JoinShard;
 use crate::out::Out;
-use crate::stateful::{distinct, except, except_notified, group, group_notified, intersect, join};
+use crate::stateful::{
+    distinct, except, except_notified, group, group_notified, intersect, join, unseen,
+    unseen_notified,
+};
 use crate::stateless::{filter, forward, gate, hold, select};
+use crate::unseen::UnseenShard;
 use loop_context::Time;
 use operators::{Concat, Egress, Feedback, Gate, Hold, Ingress, Input, Output, Select, Where};
 use rows::Batch;
@@ -41,6 +45,7 @@ pub enum Shard {
     Egress(Egress),
     Feedback(Feedback),
     Gate(Gate),
+    Unseen(UnseenShard),
     Hold(Hold),
 }
 
@@ -76,7 +81,8 @@ impl Shard {
             | Shard::Group(_)
             | Shard::Distinct(_)
             | Shard::Except(_)
-            | Shard::Intersect(_) => self.absorb(alloc, port, time, &batch, out),
+            | Shard::Intersect(_)
+            | Shard::Unseen(_) => self.absorb(alloc, port, time, &batch, out),
             Shard::Select(_)
             | Shard::Where(_)
             | Shard::Concat(_)
@@ -107,6 +113,10 @@ impl Shard {
             }
             Shard::Except(shard) => {
                 except_notified(shard, alloc, time, out)?;
+                Ok(())
+            }
+            Shard::Unseen(shard) => {
+                unseen_notified(shard, alloc, time, out)?;
                 Ok(())
             }
             Shard::Input(_) => unreachable!(),
@@ -169,6 +179,10 @@ impl Shard {
                 intersect(shard, alloc, port, time, batch, out)?;
                 Ok(())
             }
+            Shard::Unseen(shard) => {
+                unseen(shard, time, batch, out)?;
+                Ok(())
+            }
             Shard::Input(_) => unreachable!(),
             Shard::Output(_) => unreachable!(),
             Shard::Select(_) => unreachable!(),
@@ -224,6 +238,7 @@ impl Shard {
                 Ok(())
             }
             Shard::Hold(operator) => hold(operator, time, batch, out),
+            Shard::Unseen(_) => unreachable!(),
             Shard::Input(_) => unreachable!(),
             Shard::Output(_) => unreachable!(),
             Shard::Join(_) => unreachable!(),

@@ -21,6 +21,7 @@ use crate::intersect::IntersectShard;
 use crate::join::JoinShard;
 use crate::join_plan::JoinPlan;
 use crate::shard::Shard;
+use crate::unseen::UnseenShard;
 use expr_tree::{Agg, Column, Cond, Pair, Scalar, copy_cond, copy_scalars};
 use graph::{Kind, Vertex};
 use operators::{
@@ -78,6 +79,13 @@ pub fn new_shard(
         Kind::Egress => Ok(Shard::Egress(Egress)),
         Kind::Feedback => Ok(Shard::Feedback(Feedback)),
         Kind::Gate(turns) => Ok(Shard::Gate(Gate { turns: *turns })),
+        Kind::Unseen(turns) => {
+            let came = ExceptShard::new(alloc, first)?;
+            Ok(Shard::Unseen(UnseenShard {
+                turns: *turns,
+                came,
+            }))
+        }
         Kind::Hold(turns) => Ok(Shard::Hold(Hold { turns: *turns })),
     }
 }

@@ -14,7 +14,7 @@ use Rattle.lexer.specs.declared.token.TokenKind.TheVariants as kind
 use Rattle.lexer.specs.Tokens.{Spells, LexesTo}
 use Rattle.grammar.specs.Phrases.{Listed, one, more}
 use Rattle.grammar.specs.Scalars.{ScalarAt}
-use Rattle.grammar.specs.Relations.{Reads, named, select, filter, set_operation, join, group, distinct, iterate, ColumnAt, PairAt, AggAt}
+use Rattle.grammar.specs.Relations.{Reads, named, select, filter, set_operation, join, group, distinct, iterate, closure, ColumnAt, PairAt, AggAt}
 use Rattle.grammar.specs.Programs.{Inputs, no_input, input, Lets, no_let, binding, default_name, OutputAt, Outputs}
 use Rattle.grammar.specs.Programs as program
 use Rattle.grammar.specs.Texts as text
@@ -66,7 +66,7 @@ some_one S [] f = absurd f
 some_one S (x ∷ xs) f = omega arith
 
 from_rel : {body : List ℕ} {t : RelTree} {h : ℕ} {ts us : List Token} → Reads body ts t h us → Small ts → Found IsRelSource rel_height t h us
-from_rel (named n) s = record { source = n.1; low = omega arith; rest = s.1 }
+from_rel (named n w) s = record { source = n.1; low = omega arith; rest = s.1 }
 from_rel (select {xs = xs} {k = k} d r) s =
     let a = from_rel d s.1.1 in
     let b = from_list ScalarAt IsScalarSource scalar_height find_scalar _ _ xs k r a.rest.1 in
@@ -106,6 +106,12 @@ from_rel (group {ks = ks} {xs = xs} {k = k} {n = n} d r f) s =
     record { source = (a.source, b.source, c.source); low = omega arith; rest = c.rest.1 }
 from_rel (distinct d) s = let a = from_rel d s.1.1 in let l = a.low in record { source = a.source; low = omega arith; rest = a.rest.1 }
 from_rel (iterate n i d r) s =
+    let a = from_rel d s.1.1.1.1.1.1 in
+    let b = from_rel r a.rest.1 in
+    let l = a.low in
+    let m = b.low in
+    record { source = (n, i.1, a.source, b.source); low = omega arith; rest = b.rest.1 }
+from_rel (closure z w n i d r) s =
     let a = from_rel d s.1.1.1.1.1.1 in
     let b = from_rel r a.rest.1 in
     let l = a.low in

@@ -81,7 +81,7 @@ lets_back text (l ∷ ls) w ts us s last =
     let c = cut (rel_pieces l.relation ++ line_end) (flat_map let_pieces ls) p.4 in
     let e = cut (rel_pieces l.relation) line_end c.first in
     let q = e.second in
-    let r = rel_back text l.relation w.0.1 p.1 (mark_at sign.Semicolon q.0 ∷ c.vs) (rw (q.2, q.4) at e.first) in
+    let r = rel_back text l.relation w.0.1 p.1 (mark_at sign.Semicolon q.0 ∷ c.vs) (rw (q.2, q.4) at e.first) (λ e. cc) in
     let b = lets_back text ls w.1 c.vs us c.second last in
     record {
       lets = let_at text n.0 r.tree ∷ b.lets;
@@ -127,7 +127,7 @@ output_back text o w ts us s =
     let c = cut (naming o.name) (rel_pieces o.relation ++ line_end) s.4 in
     let e = cut (rel_pieces o.relation) line_end c.second in
     let q = e.second in
-    let r = rel_back text o.relation w.1 c.vs (mark_at sign.Semicolon q.0 ∷ us) (rw (q.2, q.4) at e.first) in
+    let r = rel_back text o.relation w.1 c.vs (mark_at sign.Semicolon q.0 ∷ us) (rw (q.2, q.4) at e.first) (λ e. cc) in
     let n = naming_back text s.0 q.0 o.name (bytes_eq o.name default_name) (λ e. (bytes_eq-Decides o.name default_name).0 e) w.0 r.tree (rel_height o.relation) s.1 c.vs us c.first r.reads in
     record { tree = output_of s.0 n.place n.name r.tree; same = ap₂ plain_output_of n.same r.same; reads = output_at s.2 n.reads }
 

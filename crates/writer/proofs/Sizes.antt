@@ -35,7 +35,7 @@ rel_high (RelTree.set_operation s o a b) = omega arith
 rel_high (RelTree.join s a b ps) = omega arith
 rel_high (RelTree.group s r ks gs) = omega arith
 rel_high (RelTree.distinct s r) = omega arith
-rel_high (RelTree.iterate s t n u x r b) = omega arith
+rel_high (RelTree.loop s f t n u x r b) = omega arith
 
 -- nothing fits where there is no room
 pub no_room : (P : Type 0) (h room : ℕ) → room ≡ 0 → 1 ≤ h → IsTrue false ↔ (P × (h ≤ room))

@@ -9,20 +9,23 @@ use Rattle.lexer.specs.declared.mark.Mark.{Mark}
 use Rattle.lexer.specs.declared.mark.Mark.TheVariants as sign
 use Rattle.expr_tree.specs.declared.relation.Column.{Column}
 use Rattle.expr_tree.specs.declared.relation.Agg.TheVariants.{Count, Sum, Min, Max}
+use Rattle.expr_tree.specs.declared.relation.LoopForm.{LoopForm}
+use Rattle.expr_tree.specs.declared.relation.LoopForm.TheVariants.{Iterate, Closure}
 use Rattle.expr_tree.specs.declared.program.Input.{Input}
 use Rattle.expr_tree.specs.Trees.{ScalarTree, CondTree, RelTree, LetTree, OutputTree, ProgramTree}
 use Rattle.grammar.specs.Relations.{operator_keyword}
 use Rattle.grammar.specs.Programs.{default_name}
 use Rattle.writer.specs.declared.rank.ScalarRank.TheVariants.{Single}
-use Rattle.writer.specs.Pieces.{Piece, word, Word, of_mark, of_keyword, space, spaced, in_round, in_square, comma, semicolon, listed, form}
+use Rattle.writer.specs.Pieces.{Piece, word, Word, of_mark, of_keyword, space, spaced, in_round, in_square, comma, semicolon, listed, form, headed}
 use Rattle.writer.specs.Scalars as scalar
 use Rattle.writer.specs.Scalars.{scalar_pieces, scalar_rank}
 use Rattle.writer.specs.Conditions as condition
 use Rattle.writer.specs.Conditions.{cond_pieces, cond_rank}
-use Rattle.writer.specs.Relations.{column_pieces, pair_pieces, agg_of, agg_pieces, rel_pieces}
+use Rattle.writer.specs.Relations.{column_pieces, pair_pieces, agg_of, agg_pieces, loop_word, rel_pieces}
 use Rattle.writer.specs.Programs.{line_end, input_pieces, let_pieces, naming, output_pieces, program_pieces}
 use Rattle.writer.specs.Sources.{Each, Filled, IsLiteral, IsScalarSource, IsCondSource, IsColumnSource, IsPairSource, IsAggSource, IsRelSource, IsInputSource, IsLetSource, IsOutputSource, IsSource}
 use Rattle.writer.proofs.Checks.{filled_each}
+use Rattle.writer.proofs.PieceTokens.{closure_name}
 use Rattle.writer.proofs.PiecesApart.{Apart, Soft, apart_append, opens, opens_append, no_equal_first}
 
 -- a phrase: words apart, and no `=` first
@@ -108,6 +111,10 @@ fine_agg (Sum s c) w = fine_of keyword.Sum c w
 fine_agg (Min s c) w = fine_of keyword.Min c w
 fine_agg (Max s c) w = fine_of keyword.Max c w
 
+fine_headed : (f : LoopForm) (ps : List Piece) → Fine ps → Fine (headed (loop_word f) ps)
+fine_headed Iterate ps f = let r = fine_round true ps f in record { apart = (refl, refl, r.apart); opens = refl }
+fine_headed Closure ps f = let r = fine_round true ps f in record { apart = (closure_name, refl, r.apart); opens = refl }
+
 pub fine_rel : (t : RelTree) → IsRelSource t → Fine (rel_pieces t)
 fine_rel (RelTree.named s x) w = record { apart = (w, refl, tt); opens = refl }
 fine_rel (RelTree.select s r xs) w = fine_form keyword.Select (rel_pieces r ++ (semicolon ++ listed scalar_pieces xs)) (fine_semicolon (rel_pieces r) (listed scalar_pieces xs) (fine_rel r w.0) (fine_listed scalar_pieces IsScalarSource fine_scalar xs w.1).apart)
@@ -120,9 +127,9 @@ fine_rel (RelTree.group s r ks gs) w =
     let second = fine_semicolon (listed column_pieces ks) (listed agg_pieces gs) (fine_listed column_pieces IsColumnSource fine_column ks w.1) (fine_listed agg_pieces IsAggSource fine_agg gs w.2).apart in
     fine_form keyword.Group (rel_pieces r ++ (semicolon ++ (listed column_pieces ks ++ (semicolon ++ listed agg_pieces gs)))) (fine_semicolon (rel_pieces r) (listed column_pieces ks ++ (semicolon ++ listed agg_pieces gs)) (fine_rel r w.0) second.apart)
 fine_rel (RelTree.distinct s r) w = fine_form keyword.Distinct (rel_pieces r) (fine_rel r w)
-fine_rel (RelTree.iterate s t n u x r b) w =
+fine_rel (RelTree.loop s f t n u x r b) w =
     let second = fine_semicolon (rel_pieces r) (rel_pieces b) (fine_rel r w.2) (fine_rel b w.3).apart in
-    fine_form keyword.Iterate (word (Word.number n) ∷ semicolon ++ (word (Word.name x) ∷ spaced sign.Equal ++ (rel_pieces r ++ (semicolon ++ rel_pieces b)))) (record { apart = ((refl, w.0), refl, (refl, refl, (refl, (w.1, refl, (refl, (refl, refl, (refl, second.apart))))))); opens = refl })
+    fine_headed f (word (Word.number n) ∷ semicolon ++ (word (Word.name x) ∷ spaced sign.Equal ++ (rel_pieces r ++ (semicolon ++ rel_pieces b)))) (record { apart = ((refl, w.0), refl, (refl, refl, (refl, (w.1, refl, (refl, (refl, refl, (refl, second.apart))))))); opens = refl })
 
 -- a semicolon and a line feed end a phrase
 apart_line : (ps rest : List Piece) → Apart ps → Apart rest → Apart ((ps ++ line_end) ++ rest)

@@ -76,6 +76,10 @@ listed f (x ∷ xs) = f x ++ flat_map (λ y. comma ++ f y) xs
 abbrev pub form : Keyword → List Piece → List Piece
 form k ps = of_keyword k ∷ of_mark sign.OpenRound ∷ ps ++ of_mark sign.CloseRound ∷ []
 
+-- a word and what it takes, in brackets
+abbrev pub headed : Word → List Piece → List Piece
+headed x ps = word x ∷ of_mark sign.OpenRound ∷ ps ++ of_mark sign.CloseRound ∷ []
+
 -- the old bytes, and perhaps more after them
 abbrev pub Extends : List ℕ → List ℕ → Type 0
 Extends old new = (rest : List ℕ) × (new ≡ old ++ rest)

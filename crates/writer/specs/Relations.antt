@@ -7,10 +7,12 @@ use Rattle.expr_tree.specs.declared.relation.Column.{Column}
 use Rattle.expr_tree.specs.declared.relation.Pair.{Pair}
 use Rattle.expr_tree.specs.declared.relation.Agg.{Agg}
 use Rattle.expr_tree.specs.declared.relation.Agg.TheVariants.{Count, Sum, Min, Max}
+use Rattle.expr_tree.specs.declared.relation.LoopForm.{LoopForm}
+use Rattle.expr_tree.specs.declared.relation.LoopForm.TheVariants.{Iterate, Closure}
 use Rattle.expr_tree.specs.declared.relation.SetOperator.{SetOperator}
 use Rattle.expr_tree.specs.Trees.{RelTree}
-use Rattle.grammar.specs.Relations.{operator_keyword}
-use Rattle.writer.specs.Pieces.{Piece, word, Word, of_mark, of_keyword, space, spaced, comma, semicolon, listed, form}
+use Rattle.grammar.specs.Relations.{closure_word, operator_keyword}
+use Rattle.writer.specs.Pieces.{Piece, word, Word, of_mark, of_keyword, space, spaced, comma, semicolon, listed, form, headed}
 use Rattle.writer.specs.Scalars.{scalar_pieces, scalar_height}
 use Rattle.writer.specs.Conditions.{cond_pieces, cond_height}
 
@@ -34,9 +36,14 @@ agg_pieces (Max s c) = agg_of keyword.Max c
 abbrev pub operation_head : SetOperator → List Piece
 operation_head o = of_keyword (operator_keyword o) ∷ of_mark sign.OpenRound ∷ []
 
+-- the word of a loop's form
+abbrev pub loop_word : LoopForm → Word
+loop_word Iterate = Word.keyword keyword.Iterate
+loop_word Closure = Word.name closure_word
+
 -- what a loop begins with: its turns and its variable
-abbrev pub iterate_head : ℕ → List ℕ → List Piece
-iterate_head n x = of_keyword keyword.Iterate ∷ of_mark sign.OpenRound ∷ word (Word.number n) ∷ semicolon ++ (word (Word.name x) ∷ spaced sign.Equal)
+abbrev pub loop_head : LoopForm → ℕ → List ℕ → List Piece
+loop_head f n x = word (loop_word f) ∷ of_mark sign.OpenRound ∷ word (Word.number n) ∷ semicolon ++ (word (Word.name x) ∷ spaced sign.Equal)
 
 -- the pieces of a relation
 abbrev pub rel_pieces : RelTree → List Piece
@@ -47,8 +54,8 @@ rel_pieces (RelTree.set_operation s o a b) = form (operator_keyword o) (rel_piec
 rel_pieces (RelTree.join s a b ps) = form keyword.Join (rel_pieces a ++ (comma ++ (rel_pieces b ++ (semicolon ++ listed pair_pieces ps))))
 rel_pieces (RelTree.group s r ks gs) = form keyword.Group (rel_pieces r ++ (semicolon ++ (listed column_pieces ks ++ (semicolon ++ listed agg_pieces gs))))
 rel_pieces (RelTree.distinct s r) = form keyword.Distinct (rel_pieces r)
-rel_pieces (RelTree.iterate s t n u x r b) =
-    form keyword.Iterate (word (Word.number n) ∷ semicolon ++ (word (Word.name x) ∷ spaced sign.Equal ++ (rel_pieces r ++ (semicolon ++ rel_pieces b))))
+rel_pieces (RelTree.loop s f t n u x r b) =
+    headed (loop_word f) (word (Word.number n) ∷ semicolon ++ (word (Word.name x) ∷ spaced sign.Equal ++ (rel_pieces r ++ (semicolon ++ rel_pieces b))))
 
 -- the greatest of their heights
 abbrev pub heights : {X : Type 0} → (X → ℕ) → List X → ℕ
@@ -64,4 +71,4 @@ rel_height (RelTree.set_operation s o a b) = suc (max (rel_height a) (rel_height
 rel_height (RelTree.join s a b ps) = suc (max (max (rel_height a) (rel_height b)) 1)
 rel_height (RelTree.group s r ks gs) = suc (max (max (rel_height r) 1) 1)
 rel_height (RelTree.distinct s r) = suc (rel_height r)
-rel_height (RelTree.iterate s t n u x r b) = suc (max (rel_height r) (rel_height b))
+rel_height (RelTree.loop s f t n u x r b) = suc (max (rel_height r) (rel_height b))

@@ -62,7 +62,7 @@ IsRelSource (RelTree.set_operation s o a b) = IsRelSource a × IsRelSource b
 IsRelSource (RelTree.join s a b ps) = IsRelSource a × IsRelSource b × Filled IsPairSource ps
 IsRelSource (RelTree.group s r ks gs) = IsRelSource r × Filled IsColumnSource ks × Filled IsAggSource gs
 IsRelSource (RelTree.distinct s r) = IsRelSource r
-IsRelSource (RelTree.iterate s t n u x r b) = IsNumber n × IsName x × IsRelSource r × IsRelSource b
+IsRelSource (RelTree.loop s f t n u x r b) = IsNumber n × IsName x × IsRelSource r × IsRelSource b
 
 abbrev pub IsInputSource : Input → Type 0
 IsInputSource i = IsName i.name × IsNumber i.arity

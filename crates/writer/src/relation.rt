@@ -1,17 +1,18 @@
 //! Relations.
 
-ghost use Rattle.std.specs.Prelude.{◌≡◌, ◌++◌, map, OnOk, OnErr};
+ghost use Rattle.std.specs.Prelude.{◌≡◌, ◌++◌, ◌∷◌, [], map, OnOk, OnErr};
+ghost use Rattle.lexer.specs.declared.mark.Mark.TheVariants as sign;
 ghost use Rattle.expr_tree.specs.Trees.{RelTree};
 ghost use Rattle.expr_tree.specs.Views.{cond_tree, rel_tree, scalar_tree};
-ghost use Rattle.writer.specs.Pieces.{Extends, text_of};
+ghost use Rattle.writer.specs.Pieces.{Extends, of_mark, text_of, word};
 ghost use Rattle.writer.specs.Scalars.{nowhere};
-ghost use Rattle.writer.specs.Relations.{iterate_head, operation_head, rel_pieces};
+ghost use Rattle.writer.specs.Relations.{loop_head, loop_word, operation_head, rel_pieces};
 
 use crate::condition::write_cond;
 use crate::list::{write_aggs, write_columns, write_pairs};
 use crate::push::{push, push_number};
 use crate::scalar::write_scalars;
-use expr_tree::{Agg, Column, Cond, Pair, Rel, Scalar, SetOperator};
+use expr_tree::{Agg, Column, Cond, LoopForm, Pair, Rel, Scalar, SetOperator};
 use record_core::Name;
 use std::alloc::{AllocError, Allocator};
 
@@ -31,13 +32,14 @@ pub fn write_rel<A: Allocator>(out: &mut Vec<u8>, relation: &Rel<A>) -> Result<(
         Rel::Join(_, left, right, pairs) => write_join(out, left, right, pairs),
         Rel::Group(_, of, keys, aggregates) => write_group(out, of, keys, aggregates),
         Rel::Distinct(_, of) => write_distinct(out, of),
-        Rel::Iterate {
+        Rel::Loop {
+            form,
             turns,
             name,
             start,
             body,
             ..
-        } => write_iterate(out, *turns, name, start, body),
+        } => write_loop(out, *form, *turns, name, start, body),
     }
 }
 
@@ -159,12 +161,23 @@ fn write_distinct<A: Allocator>(out: &mut Vec<u8>, of: &Rel<A>) -> Result<(), Al
     push(out, b")")
 }
 
-/// Appends what a loop begins with: its turns and its variable.
-fn write_head(out: &mut Vec<u8>, turns: u64, name: &Name) -> Result<(), AllocError>
-    ensures ok { OnOk result (out.new.items ≡ out.old.items ++ text_of (iterate_head turns name.now)) }
+/// Appends the word of a loop, and its bracket.
+fn write_word(out: &mut Vec<u8>, form: LoopForm) -> Result<(), AllocError>
+    ensures ok { OnOk result (out.new.items ≡ out.old.items ++ text_of (word (loop_word form) ∷ of_mark sign.OpenRound ∷ [])) }
     ensures err { OnErr result (Extends out.old.items out.new.items) }
 {
-    push(out, b"iterate(")?;
+    match form {
+        LoopForm::Iterate => push(out, b"iterate("),
+        LoopForm::Closure => push(out, b"closure("),
+    }
+}
+
+/// Appends what a loop begins with: its turns and its variable.
+fn write_head(out: &mut Vec<u8>, form: LoopForm, turns: u64, name: &Name) -> Result<(), AllocError>
+    ensures ok { OnOk result (out.new.items ≡ out.old.items ++ text_of (loop_head form turns name.now)) }
+    ensures err { OnErr result (Extends out.old.items out.new.items) }
+{
+    write_word(out, form)?;
     push_number(out, turns)?;
     push(out, b"; ")?;
     push(out, name.bytes())?;
@@ -172,18 +185,19 @@ fn write_head(out: &mut Vec<u8>, turns: u64, name: &Name) -> Result<(), AllocErr
 }
 
 #[cycle(write)]
-fn write_iterate<A: Allocator>(
+fn write_loop<A: Allocator>(
     out: &mut Vec<u8>,
+    form: LoopForm,
     turns: u64,
     name: &Name,
     start: &Rel<A>,
     body: &Rel<A>,
 ) -> Result<(), AllocError>
     ensures ok { OnOk result (out.new.items ≡ out.old.items
-        ++ text_of (rel_pieces (RelTree.iterate nowhere nowhere turns nowhere name.now (rel_tree start.now) (rel_tree body.now)))) }
+        ++ text_of (rel_pieces (RelTree.loop nowhere form nowhere turns nowhere name.now (rel_tree start.now) (rel_tree body.now)))) }
     ensures err { OnErr result (Extends out.old.items out.new.items) }
 {
-    write_head(out, turns, name)?;
+    write_head(out, form, turns, name)?;
     write_rel(out, start)?;
     push(out, b"; ")?;
     write_rel(out, body)?;

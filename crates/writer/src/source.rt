@@ -196,7 +196,7 @@ fn rel_fits<A: Allocator>(relation: &Rel<A>, room: u32) -> bool
             rel_fits(of, inside) && are_columns(keys) && are_aggregates(aggregates)
         }
         Rel::Distinct(_, of) => rel_fits(of, inside),
-        Rel::Iterate {
+        Rel::Loop {
             turns,
             name,
             start,

@@ -9,19 +9,19 @@ use Rattle.follow.proofs.Positions.{answer_written, answered, halted, unwritten}
 use Rattle.follow.proofs.following.follow_lines.Goals as goal
 
 pub returns-in-Err-clause-follows : goal.returns-in-Err-clause-follows
-returns-in-Err-clause-follows g c = λ g' bytes left start same w.
+returns-in-Err-clause-follows g c = λ g' bytes ended start same w.
     let p = c.args.position.now in
     let now = g.W.Write.contents (inner_of c.args.writer.now) in
-    subst (λ e. Follows g' bytes left start now (Err e)) (sym c.ending.ensures) (halted g' c.args.board.now.shown p.base p.intake p.reporting bytes p.pending.items left start now c.in-Err.halt w)
+    subst (λ e. Follows g' bytes ended start now (Err e)) (sym c.ending.ensures) (halted g' c.args.board.now.shown p.base p.intake p.reporting bytes p.pending.items ended start now c.in-Err.halt w)
 
 pub returns-in-Err-answer_open-clause-follows : goal.returns-in-Err-answer_open-clause-follows
-returns-in-Err-answer_open-clause-follows g c = λ g' bytes left start same w.
+returns-in-Err-answer_open-clause-follows g c = λ g' bytes ended start same w.
     let p = c.args.position.now in
     let now = g.W.Write.contents (inner_of c.args.writer.now) in
-    subst (λ e. Follows g' bytes left start now (Err e)) (sym c.ending-in-Err-answer_open.ensures) (halted g' c.args.board.now.shown p.base p.intake p.reporting bytes p.pending.items left start now c.in-Err-answer_open.halt w)
+    subst (λ e. Follows g' bytes ended start now (Err e)) (sym c.ending-in-Err-answer_open.ensures) (halted g' c.args.board.now.shown p.base p.intake p.reporting bytes p.pending.items ended start now c.in-Err-answer_open.halt w)
 
 pub returns-in-Ok-put-clause-follows : goal.returns-in-Ok-put-clause-follows
-returns-in-Ok-put-clause-follows g c = λ g' bytes left start same w.
+returns-in-Ok-put-clause-follows g c = λ g' bytes ended start same w.
     let p = c.args.position.now in
     let now = g.W.Write.contents (inner_of c.args.writer.now) in
     let new = g.W.Write.contents (inner_of c.put.new.writer) in
@@ -31,11 +31,11 @@ returns-in-Ok-put-clause-follows g c = λ g' bytes left start same w.
     answer_written g' c.answer_open.new.board.shown p.base c.answer_open.new.intake c.answer_open.new.reporting bytes c.take_text.new.pending.items w.known.text c.in-Ok-answer_open.out.items c.in-Ok.taken start now new a w.written written
 
 pub returns-clause-follows : goal.returns-clause-follows
-returns-clause-follows g c = λ g' bytes left start same w.
+returns-clause-follows g c = λ g' bytes ended start same w.
     let p = c.args.position.now in
     let now = g.W.Write.contents (inner_of c.args.writer.now) in
     let new = g.W.Write.contents (inner_of c.put.new.writer) in
     let takes = subst (λ is. TakesLines p.base c.args.board.now.shown c.take_text.new.board.shown p.intake c.take_text.new.intake is p.pending.items c.take_text.new.pending.items c.in-Ok.taken) same c.in-Ok.ensures in
     let a = answered g' c.args.board.now.shown c.take_text.new.board.shown c.answer_open.new.board.shown p.base p.intake c.take_text.new.intake c.answer_open.new.intake p.reporting c.answer_open.new.reporting bytes p.pending.items c.take_text.new.pending.items c.in-Ok-answer_open.out.items c.in-Ok.taken start now w takes c.in-Ok-answer_open.ensures in
     let written : AppendsFront now new c.in-Ok-answer_open.out.items = subst (λ (xs : List ℕ). AppendsFront now new xs) c.as_slice.ensures.value c.in-Err-put.ensures.err in
-    unwritten g' c.answer_open.new.board.shown p.base c.answer_open.new.intake c.answer_open.new.reporting bytes c.take_text.new.pending.items w.known.text c.in-Ok-answer_open.out.items c.in-Ok.taken left start now new a w.written written
+    unwritten g' c.answer_open.new.board.shown p.base c.answer_open.new.intake c.answer_open.new.reporting bytes c.take_text.new.pending.items w.known.text c.in-Ok-answer_open.out.items c.in-Ok.taken ended start now new a w.written written

@@ -24,23 +24,23 @@ returns-in_ok-add_free-in-Join g t c =
 pub returns-then-not-outside : goal.returns-then-not-outside
 returns-then-not-outside g t c =
     let no : c.contains-outside.result ≡ false = search rules in
-    let start = contains same_name c.add_free-in-Iterate.new.names in
-    let start_names = free (plain_rel (rel_tree c.in-Iterate.start.value)) in
-    let body_names = free (plain_rel (rel_tree c.in-Iterate.body.value)) in
-    rw c.in-Iterate.is
+    let start = contains same_name c.add_free-in-Loop.new.names in
+    let start_names = free (plain_rel (rel_tree c.in-Loop.start.value)) in
+    let body_names = free (plain_rel (rel_tree c.in-Loop.body.value)) in
+    rw c.in-Loop.is
     (adds_both start_names _ (contains same_name c.args.names.now) start (contains same_name c.remove-bound.new.self)
-    (rw c.deref-in-Iterate.ensures at c.in_ok-add_free-in-Iterate.ensures)
-    (adds_bound c.in-Iterate.name body_names start (contains same_name c.add_free-in-Iterate-2.new.names) (contains same_name c.remove-bound.new.self) (sym c.contains-outside.ensures ∙ no)
-    (rw c.deref-in-Iterate-2.ensures at c.in_ok-add_free-in-Iterate-2.ensures) c.remove-bound.ensures.updates.0))
+    (rw c.deref-in-Loop.ensures at c.in_ok-add_free-in-Loop.ensures)
+    (adds_bound c.in-Loop.name body_names start (contains same_name c.add_free-in-Loop-2.new.names) (contains same_name c.remove-bound.new.self) (sym c.contains-outside.ensures ∙ no)
+    (rw c.deref-in-Loop-2.ensures at c.in_ok-add_free-in-Loop-2.ensures) c.remove-bound.ensures.updates.0))
 
 pub returns-else-not-outside : goal.returns-else-not-outside
 returns-else-not-outside g t c =
     let yes : c.contains-outside.result ≡ true = search rules in
-    let start = contains same_name c.add_free-in-Iterate.new.names in
-    let start_names = free (plain_rel (rel_tree c.in-Iterate.start.value)) in
-    let body_names = free (plain_rel (rel_tree c.in-Iterate.body.value)) in
-    rw c.in-Iterate.is
-    (adds_both start_names _ (contains same_name c.args.names.now) start (contains same_name c.add_free-in-Iterate-2.new.names)
-    (rw c.deref-in-Iterate.ensures at c.in_ok-add_free-in-Iterate.ensures)
-    (adds_known c.in-Iterate.name body_names start (contains same_name c.add_free-in-Iterate-2.new.names) (sym c.contains-outside.ensures ∙ yes)
-    (rw c.deref-in-Iterate-2.ensures at c.in_ok-add_free-in-Iterate-2.ensures)))
+    let start = contains same_name c.add_free-in-Loop.new.names in
+    let start_names = free (plain_rel (rel_tree c.in-Loop.start.value)) in
+    let body_names = free (plain_rel (rel_tree c.in-Loop.body.value)) in
+    rw c.in-Loop.is
+    (adds_both start_names _ (contains same_name c.args.names.now) start (contains same_name c.add_free-in-Loop-2.new.names)
+    (rw c.deref-in-Loop.ensures at c.in_ok-add_free-in-Loop.ensures)
+    (adds_known c.in-Loop.name body_names start (contains same_name c.add_free-in-Loop-2.new.names) (sym c.contains-outside.ensures ∙ yes)
+    (rw c.deref-in-Loop-2.ensures at c.in_ok-add_free-in-Loop-2.ensures)))

@@ -1,5 +1,8 @@
+use Rattle.std.proofs.Common.{sym, ◌∙◌}
+use Rattle.std.proofs.lemmas.Bool.{true≢false}
+use Rattle.expr_tree.specs.Plain.{plain_form}
 use Rattle.normalise.proofs.Folding.{normal-folded}
-use Rattle.normalise.proofs.Rewriting.{ok_then, reached_itself, rewritten_then, reached_select, reached_filter, rewritten_set_operation, reached_join, reached_group, reached_distinct, rewritten_no_turns, rewritten_iterate}
+use Rattle.normalise.proofs.Rewriting.{ok_then, reached_itself, rewritten_then, reached_select, reached_filter, rewritten_set_operation, reached_join, reached_group, reached_distinct, rewritten_no_turns, rewritten_loop}
 use Rattle.normalise.proofs.relation.+rewrite.Goals as goal
 
 pub rewritten-returns-in_ok-of-in-Select : goal.rewritten-returns-in_ok-of-in-Select
@@ -31,16 +34,16 @@ rewritten-returns-in_ok-rewritten_in_box-in-Distinct g t c =
     let of = c.in_ok-rewritten_in_box-in-Distinct.ensures in
     rw c.in-Distinct.is (rewritten_then _ _ _ c.distinct_of.ensures (reached_distinct _ _ of.reached))
 
-pub rewritten_loop-returns-then-turns-eq0 : goal.rewritten_loop-returns-then-turns-eq0
-rewritten_loop-returns-then-turns-eq0 g t c =
+pub rewritten_loop-returns-then-is_start : goal.rewritten_loop-returns-then-is_start
+rewritten_loop-returns-then-is_start g t c =
     let start = c.in_ok-start.ensures in
-    rw c.into_inner.ensures (rewritten_no_turns c.args.turns c.args.name _ _ _ c.if-turns-eq0.true start)
+    rw c.into_inner.ensures (rewritten_no_turns (plain_form c.args.form) c.args.turns c.args.name _ _ _ (c.is_start.ensures.0 c.if-is_start.true).0 (c.is_start.ensures.0 c.if-is_start.true).1 start)
 
 pub rewritten_loop-returns : goal.rewritten_loop-returns
 rewritten_loop-returns g t c =
     let start = c.in_ok-start.ensures in
     let body = c.in_ok-body.ensures in
-    rewritten_iterate c.args.turns c.args.name _ _ _ _ c.if-turns-eq0.false start body
+    rewritten_loop (plain_form c.args.form) c.args.turns c.args.name _ _ _ _ (λ e k. true≢false (sym (c.is_start.ensures.1 (e, k)) ∙ c.if-is_start.false)) start body
 
 pub rewritten-returns-in-Named : goal.rewritten-returns-in-Named
 rewritten-returns-in-Named g t c = rw c.in-Named.is (record { reached = reached_itself _; reduced = tt })

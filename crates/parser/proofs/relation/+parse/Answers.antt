@@ -8,20 +8,20 @@ use Rattle.grammar.proofs.Scalars.{one_scalar}
 use Rattle.grammar.proofs.Conditions.{one_condition}
 use Rattle.grammar.proofs.Relations.{one_relation}
 use Rattle.grammar.proofs.Phrases.{one_list, one_column}
-use Rattle.parser.specs.Forms.{opening}
+use Rattle.parser.specs.Forms.{opening, closing}
 use Rattle.parser.specs.declared.relation.Form.TheVariants as form
 use Rattle.parser.proofs.Faults.{denied_with, denied_around, denied_always, passed_on}
 use Rattle.parser.proofs.Lists.{one_ended, unread_ended, no_end}
-use Rattle.parser.proofs.Relations.{named_at, no_rel, no_bracket, unread_open, two_first, two_second, two_high, three_first, three_second, three_third, three_high, once_first, once_high, inside_select, inside_where, inside_set_operation, inside_join, inside_group, inside_distinct, loop_two, no_loop, select_at, where_at, set_operation_at, join_at, group_at, distinct_at, iterate_at}
+use Rattle.parser.proofs.Relations.{named_at, no_rel, no_bracket, unread_open, two_first, two_second, two_high, three_first, three_second, three_third, three_high, once_first, once_high, inside_select, inside_where, inside_set_operation, inside_join, inside_group, inside_distinct, loop_two, no_loop, closure_two, no_closure_loop, closure_at, select_at, where_at, set_operation_at, join_at, group_at, distinct_at, iterate_at}
 use Rattle.parser.proofs.relation.+parse.Goals as goal
 
-pub parse_rel-returns-in-Some-clause-found : goal.parse_rel-returns-in-Some-clause-found
-parse_rel-returns-in-Some-clause-found g t c =
-    named_at _ _ _ _ _ c.in-Some.ensures.0 c.in-Some.ensures.1 c.in-Some.ensures.2
+pub parse_rel-returns-in-Some-after_name-clause-found : goal.parse_rel-returns-in-Some-after_name-clause-found
+parse_rel-returns-in-Some-after_name-clause-found g t c =
+    named_at _ _ _ _ _ c.in-Some-after_name.ensures.0 c.in-Some-after_name.ensures.1 c.in-Some-after_name.ensures.2 c.in_default.ensures
 
 pub parse_rel-returns-in_default-after_form-clause-denied : goal.parse_rel-returns-in_default-after_form-clause-denied
 parse_rel-returns-in_default-after_form-clause-denied g t c =
-    λ m. no_rel _ _ m c.in_default.ensures c.in_default-after_form.ensures
+    λ m. no_rel _ _ m c.in_default-after_name.ensures c.in_default-after_form.ensures
 
 pub parse_rel-returns-in_default-after_mark-clause-denied : goal.parse_rel-returns-in_default-after_mark-clause-denied
 parse_rel-returns-in_default-after_mark-clause-denied g t c =
@@ -114,6 +114,28 @@ parse_iterate-returns-then-most-eq-MAX_HEIGHT-clause-denied g t c =
 pub parse_iterate-returns-clause-found : goal.parse_iterate-returns-clause-found
 parse_iterate-returns-clause-found g t c =
     iterate_at _ _ _ _ _ _ _ _ _ _ _ _ _ _ _ _ _ _ _ _ c.in_ok-head.ensures.found c.in_ok-head.ensures.name c.in_ok-start.ensures.found c.in_ok-body.ensures.found c.spanning-span.ensures c.iteration.ensures (ap (λ v. v + 1) c.max-most.ensures)
+
+pub parse_closure-returns-in_err-head-clause-denied : goal.parse_closure-returns-in_err-head-clause-denied
+parse_closure-returns-in_err-head-clause-denied g t c =
+    passed_on c.from_residual.result c.in_err-head.field-0.0 (Unread (Reads c.args.text.now) (closing c.args.opening c.args.tokens.now)) (c.args.room + 1) (search rules) (denied_always (Unread (Reads c.args.text.now) (closing c.args.opening c.args.tokens.now)) c.in_err-head.field-0.0 (c.args.room + 1) (λ m. no_closure_loop _ _ _ m c.requires.word c.in_err-head.ensures.none))
+
+pub parse_closure-returns-in_err-start-clause-denied : goal.parse_closure-returns-in_err-start-clause-denied
+parse_closure-returns-in_err-start-clause-denied g t c =
+    passed_on c.from_residual-in_err-start.result c.in_err-start.field-0.0 (Unread (Reads c.args.text.now) (closing c.args.opening c.args.tokens.now)) (c.args.room + 1) (search rules) (denied_around (Unread (Ended (Reads c.args.text.now) mark.Semicolon) c.in_ok-head.first.now) (Unread (Reads c.args.text.now) (closing c.args.opening c.args.tokens.now)) c.in_err-start.field-0.0 c.args.room (c.args.room + 1) (omega arith) (λ m l e u q k us d. two_first (Ended (Reads c.args.text.now) mark.Semicolon) (Ended (Reads c.args.text.now) mark.CloseRound) _ _ m l _ e u (closure_two _ _ _ _ _ _ _ _ _ _ c.requires.word c.in_ok-head.ensures.found d)) (c.in_err-start.ensures.denied))
+
+pub parse_closure-returns-in_err-body-clause-denied : goal.parse_closure-returns-in_err-body-clause-denied
+parse_closure-returns-in_err-body-clause-denied g t c =
+    passed_on c.from_residual-in_err-body.result c.in_err-body.field-0.0 (Unread (Reads c.args.text.now) (closing c.args.opening c.args.tokens.now)) (c.args.room + 1) (search rules) (denied_around (Unread (Ended (Reads c.args.text.now) mark.CloseRound) c.in_ok-start.inner.now) (Unread (Reads c.args.text.now) (closing c.args.opening c.args.tokens.now)) c.in_err-body.field-0.0 c.args.room (c.args.room + 1) (omega arith) (λ m l e u q k us d. two_second (Ended (Reads c.args.text.now) mark.Semicolon) (Ended (Reads c.args.text.now) mark.CloseRound) _ _ _ _ _ m l _ e (one_ended (Reads c.args.text.now) mark.Semicolon (one_relation c.args.text.now)) (_, c.in_ok-start.ensures.found) u (closure_two _ _ _ _ _ _ _ _ _ _ c.requires.word c.in_ok-head.ensures.found d)) (c.in_err-body.ensures.denied))
+
+pub parse_closure-returns-then-most-eq-MAX_HEIGHT-clause-denied : goal.parse_closure-returns-then-most-eq-MAX_HEIGHT-clause-denied
+parse_closure-returns-then-most-eq-MAX_HEIGHT-clause-denied g t c =
+    λ q k us d.
+    let most : c.args.room + 1 ≤ max c.in_ok-start.height c.in_ok-body.other = omega arith in
+    two_high (Ended (Reads c.args.text.now) mark.Semicolon) (Ended (Reads c.args.text.now) mark.CloseRound) _ _ _ _ _ _ _ _ (c.args.room + 1) _ (one_ended (Reads c.args.text.now) mark.Semicolon (one_relation c.args.text.now)) (one_ended (Reads c.args.text.now) mark.CloseRound (one_relation c.args.text.now)) (_, c.in_ok-start.ensures.found) (_, c.in_ok-body.ensures.found) most (closure_two _ _ _ _ _ _ _ _ _ _ c.requires.word c.in_ok-head.ensures.found d)
+
+pub parse_closure-returns-clause-found : goal.parse_closure-returns-clause-found
+parse_closure-returns-clause-found g t c =
+    closure_at _ _ _ _ _ _ _ _ _ _ _ _ _ _ _ _ _ _ _ c.requires.word c.in_ok-head.ensures.found c.in_ok-head.ensures.name c.in_ok-start.ensures.found c.in_ok-body.ensures.found c.spanning-span.ensures c.iteration.ensures (ap (λ v. v + 1) c.max-most.ensures)
 
 pub parse_join-returns-in_err-left-clause-denied : goal.parse_join-returns-in_err-left-clause-denied
 parse_join-returns-in_err-left-clause-denied g t c =

@@ -27,3 +27,6 @@ decreases-parse_distinct g l = 4 * l.room + 2
 
 abbrev pub decreases-parse_iterate : goal.decreases-parse_iterate
 decreases-parse_iterate g l = 4 * l.room + 2
+
+abbrev pub decreases-parse_closure : goal.decreases-parse_closure
+decreases-parse_closure g l = 4 * l.room + 2

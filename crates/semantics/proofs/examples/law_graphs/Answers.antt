@@ -1,8 +1,11 @@
-use Rattle.semantics.proofs.ExampleGraphs.{graph_of_two_turns, graph_of_outer_name, graph_of_loops, graph_of_in_a_alone, graph_of_small_and_all, graph_of_least_of_let, outputs_of_small_and_all}
+use Rattle.semantics.proofs.ExampleGraphs.{graph_of_two_turns, graph_of_connected, graph_of_outer_name, graph_of_loops, graph_of_in_a_alone, graph_of_small_and_all, graph_of_least_of_let, outputs_of_small_and_all}
 use Rattle.semantics.proofs.examples.law_graphs.Goals as goal
 
 pub returns-clause-two_turns : goal.returns-clause-two_turns
 returns-clause-two_turns c = graph_of_two_turns
+
+pub returns-clause-connected : goal.returns-clause-connected
+returns-clause-connected c = graph_of_connected
 
 pub returns-clause-outer_name : goal.returns-clause-outer_name
 returns-clause-outer_name c = graph_of_outer_name

@@ -1,4 +1,4 @@
-use Rattle.semantics.proofs.ExampleMeanings.{twice_means, sum_wraps, reaches, no_turn_means, outer_name_means, loop_in_loop_means, in_a_alone_means, in_a_and_b_means, except_in_loop_means, small_means, all_means, least_of_let_means, no_more_means}
+use Rattle.semantics.proofs.ExampleMeanings.{twice_means, sum_wraps, reaches, connects, no_turn_means, outer_name_means, loop_in_loop_means, in_a_alone_means, in_a_and_b_means, except_in_loop_means, small_means, all_means, least_of_let_means, no_more_means}
 use Rattle.semantics.proofs.examples.law_meanings.Goals as goal
 
 pub returns-clause-twice : goal.returns-clause-twice
@@ -9,6 +9,9 @@ returns-clause-sum_wraps c = sum_wraps
 
 pub returns-clause-reaches : goal.returns-clause-reaches
 returns-clause-reaches c = reaches
+
+pub returns-clause-connects : goal.returns-clause-connects
+returns-clause-connects c = connects
 
 pub returns-clause-no_turns : goal.returns-clause-no_turns
 returns-clause-no_turns c = no_turn_means

@@ -118,20 +118,20 @@ write_distinct-returns-clause-err g t c = (refused_last c.push-2.result _ _ _ _ 
 pub write_distinct-returns-clause-ok : goal.write_distinct-returns-clause-ok
 write_distinct-returns-clause-ok g t c = on_ok c.push-2.result _ _ c.push-2.ensures.ok (λ e. rw (e, c.in_ok-write_rel.ensures.ok, c.in_ok-push.ensures.ok) (simp (append_assoc, flat_map-append)))
 
-pub write_iterate-returns-in_err-write_head-clause-err : goal.write_iterate-returns-in_err-write_head-clause-err
-write_iterate-returns-in_err-write_head-clause-err g t c = refused c.from_residual.result _ c.in_err-write_head.ensures.err
+pub write_loop-returns-in_err-write_head-clause-err : goal.write_loop-returns-in_err-write_head-clause-err
+write_loop-returns-in_err-write_head-clause-err g t c = refused c.from_residual.result _ c.in_err-write_head.ensures.err
 
-pub write_iterate-returns-in_err-write_rel-clause-err : goal.write_iterate-returns-in_err-write_rel-clause-err
-write_iterate-returns-in_err-write_rel-clause-err g t c = refused c.from_residual-in_err-write_rel.result _ (extends_from _ _ _ _ c.in_ok-write_head.ensures.ok c.in_err-write_rel.ensures.err)
+pub write_loop-returns-in_err-write_rel-clause-err : goal.write_loop-returns-in_err-write_rel-clause-err
+write_loop-returns-in_err-write_rel-clause-err g t c = refused c.from_residual-in_err-write_rel.result _ (extends_from _ _ _ _ c.in_ok-write_head.ensures.ok c.in_err-write_rel.ensures.err)
 
-pub write_iterate-returns-in_err-push-clause-err : goal.write_iterate-returns-in_err-push-clause-err
-write_iterate-returns-in_err-push-clause-err g t c = refused c.from_residual-in_err-push.result _ (extends_from _ _ _ _ c.in_ok-write_head.ensures.ok (extends_from _ _ _ _ c.in_ok-write_rel.ensures.ok c.in_err-push.ensures.err))
+pub write_loop-returns-in_err-push-clause-err : goal.write_loop-returns-in_err-push-clause-err
+write_loop-returns-in_err-push-clause-err g t c = refused c.from_residual-in_err-push.result _ (extends_from _ _ _ _ c.in_ok-write_head.ensures.ok (extends_from _ _ _ _ c.in_ok-write_rel.ensures.ok c.in_err-push.ensures.err))
 
-pub write_iterate-returns-in_err-write_rel-2-clause-err : goal.write_iterate-returns-in_err-write_rel-2-clause-err
-write_iterate-returns-in_err-write_rel-2-clause-err g t c = refused c.from_residual-in_err-write_rel-2.result _ (extends_from _ _ _ _ c.in_ok-write_head.ensures.ok (extends_from _ _ _ _ c.in_ok-write_rel.ensures.ok (extends_from _ _ _ _ c.in_ok-push.ensures.ok c.in_err-write_rel-2.ensures.err)))
+pub write_loop-returns-in_err-write_rel-2-clause-err : goal.write_loop-returns-in_err-write_rel-2-clause-err
+write_loop-returns-in_err-write_rel-2-clause-err g t c = refused c.from_residual-in_err-write_rel-2.result _ (extends_from _ _ _ _ c.in_ok-write_head.ensures.ok (extends_from _ _ _ _ c.in_ok-write_rel.ensures.ok (extends_from _ _ _ _ c.in_ok-push.ensures.ok c.in_err-write_rel-2.ensures.err)))
 
-pub write_iterate-returns-clause-err : goal.write_iterate-returns-clause-err
-write_iterate-returns-clause-err g t c = (refused_last c.push-2.result _ _ _ _ c.in_ok-write_head.ensures.ok (refused_last c.push-2.result _ _ _ _ c.in_ok-write_rel.ensures.ok (refused_last c.push-2.result _ _ _ _ c.in_ok-push.ensures.ok (refused_last c.push-2.result _ _ _ _ c.in_ok-write_rel-2.ensures.ok c.push-2.ensures.err))))
+pub write_loop-returns-clause-err : goal.write_loop-returns-clause-err
+write_loop-returns-clause-err g t c = (refused_last c.push-2.result _ _ _ _ c.in_ok-write_head.ensures.ok (refused_last c.push-2.result _ _ _ _ c.in_ok-write_rel.ensures.ok (refused_last c.push-2.result _ _ _ _ c.in_ok-push.ensures.ok (refused_last c.push-2.result _ _ _ _ c.in_ok-write_rel-2.ensures.ok c.push-2.ensures.err))))
 
-pub write_iterate-returns-clause-ok : goal.write_iterate-returns-clause-ok
-write_iterate-returns-clause-ok g t c = on_ok c.push-2.result _ _ c.push-2.ensures.ok (λ e. rw (e, c.in_ok-write_rel-2.ensures.ok, c.in_ok-push.ensures.ok, c.in_ok-write_rel.ensures.ok, c.in_ok-write_head.ensures.ok) (simp (append_assoc, flat_map-append)))
+pub write_loop-returns-clause-ok : goal.write_loop-returns-clause-ok
+write_loop-returns-clause-ok g t c = on_ok c.push-2.result _ _ c.push-2.ensures.ok (λ e. rw (e, c.in_ok-write_rel-2.ensures.ok, c.in_ok-push.ensures.ok, c.in_ok-write_rel.ensures.ok, c.in_ok-write_head.ensures.ok) (simp (append_assoc, flat_map-append)))

@@ -24,5 +24,5 @@ decreases-write_group g l = 2 * rel_nodes (rel_tree l.of.now) + 1
 abbrev pub decreases-write_distinct : goal.decreases-write_distinct
 decreases-write_distinct g l = 2 * rel_nodes (rel_tree l.of.now) + 1
 
-abbrev pub decreases-write_iterate : goal.decreases-write_iterate
-decreases-write_iterate g l = 2 * rel_nodes (rel_tree l.start.now) + 2 * rel_nodes (rel_tree l.body.now) + 1
+abbrev pub decreases-write_loop : goal.decreases-write_loop
+decreases-write_loop g l = 2 * rel_nodes (rel_tree l.start.now) + 2 * rel_nodes (rel_tree l.body.now) + 1

@@ -1,0 +1,5 @@
+pub mod Heights
+pub mod WorkLeft
+pub mod Ends
+pub mod Idle
+pub mod IdlePrograms

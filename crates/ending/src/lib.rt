@@ -1,0 +1,4 @@
+//! Runs of the engine end.
+#![tactic(auto)]
+
+pub mod laws;
