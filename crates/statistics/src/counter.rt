@@ -1,4 +1,6 @@
 //! The counters of a vertex at a worker.
+//!
+//! A number that would pass 18446744073709551615 stays there.
 
 use std::sync::atomic::{AtomicU64, Ordering};
 
@@ -29,17 +31,17 @@ impl Counter {
 
     /// Counts one more event that was computed.
     pub fn add_event(&self) {
-        self.events.fetch_add(1, Ordering::SeqCst);
+        add(&self.events, 1);
     }
 
     /// Counts records that go to the vertex.
     pub fn add_received(&self, records: u64) {
-        self.received.fetch_add(records, Ordering::SeqCst);
+        add(&self.received, records);
     }
 
     /// Counts records that the vertex has sent.
     pub fn add_sent(&self, records: u64) {
-        self.sent.fetch_add(records, Ordering::SeqCst);
+        add(&self.sent, records);
     }
 
     pub fn counts(&self) -> Counts {
@@ -49,6 +51,13 @@ impl Counter {
             sent: self.sent.load(Ordering::SeqCst),
         }
     }
+}
+
+/// Adds to a number that any thread may add to; it stops at its limit.
+pub(crate) fn add(sum: &AtomicU64, more: u64) {
+    let _before = sum.fetch_update(Ordering::SeqCst, Ordering::SeqCst, |sum| {
+        Some(sum.saturating_add(more))
+    });
 }
 
 impl Counts {

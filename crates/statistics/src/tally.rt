@@ -3,14 +3,14 @@
 ghost use Rattle.std.specs.Prelude.{◌<◌, ◌≤◌};
 ghost use Rattle.semantics.specs.Limits.{max_workers};
 
-use crate::counter::Counter;
+use crate::counter::{Counter, add};
 use collector::Epochs;
 use events::{Letter, Output};
 use graph::{EdgeId, Graph, Location, VertexId, graph_text};
 use record_core::NoMemory;
 use std::alloc::{AllocError, Global};
 use std::sync::Arc;
-use std::sync::atomic::{AtomicU64, Ordering};
+use std::sync::atomic::AtomicU64;
 
 /// The counters of a run. A thread that computes an event adds to the counters of the event's worker.
 #[derive(Drop)]
@@ -76,8 +76,7 @@ impl Tally {
             self.count_letter(letter, more);
             records = records.saturating_add(more);
         }
-        self.messages
-            .fetch_add(letters.len() as u64, Ordering::SeqCst);
+        add(&self.messages, letters.len() as u64);
         records
     }
 
