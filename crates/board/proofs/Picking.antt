@@ -1,5 +1,5 @@
 -- The choices of a worker, by what the board shows.
-use Rattle.std.proofs.Common.{◌≡◌, ◌<◌, ◌+◌, ℕ, false, List, length, refl, sym, ap, ◌∙◌, subst, arith, slice_get, Some}
+use Rattle.std.proofs.Common.{◌≡◌, ◌<◌, ◌≤◌, ◌+◌, ℕ, false, List, length, refl, sym, ap, ◌∙◌, subst, arith, slice_get, Some, inl, inr}
 use Rattle.semantics.specs.Graph.{Graph}
 use Rattle.semantics.specs.Could.{Pointstamp}
 use Rattle.machine.specs.Active.{request_pointstamp}
@@ -12,12 +12,17 @@ use Rattle.board.specs.Answers.{Hands}
 use Rattle.board.specs.Claims.{HandsMessage, HandsRequest}
 use Rattle.board.specs.Deliverable.{IsDeliverable}
 use Rattle.board.specs.Kept.{IsKept}
-use Rattle.board.specs.Picks.{IsChoice, LacksChoice}
+use Rattle.board.specs.Picks.{IsChoice, IsKnown, LacksChoice}
 use Rattle.board.specs.Shown.{Shown, net, side_at}
 use Rattle.board.proofs.HandedOut.{hands_message, hands_request, message_taken, request_taken}
 use Rattle.board.proofs.KthElements.{kth_same, kth_there}
 use Rattle.board.proofs.Places.{get_index}
 use Rattle.board.proofs.Worlds.{no_other, no_other_back}
+
+-- a choice behind the messages is known where the view is up to date
+pub behind_mail : {P R : Type 0} (s : Shown) (k n : ℕ) → length (side_at s k).mail ≤ n → (P → R) → IsKnown P s k n → R
+behind_mail s k n behind f (inl lt) = absurd (omega (arith, behind, lt))
+behind_mail s k n behind f (inr up) = f up
 
 module _ (graph : Graph) (content : Pointstamp → ℕ) (s : Shown) (kept : IsKept graph content s) (k : ℕ) (there : k < length s.sides) where
   pub chosen_message : (at : ℕ) (m : Message) → slice_get (side_at s k).mail at ≡ Some m → IsChoice s k at (Step.claim_message k at m)

@@ -1,5 +1,5 @@
 -- What a pick answers.
-use Rattle.std.specs.Prelude.{◌≡◌, ◌≢◌, ◌<◌, ℕ, true, false, length, None, Option, Result, Ok, Err}
+use Rattle.std.specs.Prelude.{◌≡◌, ◌≢◌, ◌<◌, ◌⊎◌, ℕ, true, false, length, None, Option, Result, Ok, Err}
 use Rattle.machine.specs.Choices.{Chooses}
 use Rattle.machine.specs.Step.{Step}
 use Rattle.machine.specs.World.{World}
@@ -21,20 +21,22 @@ IsChoice s k n step = (w : World) → Shows s w → Chooses (net s) w k n step
 abbrev pub LacksChoice : Shown → (worker choice : ℕ) → Type 0
 LacksChoice s k n = (w : World) (step : Step) → Shows s w → Chooses (net s) w k n step → ⊥
 
--- why a pick is refused: the board is stopped; the worker holds an event; or there is no such worker or no such choice; `prompt` says that the
--- worker's view is up to date
+-- Which choice has that number is known for sure: it is a message, for which no view counts; or the worker's view is up to date, as `prompt` says.
+abbrev pub IsKnown : (prompt : Type 0) → Shown → (worker choice : ℕ) → Type 0
+IsKnown prompt s k n = (n < length (side_at s k).mail) ⊎ prompt
+
+-- why a pick is refused: the board is stopped; the worker holds an event; or there is no such worker or no such choice
 abbrev pub RefusesPick : (prompt : Type 0) → Shown → (worker choice : ℕ) → StepRefusal → Type 0
 RefusesPick prompt s k n Stopped = s.stopped ≡ true
 RefusesPick prompt s k n HoldsEvent = (s.stopped ≡ false) × (k < length s.sides) × ((side_at s k).place ≢ Home)
-RefusesPick prompt s k n NoSuchEvent = (s.stopped ≡ false) × (k < length s.sides → ((side_at s k).place ≡ Home) × (prompt → LacksChoice s k n))
+RefusesPick prompt s k n NoSuchEvent = (s.stopped ≡ false) × (k < length s.sides → ((side_at s k).place ≡ Home) × (IsKnown prompt s k n → LacksChoice s k n))
 RefusesPick prompt s k n UnknownInput = ⊥
 RefusesPick prompt s k n InputClosed = ⊥
 RefusesPick prompt s k n WrongFieldCount = ⊥
 RefusesPick prompt s k n LastEpoch = ⊥
 RefusesPick prompt s k n NoMemory = ⊥
 
--- A pick hands out an unspoiled event by a step, which is that of the choice if the worker's view is up to date; or it is refused, and nothing
--- changes.
+-- A pick hands out an unspoiled event by a step, which is that of the choice where that is known; or it is refused, and nothing changes.
 abbrev pub Picks : (prompt : Type 0) → Shown → Shown → (worker choice : ℕ) → Result (Pass × Option ComputeFault) StepRefusal → Type 0
-Picks prompt s t k n (Ok x) = (hands : Hands s k t x.0) × (prompt → IsChoice s k n hands.taken) × (x.1 ≡ None)
+Picks prompt s t k n (Ok x) = (hands : Hands s k t x.0) × (IsKnown prompt s k n → IsChoice s k n hands.taken) × (x.1 ≡ None)
 Picks prompt s t k n (Err e) = RefusesPick prompt s k n e × (t ≡ s)

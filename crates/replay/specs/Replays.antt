@@ -60,19 +60,23 @@ pub data RefusesSeal (s : Setting) (w : World) (name : List ℕ) : (code : ℕ) 
 abbrev pub SeesAllOf : Setting → State → (worker : ℕ) → Type 0
 SeesAllOf s x worker = SeesAll s.views s.workers x.waits worker
 
--- the worker takes an event that it may take: its choice of that number, if it sees everything that was posted
+-- which choice has that number is known for sure: it is a message, for which no view counts; or the worker sees everything that was posted
+abbrev pub KnowsChoice : Setting → State → (worker choice : ℕ) → Type 0
+KnowsChoice s x worker choice = (choice < length (x.world.mail worker)) ⊎ SeesAllOf s x worker
+
+-- the worker takes an event that it may take: its choice of that number, where that is known
 pub record Takes (s : Setting) (x : State) (worker choice : ℕ) (taken : Step) : Type 0 where
   pub claims : IsClaimBy worker taken
-  pub chosen : SeesAllOf s x worker → Chooses (net_of s) x.world worker choice taken
+  pub chosen : KnowsChoice s x worker choice → Chooses (net_of s) x.world worker choice taken
   pub allowed : Allowed (net_of s) x.world taken
 
 -- Of a pick: the engine is stopped; the worker holds an event; it doesn't exist, or has no such choice. A worker that doesn't see everything that was
--- posted may see fewer choices than it has.
+-- posted may see fewer of its notifications than there are, but it has all of its messages.
 pub data RefusesPick (s : Setting) (x : State) (worker choice : ℕ) : (code : ℕ) → Type 0 where
   pick_stopped : x.world.stopped ≡ true → RefusesPick s x worker choice 37
   holds_event : x.world.stopped ≡ false → worker < s.workers → (x.world.held worker ≡ Held.nothing → ⊥) → RefusesPick s x worker choice 35
   no_choice : x.world.stopped ≡ false → (worker < s.workers → x.world.held worker ≡ Held.nothing)
-      → (SeesAllOf s x worker → (taken : Step) → Takes s x worker choice taken → ⊥) → RefusesPick s x worker choice 34
+      → (KnowsChoice s x worker choice → (taken : Step) → Takes s x worker choice taken → ⊥) → RefusesPick s x worker choice 34
 
 -- the worker doesn't exist, or holds no event, or one that was abandoned
 abbrev pub HasNothingHeld : Setting → World → (worker : ℕ) → Type 0
