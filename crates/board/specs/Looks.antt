@@ -13,9 +13,10 @@ use Rattle.board.specs.Shown.{emitted_by, input_at}
 use Rattle.board.specs.Promises.{HasPassed, IsOutputPlace}
 use Rattle.board.specs.declared.look.OutputLook.{OutputLook}
 
--- the batches fed, by input, and what each output shows
+-- the epoch that was looked at, the batches fed, by input, and what each output shows
 pub record LookShown : Type 0 where
   pub graph : GraphValue
+  pub epoch : ℕ
   pub fed : List (List (List Record))
   pub outputs : List OutputLook
 
@@ -25,6 +26,10 @@ no_output = record { emitted = []; passed = false }
 
 abbrev pub output_in : LookShown → (output : ℕ) → OutputLook
 output_in l k = slice_index_or l.outputs k no_output
+
+-- it shows each output of the graph
+abbrev pub ShowsEachOutput : LookShown → Type 0
+ShowsEachOutput l = length l.outputs ≡ length (output_numbers (shown_graph l.graph))
 
 -- the epoch had passed at each output
 abbrev pub ShowsPassed : LookShown → Type 0
@@ -62,5 +67,6 @@ pub record AreOutputLooks (b : BoardShown) (e : ℕ) (outputs : List OutputLook)
 -- the look is what the board shows of the epoch
 pub record IsLookAt (b : BoardShown) (e : ℕ) (l : LookShown) : Type 0 where
   pub graph : l.graph ≡ b.shown.graph
+  pub epoch : l.epoch ≡ e
   pub fed : (i : ℕ) → fed_by l i ≡ slice_index_or (input_at b.shown i).fed e []
   pub outputs : AreOutputLooks b e l.outputs

@@ -705,7 +705,7 @@ impl<V: Views> Board<V> {
         let fed = self.state.share_fed(alloc, epoch)?;
         let outputs = self.look_at_outputs(alloc, epoch)?;
         self.law_headline();
-        Ok(Look::of(wiring, fed, outputs))
+        Ok(Look::of(wiring, epoch, fed, outputs))
     }
 
     /// What each output shows of an epoch.

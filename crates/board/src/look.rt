@@ -23,6 +23,7 @@ pub struct OutputLook {
 #[derive(Drop)]
 pub struct Look {
     wiring: Arc<Wiring, Global>,
+    epoch: u32,
     fed: Vec<Batches>,
     outputs: Vec<OutputLook>,
 }
@@ -39,26 +40,35 @@ impl Model for Look {
 
     ghost coded = { Prim.hlevel (codes, (scalar.the_row heap.the_row allocates.ghosts).coded, (condition.the_row heap.the_row allocates.ghosts).coded) };
 
-    ghost view = { λ l. record { graph = l.wiring.value.graph; fed = l.fed.items; outputs = l.outputs.items } };
+    ghost view = { λ l. record { graph = l.wiring.value.graph; epoch = l.epoch; fed = l.fed.items; outputs = l.outputs.items } };
 
-    ghost invariant = { λ l. IsPromised (record { graph = l.wiring.value.graph; fed = l.fed.items; outputs = l.outputs.items }) };
+    ghost invariant = { λ l. IsPromised (record { graph = l.wiring.value.graph; epoch = l.epoch; fed = l.fed.items; outputs = l.outputs.items }) };
 }
 
 impl Look {
     /// A look at these parts, which must keep the promise.
     pub(crate) fn of(
         wiring: Arc<Wiring, Global>,
+        epoch: u32,
         fed: Vec<Batches>,
         outputs: Vec<OutputLook>,
     ) -> Look
-        requires { IsPromised (record { graph = wiring.value.graph; fed = fed.items; outputs = outputs.items }) }
-        ensures { result ≡ record { graph = wiring.value.graph; fed = fed.items; outputs = outputs.items } }
+        requires { IsPromised (record { graph = wiring.value.graph; epoch = epoch; fed = fed.items; outputs = outputs.items }) }
+        ensures { result ≡ record { graph = wiring.value.graph; epoch = epoch; fed = fed.items; outputs = outputs.items } }
     {
         Look {
             wiring,
+            epoch,
             fed,
             outputs,
         }
+    }
+
+    /// The epoch that was looked at.
+    pub fn epoch(&self) -> u32
+        ensures { result ≡ self.now.epoch }
+    {
+        self.epoch
     }
 
     /// The batches that were fed to an input, in order; none if there is no such input.

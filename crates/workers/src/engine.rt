@@ -2,7 +2,7 @@
 
 ghost use Rattle.std.specs.Prelude.{◌≡◌, ◌≤◌, ◌<◌, true, IfErr, IfOk, IfSome};
 ghost use Rattle.board.specs.Lateness.{IsUpToDate};
-ghost use Rattle.board.specs.Looks.{ShowsPassed};
+ghost use Rattle.board.specs.Looks.{ShowsEachOutput, ShowsPassed};
 ghost use Rattle.board.specs.Shown.{tables};
 ghost use Rattle.workers.specs.Names.{GivesNamed, IsNamed};
 
@@ -134,6 +134,7 @@ impl<J: Naming, V: Views> Engine<J, V> {
         ensures rises { seat.old.number ≤ seat.new.number }
         ensures passed { IfOk result (λ o. IfSome o (λ l. epoch < seat.new.number → ShowsPassed l)) }
         ensures graph { IfOk result (λ o. IfSome o (λ l. l.graph ≡ J.graph)) }
+        ensures whole { IfOk result (λ o. IfSome o (λ l. (l.epoch ≡ epoch) × ShowsEachOutput l)) }
     {
         let floor = self.floor.lock(rt);
         let held = &floor.held;

@@ -6,7 +6,7 @@ ghost use Rattle.board.specs.Answers.{AnswersOnly, AnswersOr, Claims, Commits, G
 ghost use Rattle.board.specs.Answers.{feed_refusal, input_refusal, seal_refusal};
 ghost use Rattle.board.specs.Kept.{Goes};
 ghost use Rattle.board.specs.Lateness.{Applies, IsAsLate, IsUpToDate};
-ghost use Rattle.board.specs.Looks.{IsLookAt, ShowsPassed};
+ghost use Rattle.board.specs.Looks.{IsLookAt, ShowsEachOutput, ShowsPassed};
 ghost use Rattle.board.specs.Promises.{CountsPassed, IsDrained};
 ghost use Rattle.board.specs.Shown.{tables};
 ghost use Rattle.workers.specs.Held.{Publishes};
@@ -255,6 +255,7 @@ impl<J: Naming, V: Views> Held<J, V> {
         ensures look { IfOk result (λ l. IsLookAt self.now.board epoch l) }
         ensures prompt { IsUpToDate self.now.board 0 }
         ensures graph { IfOk result (λ l. l.graph ≡ J.graph) }
+        ensures whole { IfOk result (λ l. (l.epoch ≡ epoch) × ShowsEachOutput l) }
         ensures passed { IfOk result (λ l. (n : ℕ) → CountsPassed self.now.board.shown n → epoch < n → ShowsPassed l) }
     {
         self.board.law_count();
