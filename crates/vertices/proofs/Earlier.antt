@@ -2,12 +2,12 @@
 use Rattle.std.proofs.Common.{◌≡◌, ℕ, zero, suc, ◌+◌, ◌-◌, ◌≤◌, ◌<◌, nat_lt, Bool, true, false, not, cond, ◌&&◌, ◌||◌, if◌then◌else◌, List, [], ◌∷◌, ◌++◌, map, filter, flat_map, slice_index_or, take, length, refl, sym, ap, ap₂, subst, ◌∙◌, arith, ◌⊎◌, inl, inr}
 use Rattle.std.proofs.lemmas.List.{take_all}
 use Rattle.std.proofs.lemmas.List.Elements.{filter_more}
-use Rattle.rows.specs.Counts.{AreRuns, Run, expanded, no_run, rows_of}
+use Rattle.rows.specs.Counts.{AreRuns, Run, expanded, rows_of}
 use Rattle.rows.proofs.Runs.{length_rows, row_at}
 use Rattle.semantics.specs.Meaning.{only_left}
-use Rattle.semantics.specs.Multiset.{Record, same, one_if, count, is_present, ◌≈◌, each_once}
+use Rattle.semantics.specs.Multiset.{Record, same, one_if, is_present, ◌≈◌, each_once}
 use Rattle.semantics.specs.Shard.{Absorbed}
-use Rattle.semantics.specs.Time.{Time, below, deeper, outer, last, last_from, front, front_from, earlier_turns}
+use Rattle.semantics.specs.Time.{Time, below, deeper, outer, last, front, front_from}
 use Rattle.std.specs.List.{list_any}
 use Rattle.semantics.proofs.CountsOfForms.{count-filter}
 use Rattle.semantics.proofs.DistinctAndGroups.{count-distinct}

@@ -16,3 +16,5 @@ pub mod OneSide
 pub mod Gains
 pub mod SameStates
 pub mod SameAbsorbed
+pub mod FreshShards
+pub mod Roles

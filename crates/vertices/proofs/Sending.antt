@@ -77,9 +77,9 @@ left_sends ps t a batch out h q = ≈-trans h (≈-from (λ j. paired ps (sym (t
 right_sends : (ps : List Pair) (t : Time) (a : Absorbed) (batch : List Record) (out : Out) → (records_of out.first ++ paired ps (a 0 t) (a 1 t)) ≈ paired ps (a 0 t) (a 1 t ++ batch) → SendsFor (Kind.join ps) t a 1 batch out
 right_sends ps t a batch out h q = ≈-trans h (≈-from (λ j. paired ps (sym (append-nil (a 0 t)) j) (sym (there a 1 t batch) j)))
 
-pub join_sends : (plan : JoinPlan) (t : Time) (a : Absorbed) (p : ℕ) (batch : List Record) (out : Out) → p < 2 → (records_of out.first ++ join_records plan p (a p t) (a (other_port p) t)) ≈ join_records plan p (a p t ++ batch) (a (other_port p) t) → SendsFor (Kind.join (map plain_pair plan.operator.pairs.items)) t a p batch out
-join_sends plan t a zero batch out h e = left_sends (map plain_pair plan.operator.pairs.items) t a batch out e
-join_sends plan t a (suc zero) batch out h e = right_sends (map plain_pair plan.operator.pairs.items) t a batch out e
+pub join_sends : (plan : JoinPlan) (t : Time) (a : Absorbed) (p : ℕ) (batch : List Record) (out : Out) → p < 2 → (records_of out.first ++ join_records plan p (a p t) (a (other_port p) t)) ≈ join_records plan p (a p t ++ batch) (a (other_port p) t) → SendsFor (Kind.join (map plain_pair plan.pairs.items)) t a p batch out
+join_sends plan t a zero batch out h e = left_sends (map plain_pair plan.pairs.items) t a batch out e
+join_sends plan t a (suc zero) batch out h e = right_sends (map plain_pair plan.pairs.items) t a batch out e
 join_sends plan t a (suc (suc p)) batch out h e = absurd (omega (arith, h))
 
 pub group_notified : (ks : List ℕ) (as' : List Agg) (t : Time) (a : Absorbed) (out : Out) → records_of out.first ≈ grouped ks as' (a 0 t) → SendsAtNotification (λ q ins. op (Kind.group ks as') t ins q) (λ p. a p t) (sent 1 out)

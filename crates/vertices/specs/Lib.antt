@@ -6,6 +6,9 @@ pub mod OneSide
 pub mod Joins
 pub mod Groups
 pub mod Outs
+pub mod Stateless
+pub mod Stateful
+pub mod Notified
 pub mod Shards
 pub mod TakesIn
 pub mod AtWork

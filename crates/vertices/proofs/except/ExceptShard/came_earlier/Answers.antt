@@ -1,8 +1,8 @@
-use Rattle.std.proofs.Common.{rules, ◌≡◌, ◌∙◌, sym, ap, ℕ, List, length, suc, ◌+◌, refl, arith}
+use Rattle.std.proofs.Common.{rules, ◌∙◌, sym, ap, length, ◌+◌, refl, arith}
 use Rattle.semantics.specs.Multiset.{is_present}
-use Rattle.semantics.specs.Time.{Time, outer, deeper, last}
+use Rattle.semantics.specs.Time.{Time, outer, last}
 use Rattle.semantics.proofs.VertexFlows.{last-deeper}
-use Rattle.vertices.proofs.Earlier.{came_below, came_before, length-front, next_turn, none_next, some_counters}
+use Rattle.vertices.proofs.Earlier.{came_before, length-front, next_turn, none_next}
 use Rattle.vertices.proofs.except.ExceptShard.came_earlier.Goals as goal
 
 pub unreachable-requires : goal.unreachable-requires
