@@ -6,6 +6,9 @@ pub mod OneSide
 pub mod Joins
 pub mod Groups
 pub mod Outs
+pub mod FirstTurns
+pub mod LoopRows
+pub mod Unseen
 pub mod Stateless
 pub mod Stateful
 pub mod Notified

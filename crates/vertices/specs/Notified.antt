@@ -1,12 +1,12 @@
 -- The state of a vertex that is notified.
-use Rattle.std.specs.Prelude.{◌≡◌, ℕ, []}
+use Rattle.std.specs.Prelude.{◌≡◌, ℕ}
 use Rattle.semantics.specs.Kinds.{Kind}
 use Rattle.semantics.specs.Shard.{Absorbed}
-use Rattle.semantics.specs.Time.{Time}
 use Rattle.vertices.specs.ByTime.{AreStatesOf}
 use Rattle.vertices.specs.Groups.{columns_of, aggregates_of}
 use Rattle.vertices.specs.Piles.{IsPileThen}
 use Rattle.vertices.specs.States.{AreSetsThen}
+use Rattle.vertices.specs.Unseen.{IsUnseenOf}
 use Rattle.vertices.specs.declared.notified.Notified.{Notified}
 use Rattle.vertices.specs.declared.notified.Notified.TheVariants.{Group, Except, Unseen}
 
@@ -26,4 +26,4 @@ NotifiedTakes (Unseen s) port n = n ≡ s.came.arity
 abbrev pub NotifiedShows : Notified → Absorbed → Type 0
 NotifiedShows (Group s) a = AreStatesOf (IsPileThen s.arity) s.times a
 NotifiedShows (Except s) a = AreStatesOf (AreSetsThen s.arity) s.times a
-NotifiedShows (Unseen s) a = AreStatesOf (AreSetsThen s.came.arity) s.came.times a × ((t : Time) → a 1 t ≡ [])
+NotifiedShows (Unseen s) a = IsUnseenOf s a

@@ -32,6 +32,7 @@ impl Notified {
     /// of a time. `Count` exactly where a record would then have come to the port too often.
     pub(crate) fn on_records(
         &mut self,
+        alloc: Global,
         port: u32,
         time: &Time,
         batch: &Batch,
@@ -60,7 +61,7 @@ impl Notified {
                 Ok(())
             }
             Notified::Unseen(shard) => {
-                unseen(shard, time, batch, out)?;
+                unseen(shard, alloc, time, batch, out)?;
                 Ok(())
             }
         }
@@ -190,6 +191,7 @@ fn except_notified(
 /// often.
 fn unseen(
     shard: &mut UnseenShard,
+    alloc: Global,
     time: &Time,
     batch: &Batch,
     out: &mut Out,
@@ -206,7 +208,7 @@ fn unseen(
     ensures over { IfErr result (λ e. e ≡ Count → (a : Absorbed) → NotifiedShows (Unseen shard.old) a → IsOver (a 0 time.now ++ batch.now)) }
     ensures asked { OnOk result ((a : Absorbed) → NotifiedShows (Unseen shard.old) a → out.new.asked ≡ asks Role.notified (a 0 time.now)) }
 {
-    out.asked = shard.came.on_records(0, time, batch)?;
+    out.asked = shard.on_records(alloc, time, batch)?;
     Ok(())
 }
 
@@ -223,7 +225,7 @@ fn unseen_notified(
     ensures never { IfErr result (λ e. e ≡ NoMemory) }
     ensures asked { out.new.asked ≡ out.old.asked }
 {
-    let rows = shard.came.on_notify_new(alloc, time)?;
+    let rows = shard.on_notify(alloc, time)?;
     let turn = time.last_counter() as u64;
     out.send_new(alloc, CountedRows::once(alloc, rows), turn < shard.turns)?;
     Ok(())

@@ -68,7 +68,7 @@ impl Shard {
             }
             Shard::Notified(state) => {
                 let state: &mut Notified = state;
-                state.on_records(port, time, &batch, out)?;
+                state.on_records(alloc, port, time, &batch, out)?;
                 Ok(())
             }
         }
