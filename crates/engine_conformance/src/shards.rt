@@ -9,13 +9,14 @@ ghost use Rattle.semantics.specs.Typing.{IsArity};
 ghost use Rattle.vertices.specs.AtWork.{IsAtWork};
 ghost use Rattle.vertices.specs.Shards.{by_port};
 
+use events::new_shard;
 use expr_tree::Column;
 use graph::{Kind, Sources, Vertex};
 use record_core::Span;
 use rows::{Batch, Rows};
 use std::alloc::Global;
 use std::process::Abort;
-use vertices::{Out, Shard, ShardFault, new_shard};
+use vertices::{Out, Shard, ShardFault};
 
 pub const NOWHERE: Span = Span { start: 0, end: 0 };
 

@@ -6,14 +6,11 @@ ghost use Rattle.expr_tree.specs.Views.{cond_tree};
 ghost use Rattle.rows.specs.FlatRows.{arity_of};
 ghost use Rattle.rows.specs.Indexes.{AreDifferent};
 ghost use Rattle.rows.specs.Counts.{expanded, no_run, rows_of, runs};
-ghost use Rattle.semantics.specs.Kinds.{Kind};
 ghost use Rattle.semantics.specs.Meaning.{kept};
 ghost use Rattle.semantics.specs.Typing.{CondFits};
-ghost use Rattle.semantics.proofs.VertexLaws.{op_nothing, op_parts};
 ghost use Rattle.operators.specs.Fits.{CondFits-prop};
 ghost use Rattle.operators.specs.Outcomes.{kept_run};
 
-use crate::operator::Operator;
 use expr_tree::{Cond, holds};
 use record_core::NoMemory;
 use rows::{Batch, CountedRows};
@@ -25,14 +22,6 @@ pub struct Where {
     pub arity: usize,
     pub condition: Cond<Global>,
     pub ghost fits: { CondFits arity (plain_cond (cond_tree condition)) } by { CondFits-prop arity (plain_cond (cond_tree condition)) },
-}
-
-impl Operator for Where {
-    ghost kind_of = { λ v. Kind.filter (plain_cond (cond_tree v.condition)) };
-
-    ghost nothing = { λ v. op_nothing (Kind.filter (plain_cond (cond_tree v.condition))) };
-
-    ghost parts = { λ v. op_parts (Kind.filter (plain_cond (cond_tree v.condition))) };
 }
 
 impl Where {

@@ -5,11 +5,8 @@ ghost use Rattle.std.specs.Int.{int_wrap, w64};
 ghost use Rattle.expr_tree.specs.Plain.{plain_agg};
 ghost use Rattle.operators.specs.Aggregates.{begun, stored_key, weighed, weighed_all};
 ghost use Rattle.semantics.specs.Meaning.{project};
-ghost use Rattle.semantics.specs.Kinds.{Kind};
-ghost use Rattle.semantics.proofs.VertexLaws.{op_nothing, op_parts};
 ghost use Rattle.semantics.specs.Limits.{max_fields};
 
-use crate::operator::Operator;
 use arrayvec::ArrayVec;
 use expr_tree::{Agg, Column};
 use rows::field;
@@ -23,14 +20,6 @@ pub struct Group {
     pub aggregates: Vec<Agg>,
     pub ghost some: { 1 ≤ length columns.items + length aggregates.items },
     pub ghost few: { length columns.items + length aggregates.items ≤ max_fields },
-}
-
-impl Operator for Group {
-    ghost kind_of = { λ v. Kind.group (map (λ k. k.index) v.columns.items) (map plain_agg v.aggregates.items) };
-
-    ghost nothing = { λ v. op_nothing (Kind.group (map (λ k. k.index) v.columns.items) (map plain_agg v.aggregates.items)) };
-
-    ghost parts = { λ v. op_parts (Kind.group (map (λ k. k.index) v.columns.items) (map plain_agg v.aggregates.items)) };
 }
 
 /// At most 16 numbers, stored inline: a key, or a key's aggregates.

@@ -10,17 +10,14 @@ ghost use Rattle.rows.specs.FlatRows.{arity_of};
 ghost use Rattle.rows.specs.Counts.{AllFit, AreRuns, IsOver, expanded, no_run, records_in, runs};
 ghost use Rattle.rows.specs.declared.error.TallyError.TheVariants.{Count};
 ghost use Rattle.semantics.specs.Multiset.{◌≈◌};
-ghost use Rattle.semantics.specs.Kinds.{Kind};
 ghost use Rattle.semantics.specs.Meaning.{selected, value};
 ghost use Rattle.semantics.specs.Typing.{ScalarFits};
-ghost use Rattle.semantics.proofs.VertexLaws.{op_nothing, op_parts};
 ghost use Rattle.operators.specs.Columns.{IsInRange, AllDetermined};
 ghost use Rattle.operators.specs.Fits.{all_fit-prop};
 ghost use Rattle.operators.specs.Outcomes.{selected_run};
 ghost use Rattle.semantics.specs.Limits.{max_fields};
 
 use crate::determined::all_determined;
-use crate::operator::Operator;
 use arrayvec::ArrayVec;
 use expr_tree::{Scalar, eval_scalar};
 use record_core::NoMemory;
@@ -35,14 +32,6 @@ pub struct Select {
     pub ghost fits: { AllByRecursion (ScalarFits arity) (plain_scalars scalars.items) } by { all_fit-prop arity (plain_scalars scalars.items) },
     pub ghost some: { 1 ≤ length scalars.items },
     pub ghost few: { length scalars.items ≤ max_fields },
-}
-
-impl Operator for Select {
-    ghost kind_of = { λ v. Kind.select (plain_scalars v.scalars.items) };
-
-    ghost nothing = { λ v. op_nothing (Kind.select (plain_scalars v.scalars.items)) };
-
-    ghost parts = { λ v. op_parts (Kind.select (plain_scalars v.scalars.items)) };
 }
 
 impl Select {

@@ -7,19 +7,16 @@ use Rattle.rows.specs.Indexes.{AreDifferent}
 use Rattle.rows.specs.declared.error.TallyError.{TallyError}
 use Rattle.rows.specs.declared.error.TallyError.TheVariants as tally
 use Rattle.rows.proofs.Runs.{all_fit, are_runs}
-use Rattle.semantics.specs.Kinds.{Kind, in_ports, role}
+use Rattle.semantics.specs.Kinds.{Kind, in_ports}
 use Rattle.semantics.specs.Meaning.{selected}
 use Rattle.semantics.specs.Multiset.{Record}
 use Rattle.semantics.specs.Query.{Scalar}
 use Rattle.semantics.specs.Time.{Time}
 use Rattle.semantics.specs.Shard.{Absorbed}
 use Rattle.semantics.proofs.MultisetSums.{≈-refl}
-use Rattle.vertices.specs.Kept.{kept_by}
 use Rattle.vertices.specs.Outs.{WouldSendOver, records_of, sent}
-use Rattle.vertices.specs.Shards.{shard_kind}
 use Rattle.vertices.specs.declared.fault.ShardFault.{ShardFault}
 use Rattle.vertices.specs.declared.fault.ShardFault.TheVariants.{Count, NoMemory}
-use Rattle.vertices.specs.declared.shard.Shard.{Shard}
 
 -- ---- what fits
 
@@ -74,11 +71,6 @@ passed_never r f Q h n = never_over r Q (IfErr-weaker r _ _ (λ e i. i ∙ n) h)
 pub tally_over : {T : Type 0} (r : Result T ShardFault) (t : TallyError) (Q : Type 0) → IfErr r (λ e. ((e ≡ NoMemory) ↔ (t ≡ tally.NoMemory)) × ((e ≡ Count) ↔ (t ≡ tally.Count))) → (t ≡ tally.Count → Q) → IfErr r (λ e. e ≡ Count → Q)
 tally_over r t Q h q = IfErr-weaker r _ _ (λ e b c. q (b.1.0 c)) h
 
--- ---- by the shard's kind
-
-abbrev pub KeptFits : Shard → Absorbed → (port : ℕ) → Time → List Record → Type 0
-KeptFits s a p t batch = AllFit (kept_by (role (shard_kind s)) a p t batch)
-
 -- ---- ports
 
 pub few_ports : (k : Kind) → in_ports k ≤ 2
@@ -99,11 +91,12 @@ few_ports (Kind.gate n) = omega arith
 few_ports (Kind.unseen n) = omega arith
 few_ports (Kind.hold n) = omega arith
 
-pub port_known : (s : Shard) (p : ℕ) → p < in_ports (shard_kind s) → p < 2
-port_known s p h = let two = few_ports (shard_kind s) in omega (arith, two, h)
+module _ {S : Type 0} (kind_of : S → Kind) where
+  pub port_known : (s : S) (p : ℕ) → p < in_ports (kind_of s) → p < 2
+  port_known s p h = let two = few_ports (kind_of s) in omega (arith, two, h)
 
--- the port of a shard that has one
-pub at_first : (P : Shard → ℕ → Type 0) (s t : Shard) (p : ℕ) → s ≡ t → p < in_ports (shard_kind s) → in_ports (shard_kind t) ≡ 1 → P t 0 → P s p
-at_first P s t p e h one there =
-    let first : 0 ≡ p = (let same = ap (λ (u : Shard). in_ports (shard_kind u)) e in omega (arith, same, h, one)) in
-    subst (λ (u : Shard). P u p) (sym e) (subst (P t) first there)
+  -- the port of what has one
+  pub at_first : (P : S → ℕ → Type 0) (s t : S) (p : ℕ) → s ≡ t → p < in_ports (kind_of s) → in_ports (kind_of t) ≡ 1 → P t 0 → P s p
+  at_first P s t p e h one there =
+      let first : 0 ≡ p = (let same = ap (λ (u : S). in_ports (kind_of u)) e in omega (arith, same, h, one)) in
+      subst (λ (u : S). P u p) (sym e) (subst (P t) first there)

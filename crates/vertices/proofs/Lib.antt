@@ -2,7 +2,8 @@ pub mod Sets
 pub mod Counting
 pub mod Fitting
 pub mod PortSets
-pub mod Earlier
+pub mod FirstTurns
+pub mod Loops
 pub mod Times
 pub mod Pairs
 pub mod Sending
@@ -16,3 +17,5 @@ pub mod OneSide
 pub mod Gains
 pub mod SameStates
 pub mod SameAbsorbed
+pub mod FreshShards
+pub mod Roles

@@ -17,7 +17,7 @@ use Rattle.vertices.proofs.Counting.{rows_once}
 use Rattle.vertices.proofs.Sets.{found_counts}
 
 -- a set has what the list has
-as_present : (set xs : List Record) → set ≈ each_once xs → (r : Record) → is_present r set ≡ is_present r xs
+pub as_present : (set xs : List Record) → set ≈ each_once xs → (r : Record) → is_present r set ≡ is_present r xs
 as_present set xs h r = ap (nat_lt 0) (h.counts r) ∙ present_in_set r xs
 
 -- the rows of records that are counted are the records, each once

@@ -1,20 +1,29 @@
 -- What a shard shows, sends and keeps is so of the same records in any other order.
-use Rattle.std.proofs.Common.{ℕ, ◌==◌, cond, ◌++◌, List, [], arith}
+use Rattle.std.proofs.Common.{◌≡◌, ℕ, ◌==◌, nat_lt, cond, ◌||◌, ◌++◌, ◌∷◌, List, [], flat_map, refl, sym, ap, ap₂, ◌∙◌, arith}
 use Rattle.rows.specs.Counts.{IsOver}
 use Rattle.semantics.specs.Kinds.{Kind, Role, role}
-use Rattle.semantics.specs.Multiset.{Record, ◌≈◌}
+use Rattle.semantics.specs.Multiset.{Record, ◌≈◌, is_present}
 use Rattle.semantics.specs.Op.{op}
 use Rattle.semantics.specs.Shard.{Absorbed, SendsBy, absorbed_by, only_at, with_records}
-use Rattle.semantics.specs.Time.{Time, same_time}
+use Rattle.semantics.specs.Time.{Time, below, deeper, same_time}
 use Rattle.semantics.proofs.MultisetSums.{append_same, ≈-refl, ≈-trans, ≈-sym, ≈-from, empty_from_same}
 use Rattle.semantics.proofs.OneFlow.{cond_same, op_same}
 use Rattle.vertices.specs.Kept.{kept_by}
 use Rattle.vertices.specs.Outs.{Sends, WouldSendOver}
 use Rattle.vertices.specs.Shards.{Shows}
 use Rattle.vertices.specs.States.{AreSetsOf, AreSetsThen}
+use Rattle.vertices.specs.LoopRows.{IsLoopOf, by_turn}
+use Rattle.vertices.specs.declared.loop_rows.LoopRows.{LoopRows}
+use Rattle.semantics.proofs.FoundByClosures.{present-append}
 use Rattle.vertices.specs.declared.port_sets.PortSets.{PortSets}
 use Rattle.vertices.specs.declared.shard.Shard.{Shard}
-use Rattle.vertices.specs.declared.shard.Shard.TheVariants.{Input, Output, Select, Where, Concat, Join, Group, Distinct, Except, Intersect, Ingress, Egress, Feedback, Gate, Unseen, Hold}
+use Rattle.vertices.specs.declared.shard.Shard.TheVariants as shard
+use Rattle.vertices.specs.declared.notified.Notified.{Notified}
+use Rattle.vertices.specs.declared.notified.Notified.TheVariants.{Group, Except, Unseen}
+use Rattle.vertices.specs.declared.stateful.Stateful.{Stateful}
+use Rattle.vertices.specs.declared.stateful.Stateful.TheVariants.{Distinct, Join, Intersect}
+use Rattle.vertices.specs.Notified.{NotifiedShows}
+use Rattle.vertices.specs.Stateful.{StatefulShows}
 use Rattle.vertices.proofs.SameStates.{distinct_same_states, group_same_states, join_same_states, some_same, states_same}
 
 -- ---- what is shown
@@ -32,23 +41,36 @@ sets_same n sets f g e h = record {
 sets_then_same : (n : ℕ) (sets : PortSets) (f g : ℕ → List Record) → ((p : ℕ) → f p ≈ g p) → AreSetsThen n sets f → AreSetsThen n sets g
 sets_then_same n sets f g e h = (sets_same n sets f g e h.0, some_same (f 0 ++ f 1) (g 0 ++ g 1) (append_same (f 0) (g 0) (f 1) (g 1) (e 0) (e 1)) h.1)
 
+-- of a loop of an unseen
+loop_same : (n : ℕ) (kept : LoopRows) (f g : ℕ → List Record) → ((k : ℕ) → f k ≈ g k) → IsLoopOf n kept f → IsLoopOf n kept g
+loop_same n kept f g e h = record { arity_is = h.arity_is; first = λ r m. sym (present r (below m)) ∙ h.first r m; places = h.places }
+  where
+    present : (r : Record) (ks : List ℕ) → is_present r (flat_map f ks) ≡ is_present r (flat_map g ks)
+    present r [] = refl
+    present r (k ∷ ks) =
+        present-append r (f k) (flat_map f ks) ∙ ap₂ (λ b c. b || c) (ap (nat_lt 0) ((e k).counts r)) (present r ks)
+        ∙ sym (present-append r (g k) (flat_map g ks))
+
+StatefulShows_same : (s : Stateful) (a b : Absorbed) → ((p : ℕ) (t : Time) → a p t ≈ b p t) → StatefulShows s a → StatefulShows s b
+StatefulShows_same (Distinct s) a b e h = distinct_same_states s.arity s.times a b e h
+StatefulShows_same (Join s) a b e h = join_same_states s.plan s.times a b e h
+StatefulShows_same (Intersect s) a b e h = states_same (AreSetsOf s.arity) (sets_same s.arity) s.times a b e h
+
+NotifiedShows_same : (s : Notified) (a b : Absorbed) → ((p : ℕ) (t : Time) → a p t ≈ b p t) → NotifiedShows s a → NotifiedShows s b
+NotifiedShows_same (Group s) a b e h = group_same_states s.arity s.times a b e h
+NotifiedShows_same (Except s) a b e h = states_same (AreSetsThen s.arity) (sets_then_same s.arity) s.times a b e h
+NotifiedShows_same (Unseen s) a b e h = record {
+  counted = states_same (AreSetsThen s.came.arity) (sets_then_same s.came.arity) s.came.times a b e h.counted;
+  one_port = λ t. empty_from_same (b 1 t) (≈-trans (≈-sym (e 1 t)) (≈-from (h.one_port t)));
+  loops = states_same (IsLoopOf s.came.arity) (loop_same s.came.arity) s.loops (by_turn a) (by_turn b) (λ k u. e 0 (deeper u k)) h.loops;
+}
+
 pub Shows_same : (s : Shard) (a b : Absorbed) → ((p : ℕ) (t : Time) → a p t ≈ b p t) → Shows s a → Shows s b
-Shows_same (Input s) a b e h = tt
-Shows_same (Output s) a b e h = tt
-Shows_same (Select s) a b e h = tt
-Shows_same (Where s) a b e h = tt
-Shows_same (Concat s) a b e h = tt
-Shows_same (Join s) a b e h = join_same_states s.plan s.times a b e h
-Shows_same (Group s) a b e h = group_same_states s.arity s.times a b e h
-Shows_same (Distinct s) a b e h = distinct_same_states s.arity s.times a b e h
-Shows_same (Except s) a b e h = states_same (AreSetsThen s.arity) (sets_then_same s.arity) s.times a b e h
-Shows_same (Intersect s) a b e h = states_same (AreSetsOf s.arity) (sets_same s.arity) s.times a b e h
-Shows_same (Ingress s) a b e h = tt
-Shows_same (Egress s) a b e h = tt
-Shows_same (Feedback s) a b e h = tt
-Shows_same (Gate s) a b e h = tt
-Shows_same (Unseen s) a b e h = (states_same (AreSetsThen s.came.arity) (sets_then_same s.came.arity) s.came.times a b e h.0, λ t. empty_from_same (b 1 t) (≈-trans (≈-sym (e 1 t)) (≈-from (h.1 t))))
-Shows_same (Hold s) a b e h = tt
+Shows_same shard.Input a b e h = tt
+Shows_same shard.Output a b e h = tt
+Shows_same (shard.Stateless s) a b e h = tt
+Shows_same (shard.Stateful s) a b e h = StatefulShows_same s.value a b e h
+Shows_same (shard.Notified s) a b e h = NotifiedShows_same s.value a b e h
 
 -- ---- what is absorbed
 

@@ -1,5 +1,5 @@
 -- What is sent is what the kind's equation makes.
-use Rattle.std.proofs.Common.{◌≡◌, ℕ, zero, suc, ◌+◌, ◌<◌, ◌==◌, nat_lt, nat_eq, Bool, true, cond, ◌&&◌, List, [], ◌++◌, map, Some, refl, sym, ap, ◌∙◌, arith, append-nil}
+use Rattle.std.proofs.Common.{◌≡◌, ℕ, zero, suc, ◌+◌, ◌<◌, ◌==◌, nat_lt, nat_eq, Bool, true, cond, ◌&&◌, List, [], ◌++◌, map, flat_map, Some, refl, sym, ap, ◌∙◌, arith, append-nil}
 use Rattle.std.proofs.lemmas.Bool.Decides.{Decides-eqb}
 use Rattle.std.specs.Cmp.Lexicographic.{pointwise_decides}
 use Rattle.expr_tree.specs.Plain.{plain_pair}
@@ -8,8 +8,9 @@ use Rattle.semantics.specs.Meaning.{selected, kept, paired, grouped, only_left, 
 use Rattle.semantics.specs.Multiset.{Record, ◌≈◌, each_once}
 use Rattle.semantics.specs.Query.{Scalar, Cond, Pair, Agg}
 use Rattle.semantics.specs.Shard.{Absorbed, SendsAtNotification, only_at}
-use Rattle.semantics.specs.Time.{Time, last, same_time, same_counters}
-use Rattle.semantics.specs.Op.{op}
+use Rattle.semantics.specs.Time.{Time, earlier_turns, last, same_time, same_counters}
+use Rattle.semantics.specs.Op.{op, reads}
+use Rattle.semantics.proofs.OneFlow.{cond_same}
 use Rattle.semantics.proofs.MultisetSums.{≈-trans, ≈-from}
 use Rattle.vertices.specs.Joins.{join_records, other_port}
 use Rattle.vertices.specs.Outs.{records_of, sent, SendsFor}
@@ -58,7 +59,7 @@ hold_sends n t a batch out e f (suc q) = ≈-from f
 
 -- ---- with a state
 
-same_time_refl : (t : Time) → same_time t t ≡ true
+pub same_time_refl : (t : Time) → same_time t t ≡ true
 same_time_refl t = both (nat_eq t.epoch t.epoch) (same_counters t.counters t.counters) ((Decides-eqb t.epoch t.epoch).1 refl) ((pointwise_decides (λ x y. Decides-eqb x y) t.counters t.counters).1 refl)
   where
     both : (x y : Bool) → x ≡ true → y ≡ true → x && y ≡ true
@@ -77,9 +78,9 @@ left_sends ps t a batch out h q = ≈-trans h (≈-from (λ j. paired ps (sym (t
 right_sends : (ps : List Pair) (t : Time) (a : Absorbed) (batch : List Record) (out : Out) → (records_of out.first ++ paired ps (a 0 t) (a 1 t)) ≈ paired ps (a 0 t) (a 1 t ++ batch) → SendsFor (Kind.join ps) t a 1 batch out
 right_sends ps t a batch out h q = ≈-trans h (≈-from (λ j. paired ps (sym (append-nil (a 0 t)) j) (sym (there a 1 t batch) j)))
 
-pub join_sends : (plan : JoinPlan) (t : Time) (a : Absorbed) (p : ℕ) (batch : List Record) (out : Out) → p < 2 → (records_of out.first ++ join_records plan p (a p t) (a (other_port p) t)) ≈ join_records plan p (a p t ++ batch) (a (other_port p) t) → SendsFor (Kind.join (map plain_pair plan.operator.pairs.items)) t a p batch out
-join_sends plan t a zero batch out h e = left_sends (map plain_pair plan.operator.pairs.items) t a batch out e
-join_sends plan t a (suc zero) batch out h e = right_sends (map plain_pair plan.operator.pairs.items) t a batch out e
+pub join_sends : (plan : JoinPlan) (t : Time) (a : Absorbed) (p : ℕ) (batch : List Record) (out : Out) → p < 2 → (records_of out.first ++ join_records plan p (a p t) (a (other_port p) t)) ≈ join_records plan p (a p t ++ batch) (a (other_port p) t) → SendsFor (Kind.join (map plain_pair plan.pairs.items)) t a p batch out
+join_sends plan t a zero batch out h e = left_sends (map plain_pair plan.pairs.items) t a batch out e
+join_sends plan t a (suc zero) batch out h e = right_sends (map plain_pair plan.pairs.items) t a batch out e
 join_sends plan t a (suc (suc p)) batch out h e = absurd (omega (arith, h))
 
 pub group_notified : (ks : List ℕ) (as' : List Agg) (t : Time) (a : Absorbed) (out : Out) → records_of out.first ≈ grouped ks as' (a 0 t) → SendsAtNotification (λ q ins. op (Kind.group ks as') t ins q) (λ p. a p t) (sent 1 out)
@@ -93,3 +94,8 @@ intersect_sends t a p batch out h q = ≈-trans h (≈-from (λ j. in_both (a 0 
 
 pub except_notified : (t : Time) (a : Absorbed) (out : Out) → records_of out.first ≈ only_left (a 0 t) (a 1 t) → SendsAtNotification (λ q ins. op Kind.except t ins q) (λ p. a p t) (sent 1 out)
 except_notified t a out h q = h
+
+pub unseen_notified : (n : ℕ) (t : Time) (a : Absorbed) (out : Out) (rows : List Record) → rows ≈ only_left (a 0 t) (flat_map (a 0) (earlier_turns t)) → records_of out.first ≡ cond (nat_lt (last t.counters) n) rows [] → records_of out.second ≡ rows
+    → SendsAtNotification (λ q ins. op (Kind.unseen n) t ins q) (reads (Kind.unseen n) a t) (sent 2 out)
+unseen_notified n t a out rows h e f zero = ≈-trans (≈-from e) (cond_same (nat_lt (last t.counters) n) rows (only_left (a 0 t) (flat_map (a 0) (earlier_turns t))) h)
+unseen_notified n t a out rows h e f (suc q) = ≈-trans (≈-from f) h

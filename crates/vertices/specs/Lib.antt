@@ -6,6 +6,12 @@ pub mod OneSide
 pub mod Joins
 pub mod Groups
 pub mod Outs
+pub mod FirstTurns
+pub mod LoopRows
+pub mod Unseen
+pub mod Stateless
+pub mod Stateful
+pub mod Notified
 pub mod Shards
 pub mod TakesIn
 pub mod AtWork

@@ -1,7 +1,7 @@
 -- What the state of one time is, of the records that were absorbed then, by port.
 use Rattle.std.specs.Prelude.{◌≡◌, ℕ, ◌<◌, Bool, if◌then◌else◌, List, [], ◌∷◌, ◌++◌, length, slice_index_or}
 use Rattle.std.specs.List.{list_any}
-use Rattle.rows.specs.Counts.{Run, RunList, expanded, no_run, rows_of}
+use Rattle.rows.specs.Counts.{RunList, expanded, no_run, rows_of}
 use Rattle.semantics.specs.Meaning.{in_both}
 use Rattle.semantics.specs.Multiset.{Record, ◌≈◌, each_once, same}
 use Rattle.vertices.specs.Kept.{more_at}
@@ -46,7 +46,3 @@ is_right sets row = list_any (λ x. same x row) (rows_of sets.right.runs)
 abbrev pub only_left_at : PortSets → (place : ℕ) → List Record
 only_left_at sets place =
     if is_right sets (slice_index_or sets.left.runs place no_run).row then [] else (slice_index_or sets.left.runs place no_run).row ∷ []
-
--- the row at a place, unless it came
-abbrev pub unless_came : (Record → Bool) → List Run → (place : ℕ) → List Record
-unless_came came runs place = if came (slice_index_or runs place no_run).row then [] else (slice_index_or runs place no_run).row ∷ []
