@@ -10,12 +10,12 @@ use Rattle.follow.specs.Entries.{Entry, records_of}
 use Rattle.follow.specs.Follows.{FollowsInput, HasRead, IsGraphOf, IsPart, IsWhole, Reading}
 use Rattle.follow.specs.declared.ending.Ending.{Ending}
 use Rattle.follow.specs.declared.ending.Ending.TheVariants as ending
-use Rattle.console.specs.Compiled.{IsCompiled, IsQueryFault}
+use Rattle.compile.specs.Compiled.{IsCompiled, IsQueryFault}
 use Rattle.console.specs.Faults.{follow_fault_of}
 use Rattle.console.specs.Followed.{FollowEnds, IsFollowed, IsReadOf}
 use Rattle.console.specs.Readings.{FollowsOnHanded, HandsQuery}
 use Rattle.console.specs.Runs.{IsUnreadQuery}
-use Rattle.console.proofs.Rewritten.{same_many}
+use Rattle.compile.proofs.Rewritten.{same_many}
 use Rattle.diagnostics.specs.declared.fault.Fault.{Fault}
 use Rattle.diagnostics.specs.declared.fault.Fault.TheVariants.{Query, TooManyVertices, Input as InputFault, Schedule, NoMemory, Count, NoWorker, Incomplete, ReadQuery, ReadInput, Write}
 

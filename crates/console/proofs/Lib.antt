@@ -1,11 +1,6 @@
 pub mod Answering
 pub mod RunEnds
-pub mod InputLines
-pub mod QueryFaults
-pub mod CheckedInputs
-pub mod Rewritten
 pub mod FollowedText
-pub mod OneGraph
 pub mod Heeding
 pub mod OneAnswer
 pub mod Commanding

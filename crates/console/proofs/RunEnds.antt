@@ -9,7 +9,7 @@ use Rattle.collector.specs.InputText.{IsInputText}
 use Rattle.execution.specs.declared.unfinished.Unfinished.{Unfinished}
 use Rattle.execution.specs.declared.unfinished.Unfinished.TheVariants as run
 use Rattle.console.specs.Answers.{IsAnswer, Responds}
-use Rattle.console.specs.Compiled.{IsCompiled}
+use Rattle.compile.specs.Compiled.{IsCompiled}
 use Rattle.console.specs.Faults.{run_fault_of}
 use Rattle.console.specs.Runs.{Ends, IsAfterReading}
 use Rattle.diagnostics.specs.declared.fault.Fault.{Fault}

@@ -1,7 +1,5 @@
 pub mod Faults
 pub mod Answers
-pub mod Queries
-pub mod Compiled
 pub mod Heeded
 pub mod Graphs
 pub mod Runs

@@ -2,18 +2,17 @@
 
 ghost use Rattle.std.specs.Prelude.{◌≡◌, true, IfOk, IfErr, IsErrOf};
 ghost use Rattle.collector.specs.Watching.{has_failed, inner_of};
-ghost use Rattle.console.specs.Compiled.{IsQueryFault};
+ghost use Rattle.compile.specs.Compiled.{IsQueryFault};
 ghost use Rattle.console.specs.Graphs.{GraphEnds, ShowsGraph};
 ghost use Rattle.console.specs.Readings.{KeepsQuery, GraphsOver};
 ghost use Rattle.console.specs.Runs.{IsAfterReading};
 ghost use Rattle.diagnostics.specs.declared.fault.Fault.TheVariants as fault;
 
-use crate::compiling::compile;
-use crate::fault::graph_fault;
 use crate::reading::read_query;
 use crate::writing::write_text;
 use collector::Watched;
 use command_line::GraphForm;
+use compile::{compile, graph_fault};
 use diagnostics::{Fault, Texts};
 use graph::{graph_dot, graph_text};
 use std::alloc::{Allocator, Global};

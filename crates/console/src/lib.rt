@@ -7,7 +7,7 @@
 //! | `run` | a query and an input | the answer, and if asked what each vertex did |
 //! | `follow_query` | the same | the answer, while the input still comes |
 //! | `check_query`, `check_input` | a query, and an input too | the query's arities |
-//! | `graph_query` | a query | its graph, which `compile` makes |
+//! | `graph_query` | a query | its graph, which crate `compile` makes |
 //! | `format_query` | a query | its canonical form |
 //! | `replay_schedule` | a query and a schedule | what the schedule's lines print |
 //!
@@ -18,7 +18,6 @@
 #![tactic(auto)]
 
 mod checking;
-mod compiling;
 mod disk;
 mod dispatch;
 mod fault;
@@ -36,17 +35,16 @@ mod writing;
 
 pub use checking::check_query;
 pub use command_line::{GraphForm, HeapSize, LineFault, Options, Workers};
-pub use compiling::compile;
+pub use compile::{CompileFault, compile, law_one_graph};
 pub use diagnostics::{Fault, Texts};
 pub use disk::{Disk, DiskText};
 pub use dispatch::{answer, refuse};
 pub use execution::{Telling, Watcher};
-pub use fault::CompileFault;
 pub use following::follow_query;
 pub use formatting::format_query;
 pub use graphing::graph_query;
 pub use input_check::check_input;
-pub use laws::{law_followed, law_one_answer, law_one_graph};
+pub use laws::{law_followed, law_one_answer};
 pub use replaying::replay_schedule;
 pub use running::run;
 pub use schedule::ViewKind;
