@@ -8,15 +8,14 @@ use execution::Unfinished;
 use follow::Ending;
 use schedule::ScheduleRefusal;
 
-/// The fault of a run that came to no end.
+/// The fault of a run that came to no end, though all of its threads were started.
 pub fn run_fault(unfinished: Unfinished) -> Fault
     ensures { result ≡ run_fault_of unfinished }
 {
     match unfinished {
         Unfinished::NoMemory => Fault::NoMemory,
         Unfinished::Count => Fault::Count,
-        Unfinished::NoWorker => Fault::NoWorker,
-        Unfinished::Incomplete => Fault::Incomplete,
+        Unfinished::NoWorker | Unfinished::Incomplete => Fault::Incomplete,
     }
 }
 
