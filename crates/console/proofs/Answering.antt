@@ -13,10 +13,10 @@ use Rattle.board.specs.Promises.{HasPassed, IsDrained, KeepsPromise, RunsProgram
 use Rattle.collector.specs.OutputText.{IsTextFrom}
 use Rattle.collector.specs.ReadEpochs.{epoch_count, records_at}
 use Rattle.collector.specs.declared.epochs.Epochs.{Epochs}
-use Rattle.console.specs.Compiled.{IsCompiled}
+use Rattle.compile.specs.Compiled.{IsCompiled}
 use Rattle.execution.specs.Fed.{EmittedBelow, HoldsFed, IsWorkedOff, fed_at}
 use Rattle.console.specs.Answers.{IsAnswer}
-use Rattle.console.proofs.Rewritten.{same_many}
+use Rattle.compile.proofs.Rewritten.{same_many}
 
 -- names mean the same where the inputs have the same records
 inputs_same : (as' : List Input) (k : ℕ) (f g : ℕ → List Record) → ((i : ℕ) → i < k + length as' → f i ≡ g i) → (x : List ℕ) → input_names as' k f x ≡ input_names as' k g x

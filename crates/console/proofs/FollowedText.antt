@@ -10,12 +10,12 @@ use Rattle.follow.specs.Entries.{Entry, records_of}
 use Rattle.follow.specs.Follows.{FollowsInput, HasRead, IsGraphOf, IsPart, IsWhole, Reading}
 use Rattle.follow.specs.declared.ending.Ending.{Ending}
 use Rattle.follow.specs.declared.ending.Ending.TheVariants as ending
-use Rattle.console.specs.Compiled.{IsCompiled, IsQueryFault}
+use Rattle.compile.specs.Compiled.{IsCompiled, IsQueryFault}
 use Rattle.console.specs.Faults.{follow_fault_of}
 use Rattle.console.specs.Followed.{FollowEnds, IsFollowed, IsReadOf}
 use Rattle.console.specs.Readings.{FollowsOnHanded, HandsQuery}
 use Rattle.console.specs.Runs.{IsUnreadQuery}
-use Rattle.console.proofs.Rewritten.{same_many}
+use Rattle.compile.proofs.Rewritten.{same_many}
 use Rattle.diagnostics.specs.declared.fault.Fault.{Fault}
 use Rattle.diagnostics.specs.declared.fault.Fault.TheVariants.{Query, TooManyVertices, Input as InputFault, Schedule, NoMemory, Count, NoWorker, Incomplete, ReadQuery, ReadInput, Write}
 
@@ -39,7 +39,7 @@ module _ (query : List ℕ) (r s : Reading) (old new : Option (List ℕ)) (h : (
   wider : (result : Result (Unit {0}) Ending) → IsFollowed query r old new result → IsFollowed query s old new result
   wider result f = record { graph = f.graph; compiled = f.compiled; follows = (f.follows.0, f.follows.1, h f.follows.0 f.follows.1 f.follows.2, f.follows.3) }
 
-  ends_wider : (result : Result (Unit {0}) Fault) → FollowEnds query r old new result → FollowEnds query s old new result
+  pub ends_wider : (result : Result (Unit {0}) Fault) → FollowEnds query r old new result → FollowEnds query s old new result
   ends_wider (Ok u) f = wider (Ok u) f
   ends_wider (Err (InputFault code line)) f = wider (Err (ending.Input code line)) f
   ends_wider (Err ReadInput) f = wider (Err ending.Read) f

@@ -3,7 +3,7 @@ use Rattle.std.proofs.Common.{ℕ, List, Option, Result, Ok, Err}
 use Rattle.semantics.specs.Multiset.{Record}
 use Rattle.semantics.specs.Query.{Program}
 use Rattle.console.specs.Answers.{Responds}
-use Rattle.console.specs.Compiled.{IsTaken}
+use Rattle.compile.specs.Compiled.{IsTaken}
 use Rattle.console.specs.Heeded.{Heeds}
 use Rattle.console.specs.Replayed.{ReplayEnds}
 use Rattle.schedule.specs.declared.verb.ViewKind.{ViewKind}

@@ -1,12 +1,9 @@
 pub mod Answering
 pub mod RunEnds
-pub mod InputLines
-pub mod QueryFaults
-pub mod CheckedInputs
-pub mod Rewritten
 pub mod FollowedText
-pub mod OneGraph
 pub mod Heeding
 pub mod OneAnswer
 pub mod Commanding
 pub mod HandedOver
+pub mod OpenedTexts
+pub mod Answered

@@ -6,10 +6,10 @@ use Rattle.semantics.specs.Query.{Input, Output, Program}
 use Rattle.semantics.specs.Meaning.{program_meaning}
 use Rattle.collector.specs.InputText.{IsInputText}
 use Rattle.collector.specs.OutputText.{IsTextFrom}
-use Rattle.console.specs.Queries.{output_names}
+use Rattle.compile.specs.Queries.{output_names}
 use Rattle.console.specs.Runs.{IsRun}
 use Rattle.console.proofs.Answering.{meant_alike}
-use Rattle.console.proofs.OneGraph.{same_program}
+use Rattle.compile.proofs.OneGraph.{same_program}
 
 module _ (back : (xs ys : List Record) → xs ≈ ys → ys ≈ xs) (onward : (xs ys zs : List Record) → xs ≈ ys → ys ≈ zs → xs ≈ zs)
     (one_input : (inputs : List Input) (text : List ℕ) (m n : ℕ) (r s : ℕ → ℕ → List Record) → IsInputText inputs text m r → IsInputText inputs text n s → (m ≡ n) × ((epoch input : ℕ) → r epoch input ≡ s epoch input))

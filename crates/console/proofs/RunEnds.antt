@@ -9,7 +9,7 @@ use Rattle.collector.specs.InputText.{IsInputText}
 use Rattle.execution.specs.declared.unfinished.Unfinished.{Unfinished}
 use Rattle.execution.specs.declared.unfinished.Unfinished.TheVariants as run
 use Rattle.console.specs.Answers.{IsAnswer, Responds}
-use Rattle.console.specs.Compiled.{IsCompiled}
+use Rattle.compile.specs.Compiled.{IsCompiled}
 use Rattle.console.specs.Faults.{run_fault_of}
 use Rattle.console.specs.Runs.{Ends, IsAfterReading}
 use Rattle.diagnostics.specs.declared.fault.Fault.{Fault}
@@ -75,3 +75,10 @@ unfinished_responds p count records old new run.NoMemory same = same
 unfinished_responds p count records old new run.Count same = same
 unfinished_responds p count records old new run.NoWorker same = same
 unfinished_responds p count records old new run.Incomplete same = same
+
+-- where all threads were started, that is no fault
+pub all_started : (u : Unfinished) → run_fault_of u ≡ NoWorker → ⊥
+all_started run.NoMemory h = absurd cc
+all_started run.Count h = absurd cc
+all_started run.NoWorker h = absurd cc
+all_started run.Incomplete h = absurd cc

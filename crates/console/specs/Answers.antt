@@ -4,13 +4,13 @@ use Rattle.std.specs.Io.KnownBytes.{Appends}
 use Rattle.semantics.specs.Multiset.{Record, ◌≈◌}
 use Rattle.semantics.specs.Query.{Program}
 use Rattle.graph.specs.Shown.{GraphValue, shown_graph, shown_inputs, shown_names}
-use Rattle.console.specs.Queries.{output_names}
+use Rattle.compile.specs.Queries.{output_names}
 use Rattle.semantics.specs.Meaning.{program_meaning}
 use Rattle.collector.specs.declared.epochs.Epochs.{Epochs}
 use Rattle.collector.specs.ReadEpochs.{epoch_count, records_at}
 use Rattle.collector.specs.OutputText.{IsTextFrom}
 use Rattle.collector.specs.WrittenBytes.{AppendsFront}
-use Rattle.console.specs.Compiled.{IsCompiled}
+use Rattle.compile.specs.Compiled.{IsCompiled}
 use Rattle.diagnostics.specs.declared.fault.Fault.{Fault}
 use Rattle.diagnostics.specs.declared.fault.Fault.TheVariants.{Query, TooManyVertices, Input, Schedule, NoMemory, Count}
 use Rattle.diagnostics.specs.declared.fault.Fault.TheVariants.{NoWorker, Incomplete, ReadQuery, ReadInput, Write}

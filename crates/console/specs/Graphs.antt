@@ -5,7 +5,7 @@ use Rattle.semantics.specs.Query.{Input as Declared, Name}
 use Rattle.semantics.specs.Graph.{Graph}
 use Rattle.graph.specs.Text.{graph_text}
 use Rattle.collector.specs.WrittenBytes.{AppendsFront}
-use Rattle.console.specs.Compiled.{IsCompiled, IsQueryFault}
+use Rattle.compile.specs.Compiled.{IsCompiled, IsQueryFault}
 use Rattle.command_line.specs.declared.line_options.GraphForm.{GraphForm}
 use Rattle.command_line.specs.declared.line_options.GraphForm.TheVariants.{Lines, Dot}
 use Rattle.diagnostics.specs.declared.fault.Fault.{Fault}

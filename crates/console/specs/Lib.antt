@@ -1,7 +1,5 @@
 pub mod Faults
 pub mod Answers
-pub mod Queries
-pub mod Compiled
 pub mod Heeded
 pub mod Graphs
 pub mod Runs
@@ -11,4 +9,7 @@ pub mod Formats
 pub mod Replayed
 pub mod Followed
 pub mod Readings
+pub mod Views
+pub mod Transcribed
 pub mod Commands
+pub mod Disk

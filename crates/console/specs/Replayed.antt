@@ -11,7 +11,7 @@ use Rattle.schedule.specs.declared.refusal.ScheduleRefusal.TheVariants.{At}
 use Rattle.schedule.specs.declared.verb.ViewKind.{ViewKind}
 use Rattle.replay.specs.Replays.{Replays}
 use Rattle.replay.specs.Waits.{State, at_first}
-use Rattle.console.specs.Compiled.{IsCompiled, IsQueryFault, IsTaken}
+use Rattle.compile.specs.Compiled.{IsCompiled, IsQueryFault, IsTaken}
 use Rattle.diagnostics.specs.declared.fault.Fault.{Fault}
 use Rattle.diagnostics.specs.declared.fault.Fault.TheVariants.{Query, TooManyVertices, Input, Schedule, NoMemory, Count}
 use Rattle.diagnostics.specs.declared.fault.Fault.TheVariants.{NoWorker, Incomplete, ReadQuery, ReadInput, Write}

@@ -3,12 +3,12 @@ use Rattle.std.specs.Prelude.{◌≡◌, ℕ, List, Option, Result, Ok, Err}
 use Rattle.std.specs.Io.KnownBytes.{Appends}
 use Rattle.semantics.specs.Multiset.{Record}
 use Rattle.semantics.specs.Query.{Program}
-use Rattle.collector.specs.InputText.{IsInputText, IsRefused}
+use Rattle.collector.specs.InputText.{IsInputText}
 use Rattle.collector.specs.WrittenBytes.{AppendsFront}
-use Rattle.collector.specs.declared.refusal.InputRefusal.TheVariants.{At}
 use Rattle.console.specs.Answers.{IsAnswer}
-use Rattle.console.specs.Compiled.{IsQueryFault}
-use Rattle.console.specs.Queries.{IsQuery}
+use Rattle.compile.specs.CheckedInputs.{IsInputFault}
+use Rattle.compile.specs.Compiled.{IsQueryFault}
+use Rattle.compile.specs.Queries.{IsQuery}
 use Rattle.diagnostics.specs.declared.fault.Fault.{Fault}
 use Rattle.diagnostics.specs.declared.fault.Fault.TheVariants.{Query, TooManyVertices, Input, Schedule, NoMemory, Count}
 use Rattle.diagnostics.specs.declared.fault.Fault.TheVariants.{NoWorker, Incomplete, ReadQuery, ReadInput, Write}
@@ -21,10 +21,6 @@ pub record IsRun (query input text : List ℕ) : Type 0 where
   pub reads : IsQuery query program
   pub epochs : IsInputText program.inputs input count records
   pub answer : IsAnswer program count records text
-
--- the input text is refused so, for the inputs of the query
-abbrev pub IsInputFault : List ℕ → List ℕ → ℕ → ℕ → Type 0
-IsInputFault query input code line = (p : Program) × IsQuery query p × IsRefused p.inputs input (At code line)
 
 -- the query is taken, and the input for its inputs
 pub record AreTaken (query input : List ℕ) : Type 0 where

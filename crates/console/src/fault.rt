@@ -1,35 +1,21 @@
-//! Why a query has no graph, and the faults of what the layers below refuse.
+//! The faults of what the layers below refuse.
 
 ghost use Rattle.std.specs.Prelude.{◌≡◌};
-ghost use Rattle.console.specs.Faults.{compile_fault_of, fault_of, follow_fault_of, graph_fault_of, input_fault_of, run_fault_of, schedule_fault_of};
-ghost use Rattle.diagnostics.specs.declared.fault.Fault.TheVariants.{NoMemory};
+ghost use Rattle.console.specs.Faults.{follow_fault_of, run_fault_of, schedule_fault_of};
 
-use collector::InputRefusal;
 use diagnostics::Fault;
 use execution::Unfinished;
 use follow::Ending;
-use record_core::{Refusal, Span};
 use schedule::ScheduleRefusal;
 
-/// Why a query text has no graph.
-#[derive(Clone, Copy, Debug, PartialEq, Eq)]
-pub enum CompileFault {
-    /// The query's first fault: its code, and the bytes where it is.
-    Query { code: u8, span: Span },
-    /// The graph would have more than 4096 vertices.
-    TooManyVertices,
-    NoMemory,
-}
-
-/// The fault of a run that came to no end.
+/// The fault of a run that came to no end, though all of its threads were started.
 pub fn run_fault(unfinished: Unfinished) -> Fault
     ensures { result ≡ run_fault_of unfinished }
 {
     match unfinished {
         Unfinished::NoMemory => Fault::NoMemory,
         Unfinished::Count => Fault::Count,
-        Unfinished::NoWorker => Fault::NoWorker,
-        Unfinished::Incomplete => Fault::Incomplete,
+        Unfinished::NoWorker | Unfinished::Incomplete => Fault::Incomplete,
     }
 }
 
@@ -44,55 +30,6 @@ pub fn follow_fault(ending: Ending) -> Fault
         Ending::NoMemory => Fault::NoMemory,
         Ending::Count => Fault::Count,
         Ending::Incomplete => Fault::Incomplete,
-    }
-}
-
-/// The fault of a query that is refused.
-pub fn query_fault(refusal: Refusal) -> Fault
-    ensures { result ≡ fault_of refusal }
-{
-    match refusal {
-        Refusal::NoMemory => Fault::NoMemory,
-        Refusal::At { code, span } => Fault::Query {
-            code,
-            start: span.start,
-            end: span.end,
-        },
-    }
-}
-
-/// Why a query that is refused has no graph.
-pub fn compile_fault(refusal: Refusal) -> CompileFault
-    ensures { result ≡ compile_fault_of refusal }
-{
-    match refusal {
-        Refusal::NoMemory => CompileFault::NoMemory,
-        Refusal::At { code, span } => CompileFault::Query { code, span },
-    }
-}
-
-/// The fault of a query that has no graph.
-pub fn graph_fault(fault: CompileFault) -> Fault
-    ensures { result ≡ graph_fault_of fault }
-{
-    match fault {
-        CompileFault::Query { code, span } => Fault::Query {
-            code,
-            start: span.start,
-            end: span.end,
-        },
-        CompileFault::TooManyVertices => Fault::TooManyVertices,
-        CompileFault::NoMemory => Fault::NoMemory,
-    }
-}
-
-/// The fault of an input that is refused.
-pub fn input_fault(refusal: InputRefusal) -> Fault
-    ensures { result ≡ input_fault_of refusal }
-{
-    match refusal {
-        InputRefusal::NoMemory => Fault::NoMemory,
-        InputRefusal::At { code, line } => Fault::Input { code, line },
     }
 }
 

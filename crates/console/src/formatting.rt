@@ -1,40 +1,19 @@
 //! The canonical form of a query, written.
 
-ghost use Rattle.std.specs.Prelude.{◌≡◌, true, IfErr, IfOk, IsErrOf};
+ghost use Rattle.std.specs.Prelude.{◌≡◌, true, IfErr, IsErrOf};
 ghost use Rattle.collector.specs.Watching.{has_failed, inner_of};
-ghost use Rattle.console.specs.Formats.{FormatEnds, IsCanonical, IsFormatFault};
-ghost use Rattle.console.specs.Readings.{KeepsQuery, FormatsOver};
+ghost use Rattle.console.specs.Formats.{FormatEnds};
+ghost use Rattle.console.specs.Readings.{FormatsOnHanded, FormatsOver, KeepsQuery};
 ghost use Rattle.console.specs.Runs.{IsAfterReading};
 ghost use Rattle.diagnostics.specs.declared.fault.Fault.TheVariants as fault;
 
-use crate::fault::query_fault;
 use crate::reading::read_query;
 use crate::writing::write_text;
 use collector::Watched;
+use compile::canonical_text;
 use diagnostics::{Fault, Texts};
-use parser::parse;
 use std::alloc::{Allocator, Global};
 use std::io::{Read, Write};
-use writer::{read_is_source, write_program, written_reads_back};
-
-/// The canonical text of a query.
-#[tactic(auto, using(crate::proofs::QueryFaults::format_refused))]
-fn canonical<A: Allocator + Copy>(alloc: Global, arena: A, query: &[u8]) -> Result<Vec<u8>, Fault>
-    ensures text { IfOk result (λ t. IsCanonical query.now t.items) }
-    ensures fault { IfErr result (IsFormatFault query.now) }
-{
-    let program = match parse(arena, query) {
-        Ok(program) => program,
-        Err(refusal) => return Err(query_fault(refusal)),
-    };
-    read_is_source();
-    written_reads_back();
-    let mut text = Vec::new(alloc);
-    match write_program(&program, &mut text) {
-        Ok(()) => Ok(text),
-        Err(_) => Err(Fault::NoMemory),
-    }
-}
 
 /// Writes the canonical text of a query.
 fn write_canonical<A: Allocator + Copy, W: Write>(
@@ -47,7 +26,7 @@ fn write_canonical<A: Allocator + Copy, W: Write>(
     ensures writer { IsErrOf result fault.Write → has_failed writer.new ≡ true }
     ensures read { IfErr result IsAfterReading }
 {
-    let text = match canonical(alloc, arena, query) {
+    let text = match canonical_text(alloc, arena, query) {
         Ok(text) => text,
         Err(fault) => return Err(fault),
     };
@@ -57,6 +36,7 @@ fn write_canonical<A: Allocator + Copy, W: Write>(
 /// Reads a query, and writes its canonical text: each item on a line, one space between words, and brackets only where they are
 /// needed. It need not be well typed. Where the canonical text is no longer than a query may be, 1,048,576 bytes, it reads as the same
 /// query. It is written only once all of it is made. The text that was read is left in `texts`.
+#[tactic(auto, using(crate::proofs::HandedOver::format_unread, crate::proofs::HandedOver::one_read))]
 pub fn format_query<A: Allocator + Copy, Q: Read, W: Write>(
     alloc: Global,
     arena: A,
@@ -65,6 +45,7 @@ pub fn format_query<A: Allocator + Copy, Q: Read, W: Write>(
     writer: &mut Watched<W>,
 ) -> Result<(), Fault>
     ensures ends { FormatsOver (Q.remaining (inner_of query.old)) (W.contents (inner_of writer.old)) (W.contents (inner_of writer.new)) result }
+    ensures handed { FormatsOnHanded query.old query.new (W.contents (inner_of writer.old)) (W.contents (inner_of writer.new)) result }
     ensures query { IsErrOf result fault.ReadQuery → has_failed query.new ≡ true }
     ensures writer { IsErrOf result fault.Write → has_failed writer.new ≡ true }
     ensures kept { KeepsQuery (Q.remaining (inner_of query.old)) result texts.new.query.items }

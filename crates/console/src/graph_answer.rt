@@ -2,6 +2,7 @@
 
 ghost use Rattle.std.specs.Prelude.{◌≡◌, ◌<◌, true, IsErrOf};
 ghost use Rattle.collector.specs.Watching.{has_failed, inner_of};
+ghost use Rattle.command_line.specs.Counts.{count_of};
 ghost use Rattle.console.specs.Answers.{RespondsBy};
 ghost use Rattle.execution.specs.Fed.{IsWorkedOff};
 ghost use Rattle.diagnostics.specs.declared.fault.Fault.TheVariants as fault;
@@ -11,7 +12,7 @@ use board::Board;
 use collector::{Epochs, OutFault, Watched, write_epochs};
 use command_line::Workers;
 use diagnostics::Fault;
-use execution::{ParallelSorter, Parallelism, Watcher, emitted, execute};
+use execution::{ParallelSorter, Parallelism, Unfinished, Watcher, emitted, execute};
 use graph::Graph;
 use statistics::Tally;
 use std::alloc::Global;
@@ -33,6 +34,7 @@ fn write_emitted<V: Views, R: Threads + Sync, W: Write>(
     requires { IsWorkedOff report.now.graph report.now epochs.now }
     ensures text { RespondsBy report.now.graph epochs.now (W.contents (inner_of writer.old)) (W.contents (inner_of writer.new)) result }
     ensures failed { IsErrOf result fault.Write → has_failed writer.new ≡ true }
+    ensures started { IsErrOf result fault.NoWorker → ⊥ }
 {
     report.law_headline();
     report.law_drained();
@@ -49,6 +51,7 @@ fn write_emitted<V: Views, R: Threads + Sync, W: Write>(
 }
 
 /// Works the epochs off on a new board, each event computed by the gate, and writes what was emitted.
+#[tactic(auto, using(crate::proofs::RunEnds::all_started))]
 fn respond_on<V: Views + Send, R: Threads + Wait + Sync, G: Gate + Sync, W: Write, O: Write + Send>(
     rt: &R,
     alloc: Global,
@@ -61,9 +64,12 @@ fn respond_on<V: Views + Send, R: Threads + Wait + Sync, G: Gate + Sync, W: Writ
 ) -> Result<(), Fault>
     ensures text { RespondsBy board.shown.graph epochs.now (W.contents (inner_of writer.old)) (W.contents (inner_of writer.new)) result }
     ensures failed { IsErrOf result fault.Write → has_failed writer.new ≡ true }
+    ensures several { IsErrOf result fault.NoWorker → 1 < threads }
 {
     match execute(rt, alloc, board, threads, epochs, gate, watcher) {
         Ok(report) => write_emitted(rt, alloc, &report, threads, epochs, writer),
+        // A single worker has the caller's thread.
+        Err(Unfinished::NoWorker) if threads > 1 => Err(Fault::NoWorker),
         Err(unfinished) => Err(run_fault(unfinished)),
     }
 }
@@ -81,6 +87,7 @@ fn respond_by<R: Threads + Wait + Sync, G: Gate + Sync, W: Write, O: Write + Sen
 ) -> Result<(), Fault>
     ensures text { RespondsBy graph.value epochs.now (W.contents (inner_of writer.old)) (W.contents (inner_of writer.new)) result }
     ensures failed { IsErrOf result fault.Write → has_failed writer.new ≡ true }
+    ensures several { IsErrOf result fault.NoWorker → 1 < parallelism.threads }
 {
     let (workers, threads) = (parallelism.workers(), parallelism.threads());
     if workers == 1 {
@@ -109,6 +116,7 @@ fn respond_counted<R: Threads + Wait + Sync, W: Write, O: Write + Send, E: Write
 ) -> Result<(), Fault>
     ensures text { RespondsBy graph.value epochs.now (W.contents (inner_of writer.old)) (W.contents (inner_of writer.new)) result }
     ensures failed { IsErrOf result fault.Write → has_failed writer.new ≡ true }
+    ensures several { IsErrOf result fault.NoWorker → 1 < parallelism.threads }
 {
     let tally = match Tally::of(alloc, &graph, parallelism.workers(), epochs) {
         Ok(tally) => tally,
@@ -145,6 +153,7 @@ pub fn respond<R: Threads + Wait + Sync, W: Write, O: Write + Send, E: Write>(
 ) -> Result<(), Fault>
     ensures text { RespondsBy graph epochs.now (W.contents (inner_of writer.old)) (W.contents (inner_of writer.new)) result }
     ensures failed { IsErrOf result fault.Write → has_failed writer.new ≡ true }
+    ensures several { IsErrOf result fault.NoWorker → 1 < count_of workers }
 {
     let Ok(graph) = Arc::new(alloc, graph) else {
         return Err(Fault::NoMemory);

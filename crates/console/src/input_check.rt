@@ -1,52 +1,19 @@
-//! The check of a query together with an input.
+//! The check of a query together with an input, written.
 
-ghost use Rattle.std.specs.Prelude.{◌≡◌, true, IfErr, IfOk, IsErrOf};
+ghost use Rattle.std.specs.Prelude.{◌≡◌, true, IfErr, IsErrOf};
 ghost use Rattle.collector.specs.Watching.{has_failed, inner_of};
-ghost use Rattle.console.specs.InputChecks.{CheckInputEnds, IsCheckedInput, IsInputCheckFault};
-ghost use Rattle.console.specs.Readings.{ChecksBothOver, KeepsInput, KeepsQuery};
+ghost use Rattle.console.specs.InputChecks.{CheckInputEnds};
+ghost use Rattle.console.specs.Readings.{ChecksBothOnHanded, ChecksBothOver, KeepsInput, KeepsQuery};
 ghost use Rattle.console.specs.Runs.{IsAfterReading};
 ghost use Rattle.diagnostics.specs.declared.fault.Fault.TheVariants as fault;
 
-use crate::checking::arities_of;
-use crate::compiling::typed_program;
-use crate::fault::{input_fault, query_fault};
 use crate::reading::read_texts;
 use crate::writing::write_text;
-use collector::{Watched, read_input};
+use collector::Watched;
+use compile::checked_input_text;
 use diagnostics::{Fault, Texts};
-use lowering::declared_inputs;
 use std::alloc::{Allocator, Global};
 use std::io::{Read, Write};
-
-/// The text of a checked query whose input is right too.
-#[tactic(auto, using(crate::proofs::QueryFaults::input_check_refused))]
-fn checked_text<A: Allocator + Copy>(
-    alloc: Global,
-    arena: A,
-    query: &[u8],
-    input: &[u8],
-) -> Result<Vec<u8>, Fault>
-    ensures text { IfOk result (λ t. IsCheckedInput query.now input.now t.items) }
-    ensures fault { IfErr result (IsInputCheckFault query.now input.now) }
-{
-    let typed = match typed_program(alloc, arena, query) {
-        Ok(typed) => typed,
-        Err(refusal) => return Err(query_fault(refusal)),
-    };
-    let program = typed.program();
-    let inputs = match declared_inputs(alloc, &program.inputs) {
-        Ok(inputs) => inputs,
-        Err(_) => return Err(Fault::NoMemory),
-    };
-    match read_input(alloc, input, inputs.as_slice()) {
-        Ok(_) => {}
-        Err(refusal) => return Err(input_fault(refusal)),
-    }
-    match arities_of(alloc, program, typed.output_arities()) {
-        Ok(text) => Ok(text),
-        Err(_) => Err(Fault::NoMemory),
-    }
-}
 
 /// Checks a query text and an input text, and writes the arities.
 fn write_checked<A: Allocator + Copy, W: Write>(
@@ -60,7 +27,7 @@ fn write_checked<A: Allocator + Copy, W: Write>(
     ensures writer { IsErrOf result fault.Write → has_failed writer.new ≡ true }
     ensures read { IfErr result IsAfterReading }
 {
-    let text = match checked_text(alloc, arena, query, input) {
+    let text = match checked_input_text(alloc, arena, query, input) {
         Ok(text) => text,
         Err(fault) => return Err(fault),
     };
@@ -71,6 +38,7 @@ fn write_checked<A: Allocator + Copy, W: Write>(
 ///
 /// Faults are reported in this order: the query can't be read, the input can't be read, the query is refused, the input is refused, the
 /// writer failed. Lack of memory may come at any point. The texts that were read are left in `texts`.
+#[tactic(auto, using(crate::proofs::HandedOver::check_input_unread, crate::proofs::HandedOver::both_read))]
 pub fn check_input<A: Allocator + Copy, Q: Read, I: Read, W: Write>(
     alloc: Global,
     arena: A,
@@ -81,6 +49,7 @@ pub fn check_input<A: Allocator + Copy, Q: Read, I: Read, W: Write>(
 ) -> Result<(), Fault>
     ensures ends { ChecksBothOver (Q.remaining (inner_of query.old)) (I.remaining (inner_of input.old))
         (W.contents (inner_of writer.old)) (W.contents (inner_of writer.new)) result }
+    ensures handed { ChecksBothOnHanded query.old query.new input.old input.new (W.contents (inner_of writer.old)) (W.contents (inner_of writer.new)) result }
     ensures query { IsErrOf result fault.ReadQuery → has_failed query.new ≡ true }
     ensures input { IsErrOf result fault.ReadInput → has_failed input.new ≡ true }
     ensures writer { IsErrOf result fault.Write → has_failed writer.new ≡ true }

@@ -1,23 +1,23 @@
 //! A run, from bytes to bytes.
 
-ghost use Rattle.std.specs.Prelude.{◌≡◌, ◌≤◌, length, true, IfOk, IfErr, IsErrOf};
+ghost use Rattle.std.specs.Prelude.{◌≡◌, ◌<◌, ◌≤◌, length, true, IfOk, IfErr, IsErrOf};
 ghost use Rattle.graph.specs.Shown.{shown_graph, shown_inputs, shown_names};
 ghost use Rattle.graph.specs.Limits.{max_vertices};
 ghost use Rattle.collector.specs.InputText.{IsReadFrom, IsRefused};
 ghost use Rattle.collector.specs.Watching.{has_failed, inner_of};
-ghost use Rattle.console.specs.Compiled.{IsCompiled, IsQueryFault};
+ghost use Rattle.compile.specs.Compiled.{IsCompiled, IsQueryFault};
+ghost use Rattle.command_line.specs.Counts.{count_of};
 ghost use Rattle.console.specs.Heeded.{Heeds};
 ghost use Rattle.console.specs.Readings.{HeedsOver, KeepsInput, KeepsQuery, RunsOnHanded, RunsOver};
 ghost use Rattle.console.specs.Runs.{Ends, IsAfterReading};
 ghost use Rattle.diagnostics.specs.declared.fault.Fault.TheVariants as fault;
 
-use crate::compiling::compile;
-use crate::fault::{graph_fault, input_fault};
 use crate::graph_answer::respond;
 use crate::reading::read_texts;
 use bumpalo::Bump;
 use collector::{Epochs, InputRefusal, Watched, read_input};
 use command_line::Workers;
+use compile::{compile, graph_fault, input_fault};
 use diagnostics::{Fault, Texts};
 use execution::Watcher;
 use graph::Graph;
@@ -62,6 +62,7 @@ fn answer<R: Threads + Wait + Sync, W: Write, O: Write + Send, E: Write>(
     ensures ends { Ends query.now input.now (W.contents (inner_of writer.old)) (W.contents (inner_of writer.new)) result }
     ensures heeds { Heeds query.now (W.contents (inner_of writer.old)) (W.contents (inner_of writer.new)) result }
     ensures failed { IsErrOf result fault.Write → has_failed writer.new ≡ true }
+    ensures several { IsErrOf result fault.NoWorker → 1 < count_of workers }
     ensures read { IfErr result IsAfterReading }
 {
     let graph = match graph_of_text(alloc, query) {
@@ -104,6 +105,7 @@ pub fn run<R: Threads + Wait + Sync, Q: Read, I: Read, W: Write, O: Write + Send
     ensures query { IsErrOf result fault.ReadQuery → has_failed query.new ≡ true }
     ensures input { IsErrOf result fault.ReadInput → has_failed input.new ≡ true }
     ensures writer { IsErrOf result fault.Write → has_failed writer.new ≡ true }
+    ensures several { IsErrOf result fault.NoWorker → 1 < count_of workers }
     ensures kept_query { KeepsQuery (Q.remaining (inner_of query.old)) result texts.new.query.items }
     ensures kept_input { KeepsInput (I.remaining (inner_of input.old)) result texts.new.input.items }
 {

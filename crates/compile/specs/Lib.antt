@@ -1,0 +1,6 @@
+pub mod Queries
+pub mod Faults
+pub mod Compiled
+pub mod Checked
+pub mod CheckedInputs
+pub mod Canonical

@@ -1,8 +1,0 @@
-use Rattle.console.proofs.OneGraph.{same_graph, large_graph}
-use Rattle.console.proofs.laws.law_one_graph.Goals as goal
-
-pub returns-clause-same : goal.returns-clause-same
-returns-clause-same c = same_graph
-
-pub returns-clause-large : goal.returns-clause-large
-returns-clause-large c = large_graph
