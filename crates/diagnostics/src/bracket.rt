@@ -1,10 +1,10 @@
-//! The brackets that are open at the end of a beginning of a query, and the forms that they belong to.
+//! The forms of relation, and the brackets that are open at the end of a beginning of a query.
 
 /// The most brackets that can be open.
 const HEIGHT: usize = 64;
 
 /// The forms, by the words before their brackets.
-pub const FORMS: [&[u8]; 9] = [
+pub const FORMS: [&[u8]; 10] = [
     b"select",
     b"where",
     b"concat",
@@ -14,6 +14,7 @@ pub const FORMS: [&[u8]; 9] = [
     b"except",
     b"intersect",
     b"iterate",
+    b"closure",
 ];
 
 /// A round bracket that is open at the end of a beginning of a query.
@@ -47,6 +48,23 @@ pub fn last_word(text: &[u8]) -> &[u8] {
 /// Whether a word names a form.
 pub fn is_form(word: &[u8]) -> bool {
     FORMS.iter().any(|form| *form == word)
+}
+
+/// How the form with that name is written.
+pub fn shape_of(form: &[u8]) -> Option<&'static str> {
+    match form {
+        b"select" => Some("the form is select(a; #0)"),
+        b"where" => Some("the form is where(a; #0 > 1)"),
+        b"concat" => Some("the form is concat(a, b)"),
+        b"except" => Some("the form is except(a, b)"),
+        b"intersect" => Some("the form is intersect(a, b)"),
+        b"join" => Some("the form is join(a, b; #0 = #0)"),
+        b"group" => Some("the form is group(a; #0; count)"),
+        b"distinct" => Some("the form is distinct(a)"),
+        b"iterate" => Some("the form is iterate(3; x = a; distinct(x))"),
+        b"closure" => Some("the form is closure(3; x = a; select(x; #0))"),
+        _ => None,
+    }
 }
 
 /// The last round bracket that isn't closed.

@@ -11,7 +11,7 @@ use std::{fmt, io};
 /// The longest text behind which words are tried, as each trial reads it once more.
 const LENGTH: usize = 65536;
 
-/// A word of each kind.
+/// A word of each kind. A closure's word is a name, so it can come wherever a relation can.
 const WORDS: [&str; 38] = [
     "a",
     "1",

@@ -1,7 +1,7 @@
 //! Hints for words that look like the syntax of another language.
 
 use crate::bracket::{
-    OpenBracket, form_bracket, is_form, last_open, last_word, open_bracket, split_word,
+    OpenBracket, form_bracket, is_form, last_open, last_word, open_bracket, shape_of, split_word,
 };
 use crate::names::is_like;
 use record_core::{Keyword, Span};
@@ -175,22 +175,9 @@ fn of_call(before: &[u8], word: &[u8]) -> Option<&'static str> {
         (b"unique", b"(") => Some("use distinct(a)"),
         (b"having", b"(") => Some("use where(group(a; #0; count); #1 > 1)"),
         (b"order" | b"order_by" | b"sort", b"(") => Some("an answer comes in ascending order"),
-        _ => None,
-    }
-}
-
-/// How the form with that name is written.
-fn shape_of(form: &[u8]) -> Option<&'static str> {
-    match form {
-        b"select" => Some("the form is select(a; #0)"),
-        b"where" => Some("the form is where(a; #0 > 1)"),
-        b"concat" => Some("the form is concat(a, b)"),
-        b"except" => Some("the form is except(a, b)"),
-        b"intersect" => Some("the form is intersect(a, b)"),
-        b"join" => Some("the form is join(a, b; #0 = #0)"),
-        b"group" => Some("the form is group(a; #0; count)"),
-        b"distinct" => Some("the form is distinct(a)"),
-        b"iterate" => Some("the form is iterate(3; x = a; distinct(x))"),
+        (b"loop" | b"repeat" | b"while" | b"recursive" | b"fixpoint", b"(") => Some(
+            "use iterate(3; x = a; distinct(x)), or closure(3; x = a; select(x; #0)) to go on with what is new",
+        ),
         _ => None,
     }
 }
@@ -272,10 +259,23 @@ fn of_sql(before: &[u8], word: &[u8]) -> Option<&'static str> {
     }
 }
 
+/// Whether the text ends in a loop's bracket where its number of turns or its variable must come.
+fn is_in_head(before: &[u8], bracket: OpenBracket<'_>, word: &[u8]) -> bool {
+    let is_loop = matches!(bracket.name, b"iterate" | b"closure");
+    let is_named = word == b"(".as_slice() && is_form(last_word(before));
+    is_loop
+        && match bracket.semicolons {
+            0 => before.ends_with(b"("),
+            1 => before.ends_with(b";") || is_named,
+            _ => false,
+        }
+}
+
 /// The hint for a word in a round bracket, by whose bracket it is, how many of its parts came before, and what comes after it.
 fn in_bracket(before: &[u8], word: &[u8], behind: &[u8]) -> Option<&'static str> {
     let bracket = open_bracket(before)?;
     match (bracket.name, bracket.semicolons, word) {
+        _ if is_in_head(before, bracket, word) => shape_of(bracket.name),
         (_, _, b"and" | b"or" | b"not" | b"[") => of_condition(before, bracket, word),
         _ if is_comparison(word) => of_condition(before, bracket, word),
         (b"group", 1, b";") if before.ends_with(b";") => Some("a group has at least one key"),

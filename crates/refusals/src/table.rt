@@ -122,7 +122,8 @@ pub static OF_QUERIES: [Explanation; 18] = [
         code: 15,
         summary: "a loop's body with another arity than its start",
         place: "the body",
-        text: "A loop's variable is the start at first, and what the body gave at each later turn, so both must have the same number of fields.\n\
+        text: "A loop's variable is the start at first, and at each later turn what the body gave, or in a closure what of that was new: \
+            so both must have the same number of fields.\n\
             A `select` round the body brings it to the fields of the start.",
         wrong: "input a/2; output iterate(3; x = a; select(x; #0));",
         right: "input a/2; output iterate(3; x = a; select(x; #1, #0));",
