@@ -12,7 +12,7 @@ use Rattle.board.specs.Answers.{Hands}
 use Rattle.board.specs.Claims.{HandsMessage, HandsRequest}
 use Rattle.board.specs.Deliverable.{IsDeliverable}
 use Rattle.board.specs.Kept.{IsKept}
-use Rattle.board.specs.Picks.{IsChoice, IsKnown, LacksChoice}
+use Rattle.board.specs.Picks.{IsChoice, IsCertain, LacksChoice}
 use Rattle.board.specs.Shown.{Shown, net, side_at}
 use Rattle.board.proofs.HandedOut.{hands_message, hands_request, message_taken, request_taken}
 use Rattle.board.proofs.KthElements.{kth_same, kth_there}
@@ -20,7 +20,7 @@ use Rattle.board.proofs.Places.{get_index}
 use Rattle.board.proofs.Worlds.{no_other, no_other_back}
 
 -- a choice behind the messages is known where the view is up to date
-pub behind_mail : {P R : Type 0} (s : Shown) (k n : ℕ) → length (side_at s k).mail ≤ n → (P → R) → IsKnown P s k n → R
+pub behind_mail : {P R : Type 0} (s : Shown) (k n : ℕ) → length (side_at s k).mail ≤ n → (P → R) → IsCertain P s k n → R
 behind_mail s k n behind f (inl lt) = absurd (omega (arith, behind, lt))
 behind_mail s k n behind f (inr up) = f up
 

@@ -18,7 +18,7 @@ use Rattle.board.specs.Showing.{Shows}
 use Rattle.board.specs.Lateness.{BoardShown, IsUpToDate, Posts, waits_for}
 use Rattle.board.specs.Commits.{IsOf}
 use Rattle.board.specs.Answers.{Hands}
-use Rattle.board.specs.Picks.{IsChoice, IsKnown, RefusesPick as Refuses}
+use Rattle.board.specs.Picks.{IsChoice, IsCertain, RefusesPick as Refuses}
 use Rattle.board.specs.declared.refusal.StepRefusal.{StepRefusal}
 use Rattle.board.specs.declared.refusal.StepRefusal.TheVariants as step
 use Rattle.board.proofs.Choosing.{home_of}
@@ -54,12 +54,12 @@ nothing_in_hand w n k hand h lt free = none (in_hand hand k) refl
     none (Some p) e = absurd (let f : Held.nothing ≡ Held.holding false p.job.happening = sym free ∙ h.held k p lt e in cc)
 
 -- a choice that is known of a state is known of the board that shows it
-known : (late : Bool) (b : BoardShown) (x : State) (k n : ℕ) → KnowsWaits late b → ShowsState b x → k < length b.shown.sides → KnowsChoice (setting_of late b.shown) x k n → IsKnown (IsUpToDate b k) b.shown k n
+known : (late : Bool) (b : BoardShown) (x : State) (k n : ℕ) → KnowsWaits late b → ShowsState b x → k < length b.shown.sides → KnowsChoice (setting_of late b.shown) x k n → IsCertain (IsUpToDate b k) b.shown k n
 known late b x k n knows shows there (inl lt) = inl (subst (λ (ms : List Message). n < length ms) (shows.world.mail k there) lt)
 known late b x k n knows shows there (inr sees) = inr (up_to_date late b x k knows shows sees)
 
 -- what is picked is taken in any state that the board shows
-picks : (late : Bool) (b : BoardShown) (t : Shown) (x : State) (k n : ℕ) (p : Pass) (hands : Hands b.shown k t p) → KnowsWaits late b → (IsKnown (IsUpToDate b k) b.shown k n → IsChoice b.shown k n hands.taken) → ShowsState b x → Takes (setting_of late b.shown) x k n hands.taken
+picks : (late : Bool) (b : BoardShown) (t : Shown) (x : State) (k n : ℕ) (p : Pass) (hands : Hands b.shown k t p) → KnowsWaits late b → (IsCertain (IsUpToDate b k) b.shown k n → IsChoice b.shown k n hands.taken) → ShowsState b x → Takes (setting_of late b.shown) x k n hands.taken
 picks late b t x k n p hands knows choice shows = record {
   claims = hands.by;
   chosen = λ sees. choice (known late b x k n knows shows (claim_free (net b.shown) x.world k hands.taken hands.by (hands.goes.step x.world shows.world).0).0 sees) x.world shows.world;
@@ -67,7 +67,7 @@ picks late b t x k n p hands knows choice shows = record {
 }
 
 -- an event was taken, and is in hand
-pub taken_leads : (late : Bool) (b c d : BoardShown) (hand new : List (Option Pass)) (k n : ℕ) (p : Pass) (hands : Hands b.shown k c.shown p) → KnowsWaits late b → (IsKnown (IsUpToDate b k) b.shown k n → IsChoice b.shown k n hands.taken) → c.waits ≡ b.waits → length hand ≡ length b.shown.sides → (in_hand hand k ≡ None → d ≡ c)
+pub taken_leads : (late : Bool) (b c d : BoardShown) (hand new : List (Option Pass)) (k n : ℕ) (p : Pass) (hands : Hands b.shown k c.shown p) → KnowsWaits late b → (IsCertain (IsUpToDate b k) b.shown k n → IsChoice b.shown k n hands.taken) → c.waits ≡ b.waits → length hand ≡ length b.shown.sides → (in_hand hand k ≡ None → d ≡ c)
     → Stays b.shown d.shown → new ≡ slice_set hand k (Some p) → Leads late b d hand new (Command.take k n) []
 taken_leads late b c d hand new k n p hands knows choice waits places same stays is = record { stays = stays; led = led }
   where
@@ -119,7 +119,7 @@ net_same : (s t : Shown) → t.graph ≡ s.graph → length t.sides ≡ length s
 net_same s t g n = ap (λ x. network (shown_graph x) (length t.sides)) g ∙ ap (λ (k : ℕ). network (shown_graph s.graph) k) n
 
 -- an event was taken and ended
-pub delivered_leads : (late : Bool) (b c d : BoardShown) (hand : List (Option Pass)) (k n : ℕ) (p : Pass) (hands : Hands b.shown k c.shown p) → KnowsWaits late b → (IsKnown (IsUpToDate b k) b.shown k n → IsChoice b.shown k n hands.taken) → c.waits ≡ b.waits → IsCommitted late c p d → Stays b.shown d.shown
+pub delivered_leads : (late : Bool) (b c d : BoardShown) (hand : List (Option Pass)) (k n : ℕ) (p : Pass) (hands : Hands b.shown k c.shown p) → KnowsWaits late b → (IsCertain (IsUpToDate b k) b.shown k n → IsChoice b.shown k n hands.taken) → c.waits ≡ b.waits → IsCommitted late c p d → Stays b.shown d.shown
     → Leads late b d hand hand (Command.deliver k n) []
 delivered_leads late b c d hand k n p hands knows choice waits ends stays = record { stays = stays; led = led }
   where
@@ -144,7 +144,7 @@ delivered_leads late b c d hand k n p hands knows choice waits ends stays = reco
         }
 
 -- an event was taken and abandoned
-pub abandoned_leads : (late : Bool) (b c d : BoardShown) (hand : List (Option Pass)) (k n : ℕ) (p : Pass) (hands : Hands b.shown k c.shown p) → KnowsWaits late b → (IsKnown (IsUpToDate b k) b.shown k n → IsChoice b.shown k n hands.taken) → c.waits ≡ b.waits → IsAbandoned c p d → Stays b.shown d.shown
+pub abandoned_leads : (late : Bool) (b c d : BoardShown) (hand : List (Option Pass)) (k n : ℕ) (p : Pass) (hands : Hands b.shown k c.shown p) → KnowsWaits late b → (IsCertain (IsUpToDate b k) b.shown k n → IsChoice b.shown k n hands.taken) → c.waits ≡ b.waits → IsAbandoned c p d → Stays b.shown d.shown
     → (command : Command) → ((x : State) → Abandons (setting_of late b.shown) x k n hands.taken p.job.happening → Does (setting_of late b.shown) x command (after_abandoning (setting_of late b.shown) x hands.taken k p.job.happening) (refusal_line 39))
     → Leads late b d hand hand command (refusal_line 39)
 abandoned_leads late b c d hand k n p hands knows choice waits abandoned stays command does = record { stays = stays; led = led }
@@ -169,7 +169,7 @@ abandoned_leads late b c d hand k n p hands knows choice waits abandoned stays c
         }
 
 -- computing an event that was taken is refused: there is no memory, or a count would be too large
-pub abandoned_answers : (late : Bool) (b c d : BoardShown) (hand : List (Option Pass)) (k n : ℕ) (p : Pass) (e : Refusal) (hands : Hands b.shown k c.shown p) → KnowsWaits late b → (IsKnown (IsUpToDate b k) b.shown k n → IsChoice b.shown k n hands.taken) → c.waits ≡ b.waits → IsAbandoned c p d → Stays b.shown d.shown
+pub abandoned_answers : (late : Bool) (b c d : BoardShown) (hand : List (Option Pass)) (k n : ℕ) (p : Pass) (e : Refusal) (hands : Hands b.shown k c.shown p) → KnowsWaits late b → (IsCertain (IsUpToDate b k) b.shown k n → IsChoice b.shown k n hands.taken) → c.waits ≡ b.waits → IsAbandoned c p d → Stays b.shown d.shown
     → (command : Command) → ((x : State) → Abandons (setting_of late b.shown) x k n hands.taken p.job.happening → Does (setting_of late b.shown) x command (after_abandoning (setting_of late b.shown) x hands.taken k p.job.happening) (refusal_line 39))
     → (e ≡ refusal.NoMemory) ⊎ (e ≡ refusal.Step 39) → Answers late b d hand hand command {T = Unit {0}} (Err e)
 abandoned_answers late b c d hand k n p e hands knows choice waits abandoned stays command does (inl memory) = subst (λ (x : Refusal). Answers late b d hand hand command {T = Unit {0}} (Err x)) (sym memory) stays

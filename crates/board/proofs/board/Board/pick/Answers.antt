@@ -11,7 +11,7 @@ use Rattle.board.specs.Answers.{Hands}
 use Rattle.board.specs.Claims.{HandsRequest}
 use Rattle.board.specs.Deliverable.{IsDeliverable}
 use Rattle.board.specs.Lateness.{BoardShown, IsUpToDate}
-use Rattle.board.specs.Picks.{IsChoice, IsKnown, LacksChoice}
+use Rattle.board.specs.Picks.{IsChoice, IsCertain, LacksChoice}
 use Rattle.board.specs.Shown.{Shown, side_at, tables}
 use Rattle.board.proofs.Counted.{keeps_message, keeps_request}
 use Rattle.board.proofs.HandedOut.{hands_message_tables, hands_request, hands_request_tables, request_taken}
@@ -39,7 +39,7 @@ returns-then-choice-mail-clause-picks g c =
     let free : (side_at s k).place ≡ Home = c.if-not-is_free.ensures in
     let runs : s.stopped ≡ false = sym c.is_stopped.ensures ∙ c.if-is_stopped.false in
     let both = picks_message (g.V.Views.graph c.self.inside.views) (g.V.Views.content c.self.inside.views) s c.self.invariant.kept k there free runs c.claim_message.new.self c.args.choice c.claim_message.result.0 c.claim_message.ensures.hands in
-    let P : BoardShown → Type 0 = λ z. (hands : Hands z.shown k c.claim_message.new.self c.claim_message.result.0) × (IsKnown (IsUpToDate z k) z.shown k c.args.choice → IsChoice z.shown k c.args.choice hands.taken) × (c.claim_message.result.1 ≡ None) in
+    let P : BoardShown → Type 0 = λ z. (hands : Hands z.shown k c.claim_message.new.self c.claim_message.result.0) × (IsCertain (IsUpToDate z k) z.shown k c.args.choice → IsChoice z.shown k c.args.choice hands.taken) × (c.claim_message.result.1 ≡ None) in
     subst P c.self.view_is (both.0, (λ known. both.1), c.claim_message.ensures.whole)
 
 pub returns-then-choice-mail-clause-tables : goal.returns-then-choice-mail-clause-tables
@@ -125,7 +125,7 @@ returns-in-Some-clause-picks g c =
     let Q : Step → Type 0 = λ x. IsChoice s k c.args.choice x in
     subst Q (sym (request_taken (g.V.Views.graph c.self.inside.views) (g.V.Views.content c.self.inside.views) s c.self.invariant.kept k there free runs c.claim_request.new.self at c.claim_request.result.0 hands front))
     (chosen_request (g.V.Views.graph c.self.inside.views) (g.V.Views.content c.self.inside.views) s c.self.invariant.kept k there c.args.choice (c.args.choice - c.mail_count-mail.result) at hands.request number hands.got real) in
-    let R : BoardShown → Type 0 = λ z. (x : Hands z.shown k c.claim_request.new.self c.claim_request.result.0) × (IsKnown (IsUpToDate z k) z.shown k c.args.choice → IsChoice z.shown k c.args.choice x.taken) × (c.claim_request.result.1 ≡ None) in
+    let R : BoardShown → Type 0 = λ z. (x : Hands z.shown k c.claim_request.new.self c.claim_request.result.0) × (IsCertain (IsUpToDate z k) z.shown k c.args.choice → IsChoice z.shown k c.args.choice x.taken) × (c.claim_request.result.1 ≡ None) in
     subst R c.self.view_is (given, behind_mail s k c.args.choice (omega (arith, number)) choice, c.claim_request.ensures.whole)
 
 pub returns-in-Some-clause-tables : goal.returns-in-Some-clause-tables
@@ -161,5 +161,5 @@ returns-in-None-clause-picks g c =
     let exactly = c.law_of_waiting.ensures.seen (g.V.Views.content c.self.inside.views) (g.V.Views.waiting c.self.inside.views) (g.V.Views.workers c.self.inside.views) k (none_waits s (g.V.Views.workers c.self.inside.views) (g.V.Views.waiting c.self.inside.views) c.self.inside.passed k (let v = c.self.invariant.viewers_are in omega (arith, there, v)) up) in
     lacks (g.V.Views.graph c.self.inside.views) (g.V.Views.content c.self.inside.views) s c.self.invariant.kept k there c.args.choice (c.args.choice - c.mail_count-mail.result) number
     (λ at kth. none at (kth_same (IsDeliverable (g.V.Views.graph c.self.inside.views) (λ q. 0 < g.V.Views.content c.self.inside.views q)) (IsDeliverable (g.V.Views.graph c.self.inside.views) (IsSeenBy (g.V.Views.content c.self.inside.views) (g.V.Views.waiting c.self.inside.views) (g.V.Views.workers c.self.inside.views) k)) (λ x d q l could. d q ((exactly q).0 l) could) (λ x d q l could. d q ((exactly q).1 l) could) (side_at s k).requests (c.args.choice - c.mail_count-mail.result) at kth)) in
-    let P : BoardShown → Type 0 = λ z. ((z.shown.stopped ≡ false) × (k < length z.shown.sides → ((side_at z.shown k).place ≡ Home) × (IsKnown (IsUpToDate z k) z.shown k c.args.choice → LacksChoice z.shown k c.args.choice))) × (z.shown ≡ c.args.self.now.shown) in
+    let P : BoardShown → Type 0 = λ z. ((z.shown.stopped ≡ false) × (k < length z.shown.sides → ((side_at z.shown k).place ≡ Home) × (IsCertain (IsUpToDate z k) z.shown k c.args.choice → LacksChoice z.shown k c.args.choice))) × (z.shown ≡ c.args.self.now.shown) in
     subst P c.self.view_is ((runs, λ l. (free, behind_mail s k c.args.choice (omega (arith, number)) lacking)), (ap (λ (b : BoardShown). b.shown) c.self.view_is))
