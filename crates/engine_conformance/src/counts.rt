@@ -64,7 +64,7 @@ fn sends(
     counted(alloc, out)
 }
 
-/// An except or a group takes 5 that many times, by its first port in epoch 0.
+/// An except, a group or an unseen takes 5 that many times, by its first port in epoch 0.
 #[tactic(auto, using(vertices::proofs::AtWork::still_at_work))]
 fn takes(
     rt: &impl Abort,
@@ -113,6 +113,12 @@ fn except(alloc: Global) -> Result<Shard, ShardFault>
     ensures { IfOk result (λ s. IsAtWork Role.notified 2 1 s) }
 {
     shard_of(alloc, Kind::Except, 1)
+}
+
+fn unseen(alloc: Global) -> Result<Shard, ShardFault>
+    ensures { IfOk result (λ s. IsAtWork Role.notified 1 1 s) }
+{
+    shard_of(alloc, Kind::Unseen(3), 1)
 }
 
 /// A group of records of one field, with their number.
@@ -207,12 +213,12 @@ fn absorbs_more(
     Ok(())
 }
 
-/// What a distinct, an intersect, a join, an except and a group answer to `more` records after 9223372036854775806 of them.
+/// What a distinct, an intersect, a join, an except, a group and an unseen answer to `more` records after 9223372036854775806 of them.
 fn each_takes_more(
     rt: &impl Abort,
     alloc: Global,
     more: u64,
-) -> Result<[Result<(), ShardFault>; 5], ShardFault>
+) -> Result<[Result<(), ShardFault>; 6], ShardFault>
     requires some { 1 ≤ more }
     requires fits { more ≤ most }
 {
@@ -222,15 +228,16 @@ fn each_takes_more(
         absorbs_more(rt, alloc, &mut join(alloc)?, 2, more),
         takes_more(rt, alloc, &mut except(alloc)?, 2, more),
         takes_more(rt, alloc, &mut group(alloc)?, 1, more),
+        takes_more(rt, alloc, &mut unseen(alloc)?, 1, more),
     ])
 }
 
 #[test]
 fn each_takes_in_as_many_as_can_be(rt: HostRuntime) -> Result<(), Fail> {
     let exact = each_takes_more(&rt, rt.alloc(), 1)?;
-    assert!(rt; exact == [Ok(()); 5]);
+    assert!(rt; exact == [Ok(()); 6]);
     let above = each_takes_more(&rt, rt.alloc(), 2)?;
-    assert!(rt; above == [Err(ShardFault::Count); 5]);
+    assert!(rt; above == [Err(ShardFault::Count); 6]);
     Ok(())
 }
 

@@ -23,3 +23,5 @@ mod stateful_shards;
 mod stateless_shards;
 #[cfg(test)]
 mod trackers;
+#[cfg(test)]
+mod unseen_shards;
