@@ -14,6 +14,9 @@ const NOWHERE: Span = Span { start: 0, end: 0 };
 const REACH: &[u8] =
     b"input e/2; output iterate(3; x = e; distinct(concat(x, select(join(x, e; #1 = #0); #0, #3))));";
 
+const CLOSURES: &[u8] =
+    b"input closure/2; output closure(3; x = closure; iterate(0; y = x; closure(65535; z = y; z))); output closure = closure;";
+
 /// The canonical text of a text; nothing where what is read is no source.
 fn written(memory: Global, text: &[u8]) -> Result<Vec<u8>, Fail> {
     let program = parse(memory, text)?;
@@ -26,7 +29,7 @@ fn written(memory: Global, text: &[u8]) -> Result<Vec<u8>, Fail> {
 
 #[test]
 fn canonical_texts(rt: HostRuntime) -> Result<(), Fail> {
-    let rows: [(&[u8], &[u8]); 7] = [
+    let rows: [(&[u8], &[u8]); 8] = [
         (
             b"input a/1;output where(a;not[#0<1]and(1+#0)*2>=-3);",
             b"input a/1;\noutput where(a; not [#0 < 1] and (1 + #0) * 2 >= -3);\n",
@@ -52,6 +55,10 @@ fn canonical_texts(rt: HostRuntime) -> Result<(), Fail> {
         (
             b"output out=a;output small=where(a;#0<5);output all=a;",
             b"output a;\noutput small = where(a; #0 < 5);\noutput all = a;\n",
+        ),
+        (
+            b"output closure (3;x=closure;select(closure(0;y=x;closure1);#0));output closure=closure;",
+            b"output closure(3; x = closure; select(closure(0; y = x; closure1); #0));\noutput closure = closure;\n",
         ),
         (
             b"output a=out;output out;",
@@ -117,6 +124,7 @@ fn returns<B: Allocator + Copy>(memory: Global, text: &[u8], alloc: B) -> Result
 fn round_trips(rt: HostRuntime) -> Result<(), Fail> {
     let memory = rt.alloc();
     assert_eq!(rt; returns(memory, REACH, memory), Ok(true));
+    assert_eq!(rt; returns(memory, CLOSURES, memory), Ok(true));
     let arena = Bump::new(memory);
     assert_eq!(rt; returns(memory, REACH, &arena), Ok(true));
     let large = LocalHeap::new(memory, 65_536)?;

@@ -24,7 +24,7 @@ fn text_of(alloc: Global, query: &[u8]) -> Result<Vec<u8>, Fail> {
 
 #[test]
 fn graph_texts(rt: HostRuntime) -> Result<(), Fail> {
-    let rows: [(&[u8], &[u8]); 2] = [
+    let rows: [(&[u8], &[u8]); 3] = [
         (
             b"input a/1; output small = where(a; #0 < 5); output all = a;",
             b"0 input 0 <-\n1 where 0 <- 0.0\n2 output(small) 0 <- 1.0\n3 output(all) 0 <- 0.0\n",
@@ -32,6 +32,11 @@ fn graph_texts(rt: HostRuntime) -> Result<(), Fail> {
         (
             b"input a/1; input b/1; output except(a, intersect(b, a));",
             b"0 input 0 <-\n1 input 0 <-\n2 intersect 0 <- 1.0 0.0\n3 except 0 <- 0.0 2.0\n4 output 0 <- 3.0\n",
+        ),
+        (
+            b"input a/1; output closure(2; x = a; concat(a, x));",
+            b"0 input 0 <-\n1 ingress 0 <- 0.0\n2 concat 1 <- 1.0 9.0\n3 unseen(2) 1 <- 2.0\n4 ingress 0 <- 0.0\n5 concat 1 <- 4.0 7.0\n\
+            6 hold(2) 1 <- 5.0\n7 feedback 1 <- 6.1\n8 concat 1 <- 6.0 3.0\n9 feedback 1 <- 8.0\n10 egress 1 <- 3.1\n11 output 0 <- 10.0\n",
         ),
     ];
     for (query, want) in rows {
@@ -85,7 +90,9 @@ const TWO_TURNS: &[u8] = b"input a/1; output iterate(2; x = a; x);";
 
 const THREE_TURNS: &[u8] = b"input a/1; output iterate(3; x = a; x);";
 
-/// Other turns make another graph.
+const CLOSED_TURNS: &[u8] = b"input a/1; output closure(2; x = a; x);";
+
+/// Other turns make another graph, and so does another form of loop.
 #[test]
 fn a_graph_drawn_and_compared(rt: HostRuntime) -> Result<(), Fail> {
     let alloc = rt.alloc();
@@ -100,5 +107,6 @@ fn a_graph_drawn_and_compared(rt: HostRuntime) -> Result<(), Fail> {
     assert_eq!(rt; text.as_slice(), expected);
     assert!(rt; graph == graph_of(alloc, TWO_TURNS)?);
     assert!(rt; graph != graph_of(alloc, THREE_TURNS)?);
+    assert!(rt; graph != graph_of(alloc, CLOSED_TURNS)?);
     Ok(())
 }

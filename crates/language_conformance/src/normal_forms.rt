@@ -12,7 +12,7 @@ use typing::check;
 use writer::{is_source, write_program};
 
 /// A query with the items, and the text of its normal form after `input a/1;`; empty where that has no text.
-const NORMAL_FORMS: [(&str, &str); 22] = [
+const NORMAL_FORMS: [(&str, &str); 25] = [
     (
         "input a/1; let u = a; let v = distinct(distinct(a)); output select(select(iterate(0; x = v; x); #0 + 1, 2 * 3); #1 - #0);",
         "let v = distinct(a);\noutput select(v; 6 - (#0 + 1));\n",
@@ -81,6 +81,18 @@ const NORMAL_FORMS: [(&str, &str); 22] = [
     (
         "input a/1; let l = iterate(1; x = a; x); let x = a; output l;",
         "let l = iterate(1; x = a; x);\noutput l;\n",
+    ),
+    (
+        "input a/1; output closure(0; x = a; concat(x, a));",
+        "output closure(0; x = a; concat(x, a));\n",
+    ),
+    (
+        "input a/1; output distinct(closure(1; x = iterate(0; y = distinct(distinct(a)); y); where(where(x; #0 > 1 + 1); #0 < 9)));",
+        "output distinct(closure(1; x = distinct(a); where(x; #0 > 2 and #0 < 9)));\n",
+    ),
+    (
+        "input a/1; let l = closure(1; x = a; x); let x = a; output l;",
+        "let l = closure(1; x = a; x);\noutput l;\n",
     ),
     (
         "input a/1; let v = distinct(a); output distinct(v);",

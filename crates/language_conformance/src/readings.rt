@@ -14,7 +14,7 @@ fn at(code: u8, start: u32, end: u32) -> Refusal {
 
 #[test]
 fn refusals(rt: HostRuntime) {
-    let rows: [(&[u8], u8, u32, u32); 42] = [
+    let rows: [(&[u8], u8, u32, u32); 49] = [
         (b"input a/1 output a;!", 1, 19, 20),
         (b"input A/1; output a;", 1, 6, 7),
         (b"input a/1; output a; #", 1, 21, 22),
@@ -57,6 +57,13 @@ fn refusals(rt: HostRuntime) {
         (b"input except/1; output a;", 4, 6, 12),
         (b"let intersect = a; output a;", 4, 4, 13),
         (b"output except = a;", 4, 14, 15),
+        (b"output closure(#1; x = a; x);", 4, 15, 17),
+        (b"output closure(3; x = a);", 4, 23, 24),
+        (b"output closure(3; closure(1; x = a; x); a);", 4, 25, 26),
+        (b"output closure(2;", 4, 17, 17),
+        (b"output closure 3;", 4, 15, 16),
+        (b"output a closure(3; x = a; x);", 4, 9, 16),
+        (b"let closure(1; x = a; x); output a;", 4, 11, 12),
     ];
     for (text, code, start, end) in rows {
         assert_eq!(rt;
@@ -95,7 +102,7 @@ fn heights(rt: HostRuntime) -> Result<(), Fail> {
     let select = b"input a/1; output select(a; ".as_slice();
     let filter = b"input a/1; output where(a; ".as_slice();
     let output = b"input a/1; output ".as_slice();
-    let rows: [(&[u8], u32, &[u8], &[u8], &[u8], Option<Refusal>); 13] = [
+    let rows: [(&[u8], u32, &[u8], &[u8], &[u8], Option<Refusal>); 16] = [
         (select, 62, b"(", b"1", b")", None),
         (select, 63, b"(", b"1", b")", Some(at(5, 18, 24))),
         (select, 64, b"(", b"1", b")", Some(at(5, 91, 92))),
@@ -109,9 +116,26 @@ fn heights(rt: HostRuntime) -> Result<(), Fail> {
         (filter, 64, b"not[", b"1=1", b"]", Some(at(5, 282, 283))),
         (output, 63, b"distinct(", b"a", b")", None),
         (output, 65, b"distinct(", b"a", b")", Some(at(5, 602, 603))),
+        (output, 63, b"closure(1;x=a;", b"x", b")", None),
+        (
+            output,
+            64,
+            b"closure(1;x=a;",
+            b"x",
+            b")",
+            Some(at(5, 18, 25)),
+        ),
+        (
+            output,
+            65,
+            b"closure(1;x=a;",
+            b"x",
+            b")",
+            Some(at(5, 921, 922)),
+        ),
     ];
     for (head, count, open, middle, close, refusal) in rows {
-        let tail = if open == b"distinct(".as_slice() {
+        let tail = if head == output {
             b";".as_slice()
         } else {
             b");".as_slice()
@@ -178,15 +202,20 @@ fn beginnings(rt: HostRuntime) {
 const REACH: &[u8] =
     b"input e/2; output iterate(3; x = e; distinct(concat(x, select(join(x, e; #1 = #0); #0, #3))));";
 
+const CLOSED: &[u8] =
+    b"input closure/2; output closure(3; x = closure; select(join(x, closure; #1 = #0); #0, #3));";
+
 #[test]
-fn beginnings_of_a_loop(rt: HostRuntime) {
+fn beginnings_of_loops(rt: HostRuntime) {
     assert_eq!(rt; parse(rt.alloc(), b"").err(), Some(at(4, 0, 0)));
-    for end in 0..REACH.len() {
-        let refusal = parse(rt.alloc(), &REACH[..end]).err();
-        assert!(rt;
-            matches!(refusal, Some(Refusal::At { code: 1 | 4, .. })),
-            "{end}"
-        );
+    for text in [REACH, CLOSED] {
+        for end in 0..text.len() {
+            let refusal = parse(rt.alloc(), &text[..end]).err();
+            assert!(rt;
+                matches!(refusal, Some(Refusal::At { code: 1 | 4, .. })),
+                "{end}"
+            );
+        }
     }
 }
 
@@ -201,19 +230,25 @@ fn has_sound_answer(alloc: Global, text: &[u8]) -> bool {
     }
 }
 
+/// The first change of one byte of a text, by its place and the byte, that has no sound answer.
+fn first_unsound(alloc: Global, text: &[u8]) -> Result<Option<(usize, u8)>, AllocError> {
+    let mut changed = text.to_vec(alloc)?;
+    for place in 0..text.len() {
+        for byte in 0..=255u8 {
+            changed[place] = byte;
+            if !has_sound_answer(alloc, changed.as_slice()) {
+                return Ok(Some((place, byte)));
+            }
+        }
+        changed[place] = text[place];
+    }
+    Ok(None)
+}
+
 #[test]
 fn changes_of_one_byte(rt: HostRuntime) -> Result<(), Fail> {
-    let mut text = Vec::from_slice(rt.alloc(), REACH)?;
-    for place in 0..text.len() {
-        let kept = text[place];
-        for byte in 0..=255u8 {
-            text[place] = byte;
-            assert!(rt;
-                has_sound_answer(rt.alloc(), text.as_slice()),
-                "{place} {byte}"
-            );
-        }
-        text[place] = kept;
+    for text in [REACH, CLOSED] {
+        assert_eq!(rt; first_unsound(rt.alloc(), text)?, None);
     }
     Ok(())
 }

@@ -11,6 +11,8 @@ use std::test::Fail;
 const REACHABLE: &[u8] =
     b"input e/2; output iterate(3; x = e; distinct(concat(x, select(join(x, e; #1 = #0); #0, #3))));";
 
+const CLOSED: &[u8] = b"input e/2; output closure(3; x = e; select(join(x, e; #1 = #0); #0, #3));";
+
 const COUNTS: &[u8] =
     b"input e/2; let x = group(where(e; #0 < 1 and not [#0 = -2]); #0; count, sum #1); output x;";
 
@@ -61,7 +63,7 @@ fn are_alike(alloc: Global, first: &[u8], second: &[u8]) -> Result<bool, Refusal
 
 #[test]
 fn trees_compared(rt: HostRuntime) {
-    let rows: [(&[u8], &[u8], bool); 5] = [
+    let rows: [(&[u8], &[u8], bool); 9] = [
         (b"output a;", b"output out = a;", true),
         (b"output a;", b"output b = a;", false),
         (
@@ -71,6 +73,22 @@ fn trees_compared(rt: HostRuntime) {
         ),
         (b"output except(a, b);", b"output intersect(a, b);", false),
         (b"output except(a, b);", b"output except(b, a);", false),
+        (
+            b"output closure(3; x = a; x);",
+            b"output closure (3;x=a;x);",
+            true,
+        ),
+        (
+            b"output closure(3; x = a; x);",
+            b"output iterate(3; x = a; x);",
+            false,
+        ),
+        (
+            b"output closure(3; x = a; x);",
+            b"output closure(4; x = a; x);",
+            false,
+        ),
+        (b"output closure;", b"output out = closure;", true),
     ];
     for (first, second, want) in rows {
         assert_eq!(rt; are_alike(rt.alloc(), first, second), Ok(want), "{first:?}");
@@ -82,6 +100,9 @@ fn sizes(rt: HostRuntime) -> Result<(), Fail> {
     let reachable = parse(rt.alloc(), REACHABLE)?;
     assert_eq!(rt; reachable.size(), 11);
     assert_eq!(rt; reachable.depth(), 6);
+    let closed = parse(rt.alloc(), CLOSED)?;
+    assert_eq!(rt; closed.size(), 8);
+    assert_eq!(rt; closed.depth(), 4);
     let counts = parse(rt.alloc(), COUNTS)?;
     assert_eq!(rt; counts.size(), 16);
     assert_eq!(rt; counts.depth(), 7);

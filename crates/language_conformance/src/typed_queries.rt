@@ -29,7 +29,7 @@ fn refused_at(code: u8, start: u32, end: u32) -> Option<Refusal> {
 
 #[test]
 fn refusals(rt: HostRuntime) {
-    let rows: [(&[u8], Option<Refusal>); 14] = [
+    let rows: [(&[u8], Option<Refusal>); 22] = [
         (b"input a/2; output select(a; #2);", refused_at(13, 28, 30)),
         (
             b"input a/1; input b/2; output except(a, b);",
@@ -43,6 +43,28 @@ fn refusals(rt: HostRuntime) {
         (
             b"input a/1; output iterate(65536; x = a; x);",
             refused_at(17, 26, 31),
+        ),
+        (b"input a/1; output closure(65535; x = a; x);", None),
+        (
+            b"input a/1; output closure(65536; x = a; x);",
+            refused_at(17, 26, 31),
+        ),
+        (
+            b"input a/1; output closure(1; x = x; a);",
+            refused_at(11, 33, 34),
+        ),
+        (
+            b"input a/1; output closure(0; x = a; select(x; #0, #0));",
+            refused_at(15, 36, 53),
+        ),
+        (b"input a/1; output closure;", refused_at(11, 18, 25)),
+        (
+            b"input closure/1; output closure(3; closure = closure; closure);",
+            refused_at(12, 35, 42),
+        ),
+        (
+            b"input closure/1; let b = closure; output closure = closure(1; x = b; closure);",
+            None,
         ),
         (
             b"input a/1; output a; output out = a;",
@@ -74,6 +96,12 @@ fn refusals(rt: HostRuntime) {
         (
             b"input a/1;output iterate(1;b=a;iterate(1;c=a;iterate(1;d=a;iterate(1;e=a;iterate(1;f=a;iterate(1;g=a;iterate(1;h=a;iterate(1;i=a;\
             iterate(1;j=a;iterate(1;k=a;iterate(1;l=a;iterate(1;m=a;iterate(1;n=a;iterate(1;o=a;iterate(1;p=a;iterate(1;q=a;iterate(1;\
+            r=a;a)))))))))))))))));",
+            refused_at(18, 241, 257),
+        ),
+        (
+            b"input a/1;output closure(1;b=a;iterate(1;c=a;closure(1;d=a;iterate(1;e=a;closure(1;f=a;iterate(1;g=a;closure(1;h=a;iterate(1;i=a;\
+            closure(1;j=a;iterate(1;k=a;closure(1;l=a;iterate(1;m=a;closure(1;n=a;iterate(1;o=a;closure(1;p=a;iterate(1;q=a;closure(1;\
             r=a;a)))))))))))))))));",
             refused_at(18, 241, 257),
         ),
