@@ -8,6 +8,7 @@ pub mod Drafts
 pub mod DraftGrowth
 pub mod Watching
 pub mod Recording
+pub mod Transcripts
 pub mod WrittenBytes
 pub mod Partitions
 pub mod OutputText

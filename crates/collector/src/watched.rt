@@ -6,7 +6,7 @@
 
 ghost use Rattle.std.specs.Prelude.{◌≡◌, ◌<◌, ◌≤◌, ◌++◌, [], false, true, length, take, IfOk, IfSome, IfNone, OnSome, OnOk, OnErr};
 ghost use Rattle.std.specs.Io.{ReadsAtMost};
-ghost use Rattle.std.specs.Io.KnownBytes.{Appends, Keeps, ReadConsumes};
+ghost use Rattle.std.specs.Io.KnownBytes.{Appends, IsAtEnd, Keeps, ReadConsumes};
 ghost use Rattle.collector.specs.Watching.{handed, has_ended, has_failed, inner_of};
 
 use crate::trace::Trace;
@@ -53,12 +53,23 @@ impl<T> Watched<T> {
     }
 }
 
+impl<T: Drop> Watched<T> {
+    /// What was handed over, and whether that is all. The reader is dropped.
+    pub(crate) fn into_trace(self) -> (Trace, bool)
+        ensures trace { result.0.items ≡ handed self }
+        ensures ended { result.1 ≡ has_ended self }
+    {
+        (self.trace, self.ended)
+    }
+}
+
 impl<R: Read> Watched<R> {
     /// Reads once into the piece, and gives the number of bytes, which is 0 only at the end or for an empty piece. The reader has failed exactly if
     /// the answer is an error.
     pub fn pull(&mut self, piece: &mut [u8]) -> io::Result<usize>
         ensures bound { ReadsAtMost result piece.new }
         ensures bytes { ReadConsumes (R.remaining (inner_of self.old)) (R.remaining (inner_of self.new)) result piece.new }
+        ensures last { OnOk result (has_ended self.new ≡ true → IsAtEnd (R.remaining (inner_of self.new))) }
         ensures handed { IfOk result (λ n. handed self.new ≡ handed self.old ++ take n piece.new) }
         ensures ended { IfOk result (λ n. n ≡ 0 → 0 < length piece.old → has_ended self.new ≡ true) }
         ensures none { OnErr result (handed self.new ≡ handed self.old) }

@@ -1,7 +1,7 @@
 //! Fault lines, and runs whose readers and writers fail.
 
 use collector::Watched;
-use console::{Fault, Sources, Texts, Watcher, Workers, answer, run};
+use console::{Fault, Sources, Streams, Texts, Transcripts, Watcher, Workers, answer, run};
 use std::alloc::Global;
 use std::io;
 use std::io::{ErrorKind, Read, Write};
@@ -152,17 +152,14 @@ fn ended<'a, R: Threads + Wait + Sync>(
     shelf: Shelf,
     writer: Full,
 ) -> (u8, Vec<u8>, Vec<u8>) {
-    let mut out = Watched::new(writer);
-    let mut err = Vec::new(alloc);
-    let status = answer(
-        rt,
-        alloc,
-        &shelf,
-        words,
-        &mut out,
-        &mut err,
-        &mut None::<Watcher<Vec<u8>>>,
-    );
+    let mut streams = Streams {
+        out: Watched::new(writer),
+        err: Vec::new(alloc),
+        watcher: None::<Watcher<Vec<u8>>>,
+    };
+    let mut transcripts = Transcripts::new();
+    let status = answer(rt, alloc, &shelf, words, &mut streams, &mut transcripts);
+    let Streams { out, err, .. } = streams;
     (status, out.into_inner().written, err)
 }
 
@@ -313,17 +310,10 @@ fn lines_that_fail(rt: HostRuntime) -> Result<(), Fail> {
     ];
     for (left, room, status, text) in rows {
         for (space, said) in [(99, text), (0, "")] {
-            let mut out = Watched::new(Full {
-                room,
-                fails: true,
-                holds: false,
-                written: Vec::new(rt.alloc()),
-            });
-            let mut err = Full {
-                room: space,
-                fails: true,
-                holds: false,
-                written: Vec::new(rt.alloc()),
+            let mut streams = Streams {
+                out: Watched::new(room_for(rt.alloc(), room)),
+                err: room_for(rt.alloc(), space),
+                watcher: None::<Watcher<Vec<u8>>>,
             };
             let shelf = Shelf {
                 query: left,
@@ -334,12 +324,11 @@ fn lines_that_fail(rt: HostRuntime) -> Result<(), Fail> {
                 rt.alloc(),
                 &shelf,
                 words.as_slice(),
-                &mut out,
-                &mut err,
-                &mut None::<Watcher<Vec<u8>>>,
+                &mut streams,
+                &mut Transcripts::new(),
             );
             assert_eq!(rt; ended, status);
-            assert_eq!(rt; err.written.as_slice(), said.as_bytes());
+            assert_eq!(rt; streams.err.written.as_slice(), said.as_bytes());
         }
     }
     Ok(())

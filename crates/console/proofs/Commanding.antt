@@ -8,6 +8,8 @@ use Rattle.command_line.specs.declared.line_fault.LineFault.TheVariants as line
 use Rattle.command_line.specs.declared.line_options.Options.{Options}
 use Rattle.diagnostics.specs.declared.fault.Fault.{Fault}
 use Rattle.console.specs.Commands.{Answers, EndsOn, Known, Obeys, status_after}
+use Rattle.console.specs.Transcribed.{EndsOnRead}
+use Rattle.console.specs.declared.transcripts.Transcripts.{Transcripts}
 
 two_or_five : (fault : LineFault) → (line_status_of fault ≡ 2) ⊎ (line_status_of fault ≡ 5)
 two_or_five line.NoMemory = inr refl
@@ -19,12 +21,12 @@ two_or_five line.NoText = inl refl
 two_or_five line.NoCommand = inl refl
 two_or_five (line.Line error) = inl refl
 
-pub refused : (texts : Known) (words : List Text) (old : Option (List ℕ)) (fault : LineFault) (status : ℕ) → status ≡ line_status_of fault → Answers texts words old old status
-refused texts words old fault status e = inl (refl, elim (two_or_five fault) [ inl two ↦ inl (e ∙ two) | inr five ↦ inr (e ∙ five) ])
+pub refused : (texts : Known) (read : Transcripts) (words : List Text) (old : Option (List ℕ)) (fault : LineFault) (status : ℕ) → status ≡ line_status_of fault → Answers texts read words old old status
+refused texts read words old fault status e = inl (refl, elim (two_or_five fault) [ inl two ↦ inl (e ∙ two) | inr five ↦ inr (e ∙ five) ])
 
-pub ended : (texts : Known) (options : Options) (old new : Option (List ℕ)) (result : Result (Unit {0}) Fault) (status : ℕ) → EndsOn texts options old new result → status ≡ status_after result → Obeys texts options old new status
-ended texts options old new result status e t = inr (record { result = result; ends = e; reported = t })
+pub ended : (texts : Known) (read : Transcripts) (options : Options) (old new : Option (List ℕ)) (result : Result (Unit {0}) Fault) (status : ℕ) → EndsOn texts options old new result → EndsOnRead read options old new result → status ≡ status_after result → Obeys texts read options old new status
+ended texts read options old new result status e r t = inr (record { result = result; ends = e; on_read = r; reported = t })
 
-pub obeyed : (texts : Known) (words : List Text) (options : Options) (old new : Option (List ℕ)) (status : ℕ) → Asks words options → Obeys texts options old new status → Answers texts words old new status
-obeyed texts words options old new status h (inl down) = inl down
-obeyed texts words options old new status h (inr done) = inr (options, h, done)
+pub obeyed : (texts : Known) (read : Transcripts) (words : List Text) (options : Options) (old new : Option (List ℕ)) (status : ℕ) → Asks words options → Obeys texts read options old new status → Answers texts read words old new status
+obeyed texts read words options old new status h (inl down) = inl down
+obeyed texts read words options old new status h (inr done) = inr (options, h, done)

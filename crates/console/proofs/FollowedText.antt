@@ -39,7 +39,7 @@ module _ (query : List ℕ) (r s : Reading) (old new : Option (List ℕ)) (h : (
   wider : (result : Result (Unit {0}) Ending) → IsFollowed query r old new result → IsFollowed query s old new result
   wider result f = record { graph = f.graph; compiled = f.compiled; follows = (f.follows.0, f.follows.1, h f.follows.0 f.follows.1 f.follows.2, f.follows.3) }
 
-  ends_wider : (result : Result (Unit {0}) Fault) → FollowEnds query r old new result → FollowEnds query s old new result
+  pub ends_wider : (result : Result (Unit {0}) Fault) → FollowEnds query r old new result → FollowEnds query s old new result
   ends_wider (Ok u) f = wider (Ok u) f
   ends_wider (Err (InputFault code line)) f = wider (Err (ending.Input code line)) f
   ends_wider (Err ReadInput) f = wider (Err ending.Read) f

@@ -5,3 +5,5 @@ pub mod Heeding
 pub mod OneAnswer
 pub mod Commanding
 pub mod HandedOver
+pub mod OpenedTexts
+pub mod Answered

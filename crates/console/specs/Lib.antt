@@ -9,4 +9,7 @@ pub mod Formats
 pub mod Replayed
 pub mod Followed
 pub mod Readings
+pub mod Views
+pub mod Transcribed
 pub mod Commands
+pub mod Disk

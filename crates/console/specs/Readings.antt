@@ -64,22 +64,51 @@ HandsQuery old new text = Hands old new text × ((has_ended new ≡ true) ⊎ (l
 abbrev pub HandsBoth : {Q I : Type 0} → (q₀ q₁ : Watched Q) → (i₀ i₁ : Watched I) → (query input : List ℕ) → Type 0
 HandsBoth q₀ q₁ i₀ i₁ query input = HandsQuery q₀ q₁ query × HandsAll i₀ i₁ input
 
--- a beginning of the query was read, or all of it and a beginning of the input; and the fault is of reading
-abbrev pub IsCutShort : {Q I : Type 0} → (q₀ q₁ : Watched Q) → (i₀ i₁ : Watched I) → (query input : List ℕ) → Result (Unit {0}) Fault → Type 0
-IsCutShort q₀ q₁ i₀ i₁ query input result = Hands q₀ q₁ query × Hands i₀ i₁ input × MatchResult result (λ _. ⊥) (λ e. IsUnreadQuery e ⊎ IsUnreadInput e)
+-- the fault is of reading the query
+abbrev pub IsOfQuery : Result (Unit {0}) Fault → Type 0
+IsOfQuery result = MatchResult result (λ _. ⊥) IsUnreadQuery
 
--- A run ends so on what its two readers handed over, which are the whole texts: of the query, that it is too long is enough. Where a reader
--- failed, or memory ran out, they may be beginnings of the texts.
-pub record RunsOnHanded {Q I : Type 0} (q₀ q₁ : Watched Q) (i₀ i₁ : Watched I) (old new : Option (List ℕ)) (result : Result (Unit {0}) Fault) : Type 0 where
+-- the fault is of reading one of the two
+abbrev pub IsOfReading : Result (Unit {0}) Fault → Type 0
+IsOfReading result = MatchResult result (λ _. ⊥) (λ e. IsUnreadQuery e ⊎ IsUnreadInput e)
+
+-- A command of one text ends so on what its reader handed over, which is the whole text: that it is too long is enough. Where the reader failed,
+-- or memory ran out, it may be a beginning of the text.
+pub record EndsOnHanded {Q : Type 0} (q₀ q₁ : Watched Q) (promised : (query : List ℕ) → Type 0) (result : Result (Unit {0}) Fault) : Type 0 where
+  pub query : List ℕ
+  pub read : HandsQuery q₀ q₁ query ⊎ (Hands q₀ q₁ query × IsOfQuery result)
+  pub ends : promised query
+
+-- The same of a command of two. Where a reader failed, or memory ran out, a beginning of the query was read, or all of it and a beginning of the
+-- input.
+pub record EndsOnBothHanded {Q I : Type 0} (q₀ q₁ : Watched Q) (i₀ i₁ : Watched I) (promised : (query input : List ℕ) → Type 0) (result : Result (Unit {0}) Fault) : Type 0 where
   pub query : List ℕ
   pub input : List ℕ
-  pub read : HandsBoth q₀ q₁ i₀ i₁ query input ⊎ IsCutShort q₀ q₁ i₀ i₁ query input result
-  pub ends : Ends query input old new result
-  pub heeds : Heeds query old new result
+  pub read : HandsBoth q₀ q₁ i₀ i₁ query input ⊎ (Hands q₀ q₁ query × Hands i₀ i₁ input × IsOfReading result)
+  pub ends : promised query input
+
+abbrev pub RunsOnHanded : {Q I : Type 0} → (q₀ q₁ : Watched Q) → (i₀ i₁ : Watched I) → Option (List ℕ) → Option (List ℕ) → Result (Unit {0}) Fault → Type 0
+RunsOnHanded q₀ q₁ i₀ i₁ old new result = EndsOnBothHanded q₀ q₁ i₀ i₁ (λ q i. Ends q i old new result × Heeds q old new result) result
+
+abbrev pub ChecksOnHanded : {Q : Type 0} → (q₀ q₁ : Watched Q) → Option (List ℕ) → Option (List ℕ) → Result (Unit {0}) Fault → Type 0
+ChecksOnHanded q₀ q₁ old new result = EndsOnHanded q₀ q₁ (λ q. CheckEnds q old new result) result
+
+abbrev pub ChecksBothOnHanded : {Q I : Type 0} → (q₀ q₁ : Watched Q) → (i₀ i₁ : Watched I) → Option (List ℕ) → Option (List ℕ) → Result (Unit {0}) Fault → Type 0
+ChecksBothOnHanded q₀ q₁ i₀ i₁ old new result = EndsOnBothHanded q₀ q₁ i₀ i₁ (λ q i. CheckInputEnds q i old new result) result
+
+abbrev pub FormatsOnHanded : {Q : Type 0} → (q₀ q₁ : Watched Q) → Option (List ℕ) → Option (List ℕ) → Result (Unit {0}) Fault → Type 0
+FormatsOnHanded q₀ q₁ old new result = EndsOnHanded q₀ q₁ (λ q. FormatEnds q old new result) result
+
+abbrev pub GraphsOnHanded : GraphForm → {Q : Type 0} → (q₀ q₁ : Watched Q) → Option (List ℕ) → Option (List ℕ) → Result (Unit {0}) Fault → Type 0
+GraphsOnHanded form q₀ q₁ old new result = EndsOnHanded q₀ q₁ (λ q. GraphEnds form q old new result) result
+
+abbrev pub ReplaysOnHanded : (workers : ℕ) → ViewKind → {Q S : Type 0} → (q₀ q₁ : Watched Q) → (s₀ s₁ : Watched S) → Option (List ℕ) → Option (List ℕ) → Result (Unit {0}) Fault → Type 0
+ReplaysOnHanded workers kind q₀ q₁ s₀ s₁ old new result =
+    EndsOnBothHanded q₀ q₁ s₀ s₁ (λ q s. ReplayEnds q workers kind s old new result × Heeds q old new result) result
 
 -- Following ends so on what its two readers handed over: of the query the whole text, and of the input what its reader has handed over so far,
 -- which is all of it only once that has ended. Where the reader of the query failed, or memory ran out, nothing is written.
 pub record FollowsOnHanded {Q I : Type 0} (remaining : I → Option (List ℕ)) (q₀ q₁ : Watched Q) (i₀ i₁ : Watched I) (old new : Option (List ℕ)) (result : Result (Unit {0}) Fault) : Type 0 where
   pub query : List ℕ
-  pub read : HandsQuery q₀ q₁ query ⊎ (Hands q₀ q₁ query × MatchResult result (λ _. ⊥) IsUnreadQuery)
+  pub read : HandsQuery q₀ q₁ query ⊎ (Hands q₀ q₁ query × IsOfQuery result)
   pub ends : FollowEnds query (HasRead remaining i₀ i₁) old new result

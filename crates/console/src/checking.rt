@@ -3,7 +3,7 @@
 ghost use Rattle.std.specs.Prelude.{◌≡◌, true, IfErr, IsErrOf};
 ghost use Rattle.collector.specs.Watching.{has_failed, inner_of};
 ghost use Rattle.console.specs.Checks.{CheckEnds};
-ghost use Rattle.console.specs.Readings.{KeepsQuery, ChecksOver};
+ghost use Rattle.console.specs.Readings.{ChecksOnHanded, ChecksOver, KeepsQuery};
 ghost use Rattle.console.specs.Runs.{IsAfterReading};
 ghost use Rattle.diagnostics.specs.declared.fault.Fault.TheVariants as fault;
 
@@ -36,6 +36,7 @@ fn write_checked<A: Allocator + Copy, W: Write>(
 /// Reads a query, checks it, and writes its arities: a line `input NAME/ARITY` for each input in order, and for each output
 /// `output NAME/ARITY`, or `output ARITY` where it is named `out`. The lines are written together, once all of them are made. The text that
 /// was read is left in `texts`.
+#[tactic(auto, using(crate::proofs::HandedOver::check_unread, crate::proofs::HandedOver::one_read))]
 pub fn check_query<A: Allocator + Copy, Q: Read, W: Write>(
     alloc: Global,
     arena: A,
@@ -44,6 +45,7 @@ pub fn check_query<A: Allocator + Copy, Q: Read, W: Write>(
     writer: &mut Watched<W>,
 ) -> Result<(), Fault>
     ensures ends { ChecksOver (Q.remaining (inner_of query.old)) (W.contents (inner_of writer.old)) (W.contents (inner_of writer.new)) result }
+    ensures handed { ChecksOnHanded query.old query.new (W.contents (inner_of writer.old)) (W.contents (inner_of writer.new)) result }
     ensures query { IsErrOf result fault.ReadQuery → has_failed query.new ≡ true }
     ensures writer { IsErrOf result fault.Write → has_failed writer.new ≡ true }
     ensures kept { KeepsQuery (Q.remaining (inner_of query.old)) result texts.new.query.items }

@@ -1,194 +1,29 @@
 //! The dispatcher: from the words of a command line to what is written, and the status.
 
-ghost use Rattle.std.specs.Prelude.{◌≡◌, map, option_map, IfNone, IfSome};
+ghost use Rattle.std.specs.Prelude.{◌≡◌, map, IfNone, IfSome};
 ghost use Rattle.collector.specs.Watching.{inner_of};
 ghost use Rattle.command_line.specs.Faults.{line_status_of};
-ghost use Rattle.console.specs.Commands.{Answers, ChecksOn, EndsOn, FollowsOn, FormatsOn, GraphsOn, Obeys, ReplaysOn, RunsOn, kind_asked, status_after};
+ghost use Rattle.console.specs.Commands.{Answers, EndsOn, Obeys, status_after};
+ghost use Rattle.console.specs.Transcribed.{EndsOnRead};
+ghost use Rattle.console.specs.Views.{kind_asked};
 
-use crate::checking::check_query;
-use crate::following::follow_query;
-use crate::formatting::format_query;
-use crate::graphing::graph_query;
-use crate::input_check::check_input;
-use crate::replaying::replay_schedule;
-use crate::running::run;
-use crate::sources::Sources;
-use bumpalo::Bump;
-use collector::Watched;
-use command_line::{GraphForm, HeapSize, LineFault, Options, Workers, options};
+use crate::commands::{
+    Kept, Task, check_named, follow_named, format_named, graph_named, replay_named, run_named,
+};
+use crate::streams::Streams;
+use crate::transcripts::Transcripts;
+use collector::{Sources, Watched};
+use command_line::{LineFault, Options, options};
 use diagnostics::{
     Fault, Plain, Texts, Word, explain_fault, row_of_word, write_explanation, write_path_hint,
 };
-use execution::Watcher;
-use linked_list_allocator::LocalHeap;
 use refusals::NUMBERS;
 use schedule::ViewKind;
-use std::alloc::{Allocator, Global};
+use std::alloc::Global;
 use std::io;
 use std::io::Write;
 use std::sync::Wait;
 use std::thread::Threads;
-
-/// Keeps what the system said of a text that couldn't be read.
-fn keep_reason<T>(texts: &mut Texts, text: &Watched<T>) {
-    if let Some(reason) = text.reason() {
-        texts.reason = Some(reason);
-    }
-}
-
-/// Runs a query over an input. The watcher is let go where it isn't asked for.
-fn run_named<
-    'a,
-    R: Threads + Wait + Sync,
-    S: Sources<'a>,
-    W: Write,
-    O: Write + Send + Drop,
-    E: Write,
->(
-    rt: &R,
-    alloc: Global,
-    sources: &S,
-    workers: Workers,
-    watch: bool,
-    stats: bool,
-    query: &'a str,
-    input: &'a str,
-    texts: &mut Texts,
-    out: &mut Watched<W>,
-    watcher: &mut Option<Watcher<O>>,
-    err: &mut E,
-) -> Result<(), Fault>
-    ensures { RunsOn (S.content sources.now) query.now input.now (W.contents (inner_of out.old)) (W.contents (inner_of out.new)) result }
-{
-    let mut query = Watched::new(sources.open(query));
-    let mut input = Watched::new(sources.open(input));
-    if !watch {
-        *watcher = None;
-    }
-    let done = run(
-        rt, alloc, workers, stats, &mut query, &mut input, texts, out, watcher, err,
-    );
-    keep_reason(texts, &query);
-    keep_reason(texts, &input);
-    done
-}
-
-/// Follows an input with that many workers.
-fn follow_named<'a, R: Threads + Sync, S: Sources<'a>, W: Write>(
-    rt: &R,
-    alloc: Global,
-    sources: &S,
-    workers: Workers,
-    query: &'a str,
-    input: &'a str,
-    texts: &mut Texts,
-    out: &mut Watched<W>,
-) -> Result<(), Fault>
-    ensures { FollowsOn (S.content sources.now) query.now input.now (W.contents (inner_of out.old)) (W.contents (inner_of out.new)) result }
-{
-    let mut query = Watched::new(sources.open(query));
-    let mut records = Watched::new(sources.open(input));
-    let done = follow_query(rt, alloc, workers, &mut query, &mut records, texts, out);
-    keep_reason(texts, &query);
-    keep_reason(texts, &records);
-    done
-}
-
-/// Checks a query, and an input where one is named, with the query's tree in the arena.
-fn check_in<'a, A: Allocator + Copy, S: Sources<'a>, W: Write>(
-    alloc: Global,
-    arena: A,
-    sources: &S,
-    query: &'a str,
-    input: Option<&'a str>,
-    texts: &mut Texts,
-    out: &mut Watched<W>,
-) -> Result<(), Fault>
-    ensures { ChecksOn (S.content sources.now) query.now (option_map (λ s. s.now) input.entry)
-        (W.contents (inner_of out.old)) (W.contents (inner_of out.new)) result }
-{
-    let mut query = Watched::new(sources.open(query));
-    let done = match input {
-        None => check_query(alloc, arena, &mut query, texts, out),
-        Some(input) => {
-            let mut records = Watched::new(sources.open(input));
-            let done = check_input(alloc, arena, &mut query, &mut records, texts, out);
-            keep_reason(texts, &records);
-            done
-        }
-    };
-    keep_reason(texts, &query);
-    done
-}
-
-/// Checks a query, and an input where one is named, in a heap of the size that is asked for.
-fn check_named<'a, S: Sources<'a>, W: Write>(
-    alloc: Global,
-    sources: &S,
-    heap: Option<HeapSize>,
-    query: &'a str,
-    input: Option<&'a str>,
-    texts: &mut Texts,
-    out: &mut Watched<W>,
-) -> Result<(), Fault>
-    ensures { ChecksOn (S.content sources.now) query.now (option_map (λ s. s.now) input.entry)
-        (W.contents (inner_of out.old)) (W.contents (inner_of out.new)) result }
-{
-    match heap {
-        None => {
-            let arena = Bump::new(alloc);
-            check_in(alloc, &arena, sources, query, input, texts, out)
-        }
-        Some(size) => match LocalHeap::new(alloc, size.bytes() as usize) {
-            Ok(heap) => check_in(alloc, &heap, sources, query, input, texts, out),
-            Err(_) => Err(Fault::NoMemory),
-        },
-    }
-}
-
-/// Writes the graph of a query, whose tree is kept in a heap of the size that is asked for.
-fn graph_named<'a, S: Sources<'a>, W: Write>(
-    alloc: Global,
-    sources: &S,
-    heap: Option<HeapSize>,
-    form: GraphForm,
-    query: &'a str,
-    texts: &mut Texts,
-    out: &mut Watched<W>,
-) -> Result<(), Fault>
-    ensures { GraphsOn (S.content sources.now) form query.now (W.contents (inner_of out.old)) (W.contents (inner_of out.new)) result }
-{
-    let mut query = Watched::new(sources.open(query));
-    let done = match heap {
-        None => {
-            let arena = Bump::new(alloc);
-            graph_query(alloc, &arena, form, &mut query, texts, out)
-        }
-        Some(size) => match LocalHeap::new(alloc, size.bytes() as usize) {
-            Ok(heap) => graph_query(alloc, &heap, form, &mut query, texts, out),
-            Err(_) => Err(Fault::NoMemory),
-        },
-    };
-    keep_reason(texts, &query);
-    done
-}
-
-/// Writes a query in its canonical form.
-fn format_named<'a, S: Sources<'a>, W: Write>(
-    alloc: Global,
-    sources: &S,
-    query: &'a str,
-    texts: &mut Texts,
-    out: &mut Watched<W>,
-) -> Result<(), Fault>
-    ensures { FormatsOn (S.content sources.now) query.now (W.contents (inner_of out.old)) (W.contents (inner_of out.new)) result }
-{
-    let mut query = Watched::new(sources.open(query));
-    let arena = Bump::new(alloc);
-    let done = format_query(alloc, &arena, &mut query, texts, out);
-    keep_reason(texts, &query);
-    done
-}
 
 /// The kind of the workers' views.
 fn view_kind(views: bool) -> ViewKind
@@ -199,27 +34,6 @@ fn view_kind(views: bool) -> ViewKind
     } else {
         ViewKind::Shared
     }
-}
-
-/// Does a schedule's steps over a query.
-fn replay_named<'a, S: Sources<'a>, W: Write>(
-    alloc: Global,
-    sources: &S,
-    workers: Workers,
-    kind: ViewKind,
-    query: &'a str,
-    schedule: &'a str,
-    texts: &mut Texts,
-    out: &mut Watched<W>,
-) -> Result<(), Fault>
-    ensures { ReplaysOn (S.content sources.now) workers kind query.now schedule.now (W.contents (inner_of out.old)) (W.contents (inner_of out.new)) result }
-{
-    let mut query = Watched::new(sources.open(query));
-    let mut schedule = Watched::new(sources.open(schedule));
-    let done = replay_schedule(alloc, workers, kind, &mut query, &mut schedule, texts, out);
-    keep_reason(texts, &query);
-    keep_reason(texts, &schedule);
-    done
 }
 
 /// The names of a command's texts, and whether a fault is to be explained. A name is empty where the command has no such text.
@@ -313,10 +127,11 @@ fn answer_alone<'a, S: Sources<'a>, W: Write>(
     alloc: Global,
     sources: &S,
     asked: Options<'a>,
-    texts: &mut Texts,
     out: &mut Watched<W>,
+    kept: &mut Kept<'a>,
 ) -> Option<Result<(), Fault>>
     ensures done { IfSome result (EndsOn (S.content sources.now) asked.entry (W.contents (inner_of out.old)) (W.contents (inner_of out.new))) }
+    ensures read { IfSome result (EndsOnRead kept.new.transcripts asked.entry (W.contents (inner_of out.old)) (W.contents (inner_of out.new))) }
     ensures none { IfNone result (W.contents (inner_of out.new) ≡ W.contents (inner_of out.old)) }
 {
     match asked {
@@ -325,14 +140,14 @@ fn answer_alone<'a, S: Sources<'a>, W: Write>(
             input,
             heap,
             ..
-        } => Some(check_named(alloc, sources, heap, query, input, texts, out)),
+        } => Some(check_named(alloc, sources, heap, query, input, out, kept)),
         Options::Graph {
             query,
             form,
             heap,
             ..
-        } => Some(graph_named(alloc, sources, heap, form, query, texts, out)),
-        Options::Format { query, .. } => Some(format_named(alloc, sources, query, texts, out)),
+        } => Some(graph_named(alloc, sources, heap, form, query, out, kept)),
+        Options::Format { query, .. } => Some(format_named(alloc, sources, query, out, kept)),
         Options::Explain { code } => match row_of_word(code) {
             Some(row) => Some(write_explanation(alloc, row, out)),
             None => None,
@@ -341,7 +156,8 @@ fn answer_alone<'a, S: Sources<'a>, W: Write>(
     }
 }
 
-/// Does what the options ask for. None if no refusal has the number that is to be explained; then nothing is written.
+/// Does what the options ask for. None if no refusal has the number that is to be explained; then nothing is written. Drops the watcher unless
+/// `--watch` was given to a run.
 fn answer_asked<
     'a,
     R: Threads + Wait + Sync,
@@ -354,13 +170,12 @@ fn answer_asked<
     alloc: Global,
     sources: &S,
     asked: Options<'a>,
-    texts: &mut Texts,
-    out: &mut Watched<W>,
-    err: &mut E,
-    watcher: &mut Option<Watcher<O>>,
+    streams: &mut Streams<W, E, O>,
+    kept: &mut Kept<'a>,
 ) -> Option<Result<(), Fault>>
-    ensures done { IfSome result (EndsOn (S.content sources.now) asked.entry (W.contents (inner_of out.old)) (W.contents (inner_of out.new))) }
-    ensures none { IfNone result (W.contents (inner_of out.new) ≡ W.contents (inner_of out.old)) }
+    ensures done { IfSome result (EndsOn (S.content sources.now) asked.entry (W.contents (inner_of streams.old.out)) (W.contents (inner_of streams.new.out))) }
+    ensures read { IfSome result (EndsOnRead kept.new.transcripts asked.entry (W.contents (inner_of streams.old.out)) (W.contents (inner_of streams.new.out))) }
+    ensures none { IfNone result (W.contents (inner_of streams.new.out) ≡ W.contents (inner_of streams.old.out)) }
 {
     match asked {
         Options::Run {
@@ -370,15 +185,30 @@ fn answer_asked<
             watch,
             stats,
             ..
-        } => Some(run_named(
-            rt, alloc, sources, workers, watch, stats, query, input, texts, out, watcher, err,
-        )),
+        } => {
+            if !watch {
+                streams.watcher = None;
+            }
+            let task = Task {
+                query,
+                input,
+                workers,
+            };
+            Some(run_named(rt, alloc, sources, task, stats, streams, kept))
+        }
         Options::Follow {
             query,
             input,
             workers,
             ..
-        } => Some(follow_named(rt, alloc, sources, workers, query, input, texts, out)),
+        } => {
+            let task = Task {
+                query,
+                input,
+                workers,
+            };
+            Some(follow_named(rt, alloc, sources, task, &mut streams.out, kept))
+        }
         Options::Replay {
             query,
             schedule,
@@ -386,13 +216,18 @@ fn answer_asked<
             views,
             ..
         } => {
+            let task = Task {
+                query,
+                input: schedule,
+                workers,
+            };
             let kind = view_kind(views);
-            Some(replay_named(alloc, sources, workers, kind, query, schedule, texts, out))
+            Some(replay_named(alloc, sources, task, kind, &mut streams.out, kept))
         }
         Options::Check { .. }
         | Options::Graph { .. }
         | Options::Format { .. }
-        | Options::Explain { .. } => answer_alone(alloc, sources, asked, texts, out),
+        | Options::Explain { .. } => answer_alone(alloc, sources, asked, &mut streams.out, kept),
     }
 }
 
@@ -403,16 +238,14 @@ fn obey<'a, R: Threads + Wait + Sync, S: Sources<'a>, W: Write, E: Write, O: Wri
     alloc: Global,
     sources: &S,
     asked: Options<'a>,
-    out: &mut Watched<W>,
-    err: &mut E,
-    watcher: &mut Option<Watcher<O>>,
+    streams: &mut Streams<W, E, O>,
+    kept: &mut Kept<'a>,
 ) -> u8
-    ensures { Obeys (S.content sources.now) asked.entry (W.contents (inner_of out.old)) (W.contents (inner_of out.new)) result }
+    ensures { Obeys (S.content sources.now) kept.new.transcripts asked.entry (W.contents (inner_of streams.old.out)) (W.contents (inner_of streams.new.out)) result }
 {
-    let mut texts = Texts::new(alloc);
-    match answer_asked(rt, alloc, sources, asked, &mut texts, out, err, watcher) {
-        Some(done) => report(alloc, &asked, &done, &texts, err),
-        None => report_numbers(&asked, err),
+    match answer_asked(rt, alloc, sources, asked, streams, kept) {
+        Some(done) => report(alloc, &asked, &done, &kept.texts, &mut streams.err),
+        None => report_numbers(&asked, &mut streams.err),
     }
 }
 
@@ -455,7 +288,8 @@ fn refuse_words<E: Write>(alloc: Global, fault: &LineFault, err: &mut E) -> u8
 }
 
 /// Answers a command line, whose first word is the program's own: does what it asks for over the texts that it names, and reports a fault.
-/// Gives the status. What `--watch` reports goes to the watcher, which is let go where a run isn't to be watched.
+/// Gives the status. What `--watch` reports goes to the watcher, which is dropped where a run isn't to be watched. The transcripts are of the
+/// texts that were opened.
 #[tactic(auto, using(crate::proofs::Commanding::obeyed, crate::proofs::Commanding::refused))]
 pub fn answer<
     'a,
@@ -469,14 +303,19 @@ pub fn answer<
     alloc: Global,
     sources: &S,
     words: &'a [&'a str],
-    out: &mut Watched<W>,
-    err: &mut E,
-    watcher: &mut Option<Watcher<O>>,
+    streams: &mut Streams<W, E, O>,
+    transcripts: &mut Transcripts<'a>,
 ) -> u8
-    ensures { Answers (S.content sources.now) (map (λ s. s.now) words.entry.now) (W.contents (inner_of out.old)) (W.contents (inner_of out.new)) result }
+    ensures { Answers (S.content sources.now) transcripts.new (map (λ s. s.now) words.entry.now)
+        (W.contents (inner_of streams.old.out)) (W.contents (inner_of streams.new.out)) result }
 {
     match options(alloc, words) {
-        Ok(asked) => obey(rt, alloc, sources, asked, out, err, watcher),
-        Err(fault) => refuse_words(alloc, &fault, err),
+        Ok(asked) => {
+            let mut kept = Kept::new(alloc);
+            let status = obey(rt, alloc, sources, asked, streams, &mut kept);
+            *transcripts = kept.transcripts;
+            status
+        }
+        Err(fault) => refuse_words(alloc, &fault, &mut streams.err),
     }
 }

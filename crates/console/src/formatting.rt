@@ -3,7 +3,7 @@
 ghost use Rattle.std.specs.Prelude.{◌≡◌, true, IfErr, IsErrOf};
 ghost use Rattle.collector.specs.Watching.{has_failed, inner_of};
 ghost use Rattle.console.specs.Formats.{FormatEnds};
-ghost use Rattle.console.specs.Readings.{KeepsQuery, FormatsOver};
+ghost use Rattle.console.specs.Readings.{FormatsOnHanded, FormatsOver, KeepsQuery};
 ghost use Rattle.console.specs.Runs.{IsAfterReading};
 ghost use Rattle.diagnostics.specs.declared.fault.Fault.TheVariants as fault;
 
@@ -36,6 +36,7 @@ fn write_canonical<A: Allocator + Copy, W: Write>(
 /// Reads a query, and writes its canonical text: each item on a line, one space between words, and brackets only where they are
 /// needed. It need not be well typed. Where the canonical text is no longer than a query may be, 1,048,576 bytes, it reads as the same
 /// query. It is written only once all of it is made. The text that was read is left in `texts`.
+#[tactic(auto, using(crate::proofs::HandedOver::format_unread, crate::proofs::HandedOver::one_read))]
 pub fn format_query<A: Allocator + Copy, Q: Read, W: Write>(
     alloc: Global,
     arena: A,
@@ -44,6 +45,7 @@ pub fn format_query<A: Allocator + Copy, Q: Read, W: Write>(
     writer: &mut Watched<W>,
 ) -> Result<(), Fault>
     ensures ends { FormatsOver (Q.remaining (inner_of query.old)) (W.contents (inner_of writer.old)) (W.contents (inner_of writer.new)) result }
+    ensures handed { FormatsOnHanded query.old query.new (W.contents (inner_of writer.old)) (W.contents (inner_of writer.new)) result }
     ensures query { IsErrOf result fault.ReadQuery → has_failed query.new ≡ true }
     ensures writer { IsErrOf result fault.Write → has_failed writer.new ≡ true }
     ensures kept { KeepsQuery (Q.remaining (inner_of query.old)) result texts.new.query.items }

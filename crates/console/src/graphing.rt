@@ -4,7 +4,7 @@ ghost use Rattle.std.specs.Prelude.{◌≡◌, true, IfOk, IfErr, IsErrOf};
 ghost use Rattle.collector.specs.Watching.{has_failed, inner_of};
 ghost use Rattle.compile.specs.Compiled.{IsQueryFault};
 ghost use Rattle.console.specs.Graphs.{GraphEnds, ShowsGraph};
-ghost use Rattle.console.specs.Readings.{KeepsQuery, GraphsOver};
+ghost use Rattle.console.specs.Readings.{GraphsOnHanded, GraphsOver, KeepsQuery};
 ghost use Rattle.console.specs.Runs.{IsAfterReading};
 ghost use Rattle.diagnostics.specs.declared.fault.Fault.TheVariants as fault;
 
@@ -64,6 +64,7 @@ fn write_shown<A: Allocator + Copy, W: Write>(
 
 /// Reads a query, compiles it, and writes its graph: a line for each vertex, or a text that Graphviz draws. It is written only once
 /// all of it is made. A graph of more than 4096 vertices is refused. The text that was read is left in `texts`.
+#[tactic(auto, using(crate::proofs::HandedOver::graph_unread, crate::proofs::HandedOver::one_read))]
 pub fn graph_query<A: Allocator + Copy, Q: Read, W: Write>(
     alloc: Global,
     arena: A,
@@ -73,6 +74,7 @@ pub fn graph_query<A: Allocator + Copy, Q: Read, W: Write>(
     writer: &mut Watched<W>,
 ) -> Result<(), Fault>
     ensures ends { GraphsOver form (Q.remaining (inner_of query.old)) (W.contents (inner_of writer.old)) (W.contents (inner_of writer.new)) result }
+    ensures handed { GraphsOnHanded form query.old query.new (W.contents (inner_of writer.old)) (W.contents (inner_of writer.new)) result }
     ensures query { IsErrOf result fault.ReadQuery → has_failed query.new ≡ true }
     ensures writer { IsErrOf result fault.Write → has_failed writer.new ≡ true }
     ensures kept { KeepsQuery (Q.remaining (inner_of query.old)) result texts.new.query.items }

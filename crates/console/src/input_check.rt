@@ -3,7 +3,7 @@
 ghost use Rattle.std.specs.Prelude.{◌≡◌, true, IfErr, IsErrOf};
 ghost use Rattle.collector.specs.Watching.{has_failed, inner_of};
 ghost use Rattle.console.specs.InputChecks.{CheckInputEnds};
-ghost use Rattle.console.specs.Readings.{ChecksBothOver, KeepsInput, KeepsQuery};
+ghost use Rattle.console.specs.Readings.{ChecksBothOnHanded, ChecksBothOver, KeepsInput, KeepsQuery};
 ghost use Rattle.console.specs.Runs.{IsAfterReading};
 ghost use Rattle.diagnostics.specs.declared.fault.Fault.TheVariants as fault;
 
@@ -38,6 +38,7 @@ fn write_checked<A: Allocator + Copy, W: Write>(
 ///
 /// Faults are reported in this order: the query can't be read, the input can't be read, the query is refused, the input is refused, the
 /// writer failed. Lack of memory may come at any point. The texts that were read are left in `texts`.
+#[tactic(auto, using(crate::proofs::HandedOver::check_input_unread, crate::proofs::HandedOver::both_read))]
 pub fn check_input<A: Allocator + Copy, Q: Read, I: Read, W: Write>(
     alloc: Global,
     arena: A,
@@ -48,6 +49,7 @@ pub fn check_input<A: Allocator + Copy, Q: Read, I: Read, W: Write>(
 ) -> Result<(), Fault>
     ensures ends { ChecksBothOver (Q.remaining (inner_of query.old)) (I.remaining (inner_of input.old))
         (W.contents (inner_of writer.old)) (W.contents (inner_of writer.new)) result }
+    ensures handed { ChecksBothOnHanded query.old query.new input.old input.new (W.contents (inner_of writer.old)) (W.contents (inner_of writer.new)) result }
     ensures query { IsErrOf result fault.ReadQuery → has_failed query.new ≡ true }
     ensures input { IsErrOf result fault.ReadInput → has_failed input.new ≡ true }
     ensures writer { IsErrOf result fault.Write → has_failed writer.new ≡ true }

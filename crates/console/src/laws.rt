@@ -1,11 +1,14 @@
-//! A query and an input have one answer; what following writes is what the query means.
+//! A query and an input have one answer; what following writes is what the query means; a run that ends well has answered.
 
-ghost use Rattle.std.specs.Prelude.{◌≡◌, ℕ, List};
+ghost use Rattle.std.specs.Prelude.{◌≡◌, ℕ, List, Some};
 ghost use Rattle.semantics.specs.Multiset.{Record};
 ghost use Rattle.graph.specs.Shown.{GraphValue};
 ghost use Rattle.follow.specs.Entries.{Entry};
+ghost use Rattle.command_line.specs.declared.line_options.Options.{Options};
+ghost use Rattle.console.specs.Commands.{AsksRun, HasEnded, IsAnswered, Known};
 ghost use Rattle.console.specs.Followed.{IsPartByText, IsWholeByText};
 ghost use Rattle.console.specs.Runs.{IsRun};
+ghost use Rattle.console.specs.declared.transcripts.Transcripts.{Transcripts};
 
 /// A query and an input have one answer: whatever the engine did on the way, what is written of them is the same text.
 pub fn law_one_answer()
@@ -21,4 +24,10 @@ pub fn law_one_answer()
 pub fn law_followed()
     ensures whole { (query : List ℕ) (g : GraphValue) (records : ℕ → List Record) (entries : List Entry) → IsWholeByText query g records entries }
     ensures part { (query : List ℕ) (g : GraphValue) (records : ℕ → List Record) (entries : List Entry) → IsPartByText query g records entries }
+{}
+
+/// A run that has ended with status 0 has read both texts to their ends, whatever is known of them, and what was written is their answer.
+pub fn law_answered()
+    ensures { (texts : Known) (read : Transcripts) (options : Options) (query input old new : List ℕ)
+        → AsksRun options query input → HasEnded texts read options (Some old) (Some new) 0 → IsAnswered read query input old new }
 {}

@@ -11,13 +11,14 @@
 //! | `format_query` | a query | its canonical form |
 //! | `replay_schedule` | a query and a schedule | what the schedule's lines print |
 //!
-//! The contract: where `run` answers Ok, what was written is the output text of what the query means on the epochs of the input text. A
-//! graph that `compile` makes has exactly one flow on any inputs, which brings to each output what the query means there. This crate uses
-//! every crate of Loom below the program, directly or through another: the command line, the compiler, the board with its views, the four
-//! that run it (`execution`, `statistics`, `replay`, `follow`), the texts, and diagnostics. Only programs use it.
+//! The contract: where `run` answers Ok, what was written is the output text of what the query means on the epochs of the input text. It holds of
+//! texts whose bytes are known, and of any others for what their readers have handed over, of which `answer` leaves the transcripts. This crate uses
+//! every crate of Loom below the program, directly or through another: the command line, the compiler (`compile`), the board with its views, the
+//! four that run it (`execution`, `statistics`, `replay`, `follow`), the texts, and diagnostics. Only programs use it.
 #![tactic(auto)]
 
 mod checking;
+mod commands;
 mod disk;
 mod dispatch;
 mod fault;
@@ -30,10 +31,12 @@ mod laws;
 mod reading;
 mod replaying;
 mod running;
-mod sources;
+mod streams;
+mod transcripts;
 mod writing;
 
 pub use checking::check_query;
+pub use collector::Sources;
 pub use command_line::{GraphForm, HeapSize, LineFault, Options, Workers};
 pub use compile::{CompileFault, compile, law_one_graph};
 pub use diagnostics::{Fault, Texts};
@@ -44,8 +47,9 @@ pub use following::follow_query;
 pub use formatting::format_query;
 pub use graphing::graph_query;
 pub use input_check::check_input;
-pub use laws::{law_followed, law_one_answer};
+pub use laws::{law_answered, law_followed, law_one_answer};
 pub use replaying::replay_schedule;
 pub use running::run;
 pub use schedule::ViewKind;
-pub use sources::Sources;
+pub use streams::Streams;
+pub use transcripts::Transcripts;

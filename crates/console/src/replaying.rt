@@ -3,7 +3,7 @@
 ghost use Rattle.std.specs.Prelude.{◌≡◌, true, IfErr, IfOk, IsErrOf};
 ghost use Rattle.collector.specs.Watching.{has_failed, inner_of};
 ghost use Rattle.command_line.specs.Counts.{count_of};
-ghost use Rattle.console.specs.Readings.{HeedsOver, KeepsInput, KeepsQuery, ReplaysOver};
+ghost use Rattle.console.specs.Readings.{HeedsOver, KeepsInput, KeepsQuery, ReplaysOnHanded, ReplaysOver};
 ghost use Rattle.console.specs.Replayed.{IsReplay, IsReplayFault, ReplayEnds};
 ghost use Rattle.console.specs.Runs.{IsAfterReading};
 ghost use Rattle.diagnostics.specs.declared.fault.Fault.TheVariants as fault;
@@ -67,7 +67,7 @@ fn write_replayed<W: Write>(
 /// It is written only once all of it is made. Faults are reported in this order: the query can't be read, the schedule can't be read, the
 /// query is refused, the schedule is refused, the writer failed. Lack of memory may come at any point. The texts that were read are left
 /// in `texts`, the schedule as its input.
-#[tactic(auto, using(crate::proofs::Heeding::replay_heeds))]
+#[tactic(auto, using(crate::proofs::Heeding::replay_heeds, crate::proofs::HandedOver::replay_unread, crate::proofs::HandedOver::both_read))]
 pub fn replay_schedule<Q: Read, S: Read, W: Write>(
     alloc: Global,
     workers: Workers,
@@ -80,6 +80,8 @@ pub fn replay_schedule<Q: Read, S: Read, W: Write>(
     ensures ends { ReplaysOver (count_of workers) kind (Q.remaining (inner_of query.old)) (S.remaining (inner_of schedule.old))
         (W.contents (inner_of writer.old)) (W.contents (inner_of writer.new)) result }
     ensures heeds { HeedsOver (Q.remaining (inner_of query.old)) (W.contents (inner_of writer.old)) (W.contents (inner_of writer.new)) result }
+    ensures handed { ReplaysOnHanded (count_of workers) kind query.old query.new schedule.old schedule.new
+        (W.contents (inner_of writer.old)) (W.contents (inner_of writer.new)) result }
     ensures query { IsErrOf result fault.ReadQuery → has_failed query.new ≡ true }
     ensures schedule { IsErrOf result fault.ReadInput → has_failed schedule.new ≡ true }
     ensures writer { IsErrOf result fault.Write → has_failed writer.new ≡ true }

@@ -1,7 +1,7 @@
 //! What `./loom` prints, by the call that the program `loom` makes.
 
 use collector::Watched;
-use console::{Disk, DiskText, Sources, Telling, Watcher, answer};
+use console::{Disk, DiskText, Sources, Streams, Telling, Transcripts, Watcher, answer};
 use std::io;
 use std::io::Read;
 use std::sync::Wait;
@@ -66,21 +66,23 @@ fn prints(
         disk: Disk::new(rt),
         piped,
     };
-    let mut out = Watched::new(Vec::new(rt.alloc()));
-    let mut err = Vec::new(rt.alloc());
-    let mut watcher = Some(Watcher {
-        writer: Vec::new(rt.alloc()),
-        telling: Telling::Lines,
-    });
+    let mut streams = Streams {
+        out: Watched::new(Vec::new(rt.alloc())),
+        err: Vec::new(rt.alloc()),
+        watcher: Some(Watcher {
+            writer: Vec::new(rt.alloc()),
+            telling: Telling::Lines,
+        }),
+    };
     let status = answer(
         threads,
         rt.alloc(),
         &page,
         words,
-        &mut out,
-        &mut err,
-        &mut watcher,
+        &mut streams,
+        &mut Transcripts::new(),
     );
+    let Streams { out, err, watcher } = streams;
     let mut shown = out.into_inner();
     if let Some(watcher) = watcher {
         shown.extend_from_slice(watcher.writer.as_slice())?;

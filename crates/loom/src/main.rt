@@ -1,8 +1,14 @@
 //! The program `loom`: words, files, exit status. What it answers is `console`'s; only whether standard error is a terminal is asked here.
 #![tactic(auto)]
 
-use collector::Watched;
-use console::{Disk, LineFault, Telling, Watcher, answer, refuse};
+ghost use Rattle.std.specs.Prelude.{None, Some, map};
+ghost use Rattle.collector.specs.Recording.{taken};
+ghost use Rattle.collector.specs.Watching.{inner_of};
+ghost use Rattle.console.specs.Commands.{Answers};
+
+use collector::{Recorded, Watched};
+use console::{Disk, LineFault, Streams, Telling, Transcripts, Watcher, answer, refuse};
+use std::alloc::Global;
 use std::io::{ErrorKind, IsTerminal, Stderr};
 use std::process::ExitCode;
 use std::sync::Wait;
@@ -29,24 +35,41 @@ fn watcher_of(rt: &HostRuntime) -> Watcher<Stderr> {
     Watcher { writer, telling }
 }
 
-/// Does what the words ask for, and gives the status.
-fn answer_words(rt: &HostRuntime, threads: &(impl Threads + Wait + Sync), words: &[&str]) -> u8 {
+/// Does what the words ask for, and gives the status. What standard output takes is the answer to what the texts hand over.
+fn answer_words<'a>(
+    threads: &(impl Threads + Wait + Sync),
+    alloc: Global,
+    disk: &Disk<'a>,
+    words: &'a [&'a str],
+    streams: &mut Streams<Recorded<io::Printer<'_, HostRuntime>>, Stderr, Stderr>,
+    transcripts: &mut Transcripts<'a>,
+) -> u8
+    ensures { Answers (λ _. None) transcripts.new (map (λ s. s.now) words.entry.now)
+        (Some (taken (inner_of streams.old.out))) (Some (taken (inner_of streams.new.out))) result }
+{
+    answer(threads, alloc, disk, words, streams, transcripts)
+}
+
+/// The same over the system's files and streams.
+fn answer_here(rt: &HostRuntime, threads: &(impl Threads + Wait + Sync), words: &[&str]) -> u8 {
     let disk = Disk::new(rt);
-    let mut out = Watched::new(io::writer(rt));
-    let mut err = rt.stderr();
-    let mut watcher = Some(watcher_of(rt));
-    answer(
+    let mut streams = Streams {
+        out: Watched::new(Recorded::new(io::writer(rt))),
+        err: rt.stderr(),
+        watcher: Some(watcher_of(rt)),
+    };
+    let mut transcripts = Transcripts::new();
+    answer_words(
         threads,
         rt.alloc(),
         &disk,
         words,
-        &mut out,
-        &mut err,
-        &mut watcher,
+        &mut streams,
+        &mut transcripts,
     )
 }
 
-/// Does what the line asks for, and gives the status. `threads` is the leave to start threads, and to go on until all is worked off.
+/// Does what the line asks for, and gives the status. `threads` permits starting threads and not returning until all work is done.
 fn answer_line(rt: &HostRuntime, threads: &(impl Threads + Wait + Sync)) -> Result<u8, LineFault> {
     let texts = words_given(rt)?;
     let Ok(words) = texts
@@ -56,7 +79,7 @@ fn answer_line(rt: &HostRuntime, threads: &(impl Threads + Wait + Sync)) -> Resu
     else {
         return Err(LineFault::NoMemory);
     };
-    Ok(answer_words(rt, threads, words.as_slice()))
+    Ok(answer_here(rt, threads, words.as_slice()))
 }
 
 fn main(rt: HostRuntime) -> ExitCode {
