@@ -41,13 +41,32 @@ fn answer_words<'a>(
     alloc: Global,
     disk: &Disk<'a>,
     words: &'a [&'a str],
-    streams: &mut Streams<Recorded<io::Writer>, Stderr, Stderr>,
+    streams: &mut Streams<Recorded<io::Printer<'_, HostRuntime>>, Stderr, Stderr>,
     transcripts: &mut Transcripts<'a>,
 ) -> u8
     ensures { Answers (λ _. None) transcripts.new (map (λ s. s.now) words.entry.now)
         (Some (taken (inner_of streams.old.out))) (Some (taken (inner_of streams.new.out))) result }
 {
     answer(threads, alloc, disk, words, streams, transcripts)
+}
+
+/// The same over the system's files and streams.
+fn answer_here(rt: &HostRuntime, threads: &(impl Threads + Wait + Sync), words: &[&str]) -> u8 {
+    let disk = Disk::new(rt);
+    let mut streams = Streams {
+        out: Watched::new(Recorded::new(io::writer(rt))),
+        err: rt.stderr(),
+        watcher: Some(watcher_of(rt)),
+    };
+    let mut transcripts = Transcripts::new();
+    answer_words(
+        threads,
+        rt.alloc(),
+        &disk,
+        words,
+        &mut streams,
+        &mut transcripts,
+    )
 }
 
 /// Does what the line asks for, and gives the status. `threads` permits starting threads and not returning until all work is done.
@@ -60,19 +79,7 @@ fn answer_line(rt: &HostRuntime, threads: &(impl Threads + Wait + Sync)) -> Resu
     else {
         return Err(LineFault::NoMemory);
     };
-    let mut streams = Streams {
-        out: Watched::new(Recorded::new(io::writer(rt))),
-        err: rt.stderr(),
-        watcher: Some(watcher_of(rt)),
-    };
-    Ok(answer_words(
-        threads,
-        rt.alloc(),
-        &Disk::new(rt),
-        words.as_slice(),
-        &mut streams,
-        &mut Transcripts::new(),
-    ))
+    Ok(answer_here(rt, threads, words.as_slice()))
 }
 
 fn main(rt: HostRuntime) -> ExitCode {
