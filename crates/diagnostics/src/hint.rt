@@ -10,6 +10,20 @@ use record_core::{Keyword, Span};
 const FILES: &str =
     "the first file is the query, the second the input; a query begins with its inputs, as in input a/1;";
 
+/// How groups are filtered.
+const HAVING: &str = "use where(group(a; #0; count); #1 > 1)";
+
+/// How all pairs of records are made.
+const CROSS: &str =
+    "all pairs are a join on a constant column, as in join(select(a; 0, #0), select(b; 0, #0); #0 = #0)";
+
+/// What a join without pairs lacks.
+const PAIRLESS: &str =
+    "a join has pairs of columns, as in join(a, b; #0 = #0); for all pairs of records join on a constant column";
+
+/// What there is in place of NULL.
+const NULL: &str = "there is no null; give what is missing a number, and compare with it";
+
 /// Whether the rest of a text goes on with a sign right after the text's first word, as a CSV file does.
 fn is_separated(behind: &[u8]) -> bool {
     let end = behind.iter().find(
@@ -44,6 +58,16 @@ fn of_colon(before: &[u8]) -> &'static str {
     }
 }
 
+/// The hint for a quote, by what is before it.
+fn of_quote(before: &[u8]) -> &'static str {
+    match last_word(before) {
+        b"input" | b"let" | b"output" => "a name has no quotes, as in input a/2;",
+        b"from" =>
+            "a query names no file; the input is the second file, as in loom run QUERY INPUT",
+        _ => "there are no strings; give each text a number",
+    }
+}
+
 /// The hint for a byte that begins no word, by what is before and after it.
 fn of_byte(before: &[u8], byte: u8, behind: &[u8]) -> Option<&'static str> {
     match (byte, behind) {
@@ -54,7 +78,7 @@ fn of_byte(before: &[u8], byte: u8, behind: &[u8]) -> Option<&'static str> {
             "a query begins with its inputs, in lower case, as in input a/1;",
         ),
         (b'A'..=b'Z', _) => Some("names and keywords are in lower case"),
-        (b'\'' | b'"', _) => Some("there are no strings; give each text a number"),
+        (b'\'' | b'"', _) => Some(of_quote(before)),
         (b'.', [b'0'..=b'9', ..]) if !is_name(last_word(before)) => Some(
             "numbers are whole; write 12.50 as 1250 cents",
         ),
@@ -98,7 +122,7 @@ fn is_comparison(word: &[u8]) -> bool {
 fn of_sign(before: &[u8], word: &[u8], behind: &[u8]) -> Option<&'static str> {
     let is_open = last_open(before).is_some();
     match (before, word, behind) {
-        ([.., b'='], b"=", _) => Some("equality is written ="),
+        ([.., b'='], b"=", _) => Some("equality is written with one =, as in #0 = 1"),
         ([.., b'='], b"<", _) => Some("at most is written <="),
         ([.., b'='], b">", _) => Some("at least is written >="),
         ([.., b'<'], b">", _) => Some("unequal is written !="),
@@ -122,6 +146,7 @@ fn like_item(word: &[u8]) -> Option<&'static str> {
         _ if is_like(b"input", word) => Some("did you mean input?"),
         _ if is_like(b"output", word) => Some("did you mean output?"),
         _ if is_like(b"let", word) => Some("did you mean let?"),
+        b"with" => Some("a relation is named by a let, as in let b = a;"),
         _ => None,
     }
 }
@@ -138,6 +163,9 @@ fn of_item(before: &[u8], word: &[u8]) -> Option<&'static str> {
         _ if last_word(front) == b"input".as_slice() => Some(
             "the number of fields follows the name, as in input a/2;",
         ),
+        ([.., b';'], _, b"let") if last_open(before).is_some() => Some(
+            "a let can't stand in a form; write its relation in place of its name",
+        ),
         ([.., b';'], _, b"input") => Some("inputs come before lets and outputs"),
         ([.., b';'], _, b"let") => Some("lets come before outputs"),
         ([.., b';'], _, _) if is_name(word) && last_open(before).is_none() => like_item(word),
@@ -147,7 +175,27 @@ fn of_item(before: &[u8], word: &[u8]) -> Option<&'static str> {
     }
 }
 
-/// The hint for a `-` or a form's name behind a relation, by what comes after it.
+/// The hint for a word by which SQL or another language says what Loom has no form for.
+fn of_missing(word: &[u8]) -> Option<&'static str> {
+    match word {
+        b"order" | b"order_by" | b"sort" | b"sort_by" => Some(
+            "an answer comes in ascending order; sort gives it another one, as in loom run QUERY INPUT | sort -k 2n",
+        ),
+        b"limit" | b"top" | b"head" | b"fetch" | b"take" => Some(
+            "there is no limit; head takes the first lines, as in loom run QUERY INPUT | head",
+        ),
+        b"left" | b"right" | b"full" | b"outer" | b"left_join" | b"right_join" | b"outer_join" => {
+            Some("there is no outer join; LANGUAGE.md shows under join how to write one")
+        }
+        b"cross" | b"cross_join" | b"product" => Some(CROSS),
+        b"having" => Some(HAVING),
+        b"union" => Some("use concat(a, b), or distinct(concat(a, b)) to drop repeats"),
+        b"minus" | b"difference" => Some("use except(a, b)"),
+        _ => None,
+    }
+}
+
+/// The hint for a `-`, a form's name or a word of SQL behind a relation, by what comes after it.
 fn of_relation(before: &[u8], word: &[u8], behind: &[u8]) -> Option<&'static str> {
     let (front, last) = split_word(before);
     let is_declared = matches!(last_word(front), b"input" | b"let");
@@ -158,7 +206,11 @@ fn of_relation(before: &[u8], word: &[u8], behind: &[u8]) -> Option<&'static str
             "a name has lower-case letters, digits and _, as my_sale",
         ),
         b"-" if is_relation => Some("use except(a, b)"),
-        _ if is_relation => shape_of(word),
+        _ if last == b"from".as_slice() => Some(
+            "a relation stands inside its form, as in select(a; #0)",
+        ),
+        b"inner" if is_relation => shape_of(b"join"),
+        _ if is_relation => shape_of(word).or(of_missing(word)),
         _ => None,
     }
 }
@@ -168,16 +220,13 @@ fn of_call(before: &[u8], word: &[u8]) -> Option<&'static str> {
     match (last_word(before), word) {
         (b"sum" | b"min" | b"max", b"(") => Some("a column without brackets follows, as in sum #1"),
         (b"count", b"(") => Some("count stands alone"),
-        (b"minus" | b"difference", b"(") => Some("use except(a, b)"),
-        (b"union", b"(") => Some("use concat(a, b), or distinct(concat(a, b)) to drop repeats"),
         (b"filter", b"(") => Some("use where(a; #0 > 1)"),
         (b"map" | b"project", b"(") => Some("use select(a; #0)"),
         (b"unique", b"(") => Some("use distinct(a)"),
-        (b"having", b"(") => Some("use where(group(a; #0; count); #1 > 1)"),
-        (b"order" | b"order_by" | b"sort", b"(") => Some("an answer comes in ascending order"),
         (b"loop" | b"repeat" | b"while" | b"recursive" | b"fixpoint", b"(") => Some(
             "use iterate(3; x = a; distinct(x)), or closure(3; x = a; select(x; #0)) to go on with what is new",
         ),
+        (name, b"(") => of_missing(name),
         _ => None,
     }
 }
@@ -253,6 +302,11 @@ fn of_sql(before: &[u8], word: &[u8]) -> Option<&'static str> {
         (b"select" | b"where" | b"group" | b"join", _, b"as") => Some(
             "columns have no names; they are numbered from #0",
         ),
+        (b"group", _, b"having") => Some(HAVING),
+        (b"select" | b"where", _, b"case" | b"if" | b"iif") => Some(
+            "there is no case: make each part by a select of a where, and put them together by concat",
+        ),
+        (b"select" | b"where", _, b"is" | b"null") => Some(NULL),
         (b"where", _, b"in") => Some("compare with each number, as in #0 = 1 or #0 = 2"),
         (b"where", _, b"between") => Some("compare with both bounds, as in 1 <= #0 and #0 <= 5"),
         _ => None,
@@ -271,6 +325,29 @@ fn is_in_head(before: &[u8], bracket: OpenBracket<'_>, word: &[u8]) -> bool {
         }
 }
 
+/// The hint for a word in a group's bracket, by how many of its parts came before, and what comes after it.
+fn of_group(before: &[u8], word: &[u8], behind: &[u8]) -> Option<&'static str> {
+    let bracket = open_bracket(before)?;
+    if bracket.name != b"group".as_slice() {
+        return None;
+    }
+    match (bracket.semicolons, word) {
+        (1, b";") if before.ends_with(b";") => Some("a group has at least one key"),
+        (_, b";") if behind.trim_ascii_start().starts_with(b"having") => Some(HAVING),
+        (_, b"distinct") if last_word(before) == b"count".as_slice() => Some(
+            "count the records of a distinct, as in group(distinct(select(a; #0, #1)); #0; count)",
+        ),
+        (count, b"+" | b"-" | b"*") if count > 0 => Some(
+            "a group takes columns: compute them first, as in group(select(a; #0, #1 * #2); #0; sum #1)",
+        ),
+        (count, _) if count > 1 && is_name(word) => Some(
+            "the aggregates are count, sum, min and max",
+        ),
+        (1, b"count" | b"sum" | b"min" | b"max") => shape_of(bracket.name),
+        _ => None,
+    }
+}
+
 /// The hint for a word in a round bracket, by whose bracket it is, how many of its parts came before, and what comes after it.
 fn in_bracket(before: &[u8], word: &[u8], behind: &[u8]) -> Option<&'static str> {
     let bracket = open_bracket(before)?;
@@ -278,18 +355,12 @@ fn in_bracket(before: &[u8], word: &[u8], behind: &[u8]) -> Option<&'static str>
         _ if is_in_head(before, bracket, word) => shape_of(bracket.name),
         (_, _, b"and" | b"or" | b"not" | b"[") => of_condition(before, bracket, word),
         _ if is_comparison(word) => of_condition(before, bracket, word),
-        (b"group", 1, b";") if before.ends_with(b";") => Some("a group has at least one key"),
-        (b"group", count, b"+" | b"-" | b"*") if count > 0 => Some(
-            "a group takes columns: compute them first, as in group(select(a; #0, #1 * #2); #0; sum #1)",
-        ),
-        (b"group", count, _) if count > 1 && is_name(word) => Some(
-            "the aggregates are count, sum, min and max",
-        ),
+        (b"join", 0, b")") if is_part(before) => Some(PAIRLESS),
+        (b"join", 1, b")") if before.ends_with(b";") => Some(PAIRLESS),
         (_, _, b"true" | b"false") => Some("a condition is a comparison, as in #0 > 1"),
         _ if wants_operand(before) && has_operands(bracket) && is_name(word) => {
             Some(of_name(behind))
         }
-        (b"group", 1, b"count" | b"sum" | b"min" | b"max") => shape_of(bracket.name),
         (_, _, b"count" | b"sum" | b"min" | b"max") => Some(
             "an aggregate stands in a group; its value is a column",
         ),
@@ -326,6 +397,7 @@ pub fn hint(text: &[u8], code: u8, span: Span) -> Option<&'static str> {
             .or(of_item(before, word))
             .or(of_call(before, word))
             .or(of_sql(before, word))
+            .or(of_group(before, word, behind))
             .or(in_bracket(before, word, behind)),
         _ => None,
     }
