@@ -69,6 +69,7 @@ within_after Kind.ingress t l a = each-append (λ c. c ≤ turn_count) t.counter
 within_after Kind.egress t l a = each_front (λ c. c ≤ turn_count) t.counters a
 within_after Kind.feedback t l a = each-append (λ c. c ≤ turn_count) (front t.counters) (suc (last t.counters) ∷ []) (each_front (λ c. c ≤ turn_count) t.counters a) (l refl, tt)
 within_after (Kind.gate n) t l a = a
+within_after (Kind.unseen n) t l a = a
 within_after (Kind.hold n) t l a = a
 
 -- a notified vertex ends no turn
@@ -87,6 +88,7 @@ not_notified Kind.ingress s e = cc
 not_notified Kind.egress s e = cc
 not_notified Kind.feedback s e = cc
 not_notified (Kind.gate n) s e = cc
+not_notified (Kind.unseen n) s e = cc
 not_notified (Kind.hold n) s e = cc
 
 each_from : {X : Type 0} (P : X → Type 0) (xs : List X) → ((at : ℕ) (x : X) → slice_get xs at ≡ Some x → P x) → each P xs
