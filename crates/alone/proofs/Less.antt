@@ -1,9 +1,9 @@
 -- Each step of a worker leaves less work on a board.
-use Rattle.std.proofs.Common.{◌≡◌, ◌<◌, ℕ, List, length, refl, sym, ap, subst, arith}
+use Rattle.std.proofs.Common.{◌≡◌, ◌<◌, ◌≤◌, ℕ, List, [], ◌∷◌, length, refl, sym, ap, subst, arith, true}
 use Rattle.semantics.specs.Graph.{Graph}
 use Rattle.semantics.specs.Multiset.{Record, total}
 use Rattle.graph.specs.Shown.{shown_graph}
-use Rattle.machine.specs.World.{World, opening}
+use Rattle.machine.specs.World.{Event, World, opening}
 use Rattle.machine.specs.Active.{message_pointstamp, request_pointstamp}
 use Rattle.machine.specs.Step.{Step, after_step}
 use Rattle.machine.specs.Choices.{IsClaimBy}
@@ -14,11 +14,11 @@ use Rattle.events.specs.Jobs.{Pass}
 use Rattle.ending.specs.Ending.{IsWork}
 use Rattle.ending.proofs.Ends.{far, further, less_left, all_within_run}
 use Rattle.ending.proofs.WorkLeft.{weight, held_left, work_left}
-use Rattle.board.specs.Answers.{Hands}
+use Rattle.board.specs.Answers.{Gathers, Hands, MergesAll}
 use Rattle.board.specs.Kept.{Goes}
 use Rattle.board.specs.Shown.{Shown, side_at, held_of}
 use Rattle.board.specs.Showing.{Shows}
-use Rattle.alone.specs.Reached.{IsReachedOn, IsReached}
+use Rattle.board.specs.Reached.{IsReachedOn, IsReached}
 
 -- what a board holds, as a world
 abbrev held_world : Shown → World
@@ -81,19 +81,37 @@ left_less s t r step work goes =
     subst (λ (n : ℕ). left_on (shown_graph t.graph) n t < left_on (shown_graph s.graph) (length s.sides) s) (sym goes.workers)
     (subst (λ (g : Graph). left_on g (length s.sides) t < left_on (shown_graph s.graph) (length s.sides) s) (ap shown_graph (sym goes.graph)) o.less)
 
--- ---- by what the board's calls answer
+-- ---- by what the calls answer
 
-pub handed_reached : (s t : Shown) (k : ℕ) (p : Pass) → IsReached s → Hands s k t p → IsReached t
-handed_reached s t k p r h = reached_on s t r h.taken (claim_works k h.taken h.by) h.goes
+-- what further steps of workers lead to, with less or as much left
+pub record Leads (s t : Shown) : Type 0 where
+  pub reached : IsReached t
+  pub less : left t ≤ left s
 
-pub handed_less : (s t : Shown) (k : ℕ) (p : Pass) → IsReached s → Hands s k t p → left t < left s
-handed_less s t k p r h = left_less s t r h.taken (claim_works k h.taken h.by) h.goes
+merges_lead : (k : ℕ) (places : List ℕ) (s t : Shown) → IsReached s → MergesAll k places s t → Leads s t
+merges_lead k [] s t r same = subst (Leads s) (sym same) (record { reached = r; less = omega arith })
+merges_lead k (at ∷ places) s t r (u, merged, last) =
+    let a = merges_lead k places s u r merged in
+    let step : Step = Step.merge k at last.0 last.1 in
+    let b = left_less u t a.reached step tt last.2 in
+    record { reached = reached_on u t a.reached step tt last.2; less = (let l = a.less in omega (arith, l, b)) }
 
-pub committed_reached : (s t u : Shown) (k : ℕ) (p : Pass) (out : ℕ → List Record) → IsReached s → Hands s k t p → Goes t (Step.commit p.worker p.job.happening out) u → IsReached u
-committed_reached s t u k p out r h goes = reached_on t u (handed_reached s t k p r h) (Step.commit p.worker p.job.happening out) tt goes
+pub gathers_lead : (k : ℕ) (s t : Shown) → IsReached s → Gathers s k t → Leads s t
+gathers_lead k s t r g = merges_lead k g.0 s t r g.1
 
-pub committed_less : (s t u : Shown) (k : ℕ) (p : Pass) (out : ℕ → List Record) → IsReached s → Hands s k t p → Goes t (Step.commit p.worker p.job.happening out) u → left u < left s
-committed_less s t u k p out r h goes =
-    let a = handed_less s t k p r h in
-    let b = left_less t u (handed_reached s t k p r h) (Step.commit p.worker p.job.happening out) tt goes in
-    omega (arith, a, b)
+-- an event that was claimed and ended leaves less
+pub claims_less : (s u t v : Shown) (k : ℕ) (p : Pass) → IsReached s → Gathers s k u → Hands u k t p → (step : Step) → IsWork step → Goes t step v → left v < left s
+claims_less s u t v k p r gathers h step work goes =
+    let a = gathers_lead k s u r gathers in
+    let taken = claim_works k h.taken h.by in
+    let b = left_less u t a.reached h.taken taken h.goes in
+    let c = left_less t v (reached_on u t a.reached h.taken taken h.goes) step work goes in
+    let l = a.less in
+    omega (arith, l, b, c)
+
+-- an event that was claimed and abandoned has stopped the board
+pub claims_stopped : (s u t v : Shown) (k j : ℕ) (p : Pass) (event : Event) → IsReached s → Gathers s k u → Hands u k t p → Goes t (Step.abandon j event) v → v.stopped ≡ true
+claims_stopped s u t v k j p event r gathers h goes =
+    let a = gathers_lead k s u r gathers in
+    let there = reached_on u t a.reached h.taken (claim_works k h.taken h.by) h.goes in
+    sym ((goes.step there.world there.shows).1.stopped)

@@ -15,7 +15,12 @@ use Rattle.board.specs.Answers.{HasNoChoice}
 use Rattle.board.specs.Promises.{IsDrained}
 use Rattle.board.specs.Shown.{Shown, input_at, net, side_at, held_of}
 use Rattle.board.specs.Showing.{Shows}
-use Rattle.alone.specs.Reached.{HasPassedOver, IsAtRest, IsReached}
+use Rattle.board.specs.Reached.{IsReached}
+use Rattle.events.specs.declared.fault.ComputeFault.{ComputeFault}
+use Rattle.events.specs.declared.fault.ComputeFault.TheVariants as fault
+use Rattle.driver.specs.declared.ended.Ended.{Ended}
+use Rattle.alone.specs.Rests.{HasPassedOver, IsAtRest, IsDone}
+use Rattle.driver.specs.Ends.{ended_of}
 
 none_in : {X : Type 0} (xs : List X) (at : ℕ) (x : X) → xs ≡ [] → slice_get xs at ≡ Some x → ⊥
 none_in [] at x e s = cc
@@ -77,3 +82,8 @@ idle_passed_over s t k r runs l one home none same =
 pub drained_passed_over : (s t : Shown) (k : ℕ) → IsReached s → s.stopped ≡ false → k < length s.sides → length t.sides ≡ 1 → IsDrained s → t ≡ s → HasPassedOver t
 drained_passed_over s t k r runs l one is same =
     subst HasPassedOver (sym same) (passed_over s r runs (drained_rests s k l (sym (ap (λ (x : Shown). length x.sides) same) ∙ one) is))
+
+-- a worker whose event was abandoned isn't done
+pub not_done : (f : ComputeFault) (e : Ended) → e ≡ ended_of f → IsDone (Some e) → ⊥
+not_done fault.NoMemory e is done = subst (λ x. IsDone (Some x)) is done
+not_done fault.Count e is done = subst (λ x. IsDone (Some x)) is done

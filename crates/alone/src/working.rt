@@ -1,38 +1,40 @@
-//! The loop.
+//! The loop of one thread over a board.
 
-ghost use Rattle.std.specs.Prelude.{IsTrue, length, ◌≡◌};
-ghost use Rattle.alone.specs.Reached.{HasPassedOver, IsAtRest, IsReached};
+ghost use Rattle.std.specs.Prelude.{◌≡◌, length, true};
+ghost use Rattle.alone.specs.Rests.{HasPassedOver, HasStopped, IsAtRest, IsDone};
 
-use board::{Board, Claimed, CommitRefusal};
+use board::{Board, Claimed};
+use driver::{Ended, claim, process};
+use events::Gate;
 use std::alloc::Global;
 use views::Views;
 
-/// Claims, computes and commits until the worker has nothing to do. True if so; false if the board is stopped, or the worker isn't free.
-pub fn work_off<V: Views>(alloc: Global, board: &mut Board<V>, worker: u32) -> bool
-    requires reached { IsReached board.old.shown }
-    ensures reached { IsReached board.new.shown }
-    ensures passed { IsTrue result → length board.new.shown.sides ≡ 1 → HasPassedOver board.new.shown }
-    ensures rests { IsTrue result → length board.new.shown.sides ≡ 1 → IsAtRest board.new.shown }
+/// Claims and processes events of the worker until it has nothing to do now, which is None, or can't go on. `turn` goes on counting the events.
+pub fn work_off<V: Views, G: Gate>(
+    alloc: Global,
+    board: &mut Board<V>,
+    gate: &G,
+    worker: u32,
+    turn: &mut u64,
+) -> Option<Ended>
+    ensures passed { IsDone result → length board.new.shown.sides ≡ 1 → HasPassedOver board.new.shown }
+    ensures rests { IsDone result → length board.new.shown.sides ≡ 1 → IsAtRest board.new.shown }
+    ensures graph { board.new.shown.graph ≡ board.old.shown.graph }
+    ensures stopped { HasStopped result → board.new.shown.stopped ≡ true }
 {
     'events: loop {
-        match board.claim(worker) {
-            Claimed::Work(work) => match work.compute(alloc) {
-                Ok(done) => match board.commit(done) {
-                    Ok(()) => {}
-                    Err(CommitRefusal::NoMemory(done)) => {
-                        board.abandon_done(done);
-                        return false;
-                    }
-                },
-                Err((work, _fault)) => {
-                    board.abandon(work);
-                    return false;
+        board.law_run();
+        match claim(board, worker) {
+            Claimed::Work(work) => {
+                match process(alloc, board, gate, *turn, work) {
+                    Ok(_sent) => *turn = turn.saturating_add(1),
+                    Err(fault) => return Some(Ended::from(fault)),
                 }
-            },
-            Claimed::Drained => return true,
-            Claimed::Idle => return true,
-            Claimed::Stopped => return false,
-            Claimed::Busy => return false,
+            }
+            Claimed::Idle => return None,
+            Claimed::Drained => return Some(Ended::Drained),
+            Claimed::Stopped => return Some(Ended::Stopped),
+            Claimed::Busy => return Some(Ended::Busy),
         }
     }
 }

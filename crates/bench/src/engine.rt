@@ -70,7 +70,7 @@ fn finish<V: Views>(alloc: Global, board: &mut Board<V>, work: Work) -> Option<(
 {
     match work.compute(alloc) {
         Ok(done) => match board.commit(done) {
-            Ok(()) => Some(()),
+            Ok(_sent) => Some(()),
             Err(CommitRefusal::NoMemory(done)) => {
                 board.abandon_done(done);
                 None

@@ -8,6 +8,7 @@ pub mod Seals
 pub mod Lateness
 pub mod Fitting
 pub mod Kept
+pub mod Reached
 pub mod Commits
 pub mod Claims
 pub mod Deliverable

@@ -22,6 +22,7 @@ ghost use Rattle.board.specs.Lateness.{Applies, AppliesOne, AreUpToDate, IsAsLat
 ghost use Rattle.board.specs.Looks.{AreOutputLooks, IsLookAt};
 ghost use Rattle.board.specs.Picks.{Picks};
 ghost use Rattle.board.specs.Promises.{CountsPassed, HasPassed, HasPassedAtAll, IsDrained, IsOpening, IsOutputPlace, KeepsPromise, RunsProgram};
+ghost use Rattle.board.specs.Reached.{IsReached};
 ghost use Rattle.board.specs.Showing.{Shows};
 ghost use Rattle.board.specs.Shown.{Shown, emitted_by, input_at, side_at, tables};
 
@@ -33,6 +34,7 @@ use crate::look::{Look, OutputLook};
 use crate::passed::{is_past, passed_now};
 use crate::posting::{post, post_noted};
 use crate::refusal::StepRefusal;
+use crate::sent::Sent;
 use crate::state::State;
 use events::{CutBatch, Done, Wiring, Work};
 use graph::{Graph, Location, VertexId};
@@ -610,8 +612,8 @@ impl<V: Views> Board<V> {
         self.state.abandon(worker as usize, stub);
     }
 
-    /// Ends an event that the board handed out. A stopped board accepts it too.
-    pub fn commit(&mut self, done: Done) -> Result<(), CommitRefusal>
+    /// Ends an event that the board handed out, and gives what it sends. A stopped board accepts it too.
+    pub fn commit(&mut self, done: Done) -> Result<Sent, CommitRefusal>
         requires { IsOf self.old.shown done }
         ensures commits { Commits self.old.shown self.new.shown done result }
         ensures tables { tables self.new.shown ≡ tables self.old.shown }
@@ -621,12 +623,12 @@ impl<V: Views> Board<V> {
     {
         let worker = done.worker();
         match self.state.commit(&mut self.views, &mut self.added, done) {
-            Ok(place) => {
+            Ok((place, sent)) => {
                 law_of_step();
                 post_noted(&mut self.views, worker, &self.added, &[place]);
                 self.lag.post();
                 self.passed = passed_now(&self.views, &self.state, self.passed);
-                Ok(())
+                Ok(sent)
             }
             Err(done) => Err(CommitRefusal::NoMemory(done)),
         }
@@ -747,6 +749,13 @@ impl<V: Views> Board<V> {
     /// The promise holds at each output, whatever program the board runs. Nothing is done.
     pub fn law_headline(&self)
         ensures { (p : Program) → RunsProgram p self.now.shown → KeepsPromise p self.now.shown }
+    {
+        let _ = &self.state;
+    }
+
+    /// A run of the machine leads to what the board shows. So every law of runs holds of it. Nothing is done.
+    pub fn law_run(&self)
+        ensures { IsReached self.now.shown }
     {
         let _ = &self.state;
     }

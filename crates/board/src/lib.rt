@@ -67,12 +67,16 @@ mod order;
 mod passed;
 mod posting;
 mod refusal;
+mod sent;
 mod slot;
 mod state;
 mod worker;
+mod worker_set;
 
 pub use board::{Board, Claimed, CommitRefusal};
 pub use codes::WRONG_FIELD_COUNT;
 pub use gathering::gather;
 pub use look::{Look, OutputLook};
 pub use refusal::StepRefusal;
+pub use sent::{HEAVY, Sent};
+pub use worker_set::WorkerSet;

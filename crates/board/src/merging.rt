@@ -51,7 +51,7 @@ pub fn next_alike(mailbox: &Mailbox<Message>, from: usize) -> Option<usize>
     ensures found { IfSome result (λ at. (from ≤ at) × AreAlike mailbox.now.messages at) }
     ensures none { IfNone result ((at : ℕ) → from ≤ at → at < window → AreAlike mailbox.now.messages at → ⊥) }
 {
-    for place in from..WINDOW {
+    for place in from..WINDOW.min(mailbox.len().saturating_sub(1)) {
         if are_alike(mailbox, place) {
             return Some(place);
         }

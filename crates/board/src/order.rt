@@ -14,6 +14,9 @@ pub fn next_place(mailbox: &Mailbox<Message>) -> usize
     requires { 0 < length mailbox.now.messages }
     ensures { result < length mailbox.now.messages }
 {
+    if mailbox.len() == 1 {
+        return 0;
+    }
     let earliest = earliest(mailbox);
     if is_alone(mailbox, earliest) {
         earliest

@@ -29,6 +29,7 @@ use crate::look::{share_batches, share_fed};
 use crate::new_parts::{new_inputs, new_workers};
 use crate::order::next_place;
 use crate::refusal::StepRefusal;
+use crate::sent::Sent;
 use crate::worker::Worker;
 use events::{CutBatch, Done, Event, Output, Request, Wiring, Work};
 use exchange::Mailbox;
@@ -302,7 +303,7 @@ impl State {
         Ok(emitted)
     }
 
-    /// The place of the message that the worker takes next; `None` if none waits. With one worker it is always the first: nothing comes in pieces.
+    /// The place of the message that the worker takes next; `None` if none waits.
     pub fn next_message(&self, worker: usize) -> Option<usize>
         requires { worker < length self.now.sides }
         ensures there { IfSome result (λ at. at < length (side_at self.now worker).mail) }
@@ -311,9 +312,6 @@ impl State {
         let mailbox = self.workers[worker].mailbox();
         if mailbox.len() == 0 {
             return None;
-        }
-        if self.workers.len() == 1 {
-            return Some(0);
         }
         Some(next_place(mailbox))
     }
@@ -436,17 +434,17 @@ impl State {
         self.stopped = true;
     }
 
-    /// Ends the event, notes what becomes active, and gives the event's pointstamp. If memory runs out, nothing changes, and the event comes back
-    /// whole.
+    /// Ends the event, notes what becomes active, and gives the event's pointstamp and what it sends. If memory runs out, nothing changes, and the
+    /// event comes back whole.
     pub fn commit<V: Views>(
         &mut self,
         views: &mut V,
         added: &mut Vec<Pointstamp>,
         done: Done,
-    ) -> Result<Pointstamp, Done>
+    ) -> Result<(Pointstamp, Sent), Done>
         requires own { IsOf self.old done }
         requires kept { IsKept (V.graph views.old) (V.content views.old) self.old }
-        ensures settles { IfOk result (λ place. SettlesBy self.old self.new added.new.items place done) }
+        ensures settles { IfOk result (λ ended. SettlesBy self.old self.new added.new.items ended.0 done) }
         ensures room { OnOk result (length added.new.items + 1 + input_count (shown_graph self.old.graph) ≤ V.room views.new) }
         ensures same { OnErr result (self.new ≡ self.old) }
         ensures back { IfErr result (λ back. back ≡ done) }
@@ -471,7 +469,11 @@ impl State {
         let vertex = vertex_at(self.wiring.graph(), output.place.location());
         let epoch = output.place.time().epoch();
         match emit(&mut self.emitted, vertex, epoch, output) {
-            Ok(output) => Ok(finish(&mut self.workers, added, worker, vertex, stub, output)),
+            Ok(output) => {
+                let sent = Sent::of(&output.sent);
+                let place = finish(&mut self.workers, added, worker, vertex, stub, output);
+                Ok((place, sent))
+            }
             Err(output) => Err(Done::from_parts(number, stub, output)),
         }
     }

@@ -66,7 +66,7 @@ pub fn commit<V: Views>(alloc: Global, board: &mut Board<V>, work: Work) -> Turn
 {
     match work.compute(alloc) {
         Ok(done) => match board.commit(done) {
-            Ok(()) => Turn::Committed,
+            Ok(_sent) => Turn::Committed,
             Err(CommitRefusal::NoMemory(done)) => {
                 board.abandon_done(done);
                 Turn::NoMemory

@@ -142,7 +142,7 @@ fn commit_again<V: Views>(board: &mut Board<V>, done: Done) -> bool
     requires { IsOf board.old.shown done }
 {
     match board.commit(done) {
-        Ok(()) => true,
+        Ok(_sent) => true,
         Err(CommitRefusal::NoMemory(done)) => {
             board.abandon_done(done);
             false
@@ -156,7 +156,7 @@ fn commit_twice<V: Views>(board: &mut Board<V>, done: Done) -> Result<u32, Fault
 {
     let before = shown(board);
     match board.commit(done) {
-        Ok(()) => Ok(0),
+        Ok(_sent) => Ok(0),
         Err(CommitRefusal::NoMemory(done)) => {
             let is_same = shown(board) == before;
             if commit_again(board, done) && is_same {

@@ -9,7 +9,7 @@ use std::sync::Wait;
 use views::Views;
 use workers::{Ended, Engine, Feed, Gate, Naming, work_along};
 
-/// The most epochs that are fed under one lock.
+/// The most epochs that a thread that isn't alone feeds under one lock.
 const EPOCHS_AT_ONCE: u32 = AHEAD / 2;
 
 /// Once this many records are gathered, they are fed.
@@ -123,8 +123,8 @@ fn work_now<J: Naming, V: Views, R: Wait, G: Gate>(
     }
 }
 
-/// Feeds and seals epoch by epoch, many small epochs at once, and stays at most `AHEAD` epochs ahead of what has passed: a thread that is alone works
-/// in between, and any other sleeps until half of them have passed.
+/// Feeds and seals epoch by epoch. A thread that is alone works off each epoch before it feeds the next. Any other feeds many small epochs at once,
+/// stays at most `AHEAD` epochs ahead of what has passed, and sleeps until half of them have passed.
 pub fn feed_epochs<J: Naming, V: Views, R: Wait, G: Gate>(
     rt: &R,
     alloc: Global,
@@ -135,13 +135,12 @@ pub fn feed_epochs<J: Naming, V: Views, R: Wait, G: Gate>(
     let mut portion = Portion::new(alloc);
     for epoch in 0..task.epochs.count() {
         feed_epoch(rt, alloc, engine, task, &mut portion, epoch)?;
-        if epoch % EPOCHS_AT_ONCE == EPOCHS_AT_ONCE - 1 {
+        if task.is_alone() {
             feed_portion(rt, alloc, engine, &mut portion)?;
-            if task.is_alone() {
-                work_now(rt, alloc, engine, gate)?;
-            } else {
-                engine.wait_for(rt, u64::from(epoch.saturating_sub(EPOCHS_AT_ONCE - 1)));
-            }
+            work_now(rt, alloc, engine, gate)?;
+        } else if epoch % EPOCHS_AT_ONCE == EPOCHS_AT_ONCE - 1 {
+            feed_portion(rt, alloc, engine, &mut portion)?;
+            engine.wait_for(rt, u64::from(epoch.saturating_sub(EPOCHS_AT_ONCE - 1)));
         }
     }
     feed_portion(rt, alloc, engine, &mut portion)

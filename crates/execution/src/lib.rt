@@ -1,6 +1,6 @@
 //! Runs of a whole input: an engine of 1 to 64 workers is fed epoch by epoch, until nothing is left to do.
 //!
-//! With one worker the caller's thread feeds and works in turn, and no thread is started. With more, each worker has a thread of its own. The
+//! With one worker the caller's thread feeds an epoch and does its work before the next, and no thread is started. With more, each worker has a thread of its own. The
 //! caller's thread feeds, and sleeps while it is 256 epochs ahead of what has passed. Many small epochs are fed together. The caller's gate
 //! computes each event. A watcher shows how far the run is: one more thread writes to it how many epochs have passed. The caller makes the
 //! board, and so decides by which view of progress the workers go: one for all, or one for each, which may be late.

@@ -1,5 +1,5 @@
 -- What the engine's steps leave of what was fed and emitted.
-use Rattle.std.proofs.Common.{◌≡◌, ◌≢◌, ◌∙◌, ◌+◌, ℕ, List, [], ◌++◌, cond, refl, sym, ap, arith, append_assoc, inl, inr}
+use Rattle.std.proofs.Common.{◌≡◌, ◌≢◌, ◌∙◌, ◌+◌, ℕ, List, [], ◌∷◌, ◌++◌, cond, refl, sym, ap, subst, arith, append_assoc, inl, inr}
 use Rattle.std.specs.Prelude.{◌==◌}
 use Rattle.std.proofs.lemmas.Bool.Decides.{eqb_tells}
 use Rattle.std.proofs.lemmas.List.{append-nil}
@@ -7,6 +7,7 @@ use Rattle.semantics.specs.Multiset.{Record}
 use Rattle.machine.specs.World.{Event}
 use Rattle.machine.specs.Step.{Step, after_step, put}
 use Rattle.machine.specs.Choices.{IsClaimBy}
+use Rattle.board.specs.Answers.{Gathers, Merges, MergesAll}
 use Rattle.board.specs.Shown.{Shown, batches_at, net}
 use Rattle.board.specs.Kept.{Goes}
 use Rattle.follow.specs.Scenes.{Feeds, Grows, IsLive, Seals, Works, fed_at, open_at}
@@ -59,6 +60,18 @@ claim_works s t k (Step.abandon k' event) by goes live = absurd by
 
 pub commit_works : (s t : Shown) (k : ℕ) (event : Event) (out : ℕ → List Record) → Goes s (Step.commit k event out) t → IsLive s → Works s t
 commit_works s t k event out goes live = works_by s t (Step.commit k event out) live goes (λ i e. refl) (λ i. refl)
+
+merge_works : (s t : Shown) (k at : ℕ) → Merges s k at t → IsLive s → Works s t
+merge_works s t k at (first, second, goes) live = works_by s t (Step.merge k at first second) live goes (λ i e. refl) (λ i. refl)
+
+merges_work : (s t : Shown) (k : ℕ) (places : List ℕ) → MergesAll k places s t → IsLive s → Works s t
+merges_work s t k [] same live = subst (Works s) (sym same) (works_not s live)
+merges_work s t k (at ∷ places) (u, merged, last) live =
+    let a = merges_work s u k places merged live in
+    works_on s u t a (merge_works u t k at last a.grows.live)
+
+pub gathers_work : (s t : Shown) (k : ℕ) → Gathers s k t → IsLive s → Works s t
+gathers_work s t k (places, merged) live = merges_work s t k places merged live
 
 pub close_works : (s t : Shown) (i : ℕ) → Goes s (Step.close i) t → IsLive s → Works s t
 close_works s t i goes live = works_by s t (Step.close i) live goes (λ j e. refl) (λ j. refl)

@@ -11,7 +11,7 @@ ghost use Rattle.follow.specs.declared.ending.Halt.TheVariants as halt;
 
 use crate::ending::Halt;
 use crate::slot::Slot;
-use board::{Board, Claimed, CommitRefusal};
+use board::{Board, Claimed, CommitRefusal, gather};
 use events::{ComputeFault, Done, Work};
 use std::alloc::{AllocFailed, Global};
 use std::thread::{Threads, for_each_mut};
@@ -86,7 +86,7 @@ fn end<V: Views>(board: &mut Board<V>, done: Done) -> Result<u64, Halt>
 {
     let (records, done) = weigh(done);
     match board.commit(done) {
-        Ok(()) => Ok(records),
+        Ok(_sent) => Ok(records),
         Err(CommitRefusal::NoMemory(done)) => {
             board.abandon_done(done);
             Err(Halt::NoMemory)
@@ -137,12 +137,13 @@ fn settle<V: Views>(board: &mut Board<V>, slot: Slot) -> Result<u64, Halt>
     }
 }
 
-/// Claims an event of a worker, if it has one.
+/// Claims an event of a worker, if it has one, after its messages that are alike are merged.
 fn claim<V: Views>(board: &mut Board<V>, worker: u32) -> Result<Option<Work>, Halt>
     ensures tables { tables board.new.shown ≡ tables board.old.shown }
     ensures own { IfOk result (λ o. IfSome o (λ w. IsOf board.old.shown w.0)) }
     ensures works { OnOk result (IsLive board.old.shown → Works board.old.shown board.new.shown) }
 {
+    gather(board, worker);
     match board.claim(worker) {
         Claimed::Work(work) => Ok(Some(work)),
         Claimed::Idle | Claimed::Drained => Ok(None),

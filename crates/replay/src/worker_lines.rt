@@ -45,7 +45,7 @@ fn end<V: Views>(board: &mut Board<V>, done: Done) -> Result<(), Refusal>
     ensures memory { IfErr result (λ e. e ≡ refusal.NoMemory) }
 {
     match board.commit(done) {
-        Ok(()) => Ok(()),
+        Ok(_sent) => Ok(()),
         Err(CommitRefusal::NoMemory(done)) => {
             board.abandon_done(done);
             Err(Refusal::NoMemory)

@@ -3,9 +3,8 @@
 ghost use Rattle.std.specs.Prelude.{◌≡◌};
 
 use crate::tally::Tally;
-use events::{ComputeFault, Done, Work};
+use events::{ComputeFault, Done, Gate, Work};
 use std::alloc::Global;
-use workers::Gate;
 
 impl Tally {
     /// The same event with its output, after it is counted.

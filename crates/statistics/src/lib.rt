@@ -4,8 +4,8 @@
 //! What is fed is counted when the tally is made, as the engine cuts it. What is sent is counted at once for the vertex and the worker that it goes
 //! to. So once a run is drained, a vertex has received what is counted for it.
 //!
-//! The contract for the layers above is that of `workers::Gate`: the answer is the event's. No clause says that the numbers are right; tests show
-//! that. Built on `workers`, `events`, `collector` and the crates below them; `console` writes the counts.
+//! The contract for the layers above is that of `events::Gate`: the answer is the event's. No clause says that the numbers are right; tests show
+//! that. Built on `events`, `collector` and the crates below them; `console` writes the counts.
 #![tactic(auto)]
 
 mod counter;

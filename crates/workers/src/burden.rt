@@ -1,63 +1,13 @@
 //! How much work waits for each worker, to decide which threads to wake.
 
-ghost use Rattle.std.specs.Prelude.{◌≡◌};
-
-use crate::crew::Crew;
-use events::{Done, Letter};
+use board::{HEAVY, Sent, WorkerSet};
 use exchange::MAX_WORKERS;
-
-/// A message of fewer rows takes less time to compute than to hand to another thread.
-const LARGE: u64 = 32;
-
-/// This many rows in large messages are worth waking a thread.
-const HEAVY: u64 = 2048;
-
-/// What an event or a batch brings: the workers that get a message, those that get a large one, and the rows of the largest message.
-#[derive(Clone, Copy)]
-pub struct Brought {
-    receivers: Crew,
-    burdened: Crew,
-    rows: u64,
-}
-
-impl Brought {
-    /// What these letters bring.
-    pub fn by(letters: &[Letter]) -> Brought {
-        let mut brought = Brought {
-            receivers: Crew::nobody(),
-            burdened: Crew::nobody(),
-            rows: 0,
-        };
-        for letter in letters {
-            brought.add(letter.to, letter.message.rows() as u64);
-        }
-        brought
-    }
-
-    /// What a computed event brings; the event is given back.
-    pub fn by_event(done: Done) -> (Brought, Done)
-        ensures { result.1 ≡ done }
-    {
-        let worker = done.worker();
-        let (stub, output) = done.into_parts();
-        let brought = Brought::by(&output.sent);
-        (brought, Done::from_parts(worker, stub, output))
-    }
-
-    fn add(&mut self, to: u32, rows: u64) {
-        self.receivers = self.receivers.with(to);
-        if rows >= LARGE {
-            self.burdened = self.burdened.with(to);
-            self.rows = self.rows.max(rows);
-        }
-    }
-}
 
 /// What waits for each worker, and what came to it of late, by the rows of large messages. The first decides whether its mail is worth waking its
 /// thread; the second whether its notifications are, since they are about the rows that came before.
 #[derive(Drop)]
 pub struct Burdens {
-    mailed: Crew,
+    mailed: WorkerSet,
     waiting: Rows,
     recent: Rows,
 }
@@ -66,35 +16,36 @@ impl Burdens {
     /// Nothing has come to any worker.
     pub fn new() -> Burdens {
         Burdens {
-            mailed: Crew::nobody(),
+            mailed: WorkerSet::empty(),
             waiting: Rows::none(),
             recent: Rows::none(),
         }
     }
 
     /// The workers that may have mail.
-    pub fn mailed(&self) -> Crew {
+    pub fn mailed(&self) -> WorkerSet {
         self.mailed
     }
 
     /// The workers whose mail is worth waking a thread.
-    pub fn loaded(&self) -> Crew {
+    pub fn loaded(&self) -> WorkerSet {
         self.mailed.both(self.waiting.many)
     }
 
     /// The workers without mail whose notifications are worth waking a thread.
-    pub fn heavy(&self) -> Crew {
+    pub fn heavy(&self) -> WorkerSet {
         self.recent.many.but(self.mailed)
     }
 
-    /// Notes what was brought.
-    pub fn note(&mut self, brought: Brought) {
-        self.mailed = self.mailed.or(brought.receivers);
-        if !brought.burdened.is_empty() {
+    /// Notes what was sent.
+    pub fn note(&mut self, sent: Sent) {
+        self.mailed = self.mailed.or(sent.receivers());
+        let burdened = sent.burdened();
+        if !burdened.is_empty() {
             for worker in 0..MAX_WORKERS {
-                if brought.burdened.has(worker) {
-                    self.waiting.add(worker, brought.rows);
-                    self.recent.add(worker, brought.rows);
+                if burdened.has(worker) {
+                    self.waiting.add(worker, sent.rows());
+                    self.recent.add(worker, sent.rows());
                 }
             }
         }
@@ -116,14 +67,14 @@ impl Burdens {
 /// Rows by worker, and the workers that have many.
 #[derive(Drop)]
 struct Rows {
-    many: Crew,
+    many: WorkerSet,
     rows: [u64; MAX_WORKERS as usize],
 }
 
 impl Rows {
     fn none() -> Rows {
         Rows {
-            many: Crew::nobody(),
+            many: WorkerSet::empty(),
             rows: [0; MAX_WORKERS as usize],
         }
     }

@@ -1,18 +1,18 @@
 //! A board under a lock, for any number of threads.
 
-ghost use Rattle.std.specs.Prelude.{◌≡◌, ◌≤◌, ◌<◌, true, IfErr, IfOk, IfSome};
+ghost use Rattle.std.specs.Prelude.{◌≡◌, ◌≤◌, ◌<◌, true, IfOk, IfSome};
 ghost use Rattle.board.specs.Lateness.{IsUpToDate};
 ghost use Rattle.board.specs.Looks.{ShowsEachOutput, ShowsPassed};
 ghost use Rattle.board.specs.Shown.{tables};
+ghost use Rattle.driver.specs.Ends.{event_of};
 ghost use Rattle.workers.specs.Names.{GivesNamed, IsNamed};
 
-use crate::burden::Brought;
 use crate::floor::{Floor, Wakes};
 use crate::held::{Held, Naming};
 use crate::mark::{Mark, Publisher, Seat};
 use crate::plan::{Feed, Plan};
 use board::{Board, Claimed, Look, StepRefusal};
-use events::{Done, Work};
+use events::{ComputeFault, Done, Work};
 use record_core::NoMemory;
 use rows::Batch;
 use std::alloc::Global;
@@ -172,32 +172,20 @@ impl<J: Naming, V: Views> Engine<J, V> {
         unreachable!()
     }
 
-    /// Ends an event and claims the thread's next one under one lock. If memory runs out, nothing changes, and the event comes back.
-    pub(crate) fn commit<R: Wait>(&self, rt: &R, worker: u32, done: Done) -> Result<Claimed, Done>
-        requires { IsNamed J.names done }
-        ensures next { IfOk result (λ claimed. GivesNamed J.names claimed) }
-        ensures back { IfErr result (λ back. back ≡ done) }
+    /// Ends an event of a worker under one lock: commits it and claims the thread's next one, or abandons it, which stops the board.
+    pub(crate) fn settle<R: Wait>(
+        &self,
+        rt: &R,
+        thread: u32,
+        worker: u32,
+        computed: Result<Done, (Work, ComputeFault)>,
+    ) -> Result<Claimed, ComputeFault>
+        requires { IsNamed J.names (event_of computed) }
+        ensures { IfOk result (λ claimed. GivesNamed J.names claimed) }
     {
-        let (brought, done) = Brought::by_event(done);
-        let (result, wakes) = self.floor.lock(rt).commit(worker, done, brought);
+        let (result, wakes) = self.floor.lock(rt).settle(thread, worker, computed);
         self.wake(wakes);
         result
-    }
-
-    /// Abandons an event, which stops the board.
-    pub(crate) fn abandon<R: Wait>(&self, rt: &R, work: Work)
-        requires { IsNamed J.names work.0 }
-    {
-        let wakes = self.floor.lock(rt).abandon(work);
-        self.wake(wakes);
-    }
-
-    /// Abandons a computed event, which stops the board.
-    pub(crate) fn abandon_done<R: Wait>(&self, rt: &R, done: Done)
-        requires { IsNamed J.names done }
-    {
-        let wakes = self.floor.lock(rt).abandon_done(done);
-        self.wake(wakes);
     }
 
     /// Wakes these threads. The lock must be free.

@@ -13,16 +13,16 @@
 //! after all that are away before it sleeps or leaves, in `claim`. When no thread is up, `due` asks for each sleeper. Both apply what waits for a
 //! worker before they conclude that it has nothing to do, so no event is missed because a worker's view is late.
 
-ghost use Rattle.std.specs.Prelude.{◌≡◌, length, IfErr, IfOk};
+ghost use Rattle.std.specs.Prelude.{◌≡◌, length, IfOk};
 ghost use Rattle.board.specs.Lateness.{IsUpToDate};
+ghost use Rattle.driver.specs.Ends.{event_of};
 ghost use Rattle.workers.specs.Names.{GivesNamed, IsNamed};
 
-use crate::burden::{Brought, Burdens};
-use crate::crew::Crew;
+use crate::burden::Burdens;
 use crate::held::{Held, Naming};
 use crate::plan::{CutFeed, Slice};
-use board::{Board, Claimed, CommitRefusal, StepRefusal};
-use events::{CutBatch, Done, Work};
+use board::{Board, Claimed, StepRefusal, WorkerSet};
+use events::{ComputeFault, CutBatch, Done, Work};
 use exchange::MAX_WORKERS;
 use std::collections::VecDeque;
 use views::Views;
@@ -33,7 +33,7 @@ const NONE: u64 = u64::MAX;
 /// The threads that a call wakes once the lock is released.
 #[derive(Clone, Copy)]
 pub struct Wakes {
-    workers: Crew,
+    workers: WorkerSet,
     feeders: bool,
 }
 
@@ -41,13 +41,13 @@ impl Wakes {
     /// Wakes nobody.
     pub fn nobody() -> Wakes {
         Wakes {
-            workers: Crew::nobody(),
+            workers: WorkerSet::empty(),
             feeders: false,
         }
     }
 
     /// The workers whose threads are woken.
-    pub fn workers(self) -> Crew {
+    pub fn workers(self) -> WorkerSet {
         self.workers
     }
 
@@ -63,11 +63,11 @@ impl Wakes {
 #[derive(Drop)]
 pub struct Floor<J: Naming, V: Views> {
     pub held: Held<J, V>,
-    absent: Crew,
-    asleep: Crew,
-    up: Crew,
-    busy: Crew,
-    lent: Crew,
+    absent: WorkerSet,
+    asleep: WorkerSet,
+    up: WorkerSet,
+    busy: WorkerSet,
+    lent: WorkerSet,
     burdens: Burdens,
     /// The worker whose turn it is to get an event, and the one that `due` asks for next.
     turn: u32,
@@ -78,14 +78,14 @@ pub struct Floor<J: Naming, V: Views> {
 impl<J: Naming, V: Views> Floor<J, V> {
     /// No thread has started yet.
     pub fn new(held: Held<J, V>) -> Floor<J, V> {
-        let absent = Crew::of_first(held.workers());
+        let absent = WorkerSet::of_first(held.workers());
         Floor {
             held,
             absent,
-            asleep: Crew::nobody(),
-            up: Crew::nobody(),
-            busy: Crew::nobody(),
-            lent: Crew::nobody(),
+            asleep: WorkerSet::empty(),
+            up: WorkerSet::empty(),
+            busy: WorkerSet::empty(),
+            lent: WorkerSet::empty(),
             burdens: Burdens::new(),
             turn: 0,
             asked: 0,
@@ -155,43 +155,26 @@ impl<J: Naming, V: Views> Floor<J, V> {
         claimed
     }
 
-    /// Ends an event and claims the thread's next one; also gives the threads to wake. If memory runs out, nothing changes, and the event comes back.
-    pub fn commit(
+    /// Ends an event of a worker: commits it and claims the thread's next one, or abandons it. Also gives the threads to wake, which are all of them
+    /// if it is abandoned.
+    pub fn settle(
         &mut self,
         thread: u32,
-        done: Done,
-        brought: Brought,
-    ) -> (Result<Claimed, Done>, Wakes)
-        requires { IsNamed J.names done }
-        ensures next { IfOk result.0 (λ claimed. GivesNamed J.names claimed) }
-        ensures back { IfErr result.0 (λ back. back ≡ done) }
+        worker: u32,
+        computed: Result<Done, (Work, ComputeFault)>,
+    ) -> (Result<Claimed, ComputeFault>, Wakes)
+        requires { IsNamed J.names (event_of computed) }
+        ensures { IfOk result.0 (λ claimed. GivesNamed J.names claimed) }
     {
-        let worker = done.worker();
-        match self.held.commit(done) {
-            Ok(()) => {
+        match self.held.settle(computed) {
+            Ok(sent) => {
                 self.lent = self.lent.without(worker);
-                self.burdens.note(brought);
+                self.burdens.note(sent);
                 let claimed = self.claim(thread);
                 (Ok(claimed), self.due())
             }
-            Err(CommitRefusal::NoMemory(done)) => (Err(done), Wakes::nobody()),
+            Err(fault) => (Err(fault), self.due()),
         }
-    }
-
-    /// Abandons an event, and wakes every thread.
-    pub fn abandon(&mut self, work: Work) -> Wakes
-        requires { IsNamed J.names work.0 }
-    {
-        self.held.abandon(work);
-        self.due()
-    }
-
-    /// Abandons a computed event, and wakes every thread.
-    pub fn abandon_done(&mut self, done: Done) -> Wakes
-        requires { IsNamed J.names done }
-    {
-        self.held.abandon_done(done);
-        self.due()
     }
 
     /// Puts the thread, which has nothing to do, to sleep.
@@ -230,10 +213,10 @@ impl<J: Naming, V: Views> Floor<J, V> {
 
     /// The board's `feed_cut`, and what is left of the batch.
     fn feed_slice(&mut self, slice: Slice<J>) -> (Result<(), StepRefusal>, Option<CutBatch>) {
-        let (cut, brought) = slice.into_parts();
+        let (cut, sent) = slice.into_parts();
         let (result, left) = self.held.feed_cut(cut);
         if result.is_ok() {
-            self.burdens.note(brought);
+            self.burdens.note(sent);
         }
         (result, left)
     }
@@ -300,7 +283,7 @@ impl<J: Naming, V: Views> Floor<J, V> {
     }
 
     /// An event of one of these workers, of which no other thread has an event: the one whose turn it is, or else the next that has one.
-    fn claim_among(&mut self, thread: u32, workers: Crew) -> Claimed
+    fn claim_among(&mut self, thread: u32, workers: WorkerSet) -> Claimed
         ensures { GivesNamed J.names result }
     {
         let mut left = workers;
@@ -324,17 +307,17 @@ impl<J: Naming, V: Views> Floor<J, V> {
     }
 
     /// The workers whose threads compute nothing: they are asleep, or haven't started.
-    fn away(&self) -> Crew {
+    fn away(&self) -> WorkerSet {
         self.absent.or(self.asleep)
     }
 
     /// The sleeping workers whose event no other thread has.
-    fn sleepers(&self) -> Crew {
+    fn sleepers(&self) -> WorkerSet {
         self.asleep.but(self.lent)
     }
 
     /// Counts these threads as up from now on.
-    fn rouse(&mut self, workers: Crew) {
+    fn rouse(&mut self, workers: WorkerSet) {
         self.asleep = self.asleep.but(workers);
         self.up = self.up.or(workers);
     }
@@ -342,7 +325,7 @@ impl<J: Naming, V: Views> Floor<J, V> {
     /// The threads that this call must wake. They count as up from now on.
     fn due(&mut self) -> Wakes {
         let workers = if self.asleep.is_empty() {
-            Crew::nobody()
+            WorkerSet::empty()
         } else {
             self.due_workers()
         };
@@ -361,7 +344,7 @@ impl<J: Naming, V: Views> Floor<J, V> {
     }
 
     /// The sleeping workers to be woken: all of them, if the board is at its end.
-    fn due_workers(&mut self) -> Crew {
+    fn due_workers(&mut self) -> WorkerSet {
         if self.is_at_end() {
             return self.asleep;
         }
@@ -381,31 +364,31 @@ impl<J: Naming, V: Views> Floor<J, V> {
     }
 
     /// The next of them in turn, if it has something to do. Asks for one only, so that the cost doesn't grow with the number of sleepers.
-    fn next_if_can_claim(&mut self, workers: Crew) -> Crew {
+    fn next_if_can_claim(&mut self, workers: WorkerSet) -> WorkerSet {
         let Some(worker) = workers.from(self.asked) else {
-            return Crew::nobody();
+            return WorkerSet::empty();
         };
         self.asked = worker.wrapping_add(1);
         if self.held.can_claim(worker) {
-            Crew::nobody().with(worker)
+            WorkerSet::empty().with(worker)
         } else {
-            Crew::nobody()
+            WorkerSet::empty()
         }
     }
 
     /// The first of them that has something to do, if there is one.
-    fn first_who_can_claim(&mut self, workers: Crew) -> Crew {
+    fn first_who_can_claim(&mut self, workers: WorkerSet) -> WorkerSet {
         for worker in 0..self.held.workers() {
             if workers.has(worker) && self.held.can_claim(worker) {
-                return Crew::nobody().with(worker);
+                return WorkerSet::empty().with(worker);
             }
         }
-        Crew::nobody()
+        WorkerSet::empty()
     }
 
     /// Those of them that have something to do.
-    fn who_can_claim(&mut self, workers: Crew) -> Crew {
-        let mut busy = Crew::nobody();
+    fn who_can_claim(&mut self, workers: WorkerSet) -> WorkerSet {
+        let mut busy = WorkerSet::empty();
         for worker in 0..self.held.workers() {
             if workers.has(worker) && self.held.can_claim(worker) {
                 busy = busy.with(worker);

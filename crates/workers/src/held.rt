@@ -2,19 +2,21 @@
 
 ghost use Rattle.std.specs.Prelude.{◌≡◌, ◌<◌, ℕ, true, IfOk, MatchBool, OnErr, OnOk, length, max};
 ghost use Rattle.machine.specs.Step.{Step};
-ghost use Rattle.board.specs.Answers.{AnswersOnly, AnswersOr, Claims, Commits, Gathers, HasChoice, HasNoChoice, Holds, IfNothing};
+ghost use Rattle.board.specs.Answers.{AnswersOnly, AnswersOr, Claims, Gathers, HasChoice, HasNoChoice, IfNothing};
 ghost use Rattle.board.specs.Answers.{feed_refusal, input_refusal, seal_refusal};
 ghost use Rattle.board.specs.Kept.{Goes};
 ghost use Rattle.board.specs.Lateness.{Applies, IsAsLate, IsUpToDate};
 ghost use Rattle.board.specs.Looks.{IsLookAt, ShowsEachOutput, ShowsPassed};
 ghost use Rattle.board.specs.Promises.{CountsPassed, IsDrained};
 ghost use Rattle.board.specs.Shown.{tables};
+ghost use Rattle.driver.specs.Ends.{Ends, IsFaultOf, event_of};
 ghost use Rattle.workers.specs.Held.{Publishes};
 ghost use Rattle.workers.specs.Names.{GivesNamed, IsNamed};
 
 use crate::mark::Publisher;
-use board::{Board, Claimed, CommitRefusal, Look, StepRefusal, gather};
-use events::{CutBatch, Done, Work};
+use board::{Board, Claimed, Look, Sent, StepRefusal, gather};
+use driver::settle;
+use events::{ComputeFault, CutBatch, Done, Work};
 use record_core::NoMemory;
 use std::alloc::Global;
 use std::marker::{Brand, Model, PhantomData};
@@ -40,11 +42,16 @@ impl Naming for Brand {
     ghost graph = { record { vertices = []; inputs = []; outputs = []; arities = [] } };
 }
 
-/// A board and its publisher. Each call makes the board's call, then applies all that waits for worker 0, and publishes what has passed.
+/// After this many events all that waits is applied for every worker, so that what waits for one that sleeps stays short.
+const EVENTS: u32 = 1024;
+
+/// A board and its publisher. Each call makes the board's call, then applies all that waits for worker 0, and publishes what has passed. `events`
+/// counts those that ended since all that waited was applied for every worker.
 #[derive(Drop)]
 pub struct Held<J: Naming, V: Views> {
     board: Board<V>,
     publisher: Publisher,
+    events: u32,
     of: PhantomData<J>,
 }
 
@@ -86,6 +93,7 @@ impl<J: Naming, V: Views> Held<J, V> {
         Held {
             board,
             publisher,
+            events: 0,
             of: PhantomData,
         }
     }
@@ -140,15 +148,12 @@ impl<J: Naming, V: Views> Held<J, V> {
         Ok(())
     }
 
-    /// With several workers, merges messages of a free worker that are alike, before it claims: an exchange cuts what one worker sends into as many
-    /// messages as there are workers, and each would be an event by itself. With one worker there is nothing to merge.
+    /// Merges messages of a free worker that are alike, before it claims. An exchange cuts what one worker sends into as many messages as there are
+    /// workers, and a loop's body may send to one edge from several places at each turn; each message would be an event by itself.
     pub fn gather(&mut self, worker: u32)
         ensures gathers { Gathers self.old.board.shown worker self.new.board.shown }
         ensures published { CountsPassed self.new.board.shown self.new.published }
     {
-        if self.board.workers() == 1 {
-            return;
-        }
         self.board.law_count();
         let _known = self.board.passed_count();
         if !gather(&mut self.board, worker) {
@@ -172,43 +177,54 @@ impl<J: Naming, V: Views> Held<J, V> {
         claimed
     }
 
-    /// The board's `commit`.
-    pub fn commit(&mut self, done: Done) -> Result<(), CommitRefusal>
-        requires { IsNamed J.names done }
-        ensures commits { Commits self.old.board.shown self.new.board.shown done result }
-        ensures refused { OnErr result (self.new.board ≡ self.old.board) }
+    /// Ends an event: commits one that was computed, or abandons one that was refused, or for whose commit memory is short.
+    pub fn settle(
+        &mut self,
+        computed: Result<Done, (Work, ComputeFault)>,
+    ) -> Result<Sent, ComputeFault>
+        requires { IsNamed J.names (event_of computed) }
+        ensures ends { Ends self.old.board.shown self.new.board.shown (event_of computed) result }
+        ensures fault { IsFaultOf computed result }
+        ensures views { OnErr result (IsAsLate self.old.board self.new.board) }
         ensures published { CountsPassed self.new.board.shown self.new.published }
     {
         self.board.law_stays();
-        self.board.commit(done)?;
-        publish(&mut self.board, &mut self.publisher);
-        Ok(())
+        match settle(&mut self.board, computed) {
+            Ok(sent) => {
+                publish(&mut self.board, &mut self.publisher);
+                self.count_event();
+                Ok(sent)
+            }
+            Err(fault) => {
+                self.publisher.publish(self.board.passed_count());
+                Err(fault)
+            }
+        }
     }
 
-    /// The board's `abandon`. Takes no memory.
-    pub fn abandon(&mut self, work: Work)
-        requires { IsNamed J.names work.0 }
-        ensures holds { Holds self.old.board.shown work.0 }
-        ensures step { Goes self.old.board.shown (Step.abandon work.0.worker work.0.job.happening) self.new.board.shown }
-        ensures views { IsAsLate self.old.board self.new.board }
-        ensures published { CountsPassed self.new.board.shown self.new.published }
+    /// Counts an event that ended. A worker that sleeps applies nothing by itself, so after many events all that waits is applied for every worker.
+    fn count_event(&mut self)
+        ensures shown { self.new.board.shown ≡ self.old.board.shown }
+        ensures published { self.new.published ≡ self.old.published }
     {
-        self.board.law_stays();
-        self.board.abandon(work);
-        self.publisher.publish(self.board.passed_count());
+        self.events = self.events.saturating_add(1);
+        if self.events < EVENTS {
+            return;
+        }
+        self.events = 0;
+        for worker in 0..self.board.workers() {
+            self.catch_up(worker);
+        }
     }
 
-    /// The board's `abandon_done`. Takes no memory.
-    pub fn abandon_done(&mut self, done: Done)
-        requires { IsNamed J.names done }
-        ensures holds { Holds self.old.board.shown done }
-        ensures step { Goes self.old.board.shown (Step.abandon done.worker done.job.happening) self.new.board.shown }
-        ensures views { IsAsLate self.old.board self.new.board }
-        ensures published { CountsPassed self.new.board.shown self.new.published }
+    /// Applies all that waits for the worker.
+    fn catch_up(&mut self, worker: u32)
+        ensures shown { self.new.board.shown ≡ self.old.board.shown }
+        ensures applies { Applies worker self.old.board self.new.board }
+        ensures prompt { IsUpToDate self.new.board worker }
+        ensures published { self.new.published ≡ self.old.published }
     {
-        self.board.law_stays();
-        self.board.abandon_done(done);
-        self.publisher.publish(self.board.passed_count());
+        self.board.catch_up(worker);
     }
 
     /// The number of epochs that have passed.
@@ -225,7 +241,7 @@ impl<J: Naming, V: Views> Held<J, V> {
         ensures applies { Applies worker self.old.board self.new.board }
         ensures published { self.new.published ≡ self.old.published }
     {
-        self.board.catch_up(worker);
+        self.catch_up(worker);
         self.board.can_claim(worker)
     }
 
@@ -272,6 +288,7 @@ impl<J: Naming, V: Views> Held<J, V> {
         let Held {
             board,
             publisher: _,
+            events: _,
             of: _,
         } = self;
         board

@@ -35,10 +35,8 @@
 #![tactic(auto)]
 
 mod burden;
-mod crew;
 mod engine;
 mod floor;
-mod gate;
 mod held;
 mod mark;
 mod plan;
@@ -46,10 +44,11 @@ mod report;
 mod rule;
 mod working;
 
+pub use driver::Ended;
 pub use engine::Engine;
-pub use gate::{Gate, NoGate};
+pub use events::{Gate, NoGate};
 pub use held::{Held, Naming};
 pub use mark::{Mark, Publisher, Seat};
 pub use plan::Feed;
 pub use report::{Report, finish};
-pub use working::{Ended, work, work_along};
+pub use working::{work, work_along};

@@ -3,9 +3,8 @@
 ghost use Rattle.std.specs.Prelude.{◌≡◌, length, IfErr, IfOk};
 ghost use Rattle.workers.specs.Plans.{RefusesBatch};
 
-use crate::burden::Brought;
 use crate::held::Naming;
-use board::StepRefusal;
+use board::{Sent, StepRefusal};
 use events::{CutBatch, Wiring};
 use graph::VertexId;
 use rows::Batch;
@@ -55,11 +54,11 @@ pub enum CutFeed<J: Naming> {
     Seal(u32),
 }
 
-/// A batch that was cut for the board, and what it brings to the workers.
+/// A batch that was cut for the board, and what it sends to the workers.
 #[derive(Drop)]
 pub struct Slice<J: Naming> {
     cut: CutBatch,
-    brought: Brought,
+    sent: Sent,
     of: PhantomData<J>,
 }
 
@@ -87,25 +86,21 @@ impl<J: Naming> Slice<J> {
         requires { cut.wired ≡ record { graph = J.graph; workers = length J.names } }
         ensures { result ≡ cut }
     {
-        let brought = Brought::by(cut.letters());
+        let sent = Sent::of(cut.letters());
         Slice {
             cut,
-            brought,
+            sent,
             of: PhantomData,
         }
     }
 
-    /// The cut batch, and what it brings.
-    pub fn into_parts(self) -> (CutBatch, Brought)
+    /// The cut batch, and what it sends.
+    pub fn into_parts(self) -> (CutBatch, Sent)
         ensures cut { result.0 ≡ self }
         ensures wired { result.0.wired ≡ record { graph = J.graph; workers = length J.names } }
     {
-        let Slice {
-            cut,
-            brought,
-            of: _,
-        } = self;
-        (cut, brought)
+        let Slice { cut, sent, of: _ } = self;
+        (cut, sent)
     }
 }
 
@@ -150,7 +145,7 @@ impl<J: Naming> Plan<J> {
 }
 
 impl<J: Naming> Plan<J> {
-    /// As `cut`, with what the batch brings.
+    /// As `cut`, with what the batch sends.
     pub fn slice(&self, alloc: Global, input: u32, batch: Batch) -> Result<Slice<J>, StepRefusal>
         ensures input { IfOk result (λ c. c.input ≡ input) }
         ensures batch { IfOk result (λ c. c.batch ≡ batch) }

@@ -4,26 +4,13 @@ ghost use Rattle.std.specs.Prelude.{IfOk};
 ghost use Rattle.workers.specs.Names.{GivesNamed, IsNamed};
 
 use crate::engine::Engine;
-use crate::gate::Gate;
 use crate::held::Naming;
 use board::Claimed;
-use events::{ComputeFault, Work};
+use driver::Ended;
+use events::{Gate, Work};
 use std::alloc::Global;
 use std::sync::Wait;
 use views::Views;
-
-/// The reason why a worker stopped working.
-#[derive(Clone, Copy, Debug, PartialEq, Eq)]
-pub enum Ended {
-    /// Nothing is left to do.
-    Drained,
-    /// The board is stopped: an event was abandoned, for lack of memory or in another thread.
-    Stopped,
-    /// A count would have been above 9223372036854775807, so the event was abandoned and the board is stopped.
-    Count,
-    /// There is no such worker, or another thread works under its number.
-    Busy,
-}
 
 /// Claims, computes by the gate and commits, until nothing is left to do or the board is stopped; sleeps while there is nothing that the thread could
 /// do. Abandons an event that runs out of memory, or in which a count would be too large. The promise holds if the call returns.
@@ -101,23 +88,9 @@ fn turn_over<J: Naming, V: Views, R: Wait, G: Gate>(
     requires { IsNamed J.names work.0 }
     ensures { IfOk result (λ claimed. GivesNamed J.names claimed) }
 {
-    match gate.compute(alloc, worker, turn, work) {
-        Ok(done) => match engine.commit(rt, worker, done) {
-            Ok(claimed) => {
-                gate.after_commit(worker, turn);
-                Ok(claimed)
-            }
-            Err(done) => {
-                engine.abandon_done(rt, done);
-                Err(Ended::Stopped)
-            }
-        },
-        Err((work, fault)) => {
-            engine.abandon(rt, work);
-            Err(match fault {
-                ComputeFault::NoMemory => Ended::Stopped,
-                ComputeFault::Count => Ended::Count,
-            })
-        }
-    }
+    let of = work.worker();
+    let computed = gate.compute(alloc, worker, turn, work);
+    let claimed = engine.settle(rt, worker, of, computed)?;
+    gate.after_commit(worker, turn);
+    Ok(claimed)
 }

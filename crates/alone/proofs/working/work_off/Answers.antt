@@ -1,66 +1,52 @@
-use Rattle.std.proofs.Common.{◌≡◌, ◌∙◌, length, sym, ap, subst}
+use Rattle.std.proofs.Common.{◌∙◌, ap, length, subst, sym}
 use Rattle.machine.specs.Step.{Step}
-use Rattle.events.specs.Jobs.{Pass}
-use Rattle.board.specs.Kept.{Goes}
-use Rattle.board.specs.Lateness.{BoardShown}
 use Rattle.board.specs.Shown.{Shown}
-use Rattle.alone.specs.Reached.{IsAtRest, IsReached}
-use Rattle.alone.proofs.Resting.{at_rest, drained_passed_over, idle_passed_over}
-use Rattle.alone.proofs.Less.{handed_reached, committed_reached, committed_less, reached_on}
+use Rattle.alone.specs.Rests.{IsAtRest}
+use Rattle.alone.proofs.Less.{claims_less, claims_stopped, gathers_lead}
+use Rattle.alone.proofs.Resting.{at_rest, drained_passed_over, drained_rests, idle_passed_over, not_done}
 use Rattle.alone.proofs.working.work_off.Goals as goal
 
 pub events-smaller : goal.events-smaller
 events-smaller g c =
-    let s = c.events.board.shown in
-    let t = c.claim.new.self.shown in
-    let u = c.commit.new.self.shown in
-    let h = c.in-Work.ensures.claims.0 in
-    let same : c.in-Ok.done ≡ c.in-Work.work.0 = c.in-Ok.ensures.done in
-    let m = c.in-Ok-commit.ensures.commits in
-    committed_less s t u c.args.worker c.in-Work.work.0 m.1.0 c.events.invariant h (subst (λ (p : Pass). Goes t (Step.commit p.worker p.job.happening m.1.0) u) same m.1.1)
+    let claims = c.in-Work.ensures.claims in
+    let ends = c.in-Ok.ensures.ends in
+    let p = c.in-Work.work.0 in
+    claims_less c.events.board.shown claims.0 c.claim.new.board.shown c.process.new.board.shown c.args.worker p c.law_run.ensures claims.1 claims.2.0 (Step.commit p.worker p.job.happening ends.1.0) tt ends.1.1
 
-pub events-preserved : goal.events-preserved
-events-preserved g c =
-    let s = c.events.board.shown in
-    let t = c.claim.new.self.shown in
-    let u = c.commit.new.self.shown in
-    let h = c.in-Work.ensures.claims.0 in
-    let same : c.in-Ok.done ≡ c.in-Work.work.0 = c.in-Ok.ensures.done in
-    let m = c.in-Ok-commit.ensures.commits in
-    committed_reached s t u c.args.worker c.in-Work.work.0 m.1.0 c.events.invariant h (subst (λ (p : Pass). Goes t (Step.commit p.worker p.job.happening m.1.0) u) same m.1.1)
+pub returns-in-Err-clause-stopped : goal.returns-in-Err-clause-stopped
+returns-in-Err-clause-stopped g c = λ halted.
+    let claims = c.in-Work.ensures.claims in
+    let p = c.in-Work.work.0 in
+    claims_stopped c.events.board.shown claims.0 c.claim.new.board.shown c.process.new.board.shown c.args.worker p.worker p p.job.happening c.law_run.ensures claims.1 claims.2.0 c.in-Err.ensures.ends.1
 
-pub returns-in-Err-NoMemory-clause-reached : goal.returns-in-Err-NoMemory-clause-reached
-returns-in-Err-NoMemory-clause-reached g c =
-    let s = c.events.board.shown in
-    let t = c.claim.new.self.shown in
-    let u = c.commit.new.self.shown in
-    let v = c.abandon_done.new.self.shown in
-    let h = c.in-Work.ensures.claims.0 in
-    let back : u ≡ t = ap (λ (b : BoardShown). b.shown) c.in-Err-NoMemory.ensures.refused in
-    let r : IsReached u = subst IsReached (sym back) (handed_reached s t c.args.worker c.in-Work.work.0 c.events.invariant h) in
-    reached_on u v r _ tt c.abandon_done.ensures.step
+pub returns-in-Err-clause-passed : goal.returns-in-Err-clause-passed
+returns-in-Err-clause-passed g c = λ done one. absurd (not_done c.in-Err.fault c.from.result c.from.ensures done)
 
-pub returns-in-Err-clause-reached : goal.returns-in-Err-clause-reached
-returns-in-Err-clause-reached g c =
-    let s = c.events.board.shown in
-    let t = c.claim.new.self.shown in
-    let v = c.abandon.new.self.shown in
-    let h = c.in-Work.ensures.claims.0 in
-    reached_on t v (handed_reached s t c.args.worker c.in-Work.work.0 c.events.invariant h) (Step.abandon c.in-Err.work.0.worker c.in-Err.work.0.job.happening) tt c.abandon.ensures.step
-
-pub returns-in-Idle-clause-rests : goal.returns-in-Idle-clause-rests
-returns-in-Idle-clause-rests g c = λ yes one.
-    let s = c.events.board.shown in
-    let m = c.in-Idle.ensures.claims in
-    let same : c.claim.new.self.shown ≡ c.events.board.shown = m.5 in
-    subst (λ (x : Shown). IsAtRest x) (sym same) (at_rest s c.args.worker m.1 (sym (ap (λ (x : Shown). length x.sides) same) ∙ one) m.2 m.3)
+pub returns-in-Err-clause-rests : goal.returns-in-Err-clause-rests
+returns-in-Err-clause-rests g c = λ done one. absurd (not_done c.in-Err.fault c.from.result c.from.ensures done)
 
 pub returns-in-Idle-clause-passed : goal.returns-in-Idle-clause-passed
-returns-in-Idle-clause-passed g c = λ yes one.
-    let m = c.in-Idle.ensures.claims in
-    idle_passed_over c.events.board.shown c.claim.new.self.shown c.args.worker c.events.invariant m.0 m.1 one m.2 m.3 m.5
+returns-in-Idle-clause-passed g c = λ done one.
+    let claims = c.in-Idle.ensures.claims in
+    let m = claims.2 in
+    let r = (gathers_lead c.args.worker c.events.board.shown claims.0 c.law_run.ensures claims.1).reached in
+    idle_passed_over claims.0 c.claim.new.board.shown c.args.worker r m.0 m.1 one m.2 m.3 m.5
+
+pub returns-in-Idle-clause-rests : goal.returns-in-Idle-clause-rests
+returns-in-Idle-clause-rests g c = λ done one.
+    let claims = c.in-Idle.ensures.claims in
+    let m = claims.2 in
+    subst (λ (x : Shown). IsAtRest x) (sym m.5) (at_rest claims.0 c.args.worker m.1 (sym (ap (λ (x : Shown). length x.sides) m.5) ∙ one) m.2 m.3)
 
 pub returns-in-Drained-clause-passed : goal.returns-in-Drained-clause-passed
-returns-in-Drained-clause-passed g c = λ yes one.
-    let m = c.in-Drained.ensures.claims in
-    drained_passed_over c.events.board.shown c.claim.new.self.shown c.args.worker c.events.invariant m.0 m.1 one m.2 m.3
+returns-in-Drained-clause-passed g c = λ done one.
+    let claims = c.in-Drained.ensures.claims in
+    let m = claims.2 in
+    let r = (gathers_lead c.args.worker c.events.board.shown claims.0 c.law_run.ensures claims.1).reached in
+    drained_passed_over claims.0 c.claim.new.board.shown c.args.worker r m.0 m.1 one m.2 m.3
+
+pub returns-in-Drained-clause-rests : goal.returns-in-Drained-clause-rests
+returns-in-Drained-clause-rests g c = λ done one.
+    let claims = c.in-Drained.ensures.claims in
+    let m = claims.2 in
+    subst (λ (x : Shown). IsAtRest x) (sym m.3) (drained_rests claims.0 c.args.worker m.1 (sym (ap (λ (x : Shown). length x.sides) m.3) ∙ one) m.2)

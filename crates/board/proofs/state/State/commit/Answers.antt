@@ -85,8 +85,8 @@ vertex_at-vertex-requires g c =
     let B : Location → Type 0 = λ l. IsIn (shown_graph s.graph) l in
     subst A (sym graph) (subst B (sym place) h)
 
-pub finish-requires-clause-table : goal.finish-requires-clause-table
-finish-requires-clause-table g c =
+pub finish-place-requires-clause-table : goal.finish-place-requires-clause-table
+finish-place-requires-clause-table g c =
     let s : Shown = c.args.self.now in
     let p : Pass = c.args.done in
     let ds : List WorkerShown = c.self.inside.workers.items in
@@ -119,8 +119,8 @@ emit-requires g c =
     let room : length c.self.inside.emitted ≡ length (shown_graph s.graph) = ap (λ (x : Shown). length x.emitted) c.self.view_is ∙ c.requires.kept.room in
     omega (arith, there, vertex, room)
 
-pub finish-requires-clause-vertex : goal.finish-requires-clause-vertex
-finish-requires-clause-vertex g c =
+pub finish-place-requires-clause-vertex : goal.finish-place-requires-clause-vertex
+finish-place-requires-clause-vertex g c =
     let s : Shown = c.args.self.now in
     let p : Pass = c.args.done in
     let ds : List WorkerShown = c.self.inside.workers.items in
@@ -144,8 +144,8 @@ finish-requires-clause-vertex g c =
     let side : side_in (sides_of c.prepare.new.workers.items) k ≡ side_at s p.worker = side_there s p c.requires.own c.prepare.new.workers.items k c.worker-number.ensures now in
     omega (arith, v, vertex, ap (λ (z : Side). length z.shards) side)
 
-pub finish-requires-clause-within : goal.finish-requires-clause-within
-finish-requires-clause-within g c =
+pub finish-place-requires-clause-within : goal.finish-place-requires-clause-within
+finish-place-requires-clause-within g c =
     let s : Shown = c.args.self.now in
     let p : Pass = c.args.done in
     let ds : List WorkerShown = c.self.inside.workers.items in
@@ -195,7 +195,7 @@ returns-in-Ok-clause-settles g c =
     let t : Shown = record {
       graph = c.self.inside.wiring.value.graph;
       inputs = c.self.inside.inputs.items;
-      sides = sides_of c.finish.new.workers.items;
+      sides = sides_of c.finish-place.new.workers.items;
       emitted = c.emit.new.emitted;
       stopped = c.self.inside.stopped;
     } in
@@ -205,9 +205,9 @@ returns-in-Ok-clause-settles g c =
       is = is;
       state = state_then s t p o c.in-Ok.output k c.vertex_at-vertex.result c.epoch-epoch.result (sides_of c.prepare.new.workers.items)
           (ap (λ (x : Shown). x.graph) c.self.view_is) (ap (λ (x : Shown). x.inputs) c.self.view_is) (ap (λ (x : Shown). x.stopped) c.self.view_is)
-          c.finish.ensures.sides (c.in-Ok.ensures.ok ∙ ap (λ (x : Shown). with_emitted c.vertex_at-vertex.result c.epoch-epoch.result o.emitted x.emitted) c.self.view_is) now c.worker-number.ensures vertex epoch rest;
-      added_are = added_then c.finish.new.added.items o c.in-Ok.output rest c.finish.ensures.added;
-      place_is = c.finish.ensures.place ∙ ap (λ (x : Output). x.place) rest ∙ is.place;
+          c.finish-place.ensures.sides (c.in-Ok.ensures.ok ∙ ap (λ (x : Shown). with_emitted c.vertex_at-vertex.result c.epoch-epoch.result o.emitted x.emitted) c.self.view_is) now c.worker-number.ensures vertex epoch rest;
+      added_are = added_then c.finish-place.new.added.items o c.in-Ok.output rest c.finish-place.ensures.added;
+      place_is = c.finish-place.ensures.place ∙ ap (λ (x : Output). x.place) rest ∙ is.place;
     }
 
 pub invariant_of-self-in-Ok : goal.invariant_of-self-in-Ok
@@ -215,4 +215,4 @@ invariant_of-self-in-Ok g c =
     c.self.invariant
     ∙ sym (length-set c.self.inside.workers.items c.worker-number.result c.show-stub.new.self)
     ∙ sym (as_many c.prepare.new.workers.items (slice_set c.self.inside.workers.items c.worker-number.result c.show-stub.new.self) c.prepare.ensures.sides)
-    ∙ sym (many_settled c.finish.new.workers.items c.prepare.new.workers.items c.worker-number.result _ c.in-Ok.output.sent.items c.finish.ensures.sides)
+    ∙ sym (many_settled c.finish-place.new.workers.items c.prepare.new.workers.items c.worker-number.result _ c.in-Ok.output.sent.items c.finish-place.ensures.sides)

@@ -1,15 +1,9 @@
 use Rattle.std.proofs.Common.{subst, sym}
 use Rattle.board.specs.Answers.{Gathers}
-use Rattle.board.specs.Promises.{CountsPassed}
 use Rattle.board.specs.Shown.{Shown}
 use Rattle.workers.specs.Held.{HeldShown}
 use Rattle.workers.proofs.Publishing.{after_gathering, after_refusal}
 use Rattle.workers.proofs.held.Held.gather.Goals as goal
-
-pub returns-then-workers-eq1-clause-published : goal.returns-then-workers-eq1-clause-published
-returns-then-workers-eq1-clause-published g c =
-    let P : HeldShown → Type 0 = λ h. CountsPassed h.board.shown h.published in
-    subst P c.self.view_is c.self.invariant.published
 
 pub invariant_of-self : goal.invariant_of-self
 invariant_of-self g c = after_refusal g.J.Naming.names g.J.Naming.graph c.self.inside.board c.self.inside.publisher.number c.self.invariant c.gather.new.board (c.gather.ensures.nothing c.if-not-gather.true)

@@ -1,13 +1,14 @@
-//! What a worker's thread runs around a computation.
+//! What a thread runs around a computation.
 
 ghost use Rattle.std.specs.Prelude.{◌≡◌, Some, IfErr, IfOk};
 ghost use Rattle.events.specs.Jobs.{FailsBy};
 
-use events::{ComputeFault, Done, Work};
+use crate::fault::ComputeFault;
+use crate::work::{Done, Work};
 use std::alloc::Global;
 
-/// What a worker's thread does with an event that it has claimed; the event may be one of a worker whose thread sleeps. Both calls are made without
-/// the lock. `turn` counts the thread's events from 0, and stays at 18446744073709551615 when it gets there.
+/// What a thread does with an event that it has claimed. `worker` is the thread's; the event may be one of a worker whose thread sleeps. Both calls
+/// are made without a lock. `turn` counts the thread's events from 0, and stays at 18446744073709551615 when it gets there.
 pub trait Gate {
     /// Computes the event, as `Work::compute` does: a refusal spoils the work, and another call is refused in the same way.
     fn compute(

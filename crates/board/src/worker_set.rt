@@ -2,28 +2,28 @@
 
 /// A set of a board's workers, of which there are at most 64.
 #[derive(Clone, Copy)]
-pub struct Crew {
+pub struct WorkerSet {
     bits: u64,
 }
 
-impl Crew {
+impl WorkerSet {
     /// The empty set.
-    pub fn nobody() -> Crew {
-        Crew { bits: 0 }
+    pub fn empty() -> WorkerSet {
+        WorkerSet { bits: 0 }
     }
 
     /// The set of the first `count` workers.
-    pub fn of_first(count: u32) -> Crew {
-        let mut crew = Crew::nobody();
+    pub fn of_first(count: u32) -> WorkerSet {
+        let mut set = WorkerSet::empty();
         for worker in 0..count {
-            crew = crew.with(worker);
+            set = set.with(worker);
         }
-        crew
+        set
     }
 
     /// The set of one worker.
-    fn of(worker: u32) -> Crew {
-        Crew {
+    fn of(worker: u32) -> WorkerSet {
+        WorkerSet {
             bits: 1 << (worker % 64),
         }
     }
@@ -33,36 +33,36 @@ impl Crew {
     }
 
     pub fn has(self, worker: u32) -> bool {
-        !self.both(Crew::of(worker)).is_empty()
+        !self.both(WorkerSet::of(worker)).is_empty()
     }
 
     /// The set with that worker added.
-    pub fn with(self, worker: u32) -> Crew {
-        self.or(Crew::of(worker))
+    pub fn with(self, worker: u32) -> WorkerSet {
+        self.or(WorkerSet::of(worker))
     }
 
     /// The set without that worker.
-    pub fn without(self, worker: u32) -> Crew {
-        self.but(Crew::of(worker))
+    pub fn without(self, worker: u32) -> WorkerSet {
+        self.but(WorkerSet::of(worker))
     }
 
     /// The union.
-    pub fn or(self, other: Crew) -> Crew {
-        Crew {
+    pub fn or(self, other: WorkerSet) -> WorkerSet {
+        WorkerSet {
             bits: self.bits | other.bits,
         }
     }
 
     /// The intersection.
-    pub fn both(self, other: Crew) -> Crew {
-        Crew {
+    pub fn both(self, other: WorkerSet) -> WorkerSet {
+        WorkerSet {
             bits: self.bits & other.bits,
         }
     }
 
     /// The difference: this set's workers that aren't in the other.
-    pub fn but(self, other: Crew) -> Crew {
-        Crew {
+    pub fn but(self, other: WorkerSet) -> WorkerSet {
+        WorkerSet {
             bits: self.bits & !other.bits,
         }
     }

@@ -1,0 +1,25 @@
+//! What is done with a board's events, in whatever thread: a worker claims an event, a gate computes it, and it is committed or abandoned.
+//!
+//! | Call | What it does | Answers |
+//! |---|---|---|
+//! | `claim` | merges a worker's messages that are alike, and claims | as the board's `claim` |
+//! | `compute` | computes an event by a gate, or abandons it | the event with its output, or why it was abandoned |
+//! | `commit` | commits an event that was computed, or abandons it without memory | what the event sends |
+//! | `settle` | commits an event that was computed elsewhere, or abandons one that was refused there | what the event sends, or why it was abandoned |
+//! | `process` | computes an event by a gate, and settles it | the same |
+//!
+//! The contract for the layers above:
+//!
+//! No event is left out: each is committed or abandoned, by one step of the machine. An event is abandoned for lack of memory, or where a count is too
+//! large, and the board is stopped then.
+//!
+//! Built on `board` and the crates below it. No call waits, and there is no lock.
+#![tactic(auto)]
+
+mod claiming;
+mod ended;
+mod settling;
+
+pub use claiming::claim;
+pub use ended::Ended;
+pub use settling::{commit, compute, process, settle};
