@@ -9,13 +9,14 @@ ghost use Rattle.semantics.specs.Typing.{IsArity};
 ghost use Rattle.vertices.specs.AtWork.{IsAtWork};
 ghost use Rattle.vertices.specs.Shards.{by_port, shard_kind};
 
+use events::new_shard;
 use expr_tree::{Agg, Column, Pair};
 use graph::{Kind, Sources, Vertex};
 use loop_context::Time;
 use record_core::Span;
 use rows::{Batch, Rows};
 use std::alloc::Global;
-use vertices::{Out, Shard, ShardFault, new_shard};
+use vertices::{Out, Shard, ShardFault};
 
 const BATCH: u64 = 1024;
 

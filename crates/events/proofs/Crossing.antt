@@ -12,6 +12,9 @@ use Rattle.events.specs.contracts.wiring.Wiring as wiring
 use Rattle.operators.specs.contracts.filter.Where as filter
 use Rattle.operators.specs.contracts.select.Select as select
 use Rattle.vertices.specs.contracts.shard.Shard as shard
+use Rattle.vertices.specs.contracts.stateless.Stateless as stateless
+use Rattle.vertices.proofs.stateful.Stateful.TheSendSync as statefuls
+use Rattle.vertices.proofs.notified.Notified.TheSendSync as notifieds
 use Rattle.events.specs.contracts.event.Event as event
 use Rattle.events.specs.contracts.work.Work as work
 use Rattle.events.specs.contracts.work.Done as done
@@ -32,11 +35,6 @@ use Rattle.events.proofs.letter.Letter.TheSendSync as letters
 use Rattle.path_summary.proofs.pointstamp.Pointstamp.TheSendSync as pointstamps
 use Rattle.rows.proofs.batch.Batch.TheSendSync as batches
 use Rattle.tokens.proofs.tie.Stub.TheSendSync as stubs
-use Rattle.vertices.proofs.join.JoinShard.TheSendSync as joins
-use Rattle.vertices.proofs.group.GroupShard.TheSendSync as groups
-use Rattle.vertices.proofs.distinct.DistinctShard.TheSendSync as distincts
-use Rattle.vertices.proofs.except.ExceptShard.TheSendSync as excepts
-use Rattle.vertices.proofs.intersect.IntersectShard.TheSendSync as intersects
 
 scalar_sync : IsSync (scalar.the_row heap.the_row allocates.ghosts)
 scalar_sync = search (sendable, crosses, scalars.sync-Scalar) depth 20
@@ -89,8 +87,11 @@ filter_send = search (sendable, crosses, condition_field_send) depth 20
 select_send : IsSend select.the_field.row
 select_send = search (sendable, crosses, scalar_send) depth 20
 
+stateless_send : IsSend stateless.the_field.row
+stateless_send = search (sendable, crosses, filter_send, select_send) depth 20
+
 pub shard_send : IsSend shard.the_row
-shard_send = search (sendable, crosses, filter_send, select_send, joins.the_field_send, groups.the_field_send, distincts.the_field_send, excepts.the_field_send, intersects.the_field_send) depth 40
+shard_send = search (sendable, crosses, stateless_send, statefuls.the_field_send, notifieds.the_field_send) depth 40
 
 pub event_send : IsSend event.the_row
 event_send = search (sendable, crosses, shard_send, wiring_send, wiring_sync, happenings.the_field_send) depth 20
