@@ -375,7 +375,7 @@ impl<V: Views> Board<V> {
         }
     }
 
-    /// Lets go of the first time that the shard of a message's vertex keeps, if the worker sees that it has passed there.
+    /// Lets go of what the shard of a message's vertex keeps of an earlier time, if the worker sees that it has passed there.
     fn forget(&mut self, worker: u32, place: usize)
         requires there { worker < length self.old.shown.sides }
         requires free { (side_at self.old.shown worker).place ≡ Home }
@@ -384,9 +384,9 @@ impl<V: Views> Board<V> {
         ensures views { IsAsLate self.old self.new }
     {
         let number = worker as usize;
-        if let Some(oldest) = self.state.oldest(number, place) {
-            if self.views.none_before(worker, &oldest) {
-                self.state.forget(number, &oldest);
+        if let Some(earlier) = self.state.earlier(number, place) {
+            if self.views.none_before(worker, &earlier) {
+                self.state.forget(number, &earlier);
             }
         }
     }

@@ -53,12 +53,12 @@ impl Slot {
         self.shard.take().unwrap()
     }
 
-    /// The first time of which the shard keeps something, if it is at home and may let go of it.
-    pub fn oldest(&self) -> Option<Time>
+    /// A time of which the shard keeps something that it may let go, and that may have passed when something comes at `now`.
+    pub fn earlier(&self, now: &Time) -> Option<Time>
         ensures { OnSome result (LooksHere self.now) }
     {
         match &self.shard {
-            Some(shard) => shard.oldest(),
+            Some(shard) => shard.earlier(now),
             None => None,
         }
     }

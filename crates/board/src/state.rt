@@ -393,8 +393,8 @@ impl State {
         self.workers[worker].merge(place)
     }
 
-    /// The first time of which the shard of a message's vertex keeps something, at that vertex, if the shard may let go of it.
-    pub fn oldest(&self, worker: usize, place: usize) -> Option<Pointstamp>
+    /// A time of which the shard of a message's vertex keeps something that it may let go, at that vertex, and that may have passed.
+    pub fn earlier(&self, worker: usize, place: usize) -> Option<Pointstamp>
         requires there { worker < length self.now.sides }
         requires free { (side_at self.now worker).place ≡ Home }
         requires some { place < length (side_at self.now worker).mail }
@@ -405,7 +405,7 @@ impl State {
         let message = worker.mailbox().get(place);
         let depth = message.time().depth();
         let vertex = self.wiring.graph().edge(message.edge()).target;
-        match worker.oldest(vertex.0 as usize) {
+        match worker.earlier(vertex.0 as usize, message.time()) {
             Some(time) if time.depth() == depth => {
                 Some(Pointstamp::new(time, Location::Vertex(vertex)))
             }

@@ -223,12 +223,12 @@ impl Worker {
         (event, stub)
     }
 
-    /// The first time of which the shard of a vertex keeps something, if it may let go of it.
-    pub fn oldest(&self, vertex: usize) -> Option<Time>
+    /// A time of which the shard of a vertex keeps something that it may let go, and that may have passed when something comes at `now`.
+    pub fn earlier(&self, vertex: usize, now: &Time) -> Option<Time>
         requires { vertex < length self.now.side.shards }
         ensures { OnSome result (LooksHere (slice_index_or self.now.side.shards vertex None)) }
     {
-        self.shards[vertex].oldest()
+        self.shards[vertex].earlier(now)
     }
 
     /// Lets the shard of a vertex go of what it keeps of a time.

@@ -12,7 +12,7 @@ invariant_of-self g c =
     let k : ℕ = c.args.worker in
     let there : k < length s.sides = subst (λ (b : BoardShown). k < length b.shown.sides) (sym c.self.view_is) c.requires.there in
     let free : (side_at s k).place ≡ Home = subst (λ (b : BoardShown). (side_at b.shown k).place ≡ Home) (sym c.self.view_is) c.requires.free in
-    keeps_forgotten (g.V.Views.graph c.self.inside.views) (g.V.Views.content c.self.inside.views) s c.self.invariant.kept k there free c.in-Some.oldest c.in-Some.ensures (c.if-none_before.ensures.there refl) c.forget.new.self c.forget.ensures (g.V.Views.workers c.self.inside.views) (g.V.Views.waiting c.self.inside.views) (g.V.Views.room c.self.inside.views) g.V.Views.late c.self.inside.passed c.self.invariant
+    keeps_forgotten (g.V.Views.graph c.self.inside.views) (g.V.Views.content c.self.inside.views) s c.self.invariant.kept k there free c.in-Some.earlier c.in-Some.ensures (c.if-none_before.ensures.there refl) c.forget.new.self c.forget.ensures (g.V.Views.workers c.self.inside.views) (g.V.Views.waiting c.self.inside.views) (g.V.Views.room c.self.inside.views) g.V.Views.late c.self.inside.passed c.self.invariant
 
 pub returns-then-none_before-clause-less : goal.returns-then-none_before-clause-less
 returns-then-none_before-clause-less g c =
@@ -21,4 +21,4 @@ returns-then-none_before-clause-less g c =
     let there : k < length s.sides = subst (λ (b : BoardShown). k < length b.shown.sides) (sym c.self.view_is) c.requires.there in
     let free : (side_at s k).place ≡ Home = subst (λ (b : BoardShown). (side_at b.shown k).place ≡ Home) (sym c.self.view_is) c.requires.free in
     let P : BoardShown → Type 0 = λ z. KeepsLess z.shown c.forget.new.self k in
-    subst P c.self.view_is (keeps_less (g.V.Views.graph c.self.inside.views) (g.V.Views.content c.self.inside.views) s c.self.invariant.kept k there free c.in-Some.oldest c.in-Some.ensures (c.if-none_before.ensures.there refl) c.forget.new.self c.forget.ensures)
+    subst P c.self.view_is (keeps_less (g.V.Views.graph c.self.inside.views) (g.V.Views.content c.self.inside.views) s c.self.invariant.kept k there free c.in-Some.earlier c.in-Some.ensures (c.if-none_before.ensures.there refl) c.forget.new.self c.forget.ensures)

@@ -12,7 +12,7 @@ use Rattle.board.specs.Shown.{Shown, Side, side_at}
 use Rattle.progress.proofs.Contents.{got_at}
 use Rattle.board.proofs.Handing.{read_at}
 use Rattle.board.proofs.Ready as ready
-use Rattle.board.proofs.state.State.oldest.Goals as goal
+use Rattle.board.proofs.state.State.earlier.Goals as goal
 
 pub edge-requires-2 : goal.edge-requires-2
 edge-requires-2 c =
@@ -32,8 +32,8 @@ edge-requires-2 c =
     let Q : ℕ → Type 0 = λ n. n < edge_count (shown_graph c.graph.result.now) in
     subst Q (sym edge) (subst P (sym graph) good.fits.0)
 
-pub oldest-requires : goal.oldest-requires
-oldest-requires c =
+pub earlier-requires : goal.earlier-requires
+earlier-requires c =
     let s : Shown = c.args.self.now in
     let ds : List WorkerShown = c.self.inside.workers.items in
     let k : ℕ = c.args.worker in
