@@ -21,11 +21,11 @@ pub(crate) fn earlier<S: Drop>(times: &IndexMap<Time, S>, now: &Time) -> Option<
     }
 }
 
-/// Lets go of the state of a time, if there is one. Takes constant time.
-pub(crate) fn forget<S: Drop>(times: &mut IndexMap<Time, S>, time: &Time)
+/// Lets go of the state of a time, and gives it, if there is one. Takes constant time.
+pub(crate) fn forget<S: Drop>(times: &mut IndexMap<Time, S>, time: &Time) -> Option<S>
     ensures { (t : TimeShown) → get same_time times.new t ≡ cond (same_time time.now t) None (get same_time times.old t) }
 {
-    let _state = times.swap_remove(time);
+    times.swap_remove(time)
 }
 
 /// The turn before in the same loop, or the epoch before outside loops.

@@ -137,6 +137,6 @@ impl GroupShard {
         ensures operator { self.new.operator ≡ self.old.operator }
         ensures forgets { Forgets (AreStatesOf (IsPileThen self.old.arity) self.old.times) (AreStatesOf (IsPileThen self.old.arity) self.new.times) time.now }
     {
-        forget(&mut self.times, time);
+        let _state = forget(&mut self.times, time);
     }
 }
