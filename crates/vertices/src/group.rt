@@ -14,7 +14,7 @@ ghost use Rattle.vertices.specs.Groups.{AreGroupRecords, columns_of, group_recor
 ghost use Rattle.vertices.specs.Piles.{IsPileThen};
 ghost use Rattle.vertices.specs.declared.fault.ShardFault.TheVariants as fault;
 
-use crate::by_time::{forget, oldest};
+use crate::by_time::{earlier, forget};
 use crate::fault::ShardFault;
 use crate::groups::{Groups, key_arity};
 use crate::pile::Pile;
@@ -126,9 +126,9 @@ impl GroupShard {
         let rows = groups.finished(alloc, &self.operator)?;
         Ok(rows)
     }
-    /// Of the times that it keeps, the one that came first.
-    pub(crate) fn oldest(&self) -> Option<Time> {
-        oldest(&self.times)
+    /// A time of which it keeps something, and that may have passed when something comes at `now`.
+    pub(crate) fn earlier(&self, now: &Time) -> Option<Time> {
+        earlier(&self.times, now)
     }
 
     /// Lets go of what it keeps of a time.
@@ -137,6 +137,6 @@ impl GroupShard {
         ensures operator { self.new.operator ≡ self.old.operator }
         ensures forgets { Forgets (AreStatesOf (IsPileThen self.old.arity) self.old.times) (AreStatesOf (IsPileThen self.old.arity) self.new.times) time.now }
     {
-        forget(&mut self.times, time);
+        let _state = forget(&mut self.times, time);
     }
 }

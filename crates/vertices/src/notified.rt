@@ -97,13 +97,14 @@ impl Notified {
         }
     }
 
-    /// Of the times that it keeps, the one that came first; `None` also if its notifications read what came at other times.
-    pub(crate) fn oldest(&self) -> Option<Time>
+    /// A time of which it keeps something, and that may have passed when something comes at `now`; `None` also if its notifications read
+    /// what came at other times.
+    pub(crate) fn earlier(&self, now: &Time) -> Option<Time>
         ensures { OnSome result (looks_back (notified_kind self.now) ≡ false) }
     {
         match self {
-            Notified::Group(shard) => shard.oldest(),
-            Notified::Except(shard) => shard.oldest(),
+            Notified::Group(shard) => shard.earlier(now),
+            Notified::Except(shard) => shard.earlier(now),
             Notified::Unseen(_) => None,
         }
     }

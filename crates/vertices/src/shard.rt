@@ -97,9 +97,9 @@ impl Shard {
         }
     }
 
-    /// Of the times of which it keeps something, the one that came first. `None` also if it keeps nothing by time, or if its notifications
-    /// read what came at other times.
-    pub fn oldest(&self) -> Option<Time>
+    /// A time of which it keeps something, and that may have passed when something comes at `now`: the turn before in the same loop, or the
+    /// epoch before outside loops, or another. `None` also if it keeps nothing by time, or if its notifications read what came at other times.
+    pub fn earlier(&self, now: &Time) -> Option<Time>
         ensures { OnSome result (looks_back (shard_kind self.now) ≡ false) }
     {
         match self {
@@ -108,11 +108,11 @@ impl Shard {
             Shard::Stateless(_) => None,
             Shard::Stateful(state) => {
                 let state: &Stateful = state;
-                state.oldest()
+                state.earlier(now)
             }
             Shard::Notified(state) => {
                 let state: &Notified = state;
-                state.oldest()
+                state.earlier(now)
             }
         }
     }
