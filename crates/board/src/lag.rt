@@ -3,8 +3,9 @@
 use record_core::NoMemory;
 use std::alloc::Global;
 
-/// After this many posts, a worker that claims applies what waits for it, even if it sees an event.
-const MOST: u32 = 1024;
+/// After this many posts, a worker that claims applies what waits for it, even if it sees an event. So it soon sees what has passed, and what was
+/// kept of that is let go.
+const MOST: u32 = 32;
 
 /// The number of batches posted, and that number at the time when each worker last applied everything. It affects memory and time only.
 #[derive(Drop)]

@@ -25,7 +25,8 @@ pub fn next_place(mailbox: &Mailbox<Message>) -> usize
     }
 }
 
-/// The place of the earliest message, of the first one and those within the window behind it.
+/// The place of the earliest message, of the first one, those within the window behind it, and as many evenly over the whole mailbox: where what
+/// is sent takes ways of different lengths round a loop, messages of earlier turns may be anywhere.
 fn earliest(mailbox: &Mailbox<Message>) -> usize
     requires { 0 < length mailbox.now.messages }
     ensures { result < length mailbox.now.messages }
@@ -34,6 +35,15 @@ fn earliest(mailbox: &Mailbox<Message>) -> usize
     for place in 1..mailbox.len().min(WINDOW + 1) {
         if is_before(mailbox.get(place), mailbox.get(earliest)) {
             earliest = place;
+        }
+    }
+    let step = mailbox.len() / (WINDOW + 1);
+    for nth in 2..WINDOW + 1 {
+        let place = step.saturating_mul(nth);
+        if place > WINDOW && place < mailbox.len() {
+            if is_before(mailbox.get(place), mailbox.get(earliest)) {
+                earliest = place;
+            }
         }
     }
     earliest
