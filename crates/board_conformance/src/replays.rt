@@ -6,8 +6,9 @@ use crate::boards::graph_of;
 use crate::growths::board_after;
 use crate::scarce::late_board_after;
 use board::Board;
+use driver::law_inputs;
 use graph::Graph;
-use replay::{law_graph_inputs, replay};
+use replay::replay;
 use schedule::{Line, ViewKind, read_schedule};
 use std::alloc::Global;
 use std::sync::Arc;
@@ -40,7 +41,7 @@ fn printed_on<V: Views>(
 ) -> Option<Vec<u8>>
     requires { board.shown.graph ≡ graph.now }
 {
-    law_graph_inputs(graph);
+    law_inputs(graph);
     replay(alloc, board, graph.inputs(), lines).ok()
 }
 

@@ -13,7 +13,7 @@ use crate::running::graph_of_text;
 use collector::Watched;
 use command_line::Workers;
 use diagnostics::{Fault, Texts};
-use follow::{Crew, follow};
+use follow::{WorkerCount, follow};
 use std::alloc::Global;
 use std::io::{Read, Write};
 use std::thread::Threads;
@@ -41,7 +41,7 @@ fn follow_text<R: Threads + Sync, I: Read, W: Write>(
     match follow(
         rt,
         alloc,
-        Crew::new(workers.count()),
+        WorkerCount::new(workers.count()),
         graph,
         input,
         rest,

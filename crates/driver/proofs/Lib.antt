@@ -1,1 +1,2 @@
+pub mod GraphInputs
 pub mod Graphs

@@ -7,6 +7,7 @@
 //! | `commit` | commits an event that was computed, or abandons it without memory | what the event sends |
 //! | `settle` | commits an event that was computed elsewhere, or abandons one that was refused there | what the event sends, or why it was abandoned |
 //! | `process` | computes an event by a gate, and settles it | the same |
+//! | `law_inputs` | nothing: the inputs that a graph declares are those at which its board is fed | |
 //!
 //! The contract for the layers above:
 //!
@@ -18,8 +19,10 @@
 
 mod claiming;
 mod ended;
+mod inputs;
 mod settling;
 
 pub use claiming::claim;
 pub use ended::Ended;
+pub use inputs::law_inputs;
 pub use settling::{commit, compute, process, settle};

@@ -91,6 +91,8 @@ pub fn process<V: Views, G: Gate>(
     ensures ends { Ends board.old.shown board.new.shown work.0 result }
     ensures graph { board.new.shown.graph ≡ board.old.shown.graph }
     ensures tables { tables board.new.shown ≡ tables board.old.shown }
+    ensures posts { OnOk result (Posts V.late work.0.worker board.old board.new) }
+    ensures views { OnErr result (IsAsLate board.old board.new) }
     ensures passed { board.old.passed ≤ board.new.passed }
 {
     let worker = work.worker();

@@ -4,11 +4,11 @@ ghost use Rattle.std.specs.Prelude.{IfOk};
 ghost use Rattle.follow.specs.Steps.{AnswersLast, AnswersOpen};
 
 use crate::board_calls::close_inputs;
-use crate::crew::{Crew, HEAVY, work_off};
 use crate::ending::Halt;
 use crate::intake::{Intake, feed_portion};
 use crate::reporting::{Reporting, report};
-use board::Board;
+use crate::rounds::work_off;
+use board::{Board, HEAVY};
 use std::alloc::Global;
 use std::thread::Threads;
 use views::Views;
@@ -18,7 +18,6 @@ use views::Views;
 pub fn answer_open<V: Views, R: Threads + Sync>(
     rt: &R,
     alloc: Global,
-    crew: Crew,
     records: u64,
     board: &mut Board<V>,
     base: u32,
@@ -28,7 +27,7 @@ pub fn answer_open<V: Views, R: Threads + Sync>(
     ensures { IfOk result (λ out. AnswersOpen base board.old.shown board.new.shown intake.old intake.new reporting.old reporting.new out.items) }
 {
     feed_portion(alloc, board, intake)?;
-    work_off(rt, alloc, crew, records, board)?;
+    work_off(rt, alloc, records, board)?;
     let mut out = Vec::new(alloc);
     let sealed = intake.begun.saturating_sub(1);
     report(board, base, reporting, intake.begun, sealed, &mut out)?;
@@ -39,7 +38,6 @@ pub fn answer_open<V: Views, R: Threads + Sync>(
 pub fn answer_last<V: Views, R: Threads + Sync>(
     rt: &R,
     alloc: Global,
-    crew: Crew,
     board: &mut Board<V>,
     base: u32,
     intake: &mut Intake,
@@ -49,7 +47,7 @@ pub fn answer_last<V: Views, R: Threads + Sync>(
 {
     feed_portion(alloc, board, intake)?;
     close_inputs(board, intake.portion.len())?;
-    work_off(rt, alloc, crew, HEAVY, board)?;
+    work_off(rt, alloc, HEAVY, board)?;
     let mut out = Vec::new(alloc);
     report(board, base, reporting, intake.begun, intake.begun, &mut out)?;
     if reporting.done != intake.begun {

@@ -11,12 +11,12 @@ ghost use Rattle.follow.specs.Steps.{FollowsAll, FollowsEnd, FollowsLines, Follo
 ghost use Rattle.follow.specs.declared.ending.Ending.TheVariants as ending;
 
 use crate::answering::{answer_last, answer_open};
-use crate::crew::Crew;
 use crate::ending::{Ending, Halt};
 use crate::intake::{Intake, take_lines};
 use crate::line_stop::Taken;
 use crate::position::Position;
 use crate::renewing::{LINES, new_board, renew};
+use crate::worker_count::WorkerCount;
 use board::Board;
 use collector::{NO_LINE_FEED, Watched, find, put};
 use graph::Graph;
@@ -73,7 +73,6 @@ fn lines_of_epoch(intake: &Intake, begun: u32, line: u64) -> u64 {
 fn follow_lines<V: Views, R: Threads + Sync, W: Write>(
     rt: &R,
     alloc: Global,
-    crew: Crew,
     inputs: &[DeclaredInput],
     board: &mut Board<V>,
     position: &mut Position,
@@ -102,7 +101,6 @@ fn follow_lines<V: Views, R: Threads + Sync, W: Write>(
     let out = match answer_open(
         rt,
         alloc,
-        crew,
         records,
         board,
         base,
@@ -122,7 +120,7 @@ fn follow_lines<V: Views, R: Threads + Sync, W: Write>(
 fn follow_piece<R: Threads + Sync, W: Write>(
     rt: &R,
     alloc: Global,
-    crew: Crew,
+    workers: WorkerCount,
     graph: &Arc<Graph, Global>,
     inputs: &[DeclaredInput],
     board: &mut Board<Direct<LocationTracker>>,
@@ -142,10 +140,10 @@ fn follow_piece<R: Threads + Sync, W: Write>(
         return Ok(());
     }
     for _turn in 0..u64::MAX {
-        match follow_lines(rt, alloc, crew, inputs, board, position, writer) {
+        match follow_lines(rt, alloc, inputs, board, position, writer) {
             Ok(Taken::Whole) => return Ok(()),
             Ok(Taken::Fault(code)) => return Err(ending_at_fault(&position.intake, code)),
-            Ok(Taken::Epoch) => match renew(alloc, graph, crew, board, position) {
+            Ok(Taken::Epoch) => match renew(alloc, graph, workers, board, position) {
                 Ok(()) => {}
                 Err(halt) => return Err(halt.ending()),
             },
@@ -159,7 +157,6 @@ fn follow_piece<R: Threads + Sync, W: Write>(
 fn follow_end<V: Views, R: Threads + Sync, W: Write>(
     rt: &R,
     alloc: Global,
-    crew: Crew,
     board: &mut Board<V>,
     position: &mut Position,
     writer: &mut Watched<W>,
@@ -175,7 +172,6 @@ fn follow_end<V: Views, R: Threads + Sync, W: Write>(
     let out = match answer_last(
         rt,
         alloc,
-        crew,
         board,
         base,
         &mut position.intake,
@@ -194,7 +190,7 @@ fn follow_end<V: Views, R: Threads + Sync, W: Write>(
 fn follow_pieces<T: Threads + Sync, R: Read, W: Write>(
     rt: &T,
     alloc: Global,
-    crew: Crew,
+    workers: WorkerCount,
     graph: &Arc<Graph, Global>,
     inputs: &[DeclaredInput],
     board: &mut Board<Direct<LocationTracker>>,
@@ -213,12 +209,12 @@ fn follow_pieces<T: Threads + Sync, R: Read, W: Write>(
             return Err(Ending::Read);
         };
         if count == 0 {
-            return follow_end(rt, alloc, crew, board, position, writer);
+            return follow_end(rt, alloc, board, position, writer);
         }
         match follow_piece(
             rt,
             alloc,
-            crew,
+            workers,
             graph,
             inputs,
             board,
@@ -236,15 +232,15 @@ fn follow_pieces<T: Threads + Sync, R: Read, W: Write>(
 /// A new board over the graph, and the graph itself.
 fn open_board(
     alloc: Global,
-    crew: Crew,
+    workers: WorkerCount,
     graph: Graph,
 ) -> Result<(Arc<Graph, Global>, Board<Direct<LocationTracker>>), Halt>
     ensures same { IfOk result (λ p. p.0.value ≡ graph) }
-    ensures opening { IfOk result (λ p. IsOpening graph crew.count p.1.shown) }
+    ensures opening { IfOk result (λ p. IsOpening graph workers.count p.1.shown) }
     ensures shows { IfOk result (λ p. Shows p.1.shown opening) }
 {
     let graph = Arc::new(alloc, graph)?;
-    let board = new_board(alloc, &graph, crew)?;
+    let board = new_board(alloc, &graph, workers)?;
     Ok((graph, board))
 }
 
@@ -252,14 +248,14 @@ fn open_board(
 fn follow_graph<T: Threads + Sync, R: Read, W: Write>(
     rt: &T,
     alloc: Global,
-    crew: Crew,
+    workers: WorkerCount,
     graph: &Arc<Graph, Global>,
     board: &mut Board<Direct<LocationTracker>>,
     reader: &mut Watched<R>,
     rest: &mut Vec<u8>,
     writer: &mut Watched<W>,
 ) -> Result<Result<(), Ending>, Halt>
-    requires opening { IsOpening graph.now.value crew.count board.old.shown }
+    requires opening { IsOpening graph.now.value workers.count board.old.shown }
     requires shows { Shows board.old.shown opening }
     ensures follows { IfOk result (λ r. FollowsInput graph.now.value
         (HasRead R.remaining reader.old reader.new) (W.contents (inner_of writer.old)) (W.contents (inner_of writer.new)) r) }
@@ -273,7 +269,7 @@ fn follow_graph<T: Threads + Sync, R: Read, W: Write>(
     let ended = follow_pieces(
         rt,
         alloc,
-        crew,
+        workers,
         graph,
         inputs,
         board,
@@ -294,7 +290,7 @@ fn follow_graph<T: Threads + Sync, R: Read, W: Write>(
 pub fn follow<T: Threads + Sync, R: Read, W: Write>(
     rt: &T,
     alloc: Global,
-    crew: Crew,
+    workers: WorkerCount,
     graph: Graph,
     reader: &mut Watched<R>,
     rest: &mut Vec<u8>,
@@ -305,11 +301,11 @@ pub fn follow<T: Threads + Sync, R: Read, W: Write>(
     ensures reader { IsErrOf result ending.Read → has_failed reader.new ≡ true }
     ensures writer { IsErrOf result ending.Write → has_failed writer.new ≡ true }
 {
-    let (graph, mut board) = match open_board(alloc, crew, graph) {
+    let (graph, mut board) = match open_board(alloc, workers, graph) {
         Ok(pair) => pair,
         Err(halt) => return Err(halt.ending()),
     };
-    match follow_graph(rt, alloc, crew, &graph, &mut board, reader, rest, writer) {
+    match follow_graph(rt, alloc, workers, &graph, &mut board, reader, rest, writer) {
         Ok(result) => result,
         Err(halt) => Err(halt.ending()),
     }

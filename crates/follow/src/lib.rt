@@ -8,14 +8,13 @@
 //! A board takes about 16,384 lines. At the next epoch, once all epochs before it are complete, a new board takes its place: on the old board no
 //! active pointstamp is left that could result in a record. So memory holds those lines and one epoch, however long the input is.
 //!
-//! One thread reads, claims and ends events, and writes. With several workers, events that may have many records are computed by a thread each. Built
-//! on `board`, on `collector`, which reads lines, on `workers`, for the proof that an event may go to another thread, and on the crates below them.
+//! One thread reads, claims and ends events, and writes. With several workers, events that may have many rows are computed by a thread each. Built
+//! on `driver`, which claims and ends events, on `collector`, which reads lines, and on the crates below them.
 #![tactic(auto)]
 
 mod answering;
 mod batches;
 mod board_calls;
-mod crew;
 mod ending;
 mod following;
 mod intake;
@@ -24,8 +23,10 @@ mod line_texts;
 mod position;
 mod renewing;
 mod reporting;
+mod rounds;
 mod slot;
+mod worker_count;
 
-pub use crew::Crew;
 pub use ending::Ending;
 pub use following::follow;
+pub use worker_count::WorkerCount;

@@ -6,9 +6,9 @@ ghost use Rattle.board.specs.Promises.{IsOpening};
 ghost use Rattle.board.specs.Showing.{Shows};
 ghost use Rattle.follow.specs.Steps.{Renews};
 
-use crate::crew::Crew;
 use crate::ending::Halt;
 use crate::position::Position;
+use crate::worker_count::WorkerCount;
 use board::Board;
 use graph::Graph;
 use progress::LocationTracker;
@@ -23,13 +23,13 @@ pub const LINES: u64 = 16_384;
 pub fn new_board(
     alloc: Global,
     graph: &Arc<Graph, Global>,
-    crew: Crew,
+    workers: WorkerCount,
 ) -> Result<Board<Direct<LocationTracker>>, Halt>
-    ensures opening { IfOk result (λ b. IsOpening graph.now.value crew.count b.shown) }
+    ensures opening { IfOk result (λ b. IsOpening graph.now.value workers.count b.shown) }
     ensures shows { IfOk result (λ b. Shows b.shown opening) }
 {
     let shared = Arc::try_clone(graph)?;
-    let board = Board::<Direct<LocationTracker>>::new(alloc, shared, crew.count())?;
+    let board = Board::<Direct<LocationTracker>>::new(alloc, shared, workers.count())?;
     Ok(board)
 }
 
@@ -37,7 +37,7 @@ pub fn new_board(
 pub fn renew(
     alloc: Global,
     graph: &Arc<Graph, Global>,
-    crew: Crew,
+    workers: WorkerCount,
     board: &mut Board<Direct<LocationTracker>>,
     position: &mut Position,
 ) -> Result<(), Halt>
@@ -53,7 +53,7 @@ pub fn renew(
     let Some(base) = position.base.checked_add(last) else {
         return Err(Halt::Incomplete);
     };
-    *board = new_board(alloc, graph, crew)?;
+    *board = new_board(alloc, graph, workers)?;
     position.base = base;
     position.intake.begun = 1;
     position.reporting.done = 0;

@@ -1,53 +1,52 @@
 //! An event that a thread computes.
 
-ghost use Rattle.std.specs.Prelude.{List};
-ghost use Rattle.atomic_table.specs.Seated.{TableId};
-ghost use Rattle.follow.specs.Slots.{IsNamed, IsSlotOf};
+ghost use Rattle.std.specs.Prelude.{◌≡◌};
+ghost use Rattle.driver.specs.Ends.{event_of};
+ghost use Rattle.follow.specs.Slots.{event_in};
 
+use core::mem::replace_with;
 use events::{ComputeFault, Done, Work};
 use std::alloc::Global;
 
-/// An event that was claimed; later its result, or why it was refused.
-pub struct Slot {
-    pub held: Option<Work>,
-    pub done: Option<Done>,
-    pub fault: Option<ComputeFault>,
+/// An event that was claimed.
+pub enum Slot {
+    /// It isn't computed yet.
+    Claimed(Work),
+    /// It was computed.
+    Computed(Done),
+    /// Computing it was refused.
+    Refused(Work, ComputeFault),
 }
 
 impl Slot {
-    /// A slot with a claimed event.
-    pub fn new(work: Work) -> Slot
-        ensures { (tables : List TableId) → IsNamed tables work.0 → IsSlotOf tables result }
+    /// Computes the event, if that wasn't done yet.
+    pub fn compute(&mut self, alloc: Global)
+        ensures { event_in self.new ≡ event_in self.old }
     {
-        Slot {
-            held: Some(work),
-            done: None,
-            fault: None,
-        }
+        replace_with(self, alloc, computed);
     }
 
-    /// Computes the event. If that is refused, the event stays claimed.
-    pub fn compute(&mut self, alloc: Global)
-        ensures { (tables : List TableId) → IsSlotOf tables self.old → IsSlotOf tables self.new }
+    /// The event with its output, or the reason why it has none. For an event that wasn't computed that is lack of memory.
+    pub fn into_result(self) -> Result<Done, (Work, ComputeFault)>
+        ensures { event_of result ≡ event_in self }
     {
-        if self.done.is_some() {
-            return;
+        match self {
+            Slot::Claimed(work) => Err((work, ComputeFault::NoMemory)),
+            Slot::Computed(done) => Ok(done),
+            Slot::Refused(work, fault) => Err((work, fault)),
         }
-        let Some(work) = self.held.take() else {
-            return;
-        };
-        match work.compute(alloc) {
-            Ok(done) => match self.done.replace(done) {
-                None => {}
-                Some(_done) => unreachable!(),
-            },
-            Err((work, fault)) => {
-                self.fault = Some(fault);
-                match self.held.replace(work) {
-                    None => {}
-                    Some(_work) => unreachable!(),
-                }
-            }
-        }
+    }
+}
+
+/// The slot once its event is computed.
+fn computed(slot: Slot, alloc: Global) -> (Slot, ())
+    ensures { event_in result.0 ≡ event_in slot }
+{
+    match slot {
+        Slot::Claimed(work) => match work.compute(alloc) {
+            Ok(done) => (Slot::Computed(done), ()),
+            Err((work, fault)) => (Slot::Refused(work, fault), ()),
+        },
+        other => (other, ()),
     }
 }

@@ -3,7 +3,7 @@
 ghost use Rattle.std.specs.Prelude.{◌<◌, ◌≤◌};
 
 use collector::Watched;
-use follow::{Crew, Ending, follow};
+use follow::{Ending, WorkerCount, follow};
 use graph::Graph;
 use lowering::lower;
 use parser::parse;
@@ -36,7 +36,7 @@ pub fn ended_by<R: Read, W: Write>(
     follow(
         threads,
         alloc,
-        Crew::new(workers),
+        WorkerCount::new(workers),
         graph,
         reader,
         &mut rest,

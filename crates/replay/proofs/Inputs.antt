@@ -23,7 +23,8 @@ use Rattle.schedule.specs.Commands.{Command}
 use Rattle.replay.specs.Hands.{HoldsAll}
 use Rattle.board.specs.Lateness.{BoardShown, Posts, PostsSome}
 use Rattle.replay.specs.Replays.{Does, RefusesFeed, RefusesInput, RefusesSeal, after_posting, refusal_line}
-use Rattle.replay.specs.Steps.{Answers, AreInputsOf, IsNumbered, Leads, ShowsState, ShowsWaits, Stays, refusal_of, setting_of}
+use Rattle.driver.specs.Inputs.{AreInputsOf}
+use Rattle.replay.specs.Steps.{Answers, IsNumbered, Leads, ShowsState, ShowsWaits, Stays, refusal_of, setting_of}
 use Rattle.replay.specs.Waits.{State, Waits, kind_of, posted}
 use Rattle.replay.specs.declared.refusal.Refusal.{Refusal}
 use Rattle.replay.specs.declared.refusal.Refusal.TheVariants as refusal

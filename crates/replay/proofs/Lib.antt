@@ -7,5 +7,4 @@ pub mod Runs
 pub mod Taken
 pub mod Printed
 pub mod Opens
-pub mod GraphInputs
 pub mod OneRecord

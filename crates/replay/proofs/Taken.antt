@@ -1,10 +1,11 @@
 -- Events taken, ended, and refused.
 use Rattle.std.proofs.Common.{◌≡◌, ◌≢◌, ◌<◌, ◌≤◌, ◌⊎◌, ◌∙◌, ℕ, suc, List, [], length, Option, Some, None, Bool, true, false, refl, sym, ap, subst, arith, inl, inr}
-use Rattle.std.specs.Prelude.{Result, Ok, Err, OnOk, IfErr, slice_set}
+use Rattle.std.specs.Prelude.{Result, Ok, Err, OnErr, OnOk, IfErr, slice_set}
 use Rattle.std.proofs.lemmas.List.{get_or-set_same, get_or-set_other, get_or_past, length-set, set-get_or}
 use Rattle.std.proofs.lemmas.List.{length-map}
 use Rattle.std.proofs.lemmas.Option.{slice_get_within}
 use Rattle.std.proofs.lemmas.Bool.Decides.{eqb_tells}
+use Rattle.semantics.specs.Multiset.{Record}
 use Rattle.graph.specs.Shown.{shown_graph}
 use Rattle.machine.specs.Network.{Network}
 use Rattle.machine.specs.World.{World, Held, Message}
@@ -15,17 +16,21 @@ use Rattle.machine.proofs.Progress.{put_here}
 use Rattle.events.specs.Jobs.{Pass}
 use Rattle.board.specs.Shown.{Shown, Side, net, side_at, held_of, tables}
 use Rattle.board.specs.Showing.{Shows}
-use Rattle.board.specs.Lateness.{BoardShown, IsUpToDate, Posts, waits_for}
+use Rattle.board.specs.Lateness.{BoardShown, IsAsLate, IsUpToDate, Posts, waits_for}
 use Rattle.board.specs.Commits.{IsOf}
-use Rattle.board.specs.Answers.{Hands}
+use Rattle.board.specs.Answers.{Hands, Holds}
+use Rattle.board.specs.Kept.{Goes}
 use Rattle.board.specs.Picks.{IsChoice, IsCertain, RefusesPick as Refuses}
 use Rattle.board.specs.declared.refusal.StepRefusal.{StepRefusal}
 use Rattle.board.specs.declared.refusal.StepRefusal.TheVariants as step
 use Rattle.board.proofs.Choosing.{home_of}
+use Rattle.driver.specs.Ends.{Abandons as AbandonsOne, Ends}
+use Rattle.events.specs.declared.fault.ComputeFault.{ComputeFault}
+use Rattle.events.specs.declared.fault.ComputeFault.TheVariants as fault
 use Rattle.schedule.specs.Commands.{Command}
 use Rattle.replay.specs.Hands.{HoldsAll, IsHand, in_hand}
 use Rattle.replay.specs.Replays.{Does, Abandons, KnowsChoice, RefusesPick, Takes, after_abandoning, refusal_line}
-use Rattle.replay.specs.Steps.{Answers, IsCommitted, IsAbandoned, LeadsFrom, Leads, ShowsState, Stays, refusal_of, setting_of}
+use Rattle.replay.specs.Steps.{Answers, IsCommitted, IsAbandoned, LeadsFrom, Leads, ShowsState, Stays, fault_refusal, refusal_of, setting_of}
 use Rattle.replay.specs.Waits.{State, kind_of, posted, waiting_now}
 use Rattle.replay.specs.declared.refusal.Refusal.{Refusal}
 use Rattle.replay.specs.declared.refusal.Refusal.TheVariants as refusal
@@ -176,6 +181,14 @@ abandoned_answers late b c d hand k n p e hands knows choice waits abandoned sta
 abandoned_answers late b c d hand k n p e hands knows choice waits abandoned stays command does (inr count) =
     subst (λ (x : Refusal). Answers late b d hand hand command {T = Unit {0}} (Err x)) (sym count) (abandoned_leads late b c d hand k n p hands knows choice waits abandoned stays command does)
 
+-- an event was taken, and ended or abandoned
+pub delivered_answers : (late : Bool) (b c d : BoardShown) (hand : List (Option Pass)) (k n : ℕ) (p : Pass) (r : Result (Unit {0}) Refusal) (hands : Hands b.shown k c.shown p) → KnowsWaits late b → (IsCertain (IsUpToDate b k) b.shown k n → IsChoice b.shown k n hands.taken) → c.waits ≡ b.waits
+    → OnOk r (IsCommitted late c p d) → OnErr r (IsAbandoned c p d) → IfErr r (λ e. (e ≡ refusal.NoMemory) ⊎ (e ≡ refusal.Step 39)) → Stays b.shown d.shown
+    → Answers late b d hand hand (Command.deliver k n) r
+delivered_answers late b c d hand k n p (Ok u) hands knows choice waits ends abandoned refused stays = delivered_leads late b c d hand k n p hands knows choice waits ends stays
+delivered_answers late b c d hand k n p (Err e) hands knows choice waits ends abandoned refused stays =
+    abandoned_answers late b c d hand k n p e hands knows choice waits abandoned stays (Command.deliver k n) (λ x gives. Does.deliver_abandons k n hands.taken p.job.happening gives) refused
+
 -- the code of a refused pick
 pub refused_pick : (late : Bool) (b : BoardShown) (k n : ℕ) (e : StepRefusal) → KnowsWaits late b → Refuses (IsUpToDate b k) b.shown k n e → (code : ℕ) → refusal_of e ≡ refusal.Step code → (x : State) → ShowsState b x → RefusesPick (setting_of late b.shown) x k n code
 refused_pick late b k n step.Stopped knows h code has_code x shows =
@@ -263,3 +276,22 @@ applied_leads late b c hand k j knows same one others = record {
 -- no batch waits
 pub unapplied_leads : (late : Bool) (b c : BoardShown) (hand : List (Option Pass)) (k j : ℕ) → waits_for b k j ≡ 0 → c ≡ b → Leads late b c hand hand (Command.apply k j) (refusal_line 40)
 unapplied_leads late b c hand k j none same = refused_leads late b c hand (Command.apply k j) (refusal_line 40) same (λ x shows holds. Does.apply_refused k j (λ there within. sym (shows.waits k j there within) ∙ none))
+
+-- ---- what the driver's calls say
+
+pub ended_stays : (s t : Shown) (p : Pass) {T E : Type 0} (r : Result T E) → Ends s t p r → tables t ≡ tables s → Stays s t
+ended_stays s t p (Ok _) ends same = record { graph = ends.1.1.graph; workers = ends.1.1.workers; tables = same }
+ended_stays s t p (Err _) ends same = record { graph = ends.1.graph; workers = ends.1.workers; tables = same }
+
+pub abandoned_stays : (s t : Shown) (p : Pass) → AbandonsOne s t p → tables t ≡ tables s → Stays s t
+abandoned_stays s t p abandoned same = record { graph = abandoned.1.graph; workers = abandoned.1.workers; tables = same }
+
+pub is_committed : (late : Bool) (b c : BoardShown) (p : Pass) (out : ℕ → List Record) → Holds b.shown p → Goes b.shown (Step.commit p.worker p.job.happening out) c.shown → Posts late p.worker b c → Stays b.shown c.shown → IsCommitted late b p c
+is_committed late b c p out holds goes posts stays = record { holds = holds; out = out; goes = goes; posts = posts; stays = stays }
+
+pub is_abandoned : (b c : BoardShown) (p : Pass) → AbandonsOne b.shown c.shown p → IsAsLate b c → Stays b.shown c.shown → IsAbandoned b p c
+is_abandoned b c p abandoned late stays = record { holds = abandoned.0; goes = abandoned.1; waits = late.waits; stays = stays }
+
+pub fault_refused : (f : ComputeFault) (e : Refusal) → e ≡ fault_refusal f → (e ≡ refusal.NoMemory) ⊎ (e ≡ refusal.Step 39)
+fault_refused fault.NoMemory e is = inl is
+fault_refused fault.Count e is = inr is

@@ -1,12 +1,12 @@
 -- What the call for each line does.
-use Rattle.std.specs.Prelude.{Bool, true, false, codes, ◌≡◌, ◌<◌, ◌≤◌, ◌⊎◌, ℕ, List, [], length, Option, Result, Ok, Err, slice_get, slice_index_or, Some, None}
+use Rattle.std.specs.Prelude.{Bool, true, false, codes, ◌≡◌, ◌<◌, ◌≤◌, ◌⊎◌, ℕ, List, [], length, Option, Result, Ok, Err, Some, None}
 use Rattle.semantics.specs.Multiset.{Record}
 use Rattle.semantics.specs.Query.{Input}
-use Rattle.semantics.specs.Graph.{input_count}
-use Rattle.graph.specs.Shown.{GraphValue, shown_graph, shown_inputs, shown_names, shown_arities}
-use Rattle.graph.specs.Limits.{max_vertices}
+use Rattle.graph.specs.Shown.{GraphValue, shown_graph, shown_inputs, shown_names}
 use Rattle.machine.specs.Step.{Step}
 use Rattle.events.specs.Jobs.{Pass}
+use Rattle.events.specs.declared.fault.ComputeFault.{ComputeFault}
+use Rattle.events.specs.declared.fault.ComputeFault.TheVariants as fault
 use Rattle.board.specs.Shown.{Shown, tables}
 use Rattle.board.specs.Lateness.{BoardShown, Posts, waits_for}
 use Rattle.board.specs.Showing.{Shows}
@@ -38,6 +38,11 @@ refusal_by None = refusal.NoMemory
 abbrev pub refusal_of : StepRefusal → Refusal
 refusal_of r = refusal_by (refusal_code r)
 
+-- the refusal of a line whose event could not be computed
+abbrev pub fault_refusal : ComputeFault → Refusal
+fault_refusal fault.NoMemory = refusal.NoMemory
+fault_refusal fault.Count = refusal.Step 39
+
 -- the setting of a graph's schedule
 abbrev pub setting_on : ViewKind → GraphValue → (workers : ℕ) → Setting
 setting_on kind g n = record { graph = shown_graph g; workers = n; views = kind; inputs = shown_inputs g; outputs = shown_names g }
@@ -54,13 +59,6 @@ ShowsWaits b waits = (worker sender : ℕ) → worker < length b.shown.sides →
 pub record ShowsState (b : BoardShown) (x : State) : Type 0 where
   pub world : Shows b.shown x.world
   pub waits : ShowsWaits b x.waits
-
--- the inputs are the graph's, with the arities of its vertices
-pub record AreInputsOf (g : GraphValue) (inputs : List Input) : Type 0 where
-  pub same : inputs ≡ shown_inputs g
-  pub count : length inputs ≤ input_count (shown_graph g)
-  pub few : input_count (shown_graph g) ≤ max_vertices
-  pub arities : (i : ℕ) (input : Input) → slice_get inputs i ≡ Some input → slice_index_or (shown_arities g) i 0 ≡ input.arity
 
 -- the first input of that name has this number and arity; a name that no input has gets the greatest number
 abbrev pub IsNumbered : List Input → List ℕ → ℕ × ℕ → Type 0

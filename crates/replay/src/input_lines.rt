@@ -6,7 +6,8 @@ ghost use Rattle.graph.specs.Limits.{max_vertices};
 ghost use Rattle.collector.specs.Lines.{MakeRecord};
 ghost use Rattle.events.specs.Jobs.{Pass};
 ghost use Rattle.schedule.specs.Commands.{Command};
-ghost use Rattle.replay.specs.Steps.{Answers, AreInputsOf, IsNumbered};
+ghost use Rattle.driver.specs.Inputs.{AreInputsOf};
+ghost use Rattle.replay.specs.Steps.{Answers, IsNumbered};
 
 use crate::refusal::{Refusal, line_refusal};
 use board::{Board, WRONG_FIELD_COUNT};

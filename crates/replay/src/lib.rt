@@ -8,8 +8,8 @@
 //! If each worker has its own view, a line can also let one worker apply what another posted; what a worker sees and may take then depends on what it
 //! has applied. If they share one view (`Direct`), it depends on the board alone.
 //!
-//! Built on `board`, on `schedule`, which reads the texts, on `collector`, and on the crates below them. The console reads both files and writes the
-//! text.
+//! Built on `driver`, which computes, commits and abandons events, on `schedule`, which reads the texts, on `collector`, and on the crates below them.
+//! The console reads both files and writes the text.
 #![tactic(auto)]
 
 mod answer;
@@ -21,4 +21,4 @@ mod schedule_answer;
 mod worker_lines;
 
 pub use replaying::replay;
-pub use schedule_answer::{law_graph_inputs, replay_text};
+pub use schedule_answer::replay_text;

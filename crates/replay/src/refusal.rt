@@ -1,9 +1,10 @@
 //! Why a line does nothing.
 
 ghost use Rattle.std.specs.Prelude.{◌≡◌};
-ghost use Rattle.replay.specs.Steps.{refusal_of};
+ghost use Rattle.replay.specs.Steps.{fault_refusal, refusal_of};
 
 use board::StepRefusal;
+use events::ComputeFault;
 
 /// Why a line does nothing.
 #[derive(Clone, Copy, Debug, PartialEq, Eq)]
@@ -30,5 +31,18 @@ pub fn line_refusal(refusal: StepRefusal) -> Refusal
     match refusal {
         StepRefusal::NoMemory => Refusal::NoMemory,
         other => Refusal::Step { code: other.code() },
+    }
+}
+
+impl From<ComputeFault> for Refusal {
+    ghost from_gives = { λ fault e. e ≡ fault_refusal fault };
+
+    fn from(fault: ComputeFault) -> Refusal {
+        match fault {
+            ComputeFault::NoMemory => Refusal::NoMemory,
+            ComputeFault::Count => Refusal::Step {
+                code: COUNT_TOO_LARGE,
+            },
+        }
     }
 }

@@ -5,7 +5,8 @@ ghost use Rattle.record_core.specs.Inputs.{input_of};
 ghost use Rattle.schedule.specs.LineReader.{command_of};
 ghost use Rattle.replay.specs.Hands.{HoldsAll, HoldsNone, IsHand};
 ghost use Rattle.replay.specs.Replays.{Replays};
-ghost use Rattle.replay.specs.Steps.{Answers, AreInputsOf, IsStep, Leads, ShowsState, setting_of};
+ghost use Rattle.driver.specs.Inputs.{AreInputsOf};
+ghost use Rattle.replay.specs.Steps.{Answers, IsStep, Leads, ShowsState, setting_of};
 ghost use Rattle.replay.specs.Waits.{State};
 
 use crate::answer::{push_answer, push_refusal};

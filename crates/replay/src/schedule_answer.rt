@@ -11,11 +11,13 @@ ghost use Rattle.schedule.specs.LineReader.{command_of};
 ghost use Rattle.schedule.specs.ScheduleText.{IsRefused};
 ghost use Rattle.schedule.specs.declared.refusal.ScheduleRefusal.TheVariants.{NoMemory};
 ghost use Rattle.replay.specs.Replays.{Replays};
-ghost use Rattle.replay.specs.Steps.{AnswersText, AreInputsOf, setting_of};
+ghost use Rattle.driver.specs.Inputs.{AreInputsOf};
+ghost use Rattle.replay.specs.Steps.{AnswersText, setting_of};
 ghost use Rattle.replay.specs.Waits.{State, at_first};
 
 use crate::replaying::replay;
 use board::Board;
+use driver::law_inputs;
 use graph::Graph;
 use progress::LocationTracker;
 use record_core::DeclaredInput;
@@ -23,16 +25,6 @@ use schedule::{Line, ScheduleRefusal, ViewKind, read_schedule};
 use std::alloc::Global;
 use std::sync::Arc;
 use views::{Direct, LocalViews, Views};
-
-/// The inputs that a graph declares are its input vertices, with their arities. Nothing is done.
-pub fn law_graph_inputs(graph: &Graph)
-    ensures { AreInputsOf graph.now (shown_inputs graph.now) }
-{
-    semantics::graphs::law_program();
-    semantics::graphs::law_arities();
-    graph.law_of_arities();
-    let _ = graph.vertex_count();
-}
 
 /// Does the lines on a new board.
 fn replay_new<V: Views>(
@@ -72,7 +64,7 @@ pub fn replay_text(
         Err(refusal) => return Err(refusal),
     };
     let graph = Arc::new(alloc, graph)?;
-    law_graph_inputs(&graph);
+    law_inputs(&graph);
     let shared = Arc::try_clone(&graph)?;
     let inputs = graph.inputs();
     match kind {

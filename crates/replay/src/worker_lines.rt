@@ -8,13 +8,15 @@ ghost use Rattle.replay.specs.Hands.{IsHand, in_hand};
 ghost use Rattle.replay.specs.Steps.{Answers, IsCommitted, IsAbandoned, Stays};
 ghost use Rattle.replay.specs.declared.refusal.Refusal.TheVariants as refusal;
 
-use crate::refusal::{COUNT_TOO_LARGE, NOTHING_HELD, NOTHING_WAITS, Refusal, line_refusal};
-use board::{Board, CommitRefusal};
-use events::{ComputeFault, Done, Work};
+use crate::refusal::{NOTHING_HELD, NOTHING_WAITS, Refusal, line_refusal};
+use board::Board;
+use driver::process;
+use events::{Done, NoGate, Work};
+use record_core::NoMemory;
 use std::alloc::Global;
 use views::Views;
 
-/// Computes an event that was taken. If that is refused, for lack of memory or a count that is too large, abandons the event, which stops the board.
+/// Computes an event that was taken. One that is refused, for lack of memory or a count that is too large, is abandoned, which stops the board.
 fn compute<V: Views>(alloc: Global, board: &mut Board<V>, work: Work) -> Result<Done, Refusal>
     requires own { IsOf board.old.shown work.0 }
     ensures done { IfOk result (λ d. d ≡ work.0) }
@@ -23,17 +25,9 @@ fn compute<V: Views>(alloc: Global, board: &mut Board<V>, work: Work) -> Result<
     ensures abandoned { OnErr result (IsAbandoned board.old work.0 board.new) }
     ensures refused { IfErr result (λ e. (e ≡ refusal.NoMemory) ⊎ (e ≡ refusal.Step 39)) }
 {
-    match work.compute(alloc) {
+    match driver::compute(alloc, board, &NoGate, 0, work) {
         Ok(done) => Ok(done),
-        Err((work, fault)) => {
-            board.abandon(work);
-            Err(match fault {
-                ComputeFault::NoMemory => Refusal::NoMemory,
-                ComputeFault::Count => Refusal::Step {
-                    code: COUNT_TOO_LARGE,
-                },
-            })
-        }
+        Err(fault) => Err(Refusal::from(fault)),
     }
 }
 
@@ -44,12 +38,23 @@ fn end<V: Views>(board: &mut Board<V>, done: Done) -> Result<(), Refusal>
     ensures stays { Stays board.old.shown board.new.shown }
     ensures memory { IfErr result (λ e. e ≡ refusal.NoMemory) }
 {
-    match board.commit(done) {
+    match driver::commit(board, done) {
         Ok(_sent) => Ok(()),
-        Err(CommitRefusal::NoMemory(done)) => {
-            board.abandon_done(done);
-            Err(Refusal::NoMemory)
-        }
+        Err(NoMemory) => Err(Refusal::NoMemory),
+    }
+}
+
+/// Computes an event that was taken, and ends it. One that is refused is abandoned, which stops the board.
+fn complete<V: Views>(alloc: Global, board: &mut Board<V>, work: Work) -> Result<(), Refusal>
+    requires own { IsOf board.old.shown work.0 }
+    ensures ends { OnOk result (IsCommitted V.late board.old work.0 board.new) }
+    ensures stays { Stays board.old.shown board.new.shown }
+    ensures abandoned { OnErr result (IsAbandoned board.old work.0 board.new) }
+    ensures refused { IfErr result (λ e. (e ≡ refusal.NoMemory) ⊎ (e ≡ refusal.Step 39)) }
+{
+    match process(alloc, board, &NoGate, 0, work) {
+        Ok(_sent) => Ok(()),
+        Err(fault) => Err(Refusal::from(fault)),
     }
 }
 
@@ -124,15 +129,10 @@ pub fn deliver<V: Views>(
 {
     board.law_prompt();
     board.law_waits();
-    let work = match board.pick(worker, choice as u64) {
-        Ok(work) => work,
-        Err(refusal) => return Err(line_refusal(refusal)),
-    };
-    let done = match compute(alloc, board, work) {
-        Ok(done) => done,
-        Err(refusal) => return Err(refusal),
-    };
-    end(board, done)
+    match board.pick(worker, choice as u64) {
+        Ok(work) => complete(alloc, board, work),
+        Err(refusal) => Err(line_refusal(refusal)),
+    }
 }
 
 /// The worker applies the next batch of changes that the sender posted.

@@ -3,7 +3,7 @@ use Rattle.std.proofs.lemmas.List.{take_more, map_push}
 use Rattle.record_core.specs.Inputs.{input_of}
 use Rattle.schedule.specs.Commands.{Command}
 use Rattle.schedule.specs.LineReader.{command_of}
-use Rattle.replay.specs.Steps.{AreInputsOf}
+use Rattle.driver.specs.Inputs.{AreInputsOf}
 use Rattle.replay.proofs.Runs.{Replayed, more_replayed, none_replayed}
 use Rattle.replay.proofs.replaying.replay_lines.Goals as goal
 

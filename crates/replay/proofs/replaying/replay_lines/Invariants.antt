@@ -2,7 +2,7 @@ use Rattle.std.proofs.Common.{map, take}
 use Rattle.record_core.specs.Inputs.{input_of}
 use Rattle.schedule.specs.LineReader.{command_of}
 use Rattle.replay.specs.Hands.{IsHand}
-use Rattle.replay.specs.Steps.{AreInputsOf}
+use Rattle.driver.specs.Inputs.{AreInputsOf}
 use Rattle.replay.proofs.Runs.{Replayed}
 use Rattle.replay.proofs.replaying.replay_lines.Given as goal
 

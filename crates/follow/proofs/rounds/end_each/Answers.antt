@@ -4,7 +4,7 @@ use Rattle.board.specs.Shown.{tables}
 use Rattle.follow.specs.Slots.{IsSlotOf}
 use Rattle.follow.proofs.Calls.{All-front, on_both}
 use Rattle.follow.proofs.Moved.{works_not, works_on}
-use Rattle.follow.proofs.crew.settle_each.Goals as goal
+use Rattle.follow.proofs.rounds.end_each.Goals as goal
 
 pub loop-slot-init : goal.loop-slot-init
 loop-slot-init g c = (refl, c.requires.own, λ live. works_not c.args.board.now.shown live)
@@ -13,8 +13,8 @@ pub loop-slot-preserved : goal.loop-slot-preserved
 loop-slot-preserved g c =
     let before = c.loop-slot.invariant in
     let own : All (IsSlotOf (tables c.args.board.now.shown)) c.loop-slot.slots.items = before.1 in
-    let same : tables c.settle.new.board.shown ≡ tables c.args.board.now.shown = c.settle.ensures.tables ∙ before.0 in (
+    let same : tables c.end.new.board.shown ≡ tables c.args.board.now.shown = c.end.ensures.tables ∙ before.0 in (
       same,
       All-front (IsSlotOf (tables c.args.board.now.shown)) c.pop.new.self.items (option_to_list c.pop.result) (subst (All (IsSlotOf (tables c.args.board.now.shown))) c.pop.ensures.items own),
-      on_both c.loop-slot.pace c.settle.result c.add_result-pace.result c.add_result-pace.ensures (λ first second live. let b = first live in works_on c.args.board.now.shown c.loop-slot.board.shown c.settle.new.board.shown b (second b.grows.live)) before.2 c.settle.ensures.works,
+      on_both c.loop-slot.round c.end.result c.add_result-round.result c.add_result-round.ensures (λ first second live. let b = first live in works_on c.args.board.now.shown c.loop-slot.board.shown c.end.new.board.shown b (second b.grows.live)) before.2 c.end.ensures.works,
     )

@@ -1,5 +1,5 @@
 use Rattle.follow.proofs.Moved.{works_not, works_on}
-use Rattle.follow.proofs.crew.work_off.Goals as goal
+use Rattle.follow.proofs.rounds.work_off.Goals as goal
 
 pub loop-turn-init : goal.loop-turn-init
 loop-turn-init g c = λ live. works_not c.args.board.now.shown live

@@ -3,10 +3,10 @@ use Rattle.std.specs.Prelude.{OnOk}
 use Rattle.board.specs.Shown.{tables}
 use Rattle.follow.specs.Scenes.{IsLive, Works}
 use Rattle.follow.specs.Slots.{IsSlotOf}
-use Rattle.follow.proofs.crew.settle_each.Given as goal
+use Rattle.follow.proofs.rounds.end_each.Given as goal
 
 abbrev pub invariant-loop-slot : goal.invariant-loop-slot
-invariant-loop-slot g l = (tables l.board.shown ≡ tables l.fn.board.shown) × All (IsSlotOf (tables l.fn.board.shown)) l.slots.items × OnOk l.pace (IsLive l.fn.board.shown → Works l.fn.board.shown l.board.shown)
+invariant-loop-slot g l = (tables l.board.shown ≡ tables l.fn.board.shown) × All (IsSlotOf (tables l.fn.board.shown)) l.slots.items × OnOk l.round (IsLive l.fn.board.shown → Works l.fn.board.shown l.board.shown)
 
 abbrev pub decreases-loop-slot : goal.decreases-loop-slot
 decreases-loop-slot g l = length l.slots.items

@@ -1,5 +1,5 @@
 -- The inputs that a graph in memory declares are its input vertices, with their arities.
-use Rattle.std.proofs.Common.{◌≡◌, ◌<◌, ◌≤◌, ◌∙◌, ℕ, length, map, refl, sym, ap, arith, Some}
+use Rattle.std.proofs.Common.{◌≡◌, ◌<◌, ◌≤◌, ◌∙◌, ℕ, length, map, refl, sym, ap, subst, arith, Some}
 use Rattle.std.specs.Prelude.{option_map, slice_get, slice_index_or}
 use Rattle.std.proofs.Math.Logic.{∥∥₁_elim}
 use Rattle.std.proofs.Math.Nat.{ℕ_set}
@@ -8,11 +8,12 @@ use Rattle.std.proofs.lemmas.Option.{slice_get_within, get_or_from_slice_get, sl
 use Rattle.semantics.specs.Query.{Input, Program}
 use Rattle.semantics.specs.Graph.{Graph, input_count}
 use Rattle.semantics.specs.Lower.{lowered}
-use Rattle.semantics.specs.PortArity.{program_arities}
+use Rattle.semantics.specs.PortArity.{IsTyped, program_arities}
+use Rattle.semantics.specs.Typing.{IsArity}
 use Rattle.semantics.proofs.InputNumbers.{few_inputs}
 use Rattle.graph.specs.Shown.{GraphValue, shown_graph, shown_inputs, shown_arities}
 use Rattle.graph.specs.GraphLaws.{HasProgramArities}
-use Rattle.replay.specs.Steps.{AreInputsOf}
+use Rattle.driver.specs.Inputs.{AreInputsOf}
 
 abbrev arity_of : Input → ℕ
 arity_of a = a.arity
@@ -46,3 +47,9 @@ are_inputs g h law counts few = record {
   few = omega (arith, few, few_inputs (shown_graph g));
   arities = λ i input at. ∥∥₁_elim h (ℕ_set _ _) (λ k. one_arity g law counts i input at k);
 }
+
+-- the fields of an input's records are as many as those of its vertex
+pub input_fields : (g : GraphValue) → AreInputsOf g (shown_inputs g) → IsTyped (shown_graph g) (λ v. slice_index_or (shown_arities g) v 0) → (i : ℕ) (input : Input) → slice_get (shown_inputs g) i ≡ Some input → IsArity input.arity
+input_fields g are typed i input at =
+    let within : i < length (shown_graph g) = omega (arith, slice_get_within (shown_inputs g) i input at, are.count, few_inputs (shown_graph g)) in
+    subst IsArity (are.arities i input at) (typed.fields i within)

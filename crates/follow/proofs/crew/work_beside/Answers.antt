@@ -1,9 +1,0 @@
-use Rattle.follow.proofs.Calls.{ok_of}
-use Rattle.follow.proofs.Moved.{works_on}
-use Rattle.follow.proofs.crew.work_beside.Goals as goal
-
-pub returns : goal.returns
-returns g c = λ live.
-    let made = c.in_ok-pace.ensures.made in
-    let b = ok_of c.claim_each-claimed.result _ made.0 c.claim_each-claimed.ensures.works live in
-    works_on c.args.board.now.shown c.claim_each-claimed.new.board.shown c.settle_each-pace.new.board.shown b (ok_of c.settle_each-pace.result _ made.1 c.settle_each-pace.ensures.works b.grows.live)
