@@ -34,7 +34,7 @@ use Rattle.board.specs.Steps.{settled, delivered, after_commit, more_at, with_em
 use Rattle.board.proofs.Emitting.{emits_with}
 use Rattle.board.specs.Kept.{IsKept, Goes}
 use Rattle.board.specs.Commits.{IsOf}
-use Rattle.board.proofs.Committing.{EndsAt, was, may_commit, shows_commit}
+use Rattle.board.proofs.Committing.{EndsAt, asks_as, may_commit, shows_commit}
 use Rattle.board.proofs.Deliveries.{delivered_at, delivered_length, with_all}
 use Rattle.board.proofs.Facts as facts
 use Rattle.board.proofs.Keeping.{kept_more}
@@ -101,15 +101,15 @@ module _ (graph : Graph) (content : Pointstamp → ℕ) (s : Shown) (kept : IsKe
           → (records_of o.emitted ≡ []) ⊎ (event_time p.job.happening ≡ at_epoch (event_time p.job.happening).epoch)
       by (inl none) = inl none
       by (inr role) =
-          let v = (facts.net_of s).at p.job.happening in
+          let v = (facts.net_of graph content s kept).at p.job.happening in
           let e = ends_by (shown_graph s.graph) (length s.sides) kept.flows p.job.happening (facts.good graph content s kept p.worker there p.job out) own.vertex (ap (λ n. (net s).role n) (sym v) ∙ role) in
           inr e
 
   pub goes_commit : Goes s (Step.commit p.worker p.job.happening (done.out)) (after_commit s p.worker p.job o.shard.value o.sent.items o.emitted o.asked)
   goes_commit = record {
     step = λ w shows. (
-      may_commit (net s) s (facts.net_of s) w shows p.worker there p.job out own (kept.sides p.worker there).shards o.shard.value o.sent.items o.emitted o.asked done ends kept.room,
-      shows_commit (net s) s (facts.net_of s) w shows p.worker there p.job out own (kept.sides p.worker there).shards o.shard.value o.sent.items o.emitted o.asked done ends kept.room,
+      may_commit (net s) s (facts.net_of graph content s kept) w shows p.worker there p.job out own (kept.sides p.worker there).shards o.shard.value o.sent.items o.emitted o.asked done ends kept.room,
+      shows_commit (net s) s (facts.net_of graph content s kept) w shows p.worker there p.job out own (kept.sides p.worker there).shards o.shard.value o.sent.items o.emitted o.asked done ends kept.room,
     );
     graph = refl;
     workers = delivered_length o.sent.items (slice_set s.sides p.worker (settled (side_at s p.worker) (event_at (shown_graph s.graph) p.job.happening) o.shard.value o.asked))
@@ -146,7 +146,7 @@ module _ (graph : Graph) (content : Pointstamp → ℕ) (s : Shown) (kept : IsKe
       ∙ below_same (length s.sides) _ _ (λ to l. ap (total (λ m. one_if_same q (message_pointstamp m))) (done.sends.each to l))
 
   pub asks_are : requests_of o.asked ≡ asked (net s) kept.world p.worker p.job.happening
-  asks_are = done.asks kept.world (was (net s) s (facts.net_of s) kept.world kept.shows p.worker there p.job out own)
+  asks_are = asks_as (net s) s (facts.net_of graph content s kept) kept.world kept.shows p.worker there p.job out own (requests_of o.asked) done.asks
 
   pub keeps_commit : (graph' : Graph) (content' : Pointstamp → ℕ) → graph' ≡ graph
       → ((q : Pointstamp) → content' q + one_if_same q (event_pointstamp p.job.happening) ≡ letters_count q o.sent.items + requests_count q (requests_of o.asked) + content q)

@@ -22,6 +22,7 @@ use Rattle.board.proofs.Ended.{close_goes, seal_goes}
 use Rattle.board.proofs.Feeding.{feeds_goes}
 use Rattle.board.proofs.HandedOut.{hands_message, hands_message_kept, hands_request, hands_request_kept}
 use Rattle.board.proofs.Abandoning.{abandon_goes, abandon_kept}
+use Rattle.board.proofs.Later.{later}
 use Rattle.board.proofs.Merged.{merge_goes}
 
 open_rises : (xs : List InputShown) (i : ℕ) (x : InputShown) → (slice_index_or xs i no_input).open_epoch ≤ x.open_epoch → (j : ℕ) → (slice_index_or xs j no_input).open_epoch ≤ (slice_index_or (slice_set xs i x) j no_input).open_epoch
@@ -117,7 +118,7 @@ module _ (graph : Graph) (viewers : ℕ) (content : Pointstamp → ℕ) (waiting
   pub keeps_abandon : (k : ℕ) → k < length s.sides → (j : Job) → (side_at s k).place ≡ Out j → t ≡ after_abandon s k j → Keeps graph viewers content waiting room late passed t
   keeps_abandon k there j out e =
       let kept : IsKept graph content t = subst (IsKept graph content) (sym e) (abandon_kept s k there j out graph content keeps.kept) in
-      let goes : Goes s (Step.abandon k j.happening) t = subst (Goes s (Step.abandon k j.happening)) (sym e) (abandon_goes s k there j out) in
+      let goes : Goes s (Step.abandon k j.happening) t = subst (Goes s (Step.abandon k j.happening)) (sym e) (abandon_goes s k there j out (later graph content s keeps.kept)) in
       keeps_beside (Step.abandon k j.happening) goes (ap (λ (z : Shown). z.inputs) e) kept
 
   -- what is known to have passed after a feed, a seal, a close and a commit
@@ -134,7 +135,7 @@ module _ (graph : Graph) (viewers : ℕ) (content : Pointstamp → ℕ) (waiting
 
   pub merged_passed : (k : ℕ) (there : k < length s.sides) (free : (side_at s k).place ≡ Home) (runs : s.stopped ≡ false) (at : ℕ) (place : Pointstamp) → MergesMail s t k at place → HavePassed t passed
   merged_passed k there free runs at place h =
-      have_passed graph content s keeps.kept (Step.merge k at h.merges.alike.first h.merges.alike.second) t (merge_goes s k there free runs t at place h)
+      have_passed graph content s keeps.kept (Step.merge k at h.merges.alike.first h.merges.alike.second) t (merge_goes s k there free runs t at place h (later graph content s keeps.kept))
       (λ j. let e = ap (λ (z : Shown). (input_at z j).open_epoch) h.state in omega (arith, e)) passed keeps.passed_are
 
   pub closed_passed : (i : ℕ) (takes : (s.stopped ≡ false) × (i < length s.inputs) × ((input_at s i).closed ≡ false)) → t ≡ after_close s i → HavePassed t passed

@@ -22,6 +22,7 @@ use Rattle.board.specs.Steps.{after_seal, after_close}
 use Rattle.board.specs.declared.refusal.StepRefusal.{StepRefusal}
 use Rattle.board.specs.declared.refusal.StepRefusal.TheVariants as refusal
 use Rattle.board.proofs.Keeping.{kept_more}
+use Rattle.board.proofs.Later.{later}
 use Rattle.board.proofs.Sealing.{may_seal, may_close, shows_seal, shows_close}
 
 first_none : (a b : Option StepRefusal) → first a b ≡ None → (a ≡ None) × (b ≡ None)
@@ -78,10 +79,10 @@ module _ (graph : Graph) (content : Pointstamp → ℕ) (s : Shown) (kept : IsKe
       subst P (sym at_open) (let t = kept.tracked (at_vertex i (at_epoch (kept.world.open_epoch i))) in omega (arith, a, t))
 
   pub seal_goes : Goes s (Step.seal i) (after_seal s i)
-  seal_goes = record { step = λ w shows. (may_seal s w shows i takes.1 role_is takes.2 takes.0, shows_seal s w shows i takes.1); graph = refl; workers = refl; emitted = emits_same s.emitted }
+  seal_goes = record { step = λ w shows. let ok = may_seal s w shows i takes.1 role_is takes.2 takes.0 in (ok, shows_seal s w shows i takes.1 (later graph content s kept) ok); graph = refl; workers = refl; emitted = emits_same s.emitted }
 
   pub close_goes : Goes s (Step.close i) (after_close s i)
-  close_goes = record { step = λ w shows. (may_close s w shows i takes.1 role_is takes.2 takes.0, shows_close s w shows i takes.1); graph = refl; workers = refl; emitted = emits_same s.emitted }
+  close_goes = record { step = λ w shows. let ok = may_close s w shows i takes.1 role_is takes.2 takes.0 in (ok, shows_close s w shows i takes.1 (later graph content s kept) ok); graph = refl; workers = refl; emitted = emits_same s.emitted }
 
   with_inputs : (inputs : List InputShown) → AreSidesOf (record s { inputs = inputs }) (length s.sides)
   with_inputs inputs k l =

@@ -23,10 +23,20 @@ use Rattle.board.specs.Showing.{IsOwn}
 use Rattle.board.specs.WorkerShown.{AreAtEdges, AreWithin}
 use Rattle.board.specs.Kept.{IsKept}
 use Rattle.board.specs.Commits.{IsOf}
-use Rattle.board.proofs.Committing.{IsNetOf, was}
+use Rattle.board.proofs.Committing.{IsNetOf, asks_as}
+use Rattle.board.proofs.Later.{comes, later}
+use Rattle.board.proofs.Still.{reads_same}
 
-pub net_of : (s : Shown) → IsNetOf (net s) s
-net_of s = record { workers = refl; at = at }
+pub net_of : (graph : Graph) (content : Pointstamp → ℕ) (s : Shown) → IsKept graph content s → IsNetOf (net s) s
+net_of graph content s kept = record {
+  workers = refl;
+  at = at;
+  of_net = λ w k v x h. h;
+  to_net = λ w k v x h. h;
+  reads = reads_same (shown_graph s.graph) (length s.sides);
+  comes = comes graph content s kept;
+  later = later graph content s kept;
+}
   where
     at : (e : Event) → event_vertex (net s) e ≡ event_at (shown_graph s.graph) e
     at (Event.arrival m) = refl
@@ -108,4 +118,4 @@ module _ (graph : Graph) (content : Pointstamp → ℕ) (s : Shown) (kept : IsKe
       pub asked_here : IfSome o.asked (λ r. IsTimeAt graph (Location.vertex r.vertex) r.time)
       asked_here =
           asks_here j.happening kept.world refl refl o.asked
-          (done_here.asks kept.world (was (net s) s (net_of s) kept.world kept.shows k there j out own))
+          (asks_as (net s) s (net_of graph content s kept) kept.world kept.shows k there j out own (requests_of o.asked) done_here.asks)

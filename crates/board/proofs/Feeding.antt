@@ -12,7 +12,7 @@ use Rattle.machine.specs.Sending.{parcels}
 use Rattle.machine.specs.Active.{one_if_same, message_pointstamp}
 use Rattle.machine.specs.Changes.{parcel_count}
 use Rattle.machine.specs.InTransit.{FedFits}
-use Rattle.machine.specs.Step.{Step, after_step, put}
+use Rattle.machine.specs.Step.{Allowed, Step, after_step, put}
 use Rattle.machine.proofs.Counting.{below_same, count-append, same_tells}
 use Rattle.events.specs.Letters.{sent_to, AreParcels}
 use Rattle.events.specs.declared.letter.Letter.{Letter}
@@ -31,6 +31,8 @@ use Rattle.board.proofs.Deliveries.{delivered_at, delivered_length}
 use Rattle.board.proofs.Emitting.{records_more, emits_same}
 use Rattle.board.proofs.Ended.{feed_tells, open_tells, role_is}
 use Rattle.board.proofs.Keeping.{kept_more}
+use Rattle.board.proofs.Later.{later}
+use Rattle.board.proofs.Still.{IsLater, after_still}
 use Rattle.board.proofs.Mails.{by_workers}
 use Rattle.board.proofs.Places.{same_set, index_set_here, index_set_other}
 
@@ -89,9 +91,9 @@ module _ (s : Shown) (w : World) (is : Shows s w) (i : ℕ) (there : i < length 
       ∙ ap (λ ms. (side_at s k).mail ++ ms) (sym (parcels_are.each k l))
       ∙ sym (ap (λ (z : Side). z.mail) (delivered_at letters s.sides k l))
 
-  pub shows_feed : Shows (after_feed s i batch letters) (after_step (net s) w (Step.feed i batch))
+  pub shows_feed : IsLater s → Allowed (net s) w (Step.feed i batch) → Shows (after_feed s i batch letters) (after_step (net s) w (Step.feed i batch))
   unfolding x
-  shows_feed =
+  shows_feed later ok =
       let n : length (delivered s.sides letters) ≡ length s.sides = delivered_length letters s.sides in
       record {
         stopped = is.stopped;
@@ -101,7 +103,10 @@ module _ (s : Shown) (w : World) (is : Shows s w) (i : ℕ) (there : i < length 
         mail = λ k l. mail_then k (omega (arith, l, n));
         requests = λ k l. is.requests k (omega (arith, l, n)) ∙ sym (ap (λ (z : Side). z.requests) (delivered_at letters s.sides k (omega (arith, l, n))));
         held = λ k l. is.held k (omega (arith, l, n)) ∙ sym (ap (λ (z : Side). held_of z.place) (delivered_at letters s.sides k (omega (arith, l, n))));
-        absorbed = λ k v l lv. let P : Side → Type 0 = λ z. OnShard (ShowsIn w k v) (known_shard z v) in subst P (sym (delivered_at letters s.sides k (omega (arith, l, n)))) (is.absorbed k v (omega (arith, l, n)) lv);
+        absorbed = λ k v l lv.
+            let P : Side → Type 0 = λ z. OnShard (ShowsIn (net s) w k v) (known_shard z v) in
+            after_still s later w is (Step.feed i batch) ok (length (delivered s.sides letters)) n k v refl (known_shard (side_in (delivered s.sides letters) k) v)
+            (subst P (sym (delivered_at letters s.sides k (omega (arith, l, n)))) (is.absorbed k v (omega (arith, l, n)) lv));
         emitted = is.emitted;
       }
 
@@ -110,7 +115,9 @@ module _ (graph : Graph) (content : Pointstamp → ℕ) (s : Shown) (kept : IsKe
     (parcels_are : AreParcels (net s) 0 i (at_epoch (input_at s i).open_epoch) (λ q. batch) letters) where
   pub feed_goes : Goes s (Step.feed i batch) (after_feed s i batch letters)
   feed_goes = record {
-    step = λ w shows. (((role_is graph content s kept i takes, shows.closed i ∙ takes.2, shows.stopped ∙ takes.0), some), shows_feed s w shows i takes.1 batch some letters parcels_are);
+    step = λ w shows.
+        let ok : Allowed (net s) w (Step.feed i batch) = ((role_is graph content s kept i takes, shows.closed i ∙ takes.2, shows.stopped ∙ takes.0), some) in
+        (ok, shows_feed s w shows i takes.1 batch some letters parcels_are (later graph content s kept) ok);
     graph = refl;
     workers = delivered_length letters s.sides;
     emitted = emits_same s.emitted;

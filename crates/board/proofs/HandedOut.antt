@@ -22,6 +22,7 @@ use Rattle.board.proofs.BoardCalls.{names, same_names}
 use Rattle.board.proofs.Claiming.{may_claim_message, shows_claim_message, may_claim_request, shows_claim_request}
 use Rattle.board.proofs.Committed.{sides_put}
 use Rattle.board.proofs.Keeping.{kept_more}
+use Rattle.board.proofs.Later.{later}
 use Rattle.board.proofs.Places.{index_set_here, index_set_other}
 use Rattle.board.proofs.Ready as ready
 use Rattle.board.proofs.Shards.{each_out}
@@ -93,7 +94,9 @@ module _ (graph : Graph) (content : Pointstamp → ℕ) (s : Shown) (kept : IsKe
           let x : Side = out_with (record (side_at s k) { mail = remove (side_at s k).mail at }) (event_at (shown_graph s.graph) p.job.happening) p.job in
           let slot = slot_there p h.taken v_there x refl refl refl refl in
           record {
-            step = λ w shows. (may_claim_message s w shows k there free p.job slot h.taken.shard at h.message h.happening h.got runs, shows_claim_message s w shows k there free p.job slot h.taken.shard at h.message h.happening h.got);
+            step = λ w shows.
+                let ok = may_claim_message s w shows k there free p.job slot h.taken.shard at h.message h.happening h.got runs in
+                (ok, shows_claim_message s w shows k there free p.job slot h.taken.shard at h.message h.happening h.got (later graph content s kept) ok);
             graph = refl;
             workers = length-set s.sides k x;
             emitted = emits_same s.emitted;
@@ -140,7 +143,9 @@ module _ (graph : Graph) (content : Pointstamp → ℕ) (s : Shown) (kept : IsKe
           let x : Side = out_with (record (side_at s k) { requests = remove (side_at s k).requests at }) (event_at (shown_graph s.graph) p.job.happening) p.job in
           let slot = slot_there p h.taken r_there x refl refl refl refl in
           record {
-            step = λ w shows. (may_claim_request s w shows k there free p.job slot h.taken.shard at h.request h.happening h.got runs (no_other graph content s kept w shows (request_pointstamp h.request) front), shows_claim_request s w shows k there free p.job slot h.taken.shard at h.request h.happening h.got);
+            step = λ w shows.
+                let ok = may_claim_request s w shows k there free p.job slot h.taken.shard at h.request h.happening h.got runs (no_other graph content s kept w shows (request_pointstamp h.request) front) in
+                (ok, shows_claim_request s w shows k there free p.job slot h.taken.shard at h.request h.happening h.got (later graph content s kept) ok);
             graph = refl;
             workers = length-set s.sides k x;
             emitted = emits_same s.emitted;

@@ -9,6 +9,8 @@ pub mod Outputs
 pub mod Sealing
 pub mod Shards
 pub mod Claiming
+pub mod Still
+pub mod Later
 pub mod Committing
 pub mod Facts
 pub mod EpochPlaces
@@ -40,3 +42,4 @@ pub mod Looked
 pub mod Choosing
 pub mod FedBatches
 pub mod RefusalNumbers
+pub mod Forgetting

@@ -24,6 +24,8 @@ use Rattle.board.proofs.Committed.{sides_put}
 use Rattle.board.proofs.Emitting.{emits_same}
 use Rattle.board.proofs.Handing.{worker_there, read_at}
 use Rattle.board.proofs.Keeping.{kept_more}
+use Rattle.board.proofs.Later.{later}
+use Rattle.board.proofs.Still.{IsLater, after_still}
 use Rattle.board.proofs.Places.{put_set_below, same_set}
 use Rattle.board.proofs.MailboxRoom.{sides_same, sides_set}
 use Rattle.board.proofs.Shards.{each_with}
@@ -76,9 +78,9 @@ module _ (s : Shown) (k : ℕ) (there : k < length s.sides) (free : (side_at s k
   unfolding x
   each_merged P each = each_with s k there P P x each (λ i v y ne o. o) (λ v lv. each k v there lv)
 
-  shows_merge : (w : World) → Shows s w → Shows (with_side s k x) (after_step (net s) w (Step.merge k at m n))
+  shows_merge : IsLater s → (w : World) → Shows s w → Shows (with_side s k x) (after_step (net s) w (Step.merge k at m n))
   unfolding x m n
-  shows_merge w is =
+  shows_merge later w is =
       let many : length (slice_set s.sides k x) ≡ length s.sides = length-set s.sides k x in
       record {
         stopped = is.stopped;
@@ -88,26 +90,27 @@ module _ (s : Shown) (k : ℕ) (there : k < length s.sides) (free : (side_at s k
         mail = λ i l. put_set_below (length s.sides) w.mail (λ (z : Side). z.mail) s.sides no_side k x (mail_merged (w.mail k) at m n) there (h.merges.mail ∙ ap (λ (ms : List Message). mail_merged ms at m n) (sym (is.mail k there))) is.mail i (omega (arith, l, many));
         requests = λ i l. same_set (length s.sides) w.requests (λ (z : Side). z.requests) s.sides no_side k x there refl is.requests i (omega (arith, l, many));
         held = λ i l. same_set (length s.sides) w.held (λ (z : Side). held_of z.place) s.sides no_side k x there refl is.held i (omega (arith, l, many));
-        absorbed = λ i v l lv. each_merged (ShowsIn w) is.absorbed i v (omega (arith, l, many)) lv;
+        absorbed = λ i v l lv. after_still s later w is (Step.merge k at m n) (may_merge w is) (length (slice_set s.sides k x)) many i v refl (known_shard (side_in (slice_set s.sides k x) i) v)
+            (each_merged (ShowsIn (net s) w) is.absorbed i v (omega (arith, l, many)) lv);
         emitted = is.emitted;
       }
 
-  goes_then : Goes s (Step.merge k at h.merges.alike.first h.merges.alike.second) (with_side s k (record (side_at s k) { mail = h.mail }))
+  goes_then : IsLater s → Goes s (Step.merge k at h.merges.alike.first h.merges.alike.second) (with_side s k (record (side_at s k) { mail = h.mail }))
   unfolding x m n
-  goes_then = record { step = λ w is. (may_merge w is, shows_merge w is); graph = refl; workers = length-set s.sides k x; emitted = emits_same s.emitted }
+  goes_then later = record { step = λ w is. (may_merge w is, shows_merge later w is); graph = refl; workers = length-set s.sides k x; emitted = emits_same s.emitted }
 
-  pub merge_goes : Goes s (Step.merge k at h.merges.alike.first h.merges.alike.second) t
-  merge_goes = subst (Goes s (Step.merge k at h.merges.alike.first h.merges.alike.second)) (sym h.state) goes_then
+  pub merge_goes : IsLater s → Goes s (Step.merge k at h.merges.alike.first h.merges.alike.second) t
+  merge_goes later = subst (Goes s (Step.merge k at h.merges.alike.first h.merges.alike.second)) (sym h.state) (goes_then later)
 
-  pub merges : Merges s k at t
-  merges = (h.merges.alike.first, h.merges.alike.second, merge_goes)
+  pub merges : IsLater s → Merges s k at t
+  merges later = (h.merges.alike.first, h.merges.alike.second, merge_goes later)
 
   -- one fewer pointstamp is active
   pub merge_kept : (graph : Graph) (content : Pointstamp → ℕ) → IsKept graph content s → (graph' : Graph) (content' : Pointstamp → ℕ) → graph' ≡ graph
       → ((q : Pointstamp) → content' q + one_if_same q place ≡ content q) → IsKept graph' content' t
   unfolding x m n
   merge_kept graph content kept graph' content' same counts =
-      let both = goes_then.step kept.world kept.shows in
+      let both = (goes_then (later graph content s kept)).step kept.world kept.shows in
       let old = kept.sides k there in
       let many : length (slice_set s.sides k x) ≡ length s.sides = length-set s.sides k x in
       let side : IsSideOf s (length s.sides) x = record { wired = old.wired; shards = old.shards; own = λ j e. absurd (let z : Home ≡ Out j = sym free ∙ e in cc) } in

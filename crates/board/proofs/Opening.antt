@@ -1,5 +1,5 @@
 -- The opening: a board to which nothing was fed keeps what a board keeps.
-use Rattle.std.proofs.Common.{◌≡◌, ◌<◌, ◌≤◌, ℕ, zero, suc, false, [], length, refl, sym, ap, ◌∙◌, arith}
+use Rattle.std.proofs.Common.{◌≡◌, ◌<◌, ◌≤◌, ℕ, zero, suc, false, [], length, refl, sym, ap, ◌∙◌, arith, List, ◌∷◌}
 use Rattle.semantics.specs.Graph.{Graph, input_count}
 use Rattle.semantics.specs.Could.{Pointstamp}
 use Rattle.semantics.specs.Dataflow.{IsDataflow}
@@ -12,7 +12,10 @@ use Rattle.vertices.specs.Shards.{Shows as ShowsShard}
 use Rattle.tokens.specs.declared.rule.Place.TheVariants.{Home}
 use Rattle.semantics.proofs.MultisetSums.{≈-from}
 use Rattle.board.specs.Shown.{Shown, InputShown, emitted_by, net, no_input, side_at, input_at, held_of, records_at}
-use Rattle.board.specs.Showing.{Shows, IsSideOf, EachShard}
+use Rattle.board.specs.Showing.{Shows, ShowsIn, IsSideOf, EachShard, known_shard}
+use Rattle.board.proofs.Still.{on_shard}
+use Rattle.semantics.specs.Time.{Time}
+use Rattle.std.specs.List.{AllByRecursion}
 use Rattle.board.specs.Fitting.{FitsPlace, arity_in}
 use Rattle.board.specs.Kept.{IsKept}
 
@@ -30,6 +33,10 @@ nothing_at : (e : ℕ) → records_at [] e ≡ []
 nothing_at zero = refl
 nothing_at (suc e) = refl
 
+none : (us : List Time) → AllByRecursion (λ u. (p : ℕ) → [] ≡ opening.absorbed 0 0 p u) us
+none [] = tt
+none (u ∷ us) = ((λ p. refl), none us)
+
 pub shows_opening : (s : Shown) → IsFresh s → Shows s opening
 shows_opening s is = record {
   stopped = sym is.runs;
@@ -39,7 +46,11 @@ shows_opening s is = record {
   mail = λ k l. sym (is.mail k l);
   requests = λ k l. sym (is.requests k l);
   held = λ k l. ap held_of (sym (is.place k l));
-  absorbed = is.shards;
+  absorbed = λ k v l lv. on_shard (λ x. ShowsShard x (λ p t. [])) (ShowsIn (net s) opening k v) (λ x h. record {
+    kept = λ p t. [];
+    shows = h;
+    same = λ t c. record { here = λ p. refl; back = none ((net s).reads_back v t) };
+  }) (known_shard (side_at s k) v) (is.shards k v l lv);
   emitted = λ v e. ≈-from (sym (ap (λ es. records_at es e) (is.emitted v) ∙ nothing_at e));
 }
 

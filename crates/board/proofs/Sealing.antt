@@ -1,12 +1,13 @@
 -- What a board shows after a seal or a close.
-use Rattle.std.proofs.Common.{◌≡◌, ◌<◌, ◌+◌, ℕ, suc, true, false, length, sym, ap, ◌∙◌, arith}
+use Rattle.std.proofs.Common.{◌≡◌, ◌<◌, ◌+◌, ℕ, suc, true, false, length, refl, sym, ap, ◌∙◌, arith}
 use Rattle.semantics.specs.Kinds.{Role}
 use Rattle.machine.specs.World.{World}
 use Rattle.machine.specs.Step.{Step, Allowed, after_step}
-use Rattle.board.specs.Shown.{Shown, InputShown, input_at, no_input, net, records_at}
-use Rattle.board.specs.Showing.{Shows}
+use Rattle.board.specs.Shown.{Shown, InputShown, input_at, side_at, no_input, net, records_at}
+use Rattle.board.specs.Showing.{Shows, known_shard}
 use Rattle.board.specs.Steps.{after_seal, after_close}
 use Rattle.board.proofs.Places.{put_set, same_set}
+use Rattle.board.proofs.Still.{IsLater, after_still}
 
 module _ (s : Shown) (w : World) (is : Shows s w) (i : ℕ) (there : i < length s.inputs) where
   module _ (role : (net s).role i ≡ Role.input) (open_still : (input_at s i).closed ≡ false) (runs : s.stopped ≡ false) where
@@ -16,8 +17,8 @@ module _ (s : Shown) (w : World) (is : Shows s w) (i : ℕ) (there : i < length 
     pub may_close : Allowed (net s) w (Step.close i)
     may_close = (role, is.closed i ∙ open_still, is.stopped ∙ runs)
 
-  pub shows_seal : Shows (after_seal s i) (after_step (net s) w (Step.seal i))
-  shows_seal =
+  pub shows_seal : IsLater s → Allowed (net s) w (Step.seal i) → Shows (after_seal s i) (after_step (net s) w (Step.seal i))
+  shows_seal later ok =
       let x : InputShown = record (input_at s i) { open_epoch = (input_at s i).open_epoch + 1 } in
       record {
         stopped = is.stopped;
@@ -27,12 +28,12 @@ module _ (s : Shown) (w : World) (is : Shows s w) (i : ℕ) (there : i < length 
         mail = is.mail;
         requests = is.requests;
         held = is.held;
-        absorbed = is.absorbed;
+        absorbed = λ k v l lv. after_still s later w is (Step.seal i) ok (length s.sides) refl k v refl (known_shard (side_at s k) v) (is.absorbed k v l lv);
         emitted = is.emitted;
       }
 
-  pub shows_close : Shows (after_close s i) (after_step (net s) w (Step.close i))
-  shows_close =
+  pub shows_close : IsLater s → Allowed (net s) w (Step.close i) → Shows (after_close s i) (after_step (net s) w (Step.close i))
+  shows_close later ok =
       let x : InputShown = record (input_at s i) { closed = true } in
       record {
         stopped = is.stopped;
@@ -42,6 +43,6 @@ module _ (s : Shown) (w : World) (is : Shows s w) (i : ℕ) (there : i < length 
         mail = is.mail;
         requests = is.requests;
         held = is.held;
-        absorbed = is.absorbed;
+        absorbed = λ k v l lv. after_still s later w is (Step.close i) ok (length s.sides) refl k v refl (known_shard (side_at s k) v) (is.absorbed k v l lv);
         emitted = is.emitted;
       }

@@ -91,3 +91,26 @@ module _ (s : Shown) (k : ℕ) (there : k < length s.sides) where
           let A : Option Shard → Type 0 = λ o. OnShard (Q k u) o in
           let B : Option Shard → Type 0 = λ o. OnShard (P k u) (known o (side_at s k).place) in
           subst A (sym e) (still k u z.0 (inr q) (subst B z.1 (each k u there lu)))
+
+  -- another shard is in the place of one that is at home
+  pub each_changed : (P Q : (worker vertex : ℕ) → Shard → Type 0) (v : ℕ) (y : Shard) (x : Side) → EachShard s P → v < length (side_at s k).shards
+      → x.shards ≡ slice_set (side_at s k).shards v (Some y) → x.place ≡ (side_at s k).place
+      → Q k v y → ((i u : ℕ) (z : Shard) → P i u z → Q i u z)
+      → (i u : ℕ) → i < length s.sides → u < length (shown_graph s.graph) → OnShard (Q i u) (known_shard (side_in (slice_set s.sides k x) i) u)
+  each_changed P Q v y x each lv shards place new still =
+      each_with P Q x each (λ i u z ne h. still i u z h) (λ u lu. at u lu (eqb_tells u v))
+    where
+      over : (u : ℕ) (o : Option Shard) → OnShard (P k u) o → OnShard (Q k u) o
+      over u None h = h
+      over u (Some z) h = still k u z h
+
+      at : (u : ℕ) → u < length (shown_graph s.graph) → ((u == v) ≡ true) × (u ≡ v) ⊎ ((u == v) ≡ false) × (u ≢ v) → OnShard (Q k u) (known_shard x u)
+      at u lu (inl (t, q)) =
+          let e : known_shard x u ≡ Some y = (λ i. known (slice_index_or (shards i) u None) (place i)) ∙ ap (λ n. known (slice_index_or (slice_set (side_at s k).shards v (Some y)) n None) (side_at s k).place) q ∙ ap (λ o. known o (side_at s k).place) (index_set_here (side_at s k).shards v (Some y) None lv) in
+          let A : Option Shard → Type 0 = λ o. OnShard (Q k u) o in
+          let B : ℕ → Type 0 = λ n. Q k n y in
+          subst A (sym e) (subst B (sym q) new)
+      at u lu (inr (t, q)) =
+          let e : known_shard x u ≡ known_shard (side_at s k) u = (λ i. known (slice_index_or (shards i) u None) (place i)) ∙ ap (λ o. known o (side_at s k).place) (index_set_other (side_at s k).shards v u (Some y) None q) in
+          let A : Option Shard → Type 0 = λ o. OnShard (Q k u) o in
+          subst A (sym e) (over u (known_shard (side_at s k) u) (each k u there lu))

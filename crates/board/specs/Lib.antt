@@ -17,3 +17,4 @@ pub mod Picks
 pub mod Codes
 pub mod Fresh
 pub mod Looks
+pub mod Forgetting

@@ -14,6 +14,7 @@ ghost use Rattle.semantics.specs.Limits.{max_workers};
 ghost use Rattle.board.specs.Answers.{AnswersOnly, AnswersOr, Claims, Commits, Hands, HasChoice, HasNoChoice};
 ghost use Rattle.board.specs.Answers.{Holds, IfNothing, Merges, feed_refusal, input_refusal, seal_refusal};
 ghost use Rattle.board.specs.Kept.{Goes};
+ghost use Rattle.board.specs.Forgetting.{KeepsLess};
 ghost use Rattle.board.specs.Merging.{AreAlike, window};
 ghost use Rattle.board.specs.Commits.{IsOf};
 ghost use Rattle.tokens.specs.declared.rule.Place.TheVariants.{Home};
@@ -366,8 +367,27 @@ impl<V: Views> Board<V> {
     {
         let number = worker as usize;
         match self.state.next_message(number) {
-            Some(place) => Some(self.state.claim_message(number, place)),
+            Some(place) => {
+                self.forget(worker, place);
+                Some(self.state.claim_message(number, place))
+            }
             None => None,
+        }
+    }
+
+    /// Lets go of what the shard of a message's vertex keeps of an earlier time, if the worker sees that it has passed there.
+    fn forget(&mut self, worker: u32, place: usize)
+        requires there { worker < length self.old.shown.sides }
+        requires free { (side_at self.old.shown worker).place ≡ Home }
+        requires some { place < length (side_at self.old.shown worker).mail }
+        ensures less { KeepsLess self.old.shown self.new.shown worker }
+        ensures views { IsAsLate self.old self.new }
+    {
+        let number = worker as usize;
+        if let Some(earlier) = self.state.earlier(number, place) {
+            if self.views.none_before(worker, &earlier) {
+                self.state.forget(number, &earlier);
+            }
         }
     }
 

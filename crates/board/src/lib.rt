@@ -12,6 +12,8 @@
 //! - A view may be late (`views`), but it never lets through what the active pointstamps hold back. The board reports an epoch as passed
 //!   only when it has passed, and exactly then if nothing waits for the first worker. A worker is idle only when its view is up to date.
 //!   What has passed stays passed, and on a drained board every epoch has passed (`Board::law_drained`).
+//! - A claim lets go of what the event's shard keeps of one time that has passed at its vertex, as the worker sees it. So what is kept is
+//!   that of the times that can still come; a shard shows what the world says at each of those (`specs/Showing.antt`, `ShowsIn`).
 //! - An event is known by its token (`tokens`): only an event that this board handed out can come back to it, and only once.
 //!
 //! A worker is in one of three states:

@@ -1,8 +1,10 @@
 //! The place of a vertex's shard on the board.
 
-ghost use Rattle.std.specs.Prelude.{◌≡◌, Some, None};
+ghost use Rattle.std.specs.Prelude.{◌≡◌, Some, None, OnSome};
+ghost use Rattle.board.specs.Forgetting.{LetsGoAt, LooksHere};
 ghost use Rattle.vertices.specs.declared.shard.Shard as shard;
 
+use loop_context::Time;
 use std::marker::Model;
 use vertices::Shard;
 
@@ -49,6 +51,27 @@ impl Slot {
         ensures empty { self.new ≡ None }
     {
         self.shard.take().unwrap()
+    }
+
+    /// A time of which the shard keeps something that it may let go, and that may have passed when something comes at `now`.
+    pub fn earlier(&self, now: &Time) -> Option<Time>
+        ensures { OnSome result (LooksHere self.now) }
+    {
+        match &self.shard {
+            Some(shard) => shard.earlier(now),
+            None => None,
+        }
+    }
+
+    /// Lets the shard go of what it keeps of a time.
+    pub fn forget(&mut self, time: &Time)
+        requires { (x : shard.Shard) × (self.old ≡ Some x) }
+        ensures { LetsGoAt time.now self.old self.new }
+    {
+        if let Some(shard) = &mut self.shard {
+            let shard: &mut Shard = shard;
+            shard.forget(time);
+        }
     }
 
     /// Puts the shard back.

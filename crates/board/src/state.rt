@@ -12,6 +12,7 @@ ghost use Rattle.graph.specs.Limits.{max_vertices};
 ghost use Rattle.board.specs.Answers.{input_refusal};
 ghost use Rattle.board.specs.Commits.{FeedsBy, IsOf, SettlesBy};
 ghost use Rattle.board.specs.WorkerShown.{is_out};
+ghost use Rattle.board.specs.Forgetting.{ForgetsAt, MayForget};
 ghost use Rattle.board.specs.Fresh.{IsNew};
 ghost use Rattle.board.specs.Kept.{IsKept};
 ghost use Rattle.board.specs.Merging.{AreAlike, window};
@@ -390,6 +391,42 @@ impl State {
         ensures same { IfNone result (self.new ≡ self.old) }
     {
         self.workers[worker].merge(place)
+    }
+
+    /// A time of which the shard of a message's vertex keeps something that it may let go, at that vertex, and that may have passed.
+    pub fn earlier(&self, worker: usize, place: usize) -> Option<Pointstamp>
+        requires there { worker < length self.now.sides }
+        requires free { (side_at self.now worker).place ≡ Home }
+        requires some { place < length (side_at self.now worker).mail }
+        requires kept { (graph : Definition) × (content : Active → ℕ) × IsKept graph content self.now }
+        ensures { IfSome result (λ p. MayForget self.now worker p) }
+    {
+        let worker = &self.workers[worker];
+        let message = worker.mailbox().get(place);
+        let depth = message.time().depth();
+        let vertex = self.wiring.graph().edge(message.edge()).target;
+        match worker.earlier(vertex.0 as usize, message.time()) {
+            Some(time) if time.depth() == depth => {
+                Some(Pointstamp::new(time, Location::Vertex(vertex)))
+            }
+            Some(_) => None,
+            None => None,
+        }
+    }
+
+    /// Lets the worker's shard of a vertex go of what it keeps of a time.
+    pub fn forget(&mut self, worker: usize, passed: &Pointstamp)
+        requires there { worker < length self.old.sides }
+        requires may { MayForget self.old worker passed.now }
+        requires kept { (graph : Definition) × (content : Active → ℕ) × IsKept graph content self.old }
+        ensures { ForgetsAt self.old self.new worker passed.now }
+    {
+        match passed.location() {
+            Location::Vertex(vertex) => {
+                self.workers[worker].forget(vertex.0 as usize, passed.time());
+            }
+            Location::Edge(_) => unreachable!(),
+        }
     }
 
     /// Hands out a message. Takes no memory.

@@ -1,10 +1,11 @@
 //! A worker's part of the board.
 
 ghost use Rattle.std.specs.Prelude.{◌≡◌, ◌≢◌, ◌<◌, ◌≤◌, ◌+◌, ℕ, [], length, remove, slice_get};
-ghost use Rattle.std.specs.Prelude.{slice_index_or, Some, None, IfNone, IfOk, IfSome, OnOk, MatchBool};
+ghost use Rattle.std.specs.Prelude.{slice_index_or, Some, None, IfNone, IfOk, IfSome, OnOk, OnSome, MatchBool};
 ghost use Rattle.machine.specs.World.{Event as Happens, Message as Mail, Request as RequestShown};
 ghost use Rattle.tokens.specs.declared.rule.Place.TheVariants.{Home, Out, Lost};
 ghost use Rattle.vertices.specs.declared.shard.Shard as shard;
+ghost use Rattle.board.specs.Forgetting.{ForgetsIn, LooksHere};
 ghost use Rattle.board.specs.WorkerShown.{IsIdle, is_out};
 ghost use Rattle.board.specs.Merging.{AreAlike, AreMerged, window};
 ghost use Rattle.board.specs.Steps.{out_with, settled, with_mail};
@@ -13,6 +14,7 @@ use crate::merging::{merge, next_alike};
 use crate::slot::Slot;
 use events::{Event, Happening, Message, Request, Wiring};
 use exchange::Mailbox;
+use loop_context::Time;
 use path_summary::Pointstamp;
 use record_core::NoMemory;
 use std::alloc::{AllocError, Global};
@@ -219,6 +221,23 @@ impl Worker {
         };
         let stub = self.tie.send(&event);
         (event, stub)
+    }
+
+    /// A time of which the shard of a vertex keeps something that it may let go, and that may have passed when something comes at `now`.
+    pub fn earlier(&self, vertex: usize, now: &Time) -> Option<Time>
+        requires { vertex < length self.now.side.shards }
+        ensures { OnSome result (LooksHere (slice_index_or self.now.side.shards vertex None)) }
+    {
+        self.shards[vertex].earlier(now)
+    }
+
+    /// Lets the shard of a vertex go of what it keeps of a time.
+    pub fn forget(&mut self, vertex: usize, time: &Time)
+        requires vertex { vertex < length self.old.side.shards }
+        requires shard { (x : shard.Shard) × (slice_index_or self.old.side.shards vertex None ≡ Some x) }
+        ensures forgets { ForgetsIn self.old.side self.new.side vertex time.now }
+    {
+        self.shards[vertex].forget(time);
     }
 
     /// Shows by the token that its event is the one that is out. Changes nothing.

@@ -1,5 +1,5 @@
 -- A map of states by time, with one state written.
-use Rattle.std.proofs.Common.{◌≡◌, ℕ, nat_eq, ◌==◌, Bool, true, false, cond, ◌&&◌, List, [], ◌++◌, Some, None, refl, sym, subst, append-nil}
+use Rattle.std.proofs.Common.{◌≡◌, ℕ, nat_eq, ◌==◌, Bool, true, false, cond, ◌&&◌, List, [], ◌++◌, Some, None, refl, sym, ap, subst, append-nil}
 use Rattle.std.proofs.lemmas.Bool.{true≢false}
 use mathlib.Core.Path.{fun_ext}
 use Rattle.std.specs.Cmp.Lexicographic.{pointwise, pointwise_decides}
@@ -8,7 +8,7 @@ use Rattle.indexmap.specs.IndexMap.{IndexMap, get}
 use Rattle.semantics.specs.Multiset.{Record}
 use Rattle.semantics.specs.Time.{Time, same_time}
 use Rattle.semantics.specs.Shard.{Absorbed, with_records}
-use Rattle.vertices.specs.ByTime.{IsStateOf, AreStatesOf}
+use Rattle.vertices.specs.ByTime.{IsStateOf, AreStatesOf, Forgets}
 
 both_true : (x y : Bool) → x && y ≡ true → (x ≡ true) × (y ≡ true)
 both_true true y e = (refl, e)
@@ -49,3 +49,17 @@ module _ {S H : Type 0} (m n : IndexMap Time S H) (time : Time) (v : S) (e : (t 
       go : (b : Bool) → same_time time t ≡ b → IsStateOf P (cond b (Some v) (get same_time m t)) (λ p. a p t ++ cond (port == p) (cond b batch []) [])
       go true s = subst (λ u. P v (λ p. a p u ++ cond (port == p) batch [])) (one_time time t s) now
       go false s = subst (IsStateOf P (get same_time m t)) (fun_ext (λ p. unchanged p (port == p))) (h t)
+
+-- without what came at a time
+pub without : Time → Absorbed → Absorbed
+without time a p t = cond (same_time time t) [] (a p t)
+
+module _ {S H : Type 0} (m n : IndexMap Time S H) (time : Time) (e : (t : Time) → get same_time n t ≡ cond (same_time time t) None (get same_time m t)) where
+  -- the state of a time is let go
+  pub states_forgotten : (P : S → (ℕ → List Record) → Type 0) → Forgets (AreStatesOf P m) (AreStatesOf P n) time
+  unfolding without
+  states_forgotten P a h = (without time a, (λ t. subst (λ o. IsStateOf P o (λ p. cond (same_time time t) [] (a p t))) (sym (e t)) (go t (same_time time t))), (λ u s p. ap (λ b. cond b [] (a p u)) s))
+    where
+      go : (t : Time) (b : Bool) → IsStateOf P (cond b None (get same_time m t)) (λ p. cond b [] (a p t))
+      go t true = λ p. refl
+      go t false = h t

@@ -1,5 +1,5 @@
 -- A state for each exact time at which something was absorbed.
-use Rattle.std.specs.Prelude.{◌≡◌, ℕ, List, [], Option, Some, None}
+use Rattle.std.specs.Prelude.{◌≡◌, ℕ, false, List, [], Option, Some, None}
 use Rattle.indexmap.specs.IndexMap.{IndexMap, get}
 use Rattle.semantics.specs.Multiset.{Record}
 use Rattle.semantics.specs.Time.{Time, same_time}
@@ -21,3 +21,11 @@ ForAbsorbed P states t Q = (a : Absorbed) → AreStatesOf P states a → Q (λ p
 -- the new states are of the records of the old ones, and of these more at a port and time
 abbrev pub Absorbs : {S H : Type 0} → (S → (ℕ → List Record) → Type 0) → (old new : IndexMap Time S H) → (port : ℕ) → Time → List Record → Type 0
 Absorbs P old new port t records = (a : Absorbed) → AreStatesOf P old a → AreStatesOf P new (with_records a port t records)
+
+-- the two are the same at every time but this one
+abbrev pub AgreeBut : Time → Absorbed → Absorbed → Type 0
+AgreeBut t a b = (u : Time) → same_time t u ≡ false → (p : ℕ) → b p u ≡ a p u
+
+-- what was shown before is still shown, but for what came at this time
+abbrev pub Forgets : (old new : Absorbed → Type 0) → Time → Type 0
+Forgets old new t = (a : Absorbed) → old a → (b : Absorbed) × new b × AgreeBut t a b

@@ -9,11 +9,12 @@ ghost use Rattle.semantics.specs.Kinds.{Role};
 ghost use Rattle.semantics.specs.Limits.{max_fields};
 ghost use Rattle.semantics.specs.Multiset.{◌≈◌};
 ghost use Rattle.semantics.specs.Shard.{Absorbed, asks};
-ghost use Rattle.vertices.specs.ByTime.{Absorbs, AreStatesOf, ForAbsorbed};
+ghost use Rattle.vertices.specs.ByTime.{Absorbs, AreStatesOf, ForAbsorbed, Forgets};
 ghost use Rattle.vertices.specs.Groups.{AreGroupRecords, columns_of, group_records, key_arity};
 ghost use Rattle.vertices.specs.Piles.{IsPileThen};
 ghost use Rattle.vertices.specs.declared.fault.ShardFault.TheVariants as fault;
 
+use crate::by_time::{earlier, forget};
 use crate::fault::ShardFault;
 use crate::groups::{Groups, key_arity};
 use crate::pile::Pile;
@@ -124,5 +125,18 @@ impl GroupShard {
         }
         let rows = groups.finished(alloc, &self.operator)?;
         Ok(rows)
+    }
+    /// A time of which it keeps something, and that may have passed when something comes at `now`.
+    pub(crate) fn earlier(&self, now: &Time) -> Option<Time> {
+        earlier(&self.times, now)
+    }
+
+    /// Lets go of what it keeps of a time.
+    pub(crate) fn forget(&mut self, time: &Time)
+        ensures arity { self.new.arity ≡ self.old.arity }
+        ensures operator { self.new.operator ≡ self.old.operator }
+        ensures forgets { Forgets (AreStatesOf (IsPileThen self.old.arity) self.old.times) (AreStatesOf (IsPileThen self.old.arity) self.new.times) time.now }
+    {
+        let _state = forget(&mut self.times, time);
     }
 }

@@ -17,10 +17,14 @@
 //! would then have absorbed, or of what the call would send, is above 9223372036854775807. After a refusal the shard is spoiled, and
 //! can only be dropped.
 //!
+//! A time that has passed at the vertex is let go: `Shard::earlier` names one that may have passed, and `Shard::forget` drops what is kept
+//! of it. An unseen keeps all, since its notifications read what came at earlier turns.
+//!
 //! Built on `operators`, `rows`, `loop_context`, `expr_tree`, `record_core` and `semantics`, and on `indexmap`, which keeps the states by
 //! time. `events` makes the shards of a graph's vertices, and the board hands them out with their events.
 #![tactic(auto)]
 
+mod by_time;
 mod counted_index;
 mod distinct;
 mod except;

@@ -1,10 +1,11 @@
 //! Vertices with a state that send once they are notified that nothing more comes at a time.
 
-ghost use Rattle.std.specs.Prelude.{◌≡◌, ◌<◌, ◌++◌, ℕ, None, false, IfErr, OnOk};
+ghost use Rattle.std.specs.Prelude.{◌≡◌, ◌<◌, ◌++◌, ℕ, None, false, IfErr, OnOk, OnSome};
 ghost use Rattle.rows.specs.Counts.{AllFit, IsOver};
 ghost use Rattle.rows.specs.FlatRows.{arity_of};
-ghost use Rattle.semantics.specs.Kinds.{Kind, Role, in_ports, out_ports};
+ghost use Rattle.semantics.specs.Kinds.{Kind, Role, in_ports, looks_back, out_ports};
 ghost use Rattle.semantics.specs.Shard.{Absorbed, asks, with_records};
+ghost use Rattle.vertices.specs.ByTime.{Forgets};
 ghost use Rattle.vertices.specs.Notified.{NotifiedShows, NotifiedTakes, notified_kind};
 ghost use Rattle.vertices.specs.Outs.{SendsFor, SendsForNotification, asks_at, sent};
 ghost use Rattle.vertices.specs.declared.fault.ShardFault.TheVariants.{Count, NoMemory};
@@ -93,6 +94,31 @@ impl Notified {
                 unseen_notified(shard, alloc, time, out)?;
                 Ok(())
             }
+        }
+    }
+
+    /// A time of which it keeps something, and that may have passed when something comes at `now`; `None` also if its notifications read
+    /// what came at other times.
+    pub(crate) fn earlier(&self, now: &Time) -> Option<Time>
+        ensures { OnSome result (looks_back (notified_kind self.now) ≡ false) }
+    {
+        match self {
+            Notified::Group(shard) => shard.earlier(now),
+            Notified::Except(shard) => shard.earlier(now),
+            Notified::Unseen(_) => None,
+        }
+    }
+
+    /// Lets go of what it keeps of a time, unless its notifications read what came at other times.
+    pub(crate) fn forget(&mut self, time: &Time)
+        ensures kind { notified_kind self.new ≡ notified_kind self.old }
+        ensures arity { (p n : ℕ) → NotifiedTakes self.old p n → NotifiedTakes self.new p n }
+        ensures forgets { Forgets (NotifiedShows self.old) (NotifiedShows self.new) time.now }
+    {
+        match self {
+            Notified::Group(shard) => shard.forget(time),
+            Notified::Except(shard) => shard.forget(time),
+            Notified::Unseen(_) => {}
         }
     }
 }

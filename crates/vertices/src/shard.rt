@@ -1,9 +1,10 @@
 //! The shard of a vertex of any kind.
 
-ghost use Rattle.std.specs.Prelude.{◌≡◌, ◌<◌, ◌↔◌, ℕ, None, false, IfErr, IsTrue, OnOk};
+ghost use Rattle.std.specs.Prelude.{◌≡◌, ◌<◌, ◌↔◌, ℕ, None, false, IfErr, IsTrue, OnOk, OnSome};
 ghost use Rattle.rows.specs.FlatRows.{arity_of};
-ghost use Rattle.semantics.specs.Kinds.{Kind, Role, in_ports, role};
+ghost use Rattle.semantics.specs.Kinds.{Kind, Role, in_ports, looks_back, role};
 ghost use Rattle.semantics.specs.Shard.{Absorbed};
+ghost use Rattle.vertices.specs.ByTime.{Forgets};
 ghost use Rattle.vertices.specs.Outs.{SendsForNotification};
 ghost use Rattle.vertices.specs.Shards.{Shows, TakesArity, shard_kind};
 ghost use Rattle.vertices.specs.TakesIn.{Absorbs, AsksForBatch, IsTooMuch, KeptFit, SendsForBatch, SentFit};
@@ -93,6 +94,47 @@ impl Shard {
             Shard::Output => unreachable!(),
             Shard::Stateless(_) => unreachable!(),
             Shard::Stateful(_) => unreachable!(),
+        }
+    }
+
+    /// A time of which it keeps something, and that may have passed when something comes at `now`: the turn before in the same loop, or the
+    /// epoch before outside loops, or another. `None` also if it keeps nothing by time, or if its notifications read what came at other times.
+    pub fn earlier(&self, now: &Time) -> Option<Time>
+        ensures { OnSome result (looks_back (shard_kind self.now) ≡ false) }
+    {
+        match self {
+            Shard::Input => None,
+            Shard::Output => None,
+            Shard::Stateless(_) => None,
+            Shard::Stateful(state) => {
+                let state: &Stateful = state;
+                state.earlier(now)
+            }
+            Shard::Notified(state) => {
+                let state: &Notified = state;
+                state.earlier(now)
+            }
+        }
+    }
+
+    /// Lets go of what it keeps of a time. What it shows of other times is as it was.
+    pub fn forget(&mut self, time: &Time)
+        ensures kind { shard_kind self.new ≡ shard_kind self.old }
+        ensures arity { (p n : ℕ) → TakesArity self.old p n → TakesArity self.new p n }
+        ensures forgets { Forgets (Shows self.old) (Shows self.new) time.now }
+    {
+        match self {
+            Shard::Input => {}
+            Shard::Output => {}
+            Shard::Stateless(_) => {}
+            Shard::Stateful(state) => {
+                let state: &mut Stateful = state;
+                state.forget(time);
+            }
+            Shard::Notified(state) => {
+                let state: &mut Notified = state;
+                state.forget(time);
+            }
         }
     }
 

@@ -9,6 +9,7 @@ use Rattle.board.specs.Shown.{Shown, side_at, tables}
 use Rattle.board.specs.Steps.{after_abandon}
 use Rattle.board.proofs.Facts.{own_side}
 use Rattle.board.proofs.Counted.{keeps_abandon}
+use Rattle.board.proofs.Later.{later}
 use Rattle.board.proofs.Abandoning.{abandon_goes, abandon_tables}
 use Rattle.board.specs.Lateness.{BoardShown}
 use Rattle.board.proofs.board.Board.abandon.Goals as goal
@@ -34,7 +35,7 @@ returns-clause-step g c =
     let out : (side_at s p.worker).place ≡ Out p.job = ap (λ (n : ℕ). (side_at s n).place) (sym c.worker-worker.ensures) ∙ c.abandon.ensures.out ∙ ap Out job in
     let now : c.abandon.new.self ≡ after_abandon s p.worker p.job = c.abandon.ensures.state ∙ (λ i. after_abandon s (c.worker-worker.ensures i) (job i)) in
     let A : Shown → Type 0 = λ z. Goes z (Step.abandon p.worker p.job.happening) c.abandon.new.self in
-    subst A (ap (λ (b : BoardShown). b.shown) c.self.view_is) (subst (Goes s (Step.abandon p.worker p.job.happening)) (sym now) (abandon_goes s p.worker own.0 p.job out))
+    subst A (ap (λ (b : BoardShown). b.shown) c.self.view_is) (subst (Goes s (Step.abandon p.worker p.job.happening)) (sym now) (abandon_goes s p.worker own.0 p.job out (later (g.V.Views.graph c.self.inside.views) (g.V.Views.content c.self.inside.views) s c.self.invariant.kept)))
 
 pub returns-clause-tables : goal.returns-clause-tables
 returns-clause-tables g c =

@@ -9,6 +9,7 @@ use Rattle.board.specs.Lateness.{BoardShown, Posts}
 use Rattle.board.specs.Shown.{Shown, side_at, tables}
 use Rattle.board.proofs.Counted.{few_open, keeps_same, merged_passed}
 use Rattle.board.proofs.Lateness.{board_of, counts_same, posted_prompt, posted_some, posts}
+use Rattle.board.proofs.Later.{later}
 use Rattle.board.proofs.Merged.{granted, merge_goes, merge_tables, merges}
 use Rattle.board.proofs.Posts.{may_merge, merge_posted}
 use Rattle.board.proofs.board.Board.merge.Goals as goal
@@ -50,7 +51,7 @@ passed_now-self-inside-requires-clause-viewers g c =
     let runs : s.stopped ≡ false = sym c.is_stopped.ensures ∙ c.if-is_stopped.false in
     let n = c.self.invariant.viewers_are in
     let h : MergesMail s c.merge.new.self k c.args.place c.in-Some.ends = c.in-Some.ensures.merges in
-    c.post.ensures.workers ∙ c.reserve.ensures.workers ∙ n ∙ sym (merge_goes s k there free runs c.merge.new.self c.args.place c.in-Some.ends h).workers
+    c.post.ensures.workers ∙ c.reserve.ensures.workers ∙ n ∙ sym (merge_goes s k there free runs c.merge.new.self c.args.place c.in-Some.ends h (later (g.V.Views.graph c.self.inside.views) (g.V.Views.content c.self.inside.views) s c.self.invariant.kept)).workers
 
 pub passed_now-self-inside-requires-clause-passed : goal.passed_now-self-inside-requires-clause-passed
 passed_now-self-inside-requires-clause-passed g c =
@@ -74,7 +75,7 @@ invariant_of-self-in-Some g c =
     let h : MergesMail s c.merge.new.self k c.args.place c.in-Some.ends = c.in-Some.ensures.merges in
     record {
       kept = merge_posted (g.V.Views.graph c.self.inside.views) (g.V.Views.graph c.post.new.views) (g.V.Views.content c.self.inside.views) (g.V.Views.content c.reserve.new.self) (g.V.Views.content c.post.new.views) s c.self.invariant.kept k there free runs c.merge.new.self c.args.place c.in-Some.ends h (c.post.ensures.graph ∙ c.reserve.ensures.graph) c.reserve.ensures.content c.post.ensures.content;
-      viewers_are = c.post.ensures.workers ∙ c.reserve.ensures.workers ∙ n ∙ sym (merge_goes s k there free runs c.merge.new.self c.args.place c.in-Some.ends h).workers;
+      viewers_are = c.post.ensures.workers ∙ c.reserve.ensures.workers ∙ n ∙ sym (merge_goes s k there free runs c.merge.new.self c.args.place c.in-Some.ends h (later (g.V.Views.graph c.self.inside.views) (g.V.Views.content c.self.inside.views) s c.self.invariant.kept)).workers;
       closes = (
           let r = granted c.reserve.result (sym c.is_err.ensures.value ∙ c.if-is_err.false) c.reserve.ensures.room in
           let p = c.post.ensures.room in
@@ -108,7 +109,7 @@ returns-in-Some-clause-merges g c e =
     let runs : s.stopped ≡ false = sym c.is_stopped.ensures ∙ c.if-is_stopped.false in
     let n = c.self.invariant.viewers_are in
     let h : MergesMail s c.merge.new.self k c.args.place c.in-Some.ends = c.in-Some.ensures.merges in
-    subst (λ (z : BoardShown). Merges z.shown k c.args.place c.merge.new.self) c.self.view_is (merges s k there free runs c.merge.new.self c.args.place c.in-Some.ends h)
+    subst (λ (z : BoardShown). Merges z.shown k c.args.place c.merge.new.self) c.self.view_is (merges s k there free runs c.merge.new.self c.args.place c.in-Some.ends h (later (g.V.Views.graph c.self.inside.views) (g.V.Views.content c.self.inside.views) s c.self.invariant.kept))
 
 pub returns-in-Some-clause-tables : goal.returns-in-Some-clause-tables
 returns-in-Some-clause-tables g c =

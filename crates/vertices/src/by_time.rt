@@ -1,0 +1,51 @@
+//! States by time.
+
+ghost use Rattle.std.specs.Prelude.{◌≡◌, cond, None};
+ghost use Rattle.indexmap.specs.IndexMap.{get};
+ghost use Rattle.semantics.specs.Time.{Time as TimeShown, same_time};
+
+use indexmap::IndexMap;
+use loop_context::{MAX_LOOPS, Time};
+
+/// A time that has a state, and that may have passed when something comes at `now`: the turn before in the same loop, or the epoch before
+/// outside loops; where that has none, the first in the map.
+pub(crate) fn earlier<S: Drop>(times: &IndexMap<Time, S>, now: &Time) -> Option<Time> {
+    if let Some(before) = before(now) {
+        if times.contains_key(&before) {
+            return Some(before);
+        }
+    }
+    match times.first() {
+        Some((time, _)) => Some(time.copied()),
+        None => None,
+    }
+}
+
+/// Lets go of the state of a time, and gives it, if there is one. Takes constant time.
+pub(crate) fn forget<S: Drop>(times: &mut IndexMap<Time, S>, time: &Time) -> Option<S>
+    ensures { (t : TimeShown) → get same_time times.new t ≡ cond (same_time time.now t) None (get same_time times.old t) }
+{
+    times.swap_remove(time)
+}
+
+/// The turn before in the same loop, or the epoch before outside loops.
+fn before(time: &Time) -> Option<Time> {
+    let counters = time.counters();
+    let depth = time.depth();
+    if depth == 0 {
+        return match time.epoch().checked_sub(1) {
+            Some(epoch) => Some(Time::at_epoch(epoch)),
+            None => None,
+        };
+    }
+    let last = time.last_counter();
+    if last == 0 {
+        return None;
+    }
+    let mut earlier = [0u32; MAX_LOOPS];
+    for place in 0..depth {
+        earlier[place] = counters[place];
+    }
+    earlier[depth - 1] = last - 1;
+    Time::new(time.epoch(), &earlier[..depth])
+}
