@@ -1,2 +1,3 @@
-pub mod PossibleChanges
 pub mod FirstEpochs
+pub mod PossibleChanges
+pub mod StillWorks

@@ -1,112 +1,128 @@
-//! Routes worked out by hand, batches that are split, and mailboxes.
+//! Calls on routes: the workers of keys and of records, and batches that are split among workers.
 
-use exchange::{MAX_WORKERS, Mailbox, Routing, route, split};
-use record_core::NoMemory;
-use rows::{Batch, Rows};
-use std::alloc::Global;
-use std::test::Fail;
+ghost use Rattle.std.specs.Prelude.{◌<◌, ◌≤◌, IfSome};
+ghost use Rattle.semantics.specs.Limits.{max_workers};
 
-#[test]
-fn keys_go_to_their_workers(rt: HostRuntime) {
-    assert_eq!(rt; route(&[5], 3), 0);
-    assert_eq!(rt; route(&[-1], 5), 1);
-    assert_eq!(rt; (route(&[1], 2), route(&[2], 2)), (0, 1));
-    assert_eq!(rt; (route(&[1, 2], 3), route(&[1, 2], MAX_WORKERS)), (1, 40));
-    assert_eq!(rt; route(&[], 5), 2);
+use crate::texts::{columns_of, fields_in, no_such_call, numbers_of, records_of, said, shown};
+use exchange::{MAX_WORKERS, Parcels, Routing, route, split};
+use pages::Subject;
+use rows::Batch;
+use std::alloc::{AllocError, Global};
+use vertices::ShardFault;
+
+/// Calls that need nothing but what their line says.
+#[derive(Drop)]
+pub struct Routes;
+
+fn worker(alloc: Global, worker: u32) -> Result<String, ShardFault> {
+    Ok(format!(in alloc; "{worker}")?)
 }
 
-#[test]
-fn records_go_by_key_by_all_fields_or_stay(rt: HostRuntime) -> Result<(), Fail> {
-    let columns = Vec::from_array(rt.alloc(), [1])?;
-    let by_key = Routing::ByKey(columns);
-    assert_eq!(rt; by_key.home(3, 2, &[8, 5]), 0);
-    assert_eq!(rt; Routing::ByRecord.home(3, 2, &[1, 2]), 1);
-    assert_eq!(rt; Routing::Stay.home(3, 2, &[1, 2]), 2);
-    Ok(())
-}
-
-/// Some records of one field: `first`, 2, and `last`.
-fn three(alloc: Global, first: i64, last: i64) -> Result<Option<Batch>, NoMemory> {
-    let mut rows = Rows::with_capacity(alloc, 1, 3)?;
-    rows.push(&[first])?;
-    rows.push(&[2])?;
-    rows.push(&[last])?;
-    Batch::from_rows(alloc, rows)
-}
-
-#[test]
-fn each_record_is_in_its_workers_parcel(rt: HostRuntime) -> Result<(), Fail> {
-    let Some(batch) = three(rt.alloc(), 3, 1)? else {
-        assert!(rt; false);
-        return Ok(());
-    };
-    let parcels = split(rt.alloc(), batch, &Routing::ByRecord, 2, 0)?;
-    let mut seen = Vec::new(rt.alloc());
-    for parcel in &parcels {
-        for k in 0..parcel.batch.len() {
-            seen.push((
-                parcel.worker,
-                parcel.batch.row(k).len(),
-                parcel.batch.record(k).fields()[0],
-            ))?;
+/// The worker of a key, as `5 among 3`.
+fn of_key(alloc: Global, text: &str) -> Result<String, ShardFault> {
+    let (key, workers) = text.split_once(" among ").unwrap_or((text, ""));
+    match (numbers_of(alloc, key)?, workers.parse::<u32>()) {
+        (Some(key), Ok(workers)) if workers > 0 && workers <= MAX_WORKERS => {
+            worker(alloc, route(key.as_slice(), workers))
         }
+        _ => no_such_call(alloc),
     }
-    assert_eq!(rt;
-        seen.as_slice(),
-        [(0, 1, 3), (0, 1, 1), (1, 1, 2)].as_slice()
-    );
-    Ok(())
 }
 
-#[test]
-fn all_records_may_go_to_one_worker(rt: HostRuntime) -> Result<(), Fail> {
-    let Some(batch) = three(rt.alloc(), 4, 0)? else {
-        assert!(rt; false);
-        return Ok(());
+/// How records are routed: `#1` by a key, `record` by all fields; `nothing`: they stay.
+fn routing_of(alloc: Global, text: &str) -> Result<Option<Routing>, AllocError> {
+    match text {
+        "record" => Ok(Some(Routing::ByRecord)),
+        "nothing" => Ok(Some(Routing::Stay)),
+        _ => Ok(columns_of(alloc, text)?.map(Routing::ByKey)),
+    }
+}
+
+/// Some workers, and the one that sends.
+#[derive(Clone, Copy)]
+struct Workers {
+    count: u32,
+    sender: u32,
+}
+
+/// `3 from 2`
+fn workers_of(text: &str) -> Option<Workers>
+    ensures fits { IfSome result (λ w. w.count ≤ max_workers) }
+    ensures sender { IfSome result (λ w. w.sender < w.count) }
+{
+    let (count, sender) = text.split_once(" from ")?;
+    let (count, sender) = (count.parse::<u32>().ok()?, sender.parse::<u32>().ok()?);
+    if sender < count && count <= MAX_WORKERS {
+        Some(Workers { count, sender })
+    } else {
+        None
+    }
+}
+
+/// The worker of a record, as `8 5 by #1 among 3 from 2`.
+fn home(alloc: Global, text: &str) -> Result<String, ShardFault> {
+    let (row, rest) = text.split_once(" by ").unwrap_or((text, ""));
+    let (routing, workers) = rest.split_once(" among ").unwrap_or((rest, ""));
+    match (
+        numbers_of(alloc, row)?,
+        routing_of(alloc, routing)?,
+        workers_of(workers),
+    ) {
+        (Some(row), Some(routing), Some(workers)) => {
+            worker(
+                alloc,
+                routing.home(workers.count, workers.sender, row.as_slice()),
+            )
+        }
+        _ => no_such_call(alloc),
+    }
+}
+
+/// The workers that get records, each with them.
+fn shown_parcels(alloc: Global, parcels: &Parcels) -> Result<String, ShardFault> {
+    let mut text = String::new(alloc);
+    for parcel in parcels {
+        let worker = parcel.worker;
+        let records = shown(alloc, parcel.batch.counted())?;
+        let between = if text.is_empty() { "" } else { "; " };
+        text.push_str(format!(in alloc; "{between}{worker}: {records}")?.as_str())?;
+    }
+    Ok(text)
+}
+
+/// The parcels of records, as `3, 2, 1 by record among 2 from 0`.
+fn parcels(alloc: Global, text: &str) -> Result<String, ShardFault> {
+    let (records, rest) = text.split_once(" by ").unwrap_or((text, ""));
+    let (routing, workers) = rest.split_once(" among ").unwrap_or((rest, ""));
+    let Some(rows) = records_of(alloc, fields_in(records), records)? else {
+        return no_such_call(alloc);
     };
-    let again = batch.share()?;
-    let parcels = split(rt.alloc(), batch, &Routing::ByRecord, 2, 0)?;
-    assert_eq!(rt; parcels.len(), 1);
-    for parcel in &parcels {
-        assert_eq!(rt; parcel.worker, 1);
-        assert!(rt; parcel.batch.same(&again));
+    match (
+        Batch::merged(alloc, rows)?,
+        routing_of(alloc, routing)?,
+        workers_of(workers),
+    ) {
+        (Some(batch), Some(routing), Some(workers)) => {
+            let parcels = split(alloc, batch, &routing, workers.count, workers.sender)?;
+            shown_parcels(alloc, &parcels)
+        }
+        _ => no_such_call(alloc),
     }
-    Ok(())
 }
 
-#[test]
-fn records_without_a_route_stay_with_the_sender(rt: HostRuntime) -> Result<(), Fail> {
-    let Some(batch) = three(rt.alloc(), 1, 1)? else {
-        assert!(rt; false);
-        return Ok(());
-    };
-    let parcels = split(rt.alloc(), batch, &Routing::Stay, 64, 63)?;
-    assert_eq!(rt; parcels.len(), 1);
-    for parcel in &parcels {
-        assert_eq!(rt; (parcel.worker, parcel.batch.weight()), (63, 3));
+/// What a call is answered.
+fn reply(alloc: Global, subject: &mut Routes, call: &str) -> Result<String, ShardFault> {
+    let (verb, rest) = call.split_once(' ').unwrap_or((call, ""));
+    match verb {
+        "key" => of_key(alloc, rest),
+        "home" => home(alloc, rest),
+        "split" => parcels(alloc, rest),
+        _ => no_such_call(alloc),
     }
-    Ok(())
 }
 
-/// A mailbox: whether it was empty, the second and the first of four, the two others, and whether a growth by more than there is memory for
-/// was refused and left these two.
-fn taken(alloc: Global) -> Result<(bool, usize, [i64; 4], bool, usize), NoMemory> {
-    let mut mailbox = Mailbox::new(alloc);
-    let none = mailbox.is_empty();
-    mailbox.put(10)?;
-    mailbox.put(20)?;
-    mailbox.reserve(2)?;
-    mailbox.put_reserved(30);
-    mailbox.put_reserved(40);
-    let all = mailbox.len();
-    let second = mailbox.take(1);
-    let first = mailbox.take(0);
-    let values = [second, first, *mailbox.get(0), *mailbox.get(1)];
-    let refused = mailbox.reserve(usize::MAX) == Err(NoMemory);
-    Ok((none, all, values, refused, mailbox.len()))
-}
-
-#[test]
-fn any_place_may_be_taken(rt: HostRuntime) {
-    assert_eq!(rt; taken(rt.alloc()), Ok((true, 4, [20, 10, 30, 40], true, 2)));
+impl Subject for Routes {
+    fn answer(&mut self, alloc: Global, call: &str) -> Result<String, AllocError> {
+        said(alloc, reply(alloc, self, call))
+    }
 }

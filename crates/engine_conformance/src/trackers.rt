@@ -1,31 +1,44 @@
-//! Both trackers over the same calls.
+//! Trackers of active pointstamps, and views of them.
 
-ghost use Rattle.std.specs.Prelude.{◌≡◌, ◌<◌, ◌↔◌, ℕ, IsTrue, OnOk, OnSome};
+ghost use Rattle.std.specs.Prelude.{◌≡◌};
 ghost use Rattle.graph.specs.Shown.{shown_graph};
-ghost use Rattle.semantics.specs.Could.{IsTimeAt, Pointstamp as Active};
-ghost use Rattle.progress.specs.Content.{times_at, times_in};
+ghost use Rattle.semantics.specs.Could.{IsTimeAt};
 
-use crate::path_summaries::{SIMPLE, paths_of};
-use graph::{Location, VertexId};
-use loop_context::Time;
+use crate::differences::differences;
+use crate::paths::paths_of;
+use crate::texts::{no_such_call, said, text};
+use crate::times::pointstamp_of;
+use crate::turns::{Seen, direct_turns, late_turns};
+use pages::Subject;
 use path_summary::{Paths, Pointstamp};
-use progress::{Change, LocationTracker, PlainTracker, Progress, changes};
+use progress::{Change, CountTracker, LocationTracker, PlainTracker, Progress, changes};
 use record_core::NoMemory;
-use std::alloc::Global;
+use std::alloc::{AllocError, Global};
 use std::sync::Arc;
+use vertices::ShardFault;
 
-/// The paths of `SIMPLE`'s graph, to be shared by trackers.
-fn shared_paths(alloc: Global) -> Option<Arc<Paths, Global>> {
-    Arc::new(alloc, paths_of(alloc, SIMPLE)?).ok()
+/// The paths of a first line `trackers of QUERY`.
+#[derive(Drop)]
+pub struct Trackers {
+    paths: Arc<Paths, Global>,
 }
 
-pub fn stamp(epoch: u32, counter: u32, vertex: u32) -> Option<Pointstamp> {
-    let time = Time::new(epoch, &[counter])?;
-    Some(Pointstamp::new(time, Location::Vertex(VertexId(vertex))))
+pub fn new_trackers(alloc: Global, query: &str) -> Result<Option<Trackers>, ShardFault> {
+    match paths_of(alloc, query) {
+        Some(paths) => Ok(Some(Trackers { paths })),
+        None => Ok(None),
+    }
+}
+
+/// Two pointstamps of a graph.
+#[derive(Drop)]
+struct Two {
+    p: Pointstamp,
+    q: Pointstamp,
 }
 
 /// The questions: about `q`, about `p`, about `q` once `p` is gone, and about `q` once only one of it is left.
-pub fn asked<P: Progress>(
+fn asked<P: Progress>(
     alloc: Global,
     tracker: &mut P,
     p: &Pointstamp,
@@ -48,135 +61,136 @@ pub fn asked<P: Progress>(
     changes(alloc, tracker, &list)
 }
 
-/// Whether the same of two pointstamps of `SIMPLE`'s graph, of which the first could result in the second, is answered as worked by hand.
-fn frontiers<P: Progress>(alloc: Global, tracker: &mut P, paths: &Paths) -> Option<bool>
-    requires { P.graph tracker.old ≡ shown_graph paths.now }
-{
-    let p = stamp(0, 1, 3)?;
-    let q = stamp(0, 2, 2)?;
-    if !paths.fits(&p) || !paths.fits(&q) {
-        return None;
-    }
-    let answers = asked(alloc, tracker, &p, &q).ok()?;
-    Some(answers.as_slice() == [false, true, true, true].as_slice())
-}
-
-fn plain_frontiers(alloc: Global) -> Option<bool> {
-    let paths = shared_paths(alloc)?;
-    let mut tracker = PlainTracker::new(alloc, Arc::try_clone(&paths).ok()?);
-    frontiers(alloc, &mut tracker, &paths)
-}
-
-fn located_frontiers(alloc: Global) -> Option<bool> {
-    let paths = shared_paths(alloc)?;
-    let mut tracker = LocationTracker::new(alloc, Arc::try_clone(&paths).ok()?).ok()?;
-    frontiers(alloc, &mut tracker, &paths)
-}
-
-#[test]
-fn frontiers_of_both_trackers(rt: HostRuntime) {
-    assert_eq!(rt;
-        (plain_frontiers(rt.alloc()), located_frontiers(rt.alloc())),
-        (Some(true), Some(true))
-    );
-}
-
-/// Puts it in on both sides, or, where it is there, takes it out.
-fn toggle(
-    plain: &mut PlainTracker,
-    located: &mut LocationTracker,
-    p: &Pointstamp,
-) -> Result<(), NoMemory>
-    requires plain { IsTimeAt (shown_graph plain.old.graph) p.now.location p.now.time }
-    requires located { IsTimeAt (shown_graph located.old.graph) p.now.location p.now.time }
-    requires same { (q : Active) → times_in plain.old.active q ≡ times_at located.old.edges located.old.vertices q }
-    ensures plain { shown_graph plain.new.graph ≡ shown_graph plain.old.graph }
-    ensures located { shown_graph located.new.graph ≡ shown_graph located.old.graph }
-    ensures same { OnOk result ((q : Active) → times_in plain.new.active q ≡ times_at located.new.edges located.new.vertices q) }
-{
-    if plain.is_active(p) {
-        plain.remove(p);
-        located.remove(p);
-        return Ok(());
-    }
-    plain.reserve(1)?;
-    located.reserve(1)?;
-    plain.add(p);
-    located.add(p);
-    Ok(())
-}
-
-/// Whether both answer the same about it.
-fn agree(plain: &PlainTracker, located: &LocationTracker, p: &Pointstamp) -> bool
-    requires plain { IsTimeAt (shown_graph plain.now.graph) p.now.location p.now.time }
-    requires located { IsTimeAt (shown_graph located.now.graph) p.now.location p.now.time }
-{
-    plain.in_frontier(p) == located.in_frontier(p) && plain.none_before(p) == located.none_before(p)
-}
-
-/// The n-th of a list that looks random: at vertex 2, 3 or 4, in epochs 0 to 4, with counters 0 to 3.
-fn nth(n: u32) -> Option<Pointstamp> {
-    let mixed = (n % 1000) * 7919 % 611;
-    stamp(mixed % 5, mixed / 5 % 4, 2 + mixed / 20 % 3)
-}
-
-/// Toggles the n-th pointstamp. Whether both then answer the same about a later one.
-fn turn(
+/// The answers of a tracker of these paths.
+fn answers<P: Progress>(
+    alloc: Global,
     paths: &Paths,
-    plain: &mut PlainTracker,
-    located: &mut LocationTracker,
-    n: u32,
-) -> Option<bool>
-    requires few { n < 1000 }
-    requires plain { shown_graph plain.old.graph ≡ shown_graph paths.now }
-    requires located { shown_graph located.old.graph ≡ shown_graph paths.now }
-    requires same { (q : Active) → times_in plain.old.active q ≡ times_at located.old.edges located.old.vertices q }
-    ensures plain { shown_graph plain.new.graph ≡ shown_graph paths.now }
-    ensures located { shown_graph located.new.graph ≡ shown_graph paths.now }
-    ensures same { OnSome result ((q : Active) → times_in plain.new.active q ≡ times_at located.new.edges located.new.vertices q) }
+    mut tracker: P,
+    two: &Two,
+) -> Result<String, ShardFault>
+    requires { P.graph tracker ≡ shown_graph paths.now }
 {
-    let p = nth(n)?;
-    let later = nth(n + 37)?;
-    if !paths.fits(&p) || !paths.fits(&later) || toggle(plain, located, &p).is_err() {
-        return None;
+    if !paths.fits(&two.p) || !paths.fits(&two.q) {
+        return text(alloc, "not there");
     }
-    Some(agree(plain, located, &later))
+    let answers = asked(alloc, &mut tracker, &two.p, &two.q)?;
+    words(alloc, answers.as_slice())
 }
 
-/// How many of that many answers differ. Before each of them one pointstamp comes or goes.
-fn differences(
+/// The answers of a tracker with counts, which are exact.
+fn counting_answers(
+    alloc: Global,
     paths: &Paths,
-    plain: &mut PlainTracker,
-    located: &mut LocationTracker,
-    count: u32,
-) -> Option<u32>
-    requires few { count < 1000 }
-    requires plain { shown_graph plain.old.graph ≡ shown_graph paths.now }
-    requires located { shown_graph located.old.graph ≡ shown_graph paths.now }
-    requires same { (q : Active) → times_in plain.old.active q ≡ times_at located.old.edges located.old.vertices q }
+    tracker: CountTracker,
+    two: &Two,
+) -> Result<String, ShardFault>
+    requires { shown_graph tracker.graph ≡ shown_graph paths.now }
 {
-    let mut differ = 0;
-    for n in 0..count {
-        if !turn(paths, plain, located, n)? {
-            differ += 1;
-        }
-    }
-    Some(differ)
+    tracker.law_of_counts();
+    answers(alloc, paths, tracker, two)
 }
 
-/// The differences of new trackers; nothing where the query has no graph.
-fn new_differences(alloc: Global, count: u32) -> Result<Option<u32>, NoMemory>
-    requires { count < 1000 }
-{
-    let Some(paths) = shared_paths(alloc) else {
-        return Ok(None);
+/// Answers as words.
+fn words(alloc: Global, answers: &[bool]) -> Result<String, ShardFault> {
+    let mut words = String::new(alloc);
+    for answer in answers {
+        let space = if words.is_empty() { "" } else { " " };
+        words.push_str(space)?;
+        words.push_str(if *answer { "yes" } else { "no" })?;
+    }
+    Ok(words)
+}
+
+/// The pointstamps of a text `vertex 3 at 0.1 and vertex 2 at 0.2`.
+fn two_of(alloc: Global, text: &str) -> Result<Option<Two>, ShardFault> {
+    let (p, q) = text.split_once(" and ").unwrap_or((text, ""));
+    match (pointstamp_of(alloc, p)?, pointstamp_of(alloc, q)?) {
+        (Some(p), Some(q)) => Ok(Some(Two { p, q })),
+        _ => Ok(None),
+    }
+}
+
+/// What a tracker of that form answers.
+fn frontiers(
+    alloc: Global,
+    paths: &Arc<Paths, Global>,
+    form: &str,
+    two: &Two,
+) -> Result<String, ShardFault> {
+    let shared = Arc::try_clone(paths)?;
+    match form {
+        "plain" => answers(alloc, paths, PlainTracker::new(alloc, shared), two),
+        "located" => answers(alloc, paths, LocationTracker::new(alloc, shared)?, two),
+        "counting" => counting_answers(alloc, paths, CountTracker::new(alloc, shared), two),
+        _ => no_such_call(alloc),
+    }
+}
+
+/// `plain: vertex 3 at 0.1 and vertex 2 at 0.2`
+fn frontiers_of(
+    alloc: Global,
+    paths: &Arc<Paths, Global>,
+    call: &str,
+) -> Result<String, ShardFault> {
+    let (form, two) = call.split_once(": ").unwrap_or((call, ""));
+    match two_of(alloc, two)? {
+        Some(two) => frontiers(alloc, paths, form, &two),
+        None => no_such_call(alloc),
+    }
+}
+
+/// How many answers of two trackers differ while that many pointstamps come and go.
+fn differing(alloc: Global, paths: &Arc<Paths, Global>, count: &str) -> Result<String, ShardFault> {
+    match count.parse::<u32>() {
+        Ok(count) if count < 1000 => match differences(alloc, paths, count)? {
+            Some(differ) => Ok(format!(in alloc; "{differ}")?),
+            None => text(alloc, "not there"),
+        },
+        _ => no_such_call(alloc),
+    }
+}
+
+/// What two workers see, one of which is late, at each of four moments.
+fn seen(alloc: Global, moments: &[Seen]) -> Result<String, ShardFault> {
+    let mut text = String::new(alloc);
+    for (first, second, waiting) in moments {
+        let between = if text.is_empty() { "" } else { ", " };
+        let both = words(alloc, &[*first, *second])?;
+        text.push_str(format!(in alloc; "{between}{both} {waiting}")?.as_str())?;
+    }
+    Ok(text)
+}
+
+/// `late: vertex 7 at 0`
+fn views_of(alloc: Global, paths: &Arc<Paths, Global>, call: &str) -> Result<String, ShardFault> {
+    let (form, output) = call.split_once(": ").unwrap_or((call, ""));
+    let Some(output) = pointstamp_of(alloc, output)? else {
+        return no_such_call(alloc);
     };
-    let mut plain = PlainTracker::new(alloc, Arc::try_clone(&paths)?);
-    let mut located = LocationTracker::new(alloc, Arc::try_clone(&paths)?)?;
-    Ok(differences(&paths, &mut plain, &mut located, count))
+    let moments = match form {
+        "late" => late_turns(alloc, paths, &output),
+        "direct" => direct_turns(alloc, paths, &output),
+        _ => None,
+    };
+    match moments {
+        Some(moments) => seen(alloc, moments.as_slice()),
+        None => text(alloc, "not there"),
+    }
 }
 
-#[test]
-fn both_trackers_over_one_list(rt: HostRuntime) {
-    assert_eq!(rt; new_differences(rt.alloc(), 600), Ok(Some(0)));
+/// What a call is answered.
+fn reply(alloc: Global, subject: &mut Trackers, call: &str) -> Result<String, ShardFault> {
+    let (verb, rest) = call.split_once(' ').unwrap_or((call, ""));
+    match verb {
+        "frontiers" => frontiers_of(alloc, &subject.paths, rest),
+        "views" => views_of(alloc, &subject.paths, rest),
+        "differences" => differing(alloc, &subject.paths, rest),
+        _ => no_such_call(alloc),
+    }
+}
+
+impl Subject for Trackers {
+    fn answer(&mut self, alloc: Global, call: &str) -> Result<String, AllocError> {
+        said(alloc, reply(alloc, self, call))
+    }
 }
