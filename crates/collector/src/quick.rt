@@ -2,7 +2,7 @@
 //!
 //! A record that is read here is read correctly. Anything else, wrong or only spelled at more length, is left to the reader of lines.
 
-ghost use Rattle.std.specs.Prelude.{◌≡◌, ◌<◌, ◌≤◌, ◌^◌, ◌++◌, ◌∷◌, ℕ, List, length, take, map, decimal, FitsSigned, IsTrue, ◌↔◌, IfOk, IfSome, IfNone};
+ghost use Rattle.std.specs.Prelude.{◌≡◌, ◌<◌, ◌≤◌, ◌^◌, ◌++◌, ◌∷◌, ℕ, List, length, take, map, decimal, FitsSigned, IsTrue, ◌↔◌, IfOk, IfSome, IfNone, OnOk, true, false};
 ghost use Rattle.std.specs.Fmt.{signed_decimal};
 ghost use Rattle.std.specs.Int.{w64};
 ghost use Rattle.std.specs.List.{flat_map};
@@ -10,81 +10,95 @@ ghost use Rattle.record_core.specs.Inputs.{input_of};
 ghost use Rattle.collector.specs.OutputText.{spaced};
 ghost use Rattle.collector.specs.Quick.{IsRowAt, Fit};
 
+use core::dec2flt::read_digits;
 use record_core::{DeclaredInput, MAX_FIELDS};
 use std::alloc::AllocError;
 
-/// The largest number that can be multiplied by ten and increased by any digit without leaving `i64`.
-const LARGEST: u64 = 922_337_203_685_477_579;
+/// As many digits write a number below 2^64, whatever they are.
+const MOST_DIGITS: usize = 19;
 
 /// The number at the head of the text, and the number of bytes that spell it.
+#[inline(always)]
 fn quick_number(text: &[u8]) -> Option<(u64, usize)>
     ensures within { IfSome result (λ r. r.1 ≤ length text.now) }
     ensures number { IfSome result (λ r. take r.1 text.now ≡ decimal r.0) }
     ensures small { IfSome result (λ r. r.0 < 2 ^ 63) }
 {
-    let mut value = 0;
-    let mut at = 0;
-    while at < text.len() && text[at].is_ascii_digit() && value <= LARGEST {
-        value = value * 10 + u64::from(text[at] - b'0');
-        at += 1;
-    }
-    if at == 0 || text[0] == b'0' && at > 1 {
+    let (end, value) = read_digits(text, 0, 0);
+    if end == 0 || end > MOST_DIGITS || value > i64::MAX as u64 {
         return None;
     }
-    Some((value, at))
+    if text[0] == b'0' && end > 1 {
+        return None;
+    }
+    Some((value, end))
+}
+
+/// The text after a minus at its head, and whether there is one.
+#[inline(always)]
+fn without_minus(text: &[u8]) -> (bool, &[u8])
+    ensures minus { result.0 ≡ true → text.now ≡ 45 ∷ result.1.now }
+    ensures none { result.0 ≡ false → text.now ≡ result.1.now }
+{
+    match text.split_first() {
+        Some((b'-', rest)) => (true, rest),
+        _ => (false, text),
+    }
 }
 
 /// The signed number at the head of the text, and the text after it.
+#[inline(always)]
 fn quick_signed(text: &[u8]) -> Option<(i64, &[u8])>
     ensures spelled { IfSome result (λ r. text.now ≡ signed_decimal r.0 ++ r.1.now) }
     ensures fits { IfSome result (λ r. FitsSigned w64 r.0) }
 {
-    let Some((first, rest)) = text.split_first() else {
+    let (is_negative, digits) = without_minus(text);
+    let Some((value, end)) = quick_number(digits) else {
         return None;
     };
-    if *first == b'-' {
-        let Some((value, end)) = quick_number(rest) else {
-            return None;
-        };
-        if value == 0 {
-            return None;
-        }
-        let (_, after) = rest.split_at(end);
-        Some((-(value as i64), after))
-    } else {
-        let Some((value, end)) = quick_number(text) else {
-            return None;
-        };
-        let (_, after) = text.split_at(end);
-        Some((value as i64, after))
+    let (_, after) = digits.split_at(end);
+    let number = value as i64;
+    if !is_negative {
+        return Some((number, after));
     }
+    if number == 0 {
+        return None;
+    }
+    Some((-number, after))
 }
 
-/// Reads the fields at the head of the text, each after a space, up to a line feed after the last; gives the text after it.
-fn quick_fields<'a>(
-    text: &'a [u8],
-    arity: u64,
-    fields: &mut Vec<i64>,
-) -> Result<Option<&'a [u8]>, AllocError>
-    ensures spelled { IfOk result (λ o. IfSome o (λ after. text.entry.now ≡ flat_map spaced fields.new.items ++ 10 ∷ after.now)) }
-    ensures fields { IfOk result (λ o. IfSome o (λ after. (length fields.new.items ≡ arity) × Fit fields.new.items)) }
+/// Fills the buffer with the fields at the head of the text, each after a space, up to a line feed after the last; gives the text after it.
+fn quick_fields<'a>(text: &'a [u8], fields: &mut [i64]) -> Option<&'a [u8]>
+    ensures spelled { IfSome result (λ after. text.entry.now ≡ flat_map spaced fields.new ++ 10 ∷ after.now) }
+    ensures fit { IfSome result (λ after. Fit fields.new) }
+    ensures count { length fields.new ≡ length fields.old }
 {
-    fields.clear();
     let mut rest = text;
-    for _field in 0..arity {
+    for place in 0..fields.len() {
         let Some((b' ', spelled)) = rest.split_first() else {
-            return Ok(None);
+            return None;
         };
         let Some((number, after)) = quick_signed(spelled) else {
-            return Ok(None);
+            return None;
         };
-        fields.push(number)?;
+        fields[place] = number;
         rest = after;
     }
     match rest.split_first() {
-        Some((b'\n', after)) => Ok(Some(after)),
-        _ => Ok(None),
+        Some((b'\n', after)) => Some(after),
+        _ => None,
     }
+}
+
+/// Makes the buffer hold that many fields, whatever they are.
+fn set_len(fields: &mut Vec<i64>, count: usize) -> Result<(), AllocError>
+    ensures { OnOk result (length fields.new.items ≡ count) }
+{
+    if fields.len() != count {
+        fields.clear();
+        fields.resize(count, 0)?;
+    }
+    Ok(())
 }
 
 fn is_same(word: &[u8], name: &[u8]) -> bool
@@ -123,10 +137,10 @@ pub fn quick_row<'a>(
             if declared.arity < 1 || declared.arity > MAX_FIELDS as u64 {
                 return Ok(None);
             }
-            return match quick_fields(rest, declared.arity, fields) {
-                Ok(Some(after)) => Ok(Some((i, after))),
-                Ok(None) => Ok(None),
-                Err(error) => Err(error),
+            set_len(fields, declared.arity as usize)?;
+            return match quick_fields(rest, fields.as_mut_slice()) {
+                Some(after) => Ok(Some((i, after))),
+                None => Ok(None),
             };
         }
     }

@@ -2,23 +2,24 @@ use Rattle.std.proofs.Common.{◌≡◌, ◌∙◌, ap, sym, arith, get_or, List
 use Rattle.std.proofs.lemmas.Bool.{cases_lt}
 use Rattle.std.proofs.lemmas.Option.{get_or_from_slice_get}
 use Rattle.record_core.specs.declared.input.DeclaredInput.{DeclaredInput}
-use Rattle.std.proofs.Common.{◌++◌, ◌∷◌}
-use Rattle.std.specs.List.{flat_map}
-use Rattle.collector.specs.OutputText.{spaced}
-use Rattle.collector.specs.Quick.{Fit}
+use Rattle.std.proofs.Common.{◌++◌, ◌∷◌, take, drop}
+use Rattle.std.proofs.Math.Seq.{take-append_seam}
 use Rattle.collector.proofs.QuickRows.{row_at}
 use Rattle.collector.proofs.quick.quick_row.Goals as goal
 
 abbrev name_of : DeclaredInput → List ℕ
 name_of d = d.name
 
-pub returns-in-Ok-Some : goal.returns-in-Ok-Some
-returns-in-Ok-Some c =
-    let same : c.bytes.result.now ≡ c.index-inputs-i.result.name = c.bytes.ensures.value in
-    let spelled : c.in-Some.rest.now ≡ flat_map spaced c.quick_fields.new.fields.items ++ 10 ∷ c.in-Ok-Some.after.now = rw c.in-Ok-Some.field-0-is at c.in-Ok-Some.ensures.spelled in
-    let fields : (length c.quick_fields.new.fields.items ≡ c.index-inputs-i.result.arity) × Fit c.quick_fields.new.fields.items = rw c.in-Ok-Some.field-0-is at c.in-Ok-Some.ensures.fields in
-    row_at c.args.inputs.now c.args.text.now c.in-Some.rest.now c.in-Ok-Some.after.now c.quick_fields.new.fields.items c.loop-i.i c.index-inputs-i.result c.loop-i-test.true c.index-inputs-i.is c.bytes.ensures.name c.loop-i.invariant
-    (rw (← same) c.in-Some.ensures.some) spelled fields.0 fields.1 (omega (arith, c.if-declared-lt1.false)) (omega (arith, c.if-declared.false))
+pub returns-in-Some-quick_fields : goal.returns-in-Some-quick_fields
+returns-in-Some-quick_fields c =
+    let name : c.bytes.result.now ≡ c.index-inputs-i.result.name = c.bytes.ensures.value in
+    let fields = c.quick_fields.new.fields in
+    let long : c.set_len.new.fields.len ≡ length fields = omega (arith, c.quick_fields.ensures.count, c.as_mut_slice.ensures.len) in
+    let kept : take c.set_len.new.fields.len (fields ++ drop (length fields) c.set_len.new.fields.items) ≡ fields =
+    ap (λ n. take n (fields ++ drop (length fields) c.set_len.new.fields.items)) long ∙ take-append_seam fields (drop (length fields) c.set_len.new.fields.items) in
+    let size : length fields ≡ c.index-inputs-i.result.arity = omega (arith, long, c.in_ok-set_len.ensures, c.as_mut_slice.ensures.len) in
+    rw kept (row_at c.args.inputs.now c.args.text.now c.in-Some.rest.now c.in-Some-quick_fields.after.now fields c.loop-i.i c.index-inputs-i.result c.loop-i-test.true c.index-inputs-i.is c.bytes.ensures.name c.loop-i.invariant
+    (rw (← name) c.in-Some.ensures.some) c.in-Some-quick_fields.ensures.spelled size c.in-Some-quick_fields.ensures.fit (omega (arith, c.if-declared-lt1.false)) (omega (arith, c.if-declared.false)))
 
 pub loop-i-preserved : goal.loop-i-preserved
 loop-i-preserved c = λ k d lt at rest e. elim (cases_lt k c.loop-i.i) [
