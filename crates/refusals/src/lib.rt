@@ -1,6 +1,6 @@
 //! What each refusal of a query, an input or a schedule means.
 //!
-//! One table, in three parts, is what `loom explain`, `--explain` and the refusals of LANGUAGE.md say. The contract for the layers
+//! One table, in three parts, is what `loom explain`, `--explain` and the table of ERRORS.md say. The contract for the layers
 //! above: `row_of` gives the first row of a code, and nothing exactly where no row has it. It uses no other crate; the crates that
 //! refuse have their codes as constants of their own.
 #![tactic(auto)]
