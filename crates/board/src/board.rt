@@ -29,7 +29,7 @@ ghost use Rattle.board.specs.Shown.{Shown, emitted_by, input_at, side_at, tables
 
 use crate::applying::apply_there;
 use crate::choices::kth_deliverable;
-use crate::frontier::{first_deliverable, first_seen};
+use crate::frontier::{first_deliverable, first_seen, may_deliver};
 use crate::lag::Lag;
 use crate::look::{Look, OutputLook};
 use crate::passed::{is_past, passed_now};
@@ -348,11 +348,41 @@ impl<V: Views> Board<V> {
             return Claimed::Busy;
         }
         self.refresh(worker);
+        if let Some(work) = self.claim_due(worker) {
+            return Claimed::Work(work);
+        }
         if let Some(work) = self.claim_mail(worker) {
             return Claimed::Work(work);
         }
         self.catch_up(worker);
         self.claim_rest(worker)
+    }
+
+    /// Hands out a notification of a free worker that comes before its next message, if the worker sees that it may be delivered. So the turns of a
+    /// loop go on together: what is handed round doesn't run ahead of what waits for a notification.
+    fn claim_due(&mut self, worker: u32) -> Option<Work>
+        requires there { worker < length self.old.shown.sides }
+        requires free { (side_at self.old.shown worker).place ≡ Home }
+        requires runs { self.old.shown.stopped ≡ false }
+        ensures hands { IfSome result (λ x. Hands self.old.shown worker self.new.shown x.0 × (x.1 ≡ None)) }
+        ensures none { IfNone result (self.new.shown ≡ self.old.shown) }
+        ensures tables { tables self.new.shown ≡ tables self.old.shown }
+        ensures views { IsAsLate self.old self.new }
+    {
+        let number = worker as usize;
+        match self.state.due(number) {
+            Some(place) => {
+                if may_deliver(
+                    &self.views,
+                    worker,
+                    self.state.requests(number).get(place),
+                ) {
+                    return Some(self.state.claim_request(number, place));
+                }
+                None
+            }
+            None => None,
+        }
     }
 
     /// Hands out a message of a free worker, if one waits.

@@ -1,9 +1,9 @@
 //! Chooses the message that a worker takes next.
 
-ghost use Rattle.std.specs.Prelude.{◌<◌, length};
+ghost use Rattle.std.specs.Prelude.{◌<◌, length, IfSome};
 
 use crate::merging::WINDOW;
-use events::Message;
+use events::{Message, Request};
 use exchange::Mailbox;
 use std::cmp::Ordering;
 
@@ -47,6 +47,20 @@ fn earliest(mailbox: &Mailbox<Message>) -> usize
         }
     }
     earliest
+}
+
+/// The place of the first request, of those that have waited longest, at an earlier turn of a message's loop, or at an earlier epoch outside loops.
+pub fn due_before(message: &Message, requests: &Mailbox<Request>) -> Option<usize>
+    ensures { IfSome result (λ at. at < length requests.now.messages) }
+{
+    let depth = message.time().depth();
+    for place in 0..requests.len().min(WINDOW) {
+        let time = &requests.get(place).time;
+        if time.depth() == depth && time.cmp(message.time()) == Ordering::Less {
+            return Some(place);
+        }
+    }
+    None
 }
 
 /// Whether no other message of those may be merged with the one at that place.

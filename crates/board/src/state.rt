@@ -28,7 +28,7 @@ use crate::epochs::Batches;
 use crate::inputs::Input;
 use crate::look::{share_batches, share_fed};
 use crate::new_parts::{new_inputs, new_workers};
-use crate::order::next_place;
+use crate::order::{due_before, next_place};
 use crate::refusal::StepRefusal;
 use crate::sent::Sent;
 use crate::worker::Worker;
@@ -315,6 +315,19 @@ impl State {
             return None;
         }
         Some(next_place(mailbox))
+    }
+
+    /// The place of a request at an earlier turn of the loop of the message that the worker takes next, or at an earlier epoch outside loops.
+    pub fn due(&self, worker: usize) -> Option<usize>
+        requires { worker < length self.now.sides }
+        ensures { IfSome result (λ at. at < length (side_at self.now worker).requests) }
+    {
+        let worker = &self.workers[worker];
+        let mailbox = worker.mailbox();
+        if mailbox.len() == 0 {
+            return None;
+        }
+        due_before(mailbox.get(next_place(mailbox)), worker.requests())
     }
 
     /// How many messages wait for the worker.
