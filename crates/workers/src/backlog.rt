@@ -6,16 +6,16 @@ use exchange::MAX_WORKERS;
 /// What waits for each worker, and what came to it of late, by the rows of large messages. The first decides whether its mail is worth waking its
 /// thread; the second whether its notifications are, since they are about the rows that came before.
 #[derive(Drop)]
-pub struct Burdens {
+pub struct Backlog {
     mailed: WorkerSet,
     waiting: Rows,
     recent: Rows,
 }
 
-impl Burdens {
+impl Backlog {
     /// Nothing has come to any worker.
-    pub fn new() -> Burdens {
-        Burdens {
+    pub fn new() -> Backlog {
+        Backlog {
             mailed: WorkerSet::empty(),
             waiting: Rows::none(),
             recent: Rows::none(),
@@ -28,12 +28,12 @@ impl Burdens {
     }
 
     /// The workers whose mail is worth waking a thread.
-    pub fn loaded(&self) -> WorkerSet {
+    pub fn worth_waking(&self) -> WorkerSet {
         self.mailed.both(self.waiting.many)
     }
 
     /// The workers without mail whose notifications are worth waking a thread.
-    pub fn heavy(&self) -> WorkerSet {
+    pub fn recently_busy(&self) -> WorkerSet {
         self.recent.many.but(self.mailed)
     }
 

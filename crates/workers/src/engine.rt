@@ -7,10 +7,10 @@ ghost use Rattle.board.specs.Shown.{tables};
 ghost use Rattle.driver.specs.Ends.{event_of};
 ghost use Rattle.workers.specs.Names.{GivesNamed, IsNamed};
 
-use crate::floor::{Floor, Wakes};
 use crate::held::{Held, Naming};
 use crate::mark::{Mark, Publisher, Seat};
 use crate::plan::{Feed, Plan};
+use crate::scheduler::{Scheduler, Wakes};
 use board::{Board, Claimed, Look, StepRefusal};
 use events::{ComputeFault, Done, Work};
 use record_core::NoMemory;
@@ -23,7 +23,7 @@ use views::Views;
 /// A board under a lock, with a bell for each worker and one for the threads that wait for epochs to pass.
 #[derive(Drop)]
 pub struct Engine<J: Naming, V: Views> {
-    floor: Mutex<Floor<J, V>>,
+    scheduler: Mutex<Scheduler<J, V>>,
     plan: Plan<J>,
     bells: Vec<Condvar>,
     passing: Condvar,
@@ -43,14 +43,14 @@ impl<J: Naming, V: Views> Engine<J, V> {
         let plan = Plan::new(board.share_wiring()?);
         let bells = new_bells(alloc, board.workers())?;
         Ok(Engine {
-            floor: Mutex::new(Floor::new(Held::new(board, publisher))),
+            scheduler: Mutex::new(Scheduler::new(Held::new(board, publisher))),
             plan,
             bells,
             passing: Condvar::new(),
         })
     }
 
-    /// The board's `feed`. The batch is cut into messages before the lock is taken.
+    /// Feeds a batch to an input at its open epoch. The batch is cut into messages before the lock is taken.
     pub fn feed<R: Wait>(
         &self,
         rt: &R,
@@ -58,9 +58,9 @@ impl<J: Naming, V: Views> Engine<J, V> {
         input: u32,
         batch: Batch,
     ) -> Result<(), StepRefusal> {
-        match self.plan.slice(alloc, input, batch) {
-            Ok(slice) => {
-                let (result, _left, wakes) = self.floor.lock(rt).feed_cut(slice);
+        match self.plan.cut_sized(alloc, input, batch) {
+            Ok(sized) => {
+                let (result, _left, wakes) = self.scheduler.lock(rt).feed_cut(sized);
                 self.wake(wakes);
                 result
             }
@@ -76,46 +76,46 @@ impl<J: Naming, V: Views> Engine<J, V> {
         feeds: Vec<Feed>,
     ) -> Result<(), StepRefusal> {
         let mut cut = VecDeque::new(alloc);
-        let sliced = self.plan.slice_all(alloc, feeds, &mut cut);
-        let (result, _left, wakes) = self.floor.lock(rt).feed_all(&mut cut);
+        let all_cut = self.plan.cut_all(alloc, feeds, &mut cut);
+        let (result, _left, wakes) = self.scheduler.lock(rt).feed_all(&mut cut);
         self.wake(wakes);
         result?;
-        match sliced {
+        match all_cut {
             Ok(()) => Ok(()),
-            Err(uncut) => Err(self.first_refusal(rt, uncut.input, uncut.refusal)),
+            Err(error) => Err(self.first_refusal(rt, error.input, error.refusal)),
         }
     }
 
     /// The board's first reason to refuse a batch that can't be cut.
     fn first_refusal<R: Wait>(&self, rt: &R, input: u32, refusal: StepRefusal) -> StepRefusal {
-        match self.floor.lock(rt).held.input_refusal(input) {
+        match self.scheduler.lock(rt).held.input_refusal(input) {
             Some(first) => first,
             None => refusal,
         }
     }
 
-    /// The board's `seal`.
+    /// Ends the open epoch of an input.
     pub fn seal<R: Wait>(&self, rt: &R, input: u32) -> Result<(), StepRefusal> {
-        let (result, wakes) = self.floor.lock(rt).seal(input);
+        let (result, wakes) = self.scheduler.lock(rt).seal(input);
         self.wake(wakes);
         result
     }
 
-    /// The board's `close`.
+    /// Closes an input.
     pub fn close<R: Wait>(&self, rt: &R, input: u32) -> Result<(), StepRefusal> {
-        let (result, wakes) = self.floor.lock(rt).close(input);
+        let (result, wakes) = self.scheduler.lock(rt).close(input);
         self.wake(wakes);
         result
     }
 
     /// Sleeps until `count` epochs have passed, or the board is stopped, or nothing is left to do.
     pub fn wait_for<R: Wait>(&self, rt: &R, count: u64) {
-        let mut floor = self.floor.lock(rt);
+        let mut scheduler = self.scheduler.lock(rt);
         for _turn in rt.forever() {
-            if floor.has_passed(count) {
+            if scheduler.has_passed(count) {
                 return;
             }
-            floor = self.passing.wait(rt, floor);
+            scheduler = self.passing.wait(rt, scheduler);
         }
     }
 
@@ -136,8 +136,8 @@ impl<J: Naming, V: Views> Engine<J, V> {
         ensures graph { IfOk result (λ o. IfSome o (λ l. l.graph ≡ J.graph)) }
         ensures whole { IfOk result (λ o. IfSome o (λ l. (l.epoch ≡ epoch) × ShowsEachOutput l)) }
     {
-        let floor = self.floor.lock(rt);
-        let held = &floor.held;
+        let scheduler = self.scheduler.lock(rt);
+        let held = &scheduler.held;
         let word = mark.observe(seat);
         if word > held.passed_count() {
             return Ok(None);
@@ -149,7 +149,7 @@ impl<J: Naming, V: Views> Engine<J, V> {
     pub(crate) fn try_claim<R: Wait>(&self, rt: &R, worker: u32) -> Claimed
         ensures { GivesNamed J.names result }
     {
-        self.floor.lock(rt).claim(worker)
+        self.scheduler.lock(rt).claim(worker)
     }
 
     /// Claims an event for the worker's thread; sleeps while there is nothing that the thread could do.
@@ -159,12 +159,12 @@ impl<J: Naming, V: Views> Engine<J, V> {
         let Some(bell) = self.bells.get(worker as usize) else {
             return Claimed::Busy;
         };
-        let mut floor = self.floor.lock(rt);
+        let mut scheduler = self.scheduler.lock(rt);
         for _turn in rt.forever() {
-            match floor.claim(worker) {
+            match scheduler.claim(worker) {
                 Claimed::Idle => {
-                    floor.fall_asleep(worker);
-                    floor = bell.wait(rt, floor);
+                    scheduler.fall_asleep(worker);
+                    scheduler = bell.wait(rt, scheduler);
                 }
                 claimed => return claimed,
             }
@@ -183,7 +183,7 @@ impl<J: Naming, V: Views> Engine<J, V> {
         requires { IsNamed J.names (event_of computed) }
         ensures { IfOk result (λ claimed. GivesNamed J.names claimed) }
     {
-        let (result, wakes) = self.floor.lock(rt).settle(thread, worker, computed);
+        let (result, wakes) = self.scheduler.lock(rt).settle(thread, worker, computed);
         self.wake(wakes);
         result
     }
@@ -210,12 +210,12 @@ impl<J: Naming, V: Views> Engine<J, V> {
         ensures prompt { IsUpToDate result 0 }
     {
         let Engine {
-            floor,
+            scheduler,
             plan: _,
             bells: _,
             passing: _,
         } = self;
-        floor.into_inner().into_board()
+        scheduler.into_inner().into_board()
     }
 }
 

@@ -98,7 +98,7 @@ impl<J: Naming, V: Views> Held<J, V> {
         }
     }
 
-    /// The board's `feed_cut`; the batch must be cut by the board's plan. Drop what is left of it after the lock is released.
+    /// Calls `Board::feed_cut`, then publishes. The batch must be cut by the board's plan. Drop what is left of it after the lock is released.
     pub fn feed_cut(&mut self, cut: CutBatch) -> (Result<(), StepRefusal>, Option<CutBatch>)
         requires { cut.wired ≡ record { graph = J.graph; workers = length J.names } }
         ensures step { OnOk result.0 (Goes self.old.board.shown (Step.feed cut.input cut.batch) self.new.board.shown) }
@@ -115,14 +115,14 @@ impl<J: Naming, V: Views> Held<J, V> {
         (Ok(()), left)
     }
 
-    /// The board's `input_refusal`.
+    /// Calls `Board::input_refusal`.
     pub fn input_refusal(&self, input: u32) -> Option<StepRefusal>
         ensures { result ≡ input_refusal self.now.board.shown input }
     {
         self.board.input_refusal(input)
     }
 
-    /// The board's `seal`.
+    /// Calls `Board::seal`, then publishes.
     pub fn seal(&mut self, input: u32) -> Result<(), StepRefusal>
         ensures step { OnOk result (Goes self.old.board.shown (Step.seal input) self.new.board.shown) }
         ensures refused { OnErr result (self.new.board ≡ self.old.board) }
@@ -135,7 +135,7 @@ impl<J: Naming, V: Views> Held<J, V> {
         Ok(())
     }
 
-    /// The board's `close`. Takes no memory.
+    /// Calls `Board::close`, then publishes. Takes no memory.
     pub fn close(&mut self, input: u32) -> Result<(), StepRefusal>
         ensures step { OnOk result (Goes self.old.board.shown (Step.close input) self.new.board.shown) }
         ensures refused { OnErr result (self.new.board ≡ self.old.board) }
@@ -162,7 +162,7 @@ impl<J: Naming, V: Views> Held<J, V> {
         publish(&mut self.board, &mut self.publisher);
     }
 
-    /// The board's `claim`. Takes no memory.
+    /// Calls `Board::claim`, then publishes. Takes no memory.
     pub fn claim(&mut self, worker: u32) -> Claimed
         ensures claims { Claims self.old.board.shown self.new.board.shown worker result }
         ensures named { GivesNamed J.names result }
@@ -266,7 +266,7 @@ impl<J: Naming, V: Views> Held<J, V> {
         self.board.workers()
     }
 
-    /// The board's `look`. Worker 0's view is up to date, so the look shows every epoch that has passed as passed.
+    /// Calls `Board::look`. Worker 0's view is up to date, so the look shows every epoch that has passed as passed.
     pub fn look(&self, alloc: Global, epoch: u32) -> Result<Look, NoMemory>
         ensures look { IfOk result (λ l. IsLookAt self.now.board epoch l) }
         ensures prompt { IsUpToDate self.now.board 0 }

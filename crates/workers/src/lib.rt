@@ -6,7 +6,7 @@
 //!
 //! A thread computes small events in turn, of its own worker and of those whose threads sleep or haven't started. A thread is woken only when it is
 //! worth the cost, after the lock is released: when many records wait for its worker, or no other thread is up. So small events don't wake
-//! threads, and large ones are computed in parallel (`floor.rt` has the rules, and why no wakeup is lost).
+//! threads, and large ones are computed in parallel (`scheduler.rt` has the rules, and why no wakeup is lost).
 //!
 //! | Call | By | What it does | Answers |
 //! |---|---|---|---|
@@ -17,7 +17,8 @@
 //! | `work_along` | the one thread of a run | works while there is something to do now | the same, or nothing |
 //! | `Mark::observe` | an observer | one load: no lock, no memory, no waiting | the number of passed epochs, never below what its seat has read |
 //! | `Engine::look` | an observer | one load by the seat, and what the board shows of an epoch | epochs below the mark have passed; nothing, if the mark is another engine's and ahead |
-//! | `finish` | the sole owner of the engine | ends the run | its `Report`; nothing, if a seat has read more epochs than have passed |
+//! | `end` | the sole owner of the engine | ends the run | its `Report` |
+//! | `finish` | the same | the same, with the seats of observers | nothing, if a seat has read more epochs than have passed |
 //!
 //! A worker that runs out of memory, or meets a count that would be above 9223372036854775807, abandons its event. That stops the board,
 //! and all workers end.
@@ -34,14 +35,14 @@
 //! these (`workers_conformance`). Built on `board`, `events` and the crates below them.
 #![tactic(auto)]
 
-mod burden;
+mod backlog;
 mod engine;
-mod floor;
 mod held;
 mod mark;
 mod plan;
 mod report;
 mod rule;
+mod scheduler;
 mod working;
 
 pub use driver::Ended;
@@ -50,5 +51,5 @@ pub use events::{Gate, NoGate};
 pub use held::{Held, Naming};
 pub use mark::{Mark, Publisher, Seat};
 pub use plan::Feed;
-pub use report::{Report, finish};
+pub use report::{Report, end, finish};
 pub use working::{work, work_along};

@@ -49,20 +49,20 @@ pub enum Feed {
 
 /// A feed that is cut, or a seal.
 #[derive(Drop)]
-pub enum CutFeed<J: Naming> {
-    Batch(Slice<J>),
+pub enum ReadyFeed<J: Naming> {
+    Batch(SizedBatch<J>),
     Seal(u32),
 }
 
 /// A batch that was cut for the board, and what it sends to the workers.
 #[derive(Drop)]
-pub struct Slice<J: Naming> {
+pub struct SizedBatch<J: Naming> {
     cut: CutBatch,
     sent: Sent,
     of: PhantomData<J>,
 }
 
-impl<J: Naming> Model for Slice<J> {
+impl<J: Naming> Model for SizedBatch<J> {
     ghost use Rattle.std.specs.Prelude.{◌≡◌, length};
     ghost use Rattle.std.specs.Coded.{codes};
     ghost use Rattle.std.specs.contracts.alloc.Global as heap;
@@ -80,14 +80,14 @@ impl<J: Naming> Model for Slice<J> {
     ghost invariant = { λ s. s.cut.wired ≡ record { graph = J.graph; workers = length J.names } };
 }
 
-impl<J: Naming> Slice<J> {
-    /// A slice of a cut batch.
-    fn of(cut: CutBatch) -> Slice<J>
+impl<J: Naming> SizedBatch<J> {
+    /// A batch that was cut, with what it sends.
+    fn of(cut: CutBatch) -> SizedBatch<J>
         requires { cut.wired ≡ record { graph = J.graph; workers = length J.names } }
         ensures { result ≡ cut }
     {
         let sent = Sent::of(cut.letters());
-        Slice {
+        SizedBatch {
             cut,
             sent,
             of: PhantomData,
@@ -99,14 +99,14 @@ impl<J: Naming> Slice<J> {
         ensures cut { result.0 ≡ self }
         ensures wired { result.0.wired ≡ record { graph = J.graph; workers = length J.names } }
     {
-        let Slice { cut, sent, of: _ } = self;
+        let SizedBatch { cut, sent, of: _ } = self;
         (cut, sent)
     }
 }
 
 /// Why cutting came to no end, and at which input.
 #[derive(Clone, Copy)]
-pub struct Uncut {
+pub struct CutError {
     pub input: u32,
     pub refusal: StepRefusal,
 }
@@ -146,50 +146,55 @@ impl<J: Naming> Plan<J> {
 
 impl<J: Naming> Plan<J> {
     /// As `cut`, with what the batch sends.
-    pub fn slice(&self, alloc: Global, input: u32, batch: Batch) -> Result<Slice<J>, StepRefusal>
+    pub fn cut_sized(
+        &self,
+        alloc: Global,
+        input: u32,
+        batch: Batch,
+    ) -> Result<SizedBatch<J>, StepRefusal>
         ensures input { IfOk result (λ c. c.input ≡ input) }
         ensures batch { IfOk result (λ c. c.batch ≡ batch) }
         ensures refused { IfErr result (λ e. RefusesBatch J.graph input batch e) }
     {
         match self.cut(alloc, input, batch) {
-            Ok(cut) => Ok(Slice::of(cut)),
+            Ok(cut) => Ok(SizedBatch::of(cut)),
             Err(refusal) => Err(refusal),
         }
     }
 
     /// Cuts all of them in order and appends them, up to the first that can't be cut.
-    pub fn slice_all(
+    pub fn cut_all(
         &self,
         alloc: Global,
         feeds: Vec<Feed>,
-        cut: &mut VecDeque<CutFeed<J>>,
-    ) -> Result<(), Uncut> {
+        cut: &mut VecDeque<ReadyFeed<J>>,
+    ) -> Result<(), CutError> {
         for feed in feeds {
-            self.slice_next(alloc, feed, cut)?;
+            self.cut_next(alloc, feed, cut)?;
         }
         Ok(())
     }
 
     /// Cuts one of them and appends it.
-    fn slice_next(
+    fn cut_next(
         &self,
         alloc: Global,
         feed: Feed,
-        cut: &mut VecDeque<CutFeed<J>>,
-    ) -> Result<(), Uncut> {
+        cut: &mut VecDeque<ReadyFeed<J>>,
+    ) -> Result<(), CutError> {
         let (input, next) = match feed {
             Feed::Batch { input, batch } => (
                 input,
-                match self.slice(alloc, input, batch) {
-                    Ok(slice) => CutFeed::Batch(slice),
-                    Err(refusal) => return Err(Uncut { input, refusal }),
+                match self.cut_sized(alloc, input, batch) {
+                    Ok(sized) => ReadyFeed::Batch(sized),
+                    Err(refusal) => return Err(CutError { input, refusal }),
                 },
             ),
-            Feed::Seal { input } => (input, CutFeed::Seal(input)),
+            Feed::Seal { input } => (input, ReadyFeed::Seal(input)),
         };
         match cut.push_back(next) {
             Ok(()) => Ok(()),
-            Err(_) => Err(Uncut {
+            Err(_) => Err(CutError {
                 input,
                 refusal: StepRefusal::NoMemory,
             }),

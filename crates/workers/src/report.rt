@@ -119,7 +119,16 @@ impl<V: Views> Report<V> {
     }
 }
 
-/// Ends a run, once no thread shares the engine. `None` only if a seat has read more passed epochs than this engine has, which only another engine's
+/// Ends a run, once no thread shares the engine, whatever its observers have read.
+pub fn end<J: Naming, V: Views>(engine: Engine<J, V>) -> Report<V>
+    ensures { result.graph ≡ J.graph }
+{
+    Report {
+        board: engine.into_board(),
+    }
+}
+
+/// The same, with what the observers' seats have read. `None` only if a seat has read more passed epochs than this engine has, which only another engine's
 /// mark can show.
 pub fn finish<J: Naming, V: Views>(
     engine: Engine<J, V>,

@@ -10,17 +10,17 @@
 //! - when the board is at its end.
 //!
 //! No wakeup is lost: whenever the lock is released, either some thread is up, or no sleeping thread has anything to do. A thread that is up looks
-//! after all that are away before it sleeps or leaves, in `claim`. When no thread is up, `due` asks for each sleeper. Both apply what waits for a
-//! worker before they conclude that it has nothing to do, so no event is missed because a worker's view is late.
+//! after all that are away before it sleeps or leaves, in `claim`. When no thread is up, `threads_to_wake` asks for each sleeper. Both apply what
+//! waits for a worker before they conclude that it has nothing to do, so no event is missed because a worker's view is late.
 
 ghost use Rattle.std.specs.Prelude.{◌≡◌, length, IfOk};
 ghost use Rattle.board.specs.Lateness.{IsUpToDate};
 ghost use Rattle.driver.specs.Ends.{event_of};
 ghost use Rattle.workers.specs.Names.{GivesNamed, IsNamed};
 
-use crate::burden::Burdens;
+use crate::backlog::Backlog;
 use crate::held::{Held, Naming};
-use crate::plan::{CutFeed, Slice};
+use crate::plan::{ReadyFeed, SizedBatch};
 use board::{Board, Claimed, StepRefusal, WorkerSet};
 use events::{ComputeFault, CutBatch, Done, Work};
 use exchange::MAX_WORKERS;
@@ -61,78 +61,78 @@ impl Wakes {
 /// those whose event is large; the workers whose event another worker's thread computes; what has come to each worker; and the least number of
 /// epochs that a thread waits for.
 #[derive(Drop)]
-pub struct Floor<J: Naming, V: Views> {
+pub struct Scheduler<J: Naming, V: Views> {
     pub held: Held<J, V>,
     absent: WorkerSet,
     asleep: WorkerSet,
     up: WorkerSet,
     busy: WorkerSet,
-    lent: WorkerSet,
-    burdens: Burdens,
-    /// The worker whose turn it is to get an event, and the one that `due` asks for next.
+    taken_over: WorkerSet,
+    backlog: Backlog,
+    /// The worker whose turn it is to get an event, and the one that `threads_to_wake` asks for next.
     turn: u32,
     asked: u32,
     awaited: u64,
 }
 
-impl<J: Naming, V: Views> Floor<J, V> {
+impl<J: Naming, V: Views> Scheduler<J, V> {
     /// No thread has started yet.
-    pub fn new(held: Held<J, V>) -> Floor<J, V> {
+    pub fn new(held: Held<J, V>) -> Scheduler<J, V> {
         let absent = WorkerSet::of_first(held.workers());
-        Floor {
+        Scheduler {
             held,
             absent,
             asleep: WorkerSet::empty(),
             up: WorkerSet::empty(),
             busy: WorkerSet::empty(),
-            lent: WorkerSet::empty(),
-            burdens: Burdens::new(),
+            taken_over: WorkerSet::empty(),
+            backlog: Backlog::new(),
             turn: 0,
             asked: 0,
             awaited: NONE,
         }
     }
 
-    /// The board's `feed_cut`: its result, what is left of the batch, and the threads to wake.
+    /// Feeds a batch that is cut: the result, what is left of the batch, and the threads to wake.
     pub fn feed_cut(
         &mut self,
-        slice: Slice<J>,
+        sized: SizedBatch<J>,
     ) -> (Result<(), StepRefusal>, Option<CutBatch>, Wakes) {
-        let (result, left) = self.feed_slice(slice);
-        (result, left, self.due())
+        let (result, left) = self.feed_sized(sized);
+        (result, left, self.threads_to_wake())
     }
 
-    /// The board's calls in order, up to the first that is refused; what is left of that one, and the threads to wake.
+    /// Feeds and seals in order, up to the first that is refused; what is left of that one, and the threads to wake.
     pub fn feed_all(
         &mut self,
-        feeds: &mut VecDeque<CutFeed<J>>,
+        feeds: &mut VecDeque<ReadyFeed<J>>,
     ) -> (Result<(), StepRefusal>, Option<CutBatch>, Wakes) {
         for _feed in 0..feeds.len() {
             let (result, left) = match feeds.pop_front() {
-                Some(CutFeed::Batch(slice)) => self.feed_slice(slice),
-                Some(CutFeed::Seal(input)) => (self.held.seal(input), None),
+                Some(ReadyFeed::Batch(sized)) => self.feed_sized(sized),
+                Some(ReadyFeed::Seal(input)) => (self.held.seal(input), None),
                 None => (Ok(()), None),
             };
             if result.is_err() {
-                return (result, left, self.due());
+                return (result, left, self.threads_to_wake());
             }
         }
-        (Ok(()), None, self.due())
+        (Ok(()), None, self.threads_to_wake())
     }
 
-    /// The board's `seal`, and the threads to wake.
+    /// Ends the open epoch of an input, and gives the threads to wake.
     pub fn seal(&mut self, input: u32) -> (Result<(), StepRefusal>, Wakes) {
         let result = self.held.seal(input);
-        (result, self.due())
+        (result, self.threads_to_wake())
     }
 
-    /// The board's `close`. Wakes every worker that has something to do, since the thread that closes an input may make no further call.
+    /// Closes an input, and wakes every worker that has something to do, since the thread that closes an input may make no further call.
     pub fn close(&mut self, input: u32) -> (Result<(), StepRefusal>, Wakes) {
         let result = self.held.close(input);
         let sleepers = self.sleepers();
-        let busy = self.who_can_claim(sleepers);
-        self.rouse(busy);
-        let mut wakes = self.due();
+        let busy = self.claimable(sleepers);
+        self.mark_awake(busy);
+        let mut wakes = self.threads_to_wake();
         wakes.workers = wakes.workers.or(busy);
         (result, wakes)
     }
@@ -168,12 +168,12 @@ impl<J: Naming, V: Views> Floor<J, V> {
     {
         match self.held.settle(computed) {
             Ok(sent) => {
-                self.lent = self.lent.without(worker);
-                self.burdens.note(sent);
+                self.taken_over = self.taken_over.without(worker);
+                self.backlog.note(sent);
                 let claimed = self.claim(thread);
-                (Ok(claimed), self.due())
+                (Ok(claimed), self.threads_to_wake())
             }
-            Err(fault) => (Err(fault), self.due()),
+            Err(fault) => (Err(fault), self.threads_to_wake()),
         }
     }
 
@@ -196,14 +196,14 @@ impl<J: Naming, V: Views> Floor<J, V> {
         ensures graph { result.shown.graph ≡ J.graph }
         ensures prompt { IsUpToDate result 0 }
     {
-        let Floor {
+        let Scheduler {
             held,
             absent: _,
             asleep: _,
             up: _,
             busy: _,
-            lent: _,
-            burdens: _,
+            taken_over: _,
+            backlog: _,
             turn: _,
             asked: _,
             awaited: _,
@@ -211,12 +211,12 @@ impl<J: Naming, V: Views> Floor<J, V> {
         held.into_board()
     }
 
-    /// The board's `feed_cut`, and what is left of the batch.
-    fn feed_slice(&mut self, slice: Slice<J>) -> (Result<(), StepRefusal>, Option<CutBatch>) {
-        let (cut, sent) = slice.into_parts();
+    /// Feeds a batch that is cut, and gives what is left of it.
+    fn feed_sized(&mut self, sized: SizedBatch<J>) -> (Result<(), StepRefusal>, Option<CutBatch>) {
+        let (cut, sent) = sized.into_parts();
         let (result, left) = self.held.feed_cut(cut);
         if result.is_ok() {
-            self.burdens.note(sent);
+            self.backlog.note(sent);
         }
         (result, left)
     }
@@ -225,27 +225,31 @@ impl<J: Naming, V: Views> Floor<J, V> {
     fn claim_own(&mut self, thread: u32) -> Claimed
         ensures { GivesNamed J.names result }
     {
-        if self.lent.has(thread) && !self.held.is_stopped() {
+        if self.taken_over.has(thread) && !self.held.is_stopped() {
             return Claimed::Idle;
         }
         self.claim_of(thread, thread)
     }
 
-    /// The board's `claim` of a worker for a thread, after the worker's messages that are alike are merged. Notes a worker that has nothing to do.
+    /// Claims an event of a worker for a thread, after the worker's messages that are alike are merged. Notes a worker that has nothing to do.
     fn claim_of(&mut self, thread: u32, worker: u32) -> Claimed
         ensures { GivesNamed J.names result }
     {
-        let large = self.burdens.loaded().or(self.burdens.heavy()).has(worker);
+        let large = self
+            .backlog
+            .worth_waking()
+            .or(self.backlog.recently_busy())
+            .has(worker);
         self.held.gather(worker);
         let claimed = self.held.claim(worker);
         match &claimed {
             Claimed::Work(_) => {
-                self.burdens.take(worker);
+                self.backlog.take(worker);
                 if large {
                     self.busy = self.busy.with(thread);
                 }
             }
-            Claimed::Idle => self.burdens.lighten(worker),
+            Claimed::Idle => self.backlog.lighten(worker),
             Claimed::Stopped | Claimed::Busy | Claimed::Drained => {}
         }
         claimed
@@ -256,13 +260,13 @@ impl<J: Naming, V: Views> Floor<J, V> {
     fn claim_mailed(&mut self, thread: u32) -> Claimed
         ensures { GivesNamed J.names result }
     {
-        let own = if self.burdens.loaded().has(thread) {
+        let own = if self.backlog.worth_waking().has(thread) {
             self.claim_own(thread)
         } else {
             Claimed::Idle
         };
-        let light = self.burdens.mailed().but(self.burdens.loaded());
-        let workers = self.away().with(thread).but(self.lent).both(light);
+        let light = self.backlog.mailed().but(self.backlog.worth_waking());
+        let workers = self.away().with(thread).but(self.taken_over).both(light);
         match own {
             Claimed::Idle => self.claim_among(thread, workers),
             own => own,
@@ -275,7 +279,7 @@ impl<J: Naming, V: Views> Floor<J, V> {
         ensures { GivesNamed J.names result }
     {
         let own = self.claim_own(thread);
-        let others = self.away().but(self.lent).but(self.burdens.mailed());
+        let others = self.away().but(self.taken_over).but(self.backlog.mailed());
         match own {
             Claimed::Idle => self.claim_among(thread, others),
             own => own,
@@ -295,7 +299,7 @@ impl<J: Naming, V: Views> Floor<J, V> {
             match self.claim_of(thread, worker) {
                 Claimed::Work(work) => {
                     if worker != thread {
-                        self.lent = self.lent.with(worker);
+                        self.taken_over = self.taken_over.with(worker);
                     }
                     self.turn = worker.wrapping_add(1);
                     return Claimed::Work(work);
@@ -313,23 +317,23 @@ impl<J: Naming, V: Views> Floor<J, V> {
 
     /// The sleeping workers whose event no other thread has.
     fn sleepers(&self) -> WorkerSet {
-        self.asleep.but(self.lent)
+        self.asleep.but(self.taken_over)
     }
 
     /// Counts these threads as up from now on.
-    fn rouse(&mut self, workers: WorkerSet) {
+    fn mark_awake(&mut self, workers: WorkerSet) {
         self.asleep = self.asleep.but(workers);
         self.up = self.up.or(workers);
     }
 
     /// The threads that this call must wake. They count as up from now on.
-    fn due(&mut self) -> Wakes {
+    fn threads_to_wake(&mut self) -> Wakes {
         let workers = if self.asleep.is_empty() {
             WorkerSet::empty()
         } else {
-            self.due_workers()
+            self.workers_to_wake()
         };
-        self.rouse(workers);
+        self.mark_awake(workers);
         let feeders = self.awaited != NONE
             && (self.awaited <= self.held.passed_count() || self.is_at_end());
         if feeders {
@@ -344,27 +348,27 @@ impl<J: Naming, V: Views> Floor<J, V> {
     }
 
     /// The sleeping workers to be woken: all of them, if the board is at its end.
-    fn due_workers(&mut self) -> WorkerSet {
+    fn workers_to_wake(&mut self) -> WorkerSet {
         if self.is_at_end() {
             return self.asleep;
         }
         let sleepers = self.sleepers();
-        let loaded = sleepers.both(self.burdens.loaded());
-        if !loaded.is_empty() {
-            return loaded;
+        let worth_waking = sleepers.both(self.backlog.worth_waking());
+        if !worth_waking.is_empty() {
+            return worth_waking;
         }
         if self.up.is_empty() {
-            return self.first_who_can_claim(sleepers);
+            return self.first_claimable(sleepers);
         }
         if self.up.but(self.busy).is_empty() {
-            return self.next_if_can_claim(sleepers);
+            return self.next_claimable(sleepers);
         }
-        let heavy = sleepers.both(self.burdens.heavy());
-        self.next_if_can_claim(heavy)
+        let recently_busy = sleepers.both(self.backlog.recently_busy());
+        self.next_claimable(recently_busy)
     }
 
     /// The next of them in turn, if it has something to do. Asks for one only, so that the cost doesn't grow with the number of sleepers.
-    fn next_if_can_claim(&mut self, workers: WorkerSet) -> WorkerSet {
+    fn next_claimable(&mut self, workers: WorkerSet) -> WorkerSet {
         let Some(worker) = workers.from(self.asked) else {
             return WorkerSet::empty();
         };
@@ -377,7 +381,7 @@ impl<J: Naming, V: Views> Floor<J, V> {
     }
 
     /// The first of them that has something to do, if there is one.
-    fn first_who_can_claim(&mut self, workers: WorkerSet) -> WorkerSet {
+    fn first_claimable(&mut self, workers: WorkerSet) -> WorkerSet {
         for worker in 0..self.held.workers() {
             if workers.has(worker) && self.held.can_claim(worker) {
                 return WorkerSet::empty().with(worker);
@@ -387,7 +391,7 @@ impl<J: Naming, V: Views> Floor<J, V> {
     }
 
     /// Those of them that have something to do.
-    fn who_can_claim(&mut self, workers: WorkerSet) -> WorkerSet {
+    fn claimable(&mut self, workers: WorkerSet) -> WorkerSet {
         let mut busy = WorkerSet::empty();
         for worker in 0..self.held.workers() {
             if workers.has(worker) && self.held.can_claim(worker) {

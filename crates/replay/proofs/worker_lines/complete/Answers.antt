@@ -1,4 +1,4 @@
-use Rattle.replay.proofs.Taken.{abandoned_stays, ended_stays, fault_refused, is_abandoned, is_committed}
+use Rattle.replay.proofs.Taken.{ended_stays, fault_refused, is_abandoned, is_committed}
 use Rattle.replay.proofs.worker_lines.complete.Goals as goal
 
 pub returns-in-Ok-clause-stays : goal.returns-in-Ok-clause-stays
