@@ -372,11 +372,7 @@ impl<V: Views> Board<V> {
         let number = worker as usize;
         match self.state.due(number) {
             Some(place) => {
-                if may_deliver(
-                    &self.views,
-                    worker,
-                    self.state.requests(number).get(place),
-                ) {
+                if may_deliver(&self.views, worker, self.state.requests(number).get(place)) {
                     return Some(self.state.claim_request(number, place));
                 }
                 None
