@@ -13,13 +13,14 @@ use crate::unfinished::Unfinished;
 use crate::watching::Watcher;
 use board::Board;
 use collector::Epochs;
+use driver::law_inputs;
 use std::alloc::Global;
 use std::io::Write;
 use std::marker::Brand;
 use std::sync::Wait;
 use std::thread::Threads;
 use views::Views;
-use workers::{Engine, Gate, Mark, Naming, Publisher, Report, Seat, finish};
+use workers::{Engine, Gate, Mark, Naming, Publisher, Report, Seat, end};
 
 /// Runs a new board, under a lock of its own, until nothing is left to do. Ok only if it is drained.
 fn drive<
@@ -51,9 +52,7 @@ fn drive<
         None => work_off(rt, alloc, &engine, task, gate),
         Some(watcher) => work_off_watched(rt, alloc, &engine, task, gate, mark, seat, watcher),
     };
-    let Some(report) = finish(engine, mark, Vec::new(alloc)) else {
-        return Err(Unfinished::Incomplete);
-    };
+    let report = end(engine);
     if task.notice.is_over() {
         return Err(Unfinished::Count);
     }
@@ -81,7 +80,7 @@ fn drive_any<V: Views + Send, R: Threads + Wait + Sync, G: Gate + Sync, W: Write
 {
     let (mark, publisher, mut seats) = Mark::new(alloc, 1)?;
     let Some(seat) = seats.pop() else {
-        return Err(Unfinished::Incomplete);
+        unreachable!()
     };
     drive::<Brand, V, R, G, W>(
         rt, alloc, board, publisher, &mark, seat, task, gate, watcher,
@@ -104,9 +103,9 @@ pub fn execute<V: Views + Send, R: Threads + Wait + Sync, G: Gate + Sync, W: Wri
 ) -> Result<Report<V>, Unfinished>
     ensures { IfOk result (λ r. IsWorkedOff board.shown.graph r epochs.now) }
 {
-    let Ok(inputs) = u32::try_from(board.graph().inputs().len()) else {
-        return Err(Unfinished::Incomplete);
-    };
+    let graph = board.graph();
+    law_inputs(graph);
+    let inputs = graph.inputs().len() as u32;
     let notice = Notice::new();
     let task = Task {
         epochs,
