@@ -1,5 +1,6 @@
 //! Bytes, texts and counts as they are shown to a reader.
 
+use collector::Number;
 use std::fmt;
 
 /// The most bytes of a word that are shown.
@@ -116,10 +117,10 @@ pub struct Fields(pub u64);
 
 impl fmt::Display for Fields {
     fn fmt<W: fmt::Write>(&self, f: &mut fmt::Formatter<W>) -> fmt::Result {
-        let count = self.0;
-        if count == 1 {
+        if self.0 == 1 {
             write!(f, "1 field")
         } else {
+            let count = Number(self.0);
             write!(f, "{count} fields")
         }
     }
@@ -136,7 +137,7 @@ impl fmt::Display for Columns {
             1 => write!(f, "#0"),
             2 => write!(f, "#0 and #1"),
             count => {
-                let last = count.saturating_sub(1);
+                let last = Number(count.saturating_sub(1));
                 write!(f, "#0 to #{last}")
             }
         }

@@ -3,6 +3,7 @@
 ghost use Rattle.std.specs.Prelude.{◌<◌, ◌≤◌, length, IfSome};
 
 use crate::display::{Escaped, Shown};
+use collector::Number;
 use record_core::Span;
 use std::io;
 use std::io::Write;
@@ -93,7 +94,7 @@ fn skip_count(length: usize, place: usize) -> usize
 
 /// Writes `  1 | ` and the line, of a long one the part round the place, with `..` where bytes are left out.
 fn write_line<W: Write>(line: &Line<'_>, writer: &mut W) -> io::Result<()> {
-    let number = line.number;
+    let number = Number(line.number);
     let from = skip_count(line.bytes.len(), line.place);
     let rest = &line.bytes[from..];
     let front = if from == 0 { "" } else { ".." };
@@ -159,6 +160,7 @@ pub fn write_marked<W: Write>(text: &[u8], span: Span, writer: &mut W) -> io::Re
 
 /// Writes a line of an input or a schedule with its number, of a long one the beginning.
 pub fn write_numbered<W: Write>(bytes: &[u8], number: u64, writer: &mut W) -> io::Result<()> {
+    let number = Number(number);
     match bytes.get(..WIDTH) {
         Some(front) if WIDTH < bytes.len() => {
             let front = Escaped(front);

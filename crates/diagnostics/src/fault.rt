@@ -4,6 +4,7 @@ ghost use Rattle.std.specs.Prelude.{◌≡◌};
 ghost use Rattle.diagnostics.specs.Faults.{status_of};
 
 use crate::display::Plain;
+use collector::Number;
 use std::io;
 use std::io::Write;
 use thiserror::Error;
@@ -12,16 +13,16 @@ use thiserror::Error;
 #[derive(Debug, Drop, Error)]
 pub enum Fault {
     /// The query's first fault: its code, and the bytes that it covers.
-    #[error("query refused {code} at {start}..{end}")]
+    #[error("query refused {code} at {start}..{end}", code = Number(u64::from(*.code)), start = Number(u64::from(*.start)), end = Number(u64::from(*.end)))]
     Query { code: u8, start: u32, end: u32 },
     /// The query's graph would have too many vertices.
     #[error("query refused 21")]
     TooManyVertices,
     /// The input's first faulty line, with its code.
-    #[error("input refused {code} at line {line}")]
+    #[error("input refused {code} at line {line}", code = Number(u64::from(*.code)), line = Number(*.line))]
     Input { code: u8, line: u64 },
     /// The schedule's first faulty line, with its code.
-    #[error("schedule refused {code} at line {line}")]
+    #[error("schedule refused {code} at line {line}", code = Number(u64::from(*.code)), line = Number(*.line))]
     Schedule { code: u8, line: u64 },
     #[error("out of memory")]
     NoMemory,

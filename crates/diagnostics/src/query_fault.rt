@@ -5,6 +5,7 @@ use crate::expected::write_expected;
 use crate::hint::{hint, of_hash};
 use crate::names::{form_name, write_no_form, write_unknown};
 use bumpalo::Bump;
+use collector::Number;
 use parser::parse;
 use record_core::Span;
 use refusals::explanation_of;
@@ -120,7 +121,7 @@ fn write_reading<W: Write>(
     writer: &mut W,
 ) -> io::Result<()> {
     let word = span_bytes(text, span);
-    let length = word.len();
+    let length = Number(word.len() as u64);
     let shown = Word(word);
     match code {
         1 => write_byte(text, span, writer),

@@ -3,6 +3,7 @@
 use crate::counter::{Counter, Counts};
 use crate::tally::Tally;
 use arrayvec::ArrayVec;
+use collector::Number;
 use std::io;
 use std::io::Write;
 use std::sync::atomic::Ordering;
@@ -24,8 +25,8 @@ impl Tally {
 
     /// Writes the last two lines.
     fn write_sums<W: Write>(&self, writer: &mut W) -> io::Result<()> {
-        let messages = self.messages.load(Ordering::SeqCst);
-        let epochs = self.epochs;
+        let messages = Number(self.messages.load(Ordering::SeqCst));
+        let epochs = Number(u64::from(self.epochs));
         let mut line: ArrayVec<u8, LINE_LIMIT> = ArrayVec::new();
         writeln!(line, "messages {messages}")?;
         writeln!(line, "epochs {epochs}")?;
@@ -80,14 +81,13 @@ fn write_line<W: Write>(
     counts: Counts,
     writer: &mut W,
 ) -> io::Result<()> {
-    let Counts {
-        events,
-        received,
-        sent,
-    } = counts;
+    let events = Number(counts.events);
+    let received = Number(counts.received);
+    let sent = Number(counts.sent);
     let mut line: ArrayVec<u8, LINE_LIMIT> = ArrayVec::new();
     line.write_all(head)?;
     if let Some(worker) = worker {
+        let worker = Number(worker as u64);
         write!(line, " worker {worker}")?;
     }
     writeln!(line, " events {events} in {received} sent {sent}")?;
