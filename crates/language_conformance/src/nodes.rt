@@ -1,103 +1,113 @@
-//! The nodes of one query, each with its place in the text.
+//! The nodes of the first output of a query, each before its parts and with its place in the text.
 
+use crate::texts::{add, place, refused, word};
 use expr_tree::{Comparison, Cond, Connective, Operator, Rel, Scalar};
 use parser::parse;
 use record_core::Span;
 use std::alloc::{AllocError, Global};
-use std::test::Fail;
 
-type Nodes = Vec<(&'static str, u32, u32), Global>;
+/// Puts a node at the end of the list.
+fn node(alloc: Global, list: &mut String, name: &str, span: Span) -> Result<(), AllocError> {
+    let place = place(alloc, span)?;
+    let item = format!(in alloc; "{name} {place}")?;
+    add(list, item.as_str())
+}
 
-fn scalar_nodes(nodes: &mut Nodes, scalar: &Scalar<Global>) -> Result<(), AllocError> {
+fn scalar_nodes(
+    alloc: Global,
+    list: &mut String,
+    scalar: &Scalar<Global>,
+) -> Result<(), AllocError> {
     match scalar {
         Scalar::Literal(span, number) => {
-            let name = match *number {
-                1 => "1",
-                2 => "2",
-                3 => "3",
-                _ => "number",
-            };
-            nodes.push((name, span.start, span.end))?;
+            let number = format!(in alloc; "{number}")?;
+            node(alloc, list, number.as_str(), *span)
         }
-        Scalar::Column(span, _) => nodes.push(("column", span.start, span.end))?,
+        Scalar::Column(span, index) => {
+            let column = format!(in alloc; "#{index}")?;
+            node(alloc, list, column.as_str(), *span)
+        }
         Scalar::Binary(span, operator, left, right) => {
             let name = match operator {
                 Operator::Add => "+",
                 Operator::Subtract => "-",
                 Operator::Multiply => "*",
             };
-            nodes.push((name, span.start, span.end))?;
-            scalar_nodes(nodes, left)?;
-            scalar_nodes(nodes, right)?;
+            node(alloc, list, name, *span)?;
+            scalar_nodes(alloc, list, left)?;
+            scalar_nodes(alloc, list, right)
         }
         Scalar::Negate(span, inner) => {
-            nodes.push(("negation", span.start, span.end))?;
-            scalar_nodes(nodes, inner)?;
+            node(alloc, list, "negation", *span)?;
+            scalar_nodes(alloc, list, inner)
         }
     }
-    Ok(())
 }
 
-fn cond_nodes(nodes: &mut Nodes, condition: &Cond<Global>) -> Result<(), AllocError> {
+fn comparison_name(comparison: &Comparison) -> &'static str {
+    match comparison {
+        Comparison::Equal => "=",
+        Comparison::NotEqual => "!=",
+        Comparison::Less => "<",
+        Comparison::AtMost => "<=",
+        Comparison::Greater => ">",
+        Comparison::AtLeast => ">=",
+    }
+}
+
+fn cond_nodes(
+    alloc: Global,
+    list: &mut String,
+    condition: &Cond<Global>,
+) -> Result<(), AllocError> {
     match condition {
         Cond::Compare(span, comparison, left, right) => {
-            let name = match comparison {
-                Comparison::Less => "<",
-                Comparison::AtLeast => ">=",
-                _ => "comparison",
-            };
-            nodes.push((name, span.start, span.end))?;
-            scalar_nodes(nodes, left)?;
-            scalar_nodes(nodes, right)?;
+            node(alloc, list, comparison_name(comparison), *span)?;
+            scalar_nodes(alloc, list, left)?;
+            scalar_nodes(alloc, list, right)
         }
         Cond::Logical(span, connective, left, right) => {
             let name = match connective {
                 Connective::And => "and",
                 Connective::Or => "or",
             };
-            nodes.push((name, span.start, span.end))?;
-            cond_nodes(nodes, left)?;
-            cond_nodes(nodes, right)?;
+            node(alloc, list, name, *span)?;
+            cond_nodes(alloc, list, left)?;
+            cond_nodes(alloc, list, right)
         }
         Cond::Not(span, inner) => {
-            nodes.push(("not", span.start, span.end))?;
-            cond_nodes(nodes, inner)?;
+            node(alloc, list, "not", *span)?;
+            cond_nodes(alloc, list, inner)
         }
     }
-    Ok(())
 }
 
-// Each node before its parts.
-#[test]
-fn nodes_with_spans(rt: HostRuntime) -> Result<(), Fail> {
-    let text = b"input a/1;output where(a;not[#0<1]and(1+#0)*2>=-3);".as_slice();
-    let program = parse(rt.alloc(), text)?;
-    let mut nodes = Vec::new(rt.alloc());
-    let output = program.outputs.first().ok_or("no output")?;
-    match &*output.relation {
+fn relation_nodes(
+    alloc: Global,
+    list: &mut String,
+    relation: &Rel<Global>,
+) -> Result<(), AllocError> {
+    match relation {
+        Rel::Named(span, _) => node(alloc, list, "name", *span),
         Rel::Where(span, inner, condition) => {
-            nodes.push(("where", span.start, span.end))?;
-            assert!(rt; matches!(&**inner, Rel::Named(Span { start: 23, end: 24 }, _)));
-            cond_nodes(&mut nodes, condition)?;
+            node(alloc, list, "where", *span)?;
+            relation_nodes(alloc, list, inner)?;
+            cond_nodes(alloc, list, condition)
         }
-        _ => nodes.push(("other", 0, 0))?,
+        _ => add(list, "another form"),
     }
-    let expected: [(&'static str, u32, u32); 14] = [
-        ("where", 17, 50),
-        ("and", 25, 49),
-        ("not", 25, 34),
-        ("<", 29, 33),
-        ("column", 29, 31),
-        ("1", 32, 33),
-        (">=", 37, 49),
-        ("*", 37, 45),
-        ("+", 38, 42),
-        ("1", 38, 39),
-        ("column", 40, 42),
-        ("2", 44, 45),
-        ("negation", 47, 49),
-        ("3", 48, 49),
-    ];
-    assert_eq!(rt; nodes.as_slice(), expected.as_slice());
-    Ok(())
+}
+
+/// The nodes of a text's first output.
+pub fn nodes(alloc: Global, text: &[u8]) -> Result<String, AllocError> {
+    let program = match parse(alloc, text) {
+        Ok(program) => program,
+        Err(refusal) => return refused(alloc, refusal),
+    };
+    let Some(output) = program.outputs.first() else {
+        return word(alloc, "no output");
+    };
+    let mut list = String::new(alloc);
+    relation_nodes(alloc, &mut list, &output.relation)?;
+    Ok(list)
 }

@@ -1,26 +1,18 @@
-//! Trees of query texts, under three allocators; which are the same; sizes and depths counted by hand.
+//! Trees of texts, under three allocators; which are the same; sizes and depths.
 
+use crate::texts::{refused, word, yes_or_no};
 use bumpalo::Bump;
 use expr_tree::same;
 use linked_list_allocator::LocalHeap;
 use parser::parse;
 use record_core::Refusal;
-use std::alloc::Global;
-use std::test::Fail;
-
-const REACHABLE: &[u8] =
-    b"input e/2; output iterate(3; x = e; distinct(concat(x, select(join(x, e; #1 = #0); #0, #3))));";
-
-const CLOSED: &[u8] = b"input e/2; output closure(3; x = e; select(join(x, e; #1 = #0); #0, #3));";
-
-const COUNTS: &[u8] =
-    b"input e/2; let x = group(where(e; #0 < 1 and not [#0 = -2]); #0; count, sum #1); output x;";
+use std::alloc::{AllocError, Global};
 
 /// Whether the trees that are read in three places are the same, and their copies in the other places too.
-fn are_same(alloc: Global, arena: &Bump, heap: &LocalHeap) -> Result<bool, Refusal> {
-    let first = parse(alloc, REACHABLE)?;
-    let second = parse(arena, REACHABLE)?;
-    let third = parse(heap, REACHABLE)?;
+fn are_same(alloc: Global, text: &[u8], arena: &Bump, heap: &LocalHeap) -> Result<bool, Refusal> {
+    let first = parse(alloc, text)?;
+    let second = parse(arena, text)?;
+    let third = parse(heap, text)?;
     let whole = first.copy_in(alloc)?;
     let in_arena = first.copy_in(arena)?;
     let in_heap = first.copy_in(heap)?;
@@ -35,25 +27,36 @@ fn are_same(alloc: Global, arena: &Bump, heap: &LocalHeap) -> Result<bool, Refus
     )
 }
 
-#[test]
-fn three_allocators(rt: HostRuntime) -> Result<(), Fail> {
-    let mut arena = Bump::new(rt.alloc());
-    let heap = LocalHeap::new(rt.alloc(), 65536)?;
-    assert_eq!(rt; are_same(rt.alloc(), &arena, &heap), Ok(true));
-    assert_eq!(rt; heap.used(), 0);
-    assert!(rt; arena.reset().is_ok());
-    Ok(())
+/// Whether a text's trees and their copies are the same in memory, in an arena and in a heap, which is empty afterwards.
+pub fn copies(alloc: Global, text: &[u8]) -> Result<String, AllocError> {
+    let mut arena = Bump::new(alloc);
+    let heap = LocalHeap::new(alloc, 65536)?;
+    let answer = are_same(alloc, text, &arena, &heap);
+    if heap.used() != 0 || arena.reset().is_err() {
+        return word(alloc, "memory is in use");
+    }
+    match answer {
+        Ok(answer) => yes_or_no(alloc, answer),
+        Err(refusal) => refused(alloc, refusal),
+    }
 }
 
-#[test]
-fn a_small_heap_refuses(rt: HostRuntime) -> Result<(), Fail> {
-    let program = parse(rt.alloc(), REACHABLE)?;
-    let heap = LocalHeap::new(rt.alloc(), 64)?;
-    assert!(rt; program.copy_in(&heap).is_err());
-    assert_eq!(rt; parse(&heap, REACHABLE).err(), Some(Refusal::NoMemory));
-    assert_eq!(rt; heap.used(), 0);
-    assert!(rt; parse(rt.alloc(), REACHABLE).is_ok());
-    Ok(())
+/// Whether a copy and a text are refused in a heap of that many bytes, which is empty afterwards.
+fn refuses(alloc: Global, text: &[u8], heap: &LocalHeap) -> Result<bool, Refusal> {
+    let program = parse(alloc, text)?;
+    Ok(program.copy_in(heap).is_err() && parse(heap, text).err() == Some(Refusal::NoMemory))
+}
+
+/// Whether a heap of 64 bytes refuses a text and a copy of its tree, and is empty afterwards.
+pub fn crowds(alloc: Global, text: &[u8]) -> Result<String, AllocError> {
+    let heap = LocalHeap::new(alloc, 64)?;
+    match refuses(alloc, text, &heap) {
+        Ok(answer) => yes_or_no(
+            alloc,
+            answer && heap.used() == 0 && parse(alloc, text).is_ok(),
+        ),
+        Err(refusal) => refused(alloc, refusal),
+    }
 }
 
 /// Whether the trees of two texts are the same.
@@ -61,51 +64,20 @@ fn are_alike(alloc: Global, first: &[u8], second: &[u8]) -> Result<bool, Refusal
     Ok(same(&parse(alloc, first)?, &parse(alloc, second)?))
 }
 
-#[test]
-fn trees_compared(rt: HostRuntime) {
-    let rows: [(&[u8], &[u8], bool); 9] = [
-        (b"output a;", b"output out = a;", true),
-        (b"output a;", b"output b = a;", false),
-        (
-            b"output a; output b = c;",
-            b"output b = c; output a;",
-            false,
-        ),
-        (b"output except(a, b);", b"output intersect(a, b);", false),
-        (b"output except(a, b);", b"output except(b, a);", false),
-        (
-            b"output closure(3; x = a; x);",
-            b"output closure (3;x=a;x);",
-            true,
-        ),
-        (
-            b"output closure(3; x = a; x);",
-            b"output iterate(3; x = a; x);",
-            false,
-        ),
-        (
-            b"output closure(3; x = a; x);",
-            b"output closure(4; x = a; x);",
-            false,
-        ),
-        (b"output closure;", b"output out = closure;", true),
-    ];
-    for (first, second, want) in rows {
-        assert_eq!(rt; are_alike(rt.alloc(), first, second), Ok(want), "{first:?}");
+pub fn alike(alloc: Global, first: &[u8], second: &[u8]) -> Result<String, AllocError> {
+    match are_alike(alloc, first, second) {
+        Ok(answer) => yes_or_no(alloc, answer),
+        Err(refusal) => refused(alloc, refusal),
     }
 }
 
-#[test]
-fn sizes(rt: HostRuntime) -> Result<(), Fail> {
-    let reachable = parse(rt.alloc(), REACHABLE)?;
-    assert_eq!(rt; reachable.size(), 11);
-    assert_eq!(rt; reachable.depth(), 6);
-    let closed = parse(rt.alloc(), CLOSED)?;
-    assert_eq!(rt; closed.size(), 8);
-    assert_eq!(rt; closed.depth(), 4);
-    let counts = parse(rt.alloc(), COUNTS)?;
-    assert_eq!(rt; counts.size(), 16);
-    assert_eq!(rt; counts.depth(), 7);
-    assert!(rt; !same(&reachable, &counts));
-    Ok(())
+/// The size and the depth of a text's tree.
+pub fn size(alloc: Global, text: &[u8]) -> Result<String, AllocError> {
+    match parse(alloc, text) {
+        Ok(program) => {
+            let (size, depth) = (program.size(), program.depth());
+            format!(in alloc; "{size}, {depth} deep")
+        }
+        Err(refusal) => refused(alloc, refusal),
+    }
 }

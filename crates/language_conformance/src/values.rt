@@ -1,116 +1,175 @@
-//! Values worked out by hand, and places that children are taken from.
+//! Values of scalars and conditions, and places that children are taken from.
 
+use crate::texts::{refused, word, yes_or_no};
 use expr_tree::{
     Comparison, Cond, Operator, Rel, Scalar, cond_size, copy_cond, copy_rel, copy_scalar,
     eval_scalar, holds, negated, operate, rel_size, same_cond, same_rel, same_scalar, scalar_size,
 };
-use record_core::{Name, NoMemory, Record, Refusal, Span};
-use std::alloc::Global;
-use std::test::Fail;
+use record_core::{Name, NoMemory, Refusal, Span};
+use std::alloc::{AllocError, Global};
 
-fn at(start: u32, end: u32) -> Span {
-    Span { start, end }
+const HERE: Span = Span { start: 0, end: 1 };
+
+/// A number, a word and a number, as `-1 < 0`.
+fn parts_of<'a>(text: &'a str) -> Option<(i64, &'a str, i64)> {
+    let (left, rest) = text.split_once(' ')?;
+    let (word, right) = rest.split_once(' ')?;
+    Some((left.parse().ok()?, word, right.parse().ok()?))
+}
+
+fn operator_of(text: &str) -> Option<Operator> {
+    match text {
+        "+" => Some(Operator::Add),
+        "-" => Some(Operator::Subtract),
+        "*" => Some(Operator::Multiply),
+        _ => None,
+    }
 }
 
 /// The value of an operator between two literals.
-fn value_of(
-    alloc: Global,
-    operator: Operator,
-    left: i64,
-    right: i64,
-) -> Result<Option<i64>, NoMemory> {
-    let Some(record) = Record::new(&[0]) else {
-        return Ok(None);
+fn value_of(alloc: Global, operator: Operator, left: i64, right: i64) -> Result<i64, NoMemory> {
+    let left = Scalar::Literal(HERE, left);
+    let right = Scalar::Literal(HERE, right);
+    let scalar = Scalar::binary(alloc, HERE, operator, left, right)?;
+    Ok(eval_scalar(&scalar, &[0]))
+}
+
+/// The value of `-9223372036854775808 - 1`, as an operation and as a scalar.
+pub fn value(alloc: Global, text: &str) -> Result<String, AllocError> {
+    let Some((left, sign, right)) = parts_of(text) else {
+        return word(alloc, "no operation");
     };
-    let left = Scalar::Literal(at(0, 1), left);
-    let right = Scalar::Literal(at(0, 1), right);
-    let scalar = Scalar::binary(alloc, at(0, 1), operator, left, right)?;
-    Ok(Some(eval_scalar(&scalar, record.fields())))
+    let Some(operator) = operator_of(sign) else {
+        return word(alloc, "no operator");
+    };
+    match value_of(alloc, operator, left, right) {
+        Ok(value) if value == operate(operator, left, right) => format!(in alloc; "{value}"),
+        Ok(_) => word(alloc, "two values"),
+        Err(no_memory) => refused(alloc, Refusal::from(no_memory)),
+    }
 }
 
-#[test]
-fn operators_wrap(rt: HostRuntime) -> Result<(), Fail> {
-    for (operator, left, right, want) in [
-        (Operator::Add, i64::MAX, 1, i64::MIN),
-        (Operator::Subtract, i64::MIN, 1, i64::MAX),
-        (Operator::Multiply, i64::MAX, 2, -2),
-    ] {
-        assert_eq!(rt; value_of(rt.alloc(), operator, left, right)?, Some(want));
-        assert_eq!(rt; operate(operator, left, right), want);
-    }
-    let record = Record::new(&[i64::MIN]).ok_or("no record")?;
-    let negation = Scalar::negate(rt.alloc(), at(0, 1), Scalar::Column(at(1, 3), 0))?;
-    assert_eq!(rt; eval_scalar(&negation, record.fields()), i64::MIN);
-    assert_eq!(rt; negated(i64::MIN), i64::MIN);
-    Ok(())
+/// The value of the negation of column 0 of a record of one field.
+fn negation_of(alloc: Global, number: i64) -> Result<i64, NoMemory> {
+    let negation = Scalar::negate(alloc, HERE, Scalar::Column(HERE, 0))?;
+    Ok(eval_scalar(&negation, &[number]))
 }
 
-#[test]
-fn comparisons_are_signed(rt: HostRuntime) -> Result<(), Fail> {
-    let record = Record::new(&[-1, 0]).ok_or("no record")?;
-    for (comparison, below, equal, above) in [
-        (Comparison::Equal, false, true, false),
-        (Comparison::NotEqual, true, false, true),
-        (Comparison::Less, true, false, false),
-        (Comparison::AtMost, true, true, false),
-        (Comparison::Greater, false, false, true),
-        (Comparison::AtLeast, false, true, true),
-    ] {
-        for (left, right, want) in [(0, 1, below), (0, 0, equal), (1, 0, above)] {
-            let condition = Cond::<Global>::Compare(
-                at(0, 1),
-                comparison,
-                Scalar::Column(at(0, 1), left),
-                Scalar::Column(at(0, 1), right),
-            );
-            assert!(rt; holds(&condition, record.fields()) == want);
-        }
+/// The negation of a number, as an operation and as a scalar.
+pub fn negation(alloc: Global, text: &str) -> Result<String, AllocError> {
+    let Ok(number) = text.parse::<i64>() else {
+        return word(alloc, "no number");
+    };
+    match negation_of(alloc, number) {
+        Ok(value) if value == negated(number) => format!(in alloc; "{value}"),
+        Ok(_) => word(alloc, "two values"),
+        Err(no_memory) => refused(alloc, Refusal::from(no_memory)),
     }
-    Ok(())
+}
+
+fn comparison_of(text: &str) -> Option<Comparison> {
+    match text {
+        "=" => Some(Comparison::Equal),
+        "!=" => Some(Comparison::NotEqual),
+        "<" => Some(Comparison::Less),
+        "<=" => Some(Comparison::AtMost),
+        ">" => Some(Comparison::Greater),
+        ">=" => Some(Comparison::AtLeast),
+        _ => None,
+    }
+}
+
+/// Whether a comparison holds between two fields of a record, as `-1 < 0`.
+pub fn comparison(alloc: Global, text: &str) -> Result<String, AllocError> {
+    let Some((left, sign, right)) = parts_of(text) else {
+        return word(alloc, "no comparison");
+    };
+    let Some(comparison) = comparison_of(sign) else {
+        return word(alloc, "no comparison");
+    };
+    let condition = Cond::<Global>::Compare(
+        HERE,
+        comparison,
+        Scalar::Column(HERE, 0),
+        Scalar::Column(HERE, 1),
+    );
+    yes_or_no(alloc, holds(&condition, &[left, right]))
 }
 
 /// `#0 = 2`
 fn is_two() -> Cond<Global> {
     Cond::Compare(
-        at(0, 1),
+        HERE,
         Comparison::Equal,
-        Scalar::Column(at(0, 1), 0),
-        Scalar::Literal(at(0, 1), 2),
+        Scalar::Column(HERE, 0),
+        Scalar::Literal(HERE, 2),
     )
 }
 
-#[test]
-fn a_condition_taken(rt: HostRuntime) -> Result<(), Fail> {
-    let mut condition = Cond::negate(rt.alloc(), at(0, 1), is_two())?;
-    let whole = copy_cond(rt.alloc(), &condition)?;
-    assert_eq!(rt; cond_size(&whole), 4);
-    assert!(rt; same_cond(&condition.take(), &whole));
-    assert_eq!(rt; cond_size(&condition), 3);
-    Ok(())
+/// What is taken from a place: the size before, whether it is the same as a copy, and the size that is left.
+#[derive(Clone, Copy)]
+struct Removed {
+    before: u64,
+    is_same: bool,
+    after: u64,
 }
 
-#[test]
-fn a_relation_taken(rt: HostRuntime) -> Result<(), Fail> {
-    let name = Name::new(b"e").ok_or("no name")?;
-    let mut relation = Rel::distinct(rt.alloc(), at(0, 1), Rel::Named(at(0, 1), name))?;
-    let whole = copy_rel(rt.alloc(), &relation)?;
-    assert_eq!(rt; rel_size(&whole), 2);
-    assert!(rt; same_rel(&relation.take(), &whole));
-    assert_eq!(rt; rel_size(&relation), 1);
-    Ok(())
+fn taken_condition(alloc: Global) -> Result<Removed, NoMemory> {
+    let mut condition = Cond::negate(alloc, HERE, is_two())?;
+    let whole = copy_cond(alloc, &condition)?;
+    let before = cond_size(&whole);
+    let is_same = same_cond(&condition.take(), &whole);
+    Ok(Removed {
+        before,
+        is_same,
+        after: cond_size(&condition),
+    })
 }
 
-#[test]
-fn a_scalar_taken(rt: HostRuntime) -> Result<(), Fail> {
-    let mut scalar = Scalar::negate(rt.alloc(), at(0, 1), Scalar::Literal(at(0, 1), 2))?;
-    let whole = copy_scalar(rt.alloc(), &scalar)?;
-    assert_eq!(rt; scalar_size(&whole), 2);
-    assert!(rt; same_scalar(&scalar.take(), &whole));
-    assert_eq!(rt; scalar_size(&scalar), 1);
-    Ok(())
+fn taken_relation(alloc: Global) -> Result<Removed, NoMemory> {
+    let Some(name) = Name::new(b"e") else {
+        return Err(NoMemory);
+    };
+    let mut relation = Rel::distinct(alloc, HERE, Rel::Named(HERE, name))?;
+    let whole = copy_rel(alloc, &relation)?;
+    let before = rel_size(&whole);
+    let is_same = same_rel(&relation.take(), &whole);
+    Ok(Removed {
+        before,
+        is_same,
+        after: rel_size(&relation),
+    })
 }
 
-#[test]
-fn want_of_memory_is_a_refusal(rt: HostRuntime) {
-    assert_eq!(rt; Refusal::from(NoMemory), Refusal::NoMemory);
+fn taken_scalar(alloc: Global) -> Result<Removed, NoMemory> {
+    let mut scalar = Scalar::negate(alloc, HERE, Scalar::Literal(HERE, 2))?;
+    let whole = copy_scalar(alloc, &scalar)?;
+    let before = scalar_size(&whole);
+    let is_same = same_scalar(&scalar.take(), &whole);
+    Ok(Removed {
+        before,
+        is_same,
+        after: scalar_size(&scalar),
+    })
+}
+
+/// What is taken from the place of a small tree.
+pub fn taken(alloc: Global, form: &str) -> Result<String, AllocError> {
+    let taken = match form {
+        "condition" => taken_condition(alloc),
+        "relation" => taken_relation(alloc),
+        "scalar" => taken_scalar(alloc),
+        _ => Err(NoMemory),
+    };
+    match taken {
+        Ok(
+            Removed {
+                before,
+                is_same,
+                after,
+            },
+        ) if is_same => format!(in alloc; "{before}, and {after} left"),
+        Ok(_) => word(alloc, "another tree"),
+        Err(no_memory) => refused(alloc, Refusal::from(no_memory)),
+    }
 }
