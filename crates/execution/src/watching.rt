@@ -3,6 +3,7 @@
 ghost use Rattle.std.specs.Prelude.{◌≡◌};
 
 use arrayvec::ArrayVec;
+use collector::Number;
 use std::io;
 use std::io::Write;
 use std::sync::Wait;
@@ -28,6 +29,7 @@ pub struct Watcher<W> {
 impl<W: Write> Watcher<W> {
     /// Reports one number, in one write.
     fn tell(&mut self, passed: u64) -> io::Result<()> {
+        let passed = Number(passed);
         let mut text: ArrayVec<u8, 32> = ArrayVec::new();
         match self.telling {
             Telling::Lines => writeln!(text, "passed {passed}")?,
