@@ -16,8 +16,8 @@ use Rattle.board.specs.Promises.{IsDrained}
 use Rattle.board.specs.Shown.{Shown, input_at, net, side_at, held_of}
 use Rattle.board.specs.Showing.{Shows}
 use Rattle.board.specs.Reached.{IsReached}
-use Rattle.events.specs.declared.fault.ComputeFault.{ComputeFault}
-use Rattle.events.specs.declared.fault.ComputeFault.TheVariants as fault
+use Rattle.rows.specs.declared.fault.WorkFault.{WorkFault}
+use Rattle.rows.specs.declared.fault.WorkFault.TheVariants as fault
 use Rattle.driver.specs.declared.ended.Ended.{Ended}
 use Rattle.alone.specs.Rests.{HasPassedOver, IsAtRest, IsDone}
 use Rattle.driver.specs.Ends.{ended_of}
@@ -84,6 +84,6 @@ drained_passed_over s t k r runs l one is same =
     subst HasPassedOver (sym same) (passed_over s r runs (drained_rests s k l (sym (ap (λ (x : Shown). length x.sides) same) ∙ one) is))
 
 -- a worker whose event was abandoned isn't done
-pub not_done : (f : ComputeFault) (e : Ended) → e ≡ ended_of f → IsDone (Some e) → ⊥
+pub not_done : (f : WorkFault) (e : Ended) → e ≡ ended_of f → IsDone (Some e) → ⊥
 not_done fault.NoMemory e is done = subst (λ x. IsDone (Some x)) is done
 not_done fault.Count e is done = subst (λ x. IsDone (Some x)) is done

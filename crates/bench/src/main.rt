@@ -1,9 +1,5 @@
 //! Measures the engine's parts: prints the results of their work, and is timed from outside.
 //!
-//! Shards: `join N` joins N thousand records of two fields with as many others, each with 2 of them; `distinct N` takes N thousand
-//! records, 4,000 different; `group N` takes N thousand records of 12,500 keys and gives the count, sum, least and greatest of each
-//! key; `batches N` makes N thousand records and does nothing with them. Each prints how many records come out.
-//!
 //! Tables of path summaries: `chain N` of a graph of N loops one after another, `wide N` of 8 loops one in another round a tree of N
 //! unions, `query FILE` of the query in a file; each prints how many vertices there are.
 //!
@@ -20,24 +16,17 @@
 ghost use Rattle.std.specs.Prelude.{◌≤◌};
 
 mod engine;
-mod shards;
 mod tables;
 
 use engine::Feed;
-use shards::{batches, distinct, group, join};
 use std::{env, fs, io};
 use tables::{chain, slide_located, slide_plain, table, wide};
-use vertices::ShardFault;
 
 fn show(rt: &impl Print, name: &str, count: Option<u64>) -> io::Result<()> {
     match count {
         Some(count) => println!(rt; "{name}: {count}"),
         None => println!(rt; "{name}: no memory"),
     }
-}
-
-fn show_records(rt: &impl Print, name: &str, count: Result<usize, ShardFault>) -> io::Result<()> {
-    show(rt, name, count.ok().map(|count| count as u64))
 }
 
 /// The number in that place, at most 10 million.
@@ -83,12 +72,7 @@ fn main(rt: HostRuntime) -> io::Result<()> {
     let work = words.get(1).map_or("", |word| word.as_str());
     let count = number(&words, 2);
     let rounds = number(&words, 3);
-    let records = u64::from(count) * 1000;
     match work {
-        "join" => show_records(&rt, work, join(alloc, records)),
-        "distinct" => show_records(&rt, work, distinct(alloc, records)),
-        "group" => show_records(&rt, work, group(alloc, records)),
-        "batches" => show_records(&rt, work, batches(alloc, records)),
         "chain" => show(&rt, work, table(alloc, chain(alloc, count))),
         "wide" => show(&rt, work, table(alloc, wide(alloc, count))),
         "query" => {
@@ -101,9 +85,6 @@ fn main(rt: HostRuntime) -> io::Result<()> {
         "open" => show(&rt, work, slide_located(alloc, count, rounds)),
         "scan" => show(&rt, work, slide_plain(alloc, count, rounds)),
         _ => {
-            show_records(&rt, "join", join(alloc, 20_000))?;
-            show_records(&rt, "distinct", distinct(alloc, 20_000))?;
-            show_records(&rt, "group", group(alloc, 20_000))?;
             show(&rt, "chain", table(alloc, chain(alloc, 20)))?;
             show(&rt, "wide", table(alloc, wide(alloc, 40)))?;
             show(&rt, "open", slide_located(alloc, 100, 1000))?;

@@ -5,7 +5,7 @@ use Rattle.machine.specs.Step.{Step}
 use Rattle.machine.specs.World.{World}
 use Rattle.tokens.specs.declared.rule.Place.TheVariants.{Home}
 use Rattle.events.specs.Jobs.{Pass}
-use Rattle.events.specs.declared.fault.ComputeFault.{ComputeFault}
+use Rattle.rows.specs.declared.fault.WorkFault.{WorkFault}
 use Rattle.board.specs.Answers.{Hands}
 use Rattle.board.specs.Shown.{Shown, net, side_at}
 use Rattle.board.specs.Showing.{Shows}
@@ -37,6 +37,6 @@ RefusesPick prompt s k n LastEpoch = ⊥
 RefusesPick prompt s k n NoMemory = ⊥
 
 -- A pick hands out an unspoiled event by a step, which is that of the choice where that is known; or it is refused, and nothing changes.
-abbrev pub Picks : (prompt : Type 0) → Shown → Shown → (worker choice : ℕ) → Result (Pass × Option ComputeFault) StepRefusal → Type 0
+abbrev pub Picks : (prompt : Type 0) → Shown → Shown → (worker choice : ℕ) → Result (Pass × Option WorkFault) StepRefusal → Type 0
 Picks prompt s t k n (Ok x) = (hands : Hands s k t x.0) × (IsCertain prompt s k n → IsChoice s k n hands.taken) × (x.1 ≡ None)
 Picks prompt s t k n (Err e) = RefusesPick prompt s k n e × (t ≡ s)

@@ -220,7 +220,7 @@ impl<V: Views> Board<V> {
                 law_of_step();
                 let feeder = self.state.worker_count();
                 post_noted(&mut self.views, feeder, &self.added, &[]);
-                self.lag.post();
+                self.lag.post(0);
                 self.passed = passed_now(&self.views, &self.state, self.passed);
                 (Ok(()), None)
             }
@@ -265,7 +265,7 @@ impl<V: Views> Board<V> {
                 let opens = input_place(input, epoch + 1);
                 let ends = input_place(input, epoch);
                 post(&mut self.views, feeder, &[opens], &[ends]);
-                self.lag.post();
+                self.lag.post(0);
                 self.state.seal(input as usize);
                 self.passed = passed_now(&self.views, &self.state, self.passed);
                 Ok(())
@@ -291,7 +291,7 @@ impl<V: Views> Board<V> {
         let feeder = self.state.worker_count();
         let ends = input_place(input, epoch);
         post(&mut self.views, feeder, &[], &[ends]);
-        self.lag.post();
+        self.lag.post(0);
         self.state.close(input as usize);
         self.passed = passed_now(&self.views, &self.state, self.passed);
         Ok(())
@@ -324,7 +324,7 @@ impl<V: Views> Board<V> {
             Some(ends) => {
                 law_of_step();
                 post(&mut self.views, worker, &[], &[ends]);
-                self.lag.post();
+                self.lag.post(0);
                 self.passed = passed_now(&self.views, &self.state, self.passed);
                 true
             }
@@ -554,8 +554,13 @@ impl<V: Views> Board<V> {
         Ok(wiring)
     }
 
+    /// Whether the message at that place behind the worker's first one is like it, and both are small. It decides only how many events there are.
+    pub fn is_worth_merging(&self, worker: u32, place: usize) -> bool {
+        worker < self.state.worker_count() && self.state.is_worth_merging(worker as usize, place)
+    }
+
     /// The first place, from `from` on and within a fixed window, of a message that can be merged with the worker's first: on the same edge at the
-    /// same time, and as small. `None` if there is no such message or worker.
+    /// same time, and with few enough records. `None` if there is no such message or worker.
     pub fn next_alike(&self, worker: u32, from: usize) -> Option<usize>
         ensures found { IfSome result (λ at. (from ≤ at) × AreAlike (side_at self.now.shown worker).mail at) }
         ensures none { IfNone result ((at : ℕ) → from ≤ at → at < window → AreAlike (side_at self.now.shown worker).mail at → ⊥) }
@@ -672,7 +677,7 @@ impl<V: Views> Board<V> {
             Ok((place, sent)) => {
                 law_of_step();
                 post_noted(&mut self.views, worker, &self.added, &[place]);
-                self.lag.post();
+                self.lag.post(sent.rows());
                 self.passed = passed_now(&self.views, &self.state, self.passed);
                 Ok(sent)
             }

@@ -7,10 +7,10 @@ ghost use Rattle.board.specs.Shown.{tables};
 use crate::board::Board;
 use views::Views;
 
-/// The most messages that one call merges, so that its time is bounded.
+/// The most messages that one call looks at, so that its time is bounded.
 const MOST: usize = 64;
 
-/// Merges into a free worker's first message the messages close behind it that are like it, so that many small messages are one event. Copies no
+/// Merges into a free worker's first message the small ones close behind it that are like it, so that many small messages are one event. Copies no
 /// record. False if nothing was changed.
 pub fn gather<V: Views>(board: &mut Board<V>, worker: u32) -> bool
     ensures gathers { Gathers board.old.shown worker board.new.shown }
@@ -19,18 +19,21 @@ pub fn gather<V: Views>(board: &mut Board<V>, worker: u32) -> bool
     ensures graph { board.new.shown.graph ≡ board.old.shown.graph }
     ensures passed { board.old.passed ≤ board.new.passed }
 {
-    let Some(first) = board.next_alike(worker, 0) else {
-        return false;
-    };
-    let mut place = first;
-    for merges in 0..MOST {
-        if !board.merge(worker, place) {
-            return merges > 0;
+    let mut merged = false;
+    let mut place = 0;
+    for _looks in 0..MOST {
+        let Some(next) = board.next_alike(worker, place) else {
+            return merged;
+        };
+        if !board.is_worth_merging(worker, next) {
+            place = next.saturating_add(1);
+            continue;
         }
-        match board.next_alike(worker, place) {
-            Some(next) => place = next,
-            None => return true,
+        if !board.merge(worker, next) {
+            return merged;
         }
+        merged = true;
+        place = next;
     }
-    true
+    merged
 }

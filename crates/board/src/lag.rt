@@ -5,7 +5,10 @@ use std::alloc::Global;
 
 /// After this many posts, a worker that claims applies what waits for it, even if it sees an event. So it soon sees what has passed, and what was
 /// kept of that is let go.
-const MOST: u32 = 32;
+const MOST: u32 = 128;
+
+/// An event that sent this many rows counts as one post more: they are kept until it is seen that their time has passed.
+const ROWS_EACH: u64 = 512;
 
 /// The number of batches posted, and that number at the time when each worker last applied everything. It affects memory and time only.
 #[derive(Drop)]
@@ -24,9 +27,10 @@ impl Lag {
         Ok(Lag { posts: 0, seen })
     }
 
-    /// Counts a posted batch.
-    pub fn post(&mut self) {
-        self.posts = self.posts.wrapping_add(1);
+    /// Counts a posted batch of changes, of an event that sent that many rows.
+    pub fn post(&mut self, rows: u64) {
+        let more = (rows / ROWS_EACH).min(MOST as u64) as u32;
+        self.posts = self.posts.wrapping_add(1).wrapping_add(more);
     }
 
     /// Whether many batches were posted since the worker last applied everything.

@@ -314,7 +314,7 @@ impl State {
         if mailbox.len() == 0 {
             return None;
         }
-        Some(next_place(mailbox))
+        Some(next_place(self.wiring.graph().edges(), mailbox))
     }
 
     /// The place of a request at an earlier turn of the loop of the message that the worker takes next, or at an earlier epoch outside loops.
@@ -327,7 +327,8 @@ impl State {
         if mailbox.len() == 0 {
             return None;
         }
-        due_before(mailbox.get(next_place(mailbox)), worker.requests())
+        let next = next_place(self.wiring.graph().edges(), mailbox);
+        due_before(mailbox.get(next), worker.requests())
     }
 
     /// How many messages wait for the worker.
@@ -336,6 +337,15 @@ impl State {
         ensures { result ≡ length (side_at self.now worker).mail }
     {
         self.workers[worker].mailbox().len()
+    }
+
+    /// Whether the message at that place behind the worker's first one is like it, and both are small. It decides only how many events there are.
+    pub fn is_worth_merging(&self, worker: usize, place: usize) -> bool
+        requires { worker < length self.now.sides }
+    {
+        let mailbox = self.workers[worker].mailbox();
+        let behind = place.saturating_add(1);
+        behind < mailbox.len() && mailbox.get(0).is_worth_merging(mailbox.get(behind))
     }
 
     /// The first place, from `from` on and within the window, of a message that is like the worker's first.

@@ -4,12 +4,12 @@ ghost use Rattle.std.specs.Prelude.{◌≡◌, ◌<◌, ◌≤◌, length, IfSom
 ghost use Rattle.board.specs.Commits.{IsOf};
 
 use board::{Board, Claimed, CommitRefusal};
-use events::{ComputeFault, Work};
+use events::Work;
 use graph::Graph;
 use lowering::lower;
 use parser::parse;
 use progress::LocationTracker;
-use rows::{Batch, Rows};
+use rows::{Batch, Rows, WorkFault};
 use std::alloc::{AllocError, Global};
 use std::sync::Arc;
 use typing::check;
@@ -75,8 +75,8 @@ pub fn commit<V: Views>(alloc: Global, board: &mut Board<V>, work: Work) -> Turn
         Err((work, fault)) => {
             board.abandon(work);
             match fault {
-                ComputeFault::NoMemory => Turn::NoMemory,
-                ComputeFault::Count => Turn::Count,
+                WorkFault::NoMemory => Turn::NoMemory,
+                WorkFault::Count => Turn::Count,
             }
         }
     }

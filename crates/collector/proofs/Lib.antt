@@ -1,5 +1,7 @@
 pub mod Splits
 pub mod LinesRead
+pub mod PartsRead
+pub mod TracksJoined
 pub mod InputNames
 pub mod Filled
 pub mod NumberLists

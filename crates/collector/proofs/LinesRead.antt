@@ -8,9 +8,11 @@ use Rattle.std.proofs.lemmas.List.Splits.{length-slice_split}
 use Rattle.semantics.specs.Query.{Input}
 use Rattle.collector.specs.Pieces.{split_on}
 use Rattle.collector.specs.Lines.{Item, Says, IsFault, code_of}
-use Rattle.collector.specs.InputText.{begun_after, epochs_after, records_in, LinesSay, IsReadFrom, IsRefused}
+use Rattle.collector.specs.InputText.{begun_after, epochs_after, records_in, LinesSay, IsRefused}
 use Rattle.collector.specs.Drafts.{draft_count, draft_records, IsKept}
-use Rattle.collector.specs.DraftGrowth.{IsEven, HasNone, Takes, CanTake}
+use Rattle.collector.specs.DraftGrowth.{CanTake, IsBare, IsEven, Takes}
+use Rattle.collector.specs.Parts.{IsPart}
+use Rattle.semantics.proofs.MultisetSums.{≈-from, ≈-trans}
 use Rattle.collector.specs.declared.draft.Draft.{Draft}
 use Rattle.collector.specs.declared.epochs.Epochs.{Epochs}
 use Rattle.collector.specs.declared.refusal.Fault.{Fault}
@@ -46,19 +48,19 @@ row_push epoch input n (Item.epoch ∷ is) j z = row_push epoch input (n + 1) is
 row_push epoch input n (Item.row i zs ∷ is) j z = one_more ((input == i) && (epoch + 1 == n)) ((input == j) && (epoch + 1 == epochs_after n is)) zs z (records_in epoch input n is) _ (row_push epoch input n is j z)
 
 -- the lines that were read, and what is known of them
-pub record ReadSoFar (inputs : List Input) (text rest : List ℕ) (number : ℕ) (e : Draft) : Type 0 where
+pub record ReadSoFar (inputs : List Input) (begun : ℕ) (text rest : List ℕ) (number : ℕ) (e : Draft) : Type 0 where
   pub lines : List (List ℕ)
   pub items : List Item
-  pub said : LinesSay inputs 0 lines items
+  pub said : LinesSay inputs begun lines items
   pub parts : split_on 10 text ≡ lines ++ split_on 10 rest
   pub counted : number ≡ length lines
   pub short : number + length rest ≤ length text
-  pub epochs : draft_count e ≡ epochs_after 0 items
-  pub records : (epoch input : ℕ) → draft_records e epoch input ≡ records_in epoch input 0 items
+  pub epochs : draft_count e ≡ epochs_after begun items
+  pub records : (epoch input : ℕ) → draft_records e epoch input ≡ records_in epoch input begun items
   pub even : IsEven e
   pub tracks : length e.tracks.items ≡ length inputs
 
-pub nothing_read : (inputs : List Input) (text : List ℕ) (e : Draft) → HasNone e → length e.tracks.items ≡ length inputs → ReadSoFar inputs text text 0 e
+pub nothing_read : (inputs : List Input) (text : List ℕ) (e : Draft) → IsBare e → length e.tracks.items ≡ length inputs → ReadSoFar inputs (draft_count e) text text 0 e
 nothing_read inputs text e none size = record {
   lines = [];
   items = [];
@@ -66,7 +68,7 @@ nothing_read inputs text e none size = record {
   parts = refl;
   counted = refl;
   short = omega arith;
-  epochs = none.count;
+  epochs = refl;
   records = none.records;
   even = none.even;
   tracks = size;
@@ -78,32 +80,32 @@ can_take inputs e line Item.epoch size says = says.1
 can_take inputs e line (Item.row i zs) size says = (says.3, omega (arith, size, slice_get_within inputs i _ says.4.there), says.5)
 
 -- what the epochs hold once they have taken an item
-taken : (e f : Draft) (items : List Item) (item : Item) → draft_count e ≡ epochs_after 0 items → ((epoch input : ℕ) → draft_records e epoch input ≡ records_in epoch input 0 items) → Takes e f item
-    → (draft_count f ≡ epochs_after 0 (items ++ item ∷ [])) × ((epoch input : ℕ) → draft_records f epoch input ≡ records_in epoch input 0 (items ++ item ∷ [])) × IsEven f × (length f.tracks.items ≡ length e.tracks.items)
-taken e f items Item.epoch count records takes = (
-  takes.count ∙ ap (λ n. n + 1) count ∙ sym (epochs_push 0 items Item.epoch),
-  λ epoch input. takes.records epoch input ∙ records epoch input ∙ sym (epoch_push epoch input 0 items),
+taken : (begun : ℕ) (e f : Draft) (items : List Item) (item : Item) → draft_count e ≡ epochs_after begun items → ((epoch input : ℕ) → draft_records e epoch input ≡ records_in epoch input begun items) → Takes e f item
+    → (draft_count f ≡ epochs_after begun (items ++ item ∷ [])) × ((epoch input : ℕ) → draft_records f epoch input ≡ records_in epoch input begun (items ++ item ∷ [])) × IsEven f × (length f.tracks.items ≡ length e.tracks.items)
+taken begun e f items Item.epoch count records takes = (
+  takes.count ∙ ap (λ n. n + 1) count ∙ sym (epochs_push begun items Item.epoch),
+  λ epoch input. takes.records epoch input ∙ records epoch input ∙ sym (epoch_push epoch input begun items),
   takes.even,
   takes.inputs,
 )
-taken e f items (Item.row i zs) count records takes = (
-  takes.count ∙ count ∙ sym (epochs_push 0 items (Item.row i zs)),
+taken begun e f items (Item.row i zs) count records takes = (
+  takes.count ∙ count ∙ sym (epochs_push begun items (Item.row i zs)),
   λ epoch input.
       let here = takes.records epoch input in
-      let held : draft_records f epoch input ≡ cond ((input == i) && (epoch + 1 == epochs_after 0 items)) (records_in epoch input 0 items ++ zs ∷ []) (records_in epoch input 0 items) = rw (← count, ← records epoch input) here in
-      held ∙ sym (row_push epoch input 0 items i zs),
+      let held : draft_records f epoch input ≡ cond ((input == i) && (epoch + 1 == epochs_after begun items)) (records_in epoch input begun items ++ zs ∷ []) (records_in epoch input begun items) = rw (← count, ← records epoch input) here in
+      held ∙ sym (row_push epoch input begun items i zs),
   takes.even,
   takes.inputs,
 )
 
-pub next_read : (inputs : List Input) (text rest line after : List ℕ) (n : ℕ) (e f : Draft) (item : Item) → ReadSoFar inputs text rest n e → split_on 10 rest ≡ line ∷ split_on 10 after → length after < length rest
-    → Says inputs (draft_count e) line item → Takes e f item → ReadSoFar inputs text after (n + 1) f
-next_read inputs text rest line after n e f item r cut less says takes =
-    let new = taken e f r.items item r.epochs r.records takes in
+pub next_read : (inputs : List Input) (begun : ℕ) (text rest line after : List ℕ) (n : ℕ) (e f : Draft) (item : Item) → ReadSoFar inputs begun text rest n e → split_on 10 rest ≡ line ∷ split_on 10 after → length after < length rest
+    → Says inputs (draft_count e) line item → Takes e f item → ReadSoFar inputs begun text after (n + 1) f
+next_read inputs begun text rest line after n e f item r cut less says takes =
+    let new = taken begun e f r.items item r.epochs r.records takes in
     record {
       lines = r.lines ++ line ∷ [];
       items = r.items ++ item ∷ [];
-      said = say_push inputs 0 r.lines r.items line item r.said (subst (λ (k : ℕ). Says inputs k line item) r.epochs says);
+      said = say_push inputs begun r.lines r.items line item r.said (subst (λ (k : ℕ). Says inputs k line item) r.epochs says);
       parts = r.parts ∙ ap (λ (ls : List (List ℕ)). r.lines ++ ls) cut ∙ sym (append_assoc r.lines (line ∷ []) (split_on 10 after));
       counted = ap (λ k. k + 1) r.counted ∙ sym (length-append r.lines (line ∷ []));
       short = omega (arith, r.short, less);
@@ -118,7 +120,7 @@ pub filled : (bs : List ℕ) → 0 < length (split_on 10 bs)
 filled bs = omega (arith, length-slice_split (λ b. b == 10) bs)
 
 -- a line that has its line feed has a fault
-pub faulty : (inputs : List Input) (text rest line after : List ℕ) (n : ℕ) (e : Draft) (fault : Fault) (code number : ℕ) → ReadSoFar inputs text rest n e → split_on 10 rest ≡ line ∷ split_on 10 after
+pub faulty : (inputs : List Input) (text rest line after : List ℕ) (n : ℕ) (e : Draft) (fault : Fault) (code number : ℕ) → ReadSoFar inputs 0 text rest n e → split_on 10 rest ≡ line ∷ split_on 10 after
     → IsFault inputs (draft_count e) line fault → code ≡ code_of fault → number ≡ n + 1 → IsRefused inputs text (At code number)
 faulty inputs text rest line after n e fault code number r cut bad is at = (
   r.lines,
@@ -132,7 +134,7 @@ faulty inputs text rest line after n e fault code number r cut bad is at = (
 )
 
 -- the last line has no line feed
-pub unended : (inputs : List Input) (text rest : List ℕ) (n : ℕ) (e : Draft) (code number : ℕ) → ReadSoFar inputs text rest n e → split_on 10 rest ≡ rest ∷ [] → 0 < length rest → code ≡ 43 → number ≡ n + 1 → IsRefused inputs text (At code number)
+pub unended : (inputs : List Input) (text rest : List ℕ) (n : ℕ) (e : Draft) (code number : ℕ) → ReadSoFar inputs 0 text rest n e → split_on 10 rest ≡ rest ∷ [] → 0 < length rest → code ≡ 43 → number ≡ n + 1 → IsRefused inputs text (At code number)
 unended inputs text rest n e code number r cut some is at =
     (r.lines, r.items, r.said, at ∙ ap (λ k. k + 1) r.counted, rest, [], r.parts ∙ ap (λ (ls : List (List ℕ)). r.lines ++ ls) cut, inl (is, some, refl))
 
@@ -144,16 +146,12 @@ no_rest rest b is yes_way = elim (eqb_tells (length rest) 0) [
 ]
 
 -- no line is left
-pub all_read : (inputs : List Input) (text rest : List ℕ) (n : ℕ) (d : Draft) (e : Epochs) → ReadSoFar inputs text rest n d → rest ≡ [] → IsKept d e → IsReadFrom inputs text e
-all_read inputs text rest n d e r none kept = (
-  draft_records d,
-  record {
-    lines = r.lines;
-    items = r.items;
-    parts = r.parts ∙ ap (λ (bs : List ℕ). r.lines ++ split_on 10 bs) none;
-    said = r.said;
-    epochs = kept.count ∙ r.epochs;
-    holds = r.records;
-  },
-  kept.records,
-)
+pub all_read : (inputs : List Input) (begun : ℕ) (text rest : List ℕ) (n : ℕ) (d : Draft) (e : Epochs) → ReadSoFar inputs begun text rest n d → rest ≡ [] → IsKept d e → IsPart inputs begun text e
+all_read inputs begun text rest n d e r none kept = record {
+  lines = r.lines;
+  items = r.items;
+  parts = r.parts ∙ ap (λ (bs : List ℕ). r.lines ++ split_on 10 bs) none;
+  said = r.said;
+  epochs = kept.count ∙ r.epochs;
+  holds = λ epoch input. ≈-trans (kept.records epoch input) (≈-from (r.records epoch input));
+}

@@ -2,6 +2,7 @@ pub mod Pieces
 pub mod Lines
 pub mod Said
 pub mod InputText
+pub mod Parts
 pub mod Piles
 pub mod ReadEpochs
 pub mod Drafts

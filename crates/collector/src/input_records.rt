@@ -5,6 +5,7 @@ ghost use Rattle.record_core.specs.Records.{IsRecord};
 ghost use Rattle.semantics.specs.Limits.{max_fields};
 ghost use Rattle.semantics.specs.Multiset.{◌≈◌};
 ghost use Rattle.rows.specs.FlatRows.{joined};
+ghost use Rattle.collector.specs.Parts.{Stitches};
 ghost use Rattle.collector.specs.Piles.{AreAlike, piled, with_open};
 
 use record_core::NoMemory;
@@ -167,5 +168,29 @@ impl Kept {
             Some(batches) => batches.as_slice(),
             None => &[],
         }
+    }
+
+    /// How many epochs there are.
+    pub fn len(&self) -> usize
+        ensures { result ≡ length self.now }
+    {
+        self.epochs.len()
+    }
+
+    /// Puts what the next part of the same text has behind: its first epoch is the last one here. Where it is refused, what is here is spoiled.
+    pub fn append(&mut self, more: Kept) -> Result<(), NoMemory>
+        requires some { 0 < length self.old }
+        requires more { 0 < length more }
+        ensures { OnOk result (Stitches self.old more self.new) }
+    {
+        let Kept { mut epochs } = more;
+        let mut first = epochs.remove(0);
+        let Some(mut last) = self.epochs.pop() else {
+            unreachable!()
+        };
+        last.append(&mut first)?;
+        self.epochs.push(last)?;
+        self.epochs.append(&mut epochs)?;
+        Ok(())
     }
 }

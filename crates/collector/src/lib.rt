@@ -8,6 +8,7 @@
 
 mod bytes;
 mod codes;
+mod cutting;
 mod draft;
 mod epochs;
 mod first_line;
@@ -32,6 +33,7 @@ mod writing;
 
 pub use bytes::{ReadFault, read_all, read_at_most};
 pub use codes::{BAD_NUMBER, MALFORMED, NO_LINE_FEED};
+pub use cutting::cut_lines;
 pub use epochs::Epochs;
 pub use first_line::{Stop, next_line};
 pub use laws::{law_one_answer, law_one_reading};
@@ -39,7 +41,7 @@ pub use line::{Line, find_input, first_word, is_word, read_fields, rest_is_fille
 pub use number::Number;
 pub use output::{OutFault, OutputEpochs, push_partition, push_sorted, write_epochs};
 pub use partition::Partition;
-pub use reading::read_input;
+pub use reading::{join_parts, read_input, read_part};
 pub use recorded::Recorded;
 pub use refusal::{Fault, InputRefusal};
 pub use sameness::same_batches;

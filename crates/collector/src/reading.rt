@@ -1,9 +1,13 @@
 //! Reads the input text.
 
-ghost use Rattle.std.specs.Prelude.{map, IfOk, IfErr, OnOk};
+ghost use Rattle.std.specs.Prelude.{◌≡◌, ◌++◌, ℕ, List, length, map, IfOk, IfErr, IfSome, OnOk};
+ghost use Rattle.std.specs.List.{AllZip};
 ghost use Rattle.record_core.specs.Inputs.{input_of};
-ghost use Rattle.collector.specs.DraftGrowth.{CanTake, IsEven, Takes};
+ghost use Rattle.semantics.specs.Query.{Input};
+ghost use Rattle.collector.specs.DraftGrowth.{CanTake, IsBare, IsEven, Takes};
+ghost use Rattle.collector.specs.Drafts.{draft_count};
 ghost use Rattle.collector.specs.InputText.{IsReadFrom, IsRefused};
+ghost use Rattle.collector.specs.Parts.{IsPart, together};
 ghost use Rattle.collector.specs.Said.{item_of};
 
 use crate::codes::NO_LINE_FEED;
@@ -27,19 +31,19 @@ fn take_line(alloc: Global, draft: &mut Draft, said: Line, fields: &[i64]) -> Re
     }
 }
 
-/// Reads a whole input text for these inputs, in linear time.
-///
-/// Lines end with a line feed. A line `epoch` begins the next epoch; any other line is an input's name and a record's fields, each after one space. A
-/// refusal names the first faulty line, and nothing is kept.
-pub fn read_input(
+/// Reads the lines of a text into a draft without records, in which an epoch may have begun.
+fn read_lines(
     alloc: Global,
     text: &[u8],
     inputs: &[DeclaredInput],
+    draft: Draft,
 ) -> Result<Epochs, InputRefusal>
-    ensures read { IfOk result (λ e. IsReadFrom (map input_of inputs.now) text.now e) }
-    ensures refused { IfErr result (IsRefused (map input_of inputs.now) text.now) }
+    requires bare { IsBare draft }
+    requires inputs { length draft.tracks.items ≡ length inputs.now }
+    ensures read { IfOk result (IsPart (map input_of inputs.now) (draft_count draft) text.now) }
+    ensures refused { IfErr result (λ e. draft_count draft ≡ 0 → IsRefused (map input_of inputs.now) text.now e) }
 {
-    let mut draft = Draft::new(alloc, inputs.len())?;
+    let mut draft = draft;
     let mut fields = Vec::new(alloc);
     let mut rest = text;
     let mut number = 0;
@@ -66,4 +70,49 @@ pub fn read_input(
         }
     }
     Ok(draft.finish(alloc)?)
+}
+
+/// Reads a whole input text for these inputs, in linear time.
+///
+/// Lines end with a line feed. A line `epoch` begins the next epoch; any other line is an input's name and a record's fields, each after one space. A
+/// refusal names the first faulty line, and nothing is kept.
+pub fn read_input(
+    alloc: Global,
+    text: &[u8],
+    inputs: &[DeclaredInput],
+) -> Result<Epochs, InputRefusal>
+    ensures read { IfOk result (λ e. IsReadFrom (map input_of inputs.now) text.now e) }
+    ensures refused { IfErr result (IsRefused (map input_of inputs.now) text.now) }
+{
+    let draft = Draft::new(alloc, inputs.len())?;
+    read_lines(alloc, text, inputs, draft)
+}
+
+/// Reads a part of an input text in which an epoch has begun before its first line. The lines of a refusal count from the part's first one.
+pub fn read_part(
+    alloc: Global,
+    text: &[u8],
+    inputs: &[DeclaredInput],
+) -> Result<Epochs, InputRefusal>
+    ensures { IfOk result (IsPart (map input_of inputs.now) 1 text.now) }
+{
+    let mut draft = Draft::new(alloc, inputs.len())?;
+    draft.begin(alloc)?;
+    read_lines(alloc, text, inputs, draft)
+}
+
+/// The epochs of a text that was read in parts, one behind the other; its first part was read as a whole text is. `None` where memory is refused, or
+/// there are too many epochs.
+pub fn join_parts(first: Epochs, parts: Vec<Epochs>) -> Option<Epochs>
+    ensures { (inputs : List Input) (text : List ℕ) (texts : List (List ℕ)) → IsReadFrom inputs text first →
+        AllZip (IsPart inputs 1) texts parts.items → IfSome result (IsReadFrom inputs (text ++ together texts)) }
+{
+    let mut whole = first;
+    for part in parts {
+        match whole.append(part) {
+            Ok(true) => {}
+            Ok(false) | Err(_) => return None,
+        }
+    }
+    Some(whole)
 }

@@ -73,10 +73,14 @@ replay_app =
 abbrev pub explain_app : App
 explain_app = with_rule (new_app (codes "explain")) (word_rule (codes "CODE"))
 
+-- the program, which tells its version
+abbrev pub program_app : App
+program_app = record (new_app (codes "loom")) { top = record (new_app (codes "loom")).top { has_version = true } }
+
 -- the whole line
 abbrev pub line_app : App
 line_app =
-    let top : App = record { top = record (new_app (codes "loom")).top { subcommand_required = true }; subs = [] } in
+    let top : App = record { top = record (new_app (codes "loom")).top { subcommand_required = true; has_version = true }; subs = [] } in
     with_subcommand
     (with_subcommand
     (with_subcommand

@@ -5,19 +5,24 @@ ghost use Rattle.clap.specs.Words.{app_of, first_of, found_of, new_app, rows_of,
 ghost use Rattle.clap.specs.declared.builder.Command.TheViews.{out-Command as fields_of};
 ghost use Rattle.command_line.specs.Line.{AreAskedFor, AsksTwice, Asks, Holds, HoldsAt, IsAskedHeap, IsAskedInput, IsFlag};
 ghost use Rattle.command_line.specs.Line.{check_app, explain_app, flag_rule, follow_app, format_app, graph_app, line_app, option_rule};
-ghost use Rattle.command_line.specs.Line.{optional_rule, replay_app, run_app, word_rule};
+ghost use Rattle.command_line.specs.Line.{optional_rule, program_app, replay_app, run_app, word_rule};
 ghost use Rattle.command_line.specs.Faults.{IsOfWords};
 ghost use Rattle.command_line.specs.declared.line_fault.LineFault.TheVariants as fault;
 
 use crate::heap_size::HeapSize;
 use crate::line_fault::LineFault;
 use crate::line_options::{GraphForm, Options};
-use crate::option_owner::{Misplaced, misplaced_option};
 use crate::standard_input::is_input_twice;
+use crate::unknown_words::{
+    Misplaced, Unknown, Unrecognized, misplaced_option, unknown_option, unrecognized_word,
+};
 use crate::worker_count::Workers;
 use clap::error::ErrorKind;
 use clap::{Arg, ArgAction, ArgMatches, Command, Error};
 use std::alloc::{AllocError, Global};
+
+/// The program's version.
+const VERSION: &str = "0.1.0";
 
 /// What the help says of the word `QUERY`.
 const QUERY: &str = "The file with the query; - is standard input";
@@ -212,11 +217,13 @@ fn explain_command<'a>(alloc: Global) -> Result<Command<'a>, AllocError>
     ))
 }
 
-/// The program's own command, with the last lines of its help.
+/// The program's own command, with its version and the last lines of its help.
 fn program<'a>(alloc: Global) -> Command<'a>
-    ensures app { app_of result ≡ new_app (codes "loom") }
+    ensures app { app_of result ≡ program_app }
 {
-    Command::new(alloc, "loom").after_help(LAST_LINES)
+    Command::new(alloc, "loom")
+        .version(VERSION)
+        .after_help(LAST_LINES)
 }
 
 pub fn line_command<'a>(alloc: Global) -> Result<Command<'a>, AllocError>
@@ -495,6 +502,7 @@ fn refusal(alloc: Global, error: Error) -> LineFault
     match error.kind() {
         ErrorKind::OutOfMemory => LineFault::NoMemory,
         ErrorKind::UnknownArgument => unknown_argument(alloc, error),
+        ErrorKind::InvalidSubcommand => unrecognized_subcommand(alloc, error),
         _ => LineFault::Line(error),
     }
 }
@@ -504,8 +512,42 @@ fn unknown_argument(alloc: Global, error: Error) -> LineFault
     ensures { IsOfWords result }
 {
     match misplaced_option(alloc, &error) {
-        Ok(None) => LineFault::Line(error),
+        Ok(None) => unknown_argument_of(alloc, error),
         Ok(Some(Misplaced { option, commands })) => LineFault::Misplaced { option, commands },
+        Err(_) => LineFault::NoMemory,
+    }
+}
+
+/// The fault of a word that no command knows.
+fn unknown_argument_of(alloc: Global, error: Error) -> LineFault
+    ensures { IsOfWords result }
+{
+    match unknown_option(alloc, &error) {
+        Ok(None) => LineFault::Line(error),
+        Ok(
+            Some(
+                Unknown {
+                    option,
+                    command,
+                    options,
+                },
+            ),
+        ) => LineFault::Unknown {
+            option,
+            command,
+            options,
+        },
+        Err(_) => LineFault::NoMemory,
+    }
+}
+
+/// The fault of a first word that is no command.
+fn unrecognized_subcommand(alloc: Global, error: Error) -> LineFault
+    ensures { IsOfWords result }
+{
+    match unrecognized_word(alloc, &error) {
+        Ok(None) => LineFault::Line(error),
+        Ok(Some(Unrecognized { word, commands })) => LineFault::Unrecognized { word, commands },
         Err(_) => LineFault::NoMemory,
     }
 }

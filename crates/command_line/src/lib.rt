@@ -9,8 +9,8 @@ mod command;
 mod heap_size;
 mod line_fault;
 mod line_options;
-mod option_owner;
 mod standard_input;
+mod unknown_words;
 mod worker_count;
 
 pub use command::options;

@@ -12,13 +12,33 @@ pub enum LineFault {
     NoMemory,
     /// The word after `--workers` is no number of workers.
     #[error("error: invalid value '{word}' for '--workers <N>': {word} is not in 1..=64")]
-    Workers { word: String },
+    Workers {
+        word: String,
+    },
     /// The word after `--heap` is no size of a heap.
     #[error("error: invalid value '{word}' for '--heap <BYTES>': {word} is not in 64..=16777216")]
-    Heap { word: String },
+    Heap {
+        word: String,
+    },
     /// An option that the command doesn't take, and others do: its name, and theirs.
     #[error("error: unexpected argument '--{option}' found; it is an option of {commands}")]
-    Misplaced { option: String, commands: String },
+    Misplaced {
+        option: String,
+        commands: String,
+    },
+    /// An option that no command takes, as it was written; the command, and the options that it takes.
+    #[error("error: unexpected argument '{option}' found; the options of 'loom {command}' are {options}")]
+    Unknown {
+        option: String,
+        command: String,
+        options: String,
+    },
+    /// The first word is no command: the word, and the commands.
+    #[error("error: unrecognized subcommand '{word}'; the commands are {commands}; a query is answered by loom run QUERY INPUT")]
+    Unrecognized {
+        word: String,
+        commands: String,
+    },
     /// Both texts are to be standard input.
     #[error("error: only one of the two files can be '-', which is standard input")]
     InputTwice,
@@ -43,6 +63,8 @@ impl LineFault {
             LineFault::Workers { .. }
             | LineFault::Heap { .. }
             | LineFault::Misplaced { .. }
+            | LineFault::Unknown { .. }
+            | LineFault::Unrecognized { .. }
             | LineFault::InputTwice
             | LineFault::NoText
             | LineFault::NoCommand

@@ -2,7 +2,7 @@
 
 use collector::Watched;
 use console::{Fault, Texts, ViewKind, Watcher, Workers, check_query, replay_schedule, run};
-use diagnostics::{explain_fault, row_of_word};
+use diagnostics::{TextNames, explain_fault, row_of_word};
 use refusals::{Explanation, OF_LINES, OF_QUERIES, OF_STEPS, explanation_of};
 use std::sync::Wait;
 use std::test::Fail;
@@ -144,11 +144,11 @@ fn others_explained(rt: HostRuntime) -> Result<(), Fail> {
     let rows: [(Fault, &str); 5] = [
         (
             Fault::TooManyVertices,
-            "a dataflow graph of over 4096 vertices\n",
+            "query: a dataflow graph of over 4096 vertices\n",
         ),
         (
             Fault::Input { code: 47, line: 1 },
-            "  1 | epoch\nover 4,294,967,295 epochs\n",
+            "input:1:1: over 4,294,967,295 epochs\n  1 | epoch\n",
         ),
         (
             Fault::Count,
@@ -161,7 +161,11 @@ fn others_explained(rt: HostRuntime) -> Result<(), Fail> {
         let mut texts = Texts::new(rt.alloc());
         texts.input = b"epoch\n".to_vec(rt.alloc())?;
         let mut said = Vec::new(rt.alloc());
-        explain_fault(rt.alloc(), &fault, &texts, &mut said)?;
+        let names = TextNames {
+            query: "query",
+            input: "input",
+        };
+        explain_fault(rt.alloc(), &fault, names, &texts, &mut said)?;
         assert_eq!(rt; String::from_utf8(said)?.as_str(), text);
     }
     Ok(())

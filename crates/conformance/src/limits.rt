@@ -2,7 +2,7 @@
 
 use collector::Watched;
 use console::{Fault, GraphForm, Texts, Watcher, Workers, check_query, graph_query, run};
-use diagnostics::explain_fault;
+use diagnostics::{TextNames, explain_fault};
 use std::test::Fail;
 
 /// What `graph_query` answers: the graph's text, or the fault's line.
@@ -88,10 +88,14 @@ fn a_long_text_explained(rt: HostRuntime) -> Result<(), Fail> {
     let fault = done.err().ok_or("taken")?;
     assert!(rt; matches!(fault, Fault::Query { code: 6, .. }));
     let mut said = Vec::new(rt.alloc());
-    explain_fault(rt.alloc(), &fault, &texts, &mut said)?;
+    let names = TextNames {
+        query: "long",
+        input: "",
+    };
+    explain_fault(rt.alloc(), &fault, names, &texts, &mut said)?;
     assert_eq!(rt;
         said.as_slice(),
-        b"a text over 1,048,576 bytes\n".as_slice()
+        b"long: a text over 1,048,576 bytes\n".as_slice()
     );
     Ok(())
 }

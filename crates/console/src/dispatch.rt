@@ -15,7 +15,8 @@ use crate::transcripts::Transcripts;
 use collector::{Sources, Watched};
 use command_line::{LineFault, Options, options};
 use diagnostics::{
-    Fault, Plain, Texts, Word, explain_fault, row_of_word, write_explanation, write_path_hint,
+    Fault, Plain, TextNames, Texts, Word, explain_fault, row_of_word, write_explanation,
+    write_path_hint, write_warnings,
 };
 use refusals::NUMBERS;
 use schedule::ViewKind;
@@ -85,9 +86,25 @@ fn write_fault<E: Write>(
         return fault.write_line(query, input, err);
     }
     if explain {
-        let _ = explain_fault(alloc, fault, texts, &mut text);
+        let names = TextNames { query, input };
+        let _ = explain_fault(alloc, fault, names, texts, &mut text);
         let _ = write_path_hint(fault, query, &mut text);
     }
+    err.write_all(text.as_slice())
+}
+
+/// Writes what a query that was checked has by mistake most likely, where that is asked for.
+fn warn<E: Write>(alloc: Global, asked: &Options, texts: &Texts, err: &mut E) -> io::Result<()> {
+    let Options::Check {
+        query,
+        explain: true,
+        ..
+    } = asked
+    else {
+        return Ok(());
+    };
+    let mut text = Vec::new(alloc);
+    write_warnings(alloc, query, &texts.query, &mut text)?;
     err.write_all(text.as_slice())
 }
 
@@ -102,7 +119,10 @@ fn report<E: Write>(
     ensures { result ≡ status_after done.now }
 {
     match done {
-        Ok(()) => 0,
+        Ok(()) => {
+            let _ = warn(alloc, asked, texts, err);
+            0
+        }
         Err(fault) => {
             let _ = write_fault(alloc, asked, fault, texts, err);
             fault.status()

@@ -15,11 +15,11 @@ ghost use Rattle.diagnostics.specs.declared.fault.Fault.TheVariants as fault;
 use crate::graph_answer::respond;
 use crate::reading::read_texts;
 use bumpalo::Bump;
-use collector::{Epochs, InputRefusal, Watched, read_input};
+use collector::{Epochs, InputRefusal, Watched};
 use command_line::Workers;
 use compile::{compile, graph_fault, input_fault};
 use diagnostics::{Fault, Texts};
-use execution::Watcher;
+use execution::{Watcher, read_by_threads};
 use graph::Graph;
 use std::alloc::Global;
 use std::io::{Read, Write};
@@ -39,12 +39,18 @@ pub fn graph_of_text(alloc: Global, query: &[u8]) -> Result<Graph, Fault>
     }
 }
 
-/// The epochs of an input text, for the inputs of a graph.
-fn epochs_of_text(alloc: Global, graph: &Graph, input: &[u8]) -> Result<Epochs, InputRefusal>
+/// The epochs of an input text, for the inputs of a graph, read by as many threads as there are workers.
+fn epochs_of_text<R: Threads + Sync>(
+    rt: &R,
+    alloc: Global,
+    workers: Workers,
+    graph: &Graph,
+    input: &[u8],
+) -> Result<Epochs, InputRefusal>
     ensures read { IfOk result (λ e. IsReadFrom (shown_inputs graph.now) input.now e) }
     ensures refused { IfErr result (IsRefused (shown_inputs graph.now) input.now) }
 {
-    read_input(alloc, input, graph.inputs())
+    read_by_threads(rt, alloc, workers.count(), input, graph.inputs())
 }
 
 /// Answers a query text over an input text.
@@ -69,7 +75,7 @@ fn answer<R: Threads + Wait + Sync, W: Write, O: Write + Send, E: Write>(
         Ok(graph) => graph,
         Err(fault) => return Err(fault),
     };
-    let epochs = match epochs_of_text(alloc, &graph, input) {
+    let epochs = match epochs_of_text(rt, alloc, workers, &graph, input) {
         Ok(epochs) => epochs,
         Err(refusal) => return Err(input_fault(refusal)),
     };

@@ -2,7 +2,7 @@
 
 ghost use Rattle.std.specs.Prelude.{◌<◌, ◌≤◌, length, IfSome};
 
-use crate::display::{Escaped, Shown};
+use crate::display::{Escaped, Plain, Shown};
 use collector::Number;
 use record_core::Span;
 use std::io;
@@ -171,4 +171,34 @@ pub fn write_numbered<W: Write>(bytes: &[u8], number: u64, writer: &mut W) -> io
             writeln!(writer, "{number:>3} | {whole}")
         }
     }
+}
+
+/// Writes a text's name before what is wrong with it.
+pub fn write_name<W: Write>(name: &str, writer: &mut W) -> io::Result<()> {
+    let name = Plain(name);
+    write!(writer, "{name}: ")
+}
+
+/// Writes a text's name, the number of a line, and the column of a place in it, which is counted from 1.
+pub fn write_position<W: Write>(
+    name: &str,
+    line: u64,
+    place: usize,
+    writer: &mut W,
+) -> io::Result<()> {
+    let name = Plain(name);
+    let line = Number(line);
+    let column = Number((place as u64).saturating_add(1));
+    write!(writer, "{name}:{line}:{column}: ")
+}
+
+/// Writes a text's name, and the line and the column of a place in the text.
+pub fn write_place<W: Write>(
+    name: &str,
+    text: &[u8],
+    place: usize,
+    writer: &mut W,
+) -> io::Result<()> {
+    let line = line_at(text, place);
+    write_position(name, line.number, line.place, writer)
 }

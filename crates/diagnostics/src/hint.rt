@@ -3,6 +3,7 @@
 use crate::bracket::{
     OpenBracket, form_bracket, is_form, last_open, last_word, open_bracket, shape_of, split_word,
 };
+use crate::input_hint::COMPRESSED;
 use crate::names::is_like;
 use record_core::{Keyword, Span};
 
@@ -23,6 +24,18 @@ const PAIRLESS: &str =
 
 /// What there is in place of NULL.
 const NULL: &str = "there is no null; give what is missing a number, and compare with it";
+
+/// How one of two numbers is chosen.
+const CASE: &str =
+    "there is no case: make each part by a select of a where, and put them together by concat";
+
+/// The same for the greater or the lesser of two numbers.
+const GREATER: &str =
+    "there is no min or max of two numbers: make each part by a select of a where, and put them together by concat";
+
+/// How all records are grouped together.
+const WHOLE: &str =
+    "a key is a column; to group all records make one, as in group(select(a; 0, #0); #0; count)";
 
 /// Whether the rest of a text goes on with a sign right after the text's first word, as a CSV file does.
 fn is_separated(behind: &[u8]) -> bool {
@@ -71,6 +84,7 @@ fn of_quote(before: &[u8]) -> &'static str {
 /// The hint for a byte that begins no word, by what is before and after it.
 fn of_byte(before: &[u8], byte: u8, behind: &[u8]) -> Option<&'static str> {
     match (byte, behind) {
+        (0x1f, [0x8b, ..]) if before.is_empty() => Some(COMPRESSED),
         (b'\'' | b'"', _) if before.is_empty() => Some(FILES),
         (b'A'..=b'Z', _) if before.is_empty() && is_separated(behind) => Some(FILES),
         _ if is_other(before) => Some(FILES),
@@ -289,11 +303,22 @@ fn of_name(behind: &[u8]) -> &'static str {
     }
 }
 
+/// The hint for a word of SQL where the relations come in a form's bracket.
+fn of_first_part(form: &[u8], before: &[u8], word: &[u8]) -> Option<&'static str> {
+    match (form, before, word) {
+        (b"select", [.., b'('], b"*") => Some(
+            "list the columns, as in select(a; #0, #1), or write a for all of them",
+        ),
+        (b"join", _, b"on" | b"using") => shape_of(form),
+        _ => None,
+    }
+}
+
 /// The hint for a word of SQL where columns come in a form's bracket.
 fn of_sql(before: &[u8], word: &[u8]) -> Option<&'static str> {
     let bracket = open_bracket(before)?;
     if bracket.semicolons == 0 {
-        return None;
+        return of_first_part(bracket.name, before, word);
     }
     match (bracket.name, before, word) {
         (b"select", [.., b';' | b','], b"*") => Some(
@@ -303,8 +328,12 @@ fn of_sql(before: &[u8], word: &[u8]) -> Option<&'static str> {
             "columns have no names; they are numbered from #0",
         ),
         (b"group", _, b"having") => Some(HAVING),
-        (b"select" | b"where", _, b"case" | b"if" | b"iif") => Some(
-            "there is no case: make each part by a select of a where, and put them together by concat",
+        (b"select" | b"where", _, b"case" | b"if" | b"iif") => Some(CASE),
+        (b"where", _, b"like" | b"ilike" | b"regexp") => Some(
+            "there are no strings; give each text a number",
+        ),
+        (b"select" | b"where", _, b"epoch") => Some(
+            "a query doesn't see which epoch it is; each epoch is answered by itself",
         ),
         (b"select" | b"where", _, b"is" | b"null") => Some(NULL),
         (b"where", _, b"in") => Some("compare with each number, as in #0 = 1 or #0 = 2"),
@@ -344,6 +373,7 @@ fn of_group(before: &[u8], word: &[u8], behind: &[u8]) -> Option<&'static str> {
             "the aggregates are count, sum, min and max",
         ),
         (1, b"count" | b"sum" | b"min" | b"max") => shape_of(bracket.name),
+        (1, [b'0'..=b'9', ..]) => Some(WHOLE),
         _ => None,
     }
 }
@@ -361,6 +391,7 @@ fn in_bracket(before: &[u8], word: &[u8], behind: &[u8]) -> Option<&'static str>
         _ if wants_operand(before) && has_operands(bracket) && is_name(word) => {
             Some(of_name(behind))
         }
+        (_, _, b"min" | b"max") if behind.trim_ascii_start().starts_with(b"(") => Some(GREATER),
         (_, _, b"count" | b"sum" | b"min" | b"max") => Some(
             "an aggregate stands in a group; its value is a column",
         ),

@@ -1,7 +1,7 @@
 //! What is wrong with a line of an input, with the names and the numbers involved.
 
 use crate::display::{Fields, Meant, Word, separator};
-use crate::input_hint::{of_field, of_first, of_gap};
+use crate::input_hint::{COMPRESSED, is_compressed, of_field, of_first, of_gap};
 use crate::query_fault::write_summary;
 use bumpalo::Bump;
 use decimal::signed_number;
@@ -24,6 +24,40 @@ fn first_bad(line: &[u8]) -> Option<&[u8]> {
     line.split(|byte| *byte == b' ')
         .skip(1)
         .find(|word| signed_number(word).is_none())
+}
+
+/// Where the first word after the first begins that is no number.
+fn bad_place(line: &[u8]) -> usize {
+    let mut place: usize = 0;
+    for (index, word) in line.split(|byte| *byte == b' ').enumerate() {
+        if index > 0 && signed_number(word).is_none() {
+            return place;
+        }
+        place = place.saturating_add(word.len()).saturating_add(1);
+    }
+    0
+}
+
+/// Where a malformed line has a space too many; its beginning where something else is wrong with it.
+fn gap_place(line: &[u8]) -> usize {
+    match line {
+        [b' ', ..] => 0,
+        [front @ .., b' '] => front.len(),
+        _ => match line.windows(2).position(|pair| pair == b"  ".as_slice()) {
+            Some(place) => place.saturating_add(1),
+            None => 0,
+        },
+    }
+}
+
+/// Where in a line that is refused with that code what is wrong begins; its beginning where the whole line is meant.
+pub fn fault_place(code: u8, line: &[u8]) -> usize {
+    match code {
+        43 => line.len(),
+        44 => bad_place(line),
+        46 => gap_place(line),
+        _ => 0,
+    }
 }
 
 /// How many fields a query declares for an input.
@@ -144,6 +178,7 @@ pub fn write_input_fault<W: Write>(
             writer,
             "this looks like a query; the query comes first, then the input"
         ),
+        (43, _) if is_compressed(line) => writeln!(writer, "{COMPRESSED}"),
         (41, _) => writeln!(writer, "no `epoch` line comes before this record of {name}"),
         (42, _) => write_unknown(alloc, query, first, writer),
         (44, _) => write_bad_number(line, writer),

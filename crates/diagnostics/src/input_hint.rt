@@ -5,7 +5,40 @@ const CARRIAGE_RETURN: &str = "the line ends in CR LF; remove the CR, as by tr -
 
 /// A sign comes between fields.
 const SIGN: &str =
-    "fields are separated by one space, not by , ; or |; for CSV see \"From CSV, and back\" in LANGUAGE.md";
+    "fields are separated by one space, not by , ; or |; for CSV see \"From CSV, and back\" in TEXTS.md";
+
+/// The text is what gzip made.
+pub const COMPRESSED: &str = "the text is compressed; unpack it first, as by gzip -dc";
+
+/// What is missing has no number yet.
+const NULL: &str = "there is no null; give what is missing a number";
+
+/// A date has signs between its numbers.
+const DATE: &str = "a date is one number, as 20240131 or the number of days since some day";
+
+/// Whether bytes begin as what gzip makes does.
+pub fn is_compressed(bytes: &[u8]) -> bool {
+    bytes.starts_with(b"\x1f\x8b")
+}
+
+/// Whether a word is a date, as 2024-01-31.
+fn is_date(word: &[u8]) -> bool {
+    word.len() == 10
+        && word.iter().enumerate().all(|(place, byte)| {
+            if place == 4 || place == 7 {
+                matches!(*byte, b'-' | b'/' | b'.')
+            } else {
+                byte.is_ascii_digit()
+            }
+        })
+}
+
+/// Whether a word says that a value is missing.
+fn is_null(word: &[u8]) -> bool {
+    [b"null".as_slice(), b"na", b"n/a", b"nan", b"none", b"\\n"]
+        .iter()
+        .any(|null| word.eq_ignore_ascii_case(null))
+}
 
 /// The hint for a word in which a sign is between fields in place of a space.
 fn of_separator(word: &[u8]) -> Option<&'static str> {
@@ -30,12 +63,14 @@ pub fn of_gap(first: &[u8]) -> &'static str {
 pub fn of_first(word: &[u8]) -> Option<&'static str> {
     match (word, of_separator(word)) {
         ([0xef, 0xbb, 0xbf, ..], _) => Some("the text begins with a byte order mark; remove it"),
+        _ if is_compressed(word) => Some(COMPRESSED),
         ([.., b'\r'], _) => Some(CARRIAGE_RETURN),
         ([b'#', ..] | [b'-', b'-', ..] | [b'/', b'/' | b'*', ..], _) => {
             Some("there are no comments")
         }
         (_, Some(hint)) => Some(hint),
         ([b'0'..=b'9' | b'-' | b'+', ..], _) => Some("a record begins with the name of its input"),
+        _ if word.eq_ignore_ascii_case(b"epoch") => Some("epoch is in lower case"),
         _ if word.len() > 32 => Some("a name has at most 32 bytes"),
         _ => Some("a name has lower-case letters, digits and _"),
     }
@@ -70,6 +105,8 @@ pub fn of_field(word: &[u8], line: &[u8]) -> Option<&'static str> {
         (_, Some(hint)) => Some(hint),
         ([b'#', ..], _) => Some("there are no comments"),
         _ if is_plain => Some(of_digits(word)),
+        _ if is_date(word) => Some(DATE),
+        _ if is_null(word) => Some(NULL),
         _ if matches!(digits, [b'0'..=b'9' | b'.', ..]) && digits.contains(&b'.') => Some(
             "numbers are whole; write 12.50 as 1250 cents",
         ),

@@ -1,13 +1,21 @@
 //! Why a text can't be read.
 
+use crate::excerpt::write_name;
 use crate::fault::Fault;
 use std::io;
 use std::io::{ErrorKind, Write};
 
-/// Writes what the system said, if it said something.
-pub fn write_reason<W: Write>(reason: Option<ErrorKind>, writer: &mut W) -> io::Result<()> {
+/// Writes what the system said of the text with that name, if it said something.
+pub fn write_reason<W: Write>(
+    name: &str,
+    reason: Option<ErrorKind>,
+    writer: &mut W,
+) -> io::Result<()> {
     match reason {
-        Some(kind) => writeln!(writer, "{}", sentence(kind)),
+        Some(kind) => {
+            write_name(name, writer)?;
+            writeln!(writer, "{}", sentence(kind))
+        }
         None => Ok(()),
     }
 }

@@ -3,7 +3,7 @@
 use collector::Watched;
 use console::{Disk, DiskText, Sources, Streams, Telling, Transcripts, Watcher, answer};
 use std::io;
-use std::io::Read;
+use std::io::{Read, Write};
 use std::sync::Wait;
 use std::thread::Threads;
 
@@ -47,12 +47,12 @@ impl<'a> Sources<'a> for Page<'a> {
     }
 }
 
-/// What the program prints.
-#[derive(Drop)]
+/// What the program prints, and its status.
+#[derive(Drop, PartialEq, Eq)]
 struct Printed {
     status: u8,
-    /// Standard output, and then standard error.
-    shown: Vec<u8>,
+    out: Vec<u8>,
+    err: Vec<u8>,
 }
 
 /// What the program prints that is called with these words, the first of which is its own name.
@@ -83,12 +83,16 @@ fn prints(
         &mut Transcripts::new(),
     );
     let Streams { out, err, watcher } = streams;
-    let mut shown = out.into_inner();
-    if let Some(watcher) = watcher {
-        shown.extend_from_slice(watcher.writer.as_slice())?;
-    }
-    shown.extend_from_slice(err.as_slice())?;
-    Ok(Printed { status, shown })
+    let mut said = match watcher {
+        Some(watcher) => watcher.writer,
+        None => Vec::new(rt.alloc()),
+    };
+    said.extend_from_slice(err.as_slice())?;
+    Ok(Printed {
+        status,
+        out: out.into_inner(),
+        err: said,
+    })
 }
 
 /// The words of a run on that many workers.
@@ -107,13 +111,13 @@ fn is_steady(
     threads: &(impl Threads + Wait + Sync),
     piped: Option<&[u8]>,
     words: &[&str],
-    shown: &[u8],
+    printed: &Printed,
 ) -> io::Result<bool> {
     for _time in 0..TIMES {
         for number in ["2", "64"] {
             let others = words_on(rt, words, number)?;
             let other = prints(rt, threads, piped, others.as_slice())?;
-            if other.shown.as_slice() != shown {
+            if other != *printed {
                 return Ok(false);
             }
         }
@@ -121,21 +125,51 @@ fn is_steady(
     Ok(true)
 }
 
-/// What the program prints that is called with these words: standard output, and then standard error. A run without `--workers`,
-/// `--watch` and `--stats` is repeated with several workers; if that prints something else, a line says so in place of what is printed.
+/// Whether the line asks for workers, or for reports on standard error beside an answer.
+fn asks_more(words: &[&str]) -> bool {
+    words
+        .iter()
+        .any(|word| word.starts_with("--w") || word.starts_with("--s"))
+}
+
+/// Whether each stream has what it may have: standard output an answer, and standard error what is wrong. Only `follow` answers before it
+/// fails, and only warnings of `check` and reports that are asked for come beside an answer.
+fn are_apart(command: &str, words: &[&str], printed: &Printed) -> bool {
+    if printed.status == 0 {
+        command == "check" || asks_more(words) || printed.err.is_empty()
+    } else {
+        command == "follow" || printed.out.is_empty()
+    }
+}
+
+/// What a page shows of it: standard output, then standard error, then the status where it isn't 0.
+fn shown(printed: Printed) -> io::Result<Vec<u8>> {
+    let Printed { status, out, err } = printed;
+    let mut shown = out;
+    shown.extend_from_slice(err.as_slice())?;
+    if status != 0 {
+        writeln!(shown, "status {status}")?;
+    }
+    Ok(shown)
+}
+
+/// What a page shows of the program that is called with these words. A run without `--workers`, `--watch` and `--stats` is repeated with
+/// several workers. If that prints something else, or an error is on standard output or an answer on standard error, a line says so in
+/// place of what is printed.
 pub fn shown_of(
     rt: &HostRuntime,
     threads: &(impl Threads + Wait + Sync),
     piped: Option<&[u8]>,
     words: &[&str],
 ) -> io::Result<Vec<u8>> {
-    let Printed { status, shown } = prints(rt, threads, piped, words)?;
-    let is_run = status != REFUSED && words.get(1).is_some_and(|word| *word == "run");
-    let asks = words
-        .iter()
-        .any(|word| word.starts_with("--w") || word.starts_with("--s"));
-    if is_run && !asks && !is_steady(rt, threads, piped, words, shown.as_slice())? {
+    let printed = prints(rt, threads, piped, words)?;
+    let command = words.get(1).copied().unwrap_or("");
+    if !are_apart(command, words, &printed) {
+        return Ok(b"(its answer and its error are on one stream)\n".to_vec(rt.alloc())?);
+    }
+    let is_run = printed.status != REFUSED && command == "run";
+    if is_run && !asks_more(words) && !is_steady(rt, threads, piped, words, &printed)? {
         return Ok(b"(with more workers it prints something else)\n".to_vec(rt.alloc())?);
     }
-    Ok(shown)
+    shown(printed)
 }

@@ -3,7 +3,7 @@
 ghost use Rattle.std.specs.Prelude.{◌≡◌};
 ghost use Rattle.driver.specs.Ends.{ended_of};
 
-use events::ComputeFault;
+use rows::WorkFault;
 
 /// The reason why a worker stopped working.
 #[derive(Clone, Copy, Debug, PartialEq, Eq)]
@@ -18,13 +18,13 @@ pub enum Ended {
     Busy,
 }
 
-impl From<ComputeFault> for Ended {
+impl From<WorkFault> for Ended {
     ghost from_gives = { λ fault e. e ≡ ended_of fault };
 
-    fn from(fault: ComputeFault) -> Ended {
+    fn from(fault: WorkFault) -> Ended {
         match fault {
-            ComputeFault::NoMemory => Ended::Stopped,
-            ComputeFault::Count => Ended::Count,
+            WorkFault::NoMemory => Ended::Stopped,
+            WorkFault::Count => Ended::Count,
         }
     }
 }

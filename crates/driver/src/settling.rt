@@ -7,8 +7,9 @@ ghost use Rattle.board.specs.Shown.{tables};
 ghost use Rattle.driver.specs.Ends.{Abandons, Ends, IsFaultOf, event_of};
 
 use board::{Board, CommitRefusal, Sent};
-use events::{ComputeFault, Done, Gate, Work};
+use events::{Done, Gate, Work};
 use record_core::NoMemory;
+use rows::WorkFault;
 use std::alloc::Global;
 use views::Views;
 
@@ -19,7 +20,7 @@ pub fn compute<V: Views, G: Gate>(
     gate: &G,
     turn: u64,
     work: Work,
-) -> Result<Done, ComputeFault>
+) -> Result<Done, WorkFault>
     requires own { IsOf board.old.shown work.0 }
     ensures done { IfOk result (λ d. d ≡ work.0) }
     ensures kept { OnOk result (board.new ≡ board.old) }
@@ -57,8 +58,8 @@ pub fn commit<V: Views>(board: &mut Board<V>, done: Done) -> Result<Sent, NoMemo
 /// Commits an event that was computed elsewhere, and gives what it sends. Abandons one that was refused there.
 pub fn settle<V: Views>(
     board: &mut Board<V>,
-    computed: Result<Done, (Work, ComputeFault)>,
-) -> Result<Sent, ComputeFault>
+    computed: Result<Done, (Work, WorkFault)>,
+) -> Result<Sent, WorkFault>
     requires own { IsOf board.old.shown (event_of computed) }
     ensures ends { Ends board.old.shown board.new.shown (event_of computed) result }
     ensures fault { IsFaultOf computed result }
@@ -70,7 +71,7 @@ pub fn settle<V: Views>(
     match computed {
         Ok(done) => match commit(board, done) {
             Ok(sent) => Ok(sent),
-            Err(NoMemory) => Err(ComputeFault::NoMemory),
+            Err(NoMemory) => Err(WorkFault::NoMemory),
         },
         Err((work, fault)) => {
             board.abandon(work);
@@ -86,7 +87,7 @@ pub fn process<V: Views, G: Gate>(
     gate: &G,
     turn: u64,
     work: Work,
-) -> Result<Sent, ComputeFault>
+) -> Result<Sent, WorkFault>
     requires own { IsOf board.old.shown work.0 }
     ensures ends { Ends board.old.shown board.new.shown work.0 result }
     ensures graph { board.new.shown.graph ≡ board.old.shown.graph }

@@ -3,6 +3,8 @@ use Rattle.std.proofs.Common.{◌≡◌, ◌<◌, ℕ, [], ◌∙◌, ap, sym, s
 use Rattle.semantics.specs.Graph.{Graph, source, vertex}
 use Rattle.semantics.specs.Kinds.{in_ports}
 use Rattle.semantics.specs.Shard.{Absorbed}
+use Rattle.semantics.specs.Time.{Time}
+use Rattle.vertices.specs.ByTime.{Forgets}
 use Rattle.vertices.specs.Shards.{Shows, TakesArity, shard_kind}
 use Rattle.vertices.specs.declared.shard.Shard.{Shard}
 use Rattle.events.specs.Stations.{IsShardAt}
@@ -17,6 +19,13 @@ pub still_works : (g : Graph) (arity : ℕ → ℕ) (v : ℕ) (s s' : Shard) →
 still_works g arity v s s' h kind takes more whole = record {
   at = record { kind = kind ∙ h.at.kind; takes = λ p q. takes p _ (h.at.takes p q) };
   whole = (more h.whole.0, whole h.whole.0 h.whole.1);
+}
+
+-- a shard that let go of a time
+pub works_without : (g : Graph) (arity : ℕ → ℕ) (v : ℕ) (s s' : Shard) (time : Time) → WorksAt g arity v s → shard_kind s' ≡ shard_kind s → ((p m : ℕ) → TakesArity s p m → TakesArity s' p m) → Forgets (Shows s) (Shows s') time → WorksAt g arity v s'
+works_without g arity v s s' time h kind takes forgets = record {
+  at = record { kind = kind ∙ h.at.kind; takes = λ p q. takes p _ (h.at.takes p q) };
+  whole = let left = forgets h.whole.0 h.whole.1 in (left.0, left.1);
 }
 
 -- the ports of its vertex, and what comes to them

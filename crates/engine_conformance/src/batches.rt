@@ -7,28 +7,27 @@ use crate::built_rows::push_all;
 use crate::texts::{fields_in, no_such_call, numbers_of, records_of, said, shown, yes_or_no};
 use pages::Subject;
 use record_core::Record;
-use rows::{Batch, CountedRows, Rows, field};
+use rows::{Batch, CountedRows, Rows, WorkFault, field};
 use std::alloc::{AllocError, Global};
-use vertices::ShardFault;
 
 /// Calls that need nothing but what their line says.
 #[derive(Drop)]
 pub struct Records;
 
 /// The records of a text, whose first one says how many fields they have.
-fn counted_of(alloc: Global, text: &str) -> Result<Option<CountedRows>, ShardFault> {
+fn counted_of(alloc: Global, text: &str) -> Result<Option<CountedRows>, WorkFault> {
     records_of(alloc, fields_in(text), text)
 }
 
 /// A batch: its records, and how many there are.
-fn shown_batch(alloc: Global, batch: &Batch) -> Result<String, ShardFault> {
+fn shown_batch(alloc: Global, batch: &Batch) -> Result<String, WorkFault> {
     let records = shown(alloc, batch.counted())?;
     let weight = batch.weight();
     Ok(format!(in alloc; "{records}; {weight} in all")?)
 }
 
 /// What a batch, if there is one, shows.
-fn shown_if_some(alloc: Global, batch: Option<Batch>) -> Result<String, ShardFault> {
+fn shown_if_some(alloc: Global, batch: Option<Batch>) -> Result<String, WorkFault> {
     match batch {
         Some(batch) => shown_batch(alloc, &batch),
         None => Ok(String::from_str(alloc, "no batch")?),
@@ -36,7 +35,7 @@ fn shown_if_some(alloc: Global, batch: Option<Batch>) -> Result<String, ShardFau
 }
 
 /// The records of a text in one batch.
-fn merged_of(alloc: Global, text: &str) -> Result<Option<Batch>, ShardFault> {
+fn merged_of(alloc: Global, text: &str) -> Result<Option<Batch>, WorkFault> {
     match counted_of(alloc, text)? {
         Some(rows) => Ok(Batch::merged(alloc, rows)?),
         None => Ok(None),
@@ -44,12 +43,12 @@ fn merged_of(alloc: Global, text: &str) -> Result<Option<Batch>, ShardFault> {
 }
 
 /// Records with counts, put into one batch.
-fn merge(alloc: Global, text: &str) -> Result<String, ShardFault> {
+fn merge(alloc: Global, text: &str) -> Result<String, WorkFault> {
     shown_if_some(alloc, merged_of(alloc, text)?)
 }
 
 /// Rows put into one batch, as `1: 7, 8`: rows of 1 field.
-fn of_rows(alloc: Global, text: &str) -> Result<String, ShardFault> {
+fn of_rows(alloc: Global, text: &str) -> Result<String, WorkFault> {
     let (fields, records) = text.split_once(": ").unwrap_or((text, ""));
     let Some(records) = records_of(alloc, fields.parse().unwrap_or(0), records)? else {
         return no_such_call(alloc);
@@ -60,7 +59,7 @@ fn of_rows(alloc: Global, text: &str) -> Result<String, ShardFault> {
 }
 
 /// Two batches put together, as `5 x 7 and 5`.
-fn together(alloc: Global, text: &str) -> Result<String, ShardFault> {
+fn together(alloc: Global, text: &str) -> Result<String, WorkFault> {
     let (first, second) = text.split_once(" and ").unwrap_or((text, ""));
     let (Some(first), Some(second)) = (merged_of(alloc, first)?, merged_of(alloc, second)?) else {
         return no_such_call(alloc);
@@ -74,7 +73,7 @@ fn together(alloc: Global, text: &str) -> Result<String, ShardFault> {
 }
 
 /// The batch of two records; nothing where there are not two.
-fn of_two(alloc: Global, rows: &CountedRows) -> Result<Option<Batch>, ShardFault> {
+fn of_two(alloc: Global, rows: &CountedRows) -> Result<Option<Batch>, WorkFault> {
     if rows.len() != 2 {
         return Ok(None);
     }
@@ -86,7 +85,7 @@ fn of_two(alloc: Global, rows: &CountedRows) -> Result<Option<Batch>, ShardFault
 }
 
 /// A batch of two records: what it shows, and its number of different records and of fields.
-fn batch(alloc: Global, text: &str) -> Result<String, ShardFault> {
+fn batch(alloc: Global, text: &str) -> Result<String, WorkFault> {
     let Some(rows) = counted_of(alloc, text)? else {
         return no_such_call(alloc);
     };
@@ -99,7 +98,7 @@ fn batch(alloc: Global, text: &str) -> Result<String, ShardFault> {
 }
 
 /// Whether the batches of two texts are the same, and whether the first is the same as one that shares it.
-fn same(alloc: Global, text: &str) -> Result<String, ShardFault> {
+fn same(alloc: Global, text: &str) -> Result<String, WorkFault> {
     let (first, second) = text.split_once(" and ").unwrap_or((text, text));
     let (Some(first), Some(second)) = (merged_of(alloc, first)?, merged_of(alloc, second)?) else {
         return no_such_call(alloc);
@@ -109,7 +108,7 @@ fn same(alloc: Global, text: &str) -> Result<String, ShardFault> {
 }
 
 /// The record at a place of a batch, as `1 of 5 6, 5 -6`.
-fn record(alloc: Global, text: &str) -> Result<String, ShardFault> {
+fn record(alloc: Global, text: &str) -> Result<String, WorkFault> {
     let (place, records) = text.split_once(" of ").unwrap_or(("", text));
     match (place.parse::<usize>(), merged_of(alloc, records)?) {
         (Ok(place), Some(batch)) if place < batch.len() => {
@@ -121,7 +120,7 @@ fn record(alloc: Global, text: &str) -> Result<String, ShardFault> {
 }
 
 /// The number in a column of a row, as `#1 of 3 -4`.
-fn column(alloc: Global, text: &str) -> Result<String, ShardFault> {
+fn column(alloc: Global, text: &str) -> Result<String, WorkFault> {
     let (column, row) = text.split_once(" of ").unwrap_or((text, ""));
     match (column.parse::<u64>(), numbers_of(alloc, row)?) {
         (Ok(column), Some(row)) => {
@@ -133,7 +132,7 @@ fn column(alloc: Global, text: &str) -> Result<String, ShardFault> {
 }
 
 /// What a call is answered.
-fn reply(alloc: Global, subject: &mut Records, call: &str) -> Result<String, ShardFault> {
+fn reply(alloc: Global, subject: &mut Records, call: &str) -> Result<String, WorkFault> {
     let (verb, rest) = call.split_once(' ').unwrap_or((call, ""));
     match verb {
         "merge" => merge(alloc, rest),

@@ -4,9 +4,8 @@ use crate::texts::{
     done, no_such_call, number, numbers_of, or_nothing, records_of, said, show, yes_or_no,
 };
 use pages::Subject;
-use rows::{CountedRows, MAX_ARITY, Rows};
+use rows::{CountedRows, MAX_ARITY, Rows, WorkFault};
 use std::alloc::{AllocError, Global};
-use vertices::ShardFault;
 
 /// Rows while they are built.
 #[derive(Drop)]
@@ -15,7 +14,7 @@ pub struct PageRows {
 }
 
 /// The rows of a first line `rows of 3` or `rows of 3 with room for 2`.
-pub fn new_rows(alloc: Global, text: &str) -> Result<Option<PageRows>, ShardFault> {
+pub fn new_rows(alloc: Global, text: &str) -> Result<Option<PageRows>, WorkFault> {
     let (fields, room) = text.split_once(" with room for ").unwrap_or((text, ""));
     let fields: usize = fields.parse().unwrap_or(0);
     if fields == 0 || fields > MAX_ARITY {
@@ -32,7 +31,7 @@ pub fn new_rows(alloc: Global, text: &str) -> Result<Option<PageRows>, ShardFaul
 }
 
 /// The rows of a text `2: 3 4, 5 6`, each with 2 fields.
-fn rows_of(alloc: Global, text: &str) -> Result<Option<Rows>, ShardFault> {
+fn rows_of(alloc: Global, text: &str) -> Result<Option<Rows>, WorkFault> {
     let (fields, records) = text.split_once(": ").unwrap_or((text, "nothing"));
     let Some(records) = records_of(alloc, fields.parse().unwrap_or(0), records)? else {
         return Ok(None);
@@ -43,7 +42,7 @@ fn rows_of(alloc: Global, text: &str) -> Result<Option<Rows>, ShardFault> {
 }
 
 /// Puts a row at the end, where it has as many fields.
-fn push_one(rows: &mut Rows, row: &[i64]) -> Result<(), ShardFault> {
+fn push_one(rows: &mut Rows, row: &[i64]) -> Result<(), WorkFault> {
     if row.len() == rows.arity() {
         rows.push(row)?;
     }
@@ -51,7 +50,7 @@ fn push_one(rows: &mut Rows, row: &[i64]) -> Result<(), ShardFault> {
 }
 
 /// Puts records at the end, each once, where they have as many fields.
-pub fn push_all(rows: &mut Rows, records: &CountedRows) -> Result<bool, ShardFault> {
+pub fn push_all(rows: &mut Rows, records: &CountedRows) -> Result<bool, WorkFault> {
     if records.arity() != rows.arity() {
         return Ok(false);
     }
@@ -62,7 +61,7 @@ pub fn push_all(rows: &mut Rows, records: &CountedRows) -> Result<bool, ShardFau
 }
 
 /// Puts rows at the end.
-fn push(alloc: Global, rows: &mut Rows, records: &str) -> Result<String, ShardFault> {
+fn push(alloc: Global, rows: &mut Rows, records: &str) -> Result<String, WorkFault> {
     match records_of(alloc, rows.arity(), records)? {
         Some(records) if push_all(rows, &records)? => done(alloc),
         _ => no_such_call(alloc),
@@ -70,7 +69,7 @@ fn push(alloc: Global, rows: &mut Rows, records: &str) -> Result<String, ShardFa
 }
 
 /// Puts a row at the end that is made of two, as `4 and 5 6`.
-fn push_joined(alloc: Global, rows: &mut Rows, text: &str) -> Result<String, ShardFault> {
+fn push_joined(alloc: Global, rows: &mut Rows, text: &str) -> Result<String, WorkFault> {
     let (left, right) = text.split_once(" and ").unwrap_or((text, "nothing"));
     let (Some(left), Some(right)) = (numbers_of(alloc, left)?, numbers_of(alloc, right)?) else {
         return no_such_call(alloc);
@@ -86,7 +85,7 @@ fn push_joined(alloc: Global, rows: &mut Rows, text: &str) -> Result<String, Sha
 }
 
 /// The rows behind others of as many fields.
-fn behind(alloc: Global, rows: &Rows, text: &str) -> Result<String, ShardFault> {
+fn behind(alloc: Global, rows: &Rows, text: &str) -> Result<String, WorkFault> {
     match rows_of(alloc, text)? {
         Some(mut others) if others.arity() == rows.arity() => {
             others.extend(rows)?;
@@ -97,14 +96,14 @@ fn behind(alloc: Global, rows: &Rows, text: &str) -> Result<String, ShardFault> 
 }
 
 /// Whether others are the same.
-fn same(alloc: Global, rows: &Rows, text: &str) -> Result<String, ShardFault> {
+fn same(alloc: Global, rows: &Rows, text: &str) -> Result<String, WorkFault> {
     match rows_of(alloc, text)? {
         Some(others) => yes_or_no(alloc, rows.same(&others)),
         None => no_such_call(alloc),
     }
 }
 
-fn reserve(alloc: Global, rows: &mut Rows, text: &str) -> Result<String, ShardFault> {
+fn reserve(alloc: Global, rows: &mut Rows, text: &str) -> Result<String, WorkFault> {
     match text.parse() {
         Ok(room) => {
             rows.reserve(room)?;
@@ -115,7 +114,7 @@ fn reserve(alloc: Global, rows: &mut Rows, text: &str) -> Result<String, ShardFa
 }
 
 /// The rows, as a text.
-fn all(alloc: Global, rows: &Rows) -> Result<String, ShardFault> {
+fn all(alloc: Global, rows: &Rows) -> Result<String, WorkFault> {
     let mut text = String::new(alloc);
     for place in 0..rows.len() {
         show(alloc, &mut text, rows.row(place), 1)?;
@@ -124,7 +123,7 @@ fn all(alloc: Global, rows: &Rows) -> Result<String, ShardFault> {
 }
 
 /// What a call is answered.
-fn reply(alloc: Global, subject: &mut Rows, call: &str) -> Result<String, ShardFault> {
+fn reply(alloc: Global, subject: &mut Rows, call: &str) -> Result<String, WorkFault> {
     let (verb, rest) = call.split_once(' ').unwrap_or((call, ""));
     match verb {
         "push" => push(alloc, subject, rest),

@@ -7,10 +7,9 @@ use crate::texts::{
     columns_of, done, fields_in, no_such_call, number, records_of, said, shown, yes_or_no,
 };
 use pages::Subject;
-use rows::{Batch, CountedRows, MAX_ARITY, RowIndex, Tally, TallyError};
+use rows::{Batch, CountedRows, MAX_ARITY, RowIndex, Tally, WorkFault};
 use std::alloc::{AllocError, Global};
 use std::marker::Model;
-use vertices::ShardFault;
 
 /// An index, and the counts of its rows. After a refusal both may have other rows, and nothing is asked any more.
 #[derive(Drop)]
@@ -32,7 +31,7 @@ impl Model for CountedIndex {
 }
 
 /// The index of a first line `index of 2 by #0`.
-pub fn new_index(alloc: Global, text: &str) -> Result<Option<CountedIndex>, ShardFault> {
+pub fn new_index(alloc: Global, text: &str) -> Result<Option<CountedIndex>, WorkFault> {
     let (fields, columns) = text.split_once(" by ").unwrap_or((text, ""));
     let fields: usize = fields.parse().unwrap_or(0);
     let Some(columns) = columns_of(alloc, columns)? else {
@@ -52,7 +51,7 @@ pub fn new_index(alloc: Global, text: &str) -> Result<Option<CountedIndex>, Shar
 
 impl CountedIndex {
     /// Counts a row in, and puts it in the index where it is new: both keep the same rows in the same order.
-    fn count_in(&mut self, row: &[i64], count: u64) -> Result<(), TallyError> {
+    fn count_in(&mut self, row: &[i64], count: u64) -> Result<(), WorkFault> {
         if row.len() != self.index.arity()
             || count == 0
             || count > rows::MAX_COUNT
@@ -69,7 +68,7 @@ impl CountedIndex {
     }
 
     /// Counts rows in, one after the other.
-    fn add(&mut self, alloc: Global, records: &str) -> Result<String, ShardFault> {
+    fn add(&mut self, alloc: Global, records: &str) -> Result<String, WorkFault> {
         let Some(rows) = records_of(alloc, self.index.arity(), records)? else {
             return no_such_call(alloc);
         };
@@ -80,7 +79,7 @@ impl CountedIndex {
     }
 
     /// Takes rows at once, where there was none.
-    fn begin(&mut self, alloc: Global, records: &str) -> Result<String, ShardFault> {
+    fn begin(&mut self, alloc: Global, records: &str) -> Result<String, WorkFault> {
         let Some(rows) = records_of(alloc, self.index.arity(), records)? else {
             return no_such_call(alloc);
         };
@@ -102,7 +101,7 @@ impl CountedIndex {
     }
 
     /// Lets go of all rows.
-    fn renew(&mut self, alloc: Global) -> Result<String, ShardFault> {
+    fn renew(&mut self, alloc: Global) -> Result<String, WorkFault> {
         let index = self.index.fresh()?;
         let tally = self.tally.fresh()?;
         self.index = index;
@@ -119,7 +118,7 @@ impl CountedIndex {
         count: u64,
         before: bool,
         out: &mut CountedRows,
-    ) -> Result<(), TallyError> {
+    ) -> Result<(), WorkFault> {
         if !self.is_whole
             || count == 0
             || item.len() > MAX_ARITY
@@ -137,7 +136,7 @@ impl CountedIndex {
     }
 
     /// What items are joined to, as `7 x 2, 8 by #0`.
-    fn joined(&self, alloc: Global, text: &str, before: bool) -> Result<String, ShardFault> {
+    fn joined(&self, alloc: Global, text: &str, before: bool) -> Result<String, WorkFault> {
         let (items, columns) = text.split_once(" by ").unwrap_or((text, ""));
         let Some(columns) = columns_of(alloc, columns)? else {
             return no_such_call(alloc);
@@ -156,14 +155,14 @@ impl CountedIndex {
         shown(alloc, &out)
     }
 
-    fn settle(&mut self, alloc: Global) -> Result<String, ShardFault> {
+    fn settle(&mut self, alloc: Global) -> Result<String, WorkFault> {
         self.index.settle()?;
         done(alloc)
     }
 }
 
 /// What a call is answered.
-fn reply(alloc: Global, subject: &mut CountedIndex, call: &str) -> Result<String, ShardFault> {
+fn reply(alloc: Global, subject: &mut CountedIndex, call: &str) -> Result<String, WorkFault> {
     let (verb, rest) = call.split_once(' ').unwrap_or((call, ""));
     match verb {
         "add" => subject.add(alloc, rest),

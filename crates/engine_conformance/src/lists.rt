@@ -4,10 +4,9 @@ ghost use Rattle.std.specs.Prelude.{◌≡◌};
 
 use crate::texts::{done, no_such_call, number, numbers_of, said, shown_row};
 use pages::Subject;
-use rows::Lists;
+use rows::{Lists, WorkFault};
 use std::alloc::{AllocError, Global};
 use std::marker::Model;
-use vertices::ShardFault;
 
 /// Lists, and how long each is.
 #[derive(Drop)]
@@ -27,7 +26,7 @@ impl Model for EqualLists {
 }
 
 /// The lists of a first line `lists of 2`.
-pub fn new_lists(alloc: Global, text: &str) -> Result<Option<EqualLists>, ShardFault> {
+pub fn new_lists(alloc: Global, text: &str) -> Result<Option<EqualLists>, WorkFault> {
     match text.parse::<usize>() {
         Ok(numbers) => Ok(Some(EqualLists {
             lists: Lists::new(alloc, numbers),
@@ -38,7 +37,7 @@ pub fn new_lists(alloc: Global, text: &str) -> Result<Option<EqualLists>, ShardF
 }
 
 impl EqualLists {
-    fn push(&mut self, alloc: Global, text: &str) -> Result<String, ShardFault> {
+    fn push(&mut self, alloc: Global, text: &str) -> Result<String, WorkFault> {
         let Some(list) = numbers_of(alloc, text)? else {
             return no_such_call(alloc);
         };
@@ -50,7 +49,7 @@ impl EqualLists {
     }
 
     /// Replaces a list, as `0 by 5 6`.
-    fn set(&mut self, alloc: Global, text: &str) -> Result<String, ShardFault> {
+    fn set(&mut self, alloc: Global, text: &str) -> Result<String, WorkFault> {
         let (place, list) = text.split_once(" by ").unwrap_or((text, ""));
         let (Ok(place), Some(list)) = (place.parse::<usize>(), numbers_of(alloc, list)?) else {
             return no_such_call(alloc);
@@ -62,7 +61,7 @@ impl EqualLists {
         done(alloc)
     }
 
-    fn list(&self, alloc: Global, text: &str) -> Result<String, ShardFault> {
+    fn list(&self, alloc: Global, text: &str) -> Result<String, WorkFault> {
         match text.parse::<usize>() {
             Ok(place) if place < self.lists.len() => shown_row(alloc, self.lists.list(place)),
             _ => no_such_call(alloc),
@@ -71,7 +70,7 @@ impl EqualLists {
 }
 
 /// What a call is answered.
-fn reply(alloc: Global, subject: &mut EqualLists, call: &str) -> Result<String, ShardFault> {
+fn reply(alloc: Global, subject: &mut EqualLists, call: &str) -> Result<String, WorkFault> {
     let (verb, rest) = call.split_once(' ').unwrap_or((call, ""));
     match verb {
         "push" => subject.push(alloc, rest),

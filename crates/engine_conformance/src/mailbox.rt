@@ -5,8 +5,8 @@ ghost use Rattle.std.specs.Prelude.{◌≡◌};
 use crate::texts::{done, no_such_call, number, said, text, yes_or_no};
 use exchange::Mailbox;
 use pages::Subject;
+use rows::WorkFault;
 use std::alloc::{AllocError, Global};
-use vertices::ShardFault;
 
 /// A mailbox.
 #[derive(Drop)]
@@ -21,7 +21,7 @@ pub fn new_mailbox(alloc: Global) -> PageMailbox {
     }
 }
 
-fn put(alloc: Global, mailbox: &mut Mailbox<i64>, text: &str) -> Result<String, ShardFault> {
+fn put(alloc: Global, mailbox: &mut Mailbox<i64>, text: &str) -> Result<String, WorkFault> {
     match text.parse() {
         Ok(message) => {
             mailbox.put(message)?;
@@ -36,7 +36,7 @@ fn put_reserved(
     alloc: Global,
     mailbox: &mut Mailbox<i64>,
     text: &str,
-) -> Result<String, ShardFault> {
+) -> Result<String, WorkFault> {
     let (message, place) = text.split_once(' ').unwrap_or((text, "last"));
     let Ok(message) = message.parse() else {
         return no_such_call(alloc);
@@ -56,7 +56,7 @@ fn put_reserved(
     done(alloc)
 }
 
-fn reserve(alloc: Global, mailbox: &mut Mailbox<i64>, text: &str) -> Result<String, ShardFault> {
+fn reserve(alloc: Global, mailbox: &mut Mailbox<i64>, text: &str) -> Result<String, WorkFault> {
     match text.parse() {
         Ok(room) => {
             mailbox.reserve(room)?;
@@ -66,7 +66,7 @@ fn reserve(alloc: Global, mailbox: &mut Mailbox<i64>, text: &str) -> Result<Stri
     }
 }
 
-fn take(alloc: Global, mailbox: &mut Mailbox<i64>, text: &str) -> Result<String, ShardFault> {
+fn take(alloc: Global, mailbox: &mut Mailbox<i64>, text: &str) -> Result<String, WorkFault> {
     match text.parse::<usize>() {
         Ok(place) if place < mailbox.len() => {
             let message = mailbox.take(place);
@@ -76,7 +76,7 @@ fn take(alloc: Global, mailbox: &mut Mailbox<i64>, text: &str) -> Result<String,
     }
 }
 
-fn get(alloc: Global, mailbox: &Mailbox<i64>, text: &str) -> Result<String, ShardFault> {
+fn get(alloc: Global, mailbox: &Mailbox<i64>, text: &str) -> Result<String, WorkFault> {
     match text.parse::<usize>() {
         Ok(place) if place < mailbox.len() => {
             let message = *mailbox.get(place);
@@ -87,7 +87,7 @@ fn get(alloc: Global, mailbox: &Mailbox<i64>, text: &str) -> Result<String, Shar
 }
 
 /// What a call is answered.
-fn reply(alloc: Global, subject: &mut Mailbox<i64>, call: &str) -> Result<String, ShardFault> {
+fn reply(alloc: Global, subject: &mut Mailbox<i64>, call: &str) -> Result<String, WorkFault> {
     let (verb, rest) = call.split_once(' ').unwrap_or((call, ""));
     match verb {
         "put" => put(alloc, subject, rest),

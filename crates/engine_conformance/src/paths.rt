@@ -7,9 +7,9 @@ use crate::texts::{no_such_call, said, text, yes_or_no};
 use crate::times::{graph_of, pointstamp_of};
 use pages::Subject;
 use path_summary::Paths;
+use rows::WorkFault;
 use std::alloc::{AllocError, Global};
 use std::sync::Arc;
-use vertices::ShardFault;
 
 /// The paths of a query's graph.
 pub fn paths_of(alloc: Global, query: &str) -> Option<Arc<Paths, Global>> {
@@ -23,7 +23,7 @@ pub struct Shown {
     paths: Arc<Paths, Global>,
 }
 
-pub fn new_paths(alloc: Global, query: &str) -> Result<Option<Shown>, ShardFault> {
+pub fn new_paths(alloc: Global, query: &str) -> Result<Option<Shown>, WorkFault> {
     match paths_of(alloc, query) {
         Some(paths) => Ok(Some(Shown { paths })),
         None => Ok(None),
@@ -31,7 +31,7 @@ pub fn new_paths(alloc: Global, query: &str) -> Result<Option<Shown>, ShardFault
 }
 
 /// Whether one pointstamp could result in another, as `vertex 3 at 0.1 in vertex 2 at 0.2`.
-fn could(alloc: Global, paths: &Paths, call: &str) -> Result<String, ShardFault> {
+fn could(alloc: Global, paths: &Paths, call: &str) -> Result<String, WorkFault> {
     let (from, to) = call.split_once(" in ").unwrap_or((call, ""));
     let (Some(from), Some(to)) = (pointstamp_of(alloc, from)?, pointstamp_of(alloc, to)?) else {
         return no_such_call(alloc);
@@ -43,7 +43,7 @@ fn could(alloc: Global, paths: &Paths, call: &str) -> Result<String, ShardFault>
 }
 
 /// What a call is answered.
-fn reply(alloc: Global, subject: &mut Shown, call: &str) -> Result<String, ShardFault> {
+fn reply(alloc: Global, subject: &mut Shown, call: &str) -> Result<String, WorkFault> {
     could(alloc, &subject.paths, call)
 }
 

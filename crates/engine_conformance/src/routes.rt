@@ -6,20 +6,19 @@ ghost use Rattle.semantics.specs.Limits.{max_workers};
 use crate::texts::{columns_of, fields_in, no_such_call, numbers_of, records_of, said, shown};
 use exchange::{MAX_WORKERS, Parcels, Routing, route, split};
 use pages::Subject;
-use rows::Batch;
+use rows::{Batch, WorkFault};
 use std::alloc::{AllocError, Global};
-use vertices::ShardFault;
 
 /// Calls that need nothing but what their line says.
 #[derive(Drop)]
 pub struct Routes;
 
-fn worker(alloc: Global, worker: u32) -> Result<String, ShardFault> {
+fn worker(alloc: Global, worker: u32) -> Result<String, WorkFault> {
     Ok(format!(in alloc; "{worker}")?)
 }
 
 /// The worker of a key, as `5 among 3`.
-fn of_key(alloc: Global, text: &str) -> Result<String, ShardFault> {
+fn of_key(alloc: Global, text: &str) -> Result<String, WorkFault> {
     let (key, workers) = text.split_once(" among ").unwrap_or((text, ""));
     match (numbers_of(alloc, key)?, workers.parse::<u32>()) {
         (Some(key), Ok(workers)) if workers > 0 && workers <= MAX_WORKERS => {
@@ -60,7 +59,7 @@ fn workers_of(text: &str) -> Option<Workers>
 }
 
 /// The worker of a record, as `8 5 by #1 among 3 from 2`.
-fn home(alloc: Global, text: &str) -> Result<String, ShardFault> {
+fn home(alloc: Global, text: &str) -> Result<String, WorkFault> {
     let (row, rest) = text.split_once(" by ").unwrap_or((text, ""));
     let (routing, workers) = rest.split_once(" among ").unwrap_or((rest, ""));
     match (
@@ -79,7 +78,7 @@ fn home(alloc: Global, text: &str) -> Result<String, ShardFault> {
 }
 
 /// The workers that get records, each with them.
-fn shown_parcels(alloc: Global, parcels: &Parcels) -> Result<String, ShardFault> {
+fn shown_parcels(alloc: Global, parcels: &Parcels) -> Result<String, WorkFault> {
     let mut text = String::new(alloc);
     for parcel in parcels {
         let worker = parcel.worker;
@@ -91,7 +90,7 @@ fn shown_parcels(alloc: Global, parcels: &Parcels) -> Result<String, ShardFault>
 }
 
 /// The parcels of records, as `3, 2, 1 by record among 2 from 0`.
-fn parcels(alloc: Global, text: &str) -> Result<String, ShardFault> {
+fn parcels(alloc: Global, text: &str) -> Result<String, WorkFault> {
     let (records, rest) = text.split_once(" by ").unwrap_or((text, ""));
     let (routing, workers) = rest.split_once(" among ").unwrap_or((rest, ""));
     let Some(rows) = records_of(alloc, fields_in(records), records)? else {
@@ -111,7 +110,7 @@ fn parcels(alloc: Global, text: &str) -> Result<String, ShardFault> {
 }
 
 /// What a call is answered.
-fn reply(alloc: Global, subject: &mut Routes, call: &str) -> Result<String, ShardFault> {
+fn reply(alloc: Global, subject: &mut Routes, call: &str) -> Result<String, WorkFault> {
     let (verb, rest) = call.split_once(' ').unwrap_or((call, ""));
     match verb {
         "key" => of_key(alloc, rest),

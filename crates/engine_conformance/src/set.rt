@@ -4,9 +4,8 @@ ghost use Rattle.std.specs.Prelude.{◌≡◌};
 
 use crate::texts::{no_such_call, number, records_of, said, shown_row, yes_or_no};
 use pages::Subject;
-use rows::{CountedRows, MAX_ARITY, RowSet};
+use rows::{CountedRows, MAX_ARITY, RowSet, WorkFault};
 use std::alloc::{AllocError, Global};
-use vertices::ShardFault;
 
 /// A set.
 #[derive(Drop)]
@@ -15,7 +14,7 @@ pub struct PageSet {
 }
 
 /// The set of a first line `set of 2`.
-pub fn new_set(alloc: Global, text: &str) -> Result<Option<PageSet>, ShardFault> {
+pub fn new_set(alloc: Global, text: &str) -> Result<Option<PageSet>, WorkFault> {
     let fields: usize = text.parse().unwrap_or(0);
     if fields == 0 || fields > MAX_ARITY {
         return Ok(None);
@@ -26,12 +25,12 @@ pub fn new_set(alloc: Global, text: &str) -> Result<Option<PageSet>, ShardFault>
 }
 
 /// Whether a row is new; no where it has another number of fields.
-fn insert_one(set: &mut RowSet, row: &[i64]) -> Result<bool, ShardFault> {
+fn insert_one(set: &mut RowSet, row: &[i64]) -> Result<bool, WorkFault> {
     Ok(row.len() == set.arity() && set.insert_new(row)?)
 }
 
 /// How many of the rows are new; none where they have another number of fields.
-fn new_rows(set: &mut RowSet, rows: &CountedRows) -> Result<Option<usize>, ShardFault> {
+fn new_rows(set: &mut RowSet, rows: &CountedRows) -> Result<Option<usize>, WorkFault> {
     if rows.arity() != set.arity() {
         return Ok(None);
     }
@@ -45,7 +44,7 @@ fn new_rows(set: &mut RowSet, rows: &CountedRows) -> Result<Option<usize>, Shard
 }
 
 /// Inserts rows: how many are new.
-fn insert(alloc: Global, set: &mut RowSet, records: &str) -> Result<String, ShardFault> {
+fn insert(alloc: Global, set: &mut RowSet, records: &str) -> Result<String, WorkFault> {
     let Some(rows) = records_of(alloc, set.arity(), records)? else {
         return no_such_call(alloc);
     };
@@ -56,7 +55,7 @@ fn insert(alloc: Global, set: &mut RowSet, records: &str) -> Result<String, Shar
 }
 
 /// Whether the set has the first of these rows.
-fn contains(alloc: Global, set: &RowSet, records: &str) -> Result<String, ShardFault> {
+fn contains(alloc: Global, set: &RowSet, records: &str) -> Result<String, WorkFault> {
     match records_of(alloc, set.arity(), records)? {
         Some(rows) if !rows.is_empty() => yes_or_no(alloc, set.contains(rows.row(0))),
         _ => no_such_call(alloc),
@@ -64,7 +63,7 @@ fn contains(alloc: Global, set: &RowSet, records: &str) -> Result<String, ShardF
 }
 
 /// The place of the first of these rows, which is put in if it isn't there.
-fn place(alloc: Global, set: &mut RowSet, records: &str) -> Result<String, ShardFault> {
+fn place(alloc: Global, set: &mut RowSet, records: &str) -> Result<String, WorkFault> {
     let Some(rows) = records_of(alloc, set.arity(), records)? else {
         return no_such_call(alloc);
     };
@@ -76,7 +75,7 @@ fn place(alloc: Global, set: &mut RowSet, records: &str) -> Result<String, Shard
 }
 
 /// The row at a place.
-fn row(alloc: Global, set: &RowSet, text: &str) -> Result<String, ShardFault> {
+fn row(alloc: Global, set: &RowSet, text: &str) -> Result<String, WorkFault> {
     match text.parse::<usize>() {
         Ok(place) if place < set.len() => shown_row(alloc, set.row(place)),
         _ => no_such_call(alloc),
@@ -84,14 +83,14 @@ fn row(alloc: Global, set: &RowSet, text: &str) -> Result<String, ShardFault> {
 }
 
 /// The numbers of rows and of fields of a fresh set.
-fn fresh(alloc: Global, set: &RowSet) -> Result<String, ShardFault> {
+fn fresh(alloc: Global, set: &RowSet) -> Result<String, WorkFault> {
     let fresh = set.fresh()?;
     let (rows, fields) = (fresh.len(), fresh.arity());
     Ok(format!(in alloc; "{rows} of {fields}")?)
 }
 
 /// What a call is answered.
-fn reply(alloc: Global, subject: &mut RowSet, call: &str) -> Result<String, ShardFault> {
+fn reply(alloc: Global, subject: &mut RowSet, call: &str) -> Result<String, WorkFault> {
     let (verb, rest) = call.split_once(' ').unwrap_or((call, ""));
     match verb {
         "insert" => insert(alloc, subject, rest),

@@ -9,16 +9,16 @@ ghost use Rattle.vertices.specs.Shards.{TakesArity, shard_kind};
 ghost use Rattle.events.specs.Stations.{arity_in};
 ghost use Rattle.engine_conformance.specs.Works.{WorksAt};
 
-use crate::texts::{no_such_call, records_of, said, shown, text};
-use crate::times::{graph_of, time_of};
+use crate::texts::{done, no_such_call, records_of, said, shown, text};
+use crate::times::{graph_of, shown_time, time_of};
 use events::{law_of_graph, shard_at};
 use graph::{Graph, Role, RouteKey, VertexId};
 use loop_context::Time;
 use pages::Subject;
-use rows::Batch;
+use rows::{Batch, WorkFault};
 use std::alloc::{AllocError, Global};
 use std::marker::Model;
-use vertices::{Out, Shard, ShardFault};
+use vertices::{Out, Shard};
 
 /// A vertex of a graph, and its shard. Once an event is refused the shard is spoiled, and nothing is asked any more.
 #[derive(Drop)]
@@ -44,7 +44,7 @@ impl Model for Station {
 }
 
 /// The station of a first line `shard 2 of QUERY`.
-pub fn new_station(alloc: Global, text: &str) -> Result<Option<Station>, ShardFault> {
+pub fn new_station(alloc: Global, text: &str) -> Result<Option<Station>, WorkFault> {
     let (number, query) = text.split_once(" of ").unwrap_or((text, ""));
     match (number.parse::<u32>(), graph_of(alloc, query)) {
         (Ok(number), Some(graph)) => station_of(alloc, Box::new(alloc, graph)?, VertexId(number)),
@@ -57,7 +57,7 @@ fn station_of(
     alloc: Global,
     graph: Box<Graph>,
     id: VertexId,
-) -> Result<Option<Station>, ShardFault> {
+) -> Result<Option<Station>, WorkFault> {
     if id.0 as usize >= graph.vertex_count() {
         return Ok(None);
     }
@@ -95,7 +95,7 @@ fn give(
     port: u32,
     time: &Time,
     batch: Batch,
-) -> Result<Option<Out>, ShardFault>
+) -> Result<Option<Out>, WorkFault>
     requires vertex { id.0 < length (shown_graph graph.now) }
     requires works { WorksAt (shown_graph graph.now) (arity_in graph.now) id.0 shard.old }
     ensures { OnOk result (WorksAt (shown_graph graph.now) (arity_in graph.now) id.0 shard.new) }
@@ -106,6 +106,16 @@ fn give(
     let mut out = Out::new();
     shard.on_records(alloc, port, time, batch, &mut out)?;
     Ok(Some(out))
+}
+
+/// Lets go of what a shard keeps of a time.
+#[tactic(auto, using(crate::proofs::StillWorks::works_without))]
+fn forget(graph: &Graph, id: VertexId, shard: &mut Shard, time: &Time)
+    requires { WorksAt (shown_graph graph.now) (arity_in graph.now) id.0 shard.old }
+    ensures { WorksAt (shown_graph graph.now) (arity_in graph.now) id.0 shard.new }
+{
+    let _vertices = graph.vertex_count();
+    shard.forget(time);
 }
 
 /// How many fields the records have that come to an in port; 0 where the vertex doesn't have it.
@@ -130,7 +140,7 @@ struct Came {
 
 impl Station {
     /// The records of a text `0 at 3.1: 5 7 x 2, 6 7`.
-    fn came(&self, alloc: Global, text: &str) -> Result<Option<Came>, ShardFault> {
+    fn came(&self, alloc: Global, text: &str) -> Result<Option<Came>, WorkFault> {
         let (place, records) = text.split_once(": ").unwrap_or((text, ""));
         let (port, time) = place.split_once(" at ").unwrap_or((place, ""));
         let (Ok(port), Some(time)) = (port.parse::<u32>(), time_of(alloc, time)?) else {
@@ -144,7 +154,7 @@ impl Station {
     }
 
     /// What the shard sends for records that come, and whether it asks to be notified.
-    fn take(&mut self, alloc: Global, came: Came) -> Result<Option<Out>, ShardFault> {
+    fn take(&mut self, alloc: Global, came: Came) -> Result<Option<Out>, WorkFault> {
         let Came { port, time, batch } = came;
         if !self.is_whole {
             return Ok(None);
@@ -163,7 +173,7 @@ impl Station {
         Ok(out)
     }
 
-    fn port(&mut self, alloc: Global, text: &str) -> Result<String, ShardFault> {
+    fn port(&mut self, alloc: Global, text: &str) -> Result<String, WorkFault> {
         match self.came(alloc, text)? {
             Some(came) => sent(alloc, self.take(alloc, came)?),
             None => no_such_call(alloc),
@@ -171,7 +181,7 @@ impl Station {
     }
 
     /// What the shard sends at the notification of a time.
-    fn notify(&self, alloc: Global, time: &Time) -> Result<Option<Out>, ShardFault> {
+    fn notify(&self, alloc: Global, time: &Time) -> Result<Option<Out>, WorkFault> {
         if !self.is_whole || self.graph.vertex(self.id).kind.role() != Role::Notified {
             return Ok(None);
         }
@@ -180,15 +190,37 @@ impl Station {
         Ok(Some(out))
     }
 
-    fn notified(&self, alloc: Global, text: &str) -> Result<String, ShardFault> {
+    fn notified(&self, alloc: Global, text: &str) -> Result<String, WorkFault> {
         match time_of(alloc, text)? {
             Some(time) => sent(alloc, self.notify(alloc, &time)?),
             None => no_such_call(alloc),
         }
     }
 
+    /// Lets go of a time.
+    fn let_go(&mut self, alloc: Global, text: &str) -> Result<String, WorkFault> {
+        match time_of(alloc, text)? {
+            Some(time) if self.is_whole => {
+                forget(&self.graph, self.id, &mut self.shard, &time);
+                done(alloc)
+            }
+            _ => no_such_call(alloc),
+        }
+    }
+
+    /// A time of which the shard keeps something, and that may have passed at another one.
+    fn earlier(&self, alloc: Global, now: &str) -> Result<String, WorkFault> {
+        match time_of(alloc, now)? {
+            Some(now) => match self.shard.earlier(&now) {
+                Some(time) => Ok(shown_time(alloc, &time)?),
+                None => text(alloc, "none"),
+            },
+            None => no_such_call(alloc),
+        }
+    }
+
     /// By what the records that come to an in port are routed.
-    fn route_key(&self, alloc: Global, port: &str) -> Result<String, ShardFault> {
+    fn route_key(&self, alloc: Global, port: &str) -> Result<String, WorkFault> {
         let Ok(port) = port.parse::<u32>() else {
             return no_such_call(alloc);
         };
@@ -202,7 +234,7 @@ impl Station {
 }
 
 /// What a shard sends by its two out ports, and whether it asks to be notified.
-fn sent(alloc: Global, out: Option<Out>) -> Result<String, ShardFault> {
+fn sent(alloc: Global, out: Option<Out>) -> Result<String, WorkFault> {
     let Some(out) = out else {
         return no_such_call(alloc);
     };
@@ -219,7 +251,7 @@ fn sent(alloc: Global, out: Option<Out>) -> Result<String, ShardFault> {
 }
 
 /// What is sent by one out port.
-fn sent_by(alloc: Global, head: &str, batch: Option<Batch>) -> Result<String, ShardFault> {
+fn sent_by(alloc: Global, head: &str, batch: Option<Batch>) -> Result<String, WorkFault> {
     match batch {
         Some(batch) => {
             let records = shown(alloc, batch.counted())?;
@@ -230,11 +262,13 @@ fn sent_by(alloc: Global, head: &str, batch: Option<Batch>) -> Result<String, Sh
 }
 
 /// What a call is answered.
-fn reply(alloc: Global, subject: &mut Station, call: &str) -> Result<String, ShardFault> {
+fn reply(alloc: Global, subject: &mut Station, call: &str) -> Result<String, WorkFault> {
     let (verb, rest) = call.split_once(' ').unwrap_or((call, ""));
     match verb {
         "port" => subject.port(alloc, rest),
         "notified" => subject.notified(alloc, rest.strip_prefix("at ").unwrap_or("")),
+        "forget" => subject.let_go(alloc, rest),
+        "earlier" => subject.earlier(alloc, rest.strip_prefix("than ").unwrap_or("")),
         "route-key" => subject.route_key(alloc, rest.strip_prefix("of port ").unwrap_or("")),
         _ => no_such_call(alloc),
     }

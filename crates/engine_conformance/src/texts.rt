@@ -1,26 +1,25 @@
 //! Numbers and records as texts.
 
-use rows::{CountedRows, MAX_ARITY, MAX_COUNT};
+use rows::{CountedRows, MAX_ARITY, MAX_COUNT, WorkFault};
 use std::alloc::{AllocError, Global};
-use vertices::ShardFault;
 
 /// What a call is answered, or why it is refused.
-pub fn said(alloc: Global, answer: Result<String, ShardFault>) -> Result<String, AllocError> {
+pub fn said(alloc: Global, answer: Result<String, WorkFault>) -> Result<String, AllocError> {
     match answer {
         Ok(text) => Ok(text),
         Err(fault) => String::from_str(alloc, reason(fault)),
     }
 }
 
-fn reason(fault: ShardFault) -> &'static str {
+fn reason(fault: WorkFault) -> &'static str {
     match fault {
-        ShardFault::Count => "too often",
-        ShardFault::NoMemory => "no memory",
+        WorkFault::Count => "too often",
+        WorkFault::NoMemory => "no memory",
     }
 }
 
 /// What a block is about, or why there is none.
-pub fn named<S: Drop>(made: Result<Option<S>, ShardFault>) -> Result<S, &'static str> {
+pub fn named<S: Drop>(made: Result<Option<S>, WorkFault>) -> Result<S, &'static str> {
     match made {
         Ok(Some(subject)) => Ok(subject),
         Ok(None) => Err("no such subject"),
@@ -29,25 +28,25 @@ pub fn named<S: Drop>(made: Result<Option<S>, ShardFault>) -> Result<S, &'static
 }
 
 /// A text of a call's own.
-pub fn text(alloc: Global, words: &str) -> Result<String, ShardFault> {
+pub fn text(alloc: Global, words: &str) -> Result<String, WorkFault> {
     Ok(String::from_str(alloc, words)?)
 }
 
 /// What is answered to a call that changes something.
-pub fn done(alloc: Global) -> Result<String, ShardFault> {
+pub fn done(alloc: Global) -> Result<String, WorkFault> {
     text(alloc, "")
 }
 
 /// What is answered to a call that can't be made.
-pub fn no_such_call(alloc: Global) -> Result<String, ShardFault> {
+pub fn no_such_call(alloc: Global) -> Result<String, WorkFault> {
     text(alloc, "no such call")
 }
 
-pub fn yes_or_no(alloc: Global, answer: bool) -> Result<String, ShardFault> {
+pub fn yes_or_no(alloc: Global, answer: bool) -> Result<String, WorkFault> {
     text(alloc, if answer { "yes" } else { "no" })
 }
 
-pub fn number(alloc: Global, number: usize) -> Result<String, ShardFault> {
+pub fn number(alloc: Global, number: usize) -> Result<String, WorkFault> {
     Ok(format!(in alloc; "{number}")?)
 }
 
@@ -81,8 +80,33 @@ pub fn columns_of(alloc: Global, text: &str) -> Result<Option<Vec<u64>>, AllocEr
     Ok(Some(columns))
 }
 
-/// Puts the record of a text `5 -7 x 2` at the end; false where there is none of that many fields.
-fn push(alloc: Global, rows: &mut CountedRows, text: &str) -> Result<bool, ShardFault> {
+/// Puts a record of one field at the end; false where they don't have one field.
+fn push_field(rows: &mut CountedRows, field: i64) -> Result<bool, WorkFault> {
+    if rows.arity() != 1 {
+        return Ok(false);
+    }
+    rows.push(&[field], 1)?;
+    Ok(true)
+}
+
+/// Puts the records of one field of a text `1 to 70` at the end; false where there are none.
+fn push_range(rows: &mut CountedRows, from: &str, to: &str) -> Result<bool, WorkFault> {
+    let (Ok(from), Ok(to)) = (from.parse::<i64>(), to.parse::<i64>()) else {
+        return Ok(false);
+    };
+    for field in from..to {
+        if !push_field(rows, field)? {
+            return Ok(false);
+        }
+    }
+    push_field(rows, to)
+}
+
+/// Puts the record of a text `5 -7 x 2`, or the records of `1 to 70`, at the end; false where there are none of that many fields.
+fn push(alloc: Global, rows: &mut CountedRows, text: &str) -> Result<bool, WorkFault> {
+    if let Some((from, to)) = text.split_once(" to ") {
+        return push_range(rows, from, to);
+    }
     let (fields, times) = text.split_once(" x ").unwrap_or((text, "1"));
     let count: u64 = times.parse().unwrap_or(0);
     let Some(row) = numbers_of(alloc, fields)? else {
@@ -100,7 +124,7 @@ pub fn records_of(
     alloc: Global,
     fields: usize,
     text: &str,
-) -> Result<Option<CountedRows>, ShardFault> {
+) -> Result<Option<CountedRows>, WorkFault> {
     if fields == 0 || fields > MAX_ARITY {
         return Ok(None);
     }
@@ -139,7 +163,7 @@ pub fn show(alloc: Global, text: &mut String, row: &[i64], count: u64) -> Result
 }
 
 /// The text, or `nothing` where it is empty.
-pub fn or_nothing(mut text: String) -> Result<String, ShardFault> {
+pub fn or_nothing(mut text: String) -> Result<String, WorkFault> {
     if text.is_empty() {
         text.push_str("nothing")?;
     }
@@ -147,7 +171,7 @@ pub fn or_nothing(mut text: String) -> Result<String, ShardFault> {
 }
 
 /// Rows with their counts, as a text.
-pub fn shown(alloc: Global, rows: &CountedRows) -> Result<String, ShardFault> {
+pub fn shown(alloc: Global, rows: &CountedRows) -> Result<String, WorkFault> {
     let mut text = String::new(alloc);
     for place in 0..rows.len() {
         show(alloc, &mut text, rows.row(place), rows.count(place))?;
@@ -156,7 +180,7 @@ pub fn shown(alloc: Global, rows: &CountedRows) -> Result<String, ShardFault> {
 }
 
 /// One row as a text.
-pub fn shown_row(alloc: Global, row: &[i64]) -> Result<String, ShardFault> {
+pub fn shown_row(alloc: Global, row: &[i64]) -> Result<String, WorkFault> {
     let mut text = String::new(alloc);
     show(alloc, &mut text, row, 1)?;
     Ok(text)

@@ -30,6 +30,16 @@ pub fn time_of(alloc: Global, text: &str) -> Result<Option<Time>, AllocError> {
     }
 }
 
+/// The text of a time.
+pub fn shown_time(alloc: Global, time: &Time) -> Result<String, AllocError> {
+    let epoch = time.epoch();
+    let mut text = format!(in alloc; "{epoch}")?;
+    for counter in time.counters() {
+        text.push_str(format!(in alloc; ".{counter}")?.as_str())?;
+    }
+    Ok(text)
+}
+
 /// The vertex or the edge of a text `vertex 3` or `edge 3`.
 fn location_of(text: &str) -> Option<Location> {
     let (form, number) = text.split_once(' ')?;

@@ -13,9 +13,9 @@ use pages::Subject;
 use path_summary::{Paths, Pointstamp};
 use progress::{Change, CountTracker, LocationTracker, PlainTracker, Progress, changes};
 use record_core::NoMemory;
+use rows::WorkFault;
 use std::alloc::{AllocError, Global};
 use std::sync::Arc;
-use vertices::ShardFault;
 
 /// The paths of a first line `trackers of QUERY`.
 #[derive(Drop)]
@@ -23,7 +23,7 @@ pub struct Trackers {
     paths: Arc<Paths, Global>,
 }
 
-pub fn new_trackers(alloc: Global, query: &str) -> Result<Option<Trackers>, ShardFault> {
+pub fn new_trackers(alloc: Global, query: &str) -> Result<Option<Trackers>, WorkFault> {
     match paths_of(alloc, query) {
         Some(paths) => Ok(Some(Trackers { paths })),
         None => Ok(None),
@@ -67,7 +67,7 @@ fn answers<P: Progress>(
     paths: &Paths,
     mut tracker: P,
     two: &Two,
-) -> Result<String, ShardFault>
+) -> Result<String, WorkFault>
     requires { P.graph tracker ≡ shown_graph paths.now }
 {
     if !paths.fits(&two.p) || !paths.fits(&two.q) {
@@ -83,7 +83,7 @@ fn counting_answers(
     paths: &Paths,
     tracker: CountTracker,
     two: &Two,
-) -> Result<String, ShardFault>
+) -> Result<String, WorkFault>
     requires { shown_graph tracker.graph ≡ shown_graph paths.now }
 {
     tracker.law_of_counts();
@@ -91,7 +91,7 @@ fn counting_answers(
 }
 
 /// Answers as words.
-fn words(alloc: Global, answers: &[bool]) -> Result<String, ShardFault> {
+fn words(alloc: Global, answers: &[bool]) -> Result<String, WorkFault> {
     let mut words = String::new(alloc);
     for answer in answers {
         let space = if words.is_empty() { "" } else { " " };
@@ -102,7 +102,7 @@ fn words(alloc: Global, answers: &[bool]) -> Result<String, ShardFault> {
 }
 
 /// The pointstamps of a text `vertex 3 at 0.1 and vertex 2 at 0.2`.
-fn two_of(alloc: Global, text: &str) -> Result<Option<Two>, ShardFault> {
+fn two_of(alloc: Global, text: &str) -> Result<Option<Two>, WorkFault> {
     let (p, q) = text.split_once(" and ").unwrap_or((text, ""));
     match (pointstamp_of(alloc, p)?, pointstamp_of(alloc, q)?) {
         (Some(p), Some(q)) => Ok(Some(Two { p, q })),
@@ -116,7 +116,7 @@ fn frontiers(
     paths: &Arc<Paths, Global>,
     form: &str,
     two: &Two,
-) -> Result<String, ShardFault> {
+) -> Result<String, WorkFault> {
     let shared = Arc::try_clone(paths)?;
     match form {
         "plain" => answers(alloc, paths, PlainTracker::new(alloc, shared), two),
@@ -131,7 +131,7 @@ fn frontiers_of(
     alloc: Global,
     paths: &Arc<Paths, Global>,
     call: &str,
-) -> Result<String, ShardFault> {
+) -> Result<String, WorkFault> {
     let (form, two) = call.split_once(": ").unwrap_or((call, ""));
     match two_of(alloc, two)? {
         Some(two) => frontiers(alloc, paths, form, &two),
@@ -140,7 +140,7 @@ fn frontiers_of(
 }
 
 /// How many answers of two trackers differ while that many pointstamps come and go.
-fn differing(alloc: Global, paths: &Arc<Paths, Global>, count: &str) -> Result<String, ShardFault> {
+fn differing(alloc: Global, paths: &Arc<Paths, Global>, count: &str) -> Result<String, WorkFault> {
     match count.parse::<u32>() {
         Ok(count) if count < 1000 => match differences(alloc, paths, count)? {
             Some(differ) => Ok(format!(in alloc; "{differ}")?),
@@ -151,7 +151,7 @@ fn differing(alloc: Global, paths: &Arc<Paths, Global>, count: &str) -> Result<S
 }
 
 /// What two workers see, one of which is late, at each of four moments.
-fn seen(alloc: Global, moments: &[Seen]) -> Result<String, ShardFault> {
+fn seen(alloc: Global, moments: &[Seen]) -> Result<String, WorkFault> {
     let mut text = String::new(alloc);
     for (first, second, waiting) in moments {
         let between = if text.is_empty() { "" } else { ", " };
@@ -162,7 +162,7 @@ fn seen(alloc: Global, moments: &[Seen]) -> Result<String, ShardFault> {
 }
 
 /// `late: vertex 7 at 0`
-fn views_of(alloc: Global, paths: &Arc<Paths, Global>, call: &str) -> Result<String, ShardFault> {
+fn views_of(alloc: Global, paths: &Arc<Paths, Global>, call: &str) -> Result<String, WorkFault> {
     let (form, output) = call.split_once(": ").unwrap_or((call, ""));
     let Some(output) = pointstamp_of(alloc, output)? else {
         return no_such_call(alloc);
@@ -179,7 +179,7 @@ fn views_of(alloc: Global, paths: &Arc<Paths, Global>, call: &str) -> Result<Str
 }
 
 /// What a call is answered.
-fn reply(alloc: Global, subject: &mut Trackers, call: &str) -> Result<String, ShardFault> {
+fn reply(alloc: Global, subject: &mut Trackers, call: &str) -> Result<String, WorkFault> {
     let (verb, rest) = call.split_once(' ').unwrap_or((call, ""));
     match verb {
         "frontiers" => frontiers_of(alloc, &subject.paths, rest),

@@ -15,12 +15,8 @@ use Rattle.vertices.specs.Shards.{shard_kind}
 use Rattle.vertices.specs.declared.out.Out.{Out}
 use Rattle.vertices.specs.declared.shard.Shard.{Shard}
 use Rattle.vertices.proofs.SameAbsorbed.{Sends_same, kept_over_same, over_same, would_send_over_same}
-use Rattle.vertices.specs.declared.fault.ShardFault.{ShardFault}
-use Rattle.vertices.specs.declared.fault.ShardFault.TheVariants as shard
-use Rattle.events.specs.Jobs.{fault_of}
 use Rattle.events.specs.TooMany.{IsOverAt}
 use Rattle.events.specs.Wired.{Wired, graph_in}
-use Rattle.events.specs.declared.fault.ComputeFault.TheVariants as compute
 
 -- a message that was taken apart still has its own records
 pub message_at : (m : Message) (edge : ℕ) (time : Time) → edge ≡ m.edge → time ≡ m.time → record { edge = edge; time = time; records = m.records } ≡ m
@@ -90,8 +86,3 @@ module _ (w w' : Wired) (m m' : Message) (shard shard' : Shard) (e : w' ≡ w) (
   over_by over =
       subst (λ (y : Event). IsOverAt (graph_in w) shard y a) x
       (subst (λ (s : Shard). IsOverAt (graph_in w) s (Event.arrival m') a) same (subst (λ (v : Wired). IsOverAt (graph_in v) shard' (Event.arrival m') a) e over))
-
--- a shard's fault as an event's
-pub count_of : (f : ShardFault) → fault_of f ≡ compute.Count → f ≡ shard.Count
-count_of shard.NoMemory e = absurd cc
-count_of shard.Count e = refl

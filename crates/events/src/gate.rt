@@ -3,8 +3,8 @@
 ghost use Rattle.std.specs.Prelude.{◌≡◌, Some, IfErr, IfOk};
 ghost use Rattle.events.specs.Jobs.{FailsBy};
 
-use crate::fault::ComputeFault;
 use crate::work::{Done, Work};
+use rows::WorkFault;
 use std::alloc::Global;
 
 /// What a thread does with an event that it has claimed. `worker` is the thread's; the event may be one of a worker whose thread sleeps. Both calls
@@ -17,10 +17,10 @@ pub trait Gate {
         worker: u32,
         turn: u64,
         work: Work,
-    ) -> Result<Done, (Work, ComputeFault)>
+    ) -> Result<Done, (Work, WorkFault)>
         ensures done { IfOk result (λ d. d ≡ work.0) }
         ensures spoiled { IfErr result (λ e. (e.0.0 ≡ work.0) × (e.0.1 ≡ Some e.1)) }
-        ensures again { (f : ComputeFault) → work.1 ≡ Some f → FailsBy f result };
+        ensures again { (f : WorkFault) → work.1 ≡ Some f → FailsBy f result };
 
     /// Called after the event is committed.
     fn after_commit(&self, worker: u32, turn: u64);
@@ -36,7 +36,7 @@ impl Gate for NoGate {
         _worker: u32,
         _turn: u64,
         work: Work,
-    ) -> Result<Done, (Work, ComputeFault)> {
+    ) -> Result<Done, (Work, WorkFault)> {
         work.compute(alloc)
     }
 

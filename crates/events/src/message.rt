@@ -8,12 +8,15 @@ ghost use Rattle.events.specs.Merging.{MayMerge};
 use graph::EdgeId;
 use loop_context::Time;
 use record_core::NoMemory;
-use rows::{Batch, TallyError};
+use rows::{Batch, WorkFault};
 use std::alloc::Global;
 use std::marker::Model;
 
-/// Messages with fewer records than this may be merged; a larger one is worth an event by itself.
-const MOST_MERGED: usize = 1024;
+/// The most records of messages that are merged, repeats counted: so no record of the message that they make can occur too often.
+const MOST_MERGED: usize = 9_223_372_036_854_775_807;
+
+/// Messages with fewer rows than this are worth merging; a larger one is worth an event by itself.
+const MANY_ROWS: usize = 1024;
 
 /// Records on an edge at a time. A message that was merged holds several batches, which are joined when its event is computed.
 #[derive(Drop)]
@@ -96,8 +99,12 @@ impl Message {
         self.edge.0 == other.edge.0
             && self.time == other.time
             && self.arity == other.arity
-            && self.len < MOST_MERGED
-            && other.len < MOST_MERGED
+            && self.len.saturating_add(other.len) <= MOST_MERGED
+    }
+
+    /// Whether the other message may be merged into this one, and neither has many rows. It decides only how many events there are.
+    pub fn is_worth_merging(&self, other: &Message) -> bool {
+        self.may_merge(other) && self.rows() < MANY_ROWS && other.rows() < MANY_ROWS
     }
 
     /// Appends the other message's batches, without copying a record. If memory runs out, nothing changes, and the other message comes back.
@@ -146,8 +153,8 @@ impl Message {
         }
         match Batch::concat(alloc, &batch, &more) {
             Ok(joined) => Ok((edge, time, joined)),
-            Err(TallyError::NoMemory) => Err(NoMemory),
-            Err(TallyError::Count) => unreachable!(),
+            Err(WorkFault::NoMemory) => Err(NoMemory),
+            Err(WorkFault::Count) => unreachable!(),
         }
     }
 }

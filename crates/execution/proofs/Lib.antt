@@ -1,3 +1,4 @@
 pub mod Batches
 pub mod EmittedOutputs
 pub mod WorkedOff
+pub mod Parts

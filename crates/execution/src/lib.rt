@@ -8,6 +8,7 @@
 //! | Call | What it does | Fails |
 //! |---|---|---|
 //! | `execute` | feeds the epochs to an engine over a new board, and runs it until nothing is left to do | `Unfinished`: no report |
+//! | `read_by_threads` | reads an input text, in parts side by side where it is long | the first faulty line, or memory |
 //! | `Parallelism::of` | how many threads and workers a run of the epochs has | never |
 //! | `ParallelSorter` | sorts and formats the records of an epoch, by several threads where there are many | memory |
 //! | `emitted` | what a report has emitted, by output and epoch | memory |
@@ -25,6 +26,7 @@ mod feeding;
 mod notice;
 mod outputs;
 mod parallelism;
+mod reading;
 mod readings;
 mod sorting;
 mod task;
@@ -35,6 +37,7 @@ mod watching;
 pub use executing::execute;
 pub use outputs::emitted;
 pub use parallelism::Parallelism;
+pub use reading::read_by_threads;
 pub use sorting::ParallelSorter;
 pub use unfinished::Unfinished;
 pub use watching::{Telling, Watcher};

@@ -5,8 +5,8 @@ ghost use Rattle.follow.specs.Steps.{ending_of};
 ghost use Rattle.follow.specs.declared.ending.Halt.TheVariants as halt;
 
 use board::StepRefusal;
-use events::ComputeFault;
 use record_core::NoMemory;
+use rows::WorkFault;
 use std::alloc::{AllocError, AllocFailed};
 
 /// Why following ended before the whole input was answered.
@@ -55,11 +55,11 @@ impl From<NoMemory> for Halt {
     }
 }
 
-impl From<ComputeFault> for Halt {
-    fn from(fault: ComputeFault) -> Halt {
+impl From<WorkFault> for Halt {
+    fn from(fault: WorkFault) -> Halt {
         match fault {
-            ComputeFault::NoMemory => Halt::NoMemory,
-            ComputeFault::Count => Halt::Count,
+            WorkFault::NoMemory => Halt::NoMemory,
+            WorkFault::Count => Halt::Count,
         }
     }
 }

@@ -5,7 +5,8 @@ ghost use Rattle.driver.specs.Ends.{event_of};
 ghost use Rattle.follow.specs.Slots.{event_in};
 
 use core::mem::replace_with;
-use events::{ComputeFault, Done, Work};
+use events::{Done, Work};
+use rows::WorkFault;
 use std::alloc::Global;
 
 /// An event that was claimed.
@@ -15,7 +16,7 @@ pub enum Slot {
     /// It was computed.
     Computed(Done),
     /// Computing it was refused.
-    Refused(Work, ComputeFault),
+    Refused(Work, WorkFault),
 }
 
 impl Slot {
@@ -27,11 +28,11 @@ impl Slot {
     }
 
     /// The event with its output, or the reason why it has none. For an event that wasn't computed that is lack of memory.
-    pub fn into_result(self) -> Result<Done, (Work, ComputeFault)>
+    pub fn into_result(self) -> Result<Done, (Work, WorkFault)>
         ensures { event_of result ≡ event_in self }
     {
         match self {
-            Slot::Claimed(work) => Err((work, ComputeFault::NoMemory)),
+            Slot::Claimed(work) => Err((work, WorkFault::NoMemory)),
             Slot::Computed(done) => Ok(done),
             Slot::Refused(work, fault) => Err((work, fault)),
         }

@@ -8,7 +8,7 @@ ghost use Rattle.expr_tree.specs.PlainLists.{plain_scalars};
 ghost use Rattle.expr_tree.specs.Views.{scalar_tree};
 ghost use Rattle.rows.specs.FlatRows.{arity_of};
 ghost use Rattle.rows.specs.Counts.{AllFit, AreRuns, IsOver, expanded, no_run, records_in, runs};
-ghost use Rattle.rows.specs.declared.error.TallyError.TheVariants.{Count};
+ghost use Rattle.rows.specs.declared.fault.WorkFault.TheVariants.{Count};
 ghost use Rattle.semantics.specs.Multiset.{◌≈◌};
 ghost use Rattle.semantics.specs.Meaning.{selected, value};
 ghost use Rattle.semantics.specs.Typing.{ScalarFits};
@@ -21,7 +21,7 @@ use crate::determined::all_determined;
 use arrayvec::ArrayVec;
 use expr_tree::{Scalar, eval_scalar};
 use record_core::NoMemory;
-use rows::{Batch, CountedRows, TallyError};
+use rows::{Batch, CountedRows, WorkFault};
 use std::alloc::Global;
 
 /// For each record, the record of the scalars' values, 1 to 16 of them. Each of their columns is below `arity`.
@@ -38,7 +38,7 @@ impl Select {
     /// For each record of the batch, the record of the scalars' values. Never `None`, since a batch isn't empty. `Count` exactly if the count of a
     /// result would be too large. If each column is determined, different records have different results, so equal results aren't searched for.
     #[tactic(auto, using(rows::proofs::Runs::all_fit))]
-    pub fn apply(&self, alloc: Global, batch: &Batch) -> Result<Option<Batch>, TallyError>
+    pub fn apply(&self, alloc: Global, batch: &Batch) -> Result<Option<Batch>, WorkFault>
         requires { arity_of batch.now ≡ self.now.arity }
         ensures records { IfOk result (λ made. records_in made ≈ selected (plain_scalars self.now.scalars.items) batch.now) }
         ensures fits { IfOk result (λ made. AllFit (selected (plain_scalars self.now.scalars.items) batch.now)) }

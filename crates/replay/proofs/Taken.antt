@@ -25,8 +25,8 @@ use Rattle.board.specs.declared.refusal.StepRefusal.{StepRefusal}
 use Rattle.board.specs.declared.refusal.StepRefusal.TheVariants as step
 use Rattle.board.proofs.Choosing.{home_of}
 use Rattle.driver.specs.Ends.{Abandons as AbandonsOne, Ends}
-use Rattle.events.specs.declared.fault.ComputeFault.{ComputeFault}
-use Rattle.events.specs.declared.fault.ComputeFault.TheVariants as fault
+use Rattle.rows.specs.declared.fault.WorkFault.{WorkFault}
+use Rattle.rows.specs.declared.fault.WorkFault.TheVariants as fault
 use Rattle.schedule.specs.Commands.{Command}
 use Rattle.replay.specs.Hands.{HoldsAll, IsHand, in_hand}
 use Rattle.replay.specs.Replays.{Does, Abandons, KnowsChoice, RefusesPick, Takes, after_abandoning, refusal_line}
@@ -292,6 +292,6 @@ is_committed late b c p out holds goes posts stays = record { holds = holds; out
 pub is_abandoned : (b c : BoardShown) (p : Pass) → AbandonsOne b.shown c.shown p → IsAsLate b c → Stays b.shown c.shown → IsAbandoned b p c
 is_abandoned b c p abandoned late stays = record { holds = abandoned.0; goes = abandoned.1; waits = late.waits; stays = stays }
 
-pub fault_refused : (f : ComputeFault) (e : Refusal) → e ≡ fault_refusal f → (e ≡ refusal.NoMemory) ⊎ (e ≡ refusal.Step 39)
+pub fault_refused : (f : WorkFault) (e : Refusal) → e ≡ fault_refusal f → (e ≡ refusal.NoMemory) ⊎ (e ≡ refusal.Step 39)
 fault_refused fault.NoMemory e is = inl is
 fault_refused fault.Count e is = inr is

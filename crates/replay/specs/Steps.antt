@@ -5,8 +5,8 @@ use Rattle.semantics.specs.Query.{Input}
 use Rattle.graph.specs.Shown.{GraphValue, shown_graph, shown_inputs, shown_names}
 use Rattle.machine.specs.Step.{Step}
 use Rattle.events.specs.Jobs.{Pass}
-use Rattle.events.specs.declared.fault.ComputeFault.{ComputeFault}
-use Rattle.events.specs.declared.fault.ComputeFault.TheVariants as fault
+use Rattle.rows.specs.declared.fault.WorkFault.{WorkFault}
+use Rattle.rows.specs.declared.fault.WorkFault.TheVariants as fault
 use Rattle.board.specs.Shown.{Shown, tables}
 use Rattle.board.specs.Lateness.{BoardShown, Posts, waits_for}
 use Rattle.board.specs.Showing.{Shows}
@@ -39,7 +39,7 @@ abbrev pub refusal_of : StepRefusal → Refusal
 refusal_of r = refusal_by (refusal_code r)
 
 -- the refusal of a line whose event could not be computed
-abbrev pub fault_refusal : ComputeFault → Refusal
+abbrev pub fault_refusal : WorkFault → Refusal
 fault_refusal fault.NoMemory = refusal.NoMemory
 fault_refusal fault.Count = refusal.Step 39
 

@@ -4,7 +4,7 @@ ghost use Rattle.std.specs.Prelude.{◌≡◌};
 ghost use Rattle.replay.specs.Steps.{fault_refusal, refusal_of};
 
 use board::StepRefusal;
-use events::ComputeFault;
+use rows::WorkFault;
 
 /// Why a line does nothing.
 #[derive(Clone, Copy, Debug, PartialEq, Eq)]
@@ -34,13 +34,13 @@ pub fn line_refusal(refusal: StepRefusal) -> Refusal
     }
 }
 
-impl From<ComputeFault> for Refusal {
+impl From<WorkFault> for Refusal {
     ghost from_gives = { λ fault e. e ≡ fault_refusal fault };
 
-    fn from(fault: ComputeFault) -> Refusal {
+    fn from(fault: WorkFault) -> Refusal {
         match fault {
-            ComputeFault::NoMemory => Refusal::NoMemory,
-            ComputeFault::Count => Refusal::Step {
+            WorkFault::NoMemory => Refusal::NoMemory,
+            WorkFault::Count => Refusal::Step {
                 code: COUNT_TOO_LARGE,
             },
         }

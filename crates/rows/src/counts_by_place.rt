@@ -2,10 +2,10 @@
 
 ghost use Rattle.std.specs.Prelude.{◌≡◌, ◌≢◌, ℕ, ◌≤◌, ◌<◌, ◌+◌, length, slice_index_or, IfErr, OnOk, OnErr};
 ghost use Rattle.rows.specs.Counts.{AreCounts, most};
-ghost use Rattle.rows.specs.declared.error.TallyError.TheVariants.{Count};
+ghost use Rattle.rows.specs.declared.fault.WorkFault.TheVariants.{Count};
 
 use crate::counted::MAX_COUNT;
-use crate::error::TallyError;
+use crate::fault::WorkFault;
 use record_core::NoMemory;
 
 /// Writes the counts that aren't written, up to that many.
@@ -21,7 +21,7 @@ pub(crate) fn fill(counts: &mut Vec<u64>, len: usize) -> Result<(), NoMemory>
 }
 
 /// Raises the count of a place. After a refusal the counts are as they were.
-pub(crate) fn raise(counts: &mut Vec<u64>, place: usize, count: u64) -> Result<(), TallyError>
+pub(crate) fn raise(counts: &mut Vec<u64>, place: usize, count: u64) -> Result<(), WorkFault>
     requires counts { AreCounts counts.old.items }
     requires place { place < 18446744073709551615 }
     requires some { 1 ≤ count }
@@ -36,7 +36,7 @@ pub(crate) fn raise(counts: &mut Vec<u64>, place: usize, count: u64) -> Result<(
     fill(counts, place + 1)?;
     let sum = counts[place] + count;
     if sum > MAX_COUNT {
-        return Err(TallyError::Count);
+        return Err(WorkFault::Count);
     }
     counts[place] = sum;
     Ok(())

@@ -3,7 +3,8 @@
 ghost use Rattle.std.specs.Prelude.{◌≡◌};
 
 use crate::tally::Tally;
-use events::{ComputeFault, Done, Gate, Work};
+use events::{Done, Gate, Work};
+use rows::WorkFault;
 use std::alloc::Global;
 
 impl Tally {
@@ -25,7 +26,7 @@ impl Gate for Tally {
         _worker: u32,
         _turn: u64,
         work: Work,
-    ) -> Result<Done, (Work, ComputeFault)> {
+    ) -> Result<Done, (Work, WorkFault)> {
         match work.compute(alloc) {
             Ok(done) => Ok(self.counted(done)),
             Err(refused) => Err(refused),

@@ -4,8 +4,7 @@ use Rattle.std.specs.Prelude.{Option, IfErr}
 use Rattle.std.proofs.lemmas.Result.{IfErr-weaker}
 use Rattle.rows.specs.Counts.{AllFit, AreRunCounts, AreRuns, IsOver, Run, expanded, rows_of, runs}
 use Rattle.rows.specs.Indexes.{AreDifferent}
-use Rattle.rows.specs.declared.error.TallyError.{TallyError}
-use Rattle.rows.specs.declared.error.TallyError.TheVariants as tally
+use Rattle.rows.specs.declared.fault.WorkFault.{WorkFault}
 use Rattle.rows.proofs.Runs.{all_fit, are_runs}
 use Rattle.semantics.specs.Kinds.{Kind, in_ports}
 use Rattle.semantics.specs.Meaning.{selected}
@@ -15,8 +14,7 @@ use Rattle.semantics.specs.Time.{Time}
 use Rattle.semantics.specs.Shard.{Absorbed}
 use Rattle.semantics.proofs.MultisetSums.{≈-refl}
 use Rattle.vertices.specs.Outs.{WouldSendOver, records_of, sent}
-use Rattle.vertices.specs.declared.fault.ShardFault.{ShardFault}
-use Rattle.vertices.specs.declared.fault.ShardFault.TheVariants.{Count, NoMemory}
+use Rattle.rows.specs.declared.fault.WorkFault.TheVariants.{Count, NoMemory}
 
 -- ---- what fits
 
@@ -53,23 +51,23 @@ select_over ss t a batch h = ((λ q. selected ss batch), (λ q. ≈-refl (select
 
 -- ---- faults that are passed on
 
-abbrev IsMemory : ShardFault → Type 0
+abbrev IsMemory : WorkFault → Type 0
 IsMemory NoMemory = Unit {0}
 IsMemory Count = ⊥
 
 -- want of memory says nothing of counts
-pub never_over : {T : Type 0} (r : Result T ShardFault) (Q : Type 0) → IfErr r (λ e. e ≡ NoMemory) → IfErr r (λ e. e ≡ Count → Q)
+pub never_over : {T : Type 0} (r : Result T WorkFault) (Q : Type 0) → IfErr r (λ e. e ≡ NoMemory) → IfErr r (λ e. e ≡ Count → Q)
 never_over r Q h = IfErr-weaker r _ _ (λ e n c. absurd (subst IsMemory (sym n ∙ c) tt)) h
 
 pub passed_on : {T E : Type 0} (r : Result T E) (f : E) (P : E → Type 0) → IfErr r (λ e. e ≡ f) → P f → IfErr r P
 passed_on r f P h p = IfErr-weaker r _ _ (λ e i. subst P (sym i) p) h
 
-pub passed_never : {T : Type 0} (r : Result T ShardFault) (f : ShardFault) (Q : Type 0) → IfErr r (λ e. e ≡ f) → f ≡ NoMemory → IfErr r (λ e. e ≡ Count → Q)
+pub passed_never : {T : Type 0} (r : Result T WorkFault) (f : WorkFault) (Q : Type 0) → IfErr r (λ e. e ≡ f) → f ≡ NoMemory → IfErr r (λ e. e ≡ Count → Q)
 passed_never r f Q h n = never_over r Q (IfErr-weaker r _ _ (λ e i. i ∙ n) h)
 
--- a count of a tally
-pub tally_over : {T : Type 0} (r : Result T ShardFault) (t : TallyError) (Q : Type 0) → IfErr r (λ e. ((e ≡ NoMemory) ↔ (t ≡ tally.NoMemory)) × ((e ≡ Count) ↔ (t ≡ tally.Count))) → (t ≡ tally.Count → Q) → IfErr r (λ e. e ≡ Count → Q)
-tally_over r t Q h q = IfErr-weaker r _ _ (λ e b c. q (b.1.0 c)) h
+-- a count that is too large
+pub count_passed : {T : Type 0} (r : Result T WorkFault) (f : WorkFault) (Q : Type 0) → IfErr r (λ e. e ≡ f) → (f ≡ Count → Q) → IfErr r (λ e. e ≡ Count → Q)
+count_passed r f Q h q = passed_on r f (λ e. e ≡ Count → Q) h q
 
 -- ---- ports
 

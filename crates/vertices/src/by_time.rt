@@ -7,15 +7,22 @@ ghost use Rattle.semantics.specs.Time.{Time as TimeShown, same_time};
 use indexmap::IndexMap;
 use loop_context::{MAX_LOOPS, Time};
 
+/// With more states than this, some are of times that had passed, but weren't seen to have.
+const FEW: usize = 4;
+
 /// A time that has a state, and that may have passed when something comes at `now`: the turn before in the same loop, or the epoch before
-/// outside loops; where that has none, the first in the map.
+/// outside loops. Where that has none, and where many are kept, another one by turns.
 pub(crate) fn earlier<S: Drop>(times: &IndexMap<Time, S>, now: &Time) -> Option<Time> {
-    if let Some(before) = before(now) {
-        if times.contains_key(&before) {
-            return Some(before);
+    let kept = times.len();
+    if kept <= FEW {
+        if let Some(before) = before(now) {
+            if times.contains_key(&before) {
+                return Some(before);
+            }
         }
     }
-    match times.first() {
+    let turn = now.epoch().wrapping_add(now.last_counter()) as usize;
+    match times.get_index(turn % kept.max(1)) {
         Some((time, _)) => Some(time.copied()),
         None => None,
     }

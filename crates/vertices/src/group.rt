@@ -4,7 +4,7 @@ ghost use Rattle.std.specs.Prelude.{◌≡◌, ◌≤◌, ◌<◌, ◌++◌, [],
 ghost use Rattle.rows.specs.Counts.{AllFit, IsOver};
 ghost use Rattle.rows.specs.FlatRows.{arity_of};
 ghost use Rattle.rows.specs.Indexes.{AreDifferent};
-ghost use Rattle.rows.specs.declared.error.TallyError.TheVariants.{Count as TallyCount};
+ghost use Rattle.rows.specs.declared.fault.WorkFault.TheVariants.{Count};
 ghost use Rattle.semantics.specs.Kinds.{Role};
 ghost use Rattle.semantics.specs.Limits.{max_fields};
 ghost use Rattle.semantics.specs.Multiset.{◌≈◌};
@@ -12,17 +12,16 @@ ghost use Rattle.semantics.specs.Shard.{Absorbed, asks};
 ghost use Rattle.vertices.specs.ByTime.{Absorbs, AreStatesOf, ForAbsorbed, Forgets};
 ghost use Rattle.vertices.specs.Groups.{AreGroupRecords, columns_of, group_records, key_arity};
 ghost use Rattle.vertices.specs.Piles.{IsPileThen};
-ghost use Rattle.vertices.specs.declared.fault.ShardFault.TheVariants as fault;
+ghost use Rattle.rows.specs.declared.fault.WorkFault.TheVariants as fault;
 
 use crate::by_time::{earlier, forget};
-use crate::fault::ShardFault;
 use crate::groups::{Groups, key_arity};
 use crate::pile::Pile;
 use indexmap::IndexMap;
 use loop_context::Time;
 use operators::Group;
 use record_core::NoMemory;
-use rows::{Batch, RowSet, Rows, TallyError};
+use rows::{Batch, RowSet, Rows, WorkFault};
 use std::alloc::Global;
 
 /// For each time the records that came then. The groups are made of them once, at the notification.
@@ -37,12 +36,12 @@ pub struct GroupShard {
 }
 
 /// Takes in the records of a batch.
-fn absorb(pile: &mut Pile, batch: &Batch) -> Result<(), TallyError>
+fn absorb(pile: &mut Pile, batch: &Batch) -> Result<(), WorkFault>
     requires { arity_of batch.now ≡ pile.old.arity }
     ensures records { OnOk result (pile.new.records ≈ (pile.old.records ++ batch.now)) }
     ensures some { 0 < length batch.now }
     ensures fits { OnOk result (AllFit (pile.old.records ++ batch.now)) }
-    ensures over { IfErr result (λ e. e ≡ TallyCount → IsOver (pile.old.records ++ batch.now)) }
+    ensures over { IfErr result (λ e. e ≡ Count → IsOver (pile.old.records ++ batch.now)) }
     ensures arity { pile.new.arity ≡ pile.old.arity }
 {
     let _count = batch.len();
@@ -51,7 +50,7 @@ fn absorb(pile: &mut Pile, batch: &Batch) -> Result<(), TallyError>
 
 impl GroupShard {
     /// A shard that has absorbed nothing. The records that come to it have that arity.
-    pub fn new(alloc: Global, operator: Group, arity: usize) -> Result<GroupShard, ShardFault>
+    pub fn new(alloc: Global, operator: Group, arity: usize) -> Result<GroupShard, WorkFault>
         requires some { 1 ≤ arity }
         requires fits { arity ≤ max_fields }
         ensures operator { IfOk result (λ s. s.operator ≡ operator) }
@@ -71,7 +70,7 @@ impl GroupShard {
 
     /// Takes in a batch of a time, and says whether it is the first of that time, which asks for a notification. `Count` exactly where
     /// a record would then have come too often.
-    pub fn on_records(&mut self, time: &Time, batch: &Batch) -> Result<bool, ShardFault>
+    pub fn on_records(&mut self, time: &Time, batch: &Batch) -> Result<bool, WorkFault>
         requires arity { arity_of batch.now ≡ self.old.arity }
         requires whole { (a : Absorbed) × AreStatesOf (IsPileThen self.old.arity) self.old.times a }
         ensures operator { self.new.operator ≡ self.old.operator }
@@ -83,20 +82,20 @@ impl GroupShard {
     {
         if let Some(pile) = self.times.get_mut(time) {
             if let Err(error) = absorb(pile, batch) {
-                return Err(ShardFault::from(error));
+                return Err(error);
             }
             return Ok(false);
         }
         let mut pile = Pile::new(self.alloc, self.arity);
         if let Err(error) = absorb(&mut pile, batch) {
-            return Err(ShardFault::from(error));
+            return Err(error);
         }
         self.times.insert(time.copied(), pile)?;
         Ok(true)
     }
 
     /// A record for each group of a time.
-    pub fn on_notify(&self, alloc: Global, time: &Time) -> Result<Rows, ShardFault>
+    pub fn on_notify(&self, alloc: Global, time: &Time) -> Result<Rows, WorkFault>
         ensures grouped { IfOk result (λ rows. ForAbsorbed (IsPileThen self.now.arity) self.now.times time.now (AreGroupRecords self.now.operator rows.rows)) }
         ensures different { IfOk result (λ rows. AreDifferent rows.rows) }
         ensures never { IfErr result (λ e. e ≡ fault.NoMemory) }

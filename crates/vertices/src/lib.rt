@@ -28,7 +28,6 @@ mod by_time;
 mod counted_index;
 mod distinct;
 mod except;
-mod fault;
 mod fresh;
 mod group;
 mod groups;
@@ -49,7 +48,6 @@ mod unseen;
 
 pub use distinct::DistinctShard;
 pub use except::ExceptShard;
-pub use fault::ShardFault;
 pub use fresh::{
     distinct_shard, except_shard, group_shard, intersect_shard, join_shard, select_shard,
     unseen_shard, where_shard,

@@ -8,16 +8,15 @@ ghost use Rattle.semantics.specs.Shard.{Absorbed, asks, with_records};
 ghost use Rattle.vertices.specs.ByTime.{Forgets};
 ghost use Rattle.vertices.specs.Notified.{NotifiedShows, NotifiedTakes, notified_kind};
 ghost use Rattle.vertices.specs.Outs.{SendsFor, SendsForNotification, asks_at, sent};
-ghost use Rattle.vertices.specs.declared.fault.ShardFault.TheVariants.{Count, NoMemory};
+ghost use Rattle.rows.specs.declared.fault.WorkFault.TheVariants.{Count, NoMemory};
 ghost use Rattle.vertices.specs.declared.notified.Notified.TheVariants.{Except, Group, Unseen};
 
 use crate::except::ExceptShard;
-use crate::fault::ShardFault;
 use crate::group::GroupShard;
 use crate::out::Out;
 use crate::unseen::UnseenShard;
 use loop_context::Time;
-use rows::{Batch, CountedRows};
+use rows::{Batch, CountedRows, WorkFault};
 use std::alloc::Global;
 
 /// The state of a vertex that is notified.
@@ -38,7 +37,7 @@ impl Notified {
         time: &Time,
         batch: &Batch,
         out: &mut Out,
-    ) -> Result<(), ShardFault>
+    ) -> Result<(), WorkFault>
         requires port { port < in_ports (notified_kind self.old) }
         requires arity { NotifiedTakes self.old port (arity_of batch.now) }
         requires whole { (a : Absorbed) × NotifiedShows self.old a }
@@ -74,7 +73,7 @@ impl Notified {
         alloc: Global,
         time: &Time,
         out: &mut Out,
-    ) -> Result<(), ShardFault>
+    ) -> Result<(), WorkFault>
         requires { (a : Absorbed) × NotifiedShows self.now a }
         ensures sends { OnOk result ((a : Absorbed) → NotifiedShows self.now a → SendsForNotification (notified_kind self.now) time.now a out.new) }
         ensures fits_sent { OnOk result ((q : ℕ) → AllFit (sent (out_ports (notified_kind self.now)) out.new q)) }
@@ -124,12 +123,7 @@ impl Notified {
 }
 
 /// Sends nothing, and asks for a notification at the first batch of a time.
-fn group(
-    shard: &mut GroupShard,
-    time: &Time,
-    batch: &Batch,
-    out: &mut Out,
-) -> Result<(), ShardFault>
+fn group(shard: &mut GroupShard, time: &Time, batch: &Batch, out: &mut Out) -> Result<(), WorkFault>
     requires arity { arity_of batch.now ≡ shard.old.arity }
     requires whole { (a : Absorbed) × NotifiedShows (Group shard.old) a }
     requires out { out.old ≡ record { first = None; second = None; asked = false } }
@@ -155,7 +149,7 @@ fn group_notified(
     alloc: Global,
     time: &Time,
     out: &mut Out,
-) -> Result<(), ShardFault>
+) -> Result<(), WorkFault>
     ensures sends { OnOk result ((a : Absorbed) → NotifiedShows (Group shard.now) a → SendsForNotification (notified_kind (Group shard.now)) time.now a out.new) }
     ensures fits_sent { OnOk result ((q : ℕ) → AllFit (sent 1 out.new q)) }
     ensures never { IfErr result (λ e. e ≡ NoMemory) }
@@ -179,7 +173,7 @@ fn except(
     time: &Time,
     batch: &Batch,
     out: &mut Out,
-) -> Result<(), ShardFault>
+) -> Result<(), WorkFault>
     requires port { port < 2 }
     requires arity { arity_of batch.now ≡ shard.old.arity }
     requires whole { (a : Absorbed) × NotifiedShows (Except shard.old) a }
@@ -202,7 +196,7 @@ fn except_notified(
     alloc: Global,
     time: &Time,
     out: &mut Out,
-) -> Result<(), ShardFault>
+) -> Result<(), WorkFault>
     ensures sends { OnOk result ((a : Absorbed) → NotifiedShows (Except shard.now) a → SendsForNotification Kind.except time.now a out.new) }
     ensures fits_sent { OnOk result ((q : ℕ) → AllFit (sent 1 out.new q)) }
     ensures never { IfErr result (λ e. e ≡ NoMemory) }
@@ -221,7 +215,7 @@ fn unseen(
     time: &Time,
     batch: &Batch,
     out: &mut Out,
-) -> Result<(), ShardFault>
+) -> Result<(), WorkFault>
     requires arity { arity_of batch.now ≡ shard.old.came.arity }
     requires whole { (a : Absorbed) × NotifiedShows (Unseen shard.old) a }
     requires out { out.old ≡ record { first = None; second = None; asked = false } }
@@ -244,7 +238,7 @@ fn unseen_notified(
     alloc: Global,
     time: &Time,
     out: &mut Out,
-) -> Result<(), ShardFault>
+) -> Result<(), WorkFault>
     requires whole { (a : Absorbed) × NotifiedShows (Unseen shard.now) a }
     ensures sends { OnOk result ((a : Absorbed) → NotifiedShows (Unseen shard.now) a → SendsForNotification (notified_kind (Unseen shard.now)) time.now a out.new) }
     ensures fits_sent { OnOk result ((q : ℕ) → AllFit (sent 2 out.new q)) }

@@ -3,11 +3,10 @@
 ghost use Rattle.std.specs.Prelude.{◌≡◌, None, OnOk, IfErr, false, cond, []};
 ghost use Rattle.rows.specs.Counts.{AllFit, expanded, rows_of};
 ghost use Rattle.rows.specs.Indexes.{AreDifferent};
-ghost use Rattle.vertices.specs.declared.fault.ShardFault.TheVariants.{NoMemory};
+ghost use Rattle.rows.specs.declared.fault.WorkFault.TheVariants.{NoMemory};
 ghost use Rattle.vertices.specs.Outs.{records_of, two};
 
-use crate::fault::ShardFault;
-use rows::{Batch, CountedRows};
+use rows::{Batch, CountedRows, WorkFault};
 use std::alloc::Global;
 
 /// What a shard sends for one event, by out port, and whether it asks to be notified once nothing more can come to it at the
@@ -47,7 +46,7 @@ impl Out {
     }
 
     /// Sends rows by port 0, if there are some. They are different.
-    pub(crate) fn send(&mut self, alloc: Global, rows: CountedRows) -> Result<(), ShardFault>
+    pub(crate) fn send(&mut self, alloc: Global, rows: CountedRows) -> Result<(), WorkFault>
         requires { AreDifferent (rows_of rows.runs) }
         ensures sent { OnOk result (records_of self.new.first ≡ expanded rows.runs) }
         ensures fits { OnOk result (AllFit (records_of self.new.first)) }
@@ -65,7 +64,7 @@ impl Out {
         alloc: Global,
         rows: CountedRows,
         around: bool,
-    ) -> Result<(), ShardFault>
+    ) -> Result<(), WorkFault>
         requires { AreDifferent (rows_of rows.runs) }
         ensures first { OnOk result (records_of self.new.first ≡ cond around (expanded rows.runs) []) }
         ensures second { OnOk result (records_of self.new.second ≡ expanded rows.runs) }

@@ -5,9 +5,9 @@ ghost use Rattle.std.specs.List.{AllByRecursion};
 ghost use Rattle.rows.specs.Counts.{AllFit, IsOver};
 ghost use Rattle.rows.specs.FlatRows.{arity_of, joined};
 ghost use Rattle.semantics.specs.Multiset.{◌≈◌};
-ghost use Rattle.rows.specs.declared.error.TallyError.TheVariants.{Count};
+ghost use Rattle.rows.specs.declared.fault.WorkFault.TheVariants.{Count};
 
-use rows::{Batch, MAX_COUNT, TallyError};
+use rows::{Batch, MAX_COUNT, WorkFault};
 use std::alloc::Global;
 use std::marker::Model;
 
@@ -49,7 +49,7 @@ impl Pile {
     }
 
     /// Takes a batch in. `Count` exactly where a record would then occur too often.
-    pub(crate) fn add(&mut self, batch: &Batch) -> Result<(), TallyError>
+    pub(crate) fn add(&mut self, batch: &Batch) -> Result<(), WorkFault>
         requires { arity_of batch.now ≡ self.old.arity }
         ensures records { OnOk result (self.new.records ≈ (self.old.records ++ batch.now)) }
         ensures fits { OnOk result (AllFit (self.old.records ++ batch.now)) }

@@ -3,13 +3,13 @@
 ghost use Rattle.std.specs.Prelude.{◌≡◌, ◌≤◌, ◌<◌, ℕ, List, not, ◌++◌, ◌+◌, [], filter, length, IfErr, IfOk, OnOk};
 ghost use Rattle.rows.specs.Counts.{AllFit, AreRuns, IsOver, expanded, most, repeated, rows_of};
 ghost use Rattle.rows.specs.FlatRows.{arity_of};
-ghost use Rattle.rows.specs.declared.error.TallyError.TheVariants.{Count};
+ghost use Rattle.rows.specs.declared.fault.WorkFault.TheVariants.{Count};
 ghost use Rattle.semantics.specs.Multiset.{Record, ◌≈◌, count as count_of};
 ghost use Rattle.vertices.specs.Kept.{more_at};
 ghost use Rattle.vertices.specs.States.{AreSetsOf, IntersectGains, common_rows, is_right, only_left_at};
 
 use record_core::NoMemory;
-use rows::{Batch, Rows, Tally, TallyError};
+use rows::{Batch, Rows, Tally, WorkFault};
 use std::alloc::Global;
 
 /// For each of two ports the records that came there at one time, counted.
@@ -20,7 +20,7 @@ pub struct PortSets {
 }
 
 /// Counts the records of a batch in. `Count` exactly where one of them would then have come too often.
-fn absorb(tally: &mut Tally, batch: &Batch) -> Result<(), TallyError>
+fn absorb(tally: &mut Tally, batch: &Batch) -> Result<(), WorkFault>
     requires { arity_of batch.now ≡ tally.old.arity }
     ensures records { OnOk result ((xs : List Record) → expanded tally.old.runs ≈ xs → expanded tally.new.runs ≈ (xs ++ batch.now)) }
     ensures fits { OnOk result ((xs : List Record) → expanded tally.old.runs ≈ xs → AllFit (xs ++ batch.now)) }
@@ -41,7 +41,7 @@ fn meet(
     row: &[i64],
     count: u64,
     sends: &mut Rows,
-) -> Result<(), TallyError>
+) -> Result<(), WorkFault>
     requires row { length row.now ≡ tally.old.arity }
     requires sends { sends.old.arity ≡ tally.old.arity }
     requires some { 1 ≤ count }
@@ -72,7 +72,7 @@ fn meet_all(
     other: &Tally,
     batch: &Batch,
     sends: &mut Rows,
-) -> Result<(), TallyError>
+) -> Result<(), WorkFault>
     requires batch { arity_of batch.now ≡ tally.old.arity }
     requires sends { sends.old.arity ≡ tally.old.arity }
     ensures records { OnOk result ((xs : List Record) → expanded tally.old.runs ≈ xs → expanded tally.new.runs ≈ (xs ++ batch.now)) }
@@ -107,7 +107,7 @@ impl PortSets {
     }
 
     /// Takes in a batch that comes to a port, 0 or 1. `Count` exactly where a record would then have come there too often.
-    pub(crate) fn absorb(&mut self, port: u32, batch: &Batch) -> Result<(), TallyError>
+    pub(crate) fn absorb(&mut self, port: u32, batch: &Batch) -> Result<(), WorkFault>
         requires port { port < 2 }
         requires whole { (f : ℕ → List Record) × AreSetsOf (arity_of batch.now) self.old f }
         ensures absorbed { OnOk result ((n : ℕ) (f : ℕ → List Record) → AreSetsOf n self.old f → AreSetsOf n self.new (more_at f port batch.now)) }
@@ -129,7 +129,7 @@ impl PortSets {
         port: u32,
         batch: &Batch,
         sends: &mut Rows,
-    ) -> Result<(), TallyError>
+    ) -> Result<(), WorkFault>
         requires port { port < 2 }
         requires sends { sends.old ≡ record { arity = arity_of batch.now; rows = [] } }
         requires whole { (f : ℕ → List Record) × AreSetsOf (arity_of batch.now) self.old f }

@@ -8,15 +8,14 @@ ghost use Rattle.vertices.specs.ByTime.{Forgets};
 ghost use Rattle.vertices.specs.Outs.{SendsForNotification};
 ghost use Rattle.vertices.specs.Shards.{Shows, TakesArity, shard_kind};
 ghost use Rattle.vertices.specs.TakesIn.{Absorbs, AsksForBatch, IsTooMuch, KeptFit, SendsForBatch, SentFit};
-ghost use Rattle.vertices.specs.declared.fault.ShardFault.TheVariants.{Count, NoMemory};
+ghost use Rattle.rows.specs.declared.fault.WorkFault.TheVariants.{Count, NoMemory};
 
-use crate::fault::ShardFault;
 use crate::notified::Notified;
 use crate::out::Out;
 use crate::stateful::Stateful;
 use crate::stateless::Stateless;
 use loop_context::Time;
-use rows::Batch;
+use rows::{Batch, WorkFault};
 use std::alloc::Global;
 
 /// What one worker keeps of a vertex, by the role of the vertex: what its kind needs and, where the kind has a state, the state of each
@@ -41,7 +40,7 @@ impl Shard {
         time: &Time,
         batch: Batch,
         out: &mut Out,
-    ) -> Result<(), ShardFault>
+    ) -> Result<(), WorkFault>
         requires port { port < in_ports (shard_kind self.old) }
         requires arity { TakesArity self.old port (arity_of batch) }
         requires whole { (a : Absorbed) × Shows self.old a }
@@ -76,7 +75,7 @@ impl Shard {
     }
 
     /// Sends what is due at the notification that was asked for at a time: nothing more comes at that time. It is never too often.
-    pub fn on_notify(&self, alloc: Global, time: &Time, out: &mut Out) -> Result<(), ShardFault>
+    pub fn on_notify(&self, alloc: Global, time: &Time, out: &mut Out) -> Result<(), WorkFault>
         requires role { role (shard_kind self.now) ≡ Role.notified }
         requires whole { (a : Absorbed) × Shows self.now a }
         ensures sends { OnOk result ((a : Absorbed) → Shows self.now a → SendsForNotification (shard_kind self.now) time.now a out.new) }

@@ -7,14 +7,13 @@ ghost use Rattle.semantics.specs.Kinds.{Kind, in_ports, out_ports};
 ghost use Rattle.semantics.specs.Shard.{Absorbed};
 ghost use Rattle.vertices.specs.Outs.{SendsFor, WouldSendOver, sent};
 ghost use Rattle.vertices.specs.Stateless.{StatelessTakes, stateless_kind};
-ghost use Rattle.vertices.specs.declared.fault.ShardFault.TheVariants.{Count, NoMemory};
+ghost use Rattle.rows.specs.declared.fault.WorkFault.TheVariants.{Count, NoMemory};
 ghost use Rattle.vertices.specs.declared.stateless.Stateless.TheVariants as variant;
 
-use crate::fault::ShardFault;
 use crate::out::Out;
 use loop_context::Time;
 use operators::{Select, Where};
-use rows::Batch;
+use rows::{Batch, WorkFault};
 use std::alloc::Global;
 
 /// A vertex without a state. A gate and a hold have the number of turns of their loop.
@@ -39,7 +38,7 @@ impl Stateless {
         time: &Time,
         batch: Batch,
         out: &mut Out,
-    ) -> Result<(), ShardFault>
+    ) -> Result<(), WorkFault>
         requires port { port < in_ports (stateless_kind self.now) }
         requires arity { StatelessTakes self.now (arity_of batch) }
         requires out { out.old ≡ record { first = None; second = None; asked = false } }
@@ -84,7 +83,7 @@ fn select(
     time: &Time,
     batch: &Batch,
     out: &mut Out,
-) -> Result<(), ShardFault>
+) -> Result<(), WorkFault>
     requires { arity_of batch.now ≡ operator.now.arity }
     ensures sends { OnOk result ((a : Absorbed) → SendsFor (stateless_kind (variant.Select operator.now)) time.now a 0 batch.now out.new) }
     ensures fits_sent { OnOk result ((q : ℕ) → AllFit (sent 1 out.new q)) }
@@ -103,7 +102,7 @@ fn filter(
     time: &Time,
     batch: &Batch,
     out: &mut Out,
-) -> Result<(), ShardFault>
+) -> Result<(), WorkFault>
     requires { arity_of batch.now ≡ operator.now.arity }
     ensures sends { OnOk result ((a : Absorbed) → SendsFor (stateless_kind (variant.Where operator.now)) time.now a 0 batch.now out.new) }
     ensures fits_sent { OnOk result ((q : ℕ) → AllFit (sent 1 out.new q)) }
@@ -149,7 +148,7 @@ fn gate(turns: u64, time: &Time, batch: Batch, out: &mut Out)
 
 /// Sends the same batch to the body before the turn of that number, and to the next turn before the last.
 #[tactic(auto, using(crate::proofs::Sending::hold_sends))]
-fn hold(turns: u64, time: &Time, batch: Batch, out: &mut Out) -> Result<(), ShardFault>
+fn hold(turns: u64, time: &Time, batch: Batch, out: &mut Out) -> Result<(), WorkFault>
     requires { out.old ≡ record { first = None; second = None; asked = false } }
     ensures sends { OnOk result ((a : Absorbed) → SendsFor (Kind.hold turns) time.now a 0 batch out.new) }
     ensures fits_sent { OnOk result ((q : ℕ) → AllFit (sent 2 out.new q)) }

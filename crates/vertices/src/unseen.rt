@@ -13,15 +13,14 @@ ghost use Rattle.semantics.specs.Typing.{IsArity};
 ghost use Rattle.vertices.specs.ByTime.{AreStatesOf};
 ghost use Rattle.vertices.specs.LoopRows.{IsLoopOf, by_turn};
 ghost use Rattle.vertices.specs.Unseen.{IsUnseenOf};
-ghost use Rattle.vertices.specs.declared.fault.ShardFault.TheVariants.{Count, NoMemory};
+ghost use Rattle.rows.specs.declared.fault.WorkFault.TheVariants.{Count, NoMemory};
 
 use crate::except::ExceptShard;
-use crate::fault::ShardFault;
 use crate::loop_rows::LoopRows;
 use indexmap::IndexMap;
 use loop_context::Time;
 use record_core::NoMemory as OutOfMemory;
-use rows::{Batch, Rows};
+use rows::{Batch, Rows, WorkFault};
 use std::alloc::Global;
 
 /// What came, by time and counted, as at port 0 of an except; and by the time outside the loop, the different rows that came in it, each with
@@ -35,7 +34,7 @@ pub struct UnseenShard {
 
 impl UnseenShard {
     /// A shard of a loop of that many turns that has absorbed nothing. The records that come to it have that arity.
-    pub fn new(alloc: Global, turns: u64, arity: usize) -> Result<UnseenShard, ShardFault>
+    pub fn new(alloc: Global, turns: u64, arity: usize) -> Result<UnseenShard, WorkFault>
         requires { IsArity arity }
         ensures turns { IfOk result (λ s. s.turns ≡ turns) }
         ensures arity { IfOk result (λ s. s.came.arity ≡ arity) }
@@ -57,7 +56,7 @@ impl UnseenShard {
         alloc: Global,
         time: &Time,
         batch: &Batch,
-    ) -> Result<bool, ShardFault>
+    ) -> Result<bool, WorkFault>
         requires arity { arity_of batch.now ≡ self.old.came.arity }
         requires whole { (a : Absorbed) × IsUnseenOf self.old a }
         ensures turns { self.new.turns ≡ self.old.turns }
@@ -98,7 +97,7 @@ impl UnseenShard {
     }
 
     /// The records that came at a time, each once, without those that came at an earlier turn of its innermost loop.
-    pub fn on_notify(&self, alloc: Global, time: &Time) -> Result<Rows, ShardFault>
+    pub fn on_notify(&self, alloc: Global, time: &Time) -> Result<Rows, WorkFault>
         requires { (a : Absorbed) × IsUnseenOf self.now a }
         ensures rows { IfOk result (λ rows. (a : Absorbed) → IsUnseenOf self.now a → rows.rows ≈ only_left (a 0 time.now) (flat_map (a 0) (earlier_turns time.now))) }
         ensures different { IfOk result (λ rows. AreDifferent rows.rows) }

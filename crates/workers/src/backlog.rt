@@ -1,13 +1,14 @@
 //! How much work waits for each worker, to decide which threads to wake.
 
-use board::{HEAVY, Sent, WorkerSet};
+use crate::thread_set::ThreadSet;
+use board::{HEAVY, Sent};
 use exchange::MAX_WORKERS;
 
 /// What waits for each worker, and what came to it of late, by the rows of large messages. The first decides whether its mail is worth waking its
 /// thread; the second whether its notifications are, since they are about the rows that came before.
 #[derive(Drop)]
 pub struct Backlog {
-    mailed: WorkerSet,
+    mailed: ThreadSet,
     waiting: Rows,
     recent: Rows,
 }
@@ -16,30 +17,30 @@ impl Backlog {
     /// Nothing has come to any worker.
     pub fn new() -> Backlog {
         Backlog {
-            mailed: WorkerSet::empty(),
+            mailed: ThreadSet::empty(),
             waiting: Rows::none(),
             recent: Rows::none(),
         }
     }
 
     /// The workers that may have mail.
-    pub fn mailed(&self) -> WorkerSet {
+    pub fn mailed(&self) -> ThreadSet {
         self.mailed
     }
 
     /// The workers whose mail is worth waking a thread.
-    pub fn worth_waking(&self) -> WorkerSet {
+    pub fn worth_waking(&self) -> ThreadSet {
         self.mailed.both(self.waiting.many)
     }
 
     /// The workers without mail whose notifications are worth waking a thread.
-    pub fn recently_busy(&self) -> WorkerSet {
+    pub fn recently_busy(&self) -> ThreadSet {
         self.recent.many.but(self.mailed)
     }
 
     /// Notes what was sent.
     pub fn note(&mut self, sent: Sent) {
-        self.mailed = self.mailed.or(sent.receivers());
+        self.mailed = self.mailed.or(ThreadSet::of_workers(sent.receivers()));
         let burdened = sent.burdened();
         if !burdened.is_empty() {
             for worker in 0..MAX_WORKERS {
@@ -67,14 +68,14 @@ impl Backlog {
 /// Rows by worker, and the workers that have many.
 #[derive(Drop)]
 struct Rows {
-    many: WorkerSet,
+    many: ThreadSet,
     rows: [u64; MAX_WORKERS as usize],
 }
 
 impl Rows {
     fn none() -> Rows {
         Rows {
-            many: WorkerSet::empty(),
+            many: ThreadSet::empty(),
             rows: [0; MAX_WORKERS as usize],
         }
     }

@@ -7,14 +7,15 @@ ghost use Rattle.board.specs.Shown.{tables};
 ghost use Rattle.driver.specs.Ends.{event_of};
 ghost use Rattle.workers.specs.Names.{GivesNamed, IsNamed};
 
+use crate::dispatcher::Wakeups;
 use crate::held::{Held, Naming};
 use crate::mark::{Mark, Publisher, Seat};
 use crate::plan::{Feed, Plan};
-use crate::scheduler::{Scheduler, Wakes};
+use crate::shared::Shared;
 use board::{Board, Claimed, Look, StepRefusal};
-use events::{ComputeFault, Done, Work};
+use events::{Done, Work};
 use record_core::NoMemory;
-use rows::Batch;
+use rows::{Batch, WorkFault};
 use std::alloc::Global;
 use std::collections::VecDeque;
 use std::sync::{Condvar, Mutex, Wait};
@@ -23,7 +24,7 @@ use views::Views;
 /// A board under a lock, with a bell for each worker and one for the threads that wait for epochs to pass.
 #[derive(Drop)]
 pub struct Engine<J: Naming, V: Views> {
-    scheduler: Mutex<Scheduler<J, V>>,
+    shared: Mutex<Shared<J, V>>,
     plan: Plan<J>,
     bells: Vec<Condvar>,
     passing: Condvar,
@@ -43,7 +44,7 @@ impl<J: Naming, V: Views> Engine<J, V> {
         let plan = Plan::new(board.share_wiring()?);
         let bells = new_bells(alloc, board.workers())?;
         Ok(Engine {
-            scheduler: Mutex::new(Scheduler::new(Held::new(board, publisher))),
+            shared: Mutex::new(Shared::new(Held::new(board, publisher))),
             plan,
             bells,
             passing: Condvar::new(),
@@ -60,8 +61,8 @@ impl<J: Naming, V: Views> Engine<J, V> {
     ) -> Result<(), StepRefusal> {
         match self.plan.cut_sized(alloc, input, batch) {
             Ok(sized) => {
-                let (result, _left, wakes) = self.scheduler.lock(rt).feed_cut(sized);
-                self.wake(wakes);
+                let (result, _left, wakeups) = self.shared.lock(rt).feed_cut(sized);
+                self.wake(wakeups);
                 result
             }
             Err(refusal) => Err(self.first_refusal(rt, input, refusal)),
@@ -77,8 +78,8 @@ impl<J: Naming, V: Views> Engine<J, V> {
     ) -> Result<(), StepRefusal> {
         let mut cut = VecDeque::new(alloc);
         let all_cut = self.plan.cut_all(alloc, feeds, &mut cut);
-        let (result, _left, wakes) = self.scheduler.lock(rt).feed_all(&mut cut);
-        self.wake(wakes);
+        let (result, _left, wakeups) = self.shared.lock(rt).feed_all(&mut cut);
+        self.wake(wakeups);
         result?;
         match all_cut {
             Ok(()) => Ok(()),
@@ -88,7 +89,7 @@ impl<J: Naming, V: Views> Engine<J, V> {
 
     /// The board's first reason to refuse a batch that can't be cut.
     fn first_refusal<R: Wait>(&self, rt: &R, input: u32, refusal: StepRefusal) -> StepRefusal {
-        match self.scheduler.lock(rt).held.input_refusal(input) {
+        match self.shared.lock(rt).held().input_refusal(input) {
             Some(first) => first,
             None => refusal,
         }
@@ -96,26 +97,26 @@ impl<J: Naming, V: Views> Engine<J, V> {
 
     /// Ends the open epoch of an input.
     pub fn seal<R: Wait>(&self, rt: &R, input: u32) -> Result<(), StepRefusal> {
-        let (result, wakes) = self.scheduler.lock(rt).seal(input);
-        self.wake(wakes);
+        let (result, wakeups) = self.shared.lock(rt).seal(input);
+        self.wake(wakeups);
         result
     }
 
     /// Closes an input.
     pub fn close<R: Wait>(&self, rt: &R, input: u32) -> Result<(), StepRefusal> {
-        let (result, wakes) = self.scheduler.lock(rt).close(input);
-        self.wake(wakes);
+        let (result, wakeups) = self.shared.lock(rt).close(input);
+        self.wake(wakeups);
         result
     }
 
     /// Sleeps until `count` epochs have passed, or the board is stopped, or nothing is left to do.
     pub fn wait_for<R: Wait>(&self, rt: &R, count: u64) {
-        let mut scheduler = self.scheduler.lock(rt);
+        let mut shared = self.shared.lock(rt);
         for _turn in rt.forever() {
-            if scheduler.has_passed(count) {
+            if shared.has_passed(count) {
                 return;
             }
-            scheduler = self.passing.wait(rt, scheduler);
+            shared = self.passing.wait(rt, shared);
         }
     }
 
@@ -136,8 +137,8 @@ impl<J: Naming, V: Views> Engine<J, V> {
         ensures graph { IfOk result (λ o. IfSome o (λ l. l.graph ≡ J.graph)) }
         ensures whole { IfOk result (λ o. IfSome o (λ l. (l.epoch ≡ epoch) × ShowsEachOutput l)) }
     {
-        let scheduler = self.scheduler.lock(rt);
-        let held = &scheduler.held;
+        let shared = self.shared.lock(rt);
+        let held = shared.held();
         let word = mark.observe(seat);
         if word > held.passed_count() {
             return Ok(None);
@@ -149,7 +150,9 @@ impl<J: Naming, V: Views> Engine<J, V> {
     pub(crate) fn try_claim<R: Wait>(&self, rt: &R, worker: u32) -> Claimed
         ensures { GivesNamed J.names result }
     {
-        self.scheduler.lock(rt).claim(worker)
+        let (claimed, wakeups) = self.shared.lock(rt).claim(worker);
+        self.wake(wakeups);
+        claimed
     }
 
     /// Claims an event for the worker's thread; sleeps while there is nothing that the thread could do.
@@ -159,13 +162,13 @@ impl<J: Naming, V: Views> Engine<J, V> {
         let Some(bell) = self.bells.get(worker as usize) else {
             return Claimed::Busy;
         };
-        let mut scheduler = self.scheduler.lock(rt);
+        let mut shared = self.shared.lock(rt);
         for _turn in rt.forever() {
-            match scheduler.claim(worker) {
-                Claimed::Idle => {
-                    scheduler.fall_asleep(worker);
-                    scheduler = bell.wait(rt, scheduler);
-                }
+            let (claimed, wakeups) = shared.claim_or_sleep(worker);
+            self.wake(wakeups);
+            match claimed {
+                Claimed::Idle if wakeups.threads.has(worker) => {}
+                Claimed::Idle => shared = bell.wait(rt, shared),
                 claimed => return claimed,
             }
         }
@@ -178,28 +181,28 @@ impl<J: Naming, V: Views> Engine<J, V> {
         rt: &R,
         thread: u32,
         worker: u32,
-        computed: Result<Done, (Work, ComputeFault)>,
-    ) -> Result<Claimed, ComputeFault>
+        computed: Result<Done, (Work, WorkFault)>,
+    ) -> Result<Claimed, WorkFault>
         requires { IsNamed J.names (event_of computed) }
         ensures { IfOk result (λ claimed. GivesNamed J.names claimed) }
     {
-        let (result, wakes) = self.scheduler.lock(rt).settle(thread, worker, computed);
-        self.wake(wakes);
+        let (result, wakeups) = self.shared.lock(rt).settle(thread, worker, computed);
+        self.wake(wakeups);
         result
     }
 
-    /// Wakes these threads. The lock must be free.
-    fn wake(&self, wakes: Wakes) {
-        if !wakes.workers().is_empty() {
-            let mut worker = 0;
+    /// Wakes these threads. They go on once the lock is free.
+    fn wake(&self, wakeups: Wakeups) {
+        if !wakeups.threads.is_empty() {
+            let mut thread = 0;
             for bell in &self.bells {
-                if wakes.workers().has(worker) {
+                if wakeups.threads.has(thread) {
                     bell.notify_all();
                 }
-                worker = worker.saturating_add(1);
+                thread = thread.saturating_add(1);
             }
         }
-        if wakes.has_feeders() {
+        if wakeups.feeders {
             self.passing.notify_all();
         }
     }
@@ -210,12 +213,12 @@ impl<J: Naming, V: Views> Engine<J, V> {
         ensures prompt { IsUpToDate result 0 }
     {
         let Engine {
-            scheduler,
+            shared,
             plan: _,
             bells: _,
             passing: _,
         } = self;
-        scheduler.into_inner().into_board()
+        shared.into_inner().into_board()
     }
 }
 

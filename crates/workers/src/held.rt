@@ -16,8 +16,9 @@ ghost use Rattle.workers.specs.Names.{GivesNamed, IsNamed};
 use crate::mark::Publisher;
 use board::{Board, Claimed, Look, Sent, StepRefusal, gather};
 use driver::settle;
-use events::{ComputeFault, CutBatch, Done, Work};
+use events::{CutBatch, Done, Work};
 use record_core::NoMemory;
+use rows::WorkFault;
 use std::alloc::Global;
 use std::marker::{Brand, Model, PhantomData};
 use views::Views;
@@ -178,10 +179,7 @@ impl<J: Naming, V: Views> Held<J, V> {
     }
 
     /// Ends an event: commits one that was computed, or abandons one that was refused, or for whose commit memory is short.
-    pub fn settle(
-        &mut self,
-        computed: Result<Done, (Work, ComputeFault)>,
-    ) -> Result<Sent, ComputeFault>
+    pub fn settle(&mut self, computed: Result<Done, (Work, WorkFault)>) -> Result<Sent, WorkFault>
         requires { IsNamed J.names (event_of computed) }
         ensures ends { Ends self.old.board.shown self.new.board.shown (event_of computed) result }
         ensures fault { IsFaultOf computed result }

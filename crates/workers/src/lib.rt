@@ -6,7 +6,7 @@
 //!
 //! A thread computes small events in turn, of its own worker and of those whose threads sleep or haven't started. A thread is woken only when it is
 //! worth the cost, after the lock is released: when many records wait for its worker, or no other thread is up. So small events don't wake
-//! threads, and large ones are computed in parallel (`scheduler.rt` has the rules, and why no wakeup is lost).
+//! threads, and large ones are computed in parallel (`scheduler.rt` has the rules).
 //!
 //! | Call | By | What it does | Answers |
 //! |---|---|---|---|
@@ -28,14 +28,17 @@
 //! - `Held` is what the lock protects. Each of its calls is the board's, with the board's contract; then it applies all that waits for
 //!   worker 0, and publishes what has passed. So a thread that takes the lock finds a board that keeps the main promise, and the mark at
 //!   exactly the number of epochs that have passed, however late the other workers' views are.
+//! - `Shared` is that with the threads: no wakeup is lost. Whenever the lock is free, some thread is up, or no sleeping thread's worker has an event
+//!   that it could claim; and at the board's end nobody is asleep.
 //! - A `Look` and a `Report` keep the promise by their types. A report knows exactly whether it is drained.
 //! - An event goes back only to the engine that handed it out. The calls require that, and `work` is proved to obey (`Naming`).
 //!
-//! No clause can say what a call on an engine does behind the lock, that a thread is woken, or that two threads compute at once: tests show
-//! these (`workers_conformance`). Built on `board`, `events` and the crates below them.
+//! No clause can say what a call on an engine does behind the lock, that a thread that is woken runs, or that two threads compute at once: tests
+//! show these (`workers_conformance`). Built on `board`, `events` and the crates below them.
 #![tactic(auto)]
 
 mod backlog;
+mod dispatcher;
 mod engine;
 mod held;
 mod mark;
@@ -43,6 +46,8 @@ mod plan;
 mod report;
 mod rule;
 mod scheduler;
+mod shared;
+mod thread_set;
 mod working;
 
 pub use driver::Ended;

@@ -2,7 +2,8 @@
 
 ghost use Rattle.std.specs.Prelude.{◌≡◌};
 
-use events::{ComputeFault, Done, Work};
+use events::{Done, Work};
+use rows::WorkFault;
 use std::alloc::Global;
 use std::sync::atomic::{AtomicBool, Ordering};
 use std::thread::yield_now;
@@ -55,7 +56,7 @@ impl Gate for Meeting {
         worker: u32,
         turn: u64,
         work: Work,
-    ) -> Result<Done, (Work, ComputeFault)> {
+    ) -> Result<Done, (Work, WorkFault)> {
         if turn == 0 {
             if worker == 0 {
                 self.meet(0, 1);

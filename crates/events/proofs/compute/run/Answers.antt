@@ -3,7 +3,7 @@ use Rattle.machine.specs.World.{Event}
 use Rattle.events.specs.Happenings.{happening_of}
 use Rattle.events.specs.Jobs.{Job}
 use Rattle.events.specs.TooMany.{CountsFit, CountsOver}
-use Rattle.events.specs.declared.fault.ComputeFault.TheVariants.{Count}
+use Rattle.rows.specs.declared.fault.WorkFault.TheVariants.{Count}
 use Rattle.events.proofs.compute.run.Goals as goal
 
 pub returns-in-Arrival-clause-fits : goal.returns-in-Arrival-clause-fits

@@ -3,7 +3,7 @@ use Rattle.expr_tree.specs.Plain.{plain_scalar}
 use Rattle.expr_tree.specs.Views.{scalar_tree}
 use Rattle.rows.specs.FlatRows.{arity_of}
 use Rattle.rows.specs.Counts.{IsOver}
-use Rattle.rows.specs.declared.error.TallyError.TheVariants.{Count}
+use Rattle.rows.specs.declared.fault.WorkFault.TheVariants.{Count}
 use Rattle.semantics.specs.Meaning.{selected}
 use Rattle.operators.specs.Columns.{AllDetermined}
 use Rattle.operators.proofs.select.Select.apply.Goals as goal

@@ -1,6 +1,6 @@
 use Rattle.std.proofs.Common.{rules}
 use Rattle.rows.specs.Counts.{expanded}
-use Rattle.vertices.proofs.Fitting.{counted_sent, all_or_none}
+use Rattle.vertices.proofs.Fitting.{all_or_none, counted_sent}
 use Rattle.rows.proofs.Runs.{all_fit, are_runs}
 use Rattle.vertices.proofs.out.Out.send_new.Goals as goal
 

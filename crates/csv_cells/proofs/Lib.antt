@@ -1,0 +1,3 @@
+mod ReadByGrammar
+mod Rows
+mod LastDigits

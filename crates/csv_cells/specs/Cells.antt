@@ -1,0 +1,44 @@
+-- What a number stands for in a column, and which numbers a row of cells has.
+use Rattle.std.specs.Prelude.{◌≡◌, ◌≢◌, ◌<◌, ◌⊎◌, ℕ, ℤ, pos, Bool, true, List, [], ◌++◌, length, get_or, Some}
+use Rattle.std.specs.Fmt.{signed_decimal}
+use Rattle.csv_cells.specs.Texts.{text_at}
+use Rattle.csv_cells.specs.Numbers.{IsDateText, decimal_text, time_text}
+use Rattle.csv_cells.specs.declared.column.Kind.{Kind}
+use Rattle.csv_cells.specs.declared.column.Kind.TheVariants.{Int, Decimal, Date, Time, Text}
+use Rattle.csv_cells.specs.declared.column.Empty.{Empty}
+use Rattle.csv_cells.specs.declared.column.Empty.TheVariants.{Refused, Kept, Number}
+use Rattle.csv_cells.specs.declared.column.Column.{Column}
+
+-- by its kind, the number stands for the text
+abbrev pub Stands : Kind → (texts : List (List ℕ)) → (number : ℤ) → (text : List ℕ) → Type 0
+Stands Int texts z text = text ≡ signed_decimal z
+Stands (Decimal places) texts z text = decimal_text places z ≡ text
+Stands Date texts z text = IsDateText z text
+Stands Time texts z text = time_text z ≡ Some text
+Stands Text texts z text = text_at texts z ≡ Some text
+
+-- the same, and the empty cell by what it is in that column
+abbrev pub StandsWith : Empty → Kind → (texts : List (List ℕ)) → (number : ℤ) → (cell : List ℕ) → Type 0
+StandsWith Refused kind texts z cell = (cell ≢ []) × Stands kind texts z cell
+StandsWith Kept kind texts z cell = Stands kind texts z cell
+StandsWith (Number n) kind texts z cell = ((z ≡ n) × (cell ≡ [])) ⊎ ((z ≢ n) × Stands kind texts z cell)
+
+abbrev pub StandsAs : Column → (texts : List (List ℕ)) → (number : ℤ) → (cell : List ℕ) → Type 0
+StandsAs column texts z cell = StandsWith column.empty column.kind texts z cell
+
+-- if it was written, then what the number stands for
+abbrev pub WritesKind : Kind → (texts : List (List ℕ)) → (number : ℤ) → (old new : List ℕ) → Bool → Type 0
+WritesKind kind texts z old new wrote = wrote ≡ true → (text : List ℕ) × Stands kind texts z text × (new ≡ old ++ text)
+
+abbrev pub WritesCell : Column → (texts : List (List ℕ)) → (number : ℤ) → (old new : List ℕ) → Bool → Type 0
+WritesCell column texts z old new wrote = wrote ≡ true → (cell : List ℕ) × StandsAs column texts z cell × (new ≡ old ++ cell)
+
+-- a column of whole numbers with no empty cell
+abbrev pub plain : Column
+plain = record { kind = Int; empty = Refused }
+
+-- the numbers stand for these cells, one for each column
+pub record Spells (columns : List Column) (texts : List (List ℕ)) (cells : List (List ℕ)) (numbers : List ℤ) : Type 0 where
+  pub counted : length numbers ≡ length columns
+  pub wide : length cells ≡ length columns
+  pub stands : (i : ℕ) → i < length columns → StandsAs (get_or columns i plain) texts (get_or numbers i (pos 0)) (get_or cells i [])

@@ -1,0 +1,150 @@
+//! The number of a cell, and the cell of a number.
+
+ghost use Rattle.std.specs.Prelude.{◌≡◌, true, IfOk, IfSome, OnOk};
+ghost use Rattle.csv_cells.specs.Cells.{Stands, WritesCell, WritesKind, StandsAs};
+ghost use Rattle.csv_cells.specs.Numbers.{IsDateText, decimal_text, time_text};
+ghost use Rattle.csv_cells.specs.Texts.{Grows, texts_of};
+
+use crate::column::{Column, Empty, Kind};
+use crate::dictionary::Dictionary;
+use crate::digits::{push_date, push_decimal, push_time};
+use crate::numbers::{day_of, parts_of, seconds_of};
+use decimal::signed_number;
+use itoa::Buffer;
+use std::alloc::{AllocError, Global};
+
+/// The seconds of a time of day: what is written as this very text.
+fn read_time(text: &[u8], scratch: &mut Vec<u8>) -> Result<Option<i64>, AllocError>
+    ensures { IfOk result (λ o. IfSome o (λ z. time_text z ≡ Some text.now)) }
+{
+    let Some(z) = seconds_of(text) else {
+        return Ok(None);
+    };
+    scratch.clear();
+    if push_time(scratch, z)? && scratch.as_slice() == text {
+        Ok(Some(z))
+    } else {
+        Ok(None)
+    }
+}
+
+/// The parts of a number with digits after the point: what is written as this very text.
+fn read_decimal(places: u8, text: &[u8], scratch: &mut Vec<u8>) -> Result<Option<i64>, AllocError>
+    ensures { IfOk result (λ o. IfSome o (λ z. decimal_text places z ≡ text.now)) }
+{
+    let z = parts_of(text);
+    scratch.clear();
+    if push_decimal(scratch, places, z)? && scratch.as_slice() == text {
+        Ok(Some(z))
+    } else {
+        Ok(None)
+    }
+}
+
+/// The number of a day: what is written as this very text.
+fn read_date(text: &[u8], scratch: &mut Vec<u8>) -> Result<Option<i64>, AllocError>
+    ensures { IfOk result (λ o. IfSome o (λ z. IsDateText z text.now)) }
+{
+    let Some(z) = day_of(text) else {
+        return Ok(None);
+    };
+    scratch.clear();
+    if push_date(scratch, z)? && scratch.as_slice() == text {
+        Ok(Some(z))
+    } else {
+        Ok(None)
+    }
+}
+
+/// The number that stands for a text in a column of that kind.
+fn read_kind(
+    alloc: Global,
+    kind: Kind,
+    dictionary: &mut Dictionary,
+    text: &[u8],
+    scratch: &mut Vec<u8>,
+) -> Result<Option<i64>, AllocError>
+    ensures found { IfOk result (λ o. IfSome o (λ z. Stands kind (texts_of dictionary.new) z text.now)) }
+    ensures grows { OnOk result (Grows (texts_of dictionary.old) (texts_of dictionary.new)) }
+{
+    match kind {
+        Kind::Int => Ok(signed_number(text)),
+        Kind::Decimal(places) => read_decimal(places, text, scratch),
+        Kind::Date => read_date(text, scratch),
+        Kind::Time => read_time(text, scratch),
+        Kind::Text => dictionary.number(alloc, text),
+    }
+}
+
+/// Appends the text that a number stands for in a column of that kind, and says whether it stands for one.
+fn write_kind(
+    kind: Kind,
+    dictionary: &Dictionary,
+    z: i64,
+    out: &mut Vec<u8>,
+) -> Result<bool, AllocError>
+    ensures { IfOk result (WritesKind kind (texts_of dictionary.now) z out.old.items out.new.items) }
+{
+    match kind {
+        Kind::Int => {
+            let mut buffer = Buffer::new();
+            out.extend_from_slice(buffer.format(z).as_bytes())?;
+            Ok(true)
+        }
+        Kind::Decimal(places) => push_decimal(out, places, z),
+        Kind::Date => push_date(out, z),
+        Kind::Time => push_time(out, z),
+        Kind::Text => match dictionary.text(z) {
+            Some(text) => {
+                out.extend_from_slice(text)?;
+                Ok(true)
+            }
+            None => Ok(false),
+        },
+    }
+}
+
+/// The number that stands for a cell, `None` if the column has none for it. A new text goes to the end of the dictionary. `scratch` is overwritten.
+pub fn read_cell(
+    alloc: Global,
+    column: Column,
+    dictionary: &mut Dictionary,
+    cell: &[u8],
+    scratch: &mut Vec<u8>,
+) -> Result<Option<i64>, AllocError>
+    ensures found { IfOk result (λ o. IfSome o (λ z. StandsAs column (texts_of dictionary.new) z cell.now)) }
+    ensures grows { OnOk result (Grows (texts_of dictionary.old) (texts_of dictionary.new)) }
+{
+    match column.empty {
+        Empty::Refused if cell.is_empty() => Ok(None),
+        Empty::Number(number) if cell.is_empty() => Ok(Some(number)),
+        Empty::Number(number) => {
+            let found = read_kind(alloc, column.kind, dictionary, cell, scratch)?;
+            match found {
+                Some(z) if z != number => Ok(Some(z)),
+                _ => Ok(None),
+            }
+        }
+        Empty::Refused | Empty::Kept => read_kind(alloc, column.kind, dictionary, cell, scratch),
+    }
+}
+
+/// Appends the cell that a number stands for, and says whether it stands for one.
+pub fn write_cell(
+    column: Column,
+    dictionary: &Dictionary,
+    z: i64,
+    out: &mut Vec<u8>,
+) -> Result<bool, AllocError>
+    ensures { IfOk result (WritesCell column (texts_of dictionary.now) z out.old.items out.new.items) }
+{
+    match column.empty {
+        Empty::Number(number) if z == number => Ok(true),
+        Empty::Number(_) | Empty::Kept => write_kind(column.kind, dictionary, z, out),
+        Empty::Refused => {
+            let before = out.len();
+            let wrote = write_kind(column.kind, dictionary, z, out)?;
+            Ok(wrote && before < out.len())
+        }
+    }
+}

@@ -1,0 +1,109 @@
+//! Numbers as times, amounts and dates, appended to a text.
+
+ghost use Rattle.std.specs.Prelude.{◌≡◌, ◌<◌, ◌+◌, ◌++◌, ◌^◌, ℕ, true, IfOk, List, OnOk, Some};
+ghost use Rattle.csv_cells.specs.Numbers.{IsDateText, Writes, amount_text, clock_text, date_text, decimal_text, digits_text, time_text};
+
+use itoa::Buffer;
+use jiff_core::civil::Date;
+use std::alloc::AllocError;
+
+/// A digit.
+fn digit(n: u64) -> u8
+    requires { n < 10 }
+    ensures { result ≡ 48 + n }
+{
+    b'0' + n as u8
+}
+
+/// Appends the last digits of a number, that many.
+fn push_digits(out: &mut Vec<u8>, count: u8, n: u64) -> Result<(), AllocError>
+    ensures { OnOk result (out.new.items ≡ out.old.items ++ digits_text count n) }
+{
+    if count == 0 {
+        return Ok(());
+    }
+    push_digits(out, count - 1, n / 10)?;
+    out.push(digit(n % 10))?;
+    Ok(())
+}
+
+/// Appends the time of day after that many seconds.
+fn push_clock(out: &mut Vec<u8>, seconds: u64) -> Result<(), AllocError>
+    ensures { OnOk result (out.new.items ≡ out.old.items ++ clock_text seconds) }
+{
+    push_digits(out, 2, seconds / 3600)?;
+    out.push(b':')?;
+    push_digits(out, 2, seconds / 60 % 60)?;
+    out.push(b':')?;
+    push_digits(out, 2, seconds % 60)?;
+    Ok(())
+}
+
+/// Appends the time of day that a number stands for, and says whether it stands for one.
+pub fn push_time(out: &mut Vec<u8>, z: i64) -> Result<bool, AllocError>
+    ensures { IfOk result (Writes (time_text z) out.old.items out.new.items) }
+{
+    let Ok(seconds) = u64::try_from(z) else {
+        return Ok(false);
+    };
+    if seconds < 86_400 {
+        push_clock(out, seconds)?;
+        Ok(true)
+    } else {
+        Ok(false)
+    }
+}
+
+/// Appends an amount of that many parts, of which a whole has `scale`.
+fn push_amount(out: &mut Vec<u8>, places: u8, scale: u64, parts: u64) -> Result<(), AllocError>
+    requires some { 0 < scale }
+    requires scale { scale ≡ 10 ^ places }
+    ensures { OnOk result (out.new.items ≡ out.old.items ++ amount_text places parts) }
+{
+    let mut buffer = Buffer::new();
+    out.extend_from_slice(buffer.format(parts / scale).as_bytes())?;
+    out.push(b'.')?;
+    push_digits(out, places, parts)
+}
+
+/// Appends the number with that many digits after the point, and says whether it stands for one.
+pub fn push_decimal(out: &mut Vec<u8>, places: u8, z: i64) -> Result<bool, AllocError>
+    ensures { IfOk result (λ b. b ≡ true → Writes (Some (decimal_text places z)) out.old.items out.new.items b) }
+{
+    let Some(scale) = 10u64.checked_pow(u32::from(places)) else {
+        return Ok(false);
+    };
+    if scale == 0 {
+        return Ok(false);
+    }
+    if z < 0 {
+        out.push(b'-')?;
+    }
+    push_amount(out, places, scale, z.unsigned_abs())?;
+    Ok(true)
+}
+
+/// Appends a date, and says whether it is one of the years 0 to 9999.
+fn push_civil(out: &mut Vec<u8>, date: Date) -> Result<bool, AllocError>
+    ensures { IfOk result (Writes (date_text date.year date.month date.day) out.old.items out.new.items) }
+{
+    let Ok(year) = u64::try_from(date.year) else {
+        return Ok(false);
+    };
+    push_digits(out, 4, year)?;
+    out.push(b'-')?;
+    push_digits(out, 2, u64::from(date.month))?;
+    out.push(b'-')?;
+    push_digits(out, 2, u64::from(date.day))?;
+    Ok(true)
+}
+
+/// Appends the day of that number, and says whether it is one of the years 0 to 9999.
+pub fn push_date(out: &mut Vec<u8>, z: i64) -> Result<bool, AllocError>
+    ensures { IfOk result (λ b. b ≡ true → (text : List ℕ) × IsDateText z text × (out.new.items ≡ out.old.items ++ text)) }
+{
+    let Ok(date) = Date::from_unix_epoch_day(z) else {
+        return Ok(false);
+    };
+    push_civil(out, date)
+}

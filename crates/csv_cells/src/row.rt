@@ -1,0 +1,89 @@
+//! The numbers of a record, and the cells of numbers.
+
+ghost use Rattle.std.specs.Prelude.{IfOk, IfSome, OnOk, map};
+ghost use Rattle.csv.specs.Records.{fields_of};
+ghost use Rattle.csv_cells.specs.Cells.{Spells};
+ghost use Rattle.csv_cells.specs.Texts.{Grows, texts_of};
+
+use crate::cell::{read_cell, write_cell};
+use crate::column::Column;
+use crate::dictionary::Dictionary;
+use csv::ByteRecord;
+use std::alloc::{AllocError, AllocFailed, Global};
+
+/// Why a record has no numbers.
+#[derive(Clone, Copy, Debug, PartialEq, Eq)]
+pub enum RowFault {
+    /// It has another number of cells than there are columns.
+    Length,
+    /// The cell in that column, from 0, stands for nothing there.
+    Cell(usize),
+    /// Memory ran out.
+    NoMemory,
+}
+
+impl<T: Drop> From<AllocFailed<T>> for RowFault {
+    fn from(_: AllocFailed<T>) -> RowFault {
+        RowFault::NoMemory
+    }
+}
+
+impl From<AllocError> for RowFault {
+    fn from(_: AllocError) -> RowFault {
+        RowFault::NoMemory
+    }
+}
+
+/// Puts the numbers of a record in place of those in `numbers`. New texts go to the end of the dictionary. `scratch` is overwritten.
+pub fn read_row(
+    alloc: Global,
+    columns: &[Column],
+    dictionary: &mut Dictionary,
+    row: &ByteRecord,
+    numbers: &mut Vec<i64>,
+    scratch: &mut Vec<u8>,
+) -> Result<(), RowFault>
+    ensures spelled { OnOk result (Spells columns.now (texts_of dictionary.new) (fields_of row.now) numbers.new.items) }
+    ensures grows { OnOk result (Grows (texts_of dictionary.old) (texts_of dictionary.new)) }
+{
+    numbers.clear();
+    if row.len() != columns.len() {
+        return Err(RowFault::Length);
+    }
+    for i in 0..columns.len() {
+        let column = columns[i];
+        let Some(cell) = row.get(i) else {
+            return Err(RowFault::Length);
+        };
+        let Some(z) = read_cell(alloc, column, dictionary, cell, scratch)? else {
+            return Err(RowFault::Cell(i));
+        };
+        numbers.push(z)?;
+    }
+    Ok(())
+}
+
+/// The cells that numbers stand for, if there is one for each.
+pub fn write_row(
+    alloc: Global,
+    columns: &[Column],
+    dictionary: &Dictionary,
+    numbers: &[i64],
+) -> Result<Option<Vec<Vec<u8>>>, AllocError>
+    ensures { IfOk result (λ o. IfSome o (λ v. Spells columns.now (texts_of dictionary.now) (map (λ w. w.items) v.items) numbers.now)) }
+{
+    let mut cells = Vec::new(alloc);
+    if numbers.len() != columns.len() {
+        return Ok(None);
+    }
+    for i in 0..columns.len() {
+        let column = columns[i];
+        let number = numbers[i];
+        let mut cell = Vec::new(alloc);
+        if !write_cell(column, dictionary, number, &mut cell)? {
+            return Ok(None);
+        }
+        cells.push(cell)?;
+    }
+    Ok(Some(cells))
+}
