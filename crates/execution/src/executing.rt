@@ -7,8 +7,9 @@ ghost use Rattle.execution.specs.Fed.{IsWorkedOff};
 
 use crate::notice::Notice;
 use crate::readings::is_fed;
+use crate::single::run_single;
 use crate::task::Task;
-use crate::threads::{work_off, work_off_watched};
+use crate::threads::{try_threads, work_off, work_off_watched};
 use crate::unfinished::Unfinished;
 use crate::watching::Watcher;
 use board::Board;
@@ -87,8 +88,9 @@ fn drive_any<V: Views + Send, R: Threads + Wait + Sync, G: Gate + Sync, W: Write
     )
 }
 
-/// Feeds the epochs to an engine over a new board, and runs it until nothing is left to do. The gate computes each event. Before the first feed
-/// `threads` threads are started, or one for each worker if that is more; a single one is the caller's.
+/// Feeds the epochs to a new board, and runs it until nothing is left to do. The gate computes each event. Before the first feed `threads` threads are
+/// started, or one for each worker if that is more. A single worker has the caller's thread, and no lock; where one thread is asked for, none is
+/// started then.
 ///
 /// Ok only if nothing is left to do, and each input was fed, at each epoch, exactly what was read. A watcher writes how many epochs have passed, as
 /// `passed M` with rising numbers. If its writer fails, nothing else changes.
@@ -106,15 +108,20 @@ pub fn execute<V: Views + Send, R: Threads + Wait + Sync, G: Gate + Sync, W: Wri
     let graph = board.graph();
     law_inputs(graph);
     let inputs = graph.inputs().len() as u32;
-    let notice = Notice::new();
-    let task = Task {
-        epochs,
-        inputs,
-        threads: threads.max(board.workers()),
-        workers: board.workers(),
-        notice: &notice,
+    let report = if board.workers() == 1 {
+        try_threads(rt, threads)?;
+        run_single(alloc, board, inputs, epochs, gate, watcher)?
+    } else {
+        let notice = Notice::new();
+        let task = Task {
+            epochs,
+            inputs,
+            threads: threads.max(board.workers()),
+            workers: board.workers(),
+            notice: &notice,
+        };
+        drive_any(rt, alloc, board, task, gate, watcher)?
     };
-    let report = drive_any(rt, alloc, board, task, gate, watcher)?;
     if is_fed(&report, inputs, epochs, epochs.count()) {
         Ok(report)
     } else {

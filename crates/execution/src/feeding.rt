@@ -7,9 +7,9 @@ use std::alloc::Global;
 use std::mem::replace;
 use std::sync::Wait;
 use views::Views;
-use workers::{Ended, Engine, Feed, Gate, Naming, work_along};
+use workers::{Engine, Feed, Naming};
 
-/// The most epochs that a thread that isn't alone feeds under one lock.
+/// The most epochs that are fed under one lock.
 const EPOCHS_AT_ONCE: u32 = AHEAD / 2;
 
 /// Once this many records are gathered, they are fed.
@@ -108,37 +108,18 @@ fn feed_epoch<J: Naming, V: Views, R: Wait>(
     Ok(())
 }
 
-/// Works in this thread until there is nothing to do now.
-fn work_now<J: Naming, V: Views, R: Wait, G: Gate>(
-    rt: &R,
-    alloc: Global,
-    engine: &Engine<J, V>,
-    gate: &G,
-) -> Result<(), Unfinished> {
-    match work_along(rt, alloc, engine, 0, gate, &mut 0) {
-        None | Some(Ended::Drained) => Ok(()),
-        Some(Ended::Stopped) => Err(Unfinished::NoMemory),
-        Some(Ended::Count) => Err(Unfinished::Count),
-        Some(Ended::Busy) => Err(Unfinished::Incomplete),
-    }
-}
-
-/// Feeds and seals epoch by epoch. A thread that is alone works off each epoch before it feeds the next. Any other feeds many small epochs at once,
-/// stays at most `AHEAD` epochs ahead of what has passed, and sleeps until half of them have passed.
-pub fn feed_epochs<J: Naming, V: Views, R: Wait, G: Gate>(
+/// Feeds and seals epoch by epoch, many small epochs at once. Stays at most `AHEAD` epochs ahead of what has passed, and sleeps until half of them have
+/// passed.
+pub fn feed_epochs<J: Naming, V: Views, R: Wait>(
     rt: &R,
     alloc: Global,
     engine: &Engine<J, V>,
     task: Task<'_>,
-    gate: &G,
 ) -> Result<(), Unfinished> {
     let mut portion = Portion::new(alloc);
     for epoch in 0..task.epochs.count() {
         feed_epoch(rt, alloc, engine, task, &mut portion, epoch)?;
-        if task.is_alone() {
-            feed_portion(rt, alloc, engine, &mut portion)?;
-            work_now(rt, alloc, engine, gate)?;
-        } else if epoch % EPOCHS_AT_ONCE == EPOCHS_AT_ONCE - 1 {
+        if epoch % EPOCHS_AT_ONCE == EPOCHS_AT_ONCE - 1 {
             feed_portion(rt, alloc, engine, &mut portion)?;
             engine.wait_for(rt, u64::from(epoch.saturating_sub(EPOCHS_AT_ONCE - 1)));
         }

@@ -1,13 +1,14 @@
-//! Runs of a whole input: an engine of 1 to 64 workers is fed epoch by epoch, until nothing is left to do.
+//! Runs of a whole input: a board of 1 to 64 workers is fed epoch by epoch, until nothing is left to do.
 //!
-//! With one worker the caller's thread feeds an epoch and does its work before the next, and no thread is started. With more, each worker has a thread of its own. The
-//! caller's thread feeds, and sleeps while it is 256 epochs ahead of what has passed. Many small epochs are fed together. The caller's gate
-//! computes each event. A watcher shows how far the run is: one more thread writes to it how many epochs have passed. The caller makes the
-//! board, and so decides by which view of progress the workers go: one for all, or one for each, which may be late.
+//! With one worker the caller's thread feeds an epoch and does its work before the next; there is no lock, and that part returns without the leave to
+//! wait. With more, each worker has a thread of its own. The caller's thread feeds, and sleeps while it is 256 epochs ahead of what has passed. Many
+//! small epochs are fed together. The caller's gate computes each event. A watcher shows how many epochs have passed; with several workers one more
+//! thread writes to it. The caller makes the board, and so decides by which view of progress the workers go: one for all, or one for each, which may
+//! be late.
 //!
 //! | Call | What it does | Fails |
 //! |---|---|---|
-//! | `execute` | feeds the epochs to an engine over a new board, and runs it until nothing is left to do | `Unfinished`: no report |
+//! | `execute` | feeds the epochs to a new board, and runs it until nothing is left to do | `Unfinished`: no report |
 //! | `read_by_threads` | reads an input text, in parts side by side where it is long | the first faulty line, or memory |
 //! | `Parallelism::of` | how many threads and workers a run of the epochs has | never |
 //! | `ParallelSorter` | sorts and formats the records of an epoch, by several threads where there are many | memory |
@@ -17,8 +18,8 @@
 //!
 //! The contract for `console` above: the report that `execute` gives is of the board's graph, it is drained, and its inputs were fed what was
 //! read. The report keeps the promise of its board, so what was emitted at each output for each epoch is what the query means there. None of
-//! this depends on what the threads did: the report itself is checked. Below are `workers`, `board`, `collector` and `sample_sort`, with what
-//! these use.
+//! this depends on what the threads did: the report itself is checked. Below are `workers`, `alone`, `board`, `collector` and `sample_sort`,
+//! with what these use.
 #![tactic(auto)]
 
 mod executing;
@@ -28,6 +29,7 @@ mod outputs;
 mod parallelism;
 mod reading;
 mod readings;
+mod single;
 mod sorting;
 mod task;
 mod threads;

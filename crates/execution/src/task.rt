@@ -15,10 +15,3 @@ pub struct Task<'a> {
     pub workers: u32,
     pub notice: &'a Notice,
 }
-
-impl Task<'_> {
-    /// Whether the thread that feeds is also the only worker.
-    pub fn is_alone(&self) -> bool {
-        self.workers == 1
-    }
-}

@@ -13,8 +13,22 @@ use std::thread::{Scope, Threads, join, scope, scope_env};
 use views::Views;
 use workers::{Engine, Gate, Mark, Naming, Seat, work};
 
-/// Starts the threads, where there are several, and has each worker's work. A thread without a worker ends at once: it is started all the
-/// same, so that whether the system grants the threads doesn't depend on the input.
+/// Starts several threads, where they are asked for, that have nothing to do: so whether the system grants a run's threads doesn't depend on its input.
+pub fn try_threads<R: Threads + Wait + Sync>(rt: &R, threads: u32) -> Result<(), Unfinished> {
+    if threads == 1 {
+        return Ok(());
+    }
+    scope(scope_env(), rt, move |started| {
+        for _thread in 0..threads {
+            if started.spawn(move || {}).is_err() {
+                return Err(Unfinished::NoWorker);
+            }
+        }
+        Ok(())
+    })
+}
+
+/// Starts the threads, and has each worker's work. A thread without a worker ends at once.
 fn start_workers<
     's,
     E,
@@ -30,11 +44,8 @@ fn start_workers<
     task: Task<'s>,
     gate: &'s G,
 ) -> Result<(), Unfinished> {
-    if task.threads == 1 {
-        return Ok(());
-    }
     let notice = task.notice;
-    let workers = if task.is_alone() { 0 } else { task.workers };
+    let workers = task.workers;
     for worker in 0..task.threads {
         let started = threads.spawn(move || {
             if worker < workers {
@@ -60,12 +71,9 @@ pub fn work_off<J: Naming + Send + Sync, V: Views + Send, R: Threads + Wait + Sy
     scope(scope_env(), rt, move |threads| {
         let mut done = start_workers(threads, rt, alloc, engine, task, gate);
         if done.is_ok() {
-            done = feed_epochs(rt, alloc, engine, task, gate);
+            done = feed_epochs(rt, alloc, engine, task);
         }
         close_inputs(rt, engine, task.inputs);
-        if task.is_alone() {
-            task.notice.note(work(rt, alloc, engine, 0, gate));
-        }
         done
     })
 }

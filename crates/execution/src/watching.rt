@@ -51,6 +51,32 @@ impl<W: Write> Watcher<W> {
     }
 }
 
+/// What was told to a watcher whose writer has failed: no number is greater.
+const FAILED: u64 = u64::MAX;
+
+/// Reports a number of passed epochs, if it is greater than the one that was told last.
+pub fn tell_rise<W: Write>(watcher: &mut Option<Watcher<W>>, told: &mut u64, passed: u64) {
+    if passed <= *told {
+        return;
+    }
+    if let Some(watcher) = watcher {
+        *told = match watcher.tell(passed) {
+            Ok(()) => passed,
+            Err(_) => FAILED,
+        };
+    }
+}
+
+/// Ends the line whose number rose, if one was told, and the writer hasn't failed.
+pub fn end_line<W: Write>(watcher: &mut Option<Watcher<W>>, told: u64) {
+    if told == 0 || told == FAILED {
+        return;
+    }
+    if let Some(watcher) = watcher {
+        let _ = watcher.end();
+    }
+}
+
 /// Reports to the watcher whenever more epochs have passed than it has reported, and sleeps in between. Ends when no more can pass, or the writer has
 /// failed.
 pub fn watch<J: Naming, V: Views, R: Wait, W: Write>(

@@ -146,15 +146,6 @@ impl<J: Naming, V: Views> Engine<J, V> {
         Ok(Some(held.look(alloc, epoch)?))
     }
 
-    /// Claims an event for the worker's thread; doesn't sleep.
-    pub(crate) fn try_claim<R: Wait>(&self, rt: &R, worker: u32) -> Claimed
-        ensures { GivesNamed J.names result }
-    {
-        let (claimed, wakeups) = self.shared.lock(rt).claim(worker);
-        self.wake(wakeups);
-        claimed
-    }
-
     /// Claims an event for the worker's thread; sleeps while there is nothing that the thread could do.
     pub(crate) fn claim<R: Wait>(&self, rt: &R, worker: u32) -> Claimed
         ensures { GivesNamed J.names result }

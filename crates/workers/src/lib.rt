@@ -14,11 +14,12 @@
 //! | `Engine::feed_all` | the owner of the input | feeds and seals in order, under one lock | the first refusal; the calls before it are done |
 //! | `Engine::wait_for` | the owner of the input, or an observer | sleeps until that many epochs have passed, or no further ones will | nothing |
 //! | `work` | a worker's thread | works, also for sleeping workers, and sleeps while there is nothing to do | drained, stopped, a count, busy |
-//! | `work_along` | the one thread of a run | works while there is something to do now | the same, or nothing |
 //! | `Mark::observe` | an observer | one load: no lock, no memory, no waiting | the number of passed epochs, never below what its seat has read |
 //! | `Engine::look` | an observer | one load by the seat, and what the board shows of an epoch | epochs below the mark have passed; nothing, if the mark is another engine's and ahead |
 //! | `end` | the sole owner of the engine | ends the run | its `Report` |
 //! | `finish` | the same | the same, with the seats of observers | nothing, if a seat has read more epochs than have passed |
+//!
+//! `report_of` gives the report of a board that was under no lock.
 //!
 //! A worker that runs out of memory, or meets a count that would be above 9223372036854775807, abandons its event. That stops the board,
 //! and all workers end.
@@ -56,5 +57,5 @@ pub use events::{Gate, NoGate};
 pub use held::{Held, Naming};
 pub use mark::{Mark, Publisher, Seat};
 pub use plan::Feed;
-pub use report::{Report, end, finish};
-pub use working::{work, work_along};
+pub use report::{Report, end, finish, report_of};
+pub use working::work;

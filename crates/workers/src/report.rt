@@ -119,6 +119,15 @@ impl<V: Views> Report<V> {
     }
 }
 
+/// Ends a run of a board that was under no lock.
+pub fn report_of<V: Views>(board: Board<V>) -> Report<V>
+    ensures { result ≡ board.shown }
+{
+    let mut board = board;
+    board.catch_up(0);
+    Report { board }
+}
+
 /// Ends a run, once no thread shares the engine, whatever its observers have read.
 pub fn end<J: Naming, V: Views>(engine: Engine<J, V>) -> Report<V>
     ensures { result.graph ≡ J.graph }

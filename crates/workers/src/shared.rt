@@ -79,16 +79,8 @@ impl<J: Naming, V: Views> Shared<J, V> {
         (result, self.dispatcher.wake(true))
     }
 
-    /// An event for a thread, if there is one that it could compute now.
-    pub fn claim(&mut self, thread: u32) -> (Claimed, Wakeups)
-        ensures named { GivesNamed J.names result.0 }
-        ensures wakes { AsksAndWakes self.old.dispatcher.threads self.new.dispatcher.threads thread result.0 result.1.threads }
-    {
-        let claimed = self.dispatcher.claim(thread);
-        (claimed, self.dispatcher.wake(false))
-    }
-
-    /// As `claim`; a thread that finds nothing to do falls asleep. It may be among those that are woken, and then must not wait.
+    /// An event for a thread, if there is one that it could compute now; one that finds nothing to do falls asleep. It may be among those that are woken,
+    /// and then must not wait.
     pub fn claim_or_sleep(&mut self, thread: u32) -> (Claimed, Wakeups)
         ensures named { GivesNamed J.names result.0 }
         ensures wakes { RestsAndWakes self.old.dispatcher.threads self.new.dispatcher.threads thread result.0 result.1.threads }

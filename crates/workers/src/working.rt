@@ -31,19 +31,6 @@ pub fn work<J: Naming, V: Views, R: Wait, G: Gate>(
     unreachable!()
 }
 
-/// As `work`, but never sleeps: `None` if there is nothing that the worker could do now. `turn` goes on counting its events.
-pub fn work_along<J: Naming, V: Views, R: Wait, G: Gate>(
-    rt: &R,
-    alloc: Global,
-    engine: &Engine<J, V>,
-    worker: u32,
-    gate: &G,
-    turn: &mut u64,
-) -> Option<Ended> {
-    let claimed = engine.try_claim(rt, worker);
-    go_on(rt, alloc, engine, worker, gate, turn, claimed)
-}
-
 /// Computes and commits what was claimed, and goes on with what each commit claims. `None` if there is nothing to do now.
 fn go_on<J: Naming, V: Views, R: Wait, G: Gate>(
     rt: &R,
