@@ -53,11 +53,7 @@ abbrev pub Settles : Scheduler → Scheduler → (thread : ℕ) → {E : Type 0}
 Settles x y t (Ok claimed) = Asks x y t claimed
 Settles x y t (Err _) = Leaves x y t
 
--- a thread asks for an event, and then threads are woken
-abbrev pub AsksAndWakes : Scheduler → Scheduler → (thread : ℕ) → Claimed → (woken : ThreadSet) → Type 0
-AsksAndWakes x y t claimed woken = (z : Scheduler) × Asks x z t claimed × Wakes z y woken
-
--- the same, and without an event it falls asleep before
+-- a thread asks for an event, without one it falls asleep, and then threads are woken
 abbrev pub RestsAndWakes : Scheduler → Scheduler → (thread : ℕ) → Claimed → (woken : ThreadSet) → Type 0
 RestsAndWakes x y t claimed woken = (u : Scheduler) × (v : Scheduler) × Asks x u t claimed × Rests u v t claimed × Wakes v y woken
 

@@ -8,7 +8,7 @@ ghost use Rattle.board.specs.Lateness.{IsUpToDate};
 ghost use Rattle.driver.specs.Ends.{event_of};
 ghost use Rattle.workers.specs.Names.{GivesNamed, IsNamed};
 ghost use Rattle.workers.specs.Sleeping.{Wakes};
-ghost use Rattle.workers.specs.Wakeups.{AsksAndWakes, LosesNoWakeup, RestsAndWakes, SettlesAndWakes};
+ghost use Rattle.workers.specs.Wakeups.{LosesNoWakeup, RestsAndWakes, SettlesAndWakes};
 
 use crate::dispatcher::{Dispatcher, Wakeups};
 use crate::held::{Held, Naming};
