@@ -1,13 +1,15 @@
 //! Decides to which worker a record goes.
 
-ghost use Rattle.std.specs.Prelude.{◌≡◌, ◌<◌, ◌≤◌, ◌%◌, ℕ, fold};
+ghost use Rattle.std.specs.Prelude.{◌≡◌, ◌<◌, ◌≤◌, ◌%◌, ℕ, IfOk, IsTrue, fold};
 ghost use Rattle.semantics.specs.Meaning.{field as column_of, project};
 ghost use Rattle.semantics.specs.Route.{route as route_of};
 ghost use Rattle.exchange.specs.Homes.{home_of};
 ghost use Rattle.exchange.specs.Hashes.{step};
 ghost use Rattle.semantics.specs.Limits.{max_workers};
 
+use record_core::NoMemory;
 use rows::field;
+use std::alloc::Global;
 
 /// The most workers.
 pub const MAX_WORKERS: u32 = 64;
@@ -78,6 +80,12 @@ fn hash_step(hash: u64, value: i64) -> u64
     hash.wrapping_mul(31).wrapping_add(value.cast_unsigned())
 }
 
+fn same_columns(columns: &[u64], others: &[u64]) -> bool
+    ensures { IsTrue result → columns.now ≡ others.now }
+{
+    columns == others
+}
+
 /// The worker of the key that a row has in these columns.
 #[tactic(auto, using(crate::proofs::Folds::route_projects))]
 fn route_columns(columns: &[u64], row: &[i64], workers: u32) -> u32
@@ -90,6 +98,29 @@ fn route_columns(columns: &[u64], row: &[i64], workers: u32) -> u32
 }
 
 impl Routing {
+    /// The same routing once more.
+    pub(crate) fn copy(&self, alloc: Global) -> Result<Routing, NoMemory>
+        ensures { IfOk result (λ r. home_of r ≡ home_of self.now) }
+    {
+        match self {
+            Routing::ByKey(columns) => Ok(Routing::ByKey(Vec::from_slice(alloc, columns)?)),
+            Routing::ByRecord => Ok(Routing::ByRecord),
+            Routing::Stay => Ok(Routing::Stay),
+        }
+    }
+
+    /// Whether it is the same routing.
+    pub(crate) fn same(&self, other: &Routing) -> bool
+        ensures { IsTrue result → home_of self.now ≡ home_of other.now }
+    {
+        match (self, other) {
+            (Routing::ByKey(columns), Routing::ByKey(others)) => same_columns(columns, others),
+            (Routing::ByRecord, Routing::ByRecord) => true,
+            (Routing::Stay, Routing::Stay) => true,
+            _ => false,
+        }
+    }
+
     /// The worker, out of 1 to 64, to which a record from `sender` goes. Takes no memory.
     pub fn home(&self, workers: u32, sender: u32, row: &[i64]) -> u32
         requires fits { workers ≤ max_workers }
