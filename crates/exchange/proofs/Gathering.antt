@@ -6,7 +6,7 @@ use Rattle.std.proofs.Math.Seq.{take-suc}
 use Rattle.std.proofs.lemmas.List.{take_all, length-take-le}
 use Rattle.std.proofs.lemmas.Grind.{flat_map-append}
 use Rattle.semantics.specs.Meaning.{project}
-use Rattle.semantics.specs.Multiset.{Record, count, ◌≈◌, end_to_end}
+use Rattle.semantics.specs.Multiset.{Record, ◌≈◌, end_to_end}
 use Rattle.semantics.proofs.RoutedParts.{parts_sum, home_below}
 use Rattle.rows.specs.Counts.{Run, RunList, repeated, expanded, no_run, rows_of, runs, AreRuns}
 use Rattle.rows.specs.Indexes.{AreDifferent}

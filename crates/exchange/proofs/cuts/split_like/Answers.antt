@@ -1,13 +1,12 @@
-use Rattle.std.proofs.Common.{◌≡◌, ◌∙◌, List, subst, sym}
+use Rattle.std.proofs.Common.{◌∙◌, List, refl, subst, sym}
 use Rattle.semantics.specs.Multiset.{Record, ◌≈◌}
-use Rattle.exchange.specs.Homes.{home_of}
 use Rattle.exchange.specs.Parts.{from_all, parcels as divided}
 use Rattle.exchange.proofs.cuts.split_like.Goals as goal
 
 pub returns-then-serves-clause-each : goal.returns-then-serves-clause-each
 returns-then-serves-clause-each c =
     let e = c.if-serves.ensures in
-    c.in_ok-again.ensures ∙ c.in-Some.cut.each ∙ (λ i. divided (e.routing i (e.workers i) (e.sender i)) (e.batch i) (e.workers i))
+    c.in_ok-again.ensures ∙ c.in-Some.cut.each ∙ (λ i. divided (e.routing refl i (e.workers refl i) (e.sender refl i)) (e.batch refl i) (e.workers refl i))
 
 pub invariant_of-cut : goal.invariant_of-cut
 invariant_of-cut c = record {
