@@ -164,6 +164,7 @@ pub fn finish(
     let Output {
         place,
         wiring,
+        cuts,
         shard,
         sent,
         asked,
@@ -171,7 +172,7 @@ pub fn finish(
     } = output;
     note_request(added, &asked);
     note_letters(added, &sent);
-    workers[worker].settle(vertex, stub, wiring, shard, asked);
+    workers[worker].settle(vertex, stub, wiring, cuts, shard, asked);
     deliver(workers, sent);
     place
 }

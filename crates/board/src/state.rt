@@ -561,6 +561,7 @@ fn emit(emitted: &mut Emitted, vertex: usize, epoch: u32, output: Output) -> Res
     let Output {
         place,
         wiring,
+        cuts,
         shard,
         sent,
         asked,
@@ -570,6 +571,7 @@ fn emit(emitted: &mut Emitted, vertex: usize, epoch: u32, output: Output) -> Res
         Ok(()) => Ok(Output {
             place,
             wiring,
+            cuts,
             shard,
             sent,
             asked,
@@ -578,6 +580,7 @@ fn emit(emitted: &mut Emitted, vertex: usize, epoch: u32, output: Output) -> Res
         Err(batch) => Err(Output {
             place,
             wiring,
+            cuts,
             shard,
             sent,
             asked,

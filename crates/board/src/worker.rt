@@ -13,7 +13,7 @@ ghost use Rattle.board.specs.Steps.{out_with, settled, with_mail};
 use crate::merging::{merge, next_alike};
 use crate::slot::Slot;
 use events::{Event, Happening, Message, Request, Wiring};
-use exchange::Mailbox;
+use exchange::{Cuts, Mailbox};
 use loop_context::Time;
 use path_summary::Pointstamp;
 use record_core::NoMemory;
@@ -23,11 +23,12 @@ use std::sync::Arc;
 use tokens::tie::{Stub, Tie};
 use vertices::Shard;
 
-/// A worker's mailbox, its requests, its shards by vertex, and the token by which its event is known. While an event is out, the wiring and the shard
-/// of that event are out with it.
+/// A worker's mailbox, its requests, its shards by vertex, the last batches that it has divided, and the token by which its event is known. While an
+/// event is out, the wiring, the shard of that event and what was divided are out with it.
 #[derive(Drop)]
 pub struct Worker {
     wiring: Option<Arc<Wiring, Global>>,
+    cuts: Cuts,
     lost: bool,
     mailbox: Mailbox<Message>,
     requests: Mailbox<Request>,
@@ -85,6 +86,7 @@ impl Worker {
         let tie = Tie::new(alloc)?;
         Ok(Worker {
             wiring: Some(wiring),
+            cuts: Cuts::new(alloc),
             lost: false,
             mailbox: Mailbox::new(alloc),
             requests: Mailbox::new(alloc),
@@ -192,6 +194,7 @@ impl Worker {
         let wiring = self.wiring.take().unwrap();
         let event = Event {
             wiring,
+            cuts: self.cuts.take(),
             happening: Happening::Arrival(message),
             shard,
         };
@@ -216,6 +219,7 @@ impl Worker {
         let wiring = self.wiring.take().unwrap();
         let event = Event {
             wiring,
+            cuts: self.cuts.take(),
             happening: Happening::Notification(request),
             shard,
         };
@@ -250,12 +254,13 @@ impl Worker {
         self.tie.show(stub)
     }
 
-    /// Ends the event: takes back its shard and the wiring, and stores the request that it makes. Takes no memory.
+    /// Ends the event: takes back its shard, the wiring and what was divided, and stores the request that it makes. Takes no memory.
     pub fn settle(
         &mut self,
         vertex: usize,
         stub: Stub<Event>,
         wiring: Arc<Wiring, Global>,
+        cuts: Cuts,
         shard: Box<Shard>,
         asked: Option<Request>,
     )
@@ -269,6 +274,7 @@ impl Worker {
     {
         self.tie.take(stub);
         self.wiring = Some(wiring);
+        self.cuts = cuts;
         self.shards[vertex].put(shard);
         if let Some(request) = asked {
             self.requests.put_reserved(request);

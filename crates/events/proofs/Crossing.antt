@@ -35,6 +35,7 @@ use Rattle.events.proofs.letter.Letter.TheSendSync as letters
 use Rattle.path_summary.proofs.pointstamp.Pointstamp.TheSendSync as pointstamps
 use Rattle.rows.proofs.batch.Batch.TheSendSync as batches
 use Rattle.tokens.proofs.tie.Stub.TheSendSync as stubs
+use Rattle.exchange.proofs.cuts.Cuts.TheSendSync as cuts
 
 scalar_sync : IsSync (scalar.the_row heap.the_row allocates.ghosts)
 scalar_sync = search (sendable, crosses, scalars.sync-Scalar) depth 20
@@ -94,10 +95,10 @@ pub shard_send : IsSend shard.the_row
 shard_send = search (sendable, crosses, stateless_send, statefuls.the_field_send, notifieds.the_field_send) depth 40
 
 pub event_send : IsSend event.the_row
-event_send = search (sendable, crosses, shard_send, wiring_send, wiring_sync, happenings.the_field_send) depth 20
+event_send = search (sendable, crosses, shard_send, wiring_send, wiring_sync, cuts.the_field_send, happenings.the_field_send) depth 20
 
 output_field_send : IsSend output.the_field.row
-output_field_send = search (sendable, crosses, wiring_send, wiring_sync, shard_send, letters.the_send, requests.the_send, pointstamps.the_send, batches.the_send) depth 40
+output_field_send = search (sendable, crosses, wiring_send, wiring_sync, cuts.the_field_send, shard_send, letters.the_send, requests.the_send, pointstamps.the_send, batches.the_send) depth 40
 
 pub work_send : IsSend work.the_row
 work_send = search (sendable, crosses, event_send, stubs.the_send) depth 20

@@ -11,6 +11,7 @@ ghost use Rattle.events.specs.Wired.{graph_in, network_of};
 use crate::letter::Letter;
 use crate::sending::send;
 use crate::wiring::Wiring;
+use exchange::Cuts;
 use loop_context::Time;
 use record_core::NoMemory;
 use rows::Batch;
@@ -59,9 +60,17 @@ impl CutBatch {
         ensures { IfOk result (λ c. c ≡ record { wired = wiring.now.value; input = input; epoch = 0; batch = batch }) }
     {
         wiring.law_of_size();
-        let first = Some(batch.share()?);
+        let outs = (Some(batch.share()?), None);
         let start = Time::at_epoch(0);
-        let letters = send(alloc, wiring, 0, input, &start, &first, &None)?;
+        let letters = send(
+            alloc,
+            wiring,
+            &mut Cuts::new(alloc),
+            0,
+            input,
+            &start,
+            &outs,
+        )?;
         let wiring = Arc::try_clone(wiring)?;
         Ok(CutBatch {
             wiring,

@@ -11,6 +11,7 @@ use crate::splitting::{Parcel, Parcels, split};
 use record_core::NoMemory;
 use rows::Batch;
 use std::alloc::Global;
+use std::mem::replace;
 
 /// The most edges of which the last batch is known.
 const EDGES: usize = 16;
@@ -89,6 +90,7 @@ struct Last {
 /// The last batches of a sender, by edge.
 #[derive(Drop)]
 pub struct Cuts {
+    alloc: Global,
     last: Vec<Last>,
 }
 
@@ -96,14 +98,19 @@ impl Cuts {
     /// No batch was divided.
     pub fn new(alloc: Global) -> Cuts {
         Cuts {
+            alloc,
             last: Vec::new(alloc),
         }
+    }
+
+    /// All that is known, which is nothing from now on. Takes no memory.
+    pub fn take(&mut self) -> Cuts {
+        replace(self, Cuts::new(self.alloc))
     }
 
     /// As `split`. Where the batch that was sent over the edge last has the same records, its parcels are shared.
     pub fn split(
         &mut self,
-        alloc: Global,
         edge: u32,
         batch: Batch,
         routing: &Routing,
@@ -115,6 +122,7 @@ impl Cuts {
         ensures each { IfOk result (λ ps. ps.items ≡ divided (home_of routing.now workers sender) batch workers) }
         ensures sum { IfOk result (λ ps. batch ≈ from_all ps.items) }
     {
+        let alloc = self.alloc;
         match self.last_over(edge) {
             Some(last) => split_like(alloc, last, batch, routing, workers, sender),
             None => {

@@ -8,7 +8,32 @@ use Rattle.events.specs.Wired.{network_of}
 use Rattle.events.proofs.SentParcels.{no_letters}
 use Rattle.events.proofs.sending.parcels_over.Goals as goal
 
-pub returns-in-None : goal.returns-in-None
-returns-in-None c =
+pub returns-in_default : goal.returns-in_default
+returns-in_default c =
     let net = network_of c.args.wiring.now in
-    sym (ap (λ (b : Option (List Record)). letters_over net c.args.sender c.args.route.now.edge.0 c.args.time.now (records_of b)) c.in-None.is ∙ no_letters net c.args.sender c.args.route.now.edge.0 c.args.time.now)
+    ap (λ ps. map (letter_of c.args.route.now.edge.0 c.args.time.now) ps) c.new.ensures.items
+    ∙ sym (ap (λ (b : Option (List Record)). letters_over net c.args.sender c.args.route.now.edge.0 c.args.time.now (records_of b)) c.in_default.is ∙ no_letters net c.args.sender c.args.route.now.edge.0 c.args.time.now)
+
+pub returns-then-len-ge-WORTH_COMPARING : goal.returns-then-len-ge-WORTH_COMPARING
+returns-then-len-ge-WORTH_COMPARING c =
+    let workers = c.args.wiring.now.workers in
+    let batch = c.in_ok-shared.ensures ∙ sym (ap records_of c.in-Some.is) in
+    let cut =
+    c.in_ok-again.ensures.each
+    ∙ ap (λ n. parcels (home_of c.args.route.now.routing n c.args.sender) c.in_ok-shared.shared n) c.workers-workers.ensures.value
+    ∙ ap (λ records. parcels (home_of c.args.route.now.routing workers c.args.sender) records workers) batch
+    ∙ ap (λ home. parcels home (records_of c.args.batch.now) workers) (λ i x. c.requires.route.goes workers c.args.sender x i)
+    in
+    ap (λ ps. map (letter_of c.args.route.now.edge.0 c.args.time.now) ps) cut
+
+pub returns : goal.returns
+returns c =
+    let workers = c.args.wiring.now.workers in
+    let batch = c.in_ok-shared.ensures ∙ sym (ap records_of c.in-Some.is) in
+    let cut =
+    c.in_ok-parcels.ensures.each
+    ∙ ap (λ n. parcels (home_of c.args.route.now.routing n c.args.sender) c.in_ok-shared.shared n) c.workers-workers.ensures.value
+    ∙ ap (λ records. parcels (home_of c.args.route.now.routing workers c.args.sender) records workers) batch
+    ∙ ap (λ home. parcels home (records_of c.args.batch.now) workers) (λ i x. c.requires.route.goes workers c.args.sender x i)
+    in
+    ap (λ ps. map (letter_of c.args.route.now.edge.0 c.args.time.now) ps) cut
