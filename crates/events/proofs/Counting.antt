@@ -1,8 +1,8 @@
 -- Where the counts of an event are too large; and records in another order have the same counts.
-use Rattle.std.proofs.Common.{◌≡◌, ℕ, ◌+◌, List, [], ◌++◌, ◌⊎◌, inl, inr, refl, sym, ap, subst, arith}
+use Rattle.std.proofs.Common.{◌≡◌, ℕ, List, [], ◌++◌, ◌⊎◌, inl, inr, refl, sym, ap, subst, arith}
 use Rattle.semantics.specs.Graph.{Graph, in_port}
 use Rattle.semantics.specs.Kinds.{Kind, Role, out_ports, role}
-use Rattle.semantics.specs.Multiset.{Record, ◌≈◌, count, same}
+use Rattle.semantics.specs.Multiset.{Record, ◌≈◌, count}
 use Rattle.semantics.specs.Shard.{Absorbed, SendsBy}
 use Rattle.semantics.specs.Time.{Time}
 use Rattle.semantics.proofs.MultisetSums.{≈-from, ≈-sym, ≈-trans}

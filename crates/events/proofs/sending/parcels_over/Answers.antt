@@ -1,4 +1,4 @@
-use Rattle.std.proofs.Common.{◌≡◌, List, ℕ, Option, ap, sym, map, ◌∙◌}
+use Rattle.std.proofs.Common.{List, Option, ap, sym, map, ◌∙◌}
 use Rattle.semantics.specs.Multiset.{Record}
 use Rattle.exchange.specs.Parts.{parcels}
 use Rattle.exchange.specs.Homes.{home_of}

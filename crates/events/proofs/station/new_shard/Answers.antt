@@ -1,5 +1,5 @@
 use Rattle.std.specs.Prelude.{IfOk}
-use Rattle.std.proofs.Common.{◌≡◌, ℕ, map, subst, sym, ap, ◌∙◌}
+use Rattle.std.proofs.Common.{ℕ, map, subst, sym, ap, ◌∙◌}
 use Rattle.expr_tree.specs.Plain.{plain_cond, plain_agg}
 use Rattle.expr_tree.specs.Views.{cond_tree}
 use Rattle.graph.specs.Views.{kind_of}
