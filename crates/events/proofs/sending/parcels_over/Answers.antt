@@ -14,8 +14,8 @@ returns-in_default c =
     ap (λ ps. map (letter_of c.args.route.now.edge.0 c.args.time.now) ps) c.new.ensures.items
     ∙ sym (ap (λ (b : Option (List Record)). letters_over net c.args.sender c.args.route.now.edge.0 c.args.time.now (records_of b)) c.in_default.is ∙ no_letters net c.args.sender c.args.route.now.edge.0 c.args.time.now)
 
-pub returns-then-len-ge-WORTH_COMPARING : goal.returns-then-len-ge-WORTH_COMPARING
-returns-then-len-ge-WORTH_COMPARING c =
+pub returns-then-is_worth_comparing : goal.returns-then-is_worth_comparing
+returns-then-is_worth_comparing c =
     let workers = c.args.wiring.now.workers in
     let batch = c.in_ok-shared.ensures ∙ sym (ap records_of c.in-Some.is) in
     let cut =
