@@ -24,6 +24,7 @@ use Rattle.board.proofs.HandedOut.{hands_message, hands_message_kept, hands_requ
 use Rattle.board.proofs.Abandoning.{abandon_goes, abandon_kept}
 use Rattle.board.proofs.Later.{later}
 use Rattle.board.proofs.Merged.{merge_goes}
+use Rattle.board.proofs.Seeing.{seen_moved}
 
 open_rises : (xs : List InputShown) (i : ℕ) (x : InputShown) → (slice_index_or xs i no_input).open_epoch ≤ x.open_epoch → (j : ℕ) → (slice_index_or xs j no_input).open_epoch ≤ (slice_index_or (slice_set xs i x) j no_input).open_epoch
 open_rises [] i x e j = omega arith
@@ -86,6 +87,7 @@ module _ (graph : Graph) (viewers : ℕ) (content : Pointstamp → ℕ) (waiting
         prompt = keeps.prompt;
         passed_are = keeps.passed_are;
         passed_most = keeps.passed_most;
+        passed_seen = keeps.passed_seen;
       } in
       subst A (sym e) (subst B (sym content_is) (subst C (sym g) (subst D (sym v) (subst E (sym waiting_is) more))))
 
@@ -98,6 +100,7 @@ module _ (graph : Graph) (viewers : ℕ) (content : Pointstamp → ℕ) (waiting
     prompt = keeps.prompt;
     passed_are = have_passed graph content s keeps.kept step t goes (λ i. let e = ap (λ (xs : List InputShown). (slice_index_or xs i no_input).open_epoch) inputs in omega (arith, e)) passed keeps.passed_are;
     passed_most = most_same graph (IsSeenBy content waiting viewers 0) s t inputs goes.graph passed keeps.passed_most;
+    passed_seen = seen_moved graph graph viewers viewers content waiting s t passed refl refl goes.graph keeps.passed_seen;
   }
 
   -- after an event is handed out

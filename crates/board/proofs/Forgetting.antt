@@ -35,6 +35,7 @@ use Rattle.board.proofs.Counts.{most_same, passed_there, sealed_there}
 use Rattle.board.proofs.Places.{index_set_here, same_set}
 use Rattle.board.proofs.Shards.{each_changed}
 use Rattle.board.proofs.Worlds as worlds
+use Rattle.board.proofs.Seeing.{seen_moved}
 
 one_vertex : (u v : ℕ) → Location.vertex u ≡ Location.vertex v → u ≡ v
 one_vertex u v e = cc
@@ -190,6 +191,7 @@ module _ (graph : Graph) (content : Pointstamp → ℕ) (s : Shown) (kept : IsKe
         prompt = keeps.prompt;
         passed_are = passed_less known keeps.passed_are;
         passed_most = most_same graph (IsSeenBy content waiting viewers 0) s t less.inputs less.graph known keeps.passed_most;
+        passed_seen = seen_moved graph graph viewers viewers content waiting s t known refl refl less.graph keeps.passed_seen;
       }
 
 -- what was handed out behind it was handed out before

@@ -34,6 +34,7 @@ pub mod Picking
 pub mod Counted
 pub mod Posts
 pub mod Lateness
+pub mod Seeing
 pub mod Opening
 pub mod Promised
 pub mod Opened

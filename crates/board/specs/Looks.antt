@@ -52,12 +52,13 @@ pub record IsPromisedBy (p : Program) (l : LookShown) (k : ℕ) : Type 0 where
 abbrev pub IsPromised : LookShown → Type 0
 IsPromised l = (p : Program) (ns : List ℕ) → WellTyped p ns → shown_graph l.graph ≡ lowered p → (k : ℕ) → k < length p.outputs → IsPromisedBy p l k
 
--- The look is what the board shows of an output at the epoch. What it shows as passed has passed; what has passed is shown so, if the first worker's
--- view is up to date.
+-- The look is what the board shows of an output at the epoch. What it shows as passed has passed; what has passed is shown so, if it is known to have
+-- passed at every output, or if the first worker's view is up to date.
 pub record IsOutputLookAt (b : BoardShown) (e k : ℕ) (o : OutputLook) : Type 0 where
   pub emitted : o.emitted ≡ slice_index_or (emitted_by b.shown.emitted (output_number (shown_graph b.shown.graph) k)) e []
   pub passed : o.passed ≡ true → HasPassed b.shown k e
   pub seen : IsUpToDate b 0 → HasPassed b.shown k e → o.passed ≡ true
+  pub known : e < b.passed → o.passed ≡ true
 
 -- the looks are what the board shows of its outputs at the epoch
 pub record AreOutputLooks (b : BoardShown) (e : ℕ) (outputs : List OutputLook) : Type 0 where

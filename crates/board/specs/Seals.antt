@@ -27,6 +27,10 @@ NoneLeft graph these s k e = NoneOf (CouldResultIn graph) these (at_vertex (outp
 abbrev pub NoneLeftAtAll : Graph → (these : Pointstamp → Type 0) → Shown → (epoch : ℕ) → Type 0
 NoneLeftAtAll graph these s e = (k : ℕ) → IsOutputPlace s k → NoneLeft graph these s k e
 
+-- the same for each epoch below n
+abbrev pub AreSeenBelow : Graph → (these : Pointstamp → Type 0) → Shown → (n : ℕ) → Type 0
+AreSeenBelow graph these s n = (e : ℕ) → e < n → NoneLeftAtAll graph these s e
+
 -- Each epoch below n is seen to have passed, as far as inputs are sealed: n is at most the greatest number of seals, and if it is below, some of
 -- these could still result at an output for the epoch n.
 abbrev pub IsMostSeen : Graph → (these : Pointstamp → Type 0) → Shown → ℕ → Type 0

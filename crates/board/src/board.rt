@@ -598,12 +598,13 @@ impl<V: Views> Board<V> {
         }
     }
 
-    /// Whether an epoch has passed at an output as the first worker sees it: no more records will come there for it. The output is given by its
-    /// place.
+    /// Whether an epoch has passed at an output as the first worker sees it: no more records will come there for it. True of each epoch that is
+    /// counted as passed, whatever waits. The output is given by its place.
     pub fn passed(&self, output: u32, epoch: u32) -> bool
         requires { IsOutputPlace self.now.shown output }
         ensures passed { IsTrue result → HasPassed self.now.shown output epoch }
         ensures seen { IsUpToDate self.now 0 → HasPassed self.now.shown output epoch → IsTrue result }
+        ensures known { epoch < self.now.passed → IsTrue result }
     {
         law_of_waiting();
         is_past(&self.views, &self.state, output, epoch)

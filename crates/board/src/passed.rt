@@ -6,7 +6,7 @@ ghost use Rattle.semantics.specs.Time.{at_epoch};
 ghost use Rattle.views.specs.Waiting.{IsSeenBy};
 ghost use Rattle.board.specs.Kept.{IsKept};
 ghost use Rattle.board.specs.Promises.{IsOutputPlace};
-ghost use Rattle.board.specs.Seals.{AreOutputsIn, HavePassed, IsMostSeen, NoneLeft, NoneLeftAtAll};
+ghost use Rattle.board.specs.Seals.{AreOutputsIn, AreSeenBelow, HavePassed, IsMostSeen, NoneLeft, NoneLeftAtAll};
 
 use crate::state::State;
 use graph::{Location, VertexId};
@@ -20,9 +20,11 @@ pub fn passed_now<V: Views>(views: &V, state: &State, from: u32) -> u32
     requires kept { IsKept (V.graph views.now) (V.content views.now) state.now }
     requires viewers { V.workers views.now ≡ length state.now.sides }
     requires passed { HavePassed state.now from }
+    requires seen { AreSeenBelow (V.graph views.now) (IsSeenBy (V.content views.now) (V.waiting views.now) (V.workers views.now) 0) state.now from }
     ensures from { from ≤ result }
     ensures passed { HavePassed state.now result }
     ensures most { IsMostSeen (V.graph views.now) (IsSeenBy (V.content views.now) (V.waiting views.now) (V.workers views.now) 0) state.now result }
+    ensures seen { AreSeenBelow (V.graph views.now) (IsSeenBy (V.content views.now) (V.waiting views.now) (V.workers views.now) 0) state.now result }
 {
     passed_from(views, state, from, state.seals())
 }
@@ -36,6 +38,8 @@ fn passed_from<V: Views>(views: &V, state: &State, from: u32, sealed: u32) -> u3
     ensures from { from ≤ result }
     ensures most { result ≤ sealed }
     ensures passed { (e : ℕ) → from ≤ e → e < result → NoneLeftAtAll (V.graph views.now) (λ q. 0 < V.content views.now q) state.now e }
+    ensures seen { (e : ℕ) → from ≤ e → e < result → NoneLeftAtAll (V.graph views.now)
+        (IsSeenBy (V.content views.now) (V.waiting views.now) (V.workers views.now) 0) state.now e }
     ensures first { result < sealed →
         NoneLeftAtAll (V.graph views.now) (IsSeenBy (V.content views.now) (V.waiting views.now) (V.workers views.now) 0) state.now result → ⊥ }
 {
@@ -52,8 +56,8 @@ pub fn is_over<V: Views>(views: &V, state: &State, epoch: u32) -> bool
     requires some { 0 < V.workers views.now }
     requires outputs { AreOutputsIn (V.graph views.now) state.now }
     ensures there { IsTrue result → NoneLeftAtAll (V.graph views.now) (λ q. 0 < V.content views.now q) state.now epoch }
-    ensures seen { NoneLeftAtAll (V.graph views.now) (IsSeenBy (V.content views.now) (V.waiting views.now) (V.workers views.now) 0) state.now epoch →
-        IsTrue result }
+    ensures seen { IsTrue result ↔
+        NoneLeftAtAll (V.graph views.now) (IsSeenBy (V.content views.now) (V.waiting views.now) (V.workers views.now) 0) state.now epoch }
 {
     for output in 0..state.output_count() {
         if !views.none_before(0, &output_place(state.output(output), epoch)) {

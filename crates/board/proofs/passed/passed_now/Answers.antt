@@ -1,4 +1,7 @@
-use Rattle.std.proofs.Common.{◌≡◌, arith}
+use Rattle.std.proofs.Common.{◌≡◌, ◌⊎◌, inl, inr, ◌<◌, ◌≤◌, arith}
+use Rattle.std.proofs.lemmas.Bool.{cases_lt}
+use Rattle.views.specs.Waiting.{IsSeenBy}
+use Rattle.board.specs.Seals.{NoneLeftAtAll}
 use Rattle.board.specs.Shown.{Shown}
 use Rattle.board.proofs.Passing.{at_most_seals, have_further, outputs_there, seals_one}
 use Rattle.board.proofs.passed.passed_now.Goals as goal
@@ -25,3 +28,10 @@ returns-clause-most g c m most =
     let r = c.passed_from.ensures in
     let same : m ≡ c.seals.result = seals_one c.args.state.now m c.seals.result most c.seals.ensures in
     (omega (arith, r.most, same), λ l. r.first (omega (arith, l, same)))
+
+pub returns-clause-seen : goal.returns-clause-seen
+returns-clause-seen g c e l = go (cases_lt e c.args.from)
+  where
+    go : (e < c.args.from) ⊎ (c.args.from ≤ e) → NoneLeftAtAll (g.V.Views.graph c.args.views.now) (IsSeenBy (g.V.Views.content c.args.views.now) (g.V.Views.waiting c.args.views.now) (g.V.Views.workers c.args.views.now) 0) c.args.state.now e
+    go (inl early) = c.requires.seen e early
+    go (inr late) = c.passed_from.ensures.seen e late l

@@ -4,6 +4,7 @@ use Rattle.board.specs.Shown.{Shown}
 use Rattle.views.specs.Waiting.{IsApplied}
 use Rattle.board.proofs.Counted.{keeps_same, kept_same}
 use Rattle.board.proofs.Lateness.{applied_none, applied_nothing, applied_one, applied_some, counts_same, board_of, no_sender, no_worker, waits_same}
+use Rattle.board.proofs.Seeing.{seen_applied, seen_moved}
 use Rattle.board.proofs.board.Board.apply.Goals as goal
 
 pub invariant_of-self : goal.invariant_of-self
@@ -24,6 +25,14 @@ passed_now-self-inside-requires-clause-kept g c = kept_same (g.V.Views.graph c.s
 pub passed_now-self-inside-requires-clause-viewers : goal.passed_now-self-inside-requires-clause-viewers
 passed_now-self-inside-requires-clause-viewers g c = c.apply.ensures.workers ∙ c.self.invariant.viewers_are
 
+pub passed_now-self-inside-requires-clause-seen : goal.passed_now-self-inside-requires-clause-seen
+passed_now-self-inside-requires-clause-seen g c =
+    let s : Shown = c.self.inside.state in
+    let same = c.apply.ensures.graph in
+    let workers = c.apply.ensures.workers in
+    seen_moved (g.V.Views.graph c.self.inside.views) (g.V.Views.graph c.apply.new.self) (g.V.Views.workers c.self.inside.views) (g.V.Views.workers c.apply.new.self) (g.V.Views.content c.apply.new.self) (g.V.Views.waiting c.apply.new.self) s s c.self.inside.passed same workers refl
+    (seen_applied (g.V.Views.graph c.self.inside.views) (g.V.Views.workers c.self.inside.views) c.args.worker (g.V.Views.content c.self.inside.views) (g.V.Views.content c.apply.new.self) (g.V.Views.waiting c.self.inside.views) (g.V.Views.waiting c.apply.new.self) c.apply.ensures.content (λ w k ne. c.apply.ensures.others w k (λ a b. ne a)) c.apply.ensures.stays s c.self.inside.passed c.self.invariant.passed_seen)
+
 pub invariant_of-self-2 : goal.invariant_of-self-2
 invariant_of-self-2 g c =
     let s : Shown = c.self.inside.state in
@@ -37,6 +46,7 @@ invariant_of-self-2 g c =
       prompt = λ late w k l m. absurd (applied_some c.args.worker c.args.sender (g.V.Views.waiting c.self.inside.views) (g.V.Views.waiting c.apply.new.self) one (c.self.invariant.prompt late c.args.worker c.args.sender (let x = c.if-worker-workers.false in omega (arith, x, e, v)) (let y = c.if-sender-workers.false in omega (arith, y, e, v))));
       passed_are = c.passed_now-self-inside.ensures.passed;
       passed_most = c.passed_now-self-inside.ensures.most;
+      passed_seen = c.passed_now-self-inside.ensures.seen;
     }
 
 pub returns-then-worker-workers-clause-applied : goal.returns-then-worker-workers-clause-applied

@@ -1,4 +1,4 @@
-use Rattle.std.proofs.Common.{ℕ, sym, subst, arith}
+use Rattle.std.proofs.Common.{ℕ, refl, sym, subst, arith}
 use Rattle.semantics.specs.Could.{CouldResultIn, NoneOf, Pointstamp, at_vertex}
 use Rattle.semantics.specs.Graph.{Graph, output_number}
 use Rattle.semantics.specs.Time.{at_epoch}
@@ -8,6 +8,8 @@ use Rattle.board.specs.Promises.{IsOutputPlace}
 use Rattle.views.specs.Waiting.{IsSeenBy}
 use Rattle.board.proofs.Counted.{kept_same}
 use Rattle.board.proofs.Passing.{has_passed, outputs_there}
+use Rattle.board.proofs.Seeing.{seen_moved}
+use Rattle.board.specs.Shown.{Shown}
 use Rattle.board.proofs.board.Board.apply_and_ask.Goals as goal
 
 pub is_past-had-requires-clause-some : goal.is_past-had-requires-clause-some
@@ -18,6 +20,12 @@ is_past-had-requires-clause-outputs g c = outputs_there (g.V.Views.graph c.self.
 
 pub is_past-had-requires-clause-place : goal.is_past-had-requires-clause-place
 is_past-had-requires-clause-place g c = subst (λ (b : BoardShown). IsOutputPlace b.shown c.args.output) (sym c.self.view_is) c.requires
+
+pub passed_now-self-inside-requires-clause-seen : goal.passed_now-self-inside-requires-clause-seen
+passed_now-self-inside-requires-clause-seen g c =
+    let s : Shown = c.self.inside.state in
+    seen_moved (g.V.Views.graph c.self.inside.views) (g.V.Views.graph c.apply_there.new.views) (g.V.Views.workers c.self.inside.views) (g.V.Views.workers c.apply_there.new.views) (g.V.Views.content c.apply_there.new.views) (g.V.Views.waiting c.apply_there.new.views) s s c.self.inside.passed c.apply_there.ensures.graph c.apply_there.ensures.workers refl
+    (λ e l k there. c.apply_there.ensures.stays 0 (at_vertex (output_number (shown_graph s.graph) k) (at_epoch e)) (c.self.invariant.passed_seen e l k there))
 
 pub is_past-requires-clause-outputs : goal.is_past-requires-clause-outputs
 is_past-requires-clause-outputs g c =

@@ -3,6 +3,9 @@ use Rattle.board.specs.Lateness.{Applies, BoardShown, IsUpToDate}
 use Rattle.board.specs.Shown.{Shown}
 use Rattle.board.proofs.Counted.{kept_same}
 use Rattle.board.proofs.Lateness.{board_of, no_worker, caught_fewer, caught_prompt, up_to_date, waits_same}
+use Rattle.semantics.specs.Could.{CouldResultIn, NoneOf, Pointstamp}
+use Rattle.views.specs.Waiting.{IsSeenBy}
+use Rattle.board.proofs.Seeing.{seen_applied, seen_moved}
 use Rattle.board.proofs.board.Board.catch_up.Goals as goal
 
 pub passed_now-self-inside-requires-clause-kept : goal.passed_now-self-inside-requires-clause-kept
@@ -20,6 +23,14 @@ catch_up-requires-clause-worker g c = let l = c.if-worker-workers.false in let e
 pub passed_now-self-inside-requires-clause-viewers : goal.passed_now-self-inside-requires-clause-viewers
 passed_now-self-inside-requires-clause-viewers g c = c.catch_up.ensures.workers ∙ c.self.invariant.viewers_are
 
+pub passed_now-self-inside-requires-clause-seen : goal.passed_now-self-inside-requires-clause-seen
+passed_now-self-inside-requires-clause-seen g c =
+    let s : Shown = c.self.inside.state in
+    let many : c.worker_count-workers.result ≡ (g.V.Views.workers c.self.inside.views) = c.worker_count-workers.ensures ∙ sym c.self.invariant.viewers_are in
+    let P : ℕ → Type 0 = λ n. (p : Pointstamp) → NoneOf (CouldResultIn (g.V.Views.graph c.self.inside.views)) (IsSeenBy (g.V.Views.content c.self.inside.views) (g.V.Views.waiting c.self.inside.views) n c.args.worker) p → NoneOf (CouldResultIn (g.V.Views.graph c.self.inside.views)) (IsSeenBy (g.V.Views.content c.catch_up.new.views) (g.V.Views.waiting c.catch_up.new.views) n c.args.worker) p in
+    seen_moved (g.V.Views.graph c.self.inside.views) (g.V.Views.graph c.catch_up.new.views) (g.V.Views.workers c.self.inside.views) (g.V.Views.workers c.catch_up.new.views) (g.V.Views.content c.catch_up.new.views) (g.V.Views.waiting c.catch_up.new.views) s s c.self.inside.passed c.catch_up.ensures.graph c.catch_up.ensures.workers refl
+    (seen_applied (g.V.Views.graph c.self.inside.views) (g.V.Views.workers c.self.inside.views) c.args.worker (g.V.Views.content c.self.inside.views) (g.V.Views.content c.catch_up.new.views) (g.V.Views.waiting c.self.inside.views) (g.V.Views.waiting c.catch_up.new.views) c.catch_up.ensures.content c.catch_up.ensures.others (subst P many c.catch_up.ensures.stays) s c.self.inside.passed c.self.invariant.passed_seen)
+
 pub invariant_of-self : goal.invariant_of-self
 invariant_of-self g c =
     let s : Shown = c.self.inside.state in
@@ -31,6 +42,7 @@ invariant_of-self g c =
       prompt = λ late w k l m. caught_prompt (g.V.Views.workers c.self.inside.views) c.args.worker (g.V.Views.waiting c.self.inside.views) (g.V.Views.waiting c.catch_up.new.views) (λ j lj. c.catch_up.ensures.none j (omega (arith, lj, same))) c.catch_up.ensures.others (c.self.invariant.prompt late) w k (let e = c.catch_up.ensures.workers in omega (arith, l, e)) (let e = c.catch_up.ensures.workers in omega (arith, m, e));
       passed_are = c.passed_now-self-inside.ensures.passed;
       passed_most = c.passed_now-self-inside.ensures.most;
+      passed_seen = c.passed_now-self-inside.ensures.seen;
     }
 
 pub returns-clause-applies : goal.returns-clause-applies

@@ -11,6 +11,7 @@ use Rattle.board.proofs.Counted.{closed_passed, one_closed}
 use Rattle.board.proofs.Ended.{close_goes, open_tells}
 use Rattle.board.proofs.Lateness.{board_of, posted_prompt, posted_some, posts}
 use Rattle.board.proofs.Posts.{close_posted, may_close}
+use Rattle.board.proofs.Seeing.{seen_posted}
 use Rattle.board.proofs.board.Board.close.Goals as goal
 
 pub post-requires-clause-sender : goal.post-requires-clause-sender
@@ -45,6 +46,22 @@ passed_now-self-inside-requires-clause-kept g c =
     let kept : IsKept (g.V.Views.graph c.post.new.views) (g.V.Views.content c.post.new.views) c.close.new.self = (let P : Shown → Type 0 = λ z. IsKept (g.V.Views.graph c.post.new.views) (g.V.Views.content c.post.new.views) z in
     subst P (sym c.close.ensures) (close_posted (g.V.Views.graph c.self.inside.views) (g.V.Views.graph c.post.new.views) (g.V.Views.content c.self.inside.views) (g.V.Views.content c.post.new.views) s c.self.invariant.kept i takes c.post.ensures.graph c.input_place-ends.result ends c.post.ensures.content)) in
     kept
+
+pub passed_now-self-inside-requires-clause-seen : goal.passed_now-self-inside-requires-clause-seen
+passed_now-self-inside-requires-clause-seen g c =
+    let s : Shown = c.self.inside.state in
+    let i : ℕ = c.args.input in
+    let takes = open_tells s i (sym c.input_refusal.ensures ∙ c.in_default.is) in
+    let n = c.self.invariant.viewers_are in
+    let ends : c.input_place-ends.result ≡ at_vertex i (at_epoch (input_at s i).open_epoch) = c.input_place-ends.ensures ∙ ap (λ m. at_vertex i (at_epoch m)) c.open_epoch-epoch.ensures in
+    let kept : IsKept (g.V.Views.graph c.post.new.views) (g.V.Views.content c.post.new.views) c.close.new.self = (let P : Shown → Type 0 = λ z. IsKept (g.V.Views.graph c.post.new.views) (g.V.Views.content c.post.new.views) z in
+    subst P (sym c.close.ensures) (close_posted (g.V.Views.graph c.self.inside.views) (g.V.Views.graph c.post.new.views) (g.V.Views.content c.self.inside.views) (g.V.Views.content c.post.new.views) s c.self.invariant.kept i takes c.post.ensures.graph c.input_place-ends.result ends c.post.ensures.content)) in
+    let kept_then : IsKept (g.V.Views.graph c.post.new.views) (g.V.Views.content c.post.new.views) c.close.new.self = kept in
+    seen_posted g.V.Views.late (g.V.Views.graph c.self.inside.views) (g.V.Views.graph c.post.new.views) (g.V.Views.workers c.self.inside.views) (g.V.Views.workers c.post.new.views) (g.V.Views.content c.self.inside.views) (g.V.Views.content c.self.inside.views) (g.V.Views.content c.post.new.views) (g.V.Views.waiting c.self.inside.views) (g.V.Views.waiting c.self.inside.views) (g.V.Views.waiting c.post.new.views) s c.close.new.self
+    (c.post.ensures.graph) (c.post.ensures.workers) (ap (λ (z : Shown). z.graph) c.close.ensures) (let l = c.self.invariant.kept.some in omega (arith, l, n)) (λ q. refl) (λ w k. refl)
+    (batch c.worker_count-feeder.result [] (c.input_place-ends.result ∷ [])) (let e = c.worker_count-feeder.ensures in omega (arith, e, n)) (0 + length (c.input_place-ends.result ∷ [])) c.post.ensures.content (may_close c.law_of_step.ensures.may (g.V.Views.graph c.self.inside.views) (g.V.Views.graph c.self.inside.views) (g.V.Views.workers c.self.inside.views) (g.V.Views.content c.self.inside.views) (g.V.Views.content c.self.inside.views) s c.self.invariant.kept n refl (λ q. refl) i takes c.worker_count-feeder.result c.worker_count-feeder.ensures c.input_place-ends.result ends).there
+    c.post.ensures.waiting
+    kept_then c.self.inside.passed (closed_passed (g.V.Views.graph c.self.inside.views) (g.V.Views.workers c.self.inside.views) (g.V.Views.content c.self.inside.views) (g.V.Views.waiting c.self.inside.views) (g.V.Views.room c.self.inside.views) g.V.Views.late c.self.inside.passed s c.self.invariant c.close.new.self i takes c.close.ensures) c.self.invariant.passed_seen
 
 pub passed_now-self-inside-requires-clause-viewers : goal.passed_now-self-inside-requires-clause-viewers
 passed_now-self-inside-requires-clause-viewers g c =
@@ -84,6 +101,7 @@ invariant_of-self g c =
       prompt = λ late w k l m. posted_prompt g.V.Views.late (g.V.Views.waiting c.self.inside.views) (g.V.Views.waiting c.self.inside.views) (g.V.Views.waiting c.post.new.views) (batch c.worker_count-feeder.result [] (c.input_place-ends.result ∷ [])) (0 + length (c.input_place-ends.result ∷ [])) (g.V.Views.workers c.self.inside.views) (λ w k. refl) c.post.ensures.waiting c.self.invariant.prompt late w k (let e = c.post.ensures.workers in omega (arith, l, e)) (let e = c.post.ensures.workers in omega (arith, m, e));
       passed_are = c.passed_now-self-inside.ensures.passed;
       passed_most = c.passed_now-self-inside.ensures.most;
+      passed_seen = c.passed_now-self-inside.ensures.seen;
     }
 
 pub returns-clause-step : goal.returns-clause-step

@@ -7,7 +7,7 @@ use Rattle.machine.specs.Step.{Step}
 use Rattle.views.specs.Waiting.{batch}
 use Rattle.board.specs.Answers.{Holds}
 use Rattle.board.specs.Commits.{IsOf, Settles, SettlesBy}
-use Rattle.board.specs.Kept.{Goes}
+use Rattle.board.specs.Kept.{Goes, IsKept}
 use Rattle.board.specs.Lateness.{BoardShown, Posts}
 use Rattle.board.specs.Shown.{Shown, tables}
 use Rattle.board.proofs.BoardCalls.{commit_goes, commit_tables, kept_commit}
@@ -16,6 +16,7 @@ use Rattle.board.proofs.Lateness.{board_of, counts_same, posted_prompt, posted_s
 use Rattle.board.proofs.Posts.{may_commit, settled_inputs, settled_workers, settles_from}
 use Rattle.events.specs.Jobs.{Pass}
 use Rattle.board.proofs.Facts.{own_side}
+use Rattle.board.proofs.Seeing.{seen_posted}
 use Rattle.board.proofs.board.Board.commit.Goals as goal
 
 pub post_noted-requires-clause-sender : goal.post_noted-requires-clause-sender
@@ -56,6 +57,23 @@ passed_now-self-inside-requires-clause-kept g c =
     let settles : Settles s c.commit.new.self (g.V.Views.content c.self.inside.views) (g.V.Views.content c.post_noted.new.views) p = settles_from (g.V.Views.content c.self.inside.views) (g.V.Views.content c.commit.new.views) (g.V.Views.content c.post_noted.new.views) s c.commit.new.self c.commit.new.added.items c.in-Ok.place p c.commit.ensures.content c.post_noted.ensures.content x in
     let same : (g.V.Views.graph c.post_noted.new.views) ≡ (g.V.Views.graph c.self.inside.views) = c.post_noted.ensures.graph ∙ c.commit.ensures.graph in
     kept_commit (g.V.Views.graph c.self.inside.views) (g.V.Views.graph c.post_noted.new.views) (g.V.Views.content c.self.inside.views) (g.V.Views.content c.post_noted.new.views) s c.commit.new.self p c.self.invariant.kept of settles same
+
+pub passed_now-self-inside-requires-clause-seen : goal.passed_now-self-inside-requires-clause-seen
+passed_now-self-inside-requires-clause-seen g c =
+    let s : Shown = c.self.inside.state in
+    let p : Pass = c.args.done in
+    let n = c.self.invariant.viewers_are in
+    let of : IsOf s p = subst (λ (b : BoardShown). IsOf b.shown p) (sym c.self.view_is) c.requires in
+    let x : SettlesBy s c.commit.new.self c.commit.new.added.items c.in-Ok.place p = c.in-Ok.ensures.settles in
+    let settles : Settles s c.commit.new.self (g.V.Views.content c.self.inside.views) (g.V.Views.content c.post_noted.new.views) p = settles_from (g.V.Views.content c.self.inside.views) (g.V.Views.content c.commit.new.views) (g.V.Views.content c.post_noted.new.views) s c.commit.new.self c.commit.new.added.items c.in-Ok.place p c.commit.ensures.content c.post_noted.ensures.content x in
+    let same : (g.V.Views.graph c.post_noted.new.views) ≡ (g.V.Views.graph c.self.inside.views) = c.post_noted.ensures.graph ∙ c.commit.ensures.graph in
+    let kept_then : IsKept (g.V.Views.graph c.post_noted.new.views) (g.V.Views.content c.post_noted.new.views) c.commit.new.self = kept_commit (g.V.Views.graph c.self.inside.views) (g.V.Views.graph c.post_noted.new.views) (g.V.Views.content c.self.inside.views) (g.V.Views.content c.post_noted.new.views) s c.commit.new.self p c.self.invariant.kept of settles same in
+    let own = own_side s p of in
+    seen_posted g.V.Views.late (g.V.Views.graph c.self.inside.views) (g.V.Views.graph c.post_noted.new.views) (g.V.Views.workers c.self.inside.views) (g.V.Views.workers c.post_noted.new.views) (g.V.Views.content c.self.inside.views) (g.V.Views.content c.commit.new.views) (g.V.Views.content c.post_noted.new.views) (g.V.Views.waiting c.self.inside.views) (g.V.Views.waiting c.commit.new.views) (g.V.Views.waiting c.post_noted.new.views) s c.commit.new.self
+    same (c.post_noted.ensures.workers ∙ c.commit.ensures.workers) (ap (λ (z : Shown). z.graph) x.state) (let l = c.self.invariant.kept.some in omega (arith, l, n)) c.commit.ensures.content c.commit.ensures.waiting
+    (batch c.worker-worker.result c.commit.new.added.items (c.in-Ok.place ∷ [])) (let e = c.worker-worker.ensures in omega (arith, own.0, e, n)) (length c.commit.new.added.items + length (c.in-Ok.place ∷ [])) c.post_noted.ensures.content (may_commit c.law_of_step.ensures.may (g.V.Views.graph c.self.inside.views) (g.V.Views.graph c.commit.new.views) (g.V.Views.workers c.commit.new.views) (g.V.Views.content c.self.inside.views) (g.V.Views.content c.commit.new.views) s c.self.invariant.kept (c.commit.ensures.workers ∙ n) c.commit.ensures.graph c.commit.ensures.content p of c.commit.new.self c.commit.new.added.items c.in-Ok.place x).there
+    (λ w k l. c.post_noted.ensures.waiting w k (let e = c.commit.ensures.workers in omega (arith, l, e)))
+    kept_then c.self.inside.passed (committed_passed (g.V.Views.graph c.self.inside.views) (g.V.Views.workers c.self.inside.views) (g.V.Views.content c.self.inside.views) (g.V.Views.waiting c.self.inside.views) (g.V.Views.room c.self.inside.views) g.V.Views.late c.self.inside.passed s c.self.invariant c.commit.new.self (g.V.Views.content c.post_noted.new.views) p of settles) c.self.invariant.passed_seen
 
 pub passed_now-self-inside-requires-clause-viewers : goal.passed_now-self-inside-requires-clause-viewers
 passed_now-self-inside-requires-clause-viewers g c =
@@ -100,6 +118,7 @@ invariant_of-self g c =
       prompt = λ late w k l m. posted_prompt g.V.Views.late (g.V.Views.waiting c.commit.new.views) (g.V.Views.waiting c.self.inside.views) (g.V.Views.waiting c.post_noted.new.views) (batch c.worker-worker.result c.commit.new.added.items (c.in-Ok.place ∷ [])) (length c.commit.new.added.items + length (c.in-Ok.place ∷ [])) (g.V.Views.workers c.self.inside.views) c.commit.ensures.waiting (λ x y z. c.post_noted.ensures.waiting x y (let e = c.commit.ensures.workers in omega (arith, z, e))) c.self.invariant.prompt late w k (let e = c.post_noted.ensures.workers in let f = c.commit.ensures.workers in omega (arith, l, e, f)) (let e = c.post_noted.ensures.workers in let f = c.commit.ensures.workers in omega (arith, m, e, f));
       passed_are = c.passed_now-self-inside.ensures.passed;
       passed_most = c.passed_now-self-inside.ensures.most;
+      passed_seen = c.passed_now-self-inside.ensures.seen;
     }
 
 pub invariant_of-self-in-Err : goal.invariant_of-self-in-Err

@@ -6,7 +6,7 @@ use Rattle.rows.specs.FlatRows.{arity_of}
 use Rattle.views.specs.Waiting.{batch}
 use Rattle.board.specs.Answers.{feed_refusal}
 use Rattle.board.specs.Commits.{Feeds, FeedsBy}
-use Rattle.board.specs.Kept.{Goes}
+use Rattle.board.specs.Kept.{Goes, IsKept}
 use Rattle.board.specs.Lateness.{BoardShown, PostsSome}
 use Rattle.board.specs.Shown.{Shown, tables}
 use Rattle.board.proofs.FedBatches.{each_record, some_records}
@@ -15,6 +15,7 @@ use Rattle.board.proofs.Counted.{fed_passed, few_open, keeps_same}
 use Rattle.board.proofs.Feeding.{accepted, feeds_goes, feeds_kept}
 use Rattle.board.proofs.Lateness.{board_of, counts_same, posted_prompt}
 use Rattle.board.proofs.Posts.{feeds_from, may_feed, fed_inputs, fed_workers, posts_fed}
+use Rattle.board.proofs.Seeing.{seen_posted}
 use Rattle.board.proofs.board.Board.feed_cut.Goals as goal
 
 pub post_noted-requires-clause-sender : goal.post_noted-requires-clause-sender
@@ -65,6 +66,28 @@ passed_now-self-inside-requires-clause-kept g c =
     let feeds : Feeds s c.feed.new.self (g.V.Views.content c.self.inside.views) (g.V.Views.content c.post_noted.new.views) i rs = feeds_from (g.V.Views.content c.self.inside.views) (g.V.Views.content c.feed.new.views) (g.V.Views.content c.post_noted.new.views) s c.feed.new.self c.feed.new.added.items i rs c.feed.ensures.content c.post_noted.ensures.content f in
     let same : (g.V.Views.graph c.post_noted.new.views) ≡ (g.V.Views.graph c.self.inside.views) = c.post_noted.ensures.graph ∙ c.feed.ensures.graph in
     feeds_kept (g.V.Views.graph c.self.inside.views) (g.V.Views.graph c.post_noted.new.views) (g.V.Views.content c.self.inside.views) (g.V.Views.content c.post_noted.new.views) s c.feed.new.self c.self.invariant.kept i a.takes rs a.some a.fields feeds same
+
+pub passed_now-self-inside-requires-clause-seen : goal.passed_now-self-inside-requires-clause-seen
+passed_now-self-inside-requires-clause-seen g c =
+    let s : Shown = c.self.inside.state in
+    let i : ℕ = c.args.cut.input in
+    let rs : List Record = c.args.cut.batch in
+    let asked : feed_refusal c.args.self.now.shown c.input.result c.batch-batch.result.now ≡ None = sym c.feed_refusal.ensures ∙ c.in_default.is in
+    let here : feed_refusal c.args.self.now.shown i c.batch-batch.result.now ≡ None = subst (λ (n : ℕ). feed_refusal c.args.self.now.shown n c.batch-batch.result.now ≡ None) c.input.ensures asked in
+    let these : feed_refusal c.args.self.now.shown i rs ≡ None = subst (λ (z : List Record). feed_refusal c.args.self.now.shown i z ≡ None) c.batch-batch.ensures here in
+    let none : feed_refusal s i rs ≡ None = subst (λ (z : BoardShown). feed_refusal z.shown i rs ≡ None) (sym c.self.view_is) these in
+    let a = accepted s i rs none (subst (λ (z : List Record). 0 < length z) c.batch-batch.ensures (some_records c.batch-batch.result.now c.arity-fields.ensures.some)) (subst (λ (z : List Record). All (λ (r : Record). length r ≡ arity_of z) z) c.batch-batch.ensures (each_record (λ r. length r ≡ arity_of c.batch-batch.result.now) c.batch-batch.result.now c.len-some.ensures.all c.arity-fields.ensures.each)) in
+    let f : FeedsBy s c.feed.new.self c.feed.new.added.items i rs = c.in-Ok.ensures.feeds in
+    let n = c.self.invariant.viewers_are in
+    let feeds : Feeds s c.feed.new.self (g.V.Views.content c.self.inside.views) (g.V.Views.content c.post_noted.new.views) i rs = feeds_from (g.V.Views.content c.self.inside.views) (g.V.Views.content c.feed.new.views) (g.V.Views.content c.post_noted.new.views) s c.feed.new.self c.feed.new.added.items i rs c.feed.ensures.content c.post_noted.ensures.content f in
+    let same : (g.V.Views.graph c.post_noted.new.views) ≡ (g.V.Views.graph c.self.inside.views) = c.post_noted.ensures.graph ∙ c.feed.ensures.graph in
+    let by : c.worker_count-feeder.result ≡ length s.sides = c.worker_count-feeder.ensures ∙ fed_workers s c.feed.new.self c.feed.new.added.items i rs f in
+    let kept_then : IsKept (g.V.Views.graph c.post_noted.new.views) (g.V.Views.content c.post_noted.new.views) c.feed.new.self = feeds_kept (g.V.Views.graph c.self.inside.views) (g.V.Views.graph c.post_noted.new.views) (g.V.Views.content c.self.inside.views) (g.V.Views.content c.post_noted.new.views) s c.feed.new.self c.self.invariant.kept i a.takes rs a.some a.fields feeds same in
+    seen_posted g.V.Views.late (g.V.Views.graph c.self.inside.views) (g.V.Views.graph c.post_noted.new.views) (g.V.Views.workers c.self.inside.views) (g.V.Views.workers c.post_noted.new.views) (g.V.Views.content c.self.inside.views) (g.V.Views.content c.feed.new.views) (g.V.Views.content c.post_noted.new.views) (g.V.Views.waiting c.self.inside.views) (g.V.Views.waiting c.feed.new.views) (g.V.Views.waiting c.post_noted.new.views) s c.feed.new.self
+    (c.post_noted.ensures.graph ∙ c.feed.ensures.graph) (c.post_noted.ensures.workers ∙ c.feed.ensures.workers) (ap (λ (z : Shown). z.graph) f.state) (let l = c.self.invariant.kept.some in omega (arith, l, n)) c.feed.ensures.content c.feed.ensures.waiting
+    (batch c.worker_count-feeder.result c.feed.new.added.items []) (omega (arith, by, n)) (length c.feed.new.added.items + 0) c.post_noted.ensures.content (may_feed c.law_of_step.ensures.may (g.V.Views.graph c.self.inside.views) (g.V.Views.graph c.feed.new.views) (g.V.Views.workers c.feed.new.views) (g.V.Views.content c.self.inside.views) (g.V.Views.content c.feed.new.views) s c.self.invariant.kept (c.feed.ensures.workers ∙ n) c.feed.ensures.graph c.feed.ensures.content i a.takes c.worker_count-feeder.result by rs a.some a.fields c.feed.new.self c.feed.new.added.items f).there
+    (λ w k l. c.post_noted.ensures.waiting w k (let e = c.feed.ensures.workers in omega (arith, l, e)))
+    kept_then c.self.inside.passed (fed_passed (g.V.Views.graph c.self.inside.views) (g.V.Views.workers c.self.inside.views) (g.V.Views.content c.self.inside.views) (g.V.Views.waiting c.self.inside.views) (g.V.Views.room c.self.inside.views) g.V.Views.late c.self.inside.passed s c.self.invariant c.feed.new.self (g.V.Views.content c.post_noted.new.views) i a.takes rs a.some a.fields feeds) c.self.invariant.passed_seen
 
 pub passed_now-self-inside-requires-clause-viewers : goal.passed_now-self-inside-requires-clause-viewers
 passed_now-self-inside-requires-clause-viewers g c =
@@ -126,6 +149,7 @@ invariant_of-self g c =
       prompt = λ late w k l m. posted_prompt g.V.Views.late (g.V.Views.waiting c.feed.new.views) (g.V.Views.waiting c.self.inside.views) (g.V.Views.waiting c.post_noted.new.views) (batch c.worker_count-feeder.result c.feed.new.added.items []) (length c.feed.new.added.items + 0) (g.V.Views.workers c.self.inside.views) c.feed.ensures.waiting (λ x y z. c.post_noted.ensures.waiting x y (let e = c.feed.ensures.workers in omega (arith, z, e))) c.self.invariant.prompt late w k (let e = c.post_noted.ensures.workers in let e' = c.feed.ensures.workers in omega (arith, l, e, e')) (let e = c.post_noted.ensures.workers in let e' = c.feed.ensures.workers in omega (arith, m, e, e'));
       passed_are = c.passed_now-self-inside.ensures.passed;
       passed_most = c.passed_now-self-inside.ensures.most;
+      passed_seen = c.passed_now-self-inside.ensures.seen;
     }
 
 pub invariant_of-self-in-Err : goal.invariant_of-self-in-Err

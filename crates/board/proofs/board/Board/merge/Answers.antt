@@ -5,6 +5,7 @@ use Rattle.tokens.specs.declared.rule.Place.TheVariants.{Home}
 use Rattle.views.specs.Waiting.{batch}
 use Rattle.board.specs.Answers.{Merges}
 use Rattle.board.specs.Claims.{MergesMail}
+use Rattle.board.specs.Kept.{IsKept}
 use Rattle.board.specs.Lateness.{BoardShown, Posts}
 use Rattle.board.specs.Shown.{Shown, side_at, tables}
 use Rattle.board.proofs.Counted.{few_open, keeps_same, merged_passed}
@@ -12,6 +13,7 @@ use Rattle.board.proofs.Lateness.{board_of, counts_same, posted_prompt, posted_s
 use Rattle.board.proofs.Later.{later}
 use Rattle.board.proofs.Merged.{granted, merge_goes, merge_tables, merges}
 use Rattle.board.proofs.Posts.{may_merge, merge_posted}
+use Rattle.board.proofs.Seeing.{seen_posted}
 use Rattle.board.proofs.board.Board.merge.Goals as goal
 
 pub post-requires-clause-sender : goal.post-requires-clause-sender
@@ -41,6 +43,22 @@ passed_now-self-inside-requires-clause-kept g c =
     let n = c.self.invariant.viewers_are in
     let h : MergesMail s c.merge.new.self k c.args.place c.in-Some.ends = c.in-Some.ensures.merges in
     merge_posted (g.V.Views.graph c.self.inside.views) (g.V.Views.graph c.post.new.views) (g.V.Views.content c.self.inside.views) (g.V.Views.content c.reserve.new.self) (g.V.Views.content c.post.new.views) s c.self.invariant.kept k there free runs c.merge.new.self c.args.place c.in-Some.ends h (c.post.ensures.graph ∙ c.reserve.ensures.graph) c.reserve.ensures.content c.post.ensures.content
+
+pub passed_now-self-inside-requires-clause-seen : goal.passed_now-self-inside-requires-clause-seen
+passed_now-self-inside-requires-clause-seen g c =
+    let s : Shown = c.self.inside.state in
+    let k : ℕ = c.args.worker in
+    let there : k < length s.sides = c.if-not-has_worker.ensures in
+    let free : (side_at s k).place ≡ Home = c.if-not-is_free.ensures in
+    let runs : s.stopped ≡ false = sym c.is_stopped.ensures ∙ c.if-is_stopped.false in
+    let n = c.self.invariant.viewers_are in
+    let h : MergesMail s c.merge.new.self k c.args.place c.in-Some.ends = c.in-Some.ensures.merges in
+    let kept_then : IsKept (g.V.Views.graph c.post.new.views) (g.V.Views.content c.post.new.views) c.merge.new.self = merge_posted (g.V.Views.graph c.self.inside.views) (g.V.Views.graph c.post.new.views) (g.V.Views.content c.self.inside.views) (g.V.Views.content c.reserve.new.self) (g.V.Views.content c.post.new.views) s c.self.invariant.kept k there free runs c.merge.new.self c.args.place c.in-Some.ends h (c.post.ensures.graph ∙ c.reserve.ensures.graph) c.reserve.ensures.content c.post.ensures.content in
+    seen_posted g.V.Views.late (g.V.Views.graph c.self.inside.views) (g.V.Views.graph c.post.new.views) (g.V.Views.workers c.self.inside.views) (g.V.Views.workers c.post.new.views) (g.V.Views.content c.self.inside.views) (g.V.Views.content c.reserve.new.self) (g.V.Views.content c.post.new.views) (g.V.Views.waiting c.self.inside.views) (g.V.Views.waiting c.reserve.new.self) (g.V.Views.waiting c.post.new.views) s c.merge.new.self
+    (c.post.ensures.graph ∙ c.reserve.ensures.graph) (c.post.ensures.workers ∙ c.reserve.ensures.workers) (ap (λ (z : Shown). z.graph) h.state) (let l = c.self.invariant.kept.some in omega (arith, l, n)) c.reserve.ensures.content c.reserve.ensures.waiting
+    (batch k [] (c.in-Some.ends ∷ [])) (omega (arith, there, n)) (0 + length (c.in-Some.ends ∷ [])) c.post.ensures.content (may_merge c.law_of_step.ensures.may (g.V.Views.graph c.self.inside.views) (g.V.Views.graph c.reserve.new.self) (g.V.Views.workers c.reserve.new.self) (g.V.Views.content c.self.inside.views) (g.V.Views.content c.reserve.new.self) s c.self.invariant.kept (c.reserve.ensures.workers ∙ n) c.reserve.ensures.graph c.reserve.ensures.content k there free runs c.merge.new.self c.args.place c.in-Some.ends h).there
+    (λ w k l. c.post.ensures.waiting w k (let e = c.reserve.ensures.workers in omega (arith, l, e)))
+    kept_then c.self.inside.passed (merged_passed (g.V.Views.graph c.self.inside.views) (g.V.Views.workers c.self.inside.views) (g.V.Views.content c.self.inside.views) (g.V.Views.waiting c.self.inside.views) (g.V.Views.room c.self.inside.views) g.V.Views.late c.self.inside.passed s c.self.invariant c.merge.new.self k there free runs c.args.place c.in-Some.ends h) c.self.invariant.passed_seen
 
 pub passed_now-self-inside-requires-clause-viewers : goal.passed_now-self-inside-requires-clause-viewers
 passed_now-self-inside-requires-clause-viewers g c =
@@ -88,6 +106,7 @@ invariant_of-self-in-Some g c =
       prompt = λ late w j l m. posted_prompt g.V.Views.late (g.V.Views.waiting c.reserve.new.self) (g.V.Views.waiting c.self.inside.views) (g.V.Views.waiting c.post.new.views) (batch k [] (c.in-Some.ends ∷ [])) (0 + length (c.in-Some.ends ∷ [])) (g.V.Views.workers c.self.inside.views) c.reserve.ensures.waiting (λ x y z. c.post.ensures.waiting x y (let e = c.reserve.ensures.workers in omega (arith, z, e))) c.self.invariant.prompt late w j (let e = c.post.ensures.workers in let f = c.reserve.ensures.workers in omega (arith, l, e, f)) (let e = c.post.ensures.workers in let f = c.reserve.ensures.workers in omega (arith, m, e, f));
       passed_are = c.passed_now-self-inside.ensures.passed;
       passed_most = c.passed_now-self-inside.ensures.most;
+      passed_seen = c.passed_now-self-inside.ensures.seen;
     }
 
 pub invariant_of-self : goal.invariant_of-self

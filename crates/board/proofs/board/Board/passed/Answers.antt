@@ -1,4 +1,4 @@
-use Rattle.std.proofs.Common.{IsTrue, sym, subst, arith}
+use Rattle.std.proofs.Common.{◌<◌, IsTrue, sym, subst, arith}
 use Rattle.board.specs.Lateness.{BoardShown, IsUpToDate}
 use Rattle.board.specs.Promises.{HasPassed, IsOutputPlace}
 use Rattle.board.proofs.Lateness.{none_waits}
@@ -26,3 +26,8 @@ returns-clause-seen g c =
     let exactly = c.law_of_waiting.ensures.seen (g.V.Views.content c.self.inside.views) (g.V.Views.waiting c.self.inside.views) (g.V.Views.workers c.self.inside.views) 0 (none_waits c.self.inside.state (g.V.Views.workers c.self.inside.views) (g.V.Views.waiting c.self.inside.views) c.self.inside.passed 0 (let v = c.self.invariant.viewers_are in let l = c.self.invariant.kept.some in omega (arith, v, l)) up) in
     let none = has_passed_back (g.V.Views.graph c.self.inside.views) (g.V.Views.content c.self.inside.views) c.self.inside.state c.self.invariant.kept c.args.output c.args.epoch h in
     c.is_past.ensures.seen.1 (λ q is could. none q ((exactly q).0 is) could))
+
+pub returns-clause-known : goal.returns-clause-known
+returns-clause-known g c =
+    let P : BoardShown → Type 0 = λ z. IsOutputPlace z.shown c.args.output → c.args.epoch < z.passed → IsTrue c.is_past.result in
+    subst P c.self.view_is (λ there l. c.is_past.ensures.seen.1 (c.self.invariant.passed_seen c.args.epoch l c.args.output there)) c.requires

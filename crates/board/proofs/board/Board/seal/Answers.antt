@@ -13,6 +13,7 @@ use Rattle.board.proofs.Counted.{few_open, keeps_same, sealed_passed}
 use Rattle.board.proofs.Ended.{open_tells, seal_goes}
 use Rattle.board.proofs.Lateness.{board_of, counts_same, posted_prompt, posted_some, posts}
 use Rattle.board.proofs.Posts.{may_seal, seal_posted}
+use Rattle.board.proofs.Seeing.{seen_posted}
 use Rattle.board.proofs.board.Board.seal.Goals as goal
 
 pub post-requires-clause-sender : goal.post-requires-clause-sender
@@ -42,6 +43,23 @@ passed_now-self-inside-requires-clause-kept g c =
     let kept : IsKept (g.V.Views.graph c.post.new.views) (g.V.Views.content c.post.new.views) c.seal.new.self = (let P : Shown → Type 0 = λ z. IsKept (g.V.Views.graph c.post.new.views) (g.V.Views.content c.post.new.views) z in
     subst P (sym c.seal.ensures) (seal_posted (g.V.Views.graph c.self.inside.views) (g.V.Views.graph c.post.new.views) (g.V.Views.content c.self.inside.views) (g.V.Views.content c.reserve.new.self) (g.V.Views.content c.post.new.views) s c.self.invariant.kept i takes (c.post.ensures.graph ∙ c.reserve.ensures.graph) c.reserve.ensures.content c.input_place-opens.result c.input_place-ends.result opens ends c.post.ensures.content)) in
     kept
+
+pub passed_now-self-inside-requires-clause-seen : goal.passed_now-self-inside-requires-clause-seen
+passed_now-self-inside-requires-clause-seen g c =
+    let s : Shown = c.self.inside.state in
+    let i : ℕ = c.args.input in
+    let takes = open_tells s i (sym c.input_refusal.ensures ∙ c.in_default.is) in
+    let n = c.self.invariant.viewers_are in
+    let opens : c.input_place-opens.result ≡ at_vertex i (at_epoch ((input_at s i).open_epoch + 1)) = c.input_place-opens.ensures ∙ ap (λ m. at_vertex i (at_epoch (m + 1))) c.open_epoch-epoch.ensures in
+    let ends : c.input_place-ends.result ≡ at_vertex i (at_epoch (input_at s i).open_epoch) = c.input_place-ends.ensures ∙ ap (λ m. at_vertex i (at_epoch m)) c.open_epoch-epoch.ensures in
+    let kept : IsKept (g.V.Views.graph c.post.new.views) (g.V.Views.content c.post.new.views) c.seal.new.self = (let P : Shown → Type 0 = λ z. IsKept (g.V.Views.graph c.post.new.views) (g.V.Views.content c.post.new.views) z in
+    subst P (sym c.seal.ensures) (seal_posted (g.V.Views.graph c.self.inside.views) (g.V.Views.graph c.post.new.views) (g.V.Views.content c.self.inside.views) (g.V.Views.content c.reserve.new.self) (g.V.Views.content c.post.new.views) s c.self.invariant.kept i takes (c.post.ensures.graph ∙ c.reserve.ensures.graph) c.reserve.ensures.content c.input_place-opens.result c.input_place-ends.result opens ends c.post.ensures.content)) in
+    let kept_then : IsKept (g.V.Views.graph c.post.new.views) (g.V.Views.content c.post.new.views) c.seal.new.self = kept in
+    seen_posted g.V.Views.late (g.V.Views.graph c.self.inside.views) (g.V.Views.graph c.post.new.views) (g.V.Views.workers c.self.inside.views) (g.V.Views.workers c.post.new.views) (g.V.Views.content c.self.inside.views) (g.V.Views.content c.reserve.new.self) (g.V.Views.content c.post.new.views) (g.V.Views.waiting c.self.inside.views) (g.V.Views.waiting c.reserve.new.self) (g.V.Views.waiting c.post.new.views) s c.seal.new.self
+    (c.post.ensures.graph ∙ c.reserve.ensures.graph) (c.post.ensures.workers ∙ c.reserve.ensures.workers) (ap (λ (z : Shown). z.graph) c.seal.ensures) (let l = c.self.invariant.kept.some in omega (arith, l, n)) c.reserve.ensures.content c.reserve.ensures.waiting
+    (batch c.worker_count-feeder.result (c.input_place-opens.result ∷ []) (c.input_place-ends.result ∷ [])) (let e = c.worker_count-feeder.ensures in omega (arith, e, n)) (length (c.input_place-opens.result ∷ []) + length (c.input_place-ends.result ∷ [])) c.post.ensures.content (may_seal c.law_of_step.ensures.may (g.V.Views.graph c.self.inside.views) (g.V.Views.graph c.reserve.new.self) (g.V.Views.workers c.reserve.new.self) (g.V.Views.content c.self.inside.views) (g.V.Views.content c.reserve.new.self) s c.self.invariant.kept (c.reserve.ensures.workers ∙ n) c.reserve.ensures.graph c.reserve.ensures.content i takes c.worker_count-feeder.result c.worker_count-feeder.ensures c.input_place-opens.result c.input_place-ends.result opens ends).there
+    (λ w k l. c.post.ensures.waiting w k (let e = c.reserve.ensures.workers in omega (arith, l, e)))
+    kept_then c.self.inside.passed (sealed_passed (g.V.Views.graph c.self.inside.views) (g.V.Views.workers c.self.inside.views) (g.V.Views.content c.self.inside.views) (g.V.Views.waiting c.self.inside.views) (g.V.Views.room c.self.inside.views) g.V.Views.late c.self.inside.passed s c.self.invariant c.seal.new.self i takes c.seal.ensures) c.self.invariant.passed_seen
 
 pub passed_now-self-inside-requires-clause-viewers : goal.passed_now-self-inside-requires-clause-viewers
 passed_now-self-inside-requires-clause-viewers g c =
@@ -89,6 +107,7 @@ invariant_of-self g c =
       prompt = λ late w k l m. posted_prompt g.V.Views.late (g.V.Views.waiting c.reserve.new.self) (g.V.Views.waiting c.self.inside.views) (g.V.Views.waiting c.post.new.views) (batch c.worker_count-feeder.result (c.input_place-opens.result ∷ []) (c.input_place-ends.result ∷ [])) (length (c.input_place-opens.result ∷ []) + length (c.input_place-ends.result ∷ [])) (g.V.Views.workers c.self.inside.views) c.reserve.ensures.waiting (λ x y z. c.post.ensures.waiting x y (let e = c.reserve.ensures.workers in omega (arith, z, e))) c.self.invariant.prompt late w k (let e = c.post.ensures.workers in let f = c.reserve.ensures.workers in omega (arith, l, e, f)) (let e = c.post.ensures.workers in let f = c.reserve.ensures.workers in omega (arith, m, e, f));
       passed_are = c.passed_now-self-inside.ensures.passed;
       passed_most = c.passed_now-self-inside.ensures.most;
+      passed_seen = c.passed_now-self-inside.ensures.seen;
     }
 
 pub returns-in-Ok-clause-step : goal.returns-in-Ok-clause-step

@@ -35,6 +35,7 @@ invariant_of-result g c =
       prompt = λ late w k l m. c.reserve.ensures.waiting w k ∙ c.requires.none w k (let e = c.reserve.ensures.workers in let v = c.requires.viewers in omega (arith, l, e, v));
       passed_are = have_new s;
       passed_most = most_new (g.V.Views.graph c.reserve.new.self) (IsSeenBy (g.V.Views.content c.reserve.new.self) (g.V.Views.waiting c.reserve.new.self) (g.V.Views.workers c.reserve.new.self) 0) s is.unfed;
+      passed_seen = λ e l. absurd (omega (arith, l));
     }
 
 pub returns-clause-shows : goal.returns-clause-shows
