@@ -10,3 +10,4 @@ pub mod Weighing
 pub mod Alike
 pub mod Merging
 pub mod Owners
+pub mod Blocks

@@ -20,6 +20,7 @@ mod different;
 mod fault;
 mod index;
 mod lists;
+mod numbers;
 mod set;
 mod tally;
 
