@@ -2,6 +2,7 @@ pub mod Kept
 pub mod ByTime
 pub mod States
 pub mod Piles
+pub mod Whole
 pub mod OneSide
 pub mod Joins
 pub mod Groups

@@ -42,6 +42,7 @@ mod pile;
 mod port_sets;
 mod shard;
 mod sides;
+mod spare;
 mod stateful;
 mod stateless;
 mod unseen;
