@@ -1,5 +1,5 @@
 -- What a board shows after a shard has let go of a time that has passed at its vertex.
-use Rattle.std.proofs.Common.{◌≡◌, ◌<◌, ◌+◌, ℕ, Bool, true, false, cond, List, [], length, refl, sym, ap, ◌∙◌, subst, arith, slice_set, slice_index_or, Option, Some, None, length-set}
+use Rattle.std.proofs.Common.{◌≡◌, ◌<◌, ℕ, Bool, true, false, cond, List, [], length, refl, sym, ap, ◌∙◌, subst, arith, slice_set, slice_index_or, Option, Some, None, length-set}
 use Rattle.std.specs.List.{AllByRecursion}
 use Rattle.semantics.specs.Could.{Pointstamp, CouldResultIn, Location, NoneOf, at_vertex}
 use Rattle.semantics.specs.Graph.{Graph, vertex}
@@ -13,7 +13,7 @@ use Rattle.machine.specs.Engine.{network}
 use Rattle.machine.specs.Frontier.{NoneBefore, PassedBelow, SealedTo}
 use Rattle.machine.specs.Network.{Network}
 use Rattle.machine.specs.Run.{Run}
-use Rattle.machine.specs.Step.{Step, Allowed, after_step}
+use Rattle.machine.specs.Step.{Allowed, after_step}
 use Rattle.machine.specs.World.{World, opening}
 use Rattle.vertices.specs.Shards.{shard_kind}
 use Rattle.vertices.specs.declared.shard.Shard.{Shard}
@@ -27,7 +27,7 @@ use Rattle.board.specs.Forgetting.{ForgetsAt, KeepsLess, MayForget}
 use Rattle.board.specs.Kept.{IsKept, Keeps, open_count}
 use Rattle.board.specs.Seals.{HavePassed}
 use Rattle.board.specs.Showing.{AgreeAt, AreSidesOf, CanCome, EachShard, IsSideOf, OnShard, Shows, ShowsIn, known, known_shard}
-use Rattle.board.specs.Shown.{EmitsBehind, Epochs, Shown, Side, held_of, net, no_side, side_at, side_in, tables}
+use Rattle.board.specs.Shown.{EmitsBehind, Epochs, Shown, Side, held_of, net, no_side, side_at, side_in}
 use Rattle.board.specs.Steps.{with_side}
 use Rattle.board.proofs.BoardCalls.{same_names}
 use Rattle.board.proofs.Committed.{sides_put}

@@ -1,8 +1,7 @@
 -- What a shard shows of the times that can still come: a step lets no other time come, and an event at a time asks only for what came then.
-use Rattle.std.proofs.Common.{◌≡◌, ◌<◌, ℕ, zero, suc, ◌==◌, Bool, true, false, cond, List, [], ◌∷◌, ◌++◌, length, sym, ap, ◌∙◌, subst, Option, Some, None, refl}
+use Rattle.std.proofs.Common.{◌≡◌, ℕ, zero, suc, ◌==◌, Bool, true, false, cond, List, [], ◌∷◌, ◌++◌, length, sym, ap, ◌∙◌, subst, Option, Some, None, refl}
 use Rattle.std.specs.List.{AllByRecursion, flat_map}
 use mathlib.Core.Path.{fun_ext}
-use Rattle.semantics.specs.Could.{Pointstamp, at_vertex}
 use Rattle.semantics.specs.Graph.{Graph, vertex}
 use Rattle.semantics.specs.Kinds.{Role, looks_back}
 use Rattle.semantics.specs.Multiset.{Record, end_to_end}
@@ -10,12 +9,11 @@ use Rattle.semantics.specs.Op.{reads_if}
 use Rattle.semantics.specs.Shard.{Absorbed, absorbed_by, SendsBy, SendsAtNotification, asks}
 use Rattle.semantics.specs.Time.{Time, same_time, earlier_turns}
 use Rattle.graph.specs.Shown.{shown_graph}
-use Rattle.machine.specs.Active.{IsActive, event_pointstamp}
 use Rattle.machine.specs.Engine.{network}
 use Rattle.machine.specs.Network.{Network}
-use Rattle.machine.specs.Processing.{Makes, absorbed_then, asked, event_time, event_vertex}
+use Rattle.machine.specs.Processing.{Makes, asked, event_time, event_vertex}
 use Rattle.machine.specs.Step.{Step, Allowed, absorbed_after, after_step}
-use Rattle.machine.specs.World.{World, Message, Request, Event, Held}
+use Rattle.machine.specs.World.{World, Request, Event}
 use Rattle.machine.proofs.Absorbing.{absorbed_there, shard_there, with_shard}
 use Rattle.vertices.specs.declared.shard.Shard.{Shard}
 use Rattle.board.specs.Shown.{Shown, net}

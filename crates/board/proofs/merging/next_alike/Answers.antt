@@ -1,4 +1,4 @@
-use Rattle.std.proofs.Common.{arith, length, suc}
+use Rattle.std.proofs.Common.{arith, suc}
 use Rattle.std.proofs.lemmas.Option.{slice_get_within}
 use Rattle.board.specs.Merging.{AreAlike}
 use Rattle.board.proofs.MergedMail.{none_more}

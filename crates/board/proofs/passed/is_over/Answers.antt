@@ -30,8 +30,7 @@ pub returns-then-not-none_before-clause-seen : goal.returns-then-not-none_before
 returns-then-not-none_before-clause-seen g c =
     let at : c.output_place.result ≡ at_vertex (output_number (shown_graph c.args.state.now.graph) c.loop-output.output) (at_epoch c.args.epoch) = c.output_place.ensures ∙ ap (λ (v : ℕ). at_vertex v (at_epoch c.args.epoch)) c.output.ensures in
     let there : IsOutputPlace c.args.state.now c.loop-output.output = (let many = c.output_count-output-end.ensures.value in let l = c.loop-output-test.true in omega (arith, many, l)) in
-    let N : Pointstamp → Type 0 = λ p. NoneOf (CouldResultIn (g.V.Views.graph c.args.views.now)) (IsSeenBy (g.V.Views.content c.args.views.now) (g.V.Views.waiting c.args.views.now) (g.V.Views.workers c.args.views.now) 0) p in
-    (
+    let N : Pointstamp → Type 0 = λ p. NoneOf (CouldResultIn (g.V.Views.graph c.args.views.now)) (IsSeenBy (g.V.Views.content c.args.views.now) (g.V.Views.waiting c.args.views.now) (g.V.Views.workers c.args.views.now) 0) p in (
       λ t. absurd (let f : false ≡ true = t in cc),
       λ all.
           let t : true ≡ false = sym (c.none_before.ensures.seen.1 (subst N (sym at) (all c.loop-output.output there))) ∙ c.if-not-none_before.true in

@@ -10,7 +10,7 @@ loop-epoch-init g c e low lt = absurd (omega (arith, low, lt))
 pub loop-epoch-preserved : goal.loop-epoch-preserved
 loop-epoch-preserved g c e low lt =
     passed_next (λ j. NoneLeftAtAll (g.V.Views.graph c.args.views.now) (λ q. 0 < g.V.Views.content c.args.views.now q) c.args.state.now j
-      × NoneLeftAtAll (g.V.Views.graph c.args.views.now) (IsSeenBy (g.V.Views.content c.args.views.now) (g.V.Views.waiting c.args.views.now) (g.V.Views.workers c.args.views.now) 0) c.args.state.now j)
+    × NoneLeftAtAll (g.V.Views.graph c.args.views.now) (IsSeenBy (g.V.Views.content c.args.views.now) (g.V.Views.waiting c.args.views.now) (g.V.Views.workers c.args.views.now) 0) c.args.state.now j)
     c.args.from c.loop-epoch.epoch (c.is_over.ensures.there c.if-not-is_over.false, c.is_over.ensures.seen.0 c.if-not-is_over.false) c.loop-epoch.invariant e low lt
 
 pub returns-then-not-is_over-clause-passed : goal.returns-then-not-is_over-clause-passed

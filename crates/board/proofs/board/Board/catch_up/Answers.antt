@@ -1,4 +1,4 @@
-use Rattle.std.proofs.Common.{◌≡◌, ◌<◌, ◌≤◌, ◌+◌, ℕ, suc, true, false, [], refl, sym, ◌∙◌, subst, arith}
+use Rattle.std.proofs.Common.{◌≡◌, ◌<◌, ◌≤◌, ◌+◌, ℕ, suc, [], refl, sym, ◌∙◌, subst, arith}
 use Rattle.board.specs.Lateness.{Applies, BoardShown, IsUpToDate}
 use Rattle.board.specs.Shown.{Shown}
 use Rattle.board.proofs.Counted.{kept_same}

@@ -5,7 +5,6 @@ use Rattle.semantics.specs.Time.{at_epoch}
 use Rattle.graph.specs.Shown.{GraphValue, shown_graph}
 use Rattle.machine.specs.Step.{Step}
 use Rattle.views.specs.Waiting.{batch}
-use Rattle.board.specs.Answers.{input_refusal}
 use Rattle.board.specs.Kept.{Goes, IsKept}
 use Rattle.board.specs.Lateness.{BoardShown, Posts}
 use Rattle.board.specs.Shown.{Shown, input_at}
