@@ -2,6 +2,7 @@
 use Rattle.std.specs.Prelude.{◌≡◌, ℕ, Bool, true, false, List, [], Option, Some, None, option_map, codes}
 use Rattle.clap.specs.Words.{App, Row, Rule, Text, first_of, new_app, new_rule, one_of, subcommand_of, with_rule, with_subcommand}
 use Rattle.clap.specs.declared.builder.action.ArgAction.TheVariants.{SetTrue}
+use Rattle.clap.specs.declared.builder.value_parser.ValueParser.TheVariants.{Unsigned}
 use Rattle.command_line.specs.Numbers.{Spells}
 use Rattle.command_line.specs.declared.heap_size.HeapSize.{HeapSize}
 use Rattle.command_line.specs.declared.line_options.GraphForm.{GraphForm}
@@ -21,21 +22,28 @@ optional_rule id = new_rule id
 abbrev pub flag_rule : Text → Rule
 flag_rule id = record (new_rule id) { long = Some id; action = Some SetTrue }
 
--- an option, `--` and its name, and then a word
-abbrev pub option_rule : Text → Rule
-option_rule id = record (new_rule id) { long = Some id; value_names = 1 }
+-- an option, `--` and its name, and then a number in that range
+abbrev pub range_rule : Text → (least most : ℕ) → Rule
+range_rule id least most = record (new_rule id) { long = Some id; value_names = 1; parser = Some (Unsigned least most) }
+
+-- the options for the number of workers and for the size of the heap
+abbrev pub workers_rule : Rule
+workers_rule = range_rule (codes "workers") 1 64
+
+abbrev pub heap_rule : Rule
+heap_rule = range_rule (codes "heap") 64 16777216
 
 -- `check QUERY` or `check QUERY INPUT`, with or without `--heap BYTES` and `--explain`
 abbrev pub check_app : App
 check_app =
     with_rule
-    (with_rule (with_rule (with_rule (new_app (codes "check")) (option_rule (codes "heap"))) (flag_rule (codes "explain"))) (word_rule (codes "QUERY")))
+    (with_rule (with_rule (with_rule (new_app (codes "check")) heap_rule) (flag_rule (codes "explain"))) (word_rule (codes "QUERY")))
     (optional_rule (codes "INPUT"))
 
 -- `graph QUERY`, with or without `--dot`, `--heap BYTES` and `--explain`
 abbrev pub graph_app : App
 graph_app =
-    with_rule (with_rule (with_rule (with_rule (new_app (codes "graph")) (flag_rule (codes "dot"))) (option_rule (codes "heap"))) (flag_rule (codes "explain")))
+    with_rule (with_rule (with_rule (with_rule (new_app (codes "graph")) (flag_rule (codes "dot"))) heap_rule) (flag_rule (codes "explain")))
     (word_rule (codes "QUERY"))
 
 -- `format QUERY`, with or without `--explain`
@@ -48,7 +56,7 @@ run_app =
     with_rule
     (with_rule
     (with_rule
-    (with_rule (with_rule (with_rule (new_app (codes "run")) (option_rule (codes "workers"))) (flag_rule (codes "watch"))) (flag_rule (codes "stats")))
+    (with_rule (with_rule (with_rule (new_app (codes "run")) workers_rule) (flag_rule (codes "watch"))) (flag_rule (codes "stats")))
     (flag_rule (codes "explain")))
     (word_rule (codes "QUERY")))
     (word_rule (codes "INPUT"))
@@ -57,7 +65,7 @@ run_app =
 abbrev pub follow_app : App
 follow_app =
     with_rule
-    (with_rule (with_rule (with_rule (new_app (codes "follow")) (option_rule (codes "workers"))) (flag_rule (codes "explain"))) (word_rule (codes "QUERY")))
+    (with_rule (with_rule (with_rule (new_app (codes "follow")) workers_rule) (flag_rule (codes "explain"))) (word_rule (codes "QUERY")))
     (optional_rule (codes "INPUT"))
 
 -- `replay QUERY SCHEDULE`, with or without `--workers N`, `--views` and `--explain`
@@ -65,7 +73,7 @@ abbrev pub replay_app : App
 replay_app =
     with_rule
     (with_rule
-    (with_rule (with_rule (with_rule (new_app (codes "replay")) (option_rule (codes "workers"))) (flag_rule (codes "views"))) (flag_rule (codes "explain")))
+    (with_rule (with_rule (with_rule (new_app (codes "replay")) workers_rule) (flag_rule (codes "views"))) (flag_rule (codes "explain")))
     (word_rule (codes "QUERY")))
     (word_rule (codes "SCHEDULE"))
 
@@ -99,6 +107,13 @@ abbrev pub is_dot : GraphForm → Bool
 is_dot Lines = false
 is_dot Dot = true
 
+-- the number that the word spells, if there is a word
+abbrev pub IsNumber : Option Text → Option ℕ → Type 0
+IsNumber None None = Unit {0}
+IsNumber (Some word) (Some n) = Spells word n
+IsNumber None (Some n) = ⊥
+IsNumber (Some word) None = ⊥
+
 -- this many workers are asked for: one if no word says how many
 abbrev pub AreAskedFor : Option Text → (workers : ℕ) → Type 0
 AreAskedFor None workers = workers ≡ 1
@@ -120,24 +135,24 @@ IsAskedInput (Some word) input = input ≡ word
 abbrev pub HoldsAt : Text → List Row → Options → Type 0
 HoldsAt name rows (Run query input workers watch stats explain) =
     (name ≡ codes "run") × (first_of (codes "QUERY") rows ≡ Some query.now) × (first_of (codes "INPUT") rows ≡ Some input.now)
-    × AreAskedFor (first_of (codes "workers") rows) workers.count
+    × AreAskedFor (one_of (codes "workers") rows) workers.count
     × IsFlag (codes "watch") rows watch × IsFlag (codes "stats") rows stats × IsFlag (codes "explain") rows explain
 HoldsAt name rows (Follow query input workers explain) =
     (name ≡ codes "follow") × (first_of (codes "QUERY") rows ≡ Some query.now) × IsAskedInput (first_of (codes "INPUT") rows) input.now
-    × AreAskedFor (first_of (codes "workers") rows) workers.count
+    × AreAskedFor (one_of (codes "workers") rows) workers.count
     × IsFlag (codes "explain") rows explain
 HoldsAt name rows (Check query input heap explain) =
     (name ≡ codes "check") × (first_of (codes "QUERY") rows ≡ Some query.now) × (option_map (λ s. s.now) input ≡ first_of (codes "INPUT") rows)
-    × IsAskedHeap (first_of (codes "heap") rows) heap
+    × IsAskedHeap (one_of (codes "heap") rows) heap
     × IsFlag (codes "explain") rows explain
 HoldsAt name rows (Graph query form heap explain) =
     (name ≡ codes "graph") × (first_of (codes "QUERY") rows ≡ Some query.now) × IsFlag (codes "dot") rows (is_dot form)
-    × IsAskedHeap (first_of (codes "heap") rows) heap
+    × IsAskedHeap (one_of (codes "heap") rows) heap
     × IsFlag (codes "explain") rows explain
 HoldsAt name rows (Format query explain) = (name ≡ codes "format") × (first_of (codes "QUERY") rows ≡ Some query.now) × IsFlag (codes "explain") rows explain
 HoldsAt name rows (Replay query schedule workers views explain) =
     (name ≡ codes "replay") × (first_of (codes "QUERY") rows ≡ Some query.now) × (first_of (codes "SCHEDULE") rows ≡ Some schedule.now)
-    × AreAskedFor (first_of (codes "workers") rows) workers.count
+    × AreAskedFor (one_of (codes "workers") rows) workers.count
     × IsFlag (codes "views") rows views × IsFlag (codes "explain") rows explain
 HoldsAt name rows (Explain code) = (name ≡ codes "explain") × (first_of (codes "CODE") rows ≡ Some code.now)
 

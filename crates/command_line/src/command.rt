@@ -1,11 +1,11 @@
 //! The commands of the line, read by `clap`.
 
 ghost use Rattle.std.specs.Prelude.{◌≡◌, map, option_map, IfErr, IfOk, IfSome, IsErrOf, codes, false};
-ghost use Rattle.clap.specs.Words.{app_of, first_of, found_of, new_app, rows_of, rule_of};
+ghost use Rattle.clap.specs.Words.{app_of, first_of, found_of, new_app, one_of, rows_of, rule_of};
 ghost use Rattle.clap.specs.declared.builder.Command.TheViews.{out-Command as fields_of};
-ghost use Rattle.command_line.specs.Line.{AreAskedFor, AsksTwice, Asks, Holds, HoldsAt, IsAskedHeap, IsAskedInput, IsFlag};
-ghost use Rattle.command_line.specs.Line.{check_app, explain_app, flag_rule, follow_app, format_app, graph_app, line_app, option_rule};
-ghost use Rattle.command_line.specs.Line.{optional_rule, program_app, replay_app, run_app, word_rule};
+ghost use Rattle.command_line.specs.Line.{AreAskedFor, AsksTwice, Asks, Holds, HoldsAt, IsAskedHeap, IsAskedInput, IsFlag, IsNumber};
+ghost use Rattle.command_line.specs.Line.{check_app, explain_app, flag_rule, follow_app, format_app, graph_app, line_app};
+ghost use Rattle.command_line.specs.Line.{optional_rule, program_app, range_rule, replay_app, run_app, word_rule};
 ghost use Rattle.command_line.specs.Faults.{IsOfWords};
 ghost use Rattle.command_line.specs.declared.line_fault.LineFault.TheVariants as fault;
 
@@ -14,12 +14,14 @@ use crate::line_fault::LineFault;
 use crate::line_options::{GraphForm, Options};
 use crate::standard_input::is_input_twice;
 use crate::unknown_words::{
-    Misplaced, Unknown, Unrecognized, misplaced_option, unknown_option, unrecognized_word,
+    Misplaced, OutOfRange, Unknown, Unrecognized, misplaced_option, unknown_option,
+    unrecognized_word, word_out_of_range,
 };
 use crate::worker_count::Workers;
 use clap::error::ErrorKind;
-use clap::{Arg, ArgAction, ArgMatches, Command, Error};
+use clap::{Arg, ArgAction, ArgMatches, Command, Error, value_parser};
 use std::alloc::{AllocError, Global};
+use std::num::ParseIntError;
 
 /// The program's version.
 const VERSION: &str = "0.1.0";
@@ -79,23 +81,25 @@ fn explain_arg<'a>(alloc: Global) -> Arg<'a>
 
 /// The option `--workers N`.
 fn workers_arg<'a>(alloc: Global) -> Arg<'a>
-    ensures rule { rule_of result ≡ option_rule (codes "workers") }
+    ensures rule { rule_of result ≡ range_rule (codes "workers") 1 64 }
     ensures local { result.global ≡ false }
 {
     Arg::new(alloc, "workers")
         .long("workers")
         .value_name("N")
+        .value_parser(value_parser!(u64).range(1..=64))
         .help("Number of workers, 1 to 64; default 1")
 }
 
 /// The option `--heap BYTES`.
 fn heap_arg<'a>(alloc: Global) -> Arg<'a>
-    ensures rule { rule_of result ≡ option_rule (codes "heap") }
+    ensures rule { rule_of result ≡ range_rule (codes "heap") 64 16777216 }
     ensures local { result.global ≡ false }
 {
     Arg::new(alloc, "heap")
         .long("heap")
         .value_name("BYTES")
+        .value_parser(value_parser!(u64).range(64..=16_777_216))
         .help("Keep the query's tree in a heap of BYTES bytes, 64 to 16777216")
 }
 
@@ -254,11 +258,39 @@ fn flag_of<'a>(found: &ArgMatches<'a>, id: &str) -> bool
     found.get_flag(id)
 }
 
-/// The options of a run on that many workers.
-fn run_options<'a>(found: &ArgMatches<'a>, workers: Workers) -> Option<Options<'a>>
-    requires { AreAskedFor (first_of (codes "workers") (rows_of (found_of found.now))) workers.count }
+/// The number of an option, of a word that clap has taken for one. An error where the word is none after all, at which no line is known to come.
+fn number_of(found: &ArgMatches<'_>, id: &str) -> Result<Option<u32>, ParseIntError>
+    ensures { IfOk result (IsNumber (one_of id.now (rows_of (found_of found.now)))) }
+{
+    found.try_get_one::<u32>(id)
+}
+
+/// The number of workers: one if no word says it.
+fn workers_of(found: &ArgMatches<'_>) -> Option<Workers>
+    ensures { IfSome result (λ w. AreAskedFor (one_of (codes "workers") (rows_of (found_of found.now))) w.count) }
+{
+    match number_of(found, "workers") {
+        Ok(None) => Some(Workers::one()),
+        Ok(Some(count)) => Workers::new(count),
+        Err(_) => None,
+    }
+}
+
+/// The size of the heap: none inside if no word says it.
+fn heap_of(found: &ArgMatches<'_>) -> Option<Option<HeapSize>>
+    ensures { IfSome result (IsAskedHeap (one_of (codes "heap") (rows_of (found_of found.now)))) }
+{
+    match number_of(found, "heap") {
+        Ok(None) => Some(None),
+        Ok(Some(bytes)) => Some(Some(HeapSize::new(bytes)?)),
+        Err(_) => None,
+    }
+}
+
+fn run_options<'a>(found: &ArgMatches<'a>) -> Option<Options<'a>>
     ensures { IfSome result (HoldsAt (codes "run") (rows_of (found_of found.now))) }
 {
+    let workers = workers_of(found)?;
     let query = text_of(found, "QUERY")?;
     let input = text_of(found, "INPUT")?;
     let watch = flag_of(found, "watch");
@@ -274,11 +306,10 @@ fn run_options<'a>(found: &ArgMatches<'a>, workers: Workers) -> Option<Options<'
     })
 }
 
-/// The options of a check in a heap of that size.
-fn check_options<'a>(found: &ArgMatches<'a>, heap: Option<HeapSize>) -> Option<Options<'a>>
-    requires { IsAskedHeap (first_of (codes "heap") (rows_of (found_of found.now))) heap }
+fn check_options<'a>(found: &ArgMatches<'a>) -> Option<Options<'a>>
     ensures { IfSome result (HoldsAt (codes "check") (rows_of (found_of found.now))) }
 {
+    let heap = heap_of(found)?;
     let query = text_of(found, "QUERY")?;
     let input = text_of(found, "INPUT");
     let explain = flag_of(found, "explain");
@@ -300,11 +331,10 @@ fn followed_input<'a>(found: &ArgMatches<'a>) -> &'a str
     }
 }
 
-/// The options of following on that many workers.
-fn follow_options<'a>(found: &ArgMatches<'a>, workers: Workers) -> Option<Options<'a>>
-    requires { AreAskedFor (first_of (codes "workers") (rows_of (found_of found.now))) workers.count }
+fn follow_options<'a>(found: &ArgMatches<'a>) -> Option<Options<'a>>
     ensures { IfSome result (HoldsAt (codes "follow") (rows_of (found_of found.now))) }
 {
+    let workers = workers_of(found)?;
     let query = text_of(found, "QUERY")?;
     let input = followed_input(found);
     let explain = flag_of(found, "explain");
@@ -324,11 +354,10 @@ fn format_options<'a>(found: &ArgMatches<'a>) -> Option<Options<'a>>
     Some(Options::Format { query, explain })
 }
 
-/// The options of a graph in a heap of that size.
-fn graph_options<'a>(found: &ArgMatches<'a>, heap: Option<HeapSize>) -> Option<Options<'a>>
-    requires { IsAskedHeap (first_of (codes "heap") (rows_of (found_of found.now))) heap }
+fn graph_options<'a>(found: &ArgMatches<'a>) -> Option<Options<'a>>
     ensures { IfSome result (HoldsAt (codes "graph") (rows_of (found_of found.now))) }
 {
+    let heap = heap_of(found)?;
     let query = text_of(found, "QUERY")?;
     let form = if flag_of(found, "dot") {
         GraphForm::Dot
@@ -344,37 +373,10 @@ fn graph_options<'a>(found: &ArgMatches<'a>, heap: Option<HeapSize>) -> Option<O
     })
 }
 
-/// The number of workers: one if no word says it. A word that is no such number is given back.
-fn workers_of<'a>(found: &ArgMatches<'a>) -> Result<Workers, &'a str>
-    ensures { IfOk result (λ w. AreAskedFor (first_of (codes "workers") (rows_of (found_of found.now))) w.count) }
-{
-    match text_of(found, "workers") {
-        None => Ok(Workers::one()),
-        Some(word) => match Workers::of_word(word) {
-            Some(workers) => Ok(workers),
-            None => Err(word),
-        },
-    }
-}
-
-/// The size of the heap: none if no word says it. A word that is no such number is given back.
-fn heap_of<'a>(found: &ArgMatches<'a>) -> Result<Option<HeapSize>, &'a str>
-    ensures { IfOk result (IsAskedHeap (first_of (codes "heap") (rows_of (found_of found.now)))) }
-{
-    match text_of(found, "heap") {
-        None => Ok(None),
-        Some(word) => match HeapSize::of_word(word) {
-            Some(heap) => Ok(Some(heap)),
-            None => Err(word),
-        },
-    }
-}
-
-/// The options of a replay on that many workers.
-fn replay_options<'a>(found: &ArgMatches<'a>, workers: Workers) -> Option<Options<'a>>
-    requires { AreAskedFor (first_of (codes "workers") (rows_of (found_of found.now))) workers.count }
+fn replay_options<'a>(found: &ArgMatches<'a>) -> Option<Options<'a>>
     ensures { IfSome result (HoldsAt (codes "replay") (rows_of (found_of found.now))) }
 {
+    let workers = workers_of(found)?;
     let query = text_of(found, "QUERY")?;
     let schedule = text_of(found, "SCHEDULE")?;
     let views = flag_of(found, "views");
@@ -388,86 +390,16 @@ fn replay_options<'a>(found: &ArgMatches<'a>, workers: Workers) -> Option<Option
     })
 }
 
-/// The fault of a word that is no number of workers.
-fn workers_fault(alloc: Global, word: &str) -> LineFault
-    ensures { IsOfWords result }
-{
-    match String::from_str(alloc, word) {
-        Ok(word) => LineFault::Workers { word },
-        Err(_) => LineFault::NoMemory,
-    }
-}
-
-/// The fault of a word that is no size of a heap.
-fn heap_fault(alloc: Global, word: &str) -> LineFault
-    ensures { IsOfWords result }
-{
-    match String::from_str(alloc, word) {
-        Ok(word) => LineFault::Heap { word },
-        Err(_) => LineFault::NoMemory,
-    }
-}
-
-/// What the matches of `check` hold.
-fn check_line<'a>(alloc: Global, found: &ArgMatches<'a>) -> Result<Options<'a>, LineFault>
-    ensures held { IfOk result (HoldsAt (codes "check") (rows_of (found_of found.now))) }
-    ensures fault { IfErr result IsOfWords }
-{
-    match heap_of(found) {
-        Ok(heap) => check_options(found, heap).ok_or(LineFault::NoCommand),
-        Err(word) => Err(heap_fault(alloc, word)),
-    }
-}
-
-/// What the matches of `graph` hold.
-fn graph_line<'a>(alloc: Global, found: &ArgMatches<'a>) -> Result<Options<'a>, LineFault>
-    ensures held { IfOk result (HoldsAt (codes "graph") (rows_of (found_of found.now))) }
-    ensures fault { IfErr result IsOfWords }
-{
-    match heap_of(found) {
-        Ok(heap) => graph_options(found, heap).ok_or(LineFault::NoCommand),
-        Err(word) => Err(heap_fault(alloc, word)),
-    }
-}
-
-/// What the matches of `run` hold.
-fn run_line<'a>(alloc: Global, found: &ArgMatches<'a>) -> Result<Options<'a>, LineFault>
-    ensures held { IfOk result (HoldsAt (codes "run") (rows_of (found_of found.now))) }
-    ensures fault { IfErr result IsOfWords }
-{
-    match workers_of(found) {
-        Ok(workers) => run_options(found, workers).ok_or(LineFault::NoCommand),
-        Err(word) => Err(workers_fault(alloc, word)),
-    }
-}
-
-/// What the matches of `follow` hold.
-fn follow_line<'a>(alloc: Global, found: &ArgMatches<'a>) -> Result<Options<'a>, LineFault>
-    ensures held { IfOk result (HoldsAt (codes "follow") (rows_of (found_of found.now))) }
-    ensures fault { IfErr result IsOfWords }
-{
-    match workers_of(found) {
-        Ok(workers) => follow_options(found, workers).ok_or(LineFault::NoCommand),
-        Err(word) => Err(workers_fault(alloc, word)),
-    }
-}
-
-/// What the matches of `replay` hold.
-fn replay_line<'a>(alloc: Global, found: &ArgMatches<'a>) -> Result<Options<'a>, LineFault>
-    ensures held { IfOk result (HoldsAt (codes "replay") (rows_of (found_of found.now))) }
-    ensures fault { IfErr result IsOfWords }
-{
-    match workers_of(found) {
-        Ok(workers) => replay_options(found, workers).ok_or(LineFault::NoCommand),
-        Err(word) => Err(workers_fault(alloc, word)),
-    }
-}
-
-/// The options that the matches of a command hold which takes no number.
+/// The options that the matches of a command hold.
 fn options_at<'a>(name: &str, found: &ArgMatches<'a>) -> Option<Options<'a>>
     ensures { IfSome result (HoldsAt name.now (rows_of (found_of found.now))) }
 {
     match name.as_bytes() {
+        b"run" => run_options(found),
+        b"follow" => follow_options(found),
+        b"replay" => replay_options(found),
+        b"check" => check_options(found),
+        b"graph" => graph_options(found),
         b"format" => format_options(found),
         b"explain" => Some(Options::Explain {
             code: text_of(found, "CODE")?,
@@ -476,23 +408,12 @@ fn options_at<'a>(name: &str, found: &ArgMatches<'a>) -> Option<Options<'a>>
     }
 }
 
-/// The options that the matches of a command hold.
-fn line_options<'a>(
-    alloc: Global,
-    name: &str,
-    found: &ArgMatches<'a>,
-) -> Result<Options<'a>, LineFault>
+/// The same, or a fault where they hold no command or not all of its words.
+fn line_options<'a>(name: &str, found: &ArgMatches<'a>) -> Result<Options<'a>, LineFault>
     ensures held { IfOk result (HoldsAt name.now (rows_of (found_of found.now))) }
     ensures fault { IfErr result IsOfWords }
 {
-    match name.as_bytes() {
-        b"run" => run_line(alloc, found),
-        b"follow" => follow_line(alloc, found),
-        b"replay" => replay_line(alloc, found),
-        b"check" => check_line(alloc, found),
-        b"graph" => graph_line(alloc, found),
-        _ => options_at(name, found).ok_or(LineFault::NoCommand),
-    }
+    options_at(name, found).ok_or(LineFault::NoCommand)
 }
 
 /// The fault of words that clap refuses.
@@ -503,7 +424,20 @@ fn refusal(alloc: Global, error: Error) -> LineFault
         ErrorKind::OutOfMemory => LineFault::NoMemory,
         ErrorKind::UnknownArgument => unknown_argument(alloc, error),
         ErrorKind::InvalidSubcommand => unrecognized_subcommand(alloc, error),
+        ErrorKind::ValueValidation => invalid_value(alloc, error),
         _ => LineFault::Line(error),
+    }
+}
+
+/// The fault of a word that is no number in its option's range.
+fn invalid_value(alloc: Global, error: Error) -> LineFault
+    ensures { IsOfWords result }
+{
+    match word_out_of_range(alloc, &error) {
+        Ok(None) => LineFault::Line(error),
+        Ok(Some(OutOfRange::Workers(word))) => LineFault::Workers { word },
+        Ok(Some(OutOfRange::Heap(word))) => LineFault::Heap { word },
+        Err(_) => LineFault::NoMemory,
     }
 }
 
@@ -567,7 +501,7 @@ fn held_options<'a>(alloc: Global, words: &'a [&'a str]) -> Result<Options<'a>, 
     };
     match found.subcommand() {
         None => Err(LineFault::NoCommand),
-        Some((name, matches)) => line_options(alloc, name, matches),
+        Some((name, matches)) => line_options(name, matches),
     }
 }
 

@@ -1,7 +1,6 @@
 //! How large a heap a command line asks for.
 
-ghost use Rattle.std.specs.Prelude.{◌≡◌, ◌≤◌, ℕ, IfNone, IfSome};
-ghost use Rattle.command_line.specs.Numbers.{Spells};
+ghost use Rattle.std.specs.Prelude.{◌≡◌, ◌≤◌, IfNone, IfSome};
 
 /// The size of a heap in bytes, 64 to 16777216.
 #[derive(Clone, Copy, Debug, PartialEq, Eq)]
@@ -12,12 +11,11 @@ pub struct HeapSize {
 }
 
 impl HeapSize {
-    /// The size that the word spells. None exactly where it spells none from 64 to 16777216.
-    pub fn of_word(word: &str) -> Option<HeapSize>
-        ensures found { IfSome result (λ h. Spells word.now h.bytes) }
-        ensures none { IfNone result ((n : ℕ) → 64 ≤ n → n ≤ 16777216 → Spells word.now n → ⊥) }
+    /// That many bytes. None exactly where they aren't 64 to 16777216.
+    pub fn new(bytes: u32) -> Option<HeapSize>
+        ensures found { IfSome result (λ h. h.bytes ≡ bytes) }
+        ensures none { IfNone result (64 ≤ bytes → bytes ≤ 16777216 → ⊥) }
     {
-        let bytes = word.parse::<u32>().ok()?;
         if 64 <= bytes && bytes <= 16_777_216 {
             Some(HeapSize { bytes })
         } else {

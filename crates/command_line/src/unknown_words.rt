@@ -1,4 +1,5 @@
-//! What is told of words that clap doesn't know: which commands take an option, and which options and commands there are.
+//! What is told of words that clap doesn't take: which commands take an option, which options and commands there are, and which number is out of
+//! its range.
 
 use crate::command::line_command;
 use clap::{Command, Error};
@@ -24,6 +25,13 @@ pub struct Unknown {
 pub struct Unrecognized {
     pub word: String,
     pub commands: String,
+}
+
+/// A word that is no number in the range of its option.
+#[derive(Drop)]
+pub enum OutOfRange {
+    Workers(String),
+    Heap(String),
 }
 
 /// The text between two others, of which the first is at the beginning.
@@ -158,4 +166,18 @@ pub fn unrecognized_word(alloc: Global, error: &Error) -> Result<Option<Unrecogn
         word: String::from_str(alloc, word)?,
         commands: listed(alloc, "loom ", command_names(alloc)?.as_slice())?,
     }))
+}
+
+/// The word that an error of clap's is about, if it isn't in its option's range.
+pub fn word_out_of_range(alloc: Global, error: &Error) -> Result<Option<OutOfRange>, AllocError> {
+    let text = format!(in alloc; "{error}")?;
+    let text = text.as_str();
+    let before = "error: invalid value '";
+    if let Some(word) = between(text, before, "' for '--workers <N>': ") {
+        return Ok(Some(OutOfRange::Workers(String::from_str(alloc, word)?)));
+    }
+    if let Some(word) = between(text, before, "' for '--heap <BYTES>': ") {
+        return Ok(Some(OutOfRange::Heap(String::from_str(alloc, word)?)));
+    }
+    Ok(None)
 }

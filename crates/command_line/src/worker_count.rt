@@ -1,7 +1,6 @@
 //! How many workers a command line asks for.
 
-ghost use Rattle.std.specs.Prelude.{◌≡◌, ◌<◌, ◌≤◌, ℕ, IfNone, IfSome};
-ghost use Rattle.command_line.specs.Numbers.{Spells};
+ghost use Rattle.std.specs.Prelude.{◌≡◌, ◌<◌, ◌≤◌, IfNone, IfSome};
 
 /// A number of workers, 1 to 64.
 #[derive(Clone, Copy, Debug, PartialEq, Eq)]
@@ -19,12 +18,11 @@ impl Workers {
         Workers { count: 1 }
     }
 
-    /// The number that the word spells. None exactly where it spells none from 1 to 64.
-    pub fn of_word(word: &str) -> Option<Workers>
-        ensures found { IfSome result (λ w. Spells word.now w.count) }
-        ensures none { IfNone result ((n : ℕ) → 0 < n → n ≤ 64 → Spells word.now n → ⊥) }
+    /// That many workers. None exactly where it isn't 1 to 64.
+    pub fn new(count: u32) -> Option<Workers>
+        ensures found { IfSome result (λ w. w.count ≡ count) }
+        ensures none { IfNone result (0 < count → count ≤ 64 → ⊥) }
     {
-        let count = word.parse::<u32>().ok()?;
         if 0 < count && count <= 64 {
             Some(Workers { count })
         } else {

@@ -10,10 +10,10 @@ const QUERY: &str = "input a/1; output a;";
 fn printed_by(
     rt: &HostRuntime,
     kind: ViewKind,
-    workers: &str,
+    workers: u32,
     schedule: &str,
 ) -> Result<String, Fail> {
-    let workers = Workers::of_word(workers).unwrap_or(Workers::one());
+    let workers = Workers::new(workers).ok_or("no workers")?;
     let mut query = Watched::new(QUERY.as_bytes());
     let mut schedule = Watched::new(schedule.as_bytes());
     let mut texts = Texts::new(rt.alloc());
@@ -35,7 +35,7 @@ fn printed_by(
 }
 
 /// What a schedule prints with that many workers who share one view.
-fn printed(rt: &HostRuntime, workers: &str, schedule: &str) -> Result<String, Fail> {
+fn printed(rt: &HostRuntime, workers: u32, schedule: &str) -> Result<String, Fail> {
     printed_by(rt, ViewKind::Shared, workers, schedule)
 }
 
@@ -44,7 +44,7 @@ fn views_of_their_own(rt: HostRuntime) -> Result<(), Fail> {
     let schedule = "f a 2\ns a\nd 1 0\nv 0 1\np 0\nv 0 2\np 0\nv 0 2\np 0\nv 0 2\n";
     let text = "epoch 0 open\n2\nepoch 0 open\n2\nepoch 0 passed\n2\nrefused 40\n";
     assert_eq!(rt;
-        printed_by(&rt, ViewKind::Local, "2", schedule)?.as_str(),
+        printed_by(&rt, ViewKind::Local, 2, schedule)?.as_str(),
         text
     );
     Ok(())
@@ -55,22 +55,22 @@ fn answers(rt: HostRuntime) -> Result<(), Fail> {
     let schedule = "f a 1\np 0\nd 0 0\np 0\ns a\np 0\nd 0 0\nf a 1 2\nf b 1\nx a\ns a\nc 0\n";
     let text =
         "epoch 0 open\nepoch 0 open\n1\nepoch 0 passed\n1\nrefused 34\nrefused 33\nrefused 32\nrefused 31\nrefused 36\n";
-    assert_eq!(rt; printed(&rt, "1", schedule)?.as_str(), text);
+    assert_eq!(rt; printed(&rt, 1, schedule)?.as_str(), text);
     Ok(())
 }
 
 #[test]
 fn refusals(rt: HostRuntime) -> Result<(), Fail> {
     assert_eq!(rt;
-        printed(&rt, "2", "p 0\np x\n")?.as_str(),
+        printed(&rt, 2, "p 0\np x\n")?.as_str(),
         "schedule refused 44 at line 2\n"
     );
     assert_eq!(rt;
-        printed(&rt, "2", "p 0\nq 1\n")?.as_str(),
+        printed(&rt, 2, "p 0\nq 1\n")?.as_str(),
         "schedule refused 46 at line 2\n"
     );
     assert_eq!(rt;
-        printed(&rt, "2", "p 0")?.as_str(),
+        printed(&rt, 2, "p 0")?.as_str(),
         "schedule refused 43 at line 1\n"
     );
     Ok(())
@@ -78,12 +78,12 @@ fn refusals(rt: HostRuntime) -> Result<(), Fail> {
 
 #[test]
 fn workers(rt: HostRuntime) -> Result<(), Fail> {
-    for word in ["64", "1", "02", "+2", "+0064"] {
-        assert!(rt; Workers::of_word(word).is_some());
+    for count in [1, 2, 64] {
+        assert!(rt; Workers::new(count).is_some());
     }
-    for word in ["", "+", "0", "-1", "++1", "1 ", "65", "4294967297", "one"] {
-        assert!(rt; Workers::of_word(word).is_none());
+    for count in [0, 65, u32::MAX] {
+        assert!(rt; Workers::new(count).is_none());
     }
-    assert_eq!(rt; printed(&rt, "1", "t 1 0\n")?.as_str(), "refused 34\n");
+    assert_eq!(rt; printed(&rt, 1, "t 1 0\n")?.as_str(), "refused 34\n");
     Ok(())
 }

@@ -20,7 +20,7 @@ fn copied(
     let mut input = Watched::new(input);
     let mut texts = Texts::new(rt.alloc());
     let mut out = Watched::new(Vec::new(rt.alloc()));
-    let workers = Workers::of_word("2").ok_or("no workers")?;
+    let workers = Workers::new(2).ok_or("no workers")?;
     run(
         threads,
         rt.alloc(),
