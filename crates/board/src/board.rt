@@ -572,6 +572,15 @@ impl<V: Views> Board<V> {
         self.state.next_alike(number, from)
     }
 
+    /// The pointstamp of what the worker takes next, as far as is known without asking its view; `None` if nothing waits, or if there is no such worker.
+    pub fn next_pointstamp(&self, worker: u32) -> Option<Pointstamp> {
+        if worker < self.state.worker_count() {
+            self.state.next_pointstamp(worker as usize)
+        } else {
+            None
+        }
+    }
+
     /// Whether the worker sees an event for it. While changes wait for the worker, there may be one that it doesn't see.
     pub fn can_claim(&self, worker: u32) -> bool
         ensures some { IsTrue result → HasChoice self.now.shown worker }

@@ -317,6 +317,28 @@ impl State {
         Some(next_place(self.wiring.graph().edges(), mailbox))
     }
 
+    /// The pointstamp of the message that the worker takes next, or of a request that comes before it; without messages, of the request that has
+    /// waited longest.
+    pub fn next_pointstamp(&self, worker: usize) -> Option<Pointstamp>
+        requires { worker < length self.now.sides }
+    {
+        let requests = self.workers[worker].requests();
+        let Some(place) = self.next_message(worker) else {
+            if requests.len() == 0 {
+                return None;
+            }
+            return Some(place_of(requests.get(0)));
+        };
+        let message = self.workers[worker].mailbox().get(place);
+        match due_before(message, requests) {
+            Some(due) => Some(place_of(requests.get(due))),
+            None => Some(Pointstamp::new(
+                message.time().copied(),
+                Location::Edge(message.edge()),
+            )),
+        }
+    }
+
     /// The place of a request at an earlier turn of the loop of the message that the worker takes next, or at an earlier epoch outside loops.
     pub fn due(&self, worker: usize) -> Option<usize>
         requires { worker < length self.now.sides }
@@ -587,4 +609,9 @@ fn emit(emitted: &mut Emitted, vertex: usize, epoch: u32, output: Output) -> Res
             emitted: batch,
         }),
     }
+}
+
+/// The pointstamp of a request.
+fn place_of(request: &Request) -> Pointstamp {
+    Pointstamp::new(request.time.copied(), Location::Vertex(request.vertex))
 }

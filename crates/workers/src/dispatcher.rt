@@ -1,8 +1,11 @@
 //! Gives events to threads: the board, which of its workers have mail, and which threads are asleep.
 //!
 //! Each worker has a thread. A thread computes small events in turn, of its own worker and of those whose threads are away: asleep, or not started
-//! yet. It falls asleep only when there are none. The turn goes round so that what one worker sends in pieces meets the pieces that the others send;
-//! they are merged in the mailboxes before they are taken.
+//! yet. It falls asleep only when there are none. The worker with the earliest message comes first, and of equals the turn goes round, so that what one
+//! worker sends in pieces meets the pieces that the others send; they are merged in the mailboxes before they are taken.
+//!
+//! A thread leaves what would run ahead in a loop for later (`pace.rt`). If it finds nothing else, it falls asleep over it while another thread is up;
+//! the last thread that is up takes whatever there is.
 
 ghost use Rattle.std.specs.Prelude.{◌≡◌, ◌%◌, ◌<◌, ◌⊎◌, ℕ, MatchBool, IfNone, IfOk, IfSome};
 ghost use Rattle.board.specs.Answers.{HasNoChoice};
@@ -15,10 +18,11 @@ ghost use Rattle.workers.specs.Wakeups.{AreChosen, Asks, IsAtEnd, LosesNoWakeup,
 
 use crate::backlog::Backlog;
 use crate::held::{Held, Naming};
+use crate::pace::Pace;
 use crate::plan::{ReadyFeed, SizedBatch};
 use crate::scheduler::{Choice, Scheduler};
 use crate::thread_set::ThreadSet;
-use board::{Board, Claimed, StepRefusal};
+use board::{Board, Claimed, Sent, StepRefusal};
 use events::{CutBatch, Done, Work};
 use exchange::MAX_WORKERS;
 use rows::WorkFault;
@@ -37,13 +41,14 @@ pub struct Wakeups {
     pub feeders: bool,
 }
 
-/// A board with its publisher; the threads; what has come to each worker; the worker whose turn it is to get an event, and the thread that is asked next
-/// whether it has something to do; and the least number of epochs that a thread waits for.
+/// A board with its publisher; the threads; what has come to each worker, and how far each is; the worker whose turn it is to get an event, and the
+/// thread that is asked next whether it has something to do; and the least number of epochs that a thread waits for.
 #[derive(Drop)]
 pub struct Dispatcher<J: Naming, V: Views> {
     pub held: Held<J, V>,
     pub threads: Scheduler,
     backlog: Backlog,
+    pace: Pace,
     turn: u32,
     asked: u32,
     awaited: u64,
@@ -59,6 +64,7 @@ impl<J: Naming, V: Views> Dispatcher<J, V> {
             held,
             threads,
             backlog: Backlog::new(),
+            pace: Pace::new(),
             turn: 0,
             asked: 0,
             awaited: NONE,
@@ -72,9 +78,31 @@ impl<J: Naming, V: Views> Dispatcher<J, V> {
         let (cut, sent) = sized.into_parts();
         let (result, left) = self.held.feed_cut(cut);
         if result.is_ok() {
-            self.backlog.note(sent);
+            self.note(sent);
         }
         (result, left)
+    }
+
+    /// Notes what was sent.
+    fn note(&mut self, sent: Sent)
+        ensures threads { self.new.threads ≡ self.old.threads }
+        ensures held { self.new.held ≡ self.old.held }
+    {
+        self.backlog.note(sent);
+        self.pace.note(ThreadSet::of_workers(sent.receivers()));
+    }
+
+    /// Whether the worker's next event is left for later, since it would run ahead in a loop. On a stopped board none is, so that every thread learns
+    /// that it is stopped.
+    fn is_left(&mut self, worker: u32) -> bool
+        ensures threads { self.new.threads ≡ self.old.threads }
+        ensures held { self.new.held ≡ self.old.held }
+    {
+        if self.held.is_stopped() {
+            return false;
+        }
+        self.pace.refresh(&self.held);
+        self.pace.leaves(worker)
     }
 
     /// Feeds and seals in order, up to the first that is refused, and gives what is left of that one.
@@ -113,10 +141,33 @@ impl<J: Naming, V: Views> Dispatcher<J, V> {
         ensures asks { Asks self.old.threads self.new.threads thread result }
     {
         self.threads.leave(thread);
+        self.pace.hold_back();
+        match self.claim_next(thread) {
+            Claimed::Idle => self.claim_left(thread),
+            claimed => claimed,
+        }
+    }
+
+    /// An event that doesn't run ahead; or any, once nothing is held back.
+    fn claim_next(&mut self, thread: u32) -> Claimed
+        ensures named { GivesNamed J.names result }
+        ensures takes { TakesWork self.old.threads self.new.threads thread result }
+    {
         match self.claim_mailed(thread) {
             Claimed::Idle => self.claim_asked(thread),
             claimed => claimed,
         }
+    }
+
+    /// An event that was left for later, if no other thread is up.
+    fn claim_left(&mut self, thread: u32) -> Claimed
+        ensures named { GivesNamed J.names result }
+        ensures takes { TakesWork self.old.threads self.new.threads thread result }
+    {
+        if self.threads.is_anyone_up() || !self.pace.let_go() {
+            return Claimed::Idle;
+        }
+        self.claim_next(thread)
     }
 
     /// Ends an event of a worker: commits it and claims the thread's next one, or abandons it.
@@ -138,7 +189,8 @@ impl<J: Naming, V: Views> Dispatcher<J, V> {
             }
         };
         self.threads.end(worker);
-        self.backlog.note(sent);
+        self.pace.end(worker);
+        self.note(sent);
         Ok(self.claim(thread))
     }
 
@@ -173,6 +225,7 @@ impl<J: Naming, V: Views> Dispatcher<J, V> {
             held,
             threads: _,
             backlog: _,
+            pace: _,
             turn: _,
             asked: _,
             awaited: _,
@@ -203,7 +256,8 @@ impl<J: Naming, V: Views> Dispatcher<J, V> {
         if !self.threads.has_sleepers() {
             return self.threads.wake(ThreadSet::empty());
         }
-        let mail = self.backlog.worth_waking();
+        self.pace.refresh(&self.held);
+        let mail = self.pace.timely(self.backlog.worth_waking());
         let notified = self.backlog.recently_busy();
         let choice = self.threads.choose(at_end, eager, mail, notified);
         let chosen = self.chosen(choice);
@@ -233,7 +287,7 @@ impl<J: Naming, V: Views> Dispatcher<J, V> {
             return ThreadSet::empty();
         };
         self.asked = thread.wrapping_add(1);
-        if self.held.can_claim(thread) {
+        if !self.pace.is_ahead(thread) && self.held.can_claim(thread) {
             ThreadSet::empty().with(thread)
         } else {
             ThreadSet::empty()
@@ -258,7 +312,8 @@ impl<J: Naming, V: Views> Dispatcher<J, V> {
         self.claim_of(thread, thread)
     }
 
-    /// Claims an event of a worker for a thread, after the worker's messages that are alike are merged. Notes a worker that has nothing to do.
+    /// Claims an event of a worker for a thread, after the worker's messages that are alike are merged, unless it would run ahead. Notes a worker that
+    /// has nothing to do.
     fn claim_of(&mut self, thread: u32, worker: u32) -> Claimed
         ensures named { GivesNamed J.names result }
         ensures takes { TakesWork self.old.threads self.new.threads thread result }
@@ -268,11 +323,15 @@ impl<J: Naming, V: Views> Dispatcher<J, V> {
             .worth_waking()
             .or(self.backlog.recently_busy())
             .has(worker);
+        if self.is_left(worker) {
+            return Claimed::Idle;
+        }
         self.held.gather(worker);
         let claimed = self.held.claim(worker);
         match &claimed {
             Claimed::Work(_) => {
                 self.backlog.take(worker);
+                self.pace.take(worker);
                 self.threads.take(thread, worker, large);
             }
             Claimed::Idle => self.backlog.lighten(worker),
@@ -317,14 +376,16 @@ impl<J: Naming, V: Views> Dispatcher<J, V> {
         }
     }
 
-    /// An event of one of these workers, of which no other thread has an event: the one whose turn it is, or else the next that has one.
+    /// An event of one of these workers, of which no other thread has an event: the one with the earliest message, of equals the one whose turn it is;
+    /// or else the next that has one.
     fn claim_among(&mut self, thread: u32, workers: ThreadSet) -> Claimed
         ensures named { GivesNamed J.names result }
         ensures takes { TakesWork self.old.threads self.new.threads thread result }
     {
+        self.pace.refresh(&self.held);
         let mut left = workers;
         for _worker in 0..MAX_WORKERS {
-            let Some(worker) = left.from(self.turn) else {
+            let Some(worker) = self.pace.earliest(left, self.turn) else {
                 return Claimed::Idle;
             };
             left = left.without(worker);

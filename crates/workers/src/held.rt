@@ -17,6 +17,7 @@ use crate::mark::Publisher;
 use board::{Board, Claimed, Look, Sent, StepRefusal, gather};
 use driver::settle;
 use events::{CutBatch, Done, Work};
+use path_summary::Pointstamp;
 use record_core::NoMemory;
 use rows::WorkFault;
 use std::alloc::Global;
@@ -161,6 +162,11 @@ impl<J: Naming, V: Views> Held<J, V> {
             return;
         }
         publish(&mut self.board, &mut self.publisher);
+    }
+
+    /// Calls `Board::next_pointstamp`.
+    pub fn next_pointstamp(&self, worker: u32) -> Option<Pointstamp> {
+        self.board.next_pointstamp(worker)
     }
 
     /// Calls `Board::claim`, then publishes. Takes no memory.

@@ -6,7 +6,8 @@
 //!
 //! A thread computes small events in turn, of its own worker and of those whose threads sleep or haven't started. A thread is woken only when it is
 //! worth the cost, after the lock is released: when many records wait for its worker, or no other thread is up. So small events don't wake
-//! threads, and large ones are computed in parallel (`scheduler.rt` has the rules).
+//! threads, and large ones are computed in parallel (`scheduler.rt` has the rules). What is more than two turns of a loop ahead of what is still at work
+//! is left for later (`pace.rt`).
 //!
 //! | Call | By | What it does | Answers |
 //! |---|---|---|---|
@@ -43,6 +44,7 @@ mod dispatcher;
 mod engine;
 mod held;
 mod mark;
+mod pace;
 mod plan;
 mod report;
 mod rule;

@@ -101,6 +101,11 @@ impl Scheduler {
         woken
     }
 
+    /// Whether anybody is up.
+    pub fn is_anyone_up(&self) -> bool {
+        !self.up.is_empty()
+    }
+
     /// Whether anybody is asleep.
     pub fn has_sleepers(&self) -> bool
         ensures { MatchBool result ((n : ℕ) × IsIn self.now.asleep n) (IsEmpty self.now.asleep) }
