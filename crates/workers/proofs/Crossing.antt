@@ -29,6 +29,7 @@ use Rattle.board.proofs.emitted.Emitted.TheSendSync as emitted
 use Rattle.path_summary.proofs.links.Links.TheSendSync as links
 use Rattle.path_summary.proofs.kept.Kept.TheSendSync as kept
 use Rattle.path_summary.proofs.summaries.Summaries.TheSendSync as summaries
+use Rattle.exchange.proofs.cuts.Cuts.TheSendSync as cuts
 use Rattle.events.proofs.Crossing.{event_send, graph_send, graph_sync, shard_send, wiring_send, wiring_sync}
 
 paths_sync : IsSync paths.the_row
@@ -58,7 +59,7 @@ slot_send = search (sendable, crosses, shard_send) depth 20
 worker_send : IsSend worker.the_row
 worker_send =
     let sent = slot_send in
-    search (sendable, crosses, event_send, wiring_send, wiring_sync, mailboxes.the_send, messages.the_send, requests.the_send, ties.the_send) depth 20
+    search (sendable, crosses, event_send, wiring_send, wiring_sync, cuts.the_field_send, mailboxes.the_send, messages.the_send, requests.the_send, ties.the_send) depth 20
 
 state_field_send : IsSend state.the_field.row
 state_field_send = search (sendable, crosses, worker_send, wiring_send, wiring_sync, inputs.the_send, emitted.the_send) depth 20
