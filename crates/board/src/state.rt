@@ -332,10 +332,7 @@ impl State {
         let message = self.workers[worker].mailbox().get(place);
         match due_before(message, requests) {
             Some(due) => Some(place_of(requests.get(due))),
-            None => Some(Pointstamp::new(
-                message.time().copied(),
-                Location::Edge(message.edge()),
-            )),
+            None => Some(Pointstamp::new(message.time().copied(), Location::Edge(message.edge()))),
         }
     }
 
