@@ -67,7 +67,7 @@ fn drive<
     }
 }
 
-/// As `drive`, for any board.
+/// As `drive`, for any board. With one worker the caller's thread does all, and there is no lock.
 fn drive_any<V: Views + Send, R: Threads + Wait + Sync, G: Gate + Sync, W: Write + Send>(
     rt: &R,
     alloc: Global,
@@ -79,6 +79,10 @@ fn drive_any<V: Views + Send, R: Threads + Wait + Sync, G: Gate + Sync, W: Write
     ensures graph { IfOk result (λ r. r.graph ≡ board.shown.graph) }
     ensures drained { IfOk result IsDrained }
 {
+    if task.workers == 1 {
+        try_threads(rt, task.threads)?;
+        return run_single(alloc, board, task, gate, watcher);
+    }
     let (mark, publisher, mut seats) = Mark::new(alloc, 1)?;
     let Some(seat) = seats.pop() else {
         unreachable!()
@@ -108,20 +112,15 @@ pub fn execute<V: Views + Send, R: Threads + Wait + Sync, G: Gate + Sync, W: Wri
     let graph = board.graph();
     law_inputs(graph);
     let inputs = graph.inputs().len() as u32;
-    let report = if board.workers() == 1 {
-        try_threads(rt, threads)?;
-        run_single(alloc, board, inputs, epochs, gate, watcher)?
-    } else {
-        let notice = Notice::new();
-        let task = Task {
-            epochs,
-            inputs,
-            threads: threads.max(board.workers()),
-            workers: board.workers(),
-            notice: &notice,
-        };
-        drive_any(rt, alloc, board, task, gate, watcher)?
+    let notice = Notice::new();
+    let task = Task {
+        epochs,
+        inputs,
+        threads: threads.max(board.workers()),
+        workers: board.workers(),
+        notice: &notice,
     };
+    let report = drive_any(rt, alloc, board, task, gate, watcher)?;
     if is_fed(&report, inputs, epochs, epochs.count()) {
         Ok(report)
     } else {

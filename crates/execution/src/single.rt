@@ -3,11 +3,11 @@
 ghost use Rattle.std.specs.Prelude.{◌≡◌, IfOk, OnOk};
 ghost use Rattle.board.specs.Promises.{IsDrained};
 
+use crate::task::Task;
 use crate::unfinished::Unfinished;
 use crate::watching::{Watcher, end_line, tell_rise};
 use alone::work_off;
 use board::Board;
-use collector::Epochs;
 use std::alloc::Global;
 use std::io::Write;
 use views::Views;
@@ -17,14 +17,13 @@ use workers::{Ended, Gate, Report, report_of};
 fn feed_epoch<V: Views>(
     alloc: Global,
     board: &mut Board<V>,
-    inputs: u32,
-    epochs: &Epochs,
+    task: Task<'_>,
     epoch: u32,
 ) -> Result<(), Unfinished>
     ensures { OnOk result (board.new.shown.graph ≡ board.old.shown.graph) }
 {
-    for input in 0..inputs {
-        for batch in epochs.batches(input, epoch) {
+    for input in 0..task.inputs {
+        for batch in task.epochs.batches(input, epoch) {
             board.feed(alloc, input, batch.share()?)?;
         }
         board.seal(input)?;
@@ -67,8 +66,7 @@ fn work_now<V: Views, G: Gate, W: Write>(
 pub fn run_single<V: Views, G: Gate, W: Write>(
     alloc: Global,
     board: Board<V>,
-    inputs: u32,
-    epochs: &Epochs,
+    task: Task<'_>,
     gate: &G,
     watcher: &mut Option<Watcher<W>>,
 ) -> Result<Report<V>, Unfinished>
@@ -78,11 +76,11 @@ pub fn run_single<V: Views, G: Gate, W: Write>(
     let mut board = board;
     let mut turn = 0;
     let mut told = 0;
-    for epoch in 0..epochs.count() {
-        feed_epoch(alloc, &mut board, inputs, epochs, epoch)?;
+    for epoch in 0..task.epochs.count() {
+        feed_epoch(alloc, &mut board, task, epoch)?;
         work_now(alloc, &mut board, gate, &mut turn, watcher, &mut told)?;
     }
-    close_inputs(&mut board, inputs)?;
+    close_inputs(&mut board, task.inputs)?;
     work_now(alloc, &mut board, gate, &mut turn, watcher, &mut told)?;
     end_line(watcher, told);
     let report = report_of(board);

@@ -1,0 +1,8 @@
+use Rattle.std.proofs.Common.{◌≡◌}
+use Rattle.execution.proofs.single.feed_epoch.Given as goal
+
+abbrev pub invariant-loop-input : goal.invariant-loop-input
+invariant-loop-input g l = l.board.shown.graph ≡ l.fn.board.shown.graph
+
+abbrev pub invariant-loop-batch : goal.invariant-loop-batch
+invariant-loop-batch g l = l.board.shown.graph ≡ l.fn.board.shown.graph
