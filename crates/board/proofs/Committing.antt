@@ -62,7 +62,7 @@ pub record EndsAt (event : Event) (records : List Record) : Type 0 where
   pub at : (records ≡ []) ⊎ (event_time event ≡ at_epoch (event_time event).epoch)
 
 -- the shard of an event that is out showed what the world says was absorbed
-was : (g : Network) (s : Shown) (of : IsNetOf g s) (w : World) (is : Shows s w) (k : ℕ) (there : k < length s.sides) (j : Job) (gone : (side_at s k).place ≡ Out j)
+pub was : (g : Network) (s : Shown) (of : IsNetOf g s) (w : World) (is : Shows s w) (k : ℕ) (there : k < length s.sides) (j : Job) (gone : (side_at s k).place ≡ Out j)
     (own : IsOwn s (side_at s k) j) → ShowsIn g w k (event_vertex g j.happening) j.before
 was g s of w is k there j gone own =
     let v : ℕ = event_at (shown_graph s.graph) j.happening in
@@ -73,7 +73,7 @@ was g s of w is k there j gone own =
     subst R (sym (of.at j.happening)) h
 
 -- at the event's own time it showed all of it
-agrees : (g : Network) (s : Shown) (of : IsNetOf g s) (w : World) (is : Shows s w) (k : ℕ) (there : k < length s.sides) (j : Job) (gone : (side_at s k).place ≡ Out j)
+pub agrees : (g : Network) (s : Shown) (of : IsNetOf g s) (w : World) (is : Shows s w) (k : ℕ) (there : k < length s.sides) (j : Job) (gone : (side_at s k).place ≡ Out j)
     (h : ShowsIn g w k (event_vertex g j.happening) j.before) → AgreeAt g (event_vertex g j.happening) h.kept (w.absorbed k (event_vertex g j.happening)) (event_time j.happening)
 agrees g s of w is k there j gone h = h.same (event_time j.happening) (of.comes w is k there j.happening (is.held k there ∙ ap held_of gone))
 

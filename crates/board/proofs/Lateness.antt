@@ -7,13 +7,17 @@ use Rattle.semantics.specs.Multiset.{total}
 use Rattle.machine.specs.Views.{Changes}
 use Rattle.machine.specs.Active.{sum_below}
 use Rattle.machine.proofs.Counting.{below_same}
-use Rattle.views.specs.Waiting.{IsApplied, IsSeenBy, Waiting, after_post, all_waiting, batch}
-use Rattle.board.specs.Lateness.{BoardShown, IsUpToDate, Posts, all_waits, counts_of, first_of, one_more, waits_for}
+use Rattle.views.specs.Waiting.{IsApplied, IsSeenBy, Posted, Waiting, after_post, all_waiting, batch}
+use Rattle.board.specs.Lateness.{BoardShown, IsUpToDate, KeepsCalled, Posts, all_waits, counts_of, first_of, one_more, waits_for}
 use Rattle.board.specs.Shown.{Shown}
 
 -- a board by its views
-abbrev pub board_of : (s : Shown) (viewers : ℕ) → Waiting → (passed : ℕ) → BoardShown
-board_of s n waiting passed = record { shown = s; waits = counts_of n waiting; passed = passed }
+abbrev pub board_of : (s : Shown) (viewers : ℕ) → Waiting → (behind : ℕ → List Posted) → (passed : ℕ) → BoardShown
+board_of s n waiting behind passed = record { shown = s; waits = counts_of n waiting; behind = first_of (suc n) behind; passed = passed }
+
+-- the same where what is behind doesn't matter
+abbrev pub counted : (s : Shown) (viewers : ℕ) → Waiting → (passed : ℕ) → BoardShown
+counted s n waiting passed = board_of s n waiting (λ k. []) passed
 
 pub at_first : {A : Type 0} (n : ℕ) (f : ℕ → A) (d : A) (k : ℕ) → k < n → slice_index_or (first_of n f) k d ≡ f k
 at_first zero f d k l = absurd (omega (arith, l))
@@ -34,59 +38,59 @@ one_longer [] x = refl
 one_longer (y ∷ xs) x = let e = one_longer xs x in omega (arith, e)
 
 module _ (s : Shown) (n : ℕ) (waiting : Waiting) (passed : ℕ) where
-  pub waits_at : (w k : ℕ) → w < n → k < suc n → waits_for (board_of s n waiting passed) w k ≡ length (waiting w k)
+  pub waits_at : (w k : ℕ) → w < n → k < suc n → waits_for (counted s n waiting passed) w k ≡ length (waiting w k)
   waits_at w k lw lk =
       ap (λ (xs : List ℕ). slice_index_or xs k 0) (at_first n (λ i. first_of (suc n) (λ j. length (waiting i j))) [] w lw) ∙ at_first (suc n) (λ j. length (waiting w j)) 0 k lk
 
-  pub no_worker : (w k : ℕ) → n ≤ w → waits_for (board_of s n waiting passed) w k ≡ 0
+  pub no_worker : (w k : ℕ) → n ≤ w → waits_for (counted s n waiting passed) w k ≡ 0
   no_worker w k l = ap (λ (xs : List ℕ). slice_index_or xs k 0) (past_first n (λ i. first_of (suc n) (λ j. length (waiting i j))) [] w l)
 
-  pub no_sender : (w k : ℕ) → suc n ≤ k → waits_for (board_of s n waiting passed) w k ≡ 0
+  pub no_sender : (w k : ℕ) → suc n ≤ k → waits_for (counted s n waiting passed) w k ≡ 0
   no_sender w k l = go (cases_lt w n)
     where
-      go : (w < n) ⊎ (n ≤ w) → waits_for (board_of s n waiting passed) w k ≡ 0
+      go : (w < n) ⊎ (n ≤ w) → waits_for (counted s n waiting passed) w k ≡ 0
       go (inl lw) = ap (λ (xs : List ℕ). slice_index_or xs k 0) (at_first n (λ i. first_of (suc n) (λ j. length (waiting i j))) [] w lw) ∙ past_first (suc n) (λ j. length (waiting w j)) 0 k l
       go (inr lw) = no_worker w k lw
 
-  pub up_to_date : (w : ℕ) → ((k : ℕ) → w < n → k < suc n → waiting w k ≡ []) → IsUpToDate (board_of s n waiting passed) w
+  pub up_to_date : (w : ℕ) → ((k : ℕ) → w < n → k < suc n → waiting w k ≡ []) → IsUpToDate (counted s n waiting passed) w
   up_to_date w none k = go (cases_lt w n) (cases_lt k (suc n))
     where
-      go : (w < n) ⊎ (n ≤ w) → (k < suc n) ⊎ (suc n ≤ k) → waits_for (board_of s n waiting passed) w k ≡ 0
+      go : (w < n) ⊎ (n ≤ w) → (k < suc n) ⊎ (suc n ≤ k) → waits_for (counted s n waiting passed) w k ≡ 0
       go (inl lw) (inl lk) = waits_at w k lw lk ∙ ap length (none k lw lk)
       go (inl lw) (inr lk) = no_sender w k lk
       go (inr lw) (inl lk) = no_worker w k lw
       go (inr lw) (inr lk) = no_worker w k lw
 
-  pub none_waits : (w : ℕ) → w < n → IsUpToDate (board_of s n waiting passed) w → (k : ℕ) → k < suc n → waiting w k ≡ []
+  pub none_waits : (w : ℕ) → w < n → IsUpToDate (counted s n waiting passed) w → (k : ℕ) → k < suc n → waiting w k ≡ []
   none_waits w lw up k lk = nothing_long (waiting w k) (sym (waits_at w k lw lk) ∙ up k)
 
   -- compared with other views
   module _ (t : Shown) (waiting' : Waiting) (passed' : ℕ) where
-    pub waits_same : (w k : ℕ) → (w < n → k < suc n → waiting' w k ≡ waiting w k) → waits_for (board_of t n waiting' passed') w k ≡ waits_for (board_of s n waiting passed) w k
+    pub waits_same : (w k : ℕ) → (w < n → k < suc n → waiting' w k ≡ waiting w k) → waits_for (counted t n waiting' passed') w k ≡ waits_for (counted s n waiting passed) w k
     waits_same w k same = go (cases_lt w n) (cases_lt k (suc n))
       where
-        here : w < n → k < suc n → waits_for (board_of t n waiting' passed') w k ≡ waits_for (board_of s n waiting passed) w k
+        here : w < n → k < suc n → waits_for (counted t n waiting' passed') w k ≡ waits_for (counted s n waiting passed) w k
         here lw lk =
             ap (λ (xs : List ℕ). slice_index_or xs k 0) (at_first n (λ i. first_of (suc n) (λ j. length (waiting' i j))) [] w lw) ∙ at_first (suc n) (λ j. length (waiting' w j)) 0 k lk
             ∙ ap length (same lw lk) ∙ sym (waits_at w k lw lk)
 
-        past_worker : n ≤ w → waits_for (board_of t n waiting' passed') w k ≡ waits_for (board_of s n waiting passed) w k
+        past_worker : n ≤ w → waits_for (counted t n waiting' passed') w k ≡ waits_for (counted s n waiting passed) w k
         past_worker l = ap (λ (xs : List ℕ). slice_index_or xs k 0) (past_first n (λ i. first_of (suc n) (λ j. length (waiting' i j))) [] w l) ∙ sym (no_worker w k l)
 
-        past_sender : w < n → suc n ≤ k → waits_for (board_of t n waiting' passed') w k ≡ waits_for (board_of s n waiting passed) w k
+        past_sender : w < n → suc n ≤ k → waits_for (counted t n waiting' passed') w k ≡ waits_for (counted s n waiting passed) w k
         past_sender lw l =
             ap (λ (xs : List ℕ). slice_index_or xs k 0) (at_first n (λ i. first_of (suc n) (λ j. length (waiting' i j))) [] w lw) ∙ past_first (suc n) (λ j. length (waiting' w j)) 0 k l
             ∙ sym (no_sender w k l)
 
-        go : (w < n) ⊎ (n ≤ w) → (k < suc n) ⊎ (suc n ≤ k) → waits_for (board_of t n waiting' passed') w k ≡ waits_for (board_of s n waiting passed) w k
+        go : (w < n) ⊎ (n ≤ w) → (k < suc n) ⊎ (suc n ≤ k) → waits_for (counted t n waiting' passed') w k ≡ waits_for (counted s n waiting passed) w k
         go (inl lw) (inl lk) = here lw lk
         go (inl lw) (inr lk) = past_sender lw lk
         go (inr lw) (inl lk) = past_worker lw
         go (inr lw) (inr lk) = past_worker lw
 
-    pub posts : (late : Bool) (by : ℕ) (added removed : List Pointstamp) → length s.sides ≡ n
-        → ((w k : ℕ) → w < n → waiting' w k ≡ after_post late waiting (batch by added removed) w k) → Posts late by (board_of s n waiting passed) (board_of t n waiting' passed')
-    posts late by added removed many after w k lw lk =
+    posts_more : (late : Bool) (by : ℕ) (added removed : List Pointstamp) → length s.sides ≡ n → ((w k : ℕ) → w < n → waiting' w k ≡ after_post late waiting (batch by added removed) w k)
+        → (w k : ℕ) → w < length s.sides → k < suc (length s.sides) → waits_for (counted t n waiting' passed') w k ≡ waits_for (counted s n waiting passed) w k + one_more late by k
+    posts_more late by added removed many after w k lw lk =
         let lw' : w < n = omega (arith, lw, many) in
         let lk' : k < suc n = omega (arith, lk, many) in
         ap (λ (xs : List ℕ). slice_index_or xs k 0) (at_first n (λ i. first_of (suc n) (λ j. length (waiting' i j))) [] w lw') ∙ at_first (suc n) (λ j. length (waiting' w j)) 0 k lk'
@@ -99,6 +103,10 @@ module _ (s : Shown) (n : ℕ) (waiting : Waiting) (passed : ℕ) where
         longer : (b : Bool) → length (after_post b waiting (batch by added removed) w k) ≡ length (waiting w k) + one_more b by k
         longer true = if_same (k == by)
         longer false = omega arith
+
+    pub posts : (late : Bool) (by : ℕ) (added removed : List Pointstamp) (behind behind' : ℕ → List Posted) → length s.sides ≡ n → ((w k : ℕ) → w < n → waiting' w k ≡ after_post late waiting (batch by added removed) w k)
+        → KeepsCalled (board_of s n waiting behind passed) (board_of t n waiting' behind' passed') → Posts late by (board_of s n waiting behind passed) (board_of t n waiting' behind' passed')
+    posts late by added removed behind behind' many after called = record { waits = posts_more late by added removed many after; called = called }
 
 -- the same batches give the same number
 pub counts_same : (n n' : ℕ) (waiting waiting' : Waiting) → n' ≡ n → ((w k : ℕ) → waiting' w k ≡ waiting w k) → counts_of n' waiting' ≡ counts_of n waiting
@@ -123,7 +131,7 @@ total_first : {A : Type 0} (h : A → ℕ) (n : ℕ) (f : ℕ → A) → total h
 total_first h zero f = refl
 total_first h (suc n) f = ap (λ m. h (f 0) + m) (total_first h n (λ k. f (suc k))) ∙ sym (below_front n (λ k. h (f k)))
 
-pub all_wait : (s : Shown) (n : ℕ) (waiting : Waiting) (passed : ℕ) → all_waiting waiting n ≡ all_waits (board_of s n waiting passed)
+pub all_wait : (s : Shown) (n : ℕ) (waiting : Waiting) (passed : ℕ) → all_waiting waiting n ≡ all_waits (counted s n waiting passed)
 all_wait s n waiting passed =
     sym (total_first (λ (ns : List ℕ). total (λ k. k) ns) n (λ w. first_of (suc n) (λ k. length (waiting w k)))
     ∙ below_same n _ _ (λ w l. total_first (λ k. k) (suc n) (λ k. length (waiting w k))))
@@ -163,16 +171,16 @@ caught_prompt n worker old new none others prompt w k lw lk = go (eqb_tells w wo
 
 -- no more waits than before
 pub caught_fewer : (s : Shown) (n worker : ℕ) (old new : Waiting) (passed passed' : ℕ) → worker < n → ((k : ℕ) → k < n + 1 → new worker k ≡ []) → (k : ℕ)
-    → waits_for (board_of s n new passed') worker k ≤ waits_for (board_of s n old passed) worker k
+    → waits_for (counted s n new passed') worker k ≤ waits_for (counted s n old passed) worker k
 caught_fewer s n worker old new passed passed' l none k = let e = up_to_date s n new passed' worker (λ j lw lk. none j (omega (arith, lk))) k in omega (arith, e)
 
 -- what one application leaves, in terms of what waits
 pub applied_one : (s : Shown) (n : ℕ) (old new : Waiting) (passed passed' : ℕ) (w k : ℕ) → w < n → k < suc n → IsApplied w k old new true
-    → waits_for (board_of s n old passed) w k ≡ suc (waits_for (board_of s n new passed') w k)
+    → waits_for (counted s n old passed) w k ≡ suc (waits_for (counted s n new passed') w k)
 applied_one s n old new passed passed' w k lw lk (IsApplied.took b e) =
     waits_at s n old passed w k lw lk ∙ ap length e ∙ ap suc (sym (waits_at s n new passed' w k lw lk))
 
-pub applied_none : (s : Shown) (n : ℕ) (old new : Waiting) (passed : ℕ) (w k : ℕ) → w < n → k < suc n → IsApplied w k old new false → waits_for (board_of s n old passed) w k ≡ 0
+pub applied_none : (s : Shown) (n : ℕ) (old new : Waiting) (passed : ℕ) (w k : ℕ) → w < n → k < suc n → IsApplied w k old new false → waits_for (counted s n old passed) w k ≡ 0
 applied_none s n old new passed w k lw lk (IsApplied.none e f) = waits_at s n old passed w k lw lk ∙ ap length e
 
 -- where none was applied, everything waits as before

@@ -13,6 +13,7 @@ pub mod Still
 pub mod Later
 pub mod Committing
 pub mod Facts
+pub mod Overflowing
 pub mod EpochPlaces
 pub mod Ending
 pub mod Keeping
@@ -35,6 +36,7 @@ pub mod Counted
 pub mod Posts
 pub mod Lateness
 pub mod Seeing
+pub mod Called
 pub mod Opening
 pub mod Promised
 pub mod Opened

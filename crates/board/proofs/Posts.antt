@@ -16,14 +16,14 @@ use Rattle.machine.specs.Posting.{MayPost}
 use Rattle.machine.specs.Step.{Allowed, Step}
 use Rattle.progress.specs.Content.{times_in}
 use Rattle.tokens.specs.declared.rule.Place.TheVariants.{Home}
-use Rattle.views.specs.Waiting.{Waiting, after_post, batch}
+use Rattle.views.specs.Waiting.{Posted, Waiting, after_post, batch}
 use Rattle.events.specs.declared.letter.Letter.{Letter}
 use Rattle.events.specs.Jobs.{Pass}
 use Rattle.board.specs.Claims.{MergesMail}
 use Rattle.board.specs.Commits.{Feeds, FeedsBy, IsOf, Settles, SettlesBy}
 use Rattle.board.specs.Fitting.{arity_in}
 use Rattle.board.specs.Kept.{IsKept}
-use Rattle.board.specs.Lateness.{PostsSome}
+use Rattle.board.specs.Lateness.{KeepsCalled, PostsSome}
 use Rattle.board.specs.Shown.{Shown, event_at, input_at, net, side_at}
 use Rattle.board.specs.Steps.{after_close, after_seal, delivered, more_at, settled}
 use Rattle.board.proofs.Committed as committed
@@ -117,19 +117,19 @@ settles_from before middle after s t added place p same counts x =
     order a r m b d l n r' x y z w = omega (arith, x, y, z, w)
 
 -- what a feed leaves waiting: one batch more, if it has messages
-pub posts_fed : (late : Bool) (s t : Shown) (n by : ℕ) (middle old new : Waiting) (passed passed' : ℕ) (added : List Pointstamp) (i : ℕ) (records : List Record) → FeedsBy s t added i records
+pub posts_fed : (late : Bool) (s t : Shown) (n by : ℕ) (middle old new : Waiting) (behind behind' : ℕ → List Posted) (passed passed' : ℕ) (added : List Pointstamp) (i : ℕ) (records : List Record) → FeedsBy s t added i records
     → length s.sides ≡ n → ((w k : ℕ) → middle w k ≡ old w k)
     → ((w k : ℕ) → w < n → new w k ≡ cond (nat_lt 0 (length added + 0)) (after_post late middle (batch by added []) w k) (middle w k))
-    → PostsSome late by (board_of s n old passed) (board_of t n new passed')
-posts_fed late s t n by middle old new passed passed' [] i records f many same after =
+    → KeepsCalled (board_of s n old behind passed) (board_of t n new behind' passed') → PostsSome late by (board_of s n old behind passed) (board_of t n new behind' passed')
+posts_fed late s t n by middle old new behind behind' passed passed' [] i records f many same after called =
     let none : f.letters ≡ [] = no_letters f.letters (let e = f.as_many in omega (arith, e)) in
-    inr (ap (λ (z : Shown). z.sides) f.state ∙ ap (delivered s.sides) none, counts_alike n old new (λ w k l. after w k l ∙ same w k))
+    inr (ap (λ (z : Shown). z.sides) f.state ∙ ap (delivered s.sides) none, counts_alike n old new (λ w k l. after w k l ∙ same w k), called)
   where
     no_letters : (ls : List Letter) → length ls ≡ 0 → ls ≡ []
     no_letters [] e = refl
     no_letters (x ∷ ls) e = absurd (omega (arith, e))
-posts_fed late s t n by middle old new passed passed' (x ∷ xs) i records f many same after =
-    inl (posts s n old passed t new passed' late by (x ∷ xs) [] many (posted_some late middle old new (batch by (x ∷ xs) []) (length (x ∷ xs) + 0) n (omega arith) same after))
+posts_fed late s t n by middle old new behind behind' passed passed' (x ∷ xs) i records f many same after called =
+    inl (posts s n old passed t new passed' late by (x ∷ xs) [] behind behind' many (posted_some late middle old new (batch by (x ∷ xs) []) (length (x ∷ xs) + 0) n (omega arith) same after) called)
 
 -- there are as many workers and inputs as before
 module _ (s t : Shown) (added : List Pointstamp) (i : ℕ) (records : List Record) (f : FeedsBy s t added i records) where

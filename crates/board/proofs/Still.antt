@@ -69,7 +69,7 @@ reads_same G workers v a b t agree place = read_same (looks_back (vertex G v).ki
 
 -- ---- an event
 
-absorbed_same : (role : Role) (a b : Absorbed) (port : ℕ) (t : Time) (records : List Record) (p : ℕ) (u : Time) → a p u ≡ b p u
+pub absorbed_same : (role : Role) (a b : Absorbed) (port : ℕ) (t : Time) (records : List Record) (p : ℕ) (u : Time) → a p u ≡ b p u
     → absorbed_by role a port t records p u ≡ absorbed_by role b port t records p u
 absorbed_same Role.input a b port t records p u e = e
 absorbed_same Role.stateless a b port t records p u e = e

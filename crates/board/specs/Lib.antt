@@ -1,5 +1,6 @@
 pub mod Shown
 pub mod Showing
+pub mod Overflow
 pub mod Steps
 pub mod Merging
 pub mod WorkerShown

@@ -1,5 +1,5 @@
 -- What is seen of an epoch.
-use Rattle.std.specs.Prelude.{◌≡◌, ◌<◌, [], ℕ, true, false, List, length, slice_index_or}
+use Rattle.std.specs.Prelude.{◌≡◌, ◌↔◌, ◌<◌, [], ℕ, true, false, List, length, slice_index_or}
 use Rattle.semantics.specs.Multiset.{Record, IsPartOf, ◌≈◌}
 use Rattle.semantics.specs.Query.{Program}
 use Rattle.semantics.specs.Meaning.{program_meaning}
@@ -7,7 +7,7 @@ use Rattle.semantics.specs.Typing.{WellTyped}
 use Rattle.semantics.specs.Graph.{output_number, output_numbers}
 use Rattle.semantics.specs.Lower.{lowered}
 use Rattle.graph.specs.Shown.{GraphValue, shown_graph}
-use Rattle.board.specs.Lateness.{BoardShown, IsUpToDate}
+use Rattle.board.specs.Lateness.{BoardShown, CallsPassed, IsUpToDate}
 use Rattle.rows.specs.FlatRows.{joined}
 use Rattle.board.specs.Shown.{emitted_by, input_at}
 use Rattle.board.specs.Promises.{HasPassed, IsOutputPlace}
@@ -52,10 +52,11 @@ pub record IsPromisedBy (p : Program) (l : LookShown) (k : ℕ) : Type 0 where
 abbrev pub IsPromised : LookShown → Type 0
 IsPromised l = (p : Program) (ns : List ℕ) → WellTyped p ns → shown_graph l.graph ≡ lowered p → (k : ℕ) → k < length p.outputs → IsPromisedBy p l k
 
--- The look is what the board shows of an output at the epoch. What it shows as passed has passed; what has passed is shown so, if it is known to have
--- passed at every output, or if the first worker's view is up to date.
+-- The look is what the board shows of an output at the epoch: as passed, just what the first worker calls so. What it shows as passed has passed; what
+-- has passed is shown so, if it is known to have passed at every output, or if the first worker's view is up to date.
 pub record IsOutputLookAt (b : BoardShown) (e k : ℕ) (o : OutputLook) : Type 0 where
   pub emitted : o.emitted ≡ slice_index_or (emitted_by b.shown.emitted (output_number (shown_graph b.shown.graph) k)) e []
+  pub called : o.passed ≡ true ↔ CallsPassed b k e
   pub passed : o.passed ≡ true → HasPassed b.shown k e
   pub seen : IsUpToDate b 0 → HasPassed b.shown k e → o.passed ≡ true
   pub known : e < b.passed → o.passed ≡ true

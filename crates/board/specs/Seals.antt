@@ -8,6 +8,7 @@ use Rattle.machine.specs.World.{World}
 use Rattle.machine.specs.Frontier.{PassedBelow, SealedTo}
 use Rattle.board.specs.Shown.{Shown, input_at, net}
 use Rattle.board.specs.Showing.{Shows}
+use Rattle.board.specs.Lateness.{BoardShown, CallsPassed}
 use Rattle.board.specs.Promises.{IsOutputPlace}
 
 -- the greatest number of seals of an input; 0 if there are no inputs
@@ -39,3 +40,12 @@ IsMostSeen graph these s n = (m : ℕ) → IsMostSeals s m → (n ≤ m) × (n <
 -- the outputs are vertices of that graph, outside all loops
 abbrev pub AreOutputsIn : Graph → Shown → Type 0
 AreOutputsIn graph s = (k e : ℕ) → IsOutputPlace s k → IsTimeAt graph (Location.vertex (output_number (shown_graph s.graph) k)) (at_epoch e)
+
+-- the first worker calls the epoch passed at each output
+abbrev pub CallsPassedAtAll : BoardShown → (epoch : ℕ) → Type 0
+CallsPassedAtAll b e = (k : ℕ) → IsOutputPlace b.shown k → CallsPassed b k e
+
+-- the first worker calls each epoch below n passed at each output, and n is the first that it doesn't, or the greatest number of seals
+pub record IsFirstUncalled (b : BoardShown) (n : ℕ) : Type 0 where
+  pub called : (e : ℕ) → e < n → CallsPassedAtAll b e
+  pub first : (m : ℕ) → IsMostSeals b.shown m → (n ≤ m) × (n < m → CallsPassedAtAll b n → ⊥)

@@ -1,6 +1,6 @@
 //! The board: the core state of a run.
 
-ghost use Rattle.std.specs.Prelude.{◌≡◌, ◌⊎◌, ◌-◌, ◌^◌, ◌<◌, ◌≤◌, ℕ, [], length, min, slice_index_or};
+ghost use Rattle.std.specs.Prelude.{◌≡◌, ◌⊎◌, ◌↔◌, ◌-◌, ◌^◌, ◌<◌, ◌≤◌, ℕ, [], length, min, slice_index_or};
 ghost use Rattle.std.specs.Prelude.{false, None, IfOk, IfSome, IfNone, IsTrue, MatchBool, OnOk, OnErr};
 ghost use Rattle.graph.specs.Shown.{shown_graph};
 ghost use Rattle.semantics.specs.Could.{Pointstamp as Active, at_vertex};
@@ -16,18 +16,22 @@ ghost use Rattle.board.specs.Answers.{Holds, IfNothing, Merges, feed_refusal, in
 ghost use Rattle.board.specs.Kept.{Goes};
 ghost use Rattle.board.specs.Forgetting.{KeepsLess};
 ghost use Rattle.board.specs.Merging.{AreAlike, window};
+ghost use Rattle.board.specs.Overflow.{DoesOverflow, NeverOverflows};
 ghost use Rattle.board.specs.Commits.{IsOf};
+ghost use Rattle.events.specs.Jobs.{Pass};
+ghost use Rattle.events.specs.TooMany.{CountsFit, CountsOver};
 ghost use Rattle.tokens.specs.declared.rule.Place.TheVariants.{Home};
 ghost use Rattle.board.specs.WorkerShown.{is_out};
-ghost use Rattle.board.specs.Lateness.{Applies, AppliesOne, AreUpToDate, IsAsLate, IsUpToDate, Posts, PostsSome, all_waits, waits_for};
+ghost use Rattle.board.specs.Lateness.{Applies, AppliesOne, AreUpToDate, CallsPassed, IsAsLate, IsUpToDate, KeepsCalled};
+ghost use Rattle.board.specs.Lateness.{Posts, PostsSome, all_waits, waits_for};
 ghost use Rattle.board.specs.Looks.{AreOutputLooks, IsLookAt};
 ghost use Rattle.board.specs.Picks.{Picks};
 ghost use Rattle.board.specs.Promises.{CountsPassed, HasPassed, HasPassedAtAll, IsDrained, IsOpening, IsOutputPlace, KeepsPromise, RunsProgram};
 ghost use Rattle.board.specs.Reached.{IsReached};
+ghost use Rattle.board.specs.Seals.{IsFirstUncalled};
 ghost use Rattle.board.specs.Showing.{Shows};
 ghost use Rattle.board.specs.Shown.{Shown, emitted_by, input_at, side_at, tables};
 
-use crate::applying::apply_there;
 use crate::choices::kth_deliverable;
 use crate::frontier::{first_deliverable, first_seen, may_deliver};
 use crate::lag::Lag;
@@ -40,14 +44,13 @@ use crate::state::State;
 use events::{CutBatch, Done, Wiring, Work};
 use graph::{Graph, Location, VertexId};
 use loop_context::Time;
-use path_summary::{Paths, Pointstamp};
-use progress::LocationTracker;
+use path_summary::Pointstamp;
 use record_core::NoMemory;
 use rows::Batch;
 use std::alloc::Global;
 use std::marker::Model;
 use std::sync::Arc;
-use views::{Direct, LocalViews, Views, catch_up, law_of_step, law_of_waiting};
+use views::{Views, catch_up, law_of_step, law_of_waiting};
 
 /// The answer of `claim`: the first that applies, in this order.
 pub enum Claimed {
@@ -87,7 +90,8 @@ impl<V: Views> Model for Board<V> {
     ghost use Rattle.expr_tree.specs.contracts.scalar.Scalar as scalar;
     ghost use Rattle.expr_tree.specs.contracts.condition.Cond as condition;
     ghost use Rattle.board.specs.Kept.{Keeps};
-    ghost use Rattle.board.specs.Lateness.{BoardShown, counts_of};
+    ghost use Rattle.std.specs.Prelude.{suc};
+    ghost use Rattle.board.specs.Lateness.{BoardShown, counts_of, first_of};
 
     ghost Value = { BoardShown };
 
@@ -98,50 +102,14 @@ impl<V: Views> Model for Board<V> {
       (condition.the_row heap.the_row allocates.ghosts).coded,
     ) };
 
-    ghost view = { λ b. record { shown = b.state; waits = counts_of (V.workers b.views) (V.waiting b.views); passed = b.passed } };
+    ghost view = { λ b. record {
+      shown = b.state;
+      waits = counts_of (V.workers b.views) (V.waiting b.views);
+      behind = first_of (suc (V.workers b.views)) (V.behind b.views 0);
+      passed = b.passed;
+    } };
 
     ghost invariant = { λ b. Keeps (V.graph b.views) (V.workers b.views) (V.content b.views) (V.waiting b.views) (V.room b.views) V.late b.passed b.state };
-}
-
-impl Board<Direct<LocationTracker>> {
-    /// A board that runs a graph on 1 to 64 workers, all of which see one tracker. The inputs are open at epoch 0.
-    pub fn new(
-        alloc: Global,
-        graph: Arc<Graph, Global>,
-        workers: u32,
-    ) -> Result<Board<Direct<LocationTracker>>, NoMemory>
-        requires some { 0 < workers }
-        requires few { workers ≤ max_workers }
-        ensures opening { IfOk result (λ b. IsOpening graph.value workers b.shown) }
-        ensures shows { IfOk result (λ b. Shows b.shown opening) }
-        ensures prompt { IfOk result (λ b. AreUpToDate b) }
-    {
-        let paths = Arc::new(alloc, Paths::of(alloc, &graph)?)?;
-        let tracker = LocationTracker::new(alloc, Arc::try_clone(&paths)?)?;
-        let views = Direct::new(alloc, &paths, workers, tracker)?;
-        let board = Board::with_views(alloc, graph, workers, views)?;
-        Ok(board)
-    }
-}
-
-impl Board<LocalViews> {
-    /// A board that runs a graph on 1 to 64 workers, each with its own view, which may be late. The inputs are open at epoch 0.
-    pub fn with_local_views(
-        alloc: Global,
-        graph: Arc<Graph, Global>,
-        workers: u32,
-    ) -> Result<Board<LocalViews>, NoMemory>
-        requires some { 0 < workers }
-        requires few { workers ≤ max_workers }
-        ensures opening { IfOk result (λ b. IsOpening graph.value workers b.shown) }
-        ensures shows { IfOk result (λ b. Shows b.shown opening) }
-        ensures prompt { IfOk result (λ b. AreUpToDate b) }
-    {
-        let paths = Arc::new(alloc, Paths::of(alloc, &graph)?)?;
-        let views = LocalViews::new(alloc, paths, workers)?;
-        let board = Board::with_views(alloc, graph, workers, views)?;
-        Ok(board)
-    }
 }
 
 impl<V: Views> Board<V> {
@@ -475,6 +443,7 @@ impl<V: Views> Board<V> {
         ensures shown { self.new.shown ≡ self.old.shown }
         ensures applied { AppliesOne worker sender self.old self.new result }
         ensures others { (w s : ℕ) → (w ≡ worker → s ≡ sender → ⊥) → waits_for self.new w s ≡ waits_for self.old w s }
+        ensures called { KeepsCalled self.old self.new }
         ensures passed { self.old.passed ≤ self.new.passed }
     {
         let workers = self.state.worker_count();
@@ -491,30 +460,7 @@ impl<V: Views> Board<V> {
         true
     }
 
-    /// As `apply`. Also answers whether an epoch had passed at an output before the call, and whether it has passed after it. The output is given by
-    /// its place. An epoch that had passed still has.
-    pub fn apply_and_ask(
-        &mut self,
-        worker: u32,
-        sender: u32,
-        output: u32,
-        epoch: u32,
-    ) -> (bool, bool)
-        requires { IsOutputPlace self.old.shown output }
-        ensures shown { self.new.shown ≡ self.old.shown }
-        ensures stays { IsTrue result.0 → IsTrue result.1 }
-        ensures passed { IsTrue result.1 → HasPassed self.new.shown output epoch }
-        ensures count { self.old.passed ≤ self.new.passed }
-    {
-        let had = is_past(&self.views, &self.state, output, epoch);
-        let workers = self.state.worker_count();
-        apply_there(&mut self.views, workers, worker, sender);
-        self.passed = passed_now(&self.views, &self.state, self.passed);
-        (had, is_past(&self.views, &self.state, output, epoch))
-    }
-
-    /// Hands out the worker's choice of that number: first its messages in order of arrival, then those of its requests that its view lets through,
-    /// in the order in which they were made. Takes no memory.
+    /// Hands out the worker's choice of that number: its messages as they came, then its requests, as made, that its view lets through. Takes no memory.
     pub fn pick(&mut self, worker: u32, choice: u64) -> Result<Work, StepRefusal>
         ensures picks { Picks (IsUpToDate self.old worker) self.old.shown self.new.shown worker choice result }
         ensures tables { tables self.new.shown ≡ tables self.old.shown }
@@ -607,10 +553,11 @@ impl<V: Views> Board<V> {
         }
     }
 
-    /// Whether an epoch has passed at an output as the first worker sees it: no more records will come there for it. True of each epoch that is
-    /// counted as passed, whatever waits. The output is given by its place.
+    /// Whether an epoch has passed at an output as the first worker sees it: no more records will come there for it. Once true, it stays so. True of
+    /// each epoch that is counted as passed, whatever waits. The output is given by its place.
     pub fn passed(&self, output: u32, epoch: u32) -> bool
         requires { IsOutputPlace self.now.shown output }
+        ensures called { IsTrue result ↔ CallsPassed self.now output epoch }
         ensures passed { IsTrue result → HasPassed self.now.shown output epoch }
         ensures seen { IsUpToDate self.now 0 → HasPassed self.now.shown output epoch → IsTrue result }
         ensures known { epoch < self.now.passed → IsTrue result }
@@ -623,6 +570,7 @@ impl<V: Views> Board<V> {
     /// input. Takes constant time.
     pub fn passed_count(&self) -> u64
         ensures value { result ≡ self.now.passed }
+        ensures first { IsFirstUncalled self.now result }
         ensures most { (n : ℕ) → CountsPassed self.now.shown n → result ≤ n }
         ensures seen { IsUpToDate self.now 0 → CountsPassed self.now.shown result }
     {
@@ -817,6 +765,14 @@ impl<V: Views> Board<V> {
     /// A run of the machine leads to what the board shows. So every law of runs holds of it. Nothing is done.
     pub fn law_run(&self)
         ensures { IsReached self.now.shown }
+    {
+        let _ = &self.state;
+    }
+
+    /// An event that is out is refused for a count if it overflows in the worlds that the board shows, and not otherwise. Nothing is done.
+    pub fn law_counts(&self)
+        ensures over { (p : Pass) → Holds self.now.shown p → CountsOver p.job → DoesOverflow self.now.shown p }
+        ensures fits { (p : Pass) → Holds self.now.shown p → CountsFit p.job → NeverOverflows self.now.shown p }
     {
         let _ = &self.state;
     }

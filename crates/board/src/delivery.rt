@@ -100,6 +100,7 @@ pub fn prepare_views<V: Views>(
     ensures workers { V.workers views.new ≡ V.workers views.old }
     ensures content { (q : Active) → V.content views.new q ≡ V.content views.old q }
     ensures waiting { (worker sender : ℕ) → V.waiting views.new worker sender ≡ V.waiting views.old worker sender }
+    ensures behind { (worker sender : ℕ) → V.behind views.new worker sender ≡ V.behind views.old worker sender }
     ensures kept { V.room views.old ≤ V.room views.new }
     ensures room { OnOk result (count + 1 + closing ≤ V.room views.new) }
     ensures none { added.new.items ≡ [] }

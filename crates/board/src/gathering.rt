@@ -2,6 +2,7 @@
 
 ghost use Rattle.std.specs.Prelude.{◌≡◌, ◌≤◌, false};
 ghost use Rattle.board.specs.Answers.{Gathers};
+ghost use Rattle.board.specs.Lateness.{KeepsCalled};
 ghost use Rattle.board.specs.Shown.{tables};
 
 use crate::board::Board;
@@ -18,6 +19,7 @@ pub fn gather<V: Views>(board: &mut Board<V>, worker: u32) -> bool
     ensures tables { tables board.new.shown ≡ tables board.old.shown }
     ensures graph { board.new.shown.graph ≡ board.old.shown.graph }
     ensures passed { board.old.passed ≤ board.new.passed }
+    ensures called { KeepsCalled board.old board.new }
 {
     let mut merged = false;
     let mut place = 0;

@@ -11,7 +11,8 @@
 //!   well-typed program, every number of workers and every order of the calls. A `Look` keeps it while the board goes on.
 //! - A view may be late (`views`), but it never lets through what the active pointstamps hold back. The board reports an epoch as passed
 //!   only when it has passed, and exactly then if nothing waits for the first worker. A worker is idle only when its view is up to date.
-//!   What has passed stays passed, and on a drained board every epoch has passed (`Board::law_drained`).
+//!   What has passed stays passed, and what was reported so is reported so from then on (`specs/Lateness.antt`, `KeepsCalled`). On a drained
+//!   board every epoch has passed (`Board::law_drained`).
 //! - A claim lets go of what the event's shard keeps of one time that has passed at its vertex, as the worker sees it. So what is kept is
 //!   that of the times that can still come; a shard shows what the world says at each of those (`specs/Showing.antt`, `ShowsIn`).
 //! - An event is known by its token (`tokens`): only an event that this board handed out can come back to it, and only once.
@@ -38,7 +39,7 @@
 //! | `commit` | the holder of the computed event | ends it: shard, messages, request and records go to their places | memory: the event comes back whole |
 //! | `abandon`, `abandon_done` | the holder of the event | drops the event, and the board stops | never |
 //! | `catch_up` | anyone | a worker's view takes in all that waits for it | never; does nothing if nothing waits |
-//! | `apply`, `apply_and_ask` | anyone | it takes in one batch; `apply_and_ask` also reports what had passed before and has passed after | the same |
+//! | `apply` | anyone | it takes in one batch | the same |
 //!
 //! `look`, `emitted`, `fed`, `passed`, `passed_count` and the other calls read, and anyone may make them.
 //!
@@ -51,7 +52,6 @@
 //! Built on `events`, `views` and the crates below them, and on `arrayvec`. A board has no lock: one caller at a time.
 #![tactic(auto)]
 
-mod applying;
 mod board;
 mod choices;
 mod codes;
@@ -64,6 +64,7 @@ mod inputs;
 mod lag;
 mod look;
 mod merging;
+mod new_boards;
 mod new_parts;
 mod order;
 mod passed;

@@ -1,11 +1,12 @@
 //! Posts a step's changes to the views.
 
 ghost use Rattle.std.specs.Prelude.{◌≡◌, ◌+◌, ◌<◌, ◌≤◌, ℕ, cond, length, nat_lt};
-ghost use Rattle.semantics.specs.Could.{CouldResultIn, Pointstamp as Active};
+ghost use Rattle.semantics.specs.Could.{CouldResultIn, NoneOf, Pointstamp as Active};
+ghost use Rattle.semantics.specs.Dataflow.{IsDataflow};
 ghost use Rattle.semantics.specs.Graph.{input_count};
 ghost use Rattle.machine.specs.Posting.{MayPost};
 ghost use Rattle.progress.specs.Content.{times_in};
-ghost use Rattle.views.specs.Waiting.{after_post, batch};
+ghost use Rattle.views.specs.Waiting.{IsSeenBy, after_post, batch};
 
 use path_summary::Pointstamp;
 use views::Views;
@@ -22,6 +23,9 @@ pub fn post<V: Views>(views: &mut V, sender: u32, added: &[Pointstamp], removed:
     ensures waiting { (worker s : ℕ) → worker < V.workers views.old → V.waiting views.new worker s ≡
         cond (nat_lt 0 (length added.now + length removed.now))
         (after_post V.late (V.waiting views.old) (batch sender added.now removed.now) worker s) (V.waiting views.old worker s) }
+    ensures stays { IsDataflow (V.graph views.old) → (worker : ℕ) → worker < V.workers views.old → (p : Active) →
+        NoneOf (CouldResultIn (V.graph views.old)) (IsSeenBy (V.content views.old) (V.waiting views.old) (V.workers views.old) worker) p →
+        NoneOf (CouldResultIn (V.graph views.old)) (IsSeenBy (V.content views.new) (V.waiting views.new) (V.workers views.old) worker) p }
     ensures room { V.room views.old ≤ V.room views.new + (length added.now + length removed.now) }
 {
     if added.len() + removed.len() > 0 {
@@ -46,6 +50,9 @@ pub fn post_noted<V: Views>(
     ensures waiting { (worker s : ℕ) → worker < V.workers views.old → V.waiting views.new worker s ≡
         cond (nat_lt 0 (length added.now.items + length removed.now))
         (after_post V.late (V.waiting views.old) (batch sender added.now.items removed.now) worker s) (V.waiting views.old worker s) }
+    ensures stays { IsDataflow (V.graph views.old) → (worker : ℕ) → worker < V.workers views.old → (p : Active) →
+        NoneOf (CouldResultIn (V.graph views.old)) (IsSeenBy (V.content views.old) (V.waiting views.old) (V.workers views.old) worker) p →
+        NoneOf (CouldResultIn (V.graph views.old)) (IsSeenBy (V.content views.new) (V.waiting views.new) (V.workers views.old) worker) p }
     ensures room { V.room views.old ≤ V.room views.new + (length added.now.items + length removed.now) }
 {
     post(views, sender, added, removed);

@@ -400,6 +400,7 @@ impl State {
         ensures workers { V.workers views.new ≡ V.workers views.old }
         ensures content { (q : Active) → V.content views.new q ≡ V.content views.old q }
         ensures waiting { (worker sender : ℕ) → V.waiting views.new worker sender ≡ V.waiting views.old worker sender }
+        ensures behind { (worker sender : ℕ) → V.behind views.new worker sender ≡ V.behind views.old worker sender }
         ensures kept { V.room views.old ≤ V.room views.new }
     {
         let mut cut = cut;
@@ -531,6 +532,7 @@ impl State {
         ensures workers { V.workers views.new ≡ V.workers views.old }
         ensures content { (q : Active) → V.content views.new q ≡ V.content views.old q }
         ensures waiting { (worker sender : ℕ) → V.waiting views.new worker sender ≡ V.waiting views.old worker sender }
+        ensures behind { (worker sender : ℕ) → V.behind views.new worker sender ≡ V.behind views.old worker sender }
         ensures kept { V.room views.old ≤ V.room views.new }
     {
         let number = done.worker();

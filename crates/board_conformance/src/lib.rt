@@ -8,6 +8,8 @@ mod boards;
 #[cfg(test)]
 mod calls;
 #[cfg(test)]
+mod each_tracker;
+#[cfg(test)]
 mod growths;
 #[cfg(test)]
 mod reach;

@@ -33,7 +33,7 @@ const LATE_SCHEDULE: &str =
 const LATE_PRINTED: &str = "refused 34\nepoch 0 open\n5 1\nepoch 0 passed\n5 1\nrefused 40\n";
 
 /// What the lines print on a board; nothing where the replay is refused.
-fn printed_on<V: Views>(
+pub fn printed_on<V: Views>(
     alloc: Global,
     graph: &Graph,
     board: Board<V>,

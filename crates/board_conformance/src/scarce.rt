@@ -28,6 +28,8 @@ impl<V: Views> Views for Refusing<V> {
 
     ghost waiting = { λ r. V.waiting r.views };
 
+    ghost behind = { λ r. V.behind r.views };
+
     ghost room = { λ r. V.room r.views };
 
     ghost late = { V.late };
@@ -68,6 +70,8 @@ impl<V: Views> Views for Refusing<V> {
     fn waiting(&self) -> u64 {
         self.views.waiting()
     }
+
+    ghost as_lists = { λ r. V.as_lists r.views };
 }
 
 /// A board with a view for each worker. The views refuse a growth after that many; nothing if the opening is refused.

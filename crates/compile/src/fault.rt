@@ -3,17 +3,21 @@
 ghost use Rattle.std.specs.Prelude.{◌≡◌};
 ghost use Rattle.compile.specs.Faults.{compile_fault_of, fault_of, graph_fault_of, input_fault_of};
 
-use collector::InputRefusal;
+use collector::{InputRefusal, Number};
 use diagnostics::Fault;
 use record_core::{Refusal, Span};
+use thiserror::Error;
 
 /// Why a query text has no graph.
-#[derive(Clone, Copy, Debug, PartialEq, Eq)]
+#[derive(Clone, Copy, Debug, PartialEq, Eq, Error)]
 pub enum CompileFault {
     /// The query's first fault: its code, and the bytes where it is.
+    #[error("refused {code} at {start}..{end}", code = Number(u64::from(*.code)), start = Number(u64::from(.span.start)), end = Number(u64::from(.span.end)))]
     Query { code: u8, span: Span },
     /// The graph would have more than 4096 vertices.
+    #[error("more than 4096 vertices")]
     TooManyVertices,
+    #[error("out of memory")]
     NoMemory,
 }
 

@@ -3,7 +3,7 @@
 use bumpalo::Bump;
 use collector::Watched;
 use console::{CompileFault, Texts, check_query, compile};
-use graph::graph_text;
+use graph_text::graph_text;
 use linked_list_allocator::LocalHeap;
 use std::alloc::Allocator;
 use std::test::Fail;

@@ -1,8 +1,8 @@
 //! Input texts read and output texts written, with readers and writers that fail.
 
 use collector::{
-    Alone, Epochs, InputRefusal, OutFault, OutputEpochs, ReadFault, Watched, read_all,
-    read_at_most, read_input, write_epochs,
+    Alone, Epochs, Fault, InputRefusal, Line, OutFault, OutputEpochs, ReadFault, Stop, Watched,
+    next_line, read_all, read_at_most, read_input, write_epochs,
 };
 use record_core::{DeclaredInput, Name};
 use rows::{Batch, MAX_ARITY, Rows};
@@ -126,6 +126,19 @@ fn refusals(rt: HostRuntime) {
         let want = InputRefusal::At { code, line };
         assert_eq!(rt; read(&rt, text).err(), Some(want));
     }
+}
+
+// No text here has so many lines: the line reader is told how many epochs have begun.
+#[test]
+fn too_many_epochs(rt: HostRuntime) {
+    let mut fields = Vec::new(rt.alloc());
+    for line in [b"epoch\n".as_slice(), b"epoch\na 1\n"] {
+        let last = next_line(line, &[], u32::MAX - 1, &mut fields);
+        assert!(rt; matches!(last, Ok((Line::Epoch, _))));
+        let beyond = next_line(line, &[], u32::MAX, &mut fields);
+        assert!(rt; matches!(beyond, Err(Stop::Fault(Fault::TooManyEpochs))));
+    }
+    assert_eq!(rt; Fault::TooManyEpochs.code(), 47);
 }
 
 #[test]

@@ -23,7 +23,7 @@ impl Write for Broken {
 }
 
 /// What two workers answer to an input of records of one field, which go through as they are. What each vertex did is written to `err`.
-fn copied<O: Write + Send, E: Write>(
+fn copied<O: Write + Send + Drop, E: Write>(
     rt: &HostRuntime,
     threads: &(impl Threads + Wait + Sync),
     input: &[u8],
@@ -73,7 +73,7 @@ fn passed_numbers(rt: &HostRuntime, text: &[u8]) -> Result<Option<Vec<u64>>, Fai
     Ok(Some(numbers))
 }
 
-/// Which numbers come before the last one is open.
+/// Which numbers come before the last one is open, but they rise.
 #[test]
 fn three_epochs_pass(rt: HostRuntime) -> Result<(), Fail> {
     let mut watcher = keeping(&rt, Telling::Lines);
@@ -83,7 +83,7 @@ fn three_epochs_pass(rt: HostRuntime) -> Result<(), Fail> {
     let shown = watcher.ok_or("no watcher")?.writer;
     let numbers = passed_numbers(&rt, shown.as_slice())?.ok_or("no such line")?;
     assert_eq!(rt; numbers.last(), Some(&3));
-    assert!(rt; numbers.is_sorted());
+    assert!(rt; numbers.is_sorted_by(|one, next| *one < *next));
     Ok(())
 }
 

@@ -8,8 +8,8 @@ use Rattle.collector.specs.Watching.{Hands, HandsSome, inner_of}
 use Rattle.collector.specs.declared.watched.Watched.{Watched}
 use Rattle.follow.specs.Entries.{Entry, records_of}
 use Rattle.follow.specs.Follows.{FollowsInput, HasRead, IsGraphOf, IsPart, IsWhole, Reading}
-use Rattle.follow.specs.declared.ending.Ending.{Ending}
-use Rattle.follow.specs.declared.ending.Ending.TheVariants as ending
+use Rattle.follow.specs.declared.outcome.Ending.{Ending}
+use Rattle.follow.specs.declared.outcome.Ending.TheVariants as ending
 use Rattle.compile.specs.Compiled.{IsCompiled, IsQueryFault}
 use Rattle.console.specs.Faults.{follow_fault_of}
 use Rattle.console.specs.Followed.{FollowEnds, IsFollowed, IsReadOf}

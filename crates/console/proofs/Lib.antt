@@ -1,6 +1,7 @@
 pub mod Answering
 pub mod RunEnds
 pub mod FollowedText
+pub mod ReplayedText
 pub mod Heeding
 pub mod OneAnswer
 pub mod Commanding

@@ -3,8 +3,8 @@ use Rattle.schedule.specs.declared.refusal.ScheduleRefusal as schedule_refusal
 use Rattle.schedule.specs.declared.refusal.ScheduleRefusal.TheVariants as schedule
 use Rattle.execution.specs.declared.unfinished.Unfinished.{Unfinished}
 use Rattle.execution.specs.declared.unfinished.Unfinished.TheVariants as run
-use Rattle.follow.specs.declared.ending.Ending.{Ending}
-use Rattle.follow.specs.declared.ending.Ending.TheVariants as ending
+use Rattle.follow.specs.declared.outcome.Ending.{Ending}
+use Rattle.follow.specs.declared.outcome.Ending.TheVariants as ending
 use Rattle.diagnostics.specs.declared.fault.Fault.{Fault}
 use Rattle.diagnostics.specs.declared.fault.Fault.TheVariants.{Input, Schedule, NoMemory, Count, Incomplete, ReadInput, Write}
 

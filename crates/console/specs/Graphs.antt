@@ -3,7 +3,7 @@ use Rattle.std.specs.Prelude.{◌≡◌, ℕ, List, Option, Result, Ok, Err}
 use Rattle.std.specs.Io.KnownBytes.{Appends}
 use Rattle.semantics.specs.Query.{Input as Declared, Name}
 use Rattle.semantics.specs.Graph.{Graph}
-use Rattle.graph.specs.Text.{graph_text}
+use Rattle.graph_text.specs.Text.{graph_text}
 use Rattle.collector.specs.WrittenBytes.{AppendsFront}
 use Rattle.compile.specs.Compiled.{IsCompiled, IsQueryFault}
 use Rattle.command_line.specs.declared.line_options.GraphForm.{GraphForm}

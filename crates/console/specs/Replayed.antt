@@ -9,7 +9,7 @@ use Rattle.schedule.specs.Commands.{Command}
 use Rattle.schedule.specs.ScheduleText.{IsRefused, IsScheduleText}
 use Rattle.schedule.specs.declared.refusal.ScheduleRefusal.TheVariants.{At}
 use Rattle.schedule.specs.declared.verb.ViewKind.{ViewKind}
-use Rattle.replay.specs.Replays.{Replays}
+use Rattle.replay.specs.Replays.{KeepsPromise, PrintsOutput, Replays, Setting}
 use Rattle.replay.specs.Waits.{State, at_first}
 use Rattle.compile.specs.Compiled.{IsCompiled, IsQueryFault, IsTaken}
 use Rattle.diagnostics.specs.declared.fault.Fault.{Fault}
@@ -28,6 +28,12 @@ pub record IsReplay (query : List ℕ) (workers : ℕ) (kind : ViewKind) (schedu
   pub read : IsScheduleText kind schedule commands
   pub last : State
   pub replays : Replays (record { graph = graph; workers = workers; views = kind; inputs = inputs; outputs = outputs }) at_first commands last text
+
+-- what is printed of an epoch at an output keeps the promise to the query's own program: the answer so far is part of what the query means there on
+-- what was fed, and all of it once the epoch has passed
+abbrev pub IsPromisedByText : (query : List ℕ) → Setting → State → (epoch output : ℕ) → (label text : List ℕ) → Type 0
+IsPromisedByText query s x epoch output label text =
+    (c : IsCompiled query s.graph s.inputs s.outputs) → PrintsOutput s x epoch output label text → KeepsPromise s x.world output epoch c.program
 
 -- why there is no such text: the query is refused, or it is taken and the schedule is refused, or there was no memory
 abbrev pub IsReplayFault : List ℕ → ViewKind → List ℕ → Fault → Type 0

@@ -81,7 +81,14 @@ impl<'a> Kept<'a> {
 
 /// Runs a query over an input.
 #[tactic(auto, using(crate::proofs::OpenedTexts::both_closed))]
-pub fn run_named<'a, R: Threads + Wait + Sync, S: Sources<'a>, W: Write, E: Write, O: Write + Send>(
+pub fn run_named<
+    'a,
+    R: Threads + Wait + Sync,
+    S: Sources<'a>,
+    W: Write,
+    E: Write,
+    O: Write + Send + Drop,
+>(
     rt: &R,
     alloc: Global,
     sources: &S,

@@ -52,7 +52,13 @@ fn write_emitted<V: Views, R: Threads + Sync, W: Write>(
 
 /// Works the epochs off on a new board, each event computed by the gate, and writes what was emitted.
 #[tactic(auto, using(crate::proofs::RunEnds::all_started))]
-fn respond_on<V: Views + Send, R: Threads + Wait + Sync, G: Gate + Sync, W: Write, O: Write + Send>(
+fn respond_on<
+    V: Views + Send,
+    R: Threads + Wait + Sync,
+    G: Gate + Sync,
+    W: Write,
+    O: Write + Send + Drop,
+>(
     rt: &R,
     alloc: Global,
     board: Board<V>,
@@ -75,7 +81,7 @@ fn respond_on<V: Views + Send, R: Threads + Wait + Sync, G: Gate + Sync, W: Writ
 }
 
 /// The same on a new board of the graph. A single worker sees at once what is active, and each of several has a view of its own.
-fn respond_by<R: Threads + Wait + Sync, G: Gate + Sync, W: Write, O: Write + Send>(
+fn respond_by<R: Threads + Wait + Sync, G: Gate + Sync, W: Write, O: Write + Send + Drop>(
     rt: &R,
     alloc: Global,
     parallelism: Parallelism,
@@ -104,7 +110,7 @@ fn respond_by<R: Threads + Wait + Sync, G: Gate + Sync, W: Write, O: Write + Sen
 }
 
 /// The same, counted; and then reports what was counted, where the answer was written whole. Where that can't be written, nothing else changes.
-fn respond_counted<R: Threads + Wait + Sync, W: Write, O: Write + Send, E: Write>(
+fn respond_counted<R: Threads + Wait + Sync, W: Write, O: Write + Send + Drop, E: Write>(
     rt: &R,
     alloc: Global,
     parallelism: Parallelism,
@@ -140,7 +146,7 @@ fn respond_counted<R: Threads + Wait + Sync, W: Write, O: Write + Send, E: Write
 
 /// Has the workers work the epochs off over the graph, and writes what was emitted: whatever text the graph was compiled from, what that
 /// means on the epochs. The watcher is shown how many epochs have passed. With `stats` a line for each vertex on `err` says then what it did.
-pub fn respond<R: Threads + Wait + Sync, W: Write, O: Write + Send, E: Write>(
+pub fn respond<R: Threads + Wait + Sync, W: Write, O: Write + Send + Drop, E: Write>(
     rt: &R,
     alloc: Global,
     workers: Workers,

@@ -14,7 +14,7 @@ use collector::Watched;
 use command_line::GraphForm;
 use compile::{compile, graph_fault};
 use diagnostics::{Fault, Texts};
-use graph::{graph_dot, graph_text};
+use graph_text::{graph_dot, graph_text};
 use std::alloc::{Allocator, Global};
 use std::io::{Read, Write};
 

@@ -1,12 +1,15 @@
-//! A query and an input have one answer; what following writes is what the query means; a run that ends well has answered.
+//! A query and an input have one answer; what following writes and replaying prints is what the query means; a run that ends well has answered.
 
 ghost use Rattle.std.specs.Prelude.{◌≡◌, ℕ, List, Some};
 ghost use Rattle.semantics.specs.Multiset.{Record};
 ghost use Rattle.graph.specs.Shown.{GraphValue};
 ghost use Rattle.follow.specs.Entries.{Entry};
+ghost use Rattle.replay.specs.Replays.{Setting};
+ghost use Rattle.replay.specs.Waits.{State};
 ghost use Rattle.command_line.specs.declared.line_options.Options.{Options};
 ghost use Rattle.console.specs.Commands.{AsksRun, HasEnded, IsAnswered, Known};
 ghost use Rattle.console.specs.Followed.{IsPartByText, IsWholeByText};
+ghost use Rattle.console.specs.Replayed.{IsPromisedByText};
 ghost use Rattle.console.specs.Runs.{IsRun};
 ghost use Rattle.console.specs.declared.transcripts.Transcripts.{Transcripts};
 
@@ -24,6 +27,12 @@ pub fn law_one_answer()
 pub fn law_followed()
     ensures whole { (query : List ℕ) (g : GraphValue) (records : ℕ → List Record) (entries : List Entry) → IsWholeByText query g records entries }
     ensures part { (query : List ℕ) (g : GraphValue) (records : ℕ → List Record) (entries : List Entry) → IsPartByText query g records entries }
+{}
+
+/// What a schedule's question prints keeps the promise by the query's text: the answer at an output so far is part of what the text's program means
+/// there on what was fed for the epoch, and all of it once the epoch has passed.
+pub fn law_replayed()
+    ensures { (query : List ℕ) (s : Setting) (x : State) (epoch output : ℕ) (label text : List ℕ) → IsPromisedByText query s x epoch output label text }
 {}
 
 /// A run that has ended with status 0 has read both texts to their ends, whatever is known of them, and what was written is their answer.

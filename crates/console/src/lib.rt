@@ -47,7 +47,7 @@ pub use following::follow_query;
 pub use formatting::format_query;
 pub use graphing::graph_query;
 pub use input_check::check_input;
-pub use laws::{law_answered, law_followed, law_one_answer};
+pub use laws::{law_answered, law_followed, law_one_answer, law_replayed};
 pub use replaying::replay_schedule;
 pub use running::run;
 pub use schedule::ViewKind;

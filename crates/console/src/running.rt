@@ -54,7 +54,7 @@ fn epochs_of_text<R: Threads + Sync>(
 }
 
 /// Answers a query text over an input text.
-fn answer<R: Threads + Wait + Sync, W: Write, O: Write + Send, E: Write>(
+fn answer<R: Threads + Wait + Sync, W: Write, O: Write + Send + Drop, E: Write>(
     rt: &R,
     alloc: Global,
     workers: Workers,
@@ -92,7 +92,7 @@ fn answer<R: Threads + Wait + Sync, W: Write, O: Write + Send, E: Write>(
 /// `passed M` with rising numbers, the last one once all workers have ended; if its writer fails, nothing else changes. With `stats`, lines
 /// on `err` say, once the answer is written, what each vertex of the graph computed, took in and sent; if that writer fails, nothing else
 /// changes.
-pub fn run<R: Threads + Wait + Sync, Q: Read, I: Read, W: Write, O: Write + Send, E: Write>(
+pub fn run<R: Threads + Wait + Sync, Q: Read, I: Read, W: Write, O: Write + Send + Drop, E: Write>(
     rt: &R,
     alloc: Global,
     workers: Workers,

@@ -27,13 +27,15 @@ pub fn append_line(out: &mut Vec<u8>, name: &[u8], numbers: &[i64]) -> Result<()
 }
 
 /// Why a text is refused.
-#[derive(Debug, Drop)]
+#[derive(Debug, Drop, thiserror::Error)]
 pub enum TextFault {
     /// The reader refused it.
+    #[error("{0}")]
     Csv(Error),
     /// A record has no numbers: how many come before it, and why.
+    #[error("record {0}: {1}")]
     Row(u64, RowFault),
-    /// Memory ran out.
+    #[error("out of memory")]
     NoMemory,
 }
 

@@ -12,13 +12,14 @@ use csv::ByteRecord;
 use std::alloc::{AllocError, AllocFailed, Global};
 
 /// Why a record has no numbers.
-#[derive(Clone, Copy, Debug, PartialEq, Eq)]
+#[derive(Clone, Copy, Debug, PartialEq, Eq, thiserror::Error)]
 pub enum RowFault {
-    /// It has another number of cells than there are columns.
+    #[error("another number of cells than of columns")]
     Length,
     /// The cell in that column, from 0, stands for nothing there.
+    #[error("cell {0} stands for nothing in its column")]
     Cell(usize),
-    /// Memory ran out.
+    #[error("out of memory")]
     NoMemory,
 }
 

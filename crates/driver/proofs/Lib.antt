@@ -1,2 +1,3 @@
 pub mod GraphInputs
 pub mod Graphs
+pub mod Settled

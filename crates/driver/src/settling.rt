@@ -1,8 +1,11 @@
 //! Ends of events.
 
-ghost use Rattle.std.specs.Prelude.{◌≡◌, ◌≤◌, IfOk, OnErr, OnOk};
+ghost use Rattle.std.specs.Prelude.{◌≡◌, ◌≤◌, None, IfErr, IfOk, OnErr, OnOk};
+ghost use Rattle.rows.specs.declared.fault.WorkFault.TheVariants.{Count};
+ghost use Rattle.board.specs.Answers.{Holds};
 ghost use Rattle.board.specs.Commits.{IsOf};
 ghost use Rattle.board.specs.Lateness.{IsAsLate, Posts};
+ghost use Rattle.board.specs.Overflow.{DoesOverflow, NeverOverflows};
 ghost use Rattle.board.specs.Shown.{tables};
 ghost use Rattle.driver.specs.Ends.{Abandons, Ends, IsFaultOf, event_of};
 
@@ -25,9 +28,12 @@ pub fn compute<V: Views, G: Gate>(
     ensures done { IfOk result (λ d. d ≡ work.0) }
     ensures kept { OnOk result (board.new ≡ board.old) }
     ensures abandoned { OnErr result (Abandons board.old.shown board.new.shown work.0) }
+    ensures fits { work.1 ≡ None → Holds board.old.shown work.0 → OnOk result (NeverOverflows board.old.shown work.0) }
+    ensures over { work.1 ≡ None → IfErr result (λ f. f ≡ Count → DoesOverflow board.old.shown work.0) }
     ensures tables { tables board.new.shown ≡ tables board.old.shown }
     ensures views { IsAsLate board.old board.new }
 {
+    board.law_counts();
     match gate.compute(alloc, work.worker(), turn, work) {
         Ok(done) => Ok(done),
         Err((work, fault)) => {
@@ -90,14 +96,21 @@ pub fn process<V: Views, G: Gate>(
 ) -> Result<Sent, WorkFault>
     requires own { IsOf board.old.shown work.0 }
     ensures ends { Ends board.old.shown board.new.shown work.0 result }
+    ensures fits { work.1 ≡ None → OnOk result (NeverOverflows board.old.shown work.0) }
+    ensures over { work.1 ≡ None → IfErr result (λ f. f ≡ Count → DoesOverflow board.old.shown work.0) }
     ensures graph { board.new.shown.graph ≡ board.old.shown.graph }
     ensures tables { tables board.new.shown ≡ tables board.old.shown }
     ensures posts { OnOk result (Posts V.late work.0.worker board.old board.new) }
     ensures views { OnErr result (IsAsLate board.old board.new) }
     ensures passed { board.old.passed ≤ board.new.passed }
 {
+    board.law_counts();
     let worker = work.worker();
-    let sent = settle(board, gate.compute(alloc, worker, turn, work))?;
-    gate.after_commit(worker, turn);
-    Ok(sent)
+    match settle(board, gate.compute(alloc, worker, turn, work)) {
+        Ok(sent) => {
+            gate.after_commit(worker, turn);
+            Ok(sent)
+        }
+        Err(fault) => Err(fault),
+    }
 }

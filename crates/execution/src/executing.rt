@@ -1,17 +1,18 @@
 //! A run of a whole input.
 
-ghost use Rattle.std.specs.Prelude.{◌≡◌, ◌<◌, ◌≤◌, IfOk};
-ghost use Rattle.board.specs.Promises.{IsDrained};
+ghost use Rattle.std.specs.Prelude.{◌≡◌, ◌≤◌, ℕ, IfOk, OnErr};
+ghost use Rattle.board.specs.Promises.{CountsPassed, IsDrained};
 ghost use Rattle.board.specs.Shown.{tables};
 ghost use Rattle.execution.specs.Fed.{IsWorkedOff};
+ghost use Rattle.execution.specs.Told.{IsTold, Tells};
 
 use crate::notice::Notice;
 use crate::readings::is_fed;
 use crate::single::run_single;
 use crate::task::Task;
-use crate::threads::{try_threads, work_off, work_off_watched};
+use crate::threads::{try_threads, work_off_all};
 use crate::unfinished::Unfinished;
-use crate::watching::Watcher;
+use crate::watching::{Observer, Watch, Watcher, fill};
 use board::Board;
 use collector::Epochs;
 use driver::law_inputs;
@@ -23,37 +24,80 @@ use std::thread::Threads;
 use views::Views;
 use workers::{Engine, Gate, Mark, Naming, Publisher, Report, Seat, end};
 
+/// A new mark: its publisher, and a seat at it.
+#[derive(Drop)]
+struct Fresh {
+    mark: Mark,
+    publisher: Publisher,
+    seat: Seat,
+    ghost own: { (publisher.table ≡ mark) × (seat.table ≡ mark) },
+    ghost none: { publisher.number ≡ 0 },
+}
+
+/// Makes a mark.
+fn new_mark(alloc: Global) -> Result<Fresh, Unfinished> {
+    let (mark, publisher, mut seats) = Mark::new(alloc, 1)?;
+    let Some(seat) = seats.pop() else {
+        unreachable!()
+    };
+    Ok(Fresh {
+        mark,
+        publisher,
+        seat,
+    })
+}
+
 /// Runs a new board, under a lock of its own, until nothing is left to do. Ok only if it is drained.
+#[tactic(auto, using(crate::proofs::Tellings::tells_nothing))]
 fn drive<
     J: Naming + Send + Sync,
     V: Views + Send,
     R: Threads + Wait + Sync,
     G: Gate + Sync,
-    W: Write + Send,
+    W: Write + Send + Drop,
 >(
     rt: &R,
     alloc: Global,
     board: Board<V>,
-    publisher: Publisher,
-    mark: &Mark,
-    seat: Seat,
+    fresh: Fresh,
     task: Task<'_>,
     gate: &G,
-    watcher: &mut Option<Watcher<W>>,
+    watch: &mut Watch<W>,
 ) -> Result<Report<V>, Unfinished>
     requires names { tables board.shown ≡ J.names }
     requires graph { board.shown.graph ≡ J.graph }
-    requires fresh { publisher.number ≡ 0 }
-    requires seat { seat.table ≡ mark.now }
+    requires mark { fresh.mark ≡ J.mark }
     ensures graph { IfOk result (λ r. r.graph ≡ J.graph) }
     ensures drained { IfOk result IsDrained }
+    ensures tells { Tells W.contents watch.old.watcher watch.new.watcher watch.old.told watch.new.told }
 {
+    let Fresh {
+        mark,
+        publisher,
+        seat,
+    } = fresh;
     let engine = Engine::<J, V>::new(alloc, board, publisher)?;
-    let done = match watcher {
-        None => work_off(rt, alloc, &engine, task, gate),
-        Some(watcher) => work_off_watched(rt, alloc, &engine, task, gate, mark, seat, watcher),
-    };
-    let report = end(engine);
+    let done = work_off_all(
+        rt,
+        alloc,
+        &engine,
+        task,
+        gate,
+        Observer::new(mark, seat),
+        watch,
+    );
+    finished(end(engine), task, done)
+}
+
+/// The report of a run in which nothing is left to do.
+fn finished<V: Views>(
+    report: Report<V>,
+    task: Task<'_>,
+    done: Result<(), Unfinished>,
+) -> Result<Report<V>, Unfinished>
+    ensures same { IfOk result (λ r. r ≡ report) }
+    ensures drained { IfOk result IsDrained }
+{
     if task.notice.is_over() {
         return Err(Unfinished::Count);
     }
@@ -68,46 +112,41 @@ fn drive<
 }
 
 /// As `drive`, for any board. With one worker the caller's thread does all, and there is no lock.
-fn drive_any<V: Views + Send, R: Threads + Wait + Sync, G: Gate + Sync, W: Write + Send>(
+#[tactic(auto, using(crate::proofs::Tellings::tells_nothing))]
+fn drive_any<V: Views + Send, R: Threads + Wait + Sync, G: Gate + Sync, W: Write + Send + Drop>(
     rt: &R,
     alloc: Global,
     board: Board<V>,
     task: Task<'_>,
     gate: &G,
-    watcher: &mut Option<Watcher<W>>,
+    watch: &mut Watch<W>,
 ) -> Result<Report<V>, Unfinished>
     ensures graph { IfOk result (λ r. r.graph ≡ board.shown.graph) }
     ensures drained { IfOk result IsDrained }
+    ensures tells { Tells W.contents watch.old.watcher watch.new.watcher watch.old.told watch.new.told }
 {
     if task.workers == 1 {
         try_threads(rt, task.threads)?;
-        return run_single(alloc, board, task, gate, watcher);
+        return run_single(alloc, board, task, gate, watch);
     }
-    let (mark, publisher, mut seats) = Mark::new(alloc, 1)?;
-    let Some(seat) = seats.pop() else {
-        unreachable!()
-    };
-    drive::<Brand, V, R, G, W>(
-        rt, alloc, board, publisher, &mark, seat, task, gate, watcher,
-    )
+    let fresh = new_mark(alloc)?;
+    drive::<Brand, V, R, G, W>(rt, alloc, board, fresh, task, gate, watch)
 }
 
-/// Feeds the epochs to a new board, and runs it until nothing is left to do. The gate computes each event. Before the first feed `threads` threads are
-/// started, or one for each worker if that is more. A single worker has the caller's thread, and no lock; where one thread is asked for, none is
-/// started then.
-///
-/// Ok only if nothing is left to do, and each input was fed, at each epoch, exactly what was read. A watcher writes how many epochs have passed, as
-/// `passed M` with rising numbers. If its writer fails, nothing else changes.
-pub fn execute<V: Views + Send, R: Threads + Wait + Sync, G: Gate + Sync, W: Write + Send>(
+/// As `execute`, but the last line isn't ended.
+#[tactic(auto, using(crate::proofs::Tellings::tells_nothing))]
+fn run<V: Views + Send, R: Threads + Wait + Sync, G: Gate + Sync, W: Write + Send + Drop>(
     rt: &R,
     alloc: Global,
     board: Board<V>,
     threads: u32,
     epochs: &Epochs,
     gate: &G,
-    watcher: &mut Option<Watcher<W>>,
+    watch: &mut Watch<W>,
 ) -> Result<Report<V>, Unfinished>
-    ensures { IfOk result (λ r. IsWorkedOff board.shown.graph r epochs.now) }
+    ensures worked { IfOk result (λ r. IsWorkedOff board.shown.graph r epochs.now) }
+    ensures last { IfOk result (λ r. (n : ℕ) × CountsPassed r n × (n ≤ watch.new.told)) }
+    ensures tells { Tells W.contents watch.old.watcher watch.new.watcher watch.old.told watch.new.told }
 {
     let graph = board.graph();
     law_inputs(graph);
@@ -120,10 +159,37 @@ pub fn execute<V: Views + Send, R: Threads + Wait + Sync, G: Gate + Sync, W: Wri
         workers: board.workers(),
         notice: &notice,
     };
-    let report = drive_any(rt, alloc, board, task, gate, watcher)?;
+    let report = drive_any(rt, alloc, board, task, gate, watch)?;
+    let passed = report.passed();
+    watch.tell_rise(passed);
     if is_fed(&report, inputs, epochs, epochs.count()) {
         Ok(report)
     } else {
         Err(Unfinished::Incomplete)
     }
+}
+
+/// Feeds the epochs to a new board, and runs it until nothing is left to do. The gate computes each event. Before the first feed `threads` threads are
+/// started, or one for each worker if that is more. A single worker has the caller's thread, and no lock; where one thread is asked for, none is
+/// started then.
+///
+/// Ok only if nothing is left to do, and each input was fed, at each epoch, exactly what was read. A watcher writes how many epochs have passed, as
+/// `passed M` with rising numbers. If its writer fails, nothing else changes.
+pub fn execute<V: Views + Send, R: Threads + Wait + Sync, G: Gate + Sync, W: Write + Send + Drop>(
+    rt: &R,
+    alloc: Global,
+    board: Board<V>,
+    threads: u32,
+    epochs: &Epochs,
+    gate: &G,
+    watcher: &mut Option<Watcher<W>>,
+) -> Result<Report<V>, Unfinished>
+    ensures worked { IfOk result (λ r. IsWorkedOff board.shown.graph r epochs.now) }
+    ensures told { IfOk result (λ r. (n last : ℕ) × CountsPassed r n × (n ≤ last) × IsTold W.contents watcher.old watcher.new last) }
+    ensures begun { OnErr result ((n : ℕ) × IsTold W.contents watcher.old watcher.new n) }
+{
+    let mut watch = Watch::begin(watcher);
+    let result = run(rt, alloc, board, threads, epochs, gate, &mut watch);
+    fill(watcher, watch.end());
+    result
 }

@@ -2,10 +2,11 @@
 
 ghost use Rattle.std.specs.Prelude.{◌≡◌, IfOk, OnOk};
 ghost use Rattle.board.specs.Promises.{IsDrained};
+ghost use Rattle.execution.specs.Told.{Tells};
 
 use crate::task::Task;
 use crate::unfinished::Unfinished;
-use crate::watching::{Watcher, end_line, tell_rise};
+use crate::watching::Watch;
 use alone::work_off;
 use board::Board;
 use std::alloc::Global;
@@ -41,16 +42,17 @@ fn close_inputs<V: Views>(board: &mut Board<V>, inputs: u32) -> Result<(), Unfin
     Ok(())
 }
 
-/// Works until there is nothing to do now, and tells the watcher how many epochs have passed then.
+/// Works until there is nothing to do now, and tells a watcher how many epochs have passed then.
+#[tactic(auto, using(crate::proofs::Tellings::tells_nothing))]
 fn work_now<V: Views, G: Gate, W: Write>(
     alloc: Global,
     board: &mut Board<V>,
     gate: &G,
     turn: &mut u64,
-    watcher: &mut Option<Watcher<W>>,
-    told: &mut u64,
+    watch: &mut Watch<W>,
 ) -> Result<(), Unfinished>
-    ensures { OnOk result (board.new.shown.graph ≡ board.old.shown.graph) }
+    ensures graph { OnOk result (board.new.shown.graph ≡ board.old.shown.graph) }
+    ensures tells { Tells W.contents watch.old.watcher watch.new.watcher watch.old.told watch.new.told }
 {
     match work_off(alloc, board, gate, 0, turn) {
         None | Some(Ended::Drained) => {}
@@ -58,31 +60,46 @@ fn work_now<V: Views, G: Gate, W: Write>(
         Some(Ended::Count) => return Err(Unfinished::Count),
         Some(Ended::Busy) => return Err(Unfinished::Incomplete),
     }
-    tell_rise(watcher, told, board.passed_count());
+    watch.tell_rise(board.passed_count());
     Ok(())
 }
 
-/// Feeds the epochs to a new board of one worker, and works off each before it feeds the next. Ok only if the board is drained.
+/// Feeds the epochs to a board of one worker, works off each before it feeds the next, and closes the inputs.
+#[tactic(auto, using(crate::proofs::Tellings::tells_nothing))]
+fn feed_and_work<V: Views, G: Gate, W: Write>(
+    alloc: Global,
+    board: &mut Board<V>,
+    task: Task<'_>,
+    gate: &G,
+    watch: &mut Watch<W>,
+) -> Result<(), Unfinished>
+    ensures graph { OnOk result (board.new.shown.graph ≡ board.old.shown.graph) }
+    ensures tells { Tells W.contents watch.old.watcher watch.new.watcher watch.old.told watch.new.told }
+{
+    let mut turn = 0;
+    for epoch in 0..task.epochs.count() {
+        feed_epoch(alloc, board, task, epoch)?;
+        work_now(alloc, board, gate, &mut turn, watch)?;
+    }
+    close_inputs(board, task.inputs)?;
+    work_now(alloc, board, gate, &mut turn, watch)
+}
+
+/// Runs a new board of one worker until nothing is left to do. Ok only if the board is drained.
+#[tactic(auto, using(crate::proofs::Tellings::tells_nothing))]
 pub fn run_single<V: Views, G: Gate, W: Write>(
     alloc: Global,
     board: Board<V>,
     task: Task<'_>,
     gate: &G,
-    watcher: &mut Option<Watcher<W>>,
+    watch: &mut Watch<W>,
 ) -> Result<Report<V>, Unfinished>
     ensures graph { IfOk result (λ r. r.graph ≡ board.shown.graph) }
     ensures drained { IfOk result IsDrained }
+    ensures tells { Tells W.contents watch.old.watcher watch.new.watcher watch.old.told watch.new.told }
 {
     let mut board = board;
-    let mut turn = 0;
-    let mut told = 0;
-    for epoch in 0..task.epochs.count() {
-        feed_epoch(alloc, &mut board, task, epoch)?;
-        work_now(alloc, &mut board, gate, &mut turn, watcher, &mut told)?;
-    }
-    close_inputs(&mut board, task.inputs)?;
-    work_now(alloc, &mut board, gate, &mut turn, watcher, &mut told)?;
-    end_line(watcher, told);
+    feed_and_work(alloc, &mut board, task, gate, watch)?;
     let report = report_of(board);
     if report.drained() {
         Ok(report)

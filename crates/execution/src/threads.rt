@@ -1,17 +1,17 @@
 //! The threads of a run.
 
-ghost use Rattle.std.specs.Prelude.{◌≡◌};
+ghost use Rattle.execution.specs.Told.{Tells};
 
 use crate::feeding::{close_inputs, feed_epochs};
 use crate::task::Task;
 use crate::unfinished::Unfinished;
-use crate::watching::{Watcher, watch};
+use crate::watching::{Observer, Watch, keep_watch};
 use std::alloc::Global;
 use std::io::Write;
 use std::sync::Wait;
 use std::thread::{Scope, Threads, join, scope, scope_env};
 use views::Views;
-use workers::{Engine, Gate, Mark, Naming, Seat, work};
+use workers::{Engine, Gate, Naming, work};
 
 /// Starts several threads, where they are asked for, that have nothing to do: so whether the system grants a run's threads doesn't depend on its input.
 pub fn try_threads<R: Threads + Wait + Sync>(rt: &R, threads: u32) -> Result<(), Unfinished> {
@@ -61,7 +61,7 @@ fn start_workers<
 
 /// Starts the workers, feeds the engine, and returns once all threads have ended. However the feeding goes, all inputs are closed at the end, so that
 /// the workers end too.
-pub fn work_off<J: Naming + Send + Sync, V: Views + Send, R: Threads + Wait + Sync, G: Gate + Sync>(
+fn work_off<J: Naming + Send + Sync, V: Views + Send, R: Threads + Wait + Sync, G: Gate + Sync>(
     rt: &R,
     alloc: Global,
     engine: &Engine<J, V>,
@@ -78,30 +78,54 @@ pub fn work_off<J: Naming + Send + Sync, V: Views + Send, R: Threads + Wait + Sy
     })
 }
 
-/// As `work_off`, while one more thread watches. Where it can't be started, this one watches at the end.
-pub fn work_off_watched<
+/// As `work_off`, while one more thread watches. Where it can't be started, this one watches at the end. Gives back what watched.
+fn work_off_watched<
     J: Naming + Send + Sync,
     V: Views + Send,
     R: Threads + Wait + Sync,
     G: Gate + Sync,
-    W: Write + Send,
+    W: Write + Send + Drop,
 >(
     rt: &R,
     alloc: Global,
     engine: &Engine<J, V>,
     task: Task<'_>,
     gate: &G,
-    mark: &Mark,
-    seat: Seat,
-    watcher: &mut Watcher<W>,
-) -> Result<(), Unfinished>
-    requires { seat.table ≡ mark.now }
+    observer: Observer,
+    lent: Watch<W>,
+) -> (Watch<W>, Result<(), Unfinished>)
+    ensures { Tells W.contents lent.watcher result.0.watcher lent.told result.0.told }
 {
-    let lent = &mut *watcher;
-    let ((), done) = join(
+    join(
         rt,
-        move || watch(rt, engine, mark, seat, lent),
+        move || keep_watch(rt, engine, observer, lent),
         move || work_off(rt, alloc, engine, task, gate),
-    );
+    )
+}
+
+/// Does all work, while a watcher, if there is one, is told how far it is.
+#[tactic(auto, using(crate::proofs::Tellings::tells_nothing))]
+pub fn work_off_all<
+    J: Naming + Send + Sync,
+    V: Views + Send,
+    R: Threads + Wait + Sync,
+    G: Gate + Sync,
+    W: Write + Send + Drop,
+>(
+    rt: &R,
+    alloc: Global,
+    engine: &Engine<J, V>,
+    task: Task<'_>,
+    gate: &G,
+    observer: Observer,
+    watch: &mut Watch<W>,
+) -> Result<(), Unfinished>
+    ensures { Tells W.contents watch.old.watcher watch.new.watcher watch.old.told watch.new.told }
+{
+    if !watch.is_on() {
+        return work_off(rt, alloc, engine, task, gate);
+    }
+    let (back, done) = work_off_watched(rt, alloc, engine, task, gate, observer, watch.lend());
+    watch.take_back(back);
     done
 }

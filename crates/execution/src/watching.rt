@@ -1,11 +1,15 @@
 //! Reports the progress of a run.
 
-ghost use Rattle.std.specs.Prelude.{◌≡◌};
+ghost use Rattle.std.specs.Prelude.{◌≡◌, None, Option, true, false, max};
+ghost use Rattle.std.specs.Io.KnownBytes.{Appends};
+ghost use Rattle.collector.specs.WrittenBytes.{AppendsFront};
+ghost use Rattle.execution.specs.Told.{IsTold, Takes, Tells, line_end, told};
+ghost use Rattle.execution.specs.declared.watching.Watcher.{Watcher};
 
 use arrayvec::ArrayVec;
 use collector::Number;
-use std::io;
 use std::io::Write;
+use std::mem::replace;
 use std::sync::Wait;
 use views::Views;
 use workers::{Engine, Mark, Naming, Seat};
@@ -17,6 +21,8 @@ pub enum Telling {
     Lines,
     /// One line of a terminal, whose number rises in place.
     InPlace,
+    /// Nothing more, since the writer has failed.
+    Silent,
 }
 
 /// A writer to which the number of passed epochs is reported.
@@ -26,81 +32,186 @@ pub struct Watcher<W> {
     pub telling: Telling,
 }
 
+/// Whether the writer takes the whole text, in one write if it can. If not, it took a beginning.
+fn takes_all<W: Write>(writer: &mut W, text: &[u8]) -> bool
+    ensures whole { result ≡ true → Appends (W.contents writer.old) (W.contents writer.new) text.now }
+    ensures front { result ≡ false → AppendsFront (W.contents writer.old) (W.contents writer.new) text.now }
+{
+    let mut at = 0;
+    while at < text.len() {
+        match writer.write(&text[at..]) {
+            Ok(0) | Err(_) => return false,
+            Ok(n) => at += n,
+        }
+    }
+    writer.flush().is_ok()
+}
+
 impl<W: Write> Watcher<W> {
-    /// Reports one number, in one write.
-    fn tell(&mut self, passed: u64) -> io::Result<()> {
+    /// Writes a text.
+    fn put(&mut self, text: &[u8])
+        ensures { Takes W.contents self.old self.new text.now }
+    {
+        if !takes_all(&mut self.writer, text) {
+            self.telling = Telling::Silent;
+        }
+    }
+
+    /// Reports one number.
+    fn tell(&mut self, passed: u64)
+        ensures { Takes W.contents self.old self.new (told self.old.telling passed) }
+    {
         let passed = Number(passed);
         let mut text: ArrayVec<u8, 32> = ArrayVec::new();
-        match self.telling {
-            Telling::Lines => writeln!(text, "passed {passed}")?,
-            Telling::InPlace => write!(text, "\rpassed {passed}")?,
+        let formed = match self.telling {
+            Telling::Lines => writeln!(text, "passed {passed}"),
+            Telling::InPlace => write!(text, "\rpassed {passed}"),
+            Telling::Silent => return,
+        };
+        match formed {
+            Ok(()) => self.put(text.as_slice()),
+            Err(_) => self.telling = Telling::Silent,
         }
-        self.writer.write_all(text.as_slice())?;
-        self.writer.flush()
     }
 
     /// Ends the line whose number rose in place. Separate lines have ended already.
-    fn end(&mut self) -> io::Result<()> {
+    fn end(&mut self, told: u64)
+        ensures { Takes W.contents self.old self.new (line_end self.old.telling told) }
+    {
         match self.telling {
-            Telling::Lines => Ok(()),
-            Telling::InPlace => {
-                self.writer.write_all(b"\n")?;
-                self.writer.flush()
-            }
+            Telling::InPlace if told > 0 => self.put(b"\n"),
+            Telling::Lines | Telling::InPlace | Telling::Silent => {}
         }
     }
 }
 
-/// What was told to a watcher whose writer has failed: no number is greater.
-const FAILED: u64 = u64::MAX;
-
-/// Reports a number of passed epochs, if it is greater than the one that was told last.
-pub fn tell_rise<W: Write>(watcher: &mut Option<Watcher<W>>, told: &mut u64, passed: u64) {
-    if passed <= *told {
-        return;
-    }
-    if let Some(watcher) = watcher {
-        *told = match watcher.tell(passed) {
-            Ok(()) => passed,
-            Err(_) => FAILED,
-        };
-    }
+/// A watcher at work, if there is one, and the number that was told last, which is 0 at first.
+#[derive(Drop)]
+pub struct Watch<W> {
+    pub watcher: Option<Watcher<W>>,
+    pub told: u64,
 }
 
-/// Ends the line whose number rose, if one was told, and the writer hasn't failed.
-pub fn end_line<W: Write>(watcher: &mut Option<Watcher<W>>, told: u64) {
-    if told == 0 || told == FAILED {
-        return;
+impl<W: Write> Watch<W> {
+    pub fn new(watcher: Option<Watcher<W>>) -> Watch<W>
+        ensures { (result.watcher ≡ watcher) × (result.told ≡ 0) }
+    {
+        Watch { watcher, told: 0 }
     }
-    if let Some(watcher) = watcher {
-        let _ = watcher.end();
-    }
-}
 
-/// Reports to the watcher whenever more epochs have passed than it has reported, and sleeps in between. Ends when no more can pass, or the writer has
-/// failed.
-pub fn watch<J: Naming, V: Views, R: Wait, W: Write>(
-    rt: &R,
-    engine: &Engine<J, V>,
-    mark: &Mark,
-    mut seat: Seat,
-    watcher: &mut Watcher<W>,
-)
-    requires { seat.table ≡ mark.now }
-{
-    let mut told = 0u64;
-    for _turn in rt.forever() {
-        engine.wait_for(rt, told.saturating_add(1));
-        let passed = mark.observe(&mut seat);
-        if passed <= told {
-            break;
-        }
-        if watcher.tell(passed).is_err() {
+    /// Takes the watcher from its place.
+    pub fn begin(place: &mut Option<Watcher<W>>) -> Watch<W>
+        ensures taken { (result.watcher ≡ place.old) × (result.told ≡ 0) }
+        ensures none { place.new ≡ None }
+    {
+        Watch::new(replace(place, None))
+    }
+
+    /// Whether there is a watcher.
+    pub fn is_on(&self) -> bool {
+        self.watcher.is_some()
+    }
+
+    /// Reports a number of passed epochs, if it is greater than the one that was told last.
+    pub fn tell_rise(&mut self, passed: u64)
+        ensures told { self.new.told ≡ max self.old.told passed }
+        ensures tells { Tells W.contents self.old.watcher self.new.watcher self.old.told self.new.told }
+    {
+        if passed <= self.told {
             return;
         }
-        told = passed;
+        self.told = passed;
+        if let Some(watcher) = &mut self.watcher {
+            watcher.tell(passed);
+        }
     }
-    if told > 0 {
-        let _ = watcher.end();
+
+    /// Whether its writer has failed.
+    fn is_silent(&self) -> bool {
+        match &self.watcher {
+            None => true,
+            Some(watcher) => watcher.telling == Telling::Silent,
+        }
     }
+
+    /// Lends out the watcher, with what it was told. There is none meanwhile.
+    pub fn lend(&mut self) -> Watch<W>
+        ensures lent { result ≡ self.old }
+        ensures none { self.new.watcher ≡ None }
+    {
+        replace(self, Watch::new(None))
+    }
+
+    /// Takes back a watcher that was lent out.
+    pub fn take_back(&mut self, lent: Watch<W>)
+        requires { self.old.watcher ≡ None }
+        ensures { self.new ≡ lent }
+    {
+        let Watch { watcher, told } = lent;
+        self.told = told;
+        fill(&mut self.watcher, watcher);
+    }
+
+    /// Ends the line whose number rose, and gives the watcher.
+    pub fn end(self) -> Option<Watcher<W>>
+        ensures { (first : Option (Watcher W)) → Tells W.contents first self.watcher 0 self.told → IsTold W.contents first result self.told }
+    {
+        let Watch { mut watcher, told } = self;
+        if let Some(watcher) = &mut watcher {
+            watcher.end(told);
+        }
+        watcher
+    }
+}
+
+/// Fills a place that is empty.
+pub fn fill<T>(place: &mut Option<T>, value: Option<T>)
+    requires { place.old ≡ None }
+    ensures { place.new ≡ value }
+{
+    let before = replace(place, value);
+    let None = before else { unreachable!() };
+}
+
+/// A mark, with a seat at it.
+#[derive(Drop)]
+pub struct Observer {
+    mark: Mark,
+    seat: Seat,
+    ghost of: { seat.table ≡ mark },
+}
+
+impl Observer {
+    pub fn new(mark: Mark, seat: Seat) -> Observer
+        requires { seat.table ≡ mark }
+    {
+        Observer { mark, seat }
+    }
+
+    /// How many epochs have passed, as far as published.
+    fn read(&mut self) -> u64 {
+        self.mark.observe(&mut self.seat)
+    }
+}
+
+/// Reports whenever more epochs have passed than were told, and sleeps in between. Ends when no more can pass, or the writer has failed.
+pub fn keep_watch<J: Naming, V: Views, R: Wait, W: Write>(
+    rt: &R,
+    engine: &Engine<J, V>,
+    observer: Observer,
+    watch: Watch<W>,
+) -> Watch<W>
+    ensures { Tells W.contents watch.watcher result.watcher watch.told result.told }
+{
+    let mut observer = observer;
+    let mut at_work = watch;
+    for _turn in rt.forever() {
+        engine.wait_for(rt, at_work.told.saturating_add(1));
+        let passed = observer.read();
+        if passed <= at_work.told || at_work.is_silent() {
+            break;
+        }
+        at_work.tell_rise(passed);
+    }
+    at_work
 }

@@ -1,20 +1,20 @@
 -- What several calls do together.
-use Rattle.std.proofs.Common.{◌≡◌, ◌<◌, ◌⊎◌, ◌-◌, ◌∙◌, ◌++◌, All, ℕ, List, [], length, map, refl, sym, ap, subst, arith, inl, inr, get_or}
+use Rattle.std.proofs.Common.{◌≡◌, ◌<◌, ◌≤◌, ◌-◌, ◌∙◌, ◌++◌, All, ℕ, List, [], length, map, refl, sym, ap, subst, arith, inl, get_or}
 use Rattle.std.specs.Prelude.{Bool, true, false, Option, Some, None, Result, Ok, Err, OnOk, IfOk, IfNone, if◌then◌else◌, is_err, is_ok, is_some, not, slice_index_or}
 use Rattle.std.proofs.Math.ListN.{get_or-append}
 use Rattle.std.proofs.lemmas.List.{get_or-map, length-append}
-use Rattle.graph.specs.Shown.{GraphValue, shown_names}
+use Rattle.semantics.specs.Graph.{input_count}
+use Rattle.graph.specs.Shown.{GraphValue, shown_graph, shown_names}
 use Rattle.graph.specs.Views.{name_of_output}
 use Rattle.graph.specs.declared.graph.GraphOutput.{GraphOutput}
+use Rattle.board.specs.Promises.{HasPassed, HasPassedAtAll}
 use Rattle.board.specs.Shown.{Shown}
-use Rattle.board.specs.Answers.{Claims}
-use Rattle.board.specs.declared.board.Claimed.{Claimed}
-use Rattle.board.specs.declared.board.Claimed.TheVariants.{Drained, Idle}
 use Rattle.collector.specs.Lines.{Item}
 use Rattle.collector.specs.OutputText.{is_plain, label_of}
 use Rattle.follow.specs.Entries.{Entry}
 use Rattle.follow.specs.Follows.{said_records}
-use Rattle.follow.specs.Scenes.{Grows, IsLive, Works, reported_count}
+use Rattle.follow.specs.Working.{IsWorkedOff}
+use Rattle.follow.specs.Scenes.{Closes, Grows, IsLive, Works, reported_count}
 use Rattle.follow.specs.Steps.{CanReport, AnswersLast, AnswersOpen, FeedsPortion, Reports, HasAnswered}
 use Rattle.follow.specs.declared.intake.Intake.{Intake}
 use Rattle.follow.specs.declared.reporting.Reporting.{Reporting}
@@ -35,21 +35,13 @@ ok_of (Err e) t is h = absurd cc
 pub All-front : {X : Type 0} (P : X → Type 0) (xs ys : List X) → All P (xs ++ ys) → All P xs
 All-front P xs ys all = λ k d lt. subst P (get_or-append xs ys d k lt) (all k d (omega (arith, lt, length-append xs ys)))
 
--- what the Ok of two calls says about both
-pub on_both : {T U V E A B C : Type 0} (first : Result T E) (second : Result U E) (whole : Result V E) → IfOk whole (λ v. (is_ok first ≡ true) × (is_ok second ≡ true)) → (A → B → C) → OnOk first A → OnOk second B → OnOk whole C
-on_both (Ok t) (Ok u) (Ok v) both f a b = f a b
-on_both (Err e) second (Ok v) both f a b = absurd (let p : false ≡ true = both.0 in cc)
-on_both (Ok t) (Err e) (Ok v) both f a b = absurd (let p : false ≡ true = both.1 in cc)
-on_both first second (Err e) both f a b = tt
+pub if_ok_of : {T E : Type 0} (P : T → Type 0) (r : Result T E) (t : T) → r ≡ Ok t → IfOk r P → P t
+if_ok_of P (Ok u) t is h = subst P (let e : u ≡ t = cc in e) h
+if_ok_of P (Err e) t is h = absurd cc
 
 pub both_ok : {T E : Type 0} {P Q S : T → Type 0} (r : Result T E) → ((t : T) → P t → Q t → S t) → IfOk r P → IfOk r Q → IfOk r S
 both_ok (Ok t) f p q = f t p q
 both_ok (Err e) f p q = tt
-
--- a claim that hands nothing out leaves the board as it was
-pub idle_works : (s t u : Shown) (k : ℕ) (claimed : Claimed) → Claims t u k claimed → (claimed ≡ Idle) ⊎ (claimed ≡ Drained) → Works s t → Works s u
-idle_works s t u k claimed h (inl is) works = let idle : Claims t u k Idle = subst (Claims t u k) is h in subst (Works s) (sym idle.5) works
-idle_works s t u k claimed h (inr is) works = let drained : Claims t u k Drained = subst (Claims t u k) is h in subst (Works s) (sym drained.3) works
 
 -- an output's label
 pub label_at : (g : GraphValue) (outputs : List GraphOutput) (k : ℕ) (x : GraphOutput) (is_alone : _) → map name_of_output outputs ≡ shown_names g → k < length outputs → x ≡ get_or outputs k x → is_alone ≡ is_plain (map name_of_output outputs)
@@ -83,16 +75,24 @@ goes_by base s t w x y u v sealed start out sent works at none reports = λ item
       reported = reported_at w base v items x.begun y.begun (x.begun - 1) sealed text [] out sent.holds.begun c (subst (λ xs. HasAnswered w base v items y.begun sealed text xs out) none reported);
     }
 
-pub ends_by : (base : ℕ) (s t r w : Shown) (x y : Intake) (u v : Reporting) (start out : List ℕ) → FeedsPortion s t x y → (IsLive t → Works t r) → (IsLive r → Works r w) → start ≡ [] → v.done ≡ y.begun → Reports w base u v y.begun y.begun start out → AnswersLast base s w x u v out
-ends_by base s t r w x y u v start out sent closed works none complete reports = λ items entries text f can.
+-- once all inputs are closed and the work is done, every epoch has passed
+passed_at_end : (s t u : Shown) → Closes s t (input_count (shown_graph s.graph)) → Works t u → IsWorkedOff u → (k e : ℕ) → HasPassed u k e
+passed_at_end s t u closes works off k e = off.passed e (λ i l.
+    let same = ap (λ (g : GraphValue). input_count (shown_graph g)) (works.grows.graph ∙ closes.works.grows.graph) in
+    inl (works.closed i (closes.closed i (omega (arith, l, same))))) k
+
+pub ends_by : (base : ℕ) (s t r w : Shown) (x y : Intake) (u v : Reporting) (start out : List ℕ) → FeedsPortion s t x y → (IsLive t → Closes t r (input_count (shown_graph t.graph))) → (IsLive r → Works r w) → IsWorkedOff w → start ≡ []
+    → (((epoch : ℕ) → HasPassedAtAll w epoch) → u.done ≤ y.begun → v.done ≡ y.begun) → Reports w base u v y.begun y.begun start out → AnswersLast base s w x u v out
+ends_by base s t r w x y u v start out sent closed works off none complete reports = λ items entries text f can.
     let g = sent.fed base items f in
-    let a = closed g.0.live in
-    let worked_off = works_on t r w a (works a.grows.live) in
+    let closes = closed g.0.live in
+    let last = works closes.works.grows.live in
+    let worked_off = works_on t r w closes.works last in
     let grows = grows_on s t w g.1 worked_off.grows in
     let reported = reports items entries text (all_worked t w base items (all_fed t y base items g.0 sent.none) worked_off) (omega arith) (can_later s w base u items x.begun y.begun x.begun y.begun entries text grows sent.holds.begun sent.holds.begun can) in
     record {
       graph = grows.graph;
-      complete = complete ∙ sent.holds.begun;
+      complete = complete (λ e k place. passed_at_end t r w closes last off k e) (let o = can.order in let b = sent.holds.begun in omega (arith, o, b)) ∙ sent.holds.begun;
       reported = reported_at w base v items x.begun y.begun x.begun y.begun text [] out sent.holds.begun sent.holds.begun (subst (λ xs. HasAnswered w base v items y.begun y.begun text xs out) none reported);
     }
 

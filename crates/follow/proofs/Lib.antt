@@ -10,3 +10,4 @@ pub mod Positions
 pub mod Renewed
 pub mod Reported
 pub mod Waiting
+pub mod Working

@@ -1,34 +1,34 @@
 -- What the engine's steps leave of what was fed and emitted.
-use Rattle.std.proofs.Common.{◌≡◌, ◌≢◌, ◌∙◌, ◌+◌, ℕ, List, [], ◌∷◌, ◌++◌, cond, refl, sym, ap, subst, arith, append_assoc, inl, inr}
+use Rattle.std.proofs.Common.{◌≡◌, ◌≢◌, ◌∙◌, ◌+◌, ◌≤◌, ℕ, Bool, true, false, List, [], ◌++◌, cond, refl, sym, ap, arith, append_assoc, inl, inr}
 use Rattle.std.specs.Prelude.{◌==◌}
 use Rattle.std.proofs.lemmas.Bool.Decides.{eqb_tells}
 use Rattle.std.proofs.lemmas.List.{append-nil}
 use Rattle.semantics.specs.Multiset.{Record}
-use Rattle.machine.specs.World.{Event}
 use Rattle.machine.specs.Step.{Step, after_step, put}
-use Rattle.machine.specs.Choices.{IsClaimBy}
-use Rattle.board.specs.Answers.{Gathers, Merges, MergesAll}
+use Rattle.ending.specs.Ending.{IsWork}
 use Rattle.board.specs.Shown.{Shown, batches_at, net}
 use Rattle.board.specs.Kept.{Goes}
-use Rattle.follow.specs.Scenes.{Feeds, Grows, IsLive, Seals, Works, fed_at, open_at}
+use Rattle.follow.specs.Scenes.{Closes, Feeds, Grows, IsLive, Seals, Works, fed_at, open_at}
 use Rattle.follow.specs.Steps.{SealsOne}
 
 grows_by : (s t : Shown) (taken : Step) (live : IsLive s) → Goes s taken t → Grows s t
 grows_by s t taken live goes = record { live = (after_step (net s) live.0 taken, (goes.step live.0 live.1).1); graph = goes.graph; emitted = goes.emitted }
 
 works_by : (s t : Shown) (taken : Step) (live : IsLive s) → Goes s taken t
-    → ((i e : ℕ) → (after_step (net s) live.0 taken).fed i e ≡ live.0.fed i e) → ((i : ℕ) → (after_step (net s) live.0 taken).open_epoch i ≡ live.0.open_epoch i) → Works s t
-works_by s t taken live goes fed opened =
+    → ((i e : ℕ) → (after_step (net s) live.0 taken).fed i e ≡ live.0.fed i e) → ((i : ℕ) → (after_step (net s) live.0 taken).open_epoch i ≡ live.0.open_epoch i)
+    → ((i : ℕ) → live.0.closed i ≡ true → (after_step (net s) live.0 taken).closed i ≡ true) → Works s t
+works_by s t taken live goes fed opened closed =
     let after = (goes.step live.0 live.1).1 in
     record {
       grows = grows_by s t taken live goes;
       fed = λ i e. sym (after.fed i e) ∙ fed i e ∙ live.1.fed i e;
       opened = λ i. sym (after.open_epoch i) ∙ opened i ∙ live.1.open_epoch i;
+      closed = λ i e. sym (after.closed i) ∙ closed i (live.1.closed i ∙ e);
     }
 
 -- nothing was done
 pub works_not : (s : Shown) → IsLive s → Works s s
-works_not s live = record { grows = record { live = live; graph = refl; emitted = λ v e. ([], sym (append-nil (batches_at s.emitted v e))) }; fed = λ i e. refl; opened = λ i. refl }
+works_not s live = record { grows = record { live = live; graph = refl; emitted = λ v e. ([], sym (append-nil (batches_at s.emitted v e))) }; fed = λ i e. refl; opened = λ i. refl; closed = λ i e. e }
 
 pub grows_not : (s : Shown) → IsLive s → Grows s s
 grows_not s live = (works_not s live).grows
@@ -44,37 +44,46 @@ grows_on s t u p q = record {
 }
 
 pub works_on : (s t u : Shown) → Works s t → Works t u → Works s u
-works_on s t u p q = record { grows = grows_on s t u p.grows q.grows; fed = λ i e. q.fed i e ∙ p.fed i e; opened = λ i. q.opened i ∙ p.opened i }
+works_on s t u p q = record { grows = grows_on s t u p.grows q.grows; fed = λ i e. q.fed i e ∙ p.fed i e; opened = λ i. q.opened i ∙ p.opened i; closed = λ i e. q.closed i (p.closed i e) }
 
--- ---- claims and commits
+-- ---- steps of workers
 
-pub claim_works : (s t : Shown) (k : ℕ) (taken : Step) → IsClaimBy k taken → Goes s taken t → IsLive s → Works s t
-claim_works s t k (Step.feed i records) by goes live = absurd by
-claim_works s t k (Step.seal i) by goes live = absurd by
-claim_works s t k (Step.close i) by goes live = absurd by
-claim_works s t k (Step.claim_message k' at m) by goes live = works_by s t (Step.claim_message k' at m) live goes (λ i e. refl) (λ i. refl)
-claim_works s t k (Step.claim_request k' at n) by goes live = works_by s t (Step.claim_request k' at n) live goes (λ i e. refl) (λ i. refl)
-claim_works s t k (Step.merge k' at m n) by goes live = absurd by
-claim_works s t k (Step.commit k' event out) by goes live = absurd by
-claim_works s t k (Step.abandon k' event) by goes live = absurd by
+pub steps_work : (s t : Shown) (step : Step) → IsWork step → Goes s step t → IsLive s → Works s t
+steps_work s t (Step.feed i records) work goes live = absurd work
+steps_work s t (Step.seal i) work goes live = absurd work
+steps_work s t (Step.close i) work goes live = absurd work
+steps_work s t (Step.claim_message k at m) work goes live = works_by s t (Step.claim_message k at m) live goes (λ i e. refl) (λ i. refl) (λ i e. e)
+steps_work s t (Step.claim_request k at n) work goes live = works_by s t (Step.claim_request k at n) live goes (λ i e. refl) (λ i. refl) (λ i e. e)
+steps_work s t (Step.merge k at m n) work goes live = works_by s t (Step.merge k at m n) live goes (λ i e. refl) (λ i. refl) (λ i e. e)
+steps_work s t (Step.commit k event out) work goes live = works_by s t (Step.commit k event out) live goes (λ i e. refl) (λ i. refl) (λ i e. e)
+steps_work s t (Step.abandon k event) work goes live = works_by s t (Step.abandon k event) live goes (λ i e. refl) (λ i. refl) (λ i e. e)
 
-pub commit_works : (s t : Shown) (k : ℕ) (event : Event) (out : ℕ → List Record) → Goes s (Step.commit k event out) t → IsLive s → Works s t
-commit_works s t k event out goes live = works_by s t (Step.commit k event out) live goes (λ i e. refl) (λ i. refl)
+put_true : (b x : Bool) → x ≡ true → cond b true x ≡ true
+put_true true x e = refl
+put_true false x e = e
 
-merge_works : (s t : Shown) (k at : ℕ) → Merges s k at t → IsLive s → Works s t
-merge_works s t k at (first, second, goes) live = works_by s t (Step.merge k at first second) live goes (λ i e. refl) (λ i. refl)
+close_works : (s t : Shown) (i : ℕ) → Goes s (Step.close i) t → IsLive s → Works s t
+close_works s t i goes live = works_by s t (Step.close i) live goes (λ j e. refl) (λ j. refl) (λ j e. put_true (j == i) (live.0.closed j) e)
 
-merges_work : (s t : Shown) (k : ℕ) (places : List ℕ) → MergesAll k places s t → IsLive s → Works s t
-merges_work s t k [] same live = subst (Works s) (sym same) (works_not s live)
-merges_work s t k (at ∷ places) (u, merged, last) live =
-    let a = merges_work s u k places merged live in
-    works_on s u t a (merge_works u t k at last a.grows.live)
+-- ---- closes of one input after another
 
-pub gathers_work : (s t : Shown) (k : ℕ) → Gathers s k t → IsLive s → Works s t
-gathers_work s t k (places, merged) live = merges_work s t k places merged live
+pub closes_not : (s : Shown) → IsLive s → Closes s s 0
+closes_not s live = record { works = works_not s live; closed = λ i lt. absurd (omega (arith, lt)) }
 
-pub close_works : (s t : Shown) (i : ℕ) → Goes s (Step.close i) t → IsLive s → Works s t
-close_works s t i goes live = works_by s t (Step.close i) live goes (λ j e. refl) (λ j. refl)
+pub closes_more : (s t u : Shown) (n : ℕ) → Closes s t n → Goes t (Step.close n) u → Closes s u (n + 1)
+closes_more s t u n p goes =
+    let live = p.works.grows.live in
+    let last = close_works t u n goes live in
+    record {
+      works = works_on s t u p.works last;
+      closed = λ i lt. elim (eqb_tells i n) [
+        | inl same ↦ sym ((goes.step live.0 live.1).1.closed i) ∙ ap (λ b. cond b true (live.0.closed i)) same.0
+        | inr other ↦ last.closed i (p.closed i (omega (arith, lt, other.1)))
+      ];
+    }
+
+pub closes_all : (s t : Shown) (n m : ℕ) → m ≤ n → Closes s t n → Closes s t m
+closes_all s t n m le p = record { works = p.works; closed = λ i lt. p.closed i (omega (arith, lt, le)) }
 
 -- ---- feeds and seals
 

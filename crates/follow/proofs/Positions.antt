@@ -23,10 +23,10 @@ use Rattle.follow.specs.Entries.{Entry}
 use Rattle.follow.specs.Follows.{Follows, HasRead, IsAnswer, IsPart, IsReport, Reaches, Writes, said_records}
 use Rattle.follow.specs.Scenes.{Grows, HasReported, IsFed, IsKnown, IsWritten, batches_of, reported_count}
 use Rattle.follow.specs.Steps.{CanReport, Continues, IsLastAnswer, AnswersLast, AnswersOpen, IsFresh, IsNew, Stops, TakesLines, ending_of}
-use Rattle.follow.specs.declared.ending.Ending.{Ending}
-use Rattle.follow.specs.declared.ending.Ending.TheVariants as ending
-use Rattle.follow.specs.declared.ending.Halt.{Halt}
-use Rattle.follow.specs.declared.ending.Halt.TheVariants as halt
+use Rattle.follow.specs.declared.outcome.Ending.{Ending}
+use Rattle.follow.specs.declared.outcome.Ending.TheVariants as ending
+use Rattle.follow.specs.declared.outcome.Halt.{Halt}
+use Rattle.follow.specs.declared.outcome.Halt.TheVariants as halt
 use Rattle.follow.specs.declared.intake.Intake.{Intake}
 use Rattle.follow.specs.declared.line_stop.Taken.{Taken}
 use Rattle.follow.specs.declared.line_stop.Taken.TheVariants as taken

@@ -17,8 +17,8 @@ use Rattle.collector.specs.declared.refusal.InputRefusal.TheVariants.{At}
 use Rattle.collector.specs.declared.codes.TheConstants.{NO_LINE_FEED}
 use Rattle.collector.specs.declared.watched.Watched.{Watched}
 use Rattle.follow.specs.Entries.{AreAt, Entry, complete_line, entry_line, records_of}
-use Rattle.follow.specs.declared.ending.Ending.{Ending}
-use Rattle.follow.specs.declared.ending.Ending.TheVariants as ending
+use Rattle.follow.specs.declared.outcome.Ending.{Ending}
+use Rattle.follow.specs.declared.outcome.Ending.TheVariants as ending
 
 -- the graph is that of this well-typed program
 pub record IsGraphOf (g : GraphValue) (p : Program) : Type 0 where

@@ -3,3 +3,4 @@ pub mod Follows
 pub mod Scenes
 pub mod Slots
 pub mod Steps
+pub mod Working

@@ -1,5 +1,5 @@
 -- The state of following: the board, what was taken of the input, and what was written.
-use Rattle.std.specs.Prelude.{◌≡◌, ◌<◌, ◌≤◌, ℕ, ◌+◌, ◌-◌, ◌==◌, cond, List, [], ◌∷◌, ◌++◌, length, take, Option, slice_index_or}
+use Rattle.std.specs.Prelude.{◌≡◌, ◌<◌, ◌≤◌, ℕ, ◌+◌, ◌-◌, ◌==◌, cond, true, List, [], ◌∷◌, ◌++◌, length, take, Option, slice_index_or}
 use Rattle.std.specs.Io.KnownBytes.{Appends}
 use Rattle.semantics.specs.Multiset.{Record, ◌≈◌}
 use Rattle.semantics.specs.Query.{Input}
@@ -43,11 +43,17 @@ pub record Grows (s t : Shown) : Type 0 where
   pub graph : t.graph ≡ s.graph
   pub emitted : EmitsBehind s.emitted t.emitted
 
--- nothing is fed or sealed
+-- nothing is fed or sealed, and no input opens again
 pub record Works (s t : Shown) : Type 0 where
   pub grows : Grows s t
   pub fed : (i e : ℕ) → fed_at t i e ≡ fed_at s i e
   pub opened : (i : ℕ) → open_at t i ≡ open_at s i
+  pub closed : (i : ℕ) → (input_at s i).closed ≡ true → (input_at t i).closed ≡ true
+
+-- the first n inputs were closed
+pub record Closes (s t : Shown) (n : ℕ) : Type 0 where
+  pub works : Works s t
+  pub closed : (i : ℕ) → i < n → (input_at t i).closed ≡ true
 
 -- an input was fed records at its open epoch
 pub record Feeds (s t : Shown) (input : ℕ) (batch : List Record) : Type 0 where

@@ -15,10 +15,10 @@ use Rattle.collector.specs.declared.codes.TheConstants.{NO_LINE_FEED}
 use Rattle.follow.specs.Entries.{Entry, records_of, row_line}
 use Rattle.follow.specs.Follows.{Follows, FollowsInput, IsPart, Reading, said_records}
 use Rattle.follow.specs.Scenes.{Grows, HasTaken, HasReported, IsAllFed, IsFed, IsWritten, IsPositionAfter, batches_of, fed_at, open_at, reported_count, waiting}
-use Rattle.follow.specs.declared.ending.Ending.{Ending}
-use Rattle.follow.specs.declared.ending.Ending.TheVariants as ending
-use Rattle.follow.specs.declared.ending.Halt.{Halt}
-use Rattle.follow.specs.declared.ending.Halt.TheVariants as halt
+use Rattle.follow.specs.declared.outcome.Ending.{Ending}
+use Rattle.follow.specs.declared.outcome.Ending.TheVariants as ending
+use Rattle.follow.specs.declared.outcome.Halt.{Halt}
+use Rattle.follow.specs.declared.outcome.Halt.TheVariants as halt
 use Rattle.follow.specs.declared.intake.Intake.{Intake}
 use Rattle.follow.specs.declared.position.Position.{Position}
 use Rattle.follow.specs.declared.line_stop.Taken.{Taken}

@@ -1,11 +1,12 @@
 //! Computes and writes out the answer to the lines that were taken.
 
-ghost use Rattle.std.specs.Prelude.{IfOk};
+ghost use Rattle.std.specs.Prelude.{◌≡◌, false, IfOk, OnOk};
+ghost use Rattle.follow.specs.Working.{IsWorkedOff};
 ghost use Rattle.follow.specs.Steps.{AnswersLast, AnswersOpen};
 
 use crate::board_calls::close_inputs;
-use crate::ending::Halt;
 use crate::intake::{Intake, feed_portion};
+use crate::outcome::Halt;
 use crate::reporting::{Reporting, report};
 use crate::rounds::work_off;
 use board::{Board, HEAVY};
@@ -24,7 +25,8 @@ pub fn answer_open<V: Views, R: Threads + Sync>(
     intake: &mut Intake,
     reporting: &mut Reporting,
 ) -> Result<Vec<u8>, Halt>
-    ensures { IfOk result (λ out. AnswersOpen base board.old.shown board.new.shown intake.old intake.new reporting.old reporting.new out.items) }
+    ensures answers { IfOk result (λ out. AnswersOpen base board.old.shown board.new.shown intake.old intake.new reporting.old reporting.new out.items) }
+    ensures rests { OnOk result (IsWorkedOff board.new.shown) }
 {
     feed_portion(alloc, board, intake)?;
     work_off(rt, alloc, records, board)?;
@@ -34,7 +36,7 @@ pub fn answer_open<V: Views, R: Threads + Sync>(
     Ok(out)
 }
 
-/// As `answer_open`, at the end of the input: closes every input.
+/// As `answer_open`, at the end of the input: closes every input, so every epoch passes.
 pub fn answer_last<V: Views, R: Threads + Sync>(
     rt: &R,
     alloc: Global,
@@ -43,15 +45,14 @@ pub fn answer_last<V: Views, R: Threads + Sync>(
     intake: &mut Intake,
     reporting: &mut Reporting,
 ) -> Result<Vec<u8>, Halt>
+    requires prompt { V.late ≡ false }
     ensures { IfOk result (λ out. AnswersLast base board.old.shown board.new.shown intake.old reporting.old reporting.new out.items) }
 {
     feed_portion(alloc, board, intake)?;
-    close_inputs(board, intake.portion.len())?;
+    close_inputs(board)?;
     work_off(rt, alloc, HEAVY, board)?;
+    board.law_prompt();
     let mut out = Vec::new(alloc);
     report(board, base, reporting, intake.begun, intake.begun, &mut out)?;
-    if reporting.done != intake.begun {
-        return Err(Halt::Incomplete);
-    }
     Ok(out)
 }

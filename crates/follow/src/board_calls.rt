@@ -1,10 +1,12 @@
 //! Calls on the board: feeding, sealing and closing.
 
 ghost use Rattle.std.specs.Prelude.{OnOk};
-ghost use Rattle.follow.specs.Scenes.{Feeds, IsLive, Seals, Works};
+ghost use Rattle.semantics.specs.Graph.{input_count};
+ghost use Rattle.graph.specs.Shown.{shown_graph};
+ghost use Rattle.follow.specs.Scenes.{Closes, Feeds, IsLive, Seals};
 ghost use Rattle.follow.specs.Steps.{SealsOne};
 
-use crate::ending::Halt;
+use crate::outcome::Halt;
 use board::Board;
 use rows::Batch;
 use std::alloc::Global;
@@ -34,17 +36,6 @@ fn seal<V: Views>(board: &mut Board<V>, input: usize) -> Result<(), Halt>
     Ok(())
 }
 
-/// Closes an input.
-fn close<V: Views>(board: &mut Board<V>, input: usize) -> Result<(), Halt>
-    ensures { OnOk result (IsLive board.old.shown → Works board.old.shown board.new.shown) }
-{
-    let Ok(number) = u32::try_from(input) else {
-        return Err(Halt::Incomplete);
-    };
-    board.close(number)?;
-    Ok(())
-}
-
 /// Seals the first `inputs` inputs.
 pub fn seal_inputs<V: Views>(board: &mut Board<V>, inputs: usize) -> Result<(), Halt>
     ensures { OnOk result (IsLive board.old.shown → Seals board.old.shown board.new.shown inputs) }
@@ -55,12 +46,12 @@ pub fn seal_inputs<V: Views>(board: &mut Board<V>, inputs: usize) -> Result<(), 
     Ok(())
 }
 
-/// Closes the first `inputs` inputs.
-pub fn close_inputs<V: Views>(board: &mut Board<V>, inputs: usize) -> Result<(), Halt>
-    ensures { OnOk result (IsLive board.old.shown → Works board.old.shown board.new.shown) }
+/// Closes every input.
+pub fn close_inputs<V: Views>(board: &mut Board<V>) -> Result<(), Halt>
+    ensures { OnOk result (IsLive board.old.shown → Closes board.old.shown board.new.shown (input_count (shown_graph board.old.shown.graph))) }
 {
-    for input in 0..inputs {
-        close(board, input)?;
+    for input in 0..board.graph().input_count() as u32 {
+        board.close(input)?;
     }
     Ok(())
 }

@@ -1,19 +1,21 @@
 //! Follows an input from its first byte to its end.
 
-ghost use Rattle.std.specs.Prelude.{◌≡◌, ◌⊎◌, ◌+◌, map, true, IfOk, IsErrOf, OnErr};
+ghost use Rattle.std.specs.Prelude.{◌≡◌, ◌⊎◌, ◌+◌, ◌<◌, length, map, false, true, IfOk, IsErrOf, OnErr, OnOk};
 ghost use Rattle.record_core.specs.Inputs.{input_of};
 ghost use Rattle.machine.specs.World.{opening};
 ghost use Rattle.board.specs.Promises.{IsOpening};
 ghost use Rattle.board.specs.Showing.{Shows};
 ghost use Rattle.collector.specs.Watching.{has_failed, inner_of};
 ghost use Rattle.follow.specs.Follows.{FollowsInput, HasRead};
+ghost use Rattle.follow.specs.Working.{IsWorkedOff};
 ghost use Rattle.follow.specs.Steps.{FollowsAll, FollowsEnd, FollowsLines, FollowsPiece, TakesLines};
-ghost use Rattle.follow.specs.declared.ending.Ending.TheVariants as ending;
+ghost use Rattle.follow.specs.declared.outcome.Ending.TheVariants as ending;
+ghost use Rattle.follow.specs.declared.line_stop.Taken.TheVariants as taken;
 
 use crate::answering::{answer_last, answer_open};
-use crate::ending::{Ending, Halt};
 use crate::intake::{Intake, take_lines};
 use crate::line_stop::Taken;
+use crate::outcome::{Ending, Halt};
 use crate::position::Position;
 use crate::renewing::{LINES, new_board, renew};
 use crate::worker_count::WorkerCount;
@@ -49,8 +51,9 @@ fn take_text<V: Views>(
     intake: &mut Intake,
     pending: &mut Vec<u8>,
 ) -> Result<Taken, Halt>
-    ensures { IfOk result (λ taken. TakesLines base board.old.shown board.new.shown intake.old intake.new
-        (map input_of inputs.now) pending.old.items pending.new.items taken) }
+    ensures lines { IfOk result (λ how. TakesLines base board.old.shown board.new.shown intake.old intake.new
+        (map input_of inputs.now) pending.old.items pending.new.items how) }
+    ensures shorter { IfOk result (λ how. how ≡ taken.Epoch → length pending.new.items < length pending.old.items) }
 {
     let text = replace(pending, Vec::new(alloc));
     match take_lines(alloc, board, inputs, base, until, intake, text.as_slice()) {
@@ -80,6 +83,8 @@ fn follow_lines<V: Views, R: Threads + Sync, W: Write>(
 ) -> Result<Taken, Ending>
     ensures follows { FollowsLines (map input_of inputs.now) board.old.shown board.new.shown position.old position.new
         (W.contents (inner_of writer.old)) (W.contents (inner_of writer.new)) result }
+    ensures shorter { IfOk result (λ how. how ≡ taken.Epoch → length position.new.pending.items < length position.old.pending.items) }
+    ensures rests { OnOk result (IsWorkedOff board.new.shown) }
     ensures writer { IsErrOf result ending.Write → has_failed writer.new ≡ true }
     ensures reader { IsErrOf result ending.Read → ⊥ }
 {
@@ -128,8 +133,10 @@ fn follow_piece<R: Threads + Sync, W: Write>(
     piece: &[u8],
     writer: &mut Watched<W>,
 ) -> Result<(), Ending>
+    requires { IsWorkedOff board.old.shown }
     ensures follows { FollowsPiece graph.now.value (map input_of inputs.now) board.old.shown board.new.shown position.old position.new piece.now
         (W.contents (inner_of writer.old)) (W.contents (inner_of writer.new)) result }
+    ensures rests { OnOk result (IsWorkedOff board.new.shown) }
     ensures writer { IsErrOf result ending.Write → has_failed writer.new ≡ true }
     ensures reader { IsErrOf result ending.Read → ⊥ }
 {
@@ -139,7 +146,7 @@ fn follow_piece<R: Threads + Sync, W: Write>(
     if find(piece, b'\n').is_none() {
         return Ok(());
     }
-    for _turn in 0..u64::MAX {
+    'boards: loop {
         match follow_lines(rt, alloc, inputs, board, position, writer) {
             Ok(Taken::Whole) => return Ok(()),
             Ok(Taken::Fault(code)) => return Err(ending_at_fault(&position.intake, code)),
@@ -150,7 +157,6 @@ fn follow_piece<R: Threads + Sync, W: Write>(
             Err(ending) => return Err(ending),
         }
     }
-    Err(Ending::Incomplete)
 }
 
 /// Ends following at the reader's end.
@@ -161,6 +167,7 @@ fn follow_end<V: Views, R: Threads + Sync, W: Write>(
     position: &mut Position,
     writer: &mut Watched<W>,
 ) -> Result<(), Ending>
+    requires prompt { V.late ≡ false }
     ensures follows { FollowsEnd board.old.shown position.old (W.contents (inner_of writer.old)) (W.contents (inner_of writer.new)) result }
     ensures writer { IsErrOf result ending.Write → has_failed writer.new ≡ true }
     ensures reader { IsErrOf result ending.Read → ⊥ }
@@ -198,6 +205,7 @@ fn follow_pieces<T: Threads + Sync, R: Read, W: Write>(
     reader: &mut Watched<R>,
     writer: &mut Watched<W>,
 ) -> Result<(), Ending>
+    requires { IsWorkedOff board.old.shown }
     ensures follows { FollowsAll graph.now.value (map input_of inputs.now) board.old.shown position.old
         (HasRead R.remaining reader.old reader.new) (W.contents (inner_of writer.old)) (W.contents (inner_of writer.new)) result }
     ensures reader { IsErrOf result ending.Read → has_failed reader.new ≡ true }
@@ -264,6 +272,7 @@ fn follow_graph<T: Threads + Sync, R: Read, W: Write>(
     ensures unread { OnErr result (reader.new ≡ reader.old) }
     ensures unwritten { OnErr result (writer.new ≡ writer.old) }
 {
+    board.law_run();
     let inputs = graph.inputs();
     let mut position = Position::new(alloc, inputs, board.output_count(), LINES)?;
     let ended = follow_pieces(

@@ -5,10 +5,11 @@ ghost use Rattle.record_core.specs.Inputs.{input_of};
 ghost use Rattle.collector.specs.Lines.{Item};
 ghost use Rattle.collector.specs.Said.{item_of};
 ghost use Rattle.follow.specs.Steps.{Counts, Empties, Gathers, IsNew, TakesItem, FeedsRows, FeedsPortion, TakesLines};
+ghost use Rattle.follow.specs.declared.line_stop.Taken.TheVariants as taken;
 
 use crate::board_calls::{feed, seal_inputs};
-use crate::ending::Halt;
 use crate::line_stop::Taken;
+use crate::outcome::Halt;
 use board::Board;
 use collector::{Line, Stop, next_line};
 use record_core::{DeclaredInput, MAX_FIELDS};
@@ -178,7 +179,8 @@ pub fn take_lines<'a, V: Views>(
     intake: &mut Intake,
     text: &'a [u8],
 ) -> Result<(&'a [u8], Taken), Halt>
-    ensures { IfOk result (λ r. TakesLines base board.old.shown board.new.shown intake.old intake.new (map input_of inputs.now) text.entry.now r.0.now r.1) }
+    ensures lines { IfOk result (λ r. TakesLines base board.old.shown board.new.shown intake.old intake.new (map input_of inputs.now) text.entry.now r.0.now r.1) }
+    ensures shorter { IfOk result (λ r. r.1 ≡ taken.Epoch → length r.0.now < length text.entry.now) }
 {
     let mut fields = Vec::new(alloc);
     let mut rest = text;

@@ -8,18 +8,19 @@
 //! A board takes about 16,384 lines. At the next epoch, once all epochs before it are complete, a new board takes its place: on the old board no
 //! active pointstamp is left that could result in a record. So memory holds those lines and one epoch, however long the input is.
 //!
-//! One thread reads, claims and ends events, and writes. With several workers, events that may have many rows are computed by a thread each. Built
-//! on `driver`, which claims and ends events, on `collector`, which reads lines, and on the crates below them.
+//! One thread reads, claims and ends events, and writes. With several workers, events that may have many rows are computed by a thread each. It
+//! works until there is nothing to do before it reads more. Built on `driver`, which claims and ends events, on `alone`, which defines when a board is
+//! at rest, on `collector`, which reads lines, and on the crates below them.
 #![tactic(auto)]
 
 mod answering;
 mod batches;
 mod board_calls;
-mod ending;
 mod following;
 mod intake;
 mod line_stop;
 mod line_texts;
+mod outcome;
 mod position;
 mod renewing;
 mod reporting;
@@ -27,6 +28,6 @@ mod rounds;
 mod slot;
 mod worker_count;
 
-pub use ending::Ending;
 pub use following::follow;
+pub use outcome::Ending;
 pub use worker_count::WorkerCount;

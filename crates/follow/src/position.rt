@@ -3,8 +3,8 @@
 ghost use Rattle.std.specs.Prelude.{IfOk};
 ghost use Rattle.follow.specs.Steps.{IsFirst};
 
-use crate::ending::Halt;
 use crate::intake::Intake;
+use crate::outcome::Halt;
 use crate::reporting::Reporting;
 use record_core::DeclaredInput;
 use std::alloc::Global;

@@ -1,12 +1,12 @@
 //! Replaces the board between epochs, so that memory holds some epochs and not all.
 
-ghost use Rattle.std.specs.Prelude.{IfOk, OnOk};
+ghost use Rattle.std.specs.Prelude.{◌≡◌, IfOk, OnOk};
 ghost use Rattle.machine.specs.World.{opening};
 ghost use Rattle.board.specs.Promises.{IsOpening};
 ghost use Rattle.board.specs.Showing.{Shows};
 ghost use Rattle.follow.specs.Steps.{Renews};
 
-use crate::ending::Halt;
+use crate::outcome::Halt;
 use crate::position::Position;
 use crate::worker_count::WorkerCount;
 use board::Board;
@@ -41,7 +41,8 @@ pub fn renew(
     board: &mut Board<Direct<LocationTracker>>,
     position: &mut Position,
 ) -> Result<(), Halt>
-    ensures { OnOk result (Renews graph.now.value board.old.shown board.new.shown position.old position.new) }
+    ensures renews { OnOk result (Renews graph.now.value board.old.shown board.new.shown position.old position.new) }
+    ensures pending { position.new.pending ≡ position.old.pending }
 {
     position.until = position.intake.line.saturating_add(LINES);
     let Some(last) = position.intake.begun.checked_sub(1) else {

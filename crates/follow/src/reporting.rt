@@ -1,7 +1,8 @@
 //! Reports what was emitted: the lines of records, and of epochs that are complete.
 
-ghost use Rattle.std.specs.Prelude.{◌≡◌, ◌<◌, ℕ, ◌+◌, ◌++◌, IfOk, IsTrue, OnOk, map};
-ghost use Rattle.board.specs.Promises.{HasPassed, IsOutputPlace};
+ghost use Rattle.std.specs.Prelude.{◌≡◌, ◌<◌, ◌≤◌, ℕ, ◌+◌, ◌++◌, IfOk, IsTrue, OnOk, map};
+ghost use Rattle.board.specs.Lateness.{IsUpToDate};
+ghost use Rattle.board.specs.Promises.{HasPassed, HasPassedAtAll, IsOutputPlace};
 ghost use Rattle.collector.specs.OutputText.{is_plain, label_of};
 ghost use Rattle.graph.specs.Views.{name_of_output};
 ghost use Rattle.follow.specs.Entries.{complete_line};
@@ -9,8 +10,8 @@ ghost use Rattle.follow.specs.Scenes.{batches_of, reported_count};
 ghost use Rattle.follow.specs.Steps.{IsFresh, Completes, Reports, ReportsBatches, ReportsOutput, ReportsOpen};
 
 use crate::batches::push_batches;
-use crate::ending::Halt;
 use crate::line_texts::push_complete;
+use crate::outcome::Halt;
 use board::Board;
 use graph::GraphOutput;
 use record_core::Name;
@@ -50,17 +51,15 @@ impl Reporting {
     }
 
     /// Counts the epoch as complete; nothing was written of the next one.
-    fn complete(&mut self) -> Result<(), Halt>
-        ensures { OnOk result (Completes self.old self.new) }
+    fn complete(&mut self)
+        requires { self.old.done < 4294967295 }
+        ensures { Completes self.old self.new }
     {
-        let Some(done) = self.done.checked_add(1) else {
-            return Err(Halt::Incomplete);
-        };
+        let done = self.done + 1;
         for place in 0..self.reported.len() {
             self.reported[place] = 0;
         }
         self.done = done;
-        Ok(())
     }
 }
 
@@ -76,7 +75,8 @@ fn are_plain(outputs: &[GraphOutput]) -> bool
 
 /// Whether an epoch has passed at every output.
 fn has_passed<V: Views>(board: &Board<V>, epoch: u32) -> bool
-    ensures { IsTrue result → (k : ℕ) → IsOutputPlace board.now.shown k → HasPassed board.now.shown k epoch }
+    ensures passed { IsTrue result → (k : ℕ) → IsOutputPlace board.now.shown k → HasPassed board.now.shown k epoch }
+    ensures seen { IsUpToDate board.now 0 → HasPassedAtAll board.now.shown epoch → IsTrue result }
 {
     for output in 0..board.output_count() {
         if !board.passed(output, epoch) {
@@ -187,7 +187,9 @@ pub fn report<V: Views>(
     sealed: u32,
     out: &mut Vec<u8>,
 ) -> Result<(), Halt>
-    ensures { OnOk result (Reports board.now.shown base reporting.old reporting.new begun sealed out.old.items out.new.items) }
+    ensures reports { OnOk result (Reports board.now.shown base reporting.old reporting.new begun sealed out.old.items out.new.items) }
+    ensures all { OnOk result (IsUpToDate board.now 0 → ((epoch : ℕ) → HasPassedAtAll board.now.shown epoch) → sealed ≡ begun →
+        reporting.old.done ≤ begun → reporting.new.done ≡ begun) }
 {
     board.law_headline();
     for epoch in reporting.done..begun {
@@ -199,7 +201,7 @@ pub fn report<V: Views>(
             return Ok(());
         }
         push_done(out, base, epoch)?;
-        reporting.complete()?;
+        reporting.complete();
     }
     Ok(())
 }

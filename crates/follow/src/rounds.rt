@@ -1,14 +1,15 @@
 //! Rounds of work on a board. One thread claims and ends the events of all workers, and several threads compute large ones.
 
-ghost use Rattle.std.specs.Prelude.{◌≡◌, All, IfOk, IfSome, List, Ok, Err, OnOk, is_ok, true};
+ghost use Rattle.std.specs.Prelude.{◌≡◌, [], All, IfNone, IfOk, IfSome, List, Ok, Err, OnOk, is_ok, length, true};
 ghost use Rattle.atomic_table.specs.Seated.{TableId};
 ghost use Rattle.board.specs.Commits.{IsOf};
 ghost use Rattle.board.specs.Shown.{tables};
+ghost use Rattle.follow.specs.Working.{Advances, HasEnded, HasNoEvent, HasWorked, IsBusy, IsWorkedOff, Moves, TookNothing};
 ghost use Rattle.follow.specs.Scenes.{IsLive, Works};
 ghost use Rattle.follow.specs.Slots.{IsSlotOf};
-ghost use Rattle.follow.specs.declared.ending.Halt.TheVariants as halt;
+ghost use Rattle.follow.specs.declared.outcome.Halt.TheVariants as halt;
 
-use crate::ending::Halt;
+use crate::outcome::Halt;
 use crate::slot::Slot;
 use board::{Board, Claimed, HEAVY, Sent};
 use driver::{claim, process, settle};
@@ -26,7 +27,9 @@ enum Round {
 
 impl Round {
     /// The same with one more event.
-    fn with(self, sent: Sent) -> Round {
+    fn with(self, sent: Sent) -> Round
+        ensures { IsBusy result }
+    {
         match self {
             Round::Idle => Round::Sent(sent.rows()),
             Round::Sent(rows) => Round::Sent(rows.max(sent.rows())),
@@ -38,8 +41,10 @@ impl Round {
 fn claim_one<V: Views>(board: &mut Board<V>, worker: u32) -> Result<Option<Work>, Halt>
     ensures tables { tables board.new.shown ≡ tables board.old.shown }
     ensures own { IfOk result (λ o. IfSome o (λ w. IsOf board.old.shown w.0)) }
-    ensures works { OnOk result (IsLive board.old.shown → Works board.old.shown board.new.shown) }
+    ensures some { IfOk result (λ o. IfSome o (λ w. Advances board.old.shown board.new.shown)) }
+    ensures none { IfOk result (λ o. IfNone o ((board.new.shown ≡ board.old.shown) × HasNoEvent board.old.shown worker)) }
 {
+    board.law_run();
     match claim(board, worker) {
         Claimed::Work(work) => Ok(Some(work)),
         Claimed::Idle | Claimed::Drained => Ok(None),
@@ -51,7 +56,7 @@ fn claim_one<V: Views>(board: &mut Board<V>, worker: u32) -> Result<Option<Work>
 fn end<V: Views>(board: &mut Board<V>, slot: Slot) -> Result<Sent, Halt>
     requires own { IsSlotOf (tables board.old.shown) slot }
     ensures tables { tables board.new.shown ≡ tables board.old.shown }
-    ensures works { OnOk result (IsLive board.old.shown → Works board.old.shown board.new.shown) }
+    ensures steps { OnOk result (Advances board.old.shown board.new.shown) }
 {
     match settle(board, slot.into_result()) {
         Ok(sent) => Ok(sent),
@@ -63,7 +68,7 @@ fn end<V: Views>(board: &mut Board<V>, slot: Slot) -> Result<Sent, Halt>
 fn process_one<V: Views>(alloc: Global, board: &mut Board<V>, work: Work) -> Result<Sent, Halt>
     requires own { IsOf board.old.shown work.0 }
     ensures tables { tables board.new.shown ≡ tables board.old.shown }
-    ensures works { OnOk result (IsLive board.old.shown → Works board.old.shown board.new.shown) }
+    ensures steps { OnOk result (Advances board.old.shown board.new.shown) }
 {
     match process(alloc, board, &NoGate, 0, work) {
         Ok(sent) => Ok(sent),
@@ -78,6 +83,7 @@ fn keep<V: Views>(board: &mut Board<V>, slots: &mut Vec<Slot>, work: Work) -> Re
     ensures tables { tables board.new.shown ≡ tables board.old.shown }
     ensures own { All (IsSlotOf (tables board.old.shown)) slots.new.items }
     ensures board { OnOk result (board.new ≡ board.old) }
+    ensures some { OnOk result (slots.new.items ≡ [] → ⊥) }
 {
     match slots.push(Slot::Claimed(work)) {
         Ok(()) => Ok(()),
@@ -93,11 +99,13 @@ fn claim_each<V: Views>(board: &mut Board<V>, slots: &mut Vec<Slot>) -> Result<(
     requires own { All (IsSlotOf (tables board.old.shown)) slots.old.items }
     ensures tables { tables board.new.shown ≡ tables board.old.shown }
     ensures own { All (IsSlotOf (tables board.old.shown)) slots.new.items }
-    ensures works { OnOk result (IsLive board.old.shown → Works board.old.shown board.new.shown) }
+    ensures steps { OnOk result (Moves board.old.shown board.new.shown) }
+    ensures none { OnOk result (TookNothing slots.new.items (length board.old.shown.sides) board.old.shown board.new.shown) }
 {
     for worker in 0..board.workers() {
-        if let Some(work) = claim_one(board, worker)? {
-            keep(board, slots, work)?;
+        match claim_one(board, worker)? {
+            Some(work) => keep(board, slots, work)?,
+            None => {}
         }
     }
     Ok(())
@@ -105,7 +113,8 @@ fn claim_each<V: Views>(board: &mut Board<V>, slots: &mut Vec<Slot>) -> Result<(
 
 /// Computes them in parallel.
 fn compute_each<R: Threads + Sync>(rt: &R, alloc: Global, slots: &mut Vec<Slot>)
-    ensures { (tables : List TableId) → All (IsSlotOf tables) slots.old.items → All (IsSlotOf tables) slots.new.items }
+    ensures own { (tables : List TableId) → All (IsSlotOf tables) slots.old.items → All (IsSlotOf tables) slots.new.items }
+    ensures length { length slots.new.items ≡ length slots.old.items }
 {
     let threads = slots.len().max(1);
     for_each_mut(
@@ -131,7 +140,8 @@ fn both<A: Copy, B: Copy>(first: Result<A, Halt>, second: Result<B, Halt>) -> Re
 
 /// Adds one event's result; a fault if either has one.
 fn add_result(round: Result<Round, Halt>, sent: Result<Sent, Halt>) -> Result<Round, Halt>
-    ensures { IfOk result (λ p. (is_ok round ≡ true) × (is_ok sent ≡ true)) }
+    ensures both { IfOk result (λ p. (is_ok round ≡ true) × (is_ok sent ≡ true)) }
+    ensures busy { IfOk result IsBusy }
 {
     let (round, sent) = both(round, sent)?;
     Ok(round.with(sent))
@@ -141,7 +151,7 @@ fn add_result(round: Result<Round, Halt>, sent: Result<Sent, Halt>) -> Result<Ro
 fn end_each<V: Views>(board: &mut Board<V>, mut slots: Vec<Slot>) -> Result<Round, Halt>
     requires own { All (IsSlotOf (tables board.old.shown)) slots.items }
     ensures tables { tables board.new.shown ≡ tables board.old.shown }
-    ensures works { OnOk result (IsLive board.old.shown → Works board.old.shown board.new.shown) }
+    ensures steps { IfOk result (λ r. HasEnded r [] slots.items board.old.shown board.new.shown) }
 {
     let mut round = Ok(Round::Idle);
     while let Some(slot) = slots.pop() {
@@ -157,7 +167,7 @@ fn work_in_parallel<V: Views, R: Threads + Sync>(
     alloc: Global,
     board: &mut Board<V>,
 ) -> Result<Round, Halt>
-    ensures { OnOk result (IsLive board.old.shown → Works board.old.shown board.new.shown) }
+    ensures { IfOk result (λ r. HasWorked r (length board.old.shown.sides) board.old.shown board.new.shown) }
 {
     let mut slots = Vec::with_capacity(alloc, board.workers() as usize)?;
     let claimed = claim_each(board, &mut slots);
@@ -169,12 +179,13 @@ fn work_in_parallel<V: Views, R: Threads + Sync>(
 
 /// Claims an event of each worker that has one, computes it and ends it, one after another.
 fn work_in_turn<V: Views>(alloc: Global, board: &mut Board<V>) -> Result<Round, Halt>
-    ensures { OnOk result (IsLive board.old.shown → Works board.old.shown board.new.shown) }
+    ensures { IfOk result (λ r. HasWorked r (length board.old.shown.sides) board.old.shown board.new.shown) }
 {
     let mut round = Round::Idle;
     for worker in 0..board.workers() {
-        if let Some(work) = claim_one(board, worker)? {
-            round = round.with(process_one(alloc, board, work)?);
+        match claim_one(board, worker)? {
+            Some(work) => round = round.with(process_one(alloc, board, work)?),
+            None => {}
         }
     }
     Ok(round)
@@ -187,7 +198,7 @@ fn work_once<V: Views, R: Threads + Sync>(
     rows: u64,
     board: &mut Board<V>,
 ) -> Result<Round, Halt>
-    ensures { OnOk result (IsLive board.old.shown → Works board.old.shown board.new.shown) }
+    ensures { IfOk result (λ r. HasWorked r (length board.old.shown.sides) board.old.shown board.new.shown) }
 {
     if rows >= HEAVY && board.workers() > 1 {
         return work_in_parallel(rt, alloc, board);
@@ -195,22 +206,23 @@ fn work_once<V: Views, R: Threads + Sync>(
     work_in_turn(alloc, board)
 }
 
-/// Works until there is nothing to do now. `rows` is the size of the messages that are under way at first. A notification may come some rounds
-/// after the messages that it is about, so the number of rows sent is halved from round to round, not dropped.
+/// Works until there is nothing to do now; each round leaves less to do. `rows` is the size of the messages that are under way at first. A
+/// notification may come some rounds after the messages that it is about, so the number of rows sent is halved from round to round, not dropped.
 pub fn work_off<V: Views, R: Threads + Sync>(
     rt: &R,
     alloc: Global,
     rows: u64,
     board: &mut Board<V>,
 ) -> Result<(), Halt>
-    ensures { OnOk result (IsLive board.old.shown → Works board.old.shown board.new.shown) }
+    ensures works { OnOk result (IsLive board.old.shown → Works board.old.shown board.new.shown) }
+    ensures rests { OnOk result (IsWorkedOff board.new.shown) }
 {
     let mut rows = rows;
-    for _turn in 0..u64::MAX {
+    'rounds: loop {
+        board.law_run();
         match work_once(rt, alloc, rows, board)? {
             Round::Idle => return Ok(()),
             Round::Sent(sent) => rows = sent.max(rows / 2),
         }
     }
-    Err(Halt::Incomplete)
 }

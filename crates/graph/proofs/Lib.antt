@@ -1,5 +1,4 @@
 pub mod Numbers
-pub mod Lines
 pub mod EdgeTables
 pub mod FittingPorts
 pub mod Inputs

@@ -5,6 +5,5 @@ pub mod Edges
 pub mod Locations
 pub mod Arities
 pub mod GraphLaws
-pub mod Text
 pub mod Equality
 pub mod EqualityLaws

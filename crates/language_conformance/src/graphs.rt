@@ -1,7 +1,8 @@
 //! Graphs of query texts: their texts, edges, depths and drawings.
 
 use crate::texts::{quoted, word, yes_or_no};
-use graph::{EdgeId, Graph, Location, VertexId, graph_dot, graph_text};
+use graph::{EdgeId, Graph, Location, VertexId};
+use graph_text::{graph_dot, graph_text};
 use lowering::lower;
 use parser::parse;
 use std::alloc::{AllocError, Global};

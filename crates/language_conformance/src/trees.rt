@@ -8,14 +8,35 @@ use parser::parse;
 use record_core::Refusal;
 use std::alloc::{AllocError, Global};
 
-/// Whether the trees that are read in three places are the same, and their copies in the other places too.
-fn are_same(alloc: Global, text: &[u8], arena: &Bump, heap: &LocalHeap) -> Result<bool, Refusal> {
+/// An arena, and a heap of 65,536 bytes.
+#[derive(Drop)]
+struct Places {
+    arena: Bump,
+    heap: LocalHeap,
+}
+
+impl Places {
+    fn new(alloc: Global) -> Result<Places, AllocError> {
+        Ok(Places {
+            arena: Bump::new(alloc),
+            heap: LocalHeap::new(alloc, 65536)?,
+        })
+    }
+
+    /// Whether nothing lies in the heap, and the arena can be reset.
+    fn are_free(&mut self) -> bool {
+        self.heap.used() == 0 && self.arena.reset().is_ok()
+    }
+}
+
+/// Whether the trees that are read in memory, in an arena and in a heap are the same, and the copies of one of them in memory and in other places.
+fn are_same(alloc: Global, text: &[u8], places: &Places, others: &Places) -> Result<bool, Refusal> {
     let first = parse(alloc, text)?;
-    let second = parse(arena, text)?;
-    let third = parse(heap, text)?;
+    let second = parse(&places.arena, text)?;
+    let third = parse(&places.heap, text)?;
     let whole = first.copy_in(alloc)?;
-    let in_arena = first.copy_in(arena)?;
-    let in_heap = first.copy_in(heap)?;
+    let in_arena = first.copy_in(&others.arena)?;
+    let in_heap = first.copy_in(&others.heap)?;
     let back = in_heap.copy_in(alloc)?;
     Ok(
         same(&first, &second)
@@ -27,12 +48,12 @@ fn are_same(alloc: Global, text: &[u8], arena: &Bump, heap: &LocalHeap) -> Resul
     )
 }
 
-/// Whether a text's trees and their copies are the same in memory, in an arena and in a heap, which is empty afterwards.
+/// Whether a text's trees are the same in memory, in an arena and in a heap, and their copies in others, all of which are empty afterwards.
 pub fn copies(alloc: Global, text: &[u8]) -> Result<String, AllocError> {
-    let mut arena = Bump::new(alloc);
-    let heap = LocalHeap::new(alloc, 65536)?;
-    let answer = are_same(alloc, text, &arena, &heap);
-    if heap.used() != 0 || arena.reset().is_err() {
+    let mut places = Places::new(alloc)?;
+    let mut others = Places::new(alloc)?;
+    let answer = are_same(alloc, text, &places, &others);
+    if !places.are_free() || !others.are_free() {
         return word(alloc, "memory is in use");
     }
     match answer {

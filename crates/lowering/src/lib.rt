@@ -25,7 +25,6 @@ mod vertex;
 
 pub use fault::LowerFault;
 pub use graph::{
-    Edge, EdgeId, Graph, GraphOutput, Kind, Location, MAX_VERTICES, Port, Sources, Vertex,
-    VertexId, graph_dot, graph_text,
+    Edge, EdgeId, Graph, GraphOutput, Kind, Location, MAX_VERTICES, Port, Sources, Vertex, VertexId,
 };
 pub use lowered::{declared_inputs, lower};

@@ -19,6 +19,14 @@ use graph::{Kind, Port, Sources, Vertex, VertexId};
 use record_core::Name;
 use std::alloc::{Allocator, Global};
 
+/// What stands at the head of a loop: its form, its limit of turns and its variable.
+#[derive(Clone, Copy)]
+pub struct LoopHead<'a> {
+    pub form: LoopForm,
+    pub turns: u64,
+    pub variable: &'a Name,
+}
+
 /// The vertex that lets records into a turn of a loop, and out of the loop.
 fn gate_kind(form: LoopForm, turns: u64) -> Kind
     ensures { kind_of result ≡ gate_of (plain_form form) turns }
@@ -34,9 +42,7 @@ fn gate_kind(form: LoopForm, turns: u64) -> Kind
 /// Gives the gate's out port 0.
 pub fn open_loop<A: Allocator>(
     alloc: Global,
-    form: LoopForm,
-    turns: u64,
-    variable: &Name,
+    head: LoopHead<'_>,
     body: &Rel<A>,
     start: Port,
     scope: &mut Scope,
@@ -45,21 +51,21 @@ pub fn open_loop<A: Allocator>(
 ) -> Result<Port, LowerFault>
     requires { depth < max_loops }
     ensures made { OnOk result (graph_of made.new.items ≡ graph_of made.old.items
-        ++ loop_entry (plain_form form) turns (port_of start) (ports_of scope.old) depth (length made.old.items) (names_carried variable.now body.now)) }
+        ++ loop_entry (plain_form head.entry.form) head.entry.turns (port_of start) (ports_of scope.old) depth (length made.old.items) (names_carried head.entry.variable.now body.now)) }
     ensures gives { IfOk result (λ p. port_of p ≡ body_port (length made.old.items)) }
     ensures inside { OnOk result (ports_of scope.new ≡
-        inside_of (ports_of scope.old) variable.now (length made.old.items) (names_carried variable.now body.now)) }
+        inside_of (ports_of scope.old) head.entry.variable.now (length made.old.items) (names_carried head.entry.variable.now body.now)) }
     ensures outside { OnOk result (Extends scope.old scope.new) }
     ensures many { IfErr result (λ e. IsOver e (length made.old.items
-        + length (loop_entry (plain_form form) turns (port_of start) (ports_of scope.old) depth (length made.old.items) (names_carried variable.now body.now)))) }
+        + length (loop_entry (plain_form head.entry.form) head.entry.turns (port_of start) (ports_of scope.old) depth (length made.old.items) (names_carried head.entry.variable.now body.now)))) }
 {
-    let names = carried_names(alloc, variable, body)?;
+    let names = carried_names(alloc, head.variable, body)?;
     let first = add_vertex(made, Kind::Ingress, depth, Sources::One(start))?;
     let both = add_vertex(made, Kind::Concat, depth + 1, Sources::Two(first, first))?;
-    let kind = gate_kind(form, turns);
+    let kind = gate_kind(head.form, head.turns);
     let gate = add_vertex(made, kind, depth + 1, Sources::One(both))?;
-    carry_names(turns, &names, scope, depth, made)?;
-    scope.bind(variable, gate)?;
+    carry_names(head.turns, &names, scope, depth, made)?;
+    scope.bind(head.variable, gate)?;
     Ok(gate)
 }
 

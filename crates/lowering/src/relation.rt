@@ -13,12 +13,11 @@ ghost use Rattle.graph.specs.Views.{graph_of, port_of};
 
 use crate::fault::LowerFault;
 use crate::form_vertices::{add_group, add_join, add_select, add_set_operation, add_where};
-use crate::loops::{close_loop, open_loop};
+use crate::loops::{LoopHead, close_loop, open_loop};
 use crate::scope::Scope;
 use crate::vertex::add_vertex;
-use expr_tree::{LoopForm, Rel};
+use expr_tree::Rel;
 use graph::{Kind, Port, Sources, Vertex};
-use record_core::Name;
 use std::alloc::{Allocator, Global};
 
 /// Makes the vertices of a relation after those that are there, and gives the port that the relation gives.
@@ -72,7 +71,14 @@ pub fn lower_rel<A: Allocator>(
             start,
             body,
             ..
-        } => lower_loop(alloc, *form, *turns, name, start, body, scope, depth, made),
+        } => {
+            let head = LoopHead {
+                form: *form,
+                turns: *turns,
+                variable: name,
+            };
+            lower_loop(alloc, head, start, body, scope, depth, made)
+        }
     }
 }
 
@@ -80,25 +86,23 @@ pub fn lower_rel<A: Allocator>(
 #[cycle(lower)]
 fn lower_loop<A: Allocator>(
     alloc: Global,
-    form: LoopForm,
-    turns: u64,
-    variable: &Name,
+    head: LoopHead<'_>,
     start: &Rel<A>,
     body: &Rel<A>,
     scope: &mut Scope,
     depth: u32,
     made: &mut Vec<Vertex>,
 ) -> Result<Port, LowerFault>
-    requires nested { Nested depth (plain_loop form turns variable.now start.now body.now) }
+    requires nested { Nested depth (plain_loop head.form head.turns head.variable.now start.now body.now) }
     ensures ok { IfOk result (λ p. IsLowered (graph_of made.old.items) (graph_of made.new.items) (port_of p)
-        (lower (plain_loop form turns variable.now start.now body.now) (ports_of scope.old) depth (length made.old.items))) }
+        (lower (plain_loop head.entry.form head.entry.turns head.entry.variable.now start.now body.now) (ports_of scope.old) depth (length made.old.items))) }
     ensures scope { OnOk result (scope.new ≡ scope.old) }
     ensures many { IfErr result (λ e. IsOver e (length made.old.items
-        + length (lower (plain_loop form turns variable.now start.now body.now) (ports_of scope.old) depth (length made.old.items)).made)) }
+        + length (lower (plain_loop head.entry.form head.entry.turns head.entry.variable.now start.now body.now) (ports_of scope.old) depth (length made.old.items)).made)) }
 {
     let outside = scope.len();
     let from = lower_rel(alloc, start, scope, depth, made)?;
-    let gate = open_loop(alloc, form, turns, variable, body, from, scope, depth, made)?;
+    let gate = open_loop(alloc, head, body, from, scope, depth, made)?;
     let last = lower_rel(alloc, body, scope, depth + 1, made)?;
     scope.leave(outside);
     close_loop(made, gate, last, depth)

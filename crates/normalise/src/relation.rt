@@ -134,9 +134,17 @@ pub(crate) fn rewritten<A: Allocator + Copy>(alloc: A, relation: Rel<A>) -> Resu
             name,
             start,
             body,
-        } => rewritten_loop(
-            alloc, span, form, turns_span, turns, name_span, name, start, body,
-        ),
+        } => {
+            let head = LoopHead {
+                span,
+                form,
+                turns_span,
+                turns,
+                name_span,
+                name,
+            };
+            rewritten_loop(alloc, head, start, body)
+        }
     }
 }
 
@@ -150,27 +158,41 @@ fn is_start(form: LoopForm, turns: u64) -> bool
     }
 }
 
-/// The loop rewritten: its start if it has no turns and is no closure, and else its start and its body.
-#[cycle(rewrite)]
-fn rewritten_loop<A: Allocator + Copy>(
-    alloc: A,
+/// What stands at the head of a loop, and where.
+#[derive(Drop)]
+struct LoopHead {
     span: Span,
     form: LoopForm,
     turns_span: Span,
     turns: u64,
     name_span: Span,
     name: Name,
+}
+
+/// The loop rewritten: its start if it has no turns and is no closure, and else its start and its body.
+#[cycle(rewrite)]
+fn rewritten_loop<A: Allocator + Copy>(
+    alloc: A,
+    head: LoopHead,
     start: Box<Rel<A>, A>,
     body: Box<Rel<A>, A>,
 ) -> Result<Rel<A>, NoMemory>
     ensures { IfOk result (λ made. IsRewritten (plain_rel (rel_tree made))
-        (query.Rel.loop (plain_form form) turns name (plain_rel (rel_tree start.value)) (plain_rel (rel_tree body.value)))) }
+        (query.Rel.loop (plain_form head.form) head.turns head.name (plain_rel (rel_tree start.value)) (plain_rel (rel_tree body.value)))) }
 {
     let start = rewritten_in_box(alloc, start)?;
-    if is_start(form, turns) {
+    if is_start(head.form, head.turns) {
         return Ok(Box::into_inner(start));
     }
     let body = rewritten_in_box(alloc, body)?;
+    let LoopHead {
+        span,
+        form,
+        turns_span,
+        turns,
+        name_span,
+        name,
+    } = head;
     Ok(Rel::Loop {
         span,
         form,

@@ -21,7 +21,7 @@ use Rattle.board.specs.declared.refusal.StepRefusal.TheVariants as step
 use Rattle.collector.specs.Lines.{IsInput, IsAbsent, MakeRecord}
 use Rattle.schedule.specs.Commands.{Command}
 use Rattle.replay.specs.Hands.{HoldsAll}
-use Rattle.board.specs.Lateness.{BoardShown, Posts, PostsSome}
+use Rattle.board.specs.Lateness.{BoardShown, KeepsCalled, Posts, PostsSome}
 use Rattle.replay.specs.Replays.{Does, RefusesFeed, RefusesInput, RefusesSeal, after_posting, refusal_line}
 use Rattle.driver.specs.Inputs.{AreInputsOf}
 use Rattle.replay.specs.Steps.{Answers, IsNumbered, Leads, ShowsState, ShowsWaits, Stays, refusal_of, setting_of}
@@ -29,7 +29,7 @@ use Rattle.replay.specs.Waits.{State, Waits, kind_of, posted}
 use Rattle.replay.specs.declared.refusal.Refusal.{Refusal}
 use Rattle.replay.specs.declared.refusal.Refusal.TheVariants as refusal
 use Rattle.replay.proofs.Holding.{hold_same}
-use Rattle.replay.proofs.Waiting.{feed_posts, shows_posted}
+use Rattle.replay.proofs.Waiting.{feed_called, feed_posts, shows_posted}
 
 abbrev Hand : Type 0
 Hand = List (Option Pass)
@@ -111,16 +111,16 @@ open_input s name i arity size numbered e = why_not s name i arity size numbered
 -- ---- a step on an input
 
 pub step_leads : (late : Bool) (b c : BoardShown) (hand : Hand) (command : Command) (taken : Step) → Goes b.shown taken c.shown → tables c.shown ≡ tables b.shown → ((w : World) (k : ℕ) → (after_step (net b.shown) w taken).held k ≡ w.held k)
-    → ((x : State) → ShowsState b x → Allowed (net b.shown) x.world taken → Shows c.shown (after_step (net b.shown) x.world taken)
-    → (waits : Waits) × ShowsWaits c waits × Does (setting_of late b.shown) x command (record { world = after_step (net b.shown) x.world taken; waits = waits }) []) → Leads late b c hand hand command []
-step_leads late b c hand command taken goes same held does = record {
+    → KeepsCalled b c → ((x : State) → ShowsState b x → Allowed (net b.shown) x.world taken → Shows c.shown (after_step (net b.shown) x.world taken)
+    → (waits : Waits) × ShowsWaits c waits × Does (setting_of late b.shown) x command (record { world = after_step (net b.shown) x.world taken; waits = waits; told = x.told }) []) → Leads late b c hand hand command []
+step_leads late b c hand command taken goes same held called does = record {
   stays = record { graph = goes.graph; workers = goes.workers; tables = same };
   led = λ x shows holds.
       let stepped = goes.step x.world shows.world in
       let done = does x shows stepped.0 stepped.1 in
       record {
-        after = record { world = after_step (net b.shown) x.world taken; waits = done.0 };
-        shows = record { world = stepped.1; waits = done.1 };
+        after = record { world = after_step (net b.shown) x.world taken; waits = done.0; told = x.told };
+        shows = record { world = stepped.1; waits = done.1; told = λ k e said. called k e (shows.told k e said) };
         hand_after = hold_same x.world (after_step (net b.shown) x.world taken) (length b.shown.sides) hand (held x.world) holds;
         does = done.2;
       };
@@ -130,13 +130,13 @@ step_leads late b c hand command taken goes same held does = record {
 pub posting_leads : (late : Bool) (b c : BoardShown) (hand : Hand) (command : Command) (taken : Step) → Goes b.shown taken c.shown → tables c.shown ≡ tables b.shown → ((w : World) (k : ℕ) → (after_step (net b.shown) w taken).held k ≡ w.held k)
     → Posts late (length b.shown.sides) b c → ((x : State) → Allowed (net b.shown) x.world taken → Does (setting_of late b.shown) x command (after_posting (setting_of late b.shown) x taken (length b.shown.sides)) []) → Leads late b c hand hand command []
 posting_leads late b c hand command taken goes same held posts does =
-    step_leads late b c hand command taken goes same held (λ x shows allowed after. (posted (kind_of late) (length b.shown.sides) x.waits, shows_posted late (length b.shown.sides) b c x.waits goes.workers shows.waits posts, does x allowed))
+    step_leads late b c hand command taken goes same held posts.called (λ x shows allowed after. (posted (kind_of late) (length b.shown.sides) x.waits, shows_posted late (length b.shown.sides) b c x.waits goes.workers shows.waits posts, does x allowed))
 
 -- a feed that is done
 pub fed_leads : (late : Bool) (b c : BoardShown) (hand : Hand) (name : List ℕ) (fields : List ℤ) (i arity : ℕ) → IsOpen b.shown name i arity → MakeRecord arity fields → Goes b.shown (Step.feed i (fields ∷ [])) c.shown → tables c.shown ≡ tables b.shown
     → PostsSome late (length b.shown.sides) b c → Leads late b c hand hand (Command.feed name fields) []
 fed_leads late b c hand name fields i arity is fits goes same posts =
-    step_leads late b c hand (Command.feed name fields) (Step.feed i (fields ∷ [])) goes same (λ w k. refl)
+    step_leads late b c hand (Command.feed name fields) (Step.feed i (fields ∷ [])) goes same (λ w k. refl) (feed_called late (length b.shown.sides) b c posts)
     (λ x shows allowed after.
     let fed = feed_posts late b c x (after_step (net b.shown) x.world (Step.feed i (fields ∷ []))) goes.workers shows after posts in
     (fed.0, fed.1, Does.does_feed name fields i fed.0 (subst (IsInput (shown_inputs b.shown.graph) name i) (sym fits.0) is.is) fits.1 allowed fed.2))

@@ -6,11 +6,11 @@ use Rattle.board.specs.Shown.{Shown}
 use Rattle.board.specs.Lateness.{BoardShown}
 use Rattle.schedule.specs.Commands.{Command}
 use Rattle.replay.specs.Hands.{HoldsAll, IsHand}
-use Rattle.replay.specs.Replays.{Does, Replays, Setting, PrintsAnswer}
+use Rattle.replay.specs.Replays.{Does, Replays, Setting, after_saying}
 use Rattle.replay.specs.declared.refusal.Refusal.{Refusal}
 use Rattle.replay.specs.declared.refusal.Refusal.TheVariants as refusal
 use Rattle.replay.proofs.Holding.{hand_stays}
-use Rattle.replay.specs.Steps.{Answers, LeadsFrom, Leads, ShowsState, Stays, setting_of, setting_on}
+use Rattle.replay.specs.Steps.{Answers, LeadsFrom, Leads, Says, ShowsState, Stays, setting_of, setting_on}
 use Rattle.replay.specs.Waits.{State, kind_of}
 
 pub setting_same : (late : Bool) (s t : Shown) → Stays s t → setting_of late t ≡ setting_of late s
@@ -39,11 +39,11 @@ more_replayed late b c d old hand new commands command before text r more = reco
       (led.after, led.shows, subst (λ (n : ℕ). HoldsAll led.after.world n new) r.stays.workers led.hand_after, Replays.replays_more commands command so_far.0 led.after before text so_far.3 does);
 }
 
--- a question changes nothing
-pub print_leads : (late : Bool) (b : BoardShown) (hand : List (Option Pass)) (epoch : ℕ) (text : List ℕ) → ((x : State) → ShowsState b x → PrintsAnswer (setting_of late b.shown) x epoch text) → Leads late b b hand hand (Command.print epoch) text
-print_leads late b hand epoch text prints = record {
+-- a question changes nothing but what was said
+pub print_leads : (late : Bool) (b : BoardShown) (hand : List (Option Pass)) (epoch : ℕ) (text : List ℕ) → ((x : State) → ShowsState b x → Says late b epoch text x) → Leads late b b hand hand (Command.print epoch) text
+print_leads late b hand epoch text says = record {
   stays = record { graph = refl; workers = refl; tables = refl };
-  led = λ x shows holds. record { after = x; shows = shows; hand_after = holds; does = Does.does_print epoch text (prints x shows) };
+  led = λ x shows holds. let s = says x shows in record { after = after_saying x s.told; shows = s.shows; hand_after = holds; does = Does.does_print epoch s.told text s.more s.prints };
 }
 
 -- a call that involves no worker leaves what is in hand the board's

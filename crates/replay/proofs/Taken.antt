@@ -6,9 +6,10 @@ use Rattle.std.proofs.lemmas.List.{length-map}
 use Rattle.std.proofs.lemmas.Option.{slice_get_within}
 use Rattle.std.proofs.lemmas.Bool.Decides.{eqb_tells}
 use Rattle.semantics.specs.Multiset.{Record}
+use Rattle.graph.specs.Shown.{GraphValue}
 use Rattle.graph.specs.Shown.{shown_graph}
 use Rattle.machine.specs.Network.{Network}
-use Rattle.machine.specs.World.{World, Held, Message}
+use Rattle.machine.specs.World.{Event, World, Held, Message}
 use Rattle.machine.specs.Step.{Step, Allowed, after_step}
 use Rattle.machine.specs.Choices.{IsClaimBy}
 use Rattle.machine.specs.Engine.{network}
@@ -16,10 +17,11 @@ use Rattle.machine.proofs.Progress.{put_here}
 use Rattle.events.specs.Jobs.{Pass}
 use Rattle.board.specs.Shown.{Shown, Side, net, side_at, held_of, tables}
 use Rattle.board.specs.Showing.{Shows}
-use Rattle.board.specs.Lateness.{BoardShown, IsAsLate, IsUpToDate, Posts, waits_for}
+use Rattle.board.specs.Lateness.{BoardShown, IsAsLate, IsUpToDate, KeepsCalled, Posts, waits_for}
 use Rattle.board.specs.Commits.{IsOf}
 use Rattle.board.specs.Answers.{Hands, Holds}
 use Rattle.board.specs.Kept.{Goes}
+use Rattle.board.specs.Overflow.{DoesOverflow, NeverOverflows, Overflows}
 use Rattle.board.specs.Picks.{IsChoice, IsCertain, RefusesPick as Refuses}
 use Rattle.board.specs.declared.refusal.StepRefusal.{StepRefusal}
 use Rattle.board.specs.declared.refusal.StepRefusal.TheVariants as step
@@ -29,7 +31,7 @@ use Rattle.rows.specs.declared.fault.WorkFault.{WorkFault}
 use Rattle.rows.specs.declared.fault.WorkFault.TheVariants as fault
 use Rattle.schedule.specs.Commands.{Command}
 use Rattle.replay.specs.Hands.{HoldsAll, IsHand, in_hand}
-use Rattle.replay.specs.Replays.{Does, Abandons, KnowsChoice, RefusesPick, Takes, after_abandoning, refusal_line}
+use Rattle.replay.specs.Replays.{Does, Abandons, IsComputable, KnowsChoice, RefusesPick, Takes, after_abandoning, refusal_line}
 use Rattle.replay.specs.Steps.{Answers, IsCommitted, IsAbandoned, LeadsFrom, Leads, ShowsState, Stays, fault_refusal, refusal_of, setting_of}
 use Rattle.replay.specs.Waits.{State, kind_of, posted, waiting_now}
 use Rattle.replay.specs.declared.refusal.Refusal.{Refusal}
@@ -71,10 +73,36 @@ picks late b t x k n p hands knows choice shows = record {
   allowed = (hands.goes.step x.world shows.world).0;
 }
 
+-- in the world after it is taken, a state that the board showed before
+after_taken : (b : BoardShown) (t : Shown) (x : State) (k : ℕ) (p : Pass) (hands : Hands b.shown k t p) → ShowsState b x → Shows t (after_step (net b.shown) x.world hands.taken)
+after_taken b t x k p hands shows = (hands.goes.step x.world shows.world).1
+
+-- an event that overflows nowhere can be computed
+computable : (late : Bool) (b : BoardShown) (t : Shown) (x : State) (k : ℕ) (p : Pass) (hands : Hands b.shown k t p) → NeverOverflows t p → ShowsState b x → k < length b.shown.sides
+    → IsComputable (setting_of late b.shown) x k hands.taken
+computable late b t x k p hands never shows there event held over =
+    let v = after_step (net b.shown) x.world hands.taken in
+    let shown = after_taken b t x k p hands shows in
+    let within : k < length t.sides = subst (λ (m : ℕ). k < m) (sym hands.goes.workers) there in
+    let place : Held.holding false event ≡ Held.holding false p.job.happening = sym held ∙ shown.held k within ∙ held_out t k p hands.worker hands.holds in
+    let one : event ≡ p.job.happening = cc in
+    let here : Overflows (shown_graph b.shown.graph) v k p.job.happening = subst (λ (e : Event). Overflows (shown_graph b.shown.graph) v k e) one over in
+    let his : Overflows (shown_graph b.shown.graph) v p.worker p.job.happening = subst (λ (j : ℕ). Overflows (shown_graph b.shown.graph) v j p.job.happening) (sym hands.worker) here in
+    never v shown (subst (λ (g : GraphValue). Overflows (shown_graph g) v p.worker p.job.happening) (sym hands.goes.graph) his)
+
+-- an event that overflows does so in the world after it is taken
+overflowing : (b : BoardShown) (t : Shown) (x : State) (k : ℕ) (p : Pass) (hands : Hands b.shown k t p) → DoesOverflow t p → ShowsState b x
+    → Overflows (shown_graph b.shown.graph) (after_step (net b.shown) x.world hands.taken) k p.job.happening
+overflowing b t x k p hands over shows =
+    let v = after_step (net b.shown) x.world hands.taken in
+    let there : Overflows (shown_graph t.graph) v p.worker p.job.happening = over v (after_taken b t x k p hands shows) in
+    let his : Overflows (shown_graph t.graph) v k p.job.happening = subst (λ (j : ℕ). Overflows (shown_graph t.graph) v j p.job.happening) hands.worker there in
+    subst (λ (g : GraphValue). Overflows (shown_graph g) v k p.job.happening) hands.goes.graph his
+
 -- an event was taken, and is in hand
-pub taken_leads : (late : Bool) (b c d : BoardShown) (hand new : List (Option Pass)) (k n : ℕ) (p : Pass) (hands : Hands b.shown k c.shown p) → KnowsWaits late b → (IsCertain (IsUpToDate b k) b.shown k n → IsChoice b.shown k n hands.taken) → c.waits ≡ b.waits → length hand ≡ length b.shown.sides → (in_hand hand k ≡ None → d ≡ c)
+pub taken_leads : (late : Bool) (b c d : BoardShown) (hand new : List (Option Pass)) (k n : ℕ) (p : Pass) (hands : Hands b.shown k c.shown p) → KnowsWaits late b → (IsCertain (IsUpToDate b k) b.shown k n → IsChoice b.shown k n hands.taken) → NeverOverflows c.shown p → IsAsLate b c → length hand ≡ length b.shown.sides → (in_hand hand k ≡ None → d ≡ c)
     → Stays b.shown d.shown → new ≡ slice_set hand k (Some p) → Leads late b d hand new (Command.take k n) []
-taken_leads late b c d hand new k n p hands knows choice waits places same stays is = record { stays = stays; led = led }
+taken_leads late b c d hand new k n p hands knows choice never late_as places same stays is = record { stays = stays; led = led }
   where
     led : (x : State) → ShowsState b x → HoldsAll x.world (length b.shown.sides) hand → LeadsFrom late b d new (Command.take k n) [] x
     led x shows holds =
@@ -86,14 +114,14 @@ taken_leads late b c d hand new k n p hands knows choice waits places same stays
         let room : k < length hand = subst (λ (m : ℕ). k < m) (sym places) free.0 in
         let here : in_hand new k ≡ Some p = ap (λ (xs : List (Option Pass)). in_hand xs k) is ∙ get_or-set_same hand k (Some p) None room in
         let empty = nothing_in_hand x.world (length b.shown.sides) k hand holds free.0 free.1 in
-        let after : State = record { world = v; waits = x.waits } in
-        let at_c : ShowsState c after = record { world = goes.1; waits = shows_same b c x.waits hands.goes.workers waits shows.waits } in
+        let after : State = record { world = v; waits = x.waits; told = x.told } in
+        let at_c : ShowsState c after = record { world = goes.1; waits = shows_same b c x.waits hands.goes.workers late_as.waits shows.waits; told = λ j e said. late_as.called j e (shows.told j e said) } in
         record {
           after = after;
           shows = subst (λ (y : BoardShown). ShowsState y after) (sym (same empty)) at_c;
           hand_after = hold_taken x.world v (length b.shown.sides) k hand new p holds place (claim_others (net b.shown) x.world k hands.taken hands.by) here
               (λ j other. ap (λ (xs : List (Option Pass)). in_hand xs j) is ∙ get_or-set_other hand k j (Some p) None other);
-          does = Does.does_take k n hands.taken (picks late b c.shown x k n p hands knows choice shows);
+          does = Does.does_take k n hands.taken (picks late b c.shown x k n p hands knows choice shows) (computable late b c.shown x k p hands never shows free.0);
         }
 
 -- an event in hand was ended
@@ -109,8 +137,8 @@ ended_leads late b c hand new k p at own room ends is = record { stays = ends.st
         let here : in_hand new k ≡ None = ap (λ (xs : List (Option Pass)). in_hand xs k) is ∙ get_or-set_same hand k None None room in
         let posts : Posts late k b c = subst (λ (j : ℕ). Posts late j b c) own ends.posts in
         record {
-          after = record { world = v; waits = posted (kind_of late) k x.waits };
-          shows = record { world = subst (λ (y : Step). Shows c.shown (after_step (net b.shown) x.world y)) step_is goes.1; waits = shows_posted late k b c x.waits ends.goes.workers shows.waits posts };
+          after = record { world = v; waits = posted (kind_of late) k x.waits; told = x.told };
+          shows = record { world = subst (λ (y : Step). Shows c.shown (after_step (net b.shown) x.world y)) step_is goes.1; waits = shows_posted late k b c x.waits ends.goes.workers shows.waits posts; told = λ j e said. posts.called j e (shows.told j e said) };
           hand_after = hold_ended x.world v (length b.shown.sides) k hand new holds (put_here x.world.held k Held.nothing) (commit_others x.world k) here
               (λ j other. ap (λ (xs : List (Option Pass)). in_hand xs j) is ∙ get_or-set_other hand k j None None other);
           does = Does.does_commit k p.job.happening ends.out (subst (λ (y : Step). Allowed (net b.shown) x.world y) step_is goes.0);
@@ -124,9 +152,9 @@ net_same : (s t : Shown) → t.graph ≡ s.graph → length t.sides ≡ length s
 net_same s t g n = ap (λ x. network (shown_graph x) (length t.sides)) g ∙ ap (λ (k : ℕ). network (shown_graph s.graph) k) n
 
 -- an event was taken and ended
-pub delivered_leads : (late : Bool) (b c d : BoardShown) (hand : List (Option Pass)) (k n : ℕ) (p : Pass) (hands : Hands b.shown k c.shown p) → KnowsWaits late b → (IsCertain (IsUpToDate b k) b.shown k n → IsChoice b.shown k n hands.taken) → c.waits ≡ b.waits → IsCommitted late c p d → Stays b.shown d.shown
+pub delivered_leads : (late : Bool) (b c d : BoardShown) (hand : List (Option Pass)) (k n : ℕ) (p : Pass) (hands : Hands b.shown k c.shown p) → KnowsWaits late b → (IsCertain (IsUpToDate b k) b.shown k n → IsChoice b.shown k n hands.taken) → NeverOverflows c.shown p → IsAsLate b c → IsCommitted late c p d → Stays b.shown d.shown
     → Leads late b d hand hand (Command.deliver k n) []
-delivered_leads late b c d hand k n p hands knows choice waits ends stays = record { stays = stays; led = led }
+delivered_leads late b c d hand k n p hands knows choice never late_as ends stays = record { stays = stays; led = led }
   where
     led : (x : State) → ShowsState b x → HoldsAll x.world (length b.shown.sides) hand → LeadsFrom late b d hand (Command.deliver k n) [] x
     led x shows holds =
@@ -142,17 +170,17 @@ delivered_leads late b c d hand k n p hands knows choice waits ends stays = reco
         let others : (j : ℕ) → j ≢ k → u.held j ≡ x.world.held j = λ j other. commit_others v k j other ∙ claim_others (net b.shown) x.world k hands.taken hands.by j other in
         let posts : Posts late k c d = subst (λ (j : ℕ). Posts late j c d) hands.worker ends.posts in
         record {
-          after = record { world = u; waits = posted (kind_of late) k x.waits };
-          shows = record { world = shown; waits = shows_posted late k c d x.waits ends.goes.workers (shows_same b c x.waits hands.goes.workers waits shows.waits) posts };
+          after = record { world = u; waits = posted (kind_of late) k x.waits; told = x.told };
+          shows = record { world = shown; waits = shows_posted late k c d x.waits ends.goes.workers (shows_same b c x.waits hands.goes.workers late_as.waits shows.waits) posts; told = λ j e said. posts.called j e (late_as.called j e (shows.told j e said)) };
           hand_after = hold_through x.world u (length b.shown.sides) k hand holds free.1 (put_here v.held k Held.nothing) others;
-          does = Does.does_deliver k n hands.taken p.job.happening ends.out (picks late b c.shown x k n p hands knows choice shows) allowed;
+          does = Does.does_deliver k n hands.taken p.job.happening ends.out (picks late b c.shown x k n p hands knows choice shows) (computable late b c.shown x k p hands never shows free.0) allowed;
         }
 
 -- an event was taken and abandoned
-pub abandoned_leads : (late : Bool) (b c d : BoardShown) (hand : List (Option Pass)) (k n : ℕ) (p : Pass) (hands : Hands b.shown k c.shown p) → KnowsWaits late b → (IsCertain (IsUpToDate b k) b.shown k n → IsChoice b.shown k n hands.taken) → c.waits ≡ b.waits → IsAbandoned c p d → Stays b.shown d.shown
+pub abandoned_leads : (late : Bool) (b c d : BoardShown) (hand : List (Option Pass)) (k n : ℕ) (p : Pass) (hands : Hands b.shown k c.shown p) → KnowsWaits late b → (IsCertain (IsUpToDate b k) b.shown k n → IsChoice b.shown k n hands.taken) → DoesOverflow c.shown p → IsAsLate b c → IsAbandoned c p d → Stays b.shown d.shown
     → (command : Command) → ((x : State) → Abandons (setting_of late b.shown) x k n hands.taken p.job.happening → Does (setting_of late b.shown) x command (after_abandoning (setting_of late b.shown) x hands.taken k p.job.happening) (refusal_line 39))
     → Leads late b d hand hand command (refusal_line 39)
-abandoned_leads late b c d hand k n p hands knows choice waits abandoned stays command does = record { stays = stays; led = led }
+abandoned_leads late b c d hand k n p hands knows choice over late_as abandoned stays command does = record { stays = stays; led = led }
   where
     led : (x : State) → ShowsState b x → HoldsAll x.world (length b.shown.sides) hand → LeadsFrom late b d hand command (refusal_line 39) x
     led x shows holds =
@@ -167,27 +195,28 @@ abandoned_leads late b c d hand k n p hands knows choice waits abandoned stays c
         let shown : Shows d.shown u = subst (λ (y : Step). Shows d.shown (after_step (net b.shown) v y)) step_is (subst (λ (g : Network). Shows d.shown (after_step g v (Step.abandon p.worker p.job.happening))) same at_c.1) in
         let others : (j : ℕ) → j ≢ k → u.held j ≡ x.world.held j = λ j other. put_other v.held k (Held.holding true p.job.happening) j other ∙ claim_others (net b.shown) x.world k hands.taken hands.by j other in
         record {
-          after = record { world = u; waits = x.waits };
-          shows = record { world = shown; waits = shows_same c d x.waits abandoned.goes.workers abandoned.waits (shows_same b c x.waits hands.goes.workers waits shows.waits) };
+          after = record { world = u; waits = x.waits; told = x.told };
+          shows = record { world = shown; waits = shows_same c d x.waits abandoned.goes.workers abandoned.waits (shows_same b c x.waits hands.goes.workers late_as.waits shows.waits); told = λ j e said. abandoned.called j e (late_as.called j e (shows.told j e said)) };
           hand_after = hold_abandoned x.world u (length b.shown.sides) k hand p.job.happening holds free.1 (put_here v.held k (Held.holding true p.job.happening)) others;
-          does = does x (record { takes = picks late b c.shown x k n p hands knows choice shows; allowed = allowed });
+          does = does x (record { takes = picks late b c.shown x k n p hands knows choice shows; over = overflowing b c.shown x k p hands over shows; allowed = allowed });
         }
 
 -- computing an event that was taken is refused: there is no memory, or a count would be too large
-pub abandoned_answers : (late : Bool) (b c d : BoardShown) (hand : List (Option Pass)) (k n : ℕ) (p : Pass) (e : Refusal) (hands : Hands b.shown k c.shown p) → KnowsWaits late b → (IsCertain (IsUpToDate b k) b.shown k n → IsChoice b.shown k n hands.taken) → c.waits ≡ b.waits → IsAbandoned c p d → Stays b.shown d.shown
+pub abandoned_answers : (late : Bool) (b c d : BoardShown) (hand : List (Option Pass)) (k n : ℕ) (p : Pass) (e : Refusal) (hands : Hands b.shown k c.shown p) → KnowsWaits late b → (IsCertain (IsUpToDate b k) b.shown k n → IsChoice b.shown k n hands.taken) → IsAsLate b c → IsAbandoned c p d → Stays b.shown d.shown
     → (command : Command) → ((x : State) → Abandons (setting_of late b.shown) x k n hands.taken p.job.happening → Does (setting_of late b.shown) x command (after_abandoning (setting_of late b.shown) x hands.taken k p.job.happening) (refusal_line 39))
-    → (e ≡ refusal.NoMemory) ⊎ (e ≡ refusal.Step 39) → Answers late b d hand hand command {T = Unit {0}} (Err e)
-abandoned_answers late b c d hand k n p e hands knows choice waits abandoned stays command does (inl memory) = subst (λ (x : Refusal). Answers late b d hand hand command {T = Unit {0}} (Err x)) (sym memory) stays
-abandoned_answers late b c d hand k n p e hands knows choice waits abandoned stays command does (inr count) =
-    subst (λ (x : Refusal). Answers late b d hand hand command {T = Unit {0}} (Err x)) (sym count) (abandoned_leads late b c d hand k n p hands knows choice waits abandoned stays command does)
+    → (e ≡ refusal.NoMemory) ⊎ ((e ≡ refusal.Step 39) × DoesOverflow c.shown p) → Answers late b d hand hand command {T = Unit {0}} (Err e)
+abandoned_answers late b c d hand k n p e hands knows choice late_as abandoned stays command does (inl memory) = subst (λ (x : Refusal). Answers late b d hand hand command {T = Unit {0}} (Err x)) (sym memory) stays
+abandoned_answers late b c d hand k n p e hands knows choice late_as abandoned stays command does (inr count) =
+    subst (λ (x : Refusal). Answers late b d hand hand command {T = Unit {0}} (Err x)) (sym count.0) (abandoned_leads late b c d hand k n p hands knows choice count.1 late_as abandoned stays command does)
 
 -- an event was taken, and ended or abandoned
-pub delivered_answers : (late : Bool) (b c d : BoardShown) (hand : List (Option Pass)) (k n : ℕ) (p : Pass) (r : Result (Unit {0}) Refusal) (hands : Hands b.shown k c.shown p) → KnowsWaits late b → (IsCertain (IsUpToDate b k) b.shown k n → IsChoice b.shown k n hands.taken) → c.waits ≡ b.waits
-    → OnOk r (IsCommitted late c p d) → OnErr r (IsAbandoned c p d) → IfErr r (λ e. (e ≡ refusal.NoMemory) ⊎ (e ≡ refusal.Step 39)) → Stays b.shown d.shown
+pub delivered_answers : (late : Bool) (b c d : BoardShown) (hand : List (Option Pass)) (k n : ℕ) (p : Pass) (r : Result (Unit {0}) Refusal) (hands : Hands b.shown k c.shown p) → KnowsWaits late b → (IsCertain (IsUpToDate b k) b.shown k n → IsChoice b.shown k n hands.taken) → IsAsLate b c
+    → OnOk r (IsCommitted late c p d) → OnOk r (NeverOverflows c.shown p) → OnErr r (IsAbandoned c p d)
+    → IfErr r (λ e. (e ≡ refusal.NoMemory) ⊎ ((e ≡ refusal.Step 39) × DoesOverflow c.shown p)) → Stays b.shown d.shown
     → Answers late b d hand hand (Command.deliver k n) r
-delivered_answers late b c d hand k n p (Ok u) hands knows choice waits ends abandoned refused stays = delivered_leads late b c d hand k n p hands knows choice waits ends stays
-delivered_answers late b c d hand k n p (Err e) hands knows choice waits ends abandoned refused stays =
-    abandoned_answers late b c d hand k n p e hands knows choice waits abandoned stays (Command.deliver k n) (λ x gives. Does.deliver_abandons k n hands.taken p.job.happening gives) refused
+delivered_answers late b c d hand k n p (Ok u) hands knows choice late_as ends never abandoned refused stays = delivered_leads late b c d hand k n p hands knows choice never late_as ends stays
+delivered_answers late b c d hand k n p (Err e) hands knows choice late_as ends never abandoned refused stays =
+    abandoned_answers late b c d hand k n p e hands knows choice late_as abandoned stays (Command.deliver k n) (λ x gives. Does.deliver_abandons k n hands.taken p.job.happening gives) refused
 
 -- the code of a refused pick
 pub refused_pick : (late : Bool) (b : BoardShown) (k n : ℕ) (e : StepRefusal) → KnowsWaits late b → Refuses (IsUpToDate b k) b.shown k n e → (code : ℕ) → refusal_of e ≡ refusal.Step code → (x : State) → ShowsState b x → RefusesPick (setting_of late b.shown) x k n code
@@ -259,15 +288,15 @@ picked_room s t hand k p hands h =
 
 -- a batch was applied
 pub applied_leads : (late : Bool) (b c : BoardShown) (hand : List (Option Pass)) (k j : ℕ) → IsWithin b → c.shown ≡ b.shown → waits_for b k j ≡ suc (waits_for c k j) → ((w s : ℕ) → (w ≡ k → s ≡ j → ⊥) → waits_for c w s ≡ waits_for b w s)
-    → Leads late b c hand hand (Command.apply k j) []
-applied_leads late b c hand k j knows same one others = record {
+    → KeepsCalled b c → Leads late b c hand hand (Command.apply k j) []
+applied_leads late b c hand k j knows same one others called = record {
   stays = stays_same b.shown c.shown same;
   led = λ x shows holds.
       let there = there_if_some b k j (waits_for c k j) knows one in
-      let after : State = record { world = x.world; waits = waiting_now x.waits k j (waits_for c k j) } in
+      let after : State = record { world = x.world; waits = waiting_now x.waits k j (waits_for c k j); told = x.told } in
       record {
         after = after;
-        shows = record { world = subst (λ (s : Shown). Shows s x.world) (sym same) shows.world; waits = shows_applied b c x.waits k j same shows.waits others };
+        shows = record { world = subst (λ (s : Shown). Shows s x.world) (sym same) shows.world; waits = shows_applied b c x.waits k j same shows.waits others; told = λ w e said. called w e (shows.told w e said) };
         hand_after = holds;
         does = Does.does_apply k j (waits_for c k j) there.0 there.1 (sym (shows.waits k j there.0 there.1) ∙ one);
       };
@@ -290,8 +319,8 @@ pub is_committed : (late : Bool) (b c : BoardShown) (p : Pass) (out : ℕ → Li
 is_committed late b c p out holds goes posts stays = record { holds = holds; out = out; goes = goes; posts = posts; stays = stays }
 
 pub is_abandoned : (b c : BoardShown) (p : Pass) → AbandonsOne b.shown c.shown p → IsAsLate b c → Stays b.shown c.shown → IsAbandoned b p c
-is_abandoned b c p abandoned late stays = record { holds = abandoned.0; goes = abandoned.1; waits = late.waits; stays = stays }
+is_abandoned b c p abandoned late stays = record { holds = abandoned.0; goes = abandoned.1; waits = late.waits; called = late.called; stays = stays }
 
-pub fault_refused : (f : WorkFault) (e : Refusal) → e ≡ fault_refusal f → (e ≡ refusal.NoMemory) ⊎ (e ≡ refusal.Step 39)
-fault_refused fault.NoMemory e is = inl is
-fault_refused fault.Count e is = inr is
+pub fault_refused : (D : Type 0) (f : WorkFault) (e : Refusal) → e ≡ fault_refusal f → (f ≡ fault.Count → D) → (e ≡ refusal.NoMemory) ⊎ ((e ≡ refusal.Step 39) × D)
+fault_refused D fault.NoMemory e is over = inl is
+fault_refused D fault.Count e is over = inr (is, over refl)

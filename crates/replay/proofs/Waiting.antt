@@ -7,7 +7,7 @@ use Rattle.machine.specs.Step.{put}
 use Rattle.machine.proofs.Progress.{put_here}
 use Rattle.board.specs.Shown.{Shown, Side, side_in}
 use Rattle.board.specs.Showing.{Shows}
-use Rattle.board.specs.Lateness.{AreUpToDate, BoardShown, IsUpToDate, Posts, PostsSome, one_more, waits_for}
+use Rattle.board.specs.Lateness.{AreUpToDate, BoardShown, IsAsLate, IsUpToDate, KeepsCalled, Posts, PostsSome, one_more, waits_for}
 use Rattle.replay.specs.Replays.{FeedPosts}
 use Rattle.replay.specs.Steps.{ShowsState, ShowsWaits, setting_of}
 use Rattle.replay.specs.Waits.{SeesAll, State, Waits, added, kind_of, posted, waiting_now}
@@ -42,22 +42,27 @@ pub shows_posted : (late : Bool) (by : ℕ) (b c : BoardShown) (waits : Waits) �
 shows_posted late by b c waits same shows posts = λ k j there within.
     let first : k < length b.shown.sides = omega (arith, there, same) in
     let second : j ≤ length b.shown.sides = omega (arith, within, same) in
-    posts k j first (omega (arith, second)) ∙ ap (λ (n : ℕ). n + one_more late by j) (shows k j first second) ∙ ap (λ (n : ℕ). waits k j + n) (added_same late by j)
+    posts.waits k j first (omega (arith, second)) ∙ ap (λ (n : ℕ). n + one_more late by j) (shows k j first second) ∙ ap (λ (n : ℕ). waits k j + n) (added_same late by j)
 
 pub shows_same : (b c : BoardShown) (waits : Waits) → length c.shown.sides ≡ length b.shown.sides → c.waits ≡ b.waits → ShowsWaits b waits → ShowsWaits c waits
 shows_same b c waits same are shows = λ k j there within.
-    let on_board : waits_for c k j ≡ waits_for b k j = ap (λ (all : List (List ℕ)). waits_for (record { shown = b.shown; waits = all; passed = 0 }) k j) are in
+    let on_board : waits_for c k j ≡ waits_for b k j = ap (λ (all : List (List ℕ)). waits_for (record { shown = b.shown; waits = all; behind = b.behind; passed = 0 }) k j) are in
     on_board ∙ shows k j (omega (arith, there, same)) (omega (arith, within, same))
 
 -- what waits after a feed
 pub feed_posts : (late : Bool) (b c : BoardShown) (x : State) (v : World) → length c.shown.sides ≡ length b.shown.sides → ShowsState b x → Shows c.shown v → PostsSome late (length b.shown.sides) b c
-    → (waits : Waits) × ShowsWaits c waits × FeedPosts (setting_of late b.shown) x (record { world = v; waits = waits })
+    → (waits : Waits) × ShowsWaits c waits × FeedPosts (setting_of late b.shown) x (record { world = v; waits = waits; told = x.told })
 feed_posts late b c x v same shows after (inl posts) = (posted (kind_of late) (length b.shown.sides) x.waits, shows_posted late (length b.shown.sides) b c x.waits same shows.waits posts, inl refl)
 feed_posts late b c x v same shows after (inr none) = (
   x.waits,
   shows_same b c x.waits same none.1 shows.waits,
   inr (refl, λ k there. after.mail k (omega (arith, there, same)) ∙ ap (λ (xs : List Side). (side_in xs k).mail) none.0 ∙ sym (shows.world.mail k there)),
 )
+
+-- whether a feed posts a batch or not, what was called passed still is
+pub feed_called : (late : Bool) (by : ℕ) (b c : BoardShown) → PostsSome late by b c → KeepsCalled b c
+feed_called late by b c (inl posts) = posts.called
+feed_called late by b c (inr none) = none.2
 
 -- what waits once a batch was applied
 pub shows_applied : (b c : BoardShown) (waits : Waits) (worker sender : ℕ) → c.shown ≡ b.shown → ShowsWaits b waits → ((k j : ℕ) → (k ≡ worker → j ≡ sender → ⊥) → waits_for c k j ≡ waits_for b k j)
@@ -90,11 +95,8 @@ there_if_some b k j rest knows some = elim (cases_lt k (length b.shown.sides)) [
 ]
 
 -- the state of a new board
-pub shows_first : (b : BoardShown) → Shows b.shown opening → AreUpToDate b → ShowsState b (record { world = opening; waits = λ worker sender. 0 })
-shows_first b shows prompt = record { world = shows; waits = λ k j there within. prompt k j }
+pub shows_first : (b : BoardShown) → Shows b.shown opening → AreUpToDate b → ShowsState b (record { world = opening; waits = λ worker sender. 0; told = λ output epoch. false })
+shows_first b shows prompt = record { world = shows; waits = λ k j there within. prompt k j; told = λ k e no. absurd cc }
 
-pub board_same : (b c : BoardShown) → c.shown ≡ b.shown → c.waits ≡ b.waits → c.passed ≡ b.passed → c ≡ b
-board_same b c shown waits passed =
-    ap (λ (s : Shown). record { shown = s; waits = c.waits; passed = c.passed }) shown
-    ∙ ap (λ (ws : List (List ℕ)). record { shown = b.shown; waits = ws; passed = c.passed }) waits
-    ∙ ap (λ (n : ℕ). record { shown = b.shown; waits = b.waits; passed = n }) passed
+pub board_same : (b c : BoardShown) → c.shown ≡ b.shown → IsAsLate b c → c ≡ b
+board_same b c shown late = λ j. record { shown = shown j; waits = late.waits j; behind = late.behind j; passed = late.passed j }

@@ -14,11 +14,12 @@ use Rattle.machine.specs.Choices.{Chooses, IsClaimBy}
 use Rattle.machine.specs.Frontier.{Passed}
 use Rattle.machine.specs.Engine.{network}
 use Rattle.machine.specs.Headline.{meant}
+use Rattle.board.specs.Overflow.{Overflows}
 use Rattle.collector.specs.Lines.{IsInput, IsAbsent, MakeRecord}
 use Rattle.collector.specs.OutputText.{IsInOrder, is_plain, label_of, record_line}
 use Rattle.schedule.specs.Commands.{Command}
 use Rattle.schedule.specs.declared.verb.ViewKind.{ViewKind}
-use Rattle.replay.specs.Waits.{SeesAll, State, Waits, posted, waiting_now}
+use Rattle.replay.specs.Waits.{SeesAll, State, TellsMore, Told, Waits, posted, waiting_now}
 
 -- what a schedule runs on: a graph, the number of workers and their kind of view, and the graph's inputs and the names of its outputs, in order
 pub record Setting : Type 0 where
@@ -82,10 +83,16 @@ pub data RefusesPick (s : Setting) (x : State) (worker choice : ℕ) : (code : �
 abbrev pub HasNothingHeld : Setting → World → (worker : ℕ) → Type 0
 HasNothingHeld s w worker = (event : Event) → worker < s.workers → w.held worker ≡ Held.holding false event → ⊥
 
--- The worker takes an event that it may take, and abandons it, which stops the engine: computing it was refused, since a count of what its shard
+-- the event that the worker holds once it has taken it can be computed: no count of what its shard absorbs, or of what it sends, is too large
+abbrev pub IsComputable : Setting → State → (worker : ℕ) → (taken : Step) → Type 0
+IsComputable s x worker taken = (event : Event) → (after_step (net_of s) x.world taken).held worker ≡ Held.holding false event
+    → Overflows s.graph (after_step (net_of s) x.world taken) worker event → ⊥
+
+-- The worker takes an event that it may take, and abandons it, which stops the engine: computing it is refused, since a count of what its shard
 -- would have absorbed, or of what it would send, would be above 9223372036854775807.
 pub record Abandons (s : Setting) (x : State) (worker choice : ℕ) (taken : Step) (event : Event) : Type 0 where
   pub takes : Takes s x worker choice taken
+  pub over : Overflows s.graph (after_step (net_of s) x.world taken) worker event
   pub allowed : Allowed (net_of s) (after_step (net_of s) x.world taken) (Step.abandon worker event)
 
 -- ---- what is printed
@@ -93,10 +100,11 @@ pub record Abandons (s : Setting) (x : State) (worker choice : ℕ) (taken : Ste
 abbrev pub refusal_line : ℕ → List ℕ
 refusal_line code = codes "refused " ++ decimal code ++ 10 ∷ []
 
--- Whether an epoch has passed at an output, with the word for it. It also counts as open if it has passed and worker 0 doesn't see that yet.
+-- Whether an epoch has passed at an output, with the word for it. It also counts as open if it has passed and worker 0 doesn't see that yet, as long
+-- as it was never said to have passed.
 pub data HasWord (s : Setting) (x : State) (output epoch : ℕ) : (word : List ℕ) → Type 0 where
-  has_passed : Passed (net_of s) x.world (output_number s.graph output) epoch → HasWord s x output epoch (codes " passed")
-  is_open : (SeesAllOf s x 0 → Passed (net_of s) x.world (output_number s.graph output) epoch → ⊥) → HasWord s x output epoch (codes " open")
+  has_passed : x.told output epoch ≡ true → Passed (net_of s) x.world (output_number s.graph output) epoch → HasWord s x output epoch (codes " passed")
+  is_open : x.told output epoch ≡ false → (SeesAllOf s x 0 → Passed (net_of s) x.world (output_number s.graph output) epoch → ⊥) → HasWord s x output epoch (codes " open")
 
 -- the line of an epoch, a label and a word
 abbrev pub heading : ℕ → (label word : List ℕ) → List ℕ
@@ -143,27 +151,31 @@ FeedPosts s before after = (after.waits ≡ posted s.views s.workers before.wait
 
 -- the state after a step by which a sender posts a batch
 abbrev pub after_posting : Setting → State → Step → (by : ℕ) → State
-after_posting s x taken by = record { world = after_step (net_of s) x.world taken; waits = posted s.views by x.waits }
+after_posting s x taken by = record { world = after_step (net_of s) x.world taken; waits = posted s.views by x.waits; told = x.told }
 
 -- the state after a step that posts nothing
 abbrev pub after_taking : Setting → State → Step → State
-after_taking s x taken = record { world = after_step (net_of s) x.world taken; waits = x.waits }
+after_taking s x taken = record { world = after_step (net_of s) x.world taken; waits = x.waits; told = x.told }
 
 -- the state after an event was taken and abandoned
 abbrev pub after_abandoning : Setting → State → (taken : Step) → (worker : ℕ) → Event → State
 after_abandoning s x taken worker event = after_taking s (after_taking s x taken) (Step.abandon worker event)
+
+-- the state after a question
+abbrev pub after_saying : State → Told → State
+after_saying x told = record { world = x.world; waits = x.waits; told = told }
 
 -- no batch of the sender waits for the worker, or one of them doesn't exist
 abbrev pub HasNothingWaiting : Setting → State → (worker sender : ℕ) → Type 0
 HasNothingWaiting s x worker sender = worker < s.workers → sender ≤ s.workers → x.waits worker sender ≡ 0
 
 -- From the state x the command prints this text and leaves this state: the one after the engine's step that it names; or x itself; or the one after
--- the event that it took is abandoned and the engine stopped; or one with one batch fewer waiting.
+-- the event that it took is abandoned and the engine stopped; or one with one batch fewer waiting; or one in which more was said to have passed.
 pub data Does (s : Setting) (x : State) : Command → State → (text : List ℕ) → Type 0 where
   does_feed : (name : List ℕ) (fields : List ℤ) (i : ℕ) (waits : Waits) → IsInput s.inputs name i (length fields)
       → IsRecord fields → Allowed (net_of s) x.world (Step.feed i (fields ∷ []))
-      → FeedPosts s x (record { world = after_step (net_of s) x.world (Step.feed i (fields ∷ [])); waits = waits })
-      → Does s x (Command.feed name fields) (record { world = after_step (net_of s) x.world (Step.feed i (fields ∷ [])); waits = waits }) []
+      → FeedPosts s x (record { world = after_step (net_of s) x.world (Step.feed i (fields ∷ [])); waits = waits; told = x.told })
+      → Does s x (Command.feed name fields) (record { world = after_step (net_of s) x.world (Step.feed i (fields ∷ [])); waits = waits; told = x.told }) []
   feed_refused : (name : List ℕ) (fields : List ℤ) (code : ℕ) → RefusesFeed s x.world name fields code
       → Does s x (Command.feed name fields) x (refusal_line code)
   does_seal : (name : List ℕ) (i arity : ℕ) → IsInput s.inputs name i arity → Allowed (net_of s) x.world (Step.seal i)
@@ -172,22 +184,24 @@ pub data Does (s : Setting) (x : State) : Command → State → (text : List ℕ
   does_close : (name : List ℕ) (i arity : ℕ) → IsInput s.inputs name i arity → Allowed (net_of s) x.world (Step.close i)
       → Does s x (Command.close name) (after_posting s x (Step.close i) s.workers) []
   close_refused : (name : List ℕ) (code : ℕ) → RefusesInput s x.world name code → Does s x (Command.close name) x (refusal_line code)
-  does_take : (worker choice : ℕ) (taken : Step) → Takes s x worker choice taken → Does s x (Command.take worker choice) (after_taking s x taken) []
+  does_take : (worker choice : ℕ) (taken : Step) → Takes s x worker choice taken → IsComputable s x worker taken
+      → Does s x (Command.take worker choice) (after_taking s x taken) []
   take_refused : (worker choice code : ℕ) → RefusesPick s x worker choice code → Does s x (Command.take worker choice) x (refusal_line code)
   take_abandons : (worker choice : ℕ) (taken : Step) (event : Event) → Abandons s x worker choice taken event
       → Does s x (Command.take worker choice) (after_abandoning s x taken worker event) (refusal_line 39)
   does_commit : (worker : ℕ) (event : Event) (out : ℕ → List Record) → Allowed (net_of s) x.world (Step.commit worker event out)
       → Does s x (Command.commit worker) (after_posting s x (Step.commit worker event out) worker) []
   commit_refused : (worker : ℕ) → HasNothingHeld s x.world worker → Does s x (Command.commit worker) x (refusal_line 36)
-  does_deliver : (worker choice : ℕ) (taken : Step) (event : Event) (out : ℕ → List Record) → Takes s x worker choice taken
+  does_deliver : (worker choice : ℕ) (taken : Step) (event : Event) (out : ℕ → List Record) → Takes s x worker choice taken → IsComputable s x worker taken
       → Allowed (net_of s) (after_step (net_of s) x.world taken) (Step.commit worker event out)
       → Does s x (Command.deliver worker choice) (after_posting s (after_taking s x taken) (Step.commit worker event out) worker) []
   deliver_refused : (worker choice code : ℕ) → RefusesPick s x worker choice code → Does s x (Command.deliver worker choice) x (refusal_line code)
   deliver_abandons : (worker choice : ℕ) (taken : Step) (event : Event) → Abandons s x worker choice taken event
       → Does s x (Command.deliver worker choice) (after_abandoning s x taken worker event) (refusal_line 39)
-  does_print : (epoch : ℕ) (text : List ℕ) → PrintsAnswer s x epoch text → Does s x (Command.print epoch) x text
+  does_print : (epoch : ℕ) (told : Told) (text : List ℕ) → TellsMore x.told told → PrintsAnswer s (after_saying x told) epoch text
+      → Does s x (Command.print epoch) (after_saying x told) text
   does_apply : (worker sender rest : ℕ) → worker < s.workers → sender ≤ s.workers → x.waits worker sender ≡ suc rest
-      → Does s x (Command.apply worker sender) (record { world = x.world; waits = waiting_now x.waits worker sender rest }) []
+      → Does s x (Command.apply worker sender) (record { world = x.world; waits = waiting_now x.waits worker sender rest; told = x.told }) []
   apply_refused : (worker sender : ℕ) → HasNothingWaiting s x worker sender → Does s x (Command.apply worker sender) x (refusal_line 40)
 
 -- the commands lead from the state x, one after another, and print this text

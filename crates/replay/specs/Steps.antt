@@ -1,5 +1,5 @@
 -- What the call for each line does.
-use Rattle.std.specs.Prelude.{Bool, true, false, codes, ◌≡◌, ◌<◌, ◌≤◌, ◌⊎◌, ℕ, List, [], length, Option, Result, Ok, Err, Some, None}
+use Rattle.std.specs.Prelude.{Bool, true, false, IsTrue, codes, ◌≡◌, ◌↔◌, ◌<◌, ◌≤◌, ◌⊎◌, ℕ, List, [], length, Option, Result, Ok, Err, Some, None}
 use Rattle.semantics.specs.Multiset.{Record}
 use Rattle.semantics.specs.Query.{Input}
 use Rattle.graph.specs.Shown.{GraphValue, shown_graph, shown_inputs, shown_names}
@@ -8,7 +8,7 @@ use Rattle.events.specs.Jobs.{Pass}
 use Rattle.rows.specs.declared.fault.WorkFault.{WorkFault}
 use Rattle.rows.specs.declared.fault.WorkFault.TheVariants as fault
 use Rattle.board.specs.Shown.{Shown, tables}
-use Rattle.board.specs.Lateness.{BoardShown, Posts, waits_for}
+use Rattle.board.specs.Lateness.{BoardShown, CallsPassed, KeepsCalled, Posts, waits_for}
 use Rattle.board.specs.Showing.{Shows}
 use Rattle.board.specs.Kept.{Goes}
 use Rattle.board.specs.Answers.{Holds}
@@ -18,8 +18,8 @@ use Rattle.collector.specs.Lines.{IsAbsent, IsInput}
 use Rattle.schedule.specs.Commands.{Command}
 use Rattle.schedule.specs.ScheduleText.{IsScheduleText}
 use Rattle.schedule.specs.declared.verb.ViewKind.{ViewKind}
-use Rattle.replay.specs.Replays.{Setting, Does, Replays, refusal_line}
-use Rattle.replay.specs.Waits.{State, Waits, at_first, kind_of}
+use Rattle.replay.specs.Replays.{Setting, Does, PrintsAnswer, PrintsOutput, Replays, after_saying, refusal_line}
+use Rattle.replay.specs.Waits.{State, TellsMore, Told, Waits, at_first, kind_of}
 use Rattle.replay.specs.Hands.{HoldsAll}
 use Rattle.replay.specs.declared.refusal.Refusal.{Refusal}
 use Rattle.replay.specs.declared.refusal.Refusal.TheVariants as refusal
@@ -55,10 +55,11 @@ setting_of late s = setting_on (kind_of late) s.graph (length s.sides)
 abbrev pub ShowsWaits : BoardShown → Waits → Type 0
 ShowsWaits b waits = (worker sender : ℕ) → worker < length b.shown.sides → sender ≤ length b.shown.sides → waits_for b worker sender ≡ waits worker sender
 
--- the board shows the state's world, and what waits in it
+-- the board shows the state's world, and what waits in it; what was said to have passed, its first worker calls so
 pub record ShowsState (b : BoardShown) (x : State) : Type 0 where
   pub world : Shows b.shown x.world
   pub waits : ShowsWaits b x.waits
+  pub told : (output epoch : ℕ) → x.told output epoch ≡ true → CallsPassed b output epoch
 
 -- the first input of that name has this number and arity; a name that no input has gets the greatest number
 abbrev pub IsNumbered : List Input → List ℕ → ℕ × ℕ → Type 0
@@ -81,6 +82,19 @@ pub record LeadsFrom (late : Bool) (b c : BoardShown) (hand : List (Option Pass)
 pub record Leads (late : Bool) (b c : BoardShown) (old new : List (Option Pass)) (command : Command) (text : List ℕ) : Type 0 where
   pub stays : Stays b.shown c.shown
   pub led : (x : State) → ShowsState b x → HoldsAll x.world (length b.shown.sides) old → LeadsFrom late b c new command text x
+
+-- from the state x a question about the epoch prints this text, and leads to a state that the board shows too
+pub record Says (late : Bool) (b : BoardShown) (epoch : ℕ) (text : List ℕ) (x : State) : Type 0 where
+  pub told : Told
+  pub more : TellsMore x.told told
+  pub shows : ShowsState b (after_saying x told)
+  pub prints : PrintsAnswer (setting_of late b.shown) (after_saying x told) epoch text
+
+-- the text of one output, in each state that the board shows in which what was said of it is what the first worker calls passed
+pub record SaysOne (late : Bool) (b : BoardShown) (output epoch : ℕ) (label text : List ℕ) : Type 0 where
+  pub seen : Bool
+  pub right : IsTrue seen ↔ CallsPassed b output epoch
+  pub prints : (x : State) → ShowsState b x → x.told output epoch ≡ seen → PrintsOutput (setting_of late b.shown) x epoch output label text
 
 -- the command is done, or refused with its line
 abbrev pub Answers : (late : Bool) → BoardShown → BoardShown → (old new : List (Option Pass)) → Command → {T : Type 0} → Result T Refusal → Type 0
@@ -112,6 +126,7 @@ pub record IsAbandoned (b : BoardShown) (p : Pass) (c : BoardShown) : Type 0 whe
   pub holds : Holds b.shown p
   pub goes : Goes b.shown (Step.abandon p.worker p.job.happening) c.shown
   pub waits : c.waits ≡ b.waits
+  pub called : KeepsCalled b c
   pub stays : Stays b.shown c.shown
 
 -- the text is a schedule for views of that kind, and from the engine's opening world, where nothing waits, its commands print this answer

@@ -1,4 +1,4 @@
--- What waits for the workers: the batches of changes that were posted, and that a worker hasn't applied to its view yet.
+-- What waits for the workers: the batches of changes that were posted, and that a worker hasn't applied to its view yet. And what was said to have passed.
 use Rattle.std.specs.Prelude.{◌≡◌, ◌≤◌, ◌+◌, ◌==◌, ℕ, Bool, true, false, cond}
 use Rattle.machine.specs.World.{World, opening}
 use Rattle.machine.specs.Step.{put}
@@ -9,14 +9,23 @@ use Rattle.schedule.specs.declared.verb.ViewKind.TheVariants.{Shared, Local}
 abbrev pub Waits : Type 0
 Waits = (worker sender : ℕ) → ℕ
 
--- the state from which a line goes on: the engine's world, and what waits
+-- which epochs were said to have passed, by output
+abbrev pub Told : Type 0
+Told = (output epoch : ℕ) → Bool
+
+-- what was said to have passed still is
+abbrev pub TellsMore : (old new : Told) → Type 0
+TellsMore old new = (output epoch : ℕ) → old output epoch ≡ true → new output epoch ≡ true
+
+-- the state from which a line goes on: the engine's world, what waits, and what was said to have passed
 pub record State : Type 0 where
   pub world : World
   pub waits : Waits
+  pub told : Told
 
--- the state in which a schedule begins: the engine's opening world, and nothing waits
+-- the state in which a schedule begins: the engine's opening world; nothing waits, and nothing was said
 abbrev pub at_first : State
-at_first = record { world = opening; waits = λ worker sender. 0 }
+at_first = record { world = opening; waits = λ worker sender. 0; told = λ output epoch. false }
 
 -- views that may be late are the workers' own
 abbrev pub kind_of : (late : Bool) → ViewKind

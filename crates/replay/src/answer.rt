@@ -4,8 +4,8 @@ ghost use Rattle.std.specs.Prelude.{◌≡◌, ◌++◌, ℕ, List, OnOk, decima
 ghost use Rattle.board.specs.Promises.{IsOutputPlace};
 ghost use Rattle.graph.specs.Views.{name_of_output};
 ghost use Rattle.collector.specs.OutputText.{is_plain, label_of};
-ghost use Rattle.replay.specs.Replays.{PrintsAnswer, PrintsOutput, heading, refusal_line};
-ghost use Rattle.replay.specs.Steps.{ShowsState, setting_of, word_of};
+ghost use Rattle.replay.specs.Replays.{heading, refusal_line};
+ghost use Rattle.replay.specs.Steps.{Says, SaysOne, ShowsState, word_of};
 ghost use Rattle.replay.specs.Waits.{State};
 
 use board::Board;
@@ -87,8 +87,8 @@ fn push_output<V: Views>(
     out: &mut Vec<u8>,
 ) -> Result<(), AllocError>
     requires { IsOutputPlace board.now.shown output }
-    ensures { OnOk result ((text : List ℕ) × (out.new.items ≡ out.old.items ++ text) × ((x : State) → ShowsState board.now x →
-        PrintsOutput (setting_of V.late board.now.shown) x epoch output (label_of plain name.now) text)) }
+    ensures { OnOk result ((text : List ℕ) × (out.new.items ≡ out.old.items ++ text) ×
+        SaysOne V.late board.now output epoch (label_of plain name.now) text) }
 {
     board.law_headline();
     board.law_prompt();
@@ -106,7 +106,7 @@ pub fn push_answer<V: Views>(
     out: &mut Vec<u8>,
 ) -> Result<(), AllocError>
     ensures { OnOk result ((text : List ℕ) × (out.new.items ≡ out.old.items ++ text) × ((x : State) → ShowsState board.now x →
-        PrintsAnswer (setting_of V.late board.now.shown) x epoch text)) }
+        Says V.late board.now epoch text x)) }
 {
     let outputs = board.graph().outputs();
     let plain = are_plain(outputs);

@@ -2,7 +2,9 @@
 
 ghost use Rattle.std.specs.Prelude.{◌≡◌, ◌<◌, ◌⊎◌, List, Option, Some, None, length, slice_set, IfOk, IfErr, OnErr, OnOk};
 ghost use Rattle.events.specs.Jobs.{Pass};
+ghost use Rattle.board.specs.Answers.{Holds};
 ghost use Rattle.board.specs.Commits.{IsOf};
+ghost use Rattle.board.specs.Overflow.{DoesOverflow, NeverOverflows};
 ghost use Rattle.schedule.specs.Commands.{Command};
 ghost use Rattle.replay.specs.Hands.{IsHand, in_hand};
 ghost use Rattle.replay.specs.Steps.{Answers, IsCommitted, IsAbandoned, Stays};
@@ -19,11 +21,13 @@ use views::Views;
 /// Computes an event that was taken. One that is refused, for lack of memory or a count that is too large, is abandoned, which stops the board.
 fn compute<V: Views>(alloc: Global, board: &mut Board<V>, work: Work) -> Result<Done, Refusal>
     requires own { IsOf board.old.shown work.0 }
+    requires whole { work.1 ≡ None }
     ensures done { IfOk result (λ d. d ≡ work.0) }
+    ensures fits { Holds board.old.shown work.0 → OnOk result (NeverOverflows board.old.shown work.0) }
     ensures kept { OnOk result (board.new ≡ board.old) }
     ensures stays { Stays board.old.shown board.new.shown }
     ensures abandoned { OnErr result (IsAbandoned board.old work.0 board.new) }
-    ensures refused { IfErr result (λ e. (e ≡ refusal.NoMemory) ⊎ (e ≡ refusal.Step 39)) }
+    ensures refused { IfErr result (λ e. (e ≡ refusal.NoMemory) ⊎ ((e ≡ refusal.Step 39) × DoesOverflow board.old.shown work.0)) }
 {
     match driver::compute(alloc, board, &NoGate, 0, work) {
         Ok(done) => Ok(done),
@@ -47,10 +51,12 @@ fn end<V: Views>(board: &mut Board<V>, done: Done) -> Result<(), Refusal>
 /// Computes an event that was taken, and ends it. One that is refused is abandoned, which stops the board.
 fn complete<V: Views>(alloc: Global, board: &mut Board<V>, work: Work) -> Result<(), Refusal>
     requires own { IsOf board.old.shown work.0 }
+    requires whole { work.1 ≡ None }
     ensures ends { OnOk result (IsCommitted V.late board.old work.0 board.new) }
+    ensures fits { OnOk result (NeverOverflows board.old.shown work.0) }
     ensures stays { Stays board.old.shown board.new.shown }
     ensures abandoned { OnErr result (IsAbandoned board.old work.0 board.new) }
-    ensures refused { IfErr result (λ e. (e ≡ refusal.NoMemory) ⊎ (e ≡ refusal.Step 39)) }
+    ensures refused { IfErr result (λ e. (e ≡ refusal.NoMemory) ⊎ ((e ≡ refusal.Step 39) × DoesOverflow board.old.shown work.0)) }
 {
     match process(alloc, board, &NoGate, 0, work) {
         Ok(_sent) => Ok(()),

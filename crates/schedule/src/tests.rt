@@ -1,5 +1,6 @@
 use super::*;
 use std::alloc::Global;
+use std::test::Fail;
 
 /// The result of reading a text, in short.
 fn refusal(kind: ViewKind, text: &str, alloc: Global) -> Option<ScheduleRefusal> {
@@ -120,4 +121,14 @@ fn view_lines(rt: HostRuntime) {
     for (kind, text, want) in rows {
         assert_eq!(rt; refusal(kind, text, rt.alloc()), want, "{text}");
     }
+}
+
+#[test]
+fn shown(rt: HostRuntime) -> Result<(), Fail> {
+    let refusal = ScheduleRefusal::At { code: 46, line: 2 };
+    let texts = format!(in rt.alloc(); "{refusal}, {}", ScheduleRefusal::NoMemory)?;
+    assert_eq!(rt; texts.as_str(), "refused 46 at line 2, out of memory");
+    let faults = format!(in rt.alloc(); "{}, {}", Fault::Malformed, Fault::BadNumber)?;
+    assert_eq!(rt; faults.as_str(), "no step of a schedule, a bad number");
+    Ok(())
 }

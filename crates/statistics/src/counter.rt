@@ -2,6 +2,9 @@
 //!
 //! A number that would pass 18446744073709551615 stays there.
 
+ghost use Rattle.std.specs.Prelude.{◌≡◌, ◌+◌};
+ghost use Rattle.statistics.specs.Counted.{counted};
+
 use std::sync::atomic::{AtomicU64, Ordering};
 
 /// Three numbers that any thread may add to.
@@ -62,7 +65,9 @@ pub(crate) fn add(sum: &AtomicU64, more: u64) {
 
 impl Counts {
     /// All zero.
-    pub fn none() -> Counts {
+    pub fn none() -> Counts
+        ensures { result ≡ record { events = 0; received = 0; sent = 0 } }
+    {
         Counts {
             events: 0,
             received: 0,
@@ -71,7 +76,11 @@ impl Counts {
     }
 
     /// The sums of both.
-    pub fn with(self, more: Counts) -> Counts {
+    pub fn with(self, more: Counts) -> Counts
+        ensures events { result.events ≡ counted (self.events + more.events) }
+        ensures received { result.received ≡ counted (self.received + more.received) }
+        ensures sent { result.sent ≡ counted (self.sent + more.sent) }
+    {
         Counts {
             events: self.events.saturating_add(more.events),
             received: self.received.saturating_add(more.received),

@@ -1,12 +1,14 @@
 //! The counters of a run.
 
-ghost use Rattle.std.specs.Prelude.{◌<◌, ◌≤◌};
+ghost use Rattle.std.specs.Prelude.{◌≡◌, ◌<◌, ◌≤◌};
 ghost use Rattle.semantics.specs.Limits.{max_workers};
+ghost use Rattle.statistics.specs.Counted.{counted, records_in};
 
 use crate::counter::{Counter, add};
 use collector::Epochs;
 use events::{Letter, Output};
-use graph::{EdgeId, Graph, Location, VertexId, graph_text};
+use graph::{EdgeId, Graph, Location, VertexId};
+use graph_text::graph_text;
 use record_core::NoMemory;
 use std::alloc::{AllocError, Global};
 use std::sync::Arc;
@@ -69,7 +71,9 @@ impl Tally {
     }
 
     /// Counts messages, each for the vertex and the worker that it goes to, and gives the number of their records.
-    pub(crate) fn count_letters(&self, letters: &[Letter]) -> u64 {
+    pub(crate) fn count_letters(&self, letters: &[Letter]) -> u64
+        ensures { result ≡ counted (records_in letters.now) }
+    {
         let mut records = 0u64;
         for letter in letters {
             let more = letter.message.len() as u64;

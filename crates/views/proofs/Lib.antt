@@ -8,4 +8,5 @@ pub mod ReservedRoom
 pub mod FirstViews
 pub mod StaleCounts
 pub mod WaitingCounts
+pub mod PostedViews
 pub mod OpenInputs

@@ -3,3 +3,4 @@ pub mod Queued
 pub mod WorkerViews
 pub mod Stale
 pub mod Opening
+pub mod QueuedLists

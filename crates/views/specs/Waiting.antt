@@ -12,6 +12,15 @@ use Rattle.progress.specs.Content.{times_in}
 abbrev pub batch : (sender : ℕ) → (added removed : List Pointstamp) → Changes
 batch sender added removed = record { sender = sender; adds = times_in added; removes = times_in removed; applied = false }
 
+-- a batch, by what it adds and what it removes
+abbrev pub Posted : Type 0
+Posted = List Pointstamp × List Pointstamp
+
+-- batches of one sender
+abbrev pub batches_as : (sender : ℕ) → List Posted → List Changes
+batches_as s [] = []
+batches_as s (p ∷ posted) = batch s p.0 p.1 ∷ batches_as s posted
+
 -- the batches of each sender that a worker hasn't applied, the oldest first
 abbrev pub Waiting : Type 0
 Waiting = (worker sender : ℕ) → List Changes

@@ -1,6 +1,6 @@
 //! Views that are never late.
 
-ghost use Rattle.std.specs.Prelude.{◌≡◌, ◌<◌, ◌≤◌, [], IfOk, false};
+ghost use Rattle.std.specs.Prelude.{◌≡◌, ◌<◌, ◌≤◌, [], IfOk, false, refl};
 ghost use Rattle.graph.specs.Shown.{shown_graph};
 ghost use Rattle.semantics.specs.Limits.{max_workers};
 ghost use Rattle.semantics.specs.Could.{Pointstamp as Active};
@@ -53,6 +53,8 @@ impl<P: Progress> Views for Direct<P> {
 
     ghost waiting = { λ d worker sender. [] };
 
+    ghost behind = { λ d worker sender. [] };
+
     ghost room = { λ d. P.room d.tracker };
 
     ghost late = { false };
@@ -89,4 +91,6 @@ impl<P: Progress> Views for Direct<P> {
     fn waiting(&self) -> u64 {
         0
     }
+
+    ghost as_lists = { λ d worker sender. refl };
 }

@@ -8,6 +8,7 @@ ghost use Rattle.machine.specs.Active.{sum_below};
 ghost use Rattle.progress.specs.Content.{times_in};
 ghost use Rattle.views.specs.Opening.{active_at_first};
 ghost use Rattle.views.specs.Queued.{Queued, batches_of};
+ghost use Rattle.views.specs.QueuedLists.{batches_lists, lists_of};
 ghost use Rattle.views.specs.WorkerViews.{AllFree, AllTaken, AreSameQueues, HasPlaces, WorkerViews, content_of, untaken_at, waiting_of};
 
 use crate::opening::open_inputs;
@@ -113,6 +114,8 @@ impl Views for LocalViews {
 
     ghost waiting = { λ t. waiting_of t.queues };
 
+    ghost behind = { λ t worker sender. lists_of (untaken_at t.queues sender worker) };
+
     ghost room = { λ t. t.spare };
 
     ghost late = { true };
@@ -168,6 +171,8 @@ impl Views for LocalViews {
     fn waiting(&self) -> u64 {
         all_wait(&self.queues, self.workers)
     }
+
+    ghost as_lists = { λ t worker sender. batches_lists sender (untaken_at t.queues sender worker) };
 }
 
 /// Makes room for `count` changes and ends of batches in each queue.

@@ -1,11 +1,13 @@
 //! The trait of the views of all workers.
 
-ghost use Rattle.std.specs.Prelude.{◌≡◌, ◌+◌, ◌-◌, ◌^◌, ◌<◌, ◌≤◌, ◌↔◌, ℕ, Bool, IsTrue, MatchBool, OnOk, length, min};
+ghost use Rattle.std.specs.Prelude.{◌≡◌, ◌+◌, ◌-◌, ◌^◌, ◌<◌, ◌≤◌, ◌↔◌, ℕ, Bool, false, List, IsTrue, MatchBool, OnOk, length, min};
 ghost use Rattle.semantics.specs.Graph.{Graph as Definition, input_count};
 ghost use Rattle.semantics.specs.Could.{CouldResultIn, IsTimeAt, NoOtherOf, NoneOf, Pointstamp as Active};
+ghost use Rattle.semantics.specs.Dataflow.{IsDataflow};
 ghost use Rattle.machine.specs.Posting.{MayPost};
 ghost use Rattle.progress.specs.Content.{times_in};
-ghost use Rattle.views.specs.Waiting.{IsApplied, IsSeenBy, NoneWaits, SomeWait, Waiting, after_post, all_waiting, batch};
+ghost use Rattle.views.specs.Waiting.{IsApplied, IsSeenBy, NoneWaits, Posted, SomeWait, Waiting};
+ghost use Rattle.views.specs.Waiting.{after_post, all_waiting, batch, batches_as};
 
 use path_summary::Pointstamp;
 use record_core::NoMemory;
@@ -22,6 +24,8 @@ pub trait Views: Drop {
 
     ghost waiting: { Self → Waiting };
 
+    ghost behind: { Self → (worker sender : ℕ) → List Posted };
+
     ghost room: { Self → ℕ };
 
     ghost late: { Bool };
@@ -32,6 +36,7 @@ pub trait Views: Drop {
         ensures workers { workers self.new ≡ workers self.old }
         ensures content { (q : Active) → content self.new q ≡ content self.old q }
         ensures waiting { (worker sender : ℕ) → waiting self.new worker sender ≡ waiting self.old worker sender }
+        ensures behind { (worker sender : ℕ) → behind self.new worker sender ≡ behind self.old worker sender }
         ensures kept { room self.old ≤ room self.new }
         ensures room { OnOk result (count ≤ room self.new) };
 
@@ -39,7 +44,7 @@ pub trait Views: Drop {
     fn spare(&self) -> u32
         ensures { result ≡ room self.now };
 
-    /// Posts one step's changes as one batch.
+    /// Posts one step's changes as one batch. If nothing that a worker sees could result in a pointstamp, that stays so.
     fn post(&mut self, sender: u32, added: &[Pointstamp], removed: &[Pointstamp])
         requires sender { sender ≤ workers self.old }
         requires some { 0 < length added.now + length removed.now }
@@ -51,6 +56,9 @@ pub trait Views: Drop {
         ensures content { (q : Active) → content self.new q + times_in removed.now q ≡ content self.old q + times_in added.now q }
         ensures waiting { (worker s : ℕ) → worker < workers self.old →
             waiting self.new worker s ≡ after_post late (waiting self.old) (batch sender added.now removed.now) worker s }
+        ensures stays { IsDataflow (graph self.old) → (worker : ℕ) → worker < workers self.old → (p : Active) →
+            NoneOf (CouldResultIn (graph self.old)) (IsSeenBy (content self.old) (waiting self.old) (workers self.old) worker) p →
+            NoneOf (CouldResultIn (graph self.old)) (IsSeenBy (content self.new) (waiting self.new) (workers self.old) worker) p }
         ensures room { room self.old ≤ room self.new + (length added.now + length removed.now) };
 
     /// Applies the sender's next batch to the worker's view. False if none waits.
@@ -62,6 +70,7 @@ pub trait Views: Drop {
         ensures content { (q : Active) → content self.new q ≡ content self.old q }
         ensures applied { IsApplied worker sender (waiting self.old) (waiting self.new) result }
         ensures others { (w s : ℕ) → (w ≡ worker → s ≡ sender → ⊥) → waiting self.new w s ≡ waiting self.old w s }
+        ensures nothing { result ≡ false → (w s : ℕ) → behind self.new w s ≡ behind self.old w s }
         ensures stays { (p : Active) →
             NoneOf (CouldResultIn (graph self.old)) (IsSeenBy (content self.old) (waiting self.old) (workers self.old) worker) p →
             NoneOf (CouldResultIn (graph self.old)) (IsSeenBy (content self.new) (waiting self.new) (workers self.old) worker) p }
@@ -91,4 +100,6 @@ pub trait Views: Drop {
     /// The number of batches that wait, over all workers; `u64::MAX` if there are more.
     fn waiting(&self) -> u64
         ensures { result ≡ min (2 ^ 64 - 1) (all_waiting (waiting self.now) (workers self.now)) };
+
+    ghost as_lists: { (views : Self) (worker sender : ℕ) → waiting views worker sender ≡ batches_as sender (behind views worker sender) };
 }

@@ -9,7 +9,6 @@
 
 ghost use Rattle.std.specs.Prelude.{◌≡◌, ◌%◌, ◌<◌, ◌⊎◌, ℕ, MatchBool, IfNone, IfOk, IfSome};
 ghost use Rattle.board.specs.Answers.{HasNoChoice};
-ghost use Rattle.board.specs.Lateness.{IsUpToDate};
 ghost use Rattle.driver.specs.Ends.{event_of};
 ghost use Rattle.workers.specs.Names.{GivesNamed, IsNamed};
 ghost use Rattle.workers.specs.Sleeping.{Leaves, Wakes};
@@ -22,7 +21,7 @@ use crate::pace::Pace;
 use crate::plan::{ReadyFeed, SizedBatch};
 use crate::scheduler::{Choice, Scheduler};
 use crate::thread_set::ThreadSet;
-use board::{Board, Claimed, Sent, StepRefusal};
+use board::{Claimed, Sent, StepRefusal};
 use events::{CutBatch, Done, Work};
 use exchange::MAX_WORKERS;
 use rows::WorkFault;
@@ -216,11 +215,8 @@ impl<J: Naming, V: Views> Dispatcher<J, V> {
         false
     }
 
-    /// The board.
-    pub fn into_board(self) -> Board<V>
-        ensures graph { result.shown.graph ≡ J.graph }
-        ensures prompt { IsUpToDate result 0 }
-    {
+    /// The board with its publisher.
+    pub fn into_held(self) -> Held<J, V> {
         let Dispatcher {
             held,
             threads: _,
@@ -230,7 +226,7 @@ impl<J: Naming, V: Views> Dispatcher<J, V> {
             asked: _,
             awaited: _,
         } = self;
-        held.into_board()
+        held
     }
 
     /// Wakes the threads that are to be woken now. `eager` says that the caller may make no further call.

@@ -1,7 +1,6 @@
 //! A board under a lock, for any number of threads.
 
-ghost use Rattle.std.specs.Prelude.{◌≡◌, ◌≤◌, ◌<◌, true, IfOk, IfSome};
-ghost use Rattle.board.specs.Lateness.{IsUpToDate};
+ghost use Rattle.std.specs.Prelude.{◌≡◌, ◌≤◌, ◌<◌, true, IfOk};
 ghost use Rattle.board.specs.Looks.{ShowsEachOutput, ShowsPassed};
 ghost use Rattle.board.specs.Shown.{tables};
 ghost use Rattle.driver.specs.Ends.{event_of};
@@ -9,7 +8,7 @@ ghost use Rattle.workers.specs.Names.{GivesNamed, IsNamed};
 
 use crate::dispatcher::Wakeups;
 use crate::held::{Held, Naming};
-use crate::mark::{Mark, Publisher, Seat};
+use crate::mark::{Publisher, Seat};
 use crate::plan::{Feed, Plan};
 use crate::shared::Shared;
 use board::{Board, Claimed, Look, StepRefusal};
@@ -39,6 +38,7 @@ impl<J: Naming, V: Views> Engine<J, V> {
     ) -> Result<Engine<J, V>, NoMemory>
         requires names { tables board.shown ≡ J.names }
         requires graph { board.shown.graph ≡ J.graph }
+        requires mark { publisher.table ≡ J.mark }
         requires fresh { publisher.number ≡ 0 }
     {
         let plan = Plan::new(board.share_wiring()?);
@@ -120,30 +120,22 @@ impl<J: Naming, V: Views> Engine<J, V> {
         }
     }
 
-    /// What the board shows of an epoch, to be kept. Always reads the mark by the seat. `None` only if the mark shows more passed epochs than this
-    /// engine has, which only another engine's mark can.
+    /// What the board shows of an epoch, to be kept. Has the seat read the mark first: below what it reads, every epoch is shown as passed.
     pub fn look<R: Wait>(
         &self,
         rt: &R,
         alloc: Global,
         epoch: u32,
-        mark: &Mark,
         seat: &mut Seat,
-    ) -> Result<Option<Look>, NoMemory>
-        requires { seat.old.table ≡ mark.now }
+    ) -> Result<Look, NoMemory>
+        requires { seat.old.table ≡ J.mark }
         ensures table { seat.new.table ≡ seat.old.table }
         ensures rises { seat.old.number ≤ seat.new.number }
-        ensures passed { IfOk result (λ o. IfSome o (λ l. epoch < seat.new.number → ShowsPassed l)) }
-        ensures graph { IfOk result (λ o. IfSome o (λ l. l.graph ≡ J.graph)) }
-        ensures whole { IfOk result (λ o. IfSome o (λ l. (l.epoch ≡ epoch) × ShowsEachOutput l)) }
+        ensures passed { IfOk result (λ l. epoch < seat.new.number → ShowsPassed l) }
+        ensures graph { IfOk result (λ l. l.graph ≡ J.graph) }
+        ensures whole { IfOk result (λ l. (l.epoch ≡ epoch) × ShowsEachOutput l) }
     {
-        let shared = self.shared.lock(rt);
-        let held = shared.held();
-        let word = mark.observe(seat);
-        if word > held.passed_count() {
-            return Ok(None);
-        }
-        Ok(Some(held.look(alloc, epoch)?))
+        self.shared.lock(rt).look(alloc, epoch, seat)
     }
 
     /// Claims an event for the worker's thread; sleeps while there is nothing that the thread could do.
@@ -198,18 +190,15 @@ impl<J: Naming, V: Views> Engine<J, V> {
         }
     }
 
-    /// The board, once no thread shares the engine.
-    pub(crate) fn into_board(self) -> Board<V>
-        ensures graph { result.shown.graph ≡ J.graph }
-        ensures prompt { IsUpToDate result 0 }
-    {
+    /// The board with its publisher, once no thread shares the engine.
+    pub(crate) fn into_held(self) -> Held<J, V> {
         let Engine {
             shared,
             plan: _,
             bells: _,
             passing: _,
         } = self;
-        shared.into_inner().into_board()
+        shared.into_inner().into_held()
     }
 }
 

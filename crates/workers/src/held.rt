@@ -1,19 +1,19 @@
 //! What the lock protects: the board, and the publisher of the number of passed epochs.
 
-ghost use Rattle.std.specs.Prelude.{◌≡◌, ◌<◌, ℕ, true, IfOk, MatchBool, OnErr, OnOk, length, max};
+ghost use Rattle.std.specs.Prelude.{◌≡◌, ◌<◌, ◌≤◌, ℕ, true, IfOk, MatchBool, OnErr, OnOk, length, max};
 ghost use Rattle.machine.specs.Step.{Step};
 ghost use Rattle.board.specs.Answers.{AnswersOnly, AnswersOr, Claims, Gathers, HasChoice, HasNoChoice, IfNothing};
 ghost use Rattle.board.specs.Answers.{feed_refusal, input_refusal, seal_refusal};
 ghost use Rattle.board.specs.Kept.{Goes};
 ghost use Rattle.board.specs.Lateness.{Applies, IsAsLate, IsUpToDate};
 ghost use Rattle.board.specs.Looks.{IsLookAt, ShowsEachOutput, ShowsPassed};
-ghost use Rattle.board.specs.Promises.{CountsPassed, IsDrained};
+ghost use Rattle.board.specs.Promises.{CountsPassed, HasPassedAtAll, IsDrained};
 ghost use Rattle.board.specs.Shown.{tables};
 ghost use Rattle.driver.specs.Ends.{Ends, IsFaultOf, event_of};
 ghost use Rattle.workers.specs.Held.{Publishes};
 ghost use Rattle.workers.specs.Names.{GivesNamed, IsNamed};
 
-use crate::mark::Publisher;
+use crate::mark::{Publisher, Seat};
 use board::{Board, Claimed, Look, Sent, StepRefusal, gather};
 use driver::settle;
 use events::{CutBatch, Done, Work};
@@ -24,8 +24,8 @@ use std::alloc::Global;
 use std::marker::{Brand, Model, PhantomData};
 use views::Views;
 
-/// Names a board by the tables by which its events are known, and by the graph that it runs. It has no values; `Brand` stands for the board that a
-/// call is about.
+/// Names a board by the tables by which its events are known, by the graph that it runs, and by the mark that counts its passed epochs. It has no values;
+/// `Brand` stands for the board that a call is about.
 pub trait Naming {
     ghost use Rattle.std.specs.Prelude.{List};
     ghost use Rattle.atomic_table.specs.Seated.{TableId};
@@ -34,6 +34,8 @@ pub trait Naming {
     ghost names: { List TableId };
 
     ghost graph: { GraphValue };
+
+    ghost mark: { TableId };
 }
 
 impl Naming for Brand {
@@ -42,6 +44,8 @@ impl Naming for Brand {
     ghost names = { [] };
 
     ghost graph = { record { vertices = []; inputs = []; outputs = []; arities = [] } };
+
+    ghost mark = { record { words = 0; slots = 0; views_name = 0; atom = 0; block = 0; offset = 0; slot_names = [] } };
 }
 
 /// After this many events all that waits is applied for every worker, so that what waits for one that sleeps stays short.
@@ -58,6 +62,7 @@ pub struct Held<J: Naming, V: Views> {
 }
 
 impl<J: Naming, V: Views> Model for Held<J, V> {
+    ghost use Rattle.std.specs.Prelude.{◌≡◌};
     ghost use Rattle.std.specs.Coded.{codes};
     ghost use Rattle.vertices.specs.contracts.shard.Shard as shard_row;
     ghost use Rattle.std.specs.contracts.alloc.Global as heap;
@@ -77,7 +82,7 @@ impl<J: Naming, V: Views> Model for Held<J, V> {
 
     ghost view = { λ h. record { board = h.board; published = h.publisher.number } };
 
-    ghost invariant = { λ h. IsHeld J.names J.graph (record { board = h.board; published = h.publisher.number }) };
+    ghost invariant = { λ h. IsHeld J.names J.graph (record { board = h.board; published = h.publisher.number }) × (h.publisher.table ≡ J.mark) };
 }
 
 impl<J: Naming, V: Views> Held<J, V> {
@@ -85,6 +90,7 @@ impl<J: Naming, V: Views> Held<J, V> {
     pub fn new(board: Board<V>, publisher: Publisher) -> Held<J, V>
         requires names { tables board.shown ≡ J.names }
         requires graph { board.shown.graph ≡ J.graph }
+        requires mark { publisher.table ≡ J.mark }
         requires fresh { publisher.number ≡ 0 }
         ensures shown { result.board.shown ≡ board.shown }
         ensures applies { Applies 0 board result.board }
@@ -270,6 +276,20 @@ impl<J: Naming, V: Views> Held<J, V> {
         self.board.workers()
     }
 
+    /// Has an observer's seat read the mark. Below what it reads, and so below all that it had read before, every epoch has passed at every output.
+    pub fn observe(&mut self, seat: &mut Seat) -> u64
+        requires { seat.old.table ≡ J.mark }
+        ensures held { self.new ≡ self.old }
+        ensures table { seat.new.table ≡ seat.old.table }
+        ensures read { (result ≡ self.new.published) × (seat.new.number ≡ result) }
+        ensures rises { seat.old.number ≤ result }
+        ensures counts { CountsPassed self.new.board.shown result }
+        ensures passed { (epoch : ℕ) → epoch < result → HasPassedAtAll self.new.board.shown epoch }
+    {
+        self.board.law_count();
+        self.publisher.show(seat)
+    }
+
     /// Calls `Board::look`. Worker 0's view is up to date, so the look shows every epoch that has passed as passed.
     pub fn look(&self, alloc: Global, epoch: u32) -> Result<Look, NoMemory>
         ensures look { IfOk result (λ l. IsLookAt self.now.board epoch l) }
@@ -287,6 +307,7 @@ impl<J: Naming, V: Views> Held<J, V> {
     pub fn into_board(self) -> Board<V>
         ensures board { result ≡ self.board }
         ensures graph { result.shown.graph ≡ J.graph }
+        ensures counts { CountsPassed result.shown self.published }
         ensures prompt { IsUpToDate result 0 }
     {
         let Held {

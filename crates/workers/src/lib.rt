@@ -16,9 +16,9 @@
 //! | `Engine::wait_for` | the owner of the input, or an observer | sleeps until that many epochs have passed, or no further ones will | nothing |
 //! | `work` | a worker's thread | works, also for sleeping workers, and sleeps while there is nothing to do | drained, stopped, a count, busy |
 //! | `Mark::observe` | an observer | one load: no lock, no memory, no waiting | the number of passed epochs, never below what its seat has read |
-//! | `Engine::look` | an observer | one load by the seat, and what the board shows of an epoch | epochs below the mark have passed; nothing, if the mark is another engine's and ahead |
+//! | `Engine::look` | an observer | reads the mark by the seat, and what the board shows of an epoch | epochs below what the seat has read are shown as passed |
 //! | `end` | the sole owner of the engine | ends the run | its `Report` |
-//! | `finish` | the same | the same, with the seats of observers | nothing, if a seat has read more epochs than have passed |
+//! | `finish` | the same | the same, with the seats of observers | its `Report`: no seat has read more epochs than have passed |
 //!
 //! `report_of` gives the report of a board that was under no lock.
 //!
@@ -33,7 +33,9 @@
 //! - `Shared` is that with the threads: no wakeup is lost. Whenever the lock is free, some thread is up, or no sleeping thread's worker has an event
 //!   that it could claim; and at the board's end nobody is asleep.
 //! - A `Look` and a `Report` keep the promise by their types. A report knows exactly whether it is drained.
-//! - An event goes back only to the engine that handed it out. The calls require that, and `work` is proved to obey (`Naming`).
+//! - An event goes back only to the engine that handed it out, and a look is by a seat at the engine's own mark. The calls require that, and `work` is
+//!   proved to obey (`Naming`).
+//! - Below what a seat has read, every epoch has passed at every output: `Held::observe` says so of the board under the lock.
 //!
 //! No clause can say what a call on an engine does behind the lock, that a thread that is woken runs, or that two threads compute at once: tests
 //! show these (`workers_conformance`). Built on `board`, `events` and the crates below them.

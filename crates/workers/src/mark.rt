@@ -2,11 +2,12 @@
 
 ghost use Rattle.std.specs.Prelude.{◌≡◌, ◌≤◌, ◌<◌, ℕ, All, IfOk, max, vec_len};
 
-use crate::rule::{Load, MarkRule, Observer, Raise, View};
+use crate::rule::{Compare, Load, MarkRule, Observer, Raise, View};
 use atomic_table::Table;
 use record_core::NoMemory;
 use std::alloc::Global;
 use std::marker::Model;
+use std::mem::replace;
 use std::sync::Arc;
 
 type Word = Table<(), View, (), MarkRule, Global>;
@@ -45,9 +46,9 @@ impl Model for Seat {
 
     ghost coded = { token_code };
 
-    ghost view = { λ s. record { table = s.seat.table_id; number = s.seat.me.0.number } };
+    ghost view = { λ s. record { table = s.seat.table_id; number = s.seat.me.0.read } };
 
-    ghost invariant = { λ s. s.seat.me ≡ (reader s.seat.me.0.number, []) };
+    ghost invariant = { λ s. s.seat.me ≡ (reader s.seat.me.0.read, []) };
 }
 
 /// The one publisher of a mark, with the number that it published last.
@@ -128,14 +129,28 @@ impl Publisher {
         let _found = table.shared.fetch_max::<Raise>(&mut self.seat, 0, count);
         self.published = count;
     }
+
+    /// Has an observer's seat read the mark. What it had read before was at most what is published.
+    pub fn show(&mut self, seat: &mut Seat) -> u64
+        requires { seat.old.table ≡ self.old.table }
+        ensures publisher { self.new ≡ self.old }
+        ensures table { seat.new.table ≡ seat.old.table }
+        ensures read { (result ≡ self.old.number) × (seat.new.number ≡ result) }
+        ensures rises { seat.old.number ≤ result }
+    {
+        let word = &*self.table;
+        let Seat { seat: before } = replace(seat, another(word, &mut self.seat));
+        word.shared.join_seat::<Observer>(&mut self.seat, before);
+        word.shared.load::<Compare>(&mut self.seat, 0)
+    }
 }
 
-/// One more seat, which has read nothing.
+/// One more seat, which has read what the first has.
 fn another(word: &Word, first: &mut atomic_table::Seat<(), View>) -> Seat
     requires table { first.old.table_id ≡ word.now.shared.table_id }
     requires word { 0 < word.now.shared.table_id.words }
     ensures first { (first.new.table_id ≡ first.old.table_id) × (first.new.me ≡ first.old.me) }
-    ensures seat { (result.table ≡ first.old.table_id) × (result.number ≡ 0) }
+    ensures seat { (result.table ≡ first.old.table_id) × (result.number ≡ first.old.me.0.read) }
 {
     let seat = word.shared.split_seat::<Observer>(first);
     Seat { seat }

@@ -1,6 +1,6 @@
 //! The result of a run.
 
-ghost use Rattle.std.specs.Prelude.{◌≡◌, ◌≤◌, ◌<◌, ℕ, [], All, IfSome, IsTrue, MatchBool, length, slice_index_or};
+ghost use Rattle.std.specs.Prelude.{◌≡◌, ◌≤◌, ◌<◌, ℕ, [], All, MatchBool, length, slice_index_or};
 ghost use Rattle.graph.specs.Shown.{shown_graph};
 ghost use Rattle.semantics.specs.Graph.{input_count, output_number, output_numbers};
 ghost use Rattle.semantics.specs.Query.{Program};
@@ -8,8 +8,8 @@ ghost use Rattle.board.specs.Promises.{CountsPassed, HasPassed, IsDrained, IsOut
 ghost use Rattle.board.specs.Shown.{emitted_by, input_at};
 
 use crate::engine::Engine;
-use crate::held::Naming;
-use crate::mark::{Mark, Seat};
+use crate::held::{Held, Naming};
+use crate::mark::Seat;
 use board::Board;
 use graph::Graph;
 use rows::Batch;
@@ -133,47 +133,39 @@ pub fn end<J: Naming, V: Views>(engine: Engine<J, V>) -> Report<V>
     ensures { result.graph ≡ J.graph }
 {
     Report {
-        board: engine.into_board(),
+        board: engine.into_held().into_board(),
     }
 }
 
-/// The same, with what the observers' seats have read. `None` only if a seat has read more passed epochs than this engine has, which only another engine's
-/// mark can show.
-pub fn finish<J: Naming, V: Views>(
-    engine: Engine<J, V>,
-    mark: &Mark,
-    seats: Vec<Seat>,
-) -> Option<Report<V>>
-    requires { All (λ s. s.table ≡ mark.now) seats.items }
-    ensures graph { IfSome result (λ r. r.graph ≡ J.graph) }
-    ensures seats { IfSome result (λ r. (n : ℕ) → CountsPassed r n → All (λ s. s.number ≤ n) seats.items) }
+/// The same, with the observers' seats: none has read more epochs than have passed.
+pub fn finish<J: Naming, V: Views>(engine: Engine<J, V>, seats: Vec<Seat>) -> Report<V>
+    requires { All (λ s. s.table ≡ J.mark) seats.items }
+    ensures graph { result.graph ≡ J.graph }
+    ensures seats { (n : ℕ) → CountsPassed result n → All (λ s. s.number ≤ n) seats.items }
 {
-    let board = engine.into_board();
+    let mut held = engine.into_held();
+    observe_all(&mut held, seats);
+    let board = held.into_board();
     board.law_count();
-    if are_within(mark, seats, board.passed_count()) {
-        Some(Report { board })
-    } else {
-        None
-    }
+    Report { board }
 }
 
-/// Whether no seat has read more than `passed` epochs.
-fn are_within(mark: &Mark, seats: Vec<Seat>, passed: u64) -> bool
-    requires { All (λ s. s.table ≡ mark.now) seats.items }
-    ensures { IsTrue result → All (λ s. s.number ≤ passed) seats.items }
+/// Has each seat read the mark once more.
+fn observe_all<J: Naming, V: Views>(held: &mut Held<J, V>, seats: Vec<Seat>)
+    requires { All (λ s. s.table ≡ J.mark) seats.items }
+    ensures held { held.new ≡ held.old }
+    ensures seats { All (λ s. s.number ≤ held.old.published) seats.items }
 {
     for seat in seats {
-        if !is_within(mark, seat, passed) {
-            return false;
-        }
+        observe(held, seat);
     }
-    true
 }
 
-/// Whether the seat, which reads the mark again, has read at most `passed` epochs.
-fn is_within(mark: &Mark, mut seat: Seat, passed: u64) -> bool
-    requires { seat.table ≡ mark.now }
-    ensures { IsTrue result → seat.number ≤ passed }
+/// Has the seat read the mark once more.
+fn observe<J: Naming, V: Views>(held: &mut Held<J, V>, mut seat: Seat)
+    requires { seat.table ≡ J.mark }
+    ensures held { held.new ≡ held.old }
+    ensures seat { seat.number ≤ held.old.published }
 {
-    mark.observe(&mut seat) <= passed
+    let _passed = held.observe(&mut seat);
 }

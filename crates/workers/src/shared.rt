@@ -3,8 +3,8 @@
 //! No wakeup is lost: whenever the lock is released, some thread is up, or no sleeping thread has an event that its worker could claim; and at the
 //! board's end nobody is asleep. Who is asked applies all that waits for its worker first, so no event is missed because a view is late.
 
-ghost use Rattle.std.specs.Prelude.{◌≡◌, IfOk};
-ghost use Rattle.board.specs.Lateness.{IsUpToDate};
+ghost use Rattle.std.specs.Prelude.{◌≡◌, ◌≤◌, ◌<◌, IfOk};
+ghost use Rattle.board.specs.Looks.{ShowsEachOutput, ShowsPassed};
 ghost use Rattle.driver.specs.Ends.{event_of};
 ghost use Rattle.workers.specs.Names.{GivesNamed, IsNamed};
 ghost use Rattle.workers.specs.Sleeping.{Wakes};
@@ -12,10 +12,13 @@ ghost use Rattle.workers.specs.Wakeups.{LosesNoWakeup, RestsAndWakes, SettlesAnd
 
 use crate::dispatcher::{Dispatcher, Wakeups};
 use crate::held::{Held, Naming};
+use crate::mark::Seat;
 use crate::plan::{ReadyFeed, SizedBatch};
-use board::{Board, Claimed, StepRefusal};
+use board::{Claimed, Look, StepRefusal};
 use events::{CutBatch, Done, Work};
+use record_core::NoMemory;
 use rows::WorkFault;
+use std::alloc::Global;
 use std::collections::VecDeque;
 use views::Views;
 
@@ -110,12 +113,23 @@ impl<J: Naming, V: Views> Shared<J, V> {
         self.dispatcher.has_passed(count)
     }
 
-    /// The board, once nothing shares it.
-    pub fn into_board(self) -> Board<V>
-        ensures graph { result.shown.graph ≡ J.graph }
-        ensures prompt { IsUpToDate result 0 }
+    /// Has the seat read the mark, and gives what the board shows of an epoch.
+    pub fn look(&mut self, alloc: Global, epoch: u32, seat: &mut Seat) -> Result<Look, NoMemory>
+        requires { seat.old.table ≡ J.mark }
+        ensures table { seat.new.table ≡ seat.old.table }
+        ensures rises { seat.old.number ≤ seat.new.number }
+        ensures passed { IfOk result (λ l. epoch < seat.new.number → ShowsPassed l) }
+        ensures graph { IfOk result (λ l. l.graph ≡ J.graph) }
+        ensures whole { IfOk result (λ l. (l.epoch ≡ epoch) × ShowsEachOutput l) }
     {
+        let held = &mut self.dispatcher.held;
+        let _passed = held.observe(seat);
+        held.look(alloc, epoch)
+    }
+
+    /// The board, once nothing shares it.
+    pub fn into_held(self) -> Held<J, V> {
         let Shared { dispatcher } = self;
-        dispatcher.into_board()
+        dispatcher.into_held()
     }
 }

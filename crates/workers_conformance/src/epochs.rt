@@ -78,6 +78,7 @@ fn four_epochs<J: Naming + Send + Sync, V: Views + Send, R: Threads + Wait + Syn
 ) -> Option<Outcome>
     requires names { tables board.shown ≡ J.names }
     requires graph { board.shown.graph ≡ J.graph }
+    requires mark { publisher.table ≡ J.mark }
     requires fresh { publisher.number ≡ 0 }
     requires seat { seat.table ≡ mark.now }
 {
@@ -91,7 +92,7 @@ fn four_epochs<J: Naming + Send + Sync, V: Views + Send, R: Threads + Wait + Syn
         move || feed_epochs(rt, alloc, engine),
     );
     let after = mark.observe(&mut seat);
-    let report = finish(shared, mark, Vec::new(alloc))?;
+    let report = finish(shared, Vec::new(alloc));
     let mut counts = [[0; 3]; 4];
     for epoch in 0..4u32 {
         let batches = emitted(&report, epoch);

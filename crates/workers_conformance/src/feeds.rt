@@ -29,6 +29,7 @@ fn answers<J: Naming, V: Views, R: Wait>(
 ) -> Option<[Result<(), StepRefusal>; 6]>
     requires names { tables board.shown ≡ J.names }
     requires graph { board.shown.graph ≡ J.graph }
+    requires mark { publisher.table ≡ J.mark }
     requires fresh { publisher.number ≡ 0 }
 {
     let engine = Engine::<J, V>::new(alloc, board, publisher).ok()?;

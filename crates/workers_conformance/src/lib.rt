@@ -17,3 +17,5 @@ mod refusals;
 mod runs;
 #[cfg(test)]
 mod scarce;
+#[cfg(test)]
+mod whole_runs;

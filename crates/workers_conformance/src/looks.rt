@@ -27,13 +27,12 @@ fn look_of<J: Naming, V: Views, R: Wait>(
     rt: &R,
     alloc: Global,
     engine: &Engine<J, V>,
-    mark: &Mark,
     seat: &mut Seat,
 ) -> Option<(u64, u64, bool)>
-    requires { seat.old.table ≡ mark.now }
+    requires { seat.old.table ≡ J.mark }
     ensures { seat.new.table ≡ seat.old.table }
 {
-    let look = engine.look(rt, alloc, 0, mark, seat).ok()??;
+    let look = engine.look(rt, alloc, 0, seat).ok()?;
     Some((
         count_of(look.fed(0), 7),
         count_of(look.emitted(0), 7),
@@ -52,8 +51,9 @@ fn one_record<J: Naming, V: Views, R: Wait>(
 ) -> Option<Seen>
     requires names { tables board.shown ≡ J.names }
     requires graph { board.shown.graph ≡ J.graph }
+    requires mark { (publisher.table ≡ J.mark) × (mark.now ≡ J.mark) }
     requires fresh { publisher.number ≡ 0 }
-    requires seat { seat.table ≡ mark.now }
+    requires seat { seat.table ≡ J.mark }
 {
     let mut seat = seat;
     let engine = Engine::<J, V>::new(alloc, board, publisher).ok()?;
@@ -61,9 +61,9 @@ fn one_record<J: Naming, V: Views, R: Wait>(
     engine.seal(rt, 0).ok()?;
     engine.seal(rt, 0).ok()?;
     engine.close(rt, 0).ok()?;
-    let before = look_of(rt, alloc, &engine, mark, &mut seat)?;
+    let before = look_of(rt, alloc, &engine, &mut seat)?;
     let _ended = work(rt, alloc, &engine, 0, &NoGate);
-    let after = look_of(rt, alloc, &engine, mark, &mut seat)?;
+    let after = look_of(rt, alloc, &engine, &mut seat)?;
     let count = mark.observe(&mut seat);
     Some(Seen {
         before,
@@ -80,7 +80,7 @@ fn one_record_of<V: Views, R: Wait>(
     mark: &Mark,
     seat: Seat,
 ) -> Option<Seen>
-    requires fresh { publisher.number ≡ 0 }
+    requires publisher { (publisher.table ≡ mark.now) × (publisher.number ≡ 0) }
     requires seat { seat.table ≡ mark.now }
 {
     one_record::<Brand, V, R>(rt, alloc, board, publisher, mark, seat)
@@ -126,6 +126,7 @@ fn sealed_twice<J: Naming, V: Views, R: Wait>(
 ) -> Option<()>
     requires names { tables board.shown ≡ J.names }
     requires graph { board.shown.graph ≡ J.graph }
+    requires mark { publisher.table ≡ J.mark }
     requires fresh { publisher.number ≡ 0 }
 {
     let engine = Engine::<J, V>::new(alloc, board, publisher).ok()?;
@@ -167,46 +168,43 @@ fn passes_with_local_views(rt: HostRuntime) -> Result<(), Fail> {
     Ok(())
 }
 
-/// An engine on which nothing was done, ended beside a mark.
-fn ends_beside<J: Naming, V: Views>(
+/// The input is sealed, and the run ends with the observers' seats.
+fn ends_with<J: Naming, V: Views, R: Wait>(
+    rt: &R,
     alloc: Global,
     board: Board<V>,
     publisher: Publisher,
-    mark: &Mark,
     seats: Vec<Seat>,
 ) -> Option<u64>
     requires names { tables board.shown ≡ J.names }
     requires graph { board.shown.graph ≡ J.graph }
+    requires mark { publisher.table ≡ J.mark }
     requires fresh { publisher.number ≡ 0 }
-    requires seats { All (λ s. s.table ≡ mark.now) seats.items }
+    requires seats { All (λ s. s.table ≡ J.mark) seats.items }
 {
     let engine = Engine::<J, V>::new(alloc, board, publisher).ok()?;
-    let report = finish(engine, mark, seats)?;
-    Some(report.passed())
+    engine.seal(rt, 0).ok()?;
+    Some(finish(engine, seats).passed())
 }
 
-fn ends_beside_of<V: Views>(
+fn ends_with_of<V: Views, R: Wait>(
+    rt: &R,
     alloc: Global,
     board: Board<V>,
     publisher: Publisher,
-    mark: &Mark,
     seats: Vec<Seat>,
 ) -> Option<u64>
     requires fresh { publisher.number ≡ 0 }
-    requires seats { All (λ s. s.table ≡ mark.now) seats.items }
+    requires seats { All (λ s. s.table ≡ publisher.table) seats.items }
 {
-    ends_beside::<Brand, V>(alloc, board, publisher, mark, seats)
+    ends_with::<Brand, V, R>(rt, alloc, board, publisher, seats)
 }
 
-// The mark of another engine, which is ahead.
 #[test]
-fn ends_beside_another_mark(rt: HostRuntime) -> Result<(), Fail> {
+fn ends_with_seats(rt: HostRuntime) -> Result<(), Fail> {
     let alloc = rt.alloc();
     let board = copying(alloc, 1).ok_or("no board")?;
-    let other = copying(alloc, 1).ok_or("no board")?;
-    let (mark, publisher, seats) = Mark::new(alloc, 1)?;
-    let (_own, fresh, _none) = Mark::new(alloc, 0)?;
-    sealed_twice_of(&rt, alloc, board, publisher).ok_or("not sealed")?;
-    assert_eq!(rt; ends_beside_of(alloc, other, fresh, &mark, seats), None);
+    let (_mark, publisher, seats) = Mark::new(alloc, 2)?;
+    assert_eq!(rt; ends_with_of(&rt, alloc, board, publisher, seats), Some(1));
     Ok(())
 }

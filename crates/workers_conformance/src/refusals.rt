@@ -13,7 +13,7 @@ use std::sync::Wait;
 use std::test::Fail;
 use std::thread::Threads;
 use views::Views;
-use workers::{Ended, Engine, Mark, Naming, NoGate, finish};
+use workers::{Ended, Engine, Mark, Naming, NoGate, Publisher, finish};
 
 /// The number of records that are fed, each in a batch of its own.
 const FED: i64 = 20;
@@ -44,12 +44,14 @@ fn one_epoch<J: Naming + Send + Sync, V: Views + Send, R: Threads + Wait + Sync>
     rt: &R,
     alloc: Global,
     board: Board<V>,
+    publisher: Publisher,
     fed: i64,
 ) -> Option<Outcome>
     requires names { tables board.shown ≡ J.names }
     requires graph { board.shown.graph ≡ J.graph }
+    requires mark { publisher.table ≡ J.mark }
+    requires fresh { publisher.number ≡ 0 }
 {
-    let (mark, publisher, _seats) = Mark::new(alloc, 0).ok()?;
     let shared = Engine::<J, V>::new(alloc, board, publisher).ok()?;
     for field in 0..fed {
         shared.feed(rt, alloc, 0, batch_of(alloc, field)?).ok()?;
@@ -57,7 +59,7 @@ fn one_epoch<J: Naming + Send + Sync, V: Views + Send, R: Threads + Wait + Sync>
     shared.seal(rt, 0).ok()?;
     shared.close(rt, 0).ok()?;
     let ended = work_both(rt, alloc, &shared, &NoGate);
-    let report = finish(shared, &mark, Vec::new(alloc))?;
+    let report = finish(shared, Vec::new(alloc));
     let mut is_part = true;
     let mut is_whole = true;
     for field in 0..fed {
@@ -81,7 +83,8 @@ fn run_epoch<V: Views + Send, R: Threads + Wait + Sync>(
     board: Board<V>,
     fed: i64,
 ) -> Option<Outcome> {
-    one_epoch::<Brand, V, R>(rt, alloc, board, fed)
+    let (_mark, publisher, _seats) = Mark::new(alloc, 0).ok()?;
+    one_epoch::<Brand, V, R>(rt, alloc, board, publisher, fed)
 }
 
 /// An event was abandoned: both workers have stopped, its record is missing, and its epoch hasn't passed.

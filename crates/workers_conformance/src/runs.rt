@@ -16,7 +16,7 @@ use std::test::Fail;
 use std::thread;
 use std::thread::Threads;
 use views::Views;
-use workers::{Ended, Engine, Feed, Gate, Mark, Naming, NoGate, finish, work};
+use workers::{Ended, Engine, Feed, Gate, Mark, Naming, NoGate, Publisher, finish, work};
 
 /// The result of a run by two workers and two feeders.
 #[derive(Clone, Copy, Debug, PartialEq, Eq)]
@@ -33,13 +33,15 @@ fn two_by_two<J: Naming + Send + Sync, V: Views + Send, G: Gate + Sync, R: Threa
     rt: &R,
     alloc: Global,
     board: Board<V>,
+    publisher: Publisher,
     gate: &G,
     first: Option<Batch>,
 ) -> Option<Outcome>
     requires names { tables board.shown ≡ J.names }
     requires graph { board.shown.graph ≡ J.graph }
+    requires mark { publisher.table ≡ J.mark }
+    requires fresh { publisher.number ≡ 0 }
 {
-    let (mark, publisher, _seats) = Mark::new(alloc, 0).ok()?;
     let shared = Engine::<J, V>::new(alloc, board, publisher).ok()?;
     let engine = &shared;
     if let Some(batch) = first {
@@ -50,7 +52,7 @@ fn two_by_two<J: Naming + Send + Sync, V: Views + Send, G: Gate + Sync, R: Threa
         move || work_both(rt, alloc, engine, gate),
         move || feed_both(rt, alloc, engine),
     );
-    let report = finish(shared, &mark, Vec::new(alloc))?;
+    let report = finish(shared, Vec::new(alloc));
     let mut once = 0u64;
     for field in 0..200 {
         if count_of(report.fed(0, 0), field) == 1 && count_of(emitted(&report, 0), field) == 1 {
@@ -134,7 +136,8 @@ fn run_two<V: Views + Send, G: Gate + Sync, R: Threads + Wait + Sync>(
     gate: &G,
     first: Option<Batch>,
 ) -> Option<Outcome> {
-    two_by_two::<Brand, V, G, R>(rt, alloc, board, gate, first)
+    let (_mark, publisher, _seats) = Mark::new(alloc, 0).ok()?;
+    two_by_two::<Brand, V, G, R>(rt, alloc, board, publisher, gate, first)
 }
 
 /// Both workers have found all work done, and each number was emitted once.

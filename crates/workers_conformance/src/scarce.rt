@@ -33,6 +33,8 @@ impl<V: Views> Views for Refusing<V> {
 
     ghost waiting = { λ r. V.waiting r.views };
 
+    ghost behind = { λ r. V.behind r.views };
+
     ghost room = { λ r. V.room r.views };
 
     ghost late = { V.late };
@@ -73,6 +75,8 @@ impl<V: Views> Views for Refusing<V> {
     fn waiting(&self) -> u64 {
         self.views.waiting()
     }
+
+    ghost as_lists = { λ r. V.as_lists r.views };
 }
 
 /// Views by two workers of a graph, who see one tracker. The views refuse a growth after that many.

@@ -11,4 +11,5 @@ loop-looks-preserved g c =
       tables = c.merge.ensures.tables ∙ c.loop-looks.invariant.tables;
       graph = m.2.graph ∙ c.loop-looks.invariant.graph;
       passed = let a = c.merge.ensures.passed in let b = c.loop-looks.invariant.passed in omega (arith, a, b);
+      called = λ k e called. (c.merge.ensures.posts c.if-not-merge.false).called k e (c.loop-looks.invariant.called k e called);
     }

@@ -1,5 +1,6 @@
 use Rattle.std.proofs.Common.{◌≡◌, ◌≤◌, false}
 use Rattle.board.specs.Answers.{Gathers}
+use Rattle.board.specs.Lateness.{KeepsCalled}
 use Rattle.board.specs.Shown.{tables}
 use Rattle.board.proofs.gathering.gather.Given as goal
 
@@ -10,4 +11,5 @@ invariant-loop-looks g l = record {
   tables : tables l.board.shown ≡ tables l.fn.board.shown;
   graph : l.board.shown.graph ≡ l.fn.board.shown.graph;
   passed : l.fn.board.passed ≤ l.board.passed;
+  called : KeepsCalled l.fn.board l.board;
 }

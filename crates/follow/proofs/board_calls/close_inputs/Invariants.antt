@@ -1,5 +1,11 @@
-use Rattle.follow.specs.Scenes.{IsLive, Works}
+use Rattle.std.proofs.Common.{◌≡◌}
+use Rattle.semantics.specs.Graph.{input_count}
+use Rattle.graph.specs.Shown.{shown_graph}
+use Rattle.follow.specs.Scenes.{Closes, IsLive}
 use Rattle.follow.proofs.board_calls.close_inputs.Given as goal
 
 abbrev pub invariant-loop-input : goal.invariant-loop-input
-invariant-loop-input g l = IsLive l.fn.board.shown → Works l.fn.board.shown l.board.shown
+invariant-loop-input g l = record {
+  end_is : l.input-end ≡ input_count (shown_graph l.fn.board.shown.graph);
+  closes : IsLive l.fn.board.shown → Closes l.fn.board.shown l.board.shown l.input;
+}

@@ -5,7 +5,11 @@ use Rattle.collector.specs.Pieces.{split_on}
 use Rattle.collector.specs.Watching.{inner_of}
 use Rattle.follow.specs.Scenes.{IsWritten, IsPositionAfter}
 use Rattle.follow.proofs.Positions.{opened}
+use Rattle.follow.proofs.Working.{opening_off}
 use Rattle.follow.proofs.following.follow_graph.Goals as goal
+
+pub follow_pieces-ended-requires-after_bounds : goal.follow_pieces-ended-requires-after_bounds
+follow_pieces-ended-requires-after_bounds g c κs within = opening_off c.args.graph.now.value c.args.workers.count c.args.board.now.shown c.law_run.ensures c.requires.opening
 
 pub returns-clause-follows : goal.returns-clause-follows
 returns-clause-follows g c =

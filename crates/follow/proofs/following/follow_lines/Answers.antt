@@ -25,8 +25,8 @@ returns-in-Ok-put-clause-follows g c = λ g' bytes ended start same w.
     let p = c.args.position.now in
     let now = g.W.Write.contents (inner_of c.args.writer.now) in
     let new = g.W.Write.contents (inner_of c.put.new.writer) in
-    let takes = subst (λ is. TakesLines p.base c.args.board.now.shown c.take_text.new.board.shown p.intake c.take_text.new.intake is p.pending.items c.take_text.new.pending.items c.in-Ok.taken) same c.in-Ok.ensures in
-    let a = answered g' c.args.board.now.shown c.take_text.new.board.shown c.answer_open.new.board.shown p.base p.intake c.take_text.new.intake c.answer_open.new.intake p.reporting c.answer_open.new.reporting bytes p.pending.items c.take_text.new.pending.items c.in-Ok-answer_open.out.items c.in-Ok.taken start now w takes c.in-Ok-answer_open.ensures in
+    let takes = subst (λ is. TakesLines p.base c.args.board.now.shown c.take_text.new.board.shown p.intake c.take_text.new.intake is p.pending.items c.take_text.new.pending.items c.in-Ok.taken) same c.in-Ok.ensures.lines in
+    let a = answered g' c.args.board.now.shown c.take_text.new.board.shown c.answer_open.new.board.shown p.base p.intake c.take_text.new.intake c.answer_open.new.intake p.reporting c.answer_open.new.reporting bytes p.pending.items c.take_text.new.pending.items c.in-Ok-answer_open.out.items c.in-Ok.taken start now w takes c.in-Ok-answer_open.ensures.answers in
     let written : Appends now new c.in-Ok-answer_open.out.items = subst (λ (xs : List ℕ). Appends now new xs) c.as_slice.ensures.value c.in-Ok-put.ensures.ok in
     answer_written g' c.answer_open.new.board.shown p.base c.answer_open.new.intake c.answer_open.new.reporting bytes c.take_text.new.pending.items w.known.text c.in-Ok-answer_open.out.items c.in-Ok.taken start now new a w.written written
 
@@ -35,7 +35,7 @@ returns-clause-follows g c = λ g' bytes ended start same w.
     let p = c.args.position.now in
     let now = g.W.Write.contents (inner_of c.args.writer.now) in
     let new = g.W.Write.contents (inner_of c.put.new.writer) in
-    let takes = subst (λ is. TakesLines p.base c.args.board.now.shown c.take_text.new.board.shown p.intake c.take_text.new.intake is p.pending.items c.take_text.new.pending.items c.in-Ok.taken) same c.in-Ok.ensures in
-    let a = answered g' c.args.board.now.shown c.take_text.new.board.shown c.answer_open.new.board.shown p.base p.intake c.take_text.new.intake c.answer_open.new.intake p.reporting c.answer_open.new.reporting bytes p.pending.items c.take_text.new.pending.items c.in-Ok-answer_open.out.items c.in-Ok.taken start now w takes c.in-Ok-answer_open.ensures in
+    let takes = subst (λ is. TakesLines p.base c.args.board.now.shown c.take_text.new.board.shown p.intake c.take_text.new.intake is p.pending.items c.take_text.new.pending.items c.in-Ok.taken) same c.in-Ok.ensures.lines in
+    let a = answered g' c.args.board.now.shown c.take_text.new.board.shown c.answer_open.new.board.shown p.base p.intake c.take_text.new.intake c.answer_open.new.intake p.reporting c.answer_open.new.reporting bytes p.pending.items c.take_text.new.pending.items c.in-Ok-answer_open.out.items c.in-Ok.taken start now w takes c.in-Ok-answer_open.ensures.answers in
     let written : AppendsFront now new c.in-Ok-answer_open.out.items = subst (λ (xs : List ℕ). AppendsFront now new xs) c.as_slice.ensures.value c.in-Err-put.ensures.err in
     unwritten g' c.answer_open.new.board.shown p.base c.answer_open.new.intake c.answer_open.new.reporting bytes c.take_text.new.pending.items w.known.text c.in-Ok-answer_open.out.items c.in-Ok.taken ended start now new a w.written written

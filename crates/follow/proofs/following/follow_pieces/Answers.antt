@@ -2,23 +2,26 @@ use Rattle.std.proofs.Common.{◌++◌, [], ℕ, refl, subst, take, length, ◌<
 use Rattle.std.specs.Prelude.{false, true}
 use Rattle.std.specs.Io.KnownBytes.{Consumes}
 use Rattle.collector.specs.Watching.{Hands, inner_of}
-use Rattle.follow.specs.declared.ending.Halt.TheVariants as halt
+use Rattle.follow.specs.declared.outcome.Halt.TheVariants as halt
 use Rattle.follow.proofs.Positions.{halted, read_all, read_failed, read_more, read_none, unread}
 use Rattle.follow.proofs.following.follow_pieces.Goals as goal
 
 pub loop-turn-init : goal.loop-turn-init
-loop-turn-init g c = λ same st. ([], read_none g.R.Read.remaining c.args.reader.now, st)
+loop-turn-init g c = record { rests = c.requires; follows = λ same st. ([], read_none g.R.Read.remaining c.args.reader.now, st) }
 
 pub loop-turn-preserved : goal.loop-turn-preserved
-loop-turn-preserved g c = λ same st.
-    let b = c.loop-turn.invariant same st in
-    let piece = take c.in-Ok.count c.pull.new.piece in
-    let start = g.W.Write.contents (inner_of c.args.writer.now) in
-    (b.0 ++ piece, read_more g.R.Read.remaining c.args.reader.now c.loop-turn.reader c.pull.new.self b.0 piece b.1 c.in-Ok.ensures.handed c.in-Ok.ensures.bytes.0, c.in-Ok-follow_piece.ensures.follows b.0 false start same b.2)
+loop-turn-preserved g c = record {
+  rests = c.in-Ok-follow_piece.ensures.rests;
+  follows = λ same st.
+      let b = c.loop-turn.invariant.follows same st in
+      let piece = take c.in-Ok.count c.pull.new.piece in
+      let start = g.W.Write.contents (inner_of c.args.writer.now) in
+      (b.0 ++ piece, read_more g.R.Read.remaining c.args.reader.now c.loop-turn.reader c.pull.new.self b.0 piece b.1 c.in-Ok.ensures.handed c.in-Ok.ensures.bytes.0, c.in-Ok-follow_piece.ensures.follows b.0 false start same b.2);
+}
 
 pub returns-in_default-clause-follows : goal.returns-in_default-clause-follows
 returns-in_default-clause-follows g c = λ same st.
-    let b = c.loop-turn.invariant same st in
+    let b = c.loop-turn.invariant.follows same st in
     let p = c.loop-turn.position in
     let start = g.W.Write.contents (inner_of c.args.writer.now) in (
       b.0,
@@ -29,7 +32,7 @@ returns-in_default-clause-follows g c = λ same st.
 
 pub returns-then-count-eq0-clause-follows : goal.returns-then-count-eq0-clause-follows
 returns-then-count-eq0-clause-follows g c = λ same st.
-    let b = c.loop-turn.invariant same st in
+    let b = c.loop-turn.invariant.follows same st in
     let start = g.W.Write.contents (inner_of c.args.writer.now) in
     let before = g.R.Read.remaining (inner_of c.loop-turn.reader) in
     let left = g.R.Read.remaining (inner_of c.pull.new.self) in
@@ -42,14 +45,14 @@ returns-then-count-eq0-clause-follows g c = λ same st.
 
 pub returns-in-Err-clause-follows : goal.returns-in-Err-clause-follows
 returns-in-Err-clause-follows g c = λ same st.
-    let b = c.loop-turn.invariant same st in
+    let b = c.loop-turn.invariant.follows same st in
     let piece = take c.in-Ok.count c.pull.new.piece in
     let start = g.W.Write.contents (inner_of c.args.writer.now) in
     (b.0 ++ piece, false, read_more g.R.Read.remaining c.args.reader.now c.loop-turn.reader c.pull.new.self b.0 piece b.1 c.in-Ok.ensures.handed c.in-Ok.ensures.bytes.0, c.in-Err.ensures.follows b.0 false start same b.2)
 
 pub returns-clause-follows : goal.returns-clause-follows
 returns-clause-follows g c = λ same st.
-    let b = c.loop-turn.invariant same st in
+    let b = c.loop-turn.invariant.follows same st in
     let p = c.loop-turn.position in
     let start = g.W.Write.contents (inner_of c.args.writer.now) in
     let now = g.W.Write.contents (inner_of c.loop-turn.writer) in

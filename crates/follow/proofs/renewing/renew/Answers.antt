@@ -2,8 +2,8 @@ use Rattle.std.proofs.Common.{arith, refl}
 use Rattle.follow.proofs.Renewed.{renewed}
 use Rattle.follow.proofs.renewing.renew.Goals as goal
 
-pub returns : goal.returns
-returns c = λ bytes start now w ends.
+pub returns-clause-renews : goal.returns-clause-renews
+returns-clause-renews c = λ bytes start now w ends.
     let p = c.args.position.now in
     let none = c.is_between_epochs.ensures c.if-not-is_between_epochs.false in
     renewed c.args.graph.now.value c.args.workers.count c.args.board.now.shown c.in_ok-board.field-0.shown p.base c.in-Some.last c.in-Some-checked_add.base p.intake _ p.reporting _ bytes p.pending.items start now c.in_ok-board.ensures.opening c.in_ok-board.ensures.shows refl refl refl refl none none c.if-position-last.false

@@ -1,9 +1,10 @@
+use Rattle.machine.specs.Step.{Step}
 use Rattle.driver.specs.Ends.{event_of}
-use Rattle.follow.proofs.Moved.{commit_works}
+use Rattle.follow.proofs.Working.{one_step}
 use Rattle.follow.proofs.rounds.end.Goals as goal
 
-pub returns-in-Ok-clause-works : goal.returns-in-Ok-clause-works
-returns-in-Ok-clause-works g c = λ live.
+pub returns-in-Ok-clause-steps : goal.returns-in-Ok-clause-steps
+returns-in-Ok-clause-steps g c =
     let ends = c.in-Ok.ensures.ends in
     let p = event_of c.into_result.result in
-    commit_works c.args.board.now.shown c.settle.new.board.shown p.worker p.job.happening ends.1.0 ends.1.1 live
+    one_step c.args.board.now.shown c.settle.new.board.shown (Step.commit p.worker p.job.happening ends.1.0) tt ends.1.1

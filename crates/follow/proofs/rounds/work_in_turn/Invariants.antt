@@ -1,5 +1,9 @@
-use Rattle.follow.specs.Scenes.{IsLive, Works}
+use Rattle.std.proofs.Common.{◌≡◌, length}
+use Rattle.follow.specs.Working.{HasWorked}
 use Rattle.follow.proofs.rounds.work_in_turn.Given as goal
 
 abbrev pub invariant-loop-worker : goal.invariant-loop-worker
-invariant-loop-worker g l = IsLive l.fn.board.shown → Works l.fn.board.shown l.board.shown
+invariant-loop-worker g l = record {
+  end_is : l.worker-end ≡ length l.fn.board.shown.sides;
+  worked : HasWorked l.round l.worker l.fn.board.shown l.board.shown;
+}

@@ -1,11 +1,39 @@
+use Rattle.std.proofs.Common.{length, subst}
+use Rattle.follow.specs.Working.{Advances, HasWorked}
+use Rattle.follow.specs.declared.rounds.Round.{Round}
+use Rattle.follow.specs.declared.rounds.Round.TheVariants as round
 use Rattle.follow.proofs.Moved.{works_not, works_on}
+use Rattle.follow.proofs.Working.{advances_less, advances_move, idle_off, moves_work, stays}
 use Rattle.follow.proofs.rounds.work_off.Goals as goal
 
-pub loop-turn-init : goal.loop-turn-init
-loop-turn-init g c = λ live. works_not c.args.board.now.shown live
+pub rounds-init : goal.rounds-init
+rounds-init g c = λ live. works_not c.args.board.now.shown live
 
-pub loop-turn-preserved : goal.loop-turn-preserved
-loop-turn-preserved g c = λ live. let b = c.loop-turn.invariant live in works_on c.args.board.now.shown c.loop-turn.board.shown c.work_once.new.board.shown b (c.in_ok-work_once.ensures b.grows.live)
+pub rounds-preserved : goal.rounds-preserved
+rounds-preserved g c = λ live.
+    let s = c.rounds.board.shown in
+    let t = c.work_once.new.board.shown in
+    let before = c.rounds.invariant live in
+    let steps : Advances s t = subst (λ (r : Round). HasWorked r (length s.sides) s t) c.in-Sent.is c.in_ok-work_once.ensures in
+    works_on c.args.board.now.shown s t before (moves_work s t (advances_move s t steps) before.grows.live)
 
-pub returns-in-Idle : goal.returns-in-Idle
-returns-in-Idle g c = λ live. let b = c.loop-turn.invariant live in works_on c.args.board.now.shown c.loop-turn.board.shown c.work_once.new.board.shown b (c.in_ok-work_once.ensures b.grows.live)
+pub rounds-smaller : goal.rounds-smaller
+rounds-smaller g c =
+    let s = c.rounds.board.shown in
+    let t = c.work_once.new.board.shown in
+    let steps : Advances s t = subst (λ (r : Round). HasWorked r (length s.sides) s t) c.in-Sent.is c.in_ok-work_once.ensures in
+    advances_less s t c.law_run.ensures steps
+
+pub returns-in-Idle-clause-works : goal.returns-in-Idle-clause-works
+returns-in-Idle-clause-works g c = λ live.
+    let s = c.rounds.board.shown in
+    let t = c.work_once.new.board.shown in
+    let before = c.rounds.invariant live in
+    let none : HasWorked round.Idle (length s.sides) s t = subst (λ (r : Round). HasWorked r (length s.sides) s t) c.in-Idle.is c.in_ok-work_once.ensures in
+    works_on c.args.board.now.shown s t before (moves_work s t (stays s t none.0) before.grows.live)
+
+pub returns-in-Idle-clause-rests : goal.returns-in-Idle-clause-rests
+returns-in-Idle-clause-rests g c =
+    let s = c.rounds.board.shown in
+    let t = c.work_once.new.board.shown in
+    idle_off s t c.law_run.ensures (subst (λ (r : Round). HasWorked r (length s.sides) s t) c.in-Idle.is c.in_ok-work_once.ensures)

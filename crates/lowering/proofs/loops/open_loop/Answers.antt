@@ -28,5 +28,5 @@ returns-clause-made g c =
     let fourth : length c.add_vertex-3.new.made.items ≡ suc (suc (suc k)) = omega (arith, one, two, three) in
     four_more (graph_of c.args.made.now.items) _ _ _ _ _ _ _ _ _ _ _ c.in_ok-first.ensures.made c.in_ok-both.ensures.made c.in_ok-gate.ensures.made (rw c.deref.ensures.value at (c.in_ok-carry_names.ensures.made))
     (ap₂ (λ d p. new_vertex semantics.Kind.concat d (p ∷ p ∷ [])) inner c.in_ok-first.ensures.gives)
-    (ap (λ w. new_vertex w (c.args.depth + 1) (port_of c.in_ok-both.both ∷ [])) c.gate_kind-kind.ensures ∙ ap₂ (λ d p. new_vertex (gate_of (plain_form c.args.form) c.args.turns) d (p ∷ [])) inner (c.in_ok-both.ensures.gives ∙ ap (λ n. port n 0) second))
-    (ap₂ (λ n l. carry c.args.turns (ports_of c.args.scope.now) c.args.depth n l) fourth c.in_ok-names.ensures)
+    (ap (λ w. new_vertex w (c.args.depth + 1) (port_of c.in_ok-both.both ∷ [])) c.gate_kind-kind.ensures ∙ ap₂ (λ d p. new_vertex (gate_of (plain_form c.args.head.form) c.args.head.turns) d (p ∷ [])) inner (c.in_ok-both.ensures.gives ∙ ap (λ n. port n 0) second))
+    (ap₂ (λ n l. carry c.args.head.turns (ports_of c.args.scope.now) c.args.depth n l) fourth c.in_ok-names.ensures)

@@ -186,52 +186,52 @@ lower_rel-returns-in_ok-right-in-Join-clause-many g t c =
 pub lower_loop-returns-in_err-from-clause-many : goal.lower_loop-returns-in_err-from-clause-many
 unfolding lower
 lower_loop-returns-in_err-from-clause-many g t c =
-    let x = c.args.variable.now in
+    let x = c.args.head.variable.now in
     let r = plain_rel (rel_tree c.args.start.now) in
     let b = plain_rel (rel_tree c.args.body.now) in
     let ports = ports_of c.args.scope.now in
     let d = c.args.depth in
-    let n = c.args.turns in
-    passed_on c.from_residual.result c.in_err-from.field-0.0 _ c.from_residual.ensures.1 (over_start _ (plain_form c.args.form) n x r b ports d (length c.args.made.now.items) c.in_err-from.ensures.many)
+    let n = c.args.head.turns in
+    passed_on c.from_residual.result c.in_err-from.field-0.0 _ c.from_residual.ensures.1 (over_start _ (plain_form c.args.head.form) n x r b ports d (length c.args.made.now.items) c.in_err-from.ensures.many)
 
 pub lower_loop-returns-in_err-gate-clause-many : goal.lower_loop-returns-in_err-gate-clause-many
 unfolding lower
 lower_loop-returns-in_err-gate-clause-many g t c =
-    let x = c.args.variable.now in
+    let x = c.args.head.variable.now in
     let r = plain_rel (rel_tree c.args.start.now) in
     let b = plain_rel (rel_tree c.args.body.now) in
     let ports = ports_of c.args.scope.now in
     let d = c.args.depth in
-    let n = c.args.turns in
+    let n = c.args.head.turns in
     let i = c.in_ok-from.ensures.ok in
     let k = length c.lower_rel.new.made.items in
     let over : IsOver c.in_err-gate.field-0.0 (k + suc (suc (suc (length (carry n (ports_of c.lower_rel.new.scope) d (suc (suc (suc k))) (carried x b)))))) = c.in_err-gate.ensures.many in
-    passed_on c.from_residual-in_err-gate.result c.in_err-gate.field-0.0 _ c.from_residual-in_err-gate.ensures.1 (over_open _ (plain_form c.args.form) n x r b ports d c.args.made.now.items c.lower_rel.new.made.items _ i (rw c.in_ok-from.ensures.scope at over))
+    passed_on c.from_residual-in_err-gate.result c.in_err-gate.field-0.0 _ c.from_residual-in_err-gate.ensures.1 (over_open _ (plain_form c.args.head.form) n x r b ports d c.args.made.now.items c.lower_rel.new.made.items _ i (rw c.in_ok-from.ensures.scope at over))
 
 pub lower_loop-returns-in_err-last-clause-many : goal.lower_loop-returns-in_err-last-clause-many
 unfolding lower
 lower_loop-returns-in_err-last-clause-many g t c =
-    let x = c.args.variable.now in
+    let x = c.args.head.variable.now in
     let r = plain_rel (rel_tree c.args.start.now) in
     let b = plain_rel (rel_tree c.args.body.now) in
     let ports = ports_of c.args.scope.now in
     let d = c.args.depth in
-    let n = c.args.turns in
+    let n = c.args.head.turns in
     let i = c.in_ok-from.ensures.ok in
     let o = rw c.in_ok-from.ensures.scope at c.in_ok-gate.ensures.made in
     let s = rw c.in_ok-from.ensures.scope at c.in_ok-gate.ensures.inside in
     let q : d + 1 ≡ suc d = omega arith in
-    passed_on c.from_residual-in_err-last.result c.in_err-last.field-0.0 _ c.from_residual-in_err-last.ensures.1 (over_body _ (plain_form c.args.form) n x r b ports _ d (d + 1) c.args.made.now.items c.lower_rel.new.made.items c.open_loop.new.made.items _ _ _ _ i o s q c.in_err-last.ensures.many)
+    passed_on c.from_residual-in_err-last.result c.in_err-last.field-0.0 _ c.from_residual-in_err-last.ensures.1 (over_body _ (plain_form c.args.head.form) n x r b ports _ d (d + 1) c.args.made.now.items c.lower_rel.new.made.items c.open_loop.new.made.items _ _ _ _ i o s q c.in_err-last.ensures.many)
 
 pub lower_loop-returns-clause-ok : goal.lower_loop-returns-clause-ok
 unfolding lower
 lower_loop-returns-clause-ok g t c =
-    let x = c.args.variable.now in
+    let x = c.args.head.variable.now in
     let r = plain_rel (rel_tree c.args.start.now) in
     let b = plain_rel (rel_tree c.args.body.now) in
     let ports = ports_of c.args.scope.now in
     let d = c.args.depth in
-    let n = c.args.turns in
+    let n = c.args.head.turns in
     let i = c.in_ok-from.ensures.ok in
     let o = rw c.in_ok-from.ensures.scope at c.in_ok-gate.ensures.made in
     let s = rw c.in_ok-from.ensures.scope at c.in_ok-gate.ensures.inside in
@@ -240,23 +240,23 @@ lower_loop-returns-clause-ok g t c =
     let v : c.in_ok-gate.gate.vertex.0 ≡ suc (suc (length c.lower_rel.new.made.items)) = ap (λ p. p.vertex) c.in_ok-gate.ensures.gives in
     let v1 : c.in_ok-gate.gate.vertex.0 - 1 ≡ suc (length c.lower_rel.new.made.items) = omega (arith, v) in
     let v2 : c.in_ok-gate.gate.vertex.0 - 2 ≡ length c.lower_rel.new.made.items = omega (arith, v) in
-    loop_ok c.close_loop.result (plain_form c.args.form) n x r b ports _ d (d + 1) c.args.made.now.items c.lower_rel.new.made.items c.open_loop.new.made.items c.lower_rel-2.new.made.items c.close_loop.new.made.items _ _ _ i o s q j (rw (v1, v2, v) at c.close_loop.ensures.made) c.close_loop.ensures.gives
+    loop_ok c.close_loop.result (plain_form c.args.head.form) n x r b ports _ d (d + 1) c.args.made.now.items c.lower_rel.new.made.items c.open_loop.new.made.items c.lower_rel-2.new.made.items c.close_loop.new.made.items _ _ _ i o s q j (rw (v1, v2, v) at c.close_loop.ensures.made) c.close_loop.ensures.gives
 
 pub lower_loop-returns-clause-many : goal.lower_loop-returns-clause-many
 unfolding lower
 lower_loop-returns-clause-many g t c =
-    let x = c.args.variable.now in
+    let x = c.args.head.variable.now in
     let r = plain_rel (rel_tree c.args.start.now) in
     let b = plain_rel (rel_tree c.args.body.now) in
     let ports = ports_of c.args.scope.now in
     let d = c.args.depth in
-    let n = c.args.turns in
+    let n = c.args.head.turns in
     let i = c.in_ok-from.ensures.ok in
     let o = rw c.in_ok-from.ensures.scope at c.in_ok-gate.ensures.made in
     let s = rw c.in_ok-from.ensures.scope at c.in_ok-gate.ensures.inside in
     let q : d + 1 ≡ suc d = omega arith in
     let j = c.in_ok-last.ensures.ok in
-    loop_many c.close_loop.result (plain_form c.args.form) n x r b ports _ d (d + 1) c.args.made.now.items c.lower_rel.new.made.items c.open_loop.new.made.items c.lower_rel-2.new.made.items _ _ _ _ _ i o s q j c.close_loop.ensures.many
+    loop_many c.close_loop.result (plain_form c.args.head.form) n x r b ports _ d (d + 1) c.args.made.now.items c.lower_rel.new.made.items c.open_loop.new.made.items c.lower_rel-2.new.made.items _ _ _ _ _ i o s q j c.close_loop.ensures.many
 
 pub lower_loop-close_loop-requires-clause-made : goal.lower_loop-close_loop-requires-clause-made
 lower_loop-close_loop-requires-clause-made g t c =

@@ -37,13 +37,13 @@ rewritten-returns-in_ok-rewritten_in_box-in-Distinct g t c =
 pub rewritten_loop-returns-then-is_start : goal.rewritten_loop-returns-then-is_start
 rewritten_loop-returns-then-is_start g t c =
     let start = c.in_ok-start.ensures in
-    rw c.into_inner.ensures (rewritten_no_turns (plain_form c.args.form) c.args.turns c.args.name _ _ _ (c.is_start.ensures.0 c.if-is_start.true).0 (c.is_start.ensures.0 c.if-is_start.true).1 start)
+    rw c.into_inner.ensures (rewritten_no_turns (plain_form c.args.head.form) c.args.head.turns c.args.head.name _ _ _ (c.is_start.ensures.0 c.if-is_start.true).0 (c.is_start.ensures.0 c.if-is_start.true).1 start)
 
 pub rewritten_loop-returns : goal.rewritten_loop-returns
 rewritten_loop-returns g t c =
     let start = c.in_ok-start.ensures in
     let body = c.in_ok-body.ensures in
-    rewritten_loop (plain_form c.args.form) c.args.turns c.args.name _ _ _ _ (λ e k. true≢false (sym (c.is_start.ensures.1 (e, k)) ∙ c.if-is_start.false)) start body
+    rewritten_loop (plain_form c.args.head.form) c.args.head.turns c.args.head.name _ _ _ _ (λ e k. true≢false (sym (c.is_start.ensures.1 (e, k)) ∙ c.if-is_start.false)) start body
 
 pub rewritten-returns-in-Named : goal.rewritten-returns-in-Named
 rewritten-returns-in-Named g t c = rw c.in-Named.is (record { reached = reached_itself _; reduced = tt })

@@ -1,3 +1,4 @@
+use Rattle.board.specs.Overflow.{DoesOverflow}
 use Rattle.replay.proofs.Taken.{ended_stays, fault_refused, is_abandoned, is_committed}
 use Rattle.replay.proofs.worker_lines.complete.Goals as goal
 
@@ -19,4 +20,7 @@ returns-in-Err-clause-abandoned g c =
     (ended_stays c.args.board.now.shown c.process.new.board.shown c.args.work.0 c.process.result c.process.ensures.ends c.process.ensures.tables)
 
 pub returns-in-Err-clause-refused : goal.returns-in-Err-clause-refused
-returns-in-Err-clause-refused g c = fault_refused c.in-Err.fault c.from.result c.from.ensures
+returns-in-Err-clause-refused g c = fault_refused (DoesOverflow c.args.board.now.shown c.args.work.0) c.in-Err.fault c.from.result c.from.ensures (c.in-Err.ensures.over c.requires.whole)
+
+pub returns-in-Ok-clause-fits : goal.returns-in-Ok-clause-fits
+returns-in-Ok-clause-fits g c = c.in-Ok.ensures.fits c.requires.whole

@@ -1,5 +1,6 @@
 use Rattle.std.proofs.Common.{ap}
 use Rattle.board.specs.Lateness.{BoardShown}
+use Rattle.board.specs.Overflow.{DoesOverflow}
 use Rattle.replay.proofs.Inputs.{stays_same}
 use Rattle.replay.proofs.Taken.{abandoned_stays, fault_refused, is_abandoned}
 use Rattle.replay.proofs.worker_lines.compute.Goals as goal
@@ -16,4 +17,7 @@ returns-in-Err-clause-abandoned g c =
     (abandoned_stays c.args.board.now.shown c.compute.new.board.shown c.args.work.0 c.in-Err.ensures.abandoned c.compute.ensures.tables)
 
 pub returns-in-Err-clause-refused : goal.returns-in-Err-clause-refused
-returns-in-Err-clause-refused g c = fault_refused c.in-Err.fault c.from.result c.from.ensures
+returns-in-Err-clause-refused g c = fault_refused (DoesOverflow c.args.board.now.shown c.args.work.0) c.in-Err.fault c.from.result c.from.ensures (c.in-Err.ensures.over c.requires.whole)
+
+pub returns-in-Ok-clause-fits : goal.returns-in-Ok-clause-fits
+returns-in-Ok-clause-fits g c = λ holds. c.in-Ok.ensures.fits c.requires.whole holds

@@ -13,7 +13,7 @@ use Rattle.replay.proofs.worker_lines.take.Goals as goal
 pub returns-in-Err-clause-answers : goal.returns-in-Err-clause-answers
 returns-in-Err-clause-answers g c =
     let b = c.args.board.now in
-    refused_answers g.V.Views.late b c.pick.new.self c.args.hand.now (Command.take c.args.worker c.args.choice) c.line_refusal.result (board_same b c.pick.new.self c.in-Err.ensures.picks.1 c.in-Err.ensures.views.waits c.in-Err.ensures.views.passed)
+    refused_answers g.V.Views.late b c.pick.new.self c.args.hand.now (Command.take c.args.worker c.args.choice) c.line_refusal.result (board_same b c.pick.new.self c.in-Err.ensures.picks.1 c.in-Err.ensures.views)
     (λ code has_code x shows holds. Does.take_refused c.args.worker c.args.choice code (refused_pick g.V.Views.late b c.args.worker c.args.choice c.in-Err.refusal (record { prompt = c.law_prompt.ensures; within = c.law_waits.ensures }) c.in-Err.ensures.picks.0 code (sym c.line_refusal.ensures ∙ has_code) x shows))
 
 pub returns-in-Err-compute-clause-hand : goal.returns-in-Err-compute-clause-hand
@@ -30,7 +30,7 @@ returns-in-Err-compute-clause-answers g c =
     let p = c.in-Ok.work.0 in
     let hands = c.in-Ok.ensures.picks.0 in
     let stays = stays_on b.shown t.shown u.shown (picked_stays b.shown t.shown c.args.worker p hands c.in-Ok.ensures.tables) c.compute.ensures.stays in
-    abandoned_answers g.V.Views.late b t u c.args.hand.now c.args.worker c.args.choice p c.in-Err-compute.refusal hands (record { prompt = c.law_prompt.ensures; within = c.law_waits.ensures }) c.in-Ok.ensures.picks.1 c.in-Ok.ensures.views.waits c.in-Err-compute.ensures.abandoned stays
+    abandoned_answers g.V.Views.late b t u c.args.hand.now c.args.worker c.args.choice p c.in-Err-compute.refusal hands (record { prompt = c.law_prompt.ensures; within = c.law_waits.ensures }) c.in-Ok.ensures.picks.1 c.in-Ok.ensures.views c.in-Err-compute.ensures.abandoned stays
     (Command.take c.args.worker c.args.choice) (λ x gives. Does.take_abandons c.args.worker c.args.choice hands.taken p.job.happening gives) c.in-Err-compute.ensures.refused
 
 pub returns-clause-hand : goal.returns-clause-hand
@@ -57,5 +57,5 @@ returns-clause-answers g c =
     let picked = picked_stays b.shown t.shown c.args.worker p hands c.in-Ok.ensures.tables in
     let later = stays_on t.shown c.compute.new.board.shown u.shown c.compute.ensures.stays c.keep.ensures.stays in
     let is = c.keep.ensures.hand ∙ ap (λ (x : Pass). slice_set c.args.hand.now c.args.worker (Some x)) c.in-Ok-compute.ensures.done in
-    taken_leads g.V.Views.late b t u c.args.hand.now c.keep.new.hand c.args.worker c.args.choice p hands (record { prompt = c.law_prompt.ensures; within = c.law_waits.ensures }) c.in-Ok.ensures.picks.1 c.in-Ok.ensures.views.waits c.requires.hand.places
+    taken_leads g.V.Views.late b t u c.args.hand.now c.keep.new.hand c.args.worker c.args.choice p hands (record { prompt = c.law_prompt.ensures; within = c.law_waits.ensures }) c.in-Ok.ensures.picks.1 (c.in-Ok-compute.ensures.fits hands.holds) c.in-Ok.ensures.views c.requires.hand.places
     (λ e. c.keep.ensures.kept e ∙ c.in-Ok-compute.ensures.kept) (stays_on b.shown t.shown u.shown picked later) is

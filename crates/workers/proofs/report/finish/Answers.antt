@@ -1,8 +1,10 @@
-use Rattle.std.proofs.Common.{◌≡◌, refl, arith}
+use Rattle.std.proofs.Common.{◌≡◌, ap, arith}
+use Rattle.workers.specs.Held.{HeldShown}
 use Rattle.workers.proofs.report.finish.Goals as goal
 
-pub returns-then-are_within-clause-seats : goal.returns-then-are_within-clause-seats
-returns-then-are_within-clause-seats g c = λ n counts k d lt.
-    let same : c.passed_count.result ≡ n = c.law_count.ensures.one c.passed_count.result n (c.passed_count.ensures.seen c.into_board-board.ensures.prompt) counts in
-    let within = c.if-are_within.ensures refl k d lt in
-    omega (arith, same, within)
+pub returns-clause-seats : goal.returns-clause-seats
+returns-clause-seats g c = λ n counts k d lt.
+    let same : c.observe_all.new.held.published ≡ n = c.law_count.ensures.one c.observe_all.new.held.published n c.into_board-board.ensures.counts counts in
+    let is = ap (λ (h : HeldShown). h.published) c.observe_all.ensures.held in
+    let within = c.observe_all.ensures.seats k d lt in
+    omega (arith, same, is, within)

@@ -12,6 +12,7 @@ use Rattle.board.proofs.Counted.{keeps_abandon}
 use Rattle.board.proofs.Later.{later}
 use Rattle.board.proofs.Abandoning.{abandon_goes, abandon_tables}
 use Rattle.board.specs.Lateness.{BoardShown}
+use Rattle.board.proofs.Called.{as_late}
 use Rattle.board.proofs.board.Board.abandon.Goals as goal
 
 pub invariant_of-self : goal.invariant_of-self
@@ -47,3 +48,15 @@ returns-clause-tables g c =
     let out : (side_at s p.worker).place ≡ Out p.job = ap (λ (n : ℕ). (side_at s n).place) (sym c.worker-worker.ensures) ∙ c.abandon.ensures.out ∙ ap Out job in
     let now : c.abandon.new.self ≡ after_abandon s p.worker p.job = c.abandon.ensures.state ∙ (λ i. after_abandon s (c.worker-worker.ensures i) (job i)) in
     ap tables now ∙ abandon_tables s p.worker own.0 p.job out ∙ ap tables (ap (λ (b : BoardShown). b.shown) c.self.view_is)
+
+pub returns-clause-views : goal.returns-clause-views
+returns-clause-views g c =
+    let s : Shown = c.self.inside.state in
+    let p : Pass = c.args.work.0 in
+    let O : Shown → Type 0 = λ z. IsOf z p in
+    let own = own_side s p (subst O (sym (ap (λ (b : BoardShown). b.shown) c.self.view_is)) c.requires) in
+    let job : c.into_stub.result.job ≡ p.job = ap (λ (t : Ticket Job). t.job) c.into_stub.ensures in
+    let out : (side_at s p.worker).place ≡ Out p.job = ap (λ (n : ℕ). (side_at s n).place) (sym c.worker-worker.ensures) ∙ c.abandon.ensures.out ∙ ap Out job in
+    let now : c.abandon.new.self ≡ after_abandon s p.worker p.job = c.abandon.ensures.state ∙ (λ i. after_abandon s (c.worker-worker.ensures i) (job i)) in
+    as_late (g.V.Views.graph c.self.inside.views) (g.V.Views.workers c.self.inside.views) (g.V.Views.content c.self.inside.views) (g.V.Views.waiting c.self.inside.views) (g.V.Views.behind c.self.inside.views 0) (g.V.Views.room c.self.inside.views) g.V.Views.late c.self.inside.passed c.self.inside.state c.abandon.new.self (g.met.V.Views.as_lists c.self.inside.views 0) c.self.invariant
+    (keeps_abandon (g.V.Views.graph c.self.inside.views) (g.V.Views.workers c.self.inside.views) (g.V.Views.content c.self.inside.views) (g.V.Views.waiting c.self.inside.views) (g.V.Views.room c.self.inside.views) g.V.Views.late c.self.inside.passed s c.self.invariant c.abandon.new.self p.worker own.0 p.job out now) c.args.self.now c.self.view_is

@@ -66,7 +66,7 @@ returns-in-None-clause-none g c =
     let there : k < length s.sides = c.if-not-has_worker.ensures in
     let free : (side_at s k).place ≡ Home = c.if-not-is_free.ensures in
     let runs : s.stopped ≡ false = sym c.is_stopped.ensures ∙ c.if-is_stopped.false in
-    let none : IsUpToDate (board_of s (g.V.Views.workers c.self.inside.views) (g.V.Views.waiting c.self.inside.views) c.self.inside.passed) k → HasNoChoice s k =
+    let none : IsUpToDate (board_of s (g.V.Views.workers c.self.inside.views) (g.V.Views.waiting c.self.inside.views) (g.V.Views.behind c.self.inside.views 0) c.self.inside.passed) k → HasNoChoice s k =
     λ up.
     let exactly = c.law_of_waiting.ensures.seen (g.V.Views.content c.self.inside.views) (g.V.Views.waiting c.self.inside.views) (g.V.Views.workers c.self.inside.views) k (none_waits s (g.V.Views.workers c.self.inside.views) (g.V.Views.waiting c.self.inside.views) c.self.inside.passed k (let v = c.self.invariant.viewers_are in omega (arith, there, v)) up) in
     let blocked : (at : ℕ) (r : Request) → slice_get (side_at s k).requests at ≡ Some r → IsDeliverable (g.V.Views.graph c.self.inside.views) (λ q. 0 < g.V.Views.content c.self.inside.views q) r → ⊥ =

@@ -5,7 +5,8 @@ use Rattle.board.proofs.Counted.{kept_same}
 use Rattle.board.proofs.Lateness.{board_of, no_worker, caught_fewer, caught_prompt, up_to_date, waits_same}
 use Rattle.semantics.specs.Could.{CouldResultIn, NoneOf, Pointstamp}
 use Rattle.views.specs.Waiting.{IsSeenBy}
-use Rattle.board.proofs.Seeing.{seen_applied, seen_moved}
+use Rattle.board.proofs.Called.{keeps_called}
+use Rattle.board.proofs.Seeing.{none_applied, seen_applied, seen_moved}
 use Rattle.board.proofs.board.Board.catch_up.Goals as goal
 
 pub passed_now-self-inside-requires-clause-kept : goal.passed_now-self-inside-requires-clause-kept
@@ -50,15 +51,21 @@ returns-clause-applies g c =
     let s : Shown = c.self.inside.state in
     let same : c.worker_count-workers.result ≡ (g.V.Views.workers c.self.inside.views) = c.worker_count-workers.ensures ∙ sym c.self.invariant.viewers_are in
     let there : c.args.worker < (g.V.Views.workers c.self.inside.views) = (let l = c.if-worker-workers.false in omega (arith, l, same)) in
-    let old : BoardShown = board_of s (g.V.Views.workers c.self.inside.views) (g.V.Views.waiting c.self.inside.views) c.self.inside.passed in
+    let old : BoardShown = board_of s (g.V.Views.workers c.self.inside.views) (g.V.Views.waiting c.self.inside.views) (g.V.Views.behind c.self.inside.views 0) c.self.inside.passed in
     let none : (k : ℕ) → k < (g.V.Views.workers c.self.inside.views) + 1 → (g.V.Views.waiting c.catch_up.new.views) c.args.worker k ≡ [] = λ k l. c.catch_up.ensures.none k (omega (arith, l, same)) in
-    let one : Applies c.args.worker old (board_of s (g.V.Views.workers c.self.inside.views) (g.V.Views.waiting c.catch_up.new.views) c.passed_now-self-inside.result) = record {
+    let P : ℕ → Type 0 = λ n. (p : Pointstamp) → NoneOf (CouldResultIn (g.V.Views.graph c.self.inside.views)) (IsSeenBy (g.V.Views.content c.self.inside.views) (g.V.Views.waiting c.self.inside.views) n c.args.worker) p → NoneOf (CouldResultIn (g.V.Views.graph c.self.inside.views)) (IsSeenBy (g.V.Views.content c.catch_up.new.views) (g.V.Views.waiting c.catch_up.new.views) n c.args.worker) p in
+    let called = keeps_called (g.V.Views.graph c.self.inside.views) (g.V.Views.graph c.catch_up.new.views) (g.V.Views.workers c.self.inside.views) (g.V.Views.content c.self.inside.views) (g.V.Views.content c.catch_up.new.views) (g.V.Views.waiting c.self.inside.views) (g.V.Views.waiting c.catch_up.new.views) (g.V.Views.behind c.self.inside.views 0) (g.V.Views.behind c.catch_up.new.views 0) s s c.self.inside.passed c.passed_now-self-inside.result (g.met.V.Views.as_lists c.self.inside.views 0) (g.met.V.Views.as_lists c.catch_up.new.views 0) c.self.invariant.kept
+    (kept_same (g.V.Views.graph c.self.inside.views) (g.V.Views.graph c.catch_up.new.views) (g.V.Views.content c.self.inside.views) (g.V.Views.content c.catch_up.new.views) s c.self.invariant.kept c.catch_up.ensures.graph c.catch_up.ensures.content)
+    c.self.invariant.viewers_are c.self.invariant.viewers_are c.catch_up.ensures.graph
+    (none_applied (g.V.Views.graph c.self.inside.views) (g.V.Views.workers c.self.inside.views) c.args.worker (g.V.Views.content c.self.inside.views) (g.V.Views.content c.catch_up.new.views) (g.V.Views.waiting c.self.inside.views) (g.V.Views.waiting c.catch_up.new.views) c.catch_up.ensures.content c.catch_up.ensures.others (subst P same c.catch_up.ensures.stays)) in
+    let one : Applies c.args.worker old (board_of s (g.V.Views.workers c.self.inside.views) (g.V.Views.waiting c.catch_up.new.views) (g.V.Views.behind c.catch_up.new.views 0) c.passed_now-self-inside.result) = record {
       others = λ w k ne. waits_same s (g.V.Views.workers c.self.inside.views) (g.V.Views.waiting c.self.inside.views) c.self.inside.passed s (g.V.Views.waiting c.catch_up.new.views) c.passed_now-self-inside.result w k (λ lw lk. c.catch_up.ensures.others w k ne);
       fewer = caught_fewer s (g.V.Views.workers c.self.inside.views) c.args.worker (g.V.Views.waiting c.self.inside.views) (g.V.Views.waiting c.catch_up.new.views) c.self.inside.passed c.passed_now-self-inside.result there none;
       passed = c.passed_now-self-inside.ensures.from;
+      called = called;
     } in
-    let A : ℕ → Type 0 = λ m. Applies c.args.worker old (board_of s m (g.V.Views.waiting c.catch_up.new.views) c.passed_now-self-inside.result) in
-    let B : BoardShown → Type 0 = λ z. Applies c.args.worker z (board_of s (g.V.Views.workers c.catch_up.new.views) (g.V.Views.waiting c.catch_up.new.views) c.passed_now-self-inside.result) in
+    let A : ℕ → Type 0 = λ m. Applies c.args.worker old (board_of s m (g.V.Views.waiting c.catch_up.new.views) (g.V.Views.behind c.catch_up.new.views 0) c.passed_now-self-inside.result) in
+    let B : BoardShown → Type 0 = λ z. Applies c.args.worker z (board_of s (g.V.Views.workers c.catch_up.new.views) (g.V.Views.waiting c.catch_up.new.views) (g.V.Views.behind c.catch_up.new.views 0) c.passed_now-self-inside.result) in
     subst B c.self.view_is (subst A (sym c.catch_up.ensures.workers) one)
 
 pub returns-clause-prompt : goal.returns-clause-prompt
@@ -68,7 +75,7 @@ returns-clause-prompt g c =
     up_to_date s (g.V.Views.workers c.catch_up.new.views) (g.V.Views.waiting c.catch_up.new.views) c.passed_now-self-inside.result c.args.worker (λ k lw lk. c.catch_up.ensures.none k (let e = c.catch_up.ensures.workers in omega (arith, lk, e, same)))
 
 pub returns-then-worker-workers-clause-applies : goal.returns-then-worker-workers-clause-applies
-returns-then-worker-workers-clause-applies g c = record { others = λ w k ne. refl; fewer = λ k. omega arith; passed = omega arith }
+returns-then-worker-workers-clause-applies g c = record { others = λ w k ne. refl; fewer = λ k. omega arith; passed = omega arith; called = λ k e called. called }
 
 pub returns-then-worker-workers-clause-prompt : goal.returns-then-worker-workers-clause-prompt
 returns-then-worker-workers-clause-prompt g c =
@@ -80,7 +87,7 @@ pub waits-requires : goal.waits-requires
 waits-requires g c = let l = c.if-worker-workers.false in let e = c.worker_count-workers.ensures in let v = c.self.invariant.viewers_are in omega (arith, l, e, v)
 
 pub returns-then-not-waits-clause-applies : goal.returns-then-not-waits-clause-applies
-returns-then-not-waits-clause-applies g c = record { others = λ w k ne. refl; fewer = λ k. omega arith; passed = omega arith }
+returns-then-not-waits-clause-applies g c = record { others = λ w k ne. refl; fewer = λ k. omega arith; passed = omega arith; called = λ k e called. called }
 
 pub returns-then-not-waits-clause-prompt : goal.returns-then-not-waits-clause-prompt
 returns-then-not-waits-clause-prompt g c =

@@ -16,6 +16,7 @@ use Rattle.board.proofs.HandedOut.{hands_request, hands_request_tables, no_choic
 use Rattle.board.proofs.Lateness.{board_of, none_waits}
 use Rattle.board.proofs.Places.{get_index}
 use Rattle.board.proofs.Ready.{good_request}
+use Rattle.board.proofs.Called.{as_late}
 use Rattle.board.proofs.board.Board.claim_rest.Goals as goal
 use Rattle.board.proofs.board.Board.claim_rest.Goals.{then-is_drained, else-is_drained}
 
@@ -50,7 +51,7 @@ first_deliverable-requires-clause-prompt g c =
     let there : k < length s.sides = subst (λ (b : BoardShown). k < length b.shown.sides) (sym c.self.view_is) c.requires.there in
     let free : (side_at s k).place ≡ Home = subst (λ (b : BoardShown). (side_at b.shown k).place ≡ Home) (sym c.self.view_is) c.requires.free in
     let runs : s.stopped ≡ false = subst (λ (b : BoardShown). b.shown.stopped ≡ false) (sym c.self.view_is) c.requires.runs in
-    let up : IsUpToDate (board_of s (g.V.Views.workers c.self.inside.views) (g.V.Views.waiting c.self.inside.views) c.self.inside.passed) k = subst (λ (b : BoardShown). IsUpToDate b k) (sym c.self.view_is) c.requires.prompt in
+    let up : IsUpToDate (board_of s (g.V.Views.workers c.self.inside.views) (g.V.Views.waiting c.self.inside.views) (g.V.Views.behind c.self.inside.views 0) c.self.inside.passed) k = subst (λ (b : BoardShown). IsUpToDate b k) (sym c.self.view_is) c.requires.prompt in
     none_waits s (g.V.Views.workers c.self.inside.views) (g.V.Views.waiting c.self.inside.views) c.self.inside.passed k (let v = c.self.invariant.viewers_are in omega (arith, there, v)) up
 
 pub claim_request-requires-clause-some : goal.claim_request-requires-clause-some
@@ -107,7 +108,19 @@ returns-in-Some-clause-tables g c =
     hands_request_tables (g.V.Views.graph c.self.inside.views) (g.V.Views.content c.self.inside.views) s c.self.invariant.kept k there free runs c.claim_request.new.self c.in-Some.place c.claim_request.result.0 hands front ∙ ap tables (ap (λ (b : BoardShown). b.shown) c.self.view_is)
 
 pub returns-in-Some-clause-views : goal.returns-in-Some-clause-views
-returns-in-Some-clause-views g c = record { waits = ap (λ (b : BoardShown). b.waits) c.self.view_is; passed = ap (λ (b : BoardShown). b.passed) c.self.view_is }
+returns-in-Some-clause-views g c =
+    let s : Shown = c.self.inside.state in
+    let k : ℕ = c.args.worker in
+    let there : k < length s.sides = subst (λ (b : BoardShown). k < length b.shown.sides) (sym c.self.view_is) c.requires.there in
+    let free : (side_at s k).place ≡ Home = subst (λ (b : BoardShown). (side_at b.shown k).place ≡ Home) (sym c.self.view_is) c.requires.free in
+    let runs : s.stopped ≡ false = subst (λ (b : BoardShown). b.shown.stopped ≡ false) (sym c.self.view_is) c.requires.runs in
+    let h = c.in-Some.ensures.some in
+    let hands : HandsRequest s c.claim_request.new.self k c.in-Some.place c.claim_request.result.0 = c.claim_request.ensures.hands in
+    let same : hands.request ≡ h.0 = (let e : Some hands.request ≡ Some h.0 = sym hands.got ∙ ap (λ (rs : List Request). slice_get rs c.in-Some.place) (sym c.requests.ensures) ∙ h.1 in cc) in
+    let P : Request → Type 0 = λ x. NoOtherOf (CouldResultIn (g.V.Views.graph c.self.inside.views)) (λ q. 0 < g.V.Views.content c.self.inside.views q) (request_pointstamp x) in
+    let front : P hands.request = subst P (sym same) h.2 in
+    as_late (g.V.Views.graph c.self.inside.views) (g.V.Views.workers c.self.inside.views) (g.V.Views.content c.self.inside.views) (g.V.Views.waiting c.self.inside.views) (g.V.Views.behind c.self.inside.views 0) (g.V.Views.room c.self.inside.views) g.V.Views.late c.self.inside.passed c.self.inside.state c.claim_request.new.self (g.met.V.Views.as_lists c.self.inside.views 0) c.self.invariant
+    (keeps_request (g.V.Views.graph c.self.inside.views) (g.V.Views.workers c.self.inside.views) (g.V.Views.content c.self.inside.views) (g.V.Views.waiting c.self.inside.views) (g.V.Views.room c.self.inside.views) g.V.Views.late c.self.inside.passed s c.self.invariant c.claim_request.new.self k there free runs c.in-Some.place c.claim_request.result.0 hands front) c.args.self.now c.self.view_is
 
 pub returns-after-is_drained-clause-claims : goal.returns-after-is_drained-clause-claims
 returns-after-is_drained-clause-claims g c =

@@ -10,7 +10,8 @@ use Rattle.board.proofs.Counted.{closed_passed, one_closed}
 use Rattle.board.proofs.Ended.{close_goes, open_tells}
 use Rattle.board.proofs.Lateness.{board_of, posted_prompt, posted_some, posts}
 use Rattle.board.proofs.Posts.{close_posted, may_close}
-use Rattle.board.proofs.Seeing.{seen_posted}
+use Rattle.board.proofs.Called.{keeps_called}
+use Rattle.board.proofs.Seeing.{none_posted, seen_posted}
 use Rattle.board.proofs.board.Board.close.Goals as goal
 
 pub post-requires-clause-sender : goal.post-requires-clause-sender
@@ -49,18 +50,9 @@ passed_now-self-inside-requires-clause-kept g c =
 pub passed_now-self-inside-requires-clause-seen : goal.passed_now-self-inside-requires-clause-seen
 passed_now-self-inside-requires-clause-seen g c =
     let s : Shown = c.self.inside.state in
-    let i : ℕ = c.args.input in
-    let takes = open_tells s i (sym c.input_refusal.ensures ∙ c.in_default.is) in
     let n = c.self.invariant.viewers_are in
-    let ends : c.input_place-ends.result ≡ at_vertex i (at_epoch (input_at s i).open_epoch) = c.input_place-ends.ensures ∙ ap (λ m. at_vertex i (at_epoch m)) c.open_epoch-epoch.ensures in
-    let kept : IsKept (g.V.Views.graph c.post.new.views) (g.V.Views.content c.post.new.views) c.close.new.self = (let P : Shown → Type 0 = λ z. IsKept (g.V.Views.graph c.post.new.views) (g.V.Views.content c.post.new.views) z in
-    subst P (sym c.close.ensures) (close_posted (g.V.Views.graph c.self.inside.views) (g.V.Views.graph c.post.new.views) (g.V.Views.content c.self.inside.views) (g.V.Views.content c.post.new.views) s c.self.invariant.kept i takes c.post.ensures.graph c.input_place-ends.result ends c.post.ensures.content)) in
-    let kept_then : IsKept (g.V.Views.graph c.post.new.views) (g.V.Views.content c.post.new.views) c.close.new.self = kept in
-    seen_posted g.V.Views.late (g.V.Views.graph c.self.inside.views) (g.V.Views.graph c.post.new.views) (g.V.Views.workers c.self.inside.views) (g.V.Views.workers c.post.new.views) (g.V.Views.content c.self.inside.views) (g.V.Views.content c.self.inside.views) (g.V.Views.content c.post.new.views) (g.V.Views.waiting c.self.inside.views) (g.V.Views.waiting c.self.inside.views) (g.V.Views.waiting c.post.new.views) s c.close.new.self
-    (c.post.ensures.graph) (c.post.ensures.workers) (ap (λ (z : Shown). z.graph) c.close.ensures) (let l = c.self.invariant.kept.some in omega (arith, l, n)) (λ q. refl) (λ w k. refl)
-    (batch c.worker_count-feeder.result [] (c.input_place-ends.result ∷ [])) (let e = c.worker_count-feeder.ensures in omega (arith, e, n)) (0 + length (c.input_place-ends.result ∷ [])) c.post.ensures.content (may_close c.law_of_step.ensures.may (g.V.Views.graph c.self.inside.views) (g.V.Views.graph c.self.inside.views) (g.V.Views.workers c.self.inside.views) (g.V.Views.content c.self.inside.views) (g.V.Views.content c.self.inside.views) s c.self.invariant.kept n refl (λ q. refl) i takes c.worker_count-feeder.result c.worker_count-feeder.ensures c.input_place-ends.result ends).there
-    c.post.ensures.waiting
-    kept_then c.self.inside.passed (closed_passed (g.V.Views.graph c.self.inside.views) (g.V.Views.workers c.self.inside.views) (g.V.Views.content c.self.inside.views) (g.V.Views.waiting c.self.inside.views) (g.V.Views.room c.self.inside.views) g.V.Views.late c.self.inside.passed s c.self.invariant c.close.new.self i takes c.close.ensures) c.self.invariant.passed_seen
+    seen_posted (g.V.Views.graph c.self.inside.views) (g.V.Views.graph c.self.inside.views) (g.V.Views.workers c.self.inside.views) (g.V.Views.workers c.self.inside.views) (g.V.Views.content c.self.inside.views) (g.V.Views.content c.self.inside.views) (g.V.Views.content c.post.new.views) (g.V.Views.waiting c.self.inside.views) (g.V.Views.waiting c.self.inside.views) (g.V.Views.waiting c.post.new.views) s c.self.invariant.kept n refl refl (λ q. refl) (λ w k. refl) c.post.ensures.stays
+    (g.V.Views.graph c.post.new.views) (g.V.Views.workers c.post.new.views) c.close.new.self c.self.inside.passed c.post.ensures.graph c.post.ensures.workers (ap (λ (z : Shown). z.graph) c.close.ensures) c.self.invariant.passed_seen
 
 pub passed_now-self-inside-requires-clause-viewers : goal.passed_now-self-inside-requires-clause-viewers
 passed_now-self-inside-requires-clause-viewers g c =
@@ -119,10 +111,17 @@ returns-clause-posts g c =
     let i : ℕ = c.args.input in
     let takes = open_tells s i (sym c.input_refusal.ensures ∙ c.in_default.is) in
     let n = c.self.invariant.viewers_are in
+    let ends : c.input_place-ends.result ≡ at_vertex i (at_epoch (input_at s i).open_epoch) = c.input_place-ends.ensures ∙ ap (λ m. at_vertex i (at_epoch m)) c.open_epoch-epoch.ensures in
+    let kept : IsKept (g.V.Views.graph c.post.new.views) (g.V.Views.content c.post.new.views) c.close.new.self = (let P : Shown → Type 0 = λ z. IsKept (g.V.Views.graph c.post.new.views) (g.V.Views.content c.post.new.views) z in
+    subst P (sym c.close.ensures) (close_posted (g.V.Views.graph c.self.inside.views) (g.V.Views.graph c.post.new.views) (g.V.Views.content c.self.inside.views) (g.V.Views.content c.post.new.views) s c.self.invariant.kept i takes c.post.ensures.graph c.input_place-ends.result ends c.post.ensures.content)) in
+    let kept_then : IsKept (g.V.Views.graph c.post.new.views) (g.V.Views.content c.post.new.views) c.close.new.self = kept in
+    let called = keeps_called (g.V.Views.graph c.self.inside.views) (g.V.Views.graph c.post.new.views) (g.V.Views.workers c.self.inside.views) (g.V.Views.content c.self.inside.views) (g.V.Views.content c.post.new.views) (g.V.Views.waiting c.self.inside.views) (g.V.Views.waiting c.post.new.views) (g.V.Views.behind c.self.inside.views 0) (g.V.Views.behind c.post.new.views 0) s c.close.new.self c.self.inside.passed c.passed_now-self-inside.result (g.met.V.Views.as_lists c.self.inside.views 0) (g.met.V.Views.as_lists c.post.new.views 0) c.self.invariant.kept kept_then
+    n (n ∙ sym (ap (λ (z : Shown). length z.sides) c.close.ensures)) c.post.ensures.graph
+    (none_posted (g.V.Views.graph c.self.inside.views) (g.V.Views.graph c.self.inside.views) (g.V.Views.workers c.self.inside.views) (g.V.Views.workers c.self.inside.views) (g.V.Views.content c.self.inside.views) (g.V.Views.content c.self.inside.views) (g.V.Views.content c.post.new.views) (g.V.Views.waiting c.self.inside.views) (g.V.Views.waiting c.self.inside.views) (g.V.Views.waiting c.post.new.views) s c.self.invariant.kept n refl refl (λ q. refl) (λ w k. refl) c.post.ensures.stays) in
     let after = posted_some g.V.Views.late (g.V.Views.waiting c.self.inside.views) (g.V.Views.waiting c.self.inside.views) (g.V.Views.waiting c.post.new.views) (batch c.worker_count-feeder.result [] (c.input_place-ends.result ∷ [])) (0 + length (c.input_place-ends.result ∷ [])) (g.V.Views.workers c.self.inside.views) (omega arith) (λ w k. refl) c.post.ensures.waiting in
-    let one : Posts g.V.Views.late c.worker_count-feeder.result (board_of s (g.V.Views.workers c.self.inside.views) (g.V.Views.waiting c.self.inside.views) c.self.inside.passed) (board_of c.close.new.self (g.V.Views.workers c.self.inside.views) (g.V.Views.waiting c.post.new.views) c.passed_now-self-inside.result) =
-    posts s (g.V.Views.workers c.self.inside.views) (g.V.Views.waiting c.self.inside.views) c.self.inside.passed c.close.new.self (g.V.Views.waiting c.post.new.views) c.passed_now-self-inside.result g.V.Views.late c.worker_count-feeder.result [] (c.input_place-ends.result ∷ []) (sym n) after in
-    let A : ℕ → Type 0 = λ m. Posts g.V.Views.late m (board_of s (g.V.Views.workers c.self.inside.views) (g.V.Views.waiting c.self.inside.views) c.self.inside.passed) (board_of c.close.new.self (g.V.Views.workers c.post.new.views) (g.V.Views.waiting c.post.new.views) c.passed_now-self-inside.result) in
-    let B : ℕ → Type 0 = λ m. Posts g.V.Views.late c.worker_count-feeder.result (board_of s (g.V.Views.workers c.self.inside.views) (g.V.Views.waiting c.self.inside.views) c.self.inside.passed) (board_of c.close.new.self m (g.V.Views.waiting c.post.new.views) c.passed_now-self-inside.result) in
-    let D : BoardShown → Type 0 = λ z. Posts g.V.Views.late (length z.shown.sides) z (board_of c.close.new.self (g.V.Views.workers c.post.new.views) (g.V.Views.waiting c.post.new.views) c.passed_now-self-inside.result) in
+    let one : Posts g.V.Views.late c.worker_count-feeder.result (board_of s (g.V.Views.workers c.self.inside.views) (g.V.Views.waiting c.self.inside.views) (g.V.Views.behind c.self.inside.views 0) c.self.inside.passed) (board_of c.close.new.self (g.V.Views.workers c.self.inside.views) (g.V.Views.waiting c.post.new.views) (g.V.Views.behind c.post.new.views 0) c.passed_now-self-inside.result) =
+    posts s (g.V.Views.workers c.self.inside.views) (g.V.Views.waiting c.self.inside.views) c.self.inside.passed c.close.new.self (g.V.Views.waiting c.post.new.views) c.passed_now-self-inside.result g.V.Views.late c.worker_count-feeder.result [] (c.input_place-ends.result ∷ []) (g.V.Views.behind c.self.inside.views 0) (g.V.Views.behind c.post.new.views 0) (sym n) after called in
+    let A : ℕ → Type 0 = λ m. Posts g.V.Views.late m (board_of s (g.V.Views.workers c.self.inside.views) (g.V.Views.waiting c.self.inside.views) (g.V.Views.behind c.self.inside.views 0) c.self.inside.passed) (board_of c.close.new.self (g.V.Views.workers c.post.new.views) (g.V.Views.waiting c.post.new.views) (g.V.Views.behind c.post.new.views 0) c.passed_now-self-inside.result) in
+    let B : ℕ → Type 0 = λ m. Posts g.V.Views.late c.worker_count-feeder.result (board_of s (g.V.Views.workers c.self.inside.views) (g.V.Views.waiting c.self.inside.views) (g.V.Views.behind c.self.inside.views 0) c.self.inside.passed) (board_of c.close.new.self m (g.V.Views.waiting c.post.new.views) (g.V.Views.behind c.post.new.views 0) c.passed_now-self-inside.result) in
+    let D : BoardShown → Type 0 = λ z. Posts g.V.Views.late (length z.shown.sides) z (board_of c.close.new.self (g.V.Views.workers c.post.new.views) (g.V.Views.waiting c.post.new.views) (g.V.Views.behind c.post.new.views 0) c.passed_now-self-inside.result) in
     subst D c.self.view_is (subst A c.worker_count-feeder.ensures (subst B (sym c.post.ensures.workers) one))

@@ -1,4 +1,4 @@
-use Rattle.std.proofs.Common.{◌≡◌, ◌+◌, ℕ, [], ◌∷◌, List, length, sym, ap, ◌∙◌, subst, arith}
+use Rattle.std.proofs.Common.{suc, ◌≡◌, ◌+◌, ℕ, [], ◌∷◌, List, length, sym, ap, ◌∙◌, subst, arith}
 use Rattle.semantics.specs.Multiset.{Record}
 use Rattle.semantics.specs.Could.{CouldResultIn}
 use Rattle.semantics.specs.Graph.{input_count}
@@ -8,7 +8,7 @@ use Rattle.views.specs.Waiting.{batch}
 use Rattle.board.specs.Answers.{Holds}
 use Rattle.board.specs.Commits.{IsOf, Settles, SettlesBy}
 use Rattle.board.specs.Kept.{Goes, IsKept}
-use Rattle.board.specs.Lateness.{BoardShown, Posts}
+use Rattle.board.specs.Lateness.{first_of, BoardShown, Posts}
 use Rattle.board.specs.Shown.{Shown, tables}
 use Rattle.board.proofs.BoardCalls.{commit_goes, commit_tables, kept_commit}
 use Rattle.board.proofs.Counted.{committed_passed, few_open, keeps_same}
@@ -16,7 +16,8 @@ use Rattle.board.proofs.Lateness.{board_of, counts_same, posted_prompt, posted_s
 use Rattle.board.proofs.Posts.{may_commit, settled_inputs, settled_workers, settles_from}
 use Rattle.events.specs.Jobs.{Pass}
 use Rattle.board.proofs.Facts.{own_side}
-use Rattle.board.proofs.Seeing.{seen_posted}
+use Rattle.board.proofs.Called.{keeps_called}
+use Rattle.board.proofs.Seeing.{none_posted, seen_posted}
 use Rattle.board.proofs.board.Board.commit.Goals as goal
 
 pub post_noted-requires-clause-sender : goal.post_noted-requires-clause-sender
@@ -62,18 +63,10 @@ pub passed_now-self-inside-requires-clause-seen : goal.passed_now-self-inside-re
 passed_now-self-inside-requires-clause-seen g c =
     let s : Shown = c.self.inside.state in
     let p : Pass = c.args.done in
-    let n = c.self.invariant.viewers_are in
-    let of : IsOf s p = subst (λ (b : BoardShown). IsOf b.shown p) (sym c.self.view_is) c.requires in
     let x : SettlesBy s c.commit.new.self c.commit.new.added.items c.in-Ok.place p = c.in-Ok.ensures.settles in
-    let settles : Settles s c.commit.new.self (g.V.Views.content c.self.inside.views) (g.V.Views.content c.post_noted.new.views) p = settles_from (g.V.Views.content c.self.inside.views) (g.V.Views.content c.commit.new.views) (g.V.Views.content c.post_noted.new.views) s c.commit.new.self c.commit.new.added.items c.in-Ok.place p c.commit.ensures.content c.post_noted.ensures.content x in
-    let same : (g.V.Views.graph c.post_noted.new.views) ≡ (g.V.Views.graph c.self.inside.views) = c.post_noted.ensures.graph ∙ c.commit.ensures.graph in
-    let kept_then : IsKept (g.V.Views.graph c.post_noted.new.views) (g.V.Views.content c.post_noted.new.views) c.commit.new.self = kept_commit (g.V.Views.graph c.self.inside.views) (g.V.Views.graph c.post_noted.new.views) (g.V.Views.content c.self.inside.views) (g.V.Views.content c.post_noted.new.views) s c.commit.new.self p c.self.invariant.kept of settles same in
-    let own = own_side s p of in
-    seen_posted g.V.Views.late (g.V.Views.graph c.self.inside.views) (g.V.Views.graph c.post_noted.new.views) (g.V.Views.workers c.self.inside.views) (g.V.Views.workers c.post_noted.new.views) (g.V.Views.content c.self.inside.views) (g.V.Views.content c.commit.new.views) (g.V.Views.content c.post_noted.new.views) (g.V.Views.waiting c.self.inside.views) (g.V.Views.waiting c.commit.new.views) (g.V.Views.waiting c.post_noted.new.views) s c.commit.new.self
-    same (c.post_noted.ensures.workers ∙ c.commit.ensures.workers) (ap (λ (z : Shown). z.graph) x.state) (let l = c.self.invariant.kept.some in omega (arith, l, n)) c.commit.ensures.content c.commit.ensures.waiting
-    (batch c.worker-worker.result c.commit.new.added.items (c.in-Ok.place ∷ [])) (let e = c.worker-worker.ensures in omega (arith, own.0, e, n)) (length c.commit.new.added.items + length (c.in-Ok.place ∷ [])) c.post_noted.ensures.content (may_commit c.law_of_step.ensures.may (g.V.Views.graph c.self.inside.views) (g.V.Views.graph c.commit.new.views) (g.V.Views.workers c.commit.new.views) (g.V.Views.content c.self.inside.views) (g.V.Views.content c.commit.new.views) s c.self.invariant.kept (c.commit.ensures.workers ∙ n) c.commit.ensures.graph c.commit.ensures.content p of c.commit.new.self c.commit.new.added.items c.in-Ok.place x).there
-    (λ w k l. c.post_noted.ensures.waiting w k (let e = c.commit.ensures.workers in omega (arith, l, e)))
-    kept_then c.self.inside.passed (committed_passed (g.V.Views.graph c.self.inside.views) (g.V.Views.workers c.self.inside.views) (g.V.Views.content c.self.inside.views) (g.V.Views.waiting c.self.inside.views) (g.V.Views.room c.self.inside.views) g.V.Views.late c.self.inside.passed s c.self.invariant c.commit.new.self (g.V.Views.content c.post_noted.new.views) p of settles) c.self.invariant.passed_seen
+    let n = c.self.invariant.viewers_are in
+    seen_posted (g.V.Views.graph c.self.inside.views) (g.V.Views.graph c.commit.new.views) (g.V.Views.workers c.self.inside.views) (g.V.Views.workers c.commit.new.views) (g.V.Views.content c.self.inside.views) (g.V.Views.content c.commit.new.views) (g.V.Views.content c.post_noted.new.views) (g.V.Views.waiting c.self.inside.views) (g.V.Views.waiting c.commit.new.views) (g.V.Views.waiting c.post_noted.new.views) s c.self.invariant.kept n c.commit.ensures.graph c.commit.ensures.workers c.commit.ensures.content c.commit.ensures.waiting c.post_noted.ensures.stays
+    (g.V.Views.graph c.post_noted.new.views) (g.V.Views.workers c.post_noted.new.views) c.commit.new.self c.self.inside.passed (c.post_noted.ensures.graph ∙ c.commit.ensures.graph) (c.post_noted.ensures.workers ∙ c.commit.ensures.workers) (ap (λ (z : Shown). z.graph) x.state) c.self.invariant.passed_seen
 
 pub passed_now-self-inside-requires-clause-viewers : goal.passed_now-self-inside-requires-clause-viewers
 passed_now-self-inside-requires-clause-viewers g c =
@@ -156,17 +149,23 @@ returns-in-Ok-clause-posts g c =
     let n = c.self.invariant.viewers_are in
     let of : IsOf s p = subst (λ (b : BoardShown). IsOf b.shown p) (sym c.self.view_is) c.requires in
     let x : SettlesBy s c.commit.new.self c.commit.new.added.items c.in-Ok.place p = c.in-Ok.ensures.settles in
+    let settles : Settles s c.commit.new.self (g.V.Views.content c.self.inside.views) (g.V.Views.content c.post_noted.new.views) p = settles_from (g.V.Views.content c.self.inside.views) (g.V.Views.content c.commit.new.views) (g.V.Views.content c.post_noted.new.views) s c.commit.new.self c.commit.new.added.items c.in-Ok.place p c.commit.ensures.content c.post_noted.ensures.content x in
+    let same : (g.V.Views.graph c.post_noted.new.views) ≡ (g.V.Views.graph c.self.inside.views) = c.post_noted.ensures.graph ∙ c.commit.ensures.graph in
+    let kept_then : IsKept (g.V.Views.graph c.post_noted.new.views) (g.V.Views.content c.post_noted.new.views) c.commit.new.self = kept_commit (g.V.Views.graph c.self.inside.views) (g.V.Views.graph c.post_noted.new.views) (g.V.Views.content c.self.inside.views) (g.V.Views.content c.post_noted.new.views) s c.commit.new.self p c.self.invariant.kept of settles same in
+    let called = keeps_called (g.V.Views.graph c.self.inside.views) (g.V.Views.graph c.post_noted.new.views) (g.V.Views.workers c.self.inside.views) (g.V.Views.content c.self.inside.views) (g.V.Views.content c.post_noted.new.views) (g.V.Views.waiting c.self.inside.views) (g.V.Views.waiting c.post_noted.new.views) (g.V.Views.behind c.self.inside.views 0) (g.V.Views.behind c.post_noted.new.views 0) s c.commit.new.self c.self.inside.passed c.passed_now-self-inside.result (g.met.V.Views.as_lists c.self.inside.views 0) (g.met.V.Views.as_lists c.post_noted.new.views 0) c.self.invariant.kept kept_then
+    n (n ∙ sym (settled_workers s c.commit.new.self c.commit.new.added.items c.in-Ok.place p x)) (c.post_noted.ensures.graph ∙ c.commit.ensures.graph)
+    (none_posted (g.V.Views.graph c.self.inside.views) (g.V.Views.graph c.commit.new.views) (g.V.Views.workers c.self.inside.views) (g.V.Views.workers c.commit.new.views) (g.V.Views.content c.self.inside.views) (g.V.Views.content c.commit.new.views) (g.V.Views.content c.post_noted.new.views) (g.V.Views.waiting c.self.inside.views) (g.V.Views.waiting c.commit.new.views) (g.V.Views.waiting c.post_noted.new.views) s c.self.invariant.kept n c.commit.ensures.graph c.commit.ensures.workers c.commit.ensures.content c.commit.ensures.waiting c.post_noted.ensures.stays) in
     let after = posted_some g.V.Views.late (g.V.Views.waiting c.commit.new.views) (g.V.Views.waiting c.self.inside.views) (g.V.Views.waiting c.post_noted.new.views) (batch c.worker-worker.result c.commit.new.added.items (c.in-Ok.place ∷ [])) (length c.commit.new.added.items + length (c.in-Ok.place ∷ [])) (g.V.Views.workers c.self.inside.views) (omega arith) c.commit.ensures.waiting (λ w k l. c.post_noted.ensures.waiting w k (let e = c.commit.ensures.workers in omega (arith, l, e))) in
-    let one : Posts g.V.Views.late c.worker-worker.result (board_of s (g.V.Views.workers c.self.inside.views) (g.V.Views.waiting c.self.inside.views) c.self.inside.passed) (board_of c.commit.new.self (g.V.Views.workers c.self.inside.views) (g.V.Views.waiting c.post_noted.new.views) c.passed_now-self-inside.result) =
-    posts s (g.V.Views.workers c.self.inside.views) (g.V.Views.waiting c.self.inside.views) c.self.inside.passed c.commit.new.self (g.V.Views.waiting c.post_noted.new.views) c.passed_now-self-inside.result g.V.Views.late c.worker-worker.result c.commit.new.added.items (c.in-Ok.place ∷ []) (sym n) after in
-    let A : ℕ → Type 0 = λ m. Posts g.V.Views.late m (board_of s (g.V.Views.workers c.self.inside.views) (g.V.Views.waiting c.self.inside.views) c.self.inside.passed) (board_of c.commit.new.self (g.V.Views.workers c.post_noted.new.views) (g.V.Views.waiting c.post_noted.new.views) c.passed_now-self-inside.result) in
-    let B : ℕ → Type 0 = λ m. Posts g.V.Views.late c.worker-worker.result (board_of s (g.V.Views.workers c.self.inside.views) (g.V.Views.waiting c.self.inside.views) c.self.inside.passed) (board_of c.commit.new.self m (g.V.Views.waiting c.post_noted.new.views) c.passed_now-self-inside.result) in
-    let D : BoardShown → Type 0 = λ z. Posts g.V.Views.late p.worker z (board_of c.commit.new.self (g.V.Views.workers c.post_noted.new.views) (g.V.Views.waiting c.post_noted.new.views) c.passed_now-self-inside.result) in
+    let one : Posts g.V.Views.late c.worker-worker.result (board_of s (g.V.Views.workers c.self.inside.views) (g.V.Views.waiting c.self.inside.views) (g.V.Views.behind c.self.inside.views 0) c.self.inside.passed) (board_of c.commit.new.self (g.V.Views.workers c.self.inside.views) (g.V.Views.waiting c.post_noted.new.views) (g.V.Views.behind c.post_noted.new.views 0) c.passed_now-self-inside.result) =
+    posts s (g.V.Views.workers c.self.inside.views) (g.V.Views.waiting c.self.inside.views) c.self.inside.passed c.commit.new.self (g.V.Views.waiting c.post_noted.new.views) c.passed_now-self-inside.result g.V.Views.late c.worker-worker.result c.commit.new.added.items (c.in-Ok.place ∷ []) (g.V.Views.behind c.self.inside.views 0) (g.V.Views.behind c.post_noted.new.views 0) (sym n) after called in
+    let A : ℕ → Type 0 = λ m. Posts g.V.Views.late m (board_of s (g.V.Views.workers c.self.inside.views) (g.V.Views.waiting c.self.inside.views) (g.V.Views.behind c.self.inside.views 0) c.self.inside.passed) (board_of c.commit.new.self (g.V.Views.workers c.post_noted.new.views) (g.V.Views.waiting c.post_noted.new.views) (g.V.Views.behind c.post_noted.new.views 0) c.passed_now-self-inside.result) in
+    let B : ℕ → Type 0 = λ m. Posts g.V.Views.late c.worker-worker.result (board_of s (g.V.Views.workers c.self.inside.views) (g.V.Views.waiting c.self.inside.views) (g.V.Views.behind c.self.inside.views 0) c.self.inside.passed) (board_of c.commit.new.self m (g.V.Views.waiting c.post_noted.new.views) (g.V.Views.behind c.post_noted.new.views 0) c.passed_now-self-inside.result) in
+    let D : BoardShown → Type 0 = λ z. Posts g.V.Views.late p.worker z (board_of c.commit.new.self (g.V.Views.workers c.post_noted.new.views) (g.V.Views.waiting c.post_noted.new.views) (g.V.Views.behind c.post_noted.new.views 0) c.passed_now-self-inside.result) in
     subst D c.self.view_is (subst A c.worker-worker.ensures (subst B (sym (c.post_noted.ensures.workers ∙ c.commit.ensures.workers)) one))
 
 pub returns-in-Err-clause-refused : goal.returns-in-Err-clause-refused
 returns-in-Err-clause-refused g c =
-    (λ j. record { shown = c.in-Err.ensures.same j; waits = counts_same (g.V.Views.workers c.self.inside.views) (g.V.Views.workers c.commit.new.views) (g.V.Views.waiting c.self.inside.views) (g.V.Views.waiting c.commit.new.views) c.commit.ensures.workers c.commit.ensures.waiting j; passed = c.self.inside.passed }) ∙ c.self.view_is
+    (λ j. record { shown = c.in-Err.ensures.same j; waits = counts_same (g.V.Views.workers c.self.inside.views) (g.V.Views.workers c.commit.new.views) (g.V.Views.waiting c.self.inside.views) (g.V.Views.waiting c.commit.new.views) c.commit.ensures.workers c.commit.ensures.waiting j; behind = first_of (suc (c.commit.ensures.workers j)) (λ k. c.commit.ensures.behind 0 k j); passed = c.self.inside.passed }) ∙ c.self.view_is
 
 pub returns-in-Err-clause-commits : goal.returns-in-Err-clause-commits
 returns-in-Err-clause-commits g c = (c.in-Err.ensures.back, c.in-Err.ensures.same ∙ (ap (λ (b : BoardShown). b.shown) c.self.view_is))

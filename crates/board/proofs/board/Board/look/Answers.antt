@@ -10,7 +10,7 @@ use Rattle.board.proofs.board.Board.look.Goals as goal
 
 pub of-requires : goal.of-requires
 of-requires g c =
-    let b : BoardShown = board_of c.self.inside.state (g.V.Views.workers c.self.inside.views) (g.V.Views.waiting c.self.inside.views) c.self.inside.passed in
+    let b : BoardShown = board_of c.self.inside.state (g.V.Views.workers c.self.inside.views) (g.V.Views.waiting c.self.inside.views) (g.V.Views.behind c.self.inside.views 0) c.self.inside.passed in
     let e : ℕ = c.args.epoch in
     let l : LookShown = record { graph = c.in_ok-wiring.wiring.value.graph; epoch = e; fed = c.in_ok-fed.fed.items; outputs = c.in_ok-outputs.outputs.items } in
     let P : BoardShown → Type 0 = λ z. AreOutputLooks z e c.in_ok-outputs.outputs.items in

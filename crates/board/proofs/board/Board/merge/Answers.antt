@@ -1,4 +1,4 @@
-use Rattle.std.proofs.Common.{◌≡◌, ◌<◌, ◌+◌, ℕ, false, [], ◌∷◌, length, refl, sym, ap, ◌∙◌, subst, arith}
+use Rattle.std.proofs.Common.{suc, ◌≡◌, ◌<◌, ◌+◌, ℕ, false, [], ◌∷◌, length, refl, sym, ap, ◌∙◌, subst, arith}
 use Rattle.semantics.specs.Graph.{input_count}
 use Rattle.graph.specs.Shown.{GraphValue, shown_graph}
 use Rattle.tokens.specs.declared.rule.Place.TheVariants.{Home}
@@ -6,14 +6,15 @@ use Rattle.views.specs.Waiting.{batch}
 use Rattle.board.specs.Answers.{Merges}
 use Rattle.board.specs.Claims.{MergesMail}
 use Rattle.board.specs.Kept.{IsKept}
-use Rattle.board.specs.Lateness.{BoardShown, Posts}
+use Rattle.board.specs.Lateness.{first_of, BoardShown, Posts}
 use Rattle.board.specs.Shown.{Shown, side_at, tables}
 use Rattle.board.proofs.Counted.{few_open, keeps_same, merged_passed}
 use Rattle.board.proofs.Lateness.{board_of, counts_same, posted_prompt, posted_some, posts}
 use Rattle.board.proofs.Later.{later}
 use Rattle.board.proofs.Merged.{granted, merge_goes, merge_tables, merges}
 use Rattle.board.proofs.Posts.{may_merge, merge_posted}
-use Rattle.board.proofs.Seeing.{seen_posted}
+use Rattle.board.proofs.Called.{keeps_called}
+use Rattle.board.proofs.Seeing.{none_posted, seen_posted}
 use Rattle.board.proofs.board.Board.merge.Goals as goal
 
 pub post-requires-clause-sender : goal.post-requires-clause-sender
@@ -48,17 +49,10 @@ pub passed_now-self-inside-requires-clause-seen : goal.passed_now-self-inside-re
 passed_now-self-inside-requires-clause-seen g c =
     let s : Shown = c.self.inside.state in
     let k : ℕ = c.args.worker in
-    let there : k < length s.sides = c.if-not-has_worker.ensures in
-    let free : (side_at s k).place ≡ Home = c.if-not-is_free.ensures in
-    let runs : s.stopped ≡ false = sym c.is_stopped.ensures ∙ c.if-is_stopped.false in
-    let n = c.self.invariant.viewers_are in
     let h : MergesMail s c.merge.new.self k c.args.place c.in-Some.ends = c.in-Some.ensures.merges in
-    let kept_then : IsKept (g.V.Views.graph c.post.new.views) (g.V.Views.content c.post.new.views) c.merge.new.self = merge_posted (g.V.Views.graph c.self.inside.views) (g.V.Views.graph c.post.new.views) (g.V.Views.content c.self.inside.views) (g.V.Views.content c.reserve.new.self) (g.V.Views.content c.post.new.views) s c.self.invariant.kept k there free runs c.merge.new.self c.args.place c.in-Some.ends h (c.post.ensures.graph ∙ c.reserve.ensures.graph) c.reserve.ensures.content c.post.ensures.content in
-    seen_posted g.V.Views.late (g.V.Views.graph c.self.inside.views) (g.V.Views.graph c.post.new.views) (g.V.Views.workers c.self.inside.views) (g.V.Views.workers c.post.new.views) (g.V.Views.content c.self.inside.views) (g.V.Views.content c.reserve.new.self) (g.V.Views.content c.post.new.views) (g.V.Views.waiting c.self.inside.views) (g.V.Views.waiting c.reserve.new.self) (g.V.Views.waiting c.post.new.views) s c.merge.new.self
-    (c.post.ensures.graph ∙ c.reserve.ensures.graph) (c.post.ensures.workers ∙ c.reserve.ensures.workers) (ap (λ (z : Shown). z.graph) h.state) (let l = c.self.invariant.kept.some in omega (arith, l, n)) c.reserve.ensures.content c.reserve.ensures.waiting
-    (batch k [] (c.in-Some.ends ∷ [])) (omega (arith, there, n)) (0 + length (c.in-Some.ends ∷ [])) c.post.ensures.content (may_merge c.law_of_step.ensures.may (g.V.Views.graph c.self.inside.views) (g.V.Views.graph c.reserve.new.self) (g.V.Views.workers c.reserve.new.self) (g.V.Views.content c.self.inside.views) (g.V.Views.content c.reserve.new.self) s c.self.invariant.kept (c.reserve.ensures.workers ∙ n) c.reserve.ensures.graph c.reserve.ensures.content k there free runs c.merge.new.self c.args.place c.in-Some.ends h).there
-    (λ w k l. c.post.ensures.waiting w k (let e = c.reserve.ensures.workers in omega (arith, l, e)))
-    kept_then c.self.inside.passed (merged_passed (g.V.Views.graph c.self.inside.views) (g.V.Views.workers c.self.inside.views) (g.V.Views.content c.self.inside.views) (g.V.Views.waiting c.self.inside.views) (g.V.Views.room c.self.inside.views) g.V.Views.late c.self.inside.passed s c.self.invariant c.merge.new.self k there free runs c.args.place c.in-Some.ends h) c.self.invariant.passed_seen
+    let n = c.self.invariant.viewers_are in
+    seen_posted (g.V.Views.graph c.self.inside.views) (g.V.Views.graph c.reserve.new.self) (g.V.Views.workers c.self.inside.views) (g.V.Views.workers c.reserve.new.self) (g.V.Views.content c.self.inside.views) (g.V.Views.content c.reserve.new.self) (g.V.Views.content c.post.new.views) (g.V.Views.waiting c.self.inside.views) (g.V.Views.waiting c.reserve.new.self) (g.V.Views.waiting c.post.new.views) s c.self.invariant.kept n c.reserve.ensures.graph c.reserve.ensures.workers c.reserve.ensures.content c.reserve.ensures.waiting c.post.ensures.stays
+    (g.V.Views.graph c.post.new.views) (g.V.Views.workers c.post.new.views) c.merge.new.self c.self.inside.passed (c.post.ensures.graph ∙ c.reserve.ensures.graph) (c.post.ensures.workers ∙ c.reserve.ensures.workers) (ap (λ (z : Shown). z.graph) h.state) c.self.invariant.passed_seen
 
 pub passed_now-self-inside-requires-clause-viewers : goal.passed_now-self-inside-requires-clause-viewers
 passed_now-self-inside-requires-clause-viewers g c =
@@ -150,13 +144,17 @@ returns-in-Some-clause-posts g c e =
     let runs : s.stopped ≡ false = sym c.is_stopped.ensures ∙ c.if-is_stopped.false in
     let n = c.self.invariant.viewers_are in
     let h : MergesMail s c.merge.new.self k c.args.place c.in-Some.ends = c.in-Some.ensures.merges in
+    let kept_then : IsKept (g.V.Views.graph c.post.new.views) (g.V.Views.content c.post.new.views) c.merge.new.self = merge_posted (g.V.Views.graph c.self.inside.views) (g.V.Views.graph c.post.new.views) (g.V.Views.content c.self.inside.views) (g.V.Views.content c.reserve.new.self) (g.V.Views.content c.post.new.views) s c.self.invariant.kept k there free runs c.merge.new.self c.args.place c.in-Some.ends h (c.post.ensures.graph ∙ c.reserve.ensures.graph) c.reserve.ensures.content c.post.ensures.content in
+    let called = keeps_called (g.V.Views.graph c.self.inside.views) (g.V.Views.graph c.post.new.views) (g.V.Views.workers c.self.inside.views) (g.V.Views.content c.self.inside.views) (g.V.Views.content c.post.new.views) (g.V.Views.waiting c.self.inside.views) (g.V.Views.waiting c.post.new.views) (g.V.Views.behind c.self.inside.views 0) (g.V.Views.behind c.post.new.views 0) s c.merge.new.self c.self.inside.passed c.passed_now-self-inside.result (g.met.V.Views.as_lists c.self.inside.views 0) (g.met.V.Views.as_lists c.post.new.views 0) c.self.invariant.kept kept_then
+    n (n ∙ sym (merge_goes s k there free runs c.merge.new.self c.args.place c.in-Some.ends h (later (g.V.Views.graph c.self.inside.views) (g.V.Views.content c.self.inside.views) s c.self.invariant.kept)).workers) (c.post.ensures.graph ∙ c.reserve.ensures.graph)
+    (none_posted (g.V.Views.graph c.self.inside.views) (g.V.Views.graph c.reserve.new.self) (g.V.Views.workers c.self.inside.views) (g.V.Views.workers c.reserve.new.self) (g.V.Views.content c.self.inside.views) (g.V.Views.content c.reserve.new.self) (g.V.Views.content c.post.new.views) (g.V.Views.waiting c.self.inside.views) (g.V.Views.waiting c.reserve.new.self) (g.V.Views.waiting c.post.new.views) s c.self.invariant.kept n c.reserve.ensures.graph c.reserve.ensures.workers c.reserve.ensures.content c.reserve.ensures.waiting c.post.ensures.stays) in
     let after = posted_some g.V.Views.late (g.V.Views.waiting c.reserve.new.self) (g.V.Views.waiting c.self.inside.views) (g.V.Views.waiting c.post.new.views) (batch k [] (c.in-Some.ends ∷ [])) (0 + length (c.in-Some.ends ∷ [])) (g.V.Views.workers c.self.inside.views) (omega arith) c.reserve.ensures.waiting (λ w j l. c.post.ensures.waiting w j (let e = c.reserve.ensures.workers in omega (arith, l, e))) in
-    let one : Posts g.V.Views.late k (board_of s (g.V.Views.workers c.self.inside.views) (g.V.Views.waiting c.self.inside.views) c.self.inside.passed) (board_of c.merge.new.self (g.V.Views.workers c.self.inside.views) (g.V.Views.waiting c.post.new.views) c.passed_now-self-inside.result) =
-    posts s (g.V.Views.workers c.self.inside.views) (g.V.Views.waiting c.self.inside.views) c.self.inside.passed c.merge.new.self (g.V.Views.waiting c.post.new.views) c.passed_now-self-inside.result g.V.Views.late k [] (c.in-Some.ends ∷ []) (sym n) after in
-    let B : ℕ → Type 0 = λ m. Posts g.V.Views.late k (board_of s (g.V.Views.workers c.self.inside.views) (g.V.Views.waiting c.self.inside.views) c.self.inside.passed) (board_of c.merge.new.self m (g.V.Views.waiting c.post.new.views) c.passed_now-self-inside.result) in
-    let D : BoardShown → Type 0 = λ z. Posts g.V.Views.late k z (board_of c.merge.new.self (g.V.Views.workers c.post.new.views) (g.V.Views.waiting c.post.new.views) c.passed_now-self-inside.result) in
+    let one : Posts g.V.Views.late k (board_of s (g.V.Views.workers c.self.inside.views) (g.V.Views.waiting c.self.inside.views) (g.V.Views.behind c.self.inside.views 0) c.self.inside.passed) (board_of c.merge.new.self (g.V.Views.workers c.self.inside.views) (g.V.Views.waiting c.post.new.views) (g.V.Views.behind c.post.new.views 0) c.passed_now-self-inside.result) =
+    posts s (g.V.Views.workers c.self.inside.views) (g.V.Views.waiting c.self.inside.views) c.self.inside.passed c.merge.new.self (g.V.Views.waiting c.post.new.views) c.passed_now-self-inside.result g.V.Views.late k [] (c.in-Some.ends ∷ []) (g.V.Views.behind c.self.inside.views 0) (g.V.Views.behind c.post.new.views 0) (sym n) after called in
+    let B : ℕ → Type 0 = λ m. Posts g.V.Views.late k (board_of s (g.V.Views.workers c.self.inside.views) (g.V.Views.waiting c.self.inside.views) (g.V.Views.behind c.self.inside.views 0) c.self.inside.passed) (board_of c.merge.new.self m (g.V.Views.waiting c.post.new.views) (g.V.Views.behind c.post.new.views 0) c.passed_now-self-inside.result) in
+    let D : BoardShown → Type 0 = λ z. Posts g.V.Views.late k z (board_of c.merge.new.self (g.V.Views.workers c.post.new.views) (g.V.Views.waiting c.post.new.views) (g.V.Views.behind c.post.new.views 0) c.passed_now-self-inside.result) in
     subst D c.self.view_is (subst B (sym (c.post.ensures.workers ∙ c.reserve.ensures.workers)) one)
 
 pub returns-in-None-clause-refused : goal.returns-in-None-clause-refused
 returns-in-None-clause-refused g c e =
-    (λ j. record { shown = c.in-None.ensures.same j; waits = counts_same (g.V.Views.workers c.self.inside.views) (g.V.Views.workers c.reserve.new.self) (g.V.Views.waiting c.self.inside.views) (g.V.Views.waiting c.reserve.new.self) c.reserve.ensures.workers c.reserve.ensures.waiting j; passed = c.self.inside.passed }) ∙ c.self.view_is
+    (λ j. record { shown = c.in-None.ensures.same j; waits = counts_same (g.V.Views.workers c.self.inside.views) (g.V.Views.workers c.reserve.new.self) (g.V.Views.waiting c.self.inside.views) (g.V.Views.waiting c.reserve.new.self) c.reserve.ensures.workers c.reserve.ensures.waiting j; behind = first_of (suc (c.reserve.ensures.workers j)) (λ k. c.reserve.ensures.behind 0 k j); passed = c.self.inside.passed }) ∙ c.self.view_is

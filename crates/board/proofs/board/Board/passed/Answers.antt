@@ -1,6 +1,7 @@
-use Rattle.std.proofs.Common.{◌<◌, IsTrue, sym, subst, arith}
-use Rattle.board.specs.Lateness.{BoardShown, IsUpToDate}
+use Rattle.std.proofs.Common.{◌<◌, ◌↔◌, IsTrue, sym, subst, arith}
+use Rattle.board.specs.Lateness.{BoardShown, CallsPassed, IsUpToDate}
 use Rattle.board.specs.Promises.{HasPassed, IsOutputPlace}
+use Rattle.board.proofs.Called.{called_there, there_called}
 use Rattle.board.proofs.Lateness.{none_waits}
 use Rattle.board.proofs.Passing.{has_passed, has_passed_back, outputs_there}
 use Rattle.board.proofs.board.Board.passed.Goals as goal
@@ -13,6 +14,14 @@ is_past-requires-clause-outputs g c = outputs_there (g.V.Views.graph c.self.insi
 
 pub is_past-requires-clause-place : goal.is_past-requires-clause-place
 is_past-requires-clause-place g c = subst (λ (b : BoardShown). IsOutputPlace b.shown c.args.output) (sym c.self.view_is) c.requires
+
+pub returns-clause-called : goal.returns-clause-called
+returns-clause-called g c =
+    let P : BoardShown → Type 0 = λ z. IsTrue c.is_past.result ↔ CallsPassed z c.args.output c.args.epoch in
+    subst P c.self.view_is (
+      (λ t. there_called (g.V.Views.graph c.self.inside.views) (g.V.Views.content c.self.inside.views) c.self.inside.state c.self.invariant.kept (g.V.Views.workers c.self.inside.views) (g.V.Views.waiting c.self.inside.views) (g.V.Views.behind c.self.inside.views 0) c.self.inside.passed c.self.invariant.viewers_are (g.met.V.Views.as_lists c.self.inside.views 0) c.args.output c.args.epoch (c.is_past.ensures.seen.0 t)),
+      (λ called. c.is_past.ensures.seen.1 (called_there (g.V.Views.graph c.self.inside.views) (g.V.Views.content c.self.inside.views) c.self.inside.state c.self.invariant.kept (g.V.Views.workers c.self.inside.views) (g.V.Views.waiting c.self.inside.views) (g.V.Views.behind c.self.inside.views 0) c.self.inside.passed c.self.invariant.viewers_are (g.met.V.Views.as_lists c.self.inside.views 0) c.args.output c.args.epoch called)),
+    )
 
 pub returns-clause-passed : goal.returns-clause-passed
 returns-clause-passed g c =

@@ -2,12 +2,19 @@ use Rattle.std.proofs.Common.{◌≤◌, ℕ, ap, subst, arith}
 use Rattle.views.specs.Waiting.{IsSeenBy}
 use Rattle.board.specs.Lateness.{BoardShown, IsUpToDate}
 use Rattle.board.specs.Promises.{CountsPassed}
+use Rattle.board.specs.Seals.{IsFirstUncalled}
+use Rattle.board.proofs.Called.{first_uncalled}
 use Rattle.board.proofs.Lateness.{none_waits}
 use Rattle.board.proofs.Passing.{known_most, seen_counts}
 use Rattle.board.proofs.board.Board.passed_count.Goals as goal
 
 pub returns-clause-value : goal.returns-clause-value
 returns-clause-value g c = ap (λ (b : BoardShown). b.passed) c.self.view_is
+
+pub returns-clause-first : goal.returns-clause-first
+returns-clause-first g c =
+    subst (λ (z : BoardShown). IsFirstUncalled z c.self.inside.passed) c.self.view_is
+    (first_uncalled (g.V.Views.graph c.self.inside.views) (g.V.Views.content c.self.inside.views) c.self.inside.state c.self.invariant.kept (g.V.Views.workers c.self.inside.views) (g.V.Views.waiting c.self.inside.views) (g.V.Views.behind c.self.inside.views 0) c.self.inside.passed c.self.invariant.viewers_are (g.met.V.Views.as_lists c.self.inside.views 0) c.self.inside.passed c.self.invariant.passed_seen c.self.invariant.passed_most)
 
 pub returns-clause-most : goal.returns-clause-most
 returns-clause-most g c =

@@ -20,6 +20,7 @@ use Rattle.board.proofs.Lateness.{board_of, none_waits}
 use Rattle.board.proofs.Picking.{behind_mail, chosen_request, lacks, picks_message}
 use Rattle.board.proofs.Places.{get_index}
 use Rattle.board.proofs.Ready.{good_request}
+use Rattle.board.proofs.Called.{as_late}
 use Rattle.board.proofs.board.Board.pick.Goals as goal
 
 pub invariant_of-self : goal.invariant_of-self
@@ -52,7 +53,14 @@ returns-then-choice-mail-clause-tables g c =
     hands_message_tables (g.V.Views.graph c.self.inside.views) (g.V.Views.content c.self.inside.views) s c.self.invariant.kept k there free runs c.claim_message.new.self c.args.choice c.claim_message.result.0 c.claim_message.ensures.hands ∙ ap tables (ap (λ (b : BoardShown). b.shown) c.self.view_is)
 
 pub returns-then-choice-mail-clause-views : goal.returns-then-choice-mail-clause-views
-returns-then-choice-mail-clause-views g c = record { waits = ap (λ (b : BoardShown). b.waits) c.self.view_is; passed = ap (λ (b : BoardShown). b.passed) c.self.view_is }
+returns-then-choice-mail-clause-views g c =
+    let s : Shown = c.self.inside.state in
+    let k : ℕ = c.args.worker in
+    let there : k < length s.sides = c.if-not-has_worker.ensures in
+    let free : (side_at s k).place ≡ Home = c.if-not-is_free.ensures in
+    let runs : s.stopped ≡ false = sym c.is_stopped.ensures ∙ c.if-is_stopped.false in
+    as_late (g.V.Views.graph c.self.inside.views) (g.V.Views.workers c.self.inside.views) (g.V.Views.content c.self.inside.views) (g.V.Views.waiting c.self.inside.views) (g.V.Views.behind c.self.inside.views 0) (g.V.Views.room c.self.inside.views) g.V.Views.late c.self.inside.passed c.self.inside.state c.claim_message.new.self (g.met.V.Views.as_lists c.self.inside.views 0) c.self.invariant
+    (keeps_message (g.V.Views.graph c.self.inside.views) (g.V.Views.workers c.self.inside.views) (g.V.Views.content c.self.inside.views) (g.V.Views.waiting c.self.inside.views) (g.V.Views.room c.self.inside.views) g.V.Views.late c.self.inside.passed s c.self.invariant c.claim_message.new.self k there free runs c.args.choice c.claim_message.result.0 c.claim_message.ensures.hands) c.args.self.now c.self.view_is
 
 pub kth_deliverable-requires-clause-known : goal.kth_deliverable-requires-clause-known
 kth_deliverable-requires-clause-known g c =
@@ -117,7 +125,7 @@ returns-in-Some-clause-picks g c =
     let given : Hands s k c.claim_request.new.self c.claim_request.result.0 = hands_request (g.V.Views.graph c.self.inside.views) (g.V.Views.content c.self.inside.views) s c.self.invariant.kept k there free runs c.claim_request.new.self at c.claim_request.result.0 hands front in
     let kth : Kth (IsDeliverable (g.V.Views.graph c.self.inside.views) (IsSeenBy (g.V.Views.content c.self.inside.views) (g.V.Views.waiting c.self.inside.views) (g.V.Views.workers c.self.inside.views) k)) (side_at s k).requests (c.args.choice - c.mail_count-mail.result) at =
     (let K : List Request → Type 0 = λ rs. Kth (IsDeliverable (g.V.Views.graph c.self.inside.views) (IsSeenBy (g.V.Views.content c.self.inside.views) (g.V.Views.waiting c.self.inside.views) (g.V.Views.workers c.self.inside.views) k)) rs (c.args.choice - c.mail_count-mail.result) at in subst K c.requests.ensures c.in-Some.ensures.some) in
-    let choice : IsUpToDate (board_of s (g.V.Views.workers c.self.inside.views) (g.V.Views.waiting c.self.inside.views) c.self.inside.passed) k → IsChoice s k c.args.choice given.taken =
+    let choice : IsUpToDate (board_of s (g.V.Views.workers c.self.inside.views) (g.V.Views.waiting c.self.inside.views) (g.V.Views.behind c.self.inside.views 0) c.self.inside.passed) k → IsChoice s k c.args.choice given.taken =
     λ up.
     let exactly = c.law_of_waiting.ensures.seen (g.V.Views.content c.self.inside.views) (g.V.Views.waiting c.self.inside.views) (g.V.Views.workers c.self.inside.views) k (none_waits s (g.V.Views.workers c.self.inside.views) (g.V.Views.waiting c.self.inside.views) c.self.inside.passed k (let v = c.self.invariant.viewers_are in omega (arith, there, v)) up) in
     let real : Kth (IsDeliverable (g.V.Views.graph c.self.inside.views) (λ q. 0 < g.V.Views.content c.self.inside.views q)) (side_at s k).requests (c.args.choice - c.mail_count-mail.result) at =
@@ -144,7 +152,20 @@ returns-in-Some-clause-tables g c =
     hands_request_tables (g.V.Views.graph c.self.inside.views) (g.V.Views.content c.self.inside.views) s c.self.invariant.kept k there free runs c.claim_request.new.self at c.claim_request.result.0 hands front ∙ ap tables (ap (λ (b : BoardShown). b.shown) c.self.view_is)
 
 pub returns-in-Some-clause-views : goal.returns-in-Some-clause-views
-returns-in-Some-clause-views g c = record { waits = ap (λ (b : BoardShown). b.waits) c.self.view_is; passed = ap (λ (b : BoardShown). b.passed) c.self.view_is }
+returns-in-Some-clause-views g c =
+    let s : Shown = c.self.inside.state in
+    let k : ℕ = c.args.worker in
+    let there : k < length s.sides = c.if-not-has_worker.ensures in
+    let free : (side_at s k).place ≡ Home = c.if-not-is_free.ensures in
+    let runs : s.stopped ≡ false = sym c.is_stopped.ensures ∙ c.if-is_stopped.false in
+    let at : ℕ = c.in-Some.place in
+    let h = c.in-Some.ensures.there in
+    let hands : HandsRequest s c.claim_request.new.self k at c.claim_request.result.0 = c.claim_request.ensures.hands in
+    let same : hands.request ≡ h.0 = (let e : Some hands.request ≡ Some h.0 = sym hands.got ∙ ap (λ (rs : List Request). slice_get rs at) (sym c.requests.ensures) ∙ h.1 in cc) in
+    let P : Request → Type 0 = λ x. NoOtherOf (CouldResultIn (g.V.Views.graph c.self.inside.views)) (λ q. 0 < g.V.Views.content c.self.inside.views q) (request_pointstamp x) in
+    let front : P hands.request = subst P (sym same) h.2 in
+    as_late (g.V.Views.graph c.self.inside.views) (g.V.Views.workers c.self.inside.views) (g.V.Views.content c.self.inside.views) (g.V.Views.waiting c.self.inside.views) (g.V.Views.behind c.self.inside.views 0) (g.V.Views.room c.self.inside.views) g.V.Views.late c.self.inside.passed c.self.inside.state c.claim_request.new.self (g.met.V.Views.as_lists c.self.inside.views 0) c.self.invariant
+    (keeps_request (g.V.Views.graph c.self.inside.views) (g.V.Views.workers c.self.inside.views) (g.V.Views.content c.self.inside.views) (g.V.Views.waiting c.self.inside.views) (g.V.Views.room c.self.inside.views) g.V.Views.late c.self.inside.passed s c.self.invariant c.claim_request.new.self k there free runs at c.claim_request.result.0 hands front) c.args.self.now c.self.view_is
 
 pub returns-in-None-clause-picks : goal.returns-in-None-clause-picks
 returns-in-None-clause-picks g c =
@@ -156,7 +177,7 @@ returns-in-None-clause-picks g c =
     let number : c.args.choice ≡ length (side_at s k).mail + (c.args.choice - c.mail_count-mail.result) = omega (arith, c.if-choice-mail.false, c.mail_count-mail.ensures) in
     let none : (at : ℕ) → Kth (IsDeliverable (g.V.Views.graph c.self.inside.views) (IsSeenBy (g.V.Views.content c.self.inside.views) (g.V.Views.waiting c.self.inside.views) (g.V.Views.workers c.self.inside.views) k)) (side_at s k).requests (c.args.choice - c.mail_count-mail.result) at → ⊥ =
     (let K : List Request → Type 0 = λ rs. (at : ℕ) → Kth (IsDeliverable (g.V.Views.graph c.self.inside.views) (IsSeenBy (g.V.Views.content c.self.inside.views) (g.V.Views.waiting c.self.inside.views) (g.V.Views.workers c.self.inside.views) k)) rs (c.args.choice - c.mail_count-mail.result) at → ⊥ in subst K c.requests.ensures c.in-None.ensures.none) in
-    let lacking : IsUpToDate (board_of s (g.V.Views.workers c.self.inside.views) (g.V.Views.waiting c.self.inside.views) c.self.inside.passed) k → LacksChoice s k c.args.choice =
+    let lacking : IsUpToDate (board_of s (g.V.Views.workers c.self.inside.views) (g.V.Views.waiting c.self.inside.views) (g.V.Views.behind c.self.inside.views 0) c.self.inside.passed) k → LacksChoice s k c.args.choice =
     λ up.
     let exactly = c.law_of_waiting.ensures.seen (g.V.Views.content c.self.inside.views) (g.V.Views.waiting c.self.inside.views) (g.V.Views.workers c.self.inside.views) k (none_waits s (g.V.Views.workers c.self.inside.views) (g.V.Views.waiting c.self.inside.views) c.self.inside.passed k (let v = c.self.invariant.viewers_are in omega (arith, there, v)) up) in
     lacks (g.V.Views.graph c.self.inside.views) (g.V.Views.content c.self.inside.views) s c.self.invariant.kept k there c.args.choice (c.args.choice - c.mail_count-mail.result) number

@@ -2,8 +2,9 @@ use Rattle.std.proofs.Common.{◌≡◌, ◌≤◌, ◌∙◌, ℕ, ap, subst, s
 use Rattle.semantics.specs.Could.{Pointstamp}
 use Rattle.graph.specs.Shown.{shown_graph}
 use Rattle.views.specs.Waiting.{Waiting}
-use Rattle.views.specs.WorkerViews.{WorkerViews, AreViews, AreSameQueues, content_of, waiting_of}
-use Rattle.views.proofs.ReservedRoom.{views_kept, waiting_same, kept_free}
+use Rattle.views.specs.QueuedLists.{lists_of}
+use Rattle.views.specs.WorkerViews.{WorkerViews, AreViews, AreSameQueues, content_of, untaken_at, waiting_of}
+use Rattle.views.proofs.ReservedRoom.{left_same, views_kept, waiting_same, kept_free}
 use Rattle.views.proofs.local_views.LocalViewsViews.reserve.Goals as goal
 
 pub invariant_of-self : goal.invariant_of-self
@@ -109,3 +110,36 @@ returns-in_ok-reserve-clause-waiting c = λ w s.
     let h : AreViews g (content_of i.tracker) n qs i.spare = c.self.invariant.2 in
     let sq : AreSameQueues qs qs' = c.reserve_queues.ensures.same in
     subst (λ (t : WorkerViews). waiting_of qs' w s ≡ waiting_of t.queues w s) c.self.view_is (ap (λ (x : Waiting). x w s) (waiting_same qs qs' sq))
+
+pub returns-in_err-reserve_queues-clause-behind : goal.returns-in_err-reserve_queues-clause-behind
+returns-in_err-reserve_queues-clause-behind c = λ w s.
+    let i = c.self.inside in
+    let g = shown_graph i.paths.value in
+    let n = i.workers in
+    let qs = i.queues.items in
+    let qs' = c.reserve_queues.new.queues.items in
+    let h : AreViews g (content_of i.tracker) n qs i.spare = c.self.invariant.2 in
+    let sq : AreSameQueues qs qs' = c.reserve_queues.ensures.same in
+    subst (λ (t : WorkerViews). lists_of (untaken_at qs' s w) ≡ lists_of (untaken_at t.queues s w)) c.self.view_is (ap lists_of (left_same qs qs' sq s w))
+
+pub returns-in_err-reserve-clause-behind : goal.returns-in_err-reserve-clause-behind
+returns-in_err-reserve-clause-behind c = λ w s.
+    let i = c.self.inside in
+    let g = shown_graph i.paths.value in
+    let n = i.workers in
+    let qs = i.queues.items in
+    let qs' = c.reserve_queues.new.queues.items in
+    let h : AreViews g (content_of i.tracker) n qs i.spare = c.self.invariant.2 in
+    let sq : AreSameQueues qs qs' = c.reserve_queues.ensures.same in
+    subst (λ (t : WorkerViews). lists_of (untaken_at qs' s w) ≡ lists_of (untaken_at t.queues s w)) c.self.view_is (ap lists_of (left_same qs qs' sq s w))
+
+pub returns-in_ok-reserve-clause-behind : goal.returns-in_ok-reserve-clause-behind
+returns-in_ok-reserve-clause-behind c = λ w s.
+    let i = c.self.inside in
+    let g = shown_graph i.paths.value in
+    let n = i.workers in
+    let qs = i.queues.items in
+    let qs' = c.reserve_queues.new.queues.items in
+    let h : AreViews g (content_of i.tracker) n qs i.spare = c.self.invariant.2 in
+    let sq : AreSameQueues qs qs' = c.reserve_queues.ensures.same in
+    subst (λ (t : WorkerViews). lists_of (untaken_at qs' s w) ≡ lists_of (untaken_at t.queues s w)) c.self.view_is (ap lists_of (left_same qs qs' sq s w))

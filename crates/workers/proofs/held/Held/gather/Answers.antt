@@ -1,4 +1,4 @@
-use Rattle.std.proofs.Common.{subst, sym}
+use Rattle.std.proofs.Common.{subst, sym, ◌∙◌}
 use Rattle.board.specs.Answers.{Gathers}
 use Rattle.board.specs.Shown.{Shown}
 use Rattle.workers.specs.Held.{HeldShown}
@@ -6,10 +6,10 @@ use Rattle.workers.proofs.Publishing.{after_gathering, after_refusal}
 use Rattle.workers.proofs.held.Held.gather.Goals as goal
 
 pub invariant_of-self : goal.invariant_of-self
-invariant_of-self g c = after_refusal g.J.Naming.names g.J.Naming.graph c.self.inside.board c.self.inside.publisher.number c.self.invariant c.gather.new.board (c.gather.ensures.nothing c.if-not-gather.true)
+invariant_of-self g c = (after_refusal g.J.Naming.names g.J.Naming.graph c.self.inside.board c.self.inside.publisher.number c.self.invariant.0 c.gather.new.board (c.gather.ensures.nothing c.if-not-gather.true), c.self.invariant.1)
 
 pub returns-then-not-gather-clause-published : goal.returns-then-not-gather-clause-published
-returns-then-not-gather-clause-published g c = (after_refusal g.J.Naming.names g.J.Naming.graph c.self.inside.board c.self.inside.publisher.number c.self.invariant c.gather.new.board (c.gather.ensures.nothing c.if-not-gather.true)).published
+returns-then-not-gather-clause-published g c = (after_refusal g.J.Naming.names g.J.Naming.graph c.self.inside.board c.self.inside.publisher.number c.self.invariant.0 c.gather.new.board (c.gather.ensures.nothing c.if-not-gather.true)).published
 
 pub returns-then-not-gather-clause-gathers : goal.returns-then-not-gather-clause-gathers
 returns-then-not-gather-clause-gathers g c =
@@ -17,13 +17,15 @@ returns-then-not-gather-clause-gathers g c =
     subst P c.self.view_is c.gather.ensures.gathers
 
 pub invariant_of-self-2 : goal.invariant_of-self-2
-invariant_of-self-2 g c =
-    after_gathering g.J.Naming.names g.J.Naming.graph c.self.inside.board c.self.inside.publisher.number c.self.invariant c.law_count.ensures.one c.passed_count-known.result c.passed_count-known.ensures.value c.passed_count-known.ensures.seen c.gather.new.board c.publish.new.board
-    c.publish.new.publisher.number c.gather.ensures.tables c.gather.ensures.graph c.gather.ensures.passed c.publish.ensures.shown c.publish.ensures.applies.passed c.publish.ensures.publishes
+invariant_of-self-2 g c = (
+  after_gathering g.J.Naming.names g.J.Naming.graph c.self.inside.board c.self.inside.publisher.number c.self.invariant.0 c.law_count.ensures.one c.passed_count-known.result c.passed_count-known.ensures.value c.passed_count-known.ensures.seen c.gather.new.board c.publish.new.board
+      c.publish.new.publisher.number c.gather.ensures.tables c.gather.ensures.graph c.gather.ensures.passed c.publish.ensures.shown c.publish.ensures.applies.passed c.publish.ensures.publishes,
+  c.publish.ensures.table ∙ c.self.invariant.1,
+)
 
 pub returns-clause-published : goal.returns-clause-published
 returns-clause-published g c =
-    (after_gathering g.J.Naming.names g.J.Naming.graph c.self.inside.board c.self.inside.publisher.number c.self.invariant c.law_count.ensures.one c.passed_count-known.result c.passed_count-known.ensures.value c.passed_count-known.ensures.seen c.gather.new.board c.publish.new.board
+    (after_gathering g.J.Naming.names g.J.Naming.graph c.self.inside.board c.self.inside.publisher.number c.self.invariant.0 c.law_count.ensures.one c.passed_count-known.result c.passed_count-known.ensures.value c.passed_count-known.ensures.seen c.gather.new.board c.publish.new.board
     c.publish.new.publisher.number c.gather.ensures.tables c.gather.ensures.graph c.gather.ensures.passed c.publish.ensures.shown c.publish.ensures.applies.passed c.publish.ensures.publishes).published
 
 pub returns-clause-gathers : goal.returns-clause-gathers

@@ -12,7 +12,7 @@ returns-clause-passed g c =
     let shows = c.in_ok-look.ensures.outputs in
     subst P c.self.view_is (λ n counts lt k there.
     let place : IsOutputPlace c.self.inside.board.shown k = (let many = shows.places in omega (arith, there, many)) in
-    (shows.each k place).seen c.self.invariant.prompt (c.law_count.ensures.below n counts c.args.epoch lt k place))
+    (shows.each k place).seen c.self.invariant.0.prompt (c.law_count.ensures.below n counts c.args.epoch lt k place))
 
 pub returns-clause-whole : goal.returns-clause-whole
 returns-clause-whole g c =

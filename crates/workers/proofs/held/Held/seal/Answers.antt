@@ -1,17 +1,18 @@
+use Rattle.std.proofs.Common.{◌∙◌}
 use Rattle.machine.specs.Step.{Step}
 use Rattle.workers.proofs.Publishing.{after_publishing, after_refusal}
 use Rattle.workers.proofs.held.Held.seal.Goals as goal
 
 pub invariant_of-self : goal.invariant_of-self
-invariant_of-self g c = after_refusal g.J.Naming.names g.J.Naming.graph c.self.inside.board c.self.inside.publisher.number c.self.invariant c.seal.new.self c.in_err-seal.ensures.refused
+invariant_of-self g c = (after_refusal g.J.Naming.names g.J.Naming.graph c.self.inside.board c.self.inside.publisher.number c.self.invariant.0 c.seal.new.self c.in_err-seal.ensures.refused, c.self.invariant.1)
 
 pub returns-in_err-seal-clause-published : goal.returns-in_err-seal-clause-published
-returns-in_err-seal-clause-published g c = (after_refusal g.J.Naming.names g.J.Naming.graph c.self.inside.board c.self.inside.publisher.number c.self.invariant c.seal.new.self c.in_err-seal.ensures.refused).published
+returns-in_err-seal-clause-published g c = (after_refusal g.J.Naming.names g.J.Naming.graph c.self.inside.board c.self.inside.publisher.number c.self.invariant.0 c.seal.new.self c.in_err-seal.ensures.refused).published
 
 pub invariant_of-self-2 : goal.invariant_of-self-2
 invariant_of-self-2 g c =
-    after_publishing g.J.Naming.names g.J.Naming.graph c.self.inside.board c.self.inside.publisher.number c.self.invariant c.publish.new.board c.publish.new.publisher.number c.law_stays.ensures.count (Step.seal c.args.input) c.seal.new.self c.in_ok-seal.ensures.step c.seal.ensures.tables c.publish.ensures.shown c.publish.ensures.publishes
+    (after_publishing g.J.Naming.names g.J.Naming.graph c.self.inside.board c.self.inside.publisher.number c.self.invariant.0 c.publish.new.board c.publish.new.publisher.number c.law_stays.ensures.count (Step.seal c.args.input) c.seal.new.self c.in_ok-seal.ensures.step c.seal.ensures.tables c.publish.ensures.shown c.publish.ensures.publishes, c.publish.ensures.table ∙ c.self.invariant.1)
 
 pub returns-clause-published : goal.returns-clause-published
 returns-clause-published g c =
-    (after_publishing g.J.Naming.names g.J.Naming.graph c.self.inside.board c.self.inside.publisher.number c.self.invariant c.publish.new.board c.publish.new.publisher.number c.law_stays.ensures.count (Step.seal c.args.input) c.seal.new.self c.in_ok-seal.ensures.step c.seal.ensures.tables c.publish.ensures.shown c.publish.ensures.publishes).published
+    (after_publishing g.J.Naming.names g.J.Naming.graph c.self.inside.board c.self.inside.publisher.number c.self.invariant.0 c.publish.new.board c.publish.new.publisher.number c.law_stays.ensures.count (Step.seal c.args.input) c.seal.new.self c.in_ok-seal.ensures.step c.seal.ensures.tables c.publish.ensures.shown c.publish.ensures.publishes).published

@@ -8,5 +8,5 @@ load-requires c =
     rw c.deref-table.ensures (
       ap (λ (t : Token). t.table) c.seat.view_is ∙ (c.requires ∙ sym c.self.view_is),
       omega (arith, c.self.invariant.0),
-      reads _ _ _ c.seat.inside.seat.me.0.number c.seat.invariant,
+      reads _ _ _ c.seat.inside.seat.me.0.read c.seat.invariant,
     )

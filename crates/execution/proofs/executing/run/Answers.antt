@@ -1,0 +1,24 @@
+use Rattle.std.proofs.Common.{◌≡◌, ◌∙◌, refl, sym, ap, length, arith}
+use Rattle.std.proofs.lemmas.List.{length-map}
+use Rattle.graph.specs.Shown.{shown_inputs}
+use Rattle.record_core.specs.Inputs.{input_of}
+use Rattle.execution.proofs.Tellings.{tells_then}
+use Rattle.execution.proofs.WorkedOff.{is_worked_off}
+use Rattle.execution.proofs.executing.run.Goals as goal
+
+pub returns-then-is_fed-clause-worked : goal.returns-then-is_fed-clause-worked
+returns-then-is_fed-clause-worked g c =
+    let count : length c.inputs.result.now ≡ length (shown_inputs c.args.board.shown.graph) = sym (length-map c.inputs.result.now input_of) ∙ ap length c.inputs.ensures ∙ ap (λ g. length (shown_inputs g)) c.graph-graph.ensures in
+    is_worked_off c.args.board.shown.graph c.in_ok-report.report c.args.epochs.now (length c.inputs.result.now) c.count.result
+    c.in_ok-report.ensures.graph c.in_ok-report.ensures.drained (c.if-is_fed.ensures refl) count c.count.ensures
+
+pub returns-then-is_fed-clause-last : goal.returns-then-is_fed-clause-last
+returns-then-is_fed-clause-last g c = (c.passed-passed.result, c.passed-passed.ensures, omega (arith, c.tell_rise.ensures.told))
+
+pub returns-then-is_fed-clause-tells : goal.returns-then-is_fed-clause-tells
+returns-then-is_fed-clause-tells g c =
+    tells_then g.W.Write.contents c.args.watch.now.watcher c.drive_any.new.watch.watcher c.tell_rise.new.self.watcher c.args.watch.now.told c.drive_any.new.watch.told c.tell_rise.new.self.told c.drive_any.ensures.tells c.tell_rise.ensures.tells
+
+pub returns-clause-tells : goal.returns-clause-tells
+returns-clause-tells g c =
+    tells_then g.W.Write.contents c.args.watch.now.watcher c.drive_any.new.watch.watcher c.tell_rise.new.self.watcher c.args.watch.now.told c.drive_any.new.watch.told c.tell_rise.new.self.told c.drive_any.ensures.tells c.tell_rise.ensures.tells

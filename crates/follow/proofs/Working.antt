@@ -1,0 +1,212 @@
+-- Each step of a round leaves less to do, and a round in which no worker had an event leaves a board at rest.
+use Rattle.std.proofs.Common.{◌≡◌, ◌<◌, ◌≤◌, ◌⊎◌, ◌+◌, ◌∙◌, ℕ, zero, suc, List, [], ◌∷◌, length, refl, sym, ap, subst, arith, inl, inr, slice_get, Some, eq-eqb, false, cond, drop, remove}
+use Rattle.std.specs.Prelude.{Option, None, Result, Ok, Err, IfNone, IfOk, IfSome, OnOk, is_ok, true}
+use Rattle.std.proofs.lemmas.Bool.Decides.{eqb_tells}
+use Rattle.graph.specs.Shown.{GraphValue}
+use Rattle.machine.specs.World.{Event, Held, World}
+use Rattle.machine.specs.Step.{Step, after_step, merged}
+use Rattle.ending.specs.Ending.{IsWork}
+use Rattle.events.specs.Jobs.{Pass}
+use Rattle.board.specs.Answers.{Claims, Gathers, Hands, HasNoChoice, Merges, MergesAll}
+use Rattle.board.specs.Kept.{Goes}
+use Rattle.board.specs.Promises.{IsOpening}
+use Rattle.board.specs.Reached.{IsReached}
+use Rattle.board.specs.Shown.{Shown, held_of, net, side_at}
+use Rattle.board.specs.Showing.{Shows}
+use Rattle.board.specs.WorkerShown.{IsIdle}
+use Rattle.board.specs.declared.board.Claimed.{Claimed}
+use Rattle.board.specs.declared.board.Claimed.TheVariants.{Drained, Idle}
+use Rattle.alone.specs.Rests.{IsAtRest}
+use Rattle.alone.proofs.Less.{claim_works, gathers_lead, left, left_less, reached_on}
+use Rattle.alone.proofs.Resting.{passed_over}
+use Rattle.follow.specs.Working.{Advances, HasEnded, HasNoEvent, HasWorked, HaveNoEvent, IsBusy, IsWorkedOff, Leads, Moves, TookNothing}
+use Rattle.follow.specs.Scenes.{IsLive, Works}
+use Rattle.follow.specs.declared.rounds.Round.{Round}
+use Rattle.follow.specs.declared.rounds.Round.TheVariants as round
+use Rattle.follow.proofs.Moved.{steps_work, works_not, works_on}
+
+-- ---- steps
+
+pub stays : (s t : Shown) → t ≡ s → Moves s t
+stays s t same = (0, same)
+
+pub one_step : (s t : Shown) (step : Step) → IsWork step → Goes s step t → Advances s t
+one_step s t step work goes = (0, (s, refl, (step, work, goes)))
+
+pub advances_move : (s t : Shown) → Advances s t → Moves s t
+advances_move s t (n, steps) = (suc n, steps)
+
+pub moves_on : (s t u : Shown) → Moves s t → Moves t u → Moves s u
+moves_on s t u first (zero, same) = subst (Moves s) (sym same) first
+moves_on s t u first (suc n, (v, before, last)) = let a = moves_on s t v first (n, before) in (suc a.0, (v, a.1, last))
+
+pub then_advances : (s t u : Shown) → Moves s t → Advances t u → Advances s u
+then_advances s t u first (n, (v, before, last)) = let a = moves_on s t v first (n, before) in (a.0, (v, a.1, last))
+
+pub advances_on : (s t u : Shown) → Advances s t → Moves t u → Advances s u
+advances_on s t u first (zero, same) = subst (Advances s) (sym same) first
+advances_on s t u first (suc n, steps) = then_advances s t u (advances_move s t first) (n, steps)
+
+pub moves_work : (s t : Shown) → Moves s t → IsLive s → Works s t
+moves_work s t (zero, same) live = subst (Works s) (sym same) (works_not s live)
+moves_work s t (suc n, (u, before, (step, work, goes))) live =
+    let a = moves_work s u (n, before) live in
+    works_on s u t a (steps_work u t step work goes a.grows.live)
+
+-- what further steps lead to, with less or as much left
+record LeadsTo (s t : Shown) (n : ℕ) : Type 0 where
+  reached : IsReached t
+  less : left t + n ≤ left s
+
+leads_to : (n : ℕ) (s t : Shown) → IsReached s → Leads n s t → LeadsTo s t n
+leads_to zero s t r same = record { reached = subst IsReached (sym same) r; less = let e : left t ≡ left s = ap left same in omega (arith, e) }
+leads_to (suc n) s t r (u, before, (step, work, goes)) =
+    let a = leads_to n s u r before in
+    let l = left_less u t a.reached step work goes in
+    record { reached = reached_on u t a.reached step work goes; less = let b = a.less in omega (arith, b, l) }
+
+pub advances_less : (s t : Shown) → IsReached s → Advances s t → left t < left s
+advances_less s t r (n, steps) = let a = (leads_to (suc n) s t r steps).less in omega (arith, a)
+
+-- ---- claims
+
+merges_move : (k : ℕ) (places : List ℕ) (s t : Shown) → MergesAll k places s t → Moves s t
+merges_move k [] s t same = (0, same)
+merges_move k (at ∷ places) s t (u, before, (first, second, goes)) =
+    let a = merges_move k places s u before in
+    let step : Step = Step.merge k at first second in
+    (suc a.0, (u, a.1, (step, tt, goes)))
+
+pub hands_advance : (s u t : Shown) (k : ℕ) (p : Pass) → Gathers s k u → Hands u k t p → Advances s t
+hands_advance s u t k p (places, gathers) h = then_advances s u t (merges_move k places s u gathers) (one_step u t h.taken (claim_works k h.taken h.by) h.goes)
+
+-- a merge leaves a message, which its worker may claim
+merges_leave : (s u : Shown) (k at : ℕ) → IsReached s → Merges s k at u → HasNoChoice u k → ⊥
+merges_leave s u k at r (first, second, goes) none =
+    let went = goes.step r.world r.shows in
+    let may = went.0.0 in
+    let workers = goes.workers in
+    let rest = remove (drop 1 (r.world.mail k)) at in
+    let there : k < length u.sides = let l = may.0 in omega (arith, l, workers) in
+    none (after_step (net s) r.world (Step.merge k at first second)) (Step.claim_message k 0 (merged first second)) went.1
+    ((there, may.1, may.2), ap (λ b. slice_get (cond b (merged first second ∷ rest) (r.world.mail k)) 0) (eq-eqb k k refl)) refl
+
+-- so a worker without an event had nothing to merge
+gathers_nothing : (s u : Shown) (k : ℕ) → IsReached s → Gathers s k u → HasNoChoice u k → u ≡ s
+gathers_nothing s u k r ([], same) none = same
+gathers_nothing s u k r (at ∷ places, (v, before, last)) none = absurd (merges_leave v u k at (gathers_lead k s v r (places, before)).reached last none)
+
+none_in : {X : Type 0} (xs : List X) (at : ℕ) (x : X) → xs ≡ [] → slice_get xs at ≡ Some x → ⊥
+none_in [] at x e s = cc
+none_in (y ∷ xs) at x e s = cc
+
+-- idle workers leave no choice
+no_choice : (s : Shown) (k : ℕ) → ((j : ℕ) → j < length s.sides → IsIdle (side_at s j)) → HasNoChoice s k
+no_choice s k is w (Step.feed i records) shows ok by = absurd by
+no_choice s k is w (Step.seal i) shows ok by = absurd by
+no_choice s k is w (Step.close i) shows ok by = absurd by
+no_choice s k is w (Step.merge j at m n) shows ok by = absurd by
+no_choice s k is w (Step.commit j event out) shows ok by = absurd by
+no_choice s k is w (Step.abandon j event) shows ok by = absurd by
+no_choice s k is w (Step.claim_message j at m) shows ok by = none_in (w.mail j) at m (shows.mail j ok.0.0 ∙ (is j ok.0.0).mail) ok.1
+no_choice s k is w (Step.claim_request j at n) shows ok by = none_in (w.requests j) at n (shows.requests j ok.0.0 ∙ (is j ok.0.0).requests) ok.1
+
+-- a claim that found nothing, after nothing was merged
+finds_nothing : (s u t : Shown) (k : ℕ) → IsReached s → Gathers s k u → t ≡ u → HasNoEvent u k → (t ≡ s) × HasNoEvent s k
+finds_nothing s u t k r gathers same without = let e = gathers_nothing s u k r gathers without.none in (same ∙ e, subst (λ x. HasNoEvent x k) e without)
+
+pub idle_nothing : (s u t : Shown) (k : ℕ) (claimed : Claimed) → IsReached s → Gathers s k u → Claims u t k claimed → (claimed ≡ Idle) ⊎ (claimed ≡ Drained) → (t ≡ s) × HasNoEvent s k
+idle_nothing s u t k claimed r gathers h (inl is) =
+    let idle : Claims u t k Idle = subst (Claims u t k) is h in
+    finds_nothing s u t k r gathers idle.5 (record { runs = idle.0; home = idle.2; none = idle.3 })
+idle_nothing s u t k claimed r gathers h (inr is) =
+    let drained : Claims u t k Drained = subst (Claims u t k) is h in
+    finds_nothing s u t k r gathers drained.3 (record { runs = drained.0; home = (drained.2.idle k drained.1).place; none = no_choice u k drained.2.idle })
+
+-- ---- rounds
+
+-- one more worker without an event
+pub none_more : (s : Shown) (n : ℕ) → HaveNoEvent s n → HasNoEvent s n → HaveNoEvent s (n + 1)
+none_more s n before last k l = elim (eqb_tells k n) [
+  | inl same ↦ subst (HasNoEvent s) (sym same.1) last
+  | inr other ↦ before k (let p = other.1 in omega (arith, l, p))
+]
+
+pub nothing_more : (s t u : Shown) (n : ℕ) → t ≡ s → HaveNoEvent s n → u ≡ t → HasNoEvent t n → (u ≡ s) × HaveNoEvent s (n + 1)
+nothing_more s t u n same before still last = (still ∙ same, none_more s n before (subst (λ x. HasNoEvent x n) same last))
+
+pub round_moves : (r : Round) (n : ℕ) (s t : Shown) → HasWorked r n s t → Moves s t
+round_moves round.Idle n s t h = (0, h.0)
+round_moves (round.Sent rows) n s t h = advances_move s t h
+
+pub turn_nothing : (r : Round) (n : ℕ) (s t u : Shown) → HasWorked r n s t → (u ≡ t) × HasNoEvent t n → HasWorked r (n + 1) s u
+turn_nothing round.Idle n s t u h last = nothing_more s t u n h.0 h.1 last.0 last.1
+turn_nothing (round.Sent rows) n s t u h last = subst (Advances s) (sym last.0) h
+
+pub round_all : (r : Round) (n m : ℕ) (s t : Shown) → m ≤ n → HasWorked r n s t → HasWorked r m s t
+round_all round.Idle n m s t le h = (h.0, λ k l. h.1 k (omega (arith, l, le)))
+round_all (round.Sent rows) n m s t le h = h
+
+busy_worked : (r : Round) (n : ℕ) (s t : Shown) → IsBusy r → Advances s t → HasWorked r n s t
+busy_worked round.Idle n s t busy a = absurd busy
+busy_worked (round.Sent rows) n s t busy a = a
+
+pub turn_some : (r q : Round) (n m : ℕ) (s t u v : Shown) → HasWorked r n s t → Advances t u → Advances u v → IsBusy q → HasWorked q m s v
+turn_some r q n m s t u v h claims ends busy = busy_worked q m s v busy (advances_on s u v (then_advances s t u (round_moves r n s t h) claims) (advances_move u v ends))
+
+pub round_ends : (r : Round) {X : Type 0} (rest all : List X) (s t : Shown) → HasEnded r rest all s t → Moves s t
+round_ends round.Idle rest all s t h = (0, h.1)
+round_ends (round.Sent rows) rest all s t h = advances_move s t h
+
+-- one more event is ended
+pub ends_more : {T E : Type 0} {X : Type 0} (first : Result Round E) (second : Result T E) (whole : Result Round E) (rest fewer all : List X) (s t u : Shown) → IfOk whole (λ r. (is_ok first ≡ true) × (is_ok second ≡ true)) → IfOk whole IsBusy
+    → IfOk first (λ r. HasEnded r rest all s t) → OnOk second (Advances t u) → IfOk whole (λ r. HasEnded r fewer all s u)
+ends_more (Ok r) (Ok x) (Ok round.Idle) rest fewer all s t u both busy h a = absurd busy
+ends_more (Ok r) (Ok x) (Ok (round.Sent rows)) rest fewer all s t u both busy h a = then_advances s t u (round_ends r rest all s t h) a
+ends_more (Err e) second (Ok q) rest fewer all s t u both busy h a = absurd (let p : false ≡ true = both.0 in cc)
+ends_more (Ok r) (Err e) (Ok q) rest fewer all s t u both busy h a = absurd (let p : false ≡ true = both.1 in cc)
+ends_more first second (Err e) rest fewer all s t u both busy h a = tt
+
+empty : {X : Type 0} (xs : List X) → length xs ≡ 0 → xs ≡ []
+empty [] e = refl
+empty (x ∷ xs) e = absurd (omega (arith, e))
+
+-- what a call that answers an option says of each case
+pub some_of : {X : Type 0} (A : Type 0) (o : Option X) (x : X) → o ≡ Some x → IfSome o (λ y. A) → A
+some_of A (Some y) x is h = h
+some_of A None x is h = absurd cc
+
+pub none_of : {X : Type 0} (A : Type 0) (o : Option X) → o ≡ None → IfNone o A → A
+none_of A None is h = h
+none_of A (Some y) is h = absurd cc
+
+-- events were claimed, and all were ended
+pub parallel_worked : (r : Round) {X : Type 0} (claimed computed : List X) (n : ℕ) (s t u : Shown) → Moves s t → TookNothing claimed n s t → length computed ≡ length claimed → HasEnded r [] computed t u → HasWorked r n s u
+parallel_worked round.Idle claimed computed n s t u moves none same ended =
+    let a = none (empty claimed (let e : length computed ≡ 0 = ap length ended.0 in omega (arith, e, same))) in
+    (ended.1 ∙ a.0, a.1)
+parallel_worked (round.Sent rows) claimed computed n s t u moves none same ended = then_advances s t u moves ended
+
+-- ---- at rest
+
+nothing_held : (s : Shown) → HaveNoEvent s (length s.sides) → (w : World) → Shows s w → (j : ℕ) (event : Event) → j < length s.sides → w.held j ≡ Held.holding false event → ⊥
+nothing_held s without w shows j event m e = let z : Held.nothing ≡ Held.holding false event = sym (ap held_of (without j m).home) ∙ sym (shows.held j m) ∙ e in cc
+
+at_rest : (s : Shown) → HaveNoEvent s (length s.sides) → IsAtRest s
+at_rest s without w shows (Step.feed i records) work ok = absurd work
+at_rest s without w shows (Step.seal i) work ok = absurd work
+at_rest s without w shows (Step.close i) work ok = absurd work
+at_rest s without w shows (Step.claim_message j at m) work ok = (without j ok.0.0).none w (Step.claim_message j at m) shows ok refl
+at_rest s without w shows (Step.claim_request j at n) work ok = (without j ok.0.0).none w (Step.claim_request j at n) shows ok refl
+at_rest s without w shows (Step.merge j at m n) work ok = (without j ok.0.0).none w (Step.claim_message j 0 m) shows (ok.0, ok.1) refl
+at_rest s without w shows (Step.commit j event out) work ok = nothing_held s without w shows j event ok.0 ok.1
+at_rest s without w shows (Step.abandon j event) work ok = nothing_held s without w shows j event ok.0 ok.1
+
+pub idle_off : (s t : Shown) → IsReached s → HasWorked round.Idle (length s.sides) s t → IsWorkedOff t
+idle_off s t r h =
+    let rest = at_rest s h.1 in
+    subst IsWorkedOff (sym h.0) (record { rests = rest; passed = passed_over s r (h.1 0 r.some).runs rest })
+
+-- a new board has nothing to do
+pub opening_off : (g : GraphValue) (n : ℕ) (s : Shown) → IsReached s → IsOpening g n s → IsWorkedOff s
+opening_off g n s r is = idle_off s s r (refl, λ k l. record { runs = is.runs; home = (is.idle k l).place; none = no_choice s k is.idle })

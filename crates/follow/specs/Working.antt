@@ -1,0 +1,62 @@
+-- What rounds of work do on a board.
+use Rattle.std.specs.Prelude.{◌≡◌, ◌<◌, ℕ, zero, suc, false, List, []}
+use Rattle.machine.specs.Step.{Step}
+use Rattle.ending.specs.Ending.{IsWork}
+use Rattle.tokens.specs.declared.rule.Place.TheVariants.{Home}
+use Rattle.board.specs.Answers.{HasNoChoice}
+use Rattle.board.specs.Kept.{Goes}
+use Rattle.board.specs.Shown.{Shown, side_at}
+use Rattle.alone.specs.Rests.{HasPassedOver, IsAtRest}
+use Rattle.follow.specs.declared.rounds.Round.{Round}
+use Rattle.follow.specs.declared.rounds.Round.TheVariants.{Idle, Sent}
+
+-- a worker takes a step
+abbrev pub TakesStep : Shown → Shown → Type 0
+TakesStep s t = (step : Step) × IsWork step × Goes s step t
+
+-- that many steps of workers lead from a state to another
+abbrev pub Leads : ℕ → Shown → Shown → Type 0
+Leads zero s t = t ≡ s
+Leads (suc n) s t = (u : Shown) × Leads n s u × TakesStep u t
+
+-- some steps of workers do, or none
+abbrev pub Moves : Shown → Shown → Type 0
+Moves s t = (n : ℕ) × Leads n s t
+
+-- at least one does
+abbrev pub Advances : Shown → Shown → Type 0
+Advances s t = (n : ℕ) × Leads (suc n) s t
+
+-- the board runs, and the worker is free and has no event
+pub record HasNoEvent (s : Shown) (worker : ℕ) : Type 0 where
+  pub runs : s.stopped ≡ false
+  pub home : (side_at s worker).place ≡ Home
+  pub none : HasNoChoice s worker
+
+-- the first n workers have no event
+abbrev pub HaveNoEvent : Shown → (n : ℕ) → Type 0
+HaveNoEvent s n = (k : ℕ) → k < n → HasNoEvent s k
+
+-- if no event was taken from the first n workers, they have none, and nothing was done
+abbrev pub TookNothing : {X : Type 0} → (taken : List X) → (n : ℕ) → (s t : Shown) → Type 0
+TookNothing taken n s t = taken ≡ [] → (t ≡ s) × HaveNoEvent s n
+
+-- after the first n workers: none of them had an event, or some event was processed
+abbrev pub HasWorked : Round → (n : ℕ) → (s t : Shown) → Type 0
+HasWorked Idle n s t = (t ≡ s) × HaveNoEvent s n
+HasWorked (Sent rows) n s t = Advances s t
+
+-- of all the events these are left: none was ended, or some was
+abbrev pub HasEnded : Round → {X : Type 0} → (rest all : List X) → (s t : Shown) → Type 0
+HasEnded Idle rest all s t = (all ≡ rest) × (t ≡ s)
+HasEnded (Sent rows) rest all s t = Advances s t
+
+-- some event was ended
+abbrev pub IsBusy : Round → Type 0
+IsBusy Idle = ⊥
+IsBusy (Sent rows) = Unit {0}
+
+-- nothing is left to do now: no worker may take a step, and each epoch that is over at every input has passed at every output
+pub record IsWorkedOff (s : Shown) : Type 0 where
+  pub rests : IsAtRest s
+  pub passed : HasPassedOver s
