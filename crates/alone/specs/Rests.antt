@@ -5,8 +5,9 @@ use Rattle.machine.specs.World.{World}
 use Rattle.semantics.specs.Graph.{input_count}
 use Rattle.graph.specs.Shown.{shown_graph}
 use Rattle.board.specs.Promises.{HasPassed}
-use Rattle.board.specs.Shown.{Shown, input_at, net}
+use Rattle.board.specs.Shown.{Shown, input_at, net, side_at}
 use Rattle.board.specs.Showing.{Shows}
+use Rattle.tokens.specs.declared.rule.Place.TheVariants.{Home}
 use Rattle.driver.specs.declared.ended.Ended.{Ended}
 use Rattle.driver.specs.declared.ended.Ended.TheVariants.{Drained, Stopped, Count, Busy}
 
@@ -33,3 +34,15 @@ HasStopped (Some Drained) = ⊥
 HasStopped (Some Stopped) = Unit {0}
 HasStopped (Some Count) = Unit {0}
 HasStopped (Some Busy) = ⊥
+
+-- there is such a worker, and no event of it is out
+abbrev pub IsFree : Shown → (worker : ℕ) → Type 0
+IsFree s k = (k < length s.sides) × ((side_at s k).place ≡ Home)
+
+-- the worker is free again, unless an event of it was abandoned
+abbrev pub StaysFree : Shown → (worker : ℕ) → Option Ended → Type 0
+StaysFree s k None = IsFree s k
+StaysFree s k (Some Drained) = IsFree s k
+StaysFree s k (Some Stopped) = Unit {0}
+StaysFree s k (Some Count) = Unit {0}
+StaysFree s k (Some Busy) = ⊥

@@ -1,7 +1,7 @@
 //! The loop of one thread over a board.
 
-ghost use Rattle.std.specs.Prelude.{◌≡◌, length, true};
-ghost use Rattle.alone.specs.Rests.{HasPassedOver, HasStopped, IsAtRest, IsDone};
+ghost use Rattle.std.specs.Prelude.{◌≡◌, ◌≤◌, length, true};
+ghost use Rattle.alone.specs.Rests.{HasPassedOver, HasStopped, IsAtRest, IsDone, IsFree, StaysFree};
 
 use board::{Board, Claimed};
 use driver::{Ended, claim, process};
@@ -21,6 +21,8 @@ pub fn work_off<V: Views, G: Gate>(
     ensures rests { IsDone result → length board.new.shown.sides ≡ 1 → IsAtRest board.new.shown }
     ensures graph { board.new.shown.graph ≡ board.old.shown.graph }
     ensures stopped { HasStopped result → board.new.shown.stopped ≡ true }
+    ensures free { IsFree board.old.shown worker → StaysFree board.new.shown worker result }
+    ensures rises { board.old.passed ≤ board.new.passed }
 {
     'events: loop {
         board.law_run();

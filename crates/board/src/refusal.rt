@@ -6,25 +6,33 @@ ghost use Rattle.board.specs.Codes.{refusal_code};
 use crate::codes::{
     HOLDS_EVENT, INPUT_CLOSED, LAST_EPOCH, NO_SUCH_EVENT, STOPPED, UNKNOWN_INPUT, WRONG_FIELD_COUNT,
 };
+use thiserror::Error;
 
 /// Why a call was refused. A refused call leaves the board unchanged.
-#[derive(Clone, Copy, Debug, PartialEq, Eq)]
+#[derive(Clone, Copy, Debug, PartialEq, Eq, Error)]
 pub enum StepRefusal {
     /// An event was abandoned, which stops the board for good.
+    #[error("stopped")]
     Stopped,
     /// A feed, a seal or a close names an input that doesn't exist.
+    #[error("no such input")]
     UnknownInput,
     /// A feed, a seal or a close names an input that is already closed.
+    #[error("the input is closed")]
     InputClosed,
     /// A fed record doesn't have the number of fields that its input declares.
+    #[error("wrong number of fields")]
     WrongFieldCount,
     /// A seal at epoch 4294967295, the last one.
+    #[error("the last epoch")]
     LastEpoch,
     /// A pick for a worker that holds an event, even one that was abandoned.
+    #[error("the worker holds an event")]
     HoldsEvent,
     /// A pick for a worker that has no choice of that number, or for a worker that doesn't exist.
+    #[error("no such event")]
     NoSuchEvent,
-    /// Out of memory.
+    #[error("out of memory")]
     NoMemory,
 }
 

@@ -1,6 +1,6 @@
 //! A board over the graph of a query, and turns of its workers.
 
-ghost use Rattle.std.specs.Prelude.{◌≡◌, ◌<◌, ◌≤◌, length, IfSome};
+ghost use Rattle.std.specs.Prelude.{◌<◌, ◌≤◌, length};
 ghost use Rattle.board.specs.Commits.{IsOf};
 
 use board::{Board, Claimed, CommitRefusal};
@@ -61,7 +61,7 @@ pub enum Turn {
 }
 
 /// Computes an event and commits it, or abandons it if that is refused.
-pub fn commit<V: Views>(alloc: Global, board: &mut Board<V>, work: Work) -> Turn
+fn commit<V: Views>(alloc: Global, board: &mut Board<V>, work: Work) -> Turn
     requires { IsOf board.old.shown work.0 }
 {
     match work.compute(alloc) {
@@ -90,26 +90,6 @@ pub fn take_turn<V: Views>(alloc: Global, board: &mut Board<V>, worker: u32) -> 
         Claimed::Drained => Turn::Drained,
         Claimed::Idle => Turn::Idle,
         Claimed::Work(work) => commit(alloc, board, work),
-    }
-}
-
-/// An event that the first worker claims, where it has one.
-pub fn claimed<V: Views>(board: &mut Board<V>) -> Option<Work>
-    ensures { IfSome result (λ work. IsOf board.new.shown work.0) }
-{
-    match board.claim(0) {
-        Claimed::Work(work) => Some(work),
-        Claimed::Stopped | Claimed::Busy | Claimed::Drained | Claimed::Idle => None,
-    }
-}
-
-/// The first choice of the first worker, where it has one.
-pub fn picked<V: Views>(board: &mut Board<V>) -> Option<Work>
-    ensures { IfSome result (λ work. IsOf board.new.shown work.0) }
-{
-    match board.pick(0, 0) {
-        Ok(work) => Some(work),
-        Err(_) => None,
     }
 }
 

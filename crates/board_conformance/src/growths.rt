@@ -10,7 +10,6 @@ ghost use Rattle.board.specs.Commits.{IsOf};
 use crate::boards::{
     batch_of, board_of, emitted_at, fields_of, graph_of, late_board_of, passed_at,
 };
-use crate::calls::shows_at;
 use crate::scarce::late_board_after;
 use board::{Board, Claimed, CommitRefusal, StepRefusal};
 use events::{Done, Work};
@@ -306,6 +305,20 @@ fn refused_by_late_views(rt: HostRuntime) -> Result<(), Fail> {
         }
     }
     Err(Fail::from("always refused"))
+}
+
+/// Whether an output shows these fields for epoch 0, and whether it shows the epoch as passed.
+fn shows_at<V: Views>(
+    alloc: Global,
+    board: &Board<V>,
+    output: u32,
+    emitted: &[i64],
+    passed: bool,
+) -> bool {
+    match fields_of(alloc, emitted_at(board, output, 0)) {
+        Ok(fields) => fields.as_slice() == emitted && passed_at(board, output, 0) == passed,
+        Err(_) => false,
+    }
 }
 
 /// Does a worker's first choice, which must be there or not. How often a call was refused.

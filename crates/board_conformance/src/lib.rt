@@ -1,14 +1,9 @@
-//! The board's calls: each once on its happy path, each refusal in its order, calls that are made again after a refusal, and
-//! schedules at random, after each call of which what was emitted is compared with what a plain evaluator makes of what was fed. Most tests
-//! are on boards whose workers see one tracker; those of late views say so.
+//! Calls of the board that are made again after a refusal, and schedules at random, after each call of which what was emitted is compared with
+//! what a plain evaluator makes of what was fed. Most tests are on boards whose workers see one tracker; those of late views say so.
 #![tactic(auto)]
 
 #[cfg(test)]
 mod boards;
-#[cfg(test)]
-mod calls;
-#[cfg(test)]
-mod each_tracker;
 #[cfg(test)]
 mod growths;
 #[cfg(test)]

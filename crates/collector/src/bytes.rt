@@ -7,12 +7,15 @@ ghost use Rattle.collector.specs.declared.bytes.ReadFault.TheVariants.{Failed};
 use crate::watched::Watched;
 use std::alloc::Global;
 use std::io::Read;
+use thiserror::Error;
 
 /// The reason why nothing was read.
-#[derive(Clone, Copy, Debug, PartialEq, Eq)]
+#[derive(Clone, Copy, Debug, PartialEq, Eq, Error)]
 pub enum ReadFault {
+    #[error("out of memory")]
     NoMemory,
     /// The reader failed in this call.
+    #[error("cannot read")]
     Failed,
 }
 

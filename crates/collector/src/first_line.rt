@@ -9,12 +9,16 @@ use crate::quick::quick_row;
 use crate::refusal::Fault;
 use crate::splitting::{around, find};
 use record_core::DeclaredInput;
+use thiserror::Error;
 
 /// Why no line was read.
-#[derive(Clone, Copy, Debug, PartialEq, Eq)]
+#[derive(Clone, Copy, Debug, PartialEq, Eq, Error)]
 pub enum Stop {
+    #[error("out of memory")]
     NoMemory,
+    #[error(transparent)]
     Fault(Fault),
+    #[error("no line feed")]
     NoLineFeed,
 }
 

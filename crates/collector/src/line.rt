@@ -13,6 +13,7 @@ use crate::splitting::{around, find};
 use decimal::signed_number;
 use record_core::{DeclaredInput, MAX_FIELDS};
 use std::alloc::AllocError;
+use thiserror::Error;
 
 /// What a line says. The fields of a record are in the reader's buffer.
 #[derive(Clone, Copy, Debug, PartialEq, Eq)]
@@ -22,9 +23,11 @@ pub enum Line {
 }
 
 /// Why a line can't be read.
-#[derive(Clone, Copy, Debug, PartialEq, Eq)]
+#[derive(Clone, Copy, Debug, PartialEq, Eq, Error)]
 pub enum LineError {
+    #[error(transparent)]
     Fault(Fault),
+    #[error("out of memory")]
     NoMemory,
 }
 

@@ -1,7 +1,8 @@
 //! The examples of the table of refusals, and what is written of faults that no short text has.
 
+use crate::unwatched::{on_one, unwatched};
 use collector::Watched;
-use console::{Fault, Texts, ViewKind, Watcher, Workers, check_query, replay_schedule, run};
+use console::{Fault, Texts, ViewKind, Workers, check_query, replay_schedule, run};
 use diagnostics::{TextNames, explain_fault, row_of_word};
 use refusals::{Explanation, OF_LINES, OF_QUERIES, OF_STEPS, explanation_of};
 use std::sync::Wait;
@@ -34,18 +35,15 @@ fn ran(rt: &HostRuntime, threads: &(impl Threads + Wait + Sync), query: &str, in
     let mut query = Watched::new(query.as_bytes());
     let mut input = Watched::new(input.as_bytes());
     let mut texts = Texts::new(rt.alloc());
-    let mut out = Watched::new(Vec::new(rt.alloc()));
+    let mut streams = unwatched(rt.alloc(), Vec::new(rt.alloc()));
     code_of(run(
         threads,
         rt.alloc(),
-        Workers::one(),
-        false,
+        on_one(),
         &mut query,
         &mut input,
         &mut texts,
-        &mut out,
-        &mut None::<Watcher<Vec<u8>>>,
-        &mut Vec::new(rt.alloc()),
+        &mut streams,
     ))
 }
 

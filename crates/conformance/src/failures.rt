@@ -1,7 +1,8 @@
 //! Fault lines, and runs whose readers and writers fail.
 
+use crate::unwatched::{on_one, unwatched};
 use collector::Watched;
-use console::{Fault, Sources, Streams, Texts, Transcripts, Watcher, Workers, answer, run};
+use console::{Fault, Sources, Streams, Texts, Transcripts, Watcher, answer, run};
 use std::alloc::Global;
 use std::io;
 use std::io::{ErrorKind, Read, Write};
@@ -152,11 +153,7 @@ fn ended<'a, R: Threads + Wait + Sync>(
     shelf: Shelf,
     writer: Full,
 ) -> (u8, Vec<u8>, Vec<u8>) {
-    let mut streams = Streams {
-        out: Watched::new(writer),
-        err: Vec::new(alloc),
-        watcher: None::<Watcher<Vec<u8>>>,
-    };
+    let mut streams = unwatched(alloc, writer);
     let mut transcripts = Transcripts::new();
     let status = answer(rt, alloc, &shelf, words, &mut streams, &mut transcripts);
     let Streams { out, err, .. } = streams;
@@ -339,40 +336,36 @@ fn slow_readers(rt: HostRuntime) -> Result<(), Fail> {
     let query = b"input a/1; output a;".as_slice();
     let input = b"epoch\na 1\n".as_slice();
     for left in 0..8 {
-        let mut out = Watched::new(Vec::new(rt.alloc()));
+        let mut streams = unwatched(rt.alloc(), Vec::new(rt.alloc()));
         let mut first = Watched::new(Slow { text: query, left });
         let mut second = Watched::new(input);
         let done = run(
             &rt,
             rt.alloc(),
-            Workers::one(),
-            false,
+            on_one(),
             &mut first,
             &mut second,
             &mut Texts::new(rt.alloc()),
-            &mut out,
-            &mut None::<Watcher<Vec<u8>>>,
-            &mut Vec::new(rt.alloc()),
+            &mut streams,
         );
+        let Streams { out, .. } = streams;
         assert!(rt; matches!(done, Err(Fault::ReadQuery)));
         assert_eq!(rt; out.into_inner().len(), 0);
     }
     for left in 0..5 {
-        let mut out = Watched::new(Vec::new(rt.alloc()));
+        let mut streams = unwatched(rt.alloc(), Vec::new(rt.alloc()));
         let mut first = Watched::new(query);
         let mut second = Watched::new(Slow { text: input, left });
         let done = run(
             &rt,
             rt.alloc(),
-            Workers::one(),
-            false,
+            on_one(),
             &mut first,
             &mut second,
             &mut Texts::new(rt.alloc()),
-            &mut out,
-            &mut None::<Watcher<Vec<u8>>>,
-            &mut Vec::new(rt.alloc()),
+            &mut streams,
         );
+        let Streams { out, .. } = streams;
         assert!(rt; matches!(done, Err(Fault::ReadInput)));
         assert_eq!(rt; out.into_inner().len(), 0);
     }
@@ -386,24 +379,23 @@ fn full_writers(rt: HostRuntime) -> Result<(), Fail> {
         for fails in [false, true] {
             let mut query = Watched::new(b"input a/1; output a;".as_slice());
             let mut input = Watched::new(b"epoch\na 1\n".as_slice());
-            let mut out = Watched::new(Full {
+            let writer = Full {
                 room,
                 fails,
                 holds: false,
                 written: Vec::new(rt.alloc()),
-            });
+            };
+            let mut streams = unwatched(rt.alloc(), writer);
             let done = run(
                 &rt,
                 rt.alloc(),
-                Workers::one(),
-                false,
+                on_one(),
                 &mut query,
                 &mut input,
                 &mut Texts::new(rt.alloc()),
-                &mut out,
-                &mut None::<Watcher<Vec<u8>>>,
-                &mut Vec::new(rt.alloc()),
+                &mut streams,
             );
+            let Streams { out, .. } = streams;
             assert_eq!(rt; done.is_ok(), text.len() <= room);
             if room < text.len() {
                 assert!(rt; matches!(done, Err(Fault::Write)));

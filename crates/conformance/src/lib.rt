@@ -19,4 +19,6 @@ mod sorting;
 #[cfg(test)]
 mod texts;
 #[cfg(test)]
+mod unwatched;
+#[cfg(test)]
 mod watching;

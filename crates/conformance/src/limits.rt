@@ -1,7 +1,8 @@
 //! Queries at the limits of size, which are too long for a page.
 
+use crate::unwatched::{on_one, unwatched};
 use collector::Watched;
-use console::{Fault, GraphForm, Texts, Watcher, Workers, check_query, graph_query, run};
+use console::{Fault, GraphForm, Streams, Texts, check_query, graph_query, run};
 use diagnostics::{TextNames, explain_fault};
 use std::test::Fail;
 
@@ -58,19 +59,17 @@ fn too_large_to_run(rt: HostRuntime) -> Result<(), Fail> {
     let mut query = Watched::new(text.as_bytes());
     let mut input = Watched::new(b"a 1".as_slice());
     let mut texts = Texts::new(rt.alloc());
-    let mut out = Watched::new(Vec::new(rt.alloc()));
+    let mut streams = unwatched(rt.alloc(), Vec::new(rt.alloc()));
     let done = run(
         &rt,
         rt.alloc(),
-        Workers::one(),
-        false,
+        on_one(),
         &mut query,
         &mut input,
         &mut texts,
-        &mut out,
-        &mut None::<Watcher<Vec<u8>>>,
-        &mut Vec::new(rt.alloc()),
+        &mut streams,
     );
+    let Streams { out, .. } = streams;
     assert!(rt; matches!(done, Err(Fault::TooManyVertices)));
     assert_eq!(rt; out.into_inner().len(), 0);
     Ok(())

@@ -1,7 +1,8 @@
 //! A run whose answer is so long that two threads sort it.
 
+use crate::unwatched::unwatched;
 use collector::Watched;
-use console::{Texts, Watcher, Workers, run};
+use console::{RunOptions, Streams, Texts, Workers, run};
 use std::io::Write;
 use std::sync::Wait;
 use std::test::Fail;
@@ -19,22 +20,23 @@ fn copied(
     let mut query = Watched::new(b"input a/1; output a;".as_slice());
     let mut input = Watched::new(input);
     let mut texts = Texts::new(rt.alloc());
-    let mut out = Watched::new(Vec::new(rt.alloc()));
-    let workers = Workers::new(2).ok_or("no workers")?;
+    let mut streams = unwatched(rt.alloc(), Vec::new(rt.alloc()));
+    let options = RunOptions {
+        workers: Workers::new(2).ok_or("no workers")?,
+        stats: false,
+    };
     run(
         threads,
         rt.alloc(),
-        workers,
-        false,
+        options,
         &mut query,
         &mut input,
         &mut texts,
-        &mut out,
-        &mut None::<Watcher<Vec<u8>>>,
-        &mut Vec::new(rt.alloc()),
+        &mut streams,
     )
     .ok()
     .ok_or("no answer")?;
+    let Streams { out, .. } = streams;
     Ok(out.into_inner())
 }
 

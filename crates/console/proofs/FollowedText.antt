@@ -32,7 +32,7 @@ module _ (query : List ℕ) (g : GraphValue) (read : Reading) (old new : Option 
   ends_ill ending.Write f = followed (Err ending.Write) f
   ends_ill ending.NoMemory f = inr (followed (Err ending.NoMemory) f)
   ends_ill ending.Count f = followed (Err ending.Count) f
-  ends_ill ending.Incomplete f = followed (Err ending.Incomplete) f
+  ends_ill ending.TooLong f = followed (Err ending.TooLong) f
 
 -- what holds of what was read holds of what it is a case of
 module _ (query : List ℕ) (r s : Reading) (old new : Option (List ℕ)) (h : (bytes : List ℕ) (ended : Bool) → r bytes ended → s bytes ended) where
@@ -47,7 +47,7 @@ module _ (query : List ℕ) (r s : Reading) (old new : Option (List ℕ)) (h : (
   ends_wider (Err NoMemory) (inl same) = inl same
   ends_wider (Err NoMemory) (inr f) = inr (wider (Err ending.NoMemory) f)
   ends_wider (Err Count) f = wider (Err ending.Count) f
-  ends_wider (Err Incomplete) f = wider (Err ending.Incomplete) f
+  ends_wider (Err Incomplete) f = wider (Err ending.TooLong) f
   ends_wider (Err (Query code start end)) f = f
   ends_wider (Err TooManyVertices) f = f
   ends_wider (Err ReadQuery) f = f
@@ -110,7 +110,7 @@ read_of ending.Read h = refl
 read_of ending.Write h = absurd cc
 read_of ending.NoMemory h = absurd cc
 read_of ending.Count h = absurd cc
-read_of ending.Incomplete h = absurd cc
+read_of ending.TooLong h = absurd cc
 
 pub query_of : (e : Ending) → follow_fault_of e ≡ ReadQuery → ⊥
 query_of (ending.Input code line) h = absurd cc
@@ -118,7 +118,7 @@ query_of ending.Read h = absurd cc
 query_of ending.Write h = absurd cc
 query_of ending.NoMemory h = absurd cc
 query_of ending.Count h = absurd cc
-query_of ending.Incomplete h = absurd cc
+query_of ending.TooLong h = absurd cc
 
 pub written_of : (e : Ending) → follow_fault_of e ≡ Write → e ≡ ending.Write
 written_of (ending.Input code line) h = absurd cc
@@ -126,7 +126,7 @@ written_of ending.Read h = absurd cc
 written_of ending.Write h = refl
 written_of ending.NoMemory h = absurd cc
 written_of ending.Count h = absurd cc
-written_of ending.Incomplete h = absurd cc
+written_of ending.TooLong h = absurd cc
 
 -- how following a text ends
 pub ruleset text_ends = (ends_well, ends_ill, refused_ends, not_query, not_read, not_written, query_of, read_of, written_of)

@@ -27,4 +27,4 @@ follow_fault_of ending.Read = ReadInput
 follow_fault_of ending.Write = Write
 follow_fault_of ending.NoMemory = NoMemory
 follow_fault_of ending.Count = Count
-follow_fault_of ending.Incomplete = Incomplete
+follow_fault_of ending.TooLong = Incomplete

@@ -12,6 +12,7 @@ use crate::formatting::format_query;
 use crate::graphing::graph_query;
 use crate::input_check::check_input;
 use crate::replaying::replay_schedule;
+use crate::run_options::RunOptions;
 use crate::running::run;
 use crate::streams::Streams;
 use crate::transcripts::Transcripts;
@@ -105,17 +106,18 @@ pub fn run_named<
 {
     let mut query = open_named(sources, task.query);
     let mut input = open_named(sources, task.input);
+    let options = RunOptions {
+        workers: task.workers,
+        stats,
+    };
     let done = run(
         rt,
         alloc,
-        task.workers,
-        stats,
+        options,
         &mut query.text,
         &mut input.text,
         &mut kept.texts,
-        &mut streams.out,
-        &mut streams.watcher,
-        &mut streams.err,
+        streams,
     );
     kept.keep_query(query);
     kept.keep_input(input);

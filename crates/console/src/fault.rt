@@ -29,7 +29,7 @@ pub fn follow_fault(ending: Ending) -> Fault
         Ending::Write => Fault::Write,
         Ending::NoMemory => Fault::NoMemory,
         Ending::Count => Fault::Count,
-        Ending::Incomplete => Fault::Incomplete,
+        Ending::TooLong => Fault::Incomplete,
     }
 }
 

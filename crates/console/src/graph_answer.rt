@@ -8,11 +8,12 @@ ghost use Rattle.execution.specs.Fed.{IsWorkedOff};
 ghost use Rattle.diagnostics.specs.declared.fault.Fault.TheVariants as fault;
 
 use crate::fault::run_fault;
+use crate::run_options::RunOptions;
+use crate::streams::Streams;
 use board::Board;
 use collector::{Epochs, OutFault, Watched, write_epochs};
-use command_line::Workers;
 use diagnostics::Fault;
-use execution::{ParallelSorter, Parallelism, Unfinished, Watcher, emitted, execute};
+use execution::{ParallelSorter, Parallelism, Unfinished, emitted, execute};
 use graph::Graph;
 use statistics::Tally;
 use std::alloc::Global;
@@ -57,6 +58,7 @@ fn respond_on<
     R: Threads + Wait + Sync,
     G: Gate + Sync,
     W: Write,
+    E: Write,
     O: Write + Send + Drop,
 >(
     rt: &R,
@@ -65,15 +67,22 @@ fn respond_on<
     threads: u32,
     epochs: &Epochs,
     gate: &G,
-    writer: &mut Watched<W>,
-    watcher: &mut Option<Watcher<O>>,
+    streams: &mut Streams<W, E, O>,
 ) -> Result<(), Fault>
-    ensures text { RespondsBy board.shown.graph epochs.now (W.contents (inner_of writer.old)) (W.contents (inner_of writer.new)) result }
-    ensures failed { IsErrOf result fault.Write → has_failed writer.new ≡ true }
+    ensures text { RespondsBy board.shown.graph epochs.now (W.contents (inner_of streams.old.out)) (W.contents (inner_of streams.new.out)) result }
+    ensures failed { IsErrOf result fault.Write → has_failed streams.new.out ≡ true }
     ensures several { IsErrOf result fault.NoWorker → 1 < threads }
 {
-    match execute(rt, alloc, board, threads, epochs, gate, watcher) {
-        Ok(report) => write_emitted(rt, alloc, &report, threads, epochs, writer),
+    match execute(
+        rt,
+        alloc,
+        board,
+        threads,
+        epochs,
+        gate,
+        &mut streams.watcher,
+    ) {
+        Ok(report) => write_emitted(rt, alloc, &report, threads, epochs, &mut streams.out),
         // A single worker has the caller's thread.
         Err(Unfinished::NoWorker) if threads > 1 => Err(Fault::NoWorker),
         Err(unfinished) => Err(run_fault(unfinished)),
@@ -81,102 +90,80 @@ fn respond_on<
 }
 
 /// The same on a new board of the graph. A single worker sees at once what is active, and each of several has a view of its own.
-fn respond_by<R: Threads + Wait + Sync, G: Gate + Sync, W: Write, O: Write + Send + Drop>(
+fn respond_by<R: Threads + Wait + Sync, G: Gate + Sync, W: Write, E: Write, O: Write + Send + Drop>(
     rt: &R,
     alloc: Global,
     parallelism: Parallelism,
     graph: Arc<Graph, Global>,
     epochs: &Epochs,
     gate: &G,
-    writer: &mut Watched<W>,
-    watcher: &mut Option<Watcher<O>>,
+    streams: &mut Streams<W, E, O>,
 ) -> Result<(), Fault>
-    ensures text { RespondsBy graph.value epochs.now (W.contents (inner_of writer.old)) (W.contents (inner_of writer.new)) result }
-    ensures failed { IsErrOf result fault.Write → has_failed writer.new ≡ true }
+    ensures text { RespondsBy graph.value epochs.now (W.contents (inner_of streams.old.out)) (W.contents (inner_of streams.new.out)) result }
+    ensures failed { IsErrOf result fault.Write → has_failed streams.new.out ≡ true }
     ensures several { IsErrOf result fault.NoWorker → 1 < parallelism.threads }
 {
     let (workers, threads) = (parallelism.workers(), parallelism.threads());
     if workers == 1 {
         match Board::new(alloc, graph, 1) {
-            Ok(board) => respond_on(rt, alloc, board, threads, epochs, gate, writer, watcher),
+            Ok(board) => respond_on(rt, alloc, board, threads, epochs, gate, streams),
             Err(_) => Err(Fault::NoMemory),
         }
     } else {
         match Board::with_local_views(alloc, graph, workers) {
-            Ok(board) => respond_on(rt, alloc, board, threads, epochs, gate, writer, watcher),
+            Ok(board) => respond_on(rt, alloc, board, threads, epochs, gate, streams),
             Err(_) => Err(Fault::NoMemory),
         }
     }
 }
 
 /// The same, counted; and then reports what was counted, where the answer was written whole. Where that can't be written, nothing else changes.
-fn respond_counted<R: Threads + Wait + Sync, W: Write, O: Write + Send + Drop, E: Write>(
+fn respond_counted<R: Threads + Wait + Sync, W: Write, E: Write, O: Write + Send + Drop>(
     rt: &R,
     alloc: Global,
     parallelism: Parallelism,
     graph: Arc<Graph, Global>,
     epochs: &Epochs,
-    writer: &mut Watched<W>,
-    watcher: &mut Option<Watcher<O>>,
-    err: &mut E,
+    streams: &mut Streams<W, E, O>,
 ) -> Result<(), Fault>
-    ensures text { RespondsBy graph.value epochs.now (W.contents (inner_of writer.old)) (W.contents (inner_of writer.new)) result }
-    ensures failed { IsErrOf result fault.Write → has_failed writer.new ≡ true }
+    ensures text { RespondsBy graph.value epochs.now (W.contents (inner_of streams.old.out)) (W.contents (inner_of streams.new.out)) result }
+    ensures failed { IsErrOf result fault.Write → has_failed streams.new.out ≡ true }
     ensures several { IsErrOf result fault.NoWorker → 1 < parallelism.threads }
 {
     let tally = match Tally::of(alloc, &graph, parallelism.workers(), epochs) {
         Ok(tally) => tally,
         Err(_) => return Err(Fault::NoMemory),
     };
-    let done = respond_by(
-        rt,
-        alloc,
-        parallelism,
-        graph,
-        epochs,
-        &tally,
-        writer,
-        watcher,
-    );
-    if done.is_ok() {
-        let _ = tally.write(err);
+    match respond_by(rt, alloc, parallelism, graph, epochs, &tally, streams) {
+        Ok(()) => {
+            let _ = tally.write(&mut streams.err);
+            Ok(())
+        }
+        Err(fault) => Err(fault),
     }
-    done
 }
 
 /// Has the workers work the epochs off over the graph, and writes what was emitted: whatever text the graph was compiled from, what that
-/// means on the epochs. The watcher is shown how many epochs have passed. With `stats` a line for each vertex on `err` says then what it did.
-pub fn respond<R: Threads + Wait + Sync, W: Write, O: Write + Send + Drop, E: Write>(
+/// means on the epochs. The watcher is shown how many epochs have passed. If `stats` is asked for, a line for each vertex on `err` says then what it did.
+pub fn respond<R: Threads + Wait + Sync, W: Write, E: Write, O: Write + Send + Drop>(
     rt: &R,
     alloc: Global,
-    workers: Workers,
-    stats: bool,
+    options: RunOptions,
     graph: Graph,
     epochs: &Epochs,
-    writer: &mut Watched<W>,
-    watcher: &mut Option<Watcher<O>>,
-    err: &mut E,
+    streams: &mut Streams<W, E, O>,
 ) -> Result<(), Fault>
-    ensures text { RespondsBy graph epochs.now (W.contents (inner_of writer.old)) (W.contents (inner_of writer.new)) result }
-    ensures failed { IsErrOf result fault.Write → has_failed writer.new ≡ true }
-    ensures several { IsErrOf result fault.NoWorker → 1 < count_of workers }
+    ensures text { RespondsBy graph epochs.now (W.contents (inner_of streams.old.out)) (W.contents (inner_of streams.new.out)) result }
+    ensures failed { IsErrOf result fault.Write → has_failed streams.new.out ≡ true }
+    ensures several { IsErrOf result fault.NoWorker → 1 < count_of options.workers }
 {
     let Ok(graph) = Arc::new(alloc, graph) else {
         return Err(Fault::NoMemory);
     };
-    let parallelism = Parallelism::of(workers.count(), &graph, epochs);
-    if stats {
-        respond_counted(rt, alloc, parallelism, graph, epochs, writer, watcher, err)
+    let parallelism = Parallelism::of(options.workers.count(), &graph, epochs);
+    if options.stats {
+        respond_counted(rt, alloc, parallelism, graph, epochs, streams)
     } else {
-        respond_by(
-            rt,
-            alloc,
-            parallelism,
-            graph,
-            epochs,
-            &NoGate,
-            writer,
-            watcher,
-        )
+        respond_by(rt, alloc, parallelism, graph, epochs, &NoGate, streams)
     }
 }

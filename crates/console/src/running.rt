@@ -14,12 +14,14 @@ ghost use Rattle.diagnostics.specs.declared.fault.Fault.TheVariants as fault;
 
 use crate::graph_answer::respond;
 use crate::reading::read_texts;
+use crate::run_options::RunOptions;
+use crate::streams::Streams;
 use bumpalo::Bump;
 use collector::{Epochs, InputRefusal, Watched};
 use command_line::Workers;
 use compile::{compile, graph_fault, input_fault};
 use diagnostics::{Fault, Texts};
-use execution::{Watcher, read_by_threads};
+use execution::read_by_threads;
 use graph::Graph;
 use std::alloc::Global;
 use std::io::{Read, Write};
@@ -57,61 +59,53 @@ fn epochs_of_text<R: Threads + Sync>(
 fn answer<R: Threads + Wait + Sync, W: Write, O: Write + Send + Drop, E: Write>(
     rt: &R,
     alloc: Global,
-    workers: Workers,
-    stats: bool,
+    options: RunOptions,
     query: &[u8],
     input: &[u8],
-    writer: &mut Watched<W>,
-    watcher: &mut Option<Watcher<O>>,
-    err: &mut E,
+    streams: &mut Streams<W, E, O>,
 ) -> Result<(), Fault>
-    ensures ends { Ends query.now input.now (W.contents (inner_of writer.old)) (W.contents (inner_of writer.new)) result }
-    ensures heeds { Heeds query.now (W.contents (inner_of writer.old)) (W.contents (inner_of writer.new)) result }
-    ensures failed { IsErrOf result fault.Write → has_failed writer.new ≡ true }
-    ensures several { IsErrOf result fault.NoWorker → 1 < count_of workers }
+    ensures ends { Ends query.now input.now (W.contents (inner_of streams.old.out)) (W.contents (inner_of streams.new.out)) result }
+    ensures heeds { Heeds query.now (W.contents (inner_of streams.old.out)) (W.contents (inner_of streams.new.out)) result }
+    ensures failed { IsErrOf result fault.Write → has_failed streams.new.out ≡ true }
+    ensures several { IsErrOf result fault.NoWorker → 1 < count_of options.workers }
     ensures read { IfErr result IsAfterReading }
 {
     let graph = match graph_of_text(alloc, query) {
         Ok(graph) => graph,
         Err(fault) => return Err(fault),
     };
-    let epochs = match epochs_of_text(rt, alloc, workers, &graph, input) {
+    let epochs = match epochs_of_text(rt, alloc, options.workers, &graph, input) {
         Ok(epochs) => epochs,
         Err(refusal) => return Err(input_fault(refusal)),
     };
-    respond(
-        rt, alloc, workers, stats, graph, &epochs, writer, watcher, err,
-    )
+    respond(rt, alloc, options, graph, &epochs, streams)
 }
 
-/// Reads a query and its input, and writes the answer, which that many workers compute. Its promise holds if it ends.
+/// Reads a query and its input, and writes the answer. Its promise holds if it ends.
 ///
 /// Faults are reported in this order: the query can't be read, the input can't be read, the query is refused, the input is refused, a count
 /// is too large, the writer failed. Lack of memory may come at any point, but a count that was too large at any worker is reported before
 /// it, and a worker that can't be started before anything is written. The texts that were read are left in `texts`. A watcher gets lines
-/// `passed M` with rising numbers, the last one once all workers have ended; if its writer fails, nothing else changes. With `stats`, lines
-/// on `err` say, once the answer is written, what each vertex of the graph computed, took in and sent; if that writer fails, nothing else
-/// changes.
+/// `passed M` with rising numbers, the last one once all workers have ended; if its writer fails, nothing else changes. If `stats` is asked
+/// for, lines on `err` say, once the answer is written, what each vertex of the graph computed, took in and sent; if that writer fails,
+/// nothing else changes.
 pub fn run<R: Threads + Wait + Sync, Q: Read, I: Read, W: Write, O: Write + Send + Drop, E: Write>(
     rt: &R,
     alloc: Global,
-    workers: Workers,
-    stats: bool,
+    options: RunOptions,
     query: &mut Watched<Q>,
     input: &mut Watched<I>,
     texts: &mut Texts,
-    writer: &mut Watched<W>,
-    watcher: &mut Option<Watcher<O>>,
-    err: &mut E,
+    streams: &mut Streams<W, E, O>,
 ) -> Result<(), Fault>
     ensures ends { RunsOver (Q.remaining (inner_of query.old)) (I.remaining (inner_of input.old))
-        (W.contents (inner_of writer.old)) (W.contents (inner_of writer.new)) result }
-    ensures heeds { HeedsOver (Q.remaining (inner_of query.old)) (W.contents (inner_of writer.old)) (W.contents (inner_of writer.new)) result }
-    ensures handed { RunsOnHanded query.old query.new input.old input.new (W.contents (inner_of writer.old)) (W.contents (inner_of writer.new)) result }
+        (W.contents (inner_of streams.old.out)) (W.contents (inner_of streams.new.out)) result }
+    ensures heeds { HeedsOver (Q.remaining (inner_of query.old)) (W.contents (inner_of streams.old.out)) (W.contents (inner_of streams.new.out)) result }
+    ensures handed { RunsOnHanded query.old query.new input.old input.new (W.contents (inner_of streams.old.out)) (W.contents (inner_of streams.new.out)) result }
     ensures query { IsErrOf result fault.ReadQuery → has_failed query.new ≡ true }
     ensures input { IsErrOf result fault.ReadInput → has_failed input.new ≡ true }
-    ensures writer { IsErrOf result fault.Write → has_failed writer.new ≡ true }
-    ensures several { IsErrOf result fault.NoWorker → 1 < count_of workers }
+    ensures writer { IsErrOf result fault.Write → has_failed streams.new.out ≡ true }
+    ensures several { IsErrOf result fault.NoWorker → 1 < count_of options.workers }
     ensures kept_query { KeepsQuery (Q.remaining (inner_of query.old)) result texts.new.query.items }
     ensures kept_input { KeepsInput (I.remaining (inner_of input.old)) result texts.new.input.items }
 {
@@ -119,15 +113,5 @@ pub fn run<R: Threads + Wait + Sync, Q: Read, I: Read, W: Write, O: Write + Send
         Ok(()) => {}
         Err(fault) => return Err(fault),
     }
-    answer(
-        rt,
-        alloc,
-        workers,
-        stats,
-        &texts.query,
-        &texts.input,
-        writer,
-        watcher,
-        err,
-    )
+    answer(rt, alloc, options, &texts.query, &texts.input, streams)
 }

@@ -1,10 +1,12 @@
-//! The program `engine_conformance`: makes the calls that pages show, on the parts of the engine below the board, and compares what they answer.
+//! The program `engine_conformance`: makes the calls that pages show, on the engine's parts and the board, and compares what they answer.
 //!
 //! Its words are pages (crate `pages`), with answers that were worked out by hand. It ends with status 1 if any line isn't as written.
 #![tactic(auto)]
 
 mod batches;
 mod built_rows;
+mod desk;
+mod desks;
 mod differences;
 mod index;
 mod lists;
@@ -20,6 +22,7 @@ mod turns;
 
 use crate::batches::Records;
 use crate::built_rows::new_rows;
+use crate::desks::{new_board, new_counting_board, new_late_board, new_plain_board};
 use crate::index::new_index;
 use crate::lists::new_lists;
 use crate::mailbox::new_mailbox;
@@ -67,6 +70,10 @@ fn right_lines_about(
         "records" => play_on(rt, first, Ok(Records), lines),
         "routes" => play_on(rt, first, Ok(Routes), lines),
         "paths" => play_on(rt, first, named(new_paths(alloc, rest)), lines),
+        "board" => play_on(rt, first, named(new_board(alloc, rest)), lines),
+        "board-plain" => play_on(rt, first, named(new_plain_board(alloc, rest)), lines),
+        "board-counting" => play_on(rt, first, named(new_counting_board(alloc, rest)), lines),
+        "board-late" => play_on(rt, first, named(new_late_board(alloc, rest)), lines),
         "trackers" => play_on(rt, first, named(new_trackers(alloc, rest)), lines),
         _ => compared(rt, first, "no such subject"),
     }

@@ -1,6 +1,6 @@
 //! A run of a whole input.
 
-ghost use Rattle.std.specs.Prelude.{◌≡◌, ◌≤◌, ℕ, IfOk, OnErr};
+ghost use Rattle.std.specs.Prelude.{◌≡◌, ◌≤◌, ◌<◌, ℕ, [], IfOk, OnErr, vec_capacity};
 ghost use Rattle.board.specs.Promises.{CountsPassed, IsDrained};
 ghost use Rattle.board.specs.Shown.{tables};
 ghost use Rattle.execution.specs.Fed.{IsWorkedOff};
@@ -22,16 +22,18 @@ use std::marker::Brand;
 use std::sync::Wait;
 use std::thread::Threads;
 use views::Views;
-use workers::{Engine, Gate, Mark, Naming, Publisher, Report, Seat, end};
+use workers::{Engine, Gate, Mark, Naming, Publisher, Report, Seat, finish};
 
-/// A new mark: its publisher, and a seat at it.
+/// A new mark: its publisher, a seat at it, and the place to which the seat returns.
 #[derive(Drop)]
 struct Fresh {
     mark: Mark,
     publisher: Publisher,
     seat: Seat,
+    place: Vec<Seat>,
     ghost own: { (publisher.table ≡ mark) × (seat.table ≡ mark) },
     ghost none: { publisher.number ≡ 0 },
+    ghost empty: { (place.items ≡ []) × (0 < vec_capacity place) },
 }
 
 /// Makes a mark.
@@ -44,6 +46,7 @@ fn new_mark(alloc: Global) -> Result<Fresh, Unfinished> {
         mark,
         publisher,
         seat,
+        place: seats,
     })
 }
 
@@ -67,26 +70,29 @@ fn drive<
     requires names { tables board.shown ≡ J.names }
     requires graph { board.shown.graph ≡ J.graph }
     requires mark { fresh.mark ≡ J.mark }
+    requires untold { watch.old.told ≡ 0 }
     ensures graph { IfOk result (λ r. r.graph ≡ J.graph) }
     ensures drained { IfOk result IsDrained }
+    ensures most { IfOk result (λ r. (n : ℕ) → CountsPassed r n → watch.new.told ≤ n) }
     ensures tells { Tells W.contents watch.old.watcher watch.new.watcher watch.old.told watch.new.told }
 {
     let Fresh {
         mark,
         publisher,
         seat,
+        mut place,
     } = fresh;
     let engine = Engine::<J, V>::new(alloc, board, publisher)?;
-    let done = work_off_all(
-        rt,
-        alloc,
-        &engine,
-        task,
-        gate,
-        Observer::new(mark, seat),
-        watch,
-    );
-    finished(end(engine), task, done)
+    let observer = Observer::new(mark, seat, watch.lend());
+    let (observer, done) = work_off_all(rt, alloc, &engine, task, gate, observer);
+    let Observer {
+        mark: _,
+        seat,
+        watch: lent,
+    } = observer;
+    watch.take_back(lent);
+    place.push_reserved(seat);
+    finished(finish(engine, place), task, done)
 }
 
 /// The report of a run in which nothing is left to do.
@@ -121,8 +127,10 @@ fn drive_any<V: Views + Send, R: Threads + Wait + Sync, G: Gate + Sync, W: Write
     gate: &G,
     watch: &mut Watch<W>,
 ) -> Result<Report<V>, Unfinished>
+    requires untold { watch.old.told ≡ 0 }
     ensures graph { IfOk result (λ r. r.graph ≡ board.shown.graph) }
     ensures drained { IfOk result IsDrained }
+    ensures most { IfOk result (λ r. (n : ℕ) → CountsPassed r n → watch.new.told ≤ n) }
     ensures tells { Tells W.contents watch.old.watcher watch.new.watcher watch.old.told watch.new.told }
 {
     if task.workers == 1 {
@@ -144,8 +152,9 @@ fn run<V: Views + Send, R: Threads + Wait + Sync, G: Gate + Sync, W: Write + Sen
     gate: &G,
     watch: &mut Watch<W>,
 ) -> Result<Report<V>, Unfinished>
+    requires untold { watch.old.told ≡ 0 }
     ensures worked { IfOk result (λ r. IsWorkedOff board.shown.graph r epochs.now) }
-    ensures last { IfOk result (λ r. (n : ℕ) × CountsPassed r n × (n ≤ watch.new.told)) }
+    ensures last { IfOk result (λ r. CountsPassed r watch.new.told) }
     ensures tells { Tells W.contents watch.old.watcher watch.new.watcher watch.old.told watch.new.told }
 {
     let graph = board.graph();
@@ -174,7 +183,7 @@ fn run<V: Views + Send, R: Threads + Wait + Sync, G: Gate + Sync, W: Write + Sen
 /// started then.
 ///
 /// Ok only if nothing is left to do, and each input was fed, at each epoch, exactly what was read. A watcher writes how many epochs have passed, as
-/// `passed M` with rising numbers. If its writer fails, nothing else changes.
+/// `passed M` with rising numbers, of which the last is how many have passed at the end. If its writer fails, nothing else changes.
 pub fn execute<V: Views + Send, R: Threads + Wait + Sync, G: Gate + Sync, W: Write + Send + Drop>(
     rt: &R,
     alloc: Global,
@@ -185,7 +194,7 @@ pub fn execute<V: Views + Send, R: Threads + Wait + Sync, G: Gate + Sync, W: Wri
     watcher: &mut Option<Watcher<W>>,
 ) -> Result<Report<V>, Unfinished>
     ensures worked { IfOk result (λ r. IsWorkedOff board.shown.graph r epochs.now) }
-    ensures told { IfOk result (λ r. (n last : ℕ) × CountsPassed r n × (n ≤ last) × IsTold W.contents watcher.old watcher.new last) }
+    ensures told { IfOk result (λ r. (n : ℕ) × CountsPassed r n × IsTold W.contents watcher.old watcher.new n) }
     ensures begun { OnErr result ((n : ℕ) × IsTold W.contents watcher.old watcher.new n) }
 {
     let mut watch = Watch::begin(watcher);

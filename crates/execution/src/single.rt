@@ -1,7 +1,7 @@
 //! A run of one worker in the caller's thread: with no lock and no waiting. It returns.
 
-ghost use Rattle.std.specs.Prelude.{◌≡◌, IfOk, OnOk};
-ghost use Rattle.board.specs.Promises.{IsDrained};
+ghost use Rattle.std.specs.Prelude.{◌≡◌, ◌≤◌, ℕ, IfOk, OnOk};
+ghost use Rattle.board.specs.Promises.{CountsPassed, IsDrained};
 ghost use Rattle.execution.specs.Told.{Tells};
 
 use crate::task::Task;
@@ -21,7 +21,8 @@ fn feed_epoch<V: Views>(
     task: Task<'_>,
     epoch: u32,
 ) -> Result<(), Unfinished>
-    ensures { OnOk result (board.new.shown.graph ≡ board.old.shown.graph) }
+    ensures graph { OnOk result (board.new.shown.graph ≡ board.old.shown.graph) }
+    ensures rises { OnOk result (board.old.passed ≤ board.new.passed) }
 {
     for input in 0..task.inputs {
         for batch in task.epochs.batches(input, epoch) {
@@ -34,7 +35,8 @@ fn feed_epoch<V: Views>(
 
 /// Closes each input.
 fn close_inputs<V: Views>(board: &mut Board<V>, inputs: u32) -> Result<(), Unfinished>
-    ensures { OnOk result (board.new.shown.graph ≡ board.old.shown.graph) }
+    ensures graph { OnOk result (board.new.shown.graph ≡ board.old.shown.graph) }
+    ensures rises { OnOk result (board.old.passed ≤ board.new.passed) }
 {
     for input in 0..inputs {
         board.close(input)?;
@@ -51,7 +53,10 @@ fn work_now<V: Views, G: Gate, W: Write>(
     turn: &mut u64,
     watch: &mut Watch<W>,
 ) -> Result<(), Unfinished>
+    requires told { watch.old.told ≤ board.old.passed }
     ensures graph { OnOk result (board.new.shown.graph ≡ board.old.shown.graph) }
+    ensures told { OnOk result (watch.new.told ≤ board.new.passed) }
+    ensures most { OnOk result ((n : ℕ) → CountsPassed board.new.shown n → watch.new.told ≤ n) }
     ensures tells { Tells W.contents watch.old.watcher watch.new.watcher watch.old.told watch.new.told }
 {
     match work_off(alloc, board, gate, 0, turn) {
@@ -73,7 +78,9 @@ fn feed_and_work<V: Views, G: Gate, W: Write>(
     gate: &G,
     watch: &mut Watch<W>,
 ) -> Result<(), Unfinished>
+    requires told { watch.old.told ≤ board.old.passed }
     ensures graph { OnOk result (board.new.shown.graph ≡ board.old.shown.graph) }
+    ensures most { OnOk result ((n : ℕ) → CountsPassed board.new.shown n → watch.new.told ≤ n) }
     ensures tells { Tells W.contents watch.old.watcher watch.new.watcher watch.old.told watch.new.told }
 {
     let mut turn = 0;
@@ -94,8 +101,10 @@ pub fn run_single<V: Views, G: Gate, W: Write>(
     gate: &G,
     watch: &mut Watch<W>,
 ) -> Result<Report<V>, Unfinished>
+    requires untold { watch.old.told ≡ 0 }
     ensures graph { IfOk result (λ r. r.graph ≡ board.shown.graph) }
     ensures drained { IfOk result IsDrained }
+    ensures most { IfOk result (λ r. (n : ℕ) → CountsPassed r n → watch.new.told ≤ n) }
     ensures tells { Tells W.contents watch.old.watcher watch.new.watcher watch.old.told watch.new.told }
 {
     let mut board = board;

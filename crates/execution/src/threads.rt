@@ -1,11 +1,12 @@
 //! The threads of a run.
 
+ghost use Rattle.std.specs.Prelude.{◌≡◌};
 ghost use Rattle.execution.specs.Told.{Tells};
 
 use crate::feeding::{close_inputs, feed_epochs};
 use crate::task::Task;
 use crate::unfinished::Unfinished;
-use crate::watching::{Observer, Watch, keep_watch};
+use crate::watching::{Observer, keep_watch};
 use std::alloc::Global;
 use std::io::Write;
 use std::sync::Wait;
@@ -78,32 +79,7 @@ fn work_off<J: Naming + Send + Sync, V: Views + Send, R: Threads + Wait + Sync, 
     })
 }
 
-/// As `work_off`, while one more thread watches. Where it can't be started, this one watches at the end. Gives back what watched.
-fn work_off_watched<
-    J: Naming + Send + Sync,
-    V: Views + Send,
-    R: Threads + Wait + Sync,
-    G: Gate + Sync,
-    W: Write + Send + Drop,
->(
-    rt: &R,
-    alloc: Global,
-    engine: &Engine<J, V>,
-    task: Task<'_>,
-    gate: &G,
-    observer: Observer,
-    lent: Watch<W>,
-) -> (Watch<W>, Result<(), Unfinished>)
-    ensures { Tells W.contents lent.watcher result.0.watcher lent.told result.0.told }
-{
-    join(
-        rt,
-        move || keep_watch(rt, engine, observer, lent),
-        move || work_off(rt, alloc, engine, task, gate),
-    )
-}
-
-/// Does all work, while a watcher, if there is one, is told how far it is.
+/// As `work_off`, while one more thread watches, if there is a watcher. Where it can't be started, this one watches at the end. Gives back what watched.
 #[tactic(auto, using(crate::proofs::Tellings::tells_nothing))]
 pub fn work_off_all<
     J: Naming + Send + Sync,
@@ -117,15 +93,18 @@ pub fn work_off_all<
     engine: &Engine<J, V>,
     task: Task<'_>,
     gate: &G,
-    observer: Observer,
-    watch: &mut Watch<W>,
-) -> Result<(), Unfinished>
-    ensures { Tells W.contents watch.old.watcher watch.new.watcher watch.old.told watch.new.told }
+    observer: Observer<W>,
+) -> (Observer<W>, Result<(), Unfinished>)
+    ensures mark { result.0.mark ≡ observer.mark }
+    ensures tells { Tells W.contents observer.watch.watcher result.0.watch.watcher observer.watch.told result.0.watch.told }
 {
-    if !watch.is_on() {
-        return work_off(rt, alloc, engine, task, gate);
+    if !observer.is_on() {
+        let done = work_off(rt, alloc, engine, task, gate);
+        return (observer, done);
     }
-    let (back, done) = work_off_watched(rt, alloc, engine, task, gate, observer, watch.lend());
-    watch.take_back(back);
-    done
+    join(
+        rt,
+        move || keep_watch(rt, engine, observer),
+        move || work_off(rt, alloc, engine, task, gate),
+    )
 }

@@ -3,18 +3,23 @@
 use board::StepRefusal;
 use record_core::NoMemory;
 use std::alloc::AllocError;
+use thiserror::Error;
 
 /// Why there is no report.
-#[derive(Clone, Copy, Debug, PartialEq, Eq)]
+#[derive(Clone, Copy, Debug, PartialEq, Eq, Error)]
 pub enum Unfinished {
     /// The feeder or a worker had no memory.
+    #[error("out of memory")]
     NoMemory,
     /// A count would have been above 9223372036854775807 in a worker.
+    #[error("count too large")]
     Count,
     /// A worker's thread could not be started.
+    #[error("cannot start a worker")]
     NoWorker,
     /// The engine refused a call for a reason other than memory, or it isn't drained, or it was fed something other than what was read. No run is
     /// known that ends like this.
+    #[error("the run is incomplete")]
     Incomplete,
 }
 

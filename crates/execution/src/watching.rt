@@ -1,6 +1,6 @@
 //! Reports the progress of a run.
 
-ghost use Rattle.std.specs.Prelude.{◌≡◌, None, Option, true, false, max};
+ghost use Rattle.std.specs.Prelude.{◌≡◌, ◌≤◌, None, Option, true, false, max};
 ghost use Rattle.std.specs.Io.KnownBytes.{Appends};
 ghost use Rattle.collector.specs.WrittenBytes.{AppendsFront};
 ghost use Rattle.execution.specs.Told.{IsTold, Takes, Tells, line_end, told};
@@ -173,24 +173,28 @@ pub fn fill<T>(place: &mut Option<T>, value: Option<T>)
     let None = before else { unreachable!() };
 }
 
-/// A mark, with a seat at it.
+/// A mark with a seat at it, and the watcher at work that is told what the seat reads: no more than that.
 #[derive(Drop)]
-pub struct Observer {
-    mark: Mark,
-    seat: Seat,
+pub struct Observer<W> {
+    pub mark: Mark,
+    pub seat: Seat,
+    pub watch: Watch<W>,
     ghost of: { seat.table ≡ mark },
+    ghost read: { watch.told ≤ seat.number },
 }
 
-impl Observer {
-    pub fn new(mark: Mark, seat: Seat) -> Observer
-        requires { seat.table ≡ mark }
+impl<W: Write> Observer<W> {
+    pub fn new(mark: Mark, seat: Seat, watch: Watch<W>) -> Observer<W>
+        requires of { seat.table ≡ mark }
+        requires read { watch.told ≤ seat.number }
+        ensures { (result.mark ≡ mark) × (result.watch ≡ watch) }
     {
-        Observer { mark, seat }
+        Observer { mark, seat, watch }
     }
 
-    /// How many epochs have passed, as far as published.
-    fn read(&mut self) -> u64 {
-        self.mark.observe(&mut self.seat)
+    /// Whether there is a watcher.
+    pub fn is_on(&self) -> bool {
+        self.watch.is_on()
     }
 }
 
@@ -198,20 +202,23 @@ impl Observer {
 pub fn keep_watch<J: Naming, V: Views, R: Wait, W: Write>(
     rt: &R,
     engine: &Engine<J, V>,
-    observer: Observer,
-    watch: Watch<W>,
-) -> Watch<W>
-    ensures { Tells W.contents watch.watcher result.watcher watch.told result.told }
+    observer: Observer<W>,
+) -> Observer<W>
+    ensures mark { result.mark ≡ observer.mark }
+    ensures tells { Tells W.contents observer.watch.watcher result.watch.watcher observer.watch.told result.watch.told }
 {
-    let mut observer = observer;
-    let mut at_work = watch;
+    let Observer {
+        mark,
+        mut seat,
+        mut watch,
+    } = observer;
     for _turn in rt.forever() {
-        engine.wait_for(rt, at_work.told.saturating_add(1));
-        let passed = observer.read();
-        if passed <= at_work.told || at_work.is_silent() {
+        engine.wait_for(rt, watch.told.saturating_add(1));
+        let passed = mark.observe(&mut seat);
+        if passed <= watch.told || watch.is_silent() {
             break;
         }
-        at_work.tell_rise(passed);
+        watch.tell_rise(passed);
     }
-    at_work
+    Observer::new(mark, seat, watch)
 }

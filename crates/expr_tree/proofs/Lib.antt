@@ -1,4 +1,4 @@
 pub mod Wraps
 pub mod Sizes
-pub mod Fronts
 pub mod Copies
+pub mod Seen

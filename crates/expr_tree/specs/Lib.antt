@@ -2,3 +2,4 @@ pub mod Trees
 pub mod Views
 pub mod Plain
 pub mod PlainLists
+pub mod Parts

@@ -28,5 +28,5 @@ pub use relation::{Agg, Column, LoopForm, Pair, Rel, SetOperator};
 pub use sameness::{
     same, same_aggs, same_columns, same_cond, same_pairs, same_rel, same_scalar, same_scalars,
 };
-pub use scalar::{Operator, Scalar};
+pub use scalar::{Operator, Scalar, ScalarParts};
 pub use size::{cond_size, rel_size, scalar_size};

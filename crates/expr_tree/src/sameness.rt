@@ -102,35 +102,28 @@ fn same_name(left: &Name, right: &Name) -> bool
 pub fn same_scalars<A: Allocator, B: Allocator>(left: &[Scalar<A>], right: &[Scalar<B>]) -> bool
     ensures { IsTrue result ↔ (map plain_scalar (map scalar_tree left.now) ≡ map plain_scalar (map scalar_tree right.now)) }
 {
-    match (left, right) {
-        ([], []) => true,
-        ([x, xs @ ..], [y, ys @ ..]) => same_scalar(x, y) && same_scalars(xs, ys),
-        _ => false,
-    }
+    left.len() == right.len()
+        && left.iter().zip(right).all(
+            |(x, y)|
+                ensures { IsTrue result ↔ (plain_scalar (scalar_tree x.entry.now) ≡ plain_scalar (scalar_tree y.entry.now)) }
+            { same_scalar(x, y) },
+        )
 }
 
 /// Whether the columns are equal, one by one.
 pub fn same_columns(left: &[Column], right: &[Column]) -> bool
     ensures { IsTrue result ↔ (map (λ k. k.index) left.now ≡ map (λ k. k.index) right.now) }
 {
-    match (left, right) {
-        ([], []) => true,
-        ([x, xs @ ..], [y, ys @ ..]) => x.index == y.index && same_columns(xs, ys),
-        _ => false,
-    }
+    left.len() == right.len() && left.iter().zip(right).all(|(x, y)| x.index == y.index)
 }
 
 /// Whether the pairs are equal, one by one.
 pub fn same_pairs(left: &[Pair], right: &[Pair]) -> bool
     ensures { IsTrue result ↔ (map plain_pair left.now ≡ map plain_pair right.now) }
 {
-    match (left, right) {
-        ([], []) => true,
-        ([x, xs @ ..], [y, ys @ ..]) => {
-            x.left.index == y.left.index && x.right.index == y.right.index && same_pairs(xs, ys)
-        }
-        _ => false,
-    }
+    left.len() == right.len()
+        && left.iter().zip(right).all(|(x, y)| x.left.index == y.left.index
+            && x.right.index == y.right.index)
 }
 
 /// Whether two aggregates are equal.
@@ -150,50 +143,40 @@ fn same_agg(left: Agg, right: Agg) -> bool
 pub fn same_aggs(left: &[Agg], right: &[Agg]) -> bool
     ensures { IsTrue result ↔ (map plain_agg left.now ≡ map plain_agg right.now) }
 {
-    match (left, right) {
-        ([], []) => true,
-        ([x, xs @ ..], [y, ys @ ..]) => same_agg(*x, *y) && same_aggs(xs, ys),
-        _ => false,
-    }
+    left.len() == right.len() && left.iter().zip(right).all(|(x, y)| same_agg(*x, *y))
 }
 
 /// Whether the inputs are equal, one by one.
 fn same_inputs(left: &[Input], right: &[Input]) -> bool
     ensures { IsTrue result ↔ (map plain_input left.now ≡ map plain_input right.now) }
 {
-    match (left, right) {
-        ([], []) => true,
-        ([x, xs @ ..], [y, ys @ ..]) => {
-            x.arity == y.arity && same_name(&x.name, &y.name) && same_inputs(xs, ys)
-        }
-        _ => false,
-    }
+    left.len() == right.len()
+        && left
+            .iter()
+            .zip(right)
+            .all(|(x, y)| x.arity == y.arity && same_name(&x.name, &y.name))
 }
 
 /// Whether the named relations are equal, one by one.
 fn same_lets<A: Allocator, B: Allocator>(left: &[Let<A>], right: &[Let<B>]) -> bool
     ensures { IsTrue result ↔ (map plain_let (map let_tree left.now) ≡ map plain_let (map let_tree right.now)) }
 {
-    match (left, right) {
-        ([], []) => true,
-        ([x, xs @ ..], [y, ys @ ..]) => {
-            same_name(&x.name, &y.name) && same_rel(&x.relation, &y.relation) && same_lets(xs, ys)
-        }
-        _ => false,
-    }
+    left.len() == right.len()
+        && left.iter().zip(right).all(
+            |(x, y)|
+                ensures { IsTrue result ↔ (plain_let (let_tree x.entry.now) ≡ plain_let (let_tree y.entry.now)) }
+            { same_name(&x.name, &y.name) && same_rel(&x.relation, &y.relation) },
+        )
 }
 
 /// Whether the outputs are equal, one by one.
 fn same_outputs<A: Allocator, B: Allocator>(left: &[Output<A>], right: &[Output<B>]) -> bool
     ensures { IsTrue result ↔ (map plain_output (map output_tree left.now) ≡ map plain_output (map output_tree right.now)) }
 {
-    match (left, right) {
-        ([], []) => true,
-        ([x, xs @ ..], [y, ys @ ..]) => {
-            same_name(&x.name, &y.name)
-                && same_rel(&x.relation, &y.relation)
-                && same_outputs(xs, ys)
-        }
-        _ => false,
-    }
+    left.len() == right.len()
+        && left.iter().zip(right).all(
+            |(x, y)|
+                ensures { IsTrue result ↔ (plain_output (output_tree x.entry.now) ≡ plain_output (output_tree y.entry.now)) }
+            { same_name(&x.name, &y.name) && same_rel(&x.relation, &y.relation) },
+        )
 }

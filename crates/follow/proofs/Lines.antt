@@ -1,5 +1,5 @@
 -- Lines that are taken, one after another.
-use Rattle.std.proofs.Common.{◌≡◌, ◌<◌, ◌+◌, ◌∙◌, ℕ, List, [], ◌∷◌, ◌++◌, length, refl, sym, ap, subst, arith, append_assoc, inl, inr, Bool, true, false}
+use Rattle.std.proofs.Common.{◌≡◌, ◌<◌, ◌≤◌, ◌+◌, ◌∙◌, ℕ, List, [], ◌∷◌, ◌++◌, length, refl, sym, ap, subst, arith, append_assoc, inl, inr, Bool, true, false}
 use Rattle.std.proofs.lemmas.Bool.Decides.{eqb_tells}
 use Rattle.std.proofs.lemmas.List.{length-append}
 use Rattle.std.specs.Prelude.{◌==◌}
@@ -10,8 +10,10 @@ use Rattle.collector.specs.Lines.{IsFault, Item, Says, code_of}
 use Rattle.collector.specs.declared.refusal.Fault.{Fault}
 use Rattle.collector.specs.declared.refusal.Fault.TheVariants.{Malformed, TooManyEpochs, NoEpoch, Unknown, BadNumber, WrongFields}
 use Rattle.collector.proofs.LinesRead.{filled, say_push}
-use Rattle.follow.specs.Scenes.{Grows, HasTaken}
-use Rattle.follow.specs.Steps.{Continues, Counts, TakesItem, TakesLines}
+use Rattle.graph.specs.Shown.{shown_inputs}
+use Rattle.collector.specs.InputText.{LinesSay, epochs_after}
+use Rattle.follow.specs.Scenes.{Grows, HasTaken, IsTakenSo}
+use Rattle.follow.specs.Steps.{CanTake, Continues, Counts, TakesItem, TakesLines}
 use Rattle.follow.specs.declared.intake.Intake.{Intake}
 use Rattle.follow.specs.declared.line_stop.Taken.TheVariants as taken
 use Rattle.follow.proofs.Fed.{counted_fed}
@@ -32,6 +34,28 @@ Takes base s t x y inputs text rest = (bytes : List ℕ) (lines : List (List ℕ
 
 pub takes_none : (base : ℕ) (s : Shown) (x : Intake) (inputs : List Input) (text : List ℕ) → Takes base s s x x inputs text text
 takes_none base s x inputs text = λ bytes lines items h. record { lines = lines; later = items; taken = h; continues = continues_here items; grows = grows_not s h.fed.live }
+
+-- the lines of a text begin no more epochs than there may be
+said_few : (inputs : List Input) (n : ℕ) (lines : List (List ℕ)) (items : List Item) → n ≤ 4294967295 → LinesSay inputs n lines items → epochs_after n items ≤ 4294967295
+said_few inputs n [] [] le said = le
+said_few inputs n [] (item ∷ items) le said = absurd said
+said_few inputs n (line ∷ lines) [] le said = absurd said
+said_few inputs n (line ∷ lines) (Item.epoch ∷ items) le said = let l = said.0.1 in said_few inputs (n + 1) lines items (omega (arith, l)) said.1
+said_few inputs n (line ∷ lines) (Item.row i zs ∷ items) le said = said_few inputs n lines items le said.1
+
+pub few_epochs : (s : Shown) (base : ℕ) (x : Intake) (inputs : List Input) (bytes rest : List ℕ) (lines : List (List ℕ)) (items : List Item) → HasTaken s base x inputs bytes rest lines items → base + x.begun ≤ 4294967295
+few_epochs s base x inputs bytes rest lines items h = let few = said_few inputs 0 lines items (omega arith) h.said in omega (arith, few, h.fed.begun)
+
+-- what was taken at first, and more lines
+pub taken_so : (base : ℕ) (s t : Shown) (x y : Intake) (inputs : List Input) (text rest : List ℕ) → Takes base s t x y inputs text rest → IsTakenSo s base x inputs text → IsTakenSo t base y inputs rest
+taken_so base s t x y inputs text rest takes (bytes, lines, items, h) = let r = takes bytes lines items h in (bytes, r.lines, r.later, r.taken)
+
+pub still_inputs : (base : ℕ) (s t : Shown) (x y : Intake) (inputs : List Input) (text rest : List ℕ) → Takes base s t x y inputs text rest → IsTakenSo s base x inputs text → shown_inputs t.graph ≡ shown_inputs s.graph
+still_inputs base s t x y inputs text rest takes (bytes, lines, items, h) = ap shown_inputs (takes bytes lines items h).grows.graph
+
+-- the next line may be taken
+pub can_take : (base : ℕ) (s : Shown) (x : Intake) (inputs : List Input) (text line : List ℕ) (item : Item) → IsTakenSo s base x inputs text → inputs ≡ shown_inputs s.graph → Says inputs (base + x.begun) line item → CanTake s x item
+can_take base s x inputs text line item (bytes, lines, items, h) same said = (base, items, line, h.fed, subst (λ (is : List Input). Says is (base + x.begun) line item) same said)
 
 -- one more line
 taken_more : (base : ℕ) (s t u : Shown) (y z v : Intake) (inputs : List Input) (bytes rest after line : List ℕ) (items : List Item) (item : Item) (r : TakenSo base s t y inputs bytes rest items) → split_on 10 rest ≡ line ∷ split_on 10 after → Says inputs (base + y.begun) line item → TakesItem t u y z item → Counts z v

@@ -1,12 +1,13 @@
 -- What is known of the whole, from one piece of the input to the next.
-use Rattle.std.proofs.Common.{◌≡◌, ◌<◌, ◌≤◌, ◌⊎◌, ◌+◌, ◌-◌, ◌∙◌, ℕ, suc, List, [], ◌∷◌, ◌++◌, length, take, refl, sym, ap, subst, arith, append_assoc, inl, inr, Option, Some, None}
+use Rattle.std.proofs.Common.{◌≡◌, ◌<◌, ◌≤◌, ◌+◌, ◌-◌, ◌∙◌, ℕ, suc, List, [], ◌∷◌, ◌++◌, length, take, refl, sym, ap, subst, arith, append_assoc, inl, inr, Option, Some, None}
 use Rattle.std.specs.Prelude.{Bool, true, false, Result, Ok, Err}
 use Rattle.std.proofs.lemmas.Bool.{true≢false}
 use Rattle.std.specs.Io.KnownBytes.{Appends, Consumes, IsAtEnd, Keeps}
 use Rattle.std.proofs.lemmas.Bool.Decides.{eqb_tells}
 use Rattle.std.proofs.lemmas.List.{append-nil, length-append}
 use Rattle.semantics.proofs.MultisetSums.{≈-from}
-use Rattle.graph.specs.Shown.{GraphValue, shown_inputs}
+use Rattle.semantics.specs.Query.{Input}
+use Rattle.graph.specs.Shown.{GraphValue, shown_graph, shown_inputs}
 use Rattle.machine.specs.World.{opening}
 use Rattle.rows.specs.FlatRows.{joined}
 use Rattle.board.specs.Shown.{Shown}
@@ -21,8 +22,12 @@ use Rattle.collector.specs.declared.refusal.InputRefusal.TheVariants.{At}
 use Rattle.collector.proofs.Writes.{Appends-then}
 use Rattle.follow.specs.Entries.{Entry}
 use Rattle.follow.specs.Follows.{Follows, HasRead, IsAnswer, IsPart, IsReport, Reaches, Writes, said_records}
-use Rattle.follow.specs.Scenes.{Grows, HasReported, IsFed, IsKnown, IsWritten, batches_of, reported_count}
-use Rattle.follow.specs.Steps.{CanReport, Continues, IsLastAnswer, AnswersLast, AnswersOpen, IsFresh, IsNew, Stops, TakesLines, ending_of}
+use Rattle.follow.specs.Scenes.{Grows, HasReported, HasRoom, IsFed, HasTaken, IsKnown, IsTakenSo, IsWritten, IsWrittenSo, batches_of, declared_arities, reported_count}
+use Rattle.semantics.specs.Graph.{output_numbers}
+use Rattle.board.specs.Promises.{IsOpening}
+use Rattle.follow.proofs.Lines.{few_epochs}
+use Rattle.follow.proofs.Moved.{opening_ready}
+use Rattle.follow.specs.Steps.{MayAnswer, CanReport, Continues, IsLastAnswer, AnswersLast, AnswersOpen, IsFresh, IsNew, Stops, TakesLines, ending_of}
 use Rattle.follow.specs.declared.outcome.Ending.{Ending}
 use Rattle.follow.specs.declared.outcome.Ending.TheVariants as ending
 use Rattle.follow.specs.declared.outcome.Halt.{Halt}
@@ -30,6 +35,7 @@ use Rattle.follow.specs.declared.outcome.Halt.TheVariants as halt
 use Rattle.follow.specs.declared.intake.Intake.{Intake}
 use Rattle.follow.specs.declared.line_stop.Taken.{Taken}
 use Rattle.follow.specs.declared.line_stop.Taken.TheVariants as taken
+use Rattle.follow.specs.declared.position.Position.{Position}
 use Rattle.follow.specs.declared.reporting.Reporting.{Reporting}
 use Rattle.follow.proofs.Cuts.{more_bytes}
 use Rattle.follow.proofs.Fed.{nothing_waits}
@@ -49,17 +55,21 @@ front_then a b c xs ys p q = (length xs + q.0, omega (arith, q.1, length-append 
 
 -- ---- at first
 
-pub opened : (g : GraphValue) (s : Shown) (base : ℕ) (x : Intake) (t : Reporting) (start : Option (List ℕ)) → s.graph ≡ g → Shows s opening → base ≡ 0 → IsNew x → IsFresh t → IsWritten g s base x t [] [] start start
-opened g s base x t start same shows zero new fresh = record {
+pub opened : (g : GraphValue) (workers : ℕ) (s : Shown) (base : ℕ) (x : Intake) (t : Reporting) (start : Option (List ℕ)) → IsOpening g workers s → Shows s opening → base ≡ 0 → IsNew (shown_inputs g) x → length t.reported.items ≡ length (output_numbers (shown_graph s.graph)) → IsFresh t
+    → IsWritten g s base x t [] [] start start
+opened g workers s base x t start is shows zero new room fresh = record {
   known = record {
     lines = [];
     items = [];
     entries = [];
     text = [];
-    graph = same;
+    graph = is.graph;
     taken = record {
       fed = record {
         live = (opening, shows);
+        ready = opening_ready g workers s is;
+        fits = new.fits ∙ sym (ap declared_arities is.graph);
+        start = λ none. zero;
         begun = omega (arith, zero, new.begun);
         order = λ i e. [];
         alike = λ i e. ≈-from (sym (shows.fed i e));
@@ -77,7 +87,7 @@ opened g s base x t start same shows zero new fresh = record {
       first = λ k. ap (λ (n : ℕ). joined (take n (batches_of s k t.done))) (sym (fresh.none k));
     };
     part = part_nothing g (said_records [] (base + t.done));
-    start = λ none. zero;
+    room = room;
     sealed = omega (arith, fresh.done);
     none = λ e. refl;
   };
@@ -106,7 +116,7 @@ known_follows g s base x t bytes pending all ended start now result rest k parts
   text = k.text;
   read = record { parts = parts; said = k.taken.said };
   answer = answers g s base x t bytes pending k;
-  sealed = inl (let b = k.taken.fed.begun in let a = base_within base x.begun t.done k.start k.sealed in omega (arith, b, a));
+  sealed = inl (let b = k.taken.fed.begun in let a = base_within base x.begun t.done k.taken.fed.start k.sealed in omega (arith, b, a));
   reaches = reaches;
   writes = writes;
 }
@@ -115,7 +125,6 @@ known_follows g s base x t bytes pending all ended start now result rest k parts
 pub halted : (g : GraphValue) (s : Shown) (base : ℕ) (x : Intake) (t : Reporting) (bytes pending : List ℕ) (ended : Bool) (start now : Option (List ℕ)) (h : Halt) → IsWritten g s base x t bytes pending start now → Follows g bytes ended start now (Err (ending_of h))
 halted g s base x t bytes pending ended start now halt.NoMemory w = known_follows g s base x t bytes pending bytes ended start now (Err ending.NoMemory) (split_on 10 pending) w.known w.known.taken.parts tt w.written
 halted g s base x t bytes pending ended start now halt.Count w = known_follows g s base x t bytes pending bytes ended start now (Err ending.Count) (split_on 10 pending) w.known w.known.taken.parts tt w.written
-halted g s base x t bytes pending ended start now halt.Incomplete w = known_follows g s base x t bytes pending bytes ended start now (Err ending.Incomplete) (split_on 10 pending) w.known w.known.taken.parts tt w.written
 
 -- the reader failed
 pub unread : (g : GraphValue) (s : Shown) (base : ℕ) (x : Intake) (t : Reporting) (bytes pending : List ℕ) (ended : Bool) (start now : Option (List ℕ)) → IsWritten g s base x t bytes pending start now → split_on 10 pending ≡ pending ∷ [] → Follows g bytes ended start now (Err ending.Read)
@@ -137,12 +146,19 @@ more_pending g s base x t bytes pending piece start now w =
         taken = record { fed = k.taken.fed; parts = more_bytes bytes pending piece k.lines k.taken.parts; said = k.taken.said; counted = k.taken.counted };
         reported = k.reported;
         part = k.part;
-        start = k.start;
+        room = k.room;
         sealed = k.sealed;
         none = k.none;
       };
       written = w.written;
     }
+
+-- a piece that is one too many
+pub too_long : (g : GraphValue) (s : Shown) (base : ℕ) (x : Intake) (t : Reporting) (bytes pending piece : List ℕ) (ended : Bool) (start now : Option (List ℕ)) → IsWritten g s base x t bytes pending start now → 18446744073709551615 ≤ length (bytes ++ piece)
+    → Follows g (bytes ++ piece) ended start now (Err ending.TooLong)
+too_long g s base x t bytes pending piece ended start now w long =
+    let more = more_pending g s base x t bytes pending piece start now w in
+    known_follows g s base x t (bytes ++ piece) (pending ++ piece) (bytes ++ piece) ended start now (Err ending.TooLong) (split_on 10 (pending ++ piece)) more.known more.known.taken.parts long more.written
 
 -- ---- lines that were taken and answered
 
@@ -151,14 +167,15 @@ pub record Answered (g : GraphValue) (s : Shown) (base : ℕ) (x : Intake) (t : 
   pub text : known.text ≡ before ++ out
   pub stops : Stops (shown_inputs g) bytes pending (length known.lines) known.items how
 
-can_report : (s t : Shown) (base : ℕ) (x y : Intake) (u : Reporting) (items later : List Item) (entries : List Entry) (text : List ℕ) → IsFed s base x items → IsFed t base y later → Continues items later → Grows s t → HasReported s base u.done (reported_count u) (said_records items) entries text → (x.begun ≡ 0 → base ≡ 0) → u.done ≤ x.begun - 1
+can_report : (s t : Shown) (base : ℕ) (x y : Intake) (u : Reporting) (items later : List Item) (entries : List Entry) (text : List ℕ) → IsFed s base x items → IsFed t base y later → Continues items later → Grows s t → HasRoom s u → HasReported s base u.done (reported_count u) (said_records items) entries text → u.done ≤ x.begun - 1
     → (u.done ≡ x.begun → entries ≡ []) → CanReport t base u later y.begun (y.begun - 1) entries text
-can_report s t base x y u items later entries text f g continues grows reported start order none =
+can_report s t base x y u items later entries text f g continues grows room reported order none =
     let a = f.begun in
     let b = g.begun in
     let c = continues.begun in
-    let d = base_within base x.begun u.done start order in
+    let d = base_within base x.begun u.done f.start order in
     record {
+      room = room ∙ sym (ap (λ (g : GraphValue). length (output_numbers (shown_graph g))) grows.graph);
       reported = report_later s t base u.done (reported_count u) (said_records items) (said_records later) entries text reported grows (λ e i lt. continues.ended e i (omega (arith, lt, d, a)));
       order = omega (arith, a, b, c, order);
       none = λ e. none (omega (arith, a, b, c, order, e));
@@ -169,7 +186,7 @@ pub answered : (g : GraphValue) (s s2 s3 : Shown) (base : ℕ) (x x2 x3 : Intake
 answered g s s2 s3 base x x2 x3 t t3 bytes pending rest out how start now w takes goes =
     let k = w.known in
     let took = takes bytes k.lines k.items k.taken in
-    let gone = goes took.later k.entries k.text took.reached.fed (can_report s s2 base x x2 t k.items took.later k.entries k.text k.taken.fed took.reached.fed took.continues took.grows k.reported k.start k.sealed k.none) in
+    let gone = goes took.later k.entries k.text took.reached.fed (can_report s s2 base x x2 t k.items took.later k.entries k.text k.taken.fed took.reached.fed took.continues took.grows k.room k.reported k.sealed k.none) in
     let same : s3.graph ≡ g = gone.graph ∙ took.grows.graph ∙ k.graph in
     let lines : gone.reported.lines ≡ out = sym gone.reported.appended in
     record {
@@ -182,13 +199,45 @@ answered g s s2 s3 base x x2 x3 t t3 bytes pending rest out how start now w take
         taken = record { fed = gone.fed; parts = took.reached.parts; said = took.reached.said; counted = gone.holds.line ∙ took.reached.counted };
         reported = gone.reported.reported;
         part = subst (λ (h : GraphValue). IsPart h (said_records took.later (base + t3.done)) gone.reported.entries) same gone.reported.part;
-        start = λ none. k.start (omega (arith, none, gone.holds.begun, took.reached.fed.begun, k.taken.fed.begun, took.continues.begun));
+        room = gone.reported.room;
         sealed = let b = gone.holds.begun in omega (arith, b, gone.reported.order);
         none = λ e. gone.reported.none (e ∙ gone.holds.begun);
       };
       text = ap (λ (xs : List ℕ). k.text ++ xs) lines;
       stops = took.stops;
     }
+
+-- what was taken and answered lets more be answered
+pub may_answer : (g : GraphValue) (s s2 : Shown) (base : ℕ) (x x2 : Intake) (t : Reporting) (bytes pending rest : List ℕ) (how : Taken) → IsKnown g s base x t bytes pending → TakesLines base s s2 x x2 (shown_inputs g) pending rest how → MayAnswer s2 base x2 t (x2.begun - 1) × (base + x2.begun ≤ 4294967295)
+may_answer g s s2 base x x2 t bytes pending rest how k takes =
+    let took = takes bytes k.lines k.items k.taken in (
+      (took.later, k.entries, k.text, took.reached.fed, can_report s s2 base x x2 t k.items took.later k.entries k.text k.taken.fed took.reached.fed took.continues took.grows k.room k.reported k.sealed k.none),
+      few_epochs s2 base x2 (shown_inputs g) bytes rest took.lines took.later took.reached,
+    )
+
+pub may_answer_last : (g : GraphValue) (s : Shown) (base : ℕ) (x : Intake) (t : Reporting) (bytes pending : List ℕ) → IsKnown g s base x t bytes pending → MayAnswer s base x t x.begun × (base + x.begun ≤ 4294967295)
+may_answer_last g s base x t bytes pending k = (
+  (k.items, k.entries, k.text, k.taken.fed, record { room = k.room; reported = k.reported; order = omega (arith, k.sealed); none = k.none }),
+  few_epochs s base x (shown_inputs g) bytes pending k.lines k.items k.taken,
+)
+
+-- the same at a position
+pub text_taken : (inputs : List Input) (g : GraphValue) (s : Shown) (p : Position) (now : Option (List ℕ)) → inputs ≡ shown_inputs g → IsWrittenSo g s p now → IsTakenSo s p.base p.intake inputs p.pending.items × (inputs ≡ shown_inputs s.graph)
+text_taken inputs g s p now same (bytes, start, w) =
+    let k = w.known in (
+      (bytes, k.lines, k.items, subst (λ (is : List Input). HasTaken s p.base p.intake is bytes p.pending.items k.lines k.items) (sym same) k.taken),
+      same ∙ sym (ap shown_inputs k.graph),
+    )
+
+pub lets_answer : (inputs : List Input) (g : GraphValue) (s s2 : Shown) (p : Position) (x2 : Intake) (rest : List ℕ) (how : Taken) (now : Option (List ℕ)) → inputs ≡ shown_inputs g → IsWrittenSo g s p now → TakesLines p.base s s2 p.intake x2 inputs p.pending.items rest how
+    → MayAnswer s2 p.base x2 p.reporting (x2.begun - 1) × (p.base + x2.begun ≤ 4294967295)
+lets_answer inputs g s s2 p x2 rest how now same (bytes, start, w) takes = may_answer g s s2 p.base p.intake x2 p.reporting bytes p.pending.items rest how w.known (subst (λ (is : List Input). TakesLines p.base s s2 p.intake x2 is p.pending.items rest how) same takes)
+
+pub lets_answer_last : (g : GraphValue) (s : Shown) (p : Position) (now : Option (List ℕ)) → IsWrittenSo g s p now → MayAnswer s p.base p.intake p.reporting p.intake.begun × (p.base + p.intake.begun ≤ 4294967295)
+lets_answer_last g s p now (bytes, start, w) = may_answer_last g s p.base p.intake p.reporting bytes p.pending.items w.known
+
+pub few_written : (g : GraphValue) (s : Shown) (p : Position) (bytes : List ℕ) (start now : Option (List ℕ)) → IsWritten g s p.base p.intake p.reporting bytes p.pending.items start now → p.base + p.intake.begun ≤ 4294967295
+few_written g s p bytes start now w = few_epochs s p.base p.intake (shown_inputs g) bytes p.pending.items w.known.lines w.known.items w.known.taken
 
 -- all is written
 pub answer_written : (g : GraphValue) (s : Shown) (base : ℕ) (x : Intake) (t : Reporting) (bytes pending before out : List ℕ) (how : Taken) (start now new : Option (List ℕ)) → Answered g s base x t bytes pending before out how → Appends start now before → Appends now new out
@@ -203,8 +252,8 @@ unwritten g s base x t bytes pending before out how ended start now new a p q =
 
 -- the next line has a fault
 pub faults : (g : GraphValue) (s : Shown) (base : ℕ) (x : Intake) (t : Reporting) (bytes pending : List ℕ) (code : ℕ) (ended : Bool) (start now : Option (List ℕ)) (e : Ending) (w : IsWritten g s base x t bytes pending start now)
-    → Stops (shown_inputs g) bytes pending (length w.known.lines) w.known.items (taken.Fault code) → (e ≡ ending.Input code (x.line + 1)) ⊎ (e ≡ ending.Incomplete) → Follows g bytes ended start now (Err e)
-faults g s base x t bytes pending code ended start now e w stops (inl is) =
+    → Stops (shown_inputs g) bytes pending (length w.known.lines) w.known.items (taken.Fault code) → e ≡ ending.Input code (x.line + 1) → Follows g bytes ended start now (Err e)
+faults g s base x t bytes pending code ended start now e w stops is =
     let line : x.line + 1 ≡ length w.known.lines + 1 = ap (λ (n : ℕ). n + 1) w.known.taken.counted in
     subst (λ (y : Ending). Follows g bytes ended start now (Err y)) (sym is)
     (known_follows g s base x t bytes pending bytes ended start now (Err (ending.Input code (x.line + 1))) (split_on 10 pending) w.known w.known.taken.parts (record {
@@ -212,14 +261,13 @@ faults g s base x t bytes pending code ended start now e w stops (inl is) =
       next = line;
       last = λ c. absurd (stops.1 c);
     }) w.written)
-faults g s base x t bytes pending code ended start now e w stops (inr is) = subst (λ (y : Ending). Follows g bytes ended start now (Err y)) (sym is) (halted g s base x t bytes pending ended start now halt.Incomplete w)
 
 -- ---- the end of the input
 
 -- a last line without line feed
 pub unended_last : (g : GraphValue) (s : Shown) (base : ℕ) (x : Intake) (t : Reporting) (bytes pending : List ℕ) (ended : Bool) (start now : Option (List ℕ)) (e : Ending) → IsWritten g s base x t bytes pending start now → split_on 10 pending ≡ pending ∷ [] → ended ≡ true → 0 < length pending
-    → (e ≡ ending.Input 43 (x.line + 1)) ⊎ (e ≡ ending.Incomplete) → Follows g bytes ended start now (Err e)
-unended_last g s base x t bytes pending ended start now e w unended end some (inl is) =
+    → e ≡ ending.Input 43 (x.line + 1) → Follows g bytes ended start now (Err e)
+unended_last g s base x t bytes pending ended start now e w unended end some is =
     let k = w.known in
     let line : x.line + 1 ≡ length k.lines + 1 = ap (λ (n : ℕ). n + 1) k.taken.counted in
     let parts : split_on 10 bytes ≡ k.lines ++ pending ∷ [] = k.taken.parts ∙ ap (λ (ps : List (List ℕ)). k.lines ++ ps) unended in
@@ -229,14 +277,12 @@ unended_last g s base x t bytes pending ended start now e w unended end some (in
       next = line;
       last = λ c. end;
     }) w.written)
-unended_last g s base x t bytes pending ended start now e w unended end some (inr is) =
-    subst (λ (y : Ending). Follows g bytes ended start now (Err y)) (sym is) (halted g s base x t bytes pending ended start now halt.Incomplete w)
 
 -- what is written at the end
 last_report : (g : GraphValue) (s s2 : Shown) (base : ℕ) (x : Intake) (t t2 : Reporting) (bytes pending out : List ℕ) (start now : Option (List ℕ)) (w : IsWritten g s base x t bytes pending start now) → AnswersLast base s s2 x t t2 out → IsLastAnswer base s2 x t2 w.known.items w.known.text out s
 last_report g s s2 base x t t2 bytes pending out start now w ends =
     let k = w.known in
-    ends k.items k.entries k.text k.taken.fed (record { reported = k.reported; order = omega (arith, k.sealed); none = k.none })
+    ends k.items k.entries k.text k.taken.fed (record { room = k.room; reported = k.reported; order = omega (arith, k.sealed); none = k.none })
 
 last_follows : (g : GraphValue) (s s2 : Shown) (base : ℕ) (x : Intake) (t t2 : Reporting) (bytes pending out : List ℕ) (ended : Bool) (start now new : Option (List ℕ)) (result : Result (Unit {0}) Ending) (w : IsWritten g s base x t bytes pending start now) (e : IsLastAnswer base s2 x t2 w.known.items w.known.text out s) → split_on 10 pending ≡ pending ∷ [] → ended ≡ true → pending ≡ []
     → Reaches (shown_inputs g) bytes ended w.known.lines w.known.items (pending ∷ []) (base + t2.done) e.reported.entries result → Writes start new (w.known.text ++ out) result → Follows g bytes ended start new result
@@ -325,7 +371,6 @@ nothing_by g ended start result reaches writes = record {
 pub nothing_follows : (g : GraphValue) (ended : Bool) (start : Option (List ℕ)) (h : Halt) → Follows g [] ended start start (Err (ending_of h))
 nothing_follows g ended start halt.NoMemory = nothing_by g ended start (Err ending.NoMemory) tt (appends_none start)
 nothing_follows g ended start halt.Count = nothing_by g ended start (Err ending.Count) tt (appends_none start)
-nothing_follows g ended start halt.Incomplete = nothing_by g ended start (Err ending.Incomplete) tt (appends_none start)
 
 pub consumes_end : (a b c : Option (List ℕ)) (xs : List ℕ) → Consumes a b xs → Consumes b c [] → Consumes a c xs
 consumes_end a b c xs p q = subst (Consumes a c) (append-nil xs) (consumes_then a b c xs [] p q)

@@ -1,13 +1,14 @@
 -- A new board when an epoch has just begun, and all before it are complete.
-use Rattle.std.proofs.Common.{◌≡◌, ◌≤◌, ◌+◌, ◌-◌, ◌∙◌, ℕ, Bool, true, false, List, [], ◌∷◌, ◌++◌, length, cond, take, refl, sym, ap, subst, arith, inl, inr, eq-eqb, slice_index_or}
+use Rattle.std.proofs.Common.{◌≡◌, ◌≤◌, ◌+◌, ◌-◌, ◌∙◌, ℕ, Bool, true, false, List, [], ◌∷◌, ◌++◌, length, map, cond, take, refl, sym, ap, subst, arith, inl, inr, eq-eqb, slice_index_or}
 use Rattle.std.specs.Prelude.{◌==◌, ◌&&◌, if◌then◌else◌, Option}
 use Rattle.std.proofs.lemmas.Bool.Decides.{eqb_tells}
 use Rattle.std.proofs.lemmas.List.{length-append, nil_from_length}
 use Rattle.semantics.specs.Multiset.{Record}
 use Rattle.semantics.proofs.MultisetSums.{≈-from}
-use Rattle.graph.specs.Shown.{GraphValue}
+use Rattle.semantics.specs.Graph.{output_numbers}
+use Rattle.graph.specs.Shown.{GraphValue, shown_graph}
 use Rattle.machine.specs.World.{opening}
-use Rattle.rows.specs.FlatRows.{joined}
+use Rattle.rows.specs.FlatRows.{RowList, joined}
 use Rattle.board.specs.Shown.{Shown}
 use Rattle.board.specs.Showing.{Shows}
 use Rattle.board.specs.Promises.{IsOpening}
@@ -16,7 +17,8 @@ use Rattle.collector.specs.InputText.{epochs_after, records_in}
 use Rattle.collector.proofs.LinesRead.{epoch_push, epochs_push}
 use Rattle.follow.specs.Entries.{Entry, records_of}
 use Rattle.follow.specs.Follows.{IsReport, said_records}
-use Rattle.follow.specs.Scenes.{IsWritten, batches_of, missing, no_rows, reported_count, waiting}
+use Rattle.follow.proofs.Moved.{opening_ready}
+use Rattle.follow.specs.Scenes.{IsWritten, batches_of, declared_arities, missing, no_rows, reported_count, waiting}
 use Rattle.follow.specs.Steps.{EndsInEpoch}
 use Rattle.follow.specs.declared.intake.Intake.{Intake}
 use Rattle.follow.specs.declared.reporting.Reporting.{Reporting}
@@ -61,9 +63,9 @@ no_entries (entry ∷ entries) none =
     let one : entry.1 ∷ records_of entry.0 entries ≡ [] = ap (λ t. cond t (entry.1 ∷ records_of entry.0 entries) (records_of entry.0 entries)) (sym own) ∙ none entry.0 in
     absurd cc
 
-pub renewed : (g : GraphValue) (workers : ℕ) (s t : Shown) (base last base2 : ℕ) (x y : Intake) (u v : Reporting) (bytes pending : List ℕ) (start now : Option (List ℕ)) → IsOpening g workers t → Shows t opening → y.begun ≡ 1 → y.line ≡ x.line → y.portion.items ≡ x.portion.items → v.done ≡ 0 → ((k : ℕ) → reported_count u k ≡ 0)
+pub renewed : (g : GraphValue) (workers : ℕ) (s t : Shown) (base last base2 : ℕ) (x y : Intake) (u v : Reporting) (bytes pending : List ℕ) (start now : Option (List ℕ)) → IsOpening g workers t → Shows t opening → y.begun ≡ 1 → y.line ≡ x.line → y.portion.items ≡ x.portion.items → length v.reported.items ≡ length u.reported.items → v.done ≡ 0 → ((k : ℕ) → reported_count u k ≡ 0)
     → ((k : ℕ) → reported_count v k ≡ 0) → u.done ≡ last → x.begun ≡ last + 1 → base2 ≡ base + last → (w : IsWritten g s base x u bytes pending start now) → EndsInEpoch w.known.items → IsWritten g t base2 y v bytes pending start now
-renewed g workers s t base last base2 x y u v bytes pending start now opens shows one line portion zero fresh_last fresh done begun moved w ends =
+renewed g workers s t base last base2 x y u v bytes pending start now opens shows one line portion same_room zero fresh_last fresh done begun moved w ends =
     let k = w.known in
     record {
       known = record {
@@ -75,6 +77,9 @@ renewed g workers s t base last base2 x y u v bytes pending start now opens show
         taken = record {
           fed = record {
             live = (opening, shows);
+            ready = opening_ready g workers t opens;
+            fits = ap (λ xs. map (λ (r : RowList). r.arity) xs) portion ∙ k.taken.fed.fits ∙ ap declared_arities (k.graph ∙ sym opens.graph);
+            start = λ none. absurd (omega (arith, none, one));
             begun = omega (arith, one, begun, moved, k.taken.fed.begun);
             order = λ i e. [];
             alike = λ i e. ≈-from (sym (shows.fed i e));
@@ -93,7 +98,7 @@ renewed g workers s t base last base2 x y u v bytes pending start now opens show
           first = λ j. ap (λ (n : ℕ). joined (take n (batches_of t j v.done))) (sym (fresh j));
         };
         part = part_nothing g (said_records k.items (base2 + v.done));
-        start = λ none. absurd (omega (arith, none, one));
+        room = same_room ∙ k.room ∙ ap (λ (h : GraphValue). length (output_numbers (shown_graph h))) (k.graph ∙ sym opens.graph);
         sealed = omega (arith, zero);
         none = λ e. refl;
       };

@@ -18,7 +18,7 @@ use Rattle.collector.specs.OutputText.{is_plain, label_of}
 use Rattle.collector.specs.Lines.{Item}
 use Rattle.follow.specs.Entries.{Entry, complete_line, entry_line, records_of, row_line}
 use Rattle.follow.specs.Follows.{IsGraphOf, IsPart, IsReport, IsWhole, said_records}
-use Rattle.follow.specs.Scenes.{Grows, HasReported, IsAllFed, batches_of, fed_at, reported_count}
+use Rattle.follow.specs.Scenes.{Grows, HasReported, IsAllFed, IsWithin, batches_of, fed_at, reported_count}
 use Rattle.follow.specs.Steps.{CanReport, Completes, ReportsOutput, ReportsOpen, HasReportedMore, HasAnswered}
 use Rattle.follow.specs.declared.reporting.Reporting.{Reporting}
 use Rattle.follow.proofs.Entries.{at_place, entries_at, joined_parts, lines_at, of_append, of_other, of_same}
@@ -177,6 +177,7 @@ reports_open s base t u items begun sealed text old mid new till reports fed pro
     record {
       entries = till.entries ++ m.more;
       lines = till.lines ++ m.lines;
+      room = to.room ∙ till.can.room;
       reported =
           subst (λ (d : ℕ). HasReported s base d (reported_count u) (said_records items) (till.entries ++ m.more) (text ++ (till.lines ++ m.lines))) (sym to.done)
           (subst (λ (xs : List ℕ). HasReported s base t.done (reported_count u) (said_records items) (till.entries ++ m.more) xs) (append_assoc text till.lines m.lines) m.reported);
@@ -200,6 +201,7 @@ reported_complete s base t u v items begun sealed text old mid next new till rep
       entries = [];
       lines = lines;
       can = record {
+        room = nexts.room ∙ to.room ∙ till.can.room;
         reported = record {
           reported = subst (λ (d : ℕ). IsReport s.graph (said_records items) d [] (text ++ lines)) (sym next_is) (subst (λ (xs : List ℕ). IsReport s.graph (said_records items) (base + t.done + 1) [] xs) glued reported);
           within = λ k. omega (arith, nexts.none k);
@@ -217,9 +219,21 @@ reported_all s base t items begun sealed text old new till le order =
     record {
       entries = till.entries;
       lines = till.lines;
+      room = till.can.room;
       reported = till.can.reported;
       appended = till.appended;
       part = subst (IsPart s.graph (said_records items (base + t.done))) (sym none) (part_nothing s.graph (said_records items (base + t.done)));
       order = till.can.order;
       none = till.can.none;
     }
+
+-- ---- what may be written
+
+-- after the first outputs no more was written than was emitted
+pub within_output : (s : Shown) (base : ℕ) (t u : Reporting) (k : ℕ) (label old new : List ℕ) → ReportsOutput s base t u k label old new → IsWithin s t → IsWithin s u
+within_output s base t u k label old new one before j =
+    let same = ap (λ (d : ℕ). length (batches_of s j d)) one.done in
+    elim (eqb_tells j k) [
+      | inl here ↦ subst (λ (i : ℕ). reported_count u i ≤ length (batches_of s i u.done)) (sym here.1) (let size = ap (λ (d : ℕ). length (batches_of s k d)) one.done in omega (arith, one.here, size))
+      | inr other ↦ omega (arith, one.others j other.1, before j, same)
+    ]

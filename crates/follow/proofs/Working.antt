@@ -1,6 +1,11 @@
 -- Each step of a round leaves less to do, and a round in which no worker had an event leaves a board at rest.
-use Rattle.std.proofs.Common.{◌≡◌, ◌<◌, ◌≤◌, ◌⊎◌, ◌+◌, ◌∙◌, ℕ, zero, suc, List, [], ◌∷◌, length, refl, sym, ap, subst, arith, inl, inr, slice_get, Some, eq-eqb, false, cond, drop, remove}
-use Rattle.std.specs.Prelude.{Option, None, Result, Ok, Err, IfNone, IfOk, IfSome, OnOk, is_ok, true}
+use Rattle.std.proofs.Common.{◌≡◌, ◌<◌, ◌≤◌, ◌⊎◌, ◌+◌, ◌∙◌, ℕ, zero, suc, List, [], ◌∷◌, length, refl, sym, ap, subst, arith, inl, inr, slice_get, Some, eq-eqb, false, cond, drop, remove, take}
+use Rattle.std.specs.List.{AllByRecursion}
+use Rattle.std.proofs.lemmas.List.{length-append, length-map, map-append}
+use Rattle.std.proofs.Math.Seq.{take-append_seam}
+use Rattle.semantics.specs.Multiset.{Record}
+use Rattle.machine.specs.Choices.{IsClaimBy}
+use Rattle.std.specs.Prelude.{◌≢◌, ◌++◌, ◌==◌, slice_index_or, Option, None, Result, Ok, Err, IfNone, IfOk, IfSome, OnOk, is_ok, true}
 use Rattle.std.proofs.lemmas.Bool.Decides.{eqb_tells}
 use Rattle.graph.specs.Shown.{GraphValue}
 use Rattle.machine.specs.World.{Event, Held, World}
@@ -11,19 +16,22 @@ use Rattle.board.specs.Answers.{Claims, Gathers, Hands, HasNoChoice, Merges, Mer
 use Rattle.board.specs.Kept.{Goes}
 use Rattle.board.specs.Promises.{IsOpening}
 use Rattle.board.specs.Reached.{IsReached}
-use Rattle.board.specs.Shown.{Shown, held_of, net, side_at}
+use Rattle.board.specs.Shown.{Shown, Side, held_of, net, side_at, tables}
 use Rattle.board.specs.Showing.{Shows}
 use Rattle.board.specs.WorkerShown.{IsIdle}
 use Rattle.board.specs.declared.board.Claimed.{Claimed}
-use Rattle.board.specs.declared.board.Claimed.TheVariants.{Drained, Idle}
+use Rattle.board.specs.declared.board.Claimed.TheVariants.{Busy, Drained, Idle, Stopped}
 use Rattle.alone.specs.Rests.{IsAtRest}
 use Rattle.alone.proofs.Less.{claim_works, gathers_lead, left, left_less, reached_on}
 use Rattle.alone.proofs.Resting.{passed_over}
-use Rattle.follow.specs.Working.{Advances, HasEnded, HasNoEvent, HasWorked, HaveNoEvent, IsBusy, IsWorkedOff, Leads, Moves, TookNothing}
-use Rattle.follow.specs.Scenes.{IsLive, Works}
+use Rattle.follow.specs.Slots.{event_in, workers_of}
+use Rattle.follow.specs.declared.slot.Slot.{Slot}
+use Rattle.follow.specs.Working.{EndsAlone, IsFreeAt, TakesAlone, Advances, HasEnded, HasNoEvent, HasWorked, HaveNoEvent, IsBusy, IsWorkedOff, Leads, Moves, TookNothing}
+use Rattle.follow.specs.Scenes.{IsFree, IsFreeBut, IsLive, Works}
+use Rattle.follow.specs.declared.outcome.Halt.{Halt}
 use Rattle.follow.specs.declared.rounds.Round.{Round}
 use Rattle.follow.specs.declared.rounds.Round.TheVariants as round
-use Rattle.follow.proofs.Moved.{steps_work, works_not, works_on}
+use Rattle.follow.proofs.Moved.{free_by, holds_nothing, still_free, steps_work, works_not, works_on}
 
 -- ---- steps
 
@@ -67,6 +75,102 @@ leads_to (suc n) s t r (u, before, (step, work, goes)) =
 
 pub advances_less : (s t : Shown) → IsReached s → Advances s t → left t < left s
 advances_less s t r (n, steps) = let a = (leads_to (suc n) s t r steps).less in omega (arith, a)
+
+-- ---- workers that hold events
+
+all_front : (P : ℕ → Type 0) (xs : List ℕ) (y : ℕ) → AllByRecursion P (xs ++ y ∷ []) → AllByRecursion P xs × P y
+all_front P [] y h = (tt, h.0)
+all_front P (x ∷ xs) y h = let r = all_front P xs y h.1 in ((h.0, r.0), r.1)
+
+pub all_push : (P : ℕ → Type 0) (xs : List ℕ) (y : ℕ) → AllByRecursion P xs → P y → AllByRecursion P (xs ++ y ∷ [])
+all_push P [] y h last = (last, tt)
+all_push P (x ∷ xs) y h last = (h.0, all_push P xs y h.1 last)
+
+-- workers below another one
+pub all_below : (n : ℕ) (ks : List ℕ) → AllByRecursion (λ (k : ℕ). k < n) ks → AllByRecursion (λ (k : ℕ). k ≢ n) ks
+all_below n [] h = tt
+all_below n (k ∷ ks) h = (λ e. let l = h.0 in absurd (omega (arith, l, e)), all_below n ks h.1)
+
+pub all_wider : (n : ℕ) (ks : List ℕ) → AllByRecursion (λ (k : ℕ). k < n) ks → AllByRecursion (λ (k : ℕ). k < n + 1) ks
+all_wider n [] h = tt
+all_wider n (k ∷ ks) h = (let l = h.0 in omega (arith, l), all_wider n ks h.1)
+
+-- boards with the same tables have as many workers
+pub as_many : (s t : Shown) → tables s ≡ tables t → length s.sides ≡ length t.sides
+as_many s t same = let a = length-map s.sides (λ (x : Side). x.table) in let b = length-map t.sides (λ (x : Side). x.table) in let e = ap length same in omega (arith, a, b, e)
+
+pub nothing_pushed : {X : Type 0} (xs : List X) (x : X) → xs ++ x ∷ [] ≡ [] → ⊥
+nothing_pushed xs x e = let n = length-append xs (x ∷ []) in let m = ap length e in absurd (omega (arith, n, m))
+
+merges_free : (k : ℕ) (places : List ℕ) (s u : Shown) → IsReached s → MergesAll k places s u → (held : List ℕ) → IsFreeBut s held → IsFreeBut u held
+merges_free k [] s u r same held f = subst (λ x. IsFreeBut x held) (sym same) f
+merges_free k (at ∷ places) s u r (v, before, (first, second, goes)) held f =
+    let there = (gathers_lead k s v r (places, before)).reached in
+    still_free v u (Step.merge k at first second) (there.world, there.shows) goes held refl (λ j. refl) (merges_free k places s v r before held f)
+
+merges_workers : (k : ℕ) (places : List ℕ) (s u : Shown) → MergesAll k places s u → length u.sides ≡ length s.sides
+merges_workers k [] s u same = ap (λ (x : Shown). length x.sides) same
+merges_workers k (at ∷ places) s u (v, before, (first, second, goes)) = goes.workers ∙ merges_workers k places s v before
+
+-- another worker holds nothing
+other_held : (u : Shown) (live : IsLive u) (held : List ℕ) (k k' : ℕ) (x : Held) → k' ≡ k → IsFreeBut u held → (j : ℕ) → j < length u.sides → AllByRecursion (λ (i : ℕ). i ≢ j) (held ++ k ∷ []) → cond (j == k') x (live.0.held j) ≡ Held.nothing
+other_held u live held k k' x by f j l others = elim (eqb_tells j k') [
+  | inl same ↦ absurd ((all_front (λ (i : ℕ). i ≢ j) held k others).1 (sym (same.1 ∙ by)))
+  | inr other ↦ ap (λ b. cond b x (live.0.held j)) other.0 ∙ holds_nothing u live held f j l (all_front (λ (i : ℕ). i ≢ j) held k others).0
+]
+
+-- the claim of a worker takes away its freedom alone
+claim_free : (u t : Shown) (k : ℕ) (taken : Step) (live : IsLive u) → IsClaimBy k taken → Goes u taken t → TakesAlone u t k
+claim_free u t k (Step.feed i records) live by goes held f = absurd by
+claim_free u t k (Step.seal i) live by goes held f = absurd by
+claim_free u t k (Step.close i) live by goes held f = absurd by
+claim_free u t k (Step.merge j at m n) live by goes held f = absurd by
+claim_free u t k (Step.commit j event out) live by goes held f = absurd by
+claim_free u t k (Step.abandon j event) live by goes held f = absurd by
+claim_free u t k (Step.claim_message k' at m) live by goes held f = free_by u t (Step.claim_message k' at m) live goes (held ++ k ∷ []) refl f.runs (λ j l others. other_held u live held k k' (Held.holding false (Event.arrival m)) by f j l others)
+claim_free u t k (Step.claim_request k' at n) live by goes held f = free_by u t (Step.claim_request k' at n) live goes (held ++ k ∷ []) refl f.runs (λ j l others. other_held u live held k k' (Held.holding false (Event.notification n)) by f j l others)
+
+pub takes_alone : (s u t : Shown) (k : ℕ) (p : Pass) → IsReached s → Gathers s k u → Hands u k t p → TakesAlone s t k
+takes_alone s u t k p r gathers h held f =
+    let there = (gathers_lead k s u r gathers).reached in
+    claim_free u t k h.taken (there.world, there.shows) h.by h.goes held (merges_free k gathers.0 s u r gathers.1 held f)
+
+-- the commit of its event gives it back
+pub ends_alone : (s t : Shown) (k : ℕ) (event : Event) (out : ℕ → List Record) → IsReached s → Goes s (Step.commit k event out) t → EndsAlone s t k
+ends_alone s t k event out r goes held f = free_by s t (Step.commit k event out) (r.world, r.shows) goes held refl f.runs (λ j l others. elim (eqb_tells j k) [
+  | inl same ↦ ap (λ b. cond b Held.nothing (r.world.held j)) same.0
+  | inr other ↦ ap (λ b. cond b Held.nothing (r.world.held j)) other.0 ∙ holds_nothing s (r.world, r.shows) (held ++ k ∷ []) f j l (all_push (λ (i : ℕ). i ≢ j) held k others (λ e. other.1 (sym e)))
+])
+
+-- a claim of a free worker isn't refused
+not_stopped : (s u t : Shown) (k : ℕ) → IsReached s → Gathers s k u → IsFreeAt s k → Claims u t k Stopped → ⊥
+not_stopped s u t k r gathers f refused = absurd (let p : false ≡ true = sym (merges_free k gathers.0 s u r gathers.1 f.0 f.2).runs ∙ refused.0 in cc)
+
+not_busy : (s u t : Shown) (k : ℕ) → IsReached s → Gathers s k u → k < length s.sides → IsFreeAt s k → Claims u t k Busy → ⊥
+not_busy s u t k r gathers there f refused =
+    let l : k < length u.sides = omega (arith, there, merges_workers k gathers.0 s u gathers.1) in
+    refused.1 l ((merges_free k gathers.0 s u r gathers.1 f.0 f.2).home k l f.1)
+
+pub not_refused : (s u t : Shown) (k : ℕ) (claimed : Claimed) → IsReached s → Gathers s k u → k < length s.sides → IsFreeAt s k → Claims u t k claimed → (claimed ≡ Stopped) ⊎ (claimed ≡ Busy) → ⊥
+not_refused s u t k claimed r gathers there f h (inl is) = not_stopped s u t k r gathers f (subst (Claims u t k) is h)
+not_refused s u t k claimed r gathers there f h (inr is) = not_busy s u t k r gathers there f (subst (Claims u t k) is h)
+
+pub take_first : (xs ys : List Slot) (n : ℕ) → n ≡ length xs → take n (xs ++ ys) ≡ xs
+take_first xs ys n is = ap (λ (k : ℕ). take k (xs ++ ys)) is ∙ take-append_seam xs ys
+
+-- the events of slots, as they are computed
+pub same_workers : (xs ys : List Slot) → length ys ≡ length xs → ((i : ℕ) (d : Slot) → i < length xs → event_in (slice_index_or ys i d) ≡ event_in (slice_index_or xs i d)) → workers_of ys ≡ workers_of xs
+same_workers [] [] size same = refl
+same_workers [] (y ∷ ys) size same = absurd (omega (arith, size))
+same_workers (x ∷ xs) [] size same = absurd (omega (arith, size))
+same_workers (x ∷ xs) (y ∷ ys) size same =
+    let first : (event_in y).worker ≡ (event_in x).worker = ap (λ (p : Pass). p.worker) (same 0 x (omega arith)) in
+    let more : workers_of ys ≡ workers_of xs = same_workers xs ys (omega (arith, size)) (λ i d l. same (suc i) d (omega (arith, l))) in
+    ap (λ (k : ℕ). k ∷ workers_of ys) first ∙ ap (λ (ks : List ℕ). (event_in x).worker ∷ ks) more
+
+-- the workers of one more event, the last
+pub workers_push : (xs : List Slot) (x : Slot) → workers_of (xs ++ x ∷ []) ≡ workers_of xs ++ (event_in x).worker ∷ []
+workers_push xs x = map-append (λ (y : Slot). (event_in y).worker) xs (x ∷ [])
 
 -- ---- claims
 
@@ -172,9 +276,9 @@ empty [] e = refl
 empty (x ∷ xs) e = absurd (omega (arith, e))
 
 -- what a call that answers an option says of each case
-pub some_of : {X : Type 0} (A : Type 0) (o : Option X) (x : X) → o ≡ Some x → IfSome o (λ y. A) → A
-some_of A (Some y) x is h = h
-some_of A None x is h = absurd cc
+pub some_of : {X : Type 0} (P : X → Type 0) (o : Option X) (x : X) → o ≡ Some x → IfSome o P → P x
+some_of P (Some y) x is h = subst P (let e : y ≡ x = cc in e) h
+some_of P None x is h = absurd cc
 
 pub none_of : {X : Type 0} (A : Type 0) (o : Option X) → o ≡ None → IfNone o A → A
 none_of A None is h = h
@@ -186,6 +290,16 @@ parallel_worked round.Idle claimed computed n s t u moves none same ended =
     let a = none (empty claimed (let e : length computed ≡ 0 = ap length ended.0 in omega (arith, e, same))) in
     (ended.1 ∙ a.0, a.1)
 parallel_worked (round.Sent rows) claimed computed n s t u moves none same ended = then_advances s t u moves ended
+
+-- the last of the events is ended
+pub free_more : {T : Type 0} (first : Result Round Halt) (second : Result T Halt) (whole : Result Round Halt) (all xs ys : List Slot) (y : Slot) (s t u : Shown) → xs ≡ ys ++ y ∷ [] → IfOk whole (λ r. (is_ok first ≡ true) × (is_ok second ≡ true))
+    → OnOk first (IsFreeBut s (workers_of all) → IsFreeBut t (workers_of xs)) → OnOk second (EndsAlone t u (event_in y).worker) → OnOk whole (IsFreeBut s (workers_of all) → IsFreeBut u (workers_of ys))
+free_more (Ok r) (Ok x) (Ok q) all xs ys y s t u last both before alone = λ f. alone (workers_of ys) (subst (IsFreeBut t) (ap workers_of last ∙ workers_push ys y) (before f))
+free_more (Ok r) (Ok x) (Err e) all xs ys y s t u last both before alone = tt
+free_more (Ok r) (Err x) (Ok q) all xs ys y s t u last both before alone = λ f. absurd (let e : false ≡ true = both.1 in cc)
+free_more (Ok r) (Err x) (Err e) all xs ys y s t u last both before alone = tt
+free_more (Err r) second (Ok q) all xs ys y s t u last both before alone = λ f. absurd (let e : false ≡ true = both.0 in cc)
+free_more (Err r) second (Err e) all xs ys y s t u last both before alone = tt
 
 -- ---- at rest
 
@@ -202,11 +316,12 @@ at_rest s without w shows (Step.merge j at m n) work ok = (without j ok.0.0).non
 at_rest s without w shows (Step.commit j event out) work ok = nothing_held s without w shows j event ok.0 ok.1
 at_rest s without w shows (Step.abandon j event) work ok = nothing_held s without w shows j event ok.0 ok.1
 
-pub idle_off : (s t : Shown) → IsReached s → HasWorked round.Idle (length s.sides) s t → IsWorkedOff t
-idle_off s t r h =
+pub idle_off : (s t : Shown) → IsReached s → IsFree t → HasWorked round.Idle (length s.sides) s t → IsWorkedOff t
+idle_off s t r free h =
     let rest = at_rest s h.1 in
-    subst IsWorkedOff (sym h.0) (record { rests = rest; passed = passed_over s r (h.1 0 r.some).runs rest })
+    let done : IsWorkedOff s = record { free = subst IsFree h.0 free; rests = rest; passed = passed_over s r (h.1 0 r.some).runs rest } in
+    subst IsWorkedOff (sym h.0) done
 
 -- a new board has nothing to do
 pub opening_off : (g : GraphValue) (n : ℕ) (s : Shown) → IsReached s → IsOpening g n s → IsWorkedOff s
-opening_off g n s r is = idle_off s s r (refl, λ k l. record { runs = is.runs; home = (is.idle k l).place; none = no_choice s k is.idle })
+opening_off g n s r is = idle_off s s r (record { runs = is.runs; home = λ k l none. (is.idle k l).place }) (refl, λ k l. record { runs = is.runs; home = (is.idle k l).place; none = no_choice s k is.idle })

@@ -75,7 +75,7 @@ pub record IsFaulty (inputs : List Input) (bytes : List ℕ) (ended : Bool) (lin
   pub next : line ≡ length lines + 1
   pub last : code ≡ NO_LINE_FEED → ended ≡ true
 
--- how far the bytes were read: to the end, to a faulty line, to the last whole line before the reader failed, or unspecified
+-- how far the bytes were read: to the end, to a faulty line, to the last whole line before the reader failed, over more bytes than are taken, or unspecified
 abbrev pub Reaches : List Input → (bytes : List ℕ) → (ended : Bool) → (lines : List (List ℕ)) → List Item
     → (rest : List (List ℕ)) → (done : ℕ) → List Entry → Result (Unit {0}) Ending → Type 0
 Reaches inputs bytes ended lines items rest done entries (Ok _) = IsAllReported inputs bytes ended items done entries
@@ -84,7 +84,7 @@ Reaches inputs bytes ended lines items rest done entries (Err ending.Read) = (pi
 Reaches inputs bytes ended lines items rest done entries (Err ending.Write) = Unit {0}
 Reaches inputs bytes ended lines items rest done entries (Err ending.NoMemory) = Unit {0}
 Reaches inputs bytes ended lines items rest done entries (Err ending.Count) = Unit {0}
-Reaches inputs bytes ended lines items rest done entries (Err ending.Incomplete) = Unit {0}
+Reaches inputs bytes ended lines items rest done entries (Err ending.TooLong) = 18446744073709551615 ≤ length bytes
 
 -- the text was written; if the writer failed, a beginning of it
 abbrev pub Writes : (old new : Option (List ℕ)) → (text : List ℕ) → Result (Unit {0}) Ending → Type 0
@@ -94,7 +94,7 @@ Writes old new text (Err ending.Read) = Appends old new text
 Writes old new text (Err ending.Write) = AppendsFront old new text
 Writes old new text (Err ending.NoMemory) = Appends old new text
 Writes old new text (Err ending.Count) = Appends old new text
-Writes old new text (Err ending.Incomplete) = Appends old new text
+Writes old new text (Err ending.TooLong) = Appends old new text
 
 -- These bytes were read, and the reader may have said that these are all; what was written is an answer to the lines that were read.
 pub record Follows (g : GraphValue) (bytes : List ℕ) (ended : Bool) (old new : Option (List ℕ)) (result : Result (Unit {0}) Ending) : Type 0 where

@@ -1,5 +1,6 @@
 -- The state of following: the board, what was taken of the input, and what was written.
-use Rattle.std.specs.Prelude.{◌≡◌, ◌<◌, ◌≤◌, ℕ, ◌+◌, ◌-◌, ◌==◌, cond, true, List, [], ◌∷◌, ◌++◌, length, take, Option, slice_index_or}
+use Rattle.std.specs.Prelude.{◌≡◌, ◌≢◌, ◌<◌, ◌≤◌, ℕ, ◌+◌, ◌-◌, ◌==◌, cond, true, false, List, [], ◌∷◌, ◌++◌, length, map, take, Option, slice_index_or}
+use Rattle.std.specs.List.{AllByRecursion}
 use Rattle.std.specs.Io.KnownBytes.{Appends}
 use Rattle.semantics.specs.Multiset.{Record, ◌≈◌}
 use Rattle.semantics.specs.Query.{Input}
@@ -7,8 +8,9 @@ use Rattle.graph.specs.Shown.{GraphValue, shown_graph, shown_inputs}
 use Rattle.machine.specs.World.{World}
 use Rattle.machine.specs.Step.{put}
 use Rattle.rows.specs.FlatRows.{RowList, joined}
-use Rattle.semantics.specs.Graph.{output_number}
-use Rattle.board.specs.Shown.{EmitsBehind, Shown, batches_at, input_at, records_at}
+use Rattle.semantics.specs.Graph.{output_number, output_numbers}
+use Rattle.tokens.specs.declared.rule.Place.TheVariants.{Home}
+use Rattle.board.specs.Shown.{EmitsBehind, Shown, batches_at, input_at, records_at, side_at}
 use Rattle.board.specs.Showing.{Shows}
 use Rattle.collector.specs.Pieces.{split_on}
 use Rattle.collector.specs.Lines.{Item}
@@ -37,32 +39,51 @@ batches_of s k e = batches_at s.emitted (output_number (shown_graph s.graph) k) 
 abbrev pub IsLive : Shown → Type 0
 IsLive s = (w : World) × Shows s w
 
+-- the board runs, and no worker holds an event but those in the list
+pub record IsFreeBut (s : Shown) (held : List ℕ) : Type 0 where
+  pub runs : s.stopped ≡ false
+  pub home : (k : ℕ) → k < length s.sides → AllByRecursion (λ (j : ℕ). j ≢ k) held → (side_at s k).place ≡ Home
+
+-- the board runs, and no worker holds an event
+abbrev pub IsFree : Shown → Type 0
+IsFree s = IsFreeBut s []
+
+-- the same, and every input is open
+pub record IsReady (s : Shown) : Type 0 where
+  pub free : IsFree s
+  pub unclosed : (i : ℕ) → (input_at s i).closed ≡ false
+
 -- the graph and what was emitted stay
 pub record Grows (s t : Shown) : Type 0 where
   pub live : IsLive t
   pub graph : t.graph ≡ s.graph
   pub emitted : EmitsBehind s.emitted t.emitted
 
--- nothing is fed or sealed, and no input opens again
+-- nothing is fed, sealed or closed
 pub record Works (s t : Shown) : Type 0 where
   pub grows : Grows s t
   pub fed : (i e : ℕ) → fed_at t i e ≡ fed_at s i e
   pub opened : (i : ℕ) → open_at t i ≡ open_at s i
-  pub closed : (i : ℕ) → (input_at s i).closed ≡ true → (input_at t i).closed ≡ true
+  pub closed : (i : ℕ) → (input_at t i).closed ≡ (input_at s i).closed
 
 -- the first n inputs were closed
 pub record Closes (s t : Shown) (n : ℕ) : Type 0 where
-  pub works : Works s t
+  pub grows : Grows s t
+  pub fed : (i e : ℕ) → fed_at t i e ≡ fed_at s i e
+  pub free : IsFree t
   pub closed : (i : ℕ) → i < n → (input_at t i).closed ≡ true
+  pub others : (i : ℕ) → n ≤ i → (input_at t i).closed ≡ false
 
 -- an input was fed records at its open epoch
 pub record Feeds (s t : Shown) (input : ℕ) (batch : List Record) : Type 0 where
   pub grows : Grows s t
   pub fed : (i e : ℕ) → fed_at t i e ≡ put (fed_at s) input (put (fed_at s input) (open_at s input) (fed_at s input (open_at s input) ++ batch)) i e
   pub opened : (i : ℕ) → open_at t i ≡ open_at s i
+  pub ready : IsReady t
 
 -- the first n inputs were sealed, once each
 pub record Seals (s t : Shown) (n : ℕ) : Type 0 where
+  pub ready : IsReady t
   pub grows : Grows s t
   pub fed : (i e : ℕ) → fed_at t i e ≡ fed_at s i e
   pub sealed : (i : ℕ) → i < n → open_at t i ≡ open_at s i + 1
@@ -77,14 +98,29 @@ no_rows = record { arity = 1; rows = [] }
 abbrev pub waiting : Intake → (input : ℕ) → List Record
 waiting x i = (slice_index_or x.portion.items i no_rows).rows
 
+-- how many fields the records of an input have
+abbrev pub arity_at : Intake → (input : ℕ) → ℕ
+arity_at x i = (slice_index_or x.portion.items i no_rows).arity
+
 -- what an epoch on the board still lacks: what waits belongs to the last one that began
 abbrev pub missing : Intake → (input epoch : ℕ) → List Record
 missing x i e = cond (e + 1 == x.begun) (waiting x i) []
+
+-- the numbers of fields of the records that wait, by input
+abbrev pub arities_of : Intake → List ℕ
+arities_of x = map (λ (r : RowList). r.arity) x.portion.items
+
+-- the numbers of fields that a graph's inputs declare
+abbrev pub declared_arities : GraphValue → List ℕ
+declared_arities g = map (λ (i : Input). i.arity) (shown_inputs g)
 
 -- What the items say of the epochs from the base on was fed, or waits. The board counts its epochs from the base, and the open epoch of each input is
 -- the last that began.
 pub record IsFed (s : Shown) (base : ℕ) (x : Intake) (items : List Item) : Type 0 where
   pub live : IsLive s
+  pub ready : IsReady s
+  pub fits : arities_of x ≡ declared_arities s.graph
+  pub start : x.begun ≡ 0 → base ≡ 0
   pub begun : base + x.begun ≡ epochs_after 0 items
   -- what was fed, in the order of the lines
   pub order : (i e : ℕ) → List Record
@@ -92,6 +128,10 @@ pub record IsFed (s : Shown) (base : ℕ) (x : Intake) (items : List Item) : Typ
   pub fed : (i e : ℕ) → order i e ++ missing x i e ≡ said_records items (base + e) i
   pub opened : (i : ℕ) → i < length x.portion.items → open_at s i ≡ x.begun - 1
   pub none : x.begun ≡ 0 → (i : ℕ) → waiting x i ≡ []
+
+-- the same for some items
+abbrev pub IsFedSo : Shown → Intake → Type 0
+IsFedSo s x = (base : ℕ) × (items : List Item) × IsFed s base x items
 
 -- all that the items say of the epochs from the base on was fed
 pub record IsAllFed (s : Shown) (base : ℕ) (items : List Item) : Type 0 where
@@ -105,11 +145,23 @@ pub record HasTaken (s : Shown) (base : ℕ) (x : Intake) (inputs : List Input) 
   pub said : LinesSay inputs 0 lines items
   pub counted : x.line ≡ length lines
 
+-- the same for some lines
+abbrev pub IsTakenSo : Shown → (base : ℕ) → Intake → List Input → (text : List ℕ) → Type 0
+IsTakenSo s base x inputs text = (bytes : List ℕ) × (lines : List (List ℕ)) × (items : List Item) × HasTaken s base x inputs bytes text lines items
+
 -- ---- what was written
 
 -- how many batches of an output were written for the first incomplete epoch
 abbrev pub reported_count : Reporting → (output : ℕ) → ℕ
 reported_count t k = slice_index_or t.reported.items k 0
+
+-- no more batches were written than were emitted
+abbrev pub IsWithin : Shown → Reporting → Type 0
+IsWithin s t = (k : ℕ) → reported_count t k ≤ length (batches_of s k t.done)
+
+-- there is a number for each output
+abbrev pub HasRoom : Shown → Reporting → Type 0
+HasRoom s t = length t.reported.items ≡ length (output_numbers (shown_graph s.graph))
 
 -- All epochs before the base and the next `done` are complete; the entries are the first batches that were emitted for the epoch after those, `count`
 -- at each output.
@@ -129,7 +181,7 @@ pub record IsKnown (g : GraphValue) (s : Shown) (base : ℕ) (x : Intake) (t : R
   pub taken : HasTaken s base x (shown_inputs g) bytes pending lines items
   pub reported : HasReported s base t.done (reported_count t) (said_records items) entries text
   pub part : IsPart g (said_records items (base + t.done)) entries
-  pub start : x.begun ≡ 0 → base ≡ 0
+  pub room : HasRoom s t
   pub sealed : t.done ≤ x.begun - 1
   pub none : t.done ≡ x.begun → entries ≡ []
 
@@ -137,6 +189,10 @@ pub record IsKnown (g : GraphValue) (s : Shown) (base : ℕ) (x : Intake) (t : R
 pub record IsWritten (g : GraphValue) (s : Shown) (base : ℕ) (x : Intake) (t : Reporting) (bytes pending : List ℕ) (old new : Option (List ℕ)) : Type 0 where
   pub known : IsKnown g s base x t bytes pending
   pub written : Appends old new known.text
+
+-- the same for some bytes and some start
+abbrev pub IsWrittenSo : GraphValue → Shown → Position → (now : Option (List ℕ)) → Type 0
+IsWrittenSo g s p now = (bytes : List ℕ) × (start : Option (List ℕ)) × IsWritten g s p.base p.intake p.reporting bytes p.pending.items start now
 
 -- the position once these bytes were read: the answer to their lines is written, and what is pending is part of a line
 pub record IsPositionAfter (g : GraphValue) (s : Shown) (p : Position) (bytes : List ℕ) (old new : Option (List ℕ)) : Type 0 where

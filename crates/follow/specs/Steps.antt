@@ -1,20 +1,21 @@
 -- What the calls of following do.
-use Rattle.std.specs.Prelude.{◌≡◌, ◌≢◌, ◌<◌, ◌≤◌, ℕ, ◌+◌, ◌-◌, ◌==◌, cond, Bool, true, List, [], ◌∷◌, ◌++◌, length, drop, Option, Result, Ok, Err}
+use Rattle.std.specs.Prelude.{◌≡◌, ◌≢◌, ◌<◌, ◌≤◌, ℕ, ◌+◌, ◌-◌, ◌==◌, cond, Bool, true, List, [], ◌∷◌, ◌++◌, length, map, drop, slice_get, Option, Some, Result, Ok, Err}
 use Rattle.std.specs.List.{flat_map}
 use Rattle.semantics.specs.Multiset.{Record}
 use Rattle.semantics.specs.Query.{Input}
+use Rattle.semantics.specs.Typing.{IsArity}
 use Rattle.graph.specs.Shown.{GraphValue, shown_inputs}
 use Rattle.rows.specs.FlatRows.{joined}
 use Rattle.board.specs.Shown.{Shown}
 use Rattle.board.specs.Promises.{IsOutputPlace, emitted_at}
 use Rattle.collector.specs.Pieces.{split_on}
-use Rattle.collector.specs.Lines.{Item}
+use Rattle.collector.specs.Lines.{Item, Says}
 use Rattle.collector.specs.InputText.{IsRefused, epochs_after, records_in}
 use Rattle.collector.specs.declared.refusal.InputRefusal.TheVariants.{At}
 use Rattle.collector.specs.declared.codes.TheConstants.{NO_LINE_FEED}
 use Rattle.follow.specs.Entries.{Entry, records_of, row_line}
-use Rattle.follow.specs.Follows.{Follows, FollowsInput, IsPart, Reading, said_records}
-use Rattle.follow.specs.Scenes.{Grows, HasTaken, HasReported, IsAllFed, IsFed, IsWritten, IsPositionAfter, batches_of, fed_at, open_at, reported_count, waiting}
+use Rattle.follow.specs.Follows.{Follows, IsPart, said_records}
+use Rattle.follow.specs.Scenes.{Grows, HasTaken, HasReported, HasRoom, IsAllFed, IsFed, IsReady, IsWritten, arities_of, IsPositionAfter, batches_of, fed_at, open_at, reported_count, waiting}
 use Rattle.follow.specs.declared.outcome.Ending.{Ending}
 use Rattle.follow.specs.declared.outcome.Ending.TheVariants as ending
 use Rattle.follow.specs.declared.outcome.Halt.{Halt}
@@ -29,10 +30,10 @@ use Rattle.follow.specs.declared.reporting.Reporting.{Reporting}
 abbrev pub ending_of : Halt → Ending
 ending_of halt.NoMemory = ending.NoMemory
 ending_of halt.Count = ending.Count
-ending_of halt.Incomplete = ending.Incomplete
 
 -- an input was sealed
 pub record SealsOne (s t : Shown) (input : ℕ) : Type 0 where
+  pub ready : IsReady t
   pub grows : Grows s t
   pub fed : (i e : ℕ) → fed_at t i e ≡ fed_at s i e
   pub here : open_at t input ≡ open_at s input + 1
@@ -40,9 +41,14 @@ pub record SealsOne (s t : Shown) (input : ℕ) : Type 0 where
 
 -- ---- what waits
 
--- nothing was taken
-pub record IsNew (x : Intake) : Type 0 where
+-- each input has an arity
+abbrev pub HaveArities : List Input → Type 0
+HaveArities inputs = (i : ℕ) (input : Input) → slice_get inputs i ≡ Some input → IsArity input.arity
+
+-- nothing was taken, for these inputs
+pub record IsNew (inputs : List Input) (x : Intake) : Type 0 where
   pub begun : x.begun ≡ 0
+  pub fits : arities_of x ≡ map (λ (i : Input). i.arity) inputs
   pub line : x.line ≡ 0
   pub none : (i : ℕ) → waiting x i ≡ []
 
@@ -51,6 +57,7 @@ pub record Holds (x y : Intake) : Type 0 where
   pub begun : y.begun ≡ x.begun
   pub line : y.line ≡ x.line
   pub inputs : length y.portion.items ≡ length x.portion.items
+  pub arities : arities_of y ≡ arities_of x
 
 -- one more record waits at an input, of an epoch that began
 pub record Gathers (x y : Intake) (input : ℕ) (row : Record) : Type 0 where
@@ -81,6 +88,11 @@ pub record FeedsPortion (s t : Shown) (x y : Intake) : Type 0 where
   pub holds : Holds x y
   pub none : (i : ℕ) → waiting y i ≡ []
   pub fed : (base : ℕ) (items : List Item) → IsFed s base x items → IsFed t base y items × Grows s t
+
+-- an item may be taken: a line says it
+abbrev pub CanTake : Shown → Intake → Item → Type 0
+CanTake s x item =
+    (base : ℕ) × (items : List Item) × (line : List ℕ) × IsFed s base x items × Says (shown_inputs s.graph) (base + x.begun) line item
 
 -- an item was taken
 pub record TakesItem (s t : Shown) (x y : Intake) (item : Item) : Type 0 where
@@ -125,25 +137,23 @@ pub record IsFresh (t : Reporting) : Type 0 where
   pub none : (k : ℕ) → reported_count t k ≡ 0
 
 -- nothing was taken or written
-pub record IsFirst (p : Position) : Type 0 where
+pub record IsFirst (inputs : List Input) (outputs : ℕ) (p : Position) : Type 0 where
   pub base : p.base ≡ 0
-  pub new : IsNew p.intake
+  pub new : IsNew inputs p.intake
+  pub room : length p.reporting.reported.items ≡ outputs
   pub fresh : IsFresh p.reporting
   pub none : p.pending.items ≡ []
 
 -- one more epoch is complete
 pub record Completes (t u : Reporting) : Type 0 where
+  pub room : length u.reported.items ≡ length t.reported.items
   pub done : u.done ≡ t.done + 1
   pub none : (k : ℕ) → reported_count u k ≡ 0
-
--- the lines of the batches after the first ones are appended
-pub record ReportsBatches (batches : List (List Record)) (label : List ℕ) (epoch reported : ℕ) (old new : List ℕ) (count : ℕ) : Type 0 where
-  pub lines : new ≡ old ++ flat_map (row_line epoch label) (joined (drop reported batches))
-  pub counted : count ≡ length batches
 
 -- all that was emitted at an output for the first incomplete epoch is written
 pub record ReportsOutput (s : Shown) (base : ℕ) (t u : Reporting) (output : ℕ) (label : List ℕ) (old new : List ℕ) : Type 0 where
   pub done : u.done ≡ t.done
+  pub room : length u.reported.items ≡ length t.reported.items
   pub here : reported_count u output ≡ length (batches_of s output t.done)
   pub others : (k : ℕ) → k ≢ output → reported_count u k ≡ reported_count t k
   pub lines : new ≡ old ++ flat_map (row_line (base + t.done) label) (joined (drop (reported_count t output) (batches_of s output t.done)))
@@ -160,6 +170,7 @@ pub record HasReportedMore (s : Shown) (base done n : ℕ) (u : Reporting) (reco
 -- the same, whatever was written before
 pub record ReportsOutputs (s : Shown) (base n : ℕ) (t u : Reporting) (old new : List ℕ) : Type 0 where
   pub done : u.done ≡ t.done
+  pub room : length u.reported.items ≡ length t.reported.items
   pub more : (records : (epoch input : ℕ) → List Record) (entries : List Entry) (text : List ℕ)
       → HasReported s base t.done (reported_count t) records entries text → HasReportedMore s base t.done n u records entries text old new
 
@@ -171,6 +182,7 @@ ReportsOpen s base t u old new = (n : ℕ) × ((k : ℕ) → IsOutputPlace s k �
 pub record HasAnswered (s : Shown) (base : ℕ) (u : Reporting) (items : List Item) (begun sealed : ℕ) (text old new : List ℕ) : Type 0 where
   pub entries : List Entry
   pub lines : List ℕ
+  pub room : HasRoom s u
   pub reported : HasReported s base u.done (reported_count u) (said_records items) entries (text ++ lines)
   pub appended : new ≡ old ++ lines
   pub part : IsPart s.graph (said_records items (base + u.done)) entries
@@ -179,9 +191,15 @@ pub record HasAnswered (s : Shown) (base : ℕ) (u : Reporting) (items : List It
 
 -- what must be known of what was written before
 pub record CanReport (s : Shown) (base : ℕ) (t : Reporting) (items : List Item) (begun sealed : ℕ) (entries : List Entry) (text : List ℕ) : Type 0 where
+  pub room : HasRoom s t
   pub reported : HasReported s base t.done (reported_count t) (said_records items) entries text
   pub order : t.done ≤ sealed
   pub none : t.done ≡ begun → entries ≡ []
+
+-- something was reported before, and more can be
+abbrev pub MayReport : Shown → (base : ℕ) → (t : Reporting) → (begun sealed : ℕ) → Type 0
+MayReport s base t begun sealed =
+    (items : List Item) × (entries : List Entry) × (text : List ℕ) × IsAllFed s base items × (sealed ≤ begun) × CanReport s base t items begun sealed entries text
 
 -- from any report that was written before, such an answer is written
 abbrev pub Reports : Shown → (base : ℕ) → (t u : Reporting) → (begun sealed : ℕ) → (old new : List ℕ) → Type 0
@@ -190,6 +208,11 @@ Reports s base t u begun sealed old new =
     → CanReport s base t items begun sealed entries text → HasAnswered s base u items begun sealed text old new
 
 -- ---- answers
+
+-- something was taken and answered before, and more can be
+abbrev pub MayAnswer : Shown → (base : ℕ) → Intake → Reporting → (sealed : ℕ) → Type 0
+MayAnswer s base x u sealed =
+    (items : List Item) × (entries : List Entry) × (text : List ℕ) × IsFed s base x items × CanReport s base u items x.begun sealed entries text
 
 -- what waited was fed and worked off, and this is to be written; the epochs before the last one may be complete
 pub record IsOpenAnswer (base : ℕ) (t : Shown) (x y : Intake) (v : Reporting) (items : List Item) (text out : List ℕ) (s : Shown) : Type 0 where
@@ -243,10 +266,10 @@ GoesOn g bytes ended start new s p (Ok _) = IsPositionAfter g s p bytes start ne
 GoesOn g bytes ended start new s p (Err e) = Follows g bytes ended start new (Err e)
 
 -- the same after a piece, from any position
-abbrev pub FollowsPiece : GraphValue → List Input → (s t : Shown) → (p q : Position) → (piece : List ℕ)
+abbrev pub FollowsPiece : GraphValue → (s t : Shown) → (p q : Position) → (piece : List ℕ)
     → (old new : Option (List ℕ)) → Result (Unit {0}) Ending → Type 0
-FollowsPiece g inputs s t p q piece old new result =
-    (bytes : List ℕ) (ended : Bool) (start : Option (List ℕ)) → inputs ≡ shown_inputs g → IsPositionAfter g s p bytes start old
+FollowsPiece g s t p q piece old new result =
+    (bytes : List ℕ) (ended : Bool) (start : Option (List ℕ)) → IsPositionAfter g s p bytes start old
     → GoesOn g (bytes ++ piece) ended start new t q result
 
 -- following ends when the reader has ended
@@ -254,7 +277,3 @@ abbrev pub FollowsEnd : Shown → Position → (old new : Option (List ℕ)) →
 FollowsEnd s p old new result =
     (g : GraphValue) (bytes : List ℕ) (ended : Bool) (start : Option (List ℕ)) → ended ≡ true
     → IsPositionAfter g s p bytes start old → Follows g bytes ended start new result
-
--- the whole input is followed, from its start
-abbrev pub FollowsAll : GraphValue → List Input → Shown → Position → Reading → (old new : Option (List ℕ)) → Result (Unit {0}) Ending → Type 0
-FollowsAll g inputs s p read old new result = inputs ≡ shown_inputs g → IsPositionAfter g s p [] old old → FollowsInput g read old new result

@@ -1,8 +1,9 @@
 //! Computes and writes out the answer to the lines that were taken.
 
-ghost use Rattle.std.specs.Prelude.{◌≡◌, false, IfOk, OnOk};
+ghost use Rattle.std.specs.Prelude.{◌≡◌, ◌≤◌, ◌+◌, ◌-◌, false, IfOk, OnOk};
+ghost use Rattle.collector.specs.Lines.{max_epochs};
 ghost use Rattle.follow.specs.Working.{IsWorkedOff};
-ghost use Rattle.follow.specs.Steps.{AnswersLast, AnswersOpen};
+ghost use Rattle.follow.specs.Steps.{AnswersLast, AnswersOpen, MayAnswer};
 
 use crate::board_calls::close_inputs;
 use crate::intake::{Intake, feed_portion};
@@ -25,8 +26,11 @@ pub fn answer_open<V: Views, R: Threads + Sync>(
     intake: &mut Intake,
     reporting: &mut Reporting,
 ) -> Result<Vec<u8>, Halt>
+    requires may { MayAnswer board.old.shown base intake.old reporting.old (intake.old.begun - 1) }
+    requires few { base + intake.old.begun ≤ max_epochs }
     ensures answers { IfOk result (λ out. AnswersOpen base board.old.shown board.new.shown intake.old intake.new reporting.old reporting.new out.items) }
     ensures rests { OnOk result (IsWorkedOff board.new.shown) }
+    ensures line { OnOk result (intake.new.line ≡ intake.old.line) }
 {
     feed_portion(alloc, board, intake)?;
     work_off(rt, alloc, records, board)?;
@@ -46,10 +50,12 @@ pub fn answer_last<V: Views, R: Threads + Sync>(
     reporting: &mut Reporting,
 ) -> Result<Vec<u8>, Halt>
     requires prompt { V.late ≡ false }
+    requires may { MayAnswer board.old.shown base intake.old reporting.old intake.old.begun }
+    requires few { base + intake.old.begun ≤ max_epochs }
     ensures { IfOk result (λ out. AnswersLast base board.old.shown board.new.shown intake.old reporting.old reporting.new out.items) }
 {
     feed_portion(alloc, board, intake)?;
-    close_inputs(board)?;
+    close_inputs(board);
     work_off(rt, alloc, HEAVY, board)?;
     board.law_prompt();
     let mut out = Vec::new(alloc);

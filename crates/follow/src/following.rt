@@ -1,14 +1,16 @@
 //! Follows an input from its first byte to its end.
 
-ghost use Rattle.std.specs.Prelude.{◌≡◌, ◌⊎◌, ◌+◌, ◌<◌, length, map, false, true, IfOk, IsErrOf, OnErr, OnOk};
+ghost use Rattle.std.specs.Prelude.{◌≡◌, ◌+◌, ◌<◌, ◌≤◌, [], length, map, false, true, IfOk, IsErrOf, OnErr, OnOk};
 ghost use Rattle.record_core.specs.Inputs.{input_of};
+ghost use Rattle.graph.specs.Shown.{GraphValue, shown_inputs};
 ghost use Rattle.machine.specs.World.{opening};
 ghost use Rattle.board.specs.Promises.{IsOpening};
 ghost use Rattle.board.specs.Showing.{Shows};
 ghost use Rattle.collector.specs.Watching.{has_failed, inner_of};
 ghost use Rattle.follow.specs.Follows.{FollowsInput, HasRead};
+ghost use Rattle.follow.specs.Scenes.{IsPositionAfter, IsTakenSo, IsWrittenSo};
 ghost use Rattle.follow.specs.Working.{IsWorkedOff};
-ghost use Rattle.follow.specs.Steps.{FollowsAll, FollowsEnd, FollowsLines, FollowsPiece, TakesLines};
+ghost use Rattle.follow.specs.Steps.{FollowsEnd, FollowsLines, FollowsPiece, TakesLines};
 ghost use Rattle.follow.specs.declared.outcome.Ending.TheVariants as ending;
 ghost use Rattle.follow.specs.declared.line_stop.Taken.TheVariants as taken;
 
@@ -17,10 +19,11 @@ use crate::intake::{Intake, take_lines};
 use crate::line_stop::Taken;
 use crate::outcome::{Ending, Halt};
 use crate::position::Position;
-use crate::renewing::{LINES, new_board, renew};
+use crate::renewing::{LINES, Plan, renew};
 use crate::worker_count::WorkerCount;
 use board::Board;
 use collector::{NO_LINE_FEED, Watched, find, put};
+use driver::law_inputs;
 use graph::Graph;
 use progress::LocationTracker;
 use record_core::DeclaredInput;
@@ -31,13 +34,17 @@ use std::sync::Arc;
 use std::thread::Threads;
 use views::{Direct, Views};
 
+/// The greatest number of bytes that are taken of an input, so that each of its lines has a number.
+const MAX_BYTES: u64 = 18_446_744_073_709_551_614;
+
 /// The ending at the line after those that were taken, which has a fault of that code.
 fn ending_at_fault(intake: &Intake, code: u8) -> Ending
-    ensures { (result ≡ ending.Input code (intake.now.line + 1)) ⊎ (result ≡ ending.Incomplete) }
+    requires { intake.now.line < 18446744073709551615 }
+    ensures { result ≡ ending.Input code (intake.now.line + 1) }
 {
-    match intake.line.checked_add(1) {
-        Some(line) => Ending::Input { code, line },
-        None => Ending::Incomplete,
+    Ending::Input {
+        code,
+        line: intake.line + 1,
     }
 }
 
@@ -51,9 +58,13 @@ fn take_text<V: Views>(
     intake: &mut Intake,
     pending: &mut Vec<u8>,
 ) -> Result<Taken, Halt>
+    requires same { map input_of inputs.now ≡ shown_inputs board.old.shown.graph }
+    requires taken { IsTakenSo board.old.shown base intake.old (map input_of inputs.now) pending.old.items }
+    requires few { intake.old.line + length pending.old.items < 18446744073709551615 }
     ensures lines { IfOk result (λ how. TakesLines base board.old.shown board.new.shown intake.old intake.new
         (map input_of inputs.now) pending.old.items pending.new.items how) }
     ensures shorter { IfOk result (λ how. how ≡ taken.Epoch → length pending.new.items < length pending.old.items) }
+    ensures counted { OnOk result (intake.new.line + length pending.new.items ≤ intake.old.line + length pending.old.items) }
 {
     let text = replace(pending, Vec::new(alloc));
     match take_lines(alloc, board, inputs, base, until, intake, text.as_slice()) {
@@ -81,9 +92,12 @@ fn follow_lines<V: Views, R: Threads + Sync, W: Write>(
     position: &mut Position,
     writer: &mut Watched<W>,
 ) -> Result<Taken, Ending>
+    requires known { (g : GraphValue) × (map input_of inputs.now ≡ shown_inputs g) × IsWrittenSo g board.old.shown position.old (W.contents (inner_of writer.old)) }
+    requires few { position.old.intake.line + length position.old.pending.items < 18446744073709551615 }
     ensures follows { FollowsLines (map input_of inputs.now) board.old.shown board.new.shown position.old position.new
         (W.contents (inner_of writer.old)) (W.contents (inner_of writer.new)) result }
     ensures shorter { IfOk result (λ how. how ≡ taken.Epoch → length position.new.pending.items < length position.old.pending.items) }
+    ensures counted { OnOk result (position.new.intake.line + length position.new.pending.items ≤ position.old.intake.line + length position.old.pending.items) }
     ensures rests { OnOk result (IsWorkedOff board.new.shown) }
     ensures writer { IsErrOf result ending.Write → has_failed writer.new ≡ true }
     ensures reader { IsErrOf result ending.Read → ⊥ }
@@ -125,17 +139,19 @@ fn follow_lines<V: Views, R: Threads + Sync, W: Write>(
 fn follow_piece<R: Threads + Sync, W: Write>(
     rt: &R,
     alloc: Global,
-    workers: WorkerCount,
-    graph: &Arc<Graph, Global>,
-    inputs: &[DeclaredInput],
+    plan: &Plan,
     board: &mut Board<Direct<LocationTracker>>,
     position: &mut Position,
     piece: &[u8],
     writer: &mut Watched<W>,
 ) -> Result<(), Ending>
-    requires { IsWorkedOff board.old.shown }
-    ensures follows { FollowsPiece graph.now.value (map input_of inputs.now) board.old.shown board.new.shown position.old position.new piece.now
+    requires rests { IsWorkedOff board.old.shown }
+    requires known { IsWrittenSo plan.now.graph.value board.old.shown position.old (W.contents (inner_of writer.old)) }
+    requires few { position.old.intake.line + length position.old.pending.items + length piece.now < 18446744073709551615 }
+    ensures follows { FollowsPiece plan.now.graph.value board.old.shown board.new.shown position.old position.new piece.now
         (W.contents (inner_of writer.old)) (W.contents (inner_of writer.new)) result }
+    ensures counted { OnOk result (position.new.intake.line + length position.new.pending.items ≤
+        position.old.intake.line + length position.old.pending.items + length piece.now) }
     ensures rests { OnOk result (IsWorkedOff board.new.shown) }
     ensures writer { IsErrOf result ending.Write → has_failed writer.new ≡ true }
     ensures reader { IsErrOf result ending.Read → ⊥ }
@@ -146,11 +162,12 @@ fn follow_piece<R: Threads + Sync, W: Write>(
     if find(piece, b'\n').is_none() {
         return Ok(());
     }
+    let inputs = plan.graph.inputs();
     'boards: loop {
         match follow_lines(rt, alloc, inputs, board, position, writer) {
             Ok(Taken::Whole) => return Ok(()),
             Ok(Taken::Fault(code)) => return Err(ending_at_fault(&position.intake, code)),
-            Ok(Taken::Epoch) => match renew(alloc, graph, workers, board, position) {
+            Ok(Taken::Epoch) => match renew(alloc, plan, board, position) {
                 Ok(()) => {}
                 Err(halt) => return Err(halt.ending()),
             },
@@ -168,6 +185,8 @@ fn follow_end<V: Views, R: Threads + Sync, W: Write>(
     writer: &mut Watched<W>,
 ) -> Result<(), Ending>
     requires prompt { V.late ≡ false }
+    requires known { (g : GraphValue) × IsWrittenSo g board.old.shown position.old (W.contents (inner_of writer.old)) }
+    requires few { position.old.intake.line + length position.old.pending.items < 18446744073709551615 }
     ensures follows { FollowsEnd board.old.shown position.old (W.contents (inner_of writer.old)) (W.contents (inner_of writer.new)) result }
     ensures writer { IsErrOf result ending.Write → has_failed writer.new ≡ true }
     ensures reader { IsErrOf result ending.Read → ⊥ }
@@ -197,75 +216,70 @@ fn follow_end<V: Views, R: Threads + Sync, W: Write>(
 fn follow_pieces<T: Threads + Sync, R: Read, W: Write>(
     rt: &T,
     alloc: Global,
-    workers: WorkerCount,
-    graph: &Arc<Graph, Global>,
-    inputs: &[DeclaredInput],
+    plan: &Plan,
     board: &mut Board<Direct<LocationTracker>>,
     position: &mut Position,
     reader: &mut Watched<R>,
     writer: &mut Watched<W>,
 ) -> Result<(), Ending>
-    requires { IsWorkedOff board.old.shown }
-    ensures follows { FollowsAll graph.now.value (map input_of inputs.now) board.old.shown position.old
+    requires rests { IsWorkedOff board.old.shown }
+    requires first { IsPositionAfter plan.now.graph.value board.old.shown position.old []
+        (W.contents (inner_of writer.old)) (W.contents (inner_of writer.old)) }
+    requires none { position.old.intake.line + length position.old.pending.items ≡ 0 }
+    ensures follows { FollowsInput plan.now.graph.value
         (HasRead R.remaining reader.old reader.new) (W.contents (inner_of writer.old)) (W.contents (inner_of writer.new)) result }
     ensures reader { IsErrOf result ending.Read → has_failed reader.new ≡ true }
     ensures writer { IsErrOf result ending.Write → has_failed writer.new ≡ true }
 {
     let mut piece = [0; 16_384];
-    for _turn in 0..u64::MAX {
+    let mut room = MAX_BYTES;
+    'pieces: loop {
         let Ok(count) = reader.pull(&mut piece) else {
             return Err(Ending::Read);
         };
         if count == 0 {
             return follow_end(rt, alloc, board, position, writer);
         }
-        match follow_piece(
-            rt,
-            alloc,
-            workers,
-            graph,
-            inputs,
-            board,
-            position,
-            &piece[..count],
-            writer,
-        ) {
+        let Some(left) = room.checked_sub(count as u64) else {
+            return Err(Ending::TooLong);
+        };
+        room = left;
+        match follow_piece(rt, alloc, plan, board, position, &piece[..count], writer) {
             Ok(()) => {}
             Err(ending) => return Err(ending),
         }
     }
-    Err(Ending::Incomplete)
 }
 
-/// A new board over the graph, and the graph itself.
+/// A new board over the graph, and the plan for further ones.
 fn open_board(
     alloc: Global,
     workers: WorkerCount,
     graph: Graph,
-) -> Result<(Arc<Graph, Global>, Board<Direct<LocationTracker>>), Halt>
-    ensures same { IfOk result (λ p. p.0.value ≡ graph) }
-    ensures opening { IfOk result (λ p. IsOpening graph workers.count p.1.shown) }
+) -> Result<(Plan, Board<Direct<LocationTracker>>), Halt>
+    ensures same { IfOk result (λ p. p.0.graph.value ≡ graph) }
+    ensures opening { IfOk result (λ p. IsOpening p.0.graph.value p.0.workers.count p.1.shown) }
     ensures shows { IfOk result (λ p. Shows p.1.shown opening) }
 {
     let graph = Arc::new(alloc, graph)?;
-    let board = new_board(alloc, &graph, workers)?;
-    Ok((graph, board))
+    let plan = Plan { graph, workers };
+    let board = plan.new_board(alloc)?;
+    Ok((plan, board))
 }
 
 /// Follows the input of a graph on a new board: what it writes is an answer to what it reads.
 fn follow_graph<T: Threads + Sync, R: Read, W: Write>(
     rt: &T,
     alloc: Global,
-    workers: WorkerCount,
-    graph: &Arc<Graph, Global>,
+    plan: &Plan,
     board: &mut Board<Direct<LocationTracker>>,
     reader: &mut Watched<R>,
     rest: &mut Vec<u8>,
     writer: &mut Watched<W>,
 ) -> Result<Result<(), Ending>, Halt>
-    requires opening { IsOpening graph.now.value workers.count board.old.shown }
+    requires opening { IsOpening plan.now.graph.value plan.now.workers.count board.old.shown }
     requires shows { Shows board.old.shown opening }
-    ensures follows { IfOk result (λ r. FollowsInput graph.now.value
+    ensures follows { IfOk result (λ r. FollowsInput plan.now.graph.value
         (HasRead R.remaining reader.old reader.new) (W.contents (inner_of writer.old)) (W.contents (inner_of writer.new)) r) }
     ensures reader { IfOk result (λ r. IsErrOf r ending.Read → has_failed reader.new ≡ true) }
     ensures writer { IfOk result (λ r. IsErrOf r ending.Write → has_failed writer.new ≡ true) }
@@ -273,19 +287,10 @@ fn follow_graph<T: Threads + Sync, R: Read, W: Write>(
     ensures unwritten { OnErr result (writer.new ≡ writer.old) }
 {
     board.law_run();
-    let inputs = graph.inputs();
+    law_inputs(&plan.graph);
+    let inputs = plan.graph.inputs();
     let mut position = Position::new(alloc, inputs, board.output_count(), LINES)?;
-    let ended = follow_pieces(
-        rt,
-        alloc,
-        workers,
-        graph,
-        inputs,
-        board,
-        &mut position,
-        reader,
-        writer,
-    );
+    let ended = follow_pieces(rt, alloc, plan, board, &mut position, reader, writer);
     *rest = position.pending;
     Ok(ended)
 }
@@ -310,11 +315,11 @@ pub fn follow<T: Threads + Sync, R: Read, W: Write>(
     ensures reader { IsErrOf result ending.Read → has_failed reader.new ≡ true }
     ensures writer { IsErrOf result ending.Write → has_failed writer.new ≡ true }
 {
-    let (graph, mut board) = match open_board(alloc, workers, graph) {
+    let (plan, mut board) = match open_board(alloc, workers, graph) {
         Ok(pair) => pair,
         Err(halt) => return Err(halt.ending()),
     };
-    match follow_graph(rt, alloc, workers, &graph, &mut board, reader, rest, writer) {
+    match follow_graph(rt, alloc, &plan, &mut board, reader, rest, writer) {
         Ok(result) => result,
         Err(halt) => Err(halt.ending()),
     }

@@ -1,10 +1,12 @@
 //! What was taken of the input.
 
-ghost use Rattle.std.specs.Prelude.{◌≡◌, ◌<◌, ℤ, [], List, length, map, IfOk, IsTrue, OnOk};
+ghost use Rattle.std.specs.Prelude.{◌≡◌, ◌<◌, ◌≤◌, ◌+◌, ℤ, List, length, map, IfOk, IsTrue, OnOk};
+ghost use Rattle.graph.specs.Shown.{shown_inputs};
 ghost use Rattle.record_core.specs.Inputs.{input_of};
 ghost use Rattle.collector.specs.Lines.{Item};
 ghost use Rattle.collector.specs.Said.{item_of};
-ghost use Rattle.follow.specs.Steps.{Counts, Empties, Gathers, IsNew, TakesItem, FeedsRows, FeedsPortion, TakesLines};
+ghost use Rattle.follow.specs.Scenes.{arity_at, IsFedSo, IsTakenSo};
+ghost use Rattle.follow.specs.Steps.{CanTake, Counts, Empties, FeedsPortion, FeedsRows, Gathers, HaveArities, IsNew, TakesItem, TakesLines};
 ghost use Rattle.follow.specs.declared.line_stop.Taken.TheVariants as taken;
 
 use crate::board_calls::{feed, seal_inputs};
@@ -12,7 +14,8 @@ use crate::line_stop::Taken;
 use crate::outcome::Halt;
 use board::Board;
 use collector::{Line, Stop, next_line};
-use record_core::{DeclaredInput, MAX_FIELDS};
+use driver::law_inputs;
+use record_core::DeclaredInput;
 use rows::{Batch, Rows};
 use std::alloc::Global;
 use std::mem::replace;
@@ -27,13 +30,14 @@ pub struct Intake {
 }
 
 impl Intake {
-    /// An intake that has taken nothing.
+    /// An intake that has taken nothing, for these inputs.
     pub fn new(alloc: Global, inputs: &[DeclaredInput]) -> Result<Intake, Halt>
-        ensures { IfOk result IsNew }
+        requires { HaveArities (map input_of inputs.now) }
+        ensures { IfOk result (IsNew (map input_of inputs.now)) }
     {
         let mut portion = Vec::with_capacity(alloc, inputs.len())?;
         for declared in inputs {
-            portion.push(no_rows(alloc, declared.arity)?)?;
+            portion.push(Rows::new(alloc, declared.arity as usize))?;
         }
         Ok(Intake {
             begun: 0,
@@ -44,45 +48,29 @@ impl Intake {
 
     /// Keeps a record of an input, to be fed.
     fn gather(&mut self, input: usize, row: &[i64]) -> Result<(), Halt>
+        requires some { 0 < self.old.begun }
+        requires there { input < length self.old.portion.items }
+        requires fits { arity_at self.old input ≡ length row.now }
         ensures { OnOk result (Gathers self.old self.new input row.now) }
     {
-        if self.begun == 0 {
-            return Err(Halt::Incomplete);
-        }
-        if input >= self.portion.len() || self.portion[input].arity() != row.len() {
-            return Err(Halt::Incomplete);
-        }
         self.portion[input].push(row)?;
         Ok(())
     }
 
     /// Counts a line that was taken.
-    fn count_line(&mut self) -> Result<(), Halt>
-        ensures { OnOk result (Counts self.old self.new) }
+    fn count_line(&mut self)
+        requires { self.old.line < 18446744073709551615 }
+        ensures { Counts self.old self.new }
     {
-        let Some(line) = self.line.checked_add(1) else {
-            return Err(Halt::Incomplete);
-        };
-        self.line = line;
-        Ok(())
+        self.line += 1;
     }
-}
-
-/// An empty list of rows of that arity.
-fn no_rows(alloc: Global, arity: u64) -> Result<Rows, Halt>
-    ensures { IfOk result (λ r. r.rows ≡ []) }
-{
-    let arity = arity as usize;
-    if arity < 1 || arity > MAX_FIELDS {
-        return Err(Halt::Incomplete);
-    }
-    Ok(Rows::new(alloc, arity))
 }
 
 /// Takes the rows of an input that wait.
 fn take_rows(alloc: Global, intake: &mut Intake, input: usize) -> Rows
     requires { input < length intake.old.portion.items }
-    ensures { Empties intake.old intake.new input result.rows }
+    ensures empties { Empties intake.old intake.new input result.rows }
+    ensures arity { result.arity ≡ arity_at intake.old input }
 {
     let arity = intake.portion[input].arity();
     replace(&mut intake.portion[input], Rows::new(alloc, arity))
@@ -95,16 +83,16 @@ fn feed_rows<V: Views>(
     intake: &mut Intake,
     input: usize,
 ) -> Result<(), Halt>
-    requires { input < length intake.old.portion.items }
+    requires there { input < length intake.old.portion.items }
+    requires fed { IsFedSo board.old.shown intake.old }
     ensures { OnOk result (FeedsRows board.old.shown board.new.shown intake.old intake.new input) }
 {
+    board.law_inputs();
+    law_inputs(board.graph());
     let rows = take_rows(alloc, intake, input);
-    let Ok(number) = u32::try_from(input) else {
-        return Err(Halt::Incomplete);
-    };
     match Batch::from_rows(alloc, rows)? {
         None => Ok(()),
-        Some(batch) => match feed(alloc, board, number, batch) {
+        Some(batch) => match feed(alloc, board, input as u32, batch) {
             Ok(()) => Ok(()),
             Err(halt) => Err(halt),
         },
@@ -117,6 +105,7 @@ pub fn feed_portion<V: Views>(
     board: &mut Board<V>,
     intake: &mut Intake,
 ) -> Result<(), Halt>
+    requires { IsFedSo board.old.shown intake.old }
     ensures { OnOk result (FeedsPortion board.old.shown board.new.shown intake.old intake.new) }
 {
     for input in 0..intake.portion.len() {
@@ -127,6 +116,8 @@ pub fn feed_portion<V: Views>(
 
 /// Begins the next epoch: feeds what waits, and seals the epoch before it at each input.
 fn begin<V: Views>(alloc: Global, board: &mut Board<V>, intake: &mut Intake) -> Result<(), Halt>
+    requires fed { IsFedSo board.old.shown intake.old }
+    requires few { intake.old.begun < 4294967295 }
     ensures { OnOk result (TakesItem board.old.shown board.new.shown intake.old intake.new Item.epoch) }
 {
     feed_portion(alloc, board, intake)?;
@@ -134,11 +125,10 @@ fn begin<V: Views>(alloc: Global, board: &mut Board<V>, intake: &mut Intake) -> 
         intake.begun = 1;
         return Ok(());
     }
-    let Some(begun) = intake.begun.checked_add(1) else {
-        return Err(Halt::Incomplete);
-    };
-    seal_inputs(board, intake.portion.len())?;
-    intake.begun = begun;
+    board.law_inputs();
+    law_inputs(board.graph());
+    seal_inputs(board, intake.portion.len() as u32)?;
+    intake.begun += 1;
     Ok(())
 }
 
@@ -150,6 +140,7 @@ fn take_item<V: Views>(
     said: Line,
     fields: &[i64],
 ) -> Result<(), Halt>
+    requires { CanTake board.old.shown intake.old (item_of said fields.now) }
     ensures { OnOk result (TakesItem board.old.shown board.new.shown intake.old intake.new (item_of said fields.now)) }
 {
     match said {
@@ -179,19 +170,20 @@ pub fn take_lines<'a, V: Views>(
     intake: &mut Intake,
     text: &'a [u8],
 ) -> Result<(&'a [u8], Taken), Halt>
+    requires same { map input_of inputs.now ≡ shown_inputs board.old.shown.graph }
+    requires taken { IsTakenSo board.old.shown base intake.old (map input_of inputs.now) text.now }
+    requires few { intake.old.line + length text.now < 18446744073709551615 }
     ensures lines { IfOk result (λ r. TakesLines base board.old.shown board.new.shown intake.old intake.new (map input_of inputs.now) text.entry.now r.0.now r.1) }
     ensures shorter { IfOk result (λ r. r.1 ≡ taken.Epoch → length r.0.now < length text.entry.now) }
+    ensures counted { IfOk result (λ r. intake.new.line + length r.0.now ≤ intake.old.line + length text.entry.now) }
 {
     let mut fields = Vec::new(alloc);
     let mut rest = text;
     while !rest.is_empty() {
-        let Some(begun) = base.checked_add(intake.begun) else {
-            return Err(Halt::Incomplete);
-        };
-        match next_line(rest, inputs, begun, &mut fields) {
+        match next_line(rest, inputs, base + intake.begun, &mut fields) {
             Ok((said, after)) => {
                 take_item(alloc, board, intake, said, fields.as_slice())?;
-                intake.count_line()?;
+                intake.count_line();
                 rest = after;
                 if intake.line >= until && begins_epoch(said) {
                     return Ok((rest, Taken::Epoch));

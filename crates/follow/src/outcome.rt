@@ -8,33 +8,37 @@ use board::StepRefusal;
 use record_core::NoMemory;
 use rows::WorkFault;
 use std::alloc::{AllocError, AllocFailed};
+use thiserror::Error;
 
 /// Why following ended before the whole input was answered.
-#[derive(Clone, Copy, Debug, PartialEq, Eq)]
+#[derive(Clone, Copy, Debug, PartialEq, Eq, Error)]
 pub enum Ending {
     /// The first faulty line of the input, counted from 1, and the code of its fault.
+    #[error("error {code} in line {line}")]
     Input { code: u8, line: u64 },
-    /// The reader failed.
+    #[error("cannot read")]
     Read,
-    /// The writer failed; a beginning of the text was written.
+    /// A beginning of the text was written.
+    #[error("cannot write")]
     Write,
-    /// Out of memory.
+    #[error("out of memory")]
     NoMemory,
     /// A count would have been above 9223372036854775807.
+    #[error("count too large")]
     Count,
-    /// The board refused a call for a reason other than memory, or a number is beyond its type. Not known to be possible.
-    Incomplete,
+    /// The reader gave 18446744073709551615 bytes or more.
+    #[error("the input is too long")]
+    TooLong,
 }
 
 /// Why the work stopped half-way. Nothing is written then.
-#[derive(Clone, Copy, Debug, PartialEq, Eq)]
+#[derive(Clone, Copy, Debug, PartialEq, Eq, Error)]
 pub enum Halt {
-    /// Out of memory.
+    #[error("out of memory")]
     NoMemory,
     /// A count would have been above 9223372036854775807.
+    #[error("count too large")]
     Count,
-    /// A case that isn't known to be possible.
-    Incomplete,
 }
 
 impl From<AllocError> for Halt {
@@ -64,23 +68,23 @@ impl From<WorkFault> for Halt {
     }
 }
 
-impl From<StepRefusal> for Halt {
-    fn from(refusal: StepRefusal) -> Halt {
+impl Halt {
+    /// The halt for a refusal of the board that is for lack of memory.
+    pub fn of_refusal(refusal: StepRefusal) -> Halt
+        requires { refusal ≡ StepRefusal.NoMemory }
+    {
         match refusal {
             StepRefusal::NoMemory => Halt::NoMemory,
-            // Following ends when an event is abandoned, so no call should find a stopped board.
             StepRefusal::Stopped
             | StepRefusal::UnknownInput
             | StepRefusal::InputClosed
             | StepRefusal::WrongFieldCount
             | StepRefusal::LastEpoch
             | StepRefusal::HoldsEvent
-            | StepRefusal::NoSuchEvent => Halt::Incomplete,
+            | StepRefusal::NoSuchEvent => unreachable!(),
         }
     }
-}
 
-impl Halt {
     /// The ending for this halt.
     pub fn ending(self) -> Ending
         ensures { result ≡ ending_of self }
@@ -88,7 +92,6 @@ impl Halt {
         match self {
             Halt::NoMemory => Ending::NoMemory,
             Halt::Count => Ending::Count,
-            Halt::Incomplete => Ending::Incomplete,
         }
     }
 
@@ -99,7 +102,7 @@ impl Halt {
     {
         match other {
             Halt::Count => Halt::Count,
-            Halt::NoMemory | Halt::Incomplete => self,
+            Halt::NoMemory => self,
         }
     }
 }

@@ -1,7 +1,8 @@
 //! How far following has come.
 
-ghost use Rattle.std.specs.Prelude.{IfOk};
-ghost use Rattle.follow.specs.Steps.{IsFirst};
+ghost use Rattle.std.specs.Prelude.{IfOk, map};
+ghost use Rattle.record_core.specs.Inputs.{input_of};
+ghost use Rattle.follow.specs.Steps.{HaveArities, IsFirst};
 
 use crate::intake::Intake;
 use crate::outcome::Halt;
@@ -30,7 +31,8 @@ impl Position {
         outputs: u32,
         until: u64,
     ) -> Result<Position, Halt>
-        ensures { IfOk result IsFirst }
+        requires { HaveArities (map input_of inputs.now) }
+        ensures { IfOk result (IsFirst (map input_of inputs.now) outputs) }
     {
         Ok(Position {
             base: 0,

@@ -1,9 +1,10 @@
 //! Replaces the board between epochs, so that memory holds some epochs and not all.
 
-ghost use Rattle.std.specs.Prelude.{◌≡◌, IfOk, OnOk};
+ghost use Rattle.std.specs.Prelude.{◌≡◌, ◌≤◌, ◌+◌, IfOk, OnOk};
 ghost use Rattle.machine.specs.World.{opening};
 ghost use Rattle.board.specs.Promises.{IsOpening};
 ghost use Rattle.board.specs.Showing.{Shows};
+ghost use Rattle.collector.specs.Lines.{max_epochs};
 ghost use Rattle.follow.specs.Steps.{Renews};
 
 use crate::outcome::Halt;
@@ -19,30 +20,36 @@ use views::Direct;
 /// The number of lines that a board takes, before the epoch that is open then is finished on it.
 pub const LINES: u64 = 16_384;
 
-/// A new board over the graph, whose workers all see one tracker, so that no view is late.
-pub fn new_board(
-    alloc: Global,
-    graph: &Arc<Graph, Global>,
-    workers: WorkerCount,
-) -> Result<Board<Direct<LocationTracker>>, Halt>
-    ensures opening { IfOk result (λ b. IsOpening graph.now.value workers.count b.shown) }
-    ensures shows { IfOk result (λ b. Shows b.shown opening) }
-{
-    let shared = Arc::try_clone(graph)?;
-    let board = Board::<Direct<LocationTracker>>::new(alloc, shared, workers.count())?;
-    Ok(board)
+/// What each board is made of.
+#[derive(Drop)]
+pub struct Plan {
+    pub graph: Arc<Graph, Global>,
+    pub workers: WorkerCount,
+}
+
+impl Plan {
+    /// A new board, whose workers all see one tracker, so that no view is late.
+    pub fn new_board(&self, alloc: Global) -> Result<Board<Direct<LocationTracker>>, Halt>
+        ensures opening { IfOk result (λ b. IsOpening self.now.graph.value self.now.workers.count b.shown) }
+        ensures shows { IfOk result (λ b. Shows b.shown opening) }
+    {
+        let shared = Arc::try_clone(&self.graph)?;
+        let board = Board::<Direct<LocationTracker>>::new(alloc, shared, self.workers.count())?;
+        Ok(board)
+    }
 }
 
 /// Replaces a board on which all epochs but the last are complete, and nothing was written of the last. Otherwise the board stays.
 pub fn renew(
     alloc: Global,
-    graph: &Arc<Graph, Global>,
-    workers: WorkerCount,
+    plan: &Plan,
     board: &mut Board<Direct<LocationTracker>>,
     position: &mut Position,
 ) -> Result<(), Halt>
-    ensures renews { OnOk result (Renews graph.now.value board.old.shown board.new.shown position.old position.new) }
+    requires few { position.old.base + position.old.intake.begun ≤ max_epochs }
+    ensures renews { OnOk result (Renews plan.now.graph.value board.old.shown board.new.shown position.old position.new) }
     ensures pending { position.new.pending ≡ position.old.pending }
+    ensures line { position.new.intake.line ≡ position.old.intake.line }
 {
     position.until = position.intake.line.saturating_add(LINES);
     let Some(last) = position.intake.begun.checked_sub(1) else {
@@ -51,11 +58,8 @@ pub fn renew(
     if position.reporting.done != last || !position.reporting.is_between_epochs() {
         return Ok(());
     }
-    let Some(base) = position.base.checked_add(last) else {
-        return Err(Halt::Incomplete);
-    };
-    *board = new_board(alloc, graph, workers)?;
-    position.base = base;
+    *board = plan.new_board(alloc)?;
+    position.base += last;
     position.intake.begun = 1;
     position.reporting.done = 0;
     Ok(())

@@ -1,13 +1,13 @@
 //! Reports what was emitted: the lines of records, and of epochs that are complete.
 
-ghost use Rattle.std.specs.Prelude.{◌≡◌, ◌<◌, ◌≤◌, ℕ, ◌+◌, ◌++◌, IfOk, IsTrue, OnOk, map};
+ghost use Rattle.std.specs.Prelude.{◌≡◌, ◌<◌, ◌≤◌, ℕ, ◌+◌, IfOk, IsTrue, OnOk, length, map};
 ghost use Rattle.board.specs.Lateness.{IsUpToDate};
 ghost use Rattle.board.specs.Promises.{HasPassed, HasPassedAtAll, IsOutputPlace};
+ghost use Rattle.collector.specs.Lines.{max_epochs};
 ghost use Rattle.collector.specs.OutputText.{is_plain, label_of};
 ghost use Rattle.graph.specs.Views.{name_of_output};
-ghost use Rattle.follow.specs.Entries.{complete_line};
-ghost use Rattle.follow.specs.Scenes.{batches_of, reported_count};
-ghost use Rattle.follow.specs.Steps.{IsFresh, Completes, Reports, ReportsBatches, ReportsOutput, ReportsOpen};
+ghost use Rattle.follow.specs.Scenes.{HasRoom, IsWithin, batches_of, reported_count};
+ghost use Rattle.follow.specs.Steps.{Completes, IsFresh, MayReport, Reports, ReportsOpen, ReportsOutput};
 
 use crate::batches::push_batches;
 use crate::line_texts::push_complete;
@@ -29,7 +29,8 @@ pub struct Reporting {
 impl Reporting {
     /// Nothing written yet, for that many outputs.
     pub fn new(alloc: Global, outputs: u32) -> Result<Reporting, Halt>
-        ensures { IfOk result IsFresh }
+        ensures fresh { IfOk result IsFresh }
+        ensures room { IfOk result (λ t. length t.reported.items ≡ outputs) }
     {
         let mut reported = Vec::with_capacity(alloc, outputs as usize)?;
         for _output in 0..outputs {
@@ -86,32 +87,6 @@ fn has_passed<V: Views>(board: &Board<V>, epoch: u32) -> bool
     true
 }
 
-/// Appends the lines of the batches that were emitted at an output for an epoch, without the first `reported`; gives the number of batches.
-fn push_output<V: Views>(
-    board: &Board<V>,
-    base: u32,
-    done: u32,
-    output: u32,
-    plain: bool,
-    name: &Name,
-    reported: usize,
-    out: &mut Vec<u8>,
-) -> Result<usize, Halt>
-    requires { IsOutputPlace board.now.shown output }
-    ensures { IfOk result (λ n. ReportsBatches (batches_of board.now.shown output done) (label_of plain name.now) (base + done) reported
-        out.old.items out.new.items n) }
-{
-    let Some(epoch) = base.checked_add(done) else {
-        return Err(Halt::Incomplete);
-    };
-    let batches = board.emitted(output, done);
-    if reported > batches.len() {
-        return Err(Halt::Incomplete);
-    }
-    push_batches(out, epoch, plain, name, &batches[reported..])?;
-    Ok(batches.len())
-}
-
 /// Appends the lines of what was emitted at an output for the first incomplete epoch and wasn't written yet.
 fn report_output<V: Views>(
     board: &Board<V>,
@@ -122,30 +97,19 @@ fn report_output<V: Views>(
     name: &Name,
     out: &mut Vec<u8>,
 ) -> Result<(), Halt>
-    requires { IsOutputPlace board.now.shown output }
+    requires there { IsOutputPlace board.now.shown output }
+    requires room { HasRoom board.now.shown reporting.old }
+    requires within { reported_count reporting.old output ≤ length (batches_of board.now.shown output reporting.old.done) }
+    requires few { base + reporting.old.done ≤ max_epochs }
     ensures { OnOk result (ReportsOutput board.now.shown base reporting.old reporting.new output (label_of plain name.now) out.old.items out.new.items) }
 {
     let place = output as usize;
-    if place >= reporting.reported.len() {
-        return Err(Halt::Incomplete);
-    }
+    let batches = board.emitted(output, reporting.done);
     let reported = reporting.reported[place];
-    match push_output(
-        board,
-        base,
-        reporting.done,
-        output,
-        plain,
-        name,
-        reported,
-        out,
-    ) {
-        Ok(count) => {
-            reporting.reported[place] = count;
-            Ok(())
-        }
-        Err(halt) => Err(halt),
-    }
+    let epoch = base + reporting.done;
+    push_batches(out, epoch, plain, name, &batches[reported..])?;
+    reporting.reported[place] = batches.len();
+    Ok(())
 }
 
 /// Appends the lines of what was emitted at each output for the first incomplete epoch and wasn't written yet.
@@ -155,6 +119,9 @@ fn report_open<V: Views>(
     reporting: &mut Reporting,
     out: &mut Vec<u8>,
 ) -> Result<(), Halt>
+    requires room { HasRoom board.now.shown reporting.old }
+    requires within { IsWithin board.now.shown reporting.old }
+    requires few { base + reporting.old.done ≤ max_epochs }
     ensures { OnOk result (ReportsOpen board.now.shown base reporting.old reporting.new out.old.items out.new.items) }
 {
     let outputs = board.graph().outputs();
@@ -163,17 +130,6 @@ fn report_open<V: Views>(
         let name = &outputs[output as usize].name;
         report_output(board, base, reporting, output, plain, name, out)?;
     }
-    Ok(())
-}
-
-/// Appends the line that says that an epoch of the board is complete.
-fn push_done(out: &mut Vec<u8>, base: u32, done: u32) -> Result<(), Halt>
-    ensures { OnOk result (out.new.items ≡ out.old.items ++ complete_line (base + done)) }
-{
-    let Some(epoch) = base.checked_add(done) else {
-        return Err(Halt::Incomplete);
-    };
-    push_complete(out, epoch)?;
     Ok(())
 }
 
@@ -187,6 +143,8 @@ pub fn report<V: Views>(
     sealed: u32,
     out: &mut Vec<u8>,
 ) -> Result<(), Halt>
+    requires may { MayReport board.now.shown base reporting.old begun sealed }
+    requires few { base + begun ≤ max_epochs }
     ensures reports { OnOk result (Reports board.now.shown base reporting.old reporting.new begun sealed out.old.items out.new.items) }
     ensures all { OnOk result (IsUpToDate board.now 0 → ((epoch : ℕ) → HasPassedAtAll board.now.shown epoch) → sealed ≡ begun →
         reporting.old.done ≤ begun → reporting.new.done ≡ begun) }
@@ -200,7 +158,7 @@ pub fn report<V: Views>(
         if !has_passed(board, epoch) {
             return Ok(());
         }
-        push_done(out, base, epoch)?;
+        push_complete(out, base + epoch)?;
         reporting.complete();
     }
     Ok(())

@@ -1,12 +1,13 @@
 //! Rounds of work on a board. One thread claims and ends the events of all workers, and several threads compute large ones.
 
-ghost use Rattle.std.specs.Prelude.{◌≡◌, [], All, IfNone, IfOk, IfSome, List, Ok, Err, OnOk, is_ok, length, true};
+ghost use Rattle.std.specs.Prelude.{◌≡◌, ◌<◌, ◌∷◌, ◌++◌, [], All, IfNone, IfOk, IfSome, List, Ok, Err, OnOk, is_ok, length, true};
 ghost use Rattle.atomic_table.specs.Seated.{TableId};
 ghost use Rattle.board.specs.Commits.{IsOf};
 ghost use Rattle.board.specs.Shown.{tables};
-ghost use Rattle.follow.specs.Working.{Advances, HasEnded, HasNoEvent, HasWorked, IsBusy, IsWorkedOff, Moves, TookNothing};
-ghost use Rattle.follow.specs.Scenes.{IsLive, Works};
-ghost use Rattle.follow.specs.Slots.{IsSlotOf};
+ghost use Rattle.follow.specs.Working.{Advances, EndsAlone, HasEnded, HasNoEvent, HasWorked, IsBusy, IsFreeAt, IsWorkedOff, Moves, TakesAlone, TookNothing};
+ghost use Rattle.follow.specs.Scenes.{IsFree, IsFreeBut, IsLive, Works};
+ghost use Rattle.follow.specs.Slots.{IsSlotOf, event_in, workers_of};
+ghost use Rattle.follow.specs.declared.slot.Slot.TheVariants as slot;
 ghost use Rattle.follow.specs.declared.outcome.Halt.TheVariants as halt;
 
 use crate::outcome::Halt;
@@ -37,18 +38,21 @@ impl Round {
     }
 }
 
-/// Claims an event of a worker, if it has one.
-fn claim_one<V: Views>(board: &mut Board<V>, worker: u32) -> Result<Option<Work>, Halt>
+/// Claims an event of a free worker, if it has one.
+fn claim_one<V: Views>(board: &mut Board<V>, worker: u32) -> Option<Work>
+    requires there { worker < length board.old.shown.sides }
+    requires free { IsFreeAt board.old.shown worker }
     ensures tables { tables board.new.shown ≡ tables board.old.shown }
-    ensures own { IfOk result (λ o. IfSome o (λ w. IsOf board.old.shown w.0)) }
-    ensures some { IfOk result (λ o. IfSome o (λ w. Advances board.old.shown board.new.shown)) }
-    ensures none { IfOk result (λ o. IfNone o ((board.new.shown ≡ board.old.shown) × HasNoEvent board.old.shown worker)) }
+    ensures own { IfSome result (λ w. IsOf board.old.shown w.0) }
+    ensures some { IfSome result (λ w. Advances board.old.shown board.new.shown) }
+    ensures alone { IfSome result (λ w. (w.0.worker ≡ worker) × TakesAlone board.old.shown board.new.shown worker) }
+    ensures none { IfNone result ((board.new.shown ≡ board.old.shown) × HasNoEvent board.old.shown worker) }
 {
     board.law_run();
     match claim(board, worker) {
-        Claimed::Work(work) => Ok(Some(work)),
-        Claimed::Idle | Claimed::Drained => Ok(None),
-        Claimed::Stopped | Claimed::Busy => Err(Halt::Incomplete),
+        Claimed::Work(work) => Some(work),
+        Claimed::Idle | Claimed::Drained => None,
+        Claimed::Stopped | Claimed::Busy => unreachable!(),
     }
 }
 
@@ -57,7 +61,9 @@ fn end<V: Views>(board: &mut Board<V>, slot: Slot) -> Result<Sent, Halt>
     requires own { IsSlotOf (tables board.old.shown) slot }
     ensures tables { tables board.new.shown ≡ tables board.old.shown }
     ensures steps { OnOk result (Advances board.old.shown board.new.shown) }
+    ensures alone { OnOk result (EndsAlone board.old.shown board.new.shown (event_in slot).worker) }
 {
+    board.law_run();
     match settle(board, slot.into_result()) {
         Ok(sent) => Ok(sent),
         Err(fault) => Err(Halt::from(fault)),
@@ -69,7 +75,9 @@ fn process_one<V: Views>(alloc: Global, board: &mut Board<V>, work: Work) -> Res
     requires own { IsOf board.old.shown work.0 }
     ensures tables { tables board.new.shown ≡ tables board.old.shown }
     ensures steps { OnOk result (Advances board.old.shown board.new.shown) }
+    ensures alone { OnOk result (EndsAlone board.old.shown board.new.shown work.0.worker) }
 {
+    board.law_run();
     match process(alloc, board, &NoGate, 0, work) {
         Ok(sent) => Ok(sent),
         Err(fault) => Err(Halt::from(fault)),
@@ -83,7 +91,7 @@ fn keep<V: Views>(board: &mut Board<V>, slots: &mut Vec<Slot>, work: Work) -> Re
     ensures tables { tables board.new.shown ≡ tables board.old.shown }
     ensures own { All (IsSlotOf (tables board.old.shown)) slots.new.items }
     ensures board { OnOk result (board.new ≡ board.old) }
-    ensures some { OnOk result (slots.new.items ≡ [] → ⊥) }
+    ensures kept { OnOk result (slots.new.items ≡ slots.old.items ++ slot.Claimed work ∷ []) }
 {
     match slots.push(Slot::Claimed(work)) {
         Ok(()) => Ok(()),
@@ -96,14 +104,16 @@ fn keep<V: Views>(board: &mut Board<V>, slots: &mut Vec<Slot>, work: Work) -> Re
 
 /// Claims an event of each worker that has one.
 fn claim_each<V: Views>(board: &mut Board<V>, slots: &mut Vec<Slot>) -> Result<(), Halt>
-    requires own { All (IsSlotOf (tables board.old.shown)) slots.old.items }
+    requires free { IsFree board.old.shown }
+    requires none { slots.old.items ≡ [] }
     ensures tables { tables board.new.shown ≡ tables board.old.shown }
     ensures own { All (IsSlotOf (tables board.old.shown)) slots.new.items }
     ensures steps { OnOk result (Moves board.old.shown board.new.shown) }
+    ensures free { OnOk result (IsFreeBut board.new.shown (workers_of slots.new.items)) }
     ensures none { OnOk result (TookNothing slots.new.items (length board.old.shown.sides) board.old.shown board.new.shown) }
 {
     for worker in 0..board.workers() {
-        match claim_one(board, worker)? {
+        match claim_one(board, worker) {
             Some(work) => keep(board, slots, work)?,
             None => {}
         }
@@ -115,6 +125,7 @@ fn claim_each<V: Views>(board: &mut Board<V>, slots: &mut Vec<Slot>) -> Result<(
 fn compute_each<R: Threads + Sync>(rt: &R, alloc: Global, slots: &mut Vec<Slot>)
     ensures own { (tables : List TableId) → All (IsSlotOf tables) slots.old.items → All (IsSlotOf tables) slots.new.items }
     ensures length { length slots.new.items ≡ length slots.old.items }
+    ensures workers { workers_of slots.new.items ≡ workers_of slots.old.items }
 {
     let threads = slots.len().max(1);
     for_each_mut(
@@ -152,6 +163,7 @@ fn end_each<V: Views>(board: &mut Board<V>, mut slots: Vec<Slot>) -> Result<Roun
     requires own { All (IsSlotOf (tables board.old.shown)) slots.items }
     ensures tables { tables board.new.shown ≡ tables board.old.shown }
     ensures steps { IfOk result (λ r. HasEnded r [] slots.items board.old.shown board.new.shown) }
+    ensures free { OnOk result (IsFreeBut board.old.shown (workers_of slots.items) → IsFree board.new.shown) }
 {
     let mut round = Ok(Round::Idle);
     while let Some(slot) = slots.pop() {
@@ -167,7 +179,9 @@ fn work_in_parallel<V: Views, R: Threads + Sync>(
     alloc: Global,
     board: &mut Board<V>,
 ) -> Result<Round, Halt>
-    ensures { IfOk result (λ r. HasWorked r (length board.old.shown.sides) board.old.shown board.new.shown) }
+    requires { IsFree board.old.shown }
+    ensures worked { IfOk result (λ r. HasWorked r (length board.old.shown.sides) board.old.shown board.new.shown) }
+    ensures free { OnOk result (IsFree board.new.shown) }
 {
     let mut slots = Vec::with_capacity(alloc, board.workers() as usize)?;
     let claimed = claim_each(board, &mut slots);
@@ -179,11 +193,13 @@ fn work_in_parallel<V: Views, R: Threads + Sync>(
 
 /// Claims an event of each worker that has one, computes it and ends it, one after another.
 fn work_in_turn<V: Views>(alloc: Global, board: &mut Board<V>) -> Result<Round, Halt>
-    ensures { IfOk result (λ r. HasWorked r (length board.old.shown.sides) board.old.shown board.new.shown) }
+    requires { IsFree board.old.shown }
+    ensures worked { IfOk result (λ r. HasWorked r (length board.old.shown.sides) board.old.shown board.new.shown) }
+    ensures free { OnOk result (IsFree board.new.shown) }
 {
     let mut round = Round::Idle;
     for worker in 0..board.workers() {
-        match claim_one(board, worker)? {
+        match claim_one(board, worker) {
             Some(work) => round = round.with(process_one(alloc, board, work)?),
             None => {}
         }
@@ -198,7 +214,9 @@ fn work_once<V: Views, R: Threads + Sync>(
     rows: u64,
     board: &mut Board<V>,
 ) -> Result<Round, Halt>
-    ensures { IfOk result (λ r. HasWorked r (length board.old.shown.sides) board.old.shown board.new.shown) }
+    requires { IsFree board.old.shown }
+    ensures worked { IfOk result (λ r. HasWorked r (length board.old.shown.sides) board.old.shown board.new.shown) }
+    ensures free { OnOk result (IsFree board.new.shown) }
 {
     if rows >= HEAVY && board.workers() > 1 {
         return work_in_parallel(rt, alloc, board);
@@ -214,6 +232,7 @@ pub fn work_off<V: Views, R: Threads + Sync>(
     rows: u64,
     board: &mut Board<V>,
 ) -> Result<(), Halt>
+    requires { IsFree board.old.shown }
     ensures works { OnOk result (IsLive board.old.shown → Works board.old.shown board.new.shown) }
     ensures rests { OnOk result (IsWorkedOff board.new.shown) }
 {

@@ -12,3 +12,4 @@ pub mod WholePrograms
 pub mod Nesting
 pub mod SourcesBefore
 pub mod VertexArities
+pub mod Carried

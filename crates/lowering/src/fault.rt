@@ -5,13 +5,16 @@ ghost use Rattle.lowering.specs.declared.fault.LowerFault.TheVariants as fault;
 
 use record_core::NoMemory;
 use std::alloc::{AllocError, AllocFailed};
+use thiserror::Error;
 
 /// Why a query has no graph.
-#[derive(Clone, Copy, Debug, PartialEq, Eq)]
+#[derive(Clone, Copy, Debug, PartialEq, Eq, Error)]
 pub enum LowerFault {
-    /// A 4097th vertex would be made; numbered 21 in what the program writes.
+    /// Numbered 21 in what the program writes.
+    #[error("more than 4096 vertices")]
     TooMany,
     /// An allocator refused a growth.
+    #[error("out of memory")]
     NoMemory,
 }
 

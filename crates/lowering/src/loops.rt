@@ -1,6 +1,6 @@
 //! The vertices of a loop.
 
-ghost use Rattle.std.specs.Prelude.{◌≡◌, ◌≤◌, ◌<◌, ◌++◌, ◌∷◌, [], suc, ◌+◌, length, slice_set, IfOk, IfErr, OnOk};
+ghost use Rattle.std.specs.Prelude.{◌≡◌, ◌≤◌, ◌<◌, ◌++◌, ◌∷◌, [], suc, ◌+◌, ◌*◌, length, slice_set, IfOk, IfErr, OnOk};
 ghost use Rattle.semantics.specs.Kinds as semantics;
 ghost use Rattle.semantics.specs.Limits.{max_loops};
 ghost use Rattle.expr_tree.specs.Plain.{plain_form};
@@ -8,6 +8,7 @@ ghost use Rattle.semantics.specs.Lower.{carried_ports, carry, gate_of, new_verte
 ghost use Rattle.lowering.specs.Faults.{IsOver};
 ghost use Rattle.lowering.specs.Loops.{body_port, carry_one, inside_of, loop_entry, names_carried, with_loop_exit};
 ghost use Rattle.lowering.specs.Scopes.{Extends, ports_of};
+ghost use Rattle.graph.specs.Limits.{max_vertices};
 ghost use Rattle.graph.specs.Views.{graph_of, kind_of, port_of};
 
 use crate::fault::LowerFault;
@@ -16,7 +17,7 @@ use crate::scope::Scope;
 use crate::vertex::add_vertex;
 use expr_tree::{LoopForm, Rel};
 use graph::{Kind, Port, Sources, Vertex, VertexId};
-use record_core::Name;
+use record_core::{Name, NoMemory};
 use std::alloc::{Allocator, Global};
 
 /// What stands at the head of a loop: its form, its limit of turns and its variable.
@@ -104,7 +105,6 @@ pub fn close_loop(
 }
 
 /// Makes the four vertices of each carried name, in order; in the scope the name then stands for its hold.
-#[tactic(auto, using(crate::proofs::Scopes::ports_from_append))]
 fn carry_names(
     turns: u64,
     names: &[Name],
@@ -112,31 +112,66 @@ fn carry_names(
     depth: u32,
     made: &mut Vec<Vertex>,
 ) -> Result<(), LowerFault>
-    requires { depth < max_loops }
+    requires shallow { depth < max_loops }
+    requires few { length made.old.items ≤ max_vertices }
     ensures made { OnOk result (graph_of made.new.items ≡ graph_of made.old.items ++ carry turns (ports_of scope.old) depth (length made.old.items) names.now) }
     ensures inside { OnOk result (ports_of scope.new ≡ carried_ports (ports_of scope.old) (length made.old.items) names.now) }
     ensures outside { OnOk result (Extends scope.old scope.new) }
     ensures many { IfErr result (λ e. IsOver e (length made.old.items
         + length (carry turns (ports_of scope.old) depth (length made.old.items) names.now))) }
 {
-    match names {
-        [] => Ok(()),
-        [name, rest @ ..] => {
-            let from = scope.find(name);
-            let hold = carry_one(turns, from, depth, made)?;
-            carry_names(turns, rest, scope, depth, made)?;
-            scope.bind(name, hold)?;
-            Ok(())
-        }
-    }
+    let first = made.len();
+    make_carried(turns, names, scope, depth, made)?;
+    bind_carried(names, first, scope)?;
+    Ok(())
 }
 
-/// Makes the four vertices of a carried name: it comes in at turn 0, and the hold sends it on at each turn but the last. Gives the
-/// hold's out port 0.
-fn carry_one(turns: u64, from: Port, depth: u32, made: &mut Vec<Vertex>) -> Result<Port, LowerFault>
+/// Makes the four vertices of each carried name, in order.
+fn make_carried(
+    turns: u64,
+    names: &[Name],
+    scope: &Scope,
+    depth: u32,
+    made: &mut Vec<Vertex>,
+) -> Result<(), LowerFault>
+    requires shallow { depth < max_loops }
+    requires few { length made.old.items ≤ max_vertices }
+    ensures made { OnOk result (graph_of made.new.items ≡ graph_of made.old.items ++ carry turns (ports_of scope.now) depth (length made.old.items) names.now) }
+    ensures few { OnOk result (length made.old.items + 4 * length names.now ≤ max_vertices) }
+    ensures many { IfErr result (λ e. IsOver e (length made.old.items
+        + length (carry turns (ports_of scope.now) depth (length made.old.items) names.now))) }
+{
+    for i in 0..names.len() {
+        let from = scope.find(&names[i]);
+        carry_one(turns, from, depth, made)?;
+    }
+    Ok(())
+}
+
+/// In the scope each carried name stands for its hold. The vertices of the first name begin at number `first`, and a name hides
+/// those behind it.
+fn bind_carried(names: &[Name], first: usize, scope: &mut Scope) -> Result<(), NoMemory>
+    requires { first + 4 * length names.now ≤ max_vertices }
+    ensures inside { OnOk result (ports_of scope.new ≡ carried_ports (ports_of scope.old) first names.now) }
+    ensures outside { OnOk result (Extends scope.old scope.new) }
+{
+    let mut left = names.len();
+    while left > 0 {
+        left -= 1;
+        let hold = Port {
+            vertex: VertexId((first + 4 * left + 2) as u32),
+            out: 0,
+        };
+        scope.bind(&names[left], hold)?;
+    }
+    Ok(())
+}
+
+/// Makes the four vertices of a carried name: it comes in at turn 0, and the hold sends it on at each turn but the last.
+fn carry_one(turns: u64, from: Port, depth: u32, made: &mut Vec<Vertex>) -> Result<(), LowerFault>
     requires { depth < max_loops }
     ensures made { OnOk result (graph_of made.new.items ≡ graph_of made.old.items ++ carry_one turns (port_of from) depth (length made.old.items)) }
-    ensures gives { IfOk result (λ p. port_of p ≡ body_port (length made.old.items)) }
+    ensures few { OnOk result (length made.new.items ≤ max_vertices) }
     ensures many { IfErr result (λ e. IsOver e (length made.old.items + 4)) }
 {
     let first = add_vertex(made, Kind::Ingress, depth, Sources::One(from))?;
@@ -151,7 +186,7 @@ fn carry_one(turns: u64, from: Port, depth: u32, made: &mut Vec<Vertex>) -> Resu
         out: 1,
     };
     add_vertex(made, Kind::Feedback, depth + 1, Sources::One(next))?;
-    Ok(hold)
+    Ok(())
 }
 
 /// The vertex of that number is the concat of these.

@@ -4,7 +4,7 @@ use Rattle.semantics.specs.Multiset.{IsAmong}
 use Rattle.expr_tree.specs.declared.relation.SetOperator.{SetOperator}
 use Rattle.expr_tree.specs.declared.relation.SetOperator.TheVariants as operation
 use Rattle.expr_tree.specs.Plain.{plain_set_operation}
-use Rattle.expr_tree.proofs.Fronts.{rest}
+use Rattle.normalise.proofs.Fronts.{rest}
 use Rattle.semantics.specs.Query.{Name, Rel}
 use Rattle.semantics.specs.Meaning.{same_name}
 use Rattle.semantics.specs.FreeNames.{free, other_than}

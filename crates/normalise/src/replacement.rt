@@ -12,7 +12,7 @@ ghost use Rattle.normalise.specs.Replaced.{MovesOut, Once, named_by};
 ghost use Rattle.normalise.specs.Rewritten.{IsFolded};
 
 use crate::scalars::{negation, operation};
-use expr_tree::Scalar;
+use expr_tree::{Scalar, ScalarParts};
 use record_core::Span;
 use std::alloc::Allocator;
 
@@ -37,15 +37,15 @@ fn replaced<A: Allocator>(scalar: Scalar<A>, by: &mut [Scalar<A>]) -> Scalar<A>
         IsFolded (plain_scalar (scalar_tree result)) (normal.replaced (plain_scalars by.old) (plain_scalar (scalar_tree scalar))) }
     ensures moved { MovesOut (uses (plain_scalar (scalar_tree scalar))) (plain_scalars by.new) (plain_scalars by.old) }
 {
-    match scalar {
-        Scalar::Literal(span, number) => Scalar::Literal(span, number),
-        Scalar::Column(span, column) => moved_out(span, column, by),
-        Scalar::Binary(span, operator, left, right) => {
+    match scalar.into_parts() {
+        ScalarParts::Literal(span, number) => Scalar::Literal(span, number),
+        ScalarParts::Column(span, column) => moved_out(span, column, by),
+        ScalarParts::Binary(span, operator, left, right) => {
             let left = replaced_in_box(left, by);
             let right = replaced_in_box(right, by);
             operation(span, operator, left, right)
         }
-        Scalar::Negate(span, inner) => {
+        ScalarParts::Negate(span, inner) => {
             let inner = replaced_in_box(inner, by);
             negation(span, inner)
         }

@@ -9,7 +9,7 @@ ghost use Rattle.expr_tree.specs.PlainLists.{plain_scalars};
 ghost use Rattle.expr_tree.specs.Views.{cond_tree, scalar_tree};
 ghost use Rattle.normalise.specs.Rewritten.{IsFolded, IsFoldedCond};
 
-use expr_tree::{Cond, Operator, Scalar, negated, operate};
+use expr_tree::{Cond, Operator, Scalar, ScalarParts, negated, operate};
 use record_core::Span;
 use std::alloc::Allocator;
 
@@ -56,15 +56,15 @@ pub(crate) fn negation<A: Allocator>(span: Span, inner: Box<Scalar<A>, A>) -> Sc
 pub(crate) fn folded<A: Allocator>(scalar: Scalar<A>) -> Scalar<A>
     ensures { IsFolded (plain_scalar (scalar_tree result)) (plain_scalar (scalar_tree scalar)) }
 {
-    match scalar {
-        Scalar::Literal(span, number) => Scalar::Literal(span, number),
-        Scalar::Column(span, column) => Scalar::Column(span, column),
-        Scalar::Binary(span, operator, left, right) => {
+    match scalar.into_parts() {
+        ScalarParts::Literal(span, number) => Scalar::Literal(span, number),
+        ScalarParts::Column(span, column) => Scalar::Column(span, column),
+        ScalarParts::Binary(span, operator, left, right) => {
             let left = folded_in_box(left);
             let right = folded_in_box(right);
             operation(span, operator, left, right)
         }
-        Scalar::Negate(span, inner) => {
+        ScalarParts::Negate(span, inner) => {
             let inner = folded_in_box(inner);
             negation(span, inner)
         }

@@ -5,9 +5,11 @@ ghost use Rattle.record_core.specs.declared.span.Refusal.TheVariants as refusal;
 
 use crate::span::Refusal;
 use std::alloc::{AllocError, AllocFailed};
+use thiserror::Error;
 
 /// An allocator refused a growth.
-#[derive(Clone, Copy, Debug, PartialEq, Eq)]
+#[derive(Clone, Copy, Debug, PartialEq, Eq, Error)]
+#[error("out of memory")]
 pub struct NoMemory;
 
 impl From<AllocError> for NoMemory {

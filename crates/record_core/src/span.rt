@@ -4,6 +4,7 @@ ghost use Rattle.std.specs.Prelude.{◌≡◌};
 ghost use Rattle.record_core.specs.declared.span.Refusal.TheVariants.{NoMemory};
 
 use std::alloc::{AllocError, AllocFailed};
+use thiserror::Error;
 
 /// A place in a text, as byte offsets; the end is exclusive.
 #[derive(Clone, Copy, Debug, PartialEq, Eq)]
@@ -13,9 +14,11 @@ pub struct Span {
 }
 
 /// Why a text was refused: a numbered fault at its place, or lack of memory.
-#[derive(Clone, Copy, Debug, PartialEq, Eq)]
+#[derive(Clone, Copy, Debug, PartialEq, Eq, Error)]
 pub enum Refusal {
+    #[error("refused {code} at {start}..{end}", start = .span.start, end = .span.end)]
     At { code: u8, span: Span },
+    #[error("out of memory")]
     NoMemory,
 }
 

@@ -4,14 +4,18 @@ ghost use Rattle.std.specs.Prelude.{◌≡◌};
 ghost use Rattle.replay.specs.Steps.{fault_refusal, refusal_of};
 
 use board::StepRefusal;
+use collector::Number;
 use rows::WorkFault;
+use thiserror::Error;
 
 /// Why a line does nothing.
-#[derive(Clone, Copy, Debug, PartialEq, Eq)]
+#[derive(Clone, Copy, Debug, PartialEq, Eq, Error)]
 pub enum Refusal {
     /// A refusal with this code: the board refuses the step, or there is no such input, or a count would be too large.
+    #[error("refused {code}", code = Number(u64::from(*.code)))]
     Step { code: u8 },
-    /// Out of memory: the replay ends.
+    /// The replay ends.
+    #[error("out of memory")]
     NoMemory,
 }
 

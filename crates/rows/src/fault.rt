@@ -5,13 +5,16 @@ ghost use Rattle.rows.specs.declared.fault.WorkFault.TheVariants.{NoMemory};
 
 use record_core::NoMemory;
 use std::alloc::{AllocError, AllocFailed};
+use thiserror::Error;
 
 /// Why work on records could not be done: by a batch, a shard, an event or an engine.
-#[derive(Clone, Copy, Debug, PartialEq, Eq)]
+#[derive(Clone, Copy, Debug, PartialEq, Eq, Error)]
 pub enum WorkFault {
     /// An allocator refused a growth.
+    #[error("out of memory")]
     NoMemory,
     /// A count would be above 9223372036854775807.
+    #[error("count too large")]
     Count,
 }
 

@@ -17,8 +17,7 @@
 //! | `work` | a worker's thread | works, also for sleeping workers, and sleeps while there is nothing to do | drained, stopped, a count, busy |
 //! | `Mark::observe` | an observer | one load: no lock, no memory, no waiting | the number of passed epochs, never below what its seat has read |
 //! | `Engine::look` | an observer | reads the mark by the seat, and what the board shows of an epoch | epochs below what the seat has read are shown as passed |
-//! | `end` | the sole owner of the engine | ends the run | its `Report` |
-//! | `finish` | the same | the same, with the seats of observers | its `Report`: no seat has read more epochs than have passed |
+//! | `finish` | the sole owner of the engine, with the seats of observers | ends the run | its `Report`: no seat has read more epochs than have passed |
 //!
 //! `report_of` gives the report of a board that was under no lock.
 //!
@@ -61,5 +60,5 @@ pub use events::{Gate, NoGate};
 pub use held::{Held, Naming};
 pub use mark::{Mark, Publisher, Seat};
 pub use plan::Feed;
-pub use report::{Report, end, finish, report_of};
+pub use report::{Report, finish, report_of};
 pub use working::work;

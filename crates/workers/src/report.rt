@@ -128,16 +128,7 @@ pub fn report_of<V: Views>(board: Board<V>) -> Report<V>
     Report { board }
 }
 
-/// Ends a run, once no thread shares the engine, whatever its observers have read.
-pub fn end<J: Naming, V: Views>(engine: Engine<J, V>) -> Report<V>
-    ensures { result.graph ≡ J.graph }
-{
-    Report {
-        board: engine.into_held().into_board(),
-    }
-}
-
-/// The same, with the observers' seats: none has read more epochs than have passed.
+/// Ends a run, once no thread shares the engine. None of the observers' seats has read more epochs than have passed.
 pub fn finish<J: Naming, V: Views>(engine: Engine<J, V>, seats: Vec<Seat>) -> Report<V>
     requires { All (λ s. s.table ≡ J.mark) seats.items }
     ensures graph { result.graph ≡ J.graph }

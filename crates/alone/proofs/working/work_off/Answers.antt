@@ -1,7 +1,8 @@
-use Rattle.std.proofs.Common.{◌∙◌, ap, length, subst, sym}
+use Rattle.std.proofs.Common.{◌≤◌, ◌∙◌, ap, arith, length, subst, sym}
 use Rattle.machine.specs.Step.{Step}
 use Rattle.board.specs.Shown.{Shown}
-use Rattle.alone.specs.Rests.{IsAtRest}
+use Rattle.alone.specs.Rests.{IsAtRest, IsFree}
+use Rattle.alone.proofs.Free.{committed_free, gathers_free, spoiled_free}
 use Rattle.alone.proofs.Less.{claims_less, claims_stopped, gathers_lead}
 use Rattle.alone.proofs.Resting.{at_rest, drained_passed_over, drained_rests, idle_passed_over, not_done}
 use Rattle.alone.proofs.working.work_off.Goals as goal
@@ -50,3 +51,32 @@ returns-in-Drained-clause-rests g c = λ done one.
     let claims = c.in-Drained.ensures.claims in
     let m = claims.2 in
     subst (λ (x : Shown). IsAtRest x) (sym m.3) (drained_rests claims.0 c.args.worker m.1 (sym (ap (λ (x : Shown). length x.sides) m.3) ∙ one) m.2)
+
+pub events-preserved : goal.events-preserved
+events-preserved g c =
+    let claims = c.in-Work.ensures.claims in
+    let ends = c.in-Ok.ensures.ends in
+    let p = c.in-Work.work.0 in (
+      c.in-Ok.ensures.graph ∙ c.in-Work.ensures.graph ∙ c.events.invariant.0,
+      (let a = c.events.invariant.1 in let b = c.in-Work.ensures.passed in let d = c.in-Ok.ensures.passed in omega (arith, a, b, d)),
+      λ free. committed_free c.events.board.shown claims.0 c.claim.new.board.shown c.process.new.board.shown c.args.worker p ends.1.0 c.law_run.ensures claims.1 claims.2.0 ends.1.1 (c.events.invariant.2 free),
+    )
+
+pub returns-in-Err-clause-free : goal.returns-in-Err-clause-free
+returns-in-Err-clause-free g c = λ free. spoiled_free c.in-Err.fault c.from.result c.process.new.board.shown c.args.worker c.from.ensures
+
+pub returns-in-Idle-clause-free : goal.returns-in-Idle-clause-free
+returns-in-Idle-clause-free g c = λ free.
+    let m = c.in-Idle.ensures.claims.2 in
+    subst (λ (x : Shown). IsFree x c.args.worker) (sym m.5) (m.1, m.2)
+
+pub returns-in-Drained-clause-free : goal.returns-in-Drained-clause-free
+returns-in-Drained-clause-free g c = λ free.
+    let m = c.in-Drained.ensures.claims.2 in
+    subst (λ (x : Shown). IsFree x c.args.worker) (sym m.3) (m.1, (m.2.idle c.args.worker m.1).place)
+
+pub returns-in-Busy-clause-free : goal.returns-in-Busy-clause-free
+returns-in-Busy-clause-free g c = λ free.
+    let claims = c.in-Busy.ensures.claims in
+    let there = gathers_free c.args.worker c.events.board.shown claims.0 c.law_run.ensures claims.1 (c.events.invariant.2 free) in
+    claims.2.1 there.0 there.1

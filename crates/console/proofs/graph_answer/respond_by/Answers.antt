@@ -13,7 +13,7 @@ respond_on-requires-send-V g c κs within = search (sendable, crosses, direct_se
 
 pub returns-in-Ok-clause-text : goal.returns-in-Ok-clause-text
 returns-in-Ok-clause-text g c =
-    subst (λ (graph : GraphValue). RespondsBy graph c.args.epochs.now (g.W.Write.contents (inner_of c.args.writer.now)) (g.W.Write.contents (inner_of c.respond_on.new.writer)) c.respond_on.result)
+    subst (λ (graph : GraphValue). RespondsBy graph c.args.epochs.now (g.W.Write.contents (inner_of c.args.streams.now.out)) (g.W.Write.contents (inner_of c.respond_on.new.streams.out)) c.respond_on.result)
     c.in-Ok.ensures.opening.graph c.respond_on.ensures.text
 
 -- several workers
@@ -23,5 +23,5 @@ respond_on-requires-in-Ok-with_local_views-send-V g c κs within = search (senda
 pub returns-in-Ok-with_local_views-clause-text : goal.returns-in-Ok-with_local_views-clause-text
 returns-in-Ok-with_local_views-clause-text g c =
     let answered = c.respond_on-in-Ok-with_local_views in
-    subst (λ (graph : GraphValue). RespondsBy graph c.args.epochs.now (g.W.Write.contents (inner_of c.args.writer.now)) (g.W.Write.contents (inner_of answered.new.writer)) answered.result)
+    subst (λ (graph : GraphValue). RespondsBy graph c.args.epochs.now (g.W.Write.contents (inner_of c.args.streams.now.out)) (g.W.Write.contents (inner_of answered.new.streams.out)) answered.result)
     c.in-Ok-with_local_views.ensures.opening.graph answered.ensures.text

@@ -16,10 +16,8 @@ on_err (Err e) p = p
 
 pub returns-clause-told : goal.returns-clause-told
 returns-clause-told g c = IfOk-weaker c.run-result.result _ _ (λ r h. (
-  h.0,
   c.run-result.new.watch.told,
-  h.1,
-  h.2,
+  h,
   whole_told g.W.Write.contents c.args.watcher.now c.begin-watch.result.watcher c.run-result.new.watch.watcher c.end.result c.fill.new.place c.begin-watch.result.told c.run-result.new.watch.told
       c.begin-watch.ensures.taken.0 c.begin-watch.ensures.taken.1 c.run-result.ensures.tells c.end.ensures c.fill.ensures,
 )) c.run-result.ensures.last

@@ -1,6 +1,7 @@
-use Rattle.std.proofs.Common.{◌≡◌, ◌∙◌, refl, sym, ap, length, arith}
+use Rattle.std.proofs.Common.{◌≡◌, ◌∙◌, ℕ, max, refl, sym, ap, subst, length, arith}
 use Rattle.std.proofs.lemmas.List.{length-map}
 use Rattle.graph.specs.Shown.{shown_inputs}
+use Rattle.board.specs.Promises.{CountsPassed}
 use Rattle.record_core.specs.Inputs.{input_of}
 use Rattle.execution.proofs.Tellings.{tells_then}
 use Rattle.execution.proofs.WorkedOff.{is_worked_off}
@@ -13,7 +14,10 @@ returns-then-is_fed-clause-worked g c =
     c.in_ok-report.ensures.graph c.in_ok-report.ensures.drained (c.if-is_fed.ensures refl) count c.count.ensures
 
 pub returns-then-is_fed-clause-last : goal.returns-then-is_fed-clause-last
-returns-then-is_fed-clause-last g c = (c.passed-passed.result, c.passed-passed.ensures, omega (arith, c.tell_rise.ensures.told))
+returns-then-is_fed-clause-last g c =
+    let most = c.in_ok-report.ensures.most c.passed-passed.result c.passed-passed.ensures in
+    let last : c.tell_rise.new.self.told ≡ c.passed-passed.result = omega (arith, c.tell_rise.ensures.told, most) in
+    subst (λ (n : ℕ). CountsPassed c.in_ok-report.report n) (sym last) c.passed-passed.ensures
 
 pub returns-then-is_fed-clause-tells : goal.returns-then-is_fed-clause-tells
 returns-then-is_fed-clause-tells g c =

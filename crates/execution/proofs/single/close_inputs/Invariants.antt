@@ -1,5 +1,5 @@
-use Rattle.std.proofs.Common.{◌≡◌}
+use Rattle.std.proofs.Common.{◌≡◌, ◌≤◌}
 use Rattle.execution.proofs.single.close_inputs.Given as goal
 
 abbrev pub invariant-loop-input : goal.invariant-loop-input
-invariant-loop-input g l = l.board.shown.graph ≡ l.fn.board.shown.graph
+invariant-loop-input g l = (l.board.shown.graph ≡ l.fn.board.shown.graph) × (l.fn.board.passed ≤ l.board.passed)

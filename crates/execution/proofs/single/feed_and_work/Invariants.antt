@@ -1,6 +1,6 @@
-use Rattle.std.proofs.Common.{◌≡◌}
+use Rattle.std.proofs.Common.{◌≡◌, ◌≤◌}
 use Rattle.execution.specs.Told.{Tells}
 use Rattle.execution.proofs.single.feed_and_work.Given as goal
 
 abbrev pub invariant-loop-epoch : goal.invariant-loop-epoch
-invariant-loop-epoch g l = (l.board.shown.graph ≡ l.fn.board.shown.graph) × Tells g.W.Write.contents l.fn.watch.watcher l.watch.watcher l.fn.watch.told l.watch.told
+invariant-loop-epoch g l = (l.board.shown.graph ≡ l.fn.board.shown.graph) × (l.watch.told ≤ l.board.passed) × Tells g.W.Write.contents l.fn.watch.watcher l.watch.watcher l.fn.watch.told l.watch.told

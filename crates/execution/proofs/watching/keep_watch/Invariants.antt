@@ -1,5 +1,11 @@
+use Rattle.std.proofs.Common.{◌≡◌, ◌≤◌}
 use Rattle.execution.specs.Told.{Tells}
 use Rattle.execution.proofs.watching.keep_watch.Given as goal
 
 abbrev pub invariant-loop-turn : goal.invariant-loop-turn
-invariant-loop-turn g l = Tells g.W.Write.contents l.fn.watch.watcher l.at_work.watcher l.fn.watch.told l.at_work.told
+invariant-loop-turn g l =
+    record {
+      of : l.seat.table ≡ l.mark;
+      read : l.watch.told ≤ l.seat.number;
+      tells : Tells g.W.Write.contents l.fn.observer.watch.watcher l.watch.watcher l.fn.observer.watch.told l.watch.told;
+    }

@@ -1,20 +1,32 @@
-use Rattle.std.proofs.Common.{◌∙◌, ap, arith}
+use Rattle.std.proofs.Common.{◌<◌, ◌∙◌, ap, arith, length}
 use Rattle.semantics.specs.Graph.{input_count}
 use Rattle.graph.specs.Shown.{GraphValue, shown_graph}
-use Rattle.follow.proofs.Moved.{closes_all, closes_more, closes_not}
+use Rattle.follow.proofs.Moved.{closes_all, closes_more, closes_not, never, no_refusal}
 use Rattle.follow.proofs.board_calls.close_inputs.Goals as goal
 
 pub loop-input-init : goal.loop-input-init
-loop-input-init g c = record {
+loop-input-init g c = let r = c.law_run.ensures in record {
   end_is = c.input_count-input-end.ensures.value ∙ ap (λ (x : GraphValue). input_count (shown_graph x)) c.graph.ensures;
-  closes = λ live. closes_not c.args.board.now.shown live;
+  within = omega arith;
+  closes = closes_not c.args.board.now.shown (r.world, r.shows) c.requires.ready;
 }
 
 pub loop-input-preserved : goal.loop-input-preserved
 loop-input-preserved g c = record {
   end_is = c.loop-input.invariant.end_is;
-  closes = λ live. closes_more c.args.board.now.shown c.loop-input.board.shown c.close.new.self.shown c.loop-input.input (c.loop-input.invariant.closes live) c.in_ok-close.ensures.step;
+  within = omega (arith, c.loop-input-test.true);
+  closes = closes_more c.args.board.now.shown c.loop-input.board.shown c.close.new.self.shown c.loop-input.input c.loop-input.invariant.closes c.in-Ok.ensures.step;
 }
 
+pub unreachable-requires : goal.unreachable-requires
+unreachable-requires g c =
+    let t = c.loop-input.board.shown in
+    let closes = c.loop-input.invariant.closes in
+    let there : c.loop-input.input < length t.inputs =
+    let a = c.law_inputs.ensures in
+    let b = ap (λ (x : GraphValue). input_count (shown_graph x)) closes.grows.graph in
+    omega (arith, a, b, c.loop-input.invariant.end_is, c.loop-input-test.true) in
+    never _ c.close.result c.in-Err.field-0 (no_refusal t c.loop-input.input closes.free.runs there (closes.others c.loop-input.input (omega arith))) c.in-Err.is c.close.ensures.answers
+
 pub returns : goal.returns
-returns g c = λ live. closes_all c.args.board.now.shown c.loop-input.board.shown c.loop-input.input _ (omega (arith, c.loop-input.invariant.end_is, c.loop-input-test.false)) (c.loop-input.invariant.closes live)
+returns g c = closes_all c.args.board.now.shown c.loop-input.board.shown c.loop-input.input _ (omega (arith, c.loop-input.invariant.within, c.loop-input.invariant.end_is, c.loop-input-test.false)) c.loop-input.invariant.closes

@@ -1,11 +1,12 @@
-use Rattle.std.proofs.Common.{◌≡◌}
+use Rattle.std.proofs.Common.{◌≡◌, ◌≤◌}
 use Rattle.semantics.specs.Graph.{input_count}
 use Rattle.graph.specs.Shown.{shown_graph}
-use Rattle.follow.specs.Scenes.{Closes, IsLive}
+use Rattle.follow.specs.Scenes.{Closes}
 use Rattle.follow.proofs.board_calls.close_inputs.Given as goal
 
 abbrev pub invariant-loop-input : goal.invariant-loop-input
 invariant-loop-input g l = record {
   end_is : l.input-end ≡ input_count (shown_graph l.fn.board.shown.graph);
-  closes : IsLive l.fn.board.shown → Closes l.fn.board.shown l.board.shown l.input;
+  within : l.input ≤ l.input-end;
+  closes : Closes l.fn.board.shown l.board.shown l.input;
 }

@@ -1,8 +1,29 @@
+use Rattle.std.proofs.Common.{ap, arith}
+use Rattle.semantics.specs.Graph.{input_count}
+use Rattle.graph.specs.Shown.{GraphValue, shown_graph}
 use Rattle.follow.proofs.Moved.{seals_more, seals_not}
 use Rattle.follow.proofs.board_calls.seal_inputs.Goals as goal
 
 pub loop-input-init : goal.loop-input-init
-loop-input-init g c = λ live. seals_not c.args.board.now.shown live
+loop-input-init g c = let r = c.law_run.ensures in record { seals = seals_not c.args.board.now.shown (r.world, r.shows) c.requires.ready }
+
+pub seal-requires-clause-ready : goal.seal-requires-clause-ready
+seal-requires-clause-ready g c = c.loop-input.invariant.seals.ready
+
+pub seal-requires-clause-there : goal.seal-requires-clause-there
+seal-requires-clause-there g c =
+    let a = c.law_inputs.ensures in
+    let b = c.law_inputs-in-loop-input.ensures in
+    let e = ap (λ (x : GraphValue). input_count (shown_graph x)) c.loop-input.invariant.seals.grows.graph in
+    omega (arith, a, b, e, c.loop-input-test.true, c.requires.there)
+
+pub seal-requires-clause-below : goal.seal-requires-clause-below
+seal-requires-clause-below g c =
+    let same = c.loop-input.invariant.seals.others c.loop-input.input (omega arith) in
+    let low = c.requires.below c.loop-input.input (omega (arith, c.loop-input-test.true)) in
+    omega (arith, same, low)
 
 pub loop-input-preserved : goal.loop-input-preserved
-loop-input-preserved g c = λ live. let w = c.loop-input.invariant live in seals_more c.args.board.now.shown c.loop-input.board.shown c.seal.new.board.shown c.loop-input.input w (c.in_ok-seal.ensures w.grows.live)
+loop-input-preserved g c = record {
+  seals = seals_more c.args.board.now.shown c.loop-input.board.shown c.seal.new.board.shown c.loop-input.input c.loop-input.invariant.seals c.in_ok-seal.ensures;
+}

@@ -6,8 +6,14 @@ use Rattle.collector.specs.WrittenBytes.{AppendsFront}
 use Rattle.follow.specs.Follows.{Follows}
 use Rattle.collector.proofs.LinesRead.{no_rest}
 use Rattle.follow.proofs.Lines.{filled_rest}
-use Rattle.follow.proofs.Positions.{all_reported, halted, last_unwritten, unended_last}
+use Rattle.follow.proofs.Positions.{all_reported, halted, last_unwritten, lets_answer_last, unended_last}
 use Rattle.follow.proofs.following.follow_end.Goals as goal
+
+pub answer_last-requires-clause-may : goal.answer_last-requires-clause-may
+answer_last-requires-clause-may g c κs within = (lets_answer_last c.requires.known.0 c.args.board.now.shown c.args.position.now _ c.requires.known.1).0
+
+pub answer_last-requires-clause-few : goal.answer_last-requires-clause-few
+answer_last-requires-clause-few g c κs within = (lets_answer_last c.requires.known.0 c.args.board.now.shown c.args.position.now _ c.requires.known.1).1
 
 pub returns-then-not-is_empty-clause-follows : goal.returns-then-not-is_empty-clause-follows
 returns-then-not-is_empty-clause-follows g c = λ g' bytes ended start end st.

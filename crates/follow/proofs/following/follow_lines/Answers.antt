@@ -1,12 +1,25 @@
-use Rattle.std.proofs.Common.{List, ℕ, subst, sym}
+use Rattle.std.proofs.Common.{List, ℕ, map, subst, sym}
+use Rattle.record_core.specs.Inputs.{input_of}
 use Rattle.std.specs.Prelude.{Err}
 use Rattle.std.specs.Io.KnownBytes.{Appends}
 use Rattle.collector.specs.Watching.{inner_of}
 use Rattle.collector.specs.WrittenBytes.{AppendsFront}
 use Rattle.follow.specs.Follows.{Follows}
 use Rattle.follow.specs.Steps.{TakesLines}
-use Rattle.follow.proofs.Positions.{answer_written, answered, halted, unwritten}
+use Rattle.follow.proofs.Positions.{answer_written, answered, halted, lets_answer, text_taken, unwritten}
 use Rattle.follow.proofs.following.follow_lines.Goals as goal
+
+pub take_text-requires-clause-same : goal.take_text-requires-clause-same
+take_text-requires-clause-same g c = let (h, same, w) = c.requires.known in (text_taken (map input_of c.args.inputs.now) h c.args.board.now.shown c.args.position.now _ same w).1
+
+pub take_text-requires-clause-taken : goal.take_text-requires-clause-taken
+take_text-requires-clause-taken g c = let (h, same, w) = c.requires.known in (text_taken (map input_of c.args.inputs.now) h c.args.board.now.shown c.args.position.now _ same w).0
+
+pub answer_open-requires-clause-may : goal.answer_open-requires-clause-may
+answer_open-requires-clause-may g c κs within = let (h, same, w) = c.requires.known in (lets_answer (map input_of c.args.inputs.now) h c.args.board.now.shown c.take_text.new.board.shown c.args.position.now c.take_text.new.intake c.take_text.new.pending.items c.in-Ok.taken _ same w c.in-Ok.ensures.lines).0
+
+pub answer_open-requires-clause-few : goal.answer_open-requires-clause-few
+answer_open-requires-clause-few g c κs within = let (h, same, w) = c.requires.known in (lets_answer (map input_of c.args.inputs.now) h c.args.board.now.shown c.take_text.new.board.shown c.args.position.now c.take_text.new.intake c.take_text.new.pending.items c.in-Ok.taken _ same w c.in-Ok.ensures.lines).1
 
 pub returns-in-Err-clause-follows : goal.returns-in-Err-clause-follows
 returns-in-Err-clause-follows g c = λ g' bytes ended start same w.

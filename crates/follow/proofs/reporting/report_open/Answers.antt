@@ -7,11 +7,11 @@ use Rattle.graph.specs.declared.graph.GraphOutput.{GraphOutput}
 use Rattle.collector.specs.OutputText.{label_of}
 use Rattle.follow.specs.Steps.{ReportsOutput}
 use Rattle.follow.proofs.Calls.{label_at}
-use Rattle.follow.proofs.Reported.{more_outputs, nothing_reported}
+use Rattle.follow.proofs.Reported.{more_outputs, nothing_reported, within_output}
 use Rattle.follow.proofs.reporting.report_open.Goals as goal
 
 pub loop-output-init : goal.loop-output-init
-loop-output-init g c = record { end_is = c.output_count-output-end.ensures; reports = record { done = refl; more = λ records entries text h. nothing_reported c.args.board.now.shown c.args.base c.args.reporting.now records entries text c.args.out.now.items h } }
+loop-output-init g c = record { end_is = c.output_count-output-end.ensures; within = c.requires.within; reports = record { done = refl; room = refl; more = λ records entries text h. nothing_reported c.args.board.now.shown c.args.base c.args.reporting.now records entries text c.args.out.now.items h } }
 
 pub bounds-outputs-output : goal.bounds-outputs-output
 bounds-outputs-output g c =
@@ -20,8 +20,17 @@ bounds-outputs-output g c =
     let graph = ap (λ (x : GraphValue). length (output_numbers (shown_graph x))) c.graph.ensures in
     omega (arith, same, numbers, graph, c.loop-output.invariant.end_is, c.loop-output-test.true)
 
-pub report_output-requires : goal.report_output-requires
-report_output-requires g c = omega (arith, c.loop-output.invariant.end_is, c.loop-output-test.true)
+pub report_output-requires-clause-there : goal.report_output-requires-clause-there
+report_output-requires-clause-there g c = omega (arith, c.loop-output.invariant.end_is, c.loop-output-test.true)
+
+pub report_output-requires-clause-room : goal.report_output-requires-clause-room
+report_output-requires-clause-room g c = c.loop-output.invariant.reports.room ∙ c.requires.room
+
+pub report_output-requires-clause-within : goal.report_output-requires-clause-within
+report_output-requires-clause-within g c = c.loop-output.invariant.within c.loop-output.output
+
+pub report_output-requires-clause-few : goal.report_output-requires-clause-few
+report_output-requires-clause-few g c = let d = c.loop-output.invariant.reports.done in omega (arith, d, c.requires.few)
 
 pub loop-output-preserved : goal.loop-output-preserved
 loop-output-preserved g c =
@@ -37,8 +46,10 @@ loop-output-preserved g c =
     let before = c.loop-output.invariant.reports in
     record {
       end_is = c.loop-output.invariant.end_is;
+      within = within_output c.args.board.now.shown c.args.base c.loop-output.reporting c.report_output.new.reporting c.loop-output.output _ c.loop-output.out.items c.report_output.new.out.items one c.loop-output.invariant.within;
       reports = record {
         done = one.done ∙ before.done;
+        room = one.room ∙ before.room;
         more = more_outputs c.args.board.now.shown c.args.base c.args.reporting.now c.loop-output.reporting c.report_output.new.reporting c.loop-output.output (label_of c.are_plain-plain.result (name_of_output c.index-outputs-output.result)) c.args.out.now.items c.loop-output.out.items c.report_output.new.out.items before.done before.more one there label;
       };
     }

@@ -7,33 +7,35 @@ use Rattle.follow.proofs.Working.{advances_less, advances_move, idle_off, moves_
 use Rattle.follow.proofs.rounds.work_off.Goals as goal
 
 pub rounds-init : goal.rounds-init
-rounds-init g c = λ live. works_not c.args.board.now.shown live
+rounds-init g c = record { free = c.requires; works = λ live. works_not c.args.board.now.shown live }
 
 pub rounds-preserved : goal.rounds-preserved
-rounds-preserved g c = λ live.
+rounds-preserved g c =
     let s = c.rounds.board.shown in
     let t = c.work_once.new.board.shown in
-    let before = c.rounds.invariant live in
-    let steps : Advances s t = subst (λ (r : Round). HasWorked r (length s.sides) s t) c.in-Sent.is c.in_ok-work_once.ensures in
-    works_on c.args.board.now.shown s t before (moves_work s t (advances_move s t steps) before.grows.live)
+    let steps : Advances s t = subst (λ (r : Round). HasWorked r (length s.sides) s t) c.in-Sent.is c.in_ok-work_once.ensures.worked in
+    record {
+      free = c.in_ok-work_once.ensures.free;
+      works = λ live. let before = c.rounds.invariant.works live in works_on c.args.board.now.shown s t before (moves_work s t (advances_move s t steps) before.grows.live);
+    }
 
 pub rounds-smaller : goal.rounds-smaller
 rounds-smaller g c =
     let s = c.rounds.board.shown in
     let t = c.work_once.new.board.shown in
-    let steps : Advances s t = subst (λ (r : Round). HasWorked r (length s.sides) s t) c.in-Sent.is c.in_ok-work_once.ensures in
+    let steps : Advances s t = subst (λ (r : Round). HasWorked r (length s.sides) s t) c.in-Sent.is c.in_ok-work_once.ensures.worked in
     advances_less s t c.law_run.ensures steps
 
 pub returns-in-Idle-clause-works : goal.returns-in-Idle-clause-works
 returns-in-Idle-clause-works g c = λ live.
     let s = c.rounds.board.shown in
     let t = c.work_once.new.board.shown in
-    let before = c.rounds.invariant live in
-    let none : HasWorked round.Idle (length s.sides) s t = subst (λ (r : Round). HasWorked r (length s.sides) s t) c.in-Idle.is c.in_ok-work_once.ensures in
+    let before = c.rounds.invariant.works live in
+    let none : HasWorked round.Idle (length s.sides) s t = subst (λ (r : Round). HasWorked r (length s.sides) s t) c.in-Idle.is c.in_ok-work_once.ensures.worked in
     works_on c.args.board.now.shown s t before (moves_work s t (stays s t none.0) before.grows.live)
 
 pub returns-in-Idle-clause-rests : goal.returns-in-Idle-clause-rests
 returns-in-Idle-clause-rests g c =
     let s = c.rounds.board.shown in
     let t = c.work_once.new.board.shown in
-    idle_off s t c.law_run.ensures (subst (λ (r : Round). HasWorked r (length s.sides) s t) c.in-Idle.is c.in_ok-work_once.ensures)
+    idle_off s t c.law_run.ensures c.in_ok-work_once.ensures.free (subst (λ (r : Round). HasWorked r (length s.sides) s t) c.in-Idle.is c.in_ok-work_once.ensures.worked)

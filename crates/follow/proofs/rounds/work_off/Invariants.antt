@@ -1,9 +1,12 @@
 use Rattle.alone.proofs.Less.{left}
-use Rattle.follow.specs.Scenes.{IsLive, Works}
+use Rattle.follow.specs.Scenes.{IsFree, IsLive, Works}
 use Rattle.follow.proofs.rounds.work_off.Given as goal
 
 abbrev pub invariant-rounds : goal.invariant-rounds
-invariant-rounds g l = IsLive l.fn.board.shown → Works l.fn.board.shown l.board.shown
+invariant-rounds g l = record {
+  free : IsFree l.board.shown;
+  works : IsLive l.fn.board.shown → Works l.fn.board.shown l.board.shown;
+}
 
 abbrev pub decreases-rounds : goal.decreases-rounds
 decreases-rounds g l = left l.board.shown

@@ -1,5 +1,5 @@
 use Rattle.std.proofs.Common.{rules, ◌<◌, length, arith}
-use Rattle.expr_tree.proofs.Fronts.{plain-front}
+use Rattle.normalise.proofs.Fronts.{plain-front}
 use Rattle.normalise.proofs.ColumnMarks.{marks_both, repeats_first, repeats_second}
 use Rattle.normalise.proofs.columns.+mark_all.Goals as goal
 

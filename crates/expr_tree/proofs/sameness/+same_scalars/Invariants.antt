@@ -1,5 +1,0 @@
-use Rattle.std.proofs.Common.{length}
-use Rattle.expr_tree.proofs.sameness.+same_scalars.Given as goal
-
-abbrev pub decreases-same_scalars : goal.decreases-same_scalars
-decreases-same_scalars g l = length l.left.now
