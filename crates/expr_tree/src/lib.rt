@@ -19,12 +19,12 @@ mod sameness;
 mod scalar;
 mod size;
 
-pub use condition::{Comparison, Cond, Connective};
+pub use condition::{Comparison, Cond, CondParts, Connective};
 pub use copy::{copy_cond, copy_rel, copy_scalar, copy_scalars, copy_values};
 pub use depth::{cond_depth, rel_depth, scalar_depth};
 pub use evaluation::{eval_scalar, holds, negated, operate};
 pub use program::{Input, Let, Output, Program};
-pub use relation::{Agg, Column, LoopForm, Pair, Rel, SetOperator};
+pub use relation::{Agg, Column, LoopForm, Pair, Rel, RelParts, SetOperator};
 pub use sameness::{
     same, same_aggs, same_columns, same_cond, same_pairs, same_rel, same_scalar, same_scalars,
 };

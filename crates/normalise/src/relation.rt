@@ -12,7 +12,7 @@ ghost use Rattle.normalise.specs.Rewritten.{IsRewritten, Reduced};
 use crate::columns::use_once;
 use crate::replacement::replace_all;
 use crate::scalars::{fold_all, folded_cond};
-use expr_tree::{Cond, Connective, LoopForm, Rel, Scalar, SetOperator};
+use expr_tree::{Cond, Connective, LoopForm, Rel, RelParts, Scalar, SetOperator};
 use record_core::{Name, NoMemory, Span};
 use std::alloc::Allocator;
 
@@ -25,8 +25,8 @@ fn select_of<A: Allocator>(
     ensures { Reduced (plain_rel (rel_tree of.value)) → AllByRecursion NormalScalar (plain_scalars scalars.items) →
         IsRewritten (plain_rel (rel_tree result)) (query.Rel.select (plain_rel (rel_tree of.value)) (plain_scalars scalars.items)) }
 {
-    match of.take() {
-        Rel::Select(inner_span, inner, mut named) => {
+    match of.take().into_parts() {
+        RelParts::Select(inner_span, inner, mut named) => {
             if use_once(&scalars) {
                 replace_all(&mut scalars, &mut named);
                 select_of(span, inner, scalars)
@@ -36,7 +36,7 @@ fn select_of<A: Allocator>(
             }
         }
         other => {
-            *of = other;
+            *of = other.whole();
             Rel::Select(span, of, scalars)
         }
     }
@@ -54,13 +54,13 @@ fn where_of<A: Allocator + Copy>(
     ensures { IfOk result (λ made. IsRewritten (plain_rel (rel_tree made))
         (query.Rel.filter (plain_rel (rel_tree of.value)) (plain_cond (cond_tree condition)))) }
 {
-    match of.take() {
-        Rel::Where(_, inner, first) => {
+    match of.take().into_parts() {
+        RelParts::Where(_, inner, first) => {
             let both = Cond::logical(alloc, span, Connective::And, first, condition)?;
             Ok(Rel::Where(span, inner, both))
         }
         other => {
-            *of = other;
+            *of = other.whole();
             Ok(Rel::Where(span, of, condition))
         }
     }
@@ -98,34 +98,34 @@ fn distinct_of<A: Allocator>(span: Span, of: Box<Rel<A>, A>) -> Rel<A>
 pub(crate) fn rewritten<A: Allocator + Copy>(alloc: A, relation: Rel<A>) -> Result<Rel<A>, NoMemory>
     ensures { IfOk result (λ made. IsRewritten (plain_rel (rel_tree made)) (plain_rel (rel_tree relation))) }
 {
-    match relation {
-        Rel::Named(span, name) => Ok(Rel::Named(span, name)),
-        Rel::Select(span, of, mut scalars) => {
+    match relation.into_parts() {
+        RelParts::Named(span, name) => Ok(Rel::Named(span, name)),
+        RelParts::Select(span, of, mut scalars) => {
             let of = rewritten_in_box(alloc, of)?;
             fold_all(&mut scalars);
             Ok(select_of(span, of, scalars))
         }
-        Rel::Where(span, of, condition) => {
+        RelParts::Where(span, of, condition) => {
             let of = rewritten_in_box(alloc, of)?;
             let condition = folded_cond(condition);
             where_of(alloc, span, of, condition)
         }
-        Rel::SetOperation(span, operator, left, right) => {
+        RelParts::SetOperation(span, operator, left, right) => {
             let left = rewritten_in_box(alloc, left)?;
             let right = rewritten_in_box(alloc, right)?;
             Ok(Rel::SetOperation(span, operator, left, right))
         }
-        Rel::Join(span, left, right, pairs) => {
+        RelParts::Join(span, left, right, pairs) => {
             let left = rewritten_in_box(alloc, left)?;
             let right = rewritten_in_box(alloc, right)?;
             Ok(Rel::Join(span, left, right, pairs))
         }
-        Rel::Group(span, of, keys, aggregates) => {
+        RelParts::Group(span, of, keys, aggregates) => {
             let of = rewritten_in_box(alloc, of)?;
             Ok(Rel::Group(span, of, keys, aggregates))
         }
-        Rel::Distinct(span, of) => Ok(distinct_of(span, rewritten_in_box(alloc, of)?)),
-        Rel::Loop {
+        RelParts::Distinct(span, of) => Ok(distinct_of(span, rewritten_in_box(alloc, of)?)),
+        RelParts::Loop {
             span,
             form,
             turns_span,

@@ -9,7 +9,7 @@ ghost use Rattle.expr_tree.specs.PlainLists.{plain_scalars};
 ghost use Rattle.expr_tree.specs.Views.{cond_tree, scalar_tree};
 ghost use Rattle.normalise.specs.Rewritten.{IsFolded, IsFoldedCond};
 
-use expr_tree::{Cond, Operator, Scalar, ScalarParts, negated, operate};
+use expr_tree::{Cond, CondParts, Operator, Scalar, ScalarParts, negated, operate};
 use record_core::Span;
 use std::alloc::Allocator;
 
@@ -96,16 +96,16 @@ pub(crate) fn fold_all<A: Allocator>(scalars: &mut Vec<Scalar<A>, A>)
 pub(crate) fn folded_cond<A: Allocator>(condition: Cond<A>) -> Cond<A>
     ensures { IsFoldedCond (plain_cond (cond_tree result)) (plain_cond (cond_tree condition)) }
 {
-    match condition {
-        Cond::Compare(span, comparison, left, right) => {
+    match condition.into_parts() {
+        CondParts::Compare(span, comparison, left, right) => {
             Cond::Compare(span, comparison, folded(left), folded(right))
         }
-        Cond::Logical(span, connective, left, right) => {
+        CondParts::Logical(span, connective, left, right) => {
             let left = folded_cond_in_box(left);
             let right = folded_cond_in_box(right);
             Cond::Logical(span, connective, left, right)
         }
-        Cond::Not(span, inner) => {
+        CondParts::Not(span, inner) => {
             let inner = folded_cond_in_box(inner);
             Cond::Not(span, inner)
         }
