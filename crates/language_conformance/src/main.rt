@@ -5,6 +5,7 @@
 #![tactic(auto)]
 
 mod canonical;
+mod deep;
 mod graphs;
 mod nodes;
 mod normal;

@@ -1,7 +1,7 @@
 //! The questions that blocks ask of their lines.
 
 use crate::texts::{text_of, two_texts, word};
-use crate::{canonical, graphs, nodes, normal, queries, tokens, trees, values};
+use crate::{canonical, deep, graphs, nodes, normal, queries, tokens, trees, values};
 use pages::Subject;
 use std::alloc::{AllocError, Global};
 
@@ -110,6 +110,7 @@ pub enum Other {
     Negation,
     Comparison,
     Taken,
+    Deep,
 }
 
 /// Whether two texts have the same tree, or the same graph.
@@ -146,6 +147,7 @@ impl Subject for Other {
             Other::Negation => values::negation(alloc, call),
             Other::Comparison => values::comparison(alloc, call),
             Other::Taken => values::taken(alloc, call),
+            Other::Deep => deep::let_go(alloc, call),
         }
     }
 }
@@ -162,6 +164,7 @@ pub fn other_of(first: &str) -> Option<Other> {
         "negation" => Some(Other::Negation),
         "comparison" => Some(Other::Comparison),
         "taken" => Some(Other::Taken),
+        "deep trees" => Some(Other::Deep),
         _ => None,
     }
 }
