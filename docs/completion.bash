@@ -16,12 +16,12 @@ _loom() {
         words=$commands
     elif [[ $word == -* ]]; then
         case ${COMP_WORDS[1]} in
-        run) words="--workers --watch --stats --explain --help" ;;
-        follow) words="--workers --explain --help" ;;
-        replay) words="--workers --views --explain --help" ;;
-        check) words="--heap --explain --help" ;;
-        graph) words="--dot --heap --explain --help" ;;
-        format) words="--explain --help" ;;
+        run) words="--workers --watch --stats --dot --explain --inline --help" ;;
+        follow) words="--workers --explain --inline --help" ;;
+        replay) words="--workers --views --explain --inline --help" ;;
+        check) words="--heap --explain --inline --help" ;;
+        graph) words="--dot --heap --explain --inline --help" ;;
+        format) words="--explain --inline --help" ;;
         esac
     else
         compopt -o filenames 2>/dev/null

@@ -7,6 +7,8 @@ use Rattle.command_line.specs.Numbers.{Spells}
 use Rattle.command_line.specs.declared.heap_size.HeapSize.{HeapSize}
 use Rattle.command_line.specs.declared.line_options.GraphForm.{GraphForm}
 use Rattle.command_line.specs.declared.line_options.GraphForm.TheVariants.{Lines, Dot}
+use Rattle.command_line.specs.declared.query.Query.{Query}
+use Rattle.command_line.specs.declared.query.Query.TheVariants.{File, Inline}
 use Rattle.command_line.specs.declared.line_options.Options.{Options}
 use Rattle.command_line.specs.declared.line_options.Options.TheVariants.{Run, Follow, Check, Graph, Format, Replay, Explain}
 
@@ -22,6 +24,10 @@ optional_rule id = new_rule id
 abbrev pub flag_rule : Text → Rule
 flag_rule id = record (new_rule id) { long = Some id; action = Some SetTrue }
 
+-- `-e`, or `--inline`
+abbrev pub inline_rule : Rule
+inline_rule = record (flag_rule (codes "inline")) { short = Some 101 }
+
 -- an option, `--` and its name, and then a number in that range
 abbrev pub range_rule : Text → (least most : ℕ) → Rule
 range_rule id least most = record (new_rule id) { long = Some id; value_names = 1; parser = Some (Unsigned least most) }
@@ -33,49 +39,40 @@ workers_rule = range_rule (codes "workers") 1 64
 abbrev pub heap_rule : Rule
 heap_rule = range_rule (codes "heap") 64 16777216
 
--- `check QUERY` or `check QUERY INPUT`, with or without `--heap BYTES` and `--explain`
+-- a command with `--explain`, `-e` and a query
+abbrev pub queried : App → App
+queried a = with_rule (with_rule (with_rule a (flag_rule (codes "explain"))) inline_rule) (word_rule (codes "QUERY"))
+
+-- `check QUERY` or `check QUERY INPUT`, with or without `--heap BYTES`
 abbrev pub check_app : App
-check_app =
-    with_rule
-    (with_rule (with_rule (with_rule (new_app (codes "check")) heap_rule) (flag_rule (codes "explain"))) (word_rule (codes "QUERY")))
-    (optional_rule (codes "INPUT"))
+check_app = with_rule (queried (with_rule (new_app (codes "check")) heap_rule)) (optional_rule (codes "INPUT"))
 
--- `graph QUERY`, with or without `--dot`, `--heap BYTES` and `--explain`
+-- `graph QUERY`, with or without `--dot` and `--heap BYTES`
 abbrev pub graph_app : App
-graph_app =
-    with_rule (with_rule (with_rule (with_rule (new_app (codes "graph")) (flag_rule (codes "dot"))) heap_rule) (flag_rule (codes "explain")))
-    (word_rule (codes "QUERY"))
+graph_app = queried (with_rule (with_rule (new_app (codes "graph")) (flag_rule (codes "dot"))) heap_rule)
 
--- `format QUERY`, with or without `--explain`
+-- `format QUERY`
 abbrev pub format_app : App
-format_app = with_rule (with_rule (new_app (codes "format")) (flag_rule (codes "explain"))) (word_rule (codes "QUERY"))
+format_app = queried (new_app (codes "format"))
 
--- `run QUERY INPUT`, with or without `--workers N`, `--watch`, `--stats` and `--explain`
+-- `run QUERY INPUT`, with or without `--workers N`, `--watch`, `--stats` and `--dot`
 abbrev pub run_app : App
 run_app =
     with_rule
-    (with_rule
+    (queried
     (with_rule
     (with_rule (with_rule (with_rule (new_app (codes "run")) workers_rule) (flag_rule (codes "watch"))) (flag_rule (codes "stats")))
-    (flag_rule (codes "explain")))
-    (word_rule (codes "QUERY")))
+    (flag_rule (codes "dot"))))
     (word_rule (codes "INPUT"))
 
--- `follow QUERY` or `follow QUERY INPUT`, with or without `--workers N` and `--explain`
+-- `follow QUERY` or `follow QUERY INPUT`, with or without `--workers N`
 abbrev pub follow_app : App
-follow_app =
-    with_rule
-    (with_rule (with_rule (with_rule (new_app (codes "follow")) workers_rule) (flag_rule (codes "explain"))) (word_rule (codes "QUERY")))
-    (optional_rule (codes "INPUT"))
+follow_app = with_rule (queried (with_rule (new_app (codes "follow")) workers_rule)) (optional_rule (codes "INPUT"))
 
--- `replay QUERY SCHEDULE`, with or without `--workers N`, `--views` and `--explain`
+-- `replay QUERY SCHEDULE`, with or without `--workers N` and `--views`
 abbrev pub replay_app : App
 replay_app =
-    with_rule
-    (with_rule
-    (with_rule (with_rule (with_rule (new_app (codes "replay")) workers_rule) (flag_rule (codes "views"))) (flag_rule (codes "explain")))
-    (word_rule (codes "QUERY")))
-    (word_rule (codes "SCHEDULE"))
+    with_rule (queried (with_rule (with_rule (new_app (codes "replay")) workers_rule) (flag_rule (codes "views")))) (word_rule (codes "SCHEDULE"))
 
 -- `explain CODE`
 abbrev pub explain_app : App
@@ -107,6 +104,20 @@ abbrev pub is_dot : GraphForm → Bool
 is_dot Lines = false
 is_dot Dot = true
 
+-- what each vertex did is told with either flag: in lines with the first alone
+abbrev pub stats_asked : (stats dot : Bool) → Option GraphForm
+stats_asked stats true = Some Dot
+stats_asked true false = Some Lines
+stats_asked false false = None
+
+-- the statistics are as the two flags ask
+pub record AreStats (rows : List Row) (asked : Option GraphForm) : Type 0 where
+  pub stats : Bool
+  pub dot : Bool
+  pub is_stats : IsFlag (codes "stats") rows stats
+  pub is_dot : IsFlag (codes "dot") rows dot
+  pub is_asked : asked ≡ stats_asked stats dot
+
 -- the number that the word spells, if there is a word
 abbrev pub IsNumber : Option Text → Option ℕ → Type 0
 IsNumber None None = Unit {0}
@@ -126,6 +137,11 @@ IsAskedHeap (Some word) (Some heap) = Spells word heap.bytes
 IsAskedHeap None (Some heap) = ⊥
 IsAskedHeap (Some word) None = ⊥
 
+-- the word names the query's file, or with `-e` it is the query itself
+abbrev pub IsAskedQuery : List Row → Query → Type 0
+IsAskedQuery rows (File path) = (first_of (codes "QUERY") rows ≡ Some path.now) × IsFlag (codes "inline") rows false
+IsAskedQuery rows (Inline text) = (first_of (codes "QUERY") rows ≡ Some text.now) × IsFlag (codes "inline") rows true
+
 -- the input that is named is followed; standard input where none is
 abbrev pub IsAskedInput : Option Text → Text → Type 0
 IsAskedInput None input = input ≡ codes "-"
@@ -134,24 +150,24 @@ IsAskedInput (Some word) input = input ≡ word
 -- the options are what the matches of a command hold
 abbrev pub HoldsAt : Text → List Row → Options → Type 0
 HoldsAt name rows (Run query input workers watch stats explain) =
-    (name ≡ codes "run") × (first_of (codes "QUERY") rows ≡ Some query.now) × (first_of (codes "INPUT") rows ≡ Some input.now)
+    (name ≡ codes "run") × IsAskedQuery rows query × (first_of (codes "INPUT") rows ≡ Some input.now)
     × AreAskedFor (one_of (codes "workers") rows) workers.count
-    × IsFlag (codes "watch") rows watch × IsFlag (codes "stats") rows stats × IsFlag (codes "explain") rows explain
+    × IsFlag (codes "watch") rows watch × AreStats rows stats × IsFlag (codes "explain") rows explain
 HoldsAt name rows (Follow query input workers explain) =
-    (name ≡ codes "follow") × (first_of (codes "QUERY") rows ≡ Some query.now) × IsAskedInput (first_of (codes "INPUT") rows) input.now
+    (name ≡ codes "follow") × IsAskedQuery rows query × IsAskedInput (first_of (codes "INPUT") rows) input.now
     × AreAskedFor (one_of (codes "workers") rows) workers.count
     × IsFlag (codes "explain") rows explain
 HoldsAt name rows (Check query input heap explain) =
-    (name ≡ codes "check") × (first_of (codes "QUERY") rows ≡ Some query.now) × (option_map (λ s. s.now) input ≡ first_of (codes "INPUT") rows)
+    (name ≡ codes "check") × IsAskedQuery rows query × (option_map (λ s. s.now) input ≡ first_of (codes "INPUT") rows)
     × IsAskedHeap (one_of (codes "heap") rows) heap
     × IsFlag (codes "explain") rows explain
 HoldsAt name rows (Graph query form heap explain) =
-    (name ≡ codes "graph") × (first_of (codes "QUERY") rows ≡ Some query.now) × IsFlag (codes "dot") rows (is_dot form)
+    (name ≡ codes "graph") × IsAskedQuery rows query × IsFlag (codes "dot") rows (is_dot form)
     × IsAskedHeap (one_of (codes "heap") rows) heap
     × IsFlag (codes "explain") rows explain
-HoldsAt name rows (Format query explain) = (name ≡ codes "format") × (first_of (codes "QUERY") rows ≡ Some query.now) × IsFlag (codes "explain") rows explain
+HoldsAt name rows (Format query explain) = (name ≡ codes "format") × IsAskedQuery rows query × IsFlag (codes "explain") rows explain
 HoldsAt name rows (Replay query schedule workers views explain) =
-    (name ≡ codes "replay") × (first_of (codes "QUERY") rows ≡ Some query.now) × (first_of (codes "SCHEDULE") rows ≡ Some schedule.now)
+    (name ≡ codes "replay") × IsAskedQuery rows query × (first_of (codes "SCHEDULE") rows ≡ Some schedule.now)
     × AreAskedFor (one_of (codes "workers") rows) workers.count
     × IsFlag (codes "views") rows views × IsFlag (codes "explain") rows explain
 HoldsAt name rows (Explain code) = (name ≡ codes "explain") × (first_of (codes "CODE") rows ≡ Some code.now)
@@ -164,19 +180,24 @@ HoldsOf (Some found) options = HoldsAt found.0 found.1 options
 abbrev pub Holds : List Text → Options → Type 0
 Holds words options = HoldsOf (subcommand_of line_app words) options
 
+-- the query is read from standard input
+abbrev pub IsQueryInput : Query → Type 0
+IsQueryInput (File path) = path.now ≡ codes "-"
+IsQueryInput (Inline text) = ⊥
+
 -- both texts are standard input
-abbrev pub AreBothInput : (query other : Text) → Type 0
-AreBothInput query other = (query ≡ codes "-") × (other ≡ codes "-")
+abbrev pub AreBothInput : Query → (other : Text) → Type 0
+AreBothInput query other = IsQueryInput query × (other ≡ codes "-")
 
 -- both texts that the options name are standard input
 abbrev pub NamesInputTwice : Options → Type 0
-NamesInputTwice (Run query input workers watch stats explain) = AreBothInput query.now input.now
-NamesInputTwice (Follow query input workers explain) = AreBothInput query.now input.now
-NamesInputTwice (Check query (Some input) heap explain) = AreBothInput query.now input.now
+NamesInputTwice (Run query input workers watch stats explain) = AreBothInput query input.now
+NamesInputTwice (Follow query input workers explain) = AreBothInput query input.now
+NamesInputTwice (Check query (Some input) heap explain) = AreBothInput query input.now
 NamesInputTwice (Check query None heap explain) = ⊥
 NamesInputTwice (Graph query form heap explain) = ⊥
 NamesInputTwice (Format query explain) = ⊥
-NamesInputTwice (Replay query schedule workers views explain) = AreBothInput query.now schedule.now
+NamesInputTwice (Replay query schedule workers views explain) = AreBothInput query schedule.now
 NamesInputTwice (Explain code) = ⊥
 
 -- the words ask for this: their matches hold the options, of whose texts at most one is standard input

@@ -3,8 +3,8 @@
 ghost use Rattle.std.specs.Prelude.{◌≡◌, map, option_map, IfErr, IfOk, IfSome, IsErrOf, codes, false};
 ghost use Rattle.clap.specs.Words.{app_of, first_of, found_of, new_app, one_of, rows_of, rule_of};
 ghost use Rattle.clap.specs.declared.builder.Command.TheViews.{out-Command as fields_of};
-ghost use Rattle.command_line.specs.Line.{AreAskedFor, AsksTwice, Asks, Holds, HoldsAt, IsAskedHeap, IsAskedInput, IsFlag, IsNumber};
-ghost use Rattle.command_line.specs.Line.{check_app, explain_app, flag_rule, follow_app, format_app, graph_app, line_app};
+ghost use Rattle.command_line.specs.Line.{AreAskedFor, AreStats, AsksTwice, Asks, Holds, HoldsAt, IsAskedHeap, IsAskedInput, IsAskedQuery, IsFlag, IsNumber};
+ghost use Rattle.command_line.specs.Line.{check_app, explain_app, flag_rule, follow_app, format_app, graph_app, inline_rule, line_app, queried};
 ghost use Rattle.command_line.specs.Line.{optional_rule, program_app, range_rule, replay_app, run_app, word_rule};
 ghost use Rattle.command_line.specs.Faults.{IsOfWords};
 ghost use Rattle.command_line.specs.declared.line_fault.LineFault.TheVariants as fault;
@@ -12,6 +12,7 @@ ghost use Rattle.command_line.specs.declared.line_fault.LineFault.TheVariants as
 use crate::heap_size::HeapSize;
 use crate::line_fault::LineFault;
 use crate::line_options::{GraphForm, Options};
+use crate::query::Query;
 use crate::standard_input::is_input_twice;
 use crate::unknown_words::{
     Misplaced, OutOfRange, Unknown, Unrecognized, misplaced_option, unknown_option,
@@ -27,7 +28,7 @@ use std::num::ParseIntError;
 const VERSION: &str = "0.1.0";
 
 /// What the help says of the word `QUERY`.
-const QUERY: &str = "The file with the query; - is standard input";
+const QUERY: &str = "The file with the query; - is standard input; with -e the query itself";
 
 /// What the help says of the word `INPUT`.
 const INPUT: &str = "The file with the input; - is standard input";
@@ -67,6 +68,14 @@ fn flag_arg<'a>(alloc: Global, id: &'a str, about: &'a str) -> Arg<'a>
         .help(about)
 }
 
+/// The flag `-e`, or `--inline`.
+fn inline_arg<'a>(alloc: Global) -> Arg<'a>
+    ensures rule { rule_of result ≡ inline_rule }
+    ensures local { result.global ≡ false }
+{
+    flag_arg(alloc, "inline", "QUERY is the query itself, and not a file").short('e')
+}
+
 /// The flag `--explain`.
 fn explain_arg<'a>(alloc: Global) -> Arg<'a>
     ensures rule { rule_of result ≡ flag_rule (codes "explain") }
@@ -103,6 +112,17 @@ fn heap_arg<'a>(alloc: Global) -> Arg<'a>
         .help("Keep the query's tree in a heap of BYTES bytes, 64 to 16777216")
 }
 
+/// The command with the flags for a fault and for a query on the line, and the word of the query.
+fn with_query<'a>(alloc: Global, command: Command<'a>) -> Result<Command<'a>, AllocError>
+    ensures app { IfOk result (λ c. app_of c ≡ queried (app_of command.entry)) }
+    ensures local { IfOk result (λ c. (fields_of c).has_globals ≡ (fields_of command.entry).has_globals) }
+{
+    command
+        .arg(explain_arg(alloc))?
+        .arg(inline_arg(alloc))?
+        .arg(word_arg(alloc, "QUERY", QUERY))
+}
+
 /// A command of that name, with its line of help.
 fn named<'a>(alloc: Global, name: &'a str, about: &'a str) -> Command<'a>
     ensures app { app_of result ≡ new_app name.entry.now }
@@ -115,46 +135,48 @@ fn check_command<'a>(alloc: Global) -> Result<Command<'a>, AllocError>
     ensures app { IfOk result (λ c. app_of c ≡ check_app) }
     ensures local { IfOk result (λ c. (fields_of c).has_globals ≡ false) }
 {
-    named(
+    let command = named(
         alloc,
         "check",
         "Check a query, and an input if given; print the number of fields of each",
-    )
-    .arg(heap_arg(alloc))?
-    .arg(explain_arg(alloc))?
-    .arg(word_arg(alloc, "QUERY", QUERY))?
-    .arg(optional_arg(alloc, "INPUT", "An input to check too; - is standard input"))
+    );
+    with_query(alloc, command.arg(heap_arg(alloc))?)?.arg(optional_arg(
+        alloc,
+        "INPUT",
+        "An input to check too; - is standard input",
+    ))
 }
 
 fn graph_command<'a>(alloc: Global) -> Result<Command<'a>, AllocError>
     ensures app { IfOk result (λ c. app_of c ≡ graph_app) }
     ensures local { IfOk result (λ c. (fields_of c).has_globals ≡ false) }
 {
-    named(
+    let command = named(
         alloc,
         "graph",
         "Compile a query, and write its dataflow graph",
-    )
-    .arg(flag_arg(alloc, "dot", "Write the graph for Graphviz to draw"))?
-    .arg(heap_arg(alloc))?
-    .arg(explain_arg(alloc))?
-    .arg(word_arg(alloc, "QUERY", QUERY))
+    );
+    let command = command
+        .arg(flag_arg(alloc, "dot", "Write the graph for Graphviz to draw"))?
+        .arg(heap_arg(alloc))?;
+    with_query(alloc, command)
 }
 
 fn format_command<'a>(alloc: Global) -> Result<Command<'a>, AllocError>
     ensures app { IfOk result (λ c. app_of c ≡ format_app) }
     ensures local { IfOk result (λ c. (fields_of c).has_globals ≡ false) }
 {
-    named(alloc, "format", "Write a query in its canonical form")
-        .arg(explain_arg(alloc))?
-        .arg(word_arg(alloc, "QUERY", QUERY))
+    with_query(
+        alloc,
+        named(alloc, "format", "Write a query in its canonical form"),
+    )
 }
 
 fn run_command<'a>(alloc: Global) -> Result<Command<'a>, AllocError>
     ensures app { IfOk result (λ c. app_of c ≡ run_app) }
     ensures local { IfOk result (λ c. (fields_of c).has_globals ≡ false) }
 {
-    named(alloc, "run", "Answer a query over an input, epoch by epoch")
+    let command = named(alloc, "run", "Answer a query over an input, epoch by epoch")
         .arg(workers_arg(alloc))?
         .arg(flag_arg(
             alloc,
@@ -166,24 +188,24 @@ fn run_command<'a>(alloc: Global) -> Result<Command<'a>, AllocError>
             "stats",
             "After the run, report on standard error what each vertex did",
         ))?
-        .arg(explain_arg(alloc))?
-        .arg(word_arg(alloc, "QUERY", QUERY))?
-        .arg(word_arg(alloc, "INPUT", INPUT))
+        .arg(flag_arg(
+            alloc,
+            "dot",
+            "The same as --stats, in a drawing for Graphviz",
+        ))?;
+    with_query(alloc, command)?.arg(word_arg(alloc, "INPUT", INPUT))
 }
 
 fn follow_command<'a>(alloc: Global) -> Result<Command<'a>, AllocError>
     ensures app { IfOk result (λ c. app_of c ≡ follow_app) }
     ensures local { IfOk result (λ c. (fields_of c).has_globals ≡ false) }
 {
-    named(
+    let command = named(
         alloc,
         "follow",
         "Answer a query as its input arrives, and report each complete epoch",
-    )
-    .arg(workers_arg(alloc))?
-    .arg(explain_arg(alloc))?
-    .arg(word_arg(alloc, "QUERY", QUERY))?
-    .arg(optional_arg(
+    );
+    with_query(alloc, command.arg(workers_arg(alloc))?)?.arg(optional_arg(
         alloc,
         "INPUT",
         "The file with the input; without it, and with -, standard input",
@@ -194,20 +216,17 @@ fn replay_command<'a>(alloc: Global) -> Result<Command<'a>, AllocError>
     ensures app { IfOk result (λ c. app_of c ≡ replay_app) }
     ensures local { IfOk result (λ c. (fields_of c).has_globals ≡ false) }
 {
-    named(
+    let command = named(
         alloc,
         "replay",
         "Run a schedule step by step, and print what it asks for",
-    )
-    .arg(workers_arg(alloc))?
-    .arg(flag_arg(
+    );
+    let command = command.arg(workers_arg(alloc))?.arg(flag_arg(
         alloc,
         "views",
         "Give each worker a view of its own; lines `v W S` bring it up to date",
-    ))?
-    .arg(explain_arg(alloc))?
-    .arg(word_arg(alloc, "QUERY", QUERY))?
-    .arg(word_arg(alloc, "SCHEDULE", SCHEDULE))
+    ))?;
+    with_query(alloc, command)?.arg(word_arg(alloc, "SCHEDULE", SCHEDULE))
 }
 
 fn explain_command<'a>(alloc: Global) -> Result<Command<'a>, AllocError>
@@ -258,6 +277,18 @@ fn flag_of<'a>(found: &ArgMatches<'a>, id: &str) -> bool
     found.get_flag(id)
 }
 
+/// The query, by its word, and whether that is the query itself.
+fn query_of<'a>(found: &ArgMatches<'a>) -> Option<Query<'a>>
+    ensures { IfSome result (IsAskedQuery (rows_of (found_of found.now))) }
+{
+    let word = text_of(found, "QUERY")?;
+    if flag_of(found, "inline") {
+        Some(Query::Inline(word))
+    } else {
+        Some(Query::File(word))
+    }
+}
+
 /// The number of an option, of a word that clap has taken for one. An error where the word is none after all, at which no line is known to come.
 fn number_of(found: &ArgMatches<'_>, id: &str) -> Result<Option<u32>, ParseIntError>
     ensures { IfOk result (IsNumber (one_of id.now (rows_of (found_of found.now)))) }
@@ -287,14 +318,27 @@ fn heap_of(found: &ArgMatches<'_>) -> Option<Option<HeapSize>>
     }
 }
 
+/// Whether it is reported what each vertex did, and how.
+fn stats_of(found: &ArgMatches<'_>) -> Option<GraphForm>
+    ensures { AreStats (rows_of (found_of found.now)) result }
+{
+    let stats = flag_of(found, "stats");
+    let dot = flag_of(found, "dot");
+    match (stats, dot) {
+        (_, true) => Some(GraphForm::Dot),
+        (true, false) => Some(GraphForm::Lines),
+        (false, false) => None,
+    }
+}
+
 fn run_options<'a>(found: &ArgMatches<'a>) -> Option<Options<'a>>
     ensures { IfSome result (HoldsAt (codes "run") (rows_of (found_of found.now))) }
 {
     let workers = workers_of(found)?;
-    let query = text_of(found, "QUERY")?;
+    let query = query_of(found)?;
     let input = text_of(found, "INPUT")?;
     let watch = flag_of(found, "watch");
-    let stats = flag_of(found, "stats");
+    let stats = stats_of(found);
     let explain = flag_of(found, "explain");
     Some(Options::Run {
         query,
@@ -310,7 +354,7 @@ fn check_options<'a>(found: &ArgMatches<'a>) -> Option<Options<'a>>
     ensures { IfSome result (HoldsAt (codes "check") (rows_of (found_of found.now))) }
 {
     let heap = heap_of(found)?;
-    let query = text_of(found, "QUERY")?;
+    let query = query_of(found)?;
     let input = text_of(found, "INPUT");
     let explain = flag_of(found, "explain");
     Some(Options::Check {
@@ -335,7 +379,7 @@ fn follow_options<'a>(found: &ArgMatches<'a>) -> Option<Options<'a>>
     ensures { IfSome result (HoldsAt (codes "follow") (rows_of (found_of found.now))) }
 {
     let workers = workers_of(found)?;
-    let query = text_of(found, "QUERY")?;
+    let query = query_of(found)?;
     let input = followed_input(found);
     let explain = flag_of(found, "explain");
     Some(Options::Follow {
@@ -349,7 +393,7 @@ fn follow_options<'a>(found: &ArgMatches<'a>) -> Option<Options<'a>>
 fn format_options<'a>(found: &ArgMatches<'a>) -> Option<Options<'a>>
     ensures { IfSome result (HoldsAt (codes "format") (rows_of (found_of found.now))) }
 {
-    let query = text_of(found, "QUERY")?;
+    let query = query_of(found)?;
     let explain = flag_of(found, "explain");
     Some(Options::Format { query, explain })
 }
@@ -358,7 +402,7 @@ fn graph_options<'a>(found: &ArgMatches<'a>) -> Option<Options<'a>>
     ensures { IfSome result (HoldsAt (codes "graph") (rows_of (found_of found.now))) }
 {
     let heap = heap_of(found)?;
-    let query = text_of(found, "QUERY")?;
+    let query = query_of(found)?;
     let form = if flag_of(found, "dot") {
         GraphForm::Dot
     } else {
@@ -377,7 +421,7 @@ fn replay_options<'a>(found: &ArgMatches<'a>) -> Option<Options<'a>>
     ensures { IfSome result (HoldsAt (codes "replay") (rows_of (found_of found.now))) }
 {
     let workers = workers_of(found)?;
-    let query = text_of(found, "QUERY")?;
+    let query = query_of(found)?;
     let schedule = text_of(found, "SCHEDULE")?;
     let views = flag_of(found, "views");
     let explain = flag_of(found, "explain");

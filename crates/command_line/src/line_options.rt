@@ -1,24 +1,25 @@
 //! What a command line asks for.
 
 use crate::heap_size::HeapSize;
+use crate::query::Query;
 use crate::worker_count::Workers;
 
-/// What the words of the line ask for. Paths are kept as they were given.
+/// What the words of the line ask for. Paths are kept as they were given. With `-e` QUERY is the query itself.
 #[derive(Clone, Copy, Debug, PartialEq, Eq)]
 pub enum Options<'a> {
     /// `loom run QUERY INPUT`, on one worker or `--workers N`; with `--watch` it says how many epochs have passed, with `--stats` what
-    /// each vertex did; and a fault explained with `--explain`
+    /// each vertex did, with `--dot` in a drawing; and a fault explained with `--explain`
     Run {
-        query: &'a str,
+        query: Query<'a>,
         input: &'a str,
         workers: Workers,
         watch: bool,
-        stats: bool,
+        stats: Option<GraphForm>,
         explain: bool,
     },
     /// `loom follow QUERY`, or `loom follow QUERY INPUT`, on one worker or `--workers N`, and a fault explained with `--explain`
     Follow {
-        query: &'a str,
+        query: Query<'a>,
         input: &'a str,
         workers: Workers,
         explain: bool,
@@ -26,27 +27,27 @@ pub enum Options<'a> {
     /// `loom check QUERY`, or `loom check QUERY INPUT`, which reads the input too; in a heap of that size with `--heap BYTES`; and a fault
     /// explained with `--explain`
     Check {
-        query: &'a str,
+        query: Query<'a>,
         input: Option<&'a str>,
         heap: Option<HeapSize>,
         explain: bool,
     },
     /// `loom graph QUERY`, or `loom graph --dot QUERY`, in a heap of that size with `--heap BYTES`, and a fault explained with `--explain`
     Graph {
-        query: &'a str,
+        query: Query<'a>,
         form: GraphForm,
         heap: Option<HeapSize>,
         explain: bool,
     },
     /// `loom format QUERY`, and a fault explained with `--explain`
     Format {
-        query: &'a str,
+        query: Query<'a>,
         explain: bool,
     },
     /// `loom replay QUERY SCHEDULE`, on one worker or `--workers N`; with `--views` each has a view of its own; and a fault explained with
     /// `--explain`
     Replay {
-        query: &'a str,
+        query: Query<'a>,
         schedule: &'a str,
         workers: Workers,
         views: bool,

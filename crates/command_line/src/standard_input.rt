@@ -1,9 +1,10 @@
 //! Standard input, which only one text can be.
 
 ghost use Rattle.std.specs.Prelude.{◌≡◌, ◌↔◌, IsTrue, codes};
-ghost use Rattle.command_line.specs.Line.{AreBothInput, NamesInputTwice};
+ghost use Rattle.command_line.specs.Line.{AreBothInput, IsQueryInput, NamesInputTwice};
 
 use crate::line_options::Options;
+use crate::query::Query;
 
 /// Whether a name is that of standard input.
 fn is_input(name: &str) -> bool
@@ -12,11 +13,21 @@ fn is_input(name: &str) -> bool
     name == "-"
 }
 
-/// Whether two names are both that of standard input.
-fn are_both_input(query: &str, other: &str) -> bool
-    ensures { IsTrue result ↔ AreBothInput query.now other.now }
+/// Whether a query is read from standard input.
+fn is_query_input(query: Query<'_>) -> bool
+    ensures { IsTrue result ↔ IsQueryInput query.entry }
 {
-    is_input(query) && is_input(other)
+    match query {
+        Query::File(path) => is_input(path),
+        Query::Inline(_) => false,
+    }
+}
+
+/// Whether both the query and the other text are standard input.
+fn are_both_input(query: Query<'_>, other: &str) -> bool
+    ensures { IsTrue result ↔ AreBothInput query.entry other.now }
+{
+    is_query_input(query) && is_input(other)
 }
 
 /// Whether both texts that the options name are standard input.

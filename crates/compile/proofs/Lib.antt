@@ -1,5 +1,7 @@
 pub mod QueryFaults
-pub mod InputLines
+pub mod OneMore
+pub mod SameForAll
+pub mod UsedNames
 pub mod CheckedInputs
 pub mod Rewritten
 pub mod OneGraph

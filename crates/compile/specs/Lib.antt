@@ -4,3 +4,5 @@ pub mod Compiled
 pub mod Checked
 pub mod CheckedInputs
 pub mod Canonical
+pub mod Unused
+pub mod SameForAll

@@ -47,7 +47,7 @@ fn push_output<A: Allocator>(
 }
 
 /// Appends the lines of the inputs in order.
-#[tactic(auto, using(crate::proofs::InputLines::one_input_more))]
+#[tactic(auto, using(crate::proofs::OneMore::more_of))]
 fn push_inputs(text: &mut Vec<u8>, inputs: &[Input]) -> Result<(), AllocError>
     ensures { OnOk result (text.new.items ≡ text.old.items ++ flat_map input_line (map plain_input inputs.now)) }
 {

@@ -16,10 +16,14 @@
 #![tactic(auto)]
 
 mod checking;
+mod constants;
 mod fault;
 mod formatting;
 mod input_check;
 mod laws;
+mod names;
+mod unused;
+mod warnings;
 
 ghost use Rattle.std.specs.Prelude.{◌≤◌, length, IfOk, IfErr};
 ghost use Rattle.expr_tree.specs.Plain.{plain_program};
@@ -44,6 +48,7 @@ use parser::parse;
 use record_core::{NoMemory, Refusal};
 use std::alloc::{Allocator, Global};
 use typing::{Typed, check};
+pub use warnings::warnings_of;
 
 /// The typed program of a query text.
 fn typed_program<A: Allocator + Copy>(

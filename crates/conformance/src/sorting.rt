@@ -23,7 +23,7 @@ fn copied(
     let mut streams = unwatched(rt.alloc(), Vec::new(rt.alloc()));
     let options = RunOptions {
         workers: Workers::new(2).ok_or("no workers")?,
-        stats: false,
+        stats: None,
     };
     run(
         threads,

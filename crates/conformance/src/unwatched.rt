@@ -9,7 +9,7 @@ use std::io::Write;
 pub fn on_one() -> RunOptions {
     RunOptions {
         workers: Workers::one(),
-        stats: false,
+        stats: None,
     }
 }
 

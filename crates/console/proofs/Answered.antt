@@ -6,8 +6,9 @@ use Rattle.command_line.specs.declared.line_options.Options.TheVariants.{Run, Fo
 use Rattle.diagnostics.specs.Faults.{status_of}
 use Rattle.diagnostics.specs.declared.fault.Fault.{Fault}
 use Rattle.diagnostics.specs.declared.fault.Fault.TheVariants.{Query, TooManyVertices, Input, Schedule, NoMemory, Count, NoWorker, Incomplete, ReadQuery, ReadInput, Write}
-use Rattle.console.specs.Commands.{AsksRun, HasEnded, IsAnswered, Known, status_after}
-use Rattle.console.specs.Transcribed.{IsEnough, RunsOnTexts}
+use Rattle.console.specs.Commands.{AsksRun, HasEnded, IsAnswered, status_after}
+use Rattle.console.specs.Asked.{Known, queries_of, query_word}
+use Rattle.console.specs.Transcribed.{IsReadQuery, RunsOnTexts}
 use Rattle.console.specs.declared.transcripts.Transcripts.{Transcripts}
 
 not_zero : (f : Fault) → 0 ≡ status_of f → ⊥
@@ -23,9 +24,9 @@ not_zero ReadQuery e = absurd cc
 not_zero ReadInput e = absurd cc
 not_zero Write e = absurd cc
 
-answered : (read : Transcripts) (query input old new : List ℕ) (result : Result (Unit {0}) Fault) → RunsOnTexts read query input (Some old) (Some new) result → 0 ≡ status_after result → IsAnswered read query input old new
-answered read query input old new (Ok u) r e =
-    let whole : IsEnough r.query × (is_complete r.input ≡ true) = elim r.whole [ inl w ↦ w | inr down ↦ absurd down ] in
+answered : (queries : Known) (read : Transcripts) (query input old new : List ℕ) (result : Result (Unit {0}) Fault) → RunsOnTexts queries read query input (Some old) (Some new) result → 0 ≡ status_after result → IsAnswered queries read query input old new
+answered queries read query input old new (Ok u) r e =
+    let whole : IsReadQuery (queries query) r.query × (is_complete r.input ≡ true) = elim r.whole [ inl w ↦ w | inr down ↦ absurd down ] in
     record {
       query = r.query;
       input = r.input;
@@ -37,12 +38,13 @@ answered read query input old new (Ok u) r e =
       run = r.ends.0.1;
       written = r.ends.0.2;
     }
-answered read query input old new (Err f) r e = absurd (not_zero f e)
+answered queries read query input old new (Err f) r e = absurd (not_zero f e)
 
-pub run_answered : (texts : Known) (read : Transcripts) (options : Options) (q i old new : List ℕ) → AsksRun options q i → HasEnded texts read options (Some old) (Some new) 0 → IsAnswered read q i old new
+pub run_answered : (texts : Known) (read : Transcripts) (options : Options) (q i old new : List ℕ) → AsksRun options q i → HasEnded texts read options (Some old) (Some new) 0 → IsAnswered (queries_of options texts) read q i old new
 run_answered texts read (Run query input workers watch stats explain) q i old new a d =
-    subst (λ n. IsAnswered read n i old new) (sym a.0)
-    (subst (λ n. IsAnswered read query.now n old new) (sym a.1) (answered read query.now input.now old new d.result d.on_read.0 d.reported))
+    let queries : Known = queries_of (Run query input workers watch stats explain) texts in
+    subst (λ n. IsAnswered queries read n i old new) (sym a.0)
+    (subst (λ n. IsAnswered queries read (query_word query) n old new) (sym a.1) (answered queries read (query_word query) input.now old new d.result d.on_read.0 d.reported))
 run_answered texts read (Follow query input workers explain) q i old new a d = absurd a
 run_answered texts read (Check query input heap explain) q i old new a d = absurd a
 run_answered texts read (Graph query form heap explain) q i old new a d = absurd a

@@ -72,12 +72,12 @@ unread_query_ends query read old Incomplete u = absurd u
 unread_query_ends query read old Write u = absurd u
 
 -- the query could not be read
-pub follows_unread : {Q I : Type 0} (remaining : I → Option (List ℕ)) (q₀ q₁ : Watched Q) (i₀ i₁ : Watched I) (old : Option (List ℕ)) (e : Fault) → HandsSome q₀ q₁ → IsUnreadQuery e → FollowsOnHanded remaining q₀ q₁ i₀ i₁ old old (Err e)
-follows_unread remaining q₀ q₁ i₀ i₁ old e h u = record { query = h.0; read = inr (h.1, u); ends = unread_query_ends h.0 (HasRead remaining i₀ i₁) old e u }
+pub follows_unread : {Q I : Type 0} (left : Q → Option (List ℕ)) (remaining : I → Option (List ℕ)) (q₀ q₁ : Watched Q) (i₀ i₁ : Watched I) (old : Option (List ℕ)) (e : Fault) → HandsSome q₀ q₁ → IsUnreadQuery e → FollowsOnHanded left remaining q₀ q₁ i₀ i₁ old old (Err e)
+follows_unread left remaining q₀ q₁ i₀ i₁ old e h u = record { query = h.0; read = inr (h.1, u); ends = unread_query_ends h.0 (HasRead remaining i₀ i₁) old e u }
 
 -- it was read
-pub follows_read : {Q I : Type 0} (remaining : I → Option (List ℕ)) (q₀ q₁ : Watched Q) (i₀ i₁ : Watched I) (query : List ℕ) (old new : Option (List ℕ)) (result : Result (Unit {0}) Fault) → HandsQuery q₀ q₁ query → FollowEnds query (HasRead remaining i₀ i₁) old new result → FollowsOnHanded remaining q₀ q₁ i₀ i₁ old new result
-follows_read remaining q₀ q₁ i₀ i₁ query old new result h e = record { query = query; read = inl h; ends = e }
+pub follows_read : {Q I : Type 0} (left : Q → Option (List ℕ)) (remaining : I → Option (List ℕ)) (q₀ q₁ : Watched Q) (i₀ i₁ : Watched I) (query : List ℕ) (old new : Option (List ℕ)) (result : Result (Unit {0}) Fault) → HandsQuery left q₀ q₁ query → FollowEnds query (HasRead remaining i₀ i₁) old new result → FollowsOnHanded left remaining q₀ q₁ i₀ i₁ old new result
+follows_read left remaining q₀ q₁ i₀ i₁ query old new result h e = record { query = query; read = inl h; ends = e }
 
 -- a refused query: nothing is written
 pub refused_ends : (query : List ℕ) (read : Reading) (old new : Option (List ℕ)) (fault : Fault) → new ≡ old → IsQueryFault query fault → FollowEnds query read old new (Err fault)

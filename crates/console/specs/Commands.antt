@@ -9,45 +9,43 @@ use Rattle.command_line.specs.Line.{Asks}
 use Rattle.command_line.specs.declared.line_options.GraphForm.{GraphForm}
 use Rattle.command_line.specs.declared.line_options.Options.{Options}
 use Rattle.command_line.specs.declared.line_options.Options.TheVariants.{Run, Follow, Check, Graph, Format, Replay, Explain}
+use Rattle.command_line.specs.declared.query.Query.{Query}
 use Rattle.command_line.specs.declared.worker_count.Workers.{Workers}
 use Rattle.diagnostics.specs.Explanations.{ExplanationEnds}
 use Rattle.diagnostics.specs.Faults.{status_of}
 use Rattle.diagnostics.specs.declared.fault.Fault.{Fault}
+use Rattle.console.specs.Asked.{Known, queries_of, query_word}
 use Rattle.console.specs.Heeded.{Heeds}
 use Rattle.console.specs.Readings.{ChecksBothOver, ChecksOver, FollowsOver, FormatsOver, GraphsOver, read_part}
 use Rattle.console.specs.Replayed.{ReplayEnds}
 use Rattle.console.specs.Runs.{Ends, IsRun}
-use Rattle.console.specs.Transcribed.{EndsOnRead, IsEnough, IsOf}
+use Rattle.console.specs.Transcribed.{EndsOnRead, IsOf, IsReadQuery}
 use Rattle.console.specs.Views.{kind_asked}
 use Rattle.console.specs.declared.transcripts.Transcripts.{Transcripts}
 use Rattle.schedule.specs.declared.verb.ViewKind.{ViewKind}
 
--- the bytes of the text of each name, where they are known
-abbrev pub Known : Type 0
-Known = List ℕ → Option (List ℕ)
+-- each command ends as its function promises, on the queries and the texts that are known
+abbrev pub RunsOn : (queries texts : Known) → (query input : List ℕ) → Option (List ℕ) → Option (List ℕ) → Result (Unit {0}) Fault → Type 0
+RunsOn queries texts query input old new result =
+    IfSome (queries query) (λ q. Heeds (read_part q) old new result × IfSome (texts input) (λ i. Ends (read_part q) i old new result))
 
--- each command ends as its function promises, on the texts that are known
-abbrev pub RunsOn : Known → (query input : List ℕ) → Option (List ℕ) → Option (List ℕ) → Result (Unit {0}) Fault → Type 0
-RunsOn texts query input old new result =
-    IfSome (texts query) (λ q. Heeds (read_part q) old new result × IfSome (texts input) (λ i. Ends (read_part q) i old new result))
-
-abbrev pub FollowsOn : Known → (query input : List ℕ) → Option (List ℕ) → Option (List ℕ) → Result (Unit {0}) Fault → Type 0
-FollowsOn texts query input old new result = FollowsOver (texts query) (texts input) old new result
+abbrev pub FollowsOn : (queries texts : Known) → (query input : List ℕ) → Option (List ℕ) → Option (List ℕ) → Result (Unit {0}) Fault → Type 0
+FollowsOn queries texts query input old new result = FollowsOver (queries query) (texts input) old new result
 
 -- the query alone where no input is named, and else both
-abbrev pub ChecksOn : Known → (query : List ℕ) → (input : Option (List ℕ)) → Option (List ℕ) → Option (List ℕ) → Result (Unit {0}) Fault → Type 0
-ChecksOn texts query None old new result = ChecksOver (texts query) old new result
-ChecksOn texts query (Some input) old new result = ChecksBothOver (texts query) (texts input) old new result
+abbrev pub ChecksOn : (queries texts : Known) → (query : List ℕ) → (input : Option (List ℕ)) → Option (List ℕ) → Option (List ℕ) → Result (Unit {0}) Fault → Type 0
+ChecksOn queries texts query None old new result = ChecksOver (queries query) old new result
+ChecksOn queries texts query (Some input) old new result = ChecksBothOver (queries query) (texts input) old new result
 
-abbrev pub FormatsOn : Known → (query : List ℕ) → Option (List ℕ) → Option (List ℕ) → Result (Unit {0}) Fault → Type 0
-FormatsOn texts query old new result = FormatsOver (texts query) old new result
+abbrev pub FormatsOn : (queries : Known) → (query : List ℕ) → Option (List ℕ) → Option (List ℕ) → Result (Unit {0}) Fault → Type 0
+FormatsOn queries query old new result = FormatsOver (queries query) old new result
 
-abbrev pub GraphsOn : Known → GraphForm → (query : List ℕ) → Option (List ℕ) → Option (List ℕ) → Result (Unit {0}) Fault → Type 0
-GraphsOn texts form query old new result = GraphsOver form (texts query) old new result
+abbrev pub GraphsOn : (queries : Known) → GraphForm → (query : List ℕ) → Option (List ℕ) → Option (List ℕ) → Result (Unit {0}) Fault → Type 0
+GraphsOn queries form query old new result = GraphsOver form (queries query) old new result
 
-abbrev pub ReplaysOn : Known → Workers → ViewKind → (query schedule : List ℕ) → Option (List ℕ) → Option (List ℕ) → Result (Unit {0}) Fault → Type 0
-ReplaysOn texts workers kind query schedule old new result =
-    IfSome (texts query)
+abbrev pub ReplaysOn : (queries texts : Known) → Workers → ViewKind → (query schedule : List ℕ) → Option (List ℕ) → Option (List ℕ) → Result (Unit {0}) Fault → Type 0
+ReplaysOn queries texts workers kind query schedule old new result =
+    IfSome (queries query)
     (λ q. Heeds (read_part q) old new result × IfSome (texts schedule) (λ s. ReplayEnds (read_part q) (count_of workers) kind s old new result))
 
 -- what a refusal's number means is written
@@ -55,14 +53,14 @@ abbrev pub Explains : (code : List ℕ) → Option (List ℕ) → Option (List �
 Explains code old new result = (row : Explanation) × (code ≡ decimal row.code) × ExplanationEnds row old new result
 
 -- the command of these options ends so
-abbrev pub EndsOn : Known → Options → Option (List ℕ) → Option (List ℕ) → Result (Unit {0}) Fault → Type 0
-EndsOn texts (Run query input workers watch stats explain) old new result = RunsOn texts query.now input.now old new result
-EndsOn texts (Follow query input workers explain) old new result = FollowsOn texts query.now input.now old new result
-EndsOn texts (Check query input heap explain) old new result = ChecksOn texts query.now (option_map (λ s. s.now) input) old new result
-EndsOn texts (Graph query form heap explain) old new result = GraphsOn texts form query.now old new result
-EndsOn texts (Format query explain) old new result = FormatsOn texts query.now old new result
-EndsOn texts (Replay query schedule workers views explain) old new result = ReplaysOn texts workers (kind_asked views) query.now schedule.now old new result
-EndsOn texts (Explain code) old new result = Explains code.now old new result
+abbrev pub EndsOn : (queries texts : Known) → Options → Option (List ℕ) → Option (List ℕ) → Result (Unit {0}) Fault → Type 0
+EndsOn queries texts (Run query input workers watch stats explain) old new result = RunsOn queries texts (query_word query) input.now old new result
+EndsOn queries texts (Follow query input workers explain) old new result = FollowsOn queries texts (query_word query) input.now old new result
+EndsOn queries texts (Check query input heap explain) old new result = ChecksOn queries texts (query_word query) (option_map (λ s. s.now) input) old new result
+EndsOn queries texts (Graph query form heap explain) old new result = GraphsOn queries form (query_word query) old new result
+EndsOn queries texts (Format query explain) old new result = FormatsOn queries (query_word query) old new result
+EndsOn queries texts (Replay query schedule workers views explain) old new result = ReplaysOn queries texts workers (kind_asked views) (query_word query) schedule.now old new result
+EndsOn queries texts (Explain code) old new result = Explains code.now old new result
 
 -- 0 of a command that is done, and else its fault's
 abbrev pub status_after : Result (Unit {0}) Fault → ℕ
@@ -72,8 +70,8 @@ status_after (Err fault) = status_of fault
 -- The command has ended on its texts, on those that are known and on what was read of them, and the status says how.
 pub record HasEnded (texts : Known) (read : Transcripts) (options : Options) (old new : Option (List ℕ)) (status : ℕ) : Type 0 where
   pub result : Result (Unit {0}) Fault
-  pub ends : EndsOn texts options old new result
-  pub on_read : EndsOnRead read options old new result
+  pub ends : EndsOn (queries_of options texts) texts options old new result
+  pub on_read : EndsOnRead (queries_of options texts) read options old new result
   pub reported : status ≡ status_after result
 
 -- nothing is written: the line is refused, or no refusal has the number that is to be explained, or there was no memory to read the line
@@ -90,20 +88,20 @@ Answers texts read words old new status = IsTurnedDown old new status ⊎ ((opti
 
 -- The query and the input of these names were read to their ends (of the query one byte more than it may have is enough), and what was written is
 -- the query's answer to the input.
-pub record IsAnswered (read : Transcripts) (query_name input_name old new : List ℕ) : Type 0 where
+pub record IsAnswered (queries : Known) (read : Transcripts) (query_name input_name old new : List ℕ) : Type 0 where
   pub query : Transcript
   pub input : Transcript
   pub opened : IsOf read.query query_name query
   pub other_opened : IsOf read.input input_name input
-  pub enough : IsEnough query
+  pub enough : IsReadQuery (queries query_name) query
   pub complete : is_complete input ≡ true
   pub text : List ℕ
   pub run : IsRun (bytes_of query) (bytes_of input) text
   pub written : new ≡ old ++ text
 
--- the options are of a run of the texts of these names
+-- the options are of a run of a query and an input of these names
 abbrev pub AsksRun : Options → (query input : List ℕ) → Type 0
-AsksRun (Run query input workers watch stats explain) q i = (q ≡ query.now) × (i ≡ input.now)
+AsksRun (Run query input workers watch stats explain) q i = (q ≡ query_word query) × (i ≡ input.now)
 AsksRun (Follow query input workers explain) q i = ⊥
 AsksRun (Check query input heap explain) q i = ⊥
 AsksRun (Graph query form heap explain) q i = ⊥

@@ -1,5 +1,6 @@
 pub mod Faults
 pub mod Answers
+pub mod Asked
 pub mod Heeded
 pub mod Graphs
 pub mod Runs

@@ -1,7 +1,7 @@
 -- What is read of the texts, how the commands end on it where the bytes are known, and what is kept of it.
 use Rattle.std.specs.Prelude.{◌≡◌, ◌⊎◌, ℕ, suc, true, List, length, take, Option, Result, IfErr, IfSome, MatchResult}
 use Rattle.lexer.specs.Tokens.{max_length}
-use Rattle.collector.specs.Watching.{Hands, HandsAll, HandsSome, has_ended}
+use Rattle.collector.specs.Watching.{Hands, HandsAll, HandsSome, has_ended, inner_of}
 use Rattle.collector.specs.declared.watched.Watched.{Watched}
 use Rattle.command_line.specs.declared.line_options.GraphForm.{GraphForm}
 use Rattle.schedule.specs.declared.verb.ViewKind.{ViewKind}
@@ -56,13 +56,14 @@ KeepsInput input result kept = IfSome input (λ i. IfErr result (λ e. IsUnreadQ
 
 -- ---- Of any readers, whose bytes nobody need know: what they handed over.
 
--- this was read of a query: all of it, or one byte more than it may have
-abbrev pub HandsQuery : {Q : Type 0} → (old new : Watched Q) → List ℕ → Type 0
-HandsQuery old new text = Hands old new text × ((has_ended new ≡ true) ⊎ (length text ≡ suc max_length))
+-- this was read of a query: all of it, or one byte more than it may have; where its bytes are known, these are they
+abbrev pub HandsQuery : {Q : Type 0} → (left : Q → Option (List ℕ)) → (old new : Watched Q) → List ℕ → Type 0
+HandsQuery left old new text =
+    Hands old new text × ((has_ended new ≡ true) ⊎ (length text ≡ suc max_length)) × IfSome (left (inner_of old)) (λ q. text ≡ read_part q)
 
 -- the two were read to their ends
-abbrev pub HandsBoth : {Q I : Type 0} → (q₀ q₁ : Watched Q) → (i₀ i₁ : Watched I) → (query input : List ℕ) → Type 0
-HandsBoth q₀ q₁ i₀ i₁ query input = HandsQuery q₀ q₁ query × HandsAll i₀ i₁ input
+abbrev pub HandsBoth : {Q I : Type 0} → (left : Q → Option (List ℕ)) → (q₀ q₁ : Watched Q) → (i₀ i₁ : Watched I) → (query input : List ℕ) → Type 0
+HandsBoth left q₀ q₁ i₀ i₁ query input = HandsQuery left q₀ q₁ query × HandsAll i₀ i₁ input
 
 -- the fault is of reading the query
 abbrev pub IsOfQuery : Result (Unit {0}) Fault → Type 0
@@ -74,41 +75,41 @@ IsOfReading result = MatchResult result (λ _. ⊥) (λ e. IsUnreadQuery e ⊎ I
 
 -- A command of one text ends so on what its reader handed over, which is the whole text: that it is too long is enough. Where the reader failed,
 -- or memory ran out, it may be a beginning of the text.
-pub record EndsOnHanded {Q : Type 0} (q₀ q₁ : Watched Q) (promised : (query : List ℕ) → Type 0) (result : Result (Unit {0}) Fault) : Type 0 where
+pub record EndsOnHanded {Q : Type 0} (left : Q → Option (List ℕ)) (q₀ q₁ : Watched Q) (promised : (query : List ℕ) → Type 0) (result : Result (Unit {0}) Fault) : Type 0 where
   pub query : List ℕ
-  pub read : HandsQuery q₀ q₁ query ⊎ (Hands q₀ q₁ query × IsOfQuery result)
+  pub read : HandsQuery left q₀ q₁ query ⊎ (Hands q₀ q₁ query × IsOfQuery result)
   pub ends : promised query
 
 -- The same of a command of two. Where a reader failed, or memory ran out, a beginning of the query was read, or all of it and a beginning of the
 -- input.
-pub record EndsOnBothHanded {Q I : Type 0} (q₀ q₁ : Watched Q) (i₀ i₁ : Watched I) (promised : (query input : List ℕ) → Type 0) (result : Result (Unit {0}) Fault) : Type 0 where
+pub record EndsOnBothHanded {Q I : Type 0} (left : Q → Option (List ℕ)) (q₀ q₁ : Watched Q) (i₀ i₁ : Watched I) (promised : (query input : List ℕ) → Type 0) (result : Result (Unit {0}) Fault) : Type 0 where
   pub query : List ℕ
   pub input : List ℕ
-  pub read : HandsBoth q₀ q₁ i₀ i₁ query input ⊎ (Hands q₀ q₁ query × Hands i₀ i₁ input × IsOfReading result)
+  pub read : HandsBoth left q₀ q₁ i₀ i₁ query input ⊎ (Hands q₀ q₁ query × Hands i₀ i₁ input × IsOfReading result)
   pub ends : promised query input
 
-abbrev pub RunsOnHanded : {Q I : Type 0} → (q₀ q₁ : Watched Q) → (i₀ i₁ : Watched I) → Option (List ℕ) → Option (List ℕ) → Result (Unit {0}) Fault → Type 0
-RunsOnHanded q₀ q₁ i₀ i₁ old new result = EndsOnBothHanded q₀ q₁ i₀ i₁ (λ q i. Ends q i old new result × Heeds q old new result) result
+abbrev pub RunsOnHanded : {Q I : Type 0} → (left : Q → Option (List ℕ)) → (q₀ q₁ : Watched Q) → (i₀ i₁ : Watched I) → Option (List ℕ) → Option (List ℕ) → Result (Unit {0}) Fault → Type 0
+RunsOnHanded left q₀ q₁ i₀ i₁ old new result = EndsOnBothHanded left q₀ q₁ i₀ i₁ (λ q i. Ends q i old new result × Heeds q old new result) result
 
-abbrev pub ChecksOnHanded : {Q : Type 0} → (q₀ q₁ : Watched Q) → Option (List ℕ) → Option (List ℕ) → Result (Unit {0}) Fault → Type 0
-ChecksOnHanded q₀ q₁ old new result = EndsOnHanded q₀ q₁ (λ q. CheckEnds q old new result) result
+abbrev pub ChecksOnHanded : {Q : Type 0} → (left : Q → Option (List ℕ)) → (q₀ q₁ : Watched Q) → Option (List ℕ) → Option (List ℕ) → Result (Unit {0}) Fault → Type 0
+ChecksOnHanded left q₀ q₁ old new result = EndsOnHanded left q₀ q₁ (λ q. CheckEnds q old new result) result
 
-abbrev pub ChecksBothOnHanded : {Q I : Type 0} → (q₀ q₁ : Watched Q) → (i₀ i₁ : Watched I) → Option (List ℕ) → Option (List ℕ) → Result (Unit {0}) Fault → Type 0
-ChecksBothOnHanded q₀ q₁ i₀ i₁ old new result = EndsOnBothHanded q₀ q₁ i₀ i₁ (λ q i. CheckInputEnds q i old new result) result
+abbrev pub ChecksBothOnHanded : {Q I : Type 0} → (left : Q → Option (List ℕ)) → (q₀ q₁ : Watched Q) → (i₀ i₁ : Watched I) → Option (List ℕ) → Option (List ℕ) → Result (Unit {0}) Fault → Type 0
+ChecksBothOnHanded left q₀ q₁ i₀ i₁ old new result = EndsOnBothHanded left q₀ q₁ i₀ i₁ (λ q i. CheckInputEnds q i old new result) result
 
-abbrev pub FormatsOnHanded : {Q : Type 0} → (q₀ q₁ : Watched Q) → Option (List ℕ) → Option (List ℕ) → Result (Unit {0}) Fault → Type 0
-FormatsOnHanded q₀ q₁ old new result = EndsOnHanded q₀ q₁ (λ q. FormatEnds q old new result) result
+abbrev pub FormatsOnHanded : {Q : Type 0} → (left : Q → Option (List ℕ)) → (q₀ q₁ : Watched Q) → Option (List ℕ) → Option (List ℕ) → Result (Unit {0}) Fault → Type 0
+FormatsOnHanded left q₀ q₁ old new result = EndsOnHanded left q₀ q₁ (λ q. FormatEnds q old new result) result
 
-abbrev pub GraphsOnHanded : GraphForm → {Q : Type 0} → (q₀ q₁ : Watched Q) → Option (List ℕ) → Option (List ℕ) → Result (Unit {0}) Fault → Type 0
-GraphsOnHanded form q₀ q₁ old new result = EndsOnHanded q₀ q₁ (λ q. GraphEnds form q old new result) result
+abbrev pub GraphsOnHanded : GraphForm → {Q : Type 0} → (left : Q → Option (List ℕ)) → (q₀ q₁ : Watched Q) → Option (List ℕ) → Option (List ℕ) → Result (Unit {0}) Fault → Type 0
+GraphsOnHanded form left q₀ q₁ old new result = EndsOnHanded left q₀ q₁ (λ q. GraphEnds form q old new result) result
 
-abbrev pub ReplaysOnHanded : (workers : ℕ) → ViewKind → {Q S : Type 0} → (q₀ q₁ : Watched Q) → (s₀ s₁ : Watched S) → Option (List ℕ) → Option (List ℕ) → Result (Unit {0}) Fault → Type 0
-ReplaysOnHanded workers kind q₀ q₁ s₀ s₁ old new result =
-    EndsOnBothHanded q₀ q₁ s₀ s₁ (λ q s. ReplayEnds q workers kind s old new result × Heeds q old new result) result
+abbrev pub ReplaysOnHanded : (workers : ℕ) → ViewKind → {Q S : Type 0} → (left : Q → Option (List ℕ)) → (q₀ q₁ : Watched Q) → (s₀ s₁ : Watched S) → Option (List ℕ) → Option (List ℕ) → Result (Unit {0}) Fault → Type 0
+ReplaysOnHanded workers kind left q₀ q₁ s₀ s₁ old new result =
+    EndsOnBothHanded left q₀ q₁ s₀ s₁ (λ q s. ReplayEnds q workers kind s old new result × Heeds q old new result) result
 
 -- Following ends so on what its two readers handed over: of the query the whole text, and of the input what its reader has handed over so far,
 -- which is all of it only once that has ended. Where the reader of the query failed, or memory ran out, nothing is written.
-pub record FollowsOnHanded {Q I : Type 0} (remaining : I → Option (List ℕ)) (q₀ q₁ : Watched Q) (i₀ i₁ : Watched I) (old new : Option (List ℕ)) (result : Result (Unit {0}) Fault) : Type 0 where
+pub record FollowsOnHanded {Q I : Type 0} (left : Q → Option (List ℕ)) (remaining : I → Option (List ℕ)) (q₀ q₁ : Watched Q) (i₀ i₁ : Watched I) (old new : Option (List ℕ)) (result : Result (Unit {0}) Fault) : Type 0 where
   pub query : List ℕ
-  pub read : HandsQuery q₀ q₁ query ⊎ (Hands q₀ q₁ query × IsOfQuery result)
+  pub read : HandsQuery left q₀ q₁ query ⊎ (Hands q₀ q₁ query × IsOfQuery result)
   pub ends : FollowEnds query (HasRead remaining i₀ i₁) old new result

@@ -1,5 +1,5 @@
 -- How the commands end on what the texts of their names handed over.
-use Rattle.std.specs.Prelude.{◌≡◌, ◌<◌, ◌⊎◌, ℕ, suc, true, List, length, Option, Some, None, Result, IsErrOf, option_map}
+use Rattle.std.specs.Prelude.{◌≡◌, ◌<◌, ◌⊎◌, ℕ, suc, true, List, length, Option, Some, None, Result, IfSome, IsErrOf, option_map}
 use Rattle.lexer.specs.Tokens.{max_length}
 use Rattle.command_line.specs.Counts.{count_of}
 use Rattle.command_line.specs.declared.line_options.GraphForm.{GraphForm}
@@ -14,13 +14,14 @@ use Rattle.collector.specs.declared.transcript.Transcript.{Transcript}
 use Rattle.follow.specs.Follows.{Reading}
 use Rattle.diagnostics.specs.declared.fault.Fault.{Fault}
 use Rattle.diagnostics.specs.declared.fault.Fault.TheVariants.{NoWorker}
+use Rattle.console.specs.Asked.{Known, query_word}
 use Rattle.console.specs.Checks.{CheckEnds}
 use Rattle.console.specs.Followed.{FollowEnds}
 use Rattle.console.specs.Formats.{FormatEnds}
 use Rattle.console.specs.Graphs.{GraphEnds}
 use Rattle.console.specs.Heeded.{Heeds}
 use Rattle.console.specs.InputChecks.{CheckInputEnds}
-use Rattle.console.specs.Readings.{IsOfQuery, IsOfReading}
+use Rattle.console.specs.Readings.{IsOfQuery, IsOfReading, read_part}
 use Rattle.console.specs.Replayed.{ReplayEnds}
 use Rattle.console.specs.Runs.{Ends}
 use Rattle.console.specs.Views.{kind_asked}
@@ -38,20 +39,24 @@ IsClosed kept o = (t : Transcript) × (kept ≡ Some t) × (name_of t ≡ opened
 abbrev pub IsEnough : Transcript → Type 0
 IsEnough t = (is_complete t ≡ true) ⊎ (length (bytes_of t) ≡ suc max_length)
 
+-- a query was read so; where its bytes are known, these are they
+abbrev pub IsReadQuery : (known : Option (List ℕ)) → Transcript → Type 0
+IsReadQuery known t = IsEnough t × IfSome known (λ q. bytes_of t ≡ read_part q)
+
 -- A command of one text ends so on what the text of that name handed over, which is enough of it unless the fault is of reading.
-pub record EndsOnText (texts : Transcripts) (name : List ℕ) (promised : (query : List ℕ) → Type 0) (result : Result (Unit {0}) Fault) : Type 0 where
+pub record EndsOnText (queries : Known) (texts : Transcripts) (name : List ℕ) (promised : (query : List ℕ) → Type 0) (result : Result (Unit {0}) Fault) : Type 0 where
   pub query : Transcript
   pub opened : IsOf texts.query name query
-  pub whole : IsEnough query ⊎ IsOfQuery result
+  pub whole : IsReadQuery (queries name) query ⊎ IsOfQuery result
   pub ends : promised (bytes_of query)
 
 -- A command of two texts ends so on what the texts of these names handed over, which is all of them unless the fault is of reading.
-pub record EndsOnTexts (texts : Transcripts) (query_name input_name : List ℕ) (promised : (query input : List ℕ) → Type 0) (result : Result (Unit {0}) Fault) : Type 0 where
+pub record EndsOnTexts (queries : Known) (texts : Transcripts) (query_name input_name : List ℕ) (promised : (query input : List ℕ) → Type 0) (result : Result (Unit {0}) Fault) : Type 0 where
   pub query : Transcript
   pub input : Transcript
   pub opened : IsOf texts.query query_name query
   pub other_opened : IsOf texts.input input_name input
-  pub whole : (IsEnough query × (is_complete input ≡ true)) ⊎ IsOfReading result
+  pub whole : (IsReadQuery (queries query_name) query × (is_complete input ≡ true)) ⊎ IsOfReading result
   pub ends : promised (bytes_of query) (bytes_of input)
 
 -- what was read is what the text handed over, and where following has met its end, that is all
@@ -59,43 +64,43 @@ abbrev pub IsReadFrom : Transcript → Reading
 IsReadFrom t bytes ended = (bytes ≡ bytes_of t) × (ended ≡ true → is_complete t ≡ true)
 
 -- Following ends so on the whole query, and on what the input handed over so far.
-pub record FollowsOnTexts (texts : Transcripts) (query_name input_name : List ℕ) (old new : Option (List ℕ)) (result : Result (Unit {0}) Fault) : Type 0 where
+pub record FollowsOnTexts (queries : Known) (texts : Transcripts) (query_name input_name : List ℕ) (old new : Option (List ℕ)) (result : Result (Unit {0}) Fault) : Type 0 where
   pub query : Transcript
   pub input : Transcript
   pub opened : IsOf texts.query query_name query
   pub other_opened : IsOf texts.input input_name input
-  pub whole : IsEnough query ⊎ IsOfQuery result
+  pub whole : IsReadQuery (queries query_name) query ⊎ IsOfQuery result
   pub ends : FollowEnds (bytes_of query) (IsReadFrom input) old new result
 
 -- each command ends so
-abbrev pub RunsOnTexts : Transcripts → (query input : List ℕ) → Option (List ℕ) → Option (List ℕ) → Result (Unit {0}) Fault → Type 0
-RunsOnTexts texts query input old new result = EndsOnTexts texts query input (λ q i. Ends q i old new result × Heeds q old new result) result
+abbrev pub RunsOnTexts : Known → Transcripts → (query input : List ℕ) → Option (List ℕ) → Option (List ℕ) → Result (Unit {0}) Fault → Type 0
+RunsOnTexts queries texts query input old new result = EndsOnTexts queries texts query input (λ q i. Ends q i old new result × Heeds q old new result) result
 
 -- the query alone where no input is named, and else both
-abbrev pub ChecksOnTexts : Transcripts → (query : List ℕ) → (input : Option (List ℕ)) → Option (List ℕ) → Option (List ℕ) → Result (Unit {0}) Fault → Type 0
-ChecksOnTexts texts query None old new result = EndsOnText texts query (λ q. CheckEnds q old new result) result
-ChecksOnTexts texts query (Some input) old new result = EndsOnTexts texts query input (λ q i. CheckInputEnds q i old new result) result
+abbrev pub ChecksOnTexts : Known → Transcripts → (query : List ℕ) → (input : Option (List ℕ)) → Option (List ℕ) → Option (List ℕ) → Result (Unit {0}) Fault → Type 0
+ChecksOnTexts queries texts query None old new result = EndsOnText queries texts query (λ q. CheckEnds q old new result) result
+ChecksOnTexts queries texts query (Some input) old new result = EndsOnTexts queries texts query input (λ q i. CheckInputEnds q i old new result) result
 
-abbrev pub FormatsOnTexts : Transcripts → (query : List ℕ) → Option (List ℕ) → Option (List ℕ) → Result (Unit {0}) Fault → Type 0
-FormatsOnTexts texts query old new result = EndsOnText texts query (λ q. FormatEnds q old new result) result
+abbrev pub FormatsOnTexts : Known → Transcripts → (query : List ℕ) → Option (List ℕ) → Option (List ℕ) → Result (Unit {0}) Fault → Type 0
+FormatsOnTexts queries texts query old new result = EndsOnText queries texts query (λ q. FormatEnds q old new result) result
 
-abbrev pub GraphsOnTexts : Transcripts → GraphForm → (query : List ℕ) → Option (List ℕ) → Option (List ℕ) → Result (Unit {0}) Fault → Type 0
-GraphsOnTexts texts form query old new result = EndsOnText texts query (λ q. GraphEnds form q old new result) result
+abbrev pub GraphsOnTexts : Known → Transcripts → GraphForm → (query : List ℕ) → Option (List ℕ) → Option (List ℕ) → Result (Unit {0}) Fault → Type 0
+GraphsOnTexts queries texts form query old new result = EndsOnText queries texts query (λ q. GraphEnds form q old new result) result
 
-abbrev pub ReplaysOnTexts : Transcripts → Workers → ViewKind → (query schedule : List ℕ) → Option (List ℕ) → Option (List ℕ) → Result (Unit {0}) Fault → Type 0
-ReplaysOnTexts texts workers kind query schedule old new result =
-    EndsOnTexts texts query schedule (λ q s. ReplayEnds q (count_of workers) kind s old new result × Heeds q old new result) result
+abbrev pub ReplaysOnTexts : Known → Transcripts → Workers → ViewKind → (query schedule : List ℕ) → Option (List ℕ) → Option (List ℕ) → Result (Unit {0}) Fault → Type 0
+ReplaysOnTexts queries texts workers kind query schedule old new result =
+    EndsOnTexts queries texts query schedule (λ q s. ReplayEnds q (count_of workers) kind s old new result × Heeds q old new result) result
 
 -- only where several workers are asked for, one may not be started
 abbrev pub StartsSeveral : Workers → Result (Unit {0}) Fault → Type 0
 StartsSeveral workers result = IsErrOf result NoWorker → 1 < count_of workers
 
 -- the command of these options ends so; one that explains a number reads no text
-abbrev pub EndsOnRead : Transcripts → Options → Option (List ℕ) → Option (List ℕ) → Result (Unit {0}) Fault → Type 0
-EndsOnRead texts (Run query input workers watch stats explain) old new result = RunsOnTexts texts query.now input.now old new result × StartsSeveral workers result
-EndsOnRead texts (Follow query input workers explain) old new result = FollowsOnTexts texts query.now input.now old new result
-EndsOnRead texts (Check query input heap explain) old new result = ChecksOnTexts texts query.now (option_map (λ s. s.now) input) old new result
-EndsOnRead texts (Graph query form heap explain) old new result = GraphsOnTexts texts form query.now old new result
-EndsOnRead texts (Format query explain) old new result = FormatsOnTexts texts query.now old new result
-EndsOnRead texts (Replay query schedule workers views explain) old new result = ReplaysOnTexts texts workers (kind_asked views) query.now schedule.now old new result
-EndsOnRead texts (Explain code) old new result = Unit {0}
+abbrev pub EndsOnRead : Known → Transcripts → Options → Option (List ℕ) → Option (List ℕ) → Result (Unit {0}) Fault → Type 0
+EndsOnRead queries texts (Run query input workers watch stats explain) old new result = RunsOnTexts queries texts (query_word query) input.now old new result × StartsSeveral workers result
+EndsOnRead queries texts (Follow query input workers explain) old new result = FollowsOnTexts queries texts (query_word query) input.now old new result
+EndsOnRead queries texts (Check query input heap explain) old new result = ChecksOnTexts queries texts (query_word query) (option_map (λ s. s.now) input) old new result
+EndsOnRead queries texts (Graph query form heap explain) old new result = GraphsOnTexts queries texts form (query_word query) old new result
+EndsOnRead queries texts (Format query explain) old new result = FormatsOnTexts queries texts (query_word query) old new result
+EndsOnRead queries texts (Replay query schedule workers views explain) old new result = ReplaysOnTexts queries texts workers (kind_asked views) (query_word query) schedule.now old new result
+EndsOnRead queries texts (Explain code) old new result = Unit {0}

@@ -45,7 +45,7 @@ pub fn check_query<A: Allocator + Copy, Q: Read, W: Write>(
     writer: &mut Watched<W>,
 ) -> Result<(), Fault>
     ensures ends { ChecksOver (Q.remaining (inner_of query.old)) (W.contents (inner_of writer.old)) (W.contents (inner_of writer.new)) result }
-    ensures handed { ChecksOnHanded query.old query.new (W.contents (inner_of writer.old)) (W.contents (inner_of writer.new)) result }
+    ensures handed { ChecksOnHanded Q.remaining query.old query.new (W.contents (inner_of writer.old)) (W.contents (inner_of writer.new)) result }
     ensures query { IsErrOf result fault.ReadQuery → has_failed query.new ≡ true }
     ensures writer { IsErrOf result fault.Write → has_failed writer.new ≡ true }
     ensures kept { KeepsQuery (Q.remaining (inner_of query.old)) result texts.new.query.items }

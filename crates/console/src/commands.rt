@@ -27,10 +27,17 @@ use std::io::{Read, Write};
 use std::sync::Wait;
 use std::thread::Threads;
 
-/// A query and its other text, by their names, and the workers that are asked for.
+/// Where a query is found, and its name there.
 #[derive(Clone, Copy)]
-pub struct Task<'a> {
-    pub query: &'a str,
+pub struct Place<'a, 'q, Q> {
+    pub queries: &'q Q,
+    pub name: &'a str,
+}
+
+/// A query and the name of its other text, and the workers that are asked for.
+#[derive(Clone, Copy)]
+pub struct Task<'a, 'q, Q> {
+    pub query: Place<'a, 'q, Q>,
     /// An input or a schedule.
     pub input: &'a str,
     pub workers: Workers,
@@ -85,6 +92,7 @@ impl<'a> Kept<'a> {
 pub fn run_named<
     'a,
     R: Threads + Wait + Sync,
+    Q: Sources<'a>,
     S: Sources<'a>,
     W: Write,
     E: Write,
@@ -93,18 +101,18 @@ pub fn run_named<
     rt: &R,
     alloc: Global,
     sources: &S,
-    task: Task<'a>,
-    stats: bool,
+    task: Task<'a, '_, Q>,
+    stats: Option<GraphForm>,
     streams: &mut Streams<W, E, O>,
     kept: &mut Kept<'a>,
 ) -> Result<(), Fault>
-    ensures known { RunsOn (S.content sources.now) task.entry.query.now task.entry.input.now
+    ensures known { RunsOn (Q.content task.entry.query.queries.now) (S.content sources.now) task.entry.query.name.now task.entry.input.now
         (W.contents (inner_of streams.old.out)) (W.contents (inner_of streams.new.out)) result }
-    ensures read { RunsOnTexts kept.new.transcripts task.entry.query.now task.entry.input.now
+    ensures read { RunsOnTexts (Q.content task.entry.query.queries.now) kept.new.transcripts task.entry.query.name.now task.entry.input.now
         (W.contents (inner_of streams.old.out)) (W.contents (inner_of streams.new.out)) result }
     ensures several { StartsSeveral task.entry.workers result }
 {
-    let mut query = open_named(sources, task.query);
+    let mut query = open_named(task.query.queries, task.query.name);
     let mut input = open_named(sources, task.input);
     let options = RunOptions {
         workers: task.workers,
@@ -126,18 +134,18 @@ pub fn run_named<
 
 /// Follows an input.
 #[tactic(auto, using(crate::proofs::OpenedTexts::followed_closed))]
-pub fn follow_named<'a, R: Threads + Sync, S: Sources<'a>, W: Write>(
+pub fn follow_named<'a, R: Threads + Sync, Q: Sources<'a>, S: Sources<'a>, W: Write>(
     rt: &R,
     alloc: Global,
     sources: &S,
-    task: Task<'a>,
+    task: Task<'a, '_, Q>,
     out: &mut Watched<W>,
     kept: &mut Kept<'a>,
 ) -> Result<(), Fault>
-    ensures known { FollowsOn (S.content sources.now) task.entry.query.now task.entry.input.now (W.contents (inner_of out.old)) (W.contents (inner_of out.new)) result }
-    ensures read { FollowsOnTexts kept.new.transcripts task.entry.query.now task.entry.input.now (W.contents (inner_of out.old)) (W.contents (inner_of out.new)) result }
+    ensures known { FollowsOn (Q.content task.entry.query.queries.now) (S.content sources.now) task.entry.query.name.now task.entry.input.now (W.contents (inner_of out.old)) (W.contents (inner_of out.new)) result }
+    ensures read { FollowsOnTexts (Q.content task.entry.query.queries.now) kept.new.transcripts task.entry.query.name.now task.entry.input.now (W.contents (inner_of out.old)) (W.contents (inner_of out.new)) result }
 {
-    let mut query = open_named(sources, task.query);
+    let mut query = open_named(task.query.queries, task.query.name);
     let mut input = open_named(sources, task.input);
     let done = follow_query(
         rt,
@@ -155,20 +163,20 @@ pub fn follow_named<'a, R: Threads + Sync, S: Sources<'a>, W: Write>(
 
 /// Does a schedule's steps over a query.
 #[tactic(auto, using(crate::proofs::OpenedTexts::both_closed))]
-pub fn replay_named<'a, S: Sources<'a>, W: Write>(
+pub fn replay_named<'a, Q: Sources<'a>, S: Sources<'a>, W: Write>(
     alloc: Global,
     sources: &S,
-    task: Task<'a>,
+    task: Task<'a, '_, Q>,
     kind: ViewKind,
     out: &mut Watched<W>,
     kept: &mut Kept<'a>,
 ) -> Result<(), Fault>
-    ensures known { ReplaysOn (S.content sources.now) task.entry.workers kind task.entry.query.now task.entry.input.now
+    ensures known { ReplaysOn (Q.content task.entry.query.queries.now) (S.content sources.now) task.entry.workers kind task.entry.query.name.now task.entry.input.now
         (W.contents (inner_of out.old)) (W.contents (inner_of out.new)) result }
-    ensures read { ReplaysOnTexts kept.new.transcripts task.entry.workers kind task.entry.query.now task.entry.input.now
+    ensures read { ReplaysOnTexts (Q.content task.entry.query.queries.now) kept.new.transcripts task.entry.workers kind task.entry.query.name.now task.entry.input.now
         (W.contents (inner_of out.old)) (W.contents (inner_of out.new)) result }
 {
-    let mut query = open_named(sources, task.query);
+    let mut query = open_named(task.query.queries, task.query.name);
     let mut schedule = open_named(sources, task.input);
     let done = replay_schedule(
         alloc,
@@ -194,7 +202,7 @@ fn check_in_heap<Q: Read, W: Write>(
     out: &mut Watched<W>,
 ) -> Result<(), Fault>
     ensures known { ChecksOver (Q.remaining (inner_of query.old)) (W.contents (inner_of out.old)) (W.contents (inner_of out.new)) result }
-    ensures handed { ChecksOnHanded query.old query.new (W.contents (inner_of out.old)) (W.contents (inner_of out.new)) result }
+    ensures handed { ChecksOnHanded Q.remaining query.old query.new (W.contents (inner_of out.old)) (W.contents (inner_of out.new)) result }
 {
     match heap {
         None => {
@@ -220,7 +228,7 @@ fn check_both_in_heap<Q: Read, I: Read, W: Write>(
 ) -> Result<(), Fault>
     ensures known { ChecksBothOver (Q.remaining (inner_of query.old)) (I.remaining (inner_of input.old))
         (W.contents (inner_of out.old)) (W.contents (inner_of out.new)) result }
-    ensures handed { ChecksBothOnHanded query.old query.new input.old input.new (W.contents (inner_of out.old)) (W.contents (inner_of out.new)) result }
+    ensures handed { ChecksBothOnHanded Q.remaining query.old query.new input.old input.new (W.contents (inner_of out.old)) (W.contents (inner_of out.new)) result }
 {
     match heap {
         None => {
@@ -236,18 +244,17 @@ fn check_both_in_heap<Q: Read, I: Read, W: Write>(
 
 /// Checks a query alone.
 #[tactic(auto, using(crate::proofs::OpenedTexts::one_closed))]
-fn check_alone<'a, S: Sources<'a>, W: Write>(
+fn check_alone<'a, Q: Sources<'a>, W: Write>(
     alloc: Global,
-    sources: &S,
     heap: Option<HeapSize>,
-    query: &'a str,
+    query: Place<'a, '_, Q>,
     out: &mut Watched<W>,
     kept: &mut Kept<'a>,
 ) -> Result<(), Fault>
-    ensures known { ChecksOn (S.content sources.now) query.now None (W.contents (inner_of out.old)) (W.contents (inner_of out.new)) result }
-    ensures read { ChecksOnTexts kept.new.transcripts query.now None (W.contents (inner_of out.old)) (W.contents (inner_of out.new)) result }
+    ensures known { ChecksOver (Q.content query.entry.queries.now query.entry.name.now) (W.contents (inner_of out.old)) (W.contents (inner_of out.new)) result }
+    ensures read { ChecksOnTexts (Q.content query.entry.queries.now) kept.new.transcripts query.entry.name.now None (W.contents (inner_of out.old)) (W.contents (inner_of out.new)) result }
 {
-    let mut query = open_named(sources, query);
+    let mut query = open_named(query.queries, query.name);
     let done = check_in_heap(alloc, heap, &mut query.text, &mut kept.texts, out);
     kept.keep_query(query);
     done
@@ -255,19 +262,19 @@ fn check_alone<'a, S: Sources<'a>, W: Write>(
 
 /// Checks a query and an input.
 #[tactic(auto, using(crate::proofs::OpenedTexts::both_closed))]
-fn check_both<'a, S: Sources<'a>, W: Write>(
+fn check_both<'a, Q: Sources<'a>, S: Sources<'a>, W: Write>(
     alloc: Global,
     sources: &S,
     heap: Option<HeapSize>,
-    query: &'a str,
+    query: Place<'a, '_, Q>,
     input: &'a str,
     out: &mut Watched<W>,
     kept: &mut Kept<'a>,
 ) -> Result<(), Fault>
-    ensures known { ChecksOn (S.content sources.now) query.now (Some input.now) (W.contents (inner_of out.old)) (W.contents (inner_of out.new)) result }
-    ensures read { ChecksOnTexts kept.new.transcripts query.now (Some input.now) (W.contents (inner_of out.old)) (W.contents (inner_of out.new)) result }
+    ensures known { ChecksOn (Q.content query.entry.queries.now) (S.content sources.now) query.entry.name.now (Some input.now) (W.contents (inner_of out.old)) (W.contents (inner_of out.new)) result }
+    ensures read { ChecksOnTexts (Q.content query.entry.queries.now) kept.new.transcripts query.entry.name.now (Some input.now) (W.contents (inner_of out.old)) (W.contents (inner_of out.new)) result }
 {
-    let mut query = open_named(sources, query);
+    let mut query = open_named(query.queries, query.name);
     let mut input = open_named(sources, input);
     let done = check_both_in_heap(
         alloc,
@@ -283,22 +290,22 @@ fn check_both<'a, S: Sources<'a>, W: Write>(
 }
 
 /// Checks a query, and an input where one is named.
-pub fn check_named<'a, S: Sources<'a>, W: Write>(
+pub fn check_named<'a, Q: Sources<'a>, S: Sources<'a>, W: Write>(
     alloc: Global,
     sources: &S,
     heap: Option<HeapSize>,
-    query: &'a str,
+    query: Place<'a, '_, Q>,
     input: Option<&'a str>,
     out: &mut Watched<W>,
     kept: &mut Kept<'a>,
 ) -> Result<(), Fault>
-    ensures known { ChecksOn (S.content sources.now) query.now (option_map (λ s. s.now) input.entry)
+    ensures known { ChecksOn (Q.content query.entry.queries.now) (S.content sources.now) query.entry.name.now (option_map (λ s. s.now) input.entry)
         (W.contents (inner_of out.old)) (W.contents (inner_of out.new)) result }
-    ensures read { ChecksOnTexts kept.new.transcripts query.now (option_map (λ s. s.now) input.entry)
+    ensures read { ChecksOnTexts (Q.content query.entry.queries.now) kept.new.transcripts query.entry.name.now (option_map (λ s. s.now) input.entry)
         (W.contents (inner_of out.old)) (W.contents (inner_of out.new)) result }
 {
     match input {
-        None => check_alone(alloc, sources, heap, query, out, kept),
+        None => check_alone(alloc, heap, query, out, kept),
         Some(input) => check_both(alloc, sources, heap, query, input, out, kept),
     }
 }
@@ -314,7 +321,7 @@ fn graph_in_heap<Q: Read, W: Write>(
     out: &mut Watched<W>,
 ) -> Result<(), Fault>
     ensures known { GraphsOver form (Q.remaining (inner_of query.old)) (W.contents (inner_of out.old)) (W.contents (inner_of out.new)) result }
-    ensures handed { GraphsOnHanded form query.old query.new (W.contents (inner_of out.old)) (W.contents (inner_of out.new)) result }
+    ensures handed { GraphsOnHanded form Q.remaining query.old query.new (W.contents (inner_of out.old)) (W.contents (inner_of out.new)) result }
 {
     match heap {
         None => {
@@ -330,19 +337,18 @@ fn graph_in_heap<Q: Read, W: Write>(
 
 /// Writes the graph of a query.
 #[tactic(auto, using(crate::proofs::OpenedTexts::one_closed))]
-pub fn graph_named<'a, S: Sources<'a>, W: Write>(
+pub fn graph_named<'a, Q: Sources<'a>, W: Write>(
     alloc: Global,
-    sources: &S,
     heap: Option<HeapSize>,
     form: GraphForm,
-    query: &'a str,
+    query: Place<'a, '_, Q>,
     out: &mut Watched<W>,
     kept: &mut Kept<'a>,
 ) -> Result<(), Fault>
-    ensures known { GraphsOn (S.content sources.now) form query.now (W.contents (inner_of out.old)) (W.contents (inner_of out.new)) result }
-    ensures read { GraphsOnTexts kept.new.transcripts form query.now (W.contents (inner_of out.old)) (W.contents (inner_of out.new)) result }
+    ensures known { GraphsOn (Q.content query.entry.queries.now) form query.entry.name.now (W.contents (inner_of out.old)) (W.contents (inner_of out.new)) result }
+    ensures read { GraphsOnTexts (Q.content query.entry.queries.now) kept.new.transcripts form query.entry.name.now (W.contents (inner_of out.old)) (W.contents (inner_of out.new)) result }
 {
-    let mut query = open_named(sources, query);
+    let mut query = open_named(query.queries, query.name);
     let done = graph_in_heap(alloc, heap, form, &mut query.text, &mut kept.texts, out);
     kept.keep_query(query);
     done
@@ -350,17 +356,16 @@ pub fn graph_named<'a, S: Sources<'a>, W: Write>(
 
 /// Writes a query in its canonical form.
 #[tactic(auto, using(crate::proofs::OpenedTexts::one_closed))]
-pub fn format_named<'a, S: Sources<'a>, W: Write>(
+pub fn format_named<'a, Q: Sources<'a>, W: Write>(
     alloc: Global,
-    sources: &S,
-    query: &'a str,
+    query: Place<'a, '_, Q>,
     out: &mut Watched<W>,
     kept: &mut Kept<'a>,
 ) -> Result<(), Fault>
-    ensures known { FormatsOn (S.content sources.now) query.now (W.contents (inner_of out.old)) (W.contents (inner_of out.new)) result }
-    ensures read { FormatsOnTexts kept.new.transcripts query.now (W.contents (inner_of out.old)) (W.contents (inner_of out.new)) result }
+    ensures known { FormatsOn (Q.content query.entry.queries.now) query.entry.name.now (W.contents (inner_of out.old)) (W.contents (inner_of out.new)) result }
+    ensures read { FormatsOnTexts (Q.content query.entry.queries.now) kept.new.transcripts query.entry.name.now (W.contents (inner_of out.old)) (W.contents (inner_of out.new)) result }
 {
-    let mut query = open_named(sources, query);
+    let mut query = open_named(query.queries, query.name);
     let arena = Bump::new(alloc);
     let done = format_query(alloc, &arena, &mut query.text, &mut kept.texts, out);
     kept.keep_query(query);

@@ -3,17 +3,22 @@
 ghost use Rattle.std.specs.Prelude.{◌≡◌, map, IfNone, IfSome};
 ghost use Rattle.collector.specs.Watching.{inner_of};
 ghost use Rattle.command_line.specs.Faults.{line_status_of};
+ghost use Rattle.console.specs.Asked.{asks_inline, on_line, queries_of, query_word};
 ghost use Rattle.console.specs.Commands.{Answers, EndsOn, Obeys, status_after};
 ghost use Rattle.console.specs.Transcribed.{EndsOnRead};
 ghost use Rattle.console.specs.Views.{kind_asked};
 
 use crate::commands::{
-    Kept, Task, check_named, follow_named, format_named, graph_named, replay_named, run_named,
+    Kept, Place, Task, check_named, follow_named, format_named, graph_named, replay_named,
+    run_named,
 };
+use crate::on_line::OnLine;
 use crate::streams::Streams;
 use crate::transcripts::Transcripts;
+use bumpalo::Bump;
 use collector::{Sources, Watched};
-use command_line::{LineFault, Options, options};
+use command_line::{LineFault, Options, Query, options};
+use compile::warnings_of;
 use diagnostics::{
     Fault, Plain, TextNames, Texts, Word, explain_fault, row_of_word, write_explanation,
     write_path_hint, write_warnings,
@@ -37,6 +42,49 @@ fn view_kind(views: bool) -> ViewKind
     }
 }
 
+/// The word that stands for a query.
+fn word_of<'a>(query: Query<'a>) -> &'a str
+    ensures { result.now ≡ query_word query.entry }
+{
+    match query {
+        Query::File(path) => path,
+        Query::Inline(text) => text,
+    }
+}
+
+/// Whether a query is on the line itself.
+fn is_on_line(query: Query<'_>) -> bool
+    ensures { result ≡ on_line query.entry }
+{
+    match query {
+        Query::File(_) => false,
+        Query::Inline(_) => true,
+    }
+}
+
+/// Whether the query of the options is on the line itself.
+fn is_inline(asked: Options<'_>) -> bool
+    ensures { result ≡ asks_inline asked.entry }
+{
+    match asked {
+        Options::Run { query, .. }
+        | Options::Follow { query, .. }
+        | Options::Check { query, .. }
+        | Options::Graph { query, .. }
+        | Options::Format { query, .. }
+        | Options::Replay { query, .. } => is_on_line(query),
+        Options::Explain { .. } => false,
+    }
+}
+
+/// What a query is called where something is told of it.
+fn shown_name<'a>(query: Query<'a>) -> &'a str {
+    match query {
+        Query::File(path) => path,
+        Query::Inline(_) => "-e",
+    }
+}
+
 /// The names of a command's texts, and whether a fault is to be explained. A name is empty where the command has no such text.
 fn texts_of<'a>(asked: &Options<'a>) -> (&'a str, &'a str, bool) {
     match *asked {
@@ -45,27 +93,27 @@ fn texts_of<'a>(asked: &Options<'a>) -> (&'a str, &'a str, bool) {
             input,
             explain,
             ..
-        } => (query, input, explain),
+        } => (shown_name(query), input, explain),
         Options::Replay {
             query,
             schedule,
             explain,
             ..
-        } => (query, schedule, explain),
+        } => (shown_name(query), schedule, explain),
         Options::Follow {
             query,
             input,
             explain,
             ..
-        } => (query, input, explain),
+        } => (shown_name(query), input, explain),
         Options::Check {
             query,
             input,
             explain,
             ..
-        } => (query, input.unwrap_or(""), explain),
+        } => (shown_name(query), input.unwrap_or(""), explain),
         Options::Graph { query, explain, .. } | Options::Format { query, explain } => {
-            (query, "", explain)
+            (shown_name(query), "", explain)
         }
         Options::Explain { .. } => ("", "", false),
     }
@@ -93,7 +141,7 @@ fn write_fault<E: Write>(
     err.write_all(text.as_slice())
 }
 
-/// Writes what a query that was checked has by mistake most likely, where that is asked for.
+/// Writes what a query that was checked has by mistake most likely, where that is asked for; nothing where there is no memory for it.
 fn warn<E: Write>(alloc: Global, asked: &Options, texts: &Texts, err: &mut E) -> io::Result<()> {
     let Options::Check {
         query,
@@ -103,8 +151,12 @@ fn warn<E: Write>(alloc: Global, asked: &Options, texts: &Texts, err: &mut E) ->
     else {
         return Ok(());
     };
+    let arena = Bump::new(alloc);
+    let Ok(warnings) = warnings_of(alloc, &arena, &texts.query) else {
+        return Ok(());
+    };
     let mut text = Vec::new(alloc);
-    write_warnings(alloc, query, &texts.query, &mut text)?;
+    write_warnings(shown_name(*query), &texts.query, &warnings, &mut text)?;
     err.write_all(text.as_slice())
 }
 
@@ -141,17 +193,29 @@ fn report_numbers<E: Write>(asked: &Options, err: &mut E) -> u8
     2
 }
 
+/// Where a query is found, and its name there.
+fn place_of<'a, 'q, Q>(queries: &'q Q, query: Query<'a>) -> Place<'a, 'q, Q>
+    ensures queries { result.queries.now ≡ queries.now }
+    ensures name { result.name.now ≡ query_word query.entry }
+{
+    Place {
+        queries,
+        name: word_of(query),
+    }
+}
+
 /// Does what the options ask for, if that needs no engine. None if it needs one, or if no refusal has the number that is to be explained;
 /// then nothing is written.
-fn answer_alone<'a, S: Sources<'a>, W: Write>(
+fn answer_alone<'a, Q: Sources<'a>, S: Sources<'a>, W: Write>(
     alloc: Global,
+    queries: &Q,
     sources: &S,
     asked: Options<'a>,
     out: &mut Watched<W>,
     kept: &mut Kept<'a>,
 ) -> Option<Result<(), Fault>>
-    ensures done { IfSome result (EndsOn (S.content sources.now) asked.entry (W.contents (inner_of out.old)) (W.contents (inner_of out.new))) }
-    ensures read { IfSome result (EndsOnRead kept.new.transcripts asked.entry (W.contents (inner_of out.old)) (W.contents (inner_of out.new))) }
+    ensures done { IfSome result (EndsOn (Q.content queries.now) (S.content sources.now) asked.entry (W.contents (inner_of out.old)) (W.contents (inner_of out.new))) }
+    ensures read { IfSome result (EndsOnRead (Q.content queries.now) kept.new.transcripts asked.entry (W.contents (inner_of out.old)) (W.contents (inner_of out.new))) }
     ensures none { IfNone result (W.contents (inner_of out.new) ≡ W.contents (inner_of out.old)) }
 {
     match asked {
@@ -160,14 +224,23 @@ fn answer_alone<'a, S: Sources<'a>, W: Write>(
             input,
             heap,
             ..
-        } => Some(check_named(alloc, sources, heap, query, input, out, kept)),
+        } => {
+            let query = place_of(queries, query);
+            Some(check_named(alloc, sources, heap, query, input, out, kept))
+        }
         Options::Graph {
             query,
             form,
             heap,
             ..
-        } => Some(graph_named(alloc, sources, heap, form, query, out, kept)),
-        Options::Format { query, .. } => Some(format_named(alloc, sources, query, out, kept)),
+        } => {
+            let query = place_of(queries, query);
+            Some(graph_named(alloc, heap, form, query, out, kept))
+        }
+        Options::Format { query, .. } => {
+            let query = place_of(queries, query);
+            Some(format_named(alloc, query, out, kept))
+        }
         Options::Explain { code } => match row_of_word(code) {
             Some(row) => Some(write_explanation(alloc, row, out)),
             None => None,
@@ -181,6 +254,7 @@ fn answer_alone<'a, S: Sources<'a>, W: Write>(
 fn answer_asked<
     'a,
     R: Threads + Wait + Sync,
+    Q: Sources<'a>,
     S: Sources<'a>,
     W: Write,
     E: Write,
@@ -188,13 +262,14 @@ fn answer_asked<
 >(
     rt: &R,
     alloc: Global,
+    queries: &Q,
     sources: &S,
     asked: Options<'a>,
     streams: &mut Streams<W, E, O>,
     kept: &mut Kept<'a>,
 ) -> Option<Result<(), Fault>>
-    ensures done { IfSome result (EndsOn (S.content sources.now) asked.entry (W.contents (inner_of streams.old.out)) (W.contents (inner_of streams.new.out))) }
-    ensures read { IfSome result (EndsOnRead kept.new.transcripts asked.entry (W.contents (inner_of streams.old.out)) (W.contents (inner_of streams.new.out))) }
+    ensures done { IfSome result (EndsOn (Q.content queries.now) (S.content sources.now) asked.entry (W.contents (inner_of streams.old.out)) (W.contents (inner_of streams.new.out))) }
+    ensures read { IfSome result (EndsOnRead (Q.content queries.now) kept.new.transcripts asked.entry (W.contents (inner_of streams.old.out)) (W.contents (inner_of streams.new.out))) }
     ensures none { IfNone result (W.contents (inner_of streams.new.out) ≡ W.contents (inner_of streams.old.out)) }
 {
     match asked {
@@ -210,7 +285,7 @@ fn answer_asked<
                 streams.watcher = None;
             }
             let task = Task {
-                query,
+                query: place_of(queries, query),
                 input,
                 workers,
             };
@@ -223,7 +298,7 @@ fn answer_asked<
             ..
         } => {
             let task = Task {
-                query,
+                query: place_of(queries, query),
                 input,
                 workers,
             };
@@ -237,7 +312,7 @@ fn answer_asked<
             ..
         } => {
             let task = Task {
-                query,
+                query: place_of(queries, query),
                 input: schedule,
                 workers,
             };
@@ -247,7 +322,39 @@ fn answer_asked<
         Options::Check { .. }
         | Options::Graph { .. }
         | Options::Format { .. }
-        | Options::Explain { .. } => answer_alone(alloc, sources, asked, &mut streams.out, kept),
+        | Options::Explain { .. } => {
+            answer_alone(alloc, queries, sources, asked, &mut streams.out, kept)
+        }
+    }
+}
+
+/// The same, with a query on the line or among the texts.
+#[tactic(auto, using(crate::proofs::Commanding::found_on_line, crate::proofs::Commanding::found_in_texts, crate::proofs::Commanding::read_on_line, crate::proofs::Commanding::read_in_texts))]
+fn answer_found<
+    'a,
+    R: Threads + Wait + Sync,
+    S: Sources<'a>,
+    W: Write,
+    E: Write,
+    O: Write + Send + Drop,
+>(
+    rt: &R,
+    alloc: Global,
+    sources: &S,
+    asked: Options<'a>,
+    streams: &mut Streams<W, E, O>,
+    kept: &mut Kept<'a>,
+) -> Option<Result<(), Fault>>
+    ensures done { IfSome result (EndsOn (queries_of asked.entry (S.content sources.now)) (S.content sources.now) asked.entry
+        (W.contents (inner_of streams.old.out)) (W.contents (inner_of streams.new.out))) }
+    ensures read { IfSome result (EndsOnRead (queries_of asked.entry (S.content sources.now)) kept.new.transcripts asked.entry
+        (W.contents (inner_of streams.old.out)) (W.contents (inner_of streams.new.out))) }
+    ensures none { IfNone result (W.contents (inner_of streams.new.out) ≡ W.contents (inner_of streams.old.out)) }
+{
+    if is_inline(asked) {
+        answer_asked(rt, alloc, &OnLine, sources, asked, streams, kept)
+    } else {
+        answer_asked(rt, alloc, sources, sources, asked, streams, kept)
     }
 }
 
@@ -263,7 +370,7 @@ fn obey<'a, R: Threads + Wait + Sync, S: Sources<'a>, W: Write, E: Write, O: Wri
 ) -> u8
     ensures { Obeys (S.content sources.now) kept.new.transcripts asked.entry (W.contents (inner_of streams.old.out)) (W.contents (inner_of streams.new.out)) result }
 {
-    match answer_asked(rt, alloc, sources, asked, streams, kept) {
+    match answer_found(rt, alloc, sources, asked, streams, kept) {
         Some(done) => report(alloc, &asked, &done, &kept.texts, &mut streams.err),
         None => report_numbers(&asked, &mut streams.err),
     }

@@ -71,7 +71,7 @@ pub fn follow_query<R: Threads + Sync, Q: Read, I: Read, W: Write>(
 ) -> Result<(), Fault>
     ensures ends { FollowsOver (Q.remaining (inner_of query.old)) (I.remaining (inner_of input.old))
         (W.contents (inner_of writer.old)) (W.contents (inner_of writer.new)) result }
-    ensures handed { FollowsOnHanded I.remaining query.old query.new input.old input.new (W.contents (inner_of writer.old)) (W.contents (inner_of writer.new)) result }
+    ensures handed { FollowsOnHanded Q.remaining I.remaining query.old query.new input.old input.new (W.contents (inner_of writer.old)) (W.contents (inner_of writer.new)) result }
     ensures query { IsErrOf result fault.ReadQuery → has_failed query.new ≡ true }
     ensures input { IsErrOf result fault.ReadInput → has_failed input.new ≡ true }
     ensures writer { IsErrOf result fault.Write → has_failed writer.new ≡ true }

@@ -12,6 +12,7 @@ use crate::run_options::RunOptions;
 use crate::streams::Streams;
 use board::Board;
 use collector::{Epochs, OutFault, Watched, write_epochs};
+use command_line::GraphForm;
 use diagnostics::Fault;
 use execution::{ParallelSorter, Parallelism, Unfinished, emitted, execute};
 use graph::Graph;
@@ -122,6 +123,7 @@ fn respond_counted<R: Threads + Wait + Sync, W: Write, E: Write, O: Write + Send
     rt: &R,
     alloc: Global,
     parallelism: Parallelism,
+    form: GraphForm,
     graph: Arc<Graph, Global>,
     epochs: &Epochs,
     streams: &mut Streams<W, E, O>,
@@ -134,9 +136,15 @@ fn respond_counted<R: Threads + Wait + Sync, W: Write, E: Write, O: Write + Send
         Ok(tally) => tally,
         Err(_) => return Err(Fault::NoMemory),
     };
+    let Ok(drawn) = Arc::try_clone(&graph) else {
+        return Err(Fault::NoMemory);
+    };
     match respond_by(rt, alloc, parallelism, graph, epochs, &tally, streams) {
         Ok(()) => {
-            let _ = tally.write(&mut streams.err);
+            let _ = match form {
+                GraphForm::Lines => tally.write(&mut streams.err),
+                GraphForm::Dot => tally.write_dot(alloc, &drawn, &mut streams.err),
+            };
             Ok(())
         }
         Err(fault) => Err(fault),
@@ -144,7 +152,7 @@ fn respond_counted<R: Threads + Wait + Sync, W: Write, E: Write, O: Write + Send
 }
 
 /// Has the workers work the epochs off over the graph, and writes what was emitted: whatever text the graph was compiled from, what that
-/// means on the epochs. The watcher is shown how many epochs have passed. If `stats` is asked for, a line for each vertex on `err` says then what it did.
+/// means on the epochs. The watcher is shown how many epochs have passed. If `stats` is asked for, a line for each vertex on `err`, or a drawing, says then what it did.
 pub fn respond<R: Threads + Wait + Sync, W: Write, E: Write, O: Write + Send + Drop>(
     rt: &R,
     alloc: Global,
@@ -161,9 +169,8 @@ pub fn respond<R: Threads + Wait + Sync, W: Write, E: Write, O: Write + Send + D
         return Err(Fault::NoMemory);
     };
     let parallelism = Parallelism::of(options.workers.count(), &graph, epochs);
-    if options.stats {
-        respond_counted(rt, alloc, parallelism, graph, epochs, streams)
-    } else {
-        respond_by(rt, alloc, parallelism, graph, epochs, &NoGate, streams)
+    match options.stats {
+        Some(form) => respond_counted(rt, alloc, parallelism, form, graph, epochs, streams),
+        None => respond_by(rt, alloc, parallelism, graph, epochs, &NoGate, streams),
     }
 }

@@ -49,7 +49,7 @@ pub fn check_input<A: Allocator + Copy, Q: Read, I: Read, W: Write>(
 ) -> Result<(), Fault>
     ensures ends { ChecksBothOver (Q.remaining (inner_of query.old)) (I.remaining (inner_of input.old))
         (W.contents (inner_of writer.old)) (W.contents (inner_of writer.new)) result }
-    ensures handed { ChecksBothOnHanded query.old query.new input.old input.new (W.contents (inner_of writer.old)) (W.contents (inner_of writer.new)) result }
+    ensures handed { ChecksBothOnHanded Q.remaining query.old query.new input.old input.new (W.contents (inner_of writer.old)) (W.contents (inner_of writer.new)) result }
     ensures query { IsErrOf result fault.ReadQuery → has_failed query.new ≡ true }
     ensures input { IsErrOf result fault.ReadInput → has_failed input.new ≡ true }
     ensures writer { IsErrOf result fault.Write → has_failed writer.new ≡ true }

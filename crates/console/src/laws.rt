@@ -7,7 +7,8 @@ ghost use Rattle.follow.specs.Entries.{Entry};
 ghost use Rattle.replay.specs.Replays.{Setting};
 ghost use Rattle.replay.specs.Waits.{State};
 ghost use Rattle.command_line.specs.declared.line_options.Options.{Options};
-ghost use Rattle.console.specs.Commands.{AsksRun, HasEnded, IsAnswered, Known};
+ghost use Rattle.console.specs.Asked.{Known, queries_of};
+ghost use Rattle.console.specs.Commands.{AsksRun, HasEnded, IsAnswered};
 ghost use Rattle.console.specs.Followed.{IsPartByText, IsWholeByText};
 ghost use Rattle.console.specs.Replayed.{IsPromisedByText};
 ghost use Rattle.console.specs.Runs.{IsRun};
@@ -38,5 +39,5 @@ pub fn law_replayed()
 /// A run that has ended with status 0 has read both texts to their ends, whatever is known of them, and what was written is their answer.
 pub fn law_answered()
     ensures { (texts : Known) (read : Transcripts) (options : Options) (query input old new : List ℕ)
-        → AsksRun options query input → HasEnded texts read options (Some old) (Some new) 0 → IsAnswered read query input old new }
+        → AsksRun options query input → HasEnded texts read options (Some old) (Some new) 0 → IsAnswered (queries_of options texts) read query input old new }
 {}

@@ -28,6 +28,7 @@ mod graph_answer;
 mod graphing;
 mod input_check;
 mod laws;
+mod on_line;
 mod reading;
 mod replaying;
 mod run_options;
@@ -38,7 +39,7 @@ mod writing;
 
 pub use checking::check_query;
 pub use collector::Sources;
-pub use command_line::{GraphForm, HeapSize, LineFault, Options, Workers};
+pub use command_line::{GraphForm, HeapSize, LineFault, Options, Query, Workers};
 pub use compile::{CompileFault, compile, law_one_graph};
 pub use diagnostics::{Fault, Texts};
 pub use disk::{Disk, DiskText};

@@ -20,7 +20,7 @@ pub fn read_query<Q: Read>(alloc: Global, query: &mut Watched<Q>) -> Result<Vec<
     ensures bytes { IfOk result (λ v. IfSome (Q.remaining (inner_of query.old)) (λ q. v.items ≡ read_part q)) }
     ensures failed { IsErrOf result fault.ReadQuery → has_failed query.new ≡ true }
     ensures unread { IfErr result IsUnreadQuery }
-    ensures hands { IfOk result (λ v. HandsQuery query.old query.new v.items) }
+    ensures hands { IfOk result (λ v. HandsQuery Q.remaining query.old query.new v.items) }
     ensures part { OnErr result (HandsSome query.old query.new) }
 {
     match read_at_most(alloc, QUERY_LIMIT, query) {
@@ -60,7 +60,7 @@ pub fn read_texts<Q: Read, I: Read>(
     ensures unread { IfErr result (λ e. IsUnreadQuery e ⊎ IsUnreadInput e) }
     ensures kept_query { KeepsQuery (Q.remaining (inner_of query.old)) result texts.new.query.items }
     ensures kept_input { KeepsInput (I.remaining (inner_of input.old)) result texts.new.input.items }
-    ensures hands { OnOk result (HandsBoth query.old query.new input.old input.new texts.new.query.items texts.new.input.items) }
+    ensures hands { OnOk result (HandsBoth Q.remaining query.old query.new input.old input.new texts.new.query.items texts.new.input.items) }
     ensures part { OnErr result (HandsSome query.old query.new × HandsSome input.old input.new) }
 {
     match read_query(alloc, query) {

@@ -80,7 +80,7 @@ pub fn replay_schedule<Q: Read, S: Read, W: Write>(
     ensures ends { ReplaysOver (count_of workers) kind (Q.remaining (inner_of query.old)) (S.remaining (inner_of schedule.old))
         (W.contents (inner_of writer.old)) (W.contents (inner_of writer.new)) result }
     ensures heeds { HeedsOver (Q.remaining (inner_of query.old)) (W.contents (inner_of writer.old)) (W.contents (inner_of writer.new)) result }
-    ensures handed { ReplaysOnHanded (count_of workers) kind query.old query.new schedule.old schedule.new
+    ensures handed { ReplaysOnHanded (count_of workers) kind Q.remaining query.old query.new schedule.old schedule.new
         (W.contents (inner_of writer.old)) (W.contents (inner_of writer.new)) result }
     ensures query { IsErrOf result fault.ReadQuery → has_failed query.new ≡ true }
     ensures schedule { IsErrOf result fault.ReadInput → has_failed schedule.new ≡ true }

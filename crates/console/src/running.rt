@@ -101,7 +101,7 @@ pub fn run<R: Threads + Wait + Sync, Q: Read, I: Read, W: Write, O: Write + Send
     ensures ends { RunsOver (Q.remaining (inner_of query.old)) (I.remaining (inner_of input.old))
         (W.contents (inner_of streams.old.out)) (W.contents (inner_of streams.new.out)) result }
     ensures heeds { HeedsOver (Q.remaining (inner_of query.old)) (W.contents (inner_of streams.old.out)) (W.contents (inner_of streams.new.out)) result }
-    ensures handed { RunsOnHanded query.old query.new input.old input.new (W.contents (inner_of streams.old.out)) (W.contents (inner_of streams.new.out)) result }
+    ensures handed { RunsOnHanded Q.remaining query.old query.new input.old input.new (W.contents (inner_of streams.old.out)) (W.contents (inner_of streams.new.out)) result }
     ensures query { IsErrOf result fault.ReadQuery → has_failed query.new ≡ true }
     ensures input { IsErrOf result fault.ReadInput → has_failed input.new ≡ true }
     ensures writer { IsErrOf result fault.Write → has_failed streams.new.out ≡ true }

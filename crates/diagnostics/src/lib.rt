@@ -34,4 +34,4 @@ pub use explanation::{row_of_word, write_explanation};
 pub use fault::Fault;
 pub use read_texts::Texts;
 pub use reason::write_path_hint;
-pub use warnings::write_warnings;
+pub use warnings::{Doubt, Unused, Warnings, write_warnings};

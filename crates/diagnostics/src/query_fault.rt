@@ -15,7 +15,7 @@ use std::io::Write;
 use typing::{Arities, arities_at_fault};
 
 /// The bytes that a span covers, as far as the text goes.
-fn span_bytes(text: &[u8], span: Span) -> &[u8] {
+pub fn span_bytes(text: &[u8], span: Span) -> &[u8] {
     let from = text.get(span.start as usize..).unwrap_or(&[]);
     let count = span.end.saturating_sub(span.start) as usize;
     from.get(..count).unwrap_or(from)

@@ -1,96 +1,90 @@
-//! Warnings: names of a query that is accepted which nothing uses, most likely by mistake.
-//!
-//! A name that stands in the text once stands where it is declared. One that an output has too is taken for used.
+//! Warnings: what is accepted in a query, and most likely a mistake.
 
 use crate::display::Word;
 use crate::excerpt::write_place;
-use bumpalo::Bump;
-use parser::parse;
-use record_core::Keyword;
-use std::alloc::Global;
+use crate::query_fault::span_bytes;
+use itoa::Buffer;
+use record_core::Span;
 use std::io;
 use std::io::Write;
 
-/// Whether a byte is of a name.
-fn is_letter(byte: u8) -> bool {
-    matches!(byte, b'a'..=b'z' | b'0'..=b'9' | b'_')
+/// The places of what nothing uses.
+#[derive(Drop)]
+pub struct Unused {
+    pub inputs: Vec<Span>,
+    pub lets: Vec<Span>,
+    /// Of loops.
+    pub variables: Vec<Span>,
 }
 
-/// Whether a name stands in a text only once.
-fn is_alone(text: &[u8], name: &[u8]) -> bool {
-    text.split(|byte| !is_letter(*byte))
-        .filter(|word| *word == name)
-        .count()
-        == 1
+/// What is accepted, and most likely a mistake.
+#[derive(Drop)]
+pub struct Warnings {
+    pub unused: Unused,
+    pub doubts: Vec<Doubt>,
 }
 
-/// The variable of a loop whose head a part of a query begins with: in a query a name at the beginning of a part between two `;` comes
-/// before a `=` only there.
-fn variable_of(part: &[u8]) -> Option<&[u8]> {
-    let length = part.iter().take_while(|byte| is_letter(**byte)).count();
-    let word = part.get(..length)?;
-    let rest = part.get(length..)?.trim_ascii_start();
-    let is_name = matches!(word, [b'a'..=b'z', ..]) && Keyword::of(word).is_none();
-    if is_name && rest.starts_with(b"=") {
-        Some(word)
-    } else {
-        None
-    }
+/// What comes out alike for each record.
+#[derive(Clone, Copy)]
+pub enum Doubt {
+    /// A condition that each record meets, or none.
+    Condition(Span, bool),
+    /// A pair of columns that are two different numbers in each record.
+    Pair(Span, i64, i64),
 }
 
-/// Writes that nothing uses a name that is declared at that place.
+/// Writes that nothing uses the names at those places.
 fn write_unused<W: Write>(
     path: &str,
     text: &[u8],
-    place: usize,
     what: &str,
-    name: &[u8],
+    places: &[Span],
     writer: &mut W,
 ) -> io::Result<()> {
-    write_place(path, text, place, writer)?;
-    let name = Word(name);
-    writeln!(writer, "warning: {what} {name} is not used")
-}
-
-/// Writes the loops' variables that no body uses.
-fn write_variables<W: Write>(path: &str, text: &[u8], writer: &mut W) -> io::Result<()> {
-    let mut start: usize = 0;
-    for part in text.split(|byte| *byte == b';') {
-        let head = part.trim_ascii_start();
-        let place = start.saturating_add(part.len().saturating_sub(head.len()));
-        if let Some(name) = variable_of(head) {
-            if is_alone(text, name) {
-                write_unused(path, text, place, "the loop's variable", name, writer)?;
-            }
-        }
-        start = start.saturating_add(part.len()).saturating_add(1);
+    for place in places {
+        write_place(path, text, place.start as usize, writer)?;
+        let name = Word(span_bytes(text, *place));
+        writeln!(writer, "warning: {what} {name} is not used")?;
     }
     Ok(())
 }
 
-/// Writes a line `PATH:LINE:COLUMN: warning: ..` for each input and each `let` of a query that nothing uses, and for each loop whose body
-/// doesn't use its variable. Nothing where the text is no query.
+/// Writes what comes out alike.
+fn write_doubt<W: Write>(path: &str, text: &[u8], doubt: Doubt, writer: &mut W) -> io::Result<()> {
+    match doubt {
+        Doubt::Condition(place, true) => {
+            write_place(path, text, place.start as usize, writer)?;
+            writeln!(writer, "warning: the condition is always true")
+        }
+        Doubt::Condition(place, false) => {
+            write_place(path, text, place.start as usize, writer)?;
+            writeln!(writer, "warning: the condition is never true")
+        }
+        Doubt::Pair(place, left, right) => {
+            let (mut first, mut second) = (Buffer::new(), Buffer::new());
+            let (left, right) = (first.format(left), second.format(right));
+            write_place(path, text, place.start as usize, writer)?;
+            writeln!(
+                writer,
+                "warning: these columns never meet: the left one is always {left}, and the right one {right}"
+            )
+        }
+    }
+}
+
+/// Writes a line `PATH:LINE:COLUMN: warning: ..` for each.
 pub fn write_warnings<W: Write>(
-    alloc: Global,
     path: &str,
     text: &[u8],
+    warnings: &Warnings,
     writer: &mut W,
 ) -> io::Result<()> {
-    let arena = Bump::new(alloc);
-    let Ok(program) = parse(&arena, text) else {
-        return Ok(());
-    };
-    for input in program.inputs.iter() {
-        let (name, place) = (input.name.bytes(), input.name_span.start as usize);
-        if is_alone(text, name) {
-            write_unused(path, text, place, "the input", name, writer)?;
-        }
+    let unused = &warnings.unused;
+    write_unused(path, text, "the input", &unused.inputs, writer)?;
+    write_unused(path, text, "the let", &unused.lets, writer)?;
+    write_unused(path, text, "the loop's variable", &unused.variables, writer)?;
+    for doubt in warnings.doubts.iter() {
+        write_doubt(path, text, *doubt, writer)?;
     }
-    for item in program.lets.iter() {
-        let (name, place) = (item.name.bytes(), item.name_span.start as usize);
-        if is_alone(text, name) {
-            write_unused(path, text, place, "the let", name, writer)?;
-        }
-    }
-    write_variables(path, text, writer)
+    Ok(())
 }

@@ -127,9 +127,10 @@ fn is_steady(
 
 /// Whether the line asks for workers, or for reports on standard error beside an answer.
 fn asks_more(words: &[&str]) -> bool {
-    words
-        .iter()
-        .any(|word| word.starts_with("--w") || word.starts_with("--s"))
+    let is_run = words.get(1).copied() == Some("run");
+    words.iter().any(|word| {
+        word.starts_with("--w") || word.starts_with("--s") || is_run && *word == "--dot"
+    })
 }
 
 /// Whether each stream has what it may have: standard output an answer, and standard error what is wrong. Only `follow` answers before it
@@ -153,7 +154,7 @@ fn shown(printed: Printed) -> io::Result<Vec<u8>> {
     Ok(shown)
 }
 
-/// What a page shows of the program that is called with these words. A run without `--workers`, `--watch` and `--stats` is repeated with
+/// What a page shows of the program that is called with these words. A run without `--workers`, `--watch`, `--stats` and `--dot` is repeated with
 /// several workers. If that prints something else, or an error is on standard output or an answer on standard error, a line says so in
 /// place of what is printed.
 pub fn shown_of(

@@ -52,6 +52,25 @@ fn written(alloc: Global, command: &str) -> Result<Option<String>, AllocError> {
     }
 }
 
+/// The words of a command: those between spaces, and what stands between two quotes as one.
+fn words_of(alloc: Global, command: &str) -> Result<Vec<&str>, AllocError> {
+    let mut words = Vec::new(alloc);
+    let mut is_quoted = false;
+    for part in command.split('\'') {
+        if is_quoted {
+            words.push(part)?;
+        } else {
+            for word in part.split(' ') {
+                if !word.is_empty() {
+                    words.push(word)?;
+                }
+            }
+        }
+        is_quoted = !is_quoted;
+    }
+    Ok(words)
+}
+
 /// What a command alone prints, `./loom ..` or `cat FILE`, to which bytes may be piped.
 fn shown(
     rt: &HostRuntime,
@@ -59,7 +78,7 @@ fn shown(
     piped: Option<&[u8]>,
     command: &str,
 ) -> io::Result<Vec<u8>> {
-    let words: Vec<&str> = command.split(' ').collect(rt.alloc())?;
+    let words = words_of(rt.alloc(), command)?;
     match words.as_slice() {
         [program, file] if *program == "cat" => content(rt, file),
         [program, ..] if *program == "./loom" => shown_of(rt, threads, piped, words.as_slice()),

@@ -8,6 +8,22 @@ use graph::{Edge, Graph, Kind, Vertex};
 use record_core::NoMemory;
 use std::alloc::Global;
 
+/// What a vertex did in a run, for a drawing.
+#[derive(Clone, Copy)]
+pub struct Figures {
+    pub events: u64,
+    /// Records that came, and records that were sent.
+    pub received: u64,
+    pub sent: u64,
+}
+
+impl Figures {
+    /// The records that the vertex had to do with.
+    fn records(self) -> u64 {
+        self.received.saturating_add(self.sent)
+    }
+}
+
 /// Puts the graph at the end, as a text that Graphviz draws: a node for each vertex, with its number, its kind with its parameters, and
 /// in a loop its depth; an edge for each edge, with its number, its out port where the vertex that it leaves has two, and its in port
 /// where the vertex that it enters has two; and each loop as a cluster, in the cluster of the loop around it. After a refusal the bytes
@@ -15,8 +31,20 @@ use std::alloc::Global;
 pub fn graph_dot(alloc: Global, graph: &Graph, text: &mut Vec<u8>) -> Result<(), NoMemory>
     ensures { OnErr result (text.new.items ≡ text.old.items) }
 {
+    graph_dot_with(alloc, graph, &[], text)
+}
+
+/// The same with figures for each vertex, in the order of the vertices. A node is the darker the more records its vertex had to do with.
+pub fn graph_dot_with(
+    alloc: Global,
+    graph: &Graph,
+    figures: &[Figures],
+    text: &mut Vec<u8>,
+) -> Result<(), NoMemory>
+    ensures { OnErr result (text.new.items ≡ text.old.items) }
+{
     let mut whole = Vec::from_slice(alloc, b"digraph {\n")?;
-    put_nodes(alloc, &mut whole, graph)?;
+    put_nodes(alloc, &mut whole, graph, figures)?;
     put_arrows(&mut whole, graph)?;
     whole.extend_from_slice(b"}\n")?;
     text.extend_from_slice(&whole)?;
@@ -24,7 +52,13 @@ pub fn graph_dot(alloc: Global, graph: &Graph, text: &mut Vec<u8>) -> Result<(),
 }
 
 /// The nodes. A vertex deeper than the loops that are open begins one, and an egress ends the innermost.
-fn put_nodes(alloc: Global, text: &mut Vec<u8>, graph: &Graph) -> Result<(), NoMemory> {
+fn put_nodes(
+    alloc: Global,
+    text: &mut Vec<u8>,
+    graph: &Graph,
+    figures: &[Figures],
+) -> Result<(), NoMemory> {
+    let most = most_records(figures);
     let mut open: Vec<u64> = Vec::new(alloc);
     let mut number = 0u64;
     for vertex in graph.vertices() {
@@ -32,12 +66,49 @@ fn put_nodes(alloc: Global, text: &mut Vec<u8>, graph: &Graph) -> Result<(), NoM
             open.push(number)?;
         }
         let loops = &open[..open.len().min(vertex.depth as usize)];
-        put_node(text, number, vertex, vertex_name(graph, number), loops)?;
+        put_clusters(text, loops)?;
+        put_node(text, number, vertex, vertex_name(graph, number))?;
+        if let Some(figures) = figures.get(number as usize) {
+            put_figures(text, *figures, most)?;
+        } else {
+            text.extend_from_slice(b"\"];")?;
+        }
+        for _ in loops {
+            text.extend_from_slice(b" }")?;
+        }
+        text.extend_from_slice(b"\n")?;
         if matches!(&vertex.kind, Kind::Egress) {
             let _ = open.pop();
         }
         number = number.saturating_add(1);
     }
+    Ok(())
+}
+
+/// The most records that a vertex had to do with.
+fn most_records(figures: &[Figures]) -> u64 {
+    let mut most = 0;
+    for figures in figures {
+        most = figures.records().max(most);
+    }
+    most
+}
+
+/// The end of a node with figures: a second line of its label, and its colour, from white to orange in hundredths.
+fn put_figures(text: &mut Vec<u8>, figures: Figures, most: u64) -> Result<(), NoMemory> {
+    text.extend_from_slice(b"\\nevents ")?;
+    put_number(text, figures.events)?;
+    text.extend_from_slice(b" in ")?;
+    put_number(text, figures.received)?;
+    text.extend_from_slice(b" sent ")?;
+    put_number(text, figures.sent)?;
+    let share = figures.records().saturating_mul(99) / most.max(1);
+    text.extend_from_slice(b"\", style=filled, fillcolor=\"0.08 0.")?;
+    if share < 10 {
+        text.extend_from_slice(b"0")?;
+    }
+    put_number(text, share)?;
+    text.extend_from_slice(b" 1\"];")?;
     Ok(())
 }
 
@@ -49,19 +120,18 @@ fn vertex_name(graph: &Graph, number: u64) -> &[u8] {
     }
 }
 
-/// A node in the clusters of its loops, each named by the number of its first vertex.
-fn put_node(
-    text: &mut Vec<u8>,
-    number: u64,
-    vertex: &Vertex,
-    name: &[u8],
-    loops: &[u64],
-) -> Result<(), NoMemory> {
+/// The beginnings of the clusters of a node's loops, each named by the number of its first vertex.
+fn put_clusters(text: &mut Vec<u8>, loops: &[u64]) -> Result<(), NoMemory> {
     for first in loops {
         text.extend_from_slice(b"subgraph cluster_")?;
         put_number(text, *first)?;
         text.extend_from_slice(b" { ")?;
     }
+    Ok(())
+}
+
+/// The beginning of a node.
+fn put_node(text: &mut Vec<u8>, number: u64, vertex: &Vertex, name: &[u8]) -> Result<(), NoMemory> {
     put_number(text, number)?;
     text.extend_from_slice(b" [label=\"")?;
     put_number(text, number)?;
@@ -71,11 +141,6 @@ fn put_node(
         text.extend_from_slice(b" depth ")?;
         put_number(text, vertex.depth as u64)?;
     }
-    text.extend_from_slice(b"\"];")?;
-    for _ in loops {
-        text.extend_from_slice(b" }")?;
-    }
-    text.extend_from_slice(b"\n")?;
     Ok(())
 }
 

@@ -10,5 +10,5 @@ mod dot;
 mod label;
 mod text;
 
-pub use dot::graph_dot;
+pub use dot::{Figures, graph_dot, graph_dot_with};
 pub use text::graph_text;

@@ -1,9 +1,13 @@
-//! Writes the counts as lines.
+//! Writes the counts as lines, or in a drawing.
 
 use crate::counter::{Counter, Counts};
 use crate::tally::Tally;
 use arrayvec::ArrayVec;
 use collector::Number;
+use graph::Graph;
+use graph_text::{Figures, graph_dot_with};
+use record_core::NoMemory;
+use std::alloc::Global;
 use std::io;
 use std::io::Write;
 use std::sync::atomic::Ordering;
@@ -21,6 +25,36 @@ impl Tally {
         }
         self.write_sums(writer)?;
         writer.flush()
+    }
+
+    /// Writes a drawing of the graph with what each vertex did. Writes nothing where there is no memory for it.
+    pub fn write_dot<W: Write>(
+        &self,
+        alloc: Global,
+        graph: &Graph,
+        writer: &mut W,
+    ) -> io::Result<()> {
+        let Ok(text) = self.dot(alloc, graph) else {
+            return Ok(());
+        };
+        writer.write_all(text.as_slice())?;
+        writer.flush()
+    }
+
+    /// The drawing.
+    fn dot(&self, alloc: Global, graph: &Graph) -> Result<Vec<u8>, NoMemory> {
+        let mut figures = Vec::with_capacity(alloc, self.counters.len())?;
+        for counters in self.counters.iter() {
+            let all = sum(counters.as_slice());
+            figures.push(Figures {
+                events: all.events,
+                received: all.received,
+                sent: all.sent,
+            })?;
+        }
+        let mut text = Vec::new(alloc);
+        graph_dot_with(alloc, graph, figures.as_slice(), &mut text)?;
+        Ok(text)
     }
 
     /// Writes the last two lines.
@@ -48,13 +82,18 @@ fn head_of(line: &[u8]) -> &[u8] {
     line
 }
 
-/// Writes the lines of a vertex: one for all workers together, and one for each if there are several and their counts differ.
-fn write_vertex<W: Write>(head: &[u8], counters: &[Counter], writer: &mut W) -> io::Result<()> {
+/// The counts of all workers together.
+fn sum(counters: &[Counter]) -> Counts {
     let mut all = Counts::none();
     for counter in counters {
         all = all.with(counter.counts());
     }
-    write_line(head, None, all, writer)?;
+    all
+}
+
+/// Writes the lines of a vertex: one for all workers together, and one for each if there are several and their counts differ.
+fn write_vertex<W: Write>(head: &[u8], counters: &[Counter], writer: &mut W) -> io::Result<()> {
+    write_line(head, None, sum(counters), writer)?;
     if are_same(counters) {
         return Ok(());
     }

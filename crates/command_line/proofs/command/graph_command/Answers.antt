@@ -1,18 +1,17 @@
-use Rattle.std.proofs.Common.{ap₂, ◌∙◌, ◌||◌}
+use Rattle.std.proofs.Common.{ap, ap₂, ◌∙◌, ◌||◌}
 use Rattle.std.proofs.lemmas.Result.{IfOk-weaker}
 use Rattle.clap.specs.Words.{with_rule}
+use Rattle.command_line.specs.Line.{queried}
 use Rattle.command_line.proofs.command.graph_command.Goals as goal
 
 pub returns-clause-app : goal.returns-clause-app
 returns-clause-app c =
-    let one = c.in_ok-arg.ensures.shape c.flag_arg.ensures.local ∙ ap₂ with_rule c.named.ensures.app c.flag_arg.ensures.rule in
-    let two = c.in_ok-arg-2.ensures.shape c.heap_arg.ensures.local ∙ ap₂ with_rule one c.heap_arg.ensures.rule in
-    let three = c.in_ok-arg-3.ensures.shape c.explain_arg.ensures.local ∙ ap₂ with_rule two c.explain_arg.ensures.rule in
-    IfOk-weaker c.arg-4.result _ _ (λ r h. h.shape c.word_arg.ensures.local ∙ ap₂ with_rule three c.word_arg.ensures.rule) c.arg-4.ensures
+    let one = c.in_ok-arg.ensures.shape c.flag_arg.ensures.local ∙ ap₂ with_rule c.named-command.ensures.app c.flag_arg.ensures.rule in
+    let two = c.in_ok-command.ensures.shape c.heap_arg.ensures.local ∙ ap₂ with_rule one c.heap_arg.ensures.rule in
+    IfOk-weaker c.with_query.result _ _ (λ r h. h ∙ ap queried two) c.with_query.ensures.app
 
 pub returns-clause-local : goal.returns-clause-local
 returns-clause-local c =
-    let one = c.in_ok-arg.ensures.globals ∙ ap₂ ◌||◌ c.named.ensures.local c.flag_arg.ensures.local in
-    let two = c.in_ok-arg-2.ensures.globals ∙ ap₂ ◌||◌ one c.heap_arg.ensures.local in
-    let three = c.in_ok-arg-3.ensures.globals ∙ ap₂ ◌||◌ two c.explain_arg.ensures.local in
-    IfOk-weaker c.arg-4.result _ _ (λ r h. h.globals ∙ ap₂ ◌||◌ three c.word_arg.ensures.local) c.arg-4.ensures
+    let one = c.in_ok-arg.ensures.globals ∙ ap₂ ◌||◌ c.named-command.ensures.local c.flag_arg.ensures.local in
+    let two = c.in_ok-command.ensures.globals ∙ ap₂ ◌||◌ one c.heap_arg.ensures.local in
+    IfOk-weaker c.with_query.result _ _ (λ r h. h ∙ two) c.with_query.ensures.local

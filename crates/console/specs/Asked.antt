@@ -1,0 +1,37 @@
+-- Where the texts of a line are: in files, and a query may stand on the line itself.
+use Rattle.std.specs.Prelude.{ℕ, Bool, true, false, List, Option, Some}
+use Rattle.command_line.specs.declared.line_options.Options.{Options}
+use Rattle.command_line.specs.declared.line_options.Options.TheVariants.{Run, Follow, Check, Graph, Format, Replay, Explain}
+use Rattle.command_line.specs.declared.query.Query.{Query}
+use Rattle.command_line.specs.declared.query.Query.TheVariants.{File, Inline}
+
+-- the bytes of the text of each name, where they are known
+abbrev pub Known : Type 0
+Known = List ℕ → Option (List ℕ)
+
+-- the word that stands for a query: the path of its file, or the query itself
+abbrev pub query_word : Query → List ℕ
+query_word (File path) = path.now
+query_word (Inline text) = text.now
+
+-- a query on the line is its own name; any other is one of the texts
+abbrev pub where_queries : (inline : Bool) → Known → Known
+where_queries true texts = λ name. Some name
+where_queries false texts = texts
+
+abbrev pub on_line : Query → Bool
+on_line (File path) = false
+on_line (Inline text) = true
+
+abbrev pub asks_inline : Options → Bool
+asks_inline (Run query input workers watch stats explain) = on_line query
+asks_inline (Follow query input workers explain) = on_line query
+asks_inline (Check query input heap explain) = on_line query
+asks_inline (Graph query form heap explain) = on_line query
+asks_inline (Format query explain) = on_line query
+asks_inline (Replay query schedule workers views explain) = on_line query
+asks_inline (Explain code) = false
+
+-- where the query of the options is found
+abbrev pub queries_of : Options → Known → Known
+queries_of options texts = where_queries (asks_inline options) texts
