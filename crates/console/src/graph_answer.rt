@@ -118,7 +118,21 @@ fn respond_by<R: Threads + Wait + Sync, G: Gate + Sync, W: Write, E: Write, O: W
     }
 }
 
-/// The same, counted; and then reports what was counted, where the answer was written whole. Where that can't be written, nothing else changes.
+/// Reports what was counted, in lines or in a drawing. Where that can't be written, nothing else changes.
+fn report<E: Write>(
+    alloc: Global,
+    form: GraphForm,
+    tally: &Tally,
+    graph: &Arc<Graph, Global>,
+    err: &mut E,
+) {
+    let _ = match form {
+        GraphForm::Lines => tally.write(err),
+        GraphForm::Dot => tally.write_dot(alloc, graph, err),
+    };
+}
+
+/// The same, counted; and then reports what was counted, where the answer was written whole.
 fn respond_counted<R: Threads + Wait + Sync, W: Write, E: Write, O: Write + Send + Drop>(
     rt: &R,
     alloc: Global,
@@ -141,10 +155,7 @@ fn respond_counted<R: Threads + Wait + Sync, W: Write, E: Write, O: Write + Send
     };
     match respond_by(rt, alloc, parallelism, graph, epochs, &tally, streams) {
         Ok(()) => {
-            let _ = match form {
-                GraphForm::Lines => tally.write(&mut streams.err),
-                GraphForm::Dot => tally.write_dot(alloc, &drawn, &mut streams.err),
-            };
+            report(alloc, form, &tally, &drawn, &mut streams.err);
             Ok(())
         }
         Err(fault) => Err(fault),
