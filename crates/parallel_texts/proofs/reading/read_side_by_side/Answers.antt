@@ -7,8 +7,8 @@ use Rattle.record_core.specs.Inputs.{input_of}
 use Rattle.collector.specs.Parts.{IsPart}
 use Rattle.collector.specs.declared.epochs.Epochs.{Epochs}
 use Rattle.collector.specs.declared.refusal.InputRefusal.{InputRefusal}
-use Rattle.execution.proofs.Parts.{all_made}
-use Rattle.execution.proofs.reading.read_side_by_side.Goals as goal
+use Rattle.parallel_texts.proofs.Parts.{all_made}
+use Rattle.parallel_texts.proofs.reading.read_side_by_side.Goals as goal
 
 -- where each text was read, their list is the parts
 gathered : (P : Bor (List ℕ) → Epochs → Type 0) (texts : List (Bor (List ℕ))) (made : List (Result Epochs InputRefusal)) (parts : Result (Vec Epochs Global) InputRefusal) (Failed : InputRefusal → Type 0)

@@ -4,8 +4,8 @@ use Rattle.std.specs.List.{AllZip}
 use Rattle.record_core.specs.Inputs.{input_of}
 use Rattle.collector.specs.InputText.{IsReadFrom}
 use Rattle.collector.specs.Parts.{IsPart, together}
-use Rattle.execution.proofs.Parts.{all_shown}
-use Rattle.execution.proofs.reading.read_parts.Goals as goal
+use Rattle.parallel_texts.proofs.Parts.{all_shown}
+use Rattle.parallel_texts.proofs.reading.read_parts.Goals as goal
 
 pub returns : goal.returns
 returns g c =
