@@ -2,7 +2,7 @@ use Rattle.std.proofs.Common.{◌≡◌, ◌∙◌, ◌∷◌, ◌+◌, ◌<◌,
 use Rattle.std.specs.Prelude.{IsTrue, ◌↔◌, vec_len, vec_capacity}
 use Rattle.semantics.specs.Graph.{Graph}
 use Rattle.semantics.specs.Could.{CouldResultIn, NoOtherOf}
-use Rattle.progress.proofs.Contents.{got_at}
+use Rattle.progress.proofs.Contents.{got_at, here_drop}
 use Rattle.simple_trackers.specs.declared.change.Change.{Change}
 use Rattle.simple_trackers.specs.declared.change.Change.TheVariants.{Add, Remove, Ask}
 use Rattle.simple_trackers.proofs.ChangesMade.{IsMade, added, removed, answered, all_answers, all_content}
