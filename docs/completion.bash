@@ -16,8 +16,8 @@ _loom() {
         words=$commands
     elif [[ $word == -* ]]; then
         case ${COMP_WORDS[1]} in
-        run) words="--workers --watch --stats --dot --explain --inline --help" ;;
-        follow) words="--workers --explain --inline --help" ;;
+        run) words="--workers --watch --stats --dot --end-mark --explain --inline --help" ;;
+        follow) words="--workers --end-mark --explain --inline --help" ;;
         replay) words="--workers --views --explain --inline --help" ;;
         check) words="--heap --explain --inline --help" ;;
         graph) words="--dot --heap --explain --inline --help" ;;
